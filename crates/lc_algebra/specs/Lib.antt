@@ -1,0 +1,7 @@
+pub mod Residue
+pub mod Field
+pub mod Polynomial
+pub mod Embedding
+pub mod Word
+pub mod Span
+pub mod Matrix

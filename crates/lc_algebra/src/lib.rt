@@ -1,0 +1,32 @@
+//! What `codes` means by a field, a word, the words of some rows, a minimum distance and a reduced
+//! generator matrix. The definitions stand in `specs/`; the laws that every crate above cites stand in
+//! `proofs/`, and on the contracts of the functions below.
+#![tactic(auto)]
+
+/// One of the eighteen fields of `codes`, by its number of elements.
+///
+/// An element of a field of p^s elements is a polynomial of degree below s over the field of p
+/// elements, and is written as the number whose digits in base p are its coefficients, the constant
+/// lowest. Which polynomial is divided by, and which element is the chosen primitive one, stands in
+/// `specs/Field.antt`. (MacWilliams and Sloane, The Theory of Error-Correcting Codes, chapter 4.)
+#[derive(Clone, Copy, Debug, PartialEq, Eq)]
+pub enum FieldName {
+    Gf2,
+    Gf3,
+    Gf4,
+    Gf5,
+    Gf7,
+    Gf8,
+    Gf9,
+    Gf11,
+    Gf13,
+    Gf16,
+    Gf25,
+    Gf27,
+    Gf32,
+    Gf64,
+    Gf81,
+    Gf128,
+    Gf243,
+    Gf256,
+}
