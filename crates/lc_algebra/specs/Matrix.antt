@@ -1,5 +1,6 @@
 -- Matrices over a field, and the reduced generator matrix of a code (MacWilliams and Sloane, chapter 1; any textbook's
 -- reduced row echelon form).
+--   Matrix                          a field, a number of columns and a list of rows: how contracts see a matrix and a code
 --   entry rows i c                  the symbol of row i at column c, both from 0
 --   column rows c                   the word of the symbols at column c, row by row
 --   AreRows f n rows                each row is a word of n symbols of the field
@@ -15,6 +16,11 @@ use Rattle.std.specs.Prelude.{◌≡◌, ◌≢◌, ℕ, ◌<◌, ◌↔◌, if�
 use Rattle.lc_algebra.specs.declared.FieldName.{FieldName}
 use Rattle.lc_algebra.specs.Word.{IsWord, word_dot}
 use Rattle.lc_algebra.specs.Span.{InSpan, SameSpan, AreIndependent}
+
+pub record Matrix : Type 0 where
+  pub field : FieldName
+  pub columns : ℕ
+  pub rows : List (List ℕ)
 
 abbrev pub entry : List (List ℕ) → ℕ → ℕ → ℕ
 entry rows i c = slice_index (slice_index_or rows i []) c
