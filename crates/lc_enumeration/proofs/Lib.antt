@@ -1,0 +1,2 @@
+pub mod SearchExamples
+pub mod CertificateExamples

@@ -1,0 +1,6 @@
+pub mod Message
+pub mod Plan
+pub mod InformationSet
+pub mod Search
+pub mod Records
+pub mod Certificate

@@ -1,0 +1,4 @@
+//! What `codes` means by the messages of a weight, the plan by which a search looks at the words of a
+//! code, the information sets that it uses, the lower bound that it states, and its answer; and by a
+//! certificate that a second program can check. The definitions stand in `specs/`.
+#![tactic(auto)]
