@@ -1,0 +1,60 @@
+-- Alternant and Goppa codes (MacWilliams and Sloane, chapter 12). The symbols of a word stand for their images in the larger
+-- field, the locator field.
+--   AlternantForm                      the locator field, the points, as many multipliers, and the number r of checks
+--   inverse K a                        the inverse of a nonzero element: the least b with a b = 1
+--   syndrome_at f form w j             the sum of w_i y_i a_i^j
+--   IsAlternantWord f form w           these sums are 0 for each j below r
+--   goppa_sum f K g points w j         the sum of w_i a_i^j / G(a_i)
+--   IsGoppaWord f K g points w         these sums are 0 for each j below the degree of G
+--   goppa_form K g points              the form of a Goppa code: multipliers 1 / G(a_i), and r the degree of G
+--   bch_form K n b d                   that of a BCH code: points β^i, multipliers β^(i b), and r = d - 1, for i below n
+use Rattle.std.specs.Prelude.{◌≡◌, ℕ, ◌-◌, ◌*◌, ◌<◌, ◌==◌, List, [], ◌∷◌, length, map}
+use Rattle.lc_algebra.specs.declared.FieldName.{FieldName}
+use Rattle.lc_algebra.specs.Field.{size, mul, pow}
+use Rattle.lc_algebra.specs.Polynomial.{value_at}
+use Rattle.lc_algebra.specs.Embedding.{embed, first_that}
+use Rattle.lc_algebra.specs.Word.{word_dot}
+use Rattle.lc_algebra.specs.Span.{below}
+use Rattle.lc_constructions.specs.Cyclic.{root_of_unity}
+
+pub record AlternantForm : Type 0 where
+  pub locator : FieldName
+  pub points : List ℕ
+  pub multipliers : List ℕ
+  pub r : ℕ
+
+unfoldable pub inverse : FieldName → ℕ → ℕ
+inverse K a = first_that (λ b. mul K a b == 1) (size K)
+
+-- the products of the multipliers with the j-th powers of the points
+unfoldable pub check_row : FieldName → List ℕ → List ℕ → ℕ → List ℕ
+check_row K (a ∷ points) (y ∷ multipliers) j = mul K y (pow K a j) ∷ check_row K points multipliers j
+check_row K _ _ j = []
+
+unfoldable pub syndrome_at : FieldName → AlternantForm → List ℕ → ℕ → ℕ
+syndrome_at f form w j = word_dot form.locator (map (embed f form.locator) w) (check_row form.locator form.points form.multipliers j)
+
+abbrev pub IsAlternantWord : FieldName → AlternantForm → List ℕ → Type 0
+IsAlternantWord f form w = (j : ℕ) → j < form.r → syndrome_at f form w j ≡ 0
+
+-- 1 / G(a) for each point
+unfoldable pub goppa_multipliers : FieldName → List ℕ → List ℕ → List ℕ
+goppa_multipliers K g points = map (λ a. inverse K (value_at K g a)) points
+
+unfoldable pub goppa_sum : FieldName → FieldName → List ℕ → List ℕ → List ℕ → ℕ → ℕ
+goppa_sum f K g points w j = word_dot K (map (embed f K) w) (check_row K points (goppa_multipliers K g points) j)
+
+-- the degree of a polynomial whose last coefficient isn't 0 is one less than their number
+abbrev pub IsGoppaWord : FieldName → FieldName → List ℕ → List ℕ → List ℕ → Type 0
+IsGoppaWord f K g points w = (j : ℕ) → j < length g - 1 → goppa_sum f K g points w j ≡ 0
+
+unfoldable pub goppa_form : FieldName → List ℕ → List ℕ → AlternantForm
+goppa_form K g points = record { locator = K; points = points; multipliers = goppa_multipliers K g points; r = length g - 1 }
+
+unfoldable pub bch_form : FieldName → ℕ → ℕ → ℕ → AlternantForm
+bch_form K n b d = record {
+  locator = K;
+  points = map (pow K (root_of_unity K n)) (below n);
+  multipliers = map (λ i. pow K (root_of_unity K n) (i * b)) (below n);
+  r = d - 1;
+}

@@ -1,0 +1,59 @@
+-- Which words the plain constructors put into their codes (GUAVA manual, "Codes"; MacWilliams and Sloane, chapters 1 and 13).
+-- Each fact is about a word w that has the code's length and fits its field.
+--   GeneratedBy f n rows w       generator matrix: a sum of multiples of the rows
+--   CheckedBy f rows w           check matrix: dot 0 with each row (specs/Code.antt)
+--   IsConstant w                 repetition code: all symbols are equal
+--   IsAny w                      whole space: no condition
+--   IsZero w                     null code: all symbols are 0
+--   all_lists q r                the lists of r elements, in lexicographic order
+--   hamming_columns q r          those whose first nonzero entry is 1: a column for each point of the projective space
+--   hamming_checks q r           the matrix with these columns: its r rows
+--   hamming_length q r           (q^r - 1) / (q - 1), the number of columns
+--   variable m v                 the values of the binary variable v at the places 0 to 2^m - 1: bit v of the place
+--   monomial m vs                the values of the product of the variables vs: 1 where all of them are 1; the empty product is 1
+--   subsets vs r                 the parts of the list with at most r members
+--   reed_muller_rows r m         the values of all products of at most r different variables among m
+use Rattle.std.specs.Prelude.{◌≡◌, ℕ, zero, suc, ◌-◌, ◌/◌, ◌%◌, ◌^◌, ◌<◌, ◌==◌, if◌then◌else◌, List, [], ◌∷◌, ◌++◌, length, map, flat_map, slice_index, ⊤}
+use Rattle.std.specs.List.{list_all}
+use Rattle.lc_algebra.specs.declared.FieldName.{FieldName}
+use Rattle.lc_algebra.specs.Span.{InSpan, below}
+
+abbrev pub GeneratedBy : FieldName → ℕ → List (List ℕ) → List ℕ → Type 0
+GeneratedBy f n rows w = InSpan f n rows w
+
+abbrev pub IsConstant : List ℕ → Type 0
+IsConstant w = (i j : ℕ) → i < length w → j < length w → slice_index w i ≡ slice_index w j
+
+abbrev pub IsAny : List ℕ → Type 0
+IsAny w = ⊤
+
+abbrev pub IsZero : List ℕ → Type 0
+IsZero w = (i : ℕ) → i < length w → slice_index w i ≡ 0
+
+unfoldable pub all_lists : ℕ → ℕ → List (List ℕ)
+all_lists q zero = [] ∷ []
+all_lists q (suc r) = flat_map (λ c. map (λ u. c ∷ u) (all_lists q r)) (below q)
+
+unfoldable pub hamming_columns : ℕ → ℕ → List (List ℕ)
+hamming_columns q zero = []
+hamming_columns q (suc r) = map (λ u. 0 ∷ u) (hamming_columns q r) ++ map (λ u. 1 ∷ u) (all_lists q r)
+
+unfoldable pub hamming_checks : ℕ → ℕ → List (List ℕ)
+hamming_checks q r = map (λ i. map (λ u. slice_index u i) (hamming_columns q r)) (below r)
+
+unfoldable pub hamming_length : ℕ → ℕ → ℕ
+hamming_length q r = (q ^ r - 1) / (q - 1)
+
+unfoldable pub variable : ℕ → ℕ → List ℕ
+variable m v = map (λ place. place / 2 ^ v % 2) (below (2 ^ m))
+
+unfoldable pub monomial : ℕ → List ℕ → List ℕ
+monomial m vs = map (λ place. if list_all (λ v. place / 2 ^ v % 2 == 1) vs then 1 else 0) (below (2 ^ m))
+
+unfoldable pub subsets : List ℕ → ℕ → List (List ℕ)
+subsets [] r = [] ∷ []
+subsets (v ∷ vs) zero = [] ∷ []
+subsets (v ∷ vs) (suc r) = map (λ s. v ∷ s) (subsets vs r) ++ subsets vs (suc r)
+
+unfoldable pub reed_muller_rows : ℕ → ℕ → List (List ℕ)
+reed_muller_rows r m = map (monomial m) (subsets (below m) r)

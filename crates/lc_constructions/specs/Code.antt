@@ -1,0 +1,20 @@
+-- Codes: sets of words of one length, closed under sums and multiples (MacWilliams and Sloane, chapter 1). Contracts see a code
+-- as the matrix of its rows.
+--   InCode C w           w is a word of the code
+--   IsCode f n P C       C is the code over f of length n whose words are those that meet P, given by its reduced generator matrix
+--   CheckedBy f rows w   w has dot 0 with each row
+use Rattle.std.specs.Prelude.{◌≡◌, ℕ, List}
+use Rattle.lc_algebra.specs.declared.FieldName.{FieldName}
+use Rattle.lc_algebra.specs.Span.{InSpan}
+use Rattle.lc_algebra.specs.Matrix.{Matrix, IsReducedGenerator, IsOrthogonal}
+
+abbrev pub InCode : Matrix → List ℕ → Type 0
+InCode C w = InSpan C.field C.columns C.rows w
+
+pub record IsCode (f : FieldName) (n : ℕ) (P : List ℕ → Type 0) (C : Matrix) : Type 0 where
+  pub over : C.field ≡ f
+  pub length_is : C.columns ≡ n
+  pub generator : IsReducedGenerator f n P C.rows
+
+abbrev pub CheckedBy : FieldName → List (List ℕ) → List ℕ → Type 0
+CheckedBy f rows w = IsOrthogonal f rows w

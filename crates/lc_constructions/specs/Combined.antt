@@ -1,0 +1,64 @@
+-- Which words the combinators put into their codes (GUAVA manual, "Manipulating codes"; MacWilliams and Sloane, chapters 1, 2
+-- and 18). C and D are codes.
+--   InDual C w              dot 0 with each word of C
+--   InExtended C w          a word of C with minus the sum of its symbols behind it
+--   without places w        w without the symbols at these places
+--   InPunctured C places w  some word of C without these places
+--   InShortened C places w  some word of C that is 0 at these places, without them
+--   InEvenWeight C w        a word of C of even weight; C is binary
+--   InDirectSum C D w       a word u of C followed by a word v of D
+--   InUuv C D w             a word u of C followed by u + v, v a word of D
+--   tensor f u v            the word with u_i v_j at place i times the length of v, plus j
+--   InDirectProduct C D w   a sum of multiples of such words, u in C and v in D
+--   InIntersection C D w    a word of both
+use Rattle.std.specs.Prelude.{◌≡◌, ℕ, suc, ◌*◌, ◌%◌, ◌==◌, cond, List, [], ◌∷◌, ◌++◌, flat_map, slice_index, All}
+use Rattle.std.specs.List.{list_any}
+use Rattle.lc_algebra.specs.declared.FieldName.{FieldName}
+use Rattle.lc_algebra.specs.Field.{add, neg}
+use Rattle.lc_algebra.specs.Word.{word_sum, scale, weight, word_dot}
+use Rattle.lc_algebra.specs.Span.{InSpan}
+use Rattle.lc_algebra.specs.Matrix.{Matrix}
+use Rattle.lc_constructions.specs.Code.{InCode}
+
+abbrev pub InDual : Matrix → List ℕ → Type 0
+InDual C w = (v : List ℕ) → InCode C v → word_dot C.field v w ≡ 0
+
+unfoldable pub symbol_sum : FieldName → List ℕ → ℕ
+symbol_sum f [] = 0
+symbol_sum f (a ∷ w) = add f a (symbol_sum f w)
+
+abbrev pub InExtended : Matrix → List ℕ → Type 0
+InExtended C w = (u : List ℕ) × InCode C u × (w ≡ u ++ neg C.field (symbol_sum C.field u) ∷ [])
+
+-- the symbols of w, whose first stands at place i, that stand at none of the places
+unfoldable pub without_from : ℕ → List ℕ → List ℕ → List ℕ
+without_from i places [] = []
+without_from i places (a ∷ w) = cond (list_any (λ p. i == p) places) (without_from (suc i) places w) (a ∷ without_from (suc i) places w)
+
+unfoldable pub without : List ℕ → List ℕ → List ℕ
+without places w = without_from 0 places w
+
+abbrev pub InPunctured : Matrix → List ℕ → List ℕ → Type 0
+InPunctured C places w = (u : List ℕ) × InCode C u × (w ≡ without places u)
+
+abbrev pub InShortened : Matrix → List ℕ → List ℕ → Type 0
+InShortened C places w = (u : List ℕ) × InCode C u × All (λ p. slice_index u p ≡ 0) places × (w ≡ without places u)
+
+abbrev pub InEvenWeight : Matrix → List ℕ → Type 0
+InEvenWeight C w = InCode C w × (weight w % 2 ≡ 0)
+
+abbrev pub InDirectSum : Matrix → Matrix → List ℕ → Type 0
+InDirectSum C D w = (u : List ℕ) × ((v : List ℕ) × InCode C u × InCode D v × (w ≡ u ++ v))
+
+abbrev pub InUuv : Matrix → Matrix → List ℕ → Type 0
+InUuv C D w = (u : List ℕ) × ((v : List ℕ) × InCode C u × InCode D v × (w ≡ u ++ word_sum C.field u v))
+
+unfoldable pub tensor : FieldName → List ℕ → List ℕ → List ℕ
+tensor f u v = flat_map (λ a. scale f a v) u
+
+-- w is a sum of multiples of some list of words u_i v_j
+abbrev pub InDirectProduct : Matrix → Matrix → List ℕ → Type 0
+InDirectProduct C D w = (rows : List (List ℕ)) × All (λ row. (u : List ℕ) × ((v : List ℕ) × InCode C u × InCode D v × (row ≡ tensor C.field u v))) rows × InSpan C.field (C.columns * D.columns) rows w
+
+abbrev pub InIntersection : Matrix → Matrix → List ℕ → Type 0
+InIntersection C D w = InCode C w × InCode D w
