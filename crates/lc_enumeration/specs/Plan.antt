@@ -15,7 +15,8 @@
 --   place_of b offset                   the place of a word: its block times 4,096 plus its offset in the block
 --   plan_phases k q m                   the phases up to the first that the cut reaches, as the plan keeps them
 --   MessageAt k q m place p message     the message that stands at the place, in phase p
-use Rattle.std.specs.Prelude.{◌≡◌, ℕ, zero, suc, ◌+◌, ◌-◌, ◌*◌, ◌/◌, ◌%◌, ◌^◌, ◌<◌, ◌≤◌, min, nat_lt, List, take, drop, filter, map, slice_get}
+--   phase_of k q m b                    the phase that block b belongs to; None past the plan's end
+use Rattle.std.specs.Prelude.{◌≡◌, ℕ, zero, suc, ◌+◌, ◌-◌, ◌*◌, ◌/◌, ◌%◌, ◌^◌, ◌<◌, ◌≤◌, min, nat_le, nat_lt, ◌&&◌, List, take, drop, filter, find, map, slice_get, Option}
 use Rattle.std.specs.declared.option.Option.TheVariants.{Some}
 use Rattle.lc_algebra.specs.Span.{below}
 use Rattle.lc_enumeration.specs.Message.{Message, messages, message_count}
@@ -80,3 +81,6 @@ plan_phases k q m = map (phase_at k q m) (filter (λ p. nat_lt (blocks_before k 
 pub record MessageAt (k q m place p : ℕ) (message : Message) : Type 0 where
   pub block : IsInPhase k q m p (place / 4096)
   pub stands : slice_get (block_messages k q m p (place / 4096)) (place % 4096) ≡ Some message
+
+unfoldable pub phase_of : ℕ → ℕ → ℕ → ℕ → Option ℕ
+phase_of k q m b = find (λ p. nat_le (phase_at k q m p).start b && nat_lt b (phase_at k q m p).end) (below (k * m))

@@ -5,6 +5,7 @@
 --   generator_at C j                 the generator matrix that is the identity on the basis of set j
 --   word_of C p message              the word of a message in phase p: the sum of its multiples of the rows of the phase's set
 --   Found                            the weight of a word, and its place
+--   word_at C place                  the word at a place; None where no word stands there
 --   beats a b                        whether a is lighter than b, or as light and at a lesser place
 --   found_in_block C p b             what stands at the places of block b of phase p, in order
 --   found_from C first count         what stands at the places of the blocks from the first on, so many of them
@@ -23,13 +24,13 @@
 --                                    else the bracket at the budget
 --   may_end C l                      whether a state at l may be exact: 0, a phase end, or past the end of a plan that isn't cut
 --   finished C budget l state        what is answered in the state that a session is in; None where it goes on
-use Rattle.std.specs.Prelude.{ℕ, zero, suc, ◌+◌, ◌-◌, ◌*◌, max, Bool, nat_le, nat_lt, ◌==◌, ◌&&◌, ◌||◌, cond, if◌then◌else◌, List, [], ◌∷◌, length, map, slice_index_or, filter, find, flat_map, Option, Some, None}
+use Rattle.std.specs.Prelude.{ℕ, zero, suc, ◌+◌, ◌-◌, ◌*◌, ◌/◌, ◌%◌, max, Bool, nat_le, nat_lt, ◌==◌, ◌&&◌, ◌||◌, cond, if◌then◌else◌, List, [], ◌∷◌, length, map, slice_index_or, filter, find, flat_map, slice_get, Option, Some, None, option_and_then}
 use Rattle.lc_algebra.specs.Field.{size}
 use Rattle.lc_algebra.specs.Word.{weight}
 use Rattle.lc_algebra.specs.Span.{combine, below}
 use Rattle.lc_algebra.specs.Matrix.{Matrix}
 use Rattle.lc_enumeration.specs.Message.{Message, vector_of, numbers_from}
-use Rattle.lc_enumeration.specs.Plan.{cut, phase_set, phase_at, blocks_before, block_messages, place_of, total, phase_ends}
+use Rattle.lc_enumeration.specs.Plan.{cut, phase_set, phase_at, blocks_before, block_messages, place_of, total, phase_ends, phase_of}
 use Rattle.lc_enumeration.specs.InformationSet.{InformationSet, information_sets, is_member, systematic}
 
 unfoldable pub sets_of : Matrix → List InformationSet
@@ -50,6 +51,9 @@ word_of C p message = combine C.field C.columns (vector_of (length C.rows) messa
 pub record Found : Type 0 where
   pub weight : ℕ
   pub place : ℕ
+
+unfoldable pub word_at : Matrix → ℕ → Option (List ℕ)
+word_at C place = option_and_then (λ p. slice_get (map (word_of C p) (block_messages (length C.rows) (size C.field) (set_count C) p (place / 4096))) (place % 4096)) (phase_of (length C.rows) (size C.field) (set_count C) (place / 4096))
 
 unfoldable pub beats : Found → Found → Bool
 beats a b = nat_lt a.weight b.weight || ((a.weight == b.weight) && nat_lt a.place b.place)

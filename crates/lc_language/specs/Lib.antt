@@ -1,3 +1,12 @@
 pub mod Token
 pub mod Tree
 pub mod Grammar
+pub mod Value
+pub mod Calls
+pub mod Refusal
+pub mod Meaning
+pub mod Print
+pub mod Query
+pub mod Evaluation
+pub mod Options
+pub mod Checkpoint

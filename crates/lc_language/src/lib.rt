@@ -34,3 +34,63 @@ pub struct Token {
     pub start: usize,
     pub end: usize,
 }
+
+/// What an argument of a call must be.
+#[derive(Clone, Copy, Debug, PartialEq, Eq)]
+pub enum Kind {
+    /// a number
+    Number,
+    /// a field
+    Field,
+    /// a list of numbers
+    Numbers,
+    /// a list of lists of numbers
+    Lists,
+    /// a code
+    Code,
+}
+
+/// The calls of the script language, by the names of the GUAVA manual where it has one.
+#[derive(Clone, Copy, Debug, PartialEq, Eq)]
+pub enum Call {
+    Gf,
+    GeneratorMatCode,
+    CheckMatCode,
+    RepetitionCode,
+    WholeSpaceCode,
+    NullCode,
+    HammingCode,
+    ReedMullerCode,
+    GeneratorPolCode,
+    CheckPolCode,
+    BinaryGolayCode,
+    TernaryGolayCode,
+    ExtendedBinaryGolayCode,
+    ExtendedTernaryGolayCode,
+    BchCode,
+    ReedSolomonCode,
+    GoppaCode,
+    AlternantCode,
+    DualCode,
+    ExtendedCode,
+    PuncturedCode,
+    ShortenedCode,
+    EvenWeightSubcode,
+    DirectSumCode,
+    UuvCode,
+    DirectProductCode,
+    IntersectionCode,
+    ConcatenatedCode,
+    Dimension,
+    WordLength,
+    GeneratorMat,
+    CheckMat,
+    Weight,
+    IsCodeword,
+    Decode,
+    AlgebraicDecode,
+    LeastWord,
+    MinimumDistance,
+    Certificate,
+    ScanCertificate,
+}

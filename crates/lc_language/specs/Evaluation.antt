@@ -1,0 +1,187 @@
+-- The text that a script prints. It is a function of the table of calls that exist: a call that the table lacks is an unknown
+-- name. A budget is the number of blocks that the search of one query may look at.
+--   Refused                      a fault: its number, its place and the numbers behind it
+--   Outcome, Outcomes            the value of an expression, or the fault; the values of several, or the first fault
+--   first_misfit kinds es vs     the place of the first argument whose value is not of its kind
+--   list_of es vs                the list of the values: numbers, or lists of numbers; the first that doesn't fit is refused
+--   Applies c es os o            what a call gives of its arguments' values
+--   Evaluates table env e o      what an expression evaluates to
+--   EvaluatesAll table env es os several expressions, from the left
+--   Step                         what a statement does: it binds a name, prints a line, asks a query of a code, or is refused
+--   Steps table env s step       what the statement s does
+--   Runs table budget env ss text ends      the text of the statements, and whether a fault ends it
+--   IsText table budget bytes text ends     the text of a script
+use Rattle.std.specs.Prelude.{◌≡◌, ℕ, zero, suc, ◌+◌, ◌-◌, ◌*◌, ◌^◌, ◌<◌, ◌⊎◌, Bool, true, false, IsTrue, ◌==◌, List, [], ◌∷◌, ◌++◌, length, map, Option, Some, None, MatchOption}
+use Rattle.lc_algebra.specs.declared.FieldName.{FieldName}
+use Rattle.lc_algebra.specs.Word.{weight}
+use Rattle.lc_algebra.specs.Span.{InSpan, IsLeast}
+use Rattle.lc_algebra.specs.Matrix.{Matrix}
+use Rattle.lc_language.specs.declared.Call.{Call}
+use Rattle.lc_language.specs.declared.Call.TheVariants.{AlgebraicDecode, LeastWord, MinimumDistance, Certificate, ScanCertificate}
+use Rattle.lc_language.specs.declared.Kind.{Kind}
+use Rattle.lc_language.specs.Tree.{Expr, Exprs, number, name, call, list, none, more, Statement, place_of, count_of}
+use Rattle.lc_language.specs.Grammar.{Reads, Fault, IsFault}
+use Rattle.lc_language.specs.Value as value
+use Rattle.lc_language.specs.Value.{Value, is_kind, as_kind, Binding, value_named}
+use Rattle.lc_language.specs.Calls.{call_named, signature_for, is_query}
+use Rattle.lc_language.specs.Refusal.{Refusal, refusal_of, columns_of}
+use Rattle.lc_language.specs.Meaning.{Gives, IsNotDivisor}
+use Rattle.lc_language.specs.Print.{value_line, fault_line, least_line, least_none_line, distance_none_line, line}
+use Rattle.lc_language.specs.Query.{QueryKind, distance, by_levels, by_scan, query_line, no_certificate_line}
+
+pub record Refused : Type 0 where
+  pub number : ℕ
+  pub place : ℕ
+  pub values : List ℕ
+
+pub data Outcome : Type 0 where
+  gives : Value → Outcome
+  refused : Refused → Outcome
+
+pub data Outcomes : Type 0 where
+  all_give : List Value → Outcomes
+  one_refused : Refused → Outcomes
+
+unfoldable pub refuse_at : ℕ → ℕ → Outcome
+refuse_at n place = refused (record { number = n; place = place; values = [] })
+
+unfoldable pub refuse_call : ℕ → Refusal → Outcome
+refuse_call place r = refused (record { number = r.number; place = place; values = r.values })
+
+unfoldable pub first_misfit : List Kind → Exprs → List Value → Option ℕ
+first_misfit (kind ∷ kinds) (more e es) (v ∷ vs) = elim (is_kind kind v) as (λ _. Option ℕ) [ true ↦ first_misfit kinds es vs | false ↦ Some (place_of e) ]
+first_misfit _ _ _ = None
+
+unfoldable pub as_kinds : List Kind → List Value → List Value
+as_kinds (kind ∷ kinds) (v ∷ vs) = as_kind kind v ∷ as_kinds kinds vs
+as_kinds _ _ = []
+
+-- elements that are all numbers
+unfoldable pub numbers_in : Exprs → List Value → List ℕ → Outcome
+numbers_in (more e es) (value.number n ∷ vs) found = numbers_in es vs (found ++ n ∷ [])
+numbers_in (more e es) (_ ∷ vs) found = refuse_at 45 (place_of e)
+numbers_in _ _ found = gives (value.numbers found)
+
+-- elements that are all lists of numbers
+unfoldable pub lists_in : Exprs → List Value → List (List ℕ) → Outcome
+lists_in (more e es) (value.numbers u ∷ vs) found = lists_in es vs (found ++ u ∷ [])
+lists_in (more e es) (value.lists [] ∷ vs) found = lists_in es vs (found ++ [] ∷ [])
+lists_in (more e es) (_ ∷ vs) found = refuse_at 45 (place_of e)
+lists_in _ _ found = gives (value.lists found)
+
+-- the first element says which of the two the list is; the empty list is both
+unfoldable pub list_of : Exprs → List Value → Outcome
+list_of es (value.numbers u ∷ vs) = lists_in es (value.numbers u ∷ vs) []
+list_of es (value.lists [] ∷ vs) = lists_in es (value.lists [] ∷ vs) []
+list_of es vs = numbers_in es vs []
+
+abbrev pub AppliesTo : Call → ℕ → List Value → Outcome → Type 0
+AppliesTo c place arguments o =
+  MatchOption (refusal_of c arguments)
+    ((IsNotDivisor c arguments × (o ≡ refuse_at 4 place)) ⊎ (¬ IsNotDivisor c arguments × ((v : Value) × Gives c arguments v × (o ≡ gives v))))
+    (λ r. o ≡ refuse_call place r)
+
+abbrev pub Applies : Call → ℕ → List Kind → Exprs → Outcomes → Outcome → Type 0
+Applies c place kinds es (one_refused r) o = o ≡ refused r
+Applies c place kinds es (all_give vs) o = MatchOption (first_misfit kinds es vs) (AppliesTo c place (as_kinds kinds vs) o) (λ p. o ≡ refuse_at 45 p)
+
+-- the first fault, from the left
+abbrev pub Joins : Outcome → Outcomes → Outcomes → Type 0
+Joins (refused r) rest os = os ≡ one_refused r
+Joins (gives v) (one_refused r) os = os ≡ one_refused r
+Joins (gives v) (all_give vs) os = os ≡ all_give (v ∷ vs)
+
+abbrev pub ListGives : Exprs → Outcomes → Outcome → Type 0
+ListGives es (one_refused r) o = o ≡ refused r
+ListGives es (all_give vs) o = o ≡ list_of es vs
+
+-- a call is looked at in this order: its name, its place (a query stands only as a whole statement), the count of its arguments,
+-- the arguments from the left, their kinds, and its own refusals
+abbrev mutual
+  pub Evaluates : List Call → List Binding → Expr → Outcome → Type 0
+  Evaluates table env (number place n) o = o ≡ gives (value.number n)
+  Evaluates table env (name place x) o = MatchOption (value_named x env) (o ≡ refuse_at 44 place) (λ v. o ≡ gives v)
+  Evaluates table env (list place es) o = (os : Outcomes) × EvaluatesAll table env es os × ListGives es os o
+  Evaluates table env (call place x es) o =
+    MatchOption (call_named table x) (o ≡ refuse_at 44 place)
+      (λ c. (IsTrue (is_query c) × (o ≡ refuse_at 45 place))
+        ⊎ ((is_query c ≡ false) × MatchOption (signature_for c (count_of es)) (o ≡ refuse_at 46 place)
+            (λ kinds. (os : Outcomes) × EvaluatesAll table env es os × Applies c place kinds es os o)))
+
+  pub EvaluatesAll : List Call → List Binding → Exprs → Outcomes → Type 0
+  EvaluatesAll table env none os = os ≡ all_give []
+  EvaluatesAll table env (more e es) os = (o : Outcome) × ((rest : Outcomes) × Evaluates table env e o × EvaluatesAll table env es rest × Joins o rest os)
+
+pub data Step : Type 0 where
+  binds : Binding → Step
+  prints : List ℕ → Step
+  asks : QueryKind → Matrix → Step
+  fails : Refused → Step
+
+-- what LeastWord prints of the words of the rows
+abbrev pub PrintsLeast : List (List ℕ) → FieldName → Step → Type 0
+PrintsLeast rows f step =
+  ((w : List ℕ) × IsLeast f (columns_of rows) rows w × (step ≡ prints (least_line (weight w) w)))
+  ⊎ (((w : List ℕ) → InSpan f (columns_of rows) rows w → weight w ≡ 0) × (step ≡ prints least_none_line))
+
+-- a query on a code of dimension 0 is answered at once
+abbrev pub AsksOf : QueryKind → Matrix → Step → Type 0
+AsksOf kind C step = ((length C.rows ≡ 0) × (step ≡ prints (query_line kind C 0))) ⊎ ((0 < length C.rows) × (step ≡ asks kind C))
+
+-- what a query does as a statement, its arguments being of its kinds and not refused
+abbrev pub Queries : Call → List Value → Step → Type 0
+Queries LeastWord (value.lists rows ∷ value.field f ∷ []) step = PrintsLeast rows f step
+Queries MinimumDistance (value.code C _ ∷ []) step = AsksOf distance C step
+Queries Certificate (value.code C _ ∷ []) step = AsksOf by_levels C step
+Queries ScanCertificate (value.code C _ ∷ []) step = AsksOf by_scan C step
+Queries AlgebraicDecode arguments step = (v : Value) × Gives AlgebraicDecode arguments v × (step ≡ prints (value_line v))
+Queries _ _ step = ⊥
+
+unfoldable pub fail_with : Outcome → Step
+fail_with (gives v) = prints (value_line v)
+fail_with (refused r) = fails r
+
+abbrev pub QueriesAll : Call → ℕ → List Kind → Exprs → Outcomes → Step → Type 0
+QueriesAll c place kinds es (one_refused r) step = step ≡ fails r
+QueriesAll c place kinds es (all_give vs) step =
+  MatchOption (first_misfit kinds es vs)
+    (MatchOption (refusal_of c (as_kinds kinds vs)) (Queries c (as_kinds kinds vs) step) (λ r. step ≡ fail_with (refuse_call place r)))
+    (λ p. step ≡ fail_with (refuse_at 45 p))
+
+-- whether a statement without a name is a query of the table
+abbrev pub query_of : List Call → Expr → Option Call
+query_of table (call place x es) = elim (call_named table x) as (λ _. Option Call) [ None ↦ None | Some c ↦ elim (is_query c) as (λ _. Option Call) [ true ↦ Some c | false ↦ None ] ]
+query_of table _ = None
+
+abbrev pub Assigns : List ℕ → Outcome → Step → Type 0
+Assigns x (gives v) step = step ≡ binds (record { name = x; value = v })
+Assigns x (refused r) step = step ≡ fails r
+
+abbrev pub StepsAsQuery : List Call → List Binding → Call → Expr → Step → Type 0
+StepsAsQuery table env c (call place x es) step =
+  MatchOption (signature_for c (count_of es)) (step ≡ fail_with (refuse_at 46 place))
+    (λ kinds. (os : Outcomes) × EvaluatesAll table env es os × QueriesAll c place kinds es os step)
+StepsAsQuery table env c _ step = ⊥
+
+abbrev pub StepsOf : List Call → List Binding → Option (List ℕ) → Expr → Step → Type 0
+StepsOf table env (Some x) e step = (o : Outcome) × Evaluates table env e o × Assigns x o step
+StepsOf table env None e step = MatchOption (query_of table e) ((o : Outcome) × Evaluates table env e o × (step ≡ fail_with o)) (λ c. StepsAsQuery table env c e step)
+
+abbrev pub Steps : List Call → List Binding → Statement → Step → Type 0
+Steps table env s step = StepsOf table env s.target s.expr step
+
+-- how the text goes on behind a statement: the env and the further text, or the end
+abbrev pub Prints : ℕ → List Binding → Step → (List Binding → List ℕ → Bool → Type 0) → List ℕ → Bool → Type 0
+Prints budget env (binds b) later text ends = later (b ∷ env) text ends
+Prints budget env (prints l) later text ends = (rest : List ℕ) × later env rest ends × (text ≡ l ++ rest)
+Prints budget env (asks kind C) later text ends = (rest : List ℕ) × later env rest ends × (text ≡ query_line kind C budget ++ rest)
+Prints budget env (fails r) later text ends = (text ≡ fault_line r.number r.place r.values) × (ends ≡ true)
+
+abbrev pub Runs : List Call → ℕ → List Binding → List Statement → List ℕ → Bool → Type 0
+Runs table budget env [] text ends = (text ≡ []) × (ends ≡ false)
+Runs table budget env (s ∷ ss) text ends = (step : Step) × Steps table env s step × Prints budget env step (λ later. Runs table budget later ss) text ends
+
+abbrev pub IsText : List Call → ℕ → List ℕ → List ℕ → Bool → Type 0
+IsText table budget bytes text ends =
+  ((ss : List Statement) × Reads bytes ss × Runs table budget [] ss text ends)
+  ⊎ ((fault : Fault) × IsFault bytes fault × (text ≡ fault_line fault.number fault.place []) × (ends ≡ true))

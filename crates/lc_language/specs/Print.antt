@@ -1,0 +1,69 @@
+-- The lines that a session prints, each with its newline.
+--   numbers_text u, lists_text rows        [1,0,3] and [[1,0],[0,1]]; [] for an empty list
+--   value_line v                           a value's line
+--   fault_line n place values              a fault's line
+--   least_line d w, least_none_line        what LeastWord prints
+--   distance_line, bracket_line, distance_none_line      what MinimumDistance prints
+use Rattle.std.specs.Prelude.{ℕ, zero, suc, Bool, true, false, List, [], ◌∷◌, ◌++◌, length, map, codes, decimal, Option}
+use Rattle.std.specs.List.{join_with_byte}
+use Rattle.lc_algebra.specs.Field.{size}
+use Rattle.lc_algebra.specs.Matrix.{Matrix}
+use Rattle.lc_language.specs.Value.{Value, number, field, numbers, lists, code, truth, nothing}
+
+unfoldable pub bracketed : List (List ℕ) → List ℕ
+bracketed texts = codes "[" ++ join_with_byte 44 texts ++ codes "]"
+
+unfoldable pub numbers_text : List ℕ → List ℕ
+numbers_text u = bracketed (map decimal u)
+
+unfoldable pub lists_text : List (List ℕ) → List ℕ
+lists_text rows = bracketed (map numbers_text rows)
+
+unfoldable pub field_text : ℕ → List ℕ
+field_text q = codes "GF(" ++ decimal q ++ codes ")"
+
+unfoldable pub code_text : ℕ → ℕ → ℕ → List ℕ
+code_text n k q = codes "code [" ++ decimal n ++ codes "," ++ decimal k ++ codes "] " ++ field_text q
+
+unfoldable pub value_text : Value → List ℕ
+value_text (number n) = decimal n
+value_text (field f) = field_text (size f)
+value_text (numbers u) = numbers_text u
+value_text (lists rows) = lists_text rows
+value_text (code C _) = code_text C.columns (length C.rows) (size C.field)
+value_text (truth true) = codes "true"
+value_text (truth false) = codes "false"
+value_text nothing = codes "none"
+
+unfoldable pub line : List ℕ → List ℕ
+line text = text ++ 10 ∷ []
+
+unfoldable pub value_line : Value → List ℕ
+value_line v = line (value_text v)
+
+-- each number with a space before it
+unfoldable pub spaced : List ℕ → List ℕ
+spaced [] = []
+spaced (n ∷ values) = codes " " ++ decimal n ++ spaced values
+
+unfoldable pub with_values : List ℕ → List ℕ
+with_values [] = []
+with_values (n ∷ values) = codes " with" ++ spaced (n ∷ values)
+
+unfoldable pub fault_line : ℕ → ℕ → List ℕ → List ℕ
+fault_line n place values = line (codes "fault " ++ decimal n ++ codes " at " ++ decimal place ++ with_values values)
+
+unfoldable pub least_line : ℕ → List ℕ → List ℕ
+least_line d w = line (codes "least " ++ decimal d ++ codes " word " ++ numbers_text w)
+
+unfoldable pub least_none_line : List ℕ
+least_none_line = line (codes "least none")
+
+unfoldable pub distance_line : ℕ → List ℕ → ℕ → List ℕ
+distance_line d w blocks = line (codes "distance " ++ decimal d ++ codes " word " ++ numbers_text w ++ codes " blocks " ++ decimal blocks)
+
+unfoldable pub bracket_line : ℕ → ℕ → List ℕ → ℕ → List ℕ
+bracket_line low high w blocks = line (codes "distance between " ++ decimal low ++ codes " and " ++ decimal high ++ codes " word " ++ numbers_text w ++ codes " blocks " ++ decimal blocks)
+
+unfoldable pub distance_none_line : List ℕ
+distance_none_line = line (codes "distance none")
