@@ -3,3 +3,5 @@ pub mod ResidueLaws
 pub mod ProductLaws
 pub mod FieldTests
 pub mod FieldLaws
+pub mod PowerLaws
+pub mod EmbeddingTests
