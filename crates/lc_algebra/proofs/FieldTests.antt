@@ -6,7 +6,7 @@
 --   powers f n a                    a and the next powers: n of them, each the primitive element times the one before
 --   order_test, members_test, order_least_test      the primitive element has order size - 1, and each nonzero element
 --                                   is one of its powers
-use Rattle.std.proofs.Common.{◌≡◌, ℕ, zero, suc, ◌-◌, ◌<◌, Bool, true, false, ◌&&◌, ◌||◌, ◌==◌, List, [], ◌∷◌, length, refl, lit<, true≢false, ◌⊎◌, inl, inr}
+use Rattle.std.proofs.Common.{◌≡◌, ℕ, zero, suc, ◌-◌, ◌<◌, Bool, true, false, ◌&&◌, ◌||◌, ◌==◌, List, [], ◌∷◌, length, refl, lit<, lit≤, ◌≤◌, true≢false, ◌⊎◌, inl, inr}
 use Rattle.std.proofs.lemmas.Bool.Decides.{Decides-below_and}
 use Rattle.lc_algebra.specs.declared.FieldName.{FieldName}
 use Rattle.lc_algebra.specs.declared.FieldName.TheVariants.{Gf2, Gf3, Gf4, Gf5, Gf7, Gf8, Gf9, Gf11, Gf13, Gf16, Gf25, Gf27, Gf32, Gf64, Gf81, Gf128, Gf243, Gf256}
@@ -270,3 +270,24 @@ frobenius_test Gf81 = refl
 frobenius_test Gf128 = refl
 frobenius_test Gf243 = refl
 frobenius_test Gf256 = refl
+
+pub characteristic_inside : (f : FieldName) → (shape_of f).characteristic ≤ size f
+unfolding shape shape_of size
+characteristic_inside Gf2 = lit≤ tt
+characteristic_inside Gf3 = lit≤ tt
+characteristic_inside Gf4 = lit≤ tt
+characteristic_inside Gf5 = lit≤ tt
+characteristic_inside Gf7 = lit≤ tt
+characteristic_inside Gf8 = lit≤ tt
+characteristic_inside Gf9 = lit≤ tt
+characteristic_inside Gf11 = lit≤ tt
+characteristic_inside Gf13 = lit≤ tt
+characteristic_inside Gf16 = lit≤ tt
+characteristic_inside Gf25 = lit≤ tt
+characteristic_inside Gf27 = lit≤ tt
+characteristic_inside Gf32 = lit≤ tt
+characteristic_inside Gf64 = lit≤ tt
+characteristic_inside Gf81 = lit≤ tt
+characteristic_inside Gf128 = lit≤ tt
+characteristic_inside Gf243 = lit≤ tt
+characteristic_inside Gf256 = lit≤ tt

@@ -5,3 +5,4 @@ pub mod FieldTests
 pub mod FieldLaws
 pub mod PowerLaws
 pub mod EmbeddingTests
+pub mod EmbeddingLaws
