@@ -6,11 +6,12 @@
 --   powers f n a                    a and the next powers: n of them, each the primitive element times the one before
 --   order_test, members_test, order_least_test      the primitive element has order size - 1, and each nonzero element
 --                                   is one of its powers
-use Rattle.std.proofs.Common.{◌≡◌, ℕ, zero, suc, ◌-◌, ◌<◌, Bool, true, false, ◌&&◌, ◌||◌, ◌==◌, List, [], ◌∷◌, length, refl, lit<, lit≤, ◌≤◌, true≢false, ◌⊎◌, inl, inr}
+use Rattle.std.proofs.Common.{◌≡◌, ℕ, zero, suc, ◌-◌, ◌<◌, Bool, true, false, ◌&&◌, ◌||◌, ◌==◌, List, [], ◌∷◌, length, refl, lit<, ◌++◌, replicate, lit≤, ◌≤◌, true≢false, ◌⊎◌, inl, inr}
 use Rattle.std.proofs.lemmas.Bool.Decides.{Decides-below_and}
 use Rattle.lc_algebra.specs.declared.FieldName.{FieldName}
 use Rattle.lc_algebra.specs.declared.FieldName.TheVariants.{Gf2, Gf3, Gf4, Gf5, Gf7, Gf8, Gf9, Gf11, Gf13, Gf16, Gf25, Gf27, Gf32, Gf64, Gf81, Gf128, Gf243, Gf256}
 use Rattle.lc_algebra.specs.Residue.{digits, number, plus, minus, times, top, up, times_x, product}
+use Rattle.lc_algebra.proofs.ResidueLaws.{Residues}
 use Rattle.lc_algebra.specs.Field.{shape, shape_of, size, coefficients, add, mul, pow}
 
 unfoldable pub below : (ℕ → Bool) → ℕ → Bool
@@ -291,3 +292,45 @@ characteristic_inside Gf81 = lit≤ tt
 characteristic_inside Gf128 = lit≤ tt
 characteristic_inside Gf243 = lit≤ tt
 characteristic_inside Gf256 = lit≤ tt
+
+pub residues_lower : (f : FieldName) → Residues (shape_of f).characteristic (shape_of f).lower
+unfolding shape shape_of
+residues_lower Gf2 = (lit< tt, tt)
+residues_lower Gf3 = (lit< tt, tt)
+residues_lower Gf4 = (lit< tt, (lit< tt, tt))
+residues_lower Gf5 = (lit< tt, tt)
+residues_lower Gf7 = (lit< tt, tt)
+residues_lower Gf8 = (lit< tt, (lit< tt, (lit< tt, tt)))
+residues_lower Gf9 = (lit< tt, (lit< tt, tt))
+residues_lower Gf11 = (lit< tt, tt)
+residues_lower Gf13 = (lit< tt, tt)
+residues_lower Gf16 = (lit< tt, (lit< tt, (lit< tt, (lit< tt, tt))))
+residues_lower Gf25 = (lit< tt, (lit< tt, tt))
+residues_lower Gf27 = (lit< tt, (lit< tt, (lit< tt, tt)))
+residues_lower Gf32 = (lit< tt, (lit< tt, (lit< tt, (lit< tt, (lit< tt, tt)))))
+residues_lower Gf64 = (lit< tt, (lit< tt, (lit< tt, (lit< tt, (lit< tt, (lit< tt, tt))))))
+residues_lower Gf81 = (lit< tt, (lit< tt, (lit< tt, (lit< tt, tt))))
+residues_lower Gf128 = (lit< tt, (lit< tt, (lit< tt, (lit< tt, (lit< tt, (lit< tt, (lit< tt, tt)))))))
+residues_lower Gf243 = (lit< tt, (lit< tt, (lit< tt, (lit< tt, (lit< tt, tt)))))
+residues_lower Gf256 = (lit< tt, (lit< tt, (lit< tt, (lit< tt, (lit< tt, (lit< tt, (lit< tt, (lit< tt, tt))))))))
+
+pub monic_test : (f : FieldName) → product (shape_of f).characteristic (shape_of f).lower ((shape_of f).lower ++ 1 ∷ []) (coefficients f 1) ≡ replicate (length (shape_of f).lower) 0
+unfolding digits plus minus times top up times_x product shape shape_of coefficients
+monic_test Gf2 = refl
+monic_test Gf3 = refl
+monic_test Gf4 = refl
+monic_test Gf5 = refl
+monic_test Gf7 = refl
+monic_test Gf8 = refl
+monic_test Gf9 = refl
+monic_test Gf11 = refl
+monic_test Gf13 = refl
+monic_test Gf16 = refl
+monic_test Gf25 = refl
+monic_test Gf27 = refl
+monic_test Gf32 = refl
+monic_test Gf64 = refl
+monic_test Gf81 = refl
+monic_test Gf128 = refl
+monic_test Gf243 = refl
+monic_test Gf256 = refl

@@ -6,3 +6,4 @@ pub mod FieldLaws
 pub mod PowerLaws
 pub mod EmbeddingTests
 pub mod EmbeddingLaws
+pub mod RemainderLaws
