@@ -7,14 +7,14 @@
 --   embed_zero, embed_one     0 and 1
 --   embed_injective           distinct elements are told apart
 --   embed_neg                 negatives
-use Rattle.std.proofs.Common.{◌≡◌, ◌≢◌, ℕ, zero, suc, ◌+◌, ◌-◌, ◌*◌, ◌%◌, ◌^◌, ◌<◌, ◌≤◌, ◌⊎◌, inl, inr, ⊎_elim, Bool, true, false, not, ◌&&◌, ◌||◌, ◌==◌, List, [], ◌∷◌, refl, sym, ap, subst, ◌∙◌, arith, true≢false, Decides}
+use Rattle.std.proofs.Common.{◌≡◌, ℕ, ◌%◌, ◌<◌, ◌⊎◌, inl, inr, ⊎_elim, Bool, true, false, not, ◌||◌, ◌==◌, List, [], ◌∷◌, refl, subst, arith, Decides}
 use Rattle.std.proofs.lemmas.Bool.Decides.{Decides-eqb, Decides-and}
 use Rattle.lc_algebra.specs.declared.FieldName.{FieldName}
 use Rattle.lc_algebra.specs.Field.{shape_of, size, coefficients, add, neg, mul}
 use Rattle.lc_algebra.specs.Polynomial.{value_at}
 use Rattle.lc_algebra.specs.Embedding.{IsSubfield, root, embed}
-use Rattle.lc_algebra.proofs.FieldTests.{below, below_each, either_true, positive, above_one_characteristic, characteristic_inside}
-use Rattle.lc_algebra.proofs.FieldLaws.{zero_inside, one_inside, add_inside, neg_inside, mul_inside, add_neg, negative_unique}
+use Rattle.lc_algebra.proofs.FieldTests.{below, below_each, positive, above_one_characteristic, characteristic_inside}
+use Rattle.lc_algebra.proofs.FieldLaws.{zero_inside, add_inside, neg_inside, mul_inside, add_neg, negative_unique}
 use Rattle.lc_algebra.proofs.EmbeddingTests.{both_true, each_name, told_by_size, is_subfield, is_proper, keeps_test, residue_test, root_test, pair_when, pair_test, pairs_test, self_from, self_test}
 pub use Rattle.lc_algebra.proofs.EmbeddingTests.{is_subfield, told_by_size}
 

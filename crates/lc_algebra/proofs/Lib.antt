@@ -7,3 +7,4 @@ pub mod PowerLaws
 pub mod EmbeddingTests
 pub mod EmbeddingLaws
 pub mod RemainderLaws
+pub mod FieldRecords

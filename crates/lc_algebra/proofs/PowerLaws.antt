@@ -14,16 +14,14 @@
 --   order_divides               a nonzero element to the size - 1 is 1
 --   pow_size                    every element to the size is itself
 --   frobenius                   the power by the characteristic keeps sums
-use Rattle.std.proofs.Common.{◌≡◌, ◌≢◌, ℕ, zero, suc, ◌+◌, ◌-◌, ◌*◌, ◌/◌, ◌%◌, ◌^◌, ◌<◌, ◌≤◌, ◌⊎◌, inl, inr, ⊎_elim, Bool, true, false, ◌||◌, ◌==◌, List, [], ◌∷◌, refl, sym, ap, ◌∙◌, arith, true≢false, lit<, zero-add, add-zero, suc-add, add-suc, mul-zero, one-add}
+use Rattle.std.proofs.Common.{◌≡◌, ◌≢◌, ℕ, zero, suc, ◌+◌, ◌-◌, ◌*◌, ◌/◌, ◌%◌, ◌<◌, true, false, ◌==◌, refl, sym, arith, true≢false, add-zero, suc-add, add-suc, mul-zero, one-add}
 use Rattle.std.proofs.Common.{mul_comm as nat_mul_comm}
 use Rattle.std.proofs.Math.Nat.{mod-add-div}
 use Rattle.std.proofs.lemmas.Bool.Decides.{Decides-eqb}
 use Rattle.lc_algebra.specs.declared.FieldName.{FieldName}
-use Rattle.lc_algebra.specs.declared.FieldName.TheVariants.{Gf2, Gf3, Gf4, Gf5, Gf7, Gf8, Gf9, Gf11, Gf13, Gf16, Gf25, Gf27, Gf32, Gf64, Gf81, Gf128, Gf243, Gf256}
-use Rattle.lc_algebra.specs.Residue.{digits, number, plus, minus, times, top, up, times_x, product}
-use Rattle.lc_algebra.specs.Field.{shape, shape_of, size, coefficients, add, mul, pow, IsInverse}
-use Rattle.lc_algebra.proofs.FieldTests.{below, below_each, second_false, powers, stands, positive, order_least_test, primitive_positive, primitive_inside, frobenius_test}
-use Rattle.lc_algebra.proofs.FieldLaws.{one_inside, zero_inside, add_inside, mul_inside, add_comm, zero_add, add_zero, mul_comm, mul_assoc, mul_swap, mul_add, one_mul, mul_one, zero_mul, mul_zero, inverse_of, inverse_nonzero, mul_nonzero}
+use Rattle.lc_algebra.specs.Field.{shape_of, size, add, mul, pow}
+use Rattle.lc_algebra.proofs.FieldTests.{below_each, second_false, powers, stands, positive, order_least_test, primitive_positive, primitive_inside, frobenius_test}
+use Rattle.lc_algebra.proofs.FieldLaws.{one_inside, zero_inside, mul_inside, zero_add, mul_comm, mul_assoc, mul_swap, mul_add, one_mul, mul_one, zero_mul, inverse_of, mul_nonzero}
 pub use Rattle.lc_algebra.proofs.FieldLaws.{pow_zero, pow_suc, pow_inside, pow_add, power_order, logarithm}
 
 pub pow_one : (f : FieldName) (a : ℕ) → a < size f → pow f a 1 ≡ a

@@ -7,16 +7,14 @@
 --   one_of_remainder           a remainder is what multiplying by 1 gives
 --   remainder_unique           two remainders of one polynomial are equal
 --   told_by_remainder          the element whose coefficients are a remainder of the plain product is the product
-use Rattle.std.proofs.Common.{◌≡◌, ℕ, zero, suc, ◌+◌, ◌-◌, ◌*◌, ◌%◌, ◌<◌, ◌≤◌, List, [], ◌∷◌, ◌++◌, length, replicate, slice_index, refl, sym, ap, ◌∙◌, arith, mod-lt, mod-eq_of_lt, mul-zero, add_comm, add_assoc, mul-add}
-use Rattle.std.proofs.Math.Nat.{zero-mod, mod_self, add-mod, add-mul-mod_self_left}
-use Rattle.std.proofs.lemmas.Nat.{mul-mod_first, mul-mod_second}
-use Rattle.std.proofs.lemmas.List.{length-replicate}
+use Rattle.std.proofs.Common.{◌≡◌, ℕ, zero, suc, ◌+◌, ◌-◌, ◌*◌, ◌%◌, ◌<◌, ◌≤◌, List, [], ◌∷◌, ◌++◌, length, replicate, slice_index, refl, sym, ap, ◌∙◌, arith, mod-lt, mod-eq_of_lt, mul-add}
+use Rattle.std.proofs.Math.Nat.{zero-mod, add-mul-mod_self_left}
+use Rattle.std.proofs.lemmas.Nat.{mul-mod_second}
 use Rattle.lc_algebra.specs.declared.FieldName.{FieldName}
-use Rattle.lc_algebra.specs.declared.FieldName.TheVariants.{Gf2, Gf3, Gf4, Gf5, Gf7, Gf8, Gf9, Gf11, Gf13, Gf16, Gf25, Gf27, Gf32, Gf64, Gf81, Gf128, Gf243, Gf256}
-use Rattle.lc_algebra.specs.Residue.{digits, number, plus, minus, times, long_plus, long_times, IsRemainder, top, up, times_x, product}
-use Rattle.lc_algebra.specs.Field.{shape, shape_of, size, coefficients, mul}
-use Rattle.lc_algebra.proofs.ResidueLaws.{Residues, sum_of_rests, rest_sum_first, rest_sum_second, plus_zero, plus_comm, plus_times, times_zero, times_none, times_plus, times_times, plus_middle, plus_assoc, length-plus, length-times, length-minus, residues_plus, residues_times, residues_zeros}
-use Rattle.lc_algebra.proofs.ProductLaws.{times_x_plus, times_x_times, times_x_zeros, zeros_plus_zeros, length-up, length-times_x, length-product, residues_product}
+use Rattle.lc_algebra.specs.Residue.{number, plus, minus, times, long_plus, long_times, IsRemainder, top, up, times_x, product}
+use Rattle.lc_algebra.specs.Field.{shape_of, size, coefficients, mul}
+use Rattle.lc_algebra.proofs.ResidueLaws.{Residues, sum_of_rests, rest_sum_second, plus_zero, plus_comm, plus_times, times_zero, times_none, times_plus, times_times, plus_middle, length-times, residues_plus, residues_times}
+use Rattle.lc_algebra.proofs.ProductLaws.{times_x_plus, times_x_times, times_x_zeros, zeros_plus_zeros, length-times_x, length-product, residues_product}
 use Rattle.lc_algebra.proofs.FieldTests.{positive, length-lower, residues_lower, monic_test}
 use Rattle.lc_algebra.proofs.FieldLaws.{coefficients_mul, coefficients_fit, residues_coefficients, told_by_coefficients, mul_inside, product_one, coefficients-number}
 
