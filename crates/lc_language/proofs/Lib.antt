@@ -1,0 +1,2 @@
+pub mod LineExamples
+pub mod FormatExamples

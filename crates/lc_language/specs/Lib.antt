@@ -10,3 +10,4 @@ pub mod Query
 pub mod Evaluation
 pub mod Options
 pub mod Checkpoint
+pub mod Session

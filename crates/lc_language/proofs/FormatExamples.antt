@@ -1,0 +1,82 @@
+-- Worked queries, certificates, checkpoints and options, by evaluation of the definitions.
+--   hamming_distance, hamming_bracket      what MinimumDistance prints of the Hamming code of length 7, and for a budget of one block
+--   hamming_certificate                    its certificate by levels
+--   repetition_scan                        the certificate by a scan of the repetition code of length 2
+--   checkpoint_body                        the body of a checkpoint
+--   no_words, bad_workers, slice_alone, kept_twice, no_seed      the index of the word that is refused
+--   sliced                                 the settings of words that are accepted
+--   run_only                               a second word is refused where there are no keys
+use Rattle.std.proofs.Common.{◌≡◌, ℕ, refl}
+use Rattle.std.specs.Prelude.{List, [], ◌∷◌, ◌++◌, map, codes, replicate, ◌^◌, Some, None, true, false}
+use Rattle.std.specs.Fmt.{digits}
+use Rattle.lc_algebra.specs.declared.FieldName.TheVariants.{Gf2}
+use Rattle.lc_algebra.specs.Residue.{digits as residues, number, plus, minus, times, top, up, times_x, product}
+use Rattle.lc_algebra.specs.Field.{shape, shape_of, size, coefficients, add, neg, mul}
+use Rattle.lc_algebra.specs.Word.{word_sum, scale}
+use Rattle.lc_algebra.specs.Span.{below, combine, words}
+use Rattle.lc_algebra.specs.Matrix.{Matrix}
+use Rattle.lc_enumeration.specs.Message.{supports, supports_from, numbers_from, nonzero_lists, leading_lists, messages, vector_from, vector_of, choose, message_count}
+use Rattle.lc_enumeration.specs.Plan.{cut, phase_level, phase_set, level_blocks, blocks_before, total, phase_at, phase_ends, block_messages, place_of, plan_phases, phase_of}
+use Rattle.lc_enumeration.specs.InformationSet.{same_word, in_span, greedy, dimension, is_member, first_basis, columns_in_order, with_fresh, next_set, sets_after, information_sets, unit_word, systematic, echelon_rows}
+use Rattle.lc_enumeration.specs.Search.{Found, sets_of, set_count, ranks_of, generator_at, word_of, word_at, beats, found_along, found_in_block, blocks_within, found_from, least_of, found_first, found_below, best, last_that, is_whole_below, level_below, levels_below, bound_sum, bound_of, bound, is_done, ends_of, answer_at, answer}
+use Rattle.lc_enumeration.specs.Certificate.{code_length, code_dimension, level_in, messages_through, cost_of, cost}
+use Rattle.lc_language.specs.Token.{is_digit, number_from, number_of, widest}
+use Rattle.lc_language.specs.Value.{same_bytes}
+use Rattle.lc_language.specs.Print.{bracketed, numbers_text, line, distance_line, bracket_line, distance_none_line}
+use Rattle.lc_language.specs.Query.{distance, by_levels, by_scan, number_json, items, numbers_json, claim_json, way_text, with_sets, certificate_json, certificate_text, claims_at, proof_of, certificate_of, longest, no_certificate_line, certificate_line, word_at_place, distance_answer_line, certificate_answer_line, query_line}
+use Rattle.lc_language.specs.Options.{Command, run, Key, Settings, settings, usage, command_text, key_text, row, all_options, run_alone, settings_of, number_in, number_within, yes_or_no, put_key, key_named, row_named, same_key, place_of_key, checked, options_from, options}
+use Rattle.lc_language.specs.Options as words
+use Rattle.lc_language.specs.Checkpoint.{settled_json, body_json, body_of}
+use Rattle.hex.specs.Hex.{encode_with}
+use Rattle.json.specs.Print.{escape_byte}
+
+abbrev pub hamming : Matrix
+hamming = record { field = Gf2; columns = 7; rows = (1 ∷ 0 ∷ 0 ∷ 0 ∷ 0 ∷ 1 ∷ 1 ∷ []) ∷ (0 ∷ 1 ∷ 0 ∷ 0 ∷ 1 ∷ 0 ∷ 1 ∷ []) ∷ (0 ∷ 0 ∷ 1 ∷ 0 ∷ 1 ∷ 1 ∷ 0 ∷ []) ∷ (0 ∷ 0 ∷ 0 ∷ 1 ∷ 1 ∷ 1 ∷ 1 ∷ []) ∷ [] }
+
+pub hamming_distance : query_line distance hamming (2 ^ 20) ≡ codes "distance 3 word [1,0,0,0,0,1,1] blocks 2" ++ 10 ∷ []
+unfolding digits escape_byte residues number plus minus times top up times_x product shape shape_of size coefficients add neg mul word_sum scale below combine words supports supports_from numbers_from nonzero_lists leading_lists messages vector_from vector_of choose message_count cut phase_level phase_set level_blocks blocks_before total phase_at phase_ends block_messages place_of plan_phases phase_of same_word in_span greedy dimension is_member first_basis columns_in_order with_fresh next_set sets_after information_sets unit_word systematic echelon_rows sets_of set_count ranks_of generator_at word_of word_at beats found_along found_in_block blocks_within found_from least_of found_first found_below best last_that is_whole_below level_below levels_below bound_sum bound_of bound is_done ends_of answer_at answer code_length code_dimension level_in messages_through cost_of cost bracketed numbers_text line distance_line bracket_line distance_none_line number_json items numbers_json claim_json way_text with_sets certificate_json certificate_text claims_at proof_of certificate_of longest no_certificate_line certificate_line word_at_place distance_answer_line certificate_answer_line query_line
+hamming_distance = refl
+
+pub hamming_bracket : query_line distance hamming 1 ≡ codes "distance between 2 and 3 word [1,0,0,0,0,1,1] blocks 1" ++ 10 ∷ []
+unfolding digits escape_byte residues number plus minus times top up times_x product shape shape_of size coefficients add neg mul word_sum scale below combine words supports supports_from numbers_from nonzero_lists leading_lists messages vector_from vector_of choose message_count cut phase_level phase_set level_blocks blocks_before total phase_at phase_ends block_messages place_of plan_phases phase_of same_word in_span greedy dimension is_member first_basis columns_in_order with_fresh next_set sets_after information_sets unit_word systematic echelon_rows sets_of set_count ranks_of generator_at word_of word_at beats found_along found_in_block blocks_within found_from least_of found_first found_below best last_that is_whole_below level_below levels_below bound_sum bound_of bound is_done ends_of answer_at answer code_length code_dimension level_in messages_through cost_of cost bracketed numbers_text line distance_line bracket_line distance_none_line number_json items numbers_json claim_json way_text with_sets certificate_json certificate_text claims_at proof_of certificate_of longest no_certificate_line certificate_line word_at_place distance_answer_line certificate_answer_line query_line
+hamming_bracket = refl
+
+pub hamming_certificate : query_line by_levels hamming (2 ^ 20) ≡ codes "{\"by\":\"levels\",\"distance\":3,\"field\":2,\"rows\":[[1,0,0,0,0,1,1],[0,1,0,0,1,0,1],[0,0,1,0,1,1,0],[0,0,0,1,1,1,1]],\"sets\":[{\"basis\":[0,1,2,3],\"fresh\":[0,1,2,3],\"level\":1},{\"basis\":[0,4,5,6],\"fresh\":[4,5,6],\"level\":1}],\"version\":1,\"word\":[1,0,0,0,0,1,1]}" ++ 10 ∷ []
+unfolding digits escape_byte residues number plus minus times top up times_x product shape shape_of size coefficients add neg mul word_sum scale below combine words supports supports_from numbers_from nonzero_lists leading_lists messages vector_from vector_of choose message_count cut phase_level phase_set level_blocks blocks_before total phase_at phase_ends block_messages place_of plan_phases phase_of same_word in_span greedy dimension is_member first_basis columns_in_order with_fresh next_set sets_after information_sets unit_word systematic echelon_rows sets_of set_count ranks_of generator_at word_of word_at beats found_along found_in_block blocks_within found_from least_of found_first found_below best last_that is_whole_below level_below levels_below bound_sum bound_of bound is_done ends_of answer_at answer code_length code_dimension level_in messages_through cost_of cost bracketed numbers_text line distance_line bracket_line distance_none_line number_json items numbers_json claim_json way_text with_sets certificate_json certificate_text claims_at proof_of certificate_of longest no_certificate_line certificate_line word_at_place distance_answer_line certificate_answer_line query_line
+hamming_certificate = refl
+
+pub repetition_scan : query_line by_scan (record { field = Gf2; columns = 2; rows = (1 ∷ 1 ∷ []) ∷ [] }) (2 ^ 20) ≡ codes "{\"by\":\"scan\",\"distance\":2,\"field\":2,\"rows\":[[1,1]],\"version\":1,\"word\":[1,1]}" ++ 10 ∷ []
+unfolding digits escape_byte residues number plus minus times top up times_x product shape shape_of size coefficients add neg mul word_sum scale below combine words supports supports_from numbers_from nonzero_lists leading_lists messages vector_from vector_of choose message_count cut phase_level phase_set level_blocks blocks_before total phase_at phase_ends block_messages place_of plan_phases phase_of same_word in_span greedy dimension is_member first_basis columns_in_order with_fresh next_set sets_after information_sets unit_word systematic echelon_rows sets_of set_count ranks_of generator_at word_of word_at beats found_along found_in_block blocks_within found_from least_of found_first found_below best last_that is_whole_below level_below levels_below bound_sum bound_of bound is_done ends_of answer_at answer code_length code_dimension level_in messages_through cost_of cost bracketed numbers_text line distance_line bracket_line distance_none_line number_json items numbers_json claim_json way_text with_sets certificate_json certificate_text claims_at proof_of certificate_of longest no_certificate_line certificate_line word_at_place distance_answer_line certificate_answer_line query_line
+repetition_scan = refl
+
+pub checkpoint_body : body_of (record { script = replicate 32 171; budget = 1048576; turn = 3; settled = record { blocks = 2; weight = 3; place = 0 } ∷ []; blocks = 2; weight = 7; place = 0 }) ≡ codes "{\"blocks\":2,\"budget\":1048576,\"done\":[[2,3,0]],\"place\":0,\"script\":\"abababababababababababababababababababababababababababababababab\",\"turn\":3,\"version\":1,\"weight\":7}"
+unfolding digits escape_byte number_json items numbers_json settled_json body_json body_of encode_with
+checkpoint_body = refl
+
+pub no_words : options all_options [] ≡ usage 0
+unfolding is_digit number_from number_of widest same_bytes command_text key_text row all_options run_alone settings_of number_in number_within yes_or_no put_key key_named row_named same_key place_of_key checked options_from options
+no_words = refl
+
+pub bad_workers : options all_options (codes "run" ∷ codes "workers=0" ∷ []) ≡ usage 1
+unfolding is_digit number_from number_of widest same_bytes command_text key_text row all_options run_alone settings_of number_in number_within yes_or_no put_key key_named row_named same_key place_of_key checked options_from options
+bad_workers = refl
+
+pub slice_alone : options all_options (codes "run" ∷ codes "slice=2" ∷ []) ≡ usage 1
+unfolding is_digit number_from number_of widest same_bytes command_text key_text row all_options run_alone settings_of number_in number_within yes_or_no put_key key_named row_named same_key place_of_key checked options_from options
+slice_alone = refl
+
+pub kept_twice : options all_options (codes "run" ∷ codes "keep=yes" ∷ codes "keep=no" ∷ []) ≡ usage 2
+unfolding is_digit number_from number_of widest same_bytes command_text key_text row all_options run_alone settings_of number_in number_within yes_or_no put_key key_named row_named same_key place_of_key checked options_from options
+kept_twice = refl
+
+pub no_seed : options all_options (codes "summary" ∷ []) ≡ usage 1
+unfolding is_digit number_from number_of widest same_bytes command_text key_text row all_options run_alone settings_of number_in number_within yes_or_no put_key key_named row_named same_key place_of_key checked options_from options
+no_seed = refl
+
+pub sliced : options all_options (codes "resume" ∷ codes "slice=3" ∷ codes "keep=yes" ∷ []) ≡ settings (record { command = words.resume; workers = 1; budget = 2 ^ 20; slice = Some 3; keep = true; number = 0 })
+unfolding is_digit number_from number_of widest same_bytes command_text key_text row all_options run_alone settings_of number_in number_within yes_or_no put_key key_named row_named same_key place_of_key checked options_from options
+sliced = refl
+
+pub run_only : map (options run_alone) ((codes "run" ∷ []) ∷ (codes "run" ∷ codes "run" ∷ []) ∷ (codes "check" ∷ []) ∷ []) ≡ settings (settings_of run) ∷ usage 1 ∷ usage 0 ∷ []
+unfolding is_digit number_from number_of widest same_bytes command_text key_text row all_options run_alone settings_of number_in number_within yes_or_no put_key key_named row_named same_key place_of_key checked options_from options
+run_only = refl

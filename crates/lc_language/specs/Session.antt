@@ -1,0 +1,65 @@
+-- What a session of the program prints, beside the text of a script: the lines of `check` and of `summary`; and how sessions follow
+-- one another over the two slots of a vault.
+--   Needs table env ss needs          the codes of the queries that search, in the order in which the statements ask them
+--   IsNeeds table bytes needs         those of a script
+--   reason_line r                     the line of a certificate that is rejected
+--   verdict_line c                    what `check` prints of a certificate
+--   Slots                             what the two slots hold; empty where nothing was stored
+--   IsTornOr parity needs digest budget read      a slot as sessions of a chain leave it: no checkpoint at all, or a true one whose
+--                                     turn has the slot's parity
+--   AreTrueSlots needs digest budget slots       both slots: turns that are even in slot Zero, odd ones in slot One
+--   chosen slots                      the checkpoint that `resume` takes: the greater turn, slot Zero where they are equal
+use Rattle.std.specs.Prelude.{◌≡◌, ℕ, zero, suc, ◌+◌, ◌%◌, ◌<◌, ◌⊎◌, Bool, true, false, nat_lt, if◌then◌else◌, List, [], ◌∷◌, ◌++◌, map, codes, decimal, Option, Some, None, MatchOption}
+use Rattle.lc_algebra.specs.Matrix.{Matrix}
+use Rattle.lc_enumeration.specs.Certificate.{Certificate, Reason, reason_number, reason_values, Verdict, accepted, rejected, verdict}
+use Rattle.lc_language.specs.declared.Call.{Call}
+use Rattle.lc_language.specs.Tree.{Statement}
+use Rattle.lc_language.specs.Grammar.{Reads}
+use Rattle.lc_language.specs.Value.{Binding}
+use Rattle.lc_language.specs.Print.{line, with_values}
+use Rattle.lc_language.specs.Query.{QueryKind}
+use Rattle.lc_language.specs.Evaluation.{Step, Steps, binds, prints, asks, fails}
+use Rattle.lc_language.specs.Checkpoint.{Checkpoint, ReadCheckpoint, point, refused, checkpoint_in, IsTrueFor}
+
+abbrev pub NeedsOn : List Binding → Step → (List Binding → List Matrix → Type 0) → List Matrix → Type 0
+NeedsOn env (binds b) later needs = later (b ∷ env) needs
+NeedsOn env (prints l) later needs = later env needs
+NeedsOn env (asks kind C) later needs = (rest : List Matrix) × later env rest × (needs ≡ C ∷ rest)
+NeedsOn env (fails r) later needs = needs ≡ []
+
+abbrev pub Needs : List Call → List Binding → List Statement → List Matrix → Type 0
+Needs table env [] needs = needs ≡ []
+Needs table env (s ∷ ss) needs = (step : Step) × Steps table env s step × NeedsOn env step (λ later. Needs table later ss) needs
+
+abbrev pub IsNeeds : List Call → List ℕ → List Matrix → Type 0
+IsNeeds table bytes needs = (ss : List Statement) × Reads bytes ss × Needs table [] ss needs
+
+unfoldable pub reason_line : Reason → List ℕ
+reason_line r = line (codes "rejected " ++ decimal (reason_number r) ++ with_values (reason_values r))
+
+unfoldable pub line_of_verdict : ℕ → Verdict → List ℕ
+line_of_verdict d accepted = line (codes "accepted distance " ++ decimal d)
+line_of_verdict d (rejected r) = reason_line r
+
+unfoldable pub verdict_line : Certificate → List ℕ
+verdict_line c = line_of_verdict c.distance (verdict c)
+
+pub record Slots : Type 0 where
+  pub zero_slot : List ℕ
+  pub one_slot : List ℕ
+
+abbrev pub IsTornOr : ℕ → List Matrix → List ℕ → ℕ → ReadCheckpoint → Type 0
+IsTornOr parity needs digest budget (point p) = IsTrueFor needs digest budget p × (p.turn % 2 ≡ parity)
+IsTornOr parity needs digest budget (refused r) = Unit {0}
+
+abbrev pub AreTrueSlots : List Matrix → List ℕ → ℕ → Slots → Type 0
+AreTrueSlots needs digest budget slots = IsTornOr 0 needs digest budget (checkpoint_in slots.zero_slot) × IsTornOr 1 needs digest budget (checkpoint_in slots.one_slot)
+
+unfoldable pub later_of : ReadCheckpoint → ReadCheckpoint → Option Checkpoint
+later_of (point p) (point q) = (if nat_lt p.turn q.turn then Some q else Some p)
+later_of (point p) (refused r) = Some p
+later_of (refused r) (point q) = Some q
+later_of (refused r) (refused s) = None
+
+unfoldable pub chosen : Slots → Option Checkpoint
+chosen slots = later_of (checkpoint_in slots.zero_slot) (checkpoint_in slots.one_slot)
