@@ -3,3 +3,4 @@ pub mod ResidueLaws
 pub mod ProductLaws
 pub mod FieldTests
 pub mod FieldLaws
+pub mod WordLaws
