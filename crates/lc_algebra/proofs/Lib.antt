@@ -4,3 +4,4 @@ pub mod ProductLaws
 pub mod FieldTests
 pub mod FieldLaws
 pub mod WordLaws
+pub mod SpanLaws

@@ -5,3 +5,4 @@ pub mod Embedding
 pub mod Word
 pub mod Span
 pub mod Matrix
+pub mod SpanLaws
