@@ -5,3 +5,4 @@ pub mod FieldTests
 pub mod FieldLaws
 pub mod WordLaws
 pub mod SpanLaws
+pub mod ReducedLaws

@@ -6,35 +6,37 @@
 --   span_within            where the rows are words of the others, so is each word of the rows
 --   same_span, same_span_reflexive, same_span_symmetric, same_span_transitive      two lists of rows with the same words
 --   combination_of_word, word_of_combination    a word of the rows is the combination by some coefficients
+--   length_combine, combine_sum, combine_scale, combine_difference      the combination is linear in the coefficients
+--   coefficients_unique, independent_from_unique      independent rows: a combination tells its coefficients
 --   dot_span               what has dot 0 with each row has dot 0 with each word
 -- The list of words
 --   contains_head, contains_tail, contains_cases, contains_map, map_contains, contains_flat_map, flat_map_contains
+--   contains_below, below_contains, length_below, length_flat_map_even
 --   word_of_member, member_of_word      the list of words has exactly the words of the rows
 --   length_words           the list has q^k entries for k rows
 --   same_word_decided, contains_decided, span_decided      whether a word is one of the rows' words
 -- Steps on rows
---   rows_at                a row is a word of length n
 --   span_multiples_added   adding multiples of row r to the other rows keeps the words
 --   span_multiple_added    adding a multiple of row r to row i keeps the words
---   span_row_scaled        multiplying a row by a nonzero element keeps the words
+--   span_rows_scaled, span_row_scaled      multiplying rows by nonzero elements keeps the words
 --   span_but_zeros         lists with the same rows, but for zero rows, in any order and number, have the same words
---   span_same_members, span_swapped, span_zero_removed, span_zero_head      cases of it
+--   span_same_members, span_permuted, span_swapped, span_zero_removed, span_zero_head      cases of it
 -- Least words
 --   distance_unique, least_unique, least_distance
-use Rattle.std.proofs.Common.{◌≡◌, ◌≢◌, ℕ, zero, suc, ◌+◌, ◌*◌, ◌^◌, ◌<◌, ◌≤◌, ◌⊎◌, ◌↔◌, List, [], ◌∷◌, ◌++◌, map, length, set, slice_index, slice_index_or, get_or, All, Contains, flat_map, swap, remove, IsPermutation, refl, sym, ap, subst, ◌∙◌, inl, inr, ⊎_elim, arith, rules, zero-lt-suc, pow-suc, le_antisymm}
+use Rattle.std.proofs.Common.{◌≡◌, ◌≢◌, ℕ, zero, suc, ◌*◌, ◌^◌, ◌<◌, ◌⊎◌, ◌↔◌, List, [], ◌∷◌, map, length, set, slice_index_or, All, Contains, flat_map, swap, remove, IsPermutation, refl, sym, ap, subst, ◌∙◌, inl, inr, ⊎_elim, arith, zero-lt-suc, pow-suc}
 use Rattle.std.proofs.lemmas.List.{length-append, length-map, length-set, get_or-set_same, get_or-set_other, get_or_default}
-use Rattle.std.proofs.lemmas.List.Elements.{All-nil, All-cons, All-head, All-tail, All-contains, All-from_get_or, Contains-get_or, Contains-append_left, Contains-append_right, Contains-append_cases}
+use Rattle.std.proofs.lemmas.List.Elements.{All-cons, All-head, All-tail, All-contains, All-from_get_or, Contains-get_or, Contains-append_left, Contains-append_right, Contains-append_cases}
 use Rattle.std.proofs.lemmas.List.Sorted.{IsPermutation-sym, IsPermutation-swap, IsPermutation-remove, All-permutation}
 use Rattle.std.proofs.lemmas.Bool.{cases_lt, cases_eq}
 use Rattle.lc_algebra.specs.declared.FieldName.{FieldName}
-use Rattle.lc_algebra.specs.Field.{size, add, neg, mul, IsInverse}
-use Rattle.lc_algebra.specs.Word.{Fits, IsWord, zero_word, word_sum, scale, difference, weight, word_dot, ComesNoLater}
-use Rattle.lc_algebra.specs.Span.{below, combine, InSpan, words, SameSpan, IsDistance, IsLeast}
+use Rattle.lc_algebra.specs.Field.{size, add, neg, mul}
+use Rattle.lc_algebra.specs.Word.{IsWord, zero_word, word_sum, scale, difference, weight, word_dot}
+use Rattle.lc_algebra.specs.Span.{below, combine, InSpan, words, SameSpan, AreIndependent, IsDistance, IsLeast}
 use Rattle.lc_algebra.specs.Matrix.{AreRows, IsOrthogonal}
 use Rattle.lc_algebra.specs.SpanLaws.{AddsMultiples, ScalesRows}
 use Rattle.std.proofs.Math.Nat.{pow-zero}
-use Rattle.lc_algebra.proofs.FieldLaws.{one_inside, zero_inside, add_inside, neg_inside, mul_inside, zero_add, add_neg, mul_comm, mul_zero, inverse_of}
-use Rattle.lc_algebra.proofs.WordLaws.{length_scale, length_zero_word, IsWord_zero, IsWord_scale, IsWord_sum, word_head, word_tail, word_cons, sum_assoc, sum_exchange, multiple_undone, zero_sum, sum_zero, scale_sum, sum_scale, scale_scale, one_scale, zero_scale, scale_zero, sum_dot, scale_dot, zero_dot, no_later_antisymmetric, no_later_weight}
+use Rattle.lc_algebra.proofs.FieldLaws.{one_inside, zero_inside, add_inside, mul_inside, zero_add, mul_comm, mul_zero, inverse_of}
+use Rattle.lc_algebra.proofs.WordLaws.{length_word_sum, length_scale, difference_self, same_from_difference, IsWord_difference, length_zero_word, IsWord_zero, IsWord_scale, IsWord_sum, word_head, word_tail, word_cons, sum_exchange, multiple_undone, zero_sum, sum_zero, scale_sum, sum_scale, scale_scale, one_scale, zero_scale, scale_zero, sum_dot, scale_dot, zero_dot, no_later_antisymmetric, no_later_weight}
 
 pub span_word : (f : FieldName) (n : ℕ) (rows : List (List ℕ)) (w : List ℕ) → AreRows f n rows → InSpan f n rows w → IsWord f n w
 span_word f n [] w r h = rw h (IsWord_zero f n)
@@ -109,6 +111,47 @@ word_of_combination f n [] (c ∷ cs) w = refl
 word_of_combination f n (g ∷ rows) [] w = absurd (omega (arith, w.long))
 word_of_combination f n (g ∷ rows) (c ∷ cs) w = (c, word_head f _ c cs w, (combine f n cs rows, word_of_combination f n rows cs (word_tail f (length rows) c cs w), refl))
 
+pub length_combine : (f : FieldName) (n : ℕ) (cs : List ℕ) (rows : List (List ℕ)) → AreRows f n rows → length (combine f n cs rows) ≡ n
+unfolding combine
+length_combine f n [] [] r = length_zero_word n
+length_combine f n [] (g ∷ rows) r = length_zero_word n
+length_combine f n (c ∷ cs) [] r = length_zero_word n
+length_combine f n (c ∷ cs) (g ∷ rows) r =
+    let t : length (combine f n cs rows) ≡ n = length_combine f n cs rows (All-tail (IsWord f n) g rows r) in
+    length_word_sum f (scale f c g) (combine f n cs rows) (length_scale f c g ∙ (All-head (IsWord f n) g rows r).long ∙ sym t) ∙ t
+
+pub combine_sum : (f : FieldName) (n : ℕ) (cs ds : List ℕ) (rows : List (List ℕ)) → length cs ≡ length ds → combine f n (word_sum f cs ds) rows ≡ word_sum f (combine f n cs rows) (combine f n ds rows)
+unfolding combine word_sum
+combine_sum f n [] [] rows e = sym (zero_sum f n (zero_word n) (IsWord_zero f n))
+combine_sum f n [] (d ∷ ds) rows e = absurd (omega (arith, e))
+combine_sum f n (c ∷ cs) [] rows e = absurd (omega (arith, e))
+combine_sum f n (c ∷ cs) (d ∷ ds) [] e = sym (zero_sum f n (zero_word n) (IsWord_zero f n))
+combine_sum f n (c ∷ cs) (d ∷ ds) (g ∷ rows) e =
+    let t : combine f n (word_sum f cs ds) rows ≡ word_sum f (combine f n cs rows) (combine f n ds rows) = combine_sum f n cs ds rows (omega (arith, e)) in
+    cc (t, sum_scale f c d g, sum_exchange f (scale f c g) (scale f d g) (combine f n cs rows) (combine f n ds rows))
+
+pub combine_scale : (f : FieldName) (n a : ℕ) (cs : List ℕ) (rows : List (List ℕ)) → combine f n (scale f a cs) rows ≡ scale f a (combine f n cs rows)
+unfolding combine scale
+combine_scale f n a [] rows = sym (scale_zero f a n)
+combine_scale f n a (c ∷ cs) [] = sym (scale_zero f a n)
+combine_scale f n a (c ∷ cs) (g ∷ rows) =
+    cc (combine_scale f n a cs rows, scale_scale f a c g, scale_sum f a (scale f c g) (combine f n cs rows))
+
+pub combine_difference : (f : FieldName) (n : ℕ) (cs ds : List ℕ) (rows : List (List ℕ)) → length cs ≡ length ds → combine f n (difference f cs ds) rows ≡ difference f (combine f n cs rows) (combine f n ds rows)
+unfolding difference
+combine_difference f n cs ds rows e =
+    combine_sum f n cs (scale f (neg f 1) ds) rows (e ∙ sym (length_scale f (neg f 1) ds)) ∙ ap (word_sum f (combine f n cs rows)) (combine_scale f n (neg f 1) ds rows)
+
+pub coefficients_unique : (f : FieldName) (n : ℕ) (rows : List (List ℕ)) (cs ds : List ℕ) → AreRows f n rows → AreIndependent f n rows → IsWord f (length rows) cs → IsWord f (length rows) ds → combine f n cs rows ≡ combine f n ds rows → cs ≡ ds
+coefficients_unique f n rows cs ds r i p q e =
+    let z : combine f n (difference f cs ds) rows ≡ zero_word n = combine_difference f n cs ds rows (p.long ∙ sym q.long) ∙ ap (λ w. difference f w (combine f n ds rows)) e ∙ difference_self f n (combine f n ds rows) (length_combine f n ds rows r) in
+    same_from_difference f (length rows) cs ds p q (i (difference f cs ds) (IsWord_difference f (length rows) cs ds p.long q.long) z)
+
+pub independent_from_unique : (f : FieldName) (n : ℕ) (rows : List (List ℕ)) → ((cs ds : List ℕ) → IsWord f (length rows) cs → IsWord f (length rows) ds → combine f n cs rows ≡ combine f n ds rows → cs ≡ ds) → AreIndependent f n rows
+independent_from_unique f n rows h cs w e =
+    let z : combine f n (scale f 0 cs) rows ≡ zero_word n = combine_scale f n 0 cs rows ∙ ap (scale f 0) e ∙ scale_zero f 0 n in
+    h cs (zero_word (length rows)) w (IsWord_zero f (length rows)) (e ∙ sym (ap (λ x. combine f n x rows) (sym (zero_scale f (length rows) cs w.long)) ∙ z))
+
 pub dot_span : (f : FieldName) (n : ℕ) (rows : List (List ℕ)) (v w : List ℕ) → AreRows f n rows → IsOrthogonal f rows v → InSpan f n rows w → word_dot f w v ≡ 0
 dot_span f n [] v w r o h = ap (λ x. word_dot f x v) h ∙ zero_dot f n v
 dot_span f n (g ∷ rows) v w r o h =
@@ -132,51 +175,51 @@ pub map_contains : {X Y : Type 0} (h : X → Y) (xs : List X) (x : X) → Contai
 map_contains h [] x c = absurd (omega (arith, c.1))
 map_contains h (a ∷ xs) x c =
     ⊎_elim
-      (λ e. subst (λ t. Contains (h a ∷ map h xs) (h t)) e (contains_head (h a) (map h xs)))
-      (λ t. contains_tail (h a) (h x) (map h xs) (map_contains h xs x t))
-      (contains_cases a x xs c)
+    (λ e. subst (λ t. Contains (h a ∷ map h xs) (h t)) e (contains_head (h a) (map h xs)))
+    (λ t. contains_tail (h a) (h x) (map h xs) (map_contains h xs x t))
+    (contains_cases a x xs c)
 
 pub contains_map : {X Y : Type 0} (h : X → Y) (xs : List X) (y : Y) → Contains (map h xs) y → (x : X) × Contains xs x × (y ≡ h x)
 contains_map h [] y c = absurd (omega (arith, c.1))
 contains_map {X} {Y} h (a ∷ xs) y c =
     ⊎_elim
-      (λ e. (a, contains_head a xs, sym e))
-      (λ t. let s = contains_map h xs y t in (s.0, contains_tail a s.0 xs s.1, s.2))
-      (contains_cases (h a) y (map h xs) c)
+    (λ e. (a, contains_head a xs, sym e))
+    (λ t. let s = contains_map h xs y t in (s.0, contains_tail a s.0 xs s.1, s.2))
+    (contains_cases (h a) y (map h xs) c)
 
 pub flat_map_contains : {X Y : Type 0} (h : X → List Y) (xs : List X) (x : X) (y : Y) → Contains xs x → Contains (h x) y → Contains (flat_map h xs) y
 flat_map_contains h [] x y c d = absurd (omega (arith, c.1))
 flat_map_contains h (a ∷ xs) x y c d =
     ⊎_elim
-      (λ e. Contains-append_left (h a) (flat_map h xs) y (subst (λ t. Contains (h t) y) (sym e) d))
-      (λ t. Contains-append_right (h a) (flat_map h xs) y (flat_map_contains h xs x y t d))
-      (contains_cases a x xs c)
+    (λ e. Contains-append_left (h a) (flat_map h xs) y (subst (λ t. Contains (h t) y) (sym e) d))
+    (λ t. Contains-append_right (h a) (flat_map h xs) y (flat_map_contains h xs x y t d))
+    (contains_cases a x xs c)
 
 pub contains_flat_map : {X Y : Type 0} (h : X → List Y) (xs : List X) (y : Y) → Contains (flat_map h xs) y → (x : X) × Contains xs x × Contains (h x) y
 contains_flat_map h [] y c = absurd (omega (arith, c.1))
 contains_flat_map h (a ∷ xs) y c =
     ⊎_elim
-      (λ t. (a, contains_head a xs, t))
-      (λ t. let s = contains_flat_map h xs y t in (s.0, contains_tail a s.0 xs s.1, s.2))
-      (Contains-append_cases (h a) (flat_map h xs) y c)
+    (λ t. (a, contains_head a xs, t))
+    (λ t. let s = contains_flat_map h xs y t in (s.0, contains_tail a s.0 xs s.1, s.2))
+    (Contains-append_cases (h a) (flat_map h xs) y c)
 
 pub contains_below : (n c : ℕ) → Contains (below n) c → c < n
 unfolding below
 contains_below zero c h = absurd (omega (arith, h.1))
 contains_below (suc n) c h =
     ⊎_elim
-      (λ t. omega (arith, contains_below n c t))
-      (λ t. ⊎_elim (λ e. omega (arith, e)) (λ s. absurd (omega (arith, s.1))) (contains_cases n c [] t))
-      (Contains-append_cases (below n) (n ∷ []) c h)
+    (λ t. omega (arith, contains_below n c t))
+    (λ t. ⊎_elim (λ e. omega (arith, e)) (λ s. absurd (omega (arith, s.1))) (contains_cases n c [] t))
+    (Contains-append_cases (below n) (n ∷ []) c h)
 
 pub below_contains : (n c : ℕ) → c < n → Contains (below n) c
 unfolding below
 below_contains zero c l = absurd (omega (arith, l))
 below_contains (suc n) c l =
     ⊎_elim
-      (λ k. Contains-append_left (below n) (n ∷ []) c (below_contains n c k))
-      (λ k. Contains-append_right (below n) (n ∷ []) c (0, zero-lt-suc 0, omega (arith, k, l)))
-      (cases_lt c n)
+    (λ k. Contains-append_left (below n) (n ∷ []) c (below_contains n c k))
+    (λ k. Contains-append_right (below n) (n ∷ []) c (0, zero-lt-suc 0, omega (arith, k, l)))
+    (cases_lt c n)
 
 pub length_below : (n : ℕ) → length (below n) ≡ n
 unfolding below
@@ -215,26 +258,26 @@ same_word_decided [] (b ∷ v) = inr (λ e. omega (arith, ap length e))
 same_word_decided (a ∷ u) [] = inr (λ e. omega (arith, ap length e))
 same_word_decided (a ∷ u) (b ∷ v) =
     ⊎_elim
-      (λ e. ⊎_elim
-        (λ t. inl (cc (e, t)))
-        (λ n. inr (λ t. n (cc t)))
-        (same_word_decided u v))
-      (λ n. inr (λ t. n (cc t)))
-      (cases_eq a b)
+    (λ e. ⊎_elim
+    (λ t. inl (cc (e, t)))
+    (λ n. inr (λ t. n (cc t)))
+    (same_word_decided u v))
+    (λ n. inr (λ t. n (cc t)))
+    (cases_eq a b)
 
-pub contains_decided : (xs : List (List ℕ)) (w : List ℕ) → Contains xs w ⊎ (Contains xs w → ⊥)
-contains_decided [] w = inr (λ h. omega (arith, h.1))
-contains_decided (x ∷ xs) w =
+pub contains_decided : {X : Type 0} → ((x y : X) → (x ≡ y) ⊎ (x ≡ y → ⊥)) → (xs : List X) (w : X) → Contains xs w ⊎ (Contains xs w → ⊥)
+contains_decided same [] w = inr (λ h. omega (arith, h.1))
+contains_decided same (x ∷ xs) w =
     ⊎_elim
-      (λ e. inl (subst (λ t. Contains (x ∷ xs) t) e (contains_head x xs)))
-      (λ n. ⊎_elim
-        (λ t. inl (contains_tail x w xs t))
-        (λ m. inr (λ h. ⊎_elim n m (contains_cases x w xs h)))
-        (contains_decided xs w))
-      (same_word_decided x w)
+    (λ e. inl (subst (λ t. Contains (x ∷ xs) t) e (contains_head x xs)))
+    (λ n. ⊎_elim
+    (λ t. inl (contains_tail x w xs t))
+    (λ m. inr (λ h. ⊎_elim n m (contains_cases x w xs h)))
+    (contains_decided same xs w))
+    (same x w)
 
 pub span_decided : (f : FieldName) (n : ℕ) (rows : List (List ℕ)) (w : List ℕ) → InSpan f n rows w ⊎ (InSpan f n rows w → ⊥)
-span_decided f n rows w = ⊎_elim (λ h. inl (word_of_member f n rows w h)) (λ m. inr (λ h. m (member_of_word f n rows w h))) (contains_decided (words f n rows) w)
+span_decided f n rows w = ⊎_elim (λ h. inl (word_of_member f n rows w h)) (λ m. inr (λ h. m (member_of_word f n rows w h))) (contains_decided same_word_decided (words f n rows) w)
 
 pub span_multiples_added : (f : FieldName) (n r : ℕ) (rows others : List (List ℕ)) → r < length rows → AreRows f n rows → AddsMultiples f r rows others → AreRows f n others × SameSpan f n rows others
 span_multiples_added f n r rows others l a s =
@@ -243,21 +286,21 @@ span_multiples_added f n r rows others l a s =
     let long : (i : ℕ) → i < length others → i < length rows = λ i k. omega (arith, k, s.count) in
     let back : (i : ℕ) → i < length rows → i < length others = λ i k. omega (arith, k, s.count) in
     let fits : AreRows f n others = All-from_get_or (IsWord f n) others [] (λ i k. ⊎_elim
-          (λ e. rw e (rw s.kept (a r [] l)))
-          (λ m. let t = s.added i (long i k) m in rw t.1 (IsWord_sum f n (slice_index_or rows i []) (scale f t.0 g) (a i [] (long i k)).long (length_scale f t.0 g ∙ (a r [] l).long)))
-          (cases_eq i r)) in
+    (λ e. rw e (rw s.kept (a r [] l)))
+    (λ m. let t = s.added i (long i k) m in rw t.1 (IsWord_sum f n (slice_index_or rows i []) (scale f t.0 g) (a i [] (long i k)).long (length_scale f t.0 g ∙ (a r [] l).long)))
+    (cases_eq i r)) in
     let there : All (InSpan f n rows) others = All-from_get_or (InSpan f n rows) others [] (λ i k. ⊎_elim
-          (λ e. rw e (rw s.kept (own r [] l)))
-          (λ m. let t = s.added i (long i k) m in rw t.1 (span_sum f n rows (slice_index_or rows i []) (scale f t.0 g) (own i [] (long i k)) (span_scale f n rows t.0 g (own r [] l))))
-          (cases_eq i r)) in
+    (λ e. rw e (rw s.kept (own r [] l)))
+    (λ m. let t = s.added i (long i k) m in rw t.1 (span_sum f n rows (slice_index_or rows i []) (scale f t.0 g) (own i [] (long i k)) (span_scale f n rows t.0 g (own r [] l))))
+    (cases_eq i r)) in
     let theirs : All (InSpan f n others) others = span_row f n others fits in
     let first : InSpan f n others g = subst (InSpan f n others) s.kept (theirs r [] (back r l)) in
     let here : All (InSpan f n others) rows = All-from_get_or (InSpan f n others) rows [] (λ i k. ⊎_elim
-          (λ e. rw e first)
-          (λ m. let t = s.added i k m in
-                let u : InSpan f n others (word_sum f (slice_index_or rows i []) (scale f t.0 g)) = subst (InSpan f n others) t.1 (theirs i [] (back i k)) in
-                subst (InSpan f n others) (multiple_undone f n t.0 (slice_index_or rows i []) g (a i [] k) (a r [] l).long) (span_sum f n others (word_sum f (slice_index_or rows i []) (scale f t.0 g)) (scale f (neg f t.0) g) u (span_scale f n others (neg f t.0) g first)))
-          (cases_eq i r)) in
+    (λ e. rw e first)
+    (λ m. let t = s.added i k m in
+    let u : InSpan f n others (word_sum f (slice_index_or rows i []) (scale f t.0 g)) = subst (InSpan f n others) t.1 (theirs i [] (back i k)) in
+    subst (InSpan f n others) (multiple_undone f n t.0 (slice_index_or rows i []) g (a i [] k) (a r [] l).long) (span_sum f n others (word_sum f (slice_index_or rows i []) (scale f t.0 g)) (scale f (neg f t.0) g) u (span_scale f n others (neg f t.0) g first)))
+    (cases_eq i r)) in
     (fits, same_span f n rows others a fits here there)
 
 pub span_rows_scaled : (f : FieldName) (n : ℕ) (rows others : List (List ℕ)) → AreRows f n rows → ScalesRows f rows others → AreRows f n others × SameSpan f n rows others
@@ -269,10 +312,10 @@ span_rows_scaled f n rows others a s =
     let there : All (InSpan f n rows) others = All-from_get_or (InSpan f n rows) others [] (λ i k. let t = s.scaled i (long i k) in rw t.3 (span_scale f n rows t.0 (slice_index_or rows i []) (own i [] (long i k)))) in
     let theirs : All (InSpan f n others) others = span_row f n others fits in
     let here : All (InSpan f n others) rows = All-from_get_or (InSpan f n others) rows [] (λ i k.
-          let t = s.scaled i k in
-          let b = inverse_of f t.0 t.1 t.2 in
-          let e : scale f b.0 (slice_index_or others i []) ≡ slice_index_or rows i [] = cc (t.3, scale_scale f b.0 t.0 (slice_index_or rows i []), mul_comm f b.0 t.0, b.1.one, one_scale f (slice_index_or rows i []) (a i [] k).fits) in
-          subst (InSpan f n others) e (span_scale f n others b.0 (slice_index_or others i []) (theirs i [] (back i k)))) in
+    let t = s.scaled i k in
+    let b = inverse_of f t.0 t.1 t.2 in
+    let e : scale f b.0 (slice_index_or others i []) ≡ slice_index_or rows i [] = cc (t.3, scale_scale f b.0 t.0 (slice_index_or rows i []), mul_comm f b.0 t.0, b.1.one, one_scale f (slice_index_or rows i []) (a i [] k).fits) in
+    subst (InSpan f n others) e (span_scale f n others b.0 (slice_index_or others i []) (theirs i [] (back i k)))) in
     (fits, same_span f n rows others a fits here there)
 
 pub span_multiple_added : (f : FieldName) (n i r c : ℕ) (rows : List (List ℕ)) → i < length rows → r < length rows → i ≢ r → AreRows f n rows → SameSpan f n rows (set rows i (word_sum f (slice_index_or rows i []) (scale f c (slice_index_or rows r []))))
@@ -280,29 +323,31 @@ span_multiple_added f n i r c rows k l m a =
     let g = slice_index_or rows r [] in
     let new = word_sum f (slice_index_or rows i []) (scale f c g) in
     let steps : AddsMultiples f r rows (set rows i new) = record {
-          count = length-set rows i new;
-          kept = get_or-set_other rows i r new [] (λ e. m (sym e));
-          added = λ j h d. ⊎_elim
-            (λ e. (c, rw e (get_or-set_same rows i new [] k)))
-            (λ o. (0, get_or-set_other rows i j new [] o ∙ sym (ap (word_sum f (slice_index_or rows j [])) (zero_scale f n g (a r [] l).long) ∙ sum_zero f n (slice_index_or rows j []) (a j [] h))))
-            (cases_eq j i) } in
+      count = length-set rows i new;
+      kept = get_or-set_other rows i r new [] (λ e. m (sym e));
+      added = λ j h d. ⊎_elim
+          (λ e. (c, rw e (get_or-set_same rows i new [] k)))
+          (λ o. (0, get_or-set_other rows i j new [] o ∙ sym (ap (word_sum f (slice_index_or rows j [])) (zero_scale f n g (a r [] l).long) ∙ sum_zero f n (slice_index_or rows j []) (a j [] h))))
+          (cases_eq j i);
+    } in
     (span_multiples_added f n r rows (set rows i new) l a steps).1
 
 pub span_row_scaled : (f : FieldName) (n i c : ℕ) (rows : List (List ℕ)) → i < length rows → c < size f → 0 < c → AreRows f n rows → SameSpan f n rows (set rows i (scale f c (slice_index_or rows i [])))
 span_row_scaled f n i c rows k h p a =
     let new = scale f c (slice_index_or rows i []) in
     let steps : ScalesRows f rows (set rows i new) = record {
-          count = length-set rows i new;
-          scaled = λ j l. ⊎_elim
-            (λ e. (c, h, p, rw e (get_or-set_same rows i new [] k)))
-            (λ o. (1, one_inside f, omega arith, get_or-set_other rows i j new [] o ∙ sym (one_scale f (slice_index_or rows j []) (a j [] l).fits)))
-            (cases_eq j i) } in
+      count = length-set rows i new;
+      scaled = λ j l. ⊎_elim
+          (λ e. (c, h, p, rw e (get_or-set_same rows i new [] k)))
+          (λ o. (1, one_inside f, omega arith, get_or-set_other rows i j new [] o ∙ sym (one_scale f (slice_index_or rows j []) (a j [] l).fits)))
+          (cases_eq j i);
+    } in
     (span_rows_scaled f n rows (set rows i new) a steps).1
 
 pub span_but_zeros : (f : FieldName) (n : ℕ) (rows others : List (List ℕ)) → AreRows f n rows → AreRows f n others → All (λ g. (g ≡ zero_word n) ⊎ Contains others g) rows → All (λ g. (g ≡ zero_word n) ⊎ Contains rows g) others → SameSpan f n rows others
 span_but_zeros f n rows others r s a b =
     let among : (xs : List (List ℕ)) → AreRows f n xs → (g : List ℕ) → (g ≡ zero_word n) ⊎ Contains xs g → InSpan f n xs g =
-          λ xs t g h. ⊎_elim (λ e. subst (InSpan f n xs) (sym e) (span_zero f n xs t)) (λ c. All-contains (InSpan f n xs) xs g (span_row f n xs t) c) h in
+    λ xs t g h. ⊎_elim (λ e. subst (InSpan f n xs) (sym e) (span_zero f n xs t)) (λ c. All-contains (InSpan f n xs) xs g (span_row f n xs t) c) h in
     same_span f n rows others r s (λ k d l. among others s (slice_index_or rows k d) (a k d l)) (λ k d l. among rows r (slice_index_or others k d) (b k d l))
 
 pub span_same_members : (f : FieldName) (n : ℕ) (rows others : List (List ℕ)) → AreRows f n rows → AreRows f n others → ((g : List ℕ) → Contains rows g ↔ Contains others g) → SameSpan f n rows others

@@ -20,14 +20,14 @@
 -- Order
 --   at_most_reflexive, at_most_transitive, at_most_total, at_most_antisymmetric, at_most_decided
 --   no_later_reflexive, no_later_transitive, no_later_total, no_later_antisymmetric, no_later_decided
-use Rattle.std.proofs.Common.{◌≡◌, ℕ, zero, suc, ◌+◌, ◌<◌, ◌≤◌, ◌⊎◌, Bool, true, false, cond, not, ◌==◌, List, [], ◌∷◌, length, replicate, slice_index, get_or, count_by, refl, sym, ap, ap₂, ◌∙◌, inl, inr, ⊎_elim, arith, rules, zero-lt-suc}
-use Rattle.std.proofs.lemmas.List.{ext_get_or, get_or_past, length-replicate, get_or-replicate}
+use Rattle.std.proofs.Common.{◌≡◌, ℕ, zero, suc, ◌+◌, ◌<◌, ◌≤◌, ◌⊎◌, false, cond, not, ◌==◌, List, [], ◌∷◌, length, slice_index, refl, sym, ap, ◌∙◌, inl, inr, ⊎_elim, arith, zero-lt-suc}
+use Rattle.std.proofs.lemmas.List.{ext_get_or, length-replicate}
 use Rattle.std.proofs.lemmas.List.Sums.{sum_by-cons, count_by-le-length}
 use Rattle.std.proofs.lemmas.Bool.{cases_lt, cases_eq, cases_order, ne_eqb}
 use Rattle.lc_algebra.specs.declared.FieldName.{FieldName}
 use Rattle.lc_algebra.specs.Field.{size, add, neg, mul}
 use Rattle.lc_algebra.specs.Word.{Fits, IsWord, zero_word, word_sum, scale, difference, weight, word_dot, distance, AtMost, ComesNoLater}
-use Rattle.lc_algebra.proofs.FieldLaws.{one_inside, zero_inside, add_inside, neg_inside, mul_inside, add_comm, add_assoc, zero_add, add_zero, add_neg, mul_comm, mul_assoc, mul_add, add_mul, one_mul, zero_mul, mul_zero, mul_neg, neg_one_mul, neg_neg, mul_nonzero, subtract_zero}
+use Rattle.lc_algebra.proofs.FieldLaws.{one_inside, zero_inside, add_inside, neg_inside, mul_inside, add_comm, add_assoc, zero_add, add_neg, mul_comm, mul_assoc, mul_add, add_mul, one_mul, zero_mul, mul_zero, neg_one_mul, neg_neg, mul_nonzero, subtract_zero}
 
 pub length_word_sum : (f : FieldName) (u v : List ℕ) → length u ≡ length v → length (word_sum f u v) ≡ length v
 unfolding word_sum
@@ -324,9 +324,9 @@ at_most_total [] v e = inl tt
 at_most_total (a ∷ u) [] e = absurd (omega (arith, e))
 at_most_total (a ∷ u) (b ∷ v) e =
     ⊎_elim
-      (λ p. ⊎_elim (λ h. inl (inr (p, h))) (λ h. inr (inr (sym p, h))) (at_most_total u v (omega (arith, e))))
-      (λ s. ⊎_elim (λ p. inl (inl p)) (λ p. inr (inl p)) s)
-      (cases_order a b)
+    (λ p. ⊎_elim (λ h. inl (inr (p, h))) (λ h. inr (inr (sym p, h))) (at_most_total u v (omega (arith, e))))
+    (λ s. ⊎_elim (λ p. inl (inl p)) (λ p. inr (inl p)) s)
+    (cases_order a b)
 
 pub at_most_antisymmetric : (u v : List ℕ) → length u ≡ length v → AtMost u v → AtMost v u → u ≡ v
 at_most_antisymmetric [] [] e h k = refl
@@ -344,15 +344,15 @@ at_most_decided [] v = inl tt
 at_most_decided (a ∷ u) [] = inr (λ h. h)
 at_most_decided (a ∷ u) (b ∷ v) =
     ⊎_elim
-      (λ p. inl (inl p))
-      (λ q. ⊎_elim
-        (λ p. ⊎_elim
-          (λ h. inl (inr (p, h)))
-          (λ n. inr (λ s. ⊎_elim (λ l. omega (arith, l, q)) (λ r. n r.1) s))
-          (at_most_decided u v))
-        (λ n. inr (λ s. ⊎_elim (λ l. omega (arith, l, q)) (λ r. n r.0) s))
-        (cases_eq a b))
-      (cases_lt a b)
+    (λ p. inl (inl p))
+    (λ q. ⊎_elim
+    (λ p. ⊎_elim
+    (λ h. inl (inr (p, h)))
+    (λ n. inr (λ s. ⊎_elim (λ l. omega (arith, l, q)) (λ r. n r.1) s))
+    (at_most_decided u v))
+    (λ n. inr (λ s. ⊎_elim (λ l. omega (arith, l, q)) (λ r. n r.0) s))
+    (cases_eq a b))
+    (cases_lt a b)
 
 pub no_later_reflexive : (u : List ℕ) → ComesNoLater u u
 no_later_reflexive u = inr (refl, at_most_reflexive u)
@@ -366,9 +366,9 @@ no_later_transitive u v w (inr h) (inr k) = inr (h.0 ∙ k.0, at_most_transitive
 pub no_later_total : (u v : List ℕ) → length u ≡ length v → ComesNoLater u v ⊎ ComesNoLater v u
 no_later_total u v e =
     ⊎_elim
-      (λ p. ⊎_elim (λ h. inl (inr (p, h))) (λ h. inr (inr (sym p, h))) (at_most_total u v e))
-      (λ s. ⊎_elim (λ p. inl (inl p)) (λ p. inr (inl p)) s)
-      (cases_order (weight u) (weight v))
+    (λ p. ⊎_elim (λ h. inl (inr (p, h))) (λ h. inr (inr (sym p, h))) (at_most_total u v e))
+    (λ s. ⊎_elim (λ p. inl (inl p)) (λ p. inr (inl p)) s)
+    (cases_order (weight u) (weight v))
 
 pub no_later_antisymmetric : (u v : List ℕ) → length u ≡ length v → ComesNoLater u v → ComesNoLater v u → u ≡ v
 no_later_antisymmetric u v e (inl h) (inl k) = absurd (omega (arith, h, k))
@@ -379,15 +379,15 @@ no_later_antisymmetric u v e (inr h) (inr k) = at_most_antisymmetric u v e h.1 k
 pub no_later_decided : (u v : List ℕ) → ComesNoLater u v ⊎ (ComesNoLater u v → ⊥)
 no_later_decided u v =
     ⊎_elim
-      (λ p. inl (inl p))
-      (λ q. ⊎_elim
-        (λ p. ⊎_elim
-          (λ h. inl (inr (p, h)))
-          (λ n. inr (λ s. ⊎_elim (λ l. omega (arith, l, q)) (λ r. n r.1) s))
-          (at_most_decided u v))
-        (λ n. inr (λ s. ⊎_elim (λ l. omega (arith, l, q)) (λ r. n r.0) s))
-        (cases_eq (weight u) (weight v)))
-      (cases_lt (weight u) (weight v))
+    (λ p. inl (inl p))
+    (λ q. ⊎_elim
+    (λ p. ⊎_elim
+    (λ h. inl (inr (p, h)))
+    (λ n. inr (λ s. ⊎_elim (λ l. omega (arith, l, q)) (λ r. n r.1) s))
+    (at_most_decided u v))
+    (λ n. inr (λ s. ⊎_elim (λ l. omega (arith, l, q)) (λ r. n r.0) s))
+    (cases_eq (weight u) (weight v)))
+    (cases_lt (weight u) (weight v))
 
 pub no_later_weight : (u v : List ℕ) → ComesNoLater u v → weight u ≤ weight v
 no_later_weight u v (inl h) = omega (arith, h)
