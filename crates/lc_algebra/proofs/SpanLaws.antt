@@ -5,7 +5,7 @@
 --   span_head, span_more, span_row      each row is a word of the rows
 --   span_within            where the rows are words of the others, so is each word of the rows
 --   same_span, same_span_reflexive, same_span_symmetric, same_span_transitive      two lists of rows with the same words
---   combination_of_word, word_of_combination    a word of the rows is the combination by some coefficients
+--   combination_of_word, word_of_combination, combinations      a word of the rows is the combination by some coefficients
 --   length_combine, combine_sum, combine_scale, combine_difference      the combination is linear in the coefficients
 --   coefficients_unique, independent_from_unique      independent rows: a combination tells its coefficients
 --   dot_span               what has dot 0 with each row has dot 0 with each word
@@ -110,6 +110,9 @@ word_of_combination f n [] [] w = refl
 word_of_combination f n [] (c ∷ cs) w = refl
 word_of_combination f n (g ∷ rows) [] w = absurd (omega (arith, w.long))
 word_of_combination f n (g ∷ rows) (c ∷ cs) w = (c, word_head f _ c cs w, (combine f n cs rows, word_of_combination f n rows cs (word_tail f (length rows) c cs w), refl))
+
+pub combinations : (f : FieldName) (n : ℕ) (rows : List (List ℕ)) (w : List ℕ) → InSpan f n rows w ↔ ((cs : List ℕ) × IsWord f (length rows) cs × (w ≡ combine f n cs rows))
+combinations f n rows w = (combination_of_word f n rows w, λ t. rw t.2 (word_of_combination f n rows t.0 t.1))
 
 pub length_combine : (f : FieldName) (n : ℕ) (cs : List ℕ) (rows : List (List ℕ)) → AreRows f n rows → length (combine f n cs rows) ≡ n
 unfolding combine

@@ -15,12 +15,13 @@
 --   weight_cons, weight_zero_word, zero_from_weight, positive_weight, weight_at_most_length
 --   weight_scale           a nonzero multiple has the weight of the word
 --   weight_sum_at_most     the weight of a sum is at most the sum of the weights
---   distance_turned        the distance is symmetric
+--   weight_zero            the weight is 0 exactly where the word is zero
+--   distance_turned, distance_zero, distance_triangle, difference_between      the distance is a metric
 --   dot_inside, dot_comm, dot_sum, sum_dot, dot_scale, scale_dot, dot_zero, zero_dot      the dot is bilinear and symmetric
 -- Order
 --   at_most_reflexive, at_most_transitive, at_most_total, at_most_antisymmetric, at_most_decided
 --   no_later_reflexive, no_later_transitive, no_later_total, no_later_antisymmetric, no_later_decided
-use Rattle.std.proofs.Common.{◌≡◌, ℕ, zero, suc, ◌+◌, ◌<◌, ◌≤◌, ◌⊎◌, false, cond, not, ◌==◌, List, [], ◌∷◌, length, slice_index, refl, sym, ap, ◌∙◌, inl, inr, ⊎_elim, arith, zero-lt-suc}
+use Rattle.std.proofs.Common.{◌≡◌, ℕ, zero, suc, ◌+◌, ◌<◌, ◌≤◌, ◌⊎◌, ◌↔◌, false, cond, not, ◌==◌, List, [], ◌∷◌, length, slice_index, refl, sym, ap, ◌∙◌, inl, inr, ⊎_elim, arith, zero-lt-suc}
 use Rattle.std.proofs.lemmas.List.{ext_get_or, length-replicate}
 use Rattle.std.proofs.lemmas.List.Sums.{sum_by-cons, count_by-le-length}
 use Rattle.std.proofs.lemmas.Bool.{cases_lt, cases_eq, cases_order, ne_eqb}
@@ -392,3 +393,21 @@ no_later_decided u v =
 pub no_later_weight : (u v : List ℕ) → ComesNoLater u v → weight u ≤ weight v
 no_later_weight u v (inl h) = omega (arith, h)
 no_later_weight u v (inr h) = omega (arith, h.0)
+
+pub weight_zero : (n : ℕ) (w : List ℕ) → length w ≡ n → (weight w ≡ 0) ↔ (w ≡ zero_word n)
+weight_zero n w l = (zero_from_weight n w l, λ e. ap weight e ∙ weight_zero_word n)
+
+pub distance_zero : (f : FieldName) (n : ℕ) (u v : List ℕ) → IsWord f n u → IsWord f n v → (distance f u v ≡ 0) ↔ (u ≡ v)
+distance_zero f n u v p q =
+    (λ e. same_from_difference f n u v p q (zero_from_weight n (difference f u v) (IsWord_difference f n u v p.long q.long).long e),
+     λ e. ap weight (ap (difference f u) (sym e) ∙ difference_self f n u p.long) ∙ weight_zero_word n)
+
+pub difference_between : (f : FieldName) (n : ℕ) (u v w : List ℕ) → length u ≡ n → IsWord f n v → length w ≡ n → difference f u w ≡ word_sum f (difference f u v) (difference f v w)
+unfolding difference
+difference_between f n u v w l q m =
+    let t : IsWord f n (scale f (neg f 1) w) = IsWord_scale f n (neg f 1) w m in
+    cc (sum_assoc f u (scale f (neg f 1) v) (word_sum f v (scale f (neg f 1) w)), sum_assoc f (scale f (neg f 1) v) v (scale f (neg f 1) w), sum_comm f (scale f (neg f 1) v) v, sum_negative f n v q.long, zero_sum f n (scale f (neg f 1) w) t)
+
+pub distance_triangle : (f : FieldName) (n : ℕ) (u v w : List ℕ) → IsWord f n u → IsWord f n v → IsWord f n w → distance f u w ≤ distance f u v + distance f v w
+distance_triangle f n u v w p q r =
+    omega (arith, weight_sum_at_most f (difference f u v) (difference f v w), ap weight (difference_between f n u v w p.long q r.long))
