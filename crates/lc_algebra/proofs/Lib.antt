@@ -6,3 +6,5 @@ pub mod FieldLaws
 pub mod WordLaws
 pub mod SpanLaws
 pub mod ReducedLaws
+pub mod SpanSearch
+pub mod SpanExamples

@@ -9,6 +9,8 @@
 --   length_combine, combine_sum, combine_scale, combine_difference      the combination is linear in the coefficients
 --   coefficients_unique, independent_from_unique      independent rows: a combination tells its coefficients
 --   dot_span               what has dot 0 with each row has dot 0 with each word
+--   orthogonal_zero, orthogonal_sum, orthogonal_scale, orthogonal_shared      what has dot 0 with each row is a linear code,
+--                          told by the words of the rows
 -- The list of words
 --   contains_head, contains_tail, contains_cases, contains_map, map_contains, contains_flat_map, flat_map_contains
 --   contains_below, below_contains, length_below, length_flat_map_even
@@ -22,21 +24,25 @@
 --   span_but_zeros         lists with the same rows, but for zero rows, in any order and number, have the same words
 --   span_same_members, span_permuted, span_swapped, span_zero_removed, span_zero_head      cases of it
 -- Least words
---   distance_unique, least_unique, least_distance
-use Rattle.std.proofs.Common.{◌≡◌, ◌≢◌, ℕ, zero, suc, ◌*◌, ◌^◌, ◌<◌, ◌⊎◌, ◌↔◌, List, [], ◌∷◌, map, length, set, slice_index_or, All, Contains, flat_map, swap, remove, IsPermutation, refl, sym, ap, subst, ◌∙◌, inl, inr, ⊎_elim, arith, zero-lt-suc, pow-suc}
+--   distance_unique, least_unique      some rows have one minimum distance and one first nonzero word
+--   least_distance         the weight of that word is the minimum distance
+--   words_apart            two words are at least the minimum distance apart
+--   words_at_distance      and some word is that far from the zero word
+--   distance_shared, least_shared      rows with the same words have the same distance and the same first word
+use Rattle.std.proofs.Common.{◌≡◌, ◌≢◌, ℕ, zero, suc, ◌*◌, ◌^◌, ◌<◌, ◌≤◌, ◌⊎◌, ◌↔◌, List, [], ◌∷◌, map, length, set, slice_index_or, All, Contains, flat_map, swap, remove, IsPermutation, refl, sym, ap, subst, ◌∙◌, inl, inr, ⊎_elim, arith, zero-lt-suc, pow-suc}
 use Rattle.std.proofs.lemmas.List.{length-append, length-map, length-set, get_or-set_same, get_or-set_other, get_or_default}
 use Rattle.std.proofs.lemmas.List.Elements.{All-cons, All-head, All-tail, All-contains, All-from_get_or, Contains-get_or, Contains-append_left, Contains-append_right, Contains-append_cases}
 use Rattle.std.proofs.lemmas.List.Sorted.{IsPermutation-sym, IsPermutation-swap, IsPermutation-remove, All-permutation}
 use Rattle.std.proofs.lemmas.Bool.{cases_lt, cases_eq}
 use Rattle.lc_algebra.specs.declared.FieldName.{FieldName}
 use Rattle.lc_algebra.specs.Field.{size, add, neg, mul}
-use Rattle.lc_algebra.specs.Word.{IsWord, zero_word, word_sum, scale, difference, weight, word_dot}
+use Rattle.lc_algebra.specs.Word.{IsWord, zero_word, word_sum, scale, difference, weight, word_dot, distance}
 use Rattle.lc_algebra.specs.Span.{below, combine, InSpan, words, SameSpan, AreIndependent, IsDistance, IsLeast}
 use Rattle.lc_algebra.specs.Matrix.{AreRows, IsOrthogonal}
 use Rattle.lc_algebra.specs.SpanLaws.{AddsMultiples, ScalesRows}
 use Rattle.std.proofs.Math.Nat.{pow-zero}
 use Rattle.lc_algebra.proofs.FieldLaws.{one_inside, zero_inside, add_inside, mul_inside, zero_add, mul_comm, mul_zero, inverse_of}
-use Rattle.lc_algebra.proofs.WordLaws.{length_word_sum, length_scale, difference_self, same_from_difference, IsWord_difference, length_zero_word, IsWord_zero, IsWord_scale, IsWord_sum, word_head, word_tail, word_cons, sum_exchange, multiple_undone, zero_sum, sum_zero, scale_sum, sum_scale, scale_scale, one_scale, zero_scale, scale_zero, sum_dot, scale_dot, zero_dot, no_later_antisymmetric, no_later_weight}
+use Rattle.lc_algebra.proofs.WordLaws.{length_word_sum, length_scale, difference_self, same_from_difference, IsWord_difference, length_zero_word, IsWord_zero, IsWord_scale, IsWord_sum, word_head, word_tail, word_cons, sum_exchange, multiple_undone, zero_sum, sum_zero, scale_sum, sum_scale, scale_scale, one_scale, zero_scale, scale_zero, sum_dot, scale_dot, dot_sum, dot_scale, zero_dot, dot_zero, positive_weight, weight_zero_word, difference_zero, no_later_antisymmetric, no_later_weight}
 
 pub span_word : (f : FieldName) (n : ℕ) (rows : List (List ℕ)) (w : List ℕ) → AreRows f n rows → InSpan f n rows w → IsWord f n w
 span_word f n [] w r h = rw h (IsWord_zero f n)
@@ -163,6 +169,19 @@ dot_span f n (g ∷ rows) v w r o h =
     let l : word_dot f g v ≡ 0 = All-head (λ row. word_dot f row v ≡ 0) g rows o in
     let e : length (scale f h.0 g) ≡ length h.2.0 = length_scale f h.0 g ∙ (All-head (IsWord f n) g rows r).long ∙ sym (span_word f n rows h.2.0 tail h.2.1).long in
     cc (h.2.2, sum_dot f (scale f h.0 g) h.2.0 v e, scale_dot f h.0 g v, k, l, mul_zero f h.0, zero_add f 0 (zero_inside f))
+
+pub orthogonal_zero : (f : FieldName) (n : ℕ) (rows : List (List ℕ)) → IsOrthogonal f rows (zero_word n)
+orthogonal_zero f n rows k d l = dot_zero f n (slice_index_or rows k d)
+
+pub orthogonal_sum : (f : FieldName) (rows : List (List ℕ)) (u v : List ℕ) → length u ≡ length v → IsOrthogonal f rows u → IsOrthogonal f rows v → IsOrthogonal f rows (word_sum f u v)
+orthogonal_sum f rows u v e p q k d l = cc (dot_sum f (slice_index_or rows k d) u v e, p k d l, q k d l, zero_add f 0 (zero_inside f))
+
+pub orthogonal_scale : (f : FieldName) (rows : List (List ℕ)) (c : ℕ) (u : List ℕ) → IsOrthogonal f rows u → IsOrthogonal f rows (scale f c u)
+orthogonal_scale f rows c u p k d l = cc (dot_scale f c (slice_index_or rows k d) u, p k d l, mul_zero f c)
+
+pub orthogonal_shared : (f : FieldName) (n : ℕ) (rows others : List (List ℕ)) (v : List ℕ) → AreRows f n rows → AreRows f n others → SameSpan f n rows others → IsOrthogonal f rows v → IsOrthogonal f others v
+orthogonal_shared f n rows others v r s same o k d l =
+    dot_span f n rows v (slice_index_or others k d) r o ((same (slice_index_or others k d)).1 (span_row f n others s k d l))
 
 pub contains_head : {X : Type 0} (x : X) (xs : List X) → Contains (x ∷ xs) x
 contains_head x xs = (0, zero-lt-suc (length xs), refl)
@@ -389,3 +408,22 @@ least_unique f n rows u v r p q =
 
 pub least_distance : (f : FieldName) (n : ℕ) (rows : List (List ℕ)) (w : List ℕ) → IsLeast f n rows w → IsDistance f n rows (weight w)
 least_distance f n rows w p = record { attained = (w, p.inside, p.nonzero, refl); least = λ v h l. no_later_weight w v (p.first v h l) }
+
+pub words_apart : (f : FieldName) (n : ℕ) (rows : List (List ℕ)) (d : ℕ) (u v : List ℕ) → AreRows f n rows → IsDistance f n rows d → InSpan f n rows u → InSpan f n rows v → u ≢ v → d ≤ distance f u v
+words_apart f n rows d u v r p h k o =
+    let a : IsWord f n u = span_word f n rows u r h in
+    let b : IsWord f n v = span_word f n rows v r k in
+    p.least (difference f u v) (span_difference f n rows u v h k) (positive_weight n (difference f u v) (IsWord_difference f n u v a.long b.long).long (λ e. o (same_from_difference f n u v a b e)))
+
+pub words_at_distance : (f : FieldName) (n : ℕ) (rows : List (List ℕ)) (d : ℕ) → AreRows f n rows → IsDistance f n rows d → (u : List ℕ) × InSpan f n rows u × (u ≢ zero_word n) × (distance f u (zero_word n) ≡ d)
+words_at_distance f n rows d r p =
+    let t = p.attained in
+    (t.0, t.1, (λ e. omega (arith, t.2, ap weight e, weight_zero_word n)), ap weight (difference_zero f n t.0 (span_word f n rows t.0 r t.1)) ∙ t.3)
+
+pub distance_shared : (f : FieldName) (n : ℕ) (rows others : List (List ℕ)) (d : ℕ) → SameSpan f n rows others → IsDistance f n rows d → IsDistance f n others d
+distance_shared f n rows others d s p = record {
+  attained = (p.attained.0, (s p.attained.0).0 p.attained.1, p.attained.2, p.attained.3);
+  least = λ v h k. p.least v ((s v).1 h) k }
+
+pub least_shared : (f : FieldName) (n : ℕ) (rows others : List (List ℕ)) (w : List ℕ) → SameSpan f n rows others → IsLeast f n rows w → IsLeast f n others w
+least_shared f n rows others w s p = record { inside = (s w).0 p.inside; nonzero = p.nonzero; first = λ v h k. p.first v ((s v).1 h) k }

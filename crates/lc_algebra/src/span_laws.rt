@@ -85,6 +85,7 @@ pub fn words_are_the_span(field: FieldName)
     ensures members { (n : ℕ) (rows : List (List ℕ)) (w : List ℕ) → Contains (words field n rows) w ↔ InSpan field n rows w }
     ensures count { (n : ℕ) (rows : List (List ℕ)) → length (words field n rows) ≡ size field ^ length rows }
     ensures combinations { (n : ℕ) (rows : List (List ℕ)) (w : List ℕ) → InSpan field n rows w ↔ ((cs : List ℕ) × IsWord field (length rows) cs × (w ≡ combine field n cs rows)) }
+    ensures decided { (n : ℕ) (rows : List (List ℕ)) (w : List ℕ) → InSpan field n rows w ⊎ (InSpan field n rows w → ⊥) }
     ensures one_combination { (n : ℕ) (rows : List (List ℕ)) → AreRows field n rows → AreIndependent field n rows ↔ ((cs ds : List ℕ) → IsWord field (length rows) cs → IsWord field (length rows) ds → combine field n cs rows ≡ combine field n ds rows → cs ≡ ds) }
 {
 }
@@ -102,9 +103,14 @@ pub fn row_operations_keep_the_span(field: FieldName)
 {
 }
 
-/// What has dot 0 with each row has dot 0 with each word of the rows.
-pub fn orthogonal_to_rows_and_words(field: FieldName)
-    ensures { (n : ℕ) (rows : List (List ℕ)) (v w : List ℕ) → AreRows field n rows → IsOrthogonal field rows v → InSpan field n rows w → word_dot field w v ≡ 0 }
+/// What has dot 0 with each row has dot 0 with each word of the rows, and the words that have are closed
+/// under sum and multiple.
+pub fn orthogonal_words_are_a_code(field: FieldName)
+    ensures to_words { (n : ℕ) (rows : List (List ℕ)) (v w : List ℕ) → AreRows field n rows → IsOrthogonal field rows v → InSpan field n rows w → word_dot field w v ≡ 0 }
+    ensures has_zero { (n : ℕ) (rows : List (List ℕ)) → IsOrthogonal field rows (zero_word n) }
+    ensures has_sums { (rows : List (List ℕ)) (u v : List ℕ) → length u ≡ length v → IsOrthogonal field rows u → IsOrthogonal field rows v → IsOrthogonal field rows (word_sum field u v) }
+    ensures has_multiples { (rows : List (List ℕ)) (c : ℕ) (u : List ℕ) → IsOrthogonal field rows u → IsOrthogonal field rows (scale field c u) }
+    ensures told_by_words { (n : ℕ) (rows others : List (List ℕ)) (v : List ℕ) → AreRows field n rows → AreRows field n others → SameSpan field n rows others → IsOrthogonal field rows v → IsOrthogonal field others v }
 {
 }
 
@@ -131,11 +137,17 @@ pub fn systematic_matrix_is_unique(field: FieldName)
 {
 }
 
-/// Some rows have at most one minimum distance and at most one first nonzero word, and the weight of
-/// that word is the minimum distance.
+/// Rows with a nonzero word have exactly one minimum distance and exactly one first nonzero word, whose
+/// weight is that distance. Two different words of the rows are at least that far apart, and some are
+/// exactly that far apart.
 pub fn least_word_has_the_distance(field: FieldName)
+    ensures some_word { (n : ℕ) (rows : List (List ℕ)) → AreRows field n rows → ((w : List ℕ) × IsLeast field n rows w) ⊎ ((w : List ℕ) → InSpan field n rows w → w ≡ zero_word n) }
     ensures distance { (n : ℕ) (rows : List (List ℕ)) (w : List ℕ) → IsLeast field n rows w → IsDistance field n rows (weight w) }
     ensures one_distance { (n : ℕ) (rows : List (List ℕ)) (d e : ℕ) → IsDistance field n rows d → IsDistance field n rows e → d ≡ e }
     ensures one_word { (n : ℕ) (rows : List (List ℕ)) (u v : List ℕ) → AreRows field n rows → IsLeast field n rows u → IsLeast field n rows v → u ≡ v }
+    ensures apart { (n : ℕ) (rows : List (List ℕ)) (d : ℕ) (u v : List ℕ) → AreRows field n rows → IsDistance field n rows d → InSpan field n rows u → InSpan field n rows v → u ≢ v → d ≤ distance field u v }
+    ensures attained { (n : ℕ) (rows : List (List ℕ)) (d : ℕ) → AreRows field n rows → IsDistance field n rows d → (u : List ℕ) × InSpan field n rows u × (u ≢ zero_word n) × (distance field u (zero_word n) ≡ d) }
+    ensures distance_told_by_words { (n : ℕ) (rows others : List (List ℕ)) (d : ℕ) → SameSpan field n rows others → IsDistance field n rows d → IsDistance field n others d }
+    ensures word_told_by_words { (n : ℕ) (rows others : List (List ℕ)) (w : List ℕ) → SameSpan field n rows others → IsLeast field n rows w → IsLeast field n others w }
 {
 }

@@ -1,4 +1,4 @@
-use Rattle.lc_algebra.proofs.SpanLaws.{coefficients_unique, independent_from_unique, word_of_member, member_of_word, length_words, combinations}
+use Rattle.lc_algebra.proofs.SpanLaws.{coefficients_unique, independent_from_unique, word_of_member, member_of_word, length_words, combinations, span_decided}
 use Rattle.lc_algebra.proofs.span_laws.words_are_the_span.Goals as goal
 
 pub returns-clause-members : goal.returns-clause-members
@@ -12,3 +12,6 @@ returns-clause-combinations c = combinations c.args.field
 
 pub returns-clause-one_combination : goal.returns-clause-one_combination
 returns-clause-one_combination c = λ n rows r. (λ i cs ds. coefficients_unique c.args.field n rows cs ds r i, independent_from_unique c.args.field n rows)
+
+pub returns-clause-decided : goal.returns-clause-decided
+returns-clause-decided c = span_decided c.args.field
