@@ -8,3 +8,8 @@ pub mod SpanLaws
 pub mod ReducedLaws
 pub mod SpanSearch
 pub mod SpanExamples
+pub mod PowerLaws
+pub mod EmbeddingTests
+pub mod EmbeddingLaws
+pub mod RemainderLaws
+pub mod FieldRecords

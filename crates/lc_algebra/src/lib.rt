@@ -3,6 +3,7 @@
 //! `proofs/`, and on the contracts of the functions below.
 #![tactic(auto)]
 
+pub mod laws;
 pub mod span_laws;
 
 /// One of the eighteen fields of `codes`, by its number of elements.
