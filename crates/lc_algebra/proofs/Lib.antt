@@ -6,6 +6,7 @@ pub mod FieldLaws
 pub mod WordLaws
 pub mod SpanLaws
 pub mod ReducedLaws
+pub mod ColumnLaws
 pub mod SpanSearch
 pub mod SpanExamples
 pub mod PowerLaws
