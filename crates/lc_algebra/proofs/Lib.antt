@@ -7,6 +7,7 @@ pub mod WordLaws
 pub mod SpanLaws
 pub mod ReducedLaws
 pub mod ColumnLaws
+pub mod DimensionLaws
 pub mod SpanSearch
 pub mod SpanExamples
 pub mod PowerLaws

@@ -6,12 +6,12 @@
 
 use crate::FieldName;
 
-ghost use Rattle.std.specs.Prelude.{◌≡◌, ◌≢◌, ℕ, ◌+◌, ◌^◌, ◌<◌, ◌≤◌, ◌⊎◌, ◌↔◌, List, [], ◌∷◌, length, set, slice_index, slice_index_or, All, Contains, swap, remove, IsPermutation, Bool, IsTrue};
+ghost use Rattle.std.specs.Prelude.{◌≡◌, ◌≢◌, ℕ, ◌+◌, ◌^◌, ◌<◌, ◌≤◌, ◌⊎◌, ◌↔◌, List, [], ◌∷◌, length, set, slice_index, slice_index_or, All, Contains, swap, remove, IsPermutation, AllPairs, Bool, IsTrue};
 ghost use Rattle.lc_algebra.specs.Field.{size, add, neg, mul};
 ghost use Rattle.lc_algebra.specs.Word.{Fits, IsWord, zero_word, word_sum, scale, difference, weight, word_dot, distance, AtMost, ComesNoLater};
 ghost use Rattle.lc_algebra.specs.Span.{combine, InSpan, words, SameSpan, AreIndependent, IsDistance, IsLeast};
-ghost use Rattle.lc_algebra.specs.Matrix.{AreRows, IsOrthogonal, HasPivots, IsReduced, IsEchelon, IsReducedGenerator, IsSystematic};
-ghost use Rattle.lc_algebra.specs.SpanLaws.{AddsMultiples, ScalesRows};
+ghost use Rattle.lc_algebra.specs.Matrix.{AreRows, IsOrthogonal, HasPivots, IsReduced, IsEchelon, IsReducedGenerator, IsSystematic, AreIndependentColumns};
+ghost use Rattle.lc_algebra.specs.SpanLaws.{AddsMultiples, ScalesRows, restrict};
 
 /// The words of n symbols are a vector space over the field: they are closed under sum and multiple,
 /// the sum is that of a commutative group, and multiples distribute over both sums.
@@ -149,5 +149,25 @@ pub fn least_word_has_the_distance(field: FieldName)
     ensures attained { (n : ℕ) (rows : List (List ℕ)) (d : ℕ) → AreRows field n rows → IsDistance field n rows d → (u : List ℕ) × InSpan field n rows u × (u ≢ zero_word n) × (distance field u (zero_word n) ≡ d) }
     ensures distance_told_by_words { (n : ℕ) (rows others : List (List ℕ)) (d : ℕ) → SameSpan field n rows others → IsDistance field n rows d → IsDistance field n others d }
     ensures word_told_by_words { (n : ℕ) (rows others : List (List ℕ)) (w : List ℕ) → SameSpan field n rows others → IsLeast field n rows w → IsLeast field n others w }
+{
+}
+
+/// Independent rows have each of their q^k words once in the list of words; they are at most as many as
+/// any rows with the same words, so independent rows with the same words are equally many: the
+/// dimension of a code.
+pub fn dimension_is_unique(field: FieldName)
+    ensures each_word_once { (n : ℕ) (rows : List (List ℕ)) → AreRows field n rows → AreIndependent field n rows → AllPairs (λ u v. u ≢ v) (words field n rows) }
+    ensures at_most { (n : ℕ) (rows others : List (List ℕ)) → AreRows field n rows → AreIndependent field n rows → SameSpan field n rows others → length rows ≤ length others }
+    ensures equally_many { (n : ℕ) (rows others : List (List ℕ)) → AreRows field n rows → AreRows field n others → AreIndependent field n rows → AreIndependent field n others → SameSpan field n rows others → length rows ≡ length others }
+{
+}
+
+/// The columns of a set are independent exactly where only zero coefficients make every row's symbols
+/// on the set sum to 0. Whether they are depends on the words of the rows alone, and they are where the
+/// rows have a systematic matrix on the set.
+pub fn columns_are_told_by_words(field: FieldName)
+    ensures independent { (n : ℕ) (rows : List (List ℕ)) (set : List ℕ) → AreRows field n rows → AreIndependentColumns field rows set ↔ ((xs : List ℕ) → IsWord field (length set) xs → All (λ row. word_dot field xs (restrict set row) ≡ 0) rows → xs ≡ zero_word (length set)) }
+    ensures told_by_words { (n : ℕ) (rows others : List (List ℕ)) (set : List ℕ) → AreRows field n rows → AreRows field n others → SameSpan field n rows others → AreIndependentColumns field rows set → AreIndependentColumns field others set }
+    ensures systematic { (n : ℕ) (rows : List (List ℕ)) (set : List ℕ) (e : List (List ℕ)) → AreRows field n rows → IsSystematic field n rows set e → AreIndependentColumns field rows set }
 {
 }
