@@ -9,15 +9,14 @@
 --   independent_columns_shared      rows with the same words have the same independent sets of columns
 --   identity_columns       the columns of an identity are independent
 --   systematic_columns     rows with a systematic matrix on a set have independent columns there
-use Rattle.std.proofs.Common.{◌≡◌, ◌≢◌, ℕ, zero, suc, ◌+◌, ◌<◌, ◌≤◌, if◌then◌else◌, ◌==◌, List, [], ◌∷◌, map, length, slice_index, slice_index_or, get_or, All, refl, sym, ap, subst, ◌∙◌, arith}
+use Rattle.std.proofs.Common.{◌≡◌, ◌≢◌, ℕ, ◌<◌, if◌then◌else◌, List, [], ◌∷◌, map, length, slice_index, slice_index_or, All, refl, sym, ap, subst, ◌∙◌, arith}
 use Rattle.std.proofs.lemmas.List.{ext_get_or, get_or-map, length-map}
 use Rattle.std.proofs.lemmas.List.Elements.{All-head, All-tail, All-map, All-from_get_or}
 use Rattle.std.proofs.lemmas.Bool.{eq-eqb, ne_eqb}
 use Rattle.lc_algebra.specs.declared.FieldName.{FieldName}
-use Rattle.lc_algebra.specs.Field.{size, add, mul}
 use Rattle.lc_algebra.specs.Word.{IsWord, zero_word, word_sum, scale, word_dot}
-use Rattle.lc_algebra.specs.Span.{combine, InSpan, SameSpan, AreIndependent}
-use Rattle.lc_algebra.specs.Matrix.{entry, column, AreRows, IsIdentityOn, IsSystematic, AreIndependentColumns}
+use Rattle.lc_algebra.specs.Span.{combine, InSpan, SameSpan}
+use Rattle.lc_algebra.specs.Matrix.{column, AreRows, IsIdentityOn, IsSystematic, AreIndependentColumns}
 use Rattle.lc_algebra.specs.SpanLaws.{restrict}
 use Rattle.lc_algebra.proofs.FieldLaws.{zero_inside, zero_add, mul_zero}
 use Rattle.lc_algebra.proofs.WordLaws.{length_scale, length_zero_word, index_scale, index_word_sum, index_zero_word, word_symbol, dot_sum, dot_scale, dot_zero}
@@ -50,8 +49,9 @@ column_word f n rows p r =
     record {
       long = long;
       fits = λ i l.
-        let k : i < length rows = omega (arith, l, long) in
-        rw (get_or-map (λ row. slice_index row p) rows i [] 0 k) (word_symbol f n (slice_index_or rows i []) (r i [] k) p) }
+          let k : i < length rows = omega (arith, l, long) in
+          rw (get_or-map (λ row. slice_index row p) rows i [] 0 k) (word_symbol f n (slice_index_or rows i []) (r i [] k) p);
+    }
 
 pub column_of_columns : (rows : List (List ℕ)) (set : List ℕ) (l : ℕ) → l < length rows → column (map (column rows) set) l ≡ restrict set (slice_index_or rows l [])
 column_of_columns rows [] l k = refl
@@ -67,17 +67,17 @@ pub relation_from_columns : (f : FieldName) (n : ℕ) (rows : List (List ℕ)) (
 relation_from_columns f n rows set xs r h w z =
     let long : length (map (column rows) set) ≡ length set = length-map set (column rows) in
     let nothing : combine f (length rows) xs (map (column rows) set) ≡ zero_word (length rows) =
-          let e : length (combine f (length rows) xs (map (column rows) set)) ≡ length rows = length_combine f (length rows) xs (map (column rows) set) (columns_are_rows f n rows set r) in
-          ext_get_or 0 (combine f (length rows) xs (map (column rows) set)) (zero_word (length rows)) (e ∙ sym (length_zero_word (length rows))) (λ l k.
-            let m : l < length rows = omega (arith, k, e) in
-            index_of_columns f n rows set xs l r m ∙ z l [] m ∙ sym (index_zero_word (length rows) l)) in
+    let e : length (combine f (length rows) xs (map (column rows) set)) ≡ length rows = length_combine f (length rows) xs (map (column rows) set) (columns_are_rows f n rows set r) in
+    ext_get_or 0 (combine f (length rows) xs (map (column rows) set)) (zero_word (length rows)) (e ∙ sym (length_zero_word (length rows))) (λ l k.
+    let m : l < length rows = omega (arith, k, e) in
+    index_of_columns f n rows set xs l r m ∙ z l [] m ∙ sym (index_zero_word (length rows) l)) in
     h xs (subst (λ k. IsWord f k xs) (sym long) w) nothing ∙ ap zero_word long
 
 pub columns_from_relation : (f : FieldName) (n : ℕ) (rows : List (List ℕ)) (set : List ℕ) → AreRows f n rows → ((xs : List ℕ) → IsWord f (length set) xs → All (λ row. word_dot f xs (restrict set row) ≡ 0) rows → xs ≡ zero_word (length set)) → AreIndependentColumns f rows set
 columns_from_relation f n rows set r h xs w e =
     let long : length (map (column rows) set) ≡ length set = length-map set (column rows) in
     let nothing : All (λ row. word_dot f xs (restrict set row) ≡ 0) rows = All-from_get_or (λ row. word_dot f xs (restrict set row) ≡ 0) rows [] (λ l k.
-          sym (index_of_columns f n rows set xs l r k) ∙ ap (λ u. slice_index u l) e ∙ index_zero_word (length rows) l) in
+    sym (index_of_columns f n rows set xs l r k) ∙ ap (λ u. slice_index u l) e ∙ index_zero_word (length rows) l) in
     h xs (subst (λ k. IsWord f k xs) long w) nothing ∙ ap zero_word (sym long)
 
 pub relation_span : (f : FieldName) (n : ℕ) (rows : List (List ℕ)) (set xs w : List ℕ) → AreRows f n rows → All (λ row. word_dot f xs (restrict set row) ≡ 0) rows → InSpan f n rows w → word_dot f xs (restrict set w) ≡ 0
@@ -94,20 +94,20 @@ relation_span f n (g ∷ rows) set xs w r z h =
 pub independent_columns_shared : (f : FieldName) (n : ℕ) (rows others : List (List ℕ)) (set : List ℕ) → AreRows f n rows → AreRows f n others → SameSpan f n rows others → AreIndependentColumns f rows set → AreIndependentColumns f others set
 independent_columns_shared f n rows others set r s same h =
     columns_from_relation f n others set s (λ xs w z. relation_from_columns f n rows set xs r h w (λ k d l.
-      relation_span f n others set xs (slice_index_or rows k d) s z ((same (slice_index_or rows k d)).0 (span_row f n rows r k d l))))
+    relation_span f n others set xs (slice_index_or rows k d) s z ((same (slice_index_or rows k d)).0 (span_row f n rows r k d l))))
 
 pub identity_columns : (f : FieldName) (n : ℕ) (rows : List (List ℕ)) (set : List ℕ) → AreRows f n rows → length rows ≡ length set → IsIdentityOn set rows → AreIndependentColumns f rows set
 identity_columns f n rows set r e d =
     columns_from_relation f n rows set r (λ xs w z. ext_get_or 0 xs (zero_word (length set)) (w.long ∙ sym (length_zero_word (length set))) (λ i l.
-      let m : i < length set = omega (arith, l, w.long) in
-      let k : i < length rows = omega (arith, m, e) in
-      let us = restrict set (slice_index_or rows i []) in
-      let long : length us ≡ length set = length_restrict set (slice_index_or rows i []) in
-      let here : slice_index us i ≡ 1 = index_restrict set (slice_index_or rows i []) i m ∙ d i i k m ∙ ap (λ b. if b then 1 else 0) (eq-eqb i i refl) in
-      let other : (j : ℕ) → j < length us → j ≢ i → slice_index us j ≡ 0 = λ j h o.
-            let t : j < length set = omega (arith, h, long) in
-            index_restrict set (slice_index_or rows i []) j t ∙ d i j k t ∙ ap (λ b. if b then 1 else 0) (ne_eqb i j (λ s. o (sym s))) in
-      sym (dot_unit f xs us i w.fits (long ∙ sym w.long) (omega (arith, m, long)) here other) ∙ z i [] k ∙ sym (index_zero_word (length set) i)))
+    let m : i < length set = omega (arith, l, w.long) in
+    let k : i < length rows = omega (arith, m, e) in
+    let us = restrict set (slice_index_or rows i []) in
+    let long : length us ≡ length set = length_restrict set (slice_index_or rows i []) in
+    let here : slice_index us i ≡ 1 = index_restrict set (slice_index_or rows i []) i m ∙ d i i k m ∙ ap (λ b. if b then 1 else 0) (eq-eqb i i refl) in
+    let other : (j : ℕ) → j < length us → j ≢ i → slice_index us j ≡ 0 = λ j h o.
+    let t : j < length set = omega (arith, h, long) in
+    index_restrict set (slice_index_or rows i []) j t ∙ d i j k t ∙ ap (λ b. if b then 1 else 0) (ne_eqb i j (λ s. o (sym s))) in
+    sym (dot_unit f xs us i w.fits (long ∙ sym w.long) (omega (arith, m, long)) here other) ∙ z i [] k ∙ sym (index_zero_word (length set) i)))
 
 pub systematic_columns : (f : FieldName) (n : ℕ) (rows : List (List ℕ)) (set : List ℕ) (e : List (List ℕ)) → AreRows f n rows → IsSystematic f n rows set e → AreIndependentColumns f rows set
 systematic_columns f n rows set e r p =

@@ -7,10 +7,9 @@
 --   words_distinct         the list of words of independent rows has each word once
 --   independent_at_most    independent rows are at most as many as any rows with the same words
 --   dimension_unique       independent rows with the same words are equally many
-use Rattle.std.proofs.Common.{◌≡◌, ◌≢◌, ℕ, zero, suc, ◌+◌, ◌*◌, ◌^◌, ◌<◌, ◌≤◌, List, [], ◌∷◌, ◌++◌, map, length, slice_index_or, AllPairs, Contains, IsPermutation, flat_map, remove, refl, sym, ap, subst, ◌∙◌, ⊎_elim, arith, pow-suc, mul-le-mul_right}
+use Rattle.std.proofs.Common.{◌≡◌, ◌≢◌, ℕ, zero, suc, ◌*◌, ◌^◌, ◌<◌, ◌≤◌, List, [], ◌∷◌, ◌++◌, map, length, AllPairs, Contains, IsPermutation, flat_map, remove, sym, ap, subst, ◌∙◌, ⊎_elim, arith, pow-suc, mul-le-mul_right}
 use Rattle.std.specs.Prelude.{⊤}
 use Rattle.std.proofs.Math.Nat.{pow-le-pow_right, one-le-pow}
-use Rattle.std.proofs.lemmas.List.{get_or_default}
 use Rattle.std.proofs.lemmas.List.Elements.{All-head, All-tail, Contains-get_or, Contains-append_cases}
 use Rattle.std.proofs.lemmas.List.Edits.{length-remove}
 use Rattle.std.proofs.lemmas.List.Sorted.{IsPermutation-remove, Contains-permutation}
@@ -37,22 +36,24 @@ pairs_from_distinct (x ∷ xs) h (suc i) (suc j) d l m = pairs_from_distinct xs 
 
 pub distinct_append : {X : Type 0} (xs ys : List X) → AreDistinct xs → AreDistinct ys → ((x : X) → Contains xs x → Contains ys x → ⊥) → AreDistinct (xs ++ ys)
 distinct_append [] ys a b h = b
-distinct_append (x ∷ xs) ys a b h =
-    ((λ c. ⊎_elim a.0 (h x (contains_head x xs)) (Contains-append_cases xs ys x c)),
-     distinct_append xs ys a.1 b (λ y c d. h y (contains_tail x y xs c) d))
+distinct_append (x ∷ xs) ys a b h = (
+  (λ c. ⊎_elim a.0 (h x (contains_head x xs)) (Contains-append_cases xs ys x c)),
+  distinct_append xs ys a.1 b (λ y c d. h y (contains_tail x y xs c) d),
+)
 
 pub distinct_map : {X Y : Type 0} (h : X → Y) (xs : List X) → ((x y : X) → Contains xs x → Contains xs y → h x ≡ h y → x ≡ y) → AreDistinct xs → AreDistinct (map h xs)
 distinct_map h [] inj a = tt
-distinct_map h (x ∷ xs) inj a =
-    ((λ c. let t = contains_map h xs (h x) c in a.0 (subst (Contains xs) (sym (inj x t.0 (contains_head x xs) (contains_tail x t.0 xs t.1) t.2)) t.1)),
-     distinct_map h xs (λ y z c d. inj y z (contains_tail x y xs c) (contains_tail x z xs d)) a.1)
+distinct_map h (x ∷ xs) inj a = (
+  (λ c. let t = contains_map h xs (h x) c in a.0 (subst (Contains xs) (sym (inj x t.0 (contains_head x xs) (contains_tail x t.0 xs t.1) t.2)) t.1)),
+  distinct_map h xs (λ y z c d. inj y z (contains_tail x y xs c) (contains_tail x z xs d)) a.1,
+)
 
 pub distinct_flat_map : {X Y : Type 0} (h : X → List Y) (xs : List X) → ((x : X) → Contains xs x → AreDistinct (h x)) → ((x y : X) (z : Y) → Contains xs x → Contains xs y → Contains (h x) z → Contains (h y) z → x ≡ y) → AreDistinct xs → AreDistinct (flat_map h xs)
 distinct_flat_map h [] each apart a = tt
 distinct_flat_map h (x ∷ xs) each apart a =
     distinct_append (h x) (flat_map h xs) (each x (contains_head x xs))
-      (distinct_flat_map h xs (λ y c. each y (contains_tail x y xs c)) (λ y z w c d. apart y z w (contains_tail x y xs c) (contains_tail x z xs d)) a.1)
-      (λ z c d. let t = contains_flat_map h xs z d in a.0 (subst (Contains xs) (sym (apart x t.0 z (contains_head x xs) (contains_tail x t.0 xs t.1) c t.2)) t.1))
+    (distinct_flat_map h xs (λ y c. each y (contains_tail x y xs c)) (λ y z w c d. apart y z w (contains_tail x y xs c) (contains_tail x z xs d)) a.1)
+    (λ z c d. let t = contains_flat_map h xs z d in a.0 (subst (Contains xs) (sym (apart x t.0 z (contains_head x xs) (contains_tail x t.0 xs t.1) c t.2)) t.1))
 
 pub distinct_below : (n : ℕ) → AreDistinct (below n)
 unfolding below
@@ -90,25 +91,25 @@ words_distinct f n [] r h = ((λ c. omega (arith, c.1)), tt)
 words_distinct f n (g ∷ rows) r h =
     let tail : AreDistinct (words f n rows) = words_distinct f n rows (All-tail (IsWord f n) g rows r) (independent_tail f n g rows r h) in
     distinct_flat_map (λ c. map (λ v. word_sum f (scale f c g) v) (words f n rows)) (below (size f))
-      (λ c m.
-        let k : c < size f = contains_below (size f) c m in
-        distinct_map (λ v. word_sum f (scale f c g) v) (words f n rows) (λ u v a b e. (first_told f n g rows c c u v r h k k (word_of_member f n rows u a) (word_of_member f n rows v b) e).1) tail)
-      (λ c d w a b s t.
-        let u = contains_map (λ v. word_sum f (scale f c g) v) (words f n rows) w s in
-        let v = contains_map (λ v. word_sum f (scale f d g) v) (words f n rows) w t in
-        (first_told f n g rows c d u.0 v.0 r h (contains_below (size f) c a) (contains_below (size f) d b) (word_of_member f n rows u.0 u.1) (word_of_member f n rows v.0 v.1) (sym u.2 ∙ v.2)).0)
-      (distinct_below (size f))
+    (λ c m.
+    let k : c < size f = contains_below (size f) c m in
+    distinct_map (λ v. word_sum f (scale f c g) v) (words f n rows) (λ u v a b e. (first_told f n g rows c c u v r h k k (word_of_member f n rows u a) (word_of_member f n rows v b) e).1) tail)
+    (λ c d w a b s t.
+    let u = contains_map (λ v. word_sum f (scale f c g) v) (words f n rows) w s in
+    let v = contains_map (λ v. word_sum f (scale f d g) v) (words f n rows) w t in
+    (first_told f n g rows c d u.0 v.0 r h (contains_below (size f) c a) (contains_below (size f) d b) (word_of_member f n rows u.0 u.1) (word_of_member f n rows v.0 v.1) (sym u.2 ∙ v.2)).0)
+    (distinct_below (size f))
 
 exponent_at_most : (q k m : ℕ) → 1 < q → q ^ k ≤ q ^ m → k ≤ m
 exponent_at_most q k m h l =
     ⊎_elim
-      (λ s.
-        let a : q ^ suc m ≤ q ^ k = pow-le-pow_right (omega (arith, h)) s in
-        let b : 1 ≤ q ^ m = one-le-pow m q (omega (arith, h)) in
-        let c : 2 * q ^ m ≤ q * q ^ m = mul-le-mul_right (q ^ m) h in
-        absurd (omega (arith, a, b, c, l, pow-suc q m)))
-      (λ s. s)
-      (cases_lt m k)
+    (λ s.
+    let a : q ^ suc m ≤ q ^ k = pow-le-pow_right (omega (arith, h)) s in
+    let b : 1 ≤ q ^ m = one-le-pow m q (omega (arith, h)) in
+    let c : 2 * q ^ m ≤ q * q ^ m = mul-le-mul_right (q ^ m) h in
+    absurd (omega (arith, a, b, c, l, pow-suc q m)))
+    (λ s. s)
+    (cases_lt m k)
 
 pub independent_at_most : (f : FieldName) (n : ℕ) (rows others : List (List ℕ)) → AreRows f n rows → AreIndependent f n rows → SameSpan f n rows others → length rows ≤ length others
 independent_at_most f n rows others r h s =

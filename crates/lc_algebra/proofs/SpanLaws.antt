@@ -423,7 +423,8 @@ words_at_distance f n rows d r p =
 pub distance_shared : (f : FieldName) (n : ℕ) (rows others : List (List ℕ)) (d : ℕ) → SameSpan f n rows others → IsDistance f n rows d → IsDistance f n others d
 distance_shared f n rows others d s p = record {
   attained = (p.attained.0, (s p.attained.0).0 p.attained.1, p.attained.2, p.attained.3);
-  least = λ v h k. p.least v ((s v).1 h) k }
+  least = λ v h k. p.least v ((s v).1 h) k;
+}
 
 pub least_shared : (f : FieldName) (n : ℕ) (rows others : List (List ℕ)) (w : List ℕ) → SameSpan f n rows others → IsLeast f n rows w → IsLeast f n others w
 least_shared f n rows others w s p = record { inside = (s w).0 p.inside; nonzero = p.nonzero; first = λ v h k. p.first v ((s v).1 h) k }

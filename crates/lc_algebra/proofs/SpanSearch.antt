@@ -6,13 +6,13 @@
 --   distance_exists        and a minimum distance
 --   holds_below, holds_below_at   a test of each number below n
 --   pivots_test, pivots_from_test      whether some places are the pivots of a matrix
-use Rattle.std.proofs.Common.{◌≡◌, ◌≢◌, ℕ, zero, suc, ◌+◌, ◌<◌, ◌≤◌, ◌⊎◌, Bool, true, false, not, ◌&&◌, ◌||◌, ◌==◌, nat_lt, nat_le, List, [], ◌∷◌, length, slice_index, slice_index_or, All, Contains, refl, sym, ap, subst, ◌∙◌, inl, inr, ⊎_elim, arith}
+use Rattle.std.proofs.Common.{◌≡◌, ◌≢◌, ℕ, zero, suc, ◌<◌, ◌⊎◌, Bool, true, not, ◌&&◌, ◌||◌, ◌==◌, nat_lt, nat_le, List, [], ◌∷◌, length, slice_index, Contains, sym, ap, subst, ◌∙◌, inl, inr, ⊎_elim, arith}
 use Rattle.std.specs.List.{list_all, list_any}
 use Rattle.std.proofs.lemmas.List.Elements.{All-contains}
 use Rattle.std.proofs.lemmas.List.Sums.{AllPass-from_list_all}
-use Rattle.std.proofs.lemmas.Bool.{cases_lt, cases_eq, cases_Bool, and_parts, or_cases, eqb-true, ltb-true, leb-true, eq-eqb, lt-ltb, false≢true}
+use Rattle.std.proofs.lemmas.Bool.{cases_lt, and_parts, or_cases, eqb-true, ltb-true, leb-true, lt-ltb, false≢true}
 use Rattle.lc_algebra.specs.declared.FieldName.{FieldName}
-use Rattle.lc_algebra.specs.Word.{IsWord, zero_word, weight, ComesNoLater}
+use Rattle.lc_algebra.specs.Word.{zero_word, weight, ComesNoLater}
 use Rattle.lc_algebra.specs.Span.{InSpan, words, IsDistance, IsLeast}
 use Rattle.lc_algebra.specs.Matrix.{entry, AreRows, HasPivots}
 use Rattle.lc_algebra.proofs.WordLaws.{zero_from_weight, no_later_reflexive, no_later_transitive, no_later_total}
@@ -22,9 +22,9 @@ pub any_contains : {X : Type 0} (test : X → Bool) (xs : List X) → list_any t
 any_contains test [] h = absurd (false≢true h)
 any_contains test (x ∷ xs) h =
     ⊎_elim
-      (λ p. (x, contains_head x xs, p))
-      (λ p. let t = any_contains test xs p in (t.0, contains_tail x t.0 xs t.1, t.2))
-      (or_cases (test x) (list_any test xs) h)
+    (λ p. (x, contains_head x xs, p))
+    (λ p. let t = any_contains test xs p in (t.0, contains_tail x t.0 xs t.1, t.2))
+    (or_cases (test x) (list_any test xs) h)
 
 pub distance_from_words : (f : FieldName) (n : ℕ) (rows : List (List ℕ)) (d : ℕ) → 0 < d → list_any (λ w. weight w == d) (words f n rows) ≡ true → list_all (λ w. (weight w == 0) || nat_le d (weight w)) (words f n rows) ≡ true → IsDistance f n rows d
 distance_from_words f n rows d p a b =
@@ -33,8 +33,9 @@ distance_from_words f n rows d p a b =
     record {
       attained = (t.0, word_of_member f n rows t.0 t.1, omega (arith, e, p), e);
       least = λ v h k.
-        let s : ((weight v == 0) || nat_le d (weight v)) ≡ true = All-contains (λ w. ((weight w == 0) || nat_le d (weight w)) ≡ true) (words f n rows) v (AllPass-from_list_all (λ w. (weight w == 0) || nat_le d (weight w)) (words f n rows) b) (member_of_word f n rows v h) in
-        ⊎_elim (λ z. omega (arith, k, eqb-true (weight v) 0 z)) (λ l. leb-true d (weight v) l) (or_cases (weight v == 0) (nat_le d (weight v)) s) }
+          let s : ((weight v == 0) || nat_le d (weight v)) ≡ true = All-contains (λ w. ((weight w == 0) || nat_le d (weight w)) ≡ true) (words f n rows) v (AllPass-from_list_all (λ w. (weight w == 0) || nat_le d (weight w)) (words f n rows) b) (member_of_word f n rows v h) in
+          ⊎_elim (λ z. omega (arith, k, eqb-true (weight v) 0 z)) (λ l. leb-true d (weight v) l) (or_cases (weight v == 0) (nat_le d (weight v)) s);
+    }
 
 -- w is the first nonzero word of the list
 pub record IsFirstOf (ws : List (List ℕ)) (w : List ℕ) : Type 0 where
@@ -46,46 +47,53 @@ first_alone : (w : List ℕ) (ws : List (List ℕ)) → 0 < weight w → ((v : L
 first_alone w ws p none = record {
   inside = contains_head w ws;
   nonzero = p;
-  first = λ v c q. ⊎_elim (λ e. subst (ComesNoLater w) e (no_later_reflexive w)) (λ t. absurd (omega (arith, q, none v t))) (contains_cases w v ws c) }
+  first = λ v c q. ⊎_elim (λ e. subst (ComesNoLater w) e (no_later_reflexive w)) (λ t. absurd (omega (arith, q, none v t))) (contains_cases w v ws c);
+}
 
 first_kept : (w u : List ℕ) (ws : List (List ℕ)) → (0 < weight w → ComesNoLater u w) → IsFirstOf ws u → IsFirstOf (w ∷ ws) u
 first_kept w u ws k h = record {
   inside = contains_tail w u ws h.inside;
   nonzero = h.nonzero;
-  first = λ v c q. ⊎_elim (λ e. subst (ComesNoLater u) e (k (omega (arith, q, ap weight e)))) (λ t. h.first v t q) (contains_cases w v ws c) }
+  first = λ v c q. ⊎_elim (λ e. subst (ComesNoLater u) e (k (omega (arith, q, ap weight e)))) (λ t. h.first v t q) (contains_cases w v ws c);
+}
 
 first_changed : (w u : List ℕ) (ws : List (List ℕ)) → 0 < weight w → ComesNoLater w u → IsFirstOf ws u → IsFirstOf (w ∷ ws) w
 first_changed w u ws p k h = record {
   inside = contains_head w ws;
   nonzero = p;
-  first = λ v c q. ⊎_elim (λ e. subst (ComesNoLater w) e (no_later_reflexive w)) (λ t. no_later_transitive w u v k (h.first v t q)) (contains_cases w v ws c) }
+  first = λ v c q. ⊎_elim (λ e. subst (ComesNoLater w) e (no_later_reflexive w)) (λ t. no_later_transitive w u v k (h.first v t q)) (contains_cases w v ws c);
+}
 
 pub first_of : (n : ℕ) (ws : List (List ℕ)) → ((v : List ℕ) → Contains ws v → length v ≡ n) → ((w : List ℕ) × IsFirstOf ws w) ⊎ ((v : List ℕ) → Contains ws v → weight v ≡ 0)
 first_of n [] l = inr (λ v c. absurd (omega (arith, c.1)))
 first_of n (w ∷ ws) l =
     ⊎_elim
-      (λ p. ⊎_elim
-        (λ t. ⊎_elim
-          (λ k. inl (t.0, first_kept w t.0 ws (λ _. k) t.1))
-          (λ k. inl (w, first_changed w t.0 ws p k t.1))
-          (no_later_total t.0 w (l t.0 (contains_tail w t.0 ws t.1.inside) ∙ sym (l w (contains_head w ws)))))
-        (λ none. inl (w, first_alone w ws p none))
-        (first_of n ws (λ v c. l v (contains_tail w v ws c))))
-      (λ z. ⊎_elim
-        (λ t. inl (t.0, first_kept w t.0 ws (λ p. absurd (omega (arith, p, z))) t.1))
-        (λ none. inr (λ v c. ⊎_elim (λ e. omega (arith, z, ap weight e)) (none v) (contains_cases w v ws c)))
-        (first_of n ws (λ v c. l v (contains_tail w v ws c))))
-      (cases_lt 0 (weight w))
+    (λ p. ⊎_elim
+    (λ t. ⊎_elim
+    (λ k. inl (t.0, first_kept w t.0 ws (λ _. k) t.1))
+    (λ k. inl (w, first_changed w t.0 ws p k t.1))
+    (no_later_total t.0 w (l t.0 (contains_tail w t.0 ws t.1.inside) ∙ sym (l w (contains_head w ws)))))
+    (λ none. inl (w, first_alone w ws p none))
+    (first_of n ws (λ v c. l v (contains_tail w v ws c))))
+    (λ z. ⊎_elim
+    (λ t. inl (t.0, first_kept w t.0 ws (λ p. absurd (omega (arith, p, z))) t.1))
+    (λ none. inr (λ v c. ⊎_elim (λ e. omega (arith, z, ap weight e)) (none v) (contains_cases w v ws c)))
+    (first_of n ws (λ v c. l v (contains_tail w v ws c))))
+    (cases_lt 0 (weight w))
 
 pub least_exists : (f : FieldName) (n : ℕ) (rows : List (List ℕ)) → AreRows f n rows → ((w : List ℕ) × IsLeast f n rows w) ⊎ ((w : List ℕ) → InSpan f n rows w → w ≡ zero_word n)
 least_exists f n rows r =
     ⊎_elim
-      (λ t. inl (t.0, record {
+    (λ t. inl (
+      t.0,
+      record {
         inside = word_of_member f n rows t.0 t.1.inside;
         nonzero = t.1.nonzero;
-        first = λ v h p. t.1.first v (member_of_word f n rows v h) p }))
-      (λ none. inr (λ w h. zero_from_weight n w (span_word f n rows w r h).long (none w (member_of_word f n rows w h))))
-      (first_of n (words f n rows) (λ v c. (span_word f n rows v r (word_of_member f n rows v c)).long))
+        first = λ v h p. t.1.first v (member_of_word f n rows v h) p;
+      },
+    ))
+    (λ none. inr (λ w h. zero_from_weight n w (span_word f n rows w r h).long (none w (member_of_word f n rows w h))))
+    (first_of n (words f n rows) (λ v c. (span_word f n rows v r (word_of_member f n rows v c)).long))
 
 pub distance_exists : (f : FieldName) (n : ℕ) (rows : List (List ℕ)) → AreRows f n rows → ((d : ℕ) × IsDistance f n rows d) ⊎ ((w : List ℕ) → InSpan f n rows w → w ≡ zero_word n)
 distance_exists f n rows r = ⊎_elim (λ t. inl (weight t.0, least_distance f n rows t.0 t.1)) inr (least_exists f n rows r)
@@ -134,7 +142,8 @@ pivot_from_test n ps rows i h =
       rises = λ j l m. ⊎_elim (λ t. absurd (false≢true (sym (ap not (lt-ltb i j l)) ∙ t))) (λ t. ltb-true p (slice_index ps j) t) (or_cases (not (nat_lt i j)) (nat_lt p (slice_index ps j)) (holds_below_at (length ps) rising b.0 j m));
       before = λ k l. eqb-true (entry rows i k) 0 (holds_below_at p early c.0 k l);
       leads = eqb-true (entry rows i p) 1 d.0;
-      clears = λ j l m. ⊎_elim (λ t. absurd (m (eqb-true i j t))) (λ t. eqb-true (entry rows j p) 0 t) (or_cases (i == j) (entry rows j p == 0) (holds_below_at (length ps) clear d.1 j l)) }
+      clears = λ j l m. ⊎_elim (λ t. absurd (m (eqb-true i j t))) (λ t. eqb-true (entry rows j p) 0 t) (or_cases (i == j) (entry rows j p == 0) (holds_below_at (length ps) clear d.1 j l));
+    }
 
 pub pivots_from_test : (n : ℕ) (ps : List ℕ) (rows : List (List ℕ)) → pivots_test n ps rows ≡ true → HasPivots n ps rows
 pivots_from_test n ps rows h =
@@ -147,4 +156,5 @@ pivots_from_test n ps rows h =
       rises = λ i j l m. (at i (omega (arith, l, m))).rises j l m;
       before = λ i c l m. (at i (omega (arith, l, e))).before c m;
       leads = λ i l. (at i (omega (arith, l, e))).leads;
-      clears = λ i j l m o. (at i (omega (arith, l, e))).clears j (omega (arith, m, e)) o }
+      clears = λ i j l m o. (at i (omega (arith, l, e))).clears j (omega (arith, m, e)) o;
+    }

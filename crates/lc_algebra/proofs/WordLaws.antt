@@ -398,9 +398,10 @@ pub weight_zero : (n : ℕ) (w : List ℕ) → length w ≡ n → (weight w ≡ 
 weight_zero n w l = (zero_from_weight n w l, λ e. ap weight e ∙ weight_zero_word n)
 
 pub distance_zero : (f : FieldName) (n : ℕ) (u v : List ℕ) → IsWord f n u → IsWord f n v → (distance f u v ≡ 0) ↔ (u ≡ v)
-distance_zero f n u v p q =
-    (λ e. same_from_difference f n u v p q (zero_from_weight n (difference f u v) (IsWord_difference f n u v p.long q.long).long e),
-     λ e. ap weight (ap (difference f u) (sym e) ∙ difference_self f n u p.long) ∙ weight_zero_word n)
+distance_zero f n u v p q = (
+  λ e. same_from_difference f n u v p q (zero_from_weight n (difference f u v) (IsWord_difference f n u v p.long q.long).long e),
+  λ e. ap weight (ap (difference f u) (sym e) ∙ difference_self f n u p.long) ∙ weight_zero_word n,
+)
 
 pub difference_between : (f : FieldName) (n : ℕ) (u v w : List ℕ) → length u ≡ n → IsWord f n v → length w ≡ n → difference f u w ≡ word_sum f (difference f u v) (difference f v w)
 unfolding difference
