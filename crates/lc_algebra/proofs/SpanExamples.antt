@@ -2,6 +2,7 @@
 --   hamming                the reduced generator matrix of the Hamming code of length 7
 --   hamming_count, hamming_weights      its 16 words, and how many have each weight
 --   hamming_distance       its minimum distance is 3
+--   hamming_least          its first nonzero word is row 2
 --   hamming_reduced        its places are 0 to 3
 --   reed_solomon           the reduced generator matrix of a Reed-Solomon code of length 4 over the field of 5 elements
 --   reed_solomon_count, reed_solomon_weights, reed_solomon_distance, reed_solomon_reduced      the same of it
@@ -11,9 +12,9 @@ use Rattle.lc_algebra.specs.declared.FieldName.TheVariants.{Gf2, Gf4, Gf5}
 use Rattle.lc_algebra.specs.Residue.{digits, number, plus, minus, times, top, up, times_x, product}
 use Rattle.lc_algebra.specs.Field.{shape, shape_of, size, coefficients, add, neg, mul}
 use Rattle.lc_algebra.specs.Word.{word_sum, scale, difference, weight, word_dot, distance}
-use Rattle.lc_algebra.specs.Span.{below, words, IsDistance}
+use Rattle.lc_algebra.specs.Span.{below, words, IsDistance, IsLeast}
 use Rattle.lc_algebra.specs.Matrix.{HasPivots}
-use Rattle.lc_algebra.proofs.SpanSearch.{distance_from_words, pivots_from_test}
+use Rattle.lc_algebra.proofs.SpanSearch.{distance_from_words, at_most_test, least_from_words, pivots_from_test}
 
 abbrev pub hamming : List (List ℕ)
 hamming = (1 ∷ 0 ∷ 0 ∷ 0 ∷ 0 ∷ 1 ∷ 1 ∷ []) ∷ (0 ∷ 1 ∷ 0 ∷ 0 ∷ 1 ∷ 0 ∷ 1 ∷ []) ∷ (0 ∷ 0 ∷ 1 ∷ 0 ∷ 1 ∷ 1 ∷ 0 ∷ []) ∷ (0 ∷ 0 ∷ 0 ∷ 1 ∷ 1 ∷ 1 ∷ 1 ∷ []) ∷ []
@@ -39,6 +40,10 @@ hamming_weights = refl
 pub hamming_distance : IsDistance Gf2 7 hamming 3
 unfolding digits number plus minus times top up times_x product shape shape_of size coefficients add mul word_sum scale below words
 hamming_distance = distance_from_words Gf2 7 hamming 3 (omega arith) refl refl
+
+pub hamming_least : IsLeast Gf2 7 hamming (0 ∷ 0 ∷ 1 ∷ 0 ∷ 1 ∷ 1 ∷ 0 ∷ [])
+unfolding digits number plus minus times top up times_x product shape shape_of size coefficients add mul word_sum scale below words at_most_test
+hamming_least = least_from_words Gf2 7 hamming (0 ∷ 0 ∷ 1 ∷ 0 ∷ 1 ∷ 1 ∷ 0 ∷ []) (2, omega arith, refl) (omega arith) refl
 
 pub hamming_reduced : HasPivots 7 (0 ∷ 1 ∷ 2 ∷ 3 ∷ []) hamming
 hamming_reduced = pivots_from_test 7 (0 ∷ 1 ∷ 2 ∷ 3 ∷ []) hamming refl

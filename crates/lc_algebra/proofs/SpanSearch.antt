@@ -1,18 +1,21 @@
 -- What a look through the list of words of some rows tells, and what small tests tell of a matrix.
 --   any_contains           where a test finds something in a list, some entry passes it
 --   distance_from_words    the minimum distance, from a test of every word
---   first_of, first_in_words      a list of words of one length has a first nonzero one, or only zero ones
+--   at_most_test, at_most_from_test, test_from_at_most      the lexicographic order as a test
+--   no_later_test, no_later_from_test, test_from_no_later   and that by weight first
+--   least_from_words       the first nonzero word, from a test of every word
+--   IsFirstOf, first_of         a list of words of one length has a first nonzero one, or only zero ones
 --   least_exists           rows with a nonzero word have a first nonzero word
 --   distance_exists        and a minimum distance
 --   holds_below, holds_below_at   a test of each number below n
 --   pivots_test, pivots_from_test      whether some places are the pivots of a matrix
-use Rattle.std.proofs.Common.{◌≡◌, ◌≢◌, ℕ, zero, suc, ◌<◌, ◌⊎◌, Bool, true, not, ◌&&◌, ◌||◌, ◌==◌, nat_lt, nat_le, List, [], ◌∷◌, length, slice_index, Contains, sym, ap, subst, ◌∙◌, inl, inr, ⊎_elim, arith}
+use Rattle.std.proofs.Common.{◌≡◌, ◌≢◌, ℕ, zero, suc, ◌<◌, ◌⊎◌, Bool, true, false, not, ◌&&◌, ◌||◌, ◌==◌, nat_lt, nat_le, List, [], ◌∷◌, length, slice_index, Contains, refl, sym, ap, subst, ◌∙◌, inl, inr, ⊎_elim, arith}
 use Rattle.std.specs.List.{list_all, list_any}
 use Rattle.std.proofs.lemmas.List.Elements.{All-contains}
 use Rattle.std.proofs.lemmas.List.Sums.{AllPass-from_list_all}
-use Rattle.std.proofs.lemmas.Bool.{cases_lt, and_parts, or_cases, eqb-true, ltb-true, leb-true, lt-ltb, false≢true}
+use Rattle.std.proofs.lemmas.Bool.{cases_lt, and_parts, or_cases, eqb-true, ltb-true, leb-true, lt-ltb, false≢true, or_left, or_right, and_from, eq-eqb}
 use Rattle.lc_algebra.specs.declared.FieldName.{FieldName}
-use Rattle.lc_algebra.specs.Word.{zero_word, weight, ComesNoLater}
+use Rattle.lc_algebra.specs.Word.{zero_word, weight, ComesNoLater, AtMost}
 use Rattle.lc_algebra.specs.Span.{InSpan, words, IsDistance, IsLeast}
 use Rattle.lc_algebra.specs.Matrix.{entry, AreRows, HasPivots}
 use Rattle.lc_algebra.proofs.WordLaws.{zero_from_weight, no_later_reflexive, no_later_transitive, no_later_total}
@@ -35,6 +38,52 @@ distance_from_words f n rows d p a b =
       least = λ v h k.
           let s : ((weight v == 0) || nat_le d (weight v)) ≡ true = All-contains (λ w. ((weight w == 0) || nat_le d (weight w)) ≡ true) (words f n rows) v (AllPass-from_list_all (λ w. (weight w == 0) || nat_le d (weight w)) (words f n rows) b) (member_of_word f n rows v h) in
           ⊎_elim (λ z. omega (arith, k, eqb-true (weight v) 0 z)) (λ l. leb-true d (weight v) l) (or_cases (weight v == 0) (nat_le d (weight v)) s);
+    }
+
+unfoldable pub at_most_test : List ℕ → List ℕ → Bool
+at_most_test [] v = true
+at_most_test (a ∷ u) [] = false
+at_most_test (a ∷ u) (b ∷ v) = nat_lt a b || ((a == b) && at_most_test u v)
+
+pub at_most_from_test : (u v : List ℕ) → at_most_test u v ≡ true → AtMost u v
+unfolding at_most_test
+at_most_from_test [] v h = tt
+at_most_from_test (a ∷ u) [] h = absurd (false≢true h)
+at_most_from_test (a ∷ u) (b ∷ v) h =
+    ⊎_elim
+    (λ l. inl (ltb-true a b l))
+    (λ t. let s = and_parts (a == b) (at_most_test u v) t in inr (eqb-true a b s.0, at_most_from_test u v s.1))
+    (or_cases (nat_lt a b) ((a == b) && at_most_test u v) h)
+
+pub test_from_at_most : (u v : List ℕ) → AtMost u v → at_most_test u v ≡ true
+unfolding at_most_test
+test_from_at_most [] v h = refl
+test_from_at_most (a ∷ u) [] h = absurd h
+test_from_at_most (a ∷ u) (b ∷ v) (inl l) = or_left (nat_lt a b) ((a == b) && at_most_test u v) (lt-ltb a b l)
+test_from_at_most (a ∷ u) (b ∷ v) (inr t) = or_right (nat_lt a b) ((a == b) && at_most_test u v) (and_from (a == b) (at_most_test u v) (eq-eqb a b t.0) (test_from_at_most u v t.1))
+
+abbrev pub no_later_test : List ℕ → List ℕ → Bool
+no_later_test u v = nat_lt (weight u) (weight v) || ((weight u == weight v) && at_most_test u v)
+
+pub no_later_from_test : (u v : List ℕ) → no_later_test u v ≡ true → ComesNoLater u v
+no_later_from_test u v h =
+    ⊎_elim
+    (λ l. inl (ltb-true (weight u) (weight v) l))
+    (λ t. let s = and_parts (weight u == weight v) (at_most_test u v) t in inr (eqb-true (weight u) (weight v) s.0, at_most_from_test u v s.1))
+    (or_cases (nat_lt (weight u) (weight v)) ((weight u == weight v) && at_most_test u v) h)
+
+pub test_from_no_later : (u v : List ℕ) → ComesNoLater u v → no_later_test u v ≡ true
+test_from_no_later u v (inl l) = or_left (nat_lt (weight u) (weight v)) ((weight u == weight v) && at_most_test u v) (lt-ltb (weight u) (weight v) l)
+test_from_no_later u v (inr t) = or_right (nat_lt (weight u) (weight v)) ((weight u == weight v) && at_most_test u v) (and_from (weight u == weight v) (at_most_test u v) (eq-eqb (weight u) (weight v) t.0) (test_from_at_most u v t.1))
+
+pub least_from_words : (f : FieldName) (n : ℕ) (rows : List (List ℕ)) (w : List ℕ) → Contains (words f n rows) w → 0 < weight w → list_all (λ v. (weight v == 0) || no_later_test w v) (words f n rows) ≡ true → IsLeast f n rows w
+least_from_words f n rows w c p h =
+    record {
+      inside = word_of_member f n rows w c;
+      nonzero = p;
+      first = λ v k q.
+          let s : ((weight v == 0) || no_later_test w v) ≡ true = All-contains (λ x. ((weight x == 0) || no_later_test w x) ≡ true) (words f n rows) v (AllPass-from_list_all (λ x. (weight x == 0) || no_later_test w x) (words f n rows) h) (member_of_word f n rows v k) in
+          ⊎_elim (λ z. absurd (omega (arith, q, eqb-true (weight v) 0 z))) (λ t. no_later_from_test w v t) (or_cases (weight v == 0) (no_later_test w v) s);
     }
 
 -- w is the first nonzero word of the list
