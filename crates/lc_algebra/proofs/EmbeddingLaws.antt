@@ -1,5 +1,6 @@
 -- A field inside a larger one: what stands for its elements keeps sums and products, is told apart, and keeps residues.
 --   decides_subfield          the test is_subfield decides IsSubfield
+--   told_by_size              a field is told by its number of elements
 --   embed_inside              what stands for an element is an element of the large field
 --   embed_self                each element stands for itself in its own field
 --   embed_add, embed_mul      sums and products

@@ -3,11 +3,12 @@
 --   is_subfield small large      the small field lies in the large one
 --   is_proper small large        and is another field
 --   names                        the eighteen fields
---   each_name test               the test is passed by each of them
---   names_each                   .. and so by any
+--   each_of test fs, each_name   the test is passed by each field of a list; by each of the eighteen, and so by any
+--   both_true                    what an `and` tells of its parts
+--   told_by_size                 a field is told by its number of elements
 --   found_root, found_is_root    the root, found by a search that stops at it
 --   images small large r a n     what stands at the root r for a and the elements after it: n of them
---   images_test small large xs   the images xs keep sums, products, differences and residues
+--   images_test small large xs   the images xs keep sums, products, distinctness and residues
 --   pair_test small large        that, where the embedding is proper
 --   pairs_test large             each small field passes it
 --   self_test                    each element stands for itself in its own field
