@@ -12,6 +12,7 @@
 --   identity_on_pivots     a reduced matrix is the identity on its places
 --   reduced_told, reduced_independent      its words are told by their symbols at the places; its rows are independent
 --   pivots_rise, reduced_at_most           place i is at least i; there are at most n rows
+--   HasLead f n rows p     some word of the rows has its first nonzero symbol at p
 --   place_is_lead, lead_is_place           the places are where nonzero words of the rows begin
 --   rising_same            rising lists with the same members are equal
 --   pivots_unique          two reduced matrices with the same words have the same places

@@ -4,7 +4,7 @@
 --   index_word_sum, index_scale, index_zero_word, index_difference          the symbol at a place
 --   same_words             words of one length with the same symbols are equal
 --   fits_head, fits_tail, fits_cons, word_head, word_tail, word_cons        Fits and IsWord, symbol by symbol
---   word_symbol            each symbol of a word is an element, 0 past the end too
+--   fits_symbol, word_symbol      each symbol of a word is an element, 0 past the end too
 --   IsWord_sum, IsWord_scale, IsWord_zero, IsWord_difference                words are closed under the operations
 -- Sum and multiple
 --   sum_comm, sum_assoc, sum_exchange, zero_sum, sum_zero, sum_negative     the sum is that of a commutative group
@@ -12,7 +12,9 @@
 --   multiple_undone        adding a multiple and then its negative changes nothing
 --   difference_self, difference_zero, same_from_difference, difference_turned, difference_back   the difference
 -- Weight and dot
---   weight_cons, weight_zero_word, zero_from_weight, positive_weight, weight_at_most_length
+--   weight_cons, weight_zero_head, weight_other_head, weight_cons_at_most      the weight, symbol by symbol
+--   weight_zero_word, zero_from_weight, positive_weight, weight_at_most_length      zero words and others
+--   neg_one_twice, neg_one_nonzero, add_exchange      three facts of the field that these use
 --   weight_scale           a nonzero multiple has the weight of the word
 --   weight_sum_at_most     the weight of a sum is at most the sum of the weights
 --   weight_zero            the weight is 0 exactly where the word is zero
@@ -21,6 +23,7 @@
 -- Order
 --   at_most_reflexive, at_most_transitive, at_most_total, at_most_antisymmetric, at_most_decided
 --   no_later_reflexive, no_later_transitive, no_later_total, no_later_antisymmetric, no_later_decided
+--   no_later_weight        what comes no later is no heavier
 use Rattle.std.proofs.Common.{◌≡◌, ℕ, zero, suc, ◌+◌, ◌<◌, ◌≤◌, ◌⊎◌, ◌↔◌, false, cond, not, ◌==◌, List, [], ◌∷◌, length, slice_index, refl, sym, ap, ◌∙◌, inl, inr, ⊎_elim, arith, zero-lt-suc}
 use Rattle.std.proofs.lemmas.List.{ext_get_or, length-replicate}
 use Rattle.std.proofs.lemmas.List.Sums.{sum_by-cons, count_by-le-length}
