@@ -3,6 +3,13 @@ pub mod ResidueLaws
 pub mod ProductLaws
 pub mod FieldTests
 pub mod FieldLaws
+pub mod WordLaws
+pub mod SpanLaws
+pub mod ReducedLaws
+pub mod ColumnLaws
+pub mod DimensionLaws
+pub mod SpanSearch
+pub mod SpanExamples
 pub mod PowerLaws
 pub mod EmbeddingTests
 pub mod EmbeddingLaws

@@ -6,3 +6,4 @@ pub mod FieldLaws
 pub mod Word
 pub mod Span
 pub mod Matrix
+pub mod SpanLaws

@@ -4,6 +4,7 @@
 #![tactic(auto)]
 
 pub mod laws;
+pub mod span_laws;
 
 /// One of the eighteen fields of `codes`, by its number of elements.
 ///
