@@ -6,8 +6,8 @@
 --   no_words, bad_workers, slice_alone, kept_twice, no_seed      the index of the word that is refused
 --   sliced                                 the settings of words that are accepted
 --   run_only                               a second word is refused where there are no keys
-use Rattle.std.proofs.Common.{◌≡◌, ℕ, refl}
-use Rattle.std.specs.Prelude.{List, [], ◌∷◌, ◌++◌, map, codes, replicate, ◌^◌, Some, None, true, false}
+use Rattle.std.proofs.Common.{◌≡◌, refl}
+use Rattle.std.specs.Prelude.{[], ◌∷◌, ◌++◌, map, codes, replicate, ◌^◌, Some, true}
 use Rattle.std.specs.Fmt.{digits}
 use Rattle.lc_algebra.specs.declared.FieldName.TheVariants.{Gf2}
 use Rattle.lc_algebra.specs.Residue.{digits as residues, number, plus, minus, times, top, up, times_x, product}
@@ -18,7 +18,7 @@ use Rattle.lc_algebra.specs.Matrix.{Matrix}
 use Rattle.lc_enumeration.specs.Message.{supports, supports_from, numbers_from, nonzero_lists, leading_lists, messages, vector_from, vector_of, choose, message_count}
 use Rattle.lc_enumeration.specs.Plan.{cut, phase_level, phase_set, level_blocks, blocks_before, total, phase_at, phase_ends, block_messages, place_of, plan_phases, phase_of}
 use Rattle.lc_enumeration.specs.InformationSet.{same_word, in_span, greedy, dimension, is_member, first_basis, columns_in_order, with_fresh, next_set, sets_after, information_sets, unit_word, systematic, echelon_rows}
-use Rattle.lc_enumeration.specs.Search.{Found, sets_of, set_count, ranks_of, generator_at, word_of, word_at, beats, found_along, found_in_block, blocks_within, found_from, least_of, found_first, found_below, best, last_that, is_whole_below, level_below, levels_below, bound_sum, bound_of, bound, is_done, ends_of, answer_at, answer}
+use Rattle.lc_enumeration.specs.Search.{sets_of, set_count, ranks_of, generator_at, word_of, word_at, beats, found_along, found_in_block, blocks_within, found_from, least_of, found_first, found_below, best, last_that, is_whole_below, level_below, levels_below, bound_sum, bound_of, bound, is_done, ends_of, answer_at, answer}
 use Rattle.lc_enumeration.specs.Certificate.{code_length, code_dimension, level_in, messages_through, cost_of, cost}
 use Rattle.lc_language.specs.Token.{is_digit, number_from, number_of, widest}
 use Rattle.lc_language.specs.Value.{same_bytes}

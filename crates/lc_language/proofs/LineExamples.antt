@@ -4,8 +4,8 @@
 --   tokens_of_call       how a call is cut into tokens
 --   wide_number, bad_byte      a number that is too wide; a byte that begins no token, behind a comment
 --   not_a_field, short_hamming, large_field, long_repetition, too_large_entry      refusals of calls with their numbers
-use Rattle.std.proofs.Common.{◌≡◌, ℕ, refl}
-use Rattle.std.specs.Prelude.{List, [], ◌∷◌, ◌++◌, map, codes, ◌^◌, Some, None, true, false}
+use Rattle.std.proofs.Common.{◌≡◌, refl}
+use Rattle.std.specs.Prelude.{[], ◌∷◌, ◌++◌, map, codes, Some, None, true, false}
 use Rattle.std.specs.Fmt.{digits}
 use Rattle.lc_algebra.specs.declared.FieldName.TheVariants.{Gf2, Gf4, Gf25}
 use Rattle.lc_algebra.specs.Field.{shape, shape_of, size, is_symbol}
@@ -13,12 +13,11 @@ use Rattle.lc_algebra.specs.Span.{below}
 use Rattle.lc_constructions.specs.Basic.{hamming_length}
 use Rattle.lc_constructions.specs.Cyclic.{all_fields}
 use Rattle.lc_language.specs.declared.Call.TheVariants.{Gf, HammingCode, RepetitionCode, LeastWord}
-use Rattle.lc_language.specs.declared.Token.{Token}
 use Rattle.lc_language.specs.declared.TokenKind.TheVariants.{Name, Assign, Open, Close, Number, End}
-use Rattle.lc_language.specs.Value.{number, field, numbers, lists, code, truth, nothing, same_bytes}
-use Rattle.lc_language.specs.Print.{bracketed, numbers_text, lists_text, field_text, code_text, value_text, line, value_line, spaced, with_values, fault_line, least_line, least_none_line, distance_line, bracket_line, distance_none_line}
-use Rattle.lc_language.specs.Token.{is_blank, is_letter, is_digit, is_name_byte, number_from, number_of, widest, cut_of, assign_at, sign_at, token_at, Scanned, Ending, script_end, bad_token, too_wide, ended, token_first, is_number, comment_length, scan_within, scan}
-use Rattle.lc_language.specs.Refusal.{Refusal, refuse, when, first_of, is_length, too_large, bad_length, bad_argument, reaches, columns_of, lengths_differ, matrix_refusals, refusals_of, refusal_of}
+use Rattle.lc_language.specs.Value.{number, field, numbers, lists, truth, nothing}
+use Rattle.lc_language.specs.Print.{bracketed, numbers_text, lists_text, field_text, code_text, value_text, line, value_line, spaced, with_values, fault_line}
+use Rattle.lc_language.specs.Token.{is_blank, is_letter, is_digit, is_name_byte, number_from, number_of, widest, cut_of, assign_at, sign_at, token_at, script_end, bad_token, too_wide, ended, token_first, is_number, comment_length, scan_within, scan}
+use Rattle.lc_language.specs.Refusal.{refuse, when, first_of, is_length, too_large, bad_length, bad_argument, reaches, columns_of, lengths_differ, matrix_refusals, refusals_of, refusal_of}
 
 pub lines : map value_line (number 12 ∷ field Gf4 ∷ numbers (1 ∷ 0 ∷ 3 ∷ []) ∷ numbers [] ∷ lists ((1 ∷ 0 ∷ []) ∷ (0 ∷ 1 ∷ []) ∷ []) ∷ truth true ∷ truth false ∷ nothing ∷ []) ≡ (codes "12" ++ 10 ∷ []) ∷ (codes "GF(4)" ++ 10 ∷ []) ∷ (codes "[1,0,3]" ++ 10 ∷ []) ∷ (codes "[]" ++ 10 ∷ []) ∷ (codes "[[1,0],[0,1]]" ++ 10 ∷ []) ∷ (codes "true" ++ 10 ∷ []) ∷ (codes "false" ++ 10 ∷ []) ∷ (codes "none" ++ 10 ∷ []) ∷ []
 unfolding digits shape shape_of size bracketed numbers_text lists_text field_text code_text value_text line value_line

@@ -7,16 +7,15 @@
 --   checkpoint_in bytes          the checkpoint that the bytes are, or why they are none; the first that applies
 --   state_of C blocks            the blocks with the best pair below them
 --   IsTrueFor needs digest budget point      a checkpoint as a session of a chain writes it
-use Rattle.std.specs.Prelude.{◌≡◌, ℕ, zero, suc, ◌+◌, ◌-◌, ◌*◌, ◌%◌, ◌^◌, ◌<◌, ◌≤◌, Bool, true, false, not, nat_le, nat_lt, ◌==◌, ◌&&◌, ◌||◌, if◌then◌else◌, List, [], ◌∷◌, ◌++◌, length, map, take, drop, slice_index, slice_get, sum, codes, Option, Some, None, is_some, option_map, option_and_then}
-use Rattle.std.specs.List.{list_all, list_any}
+use Rattle.std.specs.Prelude.{◌≡◌, ℕ, suc, ◌+◌, ◌-◌, ◌*◌, ◌^◌, ◌<◌, ◌≤◌, Bool, not, nat_le, nat_lt, ◌==◌, ◌&&◌, if◌then◌else◌, List, [], ◌∷◌, ◌++◌, length, map, drop, slice_get, sum, codes, Option, Some, None, option_map, option_and_then}
 use Rattle.sha2.specs.Sha256.{sha256}
 use Rattle.hex.specs.Hex.{encode_lower, hex_digit_value}
-use Rattle.serde_json.specs.Data.{Data, Items, Members, item, no_items, member, no_members, array, object, string, unsigned}
+use Rattle.serde_json.specs.Data.{Data, Items, Members, item, no_items, member, no_members, array, object, string}
 use Rattle.serde_json.specs.Find.{get_member, as_number, as_u64, as_str, as_array}
 use Rattle.serde_json.specs.Read.{read}
 use Rattle.serde_json.specs.Written.{compact_text}
 use Rattle.lc_algebra.specs.Matrix.{Matrix}
-use Rattle.lc_enumeration.specs.Search.{Found, Answer, no_word, exact, bracket, answer, best}
+use Rattle.lc_enumeration.specs.Search.{Answer, no_word, exact, bracket, answer, best}
 use Rattle.lc_language.specs.Value.{same_bytes}
 use Rattle.lc_language.specs.Query.{number_json, numbers_json, items}
 
@@ -39,14 +38,14 @@ settled_json s = numbers_json (s.blocks ∷ s.weight ∷ s.place ∷ [])
 
 unfoldable pub body_json : Checkpoint → Data
 body_json point =
-  object (member (codes "blocks") (number_json point.blocks)
+    object (member (codes "blocks") (number_json point.blocks)
     (member (codes "budget") (number_json point.budget)
-      (member (codes "done") (array (items (map settled_json point.settled)))
-        (member (codes "place") (number_json point.place)
-          (member (codes "script") (string (encode_lower point.script))
-            (member (codes "turn") (number_json point.turn)
-              (member (codes "version") (number_json 1)
-                (member (codes "weight") (number_json point.weight) no_members))))))))
+    (member (codes "done") (array (items (map settled_json point.settled)))
+    (member (codes "place") (number_json point.place)
+    (member (codes "script") (string (encode_lower point.script))
+    (member (codes "turn") (number_json point.turn)
+    (member (codes "version") (number_json 1)
+    (member (codes "weight") (number_json point.weight) no_members))))))))
 
 unfoldable pub body_of : Checkpoint → List ℕ
 body_of point = compact_text (body_json point)
@@ -123,8 +122,8 @@ member_count (member _ _ ms) = suc (member_count ms)
 -- the state in a body whose budget is known: all ranges hold, and there is no key but the eight
 unfoldable pub state_in : Members → ℕ → Option Checkpoint
 state_in ms budget =
-  if not (member_count ms == 8) then None else
-  option_and_then (λ script. option_and_then (λ turn. option_and_then (λ settled. option_and_then (λ blocks. option_and_then (λ weight. option_map (λ place. record { script = script; budget = budget; turn = turn; settled = settled; blocks = blocks; weight = weight; place = place })
+    if not (member_count ms == 8) then None else
+    option_and_then (λ script. option_and_then (λ turn. option_and_then (λ settled. option_and_then (λ blocks. option_and_then (λ weight. option_map (λ place. record { script = script; budget = budget; turn = turn; settled = settled; blocks = blocks; weight = weight; place = place })
     (number_up_to 0 (2 ^ 52 - 1) (number_at (codes "place") ms)))
     (number_up_to 1 255 (number_at (codes "weight") ms)))
     (number_up_to 0 budget (number_at (codes "blocks") ms)))

@@ -11,7 +11,7 @@
 --   Steps table env s step       what the statement s does
 --   Runs table budget env ss text ends      the text of the statements, and whether a fault ends it
 --   IsText table budget bytes text ends     the text of a script
-use Rattle.std.specs.Prelude.{◌≡◌, ℕ, zero, suc, ◌+◌, ◌-◌, ◌*◌, ◌^◌, ◌<◌, ◌⊎◌, Bool, true, false, IsTrue, ◌==◌, List, [], ◌∷◌, ◌++◌, length, map, Option, Some, None, MatchOption}
+use Rattle.std.specs.Prelude.{◌≡◌, ℕ, ◌<◌, ◌⊎◌, Bool, true, false, IsTrue, List, [], ◌∷◌, ◌++◌, length, Option, Some, None, MatchOption}
 use Rattle.lc_algebra.specs.declared.FieldName.{FieldName}
 use Rattle.lc_algebra.specs.Word.{weight}
 use Rattle.lc_algebra.specs.Span.{InSpan, IsLeast}
@@ -26,8 +26,8 @@ use Rattle.lc_language.specs.Value.{Value, is_kind, as_kind, Binding, value_name
 use Rattle.lc_language.specs.Calls.{call_named, signature_for, is_query}
 use Rattle.lc_language.specs.Refusal.{Refusal, refusal_of, columns_of}
 use Rattle.lc_language.specs.Meaning.{Gives, IsNotDivisor}
-use Rattle.lc_language.specs.Print.{value_line, fault_line, least_line, least_none_line, distance_none_line, line}
-use Rattle.lc_language.specs.Query.{QueryKind, distance, by_levels, by_scan, query_line, no_certificate_line}
+use Rattle.lc_language.specs.Print.{value_line, fault_line, least_line, least_none_line}
+use Rattle.lc_language.specs.Query.{QueryKind, distance, by_levels, by_scan, query_line}
 
 pub record Refused : Type 0 where
   pub number : ℕ
@@ -77,7 +77,7 @@ list_of es vs = numbers_in es vs []
 
 abbrev pub AppliesTo : Call → ℕ → List Value → Outcome → Type 0
 AppliesTo c place arguments o =
-  MatchOption (refusal_of c arguments)
+    MatchOption (refusal_of c arguments)
     ((IsNotDivisor c arguments × (o ≡ refuse_at 4 place)) ⊎ (¬ IsNotDivisor c arguments × ((v : Value) × Gives c arguments v × (o ≡ gives v))))
     (λ r. o ≡ refuse_call place r)
 
@@ -103,10 +103,10 @@ abbrev mutual
   Evaluates table env (name place x) o = MatchOption (value_named x env) (o ≡ refuse_at 44 place) (λ v. o ≡ gives v)
   Evaluates table env (list place es) o = (os : Outcomes) × EvaluatesAll table env es os × ListGives es os o
   Evaluates table env (call place x es) o =
-    MatchOption (call_named table x) (o ≡ refuse_at 44 place)
+      MatchOption (call_named table x) (o ≡ refuse_at 44 place)
       (λ c. (IsTrue (is_query c) × (o ≡ refuse_at 45 place))
-        ⊎ ((is_query c ≡ false) × MatchOption (signature_for c (count_of es)) (o ≡ refuse_at 46 place)
-            (λ kinds. (os : Outcomes) × EvaluatesAll table env es os × Applies c place kinds es os o)))
+      ⊎ ((is_query c ≡ false) × MatchOption (signature_for c (count_of es)) (o ≡ refuse_at 46 place)
+      (λ kinds. (os : Outcomes) × EvaluatesAll table env es os × Applies c place kinds es os o)))
 
   pub EvaluatesAll : List Call → List Binding → Exprs → Outcomes → Type 0
   EvaluatesAll table env none os = os ≡ all_give []
@@ -121,8 +121,8 @@ pub data Step : Type 0 where
 -- what LeastWord prints of the words of the rows
 abbrev pub PrintsLeast : List (List ℕ) → FieldName → Step → Type 0
 PrintsLeast rows f step =
-  ((w : List ℕ) × IsLeast f (columns_of rows) rows w × (step ≡ prints (least_line (weight w) w)))
-  ⊎ (((w : List ℕ) → InSpan f (columns_of rows) rows w → weight w ≡ 0) × (step ≡ prints least_none_line))
+    ((w : List ℕ) × IsLeast f (columns_of rows) rows w × (step ≡ prints (least_line (weight w) w)))
+    ⊎ (((w : List ℕ) → InSpan f (columns_of rows) rows w → weight w ≡ 0) × (step ≡ prints least_none_line))
 
 -- a query on a code of dimension 0 is answered at once
 abbrev pub AsksOf : QueryKind → Matrix → Step → Type 0
@@ -144,7 +144,7 @@ fail_with (refused r) = fails r
 abbrev pub QueriesAll : Call → ℕ → List Kind → Exprs → Outcomes → Step → Type 0
 QueriesAll c place kinds es (one_refused r) step = step ≡ fails r
 QueriesAll c place kinds es (all_give vs) step =
-  MatchOption (first_misfit kinds es vs)
+    MatchOption (first_misfit kinds es vs)
     (MatchOption (refusal_of c (as_kinds kinds vs)) (Queries c (as_kinds kinds vs) step) (λ r. step ≡ fail_with (refuse_call place r)))
     (λ p. step ≡ fail_with (refuse_at 45 p))
 
@@ -159,7 +159,7 @@ Assigns x (refused r) step = step ≡ fails r
 
 abbrev pub StepsAsQuery : List Call → List Binding → Call → Expr → Step → Type 0
 StepsAsQuery table env c (call place x es) step =
-  MatchOption (signature_for c (count_of es)) (step ≡ fail_with (refuse_at 46 place))
+    MatchOption (signature_for c (count_of es)) (step ≡ fail_with (refuse_at 46 place))
     (λ kinds. (os : Outcomes) × EvaluatesAll table env es os × QueriesAll c place kinds es os step)
 StepsAsQuery table env c _ step = ⊥
 
@@ -183,5 +183,5 @@ Runs table budget env (s ∷ ss) text ends = (step : Step) × Steps table env s 
 
 abbrev pub IsText : List Call → ℕ → List ℕ → List ℕ → Bool → Type 0
 IsText table budget bytes text ends =
-  ((ss : List Statement) × Reads bytes ss × Runs table budget [] ss text ends)
-  ⊎ ((fault : Fault) × IsFault bytes fault × (text ≡ fault_line fault.number fault.place []) × (ends ≡ true))
+    ((ss : List Statement) × Reads bytes ss × Runs table budget [] ss text ends)
+    ⊎ ((fault : Fault) × IsFault bytes fault × (text ≡ fault_line fault.number fault.place []) × (ends ≡ true))

@@ -4,7 +4,7 @@
 --   MadeWith f n P form v   .. with this form
 --   Gives c arguments v     the value of the call
 --   IsNotDivisor c arguments      the polynomial of a cyclic code doesn't divide x^n - 1: refusal 4
-use Rattle.std.specs.Prelude.{◌≡◌, ℕ, ◌+◌, ◌-◌, ◌*◌, ◌/◌, ◌%◌, ◌^◌, ◌⊎◌, ◌↔◌, Bool, IsTrue, List, [], ◌∷◌, length, map, Option, Some, None}
+use Rattle.std.specs.Prelude.{◌≡◌, ℕ, ◌+◌, ◌-◌, ◌*◌, ◌/◌, ◌%◌, ◌^◌, ◌⊎◌, ◌↔◌, Bool, IsTrue, List, [], ◌∷◌, length, Option, Some, None}
 use Rattle.lc_algebra.specs.declared.FieldName.{FieldName}
 use Rattle.lc_algebra.specs.declared.FieldName.TheVariants.{Gf2, Gf3}
 use Rattle.lc_algebra.specs.Field.{size, is_symbol}
@@ -48,8 +48,8 @@ IsReedSolomon n d v = (f : FieldName) × (size f ≡ n + 1) × IsTrue (is_symbol
 -- the one word within half of the checks, or nothing where there is none
 abbrev pub IsDecoded : Matrix → AlternantForm → List ℕ → Value → Type 0
 IsDecoded C form x v =
-  ((w : List ℕ) × IsWithin C x (form.r / 2) w × (v ≡ numbers w))
-  ⊎ ((v ≡ nothing) × ((w : List ℕ) → ¬ IsWithin C x (form.r / 2) w))
+    ((w : List ℕ) × IsWithin C x (form.r / 2) w × (v ≡ numbers w))
+    ⊎ ((v ≡ nothing) × ((w : List ℕ) → ¬ IsWithin C x (form.r / 2) w))
 
 abbrev pub Gives : Call → List Value → Value → Type 0
 Gives Gf (number q ∷ []) v = (f : FieldName) × (size f ≡ q) × (v ≡ field f)
@@ -71,8 +71,8 @@ Gives BchCode (number n ∷ number b ∷ number d ∷ field f ∷ []) v = IsBch 
 Gives ReedSolomonCode (number n ∷ number d ∷ []) v = IsReedSolomon n d v
 Gives GoppaCode (numbers g ∷ numbers points ∷ field K ∷ field f ∷ []) v = MadeWith f (length points) (IsGoppaWord f K (trimmed g) points) (goppa_form K (trimmed g) points) v
 Gives AlternantCode (number r ∷ numbers points ∷ numbers multipliers ∷ field K ∷ field f ∷ []) v =
-  let form : AlternantForm = record { locator = K; points = points; multipliers = multipliers; r = r } in
-  MadeWith f (length points) (IsAlternantWord f form) form v
+    let form : AlternantForm = record { locator = K; points = points; multipliers = multipliers; r = r } in
+    MadeWith f (length points) (IsAlternantWord f form) form v
 Gives DualCode (code C _ ∷ []) v = Made C.field C.columns (InDual C) v
 Gives ExtendedCode (code C _ ∷ []) v = Made C.field (C.columns + 1) (InExtended C) v
 Gives PuncturedCode (code C _ ∷ numbers places ∷ []) v = Made C.field (C.columns - length places) (InPunctured C places) v

@@ -8,7 +8,7 @@
 --   number_in text            the number that the text writes: one to twenty digits with no leading zero, save 0 itself
 --   put_key key text s        the settings after a word; None where the value is bad
 --   options table words       the settings, or the index of the word that is refused
-use Rattle.std.specs.Prelude.{ℕ, zero, suc, ◌+◌, ◌-◌, ◌*◌, ◌^◌, Bool, true, false, not, nat_le, nat_lt, ◌==◌, ◌&&◌, ◌||◌, if◌then◌else◌, List, [], ◌∷◌, ◌++◌, length, codes, Option, Some, None, is_some, option_map, option_and_then, slice_index}
+use Rattle.std.specs.Prelude.{ℕ, suc, ◌^◌, Bool, true, false, not, nat_le, ◌==◌, ◌&&◌, ◌||◌, if◌then◌else◌, List, [], ◌∷◌, ◌++◌, length, codes, Option, Some, None, is_some, option_map, option_and_then, slice_index}
 use Rattle.std.specs.List.{list_all, list_any, before_first, after_first}
 use Rattle.lc_language.specs.Token.{is_digit, number_of, widest}
 use Rattle.lc_language.specs.Value.{same_bytes}
@@ -102,22 +102,22 @@ pub data Options : Type 0 where
 -- a slice asks for keep=yes, and a summary for a seed
 unfoldable pub checked : List Key → Settings → Options
 checked keys s =
-  elim (place_of_key slice keys 1) as (λ _. Options) [
-    Some i ↦ if s.keep then settings s else usage i
-  | None ↦ elim s.command as (λ _. Options) [ summary ↦ if is_some (place_of_key seed keys 1) then settings s else usage (suc (length keys)) | _ ↦ settings s ]
-  ]
+    elim (place_of_key slice keys 1) as (λ _. Options) [
+      | Some i ↦ if s.keep then settings s else usage i
+      | None ↦ elim s.command as (λ _. Options) [ summary ↦ if is_some (place_of_key seed keys 1) then settings s else usage (suc (length keys)) | _ ↦ settings s ]
+    ]
 
 -- the words behind the command; the keys of the words so far stand in their order
 unfoldable pub options_from : List Key → List (List ℕ) → List Key → Settings → Options
 options_from keys [] found s = checked found s
 options_from keys (word ∷ words) found s =
-  elim (key_named keys (before_first (λ b. b == 61) word)) as (λ _. Options) [
-    None ↦ usage (suc (length found))
-  | Some key ↦ elim ((list_any (λ b. b == 61) word) && not (list_any (same_key key) found)) as (λ _. Options) [
-      false ↦ usage (suc (length found))
-    | true ↦ elim (put_key key (after_first (λ b. b == 61) word) s) as (λ _. Options) [ None ↦ usage (suc (length found)) | Some next ↦ options_from keys words (found ++ key ∷ []) next ]
+    elim (key_named keys (before_first (λ b. b == 61) word)) as (λ _. Options) [
+      | None ↦ usage (suc (length found))
+      | Some key ↦ elim ((list_any (λ b. b == 61) word) && not (list_any (same_key key) found)) as (λ _. Options) [
+        | false ↦ usage (suc (length found))
+        | true ↦ elim (put_key key (after_first (λ b. b == 61) word) s) as (λ _. Options) [ None ↦ usage (suc (length found)) | Some next ↦ options_from keys words (found ++ key ∷ []) next ]
+      ]
     ]
-  ]
 
 unfoldable pub options : List CommandRow → List (List ℕ) → Options
 options table [] = usage 0

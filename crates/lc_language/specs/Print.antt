@@ -4,10 +4,9 @@
 --   fault_line n place values              a fault's line
 --   least_line d w, least_none_line        what LeastWord prints
 --   distance_line, bracket_line, distance_none_line      what MinimumDistance prints
-use Rattle.std.specs.Prelude.{ℕ, zero, suc, Bool, true, false, List, [], ◌∷◌, ◌++◌, length, map, codes, decimal, Option}
+use Rattle.std.specs.Prelude.{ℕ, true, false, List, [], ◌∷◌, ◌++◌, length, map, codes, decimal}
 use Rattle.std.specs.List.{join_with_byte}
 use Rattle.lc_algebra.specs.Field.{size}
-use Rattle.lc_algebra.specs.Matrix.{Matrix}
 use Rattle.lc_language.specs.Value.{Value, number, field, numbers, lists, code, truth, nothing}
 
 unfoldable pub bracketed : List (List ℕ) → List ℕ

@@ -5,14 +5,14 @@
 --   certificate_text c            its JSON text, compact, the keys rising
 --   certificate_line c            that text as a line; where it costs a checker too much, or is too long, a line that says so
 --   query_line kind C budget      the line
-use Rattle.std.specs.Prelude.{ℕ, zero, suc, ◌+◌, ◌*◌, ◌^◌, ◌-◌, min, Bool, nat_lt, if◌then◌else◌, List, [], ◌∷◌, ◌++◌, length, map, codes, decimal, Option, Some, None, unwrap_or}
+use Rattle.std.specs.Prelude.{ℕ, ◌^◌, ◌-◌, min, nat_lt, if◌then◌else◌, List, [], ◌∷◌, ◌++◌, length, map, codes, decimal, unwrap_or}
 use Rattle.serde_json.specs.Data.{Data, Items, Members, item, no_items, member, no_members, array, object, string, unsigned}
 use Rattle.serde_json.specs.Data as json
 use Rattle.serde_json.specs.Written.{compact_text}
 use Rattle.lc_algebra.specs.Field.{size}
 use Rattle.lc_algebra.specs.Matrix.{Matrix}
 use Rattle.lc_enumeration.specs.InformationSet.{InformationSet}
-use Rattle.lc_enumeration.specs.Search.{Found, Answer, no_word, exact, bracket, answer, sets_of, levels_below, word_at}
+use Rattle.lc_enumeration.specs.Search.{Answer, no_word, exact, bracket, answer, sets_of, levels_below, word_at}
 use Rattle.lc_enumeration.specs.Certificate.{Certificate, SetClaim, Proof, scan, levels, cost}
 use Rattle.lc_language.specs.Print.{line, distance_line, bracket_line, distance_none_line}
 
@@ -45,13 +45,13 @@ with_sets (levels claims) rest = member (codes "sets") (array (items (map claim_
 
 unfoldable pub certificate_json : Certificate → Data
 certificate_json c =
-  object (member (codes "by") (string (way_text c.proof))
+    object (member (codes "by") (string (way_text c.proof))
     (member (codes "distance") (number_json c.distance)
-      (member (codes "field") (number_json (size c.field))
-        (member (codes "rows") (array (items (map numbers_json c.rows)))
-          (with_sets c.proof
-            (member (codes "version") (number_json 1)
-              (member (codes "word") (numbers_json c.word) no_members)))))))
+    (member (codes "field") (number_json (size c.field))
+    (member (codes "rows") (array (items (map numbers_json c.rows)))
+    (with_sets c.proof
+    (member (codes "version") (number_json 1)
+    (member (codes "word") (numbers_json c.word) no_members)))))))
 
 unfoldable pub certificate_text : Certificate → List ℕ
 certificate_text c = compact_text (certificate_json c)
@@ -75,9 +75,9 @@ no_certificate_line why n = line (codes "certificate none " ++ why ++ codes " " 
 
 unfoldable pub certificate_line : Certificate → List ℕ
 certificate_line c =
-  if nat_lt (2 ^ 32) (cost c) then no_certificate_line (codes "cost") (min (cost c) (2 ^ 64 - 1)) else
-  if nat_lt longest (length (line (certificate_text c))) then no_certificate_line (codes "length") (length (line (certificate_text c))) else
-  line (certificate_text c)
+    if nat_lt (2 ^ 32) (cost c) then no_certificate_line (codes "cost") (min (cost c) (2 ^ 64 - 1)) else
+    if nat_lt longest (length (line (certificate_text c))) then no_certificate_line (codes "length") (length (line (certificate_text c))) else
+    line (certificate_text c)
 
 unfoldable pub word_at_place : Matrix → ℕ → List ℕ
 word_at_place C place = unwrap_or (word_at C place) []

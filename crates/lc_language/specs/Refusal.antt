@@ -8,10 +8,10 @@
 --   12 LengthsDiffer, 13 BadPositions, 14 InnerDimension (with the dimension and the degree), 15 TooManyCosets (with n - k),
 --   16 TooManyWords, 17 FieldTooLarge, 18 NoAlternant
 --   refusal_of c arguments  the first refusal of the call, in the order that the call states
-use Rattle.std.specs.Prelude.{ℕ, zero, suc, ◌+◌, ◌-◌, ◌*◌, ◌/◌, ◌%◌, ◌^◌, Bool, true, false, not, nat_le, nat_lt, ◌==◌, ◌&&◌, ◌||◌, if◌then◌else◌, List, [], ◌∷◌, ◌++◌, length, map, take, slice_index, find, Option, Some, None, is_some, option_map, unwrap_or}
+use Rattle.std.specs.Prelude.{ℕ, ◌+◌, ◌-◌, ◌*◌, ◌^◌, Bool, true, not, nat_le, nat_lt, ◌==◌, ◌&&◌, ◌||◌, if◌then◌else◌, List, [], ◌∷◌, ◌++◌, length, take, slice_index, find, Option, Some, None, is_some, option_map, unwrap_or}
 use Rattle.std.specs.List.{list_any, list_all}
 use Rattle.lc_algebra.specs.declared.FieldName.{FieldName}
-use Rattle.lc_algebra.specs.Field.{shape_of, size, is_symbol}
+use Rattle.lc_algebra.specs.Field.{size, is_symbol}
 use Rattle.lc_algebra.specs.Polynomial.{value_at}
 use Rattle.lc_algebra.specs.Span.{below}
 use Rattle.lc_algebra.specs.Matrix.{Matrix}

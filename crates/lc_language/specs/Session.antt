@@ -9,7 +9,7 @@
 --                                     turn has the slot's parity
 --   AreTrueSlots needs digest budget slots       both slots: turns that are even in slot Zero, odd ones in slot One
 --   chosen slots                      the checkpoint that `resume` takes: the greater turn, slot Zero where they are equal
-use Rattle.std.specs.Prelude.{◌≡◌, ℕ, zero, suc, ◌+◌, ◌%◌, ◌<◌, ◌⊎◌, Bool, true, false, nat_lt, if◌then◌else◌, List, [], ◌∷◌, ◌++◌, map, codes, decimal, Option, Some, None, MatchOption}
+use Rattle.std.specs.Prelude.{◌≡◌, ℕ, ◌%◌, nat_lt, if◌then◌else◌, List, [], ◌∷◌, ◌++◌, codes, decimal, Option, Some, None}
 use Rattle.lc_algebra.specs.Matrix.{Matrix}
 use Rattle.lc_enumeration.specs.Certificate.{Certificate, Reason, reason_number, reason_values, Verdict, accepted, rejected, verdict}
 use Rattle.lc_language.specs.declared.Call.{Call}
@@ -17,7 +17,6 @@ use Rattle.lc_language.specs.Tree.{Statement}
 use Rattle.lc_language.specs.Grammar.{Reads}
 use Rattle.lc_language.specs.Value.{Binding}
 use Rattle.lc_language.specs.Print.{line, with_values}
-use Rattle.lc_language.specs.Query.{QueryKind}
 use Rattle.lc_language.specs.Evaluation.{Step, Steps, binds, prints, asks, fails}
 use Rattle.lc_language.specs.Checkpoint.{Checkpoint, ReadCheckpoint, point, refused, checkpoint_in, IsTrueFor}
 
