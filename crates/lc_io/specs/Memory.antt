@@ -16,8 +16,8 @@ counted n = min (n + 1) (2 ^ 64 - 1)
 
 pub record Calls : Type 0 where
   pub failing : List ℕ  -- the numbers of the calls that fail
-  pub number : ℕ        -- that of the next call; the first is 1
-  pub faults : ℕ        -- how many have failed
+  pub number : ℕ  -- that of the next call; the first is 1
+  pub faults : ℕ  -- how many have failed
 
 -- the next call is one of those that fail
 abbrev pub IsFailing : Calls → Type 0
@@ -31,7 +31,7 @@ failed calls = record calls { number = counted calls.number; faults = counted ca
 
 pub record MemoryInput : Type 0 where
   pub rest : List ℕ  -- the bytes still to come
-  pub piece : ℕ      -- the most that a read gives
+  pub piece : ℕ  -- the most that a read gives
   pub calls : Calls
 
 abbrev pub read_length : MemoryInput → ℕ → ℕ
@@ -39,8 +39,8 @@ read_length input room = min (min (length input.rest) room) input.piece
 
 pub record MemoryOutput : Type 0 where
   pub written : List ℕ  -- the bytes taken
-  pub room : ℕ          -- how many fit in all
-  pub piece : ℕ         -- the most that a write takes
+  pub room : ℕ  -- how many fit in all
+  pub piece : ℕ  -- the most that a write takes
   pub calls : Calls
 
 -- no room is left

@@ -1,5 +1,5 @@
 // A source in memory.
-ghost use Rattle.std.specs.Prelude.{◌≡◌, ◌<◌, ◌≤◌, ◌↔◌, ◌++◌, ℕ, length, take, drop, Some, IfOk, IsErr, OnErr, MatchResult};
+ghost use Rattle.std.specs.Prelude.{◌≡◌, ◌<◌, ◌≤◌, ◌↔◌, ◌++◌, ℕ, [], length, take, drop, Some, IfOk, IsOk, IsErr, OnErr, MatchResult};
 ghost use Rattle.std.specs.Io.KnownBytes.{Consumes, Keeps, IsAtEnd};
 ghost use Rattle.lc_io.specs.Outside.{HasRisen};
 ghost use Rattle.lc_io.specs.Memory.{IsFailing, answered, failed, read_length};
@@ -40,8 +40,11 @@ impl MemorySource {
         failing: &[u64],
     ) -> Result<MemorySource, NoMemory>
         requires { 1 ≤ piece }
-        ensures { IfOk result (λ s. s ≡ record { rest = bytes.now; piece = piece;
-            calls = record { failing = failing.now; number = 1; faults = 0 } }) }
+        ensures { IfOk result (λ s. s ≡ record {
+          rest = bytes.now;
+          piece = piece;
+          calls = record { failing = failing.now; number = 1; faults = 0 };
+        }) }
     {
         Ok(MemorySource {
             bytes: bytes.to_vec(alloc)?,
@@ -60,17 +63,23 @@ impl Source for MemorySource {
     /// Fails exactly where the number of the call is one that fails. Takes no memory.
     fn read(&mut self, buf: &mut [u8]) -> Result<usize, Failed>
         ensures bound { IfOk result (λ n. n ≤ length buf.old) }
-        ensures gave { IfOk result (λ n. Consumes (Some self.old.rest) (Some self.new.rest) (take n buf.new)) }
-        ensures end { IfOk result (λ n. n ≡ 0 → 0 < length buf.old → IsAtEnd (Some self.new.rest)) }
+        ensures gave { IfOk result
+            (λ n. Consumes (Some self.old.rest) (Some self.new.rest) (take n buf.new)) }
+        ensures end { IfOk result
+            (λ n. n ≡ 0 → 0 < length buf.old → IsAtEnd (Some self.new.rest)) }
         ensures failed { OnErr result (Keeps (Some self.old.rest) (Some self.new.rest)) }
         ensures count { MatchResult result (λ _. self.new.calls.faults ≡ self.old.calls.faults)
             (λ _. HasRisen self.old.calls.faults self.new.calls.faults) }
         ensures fails { IsErr result ↔ IsFailing self.old.calls }
+        ensures always { self.old.calls.failing ≡ [] → IsOk result }
         ensures length { IfOk result (λ n. n ≡ read_length self.old (length buf.old)) }
         ensures behind { IfOk result (λ n. drop n buf.new ≡ drop n buf.old) }
         ensures untouched { OnErr result (buf.new ≡ buf.old) }
         ensures after { MatchResult result
-            (λ n. self.new ≡ record self.old { rest = drop n self.old.rest; calls = answered self.old.calls })
+            (λ n. self.new ≡ record self.old {
+              rest = drop n self.old.rest;
+              calls = answered self.old.calls;
+            })
             (λ _. self.new ≡ record self.old { calls = failed self.old.calls }) }
     {
         self.calls.count(true)?;

@@ -26,12 +26,15 @@ pub fn read_to_limit<S: Source>(
     source: &mut S,
     limit: usize,
 ) -> Result<Vec<u8>, ReadRefusal>
-    ensures gave { IfOk result (λ bytes. Consumes (S.rest source.old) (S.rest source.new) bytes.items) }
+    ensures gave { IfOk result
+        (λ bytes. Consumes (S.rest source.old) (S.rest source.new) bytes.items) }
     ensures within { IfOk result (λ bytes. length bytes.items ≤ limit) }
     ensures whole { IfOk result (λ bytes. length bytes.items < limit → IsAtEnd (S.rest source.new)) }
     ensures front { OnErr result (GaveFront (S.rest source.old) (S.rest source.new)) }
-    ensures failed { IsErrOf result ReadRefusal.Failed → HasRisen (S.faults source.old) (S.faults source.new) }
-    ensures no_memory { IsErrOf result ReadRefusal.NoMemory → S.faults source.new ≡ S.faults source.old }
+    ensures failed { IsErrOf result ReadRefusal.Failed
+        → HasRisen (S.faults source.old) (S.faults source.new) }
+    ensures no_memory { IsErrOf result ReadRefusal.NoMemory
+        → S.faults source.new ≡ S.faults source.old }
     ensures count { OnOk result (S.faults source.new ≡ S.faults source.old) }
 {
     let mut bytes = Vec::new(alloc);

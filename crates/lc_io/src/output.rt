@@ -1,5 +1,5 @@
 // A sink in memory.
-ghost use Rattle.std.specs.Prelude.{◌≡◌, ◌⊎◌, ◌<◌, ◌≤◌, ◌↔◌, ◌++◌, ℕ, [], length, take, Some, IfOk, IsErr, OnErr, MatchResult};
+ghost use Rattle.std.specs.Prelude.{◌≡◌, ◌⊎◌, ◌<◌, ◌≤◌, ◌↔◌, ◌++◌, ℕ, [], length, take, Some, IfOk, IsOk, IsErr, OnErr, MatchResult};
 ghost use Rattle.std.specs.Io.KnownBytes.{Appends, Keeps};
 ghost use Rattle.lc_io.specs.Outside.{HasRisen};
 ghost use Rattle.lc_io.specs.Memory.{IsFailing, IsFull, answered, failed, write_length};
@@ -41,8 +41,12 @@ impl MemorySink {
         failing: &[u64],
     ) -> Result<MemorySink, NoMemory>
         requires { 1 ≤ piece }
-        ensures { IfOk result (λ s. s ≡ record { written = []; room = room; piece = piece;
-            calls = record { failing = failing.now; number = 1; faults = 0 } }) }
+        ensures { IfOk result (λ s. s ≡ record {
+          written = [];
+          room = room;
+          piece = piece;
+          calls = record { failing = failing.now; number = 1; faults = 0 };
+        }) }
     {
         Ok(MemorySink {
             taken: Vec::with_capacity(alloc, room)?,
@@ -70,14 +74,20 @@ impl Sink for MemorySink {
     fn write(&mut self, buf: &[u8]) -> Result<usize, Failed>
         ensures bound { IfOk result (λ n. n ≤ length buf.now) }
         ensures some { IfOk result (λ n. 0 < length buf.now → 0 < n) }
-        ensures took { IfOk result (λ n. Appends (Some self.old.written) (Some self.new.written) (take n buf.now)) }
+        ensures took { IfOk result
+            (λ n. Appends (Some self.old.written) (Some self.new.written) (take n buf.now)) }
         ensures failed { OnErr result (Keeps (Some self.old.written) (Some self.new.written)) }
         ensures count { MatchResult result (λ _. self.new.calls.faults ≡ self.old.calls.faults)
             (λ _. HasRisen self.old.calls.faults self.new.calls.faults) }
         ensures fails { IsErr result ↔ (IsFailing self.old.calls ⊎ IsFull self.old) }
+        ensures always { self.old.calls.failing ≡ []
+            → length self.old.written < self.old.room → IsOk result }
         ensures length { IfOk result (λ n. n ≡ write_length self.old (length buf.now)) }
         ensures after { MatchResult result
-            (λ n. self.new ≡ record self.old { written = self.old.written ++ take n buf.now; calls = answered self.old.calls })
+            (λ n. self.new ≡ record self.old {
+              written = self.old.written ++ take n buf.now;
+              calls = answered self.old.calls;
+            })
             (λ _. self.new ≡ record self.old { calls = failed self.old.calls }) }
     {
         let left = self.room - self.taken.len();

@@ -38,7 +38,8 @@ pub trait Source {
     /// be anything. A call that fails takes no byte.
     fn read(&mut self, buf: &mut [u8]) -> Result<usize, Failed>
         ensures bound { IfOk result (λ n. n ≤ length buf.old) }
-        ensures gave { IfOk result (λ n. Consumes (rest self.old) (rest self.new) (take n buf.new)) }
+        ensures gave { IfOk result
+            (λ n. Consumes (rest self.old) (rest self.new) (take n buf.new)) }
         ensures end { IfOk result (λ n. n ≡ 0 → 0 < length buf.old → IsAtEnd (rest self.new)) }
         ensures failed { OnErr result (Keeps (rest self.old) (rest self.new)) }
         ensures count { MatchResult result (λ _. faults self.new ≡ faults self.old)
@@ -58,7 +59,8 @@ pub trait Sink {
     fn write(&mut self, buf: &[u8]) -> Result<usize, Failed>
         ensures bound { IfOk result (λ n. n ≤ length buf.now) }
         ensures some { IfOk result (λ n. 0 < length buf.now → 0 < n) }
-        ensures took { IfOk result (λ n. Appends (written self.old) (written self.new) (take n buf.now)) }
+        ensures took { IfOk result
+            (λ n. Appends (written self.old) (written self.new) (take n buf.now)) }
         ensures failed { OnErr result (Keeps (written self.old) (written self.new)) }
         ensures count { MatchResult result (λ _. faults self.new ≡ faults self.old)
             (λ _. HasRisen (faults self.old) (faults self.new)) };
