@@ -30,7 +30,7 @@ pub fn read_to_limit<S: Source>(
         (λ bytes. Consumes (S.rest source.old) (S.rest source.new) bytes.items) }
     ensures within { IfOk result (λ bytes. length bytes.items ≤ limit) }
     ensures whole { IfOk result (λ bytes. length bytes.items < limit → IsAtEnd (S.rest source.new)) }
-    ensures front { OnErr result (GaveFront (S.rest source.old) (S.rest source.new)) }
+    ensures front { OnErr result (GaveFront (S.rest source.old) (S.rest source.new) limit) }
     ensures failed { IsErrOf result ReadRefusal.Failed
         → HasRisen (S.faults source.old) (S.faults source.new) }
     ensures no_memory { IsErrOf result ReadRefusal.NoMemory
