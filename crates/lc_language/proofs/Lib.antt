@@ -1,2 +1,3 @@
 pub mod LineExamples
 pub mod FormatExamples
+pub mod CheckExamples

@@ -11,3 +11,5 @@ pub mod Evaluation
 pub mod Options
 pub mod Checkpoint
 pub mod Session
+pub mod Check
+pub mod Summary

@@ -1,0 +1,68 @@
+-- Worked readings of certificates, by evaluation of the definitions: each is a certificate's JSON value, as an object of members.
+--   reads_scan                 the certificate by a scan of the repetition code of length 2
+--   no_object, no_version, no_field, low_distance, other_way, sets_of_scan, further_key      the rule that is broken
+--   rejected_line, accepted_line      the lines of check
+use Rattle.std.proofs.Common.{◌≡◌, ℕ, refl}
+use Rattle.std.specs.Prelude.{[], ◌∷◌, ◌++◌, map, codes, Some}
+use Rattle.std.specs.Fmt.{digits}
+use Rattle.serde_json.specs.Data.{Data, Members, no_members, member, object, array, string, null}
+use Rattle.lc_algebra.specs.declared.FieldName.TheVariants.{Gf2}
+use Rattle.lc_algebra.specs.Field.{shape, shape_of, size, is_symbol}
+use Rattle.lc_constructions.specs.Cyclic.{all_fields}
+use Rattle.lc_enumeration.specs.InformationSet.{is_member}
+use Rattle.lc_enumeration.specs.Certificate.{scan, shape as broken, accepted, word_weight, seen_lighter, not_json, reason_number, reason_values}
+use Rattle.lc_language.specs.Value.{same_bytes}
+use Rattle.lc_language.specs.Refusal.{is_rising, columns_of, reaches}
+use Rattle.lc_language.specs.Print.{line, spaced, with_values}
+use Rattle.lc_language.specs.Query.{number_json, items, numbers_json}
+use Rattle.lc_language.specs.Checkpoint.{listed, each, plain_number, number_at, member_count}
+use Rattle.lc_language.specs.Session.{reason_line, line_of_verdict}
+use Rattle.lc_language.specs.Check.{reads_as, refused_as, numbers_of, list_at, rows_at, provided, field_at, fit, are_rows, is_scan, are_places, claim_in, sets_at, fresh_in_basis, above, with_keys, certificate_over, levels_in, sets_in, way_in, distance_in, word_in, rows_in, field_in, object_in, data_in}
+
+-- the members of a certificate, its keys rising, before some further ones
+abbrev pub members_with : Data → ℕ → Members → Members
+members_with way d rest =
+    member (codes "by") way (member (codes "distance") (number_json d) (member (codes "field") (number_json 2) (member (codes "rows") (array (items (numbers_json (1 ∷ 1 ∷ []) ∷ []))) rest)))
+
+abbrev pub behind_rows : Members → Members
+behind_rows rest = member (codes "version") (number_json 1) (member (codes "word") (numbers_json (1 ∷ 1 ∷ [])) rest)
+
+pub reads_scan : data_in (Some (object (members_with (string (codes "scan")) 2 (behind_rows no_members)))) ≡ reads_as (record { field = Gf2; rows = (1 ∷ 1 ∷ []) ∷ []; word = 1 ∷ 1 ∷ []; distance = 2; proof = scan })
+unfolding number_json items numbers_json shape shape_of size is_symbol all_fields is_member same_bytes is_rising columns_of reaches listed each plain_number number_at member_count numbers_of list_at rows_at provided field_at fit are_rows is_scan are_places claim_in sets_at fresh_in_basis above with_keys certificate_over levels_in sets_in way_in distance_in word_in rows_in field_in object_in data_in
+reads_scan = refl
+
+pub no_object : data_in (Some null) ≡ refused_as (broken 1)
+unfolding number_json items numbers_json shape shape_of size is_symbol all_fields is_member same_bytes is_rising columns_of reaches listed each plain_number number_at member_count numbers_of list_at rows_at provided field_at fit are_rows is_scan are_places claim_in sets_at fresh_in_basis above with_keys certificate_over levels_in sets_in way_in distance_in word_in rows_in field_in object_in data_in
+no_object = refl
+
+pub no_version : data_in (Some (object no_members)) ≡ refused_as (broken 2)
+unfolding number_json items numbers_json shape shape_of size is_symbol all_fields is_member same_bytes is_rising columns_of reaches listed each plain_number number_at member_count numbers_of list_at rows_at provided field_at fit are_rows is_scan are_places claim_in sets_at fresh_in_basis above with_keys certificate_over levels_in sets_in way_in distance_in word_in rows_in field_in object_in data_in
+no_version = refl
+
+pub no_field : data_in (Some (object (member (codes "version") (number_json 1) no_members))) ≡ refused_as (broken 3)
+unfolding number_json items numbers_json shape shape_of size is_symbol all_fields is_member same_bytes is_rising columns_of reaches listed each plain_number number_at member_count numbers_of list_at rows_at provided field_at fit are_rows is_scan are_places claim_in sets_at fresh_in_basis above with_keys certificate_over levels_in sets_in way_in distance_in word_in rows_in field_in object_in data_in
+no_field = refl
+
+pub low_distance : data_in (Some (object (members_with (string (codes "scan")) 0 (behind_rows no_members)))) ≡ refused_as (broken 6)
+unfolding number_json items numbers_json shape shape_of size is_symbol all_fields is_member same_bytes is_rising columns_of reaches listed each plain_number number_at member_count numbers_of list_at rows_at provided field_at fit are_rows is_scan are_places claim_in sets_at fresh_in_basis above with_keys certificate_over levels_in sets_in way_in distance_in word_in rows_in field_in object_in data_in
+low_distance = refl
+
+pub other_way : data_in (Some (object (members_with (string (codes "x")) 2 (behind_rows no_members)))) ≡ refused_as (broken 7)
+unfolding number_json items numbers_json shape shape_of size is_symbol all_fields is_member same_bytes is_rising columns_of reaches listed each plain_number number_at member_count numbers_of list_at rows_at provided field_at fit are_rows is_scan are_places claim_in sets_at fresh_in_basis above with_keys certificate_over levels_in sets_in way_in distance_in word_in rows_in field_in object_in data_in
+other_way = refl
+
+pub sets_of_scan : data_in (Some (object (members_with (string (codes "scan")) 2 (member (codes "sets") (array (items [])) (behind_rows no_members))))) ≡ refused_as (broken 8)
+unfolding number_json items numbers_json shape shape_of size is_symbol all_fields is_member same_bytes is_rising columns_of reaches listed each plain_number number_at member_count numbers_of list_at rows_at provided field_at fit are_rows is_scan are_places claim_in sets_at fresh_in_basis above with_keys certificate_over levels_in sets_in way_in distance_in word_in rows_in field_in object_in data_in
+sets_of_scan = refl
+
+pub further_key : data_in (Some (object (member (codes "also") null (members_with (string (codes "scan")) 2 (behind_rows no_members))))) ≡ refused_as (broken 11)
+unfolding number_json items numbers_json shape shape_of size is_symbol all_fields is_member same_bytes is_rising columns_of reaches listed each plain_number number_at member_count numbers_of list_at rows_at provided field_at fit are_rows is_scan are_places claim_in sets_at fresh_in_basis above with_keys certificate_over levels_in sets_in way_in distance_in word_in rows_in field_in object_in data_in
+further_key = refl
+
+pub accepted_line : line_of_verdict 3 accepted ≡ codes "accepted distance 3" ++ 10 ∷ []
+unfolding digits line line_of_verdict
+accepted_line = refl
+
+pub rejected_line : map reason_line (not_json ∷ word_weight 3 ∷ seen_lighter (1 ∷ 0 ∷ 1 ∷ []) ∷ []) ≡ (codes "rejected 30" ++ 10 ∷ []) ∷ (codes "rejected 34 with 3" ++ 10 ∷ []) ∷ (codes "rejected 37 with 1 0 1" ++ 10 ∷ []) ∷ []
+unfolding digits line spaced with_values reason_number reason_values reason_line
+rejected_line = refl
