@@ -146,7 +146,7 @@ mul_one f a l = (Decides-eqb (mul f a 1) a).0 (below_each (λ a. mul f a 1 == a)
 pub element : (f : FieldName) (a : ℕ) → (b : ℕ) × (b < size f) × (coefficients f b ≡ coefficients f a)
 element f a = (number (shape_of f).characteristic (coefficients f a), number_inside f (coefficients f a) (residues_coefficients f a) (length-coefficients f a), coefficients-number f (coefficients f a) (residues_coefficients f a) (length-coefficients f a))
 
-product_one : (f : FieldName) (a : ℕ) → product (shape_of f).characteristic (shape_of f).lower (coefficients f a) (coefficients f 1) ≡ coefficients f a
+pub product_one : (f : FieldName) (a : ℕ) → product (shape_of f).characteristic (shape_of f).lower (coefficients f a) (coefficients f 1) ≡ coefficients f a
 product_one f a =
     let b = (element f a).0 in
     let e : coefficients f b ≡ coefficients f a = (element f a).2 in

@@ -6,12 +6,13 @@
 --   powers f n a                    a and the next powers: n of them, each the primitive element times the one before
 --   order_test, members_test, order_least_test      the primitive element has order size - 1, and each nonzero element
 --                                   is one of its powers
-use Rattle.std.proofs.Common.{◌≡◌, ℕ, zero, suc, ◌-◌, ◌<◌, Bool, true, false, ◌&&◌, ◌||◌, ◌==◌, List, [], ◌∷◌, length, refl, lit<, ◌⊎◌, inl, inr}
+use Rattle.std.proofs.Common.{◌≡◌, ℕ, zero, suc, ◌-◌, ◌<◌, Bool, true, false, ◌&&◌, ◌||◌, ◌==◌, List, [], ◌∷◌, length, refl, lit<, ◌++◌, replicate, lit≤, ◌≤◌, true≢false, ◌⊎◌, inl, inr}
 use Rattle.std.proofs.lemmas.Bool.Decides.{Decides-below_and}
 use Rattle.lc_algebra.specs.declared.FieldName.{FieldName}
 use Rattle.lc_algebra.specs.declared.FieldName.TheVariants.{Gf2, Gf3, Gf4, Gf5, Gf7, Gf8, Gf9, Gf11, Gf13, Gf16, Gf25, Gf27, Gf32, Gf64, Gf81, Gf128, Gf243, Gf256}
 use Rattle.lc_algebra.specs.Residue.{digits, number, plus, minus, times, top, up, times_x, product}
-use Rattle.lc_algebra.specs.Field.{shape, shape_of, size, coefficients, mul, pow}
+use Rattle.lc_algebra.proofs.ResidueLaws.{Residues}
+use Rattle.lc_algebra.specs.Field.{shape, shape_of, size, coefficients, add, mul, pow}
 
 unfoldable pub below : (ℕ → Bool) → ℕ → Bool
 below test zero = true
@@ -24,6 +25,10 @@ below_each test n = (Decides-below_and test (λ k. test k ≡ true) (below test)
 pub either_true : (a b : Bool) → (a || b) ≡ true → (a ≡ true) ⊎ (b ≡ true)
 either_true true b e = inl refl
 either_true false b e = inr e
+
+pub second_false : (a b : Bool) → (a || b) ≡ false → b ≡ false
+second_false true b e = absurd (true≢false e)
+second_false false b e = e
 
 unfoldable pub powers : FieldName → ℕ → ℕ → List ℕ
 powers f zero a = []
@@ -182,3 +187,150 @@ order_least_test Gf81 = refl
 order_least_test Gf128 = refl
 order_least_test Gf243 = refl
 order_least_test Gf256 = refl
+
+pub above_one_characteristic : (f : FieldName) → 1 < (shape_of f).characteristic
+unfolding shape shape_of
+above_one_characteristic Gf2 = lit< tt
+above_one_characteristic Gf3 = lit< tt
+above_one_characteristic Gf4 = lit< tt
+above_one_characteristic Gf5 = lit< tt
+above_one_characteristic Gf7 = lit< tt
+above_one_characteristic Gf8 = lit< tt
+above_one_characteristic Gf9 = lit< tt
+above_one_characteristic Gf11 = lit< tt
+above_one_characteristic Gf13 = lit< tt
+above_one_characteristic Gf16 = lit< tt
+above_one_characteristic Gf25 = lit< tt
+above_one_characteristic Gf27 = lit< tt
+above_one_characteristic Gf32 = lit< tt
+above_one_characteristic Gf64 = lit< tt
+above_one_characteristic Gf81 = lit< tt
+above_one_characteristic Gf128 = lit< tt
+above_one_characteristic Gf243 = lit< tt
+above_one_characteristic Gf256 = lit< tt
+
+pub primitive_positive : (f : FieldName) → 0 < (shape_of f).primitive
+unfolding shape shape_of
+primitive_positive Gf2 = lit< tt
+primitive_positive Gf3 = lit< tt
+primitive_positive Gf4 = lit< tt
+primitive_positive Gf5 = lit< tt
+primitive_positive Gf7 = lit< tt
+primitive_positive Gf8 = lit< tt
+primitive_positive Gf9 = lit< tt
+primitive_positive Gf11 = lit< tt
+primitive_positive Gf13 = lit< tt
+primitive_positive Gf16 = lit< tt
+primitive_positive Gf25 = lit< tt
+primitive_positive Gf27 = lit< tt
+primitive_positive Gf32 = lit< tt
+primitive_positive Gf64 = lit< tt
+primitive_positive Gf81 = lit< tt
+primitive_positive Gf128 = lit< tt
+primitive_positive Gf243 = lit< tt
+primitive_positive Gf256 = lit< tt
+
+pub primitive_inside : (f : FieldName) → (shape_of f).primitive < size f
+unfolding shape shape_of size
+primitive_inside Gf2 = lit< tt
+primitive_inside Gf3 = lit< tt
+primitive_inside Gf4 = lit< tt
+primitive_inside Gf5 = lit< tt
+primitive_inside Gf7 = lit< tt
+primitive_inside Gf8 = lit< tt
+primitive_inside Gf9 = lit< tt
+primitive_inside Gf11 = lit< tt
+primitive_inside Gf13 = lit< tt
+primitive_inside Gf16 = lit< tt
+primitive_inside Gf25 = lit< tt
+primitive_inside Gf27 = lit< tt
+primitive_inside Gf32 = lit< tt
+primitive_inside Gf64 = lit< tt
+primitive_inside Gf81 = lit< tt
+primitive_inside Gf128 = lit< tt
+primitive_inside Gf243 = lit< tt
+primitive_inside Gf256 = lit< tt
+
+pub frobenius_test : (f : FieldName) → below (λ a. pow f (add f 1 a) (shape_of f).characteristic == add f 1 (pow f a (shape_of f).characteristic)) (size f) ≡ true
+unfolding below pow add digits number plus minus times top up times_x product shape shape_of size coefficients mul
+frobenius_test Gf2 = refl
+frobenius_test Gf3 = refl
+frobenius_test Gf4 = refl
+frobenius_test Gf5 = refl
+frobenius_test Gf7 = refl
+frobenius_test Gf8 = refl
+frobenius_test Gf9 = refl
+frobenius_test Gf11 = refl
+frobenius_test Gf13 = refl
+frobenius_test Gf16 = refl
+frobenius_test Gf25 = refl
+frobenius_test Gf27 = refl
+frobenius_test Gf32 = refl
+frobenius_test Gf64 = refl
+frobenius_test Gf81 = refl
+frobenius_test Gf128 = refl
+frobenius_test Gf243 = refl
+frobenius_test Gf256 = refl
+
+pub characteristic_inside : (f : FieldName) → (shape_of f).characteristic ≤ size f
+unfolding shape shape_of size
+characteristic_inside Gf2 = lit≤ tt
+characteristic_inside Gf3 = lit≤ tt
+characteristic_inside Gf4 = lit≤ tt
+characteristic_inside Gf5 = lit≤ tt
+characteristic_inside Gf7 = lit≤ tt
+characteristic_inside Gf8 = lit≤ tt
+characteristic_inside Gf9 = lit≤ tt
+characteristic_inside Gf11 = lit≤ tt
+characteristic_inside Gf13 = lit≤ tt
+characteristic_inside Gf16 = lit≤ tt
+characteristic_inside Gf25 = lit≤ tt
+characteristic_inside Gf27 = lit≤ tt
+characteristic_inside Gf32 = lit≤ tt
+characteristic_inside Gf64 = lit≤ tt
+characteristic_inside Gf81 = lit≤ tt
+characteristic_inside Gf128 = lit≤ tt
+characteristic_inside Gf243 = lit≤ tt
+characteristic_inside Gf256 = lit≤ tt
+
+pub residues_lower : (f : FieldName) → Residues (shape_of f).characteristic (shape_of f).lower
+unfolding shape shape_of
+residues_lower Gf2 = (lit< tt, tt)
+residues_lower Gf3 = (lit< tt, tt)
+residues_lower Gf4 = (lit< tt, (lit< tt, tt))
+residues_lower Gf5 = (lit< tt, tt)
+residues_lower Gf7 = (lit< tt, tt)
+residues_lower Gf8 = (lit< tt, (lit< tt, (lit< tt, tt)))
+residues_lower Gf9 = (lit< tt, (lit< tt, tt))
+residues_lower Gf11 = (lit< tt, tt)
+residues_lower Gf13 = (lit< tt, tt)
+residues_lower Gf16 = (lit< tt, (lit< tt, (lit< tt, (lit< tt, tt))))
+residues_lower Gf25 = (lit< tt, (lit< tt, tt))
+residues_lower Gf27 = (lit< tt, (lit< tt, (lit< tt, tt)))
+residues_lower Gf32 = (lit< tt, (lit< tt, (lit< tt, (lit< tt, (lit< tt, tt)))))
+residues_lower Gf64 = (lit< tt, (lit< tt, (lit< tt, (lit< tt, (lit< tt, (lit< tt, tt))))))
+residues_lower Gf81 = (lit< tt, (lit< tt, (lit< tt, (lit< tt, tt))))
+residues_lower Gf128 = (lit< tt, (lit< tt, (lit< tt, (lit< tt, (lit< tt, (lit< tt, (lit< tt, tt)))))))
+residues_lower Gf243 = (lit< tt, (lit< tt, (lit< tt, (lit< tt, (lit< tt, tt)))))
+residues_lower Gf256 = (lit< tt, (lit< tt, (lit< tt, (lit< tt, (lit< tt, (lit< tt, (lit< tt, (lit< tt, tt))))))))
+
+pub monic_test : (f : FieldName) → product (shape_of f).characteristic (shape_of f).lower ((shape_of f).lower ++ 1 ∷ []) (coefficients f 1) ≡ replicate (length (shape_of f).lower) 0
+unfolding digits plus minus times top up times_x product shape shape_of coefficients
+monic_test Gf2 = refl
+monic_test Gf3 = refl
+monic_test Gf4 = refl
+monic_test Gf5 = refl
+monic_test Gf7 = refl
+monic_test Gf8 = refl
+monic_test Gf9 = refl
+monic_test Gf11 = refl
+monic_test Gf13 = refl
+monic_test Gf16 = refl
+monic_test Gf25 = refl
+monic_test Gf27 = refl
+monic_test Gf32 = refl
+monic_test Gf64 = refl
+monic_test Gf81 = refl
+monic_test Gf128 = refl
+monic_test Gf243 = refl
+monic_test Gf256 = refl

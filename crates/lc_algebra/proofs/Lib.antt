@@ -3,3 +3,8 @@ pub mod ResidueLaws
 pub mod ProductLaws
 pub mod FieldTests
 pub mod FieldLaws
+pub mod PowerLaws
+pub mod EmbeddingTests
+pub mod EmbeddingLaws
+pub mod RemainderLaws
+pub mod FieldRecords

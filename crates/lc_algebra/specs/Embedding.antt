@@ -6,7 +6,7 @@
 --   minimal polynomials: IsMinimal small large a u      u is the monic polynomial of least degree over the small field that
 --                                 has a as a zero in the large one
 --   IsCyclotomicSet n q i xs      xs are the numbers i q^j modulo n, rising, each once
-use Rattle.std.specs.Prelude.{◌≡◌, ◌≢◌, ℕ, zero, suc, ◌+◌, ◌-◌, ◌*◌, ◌%◌, ◌^◌, ◌<◌, ◌≤◌, ◌↔◌, Bool, cond, ◌==◌, List, [], ◌∷◌, ◌++◌, length, map, Contains}
+use Rattle.std.specs.Prelude.{◌≡◌, ℕ, zero, suc, ◌*◌, ◌%◌, ◌^◌, ◌<◌, ◌↔◌, Bool, cond, ◌==◌, List, [], ◌∷◌, ◌++◌, length, map, Contains}
 use Rattle.std.specs.List.Sorted.{IsStrictlyIncreasing}
 use Rattle.lc_algebra.specs.declared.FieldName.{FieldName}
 use Rattle.lc_algebra.specs.Field.{size, shape_of, coefficients}

@@ -9,7 +9,7 @@
 --   subtract f a b        a less b
 --   pow f a n             the n-th power; the zeroth is 1
 --   IsInverse f a b       b is an element, and a times b is 1
-use Rattle.std.specs.Prelude.{◌≡◌, ℕ, zero, suc, ◌+◌, ◌*◌, ◌^◌, ◌<◌, Bool, nat_le, List, [], ◌∷◌}
+use Rattle.std.specs.Prelude.{◌≡◌, ℕ, zero, suc, ◌^◌, ◌<◌, Bool, nat_le, List, [], ◌∷◌}
 use Rattle.lc_algebra.specs.declared.FieldName.{FieldName}
 use Rattle.lc_algebra.specs.declared.FieldName.TheVariants.{Gf2, Gf3, Gf4, Gf5, Gf7, Gf8, Gf9, Gf11, Gf13, Gf16, Gf25, Gf27, Gf32, Gf64, Gf81, Gf128, Gf243, Gf256}
 use Rattle.lc_algebra.specs.Residue.{digits, number, plus, minus, product}

@@ -12,7 +12,7 @@
 --   IsIdentityOn set rows           row i is 1 at place i of the set and 0 at its other places
 --   IsSystematic f n rows set e     e has the same words as the rows and is the identity on the set
 --   AreIndependentColumns f rows set      no column of the set is a sum of multiples of the others
-use Rattle.std.specs.Prelude.{◌≡◌, ◌≢◌, ℕ, ◌<◌, ◌↔◌, if◌then◌else◌, ◌==◌, List, [], ◌∷◌, length, map, slice_index, slice_index_or, EachIndex, All}
+use Rattle.std.specs.Prelude.{◌≡◌, ◌≢◌, ℕ, ◌<◌, ◌↔◌, if◌then◌else◌, ◌==◌, List, [], length, map, slice_index, slice_index_or, EachIndex, All}
 use Rattle.lc_algebra.specs.declared.FieldName.{FieldName}
 use Rattle.lc_algebra.specs.Word.{IsWord, word_dot}
 use Rattle.lc_algebra.specs.Span.{InSpan, SameSpan, AreIndependent}

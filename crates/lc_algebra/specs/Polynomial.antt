@@ -10,7 +10,7 @@
 --   IsDivision f a b q r      q is the quotient and r the remainder of a on division by b
 --   Divides f a b             some multiple of a is b
 --   x_power_minus_one f n     x^n - 1, for n of at least 1
-use Rattle.std.specs.Prelude.{◌≡◌, ℕ, zero, suc, ◌+◌, ◌-◌, ◌<◌, List, [], ◌∷◌, ◌++◌, length, map, replicate, slice_index, EachIndex, ◌≢◌}
+use Rattle.std.specs.Prelude.{◌≡◌, ℕ, ◌-◌, ◌<◌, List, [], ◌∷◌, ◌++◌, length, replicate, slice_index, EachIndex}
 use Rattle.lc_algebra.specs.declared.FieldName.{FieldName}
 use Rattle.lc_algebra.specs.Field.{size, add, neg, mul}
 

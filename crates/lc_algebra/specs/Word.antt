@@ -11,7 +11,7 @@
 --   first_nonzero w          the first place of a nonzero symbol
 --   AtMost u v               u is v or comes before it in lexicographic order, symbols compared by their numbers
 --   ComesNoLater u v         u is v or comes before it, by weight and then lexicographically
-use Rattle.std.specs.Prelude.{◌≡◌, ℕ, ◌<◌, ◌⊎◌, Bool, not, ◌==◌, List, [], ◌∷◌, length, map, replicate, slice_index, EachIndex, count_by, position, Option, ⊤}
+use Rattle.std.specs.Prelude.{◌≡◌, ℕ, ◌<◌, ◌⊎◌, not, ◌==◌, List, [], ◌∷◌, length, replicate, slice_index, EachIndex, count_by, position, Option, ⊤}
 use Rattle.lc_algebra.specs.declared.FieldName.{FieldName}
 use Rattle.lc_algebra.specs.Field.{size, add, neg, mul}
 

@@ -3,6 +3,8 @@
 //! `proofs/`, and on the contracts of the functions below.
 #![tactic(auto)]
 
+pub mod laws;
+
 /// One of the eighteen fields of `codes`, by its number of elements.
 ///
 /// An element of a field of p^s elements is a polynomial of degree below s over the field of p
