@@ -15,7 +15,7 @@ use std::marker::Model;
 #[derive(Drop)]
 pub(crate) struct Logarithms {
     name: FieldName,
-    size: u16,
+    elements: u16,
     powers: Vec<u8>,
     logs: Vec<u8>,
 }
@@ -23,14 +23,14 @@ pub(crate) struct Logarithms {
 impl Model for Logarithms {
     ghost use Rattle.std.specs.Prelude.{◌≡◌};
     ghost use Rattle.lc_algebra.specs.declared.FieldName.{FieldName};
-    ghost use Rattle.lc_algebra.specs.Field.{size};
+    ghost use Rattle.lc_algebra.specs.Field.{size as size_of};
     ghost use Rattle.lc_field.specs.Tables.{IsPowers, IsLogarithms};
 
     ghost Value = { FieldName };
 
     ghost view = { λ t. t.name };
 
-    ghost invariant = { λ t. (t.size ≡ size t.name) × IsPowers t.name t.powers.items × IsLogarithms t.name t.logs.items };
+    ghost invariant = { λ t. (t.elements ≡ size_of t.name) × IsPowers t.name t.powers.items × IsLogarithms t.name t.logs.items };
 }
 
 impl Logarithms {
@@ -42,7 +42,7 @@ impl Logarithms {
         let logs = logs_of(alloc, row, &powers)?;
         Ok(Logarithms {
             name: row.name,
-            size: row.size,
+            elements: row.size,
             powers,
             logs,
         })
@@ -55,13 +55,14 @@ impl Logarithms {
         let logs = copied(alloc, &self.logs)?;
         Ok(Logarithms {
             name: self.name,
-            size: self.size,
+            elements: self.elements,
             powers,
             logs,
         })
     }
 
     #[inline]
+    #[tactic(auto, using(lc_algebra::proofs::FieldLaws::zero_mul, lc_algebra::proofs::FieldLaws::mul_zero))]
     pub(crate) fn mul(&self, a: u8, b: u8) -> u8
         requires first { a < size self.now }
         requires second { b < size self.now }
@@ -80,7 +81,7 @@ impl Logarithms {
         requires nonzero { 0 < a }
         ensures is { IsInverse self.now a result }
     {
-        self.powers[self.size as usize - 1 - self.logs[a as usize] as usize]
+        self.powers[self.elements as usize - 1 - self.logs[a as usize] as usize]
     }
 
     pub(crate) fn pow(&self, a: u8, e: u64) -> u8
@@ -94,7 +95,7 @@ impl Logarithms {
         if a == 0 {
             return 0;
         }
-        let order = self.size as u64 - 1;
+        let order = self.elements as u64 - 1;
         self.powers[(self.logs[a as usize] as u64 * (e % order) % order) as usize]
     }
 }
@@ -107,6 +108,7 @@ pub(crate) fn copied(alloc: Global, table: &[u8]) -> Result<Vec<u8>, NoMemory>
 }
 
 // The product of the primitive element and a.
+#[tactic(auto, using(crate::proofs::RowLaws::next_power))]
 fn next_power(row: &Row, a: u8) -> u8
     requires row { IsRow row.now }
     requires element { a < size row.now.name }
@@ -119,6 +121,7 @@ fn next_power(row: &Row, a: u8) -> u8
 }
 
 // The powers of the primitive element, twice round.
+#[tactic(auto, using(lc_algebra::proofs::PowerLaws::pow_inside, lc_algebra::proofs::PowerLaws::pow_zero, lc_algebra::proofs::PowerLaws::pow_suc))]
 fn powers_of(alloc: Global, row: &Row) -> Result<Vec<u8>, NoMemory>
     requires row { IsRow row.now }
     ensures { IfOk result (λ powers. IsPowers row.now.name powers.items) }
@@ -134,6 +137,7 @@ fn powers_of(alloc: Global, row: &Row) -> Result<Vec<u8>, NoMemory>
 }
 
 // At each nonzero element the exponent of the power that it is.
+#[tactic(auto, using(lc_algebra::proofs::PowerLaws::pow_inside, crate::proofs::LogarithmLaws::logs_more, crate::proofs::LogarithmLaws::logs_whole))]
 fn logs_of(alloc: Global, row: &Row, powers: &[u8]) -> Result<Vec<u8>, NoMemory>
     requires row { IsRow row.now }
     requires powers { IsPowers row.now.name powers.now }

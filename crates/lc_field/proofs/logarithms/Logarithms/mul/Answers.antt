@@ -1,0 +1,12 @@
+use Rattle.std.proofs.Common.{◌≡◌, ℕ, ◌<◌, arith, sym}
+use Rattle.lc_algebra.specs.Field.{size, mul, pow, IsInverse}
+use Rattle.lc_algebra.proofs.FieldLaws.{one_inside, zero_mul, mul_zero, mul_inside}
+use Rattle.lc_algebra.proofs.PowerLaws.{pow_zero, zero_pow, pow_inside}
+use Rattle.lc_field.proofs.LogarithmLaws.{product_read, inverse_read, power_read}
+use Rattle.lc_field.proofs.logarithms.Logarithms.mul.Goals as goal
+
+pub returns-clause-is : goal.returns-clause-is
+returns-clause-is c = product_read _ _ _ _ _ _ _ _ _ c.self.view_is c.self.invariant.1 c.self.invariant.2 c.index.ensures c.index-2.ensures c.index-3.ensures (omega arith) (omega arith) c.requires.first c.requires.second
+
+pub returns-clause-below : goal.returns-clause-below
+returns-clause-below c = rw (returns-clause-is c) (mul_inside c.args.self.now c.args.a c.args.b)
