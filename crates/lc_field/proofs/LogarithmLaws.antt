@@ -3,14 +3,13 @@
 --                                                       logarithms
 --   logs_first, logs_more     the table of logarithms, filled power by power
 --   logs_whole                and whole, since each nonzero element is a power
-use Rattle.std.proofs.Common.{◌≡◌, ℕ, ◌+◌, ◌-◌, ◌*◌, ◌%◌, ◌<◌, ◌⊎◌, ⊎_elim, List, length, slice_index, get_or, set, ◌≢◌, [], ◌∷◌, ◌++◌, length-append, add-one, suc, refl, mul_comm, arith, sym, ◌∙◌, ap, mod-lt}
+use Rattle.std.proofs.Common.{◌≡◌, ℕ, ◌+◌, ◌-◌, ◌*◌, ◌%◌, ◌<◌, ⊎_elim, List, length, slice_index, get_or, set, ◌≢◌, [], ◌∷◌, ◌++◌, length-append, add-one, mul_comm, arith, sym, ◌∙◌, ap, mod-lt}
 use Rattle.std.proofs.lemmas.List.{get_or-set_same, get_or-set_other, get_or_push, get_or_append_left, length-set}
 use Rattle.std.proofs.lemmas.Grind.{get_or_default_zero}
 use Rattle.std.proofs.lemmas.Bool.{cases_eq}
 use Rattle.lc_algebra.specs.declared.FieldName.{FieldName}
 use Rattle.lc_algebra.specs.Field.{shape_of, size, mul, pow, IsInverse}
 use Rattle.lc_algebra.proofs.PowerLaws.{pow_inside, pow_suc, pow_add, pow_mul, power_order, power_rest, logarithm}
-use Rattle.lc_algebra.proofs.FieldLaws.{one_inside}
 use Rattle.lc_field.specs.Tables.{IsPowers, IsLogarithms}
 
 abbrev pub γ : FieldName → ℕ → ℕ

@@ -2,7 +2,7 @@
 --   combined_none, combined_step     a combination of polynomials, digit by digit
 --   power_down                       a power is the base times the power before
 --   digit_product, digits_below      bounds of a number that is put together from its lowest digit and the rest
-use Rattle.std.proofs.Common.{◌≡◌, ℕ, zero, suc, ◌+◌, ◌-◌, ◌*◌, ◌/◌, ◌%◌, ◌^◌, ◌<◌, ◌≤◌, refl, sym, ap, ◌∙◌, arith, mod-lt, pow-suc, mul-le-mul_left, mul_comm}
+use Rattle.std.proofs.Common.{◌≡◌, ℕ, zero, suc, ◌+◌, ◌-◌, ◌*◌, ◌/◌, ◌%◌, ◌^◌, ◌<◌, ◌≤◌, refl, ap, ◌∙◌, arith, mod-lt, pow-suc, mul-le-mul_left, mul_comm}
 use Rattle.std.proofs.Math.Nat.{add-mod-mod, one-le-pow}
 use Rattle.std.proofs.lemmas.Nat.{mul-le}
 use Rattle.lc_algebra.specs.Residue.{digits, number, plus, times}

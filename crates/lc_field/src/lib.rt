@@ -3,8 +3,12 @@
 #![tactic(auto)]
 
 mod digits;
+mod field;
 mod logarithms;
+mod pairs;
 mod refusal;
+mod roots;
 mod row;
 
+pub use field::Field;
 pub use refusal::{FieldRefusal, NoMemory};

@@ -117,7 +117,13 @@ fn next_power(row: &Row, a: u8) -> u8
 {
     let p = row.characteristic as u32;
     let head = row.size as u32 / p;
-    combine(p, row.degree as u32, a as u32 / head, a as u32 % head * p, row.carry as u32) as u8
+    combine(
+        p,
+        row.degree as u32,
+        a as u32 / head,
+        a as u32 % head * p,
+        row.carry as u32,
+    ) as u8
 }
 
 // The powers of the primitive element, twice round.

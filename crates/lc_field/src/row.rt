@@ -8,6 +8,7 @@ use lc_algebra::FieldName;
 
 // What the tables of a field are made from: its columns in the table of fields, and the product of its primitive element
 // with the greatest power of the characteristic that is an element.
+#[derive(Clone, Copy)]
 pub(crate) struct Row {
     pub(crate) name: FieldName,
     pub(crate) size: u16,
@@ -17,7 +18,14 @@ pub(crate) struct Row {
     pub(crate) carry: u8,
 }
 
-fn make_row(name: FieldName, characteristic: u8, degree: u8, primitive: u8, carry: u8, size: u16) -> Row
+fn make_row(
+    name: FieldName,
+    characteristic: u8,
+    degree: u8,
+    primitive: u8,
+    carry: u8,
+    size: u16,
+) -> Row
     ensures name { result.name ≡ name }
     ensures characteristic { result.characteristic ≡ characteristic }
     ensures degree { result.degree ≡ degree }
@@ -25,29 +33,18 @@ fn make_row(name: FieldName, characteristic: u8, degree: u8, primitive: u8, carr
     ensures carry { result.carry ≡ carry }
     ensures size { result.size ≡ size }
 {
-    Row { name, size, characteristic, degree, primitive, carry }
+    Row {
+        name,
+        size,
+        characteristic,
+        degree,
+        primitive,
+        carry,
+    }
 }
 
 // The row of the field of q elements, if there is such a field.
-#[tactic(
-    auto,
-    unfolding(
-        lc_algebra::specs::Residue::digits,
-        lc_algebra::specs::Residue::number,
-        lc_algebra::specs::Residue::plus,
-        lc_algebra::specs::Residue::minus,
-        lc_algebra::specs::Residue::times,
-        lc_algebra::specs::Residue::top,
-        lc_algebra::specs::Residue::up,
-        lc_algebra::specs::Residue::times_x,
-        lc_algebra::specs::Residue::product,
-        lc_algebra::specs::Field::shape,
-        lc_algebra::specs::Field::shape_of,
-        lc_algebra::specs::Field::size,
-        lc_algebra::specs::Field::coefficients,
-        lc_algebra::specs::Field::mul
-    )
-)]
+#[tactic(auto, unfolding(lc_algebra::specs::Residue::digits, lc_algebra::specs::Residue::number, lc_algebra::specs::Residue::plus, lc_algebra::specs::Residue::minus, lc_algebra::specs::Residue::times, lc_algebra::specs::Residue::top, lc_algebra::specs::Residue::up, lc_algebra::specs::Residue::times_x, lc_algebra::specs::Residue::product, lc_algebra::specs::Field::shape, lc_algebra::specs::Field::shape_of, lc_algebra::specs::Field::size, lc_algebra::specs::Field::coefficients, lc_algebra::specs::Field::mul))]
 pub(crate) fn row_of(q: u64) -> Option<Row>
     ensures row { IfSome result (λ r. IsRow r × (r.size ≡ q)) }
     ensures none { IsNone result → (f : FieldName) → size f ≢ q }

@@ -1,5 +1,4 @@
-use Rattle.std.proofs.Common.{◌≡◌, ℕ, ◌<◌, ◌≤◌, ◌^◌, ◌+◌, ◌-◌, ◌*◌, ◌/◌, ◌%◌, arith, sym, mod-lt}
-use Rattle.lc_field.specs.Tables.{combined}
+use Rattle.std.proofs.Common.{◌<◌, ◌+◌, ◌*◌, ◌%◌, arith, sym, mod-lt}
 use Rattle.lc_field.proofs.TableLaws.{combined_none, combined_step, power_down_small, power_least, digit_product, digits_below}
 use Rattle.lc_field.proofs.digits.+combine.Goals as goal
 

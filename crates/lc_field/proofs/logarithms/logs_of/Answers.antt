@@ -1,4 +1,4 @@
-use Rattle.std.proofs.Common.{◌≡◌, ◌-◌, ◌<◌, length, arith}
+use Rattle.std.proofs.Common.{◌-◌, ◌<◌, arith}
 use Rattle.lc_algebra.specs.Field.{size}
 use Rattle.lc_field.proofs.LogarithmLaws.{logs_step, logs_whole}
 use Rattle.lc_field.proofs.logarithms.logs_of.Goals as goal

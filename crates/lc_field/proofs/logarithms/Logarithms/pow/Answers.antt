@@ -1,8 +1,7 @@
-use Rattle.std.proofs.Common.{◌≡◌, ℕ, ◌<◌, arith, sym}
-use Rattle.lc_algebra.specs.Field.{size, mul, pow, IsInverse}
-use Rattle.lc_algebra.proofs.FieldLaws.{one_inside, zero_mul, mul_zero, mul_inside}
+use Rattle.std.proofs.Common.{arith, sym}
+use Rattle.lc_algebra.proofs.FieldLaws.{one_inside}
 use Rattle.lc_algebra.proofs.PowerLaws.{pow_zero, zero_pow, pow_inside}
-use Rattle.lc_field.proofs.LogarithmLaws.{product_read, inverse_read, power_read}
+use Rattle.lc_field.proofs.LogarithmLaws.{power_read}
 use Rattle.lc_field.proofs.logarithms.Logarithms.pow.Goals as goal
 
 pub returns-then-e-eq0-clause-is : goal.returns-then-e-eq0-clause-is
