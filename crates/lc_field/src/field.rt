@@ -162,6 +162,21 @@ impl Field {
         self.logarithms.mul(a, b)
     }
 
+    /// The products of `c` and all elements: entry a is c times a. For a symbol field; one look-up a symbol then scales a word.
+    #[inline]
+    #[tactic(auto, using(lc_algebra::proofs::FieldLaws::mul_inside), unfolding(lc_algebra::specs::Field::is_symbol))]
+    pub fn products_of(&self, c: u8) -> &[u8]
+        requires symbol { IsTrue (is_symbol self.now) }
+        requires element { c < size self.now }
+        ensures length { length result.now ≡ size self.now }
+        ensures entries { (a : ℕ) → a < size self.now → slice_index result.now a ≡ mul self.now c a }
+        ensures below { (a : ℕ) → a < size self.now → slice_index result.now a < size self.now }
+    {
+        let elements = self.row.size as usize;
+        let start = c as usize * elements;
+        &self.products[start..start + elements]
+    }
+
     /// The negative of an element.
     #[inline]
     #[tactic(auto, using(lc_algebra::proofs::FieldLaws::neg_inside, crate::proofs::SumLaws::neg_even, crate::proofs::SumLaws::neg_product))]
@@ -261,4 +276,12 @@ impl Field {
         let p = self.row.characteristic;
         self.add(a % p, self.mul(x, self.value_at(s - 1, a / p, x)))
     }
+}
+
+// Proved only where its argument may go to another thread and be shared with it.
+fn crosses_threads<T: Send + Sync>(_value: &T) {}
+
+// A field is `Send` and `Sync`.
+fn field_crosses_threads(field: &Field) {
+    crosses_threads(field);
 }

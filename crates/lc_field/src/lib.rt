@@ -9,6 +9,8 @@ mod pairs;
 mod refusal;
 mod roots;
 mod row;
+#[cfg(test)]
+mod tests;
 
 pub use field::Field;
 pub use refusal::{FieldRefusal, NoMemory};

@@ -29,6 +29,19 @@ pub enum FieldRefusal {
     NoMemory,
 }
 
+impl FieldRefusal {
+    /// The number of the refusal, 1 for `NotAField`; want of memory has none, and gives 0.
+    pub fn number(&self) -> u8
+        ensures not_a_field { self.now ≡ refusal.NotAField → result ≡ 1 }
+        ensures no_memory { self.now ≡ refusal.NoMemory → result ≡ 0 }
+    {
+        match self {
+            FieldRefusal::NotAField => 1,
+            FieldRefusal::NoMemory => 0,
+        }
+    }
+}
+
 impl From<NoMemory> for FieldRefusal {
     ghost from_gives = { λ _ e. e ≡ refusal.NoMemory };
 
