@@ -1,5 +1,6 @@
 -- A field inside a larger one: what stands for its elements keeps sums and products, is told apart, and keeps residues.
 --   decides_subfield          the test is_subfield decides IsSubfield
+--   told_by_size              a field is told by its number of elements
 --   embed_inside              what stands for an element is an element of the large field
 --   embed_self                each element stands for itself in its own field
 --   embed_add, embed_mul      sums and products
@@ -7,7 +8,7 @@
 --   embed_zero, embed_one     0 and 1
 --   embed_injective           distinct elements are told apart
 --   embed_neg                 negatives
-use Rattle.std.proofs.Common.{◌≡◌, ℕ, ◌%◌, ◌<◌, ◌⊎◌, inl, inr, ⊎_elim, Bool, true, false, not, ◌||◌, ◌==◌, List, [], ◌∷◌, refl, subst, arith, Decides}
+use Rattle.std.proofs.Common.{◌≡◌, ℕ, ◌%◌, ◌<◌, ◌⊎◌, inl, inr, ⊎_elim, Bool, true, false, not, ◌&&◌, ◌||◌, ◌==◌, slice_index, List, [], ◌∷◌, refl, subst, arith, Decides}
 use Rattle.std.proofs.lemmas.Bool.Decides.{Decides-eqb, Decides-and}
 use Rattle.lc_algebra.specs.declared.FieldName.{FieldName}
 use Rattle.lc_algebra.specs.Field.{shape_of, size, coefficients, add, neg, mul}
@@ -15,7 +16,7 @@ use Rattle.lc_algebra.specs.Polynomial.{value_at}
 use Rattle.lc_algebra.specs.Embedding.{IsSubfield, root, embed}
 use Rattle.lc_algebra.proofs.FieldTests.{below, below_each, positive, above_one_characteristic, characteristic_inside}
 use Rattle.lc_algebra.proofs.FieldLaws.{zero_inside, add_inside, neg_inside, mul_inside, add_neg, negative_unique}
-use Rattle.lc_algebra.proofs.EmbeddingTests.{both_true, each_name, told_by_size, is_subfield, is_proper, keeps_test, residue_test, root_test, pair_when, pair_test, pairs_test, self_from, self_test}
+use Rattle.lc_algebra.proofs.EmbeddingTests.{both_true, each_name, told_by_size, is_subfield, is_proper, sum_kept, product_kept, told_apart, keeps_test, images_test, images, image_at, found_root, found_is_root, pair_when, pair_test, pairs_test, self_from, self_test}
 pub use Rattle.lc_algebra.proofs.EmbeddingTests.{is_subfield, told_by_size}
 
 pub decides_subfield : (small large : FieldName) → Decides (is_subfield small large) (IsSubfield small large)
@@ -36,8 +37,9 @@ embed_inside small large a = value_inside large (coefficients small a) (root sma
 pub embed_self : (f : FieldName) (a : ℕ) → a < size f → embed f f a ≡ a
 unfolding embed self_from
 embed_self f a l =
-    (Decides-eqb (value_at f (coefficients f a) (root f f)) a).0
-    (below_each (λ a. value_at f (coefficients f a) (root f f) == a) (size f) (self_test f) a l)
+    let e : found_root f f ≡ root f f = found_is_root f f in
+    let t = below_each (λ a. value_at f (coefficients f a) (found_root f f) == a) (size f) (self_test f) a l in
+    cc ((Decides-eqb (value_at f (coefficients f a) (found_root f f)) a).0 t)
 
 same_or_not : (small large : FieldName) → IsSubfield small large → (b : Bool) → ((shape_of small).degree == (shape_of large).degree) ≡ b → (small ≡ large) ⊎ (is_proper small large ≡ true)
 unfolding is_proper size
@@ -53,43 +55,62 @@ same_or_not small large s false t =
 same_or_proper : (small large : FieldName) → IsSubfield small large → (small ≡ large) ⊎ (is_proper small large ≡ true)
 same_or_proper small large s = same_or_not small large s ((shape_of small).degree == (shape_of large).degree) refl
 
-proper_root : (small large : FieldName) → is_proper small large ≡ true → root_test small large (root small large) ≡ true
+abbrev pictures : FieldName → FieldName → List ℕ
+pictures small large = images small large (found_root small large) 0 (size small)
+
+picture : (small large : FieldName) (a : ℕ) → a < size small → slice_index (pictures small large) a ≡ embed small large a
+unfolding embed
+picture small large a l = cc (image_at small large (found_root small large) a l, found_is_root small large)
+
+proper_images : (small large : FieldName) → is_proper small large ≡ true → images_test small large (pictures small large) ≡ true
 unfolding pair_test pair_when
-proper_root small large p =
+proper_images small large p =
     let t : pair_test small large ≡ true = each_name (λ small. pair_test small large) (pairs_test large) small in
     rw p at t
 
-proper_residue : (small large : FieldName) → is_proper small large ≡ true → (a : ℕ) → a < (shape_of small).characteristic → embed small large a ≡ a
-unfolding root_test residue_test embed
-proper_residue small large p a l =
-    let r = root small large in
-    let t = both_true (residue_test small large r) _ (proper_root small large p) in
-    (Decides-eqb (value_at large (coefficients small a) r) a).0 (below_each (λ a. value_at large (coefficients small a) r == a) (shape_of small).characteristic t.0 a l)
+proper_parts : (small large : FieldName) → is_proper small large ≡ true → (below (λ a. slice_index (pictures small large) a == a) (shape_of small).characteristic ≡ true) × (below (λ a. below (λ b. keeps_test small large (pictures small large) a b) (size small)) (size small) ≡ true)
+unfolding images_test
+proper_parts small large p =
+    both_true (below (λ a. slice_index (pictures small large) a == a) (shape_of small).characteristic) (below (λ a. below (λ b. keeps_test small large (pictures small large) a b) (size small)) (size small)) (proper_images small large p)
 
-proper_keeps : (small large : FieldName) → is_proper small large ≡ true → (a b : ℕ) → a < size small → b < size small → keeps_test small large (root small large) a b ≡ true
-unfolding root_test
+proper_residue : (small large : FieldName) → is_proper small large ≡ true → (a : ℕ) → a < (shape_of small).characteristic → embed small large a ≡ a
+proper_residue small large p a l =
+    let xs = pictures small large in
+    let m : a < size small = omega (arith, characteristic_inside small) in
+    let t = below_each (λ a. slice_index xs a == a) (shape_of small).characteristic (proper_parts small large p).0 a l in
+    cc (picture small large a m, (Decides-eqb (slice_index xs a) a).0 t)
+
+proper_keeps : (small large : FieldName) → is_proper small large ≡ true → (a b : ℕ) → a < size small → b < size small → (sum_kept small large (pictures small large) a b ≡ true) × (product_kept small large (pictures small large) a b ≡ true) × (told_apart (pictures small large) a b ≡ true)
+unfolding keeps_test
 proper_keeps small large p a b l m =
-    let r = root small large in
-    let t = both_true (residue_test small large r) _ (proper_root small large p) in
-    below_each (λ b. keeps_test small large r a b) (size small) (below_each (λ a. below (λ b. keeps_test small large r a b) (size small)) (size small) t.1 a l) b m
+    let xs = pictures small large in
+    let row = below_each (λ a. below (λ b. keeps_test small large xs a b) (size small)) (size small) (proper_parts small large p).1 a l in
+    let pair = below_each (λ b. keeps_test small large xs a b) (size small) row b m in
+    let (first, rest) = both_true (sum_kept small large xs a b) (product_kept small large xs a b && told_apart xs a b) pair in
+    let (second, third) = both_true (product_kept small large xs a b) (told_apart xs a b) rest in
+    (first, second, third)
 
 proper_add : (small large : FieldName) → is_proper small large ≡ true → (a b : ℕ) → a < size small → b < size small → embed small large (add small a b) ≡ add large (embed small large a) (embed small large b)
-unfolding keeps_test embed
+unfolding sum_kept
 proper_add small large p a b l m =
-    (Decides-eqb (embed small large (add small a b)) (add large (embed small large a) (embed small large b))).0
-    (both_true _ _ (proper_keeps small large p a b l m)).0
+    let xs = pictures small large in
+    let t = (proper_keeps small large p a b l m).0 in
+    cc ((Decides-eqb (slice_index xs (add small a b)) (add large (slice_index xs a) (slice_index xs b))).0 t, picture small large a l, picture small large b m, picture small large (add small a b) (add_inside small a b))
 
 proper_mul : (small large : FieldName) → is_proper small large ≡ true → (a b : ℕ) → a < size small → b < size small → embed small large (mul small a b) ≡ mul large (embed small large a) (embed small large b)
-unfolding keeps_test embed
+unfolding product_kept
 proper_mul small large p a b l m =
-    (Decides-eqb (embed small large (mul small a b)) (mul large (embed small large a) (embed small large b))).0
-    (both_true _ _ (both_true _ _ (proper_keeps small large p a b l m)).1).0
+    let xs = pictures small large in
+    let t = (proper_keeps small large p a b l m).1 in
+    cc ((Decides-eqb (slice_index xs (mul small a b)) (mul large (slice_index xs a) (slice_index xs b))).0 t, picture small large a l, picture small large b m, picture small large (mul small a b) (mul_inside small a b))
 
 proper_injective : (small large : FieldName) → is_proper small large ≡ true → (a b : ℕ) → a < size small → b < size small → embed small large a ≡ embed small large b → a ≡ b
-unfolding keeps_test embed
+unfolding told_apart
 proper_injective small large p a b l m e =
-    let t : (embed small large a == embed small large b) ≡ true = (Decides-eqb (embed small large a) (embed small large b)).1 e in
-    let h : (not (embed small large a == embed small large b) || (a == b)) ≡ true = (both_true _ _ (both_true _ _ (proper_keeps small large p a b l m)).1).1 in
+    let xs = pictures small large in
+    let s : slice_index xs a ≡ slice_index xs b = cc (picture small large a l, picture small large b m) in
+    let t : (slice_index xs a == slice_index xs b) ≡ true = (Decides-eqb (slice_index xs a) (slice_index xs b)).1 s in
+    let h : (not (slice_index xs a == slice_index xs b) || (a == b)) ≡ true = (proper_keeps small large p a b l m).2 in
     (Decides-eqb a b).0 (rw t at h)
 
 pub embed_add : (small large : FieldName) (a b : ℕ) → IsSubfield small large → a < size small → b < size small → embed small large (add small a b) ≡ add large (embed small large a) (embed small large b)

@@ -3,13 +3,16 @@
 --   is_subfield small large      the small field lies in the large one
 --   is_proper small large        and is another field
 --   names                        the eighteen fields
---   each_name test               the test is passed by each of them
---   names_each                   .. and so by any
---   keeps_test small large r     at the root r, what stands for elements keeps sums, products, difference and residues
+--   each_of test fs, each_name   the test is passed by each field of a list; by each of the eighteen, and so by any
+--   both_true                    what an `and` tells of its parts
+--   told_by_size                 a field is told by its number of elements
+--   found_root, found_is_root    the root, found by a search that stops at it
+--   images small large r a n     what stands at the root r for a and the elements after it: n of them
+--   images_test small large xs   the images xs keep sums, products, distinctness and residues
 --   pair_test small large        that, where the embedding is proper
 --   pairs_test large             each small field passes it
 --   self_test                    each element stands for itself in its own field
-use Rattle.std.proofs.Common.{◌≡◌, ℕ, ◌%◌, ◌⊎◌, inl, inr, ⊎_elim, Bool, true, false, not, cond, ◌&&◌, ◌||◌, ◌==◌, List, [], ◌∷◌, refl, sym, ap, ◌∙◌, true≢false}
+use Rattle.std.proofs.Common.{◌≡◌, ℕ, ◌%◌, ◌⊎◌, inl, inr, ⊎_elim, Bool, true, false, not, cond, ◌&&◌, ◌||◌, ◌==◌, List, [], ◌∷◌, refl, sym, ap, ◌∙◌, true≢false, slice_index, zero-add, add-zero, suc-add, add-suc, ◌+◌, arith, zero, suc, ◌<◌, ◌++◌}
 use Rattle.lc_algebra.specs.declared.FieldName.{FieldName}
 use Rattle.lc_algebra.specs.declared.FieldName.TheVariants.{Gf2, Gf3, Gf4, Gf5, Gf7, Gf8, Gf9, Gf11, Gf13, Gf16, Gf25, Gf27, Gf32, Gf64, Gf81, Gf128, Gf243, Gf256}
 use Rattle.lc_algebra.specs.Residue.{digits, number, plus, minus, times, top, up, times_x, product}
@@ -100,27 +103,68 @@ name_of_size Gf256 = refl
 pub told_by_size : (f g : FieldName) → size f ≡ size g → f ≡ g
 told_by_size f g e = cc (name_of_size f, name_of_size g)
 
-unfoldable pub keeps_test : FieldName → FieldName → ℕ → ℕ → ℕ → Bool
-keeps_test small large r a b =
-    (value_at large (coefficients small (add small a b)) r == add large (value_at large (coefficients small a) r) (value_at large (coefficients small b) r))
-    && ((value_at large (coefficients small (mul small a b)) r == mul large (value_at large (coefficients small a) r) (value_at large (coefficients small b) r))
-    && (not (value_at large (coefficients small a) r == value_at large (coefficients small b) r) || (a == b)))
+-- the search for a root that stops where it has found one
+unfoldable pub found_from : (ℕ → Bool) → ℕ → ℕ → ℕ
+found_from test start zero = start
+found_from test start (suc count) = elim (test start) [ true ↦ start | false ↦ found_from test (suc start) count ]
 
-unfoldable pub residue_test : FieldName → FieldName → ℕ → Bool
-residue_test small large r = below (λ a. value_at large (coefficients small a) r == a) (shape_of small).characteristic
+found_case : (b : Bool) (x y : ℕ) → elim b [ true ↦ x | false ↦ y ] ≡ cond b x y
+found_case true x y = refl
+found_case false x y = refl
 
-unfoldable pub root_test : FieldName → FieldName → ℕ → Bool
-root_test small large r = residue_test small large r && below (λ a. below (λ b. keeps_test small large r a b) (size small)) (size small)
+found_first : (test : ℕ → Bool) (start count : ℕ) → found_from test start count ≡ first_from test start count
+unfolding found_from first_from
+found_first test start zero = refl
+found_first test start (suc count) =
+    found_case (test start) start (found_from test (suc start) count) ∙ ap (cond (test start) start) (found_first test (suc start) count)
+
+unfoldable pub found_root : FieldName → FieldName → ℕ
+found_root small large = found_from (λ b. value_at large ((shape_of small).lower ++ 1 ∷ []) b == 0) 0 (size large)
+
+pub found_is_root : (small large : FieldName) → found_root small large ≡ root small large
+unfolding found_root root first_that
+found_is_root small large = found_first (λ b. value_at large ((shape_of small).lower ++ 1 ∷ []) b == 0) 0 (size large)
+
+unfoldable pub images : FieldName → FieldName → ℕ → ℕ → ℕ → List ℕ
+images small large r a zero = []
+images small large r a (suc n) = value_at large (coefficients small a) r ∷ images small large r (suc a) n
+
+image_after : (small large : FieldName) (r a n k : ℕ) → k < n → slice_index (images small large r a n) k ≡ value_at large (coefficients small (a + k)) r
+unfolding images
+image_after small large r a zero k l = absurd (omega arith)
+image_after small large r a (suc n) zero l = cc (add-zero a)
+image_after small large r a (suc n) (suc k) l = cc (image_after small large r (suc a) n k (omega arith), suc-add a k, add-suc a k)
+
+-- the images at the root are what stands for the elements
+pub image_at : (small large : FieldName) (r a : ℕ) → a < size small → slice_index (images small large r 0 (size small)) a ≡ value_at large (coefficients small a) r
+image_at small large r a l = cc (image_after small large r 0 (size small) a l, zero-add a)
+
+unfoldable pub sum_kept : FieldName → FieldName → List ℕ → ℕ → ℕ → Bool
+sum_kept small large xs a b = slice_index xs (add small a b) == add large (slice_index xs a) (slice_index xs b)
+
+unfoldable pub product_kept : FieldName → FieldName → List ℕ → ℕ → ℕ → Bool
+product_kept small large xs a b = slice_index xs (mul small a b) == mul large (slice_index xs a) (slice_index xs b)
+
+unfoldable pub told_apart : List ℕ → ℕ → ℕ → Bool
+told_apart xs a b = not (slice_index xs a == slice_index xs b) || (a == b)
+
+unfoldable pub keeps_test : FieldName → FieldName → List ℕ → ℕ → ℕ → Bool
+keeps_test small large xs a b = sum_kept small large xs a b && (product_kept small large xs a b && told_apart xs a b)
+
+unfoldable pub images_test : FieldName → FieldName → List ℕ → Bool
+images_test small large xs =
+    below (λ a. slice_index xs a == a) (shape_of small).characteristic
+    && below (λ a. below (λ b. keeps_test small large xs a b) (size small)) (size small)
 
 unfoldable pub pair_when : Bool → FieldName → FieldName → Bool
-pair_when true small large = root_test small large (root small large)
+pair_when true small large = images_test small large (images small large (found_root small large) 0 (size small))
 pair_when false small large = true
 
 unfoldable pub pair_test : FieldName → FieldName → Bool
 pair_test small large = pair_when (is_proper small large) small large
 
 pub pairs_test : (f : FieldName) → each_of (λ small. pair_test small f) names ≡ true
-unfolding each_of names is_subfield is_proper keeps_test residue_test root_test pair_when pair_test below first_from first_that root value_at add digits number plus minus times top up times_x product shape shape_of size coefficients mul
+unfolding each_of names is_subfield is_proper sum_kept product_kept told_apart keeps_test images_test pair_when pair_test below found_from found_root images value_at add digits number plus minus times top up times_x product shape shape_of size coefficients mul
 pairs_test Gf2 = refl
 pairs_test Gf3 = refl
 pairs_test Gf4 = refl
@@ -143,8 +187,8 @@ pairs_test Gf256 = refl
 unfoldable pub self_from : FieldName → ℕ → Bool
 self_from f r = below (λ a. value_at f (coefficients f a) r == a) (size f)
 
-pub self_test : (f : FieldName) → self_from f (root f f) ≡ true
-unfolding self_from below first_from first_that root value_at add digits number plus minus times top up times_x product shape shape_of size coefficients mul
+pub self_test : (f : FieldName) → self_from f (found_root f f) ≡ true
+unfolding self_from below found_from found_root images value_at add digits number plus minus times top up times_x product shape shape_of size coefficients mul
 self_test Gf2 = refl
 self_test Gf3 = refl
 self_test Gf4 = refl

@@ -1,8 +1,10 @@
 -- The axioms of a field, and what follows from them at once, for each of the eighteen fields. Where no bound is asked
 -- for, a law holds of every number, since an operation reads only the lowest digits.
+--   coefficients      coefficients_add, coefficients_neg, coefficients_mul: of results; coefficients_fit, residues_coefficients;
+--                     number-coefficients, coefficients-number: the way and back; told_by_coefficients; element; product_one
 --   inside            one_inside, zero_inside, add_inside, neg_inside, mul_inside: results are elements
---   sums              add_comm, add_assoc, zero_add, add_zero, add_neg, add_cancel, subtract_zero, neg_neg, neg_zero
---   products          mul_comm, mul_assoc, one_mul, mul_one, zero_mul, mul_zero
+--   sums              add_comm, add_assoc, zero_add, add_zero, add_neg, add_cancel, subtract_zero, neg_neg, neg_zero, negative_unique
+--   products          mul_comm, mul_assoc, one_mul, mul_one, zero_mul, mul_zero, mul_swap
 --   both              mul_add, add_mul, mul_neg, neg_mul, neg_one_mul
 --   powers            pow_add, pow_inside, power_order, logarithm
 --   inverses          inverse_of, inverse_nonzero, inverse_unique, no_zero_divisors, mul_nonzero

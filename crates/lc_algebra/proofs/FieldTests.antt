@@ -1,11 +1,19 @@
 -- What is told of each of the eighteen fields by computing with its elements.
---   below test n                    the test is passed by each number below n
---   positive, above_one            the characteristic and the size
---   length-lower                    the polynomial that is divided by has the field's degree
+--   below test n, below_each        the test is passed by each number below n
+--   either_true, second_false       what an `or` tells of its parts
+--   positive, above_one_characteristic, characteristic_inside      the characteristic
+--   above_one                       the size
+--   length-lower, residues_lower    the polynomial that is divided by has the field's degree, and residues for coefficients
+--   monic_test                      and its own remainder is 0
 --   times_one_test                  a times 1 is a, for each element
 --   powers f n a                    a and the next powers: n of them, each the primitive element times the one before
---   order_test, members_test, order_least_test      the primitive element has order size - 1, and each nonzero element
---                                   is one of its powers
+--   stands a u                      a is one of u
+--   each_stands u n                 the numbers from 1 to n are among u
+--   order_test                      the primitive element to the size - 1 is 1
+--   members_test                    each nonzero element is one of its powers
+--   order_least_test                no power between is 1
+--   primitive_positive, primitive_inside      it is a nonzero element
+--   frobenius_test                  the power by the characteristic keeps sums with 1
 use Rattle.std.proofs.Common.{◌≡◌, ℕ, zero, suc, ◌-◌, ◌<◌, Bool, true, false, ◌&&◌, ◌||◌, ◌==◌, List, [], ◌∷◌, length, refl, lit<, ◌++◌, replicate, lit≤, ◌≤◌, true≢false, ◌⊎◌, inl, inr}
 use Rattle.std.proofs.lemmas.Bool.Decides.{Decides-below_and}
 use Rattle.lc_algebra.specs.declared.FieldName.{FieldName}

@@ -6,6 +6,8 @@
 --   product_plus, product_times, product_times_x      and the product, in its second factor
 --   plus_product, times_product                       and in its first
 --   product_swap                 u (v w) is v (u w)
+--   zeros_plus_zeros, up_zeros, top_zeros, times_x_zeros, product_zeros      zeros stay
+--   length-up, length-times_x, length-product, residues_product              lengths, and residues come out
 use Rattle.std.proofs.Common.{◌≡◌, ℕ, zero, suc, ◌+◌, ◌*◌, ◌%◌, ◌<◌, List, [], ◌∷◌, length, replicate, refl, sym, ap, ◌∙◌, arith, mul-zero}
 use Rattle.std.proofs.Math.Nat.{zero-mod}
 use Rattle.std.proofs.lemmas.List.{length-replicate}

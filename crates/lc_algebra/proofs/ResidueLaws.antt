@@ -1,13 +1,15 @@
 -- Laws of lists of residues modulo p: sums, negatives, multiples, digits. They hold of all numbers and lists, unless a
 -- premise stands there.
 --   Residues p u                 each number of u is below p
---   plus_comm, plus_assoc        sums
+--   plus_comm, plus_assoc, plus_middle        sums
 --   plus_zero, plus_minus        the zero polynomial; a polynomial and its negative
 --   times_plus, plus_times       multiples of sums, sums of multiples
 --   times_times, times_swap      multiples of multiples
+--   times_zero, times_one, times_none, times_rest      multiples by 0, by 1, of zeros, by a residue
+--   sum_of_rests, rest_sum_first, rest_sum_second      residues of sums
 --   length-plus, ..              lengths
 --   residues_plus, ..            what the operations give are residues
---   length-digits, residues_digits, number-digits, digits-number, number_below      digits and their number
+--   length-digits, residues_digits, number-digits, digits-number, number_below, number_zeros, digits_zero      digits and their number
 use Rattle.std.proofs.Common.{◌≡◌, ℕ, zero, suc, ◌+◌, ◌-◌, ◌*◌, ◌/◌, ◌%◌, ◌^◌, ◌<◌, ◌≤◌, List, [], ◌∷◌, length, replicate, refl, sym, ap, arith, add_comm, add_assoc, mul_comm, mul_assoc, mul-add, add-mul, mod-lt, mod-eq_of_lt, pow-suc, mul-le-mul_left, zero-mul, mul-zero, zero-add}
 use Rattle.std.proofs.Math.Nat.{mod-add-mod, add-mod-mod, add-mod, mod-add-div, mod_self, zero-mod, zero-div, pow-zero}
 use Rattle.std.proofs.lemmas.Nat.{mul-mod_first, mul-mod_second, div-mul-add, mod-mul-add, div_below}

@@ -1,6 +1,6 @@
 //! What `codes` means by a field, a word, the words of some rows, a minimum distance and a reduced
 //! generator matrix. The definitions stand in `specs/`; the laws that every crate above cites stand in
-//! `proofs/`, and on the contracts of the functions below.
+//! `proofs/`, and on the contracts of the functions of `laws`.
 #![tactic(auto)]
 
 pub mod laws;
