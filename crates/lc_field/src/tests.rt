@@ -32,7 +32,9 @@ fn tables(field: &Field) -> (u32, u32, u32) {
         for b in 0..size {
             let place = a.wrapping_mul(size).wrapping_add(b + 1);
             sums = sums.wrapping_add(place.wrapping_mul(field.add(a as u8, b as u8) as u32));
-            products = products.wrapping_add(place.wrapping_mul(field.mul(a as u8, b as u8) as u32));
+            products = products.wrapping_add(place.wrapping_mul(
+                field.mul(a as u8, b as u8) as u32,
+            ));
         }
         if a > 0 {
             inverses = inverses.wrapping_add((a + 1).wrapping_mul(field.inv(a as u8) as u32));
@@ -45,7 +47,11 @@ fn tables(field: &Field) -> (u32, u32, u32) {
 fn every_entry_of_every_table(rt: HostRuntime) -> Result<(), Fail> {
     for (q, sums, products, inverses) in TABLES {
         let field = Field::of(rt.alloc(), q)?.copy(rt.alloc())?;
-        assert_eq!(rt; tables(&field), (sums, products, inverses), "in the field of {q}");
+        assert_eq!(rt;
+            tables(&field),
+            (sums, products, inverses),
+            "in the field of {q}"
+        );
     }
     Ok(())
 }
@@ -69,7 +75,11 @@ fn products_of_the_table(rt: HostRuntime) -> Result<(), Fail> {
     ] {
         let field = Field::of(rt.alloc(), q)?;
         assert!(rt; a < field.size() && b < field.size());
-        assert_eq!(rt; field.mul(a as u8, b as u8), product, "{a} times {b} in the field of {q}");
+        assert_eq!(rt;
+            field.mul(a as u8, b as u8),
+            product,
+            "{a} times {b} in the field of {q}"
+        );
     }
     Ok(())
 }
@@ -111,11 +121,17 @@ fn the_field_of_4_in_that_of_16(rt: HostRuntime) -> Result<(), Fail> {
 fn the_field_of_9(rt: HostRuntime) -> Result<(), Fail> {
     let field = Field::of(rt.alloc(), 9)?;
     assert!(rt; field.size() == 9 && field.is_symbol());
-    assert_eq!(rt; (field.characteristic(), field.degree(), field.primitive()), (3, 2, 3));
+    assert_eq!(rt;
+        (field.characteristic(), field.degree(), field.primitive()),
+        (3, 2, 3)
+    );
     assert_eq!(rt; field.neg(5), 7);
     assert_eq!(rt; field.pow(3, 4), 2);
     assert_eq!(rt; field.pow(3, u64::MAX), field.pow(3, 7));
     assert_eq!(rt; field.pow(0, 0), 1);
-    assert_eq!(rt; field.products_of(3), [0, 3, 6, 4, 7, 1, 8, 2, 5].as_slice());
+    assert_eq!(rt;
+        field.products_of(3),
+        [0, 3, 6, 4, 7, 1, 8, 2, 5].as_slice()
+    );
     Ok(())
 }
