@@ -132,7 +132,7 @@ impl Field {
         self.row.primitive
     }
 
-    /// The sum of two elements.
+    /// The sum of two elements, each below the size.
     #[inline]
     #[tactic(auto, using(lc_algebra::proofs::FieldLaws::add_inside, crate::proofs::SumLaws::xor_add, crate::proofs::SumLaws::xor_below))]
     pub fn add(&self, a: u8, b: u8) -> u8
@@ -147,7 +147,7 @@ impl Field {
         self.sums[a as usize * self.row.size as usize + b as usize]
     }
 
-    /// The product of two elements.
+    /// The product of two elements, each below the size.
     #[inline]
     #[tactic(auto, using(lc_algebra::proofs::FieldLaws::mul_inside))]
     pub fn mul(&self, a: u8, b: u8) -> u8
@@ -162,7 +162,8 @@ impl Field {
         self.logarithms.mul(a, b)
     }
 
-    /// The products of `c` and all elements: entry a is c times a. For a symbol field; one look-up a symbol then scales a word.
+    /// The products of an element `c` of a symbol field with all elements, in their order: entry a is c times a. It scales a
+    /// word by one look-up a symbol.
     #[inline]
     #[tactic(auto, using(lc_algebra::proofs::FieldLaws::mul_inside), unfolding(lc_algebra::specs::Field::is_symbol))]
     pub fn products_of(&self, c: u8) -> &[u8]
@@ -177,7 +178,7 @@ impl Field {
         &self.products[start..start + elements]
     }
 
-    /// The negative of an element.
+    /// The negative of an element below the size.
     #[inline]
     #[tactic(auto, using(lc_algebra::proofs::FieldLaws::neg_inside, crate::proofs::SumLaws::neg_even, crate::proofs::SumLaws::neg_product))]
     pub fn neg(&self, a: u8) -> u8
@@ -191,7 +192,7 @@ impl Field {
         self.mul(self.row.characteristic - 1, a)
     }
 
-    /// An element to a power; the zeroth power is 1, also that of 0.
+    /// An element below the size, to a power; the zeroth power is 1, also that of 0.
     pub fn pow(&self, a: u8, e: u64) -> u8
         requires element { a < size self.now }
         ensures is { result ≡ pow self.now a e }
@@ -200,7 +201,7 @@ impl Field {
         self.logarithms.pow(a, e)
     }
 
-    /// The inverse of a nonzero element: the element whose product with `a` is 1.
+    /// The inverse of a nonzero element below the size: the element whose product with `a` is 1.
     #[inline]
     #[tactic(auto, using(lc_algebra::proofs::FieldLaws::inverse_nonzero))]
     pub fn inv(&self, a: u8) -> u8
@@ -221,7 +222,7 @@ impl Field {
             && self.row.degree % small.row.degree == 0
     }
 
-    /// The element of this field that stands for the element `a` of `small`: the value of the polynomial of `a` at the
+    /// The element of this field that stands for the element `a` of the subfield `small`: the value of the polynomial of `a` at the
     /// least-numbered zero that the polynomial of `small` has here.
     #[tactic(auto, using(crate::proofs::RootLaws::embed_is))]
     pub fn embed(&self, small: &Field, a: u8) -> u8
@@ -233,7 +234,7 @@ impl Field {
         self.value_at(small.row.degree, a, self.root_of(small))
     }
 
-    /// The element of `small` that is embedded as `b`; None exactly where there is none.
+    /// The element of the subfield `small` that is embedded as the element `b`; None exactly where there is none.
     pub fn unembed(&self, small: &Field, b: u8) -> Option<u8>
         requires subfield { IsSubfield small.now self.now }
         requires element { b < size self.now }
