@@ -1,0 +1,8 @@
+//! The one object that the workers of a round share: numbers that they draw, each once, and the least value that they report.
+#![tactic(auto)]
+
+mod memory;
+mod round;
+
+pub use memory::NoMemory;
+pub use round::{Event, RoundState};
