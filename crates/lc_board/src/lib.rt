@@ -5,4 +5,4 @@ mod memory;
 mod round;
 
 pub use memory::NoMemory;
-pub use round::{Event, RoundState};
+pub use round::{Event, RoundState, law_of_rounds};
