@@ -1,2 +1,4 @@
+pub mod Boards
 pub mod Counting
+pub mod Moves
 pub mod Rounds

@@ -1,3 +1,5 @@
+pub mod Board
 pub mod Counting
 pub mod Round
+pub mod Seats
 pub mod State

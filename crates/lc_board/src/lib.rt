@@ -1,8 +1,12 @@
 //! The one object that the workers of a round share: numbers that they draw, each once, and the least value that they report.
 #![tactic(auto)]
 
+mod board;
 mod memory;
 mod round;
+mod rule;
+mod views;
 
+pub use board::{Board, BoardSeat};
 pub use memory::NoMemory;
 pub use round::{Event, RoundState, law_of_rounds};

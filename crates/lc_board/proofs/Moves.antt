@@ -1,0 +1,77 @@
+-- What each step on a board's table asks for.
+--   claims, reports, splits, joins    the step is allowed
+--   closes                            what the last state of a table says, with the root's view
+use Rattle.std.proofs.Common.{◌≡◌, ◌≢◌, ℕ, zero, suc, ◌+◌, ◌-◌, ◌%◌, ◌^◌, ◌<◌, ◌≤◌, min, Bool, true, false, cond, eqb, ltb, List, [], ◌∷◌, ◌++◌, length, get_or, set, map, refl, sym, ap, ◌∙◌, subst, arith}
+use Rattle.std.specs.Prelude.{All, slice_index, count_by}
+use Rattle.std.proofs.lemmas.List.{get_or_push}
+use Rattle.std.proofs.Math.Nat.{mod-eq_of_lt}
+use mathlib.Core.Option.{some, none}
+use lib.ListN.{get_elem?}
+use Rattle.atomic_table.specs.Table.{State, Me, Step, step, Act, keeps, Allows, Splits, Joins, Final, Seen}
+use Rattle.lc_board.specs.Counting.{StandOnce, least}
+use Rattle.lc_board.specs.Board.{nothing, drew, told, split, newcomer, joined, AllReported, Owes, reported_numbers, books, seat_numbers, drawn_numbers, reported_values, BoardRule, Draws, Tells}
+use Rattle.lc_board.specs.declared.views.Terms.{Terms}
+use Rattle.lc_board.specs.declared.views.Book.{Book}
+use Rattle.lc_board.specs.declared.views.View.{View}
+use Rattle.lc_board.proofs.Boards.{begins, drawn_below, claim_keeps, report_keeps, split_keeps, join_keeps, whole, far_below}
+
+abbrev Holds : Terms → State (Unit {0}) View → Type 0
+Holds t s = BoardRule t s.words s.views
+
+counter : (t : Terms) (words : List ℕ) (views : List View) (h : BoardRule t words views) → slice_index words 0 ≡ h.next
+counter t words views h = ap (λ l. get_or l 0 0) h.words_are
+
+best_word : (t : Terms) (words : List ℕ) (views : List View) (h : BoardRule t words views) → slice_index words 1 ≡ h.best
+best_word t words views h = ap (λ l. get_or l 1 0) h.words_are
+
+-- word 0 doesn't wrap
+no_wrap : (t : Terms) (words : List ℕ) (views : List View) (h : BoardRule t words views) → (slice_index words 0 + 1) % 2 ^ 64 ≡ h.next + 1
+no_wrap t words views h =
+    let c = counter t words views h in let f = far_below t words views h in let s = h.small in let w = h.few in
+    let small : slice_index words 0 + 1 < 2 ^ 64 = omega arith in
+    mod-eq_of_lt small ∙ ap (λ n. n + 1) c
+
+pub claims : (t : Terms) (slots id : ℕ) (m : Me (Unit {0}) View) → m.0.spent ≡ false → AllReported m.0.book
+    → Allows (Holds t) slots id m 0 (λ n. (n + 1) % 2 ^ 64) (Draws (step slots 0 1 0 none) m)
+claims t slots id m e all s h sized at fits =
+    let c = counter t s.words s.views h in (
+      drew m.0 (slice_index s.words 0),
+      keeps,
+      tt,
+      subst (λ (n : ℕ). BoardRule t (set s.words 0 ((slice_index s.words 0 + 1) % 2 ^ 64)) (set s.views id (drew m.0 n))) (sym c)
+          (subst (λ (n : ℕ). BoardRule t (set s.words 0 n) (set s.views id (drew m.0 h.next))) (sym (no_wrap t s.words s.views h)) (claim_keeps t s.words s.views id m.0 h at e all)),
+      (refl, refl, subst (λ (n : ℕ). All (λ y. y < n) m.0.book.drawn) (sym c) (drawn_below t s.words s.views id m.0 h at e)),
+    )
+
+-- a book owes one number at most
+same_last : (b : Book) (x y : ℕ) → Owes b x → Owes b y → x ≡ y
+same_last b x y p q = let e : get_or (reported_numbers b ++ x ∷ []) (length (reported_numbers b)) 0 ≡ get_or (reported_numbers b ++ y ∷ []) (length (reported_numbers b)) 0 = ap (λ l. get_or l (length (reported_numbers b)) 0) (sym p ∙ q) in
+    sym (get_or_push (reported_numbers b) x 0 (length (reported_numbers b)) refl) ∙ e ∙ get_or_push (reported_numbers b) y 0 (length (reported_numbers b)) refl
+
+pub reports : (t : Terms) (slots id x value : ℕ) (m : Me (Unit {0}) View) → m.0.spent ≡ false → Owes m.0.book x → x < t.count
+    → Allows (Holds t) slots id m 1 (λ n. min n value) (Tells (step slots 1 value 0 none) m)
+reports t slots id x value m e owes small s h sized at fits =
+    let c = best_word t s.words s.views h in (
+      told m.0 x value,
+      keeps,
+      tt,
+      subst (λ (n : ℕ). BoardRule t (set s.words 1 (min n value)) (set s.views id (told m.0 x value))) (sym c) (report_keeps t s.words s.views id m.0 x value h at e owes small),
+      ((λ y owes'. ap (λ (z : ℕ). told m.0 z value) (same_last m.0.book x y owes owes')), refl),
+    )
+
+pub splits : (t : Terms) (id : ℕ) (v : View) → v.spent ≡ false → v.root ≡ true → v.made < 256 → Splits (Holds t) id v (split v) (newcomer v)
+splits t id v e r room s h at = split_keeps t s.words s.views id v h at e r room
+
+pub joins : (t : Terms) (id other : ℕ) (v w : View) → v.spent ≡ false → v.root ≡ true → w.spent ≡ false → Joins (Holds t) id v other w (joined v w) nothing
+joins t id other v w e r e' s h at apart at' = join_keeps t s.words s.views id other v w h at e r apart at' e'
+
+-- what a closed board shows, from the root that took in all others
+pub closes : (t : Terms) (id : ℕ) (v : View) (words : List ℕ) (slots : List (Unit {0})) → v.spent ≡ false → v.root ≡ true → length v.left + 1 ≡ v.made → Final (Seen (Holds t) id v) words slots
+    → StandOnce (slice_index words 0) (drawn_numbers (v.book ∷ v.left)) × (slice_index words 1 ≡ least t.first (reported_values (v.book ∷ v.left)))
+closes t id v words slots e r all final =
+    let s = final.0 in let h = final.1.0 in let at = final.1.1 in
+    let is = whole t s.words s.views id v h at e r all in (
+      (λ x. subst (λ l. StandOnce (slice_index l 0) (drawn_numbers (v.book ∷ v.left))) final.2
+          (λ y. ap (λ bs. count_by (λ z. eqb z y) (drawn_numbers bs)) (sym is) ∙ h.drawn y ∙ ap (λ n. cond (ltb y n) 1 0) (sym (counter t s.words s.views h))) x),
+      ap (λ l. slice_index l 1) (sym final.2) ∙ best_word t s.words s.views h ∙ h.least_is ∙ ap (λ bs. least t.first (reported_values bs)) is,
+    )
