@@ -1,18 +1,21 @@
 -- What each step on a board's table asks for.
 --   claims, reports, splits, joins    the step is allowed
---   closes                            what the last state of a table says, with the root's view
-use Rattle.std.proofs.Common.{◌≡◌, ◌≢◌, ℕ, zero, suc, ◌+◌, ◌-◌, ◌%◌, ◌^◌, ◌<◌, ◌≤◌, min, Bool, true, false, cond, eqb, ltb, List, [], ◌∷◌, ◌++◌, length, get_or, set, map, refl, sym, ap, ◌∙◌, subst, arith}
+--   joined_more       the root's view after one more join
+--   closes, closed_by                            what the last state of a table says, with the root's view
+use Rattle.std.proofs.Common.{◌≡◌, ◌≢◌, ℕ, zero, suc, ◌+◌, ◌-◌, ◌%◌, ◌^◌, ◌<◌, ◌≤◌, min, Bool, true, false, cond, eqb, ltb, List, [], ◌∷◌, ◌++◌, length, get_or, set, append_assoc, map, refl, sym, ap, ◌∙◌, subst, arith}
 use Rattle.std.specs.Prelude.{All, slice_index, count_by}
-use Rattle.std.proofs.lemmas.List.{get_or_push}
+use Rattle.std.proofs.lemmas.List.{get_or_push, length-map, map-append}
 use Rattle.std.proofs.Math.Nat.{mod-eq_of_lt}
 use mathlib.Core.Option.{some, none}
 use lib.ListN.{get_elem?}
 use Rattle.atomic_table.specs.Table.{State, Me, Step, step, Act, keeps, Allows, Splits, Joins, Final, Seen}
 use Rattle.lc_board.specs.Counting.{StandOnce, least}
 use Rattle.lc_board.specs.Board.{nothing, drew, told, split, newcomer, joined, AllReported, Owes, reported_numbers, books, seat_numbers, drawn_numbers, reported_values, BoardRule, Draws, Tells}
+use Rattle.lc_board.specs.Seats.{Seated, joined_all}
 use Rattle.lc_board.specs.declared.views.Terms.{Terms}
 use Rattle.lc_board.specs.declared.views.Book.{Book}
 use Rattle.lc_board.specs.declared.views.View.{View}
+use Rattle.lc_board.proofs.Counting.{at_get}
 use Rattle.lc_board.proofs.Boards.{begins, drawn_below, claim_keeps, report_keeps, split_keeps, join_keeps, whole, far_below}
 
 abbrev Holds : Terms → State (Unit {0}) View → Type 0
@@ -74,4 +77,29 @@ closes t id v words slots e r all final =
       (λ x. subst (λ l. StandOnce (slice_index l 0) (drawn_numbers (v.book ∷ v.left))) final.2
           (λ y. ap (λ bs. count_by (λ z. eqb z y) (drawn_numbers bs)) (sym is) ∙ h.drawn y ∙ ap (λ n. cond (ltb y n) 1 0) (sym (counter t s.words s.views h))) x),
       ap (λ l. slice_index l 1) (sym final.2) ∙ best_word t s.words s.views h ∙ h.least_is ∙ ap (λ bs. least t.first (reported_values bs)) is,
+    )
+
+-- a root that took in one more
+pub joined_more : (v now w : View) (ys : List Seated) (o : Seated) → now ≡ joined_all v ys → w ≡ o.view → joined now w ≡ joined_all v (ys ++ o ∷ [])
+joined_more v now w ys o is e =
+    ap (λ (n : View). joined n w) is ∙ ap (λ (w : View). joined (joined_all v ys) w) e
+    ∙ ap (λ (l : List Book). let u : View = record v { left = l } in u) (append_assoc v.left (map (λ s. s.view.book) ys) (o.view.book ∷ []) ∙ ap (λ (l : List Book). v.left ++ l) (sym (map-append (λ (s : Seated). s.view.book) ys (o ∷ []))))
+
+pub closed_by : (t : Terms) (id : ℕ) (root v : View) (others : List Seated) (words : List ℕ) (slots : List (Unit {0})) (next best : ℕ)
+    → v ≡ joined_all root others → root.spent ≡ false → root.left ≡ [] → root.root ≡ true → length others + 1 ≡ root.made → Final (Seen (Holds t) id v) words slots
+    → get_elem? words 0 ≡ some next → get_elem? words 1 ≡ some best
+    → StandOnce next (drawn_numbers (root.book ∷ map (λ s. s.view.book) others)) × (best ≡ least t.first (reported_values (root.book ∷ map (λ s. s.view.book) others)))
+closed_by t id root v others words slots next best is e empty r all final at at' =
+    let bs : List Book = map (λ s. s.view.book) others in
+    let left : v.left ≡ bs = ap (λ (v : View). v.left) is ∙ ap (λ l. l ++ bs) empty in
+    let book : v.book ≡ root.book = ap (λ (v : View). v.book) is in
+    let many : length v.left ≡ length others = ap (λ (l : List Book). length l) left ∙ length-map others (λ (s : Seated). s.view.book) in
+    let made : v.made ≡ root.made = ap (λ (v : View). v.made) is in
+    let k = closes t id v words slots (ap (λ (v : View). v.spent) is ∙ e) (ap (λ (v : View). v.root) is ∙ r) (omega arith) final in
+    let all_books : v.book ∷ v.left ≡ root.book ∷ bs = λ i. book i ∷ left i in
+    let n : slice_index words 0 ≡ next = (at_get words 0 next 0 at).1 in
+    let b : slice_index words 1 ≡ best = (at_get words 1 best 0 at').1 in
+    (
+      subst (λ l. StandOnce next (drawn_numbers l)) all_books (subst (λ n. StandOnce n (drawn_numbers (v.book ∷ v.left))) n k.0),
+      sym b ∙ k.1 ∙ ap (λ l. least t.first (reported_values l)) all_books,
     )

@@ -7,6 +7,6 @@ mod round;
 mod rule;
 mod views;
 
-pub use board::{Board, BoardSeat};
+pub use board::{Board, BoardSeat, RoundResult};
 pub use memory::NoMemory;
 pub use round::{Event, RoundState, law_of_rounds};
