@@ -258,7 +258,7 @@ report_keeps t words views id v x value h at e owes small =
 
 -- split
 
-split_sum : (g : Book → ℕ) (views : List View) (id : ℕ) (v : View) → get_elem? views id ≡ some v
+pub split_sum : (g : Book → ℕ) (views : List View) (id : ℕ) (v : View) → get_elem? views id ≡ some v
     → sum_by g (books (set views id (split v) ++ newcomer v ∷ [])) ≡ sum_by g (books views) + g (empty_book v.made)
 split_sum g views id v at =
     let s = books_set g views id v (split v) at in
@@ -338,7 +338,7 @@ split_keeps t words views id v h at e r room =
 
 -- join
 
-join_sum : (g : Book → ℕ) (views : List View) (id other : ℕ) (v u : View) → get_elem? views id ≡ some v → v.spent ≡ false → get_elem? (set views id (joined v u)) other ≡ some u → u.spent ≡ false → u.left ≡ []
+pub join_sum : (g : Book → ℕ) (views : List View) (id other : ℕ) (v u : View) → get_elem? views id ≡ some v → v.spent ≡ false → get_elem? (set views id (joined v u)) other ≡ some u → u.spent ≡ false → u.left ≡ []
     → sum_by g (books (set (set views id (joined v u)) other nothing)) ≡ sum_by g (books views)
 join_sum g views id other v u at e at' e' none =
     let s = books_set g views id v (joined v u) at in

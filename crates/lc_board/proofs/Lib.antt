@@ -1,4 +1,6 @@
 pub mod Boards
+pub mod Callers
 pub mod Counting
+pub mod Machines
 pub mod Moves
 pub mod Rounds

@@ -1,5 +1,6 @@
 pub mod Board
 pub mod Counting
+pub mod Machine
 pub mod Round
 pub mod Seats
 pub mod State

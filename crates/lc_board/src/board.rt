@@ -76,7 +76,8 @@ impl Board {
         requires board { seat.old.table ≡ self.now.table }
         requires reported { AllReported seat.old.view.book }
         ensures table { seat.new.table ≡ seat.old.table }
-        ensures number { (x : ℕ) × (seat.new.view ≡ drew seat.old.view x) × All (λ y. y < x) seat.old.view.book.drawn × MatchOption result (self.now.count ≤ x) (λ r. (r ≡ x) × (x < self.now.count)) }
+        ensures some { IfSome result (λ x. (x < self.now.count) × (seat.new.view ≡ drew seat.old.view x) × All (λ y. y < x) seat.old.view.book.drawn) }
+        ensures none { IfNone result ((x : ℕ) × (self.now.count ≤ x) × (seat.new.view ≡ drew seat.old.view x) × All (λ y. y < x) seat.old.view.book.drawn) }
     {
         let number = self.table.shared.fetch_add::<Claims>(&mut seat.seat, 0, 1);
         if number < self.count {

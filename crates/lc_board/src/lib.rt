@@ -7,6 +7,8 @@ mod round;
 mod rule;
 mod views;
 
+#[cfg(test)]
+mod tests;
 pub use board::{Board, BoardSeat, RoundResult};
 pub use memory::NoMemory;
 pub use round::{Event, RoundState, law_of_rounds};
