@@ -5,9 +5,10 @@ use atomic_table::{Join, Play, Split, TableRule};
 pub(crate) struct Ruled;
 
 impl TableRule<(), View, Terms> for Ruled {
-    ghost use Rattle.lc_board.specs.Board.{BoardRule, root_view};
+    ghost use Rattle.lc_board.specs.Board.{root_view};
+    ghost use Rattle.lc_board.specs.Machine.{IsRuled};
 
-    ghost holds = { λ t s. BoardRule t s.words s.views };
+    ghost holds = { λ t s. IsRuled t s.words s.views };
 
     ghost first = { root_view };
 }
