@@ -4,3 +4,4 @@ pub mod Counting
 pub mod Machines
 pub mod Moves
 pub mod Rounds
+pub mod Sentences

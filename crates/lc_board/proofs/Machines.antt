@@ -171,7 +171,7 @@ claim_event t words views r id v h is at e all =
       subst (λ (m : ℕ). IsRound (set words 0 (m + 1)) (set views id (drew v m)) (moved r (Claim v.book.number))) (sym c) after,
     )
 
-same_count : (t : Terms) (words : List ℕ) (views : List View) (r : Round) → BoardRule t words views → IsRound words views r → r.count ≡ t.count
+pub same_count : (t : Terms) (words : List ℕ) (views : List View) (r : Round) → BoardRule t words views → IsRound words views r → r.count ≡ t.count
 same_count t words views r h is = ap (λ l. get_or l 3 0) (sym is.words_are ∙ h.words_are)
 
 pub report_event : ReportIsAnEvent

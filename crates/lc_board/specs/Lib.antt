@@ -3,4 +3,5 @@ pub mod Counting
 pub mod Machine
 pub mod Round
 pub mod Seats
+pub mod Sentences
 pub mod State

@@ -2,13 +2,15 @@
 #![tactic(auto)]
 
 mod board;
+mod laws;
 mod memory;
 mod round;
 mod rule;
-mod views;
-
 #[cfg(test)]
 mod tests;
+mod views;
+
 pub use board::{Board, BoardSeat, RoundResult};
+pub use laws::{law_of_boards, law_of_rounds};
 pub use memory::NoMemory;
-pub use round::{Event, RoundState, law_of_rounds};
+pub use round::{Event, RoundState};

@@ -2,7 +2,7 @@
 ghost use Rattle.std.specs.Prelude.{◌≡◌, ◌<◌, ◌≤◌, ◌∷◌, ◌++◌, ◌↔◌, ◌+◌, min, map, true, false, set, length, replicate, [], None, All, IsTrue, IfOk, OnOk, OnErr, IsSome, if◌then◌else◌};
 ghost use Rattle.lc_board.specs.declared.round.Mode.TheVariants.{Running, Ended, Stopped};
 ghost use Rattle.lc_board.specs.declared.round.Event.TheVariants.{Claim, Report, EndRound, Kill, Resume};
-ghost use Rattle.lc_board.specs.Round.{start, actor_at, idle, drew, finished, Possible, moved, IsAlwaysSound, EndsWithTheLeast};
+ghost use Rattle.lc_board.specs.Round.{start, actor_at, idle, drew, finished, Possible, moved};
 
 use crate::NoMemory;
 use std::alloc::Global;
@@ -322,11 +322,3 @@ impl RoundState {
         self.actors[actor as usize].held
     }
 }
-
-/// In each state that a list of events reaches, held and finished blocks are the numbers below the lesser of next and
-/// count, each once, and best is the least of first and the finished values. An ended round has finished each block
-/// once, and its best is the least of first and all their values, whatever was killed and resumed before.
-pub fn law_of_rounds()
-    ensures always { IsAlwaysSound }
-    ensures ended { EndsWithTheLeast }
-{}
