@@ -41,8 +41,8 @@ none_there n [] e = All-nil (λ (b : Book). b.number ≢ n)
 none_there n (b ∷ bs) e =
     let s = sum_by-cons (has n) b bs in
     All-cons (λ (b : Book). b.number ≢ n) b bs
-        (λ k. let one : has n b ≡ 1 = ap (λ (m : ℕ). cond {A = ℕ} (eqb m n) 1 0) k ∙ has_itself n in absurd (omega arith))
-        (none_there n bs (omega arith))
+    (λ k. let one : has n b ≡ 1 = ap (λ (m : ℕ). cond {A = ℕ} (eqb m n) 1 0) k ∙ has_itself n in absurd (omega arith))
+    (none_there n bs (omega arith))
 
 at_most_one : (n made : ℕ) → cond {A = ℕ} (ltb n made) 1 0 ≤ 1
 at_most_one n made = ⊎_elim
@@ -134,9 +134,9 @@ module _ (t : Terms) (words words' : List ℕ) (views : List View) (r : Round) (
         words_are = ws;
         running = is.running;
         actors = length-set r.actors v.book.number a ∙ is.actors;
-        seats = λ j u e' . ⊎_elim
+        seats = λ j u e'. ⊎_elim
             (λ (x : (j ≡ id) × (w ≡ u)). subst (λ (u : View). All (λ b. actor_at r' b.number ≡ actor_of r.count b) (books_in u)) x.1
-                (subst (All (λ (b : Book). actor_at r' b.number ≡ actor_of r.count b)) (sym (live w e)) (All-cons (λ (b : Book). actor_at r' b.number ≡ actor_of r.count b) b v.left own left)))
+            (subst (All (λ (b : Book). actor_at r' b.number ≡ actor_of r.count b)) (sym (live w e)) (All-cons (λ (b : Book). actor_at r' b.number ≡ actor_of r.count b) b v.left own left)))
             (λ (x : (j ≢ id) × (get_elem? views j ≡ some u)). kept (books_in u) (others_apart t words views id v h at e j u x.0 x.1) (is.seats j u x.1))
             (at_set views id j w u e');
         others = λ k none.
@@ -145,9 +145,9 @@ module _ (t : Terms) (words words' : List ℕ) (views : List View) (r : Round) (
             let c = seats_count k (books (set views id w)) in let d = seats_count k (books views) in
             let before : times k (seat_numbers (books views)) ≡ 0 = omega arith in
             let apart : k ≢ v.book.number = (λ same_number.
-                let p = present t words views id v h at e in
-                let here : times v.book.number (seat_numbers (books views)) ≡ 0 = subst (λ (m : ℕ). times m (seat_numbers (books views)) ≡ 0) same_number before in
-                absurd (omega arith)) in
+            let p = present t words views id v h at e in
+            let here : times v.book.number (seat_numbers (books views)) ≡ 0 = subst (λ (m : ℕ). times m (seat_numbers (books views)) ≡ 0) same_number before in
+            absurd (omega arith)) in
             get_set r a v.book.number k apart ∙ is.others k before;
       }
 
@@ -165,8 +165,7 @@ claim_event t words views r id v h is at e all =
     let owes : Owes b r.next = ap (λ l. l ++ r.next ∷ []) all in
     let c = first_word words views r is in
     let new : actor_drew r.count r.next (actor_at r v.book.number) ≡ actor_of r.count b = ap (actor_drew r.count r.next) own ∙ sym (owing r.count b r.next owes) in
-    let after = book_event t words (set words 0 (r.next + 1)) views r id v b (actor_drew r.count r.next (actor_at r v.book.number)) (r.next + 1) r.best h is at e (ap (λ l. set l 0 (r.next + 1)) is.words_are) refl new in
-    (
+    let after = book_event t words (set words 0 (r.next + 1)) views r id v b (actor_drew r.count r.next (actor_at r v.book.number)) (r.next + 1) r.best h is at e (ap (λ l. set l 0 (r.next + 1)) is.words_are) refl new in (
       (is.running, l, ap (λ (a : Actor). a.held) own, ap (λ (a : Actor). a.past) own),
       subst (λ (m : ℕ). IsRound (set words 0 (m + 1)) (set views id (drew v m)) (moved r (Claim v.book.number))) (sym c) after,
     )
@@ -182,8 +181,7 @@ report_event t words views r id v x value h is at e owes small =
     let l = few t words words views r id v b idle r.next r.best h is at e in
     let c : slice_index words 1 ≡ r.best = ap (λ l. get_or l 1 0) is.words_are in
     let new : actor_finished value (actor_at r v.book.number) ≡ actor_of r.count b = ap (actor_finished value) own ∙ sym (ap (actor_with r.count b.reported) (ap (drop (length b.reported)) owes ∙ none_pending v.book.reported x value)) in
-    let after = book_event t words (set words 1 (min r.best value)) views r id v b (actor_finished value (actor_at r v.book.number)) r.next (min r.best value) h is at e (ap (λ l. set l 1 (min r.best value)) is.words_are) refl new in
-    (
+    let after = book_event t words (set words 1 (min r.best value)) views r id v b (actor_finished value (actor_at r v.book.number)) r.next (min r.best value) h is at e (ap (λ l. set l 1 (min r.best value)) is.words_are) refl new in (
       (is.running, l, subst (λ (a : Actor). IsSome a.held) (sym own) refl),
       subst (λ (m : ℕ). IsRound (set words 1 (min m value)) (set views id (told v x value)) (moved r (Report v.book.number value))) (sym c) after,
     )
@@ -200,9 +198,9 @@ split_stays t words views r id v h is at e root room =
       actors = is.actors;
       seats = λ j u e'. ⊎_elim
           (λ (was : get_elem? (set views id (split v)) j ≡ some u). ⊎_elim
-              (λ (x : (j ≡ id) × (split v ≡ u)). subst P x.1 (is.seats id v at))
-              (λ (x : (j ≢ id) × (get_elem? views j ≡ some u)). is.seats j u x.1)
-              (at_set views id j (split v) u was))
+          (λ (x : (j ≡ id) × (split v ≡ u)). subst P x.1 (is.seats id v at))
+          (λ (x : (j ≢ id) × (get_elem? views j ≡ some u)). is.seats j u x.1)
+          (at_set views id j (split v) u was))
           (λ (new : newcomer v ≡ u). subst P new (All-cons (λ (b : Book). actor_at r b.number ≡ actor_of r.count b) (empty_book v.made) [] (is.others v.made free) (All-nil (λ (b : Book). actor_at r b.number ≡ actor_of r.count b))))
           (at_snoc (set views id (split v)) (newcomer v) u j e');
       others = λ k none.
@@ -228,9 +226,9 @@ join_stays t words views r id v other u h is at e root apart at' e' =
       seats = λ j w k. ⊎_elim
           (λ (x : (j ≡ other) × (nothing ≡ w)). subst P x.1 (All-nil Q))
           (λ (x : (j ≢ other) × (get_elem? (set views id (joined v u)) j ≡ some w)). ⊎_elim
-              (λ (y : (j ≡ id) × (joined v u ≡ w)). subst P y.1 (subst (All Q) (sym (live (joined v u) e)) (All-push Q (v.book ∷ v.left) u.book mine (All-head Q u.book u.left theirs))))
-              (λ (y : (j ≢ id) × (get_elem? views j ≡ some w)). is.seats j w y.1)
-              (at_set views id j (joined v u) w x.1))
+          (λ (y : (j ≡ id) × (joined v u ≡ w)). subst P y.1 (subst (All Q) (sym (live (joined v u) e)) (All-push Q (v.book ∷ v.left) u.book mine (All-head Q u.book u.left theirs))))
+          (λ (y : (j ≢ id) × (get_elem? views j ≡ some w)). is.seats j w y.1)
+          (at_set views id j (joined v u) w x.1))
           (at_set (set views id (joined v u)) other j nothing w k);
       others = λ k none.
           let s = join_sum (has k) views id other v u at e at' e' empty in

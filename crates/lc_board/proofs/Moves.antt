@@ -58,8 +58,7 @@ claim_ruled t words views id v h at e all =
 pub claims : (t : Terms) (slots id : ℕ) (m : Me (Unit {0}) View) → m.0.spent ≡ false → AllReported m.0.book
     → Allows (Holds t) slots id m 0 (λ n. (n + 1) % 2 ^ 64) (Draws (step slots 0 1 0 none) m)
 claims t slots id m e all s h sized at fits =
-    let c = counter t s.words s.views h.0 in
-    (
+    let c = counter t s.words s.views h.0 in (
       drew m.0 (slice_index s.words 0),
       keeps,
       tt,
@@ -77,8 +76,7 @@ report_ruled : (t : Terms) (words : List ℕ) (views : List View) (id : ℕ) (v 
 report_ruled t words views id v x value h at e owes small =
     let r = h.1.0 in
     let b = best_word t words views h.0 in
-    let k = report_event t words views r id v x value h.0 h.1.3 at e owes small in
-    (
+    let k = report_event t words views r id v x value h.0 h.1.3 at e owes small in (
       subst (λ (n : ℕ). BoardRule t (set words 1 (min n value)) (set views id (told v x value))) (sym b) (report_keeps t words views id v x value h.0 at e owes small),
       (moved r (Report v.book.number value), h.1.1 ++ Report v.book.number value ∷ [], reaches_more (start t.count t.first 256) r h.1.1 (Report v.book.number value) h.1.2 k.0, k.1),
     )
@@ -134,8 +132,7 @@ closed_by t id root v others words slots next best is e empty r all final at at'
     let k = closes t id v words slots (ap (λ (v : View). v.spent) is ∙ e) (ap (λ (v : View). v.root) is ∙ r) (omega arith) final in
     let all_books : v.book ∷ v.left ≡ root.book ∷ bs = λ i. book i ∷ left i in
     let n : slice_index words 0 ≡ next = (at_get words 0 next 0 at).1 in
-    let b : slice_index words 1 ≡ best = (at_get words 1 best 0 at').1 in
-    (
+    let b : slice_index words 1 ≡ best = (at_get words 1 best 0 at').1 in (
       subst (λ l. StandOnce next (drawn_numbers l)) all_books (subst (λ n. StandOnce n (drawn_numbers (v.book ∷ v.left))) n k.0),
       sym b ∙ k.1 ∙ ap (λ l. least t.first (reported_values l)) all_books,
     )

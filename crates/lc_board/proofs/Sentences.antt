@@ -144,39 +144,39 @@ actor_says count b (y ∷ []) short is ib =
     let low = All-map (λ x. x < count) (λ (p : ℕ × ℕ). p.0) b.reported ib.below in
     let own : Contains b.drawn y = subst (λ (xs : List ℕ). Contains xs y) (sym is) (Contains-push R y) in
     let fresh : Contains R y → ⊥ = (λ c.
-        let size : length b.drawn ≡ length R + 1 = ap (λ (l : List ℕ). length l) is ∙ length-append R (y ∷ []) in
-        let l = c.1 in
-        let up = ib.rising c.0 (length R) l (omega arith) in
-        let a : get_or b.drawn c.0 0 ≡ get_or R c.0 0 = ap (λ (xs : List ℕ). get_or xs c.0 0) is ∙ get_or_append_left R (y ∷ []) 0 c.0 l in
-        let d : get_or R c.0 0 ≡ y = sym (get_or_default R c.0 y 0 l) ∙ c.2 in
-        let z : get_or b.drawn (length R) 0 ≡ y = ap (λ (xs : List ℕ). get_or xs (length R) 0) is ∙ get_or_push R y 0 (length R) refl in
-        omega arith) in
+    let size : length b.drawn ≡ length R + 1 = ap (λ (l : List ℕ). length l) is ∙ length-append R (y ∷ []) in
+    let l = c.1 in
+    let up = ib.rising c.0 (length R) l (omega arith) in
+    let a : get_or b.drawn c.0 0 ≡ get_or R c.0 0 = ap (λ (xs : List ℕ). get_or xs c.0 0) is ∙ get_or_append_left R (y ∷ []) 0 c.0 l in
+    let d : get_or R c.0 0 ≡ y = sym (get_or_default R c.0 y 0 l) ∙ c.2 in
+    let z : get_or b.drawn (length R) 0 ≡ y = ap (λ (xs : List ℕ). get_or xs (length R) 0) is ∙ get_or_push R y 0 (length R) refl in
+    omega arith) in
     let found : (x : ℕ) → Contains b.drawn x → Contains R x ⊎ (y ≡ x) = (λ x c. Contains-push_cases R y x (subst (λ (xs : List ℕ). Contains xs x) is c)) in
     ⊎_elim
     (λ (l : y < count). subst (λ (a : Actor). IsActor count b a) (sym (ap (λ (c : Bool). cond {A = Actor} c (record { held = Some y; past = false; finished = b.reported }) (record { held = None; past = true; finished = b.reported })) (lt-ltb y count l)))
-        (record {
-          held = λ x. (
-            (λ e. subst (λ (x : ℕ). Contains b.drawn x × (x < count) × (Contains R x → ⊥)) (Some-injective y x e) (own, l, fresh)),
-            (λ h. ⊎_elim (λ (c : Contains R x). absurd (h.2 c)) (λ (e : y ≡ x). ap (λ (n : ℕ). Some n) e) (found x h.0)),
-          );
-          past = (
-            (λ e. absurd (cc)),
-            (λ h. ⊎_elim
-                (λ (c : Contains R h.0). let s = in_front count R h.0 low c in let f = h.2 in absurd (omega arith))
-                (λ (e : y ≡ h.0). let f = h.2 in absurd (omega arith))
-                (found h.0 h.1)),
-          );
-          finished = refl;
-        }))
+    (record {
+      held = λ x. (
+        (λ e. subst (λ (x : ℕ). Contains b.drawn x × (x < count) × (Contains R x → ⊥)) (Some-injective y x e) (own, l, fresh)),
+        (λ h. ⊎_elim (λ (c : Contains R x). absurd (h.2 c)) (λ (e : y ≡ x). ap (λ (n : ℕ). Some n) e) (found x h.0)),
+      );
+      past = (
+        (λ e. absurd (cc)),
+        (λ h. ⊎_elim
+            (λ (c : Contains R h.0). let s = in_front count R h.0 low c in let f = h.2 in absurd (omega arith))
+            (λ (e : y ≡ h.0). let f = h.2 in absurd (omega arith))
+            (found h.0 h.1)),
+      );
+      finished = refl;
+    }))
     (λ (g : count ≤ y). subst (λ (a : Actor). IsActor count b a) (sym (ap (λ (c : Bool). cond {A = Actor} c (record { held = Some y; past = false; finished = b.reported }) (record { held = None; past = true; finished = b.reported })) (le-ltb y count g)))
-        (record {
-          held = λ x. (
-            (λ e. absurd (cc)),
-            (λ h. ⊎_elim (λ (c : Contains R x). absurd (h.2 c)) (λ (e : y ≡ x). let f = h.1 in absurd (omega arith)) (found x h.0)),
-          );
-          past = ((λ e. (y, own, g)), (λ h. refl));
-          finished = refl;
-        }))
+    (record {
+      held = λ x. (
+        (λ e. absurd (cc)),
+        (λ h. ⊎_elim (λ (c : Contains R x). absurd (h.2 c)) (λ (e : y ≡ x). let f = h.1 in absurd (omega arith)) (found x h.0)),
+      );
+      past = ((λ e. (y, own, g)), (λ h. refl));
+      finished = refl;
+    }))
     (cases_lt y count)
 actor_says count b (y ∷ z ∷ rest) short is ib = absurd (omega arith)
 
@@ -195,5 +195,5 @@ actors_are_seats t words views r h is =
     let fits = all_in (λ b. actor_at r b.number ≡ actor_of r.count b) views is.seats in
     let each = each_book t words views h in
     λ k d l.
-        let b = get_or (books views) k d in
-        subst (IsActor t.count b) (sym (fits k d l ∙ ap (λ n. actor_of n b) count)) (is_actor t.count b (each k d l))
+    let b = get_or (books views) k d in
+    subst (IsActor t.count b) (sym (fits k d l ∙ ap (λ n. actor_of n b) count)) (is_actor t.count b (each k d l))

@@ -9,8 +9,7 @@ ghost use Rattle.lc_board.specs.Sentences.{RuleSays};
 pub fn law_of_rounds()
     ensures always { IsAlwaysSound }
     ensures ended { EndsWithTheLeast }
-{
-}
+{}
 
 /// Words and views of a board are at each moment a state of the round machine that events reach: a new board is the
 /// starting state, a claim and a report are the events of these names, and a split and a join leave the state. A
@@ -24,5 +23,4 @@ pub fn law_of_boards()
     ensures split { SplitLeavesTheState }
     ensures join { JoinLeavesTheState }
     ensures actors { ActorsAreSeats }
-{
-}
+{}

@@ -214,6 +214,7 @@ impl RoundState {
     pub fn step(&mut self, alloc: Global, event: Event) -> Result<bool, NoMemory>
         ensures answer { IfOk result (λ done. IsTrue done ↔ Possible self.old event) }
         ensures state { IfOk result (λ done. self.new ≡ (if done then moved self.old event else self.old)) }
+        ensures actors { length self.new.actors ≡ length self.old.actors }
         ensures no_memory { OnErr result (self.new ≡ self.old) }
     {
         let _ = alloc;

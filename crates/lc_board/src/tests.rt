@@ -69,11 +69,7 @@ fn least_value() -> u64 {
     least
 }
 
-fn new_worker(
-    alloc: Global,
-    board: &Board,
-    root: &mut BoardSeat,
-) -> Result<Worker, AllocError>
+fn new_worker(alloc: Global, board: &Board, root: &mut BoardSeat) -> Result<Worker, AllocError>
     requires { (root.old.table ≡ board.now.table) × (root.old.view.root ≡ true) × (root.old.view.made < 256) }
     ensures root { (root.new.table ≡ root.old.table) × (root.new.view.root ≡ true) × (root.new.view.made ≡ root.old.view.made + 1) }
     ensures new { IfOk result (λ w. (w.seat.table ≡ board.now.table) × AllReported w.seat.view.book) }
@@ -147,5 +143,81 @@ fn four_threads_draw_each_number_once(rt: HostRuntime) -> Result<(), Fail> {
     let result = close_all(alloc, board, root, workers)?;
     assert!(rt; result.count() == NUMBERS && result.claimed() == NUMBERS);
     assert!(rt; result.best() == least_value());
+    Ok(())
+}
+
+#[test]
+fn a_round_does_what_its_table_says(rt: HostRuntime) -> Result<(), NoMemory> {
+    let alloc = rt.alloc();
+    let mut state = RoundState::new(alloc, 2, 9, 2)?;
+    let table = [
+        (Event::Claim(0), true, 1, 9, Some(0), None),
+        (Event::Claim(1), true, 2, 9, Some(0), Some(1)),
+        (Event::Claim(0), false, 2, 9, Some(0), Some(1)),
+        (Event::Report(1, 7), true, 2, 7, Some(0), None),
+        (Event::EndRound, false, 2, 7, Some(0), None),
+        (Event::Report(0, 8), true, 2, 7, None, None),
+        (Event::Claim(0), true, 3, 7, None, None),
+        (Event::EndRound, true, 3, 7, None, None),
+        (Event::Kill, false, 3, 7, None, None),
+    ];
+    for (event, answer, next, best, first, second) in table {
+        let done = state.step(alloc, event)?;
+        assert!(rt; done == answer && state.next() == next && state.best() == best);
+        assert!(rt; state.held(0) == first && state.held(1) == second);
+    }
+    assert!(rt; state.ended());
+    Ok(())
+}
+
+#[test]
+fn a_killed_round_begins_again(rt: HostRuntime) -> Result<(), NoMemory> {
+    let alloc = rt.alloc();
+    let mut state = RoundState::new(alloc, 2, 9, 2)?;
+    let table = [
+        (Event::Claim(1), true, 1, 9, Some(0)),
+        (Event::Report(1, 4), true, 1, 4, None),
+        (Event::Claim(1), true, 2, 4, Some(1)),
+        (Event::Resume, false, 2, 4, Some(1)),
+        (Event::Kill, true, 2, 4, Some(1)),
+        (Event::Report(1, 3), false, 2, 4, Some(1)),
+        (Event::Resume, true, 0, 9, None),
+        (Event::Claim(2), false, 0, 9, None),
+    ];
+    for (event, answer, next, best, held) in table {
+        let done = state.step(alloc, event)?;
+        assert!(rt; done == answer && state.next() == next && state.best() == best);
+        assert!(rt; state.held(1) == held && !state.ended());
+    }
+    Ok(())
+}
+
+fn crosses<T: Send>(_value: &T) {}
+
+fn is_shared<T: Send + Sync>(_value: &T) {}
+
+#[test]
+fn a_board_that_nobody_draws_from_keeps_its_first_value(rt: HostRuntime) -> Result<(), NoMemory> {
+    let alloc = rt.alloc();
+    let (board, root) = Board::open(alloc, 3, 5)?;
+    is_shared(&board);
+    crosses(&root);
+    let result = board.close(root, Vec::new(alloc));
+    assert!(rt; result.count() == 3 && result.claimed() == 0 && result.best() == 5);
+    Ok(())
+}
+
+#[test]
+fn the_root_draws_until_none_comes(rt: HostRuntime) -> Result<(), NoMemory> {
+    let alloc = rt.alloc();
+    let (board, mut root) = Board::open(alloc, 1, 8)?;
+    let first = board.claim(&mut root);
+    assert!(rt; first == Some(0));
+    if let Some(number) = first {
+        board.report(&mut root, number, 9);
+        assert!(rt; board.claim(&mut root).is_none());
+    }
+    let result = board.close(root, Vec::new(alloc));
+    assert!(rt; result.claimed() == 1 && result.best() == 8);
     Ok(())
 }

@@ -13,8 +13,7 @@ join_seat-requires c =
     let o = c.other.invariant in
     let r = c.requires.root in
     let four = c.requires.words in
-    let of_table : c.in-Some.other.table ≡ c.args.table.now.table_id = (let rest : c.loop-other.other-iterator.rest.items ≡ c.in-Some.other ∷ c.next.new.self.rest.items = search rules in All-head (λ (s : Seated). s.table ≡ c.args.table.now.table_id) c.in-Some.other c.next.new.self.rest.items (subst (All (λ (s : Seated). s.table ≡ c.args.table.now.table_id)) rest i.3)) in
-    (
+    let of_table : c.in-Some.other.table ≡ c.args.table.now.table_id = (let rest : c.loop-other.other-iterator.rest.items ≡ c.in-Some.other ∷ c.next.new.self.rest.items = search rules in All-head (λ (s : Seated). s.table ≡ c.args.table.now.table_id) c.in-Some.other c.next.new.self.rest.items (subst (All (λ (s : Seated). s.table ≡ c.args.table.now.table_id)) rest i.3)) in (
       i.0 ∙ r.0,
       ap (λ (s : Seated). s.table) c.other.view_is ∙ of_table,
       o.2,
@@ -27,8 +26,7 @@ pub loop-other-preserved : goal.loop-other-preserved
 loop-other-preserved c =
     let i = c.loop-other.invariant in
     let j = c.join_seat.ensures in
-    let rest : c.loop-other.other-iterator.rest.items ≡ c.in-Some.other ∷ c.next.new.self.rest.items = search rules in
-    (
+    let rest : c.loop-other.other-iterator.rest.items ≡ c.in-Some.other ∷ c.next.new.self.rest.items = search rules in (
       j.0 ∙ i.0,
       j.1 ∙ i.1,
       ap (λ (m : Me (Unit {0}) View). m.0) j.2 ∙ joined_more c.args.root.me.0 c.loop-other.root.me.0 c.other.inside.seat.me.0 c.loop-other.yielded c.in-Some.other i.2 (ap (λ (s : Seated). s.view) c.other.view_is),

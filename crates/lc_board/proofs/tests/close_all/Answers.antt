@@ -14,8 +14,7 @@ loop-worker-preserved c =
     let a : length c.loop-worker.workers.items ≡ length (c.pop.new.self.items ++ c.in-Some.worker ∷ []) = ap (λ (l : List Worker). length l) popped in
     let b : length c.push.new.self.items ≡ length (c.loop-worker.seats.items ++ c.in-Some.worker.seat ∷ []) = ap (λ (l : List Seated). length l) pushed in
     let a' = length-append c.pop.new.self.items (c.in-Some.worker ∷ []) in let b' = length-append c.loop-worker.seats.items (c.in-Some.worker.seat ∷ []) in
-    let n = i.0 in
-    (
+    let n = i.0 in (
       omega arith,
       subst (All (λ (s : Seated). s.table ≡ c.args.board.table)) (sym pushed) (All-push (λ (s : Seated). s.table ≡ c.args.board.table) c.loop-worker.seats.items c.in-Some.worker.seat i.1 p.1),
       p.0,

@@ -17,11 +17,10 @@ free-requires c = λ k l.
 pub returns-clause-drawn : goal.returns-clause-drawn
 returns-clause-drawn c =
     let k = closed_by c.self.inside.table.shared.key c.take_in-all.result.id c.root.inside.seat.me.0 c.take_in-all.result.me.0 c.args.seats.items _ _ c.word-next.result c.word-best.result
-        c.take_in-all.ensures.2 c.root.invariant.0 c.root.invariant.1 (ap (λ (s : Seated). s.view.root) c.root.view_is ∙ c.requires.root.1)
-        (c.requires.all ∙ sym (ap (λ (s : Seated). s.view.made) c.root.view_is)) c.close_with-closed.ensures.values.2 c.word-next.ensures c.word-best.ensures in
+    c.take_in-all.ensures.2 c.root.invariant.0 c.root.invariant.1 (ap (λ (s : Seated). s.view.root) c.root.view_is ∙ c.requires.root.1)
+    (c.requires.all ∙ sym (ap (λ (s : Seated). s.view.made) c.root.view_is)) c.close_with-closed.ensures.values.2 c.word-next.ensures c.word-best.ensures in
     let b : c.root.inside.seat.me.0.book ≡ c.args.root.view.book = ap (λ (s : Seated). s.view.book) c.root.view_is in
-    let n : c.self.inside.count ≡ c.args.self.count = c.self.invariant.0 ∙ ap (λ (b : Opened). b.count) c.self.view_is in
-    (
+    let n : c.self.inside.count ≡ c.args.self.count = c.self.invariant.0 ∙ ap (λ (b : Opened). b.count) c.self.view_is in (
       c.word-next.result,
       subst (λ (b : Book). StandOnce c.word-next.result (drawn_numbers (b ∷ map (λ (s : Seated). s.view.book) c.args.seats.items))) b k.0,
       elim c.if-next-count.branch [ then-next-count w ↦ omega arith | else-next-count w ↦ omega arith ],
@@ -30,8 +29,8 @@ returns-clause-drawn c =
 pub returns-clause-best : goal.returns-clause-best
 returns-clause-best c =
     let k = closed_by c.self.inside.table.shared.key c.take_in-all.result.id c.root.inside.seat.me.0 c.take_in-all.result.me.0 c.args.seats.items _ _ c.word-next.result c.word-best.result
-        c.take_in-all.ensures.2 c.root.invariant.0 c.root.invariant.1 (ap (λ (s : Seated). s.view.root) c.root.view_is ∙ c.requires.root.1)
-        (c.requires.all ∙ sym (ap (λ (s : Seated). s.view.made) c.root.view_is)) c.close_with-closed.ensures.values.2 c.word-next.ensures c.word-best.ensures in
+    c.take_in-all.ensures.2 c.root.invariant.0 c.root.invariant.1 (ap (λ (s : Seated). s.view.root) c.root.view_is ∙ c.requires.root.1)
+    (c.requires.all ∙ sym (ap (λ (s : Seated). s.view.made) c.root.view_is)) c.close_with-closed.ensures.values.2 c.word-next.ensures c.word-best.ensures in
     let b : c.root.inside.seat.me.0.book ≡ c.args.root.view.book = ap (λ (s : Seated). s.view.book) c.root.view_is in
     let f : c.self.inside.table.shared.key.first ≡ c.args.self.first = ap (λ (b : Opened). b.first) c.self.view_is in
     k.1 ∙ ap (λ (n : ℕ). least n (reported_values (c.root.inside.seat.me.0.book ∷ map (λ (s : Seated). s.view.book) c.args.seats.items))) f
