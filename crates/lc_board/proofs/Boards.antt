@@ -3,22 +3,22 @@
 --   drawn_below    what a seat drew is below the claim counter
 --   claim_keeps, report_keeps, split_keeps, join_keeps    the steps
 --   whole          a root that took in all other seats has all books
-use Rattle.std.proofs.Common.{◌≡◌, ◌≢◌, ℕ, zero, suc, ◌+◌, ◌^◌, ◌<◌, ◌≤◌, min, Bool, true, false, cond, eqb, ltb, leb, List, [], ◌∷◌, ◌++◌, length, get_or, set, map, refl, sym, ap, ◌∙◌, subst, inl, inr, ⊎_elim, arith, lit≤, length-append, append_assoc, le-leb}
+use Rattle.std.proofs.Common.{◌≡◌, ◌≢◌, ℕ, zero, suc, ◌+◌, ◌^◌, ◌<◌, ◌≤◌, min, Bool, true, false, cond, eqb, ltb, leb, List, [], ◌∷◌, ◌++◌, length, get_or, set, map, refl, sym, ap, ◌∙◌, subst, ⊎_elim, arith, length-append, append_assoc, le-leb}
 use Rattle.std.specs.Prelude.{sum_by, count_by, flat_map, All}
-use Rattle.std.proofs.lemmas.Bool.{cases_lt, lt-ltb, le-ltb, ltb-true, lt-leb, true≢false}
+use Rattle.std.proofs.lemmas.Bool.{cases_lt, le-ltb, lt-leb, true≢false}
 use Rattle.std.proofs.lemmas.Bool.Decides.{nat_tests}
 use Rattle.std.proofs.lemmas.List.{map-append, append-nil, get_or_append_left, get_or_push}
 use Rattle.std.proofs.lemmas.List.Elements.{All-nil, All-cons, All-head, All-tail, All-push, All-append, All-map, All-weaker}
 use Rattle.std.proofs.lemmas.List.Sums.{sum_by-cons, sum_by-append, sum_by-le, count_by-le-length, get_or-le-sum_by}
 use mathlib.Core.Option.{some, some-injective, some-ne-none}
 use lib.ListN.{get_elem?}
-use Rattle.atomic_table.proofs.Lists.{at_set, at_snoc, set_here, set_else}
-use Rattle.lc_board.specs.Counting.{times, StandOnce, least}
+use Rattle.atomic_table.proofs.Lists.{at_set, at_snoc, set_else}
+use Rattle.lc_board.specs.Counting.{times, least}
 use Rattle.lc_board.specs.Board.{empty_book, root_view, nothing, drew, told, split, newcomer, joined, reported_numbers, AllReported, Owes, books_in, books, seat_numbers, drawn_numbers, reported_values, IsBook, IsView, BoardRule}
 use Rattle.lc_board.specs.declared.views.Terms.{Terms}
 use Rattle.lc_board.specs.declared.views.Book.{Book}
 use Rattle.lc_board.specs.declared.views.View.{View}
-use Rattle.lc_board.proofs.Counting.{sum_flat, at_get, sum_set, two_le_sum, once_more, one_if, none_if, under, least_lower, least_same}
+use Rattle.lc_board.proofs.Counting.{sum_flat, sum_set, two_le_sum, once_more, one_if, none_if, under, least_lower, least_same}
 
 sum_map : {A B : Type 0} (g : B → ℕ) (f : A → B) (xs : List A) → sum_by g (map f xs) ≡ sum_by (λ x. g (f x)) xs
 sum_map g f [] = refl

@@ -4,21 +4,20 @@
 --   report_event   a report is the event Report
 --   split_stays, join_stays    a split and a join leave the state
 --   reaches_more   one event more
-use Rattle.std.proofs.Common.{◌≡◌, ◌≢◌, ℕ, zero, suc, ◌+◌, ◌<◌, ◌≤◌, min, Bool, true, false, cond, eqb, ltb, List, [], ◌∷◌, ◌++◌, length, get_or, set, map, drop, replicate, Option, Some, None, refl, sym, ap, ◌∙◌, subst, inl, inr, ⊎_elim, arith, length-set, get_or-set_same, get_or-set_other}
-use Rattle.std.specs.Prelude.{sum_by, count_by, flat_map, All, IsSome, slice_index}
-use Rattle.std.proofs.lemmas.Bool.{cases_eq, cases_lt, lt-ltb, le-ltb}
+use Rattle.std.proofs.Common.{◌≡◌, ◌≢◌, ℕ, zero, suc, ◌+◌, ◌<◌, ◌≤◌, min, Bool, true, false, cond, eqb, ltb, List, [], ◌∷◌, ◌++◌, length, get_or, set, map, drop, replicate, Some, None, refl, sym, ap, ◌∙◌, subst, ⊎_elim, arith, length-set, get_or-set_same, get_or-set_other}
+use Rattle.std.specs.Prelude.{sum_by, All, IsSome, slice_index}
+use Rattle.std.proofs.lemmas.Bool.{cases_lt, lt-ltb, le-ltb}
 use Rattle.std.proofs.lemmas.Bool.Decides.{nat_tests}
-use Rattle.std.proofs.lemmas.List.{length-map, length-replicate, get_or-replicate, get_or_past}
-use Rattle.std.proofs.lemmas.List.Elements.{All-nil, All-cons, All-head, All-tail, All-push, All-append, All-weaker}
-use Rattle.std.proofs.lemmas.List.Sums.{sum_by-cons, sum_by-append}
+use Rattle.std.proofs.lemmas.List.{length-replicate}
+use Rattle.std.proofs.lemmas.List.Elements.{All-nil, All-cons, All-head, All-tail, All-push}
+use Rattle.std.proofs.lemmas.List.Sums.{sum_by-cons}
 use mathlib.Core.Option.{some, some-injective, some-ne-none}
 use lib.ListN.{get_elem?}
 use Rattle.atomic_table.proofs.Lists.{at_set, at_snoc, set_else}
-use Rattle.lc_board.specs.Counting.{times, StandOnce}
+use Rattle.lc_board.specs.Counting.{times}
 use Rattle.lc_board.specs.Round.{Round, idle, actor_at, start, Possible, drew as actor_drew, finished as actor_finished, moved, Reaches}
-use Rattle.lc_board.specs.Board.{empty_book, root_view, nothing, drew, told, split, newcomer, joined, reported_numbers, AllReported, Owes, books_in, books, seat_numbers, IsBook, IsView, BoardRule}
-use Rattle.lc_board.specs.Machine.{pending, actor_with, actor_of, IsRound, ClaimIsAnEvent, ReportIsAnEvent, SplitLeavesTheState, JoinLeavesTheState, OpensAtTheStart}
-use Rattle.lc_board.specs.declared.round.Mode.TheVariants.{Running}
+use Rattle.lc_board.specs.Board.{empty_book, root_view, nothing, drew, told, split, newcomer, joined, AllReported, Owes, books_in, books, seat_numbers, BoardRule}
+use Rattle.lc_board.specs.Machine.{actor_with, actor_of, IsRound, ClaimIsAnEvent, ReportIsAnEvent, SplitLeavesTheState, JoinLeavesTheState, OpensAtTheStart}
 use Rattle.lc_board.specs.declared.round.Event.{Event}
 use Rattle.lc_board.specs.declared.round.Event.TheVariants.{Claim, Report}
 use Rattle.lc_board.specs.declared.round.Actor.{Actor}

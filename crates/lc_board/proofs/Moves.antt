@@ -3,15 +3,15 @@
 --   opened            a new board is under the rule
 --   joined_more       the root's view after one more join
 --   closes, closed_by                            what the last state of a table says, with the root's view
-use Rattle.std.proofs.Common.{◌≡◌, ◌≢◌, ℕ, zero, suc, ◌+◌, ◌-◌, ◌%◌, ◌^◌, ◌<◌, ◌≤◌, min, Bool, true, false, cond, eqb, ltb, List, [], ◌∷◌, ◌++◌, length, get_or, set, append_assoc, map, refl, sym, ap, ◌∙◌, subst, arith}
+use Rattle.std.proofs.Common.{◌≡◌, ℕ, ◌+◌, ◌%◌, ◌^◌, ◌<◌, ◌≤◌, min, true, false, cond, eqb, ltb, List, [], ◌∷◌, ◌++◌, length, get_or, set, append_assoc, map, refl, sym, ap, ◌∙◌, subst, arith}
 use Rattle.std.specs.Prelude.{All, slice_index, count_by}
 use Rattle.std.proofs.lemmas.List.{get_or_push, length-map, map-append}
 use Rattle.std.proofs.Math.Nat.{mod-eq_of_lt}
 use mathlib.Core.Option.{some, none}
 use lib.ListN.{get_elem?}
-use Rattle.atomic_table.specs.Table.{State, Me, Step, step, Act, keeps, Allows, Splits, Joins, Final, Seen}
+use Rattle.atomic_table.specs.Table.{State, Me, step, keeps, Allows, Splits, Joins, Final, Seen}
 use Rattle.lc_board.specs.Counting.{StandOnce, least}
-use Rattle.lc_board.specs.Board.{root_view, nothing, drew, told, split, newcomer, joined, AllReported, Owes, reported_numbers, books, seat_numbers, drawn_numbers, reported_values, BoardRule, Draws, Tells}
+use Rattle.lc_board.specs.Board.{root_view, nothing, drew, told, split, newcomer, joined, AllReported, Owes, reported_numbers, drawn_numbers, reported_values, BoardRule, Draws, Tells}
 use Rattle.lc_board.specs.Round.{start, moved}
 use Rattle.lc_board.specs.Machine.{IsReached, IsRuled}
 use Rattle.lc_board.specs.declared.round.Event.TheVariants.{Claim, Report}

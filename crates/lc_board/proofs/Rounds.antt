@@ -5,19 +5,18 @@
 --   always_sound         it holds in each state that events reach
 --   ends_with_the_least  what an ended round has
 use Rattle.std.proofs.Common.{◌≡◌, ℕ, zero, suc, ◌+◌, ◌<◌, ◌≤◌, min, Bool, true, false, cond, eqb, ltb, List, [], ◌∷◌, ◌++◌, length, get_or, set, map, replicate, Option, Some, None, refl, sym, ap, ◌∙◌, subst, ⊎_elim, arith}
-use Rattle.std.specs.Prelude.{sum_by, count_by, flat_map, All, IsSome, option_to_list}
+use Rattle.std.specs.Prelude.{sum_by, flat_map, All, IsSome, option_to_list}
 use Rattle.std.proofs.lemmas.Bool.{cases_lt, lt-ltb, le-ltb}
 use Rattle.std.proofs.lemmas.List.{map-append, get_or_default}
 use Rattle.std.proofs.lemmas.List.Elements.{All-head, All-tail}
 use Rattle.std.proofs.lemmas.List.Sums.{sum_by-cons, sum_by-append, sum_by-set}
-use Rattle.lc_board.specs.Counting.{times, StandOnce, least}
+use Rattle.lc_board.specs.Counting.{times, least}
 use Rattle.lc_board.specs.Round.{Round, idle, actor_at, start, Possible, drew, finished, moved, Reaches, blocks_of, values_of, blocks, values, IsSound, IsAlwaysSound, EndsWithTheLeast}
-use Rattle.lc_board.specs.declared.round.Mode.{Mode}
-use Rattle.lc_board.specs.declared.round.Mode.TheVariants.{Running, Ended, Stopped}
+use Rattle.lc_board.specs.declared.round.Mode.TheVariants.{Running}
 use Rattle.lc_board.specs.declared.round.Event.{Event}
 use Rattle.lc_board.specs.declared.round.Event.TheVariants.{Claim, Report, EndRound, Kill, Resume}
 use Rattle.lc_board.specs.declared.round.Actor.{Actor}
-use Rattle.lc_board.proofs.Counting.{sum_flat, once_more, one_if, none_if, under, least_lower, least_same}
+use Rattle.lc_board.proofs.Counting.{sum_flat, once_more, none_if, under, least_lower, least_same}
 
 flat_none : {A B : Type 0} (f : A → List B) (x : A) (n : ℕ) → f x ≡ [] → flat_map f (replicate n x) ≡ []
 flat_none f x zero e = refl

@@ -1,21 +1,20 @@
 -- What follows from the rule of a board.
 --   seat_says, rule_says      the sentences
 --   actors_are_seats          the actors of the machine are what the books say
-use Rattle.std.proofs.Common.{◌≡◌, ◌≢◌, ℕ, zero, suc, ◌+◌, ◌<◌, ◌≤◌, Bool, true, false, cond, ltb, List, [], ◌∷◌, ◌++◌, length, get_or, map, drop, Option, Some, None, refl, sym, ap, ◌∙◌, subst, inl, inr, ⊎_elim, ◌⊎◌, arith, length-append}
-use Rattle.std.specs.Prelude.{sum_by, count_by, All, Contains, slice_index}
+use Rattle.std.proofs.Common.{◌≡◌, ◌≢◌, ℕ, suc, ◌+◌, ◌<◌, ◌≤◌, Bool, true, false, cond, List, [], ◌∷◌, ◌++◌, length, get_or, map, drop, Option, Some, None, refl, sym, ap, ◌∙◌, subst, inl, inr, ⊎_elim, ◌⊎◌, arith, length-append}
+use Rattle.std.specs.Prelude.{count_by, All, Contains, slice_index}
 use Rattle.std.proofs.lemmas.Bool.{cases_eq, cases_lt, lt-ltb, le-ltb}
 use Rattle.std.proofs.lemmas.List.{append-nil, get_or_default, get_or_append_left, get_or_push}
-use Rattle.std.proofs.lemmas.List.Elements.{All-nil, All-append, All-map, All-weaker, All-contains, All-contains_itself, Contains-append_left, Contains-push, Contains-push_cases, Contains-get_or}
+use Rattle.std.proofs.lemmas.List.Elements.{All-nil, All-append, All-map, All-weaker, All-contains, Contains-append_left, Contains-push, Contains-push_cases, Contains-get_or}
 use Rattle.std.proofs.lemmas.List.Sums.{sum_by-cons}
 use mathlib.Core.Option.{some}
 use lib.ListN.{get_elem?}
 use Rattle.lc_board.specs.Counting.{StandOnce, least}
-use Rattle.lc_board.specs.Round.{Round, actor_at}
-use Rattle.lc_board.specs.Board.{nothing, reported_numbers, books_in, books, seat_numbers, drawn_numbers, reported_values, IsBook, IsView, BoardRule}
-use Rattle.lc_board.specs.Machine.{actor_with, actor_of, IsActor, IsRound, ActorsAreSeats}
-use Rattle.lc_board.specs.Sentences.{SeatSays, BoardSays, RuleSays}
+use Rattle.lc_board.specs.Round.{actor_at}
+use Rattle.lc_board.specs.Board.{reported_numbers, books_in, books, seat_numbers, drawn_numbers, reported_values, IsBook}
+use Rattle.lc_board.specs.Machine.{actor_with, actor_of, IsActor, ActorsAreSeats}
+use Rattle.lc_board.specs.Sentences.{SeatSays, RuleSays}
 use Rattle.lc_board.specs.declared.round.Actor.{Actor}
-use Rattle.lc_board.specs.declared.views.Terms.{Terms}
 use Rattle.lc_board.specs.declared.views.Book.{Book}
 use Rattle.lc_board.specs.declared.views.View.{View}
 use Rattle.lc_board.proofs.Boards.{no_other_root, each_book, far_below}
@@ -68,7 +67,7 @@ module _ (count : ℕ) (b : Book) (ib : IsBook count b) where
   }
 
 -- a list that counts one has one
-one_of : {A : Type 0} (p : A → Bool) (xs : List A) → count_by p xs ≡ 1 → (i : ℕ) × (x : A) × (get_elem? xs i ≡ some x) × (p x ≡ true)
+pub one_of : {A : Type 0} (p : A → Bool) (xs : List A) → count_by p xs ≡ 1 → (i : ℕ) × (x : A) × (get_elem? xs i ≡ some x) × (p x ≡ true)
 one_of p [] e = absurd (omega arith)
 one_of {A} p (x ∷ xs) e = at (p x) refl (one_of p xs)
   where

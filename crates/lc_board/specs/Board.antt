@@ -7,6 +7,7 @@
 --   told v x value            the view v after its seat reported the value for x
 --   split v, newcomer v       the root's view after a split, and the view of the new seat
 --   joined v w                the root's view v after it took in the view w
+--   HasDrawn v x w            w is v after it drew x, which exceeds all that it drew before
 --   AllReported b             each number of the book is reported, in order
 --   Owes b x                  each is, but x, which was drawn last
 --   books_in v                the books of a view: its own, and at the root those of joined seats
@@ -15,10 +16,10 @@
 --   IsBook count b            what holds of each book
 --   IsView t made v           what holds of each view
 --   BoardRule t words views   the rule
-use Rattle.std.specs.Prelude.{◌≡◌, ℕ, ◌+◌, ◌^◌, ◌<◌, ◌≤◌, Bool, true, false, cond, leb, List, [], ◌∷◌, ◌++◌, map, length, slice_index, flat_map, count_by, All}
+use Rattle.std.specs.Prelude.{◌≡◌, ℕ, ◌+◌, ◌^◌, ◌<◌, ◌≤◌, true, false, cond, leb, List, [], ◌∷◌, ◌++◌, map, length, slice_index, flat_map, count_by, All}
 use mathlib.Core.Option.{some}
 use lib.ListN.{get_elem?}
-use Rattle.atomic_table.specs.Table.{State, Me, Step}
+use Rattle.atomic_table.specs.Table.{Me, Step}
 use Rattle.lc_board.specs.Counting.{StandOnce, least}
 use Rattle.lc_board.specs.declared.views.Terms.{Terms}
 use Rattle.lc_board.specs.declared.views.Book.{Book}
@@ -35,6 +36,9 @@ nothing = record { spent = true; root = false; first = 0; count = 0; made = 0; b
 
 abbrev pub drew : View → ℕ → View
 drew v x = record v { book = record v.book { drawn = v.book.drawn ++ x ∷ [] } }
+
+abbrev pub HasDrawn : View → ℕ → View → Type 0
+HasDrawn v x w = (w ≡ drew v x) × All (λ y. y < x) v.book.drawn
 
 abbrev pub told : View → ℕ → ℕ → View
 told v x value = record v { book = record v.book { reported = v.book.reported ++ (x, value) ∷ [] } }

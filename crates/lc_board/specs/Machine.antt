@@ -7,7 +7,7 @@
 --   IsReached t words views  they are a state that events reach from the start
 --   IsRuled t words views    what holds between any two steps on a board
 --   ClaimIsAnEvent, ReportIsAnEvent, SplitLeavesTheState, JoinLeavesTheState    what the steps are in the machine
-use Rattle.std.specs.Prelude.{◌≡◌, ◌≢◌, ◌↔◌, ℕ, ◌+◌, ◌<◌, ◌≤◌, min, Bool, true, false, cond, ltb, List, [], ◌∷◌, ◌++◌, length, drop, set, Option, Some, None, All, Contains, slice_index}
+use Rattle.std.specs.Prelude.{◌≡◌, ◌≢◌, ◌↔◌, ℕ, ◌+◌, ◌<◌, ◌≤◌, min, true, false, cond, ltb, List, [], ◌∷◌, ◌++◌, length, drop, set, Some, None, All, Contains, slice_index}
 use mathlib.Core.Option.{some}
 use lib.ListN.{get_elem?}
 use Rattle.lc_board.specs.Counting.{times}

@@ -10,7 +10,7 @@
 --   values_of a           the values of the blocks that it has finished
 --   blocks r, values r    the same of all actors of a state
 --   IsSound r             what holds in each state that events reach from a starting state
-use Rattle.std.specs.Prelude.{◌≡◌, ℕ, ◌+◌, ◌<◌, ◌≤◌, min, Bool, true, false, cond, ltb, List, [], ◌∷◌, ◌++◌, map, length, get_or, set, replicate, Option, Some, None, IsSome, option_to_list, flat_map, All, count_by}
+use Rattle.std.specs.Prelude.{◌≡◌, ℕ, ◌+◌, ◌<◌, ◌≤◌, min, true, false, cond, ltb, List, [], ◌∷◌, ◌++◌, map, length, get_or, set, replicate, Some, None, IsSome, option_to_list, flat_map, All, count_by}
 use Rattle.lc_board.specs.Counting.{StandOnce, least}
 use Rattle.lc_board.specs.declared.round.Mode.{Mode}
 use Rattle.lc_board.specs.declared.round.Mode.TheVariants.{Running, Ended, Stopped}

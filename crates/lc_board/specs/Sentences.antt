@@ -2,7 +2,7 @@
 --   SeatSays count b           the sentences on one book
 --   BoardSays t words views    the sentences on a board
 --   RuleSays                   each board under the rule meets them
-use Rattle.std.specs.Prelude.{◌≡◌, ◌≢◌, ◌⊎◌, ℕ, suc, ◌+◌, ◌<◌, ◌≤◌, Bool, true, false, List, [], length, All, Contains, slice_index}
+use Rattle.std.specs.Prelude.{◌≡◌, ◌≢◌, ◌⊎◌, ℕ, ◌+◌, ◌<◌, ◌≤◌, true, false, List, [], length, All, Contains, slice_index}
 use mathlib.Core.Option.{some}
 use lib.ListN.{get_elem?}
 use Rattle.lc_board.specs.Counting.{StandOnce, least}

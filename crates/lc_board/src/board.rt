@@ -1,7 +1,7 @@
 //! A board and its seats.
 ghost use Rattle.std.specs.Prelude.{◌≡◌, ℕ, ◌+◌, ◌^◌, ◌<◌, ◌≤◌, [], ◌∷◌, map, length, min, true, false, IfOk, IfSome, IfNone, MatchOption, All};
 ghost use Rattle.lc_board.specs.Counting.{StandOnce, least};
-ghost use Rattle.lc_board.specs.Board.{drawn_numbers, reported_values, drew, told, split, newcomer, root_view, AllReported, Owes};
+ghost use Rattle.lc_board.specs.Board.{drawn_numbers, reported_values, HasDrawn, told, split, newcomer, root_view, AllReported, Owes};
 ghost use Rattle.lc_board.specs.Seats.{books_of, joined_all};
 
 use crate::NoMemory;
@@ -76,8 +76,8 @@ impl Board {
         requires board { seat.old.table ≡ self.now.table }
         requires reported { AllReported seat.old.view.book }
         ensures table { seat.new.table ≡ seat.old.table }
-        ensures some { IfSome result (λ x. (x < self.now.count) × (seat.new.view ≡ drew seat.old.view x) × All (λ y. y < x) seat.old.view.book.drawn) }
-        ensures none { IfNone result ((x : ℕ) × (self.now.count ≤ x) × (seat.new.view ≡ drew seat.old.view x) × All (λ y. y < x) seat.old.view.book.drawn) }
+        ensures some { IfSome result (λ x. (x < self.now.count) × HasDrawn seat.old.view x seat.new.view) }
+        ensures none { IfNone result ((x : ℕ) × (self.now.count ≤ x) × HasDrawn seat.old.view x seat.new.view) }
     {
         let number = self.table.shared.fetch_add::<Claims>(&mut seat.seat, 0, 1);
         if number < self.count {

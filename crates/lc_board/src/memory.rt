@@ -1,18 +1,8 @@
 use std::alloc::{AllocError, AllocFailed};
-use std::error::Error;
-use std::fmt;
 
 /// There was no memory.
 #[derive(Clone, Copy, Debug, PartialEq, Eq, Drop)]
 pub struct NoMemory;
-
-impl fmt::Display for NoMemory {
-    fn fmt<W: fmt::Write>(&self, f: &mut fmt::Formatter<W>) -> fmt::Result {
-        write!(f, "no memory")
-    }
-}
-
-impl Error for NoMemory {}
 
 impl From<AllocError> for NoMemory {
     fn from(_error: AllocError) -> NoMemory {

@@ -1,8 +1,8 @@
-use Rattle.std.proofs.Common.{◌≡◌, ◌<◌, ◌∷◌, ◌++◌, true, false, List, subst, sym, ap, ◌∙◌, arith, rules}
+use Rattle.std.proofs.Common.{◌≡◌, ◌∷◌, subst, ap, ◌∙◌, arith, rules}
 use Rattle.std.specs.Prelude.{All}
 use Rattle.std.proofs.lemmas.List.Elements.{All-head, All-tail}
 use Rattle.atomic_table.specs.Table.{Me}
-use Rattle.lc_board.specs.Seats.{Seated, joined_all}
+use Rattle.lc_board.specs.Seats.{Seated}
 use Rattle.lc_board.specs.declared.views.View.{View}
 use Rattle.lc_board.proofs.Moves.{joins, joined_more}
 use Rattle.lc_board.proofs.board.take_in.Goals as goal

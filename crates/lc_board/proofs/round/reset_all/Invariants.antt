@@ -1,4 +1,4 @@
-use Rattle.std.proofs.Common.{◌≡◌, ℕ, ◌<◌, length, get_or, take, replicate}
+use Rattle.std.proofs.Common.{◌≡◌, length, take, replicate}
 use Rattle.lc_board.specs.Round.{idle}
 use Rattle.lc_board.proofs.round.reset_all.Given as goal
 

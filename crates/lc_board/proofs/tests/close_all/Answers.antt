@@ -1,4 +1,4 @@
-use Rattle.std.proofs.Common.{rules, arith, ◌≡◌, ◌+◌, length, length-append, Some, List, [], ◌∷◌, ◌++◌, sym, ap, subst}
+use Rattle.std.proofs.Common.{arith, ◌≡◌, length, length-append, Some, List, [], ◌∷◌, ◌++◌, sym, ap, subst}
 use Rattle.std.specs.Prelude.{All}
 use Rattle.std.proofs.lemmas.List.Elements.{All-pop, All-push}
 use Rattle.lc_board.specs.Seats.{Seated}

@@ -1,4 +1,4 @@
-use Rattle.std.proofs.Common.{◌≡◌, ◌+◌, ◌≤◌, length, true}
+use Rattle.std.proofs.Common.{◌≡◌, ◌+◌, length, true}
 use Rattle.std.specs.Prelude.{All}
 use Rattle.lc_board.specs.Board.{AllReported}
 use Rattle.lc_board.proofs.tests.hire.Given as goal

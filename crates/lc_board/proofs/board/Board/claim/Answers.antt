@@ -1,4 +1,4 @@
-use Rattle.std.proofs.Common.{◌≡◌, ◌<◌, subst, sym, ap, ◌∙◌, arith}
+use Rattle.std.proofs.Common.{subst, sym, ap, ◌∙◌, arith}
 use Rattle.lc_board.specs.Board.{AllReported}
 use Rattle.lc_board.specs.Seats.{Opened, Seated}
 use Rattle.lc_board.proofs.Moves.{claims}

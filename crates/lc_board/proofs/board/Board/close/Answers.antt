@@ -1,8 +1,7 @@
-use Rattle.std.proofs.Common.{◌≡◌, ◌<◌, ◌≤◌, min, ◌∷◌, ◌++◌, ℕ, map, true, false, subst, sym, ap, ◌∙◌, arith, rules}
-use Rattle.lc_board.specs.Seats.{Opened, Seated, joined_all}
+use Rattle.std.proofs.Common.{◌≡◌, ◌∷◌, ℕ, map, subst, sym, ap, ◌∙◌, arith}
+use Rattle.lc_board.specs.Seats.{Opened, Seated}
 use Rattle.lc_board.specs.Counting.{StandOnce, least}
 use Rattle.lc_board.specs.Board.{drawn_numbers, reported_values}
-use Rattle.lc_board.specs.declared.views.View.{View}
 use Rattle.lc_board.specs.declared.views.Book.{Book}
 use Rattle.lc_board.proofs.Moves.{closed_by}
 use Rattle.lc_board.proofs.board.Board.close.Goals as goal

@@ -1,4 +1,3 @@
-use Rattle.std.proofs.Common.{rules}
 use Rattle.lc_board.proofs.Moves.{opened}
 use Rattle.lc_board.proofs.board.Board.open.Goals as goal
 

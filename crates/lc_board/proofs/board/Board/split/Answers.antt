@@ -1,4 +1,4 @@
-use Rattle.std.proofs.Common.{◌≡◌, ◌<◌, true, subst, sym, ap, ◌∙◌, arith}
+use Rattle.std.proofs.Common.{◌<◌, subst, sym, ap, ◌∙◌, arith}
 use Rattle.lc_board.specs.Seats.{Opened, Seated}
 use Rattle.lc_board.proofs.Moves.{splits}
 use Rattle.lc_board.proofs.board.Board.split.Goals as goal

@@ -1,4 +1,4 @@
-use Rattle.std.proofs.Common.{◌≡◌, ◌<◌, ◌≤◌, length, rules, arith, length-set}
+use Rattle.std.proofs.Common.{◌≡◌, ◌<◌, length, rules, arith, length-set}
 use Rattle.lc_board.specs.State.{round_of}
 use Rattle.lc_board.specs.declared.round.Mode.TheVariants.{Running}
 use Rattle.lc_board.proofs.Rounds.{claimed}

@@ -1,4 +1,4 @@
-use Rattle.std.proofs.Common.{◌≡◌, replicate, vec_items}
+use Rattle.std.proofs.Common.{◌≡◌, replicate}
 use Rattle.lc_board.specs.Round.{idle}
 use Rattle.lc_board.proofs.round.RoundState.new.Given as goal
 

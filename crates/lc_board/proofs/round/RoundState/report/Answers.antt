@@ -1,4 +1,4 @@
-use Rattle.std.proofs.Common.{◌≡◌, ◌<◌, ◌≤◌, length, rules, arith, length-set}
+use Rattle.std.proofs.Common.{◌≡◌, ◌<◌, length, rules, arith, length-set}
 use Rattle.std.specs.Prelude.{IsSome}
 use Rattle.lc_board.specs.Round.{finished}
 use Rattle.lc_board.specs.State.{round_of}

@@ -1,4 +1,4 @@
-use Rattle.std.proofs.Common.{◌≡◌, ◌≤◌, length, rules, arith, List, ap, ◌∙◌}
+use Rattle.std.proofs.Common.{◌≡◌, length, rules, arith, List, ap, ◌∙◌}
 use Rattle.std.proofs.lemmas.List.{length-replicate}
 use Rattle.lc_board.specs.Round.{idle}
 use Rattle.lc_board.specs.declared.round.Actor.{Actor}
