@@ -1,0 +1,26 @@
+//! What holds of boards and rounds, on functions that do nothing.
+ghost use Rattle.lc_board.specs.Round.{IsAlwaysSound, EndsWithTheLeast};
+ghost use Rattle.lc_board.specs.Machine.{ClaimIsAnEvent, ReportIsAnEvent, SplitLeavesTheState, JoinLeavesTheState, OpensAtTheStart, ActorsAreSeats};
+ghost use Rattle.lc_board.specs.Sentences.{RuleSays};
+
+/// In each state that a list of events reaches, held and finished blocks are the numbers below the lesser of next and
+/// count, each once, and best is the least of first and the finished values. An ended round has finished each block
+/// once, and its best is the least of first and all their values, whatever was killed and resumed before.
+pub fn law_of_rounds()
+    ensures always { IsAlwaysSound }
+    ensures ended { EndsWithTheLeast }
+{}
+
+/// Words and views of a board are at each moment a state of the round machine that events reach: a new board is the
+/// starting state, a claim and a report are the events of these names, and a split and a join leave the state. A
+/// number below the count that a seat drew and hasn't reported is the block that it holds, and a seat that drew a
+/// number at or above the count is past.
+pub fn law_of_boards()
+    ensures sentences { RuleSays }
+    ensures start { OpensAtTheStart }
+    ensures claim { ClaimIsAnEvent }
+    ensures report { ReportIsAnEvent }
+    ensures split { SplitLeavesTheState }
+    ensures join { JoinLeavesTheState }
+    ensures actors { ActorsAreSeats }
+{}
