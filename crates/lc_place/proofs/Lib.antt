@@ -1,0 +1,4 @@
+pub mod Products
+pub mod Coefficients
+pub mod Supports
+pub mod Messages
