@@ -2,3 +2,5 @@ pub mod Products
 pub mod Coefficients
 pub mod Supports
 pub mod Messages
+pub mod Counting
+pub mod Unranking

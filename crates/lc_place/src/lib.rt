@@ -1,5 +1,12 @@
-//! The plan of a search: every message once, in order, in blocks.
+//! The plan of a search: which messages are looked at, for which information set, in which order and in
+//! which blocks. Over a phase, `Plan::start_of` and `Plan::step` give each message of the level exactly
+//! once and in order. (The method is that of Brouwer and Zimmermann, as Grassl describes it.)
 #![tactic(auto)]
+
+mod order;
+mod spot;
+
+pub use spot::Spot;
 
 /// Memory ran out.
 #[derive(Clone, Copy, Debug, PartialEq, Eq, Drop)]
