@@ -4,3 +4,4 @@ pub mod Supports
 pub mod Messages
 pub mod Counting
 pub mod Unranking
+pub mod Phases

@@ -38,7 +38,7 @@ message_product : (k q w : ℕ) → messages k q w ≡ product message_of (suppo
 unfolding messages
 message_product k q w = refl
 
-supports_are : (k w : ℕ) → supports k w ≡ supports_from 0 k w
+pub supports_are : (k w : ℕ) → supports k w ≡ supports_from 0 k w
 unfolding supports
 supports_are k w = refl
 

@@ -3,9 +3,11 @@
 --   SpotState             a spot: its set, the support and the coefficients of its message, and its room
 --   spot_message s        the message of a spot
 --   IsFirstChange s t i   i is the least index at which the supports or the coefficients of two spots differ
---   phase_of_plan p       a phase of the program, as the plan of the definitions has it
+--   plan_phase p          a phase of the program, as the phases of the definitions are written
 use Rattle.std.specs.Prelude.{◌≡◌, ◌≢◌, ◌⊎◌, ℕ, ◌<◌, List, length, take, slice_index}
 use Rattle.lc_enumeration.specs.Message.{Message}
+use Rattle.lc_enumeration.specs.Plan.{PlanPhase}
+use Rattle.lc_place.specs.declared.plan.Phase.{Phase}
 
 pub record PlanSize : Type 0 where
   pub k : ℕ
@@ -20,6 +22,9 @@ pub record SpotState : Type 0 where
 
 abbrev pub spot_message : SpotState → Message
 spot_message s = record { support = s.support; coefficients = s.coefficients }
+
+abbrev pub plan_phase : Phase → PlanPhase
+plan_phase p = record { level = p.level; set = p.set; start = p.start; end = p.end }
 
 pub record IsFirstChange (s t : SpotState) (i : ℕ) : Type 0 where
   pub inside : i < length s.support

@@ -4,8 +4,11 @@
 #![tactic(auto)]
 
 mod order;
+mod plan;
 mod spot;
+mod table;
 
+pub use plan::{Phase, Plan};
 pub use spot::Spot;
 
 /// Memory ran out.

@@ -1,0 +1,83 @@
+//! The plan: the phases of a search, their blocks, and the messages of a block.
+
+ghost use Rattle.std.specs.Prelude.{◌≡◌, ℕ, ◌+◌, ◌-◌, ◌*◌, ◌/◌, ◌%◌, ◌^◌, ◌<◌, ◌≤◌, ◌++◌, ◌∷◌, [], Some, length, slice_get, vec_len, vec_capacity, IfOk, IfNone, IfSome, is_some, if◌then◌else◌};
+ghost use Rattle.std.specs.List.{Contains};
+ghost use Rattle.lc_enumeration.specs.Message.{messages, supports, leading_lists, choose, message_count};
+ghost use Rattle.lc_enumeration.specs.Plan.{total, phase_at, phase_set, phase_level, blocks_before, block_length, IsInPhase};
+ghost use Rattle.lc_place.specs.Place.{spot_message, plan_phase, IsFirstChange};
+ghost use Rattle.lc_place.specs.Tables.{IsTable, choose_entry, power_entry};
+
+use std::alloc::Global;
+use std::marker::Model;
+
+use crate::NoMemory;
+use crate::order::{last_below, last_movable, move_on, raise, reset};
+use crate::spot::Spot;
+use crate::table::{CUT, Size};
+
+/// The messages of one level with one information set: the level, from 1, the index of the set, from 0,
+/// the first block and the block after the last one.
+#[derive(Clone, Copy, Debug, PartialEq, Eq, Drop)]
+pub struct Phase {
+    pub level: usize,
+    pub set: usize,
+    pub start: u64,
+    pub end: u64,
+}
+
+/// The order in which a search looks at the messages of length k over q elements, with m information sets:
+/// level 1 with each set, then level 2 with each set, and so on, in blocks of 4,096 messages that are
+/// numbered from 0 through all phases. Blocks from 2^40 on are cut off.
+#[derive(Drop)]
+pub struct Plan {
+    size: Size,
+    chooses: Vec<u64>,
+    powers: Vec<u64>,
+    counts: Vec<u64>,
+    starts: Vec<u64>,
+}
+
+impl Model for Plan {
+    ghost use Rattle.std.specs.Prelude.{◌+◌, ◌*◌};
+    ghost use Rattle.lc_place.specs.Place.{PlanSize};
+    ghost use Rattle.lc_place.specs.Tables.{IsTable, choose_entry, power_entry, count_entry, start_entry};
+
+    ghost Value = { PlanSize };
+
+    ghost view = { λ p. record { k = p.size.k; q = p.size.q; m = p.size.m } };
+
+    ghost invariant = { λ p. IsTable choose_entry ((p.size.k + 1) * 256) p.chooses.items × IsTable (power_entry p.size.q) p.size.k p.powers.items × IsTable (count_entry p.size.k p.size.q) p.size.k p.counts.items × IsTable (start_entry p.size.k p.size.q p.size.m) (p.size.k + 1) p.starts.items };
+}
+
+impl Plan {
+    /// The plan for dimension `k`, 1 to 255, a field of `q` elements, 2 to 16, and `m` information sets, 1 to
+    /// 255.
+    pub fn build(alloc: Global, k: usize, q: u64, m: usize) -> Result<Plan, NoMemory>
+        requires dimension { (1 ≤ k) × (k ≤ 255) }
+        requires field { (2 ≤ q) × (q ≤ 16) }
+        requires sets { (1 ≤ m) × (m ≤ 255) }
+        ensures { IfOk result (λ p. p ≡ record { k = k; q = q; m = m }) }
+    {
+        let size = Size { k, q, m };
+        let chooses = size.chooses(alloc)?;
+        let powers = size.powers(alloc)?;
+        let counts = size.counts(alloc, &chooses, &powers)?;
+        let starts = size.starts(alloc, &counts)?;
+        Ok(Plan {
+            size,
+            chooses,
+            powers,
+            counts,
+            starts,
+        })
+    }
+
+    /// How many blocks the plan has: the end of its last phase, at most 2^40.
+    #[tactic(auto, using(crate::proofs::Phases::total_is, crate::proofs::Phases::total_few))]
+    pub fn total(&self) -> u64
+        ensures exact { result ≡ total self.now.k self.now.q self.now.m }
+        ensures few { result ≤ 2 ^ 40 }
+    {
+        self.starts[self.size.k]
+    }
+}
