@@ -5,3 +5,4 @@ pub mod Messages
 pub mod Counting
 pub mod Unranking
 pub mod Phases
+pub mod Steps

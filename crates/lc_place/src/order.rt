@@ -1,13 +1,17 @@
 //! The two moves from a message to the next, on the lists of its coefficients and of its places.
 
-ghost use Rattle.std.specs.Prelude.{◌≡◌, ℕ, ◌+◌, ◌-◌, ◌<◌, ◌≤◌, length, slice_index, IfSome, MatchOption};
+ghost use Rattle.std.specs.Prelude.{◌≡◌, ◌≢◌, ℕ, ◌+◌, ◌-◌, ◌<◌, ◌≤◌, length, slice_index, IfSome, MatchOption};
 
-/// The last place from 1 on where a coefficient is below `top`; 0 where there is none.
+/// The last place from 1 on where a coefficient is below `top`; 0 where there is none. No coefficient is 0.
 pub(crate) fn last_below(coefficients: &[u8], top: u8) -> usize
+    requires { (u : ℕ) → u < length coefficients.now → 1 ≤ slice_index coefficients.now u }
     ensures inside { 0 < result → result < length coefficients.now }
     ensures below { 0 < result → slice_index coefficients.now result < top }
     ensures later { (u : ℕ) → result < u → u < length coefficients.now → top ≤ slice_index coefficients.now u }
 {
+    if top < 2 {
+        return 0;
+    }
     let mut place = coefficients.len();
     while place > 1 {
         place -= 1;
@@ -32,13 +36,25 @@ pub(crate) fn raise(coefficients: &mut [u8], place: usize)
     }
 }
 
-/// Makes 1 of each coefficient.
-pub(crate) fn reset(coefficients: &mut [u8])
-    ensures { (u : ℕ) → u < length coefficients.old → slice_index coefficients.new u ≡ 1 }
+/// Makes 1 of each coefficient, all of which are `top` but the first, and answers the least index at which
+/// the coefficients or the support changed, where the support changed from `place` on.
+#[tactic(auto, using(crate::proofs::Steps::all_same))]
+pub(crate) fn reset(coefficients: &mut [u8], top: u8, place: usize) -> usize
+    requires inside { place < length coefficients.old }
+    requires first { slice_index coefficients.old 0 ≡ 1 }
+    requires high { (u : ℕ) → 0 < u → u < length coefficients.old → slice_index coefficients.old u ≡ top }
+    ensures ones { (u : ℕ) → u < length coefficients.old → slice_index coefficients.new u ≡ 1 }
+    ensures early { result ≤ place }
+    ensures same { (u : ℕ) → u < result → slice_index coefficients.new u ≡ slice_index coefficients.old u }
+    ensures changed { result < place → slice_index coefficients.new result ≢ slice_index coefficients.old result }
 {
+    if top == 1 {
+        return place;
+    }
     for coefficient in coefficients.iter_mut() {
         *coefficient = 1;
     }
+    place.min(1)
 }
 
 /// The last place of a support that can move on, with all after it, and stay below `k`.

@@ -1,6 +1,6 @@
 //! The plan: the phases of a search, their blocks, and the messages of a block.
 
-ghost use Rattle.std.specs.Prelude.{◌≡◌, ℕ, ◌+◌, ◌-◌, ◌*◌, ◌/◌, ◌%◌, ◌^◌, ◌<◌, ◌≤◌, ◌++◌, ◌∷◌, [], Some, length, slice_get, vec_len, vec_capacity, IfOk, IfNone, IfSome, is_some, if◌then◌else◌};
+ghost use Rattle.std.specs.Prelude.{◌≡◌, ℕ, ◌+◌, ◌-◌, ◌*◌, ◌/◌, ◌%◌, ◌^◌, ◌<◌, ◌≤◌, ◌++◌, ◌∷◌, [], Some, None, false, length, slice_get, vec_len, vec_capacity, IfOk, IfSome, is_some, if◌then◌else◌};
 ghost use Rattle.std.specs.List.{Contains};
 ghost use Rattle.lc_enumeration.specs.Message.{messages, supports, leading_lists, choose, message_count};
 ghost use Rattle.lc_enumeration.specs.Plan.{total, phase_at, phase_set, phase_level, blocks_before, block_length, IsInPhase};
@@ -79,5 +79,46 @@ impl Plan {
         ensures few { result ≤ 2 ^ 40 }
     {
         self.starts[self.size.k]
+    }
+
+    /// Goes to the next message of the level, and answers the least index at which the support or the
+    /// coefficients changed. None where the spot was at the last message of its level, and then the spot is
+    /// as before. The spot's support and coefficients are a message of this plan.
+    pub fn step(&self, spot: &mut Spot) -> Option<usize>
+        requires { Contains (messages self.now.k self.now.q (length spot.old.support)) (spot_message spot.old) }
+        ensures next { (n : ℕ) → slice_get (messages self.now.k self.now.q (length spot.old.support)) n ≡ Some (spot_message spot.old) → slice_get (messages self.now.k self.now.q (length spot.old.support)) (n + 1) ≡ (if is_some result then Some (spot_message spot.new) else None) }
+        ensures change { IfSome result (λ i. IsFirstChange spot.old spot.new i) }
+        ensures last { result ≡ None → spot.new ≡ spot.old }
+        ensures message { Contains (messages self.now.k self.now.q (length spot.old.support)) (spot_message spot.new) }
+        ensures level { length spot.new.support ≡ length spot.old.support }
+        ensures set { spot.new.set ≡ spot.old.set }
+        ensures room { spot.new.room ≡ spot.old.room }
+    {
+        let top = (self.size.q - 1) as u8;
+        let place = last_below(spot.coefficients.as_slice(), top);
+        if place > 0 {
+            raise(spot.coefficients.as_mut_slice(), place);
+            return Some(place);
+        }
+        let Some(column) = last_movable(spot.support.as_slice(), self.size.k) else {
+            return None;
+        };
+        move_on(spot.support.as_mut_slice(), column);
+        let first = reset(spot.coefficients.as_mut_slice(), top, column);
+        Some(first)
+    }
+
+    /// Goes to the next message of the level; false where the spot was at the last one, and then the spot is
+    /// as before. The spot's support and coefficients are a message of this plan.
+    pub fn next(&self, spot: &mut Spot) -> bool
+        requires { Contains (messages self.now.k self.now.q (length spot.old.support)) (spot_message spot.old) }
+        ensures next { (n : ℕ) → slice_get (messages self.now.k self.now.q (length spot.old.support)) n ≡ Some (spot_message spot.old) → slice_get (messages self.now.k self.now.q (length spot.old.support)) (n + 1) ≡ (if result then Some (spot_message spot.new) else None) }
+        ensures last { result ≡ false → spot.new ≡ spot.old }
+        ensures message { Contains (messages self.now.k self.now.q (length spot.old.support)) (spot_message spot.new) }
+        ensures level { length spot.new.support ≡ length spot.old.support }
+        ensures set { spot.new.set ≡ spot.old.set }
+        ensures room { spot.new.room ≡ spot.old.room }
+    {
+        self.step(spot).is_some()
     }
 }
