@@ -1,9 +1,11 @@
 -- The message at a place: its support and its coefficients, entry by entry.
 --   SupportSoFar k w r i s t       the support of place r begins with s, and goes on, from place i, as the one of place t
 --   support_start, support_take, support_leave, support_end      its steps
+--   entry_at, take_entry, leave_entry, support_rest              the same with the table of choices
 --   EntriesSoFar q w r i u t       the coefficients of place r begin with the i entries u, and go on as the list of place t
 --   entries_start, entries_more, entries_end                     its steps
---   quotient_same, rest_same       a place below the bound is divided the same by a capped number
+--   divided                        a place below the bound is divided the same by a capped number
+--   PutsEntry, puts_entry          one entry more, with the table of powers
 --   message_from_parts             the message of a place, from a support and coefficients
 use Rattle.std.proofs.Common.{◌≡◌, ℕ, zero, suc, ◌+◌, ◌-◌, ◌*◌, ◌/◌, ◌%◌, ◌^◌, ◌<◌, ◌≤◌, min, List, [], ◌∷◌, ◌++◌, map, length, Option, Some, None, refl, ap, sym, ◌∙◌, arith, ◌⊎◌, inl, inr, append_assoc, length-append}
 use Rattle.std.specs.Prelude.{slice_get}
@@ -14,6 +16,7 @@ use Rattle.std.proofs.lemmas.List.{append-nil}
 use Rattle.std.proofs.lemmas.Nat.{div_below, div-add-mod'}
 use Rattle.std.proofs.lemmas.Option.{slice_get-map}
 use Rattle.lc_enumeration.specs.Message.{Message, choose, supports_from, supports, nonzero_lists, leading_lists, messages, message_count}
+use Rattle.lc_place.specs.Tables.{choose_entry, power_entry}
 use Rattle.lc_place.proofs.Coefficients.{nonzero_digit, length-leading_lists}
 use Rattle.lc_place.proofs.Supports.{support_takes, support_leaves, length-supports}
 use Rattle.lc_place.proofs.Messages.{message_of, message_at, supports_are}
@@ -169,3 +172,62 @@ pub message_from_parts : (k q w r : ℕ) (s u : List ℕ) → slice_get (support
 message_from_parts k q w r s u e d =
     let place : r ≡ r / (q - 1) ^ (w - 1) * length (leading_lists q w) + r % (q - 1) ^ (w - 1) = sym (div-add-mod' r ((q - 1) ^ (w - 1))) ∙ ap (λ a. r / (q - 1) ^ (w - 1) * a + r % (q - 1) ^ (w - 1)) (sym (length-leading_lists q w)) in
     ap (slice_get (messages k q w)) place ∙ message_at k q w (r / (q - 1) ^ (w - 1)) (r % (q - 1) ^ (w - 1)) s u (ap (λ l. slice_get l (r / (q - 1) ^ (w - 1))) (supports_are k w) ∙ e) d
+
+supports_no_place : (i k n : ℕ) (v : List ℕ) → slice_get (supports_from i k 0) n ≡ Some v → (n ≡ 0) × (v ≡ [])
+unfolding supports_from
+supports_no_place i k zero v e = (refl, cc)
+supports_no_place i k (suc n) v e = absurd (cc)
+
+pub support_rest : (k w r i : ℕ) (s : List ℕ) (t : ℕ) → SupportSoFar k w r i s t → w ≤ length s → SupportSoFar k w r (i + 1) s t
+support_rest k w r i s t h whole =
+    let none : w - length s ≡ 0 = omega arith in
+    let below : t < choose (k - i) 0 = rw none at h.below in
+    record {
+      few = h.few;
+      below = rw none (omega (arith, below, choose_no_more (k - i), choose_no_more (k - (i + 1))));
+      leads = λ v e. (
+        let e' : slice_get (supports_from (i + 1) (k - (i + 1)) 0) t ≡ Some v = rw none at e in
+        let p = supports_no_place (i + 1) (k - (i + 1)) t v e' in
+        let at : slice_get (supports_from i (k - i) (w - length s)) t ≡ Some v = rw (none, p.0, p.1) (supports_nothing i (k - i)) in
+        h.leads v at);
+    }
+
+pub entry_at : (n j : ℕ) → j < 256 → choose_entry (n * 256 + j) ≡ min (choose n j) (2 ^ 53)
+entry_at n j l =
+    let row : (n * 256 + j) / 256 ≡ n = omega arith in
+    let column : (n * 256 + j) % 256 ≡ j = omega arith in
+    ap (λ a. min (choose a ((n * 256 + j) % 256)) (2 ^ 53)) row ∙ ap (λ a. min (choose n a) (2 ^ 53)) column
+
+pub take_entry : (k w r i c n : ℕ) (s v : List ℕ) (t : ℕ) → SupportSoFar k w r i s t → n ≡ length s → i < k → k ≤ 255 → n < w → w ≤ k → c ≡ choose_entry ((k - i - 1) * 256 + (w - n - 1)) → t < c → v ≡ s ++ i ∷ [] → SupportSoFar k w r (i + 1) v t
+take_entry k w r i c n s v t h many inside small few level e take is =
+    let e' : c ≡ choose_entry ((k - i - 1) * 256 + (w - length s - 1)) = rw many at e in
+    support_take k w r i s v t h inside (omega (arith, few, many)) (omega (arith, e', take, entry_at (k - i - 1) (w - length s - 1) (omega arith))) is
+
+pub leave_entry : (k w r i c n : ℕ) (s : List ℕ) (t : ℕ) → SupportSoFar k w r i s t → n ≡ length s → i < k → k ≤ 255 → n < w → w ≤ k → t < 2 ^ 52 → c ≡ choose_entry ((k - i - 1) * 256 + (w - n - 1)) → c ≤ t → SupportSoFar k w r (i + 1) s (t - c)
+leave_entry k w r i c n s t h many inside small few level below e leave =
+    let e' : c ≡ choose_entry ((k - i - 1) * 256 + (w - length s - 1)) = rw many at e in
+    let at : choose_entry ((k - i - 1) * 256 + (w - length s - 1)) ≡ min (choose (k - i - 1) (w - length s - 1)) (2 ^ 53) = entry_at (k - i - 1) (w - length s - 1) (omega arith) in
+    let exact : c ≡ choose (k - i - 1) (w - length s - 1) = omega (arith, e', at, leave, below) in
+    support_leave k w r i c s t h inside (omega (arith, few, many)) (omega (arith, exact, leave)) exact
+
+mod_le : (t n : ℕ) → t % n ≤ t
+mod_le t n = omega (arith, div-add-mod' t n)
+
+-- one entry more, from the capped power of the table
+pub record PutsEntry (q w r i : ℕ) (u v : List ℕ) (t d : ℕ) : Type 0 where
+  pub some : 0 < d
+  pub few : t / d + 1 < q
+  pub so_far : v ≡ u ++ (1 + t / d) ∷ [] → EntriesSoFar q w r (i + 1) v (t % d)
+  pub small : t % d ≤ t
+
+pub puts_entry : (q w r i : ℕ) (u v : List ℕ) (t d : ℕ) → 2 ≤ q → EntriesSoFar q w r i u t → i < w → t < 2 ^ 52 → d ≡ power_entry q (w - 1 - i) → PutsEntry q w r i u v t d
+puts_entry q w r i u v t d size h inside small e =
+    let some : 1 ≤ (q - 1) ^ (w - 1 - i) = one-le-pow (w - 1 - i) (q - 1) (omega arith) in
+    let same = divided ((q - 1) ^ (w - 1 - i)) t some (omega (arith, small)) in
+    let few : t / (q - 1) ^ (w - 1 - i) < q - 1 = digit_few q w r i u t size h inside in
+    rw e (record {
+      some = same.2;
+      few = omega (arith, same.0, few);
+      so_far = λ is. rw same.1 (entries_more q w r i u v t (1 + t / (q - 1) ^ (w - 1 - i)) size h inside refl (rw same.0 at is));
+      small = omega (arith, same.1, mod_le t ((q - 1) ^ (w - 1 - i)));
+    })

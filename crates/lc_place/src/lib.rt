@@ -3,6 +3,7 @@
 //! once and in order. (The method is that of Brouwer and Zimmermann, as Grassl describes it.)
 #![tactic(auto)]
 
+mod fill;
 mod order;
 mod plan;
 mod spot;
