@@ -7,7 +7,7 @@
 use Rattle.std.specs.Prelude.{◌≡◌, ◌≢◌, ◌⊎◌, ℕ, ◌<◌, List, length, take, slice_index}
 use Rattle.lc_enumeration.specs.Message.{Message}
 use Rattle.lc_enumeration.specs.Plan.{PlanPhase}
-use Rattle.lc_place.specs.declared.plan.Phase.{Phase}
+use Rattle.lc_place.specs.declared.phase.Phase.{Phase}
 
 pub record PlanSize : Type 0 where
   pub k : ℕ

@@ -5,11 +5,13 @@
 
 mod fill;
 mod order;
+mod phase;
 mod plan;
 mod spot;
 mod table;
 
-pub use plan::{Phase, Plan};
+pub use phase::Phase;
+pub use plan::Plan;
 pub use spot::Spot;
 
 /// Memory ran out.

@@ -1,6 +1,6 @@
 //! The plan: the phases of a search, their blocks, and the messages of a block.
 
-ghost use Rattle.std.specs.Prelude.{◌≡◌, ℕ, ◌+◌, ◌-◌, ◌*◌, ◌/◌, ◌%◌, ◌^◌, ◌<◌, ◌≤◌, ◌++◌, ◌∷◌, [], Some, None, false, length, slice_get, vec_len, vec_capacity, IfOk, IfSome, is_some, if◌then◌else◌};
+ghost use Rattle.std.specs.Prelude.{◌≡◌, ℕ, ◌+◌, ◌-◌, ◌*◌, ◌/◌, ◌%◌, ◌^◌, ◌<◌, ◌≤◌, ◌++◌, ◌∷◌, [], Some, None, false, length, slice_get, slice_index, vec_len, vec_capacity, IfOk, IfSome, is_some, if◌then◌else◌};
 ghost use Rattle.std.specs.List.{Contains};
 ghost use Rattle.lc_enumeration.specs.Message.{messages, supports, leading_lists, choose, message_count};
 ghost use Rattle.lc_enumeration.specs.Plan.{total, phase_at, phase_set, phase_level, blocks_before, block_length, IsInPhase};
@@ -11,19 +11,11 @@ use std::alloc::Global;
 use std::marker::Model;
 
 use crate::NoMemory;
+use crate::fill::{fill_coefficients, fill_support};
 use crate::order::{last_below, last_movable, move_on, raise, reset};
 use crate::spot::Spot;
-use crate::table::{CUT, Size};
-
-/// The messages of one level with one information set: the level, from 1, the index of the set, from 0,
-/// the first block and the block after the last one.
-#[derive(Clone, Copy, Debug, PartialEq, Eq, Drop)]
-pub struct Phase {
-    pub level: usize,
-    pub set: usize,
-    pub start: u64,
-    pub end: u64,
-}
+use crate::phase::Phase;
+use crate::table::Size;
 
 /// The order in which a search looks at the messages of length k over q elements, with m information sets:
 /// level 1 with each set, then level 2 with each set, and so on, in blocks of 4,096 messages that are
@@ -79,6 +71,61 @@ impl Plan {
         ensures few { result ≤ 2 ^ 40 }
     {
         self.starts[self.size.k]
+    }
+
+    /// The phase of a block below the total.
+    pub fn phase_of(&self, block: u64) -> Phase
+        requires { block < total self.now.k self.now.q self.now.m }
+        ensures found { (p : ℕ) × IsInPhase self.now.k self.now.q self.now.m p block × (plan_phase result ≡ phase_at self.now.k self.now.q self.now.m p) }
+        ensures only { (p : ℕ) → IsInPhase self.now.k self.now.q self.now.m p block → plan_phase result ≡ phase_at self.now.k self.now.q self.now.m p }
+        ensures level { (1 ≤ result.level) × (result.level ≤ self.now.k) }
+        ensures set { result.set < self.now.m }
+        ensures around { (result.start ≤ block) × (block < result.end) }
+    {
+        self.size.phase(self.starts.as_slice(), self.counts.as_slice(), block)
+    }
+
+    /// The end of the phase of a block below the total: the block after its last one, at most 2^40.
+    pub fn phase_end(&self, block: u64) -> u64
+        requires { block < total self.now.k self.now.q self.now.m }
+        ensures found { (p : ℕ) × IsInPhase self.now.k self.now.q self.now.m p block × (result ≡ (phase_at self.now.k self.now.q self.now.m p).end) }
+        ensures only { (p : ℕ) → IsInPhase self.now.k self.now.q self.now.m p block → result ≡ (phase_at self.now.k self.now.q self.now.m p).end }
+        ensures after { block < result }
+    {
+        self.phase_of(block).end
+    }
+
+    /// How many messages a block below the total has: 4,096, or in the last block of a phase what is left of
+    /// the level, at least 1.
+    pub fn block_len(&self, block: u64) -> u64
+        requires { block < total self.now.k self.now.q self.now.m }
+        ensures exact { (p : ℕ) → IsInPhase self.now.k self.now.q self.now.m p block → result ≡ block_length self.now.k self.now.q self.now.m p block }
+        ensures some { 1 ≤ result }
+        ensures few { result ≤ 4096 }
+    {
+        let phase = self.phase_of(block);
+        let counts = self.counts.as_slice();
+        (counts[phase.level - 1] - 4096 * (block - phase.start)).min(4096)
+    }
+
+    /// Puts a spot at the first message of a block below the total, and at its set. The spot's room is at
+    /// least k.
+    pub fn start_of(&self, block: u64, spot: &mut Spot)
+        requires inside { block < total self.now.k self.now.q self.now.m }
+        requires room { self.now.k ≤ spot.old.room }
+        ensures first { (p : ℕ) → IsInPhase self.now.k self.now.q self.now.m p block → slice_get (messages self.now.k self.now.q (phase_level self.now.m p)) (4096 * (block - blocks_before self.now.k self.now.q self.now.m p)) ≡ Some (spot_message spot.new) }
+        ensures level { (p : ℕ) → IsInPhase self.now.k self.now.q self.now.m p block → length spot.new.support ≡ phase_level self.now.m p }
+        ensures set { (p : ℕ) → IsInPhase self.now.k self.now.q self.now.m p block → spot.new.set ≡ phase_set self.now.m p }
+        ensures message { Contains (messages self.now.k self.now.q (length spot.new.support)) (spot_message spot.new) }
+        ensures room { spot.new.room ≡ spot.old.room }
+    {
+        let phase = self.phase_of(block);
+        let rank = (block - phase.start) * 4096;
+        let powers = self.powers.as_slice();
+        let row = powers[phase.level - 1];
+        spot.set = phase.set;
+        fill_support(self.chooses.as_slice(), self.size.k, phase.level, rank / row, &mut spot.support);
+        fill_coefficients(powers, self.size.k, self.size.q, phase.level, rank % row, &mut spot.coefficients);
     }
 
     /// Goes to the next message of the level, and answers the least index at which the support or the
