@@ -6,3 +6,4 @@ pub mod Counting
 pub mod Unranking
 pub mod Phases
 pub mod Steps
+pub mod Listing

@@ -1,0 +1,13 @@
+use Rattle.lc_enumeration.specs.Message.{messages}
+use Rattle.lc_place.specs.Order.{MessageLess}
+use Rattle.lc_place.proofs.Listing.{blocks_list, block_message, messages_in_order, pairs_in_order}
+use Rattle.lc_place.proofs.Messages.{length-messages}
+use Rattle.lc_place.proofs.plan.Plan.lists_each_message_once.Goals as goal
+
+pub returns : goal.returns
+returns c = record {
+  blocks = λ p. blocks_list c.args.self.now.k c.args.self.now.q c.args.self.now.m p;
+  places = λ p b t l. block_message c.args.self.now.k c.args.self.now.q c.args.self.now.m p b t l;
+  order = λ w. pairs_in_order MessageLess (messages c.args.self.now.k c.args.self.now.q w) (messages_in_order c.args.self.now.k c.args.self.now.q w);
+  count = λ w. length-messages c.args.self.now.k c.args.self.now.q w;
+}
