@@ -87,6 +87,7 @@ entries_cons q n c u v e low high h = rw e (record {
     first : 1 ≤ c → ((k : ℕ) → k < n → 1 ≤ get_or u k 0) → (k : ℕ) → k < suc n → 1 ≤ get_or (c ∷ u) k 0
     first a b zero l = a
     first a b (suc k) l = b k (omega arith)
+
     second : c < q → ((k : ℕ) → k < n → get_or u k 0 < q) → (k : ℕ) → k < suc n → get_or (c ∷ u) k 0 < q
     second a b zero l = a
     second a b (suc k) l = b k (omega arith)
@@ -147,8 +148,8 @@ next_same_row q n r u p v e =
 last_column : (q n r : ℕ) (u : List ℕ) (p : ConsPart q n r u) → slice_get (nonzero_lists q n) (suc p.column) ≡ None → suc p.column ≡ length (nonzero_lists q n)
 last_column q n r u p e =
     elim (cases_lt (suc p.column) (length (nonzero_lists q n))) [
-      inl l ↦ absurd (none-some _ (sym e ∙ slice_get-get_or (nonzero_lists q n) (suc p.column) [] l))
-    | inr l ↦ omega (arith, slice_get_within (nonzero_lists q n) p.column p.right p.right_at)
+      | inl l ↦ absurd (none-some _ (sym e ∙ slice_get-get_or (nonzero_lists q n) (suc p.column) [] l))
+      | inr l ↦ omega (arith, slice_get_within (nonzero_lists q n) p.column p.right p.right_at)
     ]
 
 next_row : (q n r : ℕ) (u : List ℕ) (p : ConsPart q n r u) → slice_get (nonzero_lists q n) (suc p.column) ≡ None → p.left < q - 1 → slice_get (cons_all q n) (suc r) ≡ Some (suc p.left ∷ replicate n 1)
@@ -171,8 +172,8 @@ carry q n r u p (Some v) e = next_same_row q n r u p v e
 carry q n r u p None e =
     let many : length p.right ≡ n = (nonzero_shape q n p.column p.right p.right_at).many in
     elim (cases_lt p.left (q - 1)) [
-      inl l ↦ next_row q n r u p e l ∙ sym (raise_here (q - 1) p.left p.right None refl l ∙ (rw many refl))
-    | inr l ↦ no_row q n r u p e l ∙ sym (raise_not (q - 1) p.left p.right None refl l)
+      | inl l ↦ next_row q n r u p e l ∙ sym (raise_here (q - 1) p.left p.right None refl l ∙ (rw many refl))
+      | inr l ↦ no_row q n r u p e l ∙ sym (raise_not (q - 1) p.left p.right None refl l)
     ]
 
 pub nonzero_next : (q n r : ℕ) (u : List ℕ) → slice_get (nonzero_lists q n) r ≡ Some u → slice_get (nonzero_lists q n) (suc r) ≡ next_numbers (q - 1) u

@@ -53,19 +53,20 @@ capped_product zero (suc b) =
     rw e (omega arith)
 capped_product (suc a) (suc b) =
     elim (cases_lt (suc a) (2 ^ 53)) [
-      inl l ↦ (
-        let e : min (suc a) (2 ^ 53) ≡ suc a = omega arith in
-        elim (cases_lt (suc b) (2 ^ 53)) [
-          inl m ↦ (let f : min (suc b) (2 ^ 53) ≡ suc b = omega arith in rw (e, f) (capped_twice (suc a * suc b)))
-        | inr m ↦ (let f : min (suc b) (2 ^ 53) ≡ 2 ^ 53 = omega arith in rw (e, f) (omega (arith, product_over' (suc a) (suc b) (2 ^ 53) m (omega arith), product_over' (suc a) (2 ^ 53) (2 ^ 53) (omega arith) (omega arith))))
-        ])
-    | inr l ↦ (
-        let e : min (suc a) (2 ^ 53) ≡ 2 ^ 53 = omega arith in
-        rw e (omega (arith, product_over (suc a) (suc b) (2 ^ 53) l (omega arith), product_over (2 ^ 53) (min (suc b) (2 ^ 53)) (2 ^ 53) (omega arith) (omega arith))))
+      | inl l ↦ (
+          let e : min (suc a) (2 ^ 53) ≡ suc a = omega arith in
+          elim (cases_lt (suc b) (2 ^ 53)) [
+            | inl m ↦ (let f : min (suc b) (2 ^ 53) ≡ suc b = omega arith in rw (e, f) (capped_twice (suc a * suc b)))
+            | inr m ↦ (let f : min (suc b) (2 ^ 53) ≡ 2 ^ 53 = omega arith in rw (e, f) (omega (arith, product_over' (suc a) (suc b) (2 ^ 53) m (omega arith), product_over' (suc a) (2 ^ 53) (2 ^ 53) (omega arith) (omega arith))))
+          ])
+      | inr l ↦ (
+          let e : min (suc a) (2 ^ 53) ≡ 2 ^ 53 = omega arith in
+          rw e (omega (arith, product_over (suc a) (suc b) (2 ^ 53) l (omega arith), product_over (2 ^ 53) (min (suc b) (2 ^ 53)) (2 ^ 53) (omega arith) (omega arith))))
     ]
   where
     capped_twice : (c : ℕ) → min (min c (2 ^ 64 - 1)) (2 ^ 53) ≡ min c (2 ^ 53)
     capped_twice c = omega arith
+
     product_over' : (a b s : ℕ) → s ≤ b → 1 ≤ a → s ≤ a * b
     product_over' a b s l m = omega (arith, le-mul_of_pos_right {m = a} b m)
 
@@ -120,16 +121,16 @@ not_later k q m p r b h i l =
 pub one_phase : (k q m p r b : ℕ) → IsInPhase k q m p b → IsInPhase k q m r b → p ≡ r
 one_phase k q m p r b h i =
     elim (cases_lt p r) [
-      inl l ↦ absurd (not_later k q m p r b h i l)
-    | inr l ↦ elim (cases_lt r p) [ inl n ↦ absurd (not_later k q m r p b i h n) | inr n ↦ omega (arith, l, n) ]
+      | inl l ↦ absurd (not_later k q m p r b h i l)
+      | inr l ↦ elim (cases_lt r p) [ inl n ↦ absurd (not_later k q m r p b i h n) | inr n ↦ omega (arith, l, n) ]
     ]
 
 pub table_more : (f : ℕ → ℕ) (n : ℕ) (t u : List ℕ) (v : ℕ) → IsTable f n t → u ≡ t ++ v ∷ [] → v ≡ f n → IsTable f (n + 1) u
 table_more f n t u v h e i = rw e (record {
   many = length_push t v ∙ ap (λ a. a + 1) h.many;
   entry = λ a l. elim (cases_lt a n) [
-    inl m ↦ get_or_append_left t (v ∷ []) 0 a (omega (arith, h.many)) ∙ h.entry a m
-  | inr m ↦ (let at : a ≡ n = omega (arith, l, m) in rw at (get_or_at t v [] 0 n h.many ∙ i))
+    | inl m ↦ get_or_append_left t (v ∷ []) 0 a (omega (arith, h.many)) ∙ h.entry a m
+    | inr m ↦ (let at : a ≡ n = omega (arith, l, m) in rw at (get_or_at t v [] 0 n h.many ∙ i))
   ];
 })
 
@@ -186,22 +187,23 @@ level_is k q e = refl
 start_sum : (c m s b t n : ℕ) → 1 ≤ m → b ≡ (c + 4095) / 4096 → s ≡ min t (2 ^ 40) → n ≡ t + m * b → min (min (min ((min c (2 ^ 53) + 4095) / 4096 * m) (2 ^ 64 - 1) + s) (2 ^ 64 - 1)) 1099511627776 ≡ min n (2 ^ 40)
 start_sum c m s b t n l e f g =
     elim (cases_lt c (2 ^ 53)) [
-      inl i ↦ (
-        let same : min c (2 ^ 53) ≡ c = omega (arith, i) in
-        let turn : b * m ≡ m * b = omega arith in
-        rw (same, ← e, f, g, turn) (sums (m * b) t))
-    | inr i ↦ (
-        let same : min c (2 ^ 53) ≡ 2 ^ 53 = omega (arith, i) in
-        let whole : (2 ^ 53 + 4095) / 4096 ≡ 2 ^ 41 = omega arith in
-        let large : 2 ^ 41 ≤ b = omega (arith, i, e) in
-        let first : 2 ^ 41 ≤ 2 ^ 41 * m = omega (arith, le-mul_of_pos_right {m = m} (2 ^ 41) l) in
-        let second : b ≤ b * m = le-mul_of_pos_right {m = m} b l in
-        let turn : b * m ≡ m * b = omega arith in
-        rw (same, whole) (over (2 ^ 41 * m) s n first (omega (arith, g, second, large, turn))))
+      | inl i ↦ (
+          let same : min c (2 ^ 53) ≡ c = omega (arith, i) in
+          let turn : b * m ≡ m * b = omega arith in
+          rw (same, ← e, f, g, turn) (sums (m * b) t))
+      | inr i ↦ (
+          let same : min c (2 ^ 53) ≡ 2 ^ 53 = omega (arith, i) in
+          let whole : (2 ^ 53 + 4095) / 4096 ≡ 2 ^ 41 = omega arith in
+          let large : 2 ^ 41 ≤ b = omega (arith, i, e) in
+          let first : 2 ^ 41 ≤ 2 ^ 41 * m = omega (arith, le-mul_of_pos_right {m = m} (2 ^ 41) l) in
+          let second : b ≤ b * m = le-mul_of_pos_right {m = m} b l in
+          let turn : b * m ≡ m * b = omega arith in
+          rw (same, whole) (over (2 ^ 41 * m) s n first (omega (arith, g, second, large, turn))))
     ]
   where
     sums : (a t : ℕ) → min (min (min a (2 ^ 64 - 1) + min t (2 ^ 40)) (2 ^ 64 - 1)) 1099511627776 ≡ min (t + a) (2 ^ 40)
     sums a t = omega arith
+
     over : (a s n : ℕ) → 2 ^ 41 ≤ a → 2 ^ 41 ≤ n → min (min (min a (2 ^ 64 - 1) + s) (2 ^ 64 - 1)) 1099511627776 ≡ min n (2 ^ 40)
     over a s n l m = omega arith
 

@@ -27,10 +27,10 @@ InOrder {X} R xs = (i j : ℕ) (x y : X) → i < j → slice_get xs i ≡ Some x
 rows_or_columns : (a b c d n i j : ℕ) → b < n → d < n → i ≡ a * n + b → j ≡ c * n + d → i < j → (a < c) ⊎ ((a ≡ c) × (b < d))
 rows_or_columns a b c d n i j bn dn e f l =
     elim (cases_lt a c) [
-      inl m ↦ inl m
-    | inr m ↦ elim (cases_lt c a) [
-        inl o ↦ absurd (omega (arith, above c a n d b dn o, e, f, l))
-      | inr o ↦ (let same : a ≡ c = omega (arith, m, o) in inr (same, omega (arith, rw same at e, f, l)))
+      | inl m ↦ inl m
+      | inr m ↦ elim (cases_lt c a) [
+        | inl o ↦ absurd (omega (arith, above c a n d b dn o, e, f, l))
+        | inr o ↦ (let same : a ≡ c = omega (arith, m, o) in inr (same, omega (arith, rw same at e, f, l)))
       ]
     ]
   where
@@ -42,10 +42,10 @@ product_in_order f RA RB RC by_row by_column xs ys rows columns i j x y l e d =
     let p = product_part f xs ys i x e in
     let r = product_part f xs ys j y d in
     rw (p.is, r.is) (elim (rows_or_columns p.row p.column r.row r.column (length ys) i j (slice_get_within ys p.column p.right p.right_at) (slice_get_within ys r.column r.right r.right_at) p.place r.place l) [
-      inl m ↦ by_row p.left r.left p.right r.right (rows p.row r.row p.left r.left m p.left_at r.left_at)
-    | inr m ↦ (
-        let same : p.left ≡ r.left = cc (m.0, p.left_at, r.left_at) in
-        rw same (by_column r.left p.right r.right (columns p.column r.column p.right r.right m.1 p.right_at r.right_at)))
+      | inl m ↦ by_row p.left r.left p.right r.right (rows p.row r.row p.left r.left m p.left_at r.left_at)
+      | inr m ↦ (
+          let same : p.left ≡ r.left = cc (m.0, p.left_at, r.left_at) in
+          rw same (by_column r.left p.right r.right (columns p.column r.column p.right r.right m.1 p.right_at r.right_at)))
     ])
 
 numbers_in_order : (i n : ℕ) → InOrder (λ (a b : ℕ). a < b) (numbers_from i n)
@@ -78,15 +78,15 @@ supports_in_order i k zero a b x y l e d = absurd (only_place [] a b x y l e d)
 supports_in_order i zero (suc w) a b x y l e d = absurd (cc)
 supports_in_order i (suc k) (suc w) a b x y l e d =
     elim (which_part i k w a x e) [
-      inl p ↦ elim (which_part i k w b y d) [
-        inl r ↦ rw (p.is, r.is) (inr (refl, supports_in_order (suc i) k w a b p.rest r.rest l p.at r.at))
-      | inr r ↦ (
-          let shape = support_shape (suc i) k (suc w) r.place y r.at in
-          rw p.is (below_head i p.rest y (omega (arith, shape.many)) (shape.low 0 (omega arith))))
+      | inl p ↦ elim (which_part i k w b y d) [
+        | inl r ↦ rw (p.is, r.is) (inr (refl, supports_in_order (suc i) k w a b p.rest r.rest l p.at r.at))
+        | inr r ↦ (
+            let shape = support_shape (suc i) k (suc w) r.place y r.at in
+            rw p.is (below_head i p.rest y (omega (arith, shape.many)) (shape.low 0 (omega arith))))
       ]
-    | inr p ↦ elim (which_part i k w b y d) [
-        inl r ↦ absurd (omega (arith, p.is, r.inside, l))
-      | inr r ↦ supports_in_order (suc i) k (suc w) p.place r.place x y (omega (arith, p.is, r.is, l)) p.at r.at
+      | inr p ↦ elim (which_part i k w b y d) [
+        | inl r ↦ absurd (omega (arith, p.is, r.inside, l))
+        | inr r ↦ supports_in_order (suc i) k (suc w) p.place r.place x y (omega (arith, p.is, r.is, l)) p.at r.at
       ]
     ]
 

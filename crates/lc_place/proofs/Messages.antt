@@ -73,6 +73,7 @@ leading_cons q w u v e h = rw e (record {
     lows : ((k : ℕ) → k < w → 1 ≤ get_or u k 0) → (k : ℕ) → k < suc w → 1 ≤ get_or (1 ∷ u) k 0
     lows a zero l = omega arith
     lows a (suc k) l = a k (omega arith)
+
     highs : ((k : ℕ) → k < w → get_or u k 0 < q) → 1 < q → (k : ℕ) → k < suc w → get_or (1 ∷ u) k 0 < q
     highs a b zero l = b
     highs a b (suc k) l = a k (omega arith)
@@ -127,8 +128,8 @@ same_support k q w n m p v e =
 last_column : (k q w n : ℕ) (m : Message) (p : MessagePart k q w n m) → slice_get (leading_lists q w) (suc p.column) ≡ None → suc p.column ≡ length (leading_lists q w)
 last_column k q w n m p e =
     elim (cases_lt (suc p.column) (length (leading_lists q w))) [
-      inl l ↦ absurd (none-some _ (sym e ∙ slice_get-get_or (leading_lists q w) (suc p.column) [] l))
-    | inr l ↦ omega (arith, slice_get_within (leading_lists q w) p.column p.right p.right_at)
+      | inl l ↦ absurd (none-some _ (sym e ∙ slice_get-get_or (leading_lists q w) (suc p.column) [] l))
+      | inr l ↦ omega (arith, slice_get_within (leading_lists q w) p.column p.right p.right_at)
     ]
 
 next_row : (k q w n : ℕ) → 1 < q → (m : Message) (p : MessagePart k q w n m) (s : List ℕ) → slice_get (leading_lists q w) (suc p.column) ≡ None → slice_get (supports k w) (suc p.row) ≡ Some s → slice_get (messages k q w) (suc n) ≡ Some (message_of s (replicate w 1))
@@ -139,8 +140,8 @@ next_row k q w n l m p s e d =
 no_row : (k q w n : ℕ) (m : Message) (p : MessagePart k q w n m) → slice_get (leading_lists q w) (suc p.column) ≡ None → slice_get (supports k w) (suc p.row) ≡ None → slice_get (messages k q w) (suc n) ≡ None
 no_row k q w n m p e d =
     let rows : suc p.row ≡ length (supports k w) = elim (cases_lt (suc p.row) (length (supports k w))) [
-      inl l ↦ absurd (none-some _ (sym d ∙ slice_get-get_or (supports k w) (suc p.row) [] l))
-    | inr l ↦ omega (arith, slice_get_within (supports k w) p.row p.left p.left_at)
+      | inl l ↦ absurd (none-some _ (sym d ∙ slice_get-get_or (supports k w) (suc p.row) [] l))
+      | inr l ↦ omega (arith, slice_get_within (supports k w) p.row p.left p.left_at)
     ] in
     let place : suc n ≡ suc p.row * length (leading_lists q w) = omega (arith, p.place, last_column k q w n m p e) in
     let many : length (messages k q w) ≡ suc p.row * length (leading_lists q w) = ap length (message_product k q w) ∙ length-product message_of (supports k w) (leading_lists q w) ∙ ap (λ a. a * length (leading_lists q w)) (sym rows) in

@@ -44,13 +44,18 @@ by_true k q m e b l s le some inside se after before small =
     let level : (e * m + s) / m ≡ e = div-mul-add e m s few in
     let set : (e * m + s) % m ≡ s = mod-mul-add e m s few in
     let start : min (blocks_before k q m (e * m + s)) cut ≡ b - (b - blocks_before k q m (e * m)) % l = omega (arith, here, split, rest, after, small, c) in
-    let end : min (blocks_before k q m (suc (e * m + s))) cut ≡ min (b - (b - blocks_before k q m (e * m)) % l + l) (2 ^ 40) = omega (arith, there, split, rest, after, small, c) in
-    (record {
-       phase = omega (arith, mul-add-lt e m s k inside few);
-       after = omega (arith, start, rest);
-       before = omega (arith, end, rest, small);
-     },
-     few, omega (arith, level), set, start, end)
+    let end : min (blocks_before k q m (suc (e * m + s))) cut ≡ min (b - (b - blocks_before k q m (e * m)) % l + l) (2 ^ 40) = omega (arith, there, split, rest, after, small, c) in (
+      record {
+        phase = omega (arith, mul-add-lt e m s k inside few);
+        after = omega (arith, start, rest);
+        before = omega (arith, end, rest, small);
+      },
+      few,
+      omega (arith, level),
+      set,
+      start,
+      end,
+    )
 
 -- where a block stands, from the numbers of its level as the plan keeps them
 pub record Stands (k q m e block a c s : ℕ) : Type 0 where
@@ -76,22 +81,22 @@ pub record SameBlocks (r l b : ℕ) : Type 0 where
 same_blocks : (r n l b : ℕ) → r < 2 ^ 40 → l ≡ (n + 4095) / 4096 → 1 ≤ l → b ≡ (min n (2 ^ 53) + 4095) / 4096 → SameBlocks r l b
 same_blocks r n l b small e some f =
     elim (cases_lt n (2 ^ 53)) [
-      inl i ↦ (
-        let d : min n (2 ^ 53) ≡ n = omega (arith, i) in
-        let same : b ≡ l = f ∙ ap (λ x. (x + 4095) / 4096) d ∙ sym e in
-        rw same (record { some = some; quotient = refl; rest = refl; end = λ x. refl }))
-    | inr i ↦ (
-        let d : min n (2 ^ 53) ≡ 2 ^ 53 = omega (arith, i) in
-        let whole : b ≡ 2 ^ 41 = omega (arith, f, d) in
-        let large : 2 ^ 41 ≤ l = omega (arith, i, e) in
-        let left : r < b = omega (arith, small, whole) in
-        let right : r < l = omega (arith, small, large) in
-        record {
-          some = omega (arith, whole);
-          quotient = div-eq_of_lt left ∙ sym (div-eq_of_lt right);
-          rest = mod-eq_of_lt left ∙ sym (mod-eq_of_lt right);
-          end = λ x. omega (arith, whole, large);
-        })
+      | inl i ↦ (
+          let d : min n (2 ^ 53) ≡ n = omega (arith, i) in
+          let same : b ≡ l = f ∙ ap (λ x. (x + 4095) / 4096) d ∙ sym e in
+          rw same (record { some = some; quotient = refl; rest = refl; end = λ x. refl }))
+      | inr i ↦ (
+          let d : min n (2 ^ 53) ≡ 2 ^ 53 = omega (arith, i) in
+          let whole : b ≡ 2 ^ 41 = omega (arith, f, d) in
+          let large : 2 ^ 41 ≤ l = omega (arith, i, e) in
+          let left : r < b = omega (arith, small, whole) in
+          let right : r < l = omega (arith, small, large) in
+          record {
+            some = omega (arith, whole);
+            quotient = div-eq_of_lt left ∙ sym (div-eq_of_lt right);
+            rest = mod-eq_of_lt left ∙ sym (mod-eq_of_lt right);
+            end = λ x. omega (arith, whole, large);
+          })
     ]
 
 blocks_are : (k q e : ℕ) → level_blocks k q (e + 1) ≡ (message_count k q (e + 1) + 4095) / 4096

@@ -51,15 +51,15 @@ pub product_part : {A B C : Type 0} (f : A → B → C) (xs : List A) (ys : List
 product_part f [] ys n z e = absurd (cc)
 product_part f (x ∷ xs) ys n z e =
     elim (cases_lt n (length ys)) [
-      inl l ↦ (
-        let here : n < length (map (f x) ys) = omega (arith, length-map ys (f x)) in
-        let p = map_part (f x) ys n z (sym (get-append_left (map (f x) ys) (product f xs ys) n here) ∙ e) in
-        record { row = 0; column = n; left = x; right = p.0; place = omega arith; left_at = refl; right_at = p.1; is = p.2 })
-    | inr l ↦ (
-        let split : n ≡ length (map (f x) ys) + (n - length ys) = omega (arith, length-map ys (f x)) in
-        let later : slice_get (product f xs ys) (n - length ys) ≡ Some z = sym (get-append_right (map (f x) ys) (product f xs ys) (n - length ys)) ∙ (rw (← split) e) in
-        let p = product_part f xs ys (n - length ys) z later in
-        record { row = suc p.row; column = p.column; left = p.left; right = p.right; place = omega (arith, p.place); left_at = p.left_at; right_at = p.right_at; is = p.is })
+      | inl l ↦ (
+          let here : n < length (map (f x) ys) = omega (arith, length-map ys (f x)) in
+          let p = map_part (f x) ys n z (sym (get-append_left (map (f x) ys) (product f xs ys) n here) ∙ e) in
+          record { row = 0; column = n; left = x; right = p.0; place = omega arith; left_at = refl; right_at = p.1; is = p.2 })
+      | inr l ↦ (
+          let split : n ≡ length (map (f x) ys) + (n - length ys) = omega (arith, length-map ys (f x)) in
+          let later : slice_get (product f xs ys) (n - length ys) ≡ Some z = sym (get-append_right (map (f x) ys) (product f xs ys) (n - length ys)) ∙ (rw (← split) e) in
+          let p = product_part f xs ys (n - length ys) z later in
+          record { row = suc p.row; column = p.column; left = p.left; right = p.right; place = omega (arith, p.place); left_at = p.left_at; right_at = p.right_at; is = p.is })
     ]
 
 pub product_at : {A B C : Type 0} (f : A → B → C) (xs : List A) (ys : List B) (a b : ℕ) (x : A) (y : B) → slice_get xs a ≡ Some x → slice_get ys b ≡ Some y → slice_get (product f xs ys) (a * length ys + b) ≡ Some (f x y)

@@ -89,7 +89,7 @@ step_last k q s u size h full last n e =
 -- what a step owes where it goes on: the next message, and the first change
 pub record GoesOn (p : PlanSize) (old : SpotState) (t v : List ℕ) (i : ℕ) : Type 0 where
   pub next : (n : ℕ) → slice_get (messages p.k p.q (length old.support)) n ≡ Some (spot_message old) → slice_get (messages p.k p.q (length old.support)) (n + 1) ≡ Some (message_of t v)
-  pub message : Contains (messages p.k p.q (length old.support)) (message_of t v)
+  pub message : Contains (messages p.k p.q (length t)) (message_of t v)
   pub change : (set room : ℕ) → IsFirstChange old (record { set = set; support = t; coefficients = v; room = room }) i
 
 pub places_below : (p : PlanSize) (old : SpotState) (k : ℕ) (s : List ℕ) → p.k ≡ k → s ≡ old.support → Contains (messages p.k p.q (length old.support)) (spot_message old) → (u : ℕ) → u < length s → get_or s u 0 + (length s - u) ≤ k
@@ -160,14 +160,14 @@ goes_by_move p old k q i j cs ss ms ns us vs t v a b c ce se me ue te ve manys m
     let steps : StepsTo p.k p.q old.support old.coefficients t v = step_moved p.k p.q old.support old.coefficients t v j (omega (arith, b, c)) h full' many many' inside' room' before' later' last' ones' in
     record {
       next = steps.next;
-      message = steps.message;
+      message = rw many steps.message;
       change = λ _ _. record {
         inside = omega (arith, inside', early);
         same_support = take_same t old.support i many (λ d l. before' d (omega (arith, l, early)));
         same_coefficients = take_same v old.coefficients i many' same';
         changed = elim (cases_lt i j) [
-          inl l ↦ inr (λ e. changed l (sym (ap (λ x. get_or x i 0) ve) ∙ e ∙ ap (λ x. get_or x i 0) (sym ue)))
-        | inr l ↦ inl (λ e. omega (arith, later' i l (omega (arith, inside', early)), e, early, l, same_place i j early l old.support))
+          | inl l ↦ inr (λ e. changed l (sym (ap (λ x. get_or x i 0) ve) ∙ e ∙ ap (λ x. get_or x i 0) (sym ue)))
+          | inr l ↦ inl (λ e. omega (arith, later' i l (omega (arith, inside', early)), e, early, l, same_place i j early l old.support))
         ];
       };
     }

@@ -59,11 +59,11 @@ support_last i zero s r low full = refl
 support_last i (suc k) [] r low full = refl
 support_last i (suc k) (p ∷ s) r low full =
     elim (cases_lt i p) [
-      inl l ↦ next_past i k p s l ∙ support_last (suc i) k (p ∷ s) r (λ _. omega (arith, l)) (λ u m. omega (arith, full u m))
-    | inr l ↦ (
-        let e : p ≡ i = omega (arith, low (omega arith)) in
-        let later : next_support (suc i) k s ≡ None = support_last (suc i) k s (rising_tail p s r) (λ m. head_above i p s r e m) (λ u m. omega (arith, full (suc u) (omega arith))) in
-        next_at i k p s e ∙ move_not i k s (next_support (suc i) k s) later (omega (arith, full 0 (omega arith))))
+      | inl l ↦ next_past i k p s l ∙ support_last (suc i) k (p ∷ s) r (λ _. omega (arith, l)) (λ u m. omega (arith, full u m))
+      | inr l ↦ (
+          let e : p ≡ i = omega (arith, low (omega arith)) in
+          let later : next_support (suc i) k s ≡ None = support_last (suc i) k s (rising_tail p s r) (λ m. head_above i p s r e m) (λ u m. omega (arith, full (suc u) (omega arith))) in
+          next_at i k p s e ∙ move_not i k s (next_support (suc i) k s) later (omega (arith, full 0 (omega arith))))
     ]
 
 row_of_numbers : (i n : ℕ) (t : List ℕ) → length t ≡ n → ((u : ℕ) → u < n → get_or t u 0 ≡ i + u) → t ≡ numbers_from i n
@@ -95,19 +95,19 @@ support_moved i (suc k) [] t j r low many inside room same new full = absurd (om
 support_moved i (suc k) (p ∷ s) [] j r low many inside room same new full = absurd (omega arith)
 support_moved i (suc k) (p ∷ s) (d ∷ t) zero r low many inside room same new full =
     elim (cases_lt i p) [
-      inl l ↦ next_past i k p s l ∙ support_moved (suc i) k (p ∷ s) (d ∷ t) 0 r (λ _. omega (arith, l)) many inside (omega (arith, room)) same new (λ u m n. omega (arith, full u m n))
-    | inr l ↦ (
-        let e : p ≡ i = omega (arith, low (omega arith)) in
-        next_at i k p s e ∙ moved_head i k p s (d ∷ t) r e (omega arith) (omega (arith, room)) (λ u m. omega (arith, new u (omega arith) m)) full)
+      | inl l ↦ next_past i k p s l ∙ support_moved (suc i) k (p ∷ s) (d ∷ t) 0 r (λ _. omega (arith, l)) many inside (omega (arith, room)) same new (λ u m n. omega (arith, full u m n))
+      | inr l ↦ (
+          let e : p ≡ i = omega (arith, low (omega arith)) in
+          next_at i k p s e ∙ moved_head i k p s (d ∷ t) r e (omega arith) (omega (arith, room)) (λ u m. omega (arith, new u (omega arith) m)) full)
     ]
 support_moved i (suc k) (p ∷ s) (d ∷ t) (suc j) r low many inside room same new full =
     elim (cases_lt i p) [
-      inl l ↦ next_past i k p s l ∙ support_moved (suc i) k (p ∷ s) (d ∷ t) (suc j) r (λ _. omega (arith, l)) many inside (omega (arith, room)) same new (λ u m n. omega (arith, full u m n))
-    | inr l ↦ (
-        let e : p ≡ i = omega (arith, low (omega arith)) in
-        let later : next_support (suc i) k s ≡ Some t = support_moved (suc i) k s t j (rising_tail p s r) (λ m. head_above i p s r e m) (omega arith) (omega arith) (omega (arith, room)) (λ u m. same (suc u) (omega arith)) (λ u m n. omega (arith, new (suc u) (omega arith) (omega arith))) (λ u m n. omega (arith, full (suc u) (omega arith) (omega arith))) in
-        let head : d ≡ i = omega (arith, same 0 (omega arith), e) in
-        next_at i k p s e ∙ moved_tail i k s t later ∙ cc)
+      | inl l ↦ next_past i k p s l ∙ support_moved (suc i) k (p ∷ s) (d ∷ t) (suc j) r (λ _. omega (arith, l)) many inside (omega (arith, room)) same new (λ u m n. omega (arith, full u m n))
+      | inr l ↦ (
+          let e : p ≡ i = omega (arith, low (omega arith)) in
+          let later : next_support (suc i) k s ≡ Some t = support_moved (suc i) k s t j (rising_tail p s r) (λ m. head_above i p s r e m) (omega arith) (omega arith) (omega (arith, room)) (λ u m. same (suc u) (omega arith)) (λ u m n. omega (arith, new (suc u) (omega arith) (omega arith))) (λ u m n. omega (arith, full (suc u) (omega arith) (omega arith))) in
+          let head : d ≡ i = omega (arith, same 0 (omega arith), e) in
+          next_at i k p s e ∙ moved_tail i k s t later ∙ cc)
     ]
 
 pub record IsSupport (i k w : ℕ) (s : List ℕ) : Type 0 where
@@ -127,9 +127,11 @@ support_cons i k w s t e h = rw e (record {
     lows : ((u : ℕ) → u < w → suc i ≤ get_or s u 0) → (u : ℕ) → u < suc w → i ≤ get_or (i ∷ s) u 0
     lows a zero l = omega arith
     lows a (suc u) l = omega (arith, a u (omega arith))
+
     rise : length s ≡ w → ((u : ℕ) → u < w → suc i ≤ get_or s u 0) → IsRising s → IsRising (i ∷ s)
     rise m a r zero l = omega (arith, a 0 (omega arith))
     rise m a r (suc u) l = r u (omega arith)
+
     highs : length s ≡ w → ((u : ℕ) → u < w → suc i ≤ get_or s u 0) → ((u : ℕ) → u < w → get_or s u 0 + (w - u) ≤ suc i + k) → IsRising s → (u : ℕ) → u < suc w → get_or (i ∷ s) u 0 + (suc w - u) ≤ i + suc k
     highs m a b r zero l = elim (cases_lt 0 w) [ inl z ↦ omega (arith, a 0 z, b 0 z) | inr z ↦ omega arith ]
     highs m a b r (suc u) l = omega (arith, b u (omega arith))
@@ -166,16 +168,16 @@ which_part i k w n s e =
     let parts : slice_get (with_first i k w ++ supports_from (suc i) k (suc w)) n ≡ Some s = rw (support_cases i k w) at e in
     let many : length (with_first i k w) ≡ length (supports_from (suc i) k w) = length-map (supports_from (suc i) k w) (λ s. i ∷ s) in
     elim (cases_lt n (length (with_first i k w))) [
-      inl l ↦ (
-        let p = map_part (λ (s : List ℕ). i ∷ s) (supports_from (suc i) k w) n s (sym (get-append_left (with_first i k w) (supports_from (suc i) k (suc w)) n l) ∙ parts) in
-        inl (record { rest = p.0; is = p.2; at = p.1; inside = omega (arith, l, many) }))
-    | inr l ↦ (
-        let split : n ≡ length (with_first i k w) + (n - length (with_first i k w)) = omega (arith, l) in
-        inr (record {
-          place = n - length (with_first i k w);
-          is = omega (arith, split, many);
-          at = sym (get-append_right (with_first i k w) (supports_from (suc i) k (suc w)) (n - length (with_first i k w))) ∙ (ap (slice_get (with_first i k w ++ supports_from (suc i) k (suc w))) (sym split) ∙ parts);
-        }))
+      | inl l ↦ (
+          let p = map_part (λ (s : List ℕ). i ∷ s) (supports_from (suc i) k w) n s (sym (get-append_left (with_first i k w) (supports_from (suc i) k (suc w)) n l) ∙ parts) in
+          inl (record { rest = p.0; is = p.2; at = p.1; inside = omega (arith, l, many) }))
+      | inr l ↦ (
+          let split : n ≡ length (with_first i k w) + (n - length (with_first i k w)) = omega (arith, l) in
+          inr (record {
+            place = n - length (with_first i k w);
+            is = omega (arith, split, many);
+            at = sym (get-append_right (with_first i k w) (supports_from (suc i) k (suc w)) (n - length (with_first i k w))) ∙ (ap (slice_get (with_first i k w ++ supports_from (suc i) k (suc w))) (sym split) ∙ parts);
+          }))
     ]
 
 only_nil : (i k n : ℕ) (s : List ℕ) → slice_get (supports_from i k 0) n ≡ Some s → (n ≡ 0) × (s ≡ [])
@@ -195,8 +197,8 @@ support_shape i k zero n s e = nil_is_support i k s (only_nil i k n s e).1
 support_shape i zero (suc w) n s e = absurd (no_support i w n s e)
 support_shape i (suc k) (suc w) n s e =
     elim (which_part i k w n s e) [
-      inl p ↦ support_cons i k w p.rest s p.is (support_shape (suc i) k w n p.rest p.at)
-    | inr p ↦ support_later i k (suc w) s (support_shape (suc i) k (suc w) p.place s p.at)
+      | inl p ↦ support_cons i k w p.rest s p.is (support_shape (suc i) k w n p.rest p.at)
+      | inr p ↦ support_later i k (suc w) s (support_shape (suc i) k (suc w) p.place s p.at)
     ]
 
 -- the places of the part that has the first place, and of the part that hasn't
@@ -236,16 +238,16 @@ choose_none (suc k) (suc w) l = omega (arith, choose_none k w (omega arith), cho
 after_first : (i k w : ℕ) (s : List ℕ) → length s ≡ w → slice_get (supports_from (suc i) k (suc w)) 0 ≡ moved i k s None
 after_first i k w s e =
     elim (cases_lt w k) [
-      inl l ↦ support_first (suc i) k (suc w) l ∙ ap (λ a. Some (numbers_from (suc i) (suc a))) (sym e) ∙ sym (move_here i k s None refl (omega (arith, e, l)))
-    | inr l ↦ slice_get_past (supports_from (suc i) k (suc w)) 0 (omega (arith, length-supports (suc i) k (suc w), choose_none k (suc w) (omega (arith, l)))) ∙ sym (move_not i k s None refl (omega (arith, e, l)))
+      | inl l ↦ support_first (suc i) k (suc w) l ∙ ap (λ a. Some (numbers_from (suc i) (suc a))) (sym e) ∙ sym (move_here i k s None refl (omega (arith, e, l)))
+      | inr l ↦ slice_get_past (supports_from (suc i) k (suc w)) 0 (omega (arith, length-supports (suc i) k (suc w), choose_none k (suc w) (omega (arith, l)))) ∙ sym (move_not i k s None refl (omega (arith, e, l)))
     ]
 
 next_in_first : (i k w n : ℕ) (s : List ℕ) (o : Option (List ℕ)) → length s ≡ w → n < length (supports_from (suc i) k w) → slice_get (supports_from (suc i) k w) (suc n) ≡ o → slice_get (supports_from i (suc k) (suc w)) (suc n) ≡ moved i k s o
 next_in_first i k w n s (Some t) many l e = support_takes i k w (suc n) t e
 next_in_first i k w n s None many l e =
     let last : suc n ≡ length (supports_from (suc i) k w) + 0 = elim (cases_lt (suc n) (length (supports_from (suc i) k w))) [
-      inl m ↦ absurd (none-some _ (sym e ∙ slice_get-get_or (supports_from (suc i) k w) (suc n) [] m))
-    | inr m ↦ omega (arith, l, m)
+      | inl m ↦ absurd (none-some _ (sym e ∙ slice_get-get_or (supports_from (suc i) k w) (suc n) [] m))
+      | inr m ↦ omega (arith, l, m)
     ] in
     ap (slice_get (supports_from i (suc k) (suc w))) last ∙ support_leaves i k w 0 ∙ after_first i k w s many
 
@@ -256,13 +258,13 @@ support_next i k zero n s e =
 support_next i zero (suc w) n s e = absurd (no_support i w n s e)
 support_next i (suc k) (suc w) n s e =
     elim (which_part i k w n s e) [
-      inl p ↦ (
-        let shape = support_shape (suc i) k w n p.rest p.at in
-        next_in_first i k w n p.rest (slice_get (supports_from (suc i) k w) (suc n)) shape.many p.inside refl ∙ ap (moved i k p.rest) (support_next (suc i) k w n p.rest p.at) ∙ sym (ap (next_support i (suc k)) p.is ∙ next_at i k i p.rest refl))
-    | inr p ↦ (
-        let shape = support_shape (suc i) k (suc w) p.place s p.at in
-        let place : suc n ≡ length (supports_from (suc i) k w) + suc p.place = omega (arith, p.is) in
-        ap (slice_get (supports_from i (suc k) (suc w))) place ∙ support_leaves i k w (suc p.place) ∙ support_next (suc i) k (suc w) p.place s p.at ∙ sym (past s shape.many (shape.low 0 (omega arith))))
+      | inl p ↦ (
+          let shape = support_shape (suc i) k w n p.rest p.at in
+          next_in_first i k w n p.rest (slice_get (supports_from (suc i) k w) (suc n)) shape.many p.inside refl ∙ ap (moved i k p.rest) (support_next (suc i) k w n p.rest p.at) ∙ sym (ap (next_support i (suc k)) p.is ∙ next_at i k i p.rest refl))
+      | inr p ↦ (
+          let shape = support_shape (suc i) k (suc w) p.place s p.at in
+          let place : suc n ≡ length (supports_from (suc i) k w) + suc p.place = omega (arith, p.is) in
+          ap (slice_get (supports_from i (suc k) (suc w))) place ∙ support_leaves i k w (suc p.place) ∙ support_next (suc i) k (suc w) p.place s p.at ∙ sym (past s shape.many (shape.low 0 (omega arith))))
     ]
   where
     past : (s : List ℕ) → length s ≡ suc w → suc i ≤ get_or s 0 0 → next_support i (suc k) s ≡ next_support (suc i) k s

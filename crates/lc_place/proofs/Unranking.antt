@@ -47,8 +47,8 @@ support_take k w r i s v t h inside few take is =
       few = omega arith;
       below = rw (d, f) at take;
       leads = λ x e. (
-        let at : slice_get (supports_from i (k - i) (w - length s)) t ≡ Some (i ∷ x) = rw (a, c) (support_takes i (k - (i + 1)) (w - length v) t x (rw (← g) e)) in
-        h.leads (i ∷ x) at ∙ ap Some (sym (ap (λ y. y ++ x) is ∙ append_assoc s (i ∷ []) x)));
+          let at : slice_get (supports_from i (k - i) (w - length s)) t ≡ Some (i ∷ x) = rw (a, c) (support_takes i (k - (i + 1)) (w - length v) t x (rw (← g) e)) in
+          h.leads (i ∷ x) at ∙ ap Some (sym (ap (λ y. y ++ x) is ∙ append_assoc s (i ∷ []) x)));
     }
 
 choose_split : (n j : ℕ) → choose (suc n) (suc j) ≡ choose n j + choose n (suc j)
@@ -74,9 +74,9 @@ leave_by k w r i n j s t a b c h leave =
       few = h.few;
       below = rw (b, c) later;
       leads = λ x e. (
-        let there : slice_get (supports_from (suc i) n (suc j)) (t - choose n j) ≡ Some x = rw (b, c, g) at e in
-        let at : slice_get (supports_from i (suc n) (suc j)) t ≡ Some x = ap (slice_get (supports_from i (suc n) (suc j))) place ∙ support_leaves i n j (t - choose n j) ∙ there in
-        h.leads x (rw (a, c) at));
+          let there : slice_get (supports_from (suc i) n (suc j)) (t - choose n j) ≡ Some x = rw (b, c, g) at e in
+          let at : slice_get (supports_from i (suc n) (suc j)) t ≡ Some x = ap (slice_get (supports_from i (suc n) (suc j))) place ∙ support_leaves i n j (t - choose n j) ∙ there in
+          h.leads x (rw (a, c) at));
     }
 
 pub support_leave : (k w r i c : ℕ) (s : List ℕ) (t : ℕ) → SupportSoFar k w r i s t → i < k → length s < w → choose (k - i - 1) (w - length s - 1) ≤ t → c ≡ choose (k - i - 1) (w - length s - 1) → SupportSoFar k w r (i + 1) s (t - c)
@@ -97,11 +97,11 @@ pub support_end : (k w r : ℕ) (s : List ℕ) (t : ℕ) → SupportSoFar k w r 
 support_end k w r s t h =
     let none : k - k ≡ 0 = omega arith in
     elim (cases_lt (length s) w) [
-      inl l ↦ (
-        let some : w - length s ≡ suc (w - length s - 1) = omega (arith, l) in
-        let below : t < choose 0 (suc (w - length s - 1)) = rw (none, some) at h.below in
-        absurd (omega (arith, below, choose_no_place (w - length s - 1))))
-    | inr l ↦ support_done k w r k s t h (omega (arith, l))
+      | inl l ↦ (
+          let some : w - length s ≡ suc (w - length s - 1) = omega (arith, l) in
+          let below : t < choose 0 (suc (w - length s - 1)) = rw (none, some) at h.below in
+          absurd (omega (arith, below, choose_no_place (w - length s - 1))))
+      | inr l ↦ support_done k w r k s t h (omega (arith, l))
     ]
 
 -- how the coefficients of a place begin, and what is left of the place
@@ -119,18 +119,18 @@ entries_start q w r u l e below = rw e (record {
   many = refl;
   below = below;
   leads = λ v d. (
-    let some : w ≡ suc (w - 1) = omega (arith, l) in
-    ap (λ a. slice_get (leading_lists q a) r) some ∙ leading_at q (w - 1) r v d);
+      let some : w ≡ suc (w - 1) = omega (arith, l) in
+      ap (λ a. slice_get (leading_lists q a) r) some ∙ leading_at q (w - 1) r v d);
 })
 
 pub divided : (n t : ℕ) → 1 ≤ n → t < 2 ^ 53 → (t / min n (2 ^ 53) ≡ t / n) × (t % min n (2 ^ 53) ≡ t % n) × (0 < min n (2 ^ 53))
 divided n t l m =
     elim (cases_lt n (2 ^ 53)) [
-      inl i ↦ (let e : min n (2 ^ 53) ≡ n = omega (arith, i) in rw e (refl, refl, l))
-    | inr i ↦ (
-        let e : min n (2 ^ 53) ≡ 2 ^ 53 = omega (arith, i) in
-        let a : t < n = omega (arith, m, i) in
-        rw e (div-eq_of_lt m ∙ sym (div-eq_of_lt a), mod-eq_of_lt m ∙ sym (mod-eq_of_lt a), omega arith))
+      | inl i ↦ (let e : min n (2 ^ 53) ≡ n = omega (arith, i) in rw e (refl, refl, l))
+      | inr i ↦ (
+          let e : min n (2 ^ 53) ≡ 2 ^ 53 = omega (arith, i) in
+          let a : t < n = omega (arith, m, i) in
+          rw e (div-eq_of_lt m ∙ sym (div-eq_of_lt a), mod-eq_of_lt m ∙ sym (mod-eq_of_lt a), omega arith))
     ]
 
 pub entries_more : (q w r i : ℕ) (u v : List ℕ) (t d : ℕ) → 2 ≤ q → EntriesSoFar q w r i u t → i < w → d ≡ 1 + t / (q - 1) ^ (w - 1 - i) → v ≡ u ++ d ∷ [] → EntriesSoFar q w r (i + 1) v (t % (q - 1) ^ (w - 1 - i))
@@ -143,9 +143,9 @@ entries_more q w r i u v t d size h inside digit is =
       many = ap length is ∙ length-append u (d ∷ []) ∙ ap (λ x. x + 1) h.many;
       below = rw b (mod-lt t some);
       leads = λ x e. (
-        let e' : slice_get (nonzero_lists q (w - 1 - i)) (t % (q - 1) ^ (w - 1 - i)) ≡ Some x = rw b at e in
-        let at : slice_get (nonzero_lists q (w - i)) t ≡ Some (d ∷ x) = rw (a, digit) (nonzero_digit q (w - 1 - i) t x below e') in
-        h.leads (d ∷ x) at ∙ ap Some (sym (ap (λ y. y ++ x) is ∙ append_assoc u (d ∷ []) x)));
+          let e' : slice_get (nonzero_lists q (w - 1 - i)) (t % (q - 1) ^ (w - 1 - i)) ≡ Some x = rw b at e in
+          let at : slice_get (nonzero_lists q (w - i)) t ≡ Some (d ∷ x) = rw (a, digit) (nonzero_digit q (w - 1 - i) t x below e') in
+          h.leads (d ∷ x) at ∙ ap Some (sym (ap (λ y. y ++ x) is ∙ append_assoc u (d ∷ []) x)));
     }
 
 pub digit_few : (q w r i : ℕ) (u : List ℕ) (t : ℕ) → 2 ≤ q → EntriesSoFar q w r i u t → i < w → t / (q - 1) ^ (w - 1 - i) < q - 1
@@ -186,10 +186,10 @@ support_rest k w r i s t h whole =
       few = h.few;
       below = rw none (omega (arith, below, choose_no_more (k - i), choose_no_more (k - (i + 1))));
       leads = λ v e. (
-        let e' : slice_get (supports_from (i + 1) (k - (i + 1)) 0) t ≡ Some v = rw none at e in
-        let p = supports_no_place (i + 1) (k - (i + 1)) t v e' in
-        let at : slice_get (supports_from i (k - i) (w - length s)) t ≡ Some v = rw (none, p.0, p.1) (supports_nothing i (k - i)) in
-        h.leads v at);
+          let e' : slice_get (supports_from (i + 1) (k - (i + 1)) 0) t ≡ Some v = rw none at e in
+          let p = supports_no_place (i + 1) (k - (i + 1)) t v e' in
+          let at : slice_get (supports_from i (k - i) (w - length s)) t ≡ Some v = rw (none, p.0, p.1) (supports_nothing i (k - i)) in
+          h.leads v at);
     }
 
 pub entry_at : (n j : ℕ) → j < 256 → choose_entry (n * 256 + j) ≡ min (choose n j) (2 ^ 53)

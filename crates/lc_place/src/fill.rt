@@ -18,7 +18,13 @@ fn put<T: Drop>(list: &mut Vec<T>, item: T)
 
 /// The support of `width` places below `k` at a place of their list.
 #[tactic(auto, using(crate::proofs::Unranking::support_start, crate::proofs::Unranking::support_end))]
-pub(crate) fn fill_support(chooses: &[u64], k: usize, width: usize, rank: u64, support: &mut Vec<usize>)
+pub(crate) fn fill_support(
+    chooses: &[u64],
+    k: usize,
+    width: usize,
+    rank: u64,
+    support: &mut Vec<usize>,
+)
     requires table { IsTable choose_entry ((k + 1) * 256) chooses.now }
     requires dimension { k ≤ 255 }
     requires level { width ≤ k }
@@ -45,7 +51,14 @@ pub(crate) fn fill_support(chooses: &[u64], k: usize, width: usize, rank: u64, s
 
 /// The coefficients of `width` places at a place of their list.
 #[tactic(auto, using(crate::proofs::Unranking::entries_start, crate::proofs::Unranking::entries_end))]
-pub(crate) fn fill_coefficients(powers: &[u64], k: usize, q: u64, width: usize, rank: u64, coefficients: &mut Vec<u8>)
+pub(crate) fn fill_coefficients(
+    powers: &[u64],
+    k: usize,
+    q: u64,
+    width: usize,
+    rank: u64,
+    coefficients: &mut Vec<u8>,
+)
     requires table { IsTable (power_entry q) k powers.now }
     requires field { (2 ≤ q) × (q ≤ 16) }
     requires level { (1 ≤ width) × (width ≤ k) }

@@ -8,15 +8,14 @@ ghost use Rattle.lc_place.specs.Order.{MessageLess};
 ghost use Rattle.lc_place.specs.Place.{spot_message, plan_phase, IsFirstChange};
 ghost use Rattle.lc_place.specs.Tables.{IsTable, choose_entry, power_entry};
 
-use std::alloc::Global;
-use std::marker::Model;
-
 use crate::NoMemory;
 use crate::fill::{fill_coefficients, fill_support};
 use crate::order::{last_below, last_movable, move_on, raise, reset};
-use crate::spot::Spot;
 use crate::phase::Phase;
+use crate::spot::Spot;
 use crate::table::Size;
+use std::alloc::Global;
+use std::marker::Model;
 
 /// The order in which a search looks at the messages of length k over q elements, with m information sets:
 /// level 1 with each set, then level 2 with each set, and so on, in blocks of 4,096 messages that are
@@ -83,7 +82,8 @@ impl Plan {
         ensures set { result.set < self.now.m }
         ensures around { (result.start ≤ block) × (block < result.end) }
     {
-        self.size.phase(self.starts.as_slice(), self.counts.as_slice(), block)
+        self.size
+            .phase(self.starts.as_slice(), self.counts.as_slice(), block)
     }
 
     /// The end of the phase of a block below the total: the block after its last one, at most 2^40.
@@ -125,8 +125,21 @@ impl Plan {
         let powers = self.powers.as_slice();
         let row = powers[phase.level - 1];
         spot.set = phase.set;
-        fill_support(self.chooses.as_slice(), self.size.k, phase.level, rank / row, &mut spot.support);
-        fill_coefficients(powers, self.size.k, self.size.q, phase.level, rank % row, &mut spot.coefficients);
+        fill_support(
+            self.chooses.as_slice(),
+            self.size.k,
+            phase.level,
+            rank / row,
+            &mut spot.support,
+        );
+        fill_coefficients(
+            powers,
+            self.size.k,
+            self.size.q,
+            phase.level,
+            rank % row,
+            &mut spot.coefficients,
+        );
     }
 
     /// Goes to the next message of the level, and answers the least index at which the support or the
@@ -137,7 +150,7 @@ impl Plan {
         ensures next { (n : ℕ) → slice_get (messages self.now.k self.now.q (length spot.old.support)) n ≡ Some (spot_message spot.old) → slice_get (messages self.now.k self.now.q (length spot.old.support)) (n + 1) ≡ (if is_some result then Some (spot_message spot.new) else None) }
         ensures change { IfSome result (λ i. IsFirstChange spot.old spot.new i) }
         ensures last { result ≡ None → spot.new ≡ spot.old }
-        ensures message { Contains (messages self.now.k self.now.q (length spot.old.support)) (spot_message spot.new) }
+        ensures message { Contains (messages self.now.k self.now.q (length spot.new.support)) (spot_message spot.new) }
         ensures level { length spot.new.support ≡ length spot.old.support }
         ensures set { spot.new.set ≡ spot.old.set }
         ensures room { spot.new.room ≡ spot.old.room }
@@ -162,7 +175,7 @@ impl Plan {
         requires { Contains (messages self.now.k self.now.q (length spot.old.support)) (spot_message spot.old) }
         ensures next { (n : ℕ) → slice_get (messages self.now.k self.now.q (length spot.old.support)) n ≡ Some (spot_message spot.old) → slice_get (messages self.now.k self.now.q (length spot.old.support)) (n + 1) ≡ (if result then Some (spot_message spot.new) else None) }
         ensures last { result ≡ false → spot.new ≡ spot.old }
-        ensures message { Contains (messages self.now.k self.now.q (length spot.old.support)) (spot_message spot.new) }
+        ensures message { Contains (messages self.now.k self.now.q (length spot.new.support)) (spot_message spot.new) }
         ensures level { length spot.new.support ≡ length spot.old.support }
         ensures set { spot.new.set ≡ spot.old.set }
         ensures room { spot.new.room ≡ spot.old.room }
@@ -178,6 +191,5 @@ impl Plan {
         ensures places { (p b t : ℕ) → t < 4096 → slice_get (block_messages self.now.k self.now.q self.now.m p b) t ≡ slice_get (messages self.now.k self.now.q (phase_level self.now.m p)) (4096 * (b - blocks_before self.now.k self.now.q self.now.m p) + t) }
         ensures order { (w : ℕ) → AllPairs MessageLess (messages self.now.k self.now.q w) }
         ensures count { (w : ℕ) → length (messages self.now.k self.now.q w) ≡ message_count self.now.k self.now.q w }
-    {
-    }
+    {}
 }

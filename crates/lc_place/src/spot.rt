@@ -2,10 +2,9 @@
 
 ghost use Rattle.std.specs.Prelude.{◌≡◌, ℕ, ◌≤◌, List, [], length, IfOk};
 
+use crate::NoMemory;
 use std::alloc::Global;
 use std::marker::Model;
-
-use crate::NoMemory;
 
 /// A set and a message: the places of the support, rising from 0, and as many coefficients, from 1 to
 /// q - 1, the first one 1. Its room is made once: a bound on the number of places that it can hold.

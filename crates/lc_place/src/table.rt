@@ -3,9 +3,8 @@
 ghost use Rattle.std.specs.Prelude.{◌≡◌, ◌+◌, ◌-◌, ◌*◌, ◌^◌, ◌<◌, ◌≤◌, IfOk, length};
 ghost use Rattle.lc_place.specs.Tables.{IsTable, choose_entry, power_entry, count_entry, start_entry};
 
-use std::alloc::Global;
-
 use crate::NoMemory;
+use std::alloc::Global;
 
 /// The bound to which numbers are counted: 2^53. A block's number is below 2^40 and a block has 4,096
 /// messages, so a message's number in its level is below 2^52.
@@ -77,7 +76,12 @@ impl Size {
 
     /// How many messages each level has, from level 1 on.
     #[tactic(auto, using(crate::proofs::Counting::table_more, crate::proofs::Counting::count_is))]
-    pub(crate) fn counts(&self, alloc: Global, chooses: &[u64], powers: &[u64]) -> Result<Vec<u64>, NoMemory>
+    pub(crate) fn counts(
+        &self,
+        alloc: Global,
+        chooses: &[u64],
+        powers: &[u64],
+    ) -> Result<Vec<u64>, NoMemory>
         requires chooses { IsTable choose_entry ((self.now.k + 1) * 256) chooses.now }
         requires powers { IsTable (power_entry self.now.q) self.now.k powers.now }
         ensures { IfOk result (λ t. IsTable (count_entry self.now.k self.now.q) self.now.k t.items) }
@@ -85,7 +89,9 @@ impl Size {
         let row = self.k * 256;
         let mut table = Vec::new(alloc);
         for level in 0..self.k {
-            let count = chooses[row + (level + 1)].saturating_mul(powers[level]).min(MOST);
+            let count = chooses[row + (level + 1)]
+                .saturating_mul(powers[level])
+                .min(MOST);
             let Ok(()) = table.push(count) else {
                 return Err(NoMemory);
             };
@@ -106,7 +112,10 @@ impl Size {
                 return Err(NoMemory);
             };
             let blocks = (counts[level] + 4095) / 4096;
-            start = blocks.saturating_mul(self.m as u64).saturating_add(start).min(CUT);
+            start = blocks
+                .saturating_mul(self.m as u64)
+                .saturating_add(start)
+                .min(CUT);
         }
         let Ok(()) = table.push(start) else {
             return Err(NoMemory);
