@@ -9,14 +9,14 @@
 --   blocks_rise                the blocks before a phase are no fewer than those before an earlier one
 --   one_phase                  a block belongs to one phase
 --   cut_is, most_is            the values of the two bounds
-use Rattle.std.proofs.Common.{◌≡◌, ℕ, zero, suc, ◌+◌, ◌-◌, ◌*◌, ◌/◌, ◌%◌, ◌^◌, ◌<◌, ◌≤◌, ◌≢◌, min, List, [], ◌∷◌, ◌++◌, length, get_or, refl, ap, sym, ◌∙◌, arith, ◌⊎◌, inl, inr}
-use Rattle.std.proofs.Math.Nat.{pow-suc, pow-zero, one-le-pow, mul-le-mul_left, mul-le-mul_right, min-eq_left, min-eq_right, le-mul_of_pos_right}
+use Rattle.std.proofs.Common.{◌≡◌, ℕ, zero, suc, ◌+◌, ◌-◌, ◌*◌, ◌/◌, ◌%◌, ◌^◌, ◌<◌, ◌≤◌, ◌≢◌, min, List, [], ◌∷◌, ◌++◌, refl, ap, sym, ◌∙◌, arith, inl, inr}
+use Rattle.std.proofs.Math.Nat.{pow-suc, le-mul_of_pos_right}
 use Rattle.std.proofs.lemmas.Bool.{cases_lt}
 use Rattle.std.proofs.lemmas.List.{get_or_append_left, get_or_at, length_push}
-use Rattle.std.proofs.lemmas.Nat.{div-mul-add, mod-mul-add, div_below, mul-le}
+use Rattle.std.proofs.lemmas.Nat.{div-mul-add}
 use Rattle.lc_enumeration.specs.Message.{choose, message_count}
-use Rattle.lc_enumeration.specs.Plan.{cut, blocks_before, level_blocks, phase_level, phase_set, phase_at, IsInPhase, total}
-use Rattle.lc_place.specs.Tables.{IsTable, most, capped, choose_entry, power_entry, count_entry, start_entry}
+use Rattle.lc_enumeration.specs.Plan.{cut, blocks_before, level_blocks, phase_level, phase_at, IsInPhase}
+use Rattle.lc_place.specs.Tables.{IsTable, choose_entry, power_entry, count_entry, start_entry}
 
 pub cut_is : cut ≡ 2 ^ 40
 unfolding cut

@@ -6,19 +6,19 @@
 --   pieces_list              a list cut into pieces of 4,096
 --   blocks_list              the blocks of a phase, one after the other, are the messages of its level
 --   block_message            a message of a block, by its place in the level
-use Rattle.std.proofs.Common.{◌≡◌, ℕ, zero, suc, ◌+◌, ◌-◌, ◌*◌, ◌/◌, ◌<◌, ◌≤◌, List, [], ◌∷◌, ◌++◌, map, length, get_or, take, drop, Option, Some, None, refl, ap, sym, ◌∙◌, subst, arith, ◌⊎◌, inl, inr, length-drop}
+use Rattle.std.proofs.Common.{◌≡◌, ℕ, zero, suc, ◌+◌, ◌-◌, ◌*◌, ◌<◌, ◌≤◌, List, [], ◌∷◌, ◌++◌, length, get_or, take, drop, Some, refl, ap, sym, ◌∙◌, arith, ◌⊎◌, inl, inr}
 use Rattle.std.specs.Prelude.{slice_get}
 use Rattle.std.specs.List.{flat_map, AllPairs}
 use Rattle.std.proofs.Math.Nat.{mul-le-mul_right}
 use Rattle.std.proofs.lemmas.Bool.{cases_lt}
-use Rattle.std.proofs.lemmas.List.{take_all, drop_all, take-append-drop, drop-drop, append_assoc, append-nil, drop-take}
+use Rattle.std.proofs.lemmas.List.{drop_all, take-append-drop, drop-drop}
 use Rattle.std.proofs.lemmas.Option.{slice_get_within, slice_get-get_or}
-use Rattle.lc_enumeration.specs.Message.{Message, supports_from, supports, numbers_from, nonzero_lists, leading_lists, messages, message_count}
+use Rattle.lc_enumeration.specs.Message.{supports_from, supports, numbers_from, nonzero_lists, leading_lists, messages, message_count}
 use Rattle.lc_enumeration.specs.Plan.{blocks_before, level_blocks, phase_level, block_messages}
 use Rattle.lc_place.specs.Order.{ListLess, MessageLess}
-use Rattle.lc_place.proofs.Products.{product, ProductPart, product_part, map_part}
+use Rattle.lc_place.proofs.Products.{product, product_part, map_part}
 use Rattle.lc_place.proofs.Coefficients.{numbers_inside}
-use Rattle.lc_place.proofs.Supports.{IsSupport, support_shape, InFirst, InLater, which_part}
+use Rattle.lc_place.proofs.Supports.{support_shape, which_part}
 use Rattle.lc_place.proofs.Messages.{message_of, length-messages}
 
 abbrev pub InOrder : {X : Type 0} → (X → X → Type 0) → List X → Type 0

@@ -7,16 +7,15 @@
 --   message_next               the message at the next place is the next message
 --   message_raised, message_moved, message_last      the next message, by what can rise or move
 --   from_contains, to_contains      between a place in a list and membership
-use Rattle.std.proofs.Common.{◌≡◌, ℕ, zero, suc, ◌+◌, ◌-◌, ◌*◌, ◌^◌, ◌<◌, ◌≤◌, List, [], ◌∷◌, map, length, get_or, replicate, Option, Some, None, refl, ap, sym, ◌∙◌, arith, ◌⊎◌, inl, inr}
+use Rattle.std.proofs.Common.{◌≡◌, ℕ, zero, suc, ◌+◌, ◌-◌, ◌*◌, ◌^◌, ◌<◌, ◌≤◌, List, [], ◌∷◌, length, get_or, replicate, Option, Some, None, refl, ap, sym, ◌∙◌, arith, inl, inr}
 use Rattle.std.specs.Prelude.{slice_get}
 use Rattle.std.specs.List.{Contains}
 use Rattle.std.specs.Option.{option_map}
 use Rattle.std.proofs.lemmas.Bool.{cases_lt}
-use Rattle.std.proofs.lemmas.List.{length-replicate}
 use Rattle.std.proofs.lemmas.Option.{slice_get-map, slice_get_within, slice_get_past, slice_get-get_or, get_or_from_slice_get, none-some}
 use Rattle.lc_enumeration.specs.Message.{Message, supports_from, supports, nonzero_lists, leading_lists, messages, message_count, choose}
 use Rattle.lc_place.proofs.Products.{product, length-product, ProductPart, product_part, product_at, map_part}
-use Rattle.lc_place.proofs.Coefficients.{next_numbers, nonzero_next, nonzero_first, nonzero_shape, NonzeroEntries, length-leading_lists, next_full}
+use Rattle.lc_place.proofs.Coefficients.{next_numbers, nonzero_next, nonzero_first, nonzero_shape, NonzeroEntries, length-leading_lists}
 use Rattle.lc_place.proofs.Supports.{next_support, support_next, IsSupport, support_shape, length-supports}
 
 abbrev pub message_of : List ℕ → List ℕ → Message

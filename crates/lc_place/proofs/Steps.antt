@@ -6,17 +6,16 @@
 --   GoesOn            what a step owes where it goes on
 --   places_below, entries_above, entries_many, entries_top, first_entry      what a spot's message is
 --   goes_by_raise, goes_by_move, stays      what the code does at a spot
-use Rattle.std.proofs.Common.{◌≡◌, ◌≢◌, ℕ, zero, suc, ◌+◌, ◌-◌, ◌*◌, ◌<◌, ◌≤◌, List, [], ◌∷◌, length, get_or, take, replicate, Option, Some, None, refl, ap, sym, ◌∙◌, arith, ◌⊎◌, inl, inr}
+use Rattle.std.proofs.Common.{◌≡◌, ◌≢◌, ℕ, zero, suc, ◌+◌, ◌-◌, ◌<◌, ◌≤◌, List, [], ◌∷◌, length, get_or, take, replicate, Some, None, refl, ap, sym, ◌∙◌, arith, inl, inr}
 use Rattle.std.specs.Prelude.{slice_get}
 use Rattle.std.specs.List.{Contains}
 use Rattle.std.specs.Option.{option_map}
-use Rattle.std.proofs.lemmas.Option.{slice_get_within}
-use Rattle.lc_enumeration.specs.Message.{Message, messages}
+use Rattle.lc_enumeration.specs.Message.{messages}
 use Rattle.std.proofs.lemmas.Bool.{cases_lt}
 use Rattle.lc_place.specs.Place.{PlanSize, SpotState, spot_message, IsFirstChange}
 use Rattle.lc_place.proofs.Coefficients.{next_numbers, next_full, next_raised, all_ones}
-use Rattle.lc_place.proofs.Supports.{next_support, support_last, support_moved, IsSupport, IsRising}
-use Rattle.lc_place.proofs.Messages.{message_of, next_leading, next_message, turned, message_next, message_shape, IsMessage, from_contains, to_contains}
+use Rattle.lc_place.proofs.Supports.{next_support, support_last, support_moved}
+use Rattle.lc_place.proofs.Messages.{message_of, next_leading, next_message, message_next, message_shape, IsMessage, from_contains, to_contains}
 
 pub all_same : (u : ℕ) (xs : List ℕ) (t : ℕ) → t ≡ 1 → get_or xs 0 0 ≡ 1 → ((v : ℕ) → 0 < v → v < length xs → get_or xs v 0 ≡ t) → u < length xs → get_or xs u 0 ≡ 1
 all_same zero xs t e first rest l = first

@@ -9,16 +9,15 @@
 --   support_first              the first one is the first w places
 --   support_next               the support at the next place is the next support
 --   support_takes, support_leaves   whether the support at a place has the first place
-use Rattle.std.proofs.Common.{◌≡◌, ℕ, zero, suc, ◌+◌, ◌-◌, ◌*◌, ◌<◌, ◌≤◌, Bool, true, false, cond, ltb, eqb, List, [], ◌∷◌, ◌++◌, map, length, get_or, Option, Some, None, refl, ap, sym, ◌∙◌, arith, length-append, ◌⊎◌, inl, inr}
+use Rattle.std.proofs.Common.{◌≡◌, ℕ, zero, suc, ◌+◌, ◌-◌, ◌<◌, ◌≤◌, true, false, cond, ltb, eqb, List, [], ◌∷◌, ◌++◌, map, length, get_or, Option, Some, None, refl, ap, sym, ◌∙◌, arith, length-append, ◌⊎◌, inl, inr}
 use Rattle.std.specs.Prelude.{slice_get}
 use Rattle.std.specs.Option.{option_map}
 use Rattle.std.proofs.lemmas.Bool.{cases_lt}
 use Rattle.std.proofs.lemmas.Bool.Decides.{nat_tests}
 use Rattle.std.proofs.lemmas.List.{length-map}
 use Rattle.std.proofs.lemmas.Option.{slice_get-map, slice_get_within, slice_get_past, slice_get-get_or, none-some}
-use Rattle.lc_enumeration.specs.Message.{supports_from, supports, numbers_from, choose}
+use Rattle.lc_enumeration.specs.Message.{supports_from, numbers_from, choose}
 use Rattle.lc_place.proofs.Products.{get-append_left, get-append_right, map_part}
-use Rattle.lc_place.proofs.Coefficients.{length-numbers_from}
 
 abbrev pub moved : ℕ → ℕ → List ℕ → Option (List ℕ) → Option (List ℕ)
 moved i k s (Some t) = Some (i ∷ t)

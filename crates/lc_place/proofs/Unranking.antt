@@ -7,7 +7,7 @@
 --   divided                        a place below the bound is divided the same by a capped number
 --   PutsEntry, puts_entry          one entry more, with the table of powers
 --   message_from_parts             the message of a place, from a support and coefficients
-use Rattle.std.proofs.Common.{◌≡◌, ℕ, zero, suc, ◌+◌, ◌-◌, ◌*◌, ◌/◌, ◌%◌, ◌^◌, ◌<◌, ◌≤◌, min, List, [], ◌∷◌, ◌++◌, map, length, Option, Some, None, refl, ap, sym, ◌∙◌, arith, ◌⊎◌, inl, inr, append_assoc, length-append}
+use Rattle.std.proofs.Common.{◌≡◌, ℕ, zero, suc, ◌+◌, ◌-◌, ◌*◌, ◌/◌, ◌%◌, ◌^◌, ◌<◌, ◌≤◌, min, List, [], ◌∷◌, ◌++◌, length, Some, refl, ap, sym, ◌∙◌, arith, inl, inr, append_assoc, length-append}
 use Rattle.std.specs.Prelude.{slice_get}
 use Rattle.std.specs.Option.{option_map}
 use Rattle.std.proofs.Math.Nat.{pow-suc, pow-zero, one-le-pow, div-eq_of_lt, mod-eq_of_lt, mod-lt}
@@ -15,7 +15,7 @@ use Rattle.std.proofs.lemmas.Bool.{cases_lt}
 use Rattle.std.proofs.lemmas.List.{append-nil}
 use Rattle.std.proofs.lemmas.Nat.{div_below, div-add-mod'}
 use Rattle.std.proofs.lemmas.Option.{slice_get-map}
-use Rattle.lc_enumeration.specs.Message.{Message, choose, supports_from, supports, nonzero_lists, leading_lists, messages, message_count}
+use Rattle.lc_enumeration.specs.Message.{choose, supports_from, nonzero_lists, leading_lists, messages}
 use Rattle.lc_place.specs.Tables.{choose_entry, power_entry}
 use Rattle.lc_place.proofs.Coefficients.{nonzero_digit, length-leading_lists}
 use Rattle.lc_place.proofs.Supports.{support_takes, support_leaves, length-supports}

@@ -15,7 +15,11 @@ fn binary_steps_change_from_the_first_moved_place(rt: HostRuntime) -> Result<(),
     let total = plan.total();
     assert!(rt; total == 4);
     plan.start_of(1, &mut spot);
-    assert!(rt; spot.set() == 0 && spot.support() == [0, 1].as_slice() && spot.coefficients() == [1, 1].as_slice());
+    assert!(rt;
+        spot.set() == 0
+            && spot.support() == [0, 1].as_slice()
+            && spot.coefficients() == [1, 1].as_slice()
+    );
     assert!(rt; plan.step(&mut spot) == Some(1));
     assert!(rt; plan.step(&mut spot) == Some(1));
     assert!(rt; plan.step(&mut spot) == Some(0));
@@ -28,7 +32,9 @@ fn binary_steps_change_from_the_first_moved_place(rt: HostRuntime) -> Result<(),
 }
 
 #[test]
-fn ternary_steps_change_from_the_coefficients_that_begin_anew(rt: HostRuntime) -> Result<(), NoMemory> {
+fn ternary_steps_change_from_the_coefficients_that_begin_anew(
+    rt: HostRuntime,
+) -> Result<(), NoMemory> {
     let pair = Plan::build(rt.alloc(), 2, 3, 1)?;
     let mut spot = Spot::new(rt.alloc(), 4)?;
     let total = pair.total();
@@ -44,7 +50,9 @@ fn ternary_steps_change_from_the_coefficients_that_begin_anew(rt: HostRuntime) -
     assert!(rt; plan.step(&mut spot) == Some(1));
     assert!(rt; plan.step(&mut spot) == Some(2));
     assert!(rt; plan.step(&mut spot) == Some(1));
-    assert!(rt; spot.support() == [0, 1, 3].as_slice() && spot.coefficients() == [1, 1, 1].as_slice());
+    assert!(rt;
+        spot.support() == [0, 1, 3].as_slice() && spot.coefficients() == [1, 1, 1].as_slice()
+    );
     Ok(())
 }
 
@@ -53,11 +61,20 @@ fn phases_have_the_blocks_of_their_levels(rt: HostRuntime) -> Result<(), NoMemor
     let plan = Plan::build(rt.alloc(), 45, 2, 1)?;
     let total = plan.total();
     assert!(rt; total == 8_589_934_619);
-    let table = [(0, 1, 0, 1, 45), (1, 2, 1, 2, 990), (4, 3, 2, 6, 4096), (5, 3, 2, 6, 1902), (6, 4, 6, 43, 4096), (342, 6, 342, 2331, 4096)];
+    let table = [
+        (0, 1, 0, 1, 45),
+        (1, 2, 1, 2, 990),
+        (4, 3, 2, 6, 4096),
+        (5, 3, 2, 6, 1902),
+        (6, 4, 6, 43, 4096),
+        (342, 6, 342, 2331, 4096),
+    ];
     for (block, level, start, end, length) in table {
         assert!(rt; block < total);
         let phase = plan.phase_of(block);
-        assert!(rt; phase.level == level && phase.set == 0 && phase.start == start && phase.end == end);
+        assert!(rt;
+            phase.level == level && phase.set == 0 && phase.start == start && phase.end == end
+        );
         assert!(rt; plan.phase_end(block) == end && plan.block_len(block) == length);
     }
     Ok(())
@@ -72,10 +89,16 @@ fn sets_follow_one_another_within_a_level(rt: HostRuntime) -> Result<(), NoMemor
         let block = set as u64;
         let mut spot = Spot::new(rt.alloc(), 1)?;
         let phase = plan.phase_of(block);
-        assert!(rt; phase.level == 1 && phase.set == set && phase.start == block && phase.end == block + 1);
+        assert!(rt;
+            phase.level == 1 && phase.set == set && phase.start == block && phase.end == block + 1
+        );
         assert!(rt; plan.block_len(block) == 1);
         plan.start_of(block, &mut spot);
-        assert!(rt; spot.set() == set && spot.support() == [0].as_slice() && spot.coefficients() == [1].as_slice());
+        assert!(rt;
+            spot.set() == set
+                && spot.support() == [0].as_slice()
+                && spot.coefficients() == [1].as_slice()
+        );
     }
     Ok(())
 }
@@ -107,6 +130,10 @@ fn blocks_begin_in_the_middle_of_a_level(rt: HostRuntime) -> Result<(), NoMemory
     let total = quaternary.total();
     assert!(rt; total > 11);
     quaternary.start_of(11, &mut spot);
-    assert!(rt; spot.set() == 0 && spot.support() == [0, 1, 17, 19].as_slice() && spot.coefficients() == [1, 3, 1, 2].as_slice());
+    assert!(rt;
+        spot.set() == 0
+            && spot.support() == [0, 1, 17, 19].as_slice()
+            && spot.coefficients() == [1, 3, 1, 2].as_slice()
+    );
     Ok(())
 }

@@ -1,5 +1,5 @@
-use Rattle.std.proofs.Common.{◌≡◌, ◌<◌, ◌-◌, ◌/◌, ◌%◌, List, [], ◌∷◌, ◌++◌, length, arith, rules, sym, ap, ◌∙◌, get_or}
-use Rattle.lc_place.proofs.Unranking.{EntriesSoFar, entries_start, entries_end, PutsEntry, puts_entry}
+use Rattle.std.proofs.Common.{◌≡◌, ◌-◌, [], ◌∷◌, ◌++◌, arith, ap, ◌∙◌, get_or}
+use Rattle.lc_place.proofs.Unranking.{EntriesSoFar, entries_start, entries_end, puts_entry}
 use Rattle.lc_place.proofs.fill.fill_coefficients.Goals as goal
 
 pub loop-place-init : goal.loop-place-init

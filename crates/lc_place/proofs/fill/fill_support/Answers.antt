@@ -1,4 +1,4 @@
-use Rattle.std.proofs.Common.{◌≡◌, ◌<◌, ◌+◌, ◌-◌, ◌*◌, List, ℕ, length, get_or, arith, rules, sym, ap, ◌∙◌}
+use Rattle.std.proofs.Common.{◌≡◌, ◌+◌, ◌-◌, ◌*◌, length, get_or, arith, ap, ◌∙◌}
 use Rattle.lc_place.proofs.Unranking.{SupportSoFar, take_entry, leave_entry, support_rest, support_end}
 use Rattle.lc_place.proofs.fill.fill_support.Goals as goal
 use Rattle.lc_place.proofs.fill.fill_support.Goals.{then-taken-width+then-rest-with_place, then-taken-width+else-rest-with_place, else-taken-width}

@@ -1,4 +1,4 @@
-use Rattle.std.proofs.Common.{◌≡◌, ◌<◌, ◌≤◌, ◌-◌, ◌*◌, ℕ, arith, refl, sym, ap, ◌∙◌}
+use Rattle.std.proofs.Common.{arith, ap, ◌∙◌}
 use Rattle.lc_place.proofs.Counting.{one_phase}
 use Rattle.lc_place.proofs.Phases.{found_rank, counted}
 use Rattle.lc_enumeration.specs.Plan.{block_length}

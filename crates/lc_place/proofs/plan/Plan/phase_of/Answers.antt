@@ -1,4 +1,4 @@
-use Rattle.std.proofs.Common.{◌≡◌, ◌<◌, ℕ, refl, sym, ap, ◌∙◌, subst}
+use Rattle.std.proofs.Common.{◌≡◌, ◌<◌, ℕ, sym, ap, ◌∙◌, subst}
 use Rattle.lc_enumeration.specs.Plan.{total, phase_at, IsInPhase}
 use Rattle.lc_place.specs.Place.{PlanSize, plan_phase}
 use Rattle.lc_place.proofs.Counting.{one_phase}

@@ -1,5 +1,5 @@
-use Rattle.std.proofs.Common.{◌≡◌, ◌<◌, ◌≤◌, ◌-◌, ◌*◌, ℕ, arith, refl, sym, ap, ◌∙◌}
-use Rattle.lc_place.specs.Place.{PlanSize, SpotState}
+use Rattle.std.proofs.Common.{◌≤◌, arith, ap}
+use Rattle.lc_place.specs.Place.{SpotState}
 use Rattle.lc_place.proofs.Phases.{found_rank, starting, started}
 use Rattle.lc_place.proofs.plan.Plan.start_of.Goals as goal
 

@@ -1,7 +1,6 @@
-use Rattle.std.proofs.Common.{◌≡◌, ◌<◌, ◌≤◌, ◌+◌, ◌-◌, ◌*◌, ◌/◌, ◌^◌, get_or, arith, refl, sym, ap, ◌∙◌}
-use Rattle.lc_place.specs.Tables.{count_entry}
+use Rattle.std.proofs.Common.{◌<◌, ◌≤◌, ◌+◌, ◌^◌, get_or, arith, refl, sym}
 use Rattle.lc_place.proofs.Counting.{start_first}
-use Rattle.lc_place.proofs.Phases.{Stands, stands, below_cut}
+use Rattle.lc_place.proofs.Phases.{stands, below_cut}
 use Rattle.lc_place.proofs.table.Size.phase.Goals as goal
 
 pub level_of-level-requires-clause-first : goal.level_of-level-requires-clause-first

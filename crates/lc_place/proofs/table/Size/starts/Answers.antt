@@ -1,4 +1,3 @@
-use Rattle.std.proofs.Common.{arith}
 use Rattle.lc_place.proofs.Counting.{table_none, table_more, start_first, start_next}
 use Rattle.lc_place.proofs.table.Size.starts.Goals as goal
 
