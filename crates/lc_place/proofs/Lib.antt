@@ -7,3 +7,4 @@ pub mod Unranking
 pub mod Phases
 pub mod Steps
 pub mod Listing
+pub mod Vectors

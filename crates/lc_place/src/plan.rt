@@ -1,10 +1,10 @@
 //! The plan: the phases of a search, their blocks, and the messages of a block.
 
-ghost use Rattle.std.specs.Prelude.{◌≡◌, ℕ, ◌+◌, ◌-◌, ◌*◌, ◌/◌, ◌%◌, ◌^◌, ◌<◌, ◌≤◌, ◌++◌, ◌∷◌, [], Some, None, false, length, slice_get, slice_index, vec_len, vec_capacity, IfOk, IfSome, is_some, if◌then◌else◌};
+ghost use Rattle.std.specs.Prelude.{◌≡◌, ℕ, ◌+◌, ◌-◌, ◌*◌, ◌/◌, ◌%◌, ◌^◌, ◌<◌, ◌≤◌, ◌++◌, ◌∷◌, [], Some, None, false, length, slice_get, slice_index, vec_len, vec_capacity, IfOk, IfSome, is_some, if◌then◌else◌, ◌≢◌, ◌↔◌, List, map};
 ghost use Rattle.std.specs.List.{AllPairs, Contains, flat_map};
-ghost use Rattle.lc_enumeration.specs.Message.{messages, message_count, numbers_from};
+ghost use Rattle.lc_enumeration.specs.Message.{messages, message_count, numbers_from, vector_of};
 ghost use Rattle.lc_enumeration.specs.Plan.{total, phase_at, phase_set, phase_level, level_blocks, blocks_before, block_length, block_messages, IsInPhase};
-ghost use Rattle.lc_place.specs.Order.{MessageLess};
+ghost use Rattle.lc_place.specs.Order.{IsLeadingVector, MessageLess};
 ghost use Rattle.lc_place.specs.Place.{spot_message, plan_phase, IsFirstChange};
 ghost use Rattle.lc_place.specs.Tables.{IsTable, choose_entry, power_entry};
 
@@ -184,12 +184,17 @@ impl Plan {
     }
 
     /// The law of the order: over a phase the blocks list the messages of its level, each once, by support
-    /// and then by coefficients. With `start_of`, which begins at the first message of a block, and `step`,
+    /// and then by coefficients, and their vectors are those of length k with as many nonzero entries as the
+    /// level says, the first one 1, each once. With `start_of`, which begins at the first message of a block, and `step`,
     /// which goes from each message to the next, the whole phase is listed.
     pub fn lists_each_message_once(&self)
         ensures blocks { (p : ℕ) → flat_map (block_messages self.now.k self.now.q self.now.m p) (numbers_from (blocks_before self.now.k self.now.q self.now.m p) (level_blocks self.now.k self.now.q (phase_level self.now.m p))) ≡ messages self.now.k self.now.q (phase_level self.now.m p) }
         ensures places { (p b t : ℕ) → t < 4096 → slice_get (block_messages self.now.k self.now.q self.now.m p b) t ≡ slice_get (messages self.now.k self.now.q (phase_level self.now.m p)) (4096 * (b - blocks_before self.now.k self.now.q self.now.m p) + t) }
         ensures order { (w : ℕ) → AllPairs MessageLess (messages self.now.k self.now.q w) }
+        ensures vectors { (w : ℕ) (v : List ℕ) → 1 ≤ w → Contains (map (vector_of self.now.k) (messages self.now.k self.now.q w)) v ↔ IsLeadingVector self.now.k self.now.q w v }
+        ensures once { (w : ℕ) → AllPairs (λ u v. u ≢ v) (map (vector_of self.now.k) (messages self.now.k self.now.q w)) }
         ensures count { (w : ℕ) → length (messages self.now.k self.now.q w) ≡ message_count self.now.k self.now.q w }
-    {}
+    {
+        let _field = self.size.q;
+    }
 }
