@@ -117,10 +117,10 @@ vector_back i (suc k) q [] (c ∷ u) o h = absurd (omega (arith, h.many))
 vector_back i (suc k) q (p ∷ s) [] o h = absurd (omega (arith, h.many))
 vector_back i (suc k) q (p ∷ s) (c ∷ u) o h =
     elim (cases_lt i p) [
-      inl l ↦ rw (vector_later i k p c s u l) (back_zero i k q (p ∷ s) (c ∷ u) (vector_from (suc i) k (p ∷ s) (c ∷ u)) o (vector_back (suc i) k q (p ∷ s) (c ∷ u) o (fitting_later i k q (p ∷ s) (c ∷ u) h (λ _. l))))
-    | inr l ↦ (
-        let e : p ≡ i = omega (arith, l, h.low (omega arith)) in
-        back_here i k q p c s u e (h.some 0 (omega arith)) (h.small 0 (omega arith)) (vector_back (suc i) k q s u o (fitting_rest i k q p c s u e h)))
+      | inl l ↦ rw (vector_later i k p c s u l) (back_zero i k q (p ∷ s) (c ∷ u) (vector_from (suc i) k (p ∷ s) (c ∷ u)) o (vector_back (suc i) k q (p ∷ s) (c ∷ u) o (fitting_later i k q (p ∷ s) (c ∷ u) h (λ _. l))))
+      | inr l ↦ (
+          let e : p ≡ i = omega (arith, l, h.low (omega arith)) in
+          back_here i k q p c s u e (h.some 0 (omega arith)) (h.small 0 (omega arith)) (vector_back (suc i) k q s u o (fitting_rest i k q p c s u e h)))
     ]
 
 first_of : (v : List ℕ) (i : ℕ) → get_or v i 0 ≢ 0 → ((j : ℕ) → j < i → get_or v j 0 ≡ 0) → get_or v i 0 ≡ get_or (nonzeros v) 0 0
@@ -247,10 +247,11 @@ leading_is_vector k q w v some h =
     let many : length (nonzeros v) ≡ w = length-nonzeros v ∙ h.weighs in
     let s = places_listed 0 k w v h.many many in
     let small : (j : ℕ) → j < length v → get_or v j 0 < q = λ j l. h.entries j (omega (arith, l, h.many)) in
-    let u = leading_listed q w (nonzeros v) some many (λ j l. nonzeros_some v j (omega (arith, l, many))) (λ j l. nonzeros_small q v small j (omega (arith, l, many))) (nonzeros_lead v h.leads (omega (arith, many, some))) in
-    (s.0 * length (leading_lists q w) + u.0,
-     message_at k q w s.0 u.0 (places 0 v) (nonzeros v) (ap (λ l. slice_get l s.0) (supports_are k w) ∙ s.1) u.1,
-     vector_is k (message_of (places 0 v) (nonzeros v)) ∙ vector_again 0 k v h.many)
+    let u = leading_listed q w (nonzeros v) some many (λ j l. nonzeros_some v j (omega (arith, l, many))) (λ j l. nonzeros_small q v small j (omega (arith, l, many))) (nonzeros_lead v h.leads (omega (arith, many, some))) in (
+      s.0 * length (leading_lists q w) + u.0,
+      message_at k q w s.0 u.0 (places 0 v) (nonzeros v) (ap (λ l. slice_get l s.0) (supports_are k w) ∙ s.1) u.1,
+      vector_is k (message_of (places 0 v) (nonzeros v)) ∙ vector_again 0 k v h.many,
+    )
 
 pub leading_vectors : (k q w : ℕ) (v : List ℕ) → 1 < q → 1 ≤ w → Contains (map (vector_of k) (messages k q w)) v ↔ IsLeadingVector k q w v
 leading_vectors k q w v size some = (to, from)
@@ -260,6 +261,7 @@ leading_vectors k q w v size some = (to, from)
         let p = from_contains (map (vector_of k) (messages k q w)) v c in
         let m = map_part (vector_of k) (messages k q w) p.0 v p.1 in
         rw m.2 (vector_is_leading k q w m.0 size some (message_shape k q w p.0 m.0 m.1))
+
     from : IsLeadingVector k q w v → Contains (map (vector_of k) (messages k q w)) v
     from h =
         let p = leading_is_vector k q w v some h in
@@ -288,6 +290,6 @@ vectors_apart k q w size i j x y l e d same =
     let b = map_part (vector_of k) (messages k q w) j y d in
     let one = same_message k q w a.0 b.0 size (message_shape k q w i a.0 a.1) (message_shape k q w j b.0 b.1) (sym a.2 ∙ same ∙ b.2) in
     elim (messages_in_order k q w i j a.0 b.0 l a.1 b.1) [
-      inl s ↦ less_apart a.0.support b.0.support one.0 s
-    | inr s ↦ less_apart a.0.coefficients b.0.coefficients one.1 s.1
+      | inl s ↦ less_apart a.0.support b.0.support one.0 s
+      | inr s ↦ less_apart a.0.coefficients b.0.coefficients one.1 s.1
     ]
