@@ -1,0 +1,10 @@
+pub mod Products
+pub mod Coefficients
+pub mod Supports
+pub mod Messages
+pub mod Counting
+pub mod Unranking
+pub mod Phases
+pub mod Steps
+pub mod Listing
+pub mod Vectors

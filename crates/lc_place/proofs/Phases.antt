@@ -1,0 +1,287 @@
+-- The phase of a block.
+--   total_is, total_few       the blocks of a plan, from the table of the first blocks of its levels
+--   Stands, stands            the phase of a block, from the numbers of its level in the tables
+--   Ranked, ranked            the number of a block's first message in its level
+--   BlockCount, block_count   how many messages a block has, from the table of counts
+--   StartParts, start_parts   the places of the support and of the coefficients of the first message
+--   first_message             that message, from its two parts
+--   FoundPhase, found_rank, any_rank      a block with the phase that was found for it
+--   counted, starting, Started, started   what the code does at that phase
+use Rattle.std.proofs.Common.{◌≡◌, ℕ, zero, suc, ◌+◌, ◌-◌, ◌*◌, ◌/◌, ◌%◌, ◌^◌, ◌<◌, ◌≤◌, min, List, Some, length, get_or, subst, refl, ap, sym, ◌∙◌, arith, inl, inr}
+use Rattle.std.specs.Prelude.{slice_get}
+use Rattle.std.specs.List.{Contains}
+use Rattle.std.proofs.Math.Nat.{div-eq_of_lt, mod-eq_of_lt, one-le-pow, div-le_self}
+use Rattle.std.proofs.lemmas.Bool.{cases_lt}
+use Rattle.std.proofs.lemmas.Nat.{div_below, div-add-mod', mod_below, div-mul-add, mod-mul-add, mul-add-lt}
+use Rattle.lc_enumeration.specs.Message.{choose, message_count, supports_from, leading_lists, messages}
+use Rattle.lc_enumeration.specs.Plan.{cut, block_length, blocks_before, level_blocks, phase_at, phase_level, phase_set, PlanPhase, IsInPhase, total}
+use Rattle.lc_place.specs.declared.phase.Phase.{Phase}
+use Rattle.lc_place.specs.Place.{PlanSize, plan_phase}
+use Rattle.lc_place.specs.Tables.{IsTable, start_entry, count_entry, power_entry}
+use Rattle.lc_place.proofs.Counting.{cut_is, blocks_in_level, blocks_of_level, within, one_phase}
+use Rattle.lc_place.proofs.Supports.{support_shape}
+use Rattle.lc_place.proofs.Messages.{message_of, leading_shape, to_contains}
+use Rattle.lc_place.proofs.Unranking.{divided, message_from_parts}
+
+pub total_is : (k q m a : ℕ) → a ≡ start_entry k q m k → a ≡ total k q m
+unfolding total
+total_is k q m a e = e
+
+pub total_few : (k q m a : ℕ) → a ≡ start_entry k q m k → a ≤ 2 ^ 40
+total_few k q m a e = let c : cut ≡ 2 ^ 40 = cut_is in omega arith
+
+-- the same for the true number of messages n of the level, with blocks l
+by_true : (k q m e b l s : ℕ) → l ≡ level_blocks k q (e + 1) → 1 ≤ l → e < k → s ≡ (b - blocks_before k q m (e * m)) / l → blocks_before k q m (e * m) ≤ b → b < blocks_before k q m ((e + 1) * m) → b < 2 ^ 40 → (IsInPhase k q m (e * m + s) b) × (s < m) × (phase_level m (e * m + s) ≡ e + 1) × (phase_set m (e * m + s) ≡ s) × ((phase_at k q m (e * m + s)).start ≡ b - (b - blocks_before k q m (e * m)) % l) × ((phase_at k q m (e * m + s)).end ≡ min (b - (b - blocks_before k q m (e * m)) % l + l) (2 ^ 40))
+unfolding phase_at phase_level phase_set
+by_true k q m e b l s le some inside se after before small =
+    let c : cut ≡ 2 ^ 40 = cut_is in
+    let next : blocks_before k q m ((e + 1) * m) ≡ blocks_before k q m (e * m) + m * l = rw le (blocks_of_level k q m e) in
+    let few : s < m = rw se (div_below (b - blocks_before k q m (e * m)) l m some (omega (arith, next, before, after))) in
+    let split : s * l + (b - blocks_before k q m (e * m)) % l ≡ b - blocks_before k q m (e * m) = rw se (div-add-mod' (b - blocks_before k q m (e * m)) l) in
+    let rest : (b - blocks_before k q m (e * m)) % l < l = mod_below (b - blocks_before k q m (e * m)) l some in
+    let here : blocks_before k q m (e * m + s) ≡ blocks_before k q m (e * m) + s * l = rw le (blocks_in_level k q m e s (omega (arith, few))) in
+    let there : blocks_before k q m (suc (e * m + s)) ≡ blocks_before k q m (e * m) + s * l + l = (let f : suc (e * m + s) ≡ e * m + (s + 1) = omega arith in rw (f, le) (omega (arith, blocks_in_level k q m e (s + 1) (omega (arith, few))))) in
+    let level : (e * m + s) / m ≡ e = div-mul-add e m s few in
+    let set : (e * m + s) % m ≡ s = mod-mul-add e m s few in
+    let start : min (blocks_before k q m (e * m + s)) cut ≡ b - (b - blocks_before k q m (e * m)) % l = omega (arith, here, split, rest, after, small, c) in
+    let end : min (blocks_before k q m (suc (e * m + s))) cut ≡ min (b - (b - blocks_before k q m (e * m)) % l + l) (2 ^ 40) = omega (arith, there, split, rest, after, small, c) in (
+      record {
+        phase = omega (arith, mul-add-lt e m s k inside few);
+        after = omega (arith, start, rest);
+        before = omega (arith, end, rest, small);
+      },
+      few,
+      omega (arith, level),
+      set,
+      start,
+      end,
+    )
+
+-- where a block stands, from the numbers of its level as the plan keeps them
+pub record Stands (k q m e block a c s : ℕ) : Type 0 where
+  pub some : 1 ≤ (c + 4095) / 4096
+  pub phase : IsInPhase k q m (e * m + s) block
+  pub set : s < m
+  pub is : phase_at k q m (e * m + s) ≡ record { level = e + 1; set = s; start = block - (block - a) % ((c + 4095) / 4096); end = min (block - (block - a) % ((c + 4095) / 4096) + (c + 4095) / 4096) (2 ^ 40) }
+
+phase_same : (l s a b l' s' a' b' : ℕ) → l ≡ l' → s ≡ s' → a ≡ a' → b ≡ b' → ◌≡◌ {A = PlanPhase} (record { level = l; set = s; start = a; end = b }) (record { level = l'; set = s'; start = a'; end = b' })
+phase_same l s a b l' s' a' b' e f g h = rw (e, f, g, h) refl
+
+phase_is : (k q m p l s a b : ℕ) → phase_level m p ≡ l → phase_set m p ≡ s → (phase_at k q m p).start ≡ a → (phase_at k q m p).end ≡ b → phase_at k q m p ≡ record { level = l; set = s; start = a; end = b }
+unfolding phase_at
+phase_is k q m p l s a b e f g h = phase_same _ _ _ _ l s a b e f g h
+
+pub record SameBlocks (r l b : ℕ) : Type 0 where
+  pub some : 1 ≤ b
+  pub quotient : r / b ≡ r / l
+  pub rest : r % b ≡ r % l
+  pub end : (x : ℕ) → min (x + b) (2 ^ 40) ≡ min (x + l) (2 ^ 40)
+
+-- the number of blocks of a level, from its number of messages n as far as it is counted
+same_blocks : (r n l b : ℕ) → r < 2 ^ 40 → l ≡ (n + 4095) / 4096 → 1 ≤ l → b ≡ (min n (2 ^ 53) + 4095) / 4096 → SameBlocks r l b
+same_blocks r n l b small e some f =
+    elim (cases_lt n (2 ^ 53)) [
+      | inl i ↦ (
+          let d : min n (2 ^ 53) ≡ n = omega (arith, i) in
+          let same : b ≡ l = f ∙ ap (λ x. (x + 4095) / 4096) d ∙ sym e in
+          rw same (record { some = some; quotient = refl; rest = refl; end = λ x. refl }))
+      | inr i ↦ (
+          let d : min n (2 ^ 53) ≡ 2 ^ 53 = omega (arith, i) in
+          let whole : b ≡ 2 ^ 41 = omega (arith, f, d) in
+          let large : 2 ^ 41 ≤ l = omega (arith, i, e) in
+          let left : r < b = omega (arith, small, whole) in
+          let right : r < l = omega (arith, small, large) in
+          record {
+            some = omega (arith, whole);
+            quotient = div-eq_of_lt left ∙ sym (div-eq_of_lt right);
+            rest = mod-eq_of_lt left ∙ sym (mod-eq_of_lt right);
+            end = λ x. omega (arith, whole, large);
+          })
+    ]
+
+blocks_are : (k q e : ℕ) → level_blocks k q (e + 1) ≡ (message_count k q (e + 1) + 4095) / 4096
+unfolding level_blocks
+blocks_are k q e = refl
+
+at_least_one : (m l : ℕ) → 0 < m * l → 1 ≤ l
+at_least_one m zero h = absurd (omega (arith, h))
+at_least_one m (suc l) h = omega arith
+
+pub stands : (k q m e block a b c s : ℕ) → e < k → a ≡ start_entry k q m e → b ≡ start_entry k q m (e + 1) → c ≡ count_entry k q e → a ≤ block → block < b → s ≡ (block - a) / ((c + 4095) / 4096) → Stands k q m e block a c s
+stands k q m e block a b c s inside ae be ce after before se =
+    let cut' : cut ≡ 2 ^ 40 = cut_is in
+    let small : block < 2 ^ 40 = omega (arith, before, be, cut') in
+    let first : blocks_before k q m (e * m) ≡ a = omega (arith, ae, after, small, cut') in
+    let last : block < blocks_before k q m ((e + 1) * m) = omega (arith, be, before) in
+    let some : 1 ≤ level_blocks k q (e + 1) = at_least_one m (level_blocks k q (e + 1)) (omega (arith, blocks_of_level k q m e, first, last, after)) in
+    let same = same_blocks (block - a) (message_count k q (e + 1)) (level_blocks k q (e + 1)) ((c + 4095) / 4096) (omega (arith, small)) (blocks_are k q e) some (ap (λ x. (x + 4095) / 4096) ce) in
+    let q' : s ≡ (block - blocks_before k q m (e * m)) / level_blocks k q (e + 1) = rw first (se ∙ same.quotient) in
+    let t = by_true k q m e block (level_blocks k q (e + 1)) s refl some inside q' (omega (arith, first, after)) last small in
+    let start : (phase_at k q m (e * m + s)).start ≡ block - (block - a) % ((c + 4095) / 4096) = t.4 ∙ ap (λ x. block - (block - x) % level_blocks k q (e + 1)) first ∙ ap (λ x. block - x) (sym same.rest) in
+    let end : (phase_at k q m (e * m + s)).end ≡ min (block - (block - a) % ((c + 4095) / 4096) + (c + 4095) / 4096) (2 ^ 40) = t.5 ∙ ap (λ x. min (block - (block - x) % level_blocks k q (e + 1) + level_blocks k q (e + 1)) (2 ^ 40)) first ∙ ap (λ x. min (block - x + level_blocks k q (e + 1)) (2 ^ 40)) (sym same.rest) ∙ sym (same.end (block - (block - a) % ((c + 4095) / 4096))) in
+    record {
+      some = same.some;
+      phase = t.0;
+      set = t.1;
+      is = phase_is k q m (e * m + s) (e + 1) s _ _ t.2 t.3 start end;
+    }
+
+-- the number of the first message of a block in its level
+pub record Ranked (k q m p b : ℕ) (ph : Phase) : Type 0 where
+  pub level : ph.level ≡ phase_level m p
+  pub set : ph.set ≡ phase_set m p
+  pub start : ph.start ≡ blocks_before k q m p
+  pub end : ph.end ≡ (phase_at k q m p).end
+  pub after : ph.start ≤ b
+  pub before : b < ph.end
+  pub small : b < 2 ^ 40
+  pub inside : 4096 * (b - ph.start) < message_count k q ph.level
+
+blocks_next : (k q m p : ℕ) → blocks_before k q m (suc p) ≡ blocks_before k q m p + level_blocks k q (phase_level m p)
+unfolding blocks_before
+blocks_next k q m p = refl
+
+blocks_of : (k q w : ℕ) → level_blocks k q w ≡ (message_count k q w + 4095) / 4096
+unfolding level_blocks
+blocks_of k q w = refl
+
+level_of_phase : (k q m p : ℕ) → (phase_at k q m p).level ≡ phase_level m p
+unfolding phase_at
+level_of_phase k q m p = refl
+
+set_of_phase : (k q m p : ℕ) → (phase_at k q m p).set ≡ phase_set m p
+unfolding phase_at
+set_of_phase k q m p = refl
+
+pub ranked : (k q m p b : ℕ) (ph : Phase) → IsInPhase k q m p b → plan_phase ph ≡ phase_at k q m p → Ranked k q m p b ph
+ranked k q m p b ph h e =
+    let w = within k q m p b h in
+    let level : ph.level ≡ phase_level m p = ap (λ x. x.level) e ∙ level_of_phase k q m p in
+    let start : ph.start ≡ blocks_before k q m p = ap (λ x. x.start) e ∙ w.start in
+    record {
+      level = level;
+      set = ap (λ x. x.set) e ∙ set_of_phase k q m p;
+      start = start;
+      end = ap (λ x. x.end) e;
+      after = omega (arith, start, w.after);
+      before = omega (arith, ap (λ x. x.end) e, h.before);
+      small = w.below_cut;
+      inside = rw level (omega (arith, start, w.before, w.after, blocks_next k q m p, blocks_of k q (phase_level m p)));
+    }
+
+pub record BlockCount (k q m p b a c : ℕ) : Type 0 where
+  pub fits : 4096 * (b - a) ≤ c
+  pub some : 1 ≤ min (c - 4096 * (b - a)) 4096
+  pub exact : min (c - 4096 * (b - a)) 4096 ≡ block_length k q m p b
+
+length_is : (k q m p b : ℕ) → block_length k q m p b ≡ min 4096 (message_count k q (phase_level m p) - 4096 * (b - blocks_before k q m p))
+unfolding block_length
+length_is k q m p b = refl
+
+pub block_count : (k q m p b c : ℕ) (ph : Phase) → Ranked k q m p b ph → 1 ≤ ph.level → c ≡ count_entry k q (ph.level - 1) → BlockCount k q m p b ph.start c
+block_count k q m p b c ph h some ce =
+    let one : ph.level - 1 + 1 ≡ ph.level = omega (arith, some) in
+    let ce' : c ≡ min (message_count k q ph.level) (2 ^ 53) = rw one at ce in
+    let count : message_count k q ph.level ≡ message_count k q (phase_level m p) = ap (message_count k q) h.level in
+    record {
+      fits = omega (arith, ce', h.inside, h.small);
+      some = omega (arith, ce', h.inside, h.small);
+      exact = omega (arith, length_is k q m p b, count, ce', h.inside, h.small, h.start);
+    }
+
+pub record StartParts (k q w r d : ℕ) : Type 0 where
+  pub some : 0 < d
+  pub quotient : r / d ≡ r / (q - 1) ^ (w - 1)
+  pub rest : r % d ≡ r % (q - 1) ^ (w - 1)
+  pub support : r / d < choose k w
+  pub coefficients : r % d < (q - 1) ^ (w - 1)
+  pub few : r / d < 2 ^ 52
+  pub less : r % d < 2 ^ 52
+
+count_is_product : (k q w : ℕ) → message_count k q w ≡ choose k w * (q - 1) ^ (w - 1)
+unfolding message_count
+count_is_product k q w = refl
+
+pub start_parts : (k q m p b d : ℕ) (ph : Phase) → Ranked k q m p b ph → 2 ≤ q → d ≡ power_entry q (ph.level - 1) → StartParts k q ph.level ((b - ph.start) * 4096) d
+start_parts k q m p b d ph h size de =
+    let some : 1 ≤ (q - 1) ^ (ph.level - 1) = one-le-pow (ph.level - 1) (q - 1) (omega (arith, size)) in
+    let small : (b - ph.start) * 4096 < 2 ^ 52 = omega (arith, h.small) in
+    let same = divided ((q - 1) ^ (ph.level - 1)) ((b - ph.start) * 4096) some (omega (arith, small)) in
+    let inside : (b - ph.start) * 4096 < choose k ph.level * (q - 1) ^ (ph.level - 1) = omega (arith, h.inside, count_is_product k q ph.level) in
+    let few : (b - ph.start) * 4096 / (q - 1) ^ (ph.level - 1) < choose k ph.level = div_below ((b - ph.start) * 4096) ((q - 1) ^ (ph.level - 1)) (choose k ph.level) some inside in
+    let less : (b - ph.start) * 4096 % (q - 1) ^ (ph.level - 1) < (q - 1) ^ (ph.level - 1) = mod_below ((b - ph.start) * 4096) ((q - 1) ^ (ph.level - 1)) some in
+    rw de (record {
+      some = same.2;
+      quotient = same.0;
+      rest = same.1;
+      support = omega (arith, same.0, few);
+      coefficients = omega (arith, same.1, less);
+      few = omega (arith, same.0, small, div-le_self ((b - ph.start) * 4096) ((q - 1) ^ (ph.level - 1)));
+      less = omega (arith, same.1, small, div-add-mod' ((b - ph.start) * 4096) ((q - 1) ^ (ph.level - 1)));
+    })
+
+pub first_message : (k q m p b d : ℕ) (ph : Phase) (s u : List ℕ) → Ranked k q m p b ph → StartParts k q ph.level ((b - ph.start) * 4096) d → slice_get (supports_from 0 k ph.level) ((b - ph.start) * 4096 / d) ≡ Some s → slice_get (leading_lists q ph.level) ((b - ph.start) * 4096 % d) ≡ Some u → slice_get (messages k q (phase_level m p)) (4096 * (b - blocks_before k q m p)) ≡ Some (message_of s u)
+first_message k q m p b d ph s u h parts e f =
+    let place : (b - ph.start) * 4096 ≡ 4096 * (b - blocks_before k q m p) = omega (arith, h.start) in
+    let at : slice_get (messages k q ph.level) ((b - ph.start) * 4096) ≡ Some (message_of s u) = message_from_parts k q ph.level ((b - ph.start) * 4096) s u (ap (slice_get (supports_from 0 k ph.level)) (sym parts.quotient) ∙ e) (ap (slice_get (leading_lists q ph.level)) (sym parts.rest) ∙ f) in
+    ap (λ w. slice_get (messages k q w) (4096 * (b - blocks_before k q m p))) (sym h.level) ∙ ap (slice_get (messages k q ph.level)) (sym place) ∙ at
+
+pub below_cut : (k q m e b : ℕ) → b < start_entry k q m e → b < 2 ^ 40
+below_cut k q m e b l = let c : cut ≡ 2 ^ 40 = cut_is in omega (arith, l)
+
+pub inside_is : (k q m b : ℕ) → b < total k q m → b < start_entry k q m k
+unfolding total
+inside_is k q m b l = l
+
+-- a block and the phase that was found for it
+abbrev pub FoundPhase : PlanSize → ℕ → Phase → Type 0
+FoundPhase p b ph = (x : ℕ) × IsInPhase p.k p.q p.m x b × (plan_phase ph ≡ phase_at p.k p.q p.m x)
+
+pub found_rank : (p : PlanSize) (b : ℕ) (ph : Phase) (f : FoundPhase p b ph) → Ranked p.k p.q p.m f.0 b ph
+found_rank p b ph f = ranked p.k p.q p.m f.0 b ph f.1 f.2
+
+pub any_rank : (p : PlanSize) (b x : ℕ) (ph : Phase) → FoundPhase p b ph → IsInPhase p.k p.q p.m x b → Ranked p.k p.q p.m x b ph
+any_rank p b x ph f h = let e : f.0 ≡ x = one_phase p.k p.q p.m f.0 x b f.1 h in rw (← e) (found_rank p b ph f)
+
+pub counted : (p : PlanSize) (k q m b : ℕ) (t ts : List ℕ) (ph : Phase) → ◌≡◌ {A = PlanSize} (record { k = k; q = q; m = m }) p → ts ≡ t → IsTable (count_entry k q) k t → 1 ≤ ph.level → ph.level ≤ p.k → (f : FoundPhase p b ph) → BlockCount p.k p.q p.m f.0 b ph.start (get_or ts (ph.level - 1) 0)
+counted p k q m b t ts ph view same table some few f =
+    let few' : ph.level ≤ k = omega (arith, few, ap (λ (v : PlanSize). v.k) view) in
+    let entry : get_or ts (ph.level - 1) 0 ≡ count_entry p.k p.q (ph.level - 1) = ap (λ l. get_or l (ph.level - 1) 0) same ∙ table.entry (ph.level - 1) (omega (arith, few', some)) ∙ ap (λ (v : PlanSize). count_entry v.k v.q (ph.level - 1)) view in
+    block_count p.k p.q p.m f.0 b _ ph (found_rank p b ph f) some entry
+
+pub starting : (p : PlanSize) (k q m b : ℕ) (t ts : List ℕ) (ph : Phase) → ◌≡◌ {A = PlanSize} (record { k = k; q = q; m = m }) p → ts ≡ t → IsTable (power_entry q) k t → 2 ≤ q → 1 ≤ ph.level → ph.level ≤ p.k → FoundPhase p b ph → StartParts k q ph.level ((b - ph.start) * 4096) (get_or ts (ph.level - 1) 0)
+starting p k q m b t ts ph view same table size some few f =
+    let few' : ph.level ≤ k = omega (arith, few, ap (λ (v : PlanSize). v.k) view) in
+    let entry : get_or ts (ph.level - 1) 0 ≡ power_entry q (ph.level - 1) = ap (λ l. get_or l (ph.level - 1) 0) same ∙ table.entry (ph.level - 1) (omega (arith, few', some)) in
+    let f' : FoundPhase (record { k = k; q = q; m = m }) b ph = subst (λ (v : PlanSize). FoundPhase v b ph) (sym view) f in
+    start_parts k q m f'.0 b _ ph (found_rank (record { k = k; q = q; m = m }) b ph f') size entry
+
+-- what `start_of` leaves
+pub record Started (p : PlanSize) (b : ℕ) (ph : Phase) (s u : List ℕ) : Type 0 where
+  pub first : (x : ℕ) → IsInPhase p.k p.q p.m x b → slice_get (messages p.k p.q (phase_level p.m x)) (4096 * (b - blocks_before p.k p.q p.m x)) ≡ Some (message_of s u)
+  pub level : (x : ℕ) → IsInPhase p.k p.q p.m x b → length s ≡ phase_level p.m x
+  pub set : (x : ℕ) → IsInPhase p.k p.q p.m x b → ph.set ≡ phase_set p.m x
+  pub message : Contains (messages p.k p.q (length s)) (message_of s u)
+  pub places : length s ≡ ph.level
+  pub entries : length u ≡ ph.level
+
+started_at : (p : PlanSize) (b d : ℕ) (ph : Phase) (s u : List ℕ) → FoundPhase p b ph → StartParts p.k p.q ph.level ((b - ph.start) * 4096) d → slice_get (supports_from 0 p.k ph.level) ((b - ph.start) * 4096 / d) ≡ Some s → slice_get (leading_lists p.q ph.level) ((b - ph.start) * 4096 % d) ≡ Some u → Started p b ph s u
+started_at p b d ph s u f parts e g =
+    let places : length s ≡ ph.level = (support_shape 0 p.k ph.level ((b - ph.start) * 4096 / d) s e).many in
+    let entries : length u ≡ ph.level = (leading_shape p.q ph.level ((b - ph.start) * 4096 % d) u g).many in
+    let r = found_rank p b ph f in
+    let first = first_message p.k p.q p.m f.0 b d ph s u r parts e g in
+    let level : phase_level p.m f.0 ≡ length s = sym (places ∙ r.level) in
+    record {
+      first = λ x h. first_message p.k p.q p.m x b d ph s u (any_rank p b x ph f h) parts e g;
+      level = λ x h. places ∙ (any_rank p b x ph f h).level;
+      set = λ x h. (any_rank p b x ph f h).set;
+      message = to_contains (messages p.k p.q (length s)) (message_of s u) (4096 * (b - blocks_before p.k p.q p.m f.0)) (rw level at first);
+      places = places;
+      entries = entries;
+    }
+
+pub started : (p : PlanSize) (k q m b d : ℕ) (ph : Phase) (s u : List ℕ) → ◌≡◌ {A = PlanSize} (record { k = k; q = q; m = m }) p → FoundPhase p b ph → StartParts k q ph.level ((b - ph.start) * 4096) d → slice_get (supports_from 0 k ph.level) ((b - ph.start) * 4096 / d) ≡ Some s → slice_get (leading_lists q ph.level) ((b - ph.start) * 4096 % d) ≡ Some u → Started p b ph s u
+started p k q m b d ph s u view f parts e g =
+    let f' : FoundPhase (record { k = k; q = q; m = m }) b ph = subst (λ (v : PlanSize). FoundPhase v b ph) (sym view) f in
+    subst (λ (v : PlanSize). Started v b ph s u) view (started_at (record { k = k; q = q; m = m }) b d ph s u f' parts e g)

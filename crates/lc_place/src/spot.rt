@@ -1,0 +1,72 @@
+//! A spot: the message at which a search stands, and its information set.
+
+ghost use Rattle.std.specs.Prelude.{◌≡◌, ℕ, ◌≤◌, List, [], length, IfOk};
+
+use crate::NoMemory;
+use std::alloc::Global;
+use std::marker::Model;
+
+/// A set and a message: the places of the support, rising from 0, and as many coefficients, from 1 to
+/// q - 1, the first one 1. Its room is made once: a bound on the number of places that it can hold.
+#[derive(Drop)]
+pub struct Spot {
+    pub(crate) set: usize,
+    pub(crate) support: Vec<usize>,
+    pub(crate) coefficients: Vec<u8>,
+    pub(crate) room: usize,
+}
+
+impl Model for Spot {
+    ghost use Rattle.std.specs.Prelude.{◌≡◌, ◌≤◌, vec_len, vec_capacity};
+    ghost use Rattle.lc_place.specs.Place.{SpotState};
+
+    ghost Value = { SpotState };
+
+    ghost view = { λ s. record { set = s.set; support = s.support.items; coefficients = s.coefficients.items; room = s.room } };
+
+    ghost invariant = { λ s. (s.room ≤ vec_capacity s.support) × (s.room ≤ vec_capacity s.coefficients) × (vec_len s.support ≤ s.room) × (vec_len s.coefficients ≤ s.room) };
+}
+
+impl Spot {
+    /// A spot with set 0, no place and no coefficient, and room for messages of length `k`.
+    pub fn new(alloc: Global, k: usize) -> Result<Spot, NoMemory>
+        ensures { IfOk result (λ s. s ≡ record { set = 0; support = []; coefficients = []; room = k }) }
+    {
+        let Ok(support) = Vec::with_capacity(alloc, k) else {
+            return Err(NoMemory);
+        };
+        let Ok(coefficients) = Vec::with_capacity(alloc, k) else {
+            return Err(NoMemory);
+        };
+        Ok(Spot {
+            set: 0,
+            support,
+            coefficients,
+            room: k,
+        })
+    }
+
+    /// The index of the information set, from 0.
+    pub fn set(&self) -> usize
+        ensures { result ≡ self.now.set }
+    {
+        self.set
+    }
+
+    /// The places of the message that aren't zero, rising from 0. There are at most as many as the room.
+    pub fn support(&self) -> &[usize]
+        ensures places { result.now ≡ self.now.support }
+        ensures few { length self.now.support ≤ self.now.room }
+    {
+        self.support.as_slice()
+    }
+
+    /// The entries of the message at these places, each below the size of the field. There are at most as many
+    /// as the room.
+    pub fn coefficients(&self) -> &[u8]
+        ensures entries { result.now ≡ self.now.coefficients }
+        ensures few { length self.now.coefficients ≤ self.now.room }
+    {
+        self.coefficients.as_slice()
+    }
+}
