@@ -3,8 +3,8 @@ ghost use Rattle.std.specs.Prelude.{◌≡◌, ◌<◌, length, Some, option_map
 ghost use Rattle.lc_session.specs.Query.{most_bytes};
 ghost use Rattle.lc_session.specs.Reading.{Gives, symbol_at, mark_at, listed, row_at, rows_at, after_text, at_most_a_newline, of_length, first_length, are_fit, query_at};
 
-use crate::word::Word;
-use lc_io::NoMemory;
+use lc_vec::Word;
+use lc_field::NoMemory;
 use std::alloc::{AllocError, AllocFailed, Global};
 
 /// Why bytes give no rows.
