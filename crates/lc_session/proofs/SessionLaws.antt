@@ -1,11 +1,11 @@
 -- The words of the command line, the field of two elements, and what a source gave.
 --   run_told                     whether a word is `run`, as the library compares texts
---   none_refused, first_refused, second_refused, run_accepted      the words that are accepted, and the others
+--   none_refused, first_refused, second_refused, run_settings, run_not_refused      the words that are accepted, and the others
 --   binary, binary_is_a_field    the field of two elements
 --   answer_from, answer_over     the line that answers a query
 --   refusal_other                bytes that no rows are read from
 --   gave_from                    what was read up to a limit is what the source gave
---   given_whole, given_other     where the source tells its bytes, they are those that it gave, or as little a query
+--   given_whole, given_other, reply_not_other      where the source tells its bytes, they are those that it gave, or as little a query
 use Rattle.std.proofs.Common.{◌≡◌, ◌≢◌, ℕ, zero, suc, ◌+◌, ◌<◌, ◌≤◌, ◌⊎◌, ◌↔◌, ◌^◌, Bool, true, false, ◌==◌, ◌&&◌, nat_eq, List, [], ◌∷◌, ◌++◌, length, map, All, Option, Some, None, refl, sym, ap, subst, ◌∙◌, arith, inl, inr, ⊎_elim}
 use Rattle.std.specs.Prelude.{codes, String, string_bytes, IfSome, IsNone}
 use Rattle.std.specs.Cmp.Lexicographic.{pointwise}
@@ -62,10 +62,18 @@ pub second_refused : {A : Type 0} (words : List (String A)) (w : String A) (ws :
 second_refused words w [] e h l = absurd (omega (arith, l))
 second_refused words w (v ∷ ws) e h l = rw e (second_bytes (string_bytes w) (string_bytes v) (words_of ws) h)
 
-pub run_accepted : {A : Type 0} (words : List (String A)) (w : String A) (ws : List (String A)) → words ≡ w ∷ ws → same_bytes (codes "run") (string_bytes w) ≡ true → length ws ≡ 0 → (s : Settings) × (options run_alone (words_of words) ≡ settings s)
-run_accepted words w [] e h l = (settings_of run, rw e (alone_bytes (string_bytes w) h))
-run_accepted words w (v ∷ ws) e h l = absurd (omega (arith, l))
+pub run_settings : {A : Type 0} (words : List (String A)) (w : String A) (ws : List (String A)) → words ≡ w ∷ ws → same_bytes (codes "run") (string_bytes w) ≡ true → length ws ≡ 0 → options run_alone (words_of words) ≡ settings (settings_of run)
+run_settings words w [] e h l = rw e (alone_bytes (string_bytes w) h)
+run_settings words w (v ∷ ws) e h l = absurd (omega (arith, l))
 
+same_run : same_bytes (codes "run") (codes "run") ≡ true
+unfolding same_bytes
+same_run = refl
+
+pub run_not_refused : (words : List (List ℕ)) (i : ℕ) → words ≡ codes "run" ∷ [] → options run_alone words ≡ usage i → ⊥
+run_not_refused words i e h =
+    let both : settings (settings_of run) ≡ usage i = sym (alone_bytes (codes "run") same_run) ∙ ap (options run_alone) (sym e) ∙ h in
+    absurd cc
 
 -- ---- the field
 
@@ -131,3 +139,9 @@ given_other old text new bytes e g o =
     (λ h. subst IsOther (sym (given_whole text new bytes t h)) o)
     (λ h. given_long text new bytes t (omega (arith, h)))
     g.whole
+
+pub reply_not_other : (old : Option (List ℕ)) (text : List ℕ) (new : Option (List ℕ)) (bytes : List ℕ) (n : ℕ) (rows : List (List ℕ)) → old ≡ Some text → Consumes old new bytes → (length bytes < most_bytes + 1 → IsAtEnd new) → IsQuery bytes n rows → IsOther text → ⊥
+reply_not_other old text new bytes n rows e c h q o =
+    let t : Consumes (Some text) new bytes = subst (λ x. Consumes x new bytes) e c in
+    let ended : IsAtEnd new = h (omega (arith, q.within)) in
+    subst IsOther (given_whole text new bytes t ended) o n rows q

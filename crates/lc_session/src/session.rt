@@ -32,7 +32,7 @@ fn is_run(word: &str) -> bool
 }
 
 // The index of the word that is refused.
-#[tactic(auto, using(crate::proofs::SessionLaws::none_refused, crate::proofs::SessionLaws::first_refused, crate::proofs::SessionLaws::second_refused, crate::proofs::SessionLaws::run_accepted))]
+#[tactic(auto, using(crate::proofs::SessionLaws::none_refused, crate::proofs::SessionLaws::first_refused, crate::proofs::SessionLaws::second_refused))]
 fn refused(words: &[String]) -> Option<usize>
     ensures { MatchOption result ((s : Settings) × (options run_alone (words_of words.now) ≡ settings s))
         (λ i. options run_alone (words_of words.now) ≡ usage i) }
