@@ -35,7 +35,6 @@ at_most_told u v r h =
 
 -- ---- a word is offered
 
-
 pub offered : (u old : List ℕ) → 0 < weight u → (weight old ≡ 0) ⊎ ComesNoLater u old → IsFirst (λ w. w ≡ u) old u
 offered u old p h = record {
   origin = inr (refl, p);
@@ -60,17 +59,17 @@ first_none P old h = record { origin = inl refl; before = λ q. (q, no_later_ref
 pub first_then : (P Q R : List ℕ → Type 0) (a b c : List ℕ) → ((w : List ℕ) → P w → R w) → ((w : List ℕ) → Q w → R w) → ((w : List ℕ) → R w → P w ⊎ Q w) → IsFirst P a b → IsFirst Q b c → IsFirst R a c
 first_then P Q R a b c left right cases h k = record {
   origin = ⊎_elim
-    (λ (e : c ≡ b). ⊎_elim
-    (λ (d : b ≡ a). inl (e ∙ d))
-    (λ (t : P b × (0 < weight b)). inr (subst (λ w. R w × (0 < weight w)) (sym e) (left b t.0, t.1)))
-    h.origin)
-    (λ (t : Q c × (0 < weight c)). inr (right c t.0, t.1))
-    k.origin;
+      (λ (e : c ≡ b). ⊎_elim
+      (λ (d : b ≡ a). inl (e ∙ d))
+      (λ (t : P b × (0 < weight b)). inr (subst (λ w. R w × (0 < weight w)) (sym e) (left b t.0, t.1)))
+      h.origin)
+      (λ (t : Q c × (0 < weight c)). inr (right c t.0, t.1))
+      k.origin;
   before = λ q. let x = h.before q in let y = k.before x.0 in (y.0, no_later_transitive c b a y.1 x.1);
   first = λ w r q. ⊎_elim
-    (λ p. let x = h.first w p q in let y = k.before x.0 in (y.0, no_later_transitive c b w y.1 x.1))
-    (λ p. k.first w p q)
-    (cases w r);
+      (λ p. let x = h.first w p q in let y = k.before x.0 in (y.0, no_later_transitive c b w y.1 x.1))
+      (λ p. k.first w p q)
+      (cases w r);
 }
 
 pub first_same : (P R : List ℕ → Type 0) (a b : List ℕ) → ((w : List ℕ) → P w → R w) → ((w : List ℕ) → R w → P w) → IsFirst P a b → IsFirst R a b
@@ -118,9 +117,9 @@ reached f n rows v r h = (v, h, sym (zero_sum f n v (span_word f n rows v r h)))
 pub least_found : (f : FieldName) (n : ℕ) (rows : List (List ℕ)) (best : List ℕ) → AreRows f n rows → IsFirst (Reaches f n rows (zero_word n)) (zero_word n) best → 0 < weight best → IsLeast f n rows best
 least_found f n rows best r h p = record {
   inside = ⊎_elim
-    (λ (e : best ≡ zero_word n). absurd (omega (arith, p, ap weight e, weight_zero_word n)))
-    (λ (t : Reaches f n rows (zero_word n) best × (0 < weight best)). subst (InSpan f n rows) (sym (t.0.2 ∙ zero_sum f n t.0.0 (span_word f n rows t.0.0 r t.0.1))) t.0.1)
-    h.origin;
+      (λ (e : best ≡ zero_word n). absurd (omega (arith, p, ap weight e, weight_zero_word n)))
+      (λ (t : Reaches f n rows (zero_word n) best × (0 < weight best)). subst (InSpan f n rows) (sym (t.0.2 ∙ zero_sum f n t.0.0 (span_word f n rows t.0.0 r t.0.1))) t.0.1)
+      h.origin;
   nonzero = p;
   first = λ v s q. (h.first v (reached f n rows v r s) q).1;
 }

@@ -39,10 +39,10 @@ no_prefix (c ∷ head) [] h = refl
 no_prefix (c ∷ head) (d ∷ bytes) h =
     ⊎_elim
     (λ e.
-        let back : (d == c) ≡ true = eq-eqb d c (sym e) in
-        let rest : pointwise nat_eq (take (length head) bytes) head ≡ false = rw back at h in
-        let same : (c == d) ≡ true = eq-eqb c d e in
-        rw same (no_prefix head bytes rest))
+    let back : (d == c) ≡ true = eq-eqb d c (sym e) in
+    let rest : pointwise nat_eq (take (length head) bytes) head ≡ false = rw back at h in
+    let same : (c == d) ≡ true = eq-eqb c d e in
+    rw same (no_prefix head bytes rest))
     (λ ne. let other : (c == d) ≡ false = ne_eqb c d ne in rw other refl)
     (cases_eq c d)
 
@@ -53,9 +53,9 @@ text_behind (c ∷ head) [] rest h = absurd cc
 text_behind (c ∷ head) (d ∷ bytes) rest h =
     ⊎_elim
     (λ e.
-        let same : (c == d) ≡ true = eq-eqb c d e in
-        let more : after_text head bytes ≡ Some rest = rw same at h in
-        cc (e, text_behind head bytes rest more))
+    let same : (c == d) ≡ true = eq-eqb c d e in
+    let more : after_text head bytes ≡ Some rest = rw same at h in
+    cc (e, text_behind head bytes rest more))
     (λ ne. let other : (c == d) ≡ false = ne_eqb c d ne in let stop : (let r : Option (List ℕ) = None in r) ≡ Some rest = rw other at h in absurd cc)
     (cases_eq c d)
 
@@ -212,9 +212,9 @@ query_is bytes rows l h =
     let fits = and_parts (at_most_a_newline c.0) (of_length (first_length b.0.0) b.0.0) d.0 in
     let t : IsList numbers_text IsBinary 16 a.0 b.0.0 b.0.1 = listed_takes row_at numbers_text IsBinary row_reader 16 a.0 b.0.0 b.0.1 b.1 in
     let whole : bytes ≡ query_text b.0.0 ++ c.0 =
-        text_behind (codes "LeastWord([") bytes a.0 a.1
-        ∙ ap (λ (z : List ℕ). codes "LeastWord([" ++ z) (t.parts ∙ ap (λ (z : List ℕ). joined numbers_text b.0.0 ++ (93 ∷ z)) (text_behind (codes ",GF(2));") b.0.1 c.0 c.1))
-        ∙ sym (query_parts b.0.0 c.0)
+    text_behind (codes "LeastWord([") bytes a.0 a.1
+    ∙ ap (λ (z : List ℕ). codes "LeastWord([" ++ z) (t.parts ∙ ap (λ (z : List ℕ). joined numbers_text b.0.0 ++ (93 ∷ z)) (text_behind (codes ",GF(2));") b.0.1 c.0 c.1))
+    ∙ sym (query_parts b.0.0 c.0)
     in
     subst (λ (r : List (List ℕ)). IsQuery bytes (first_length r) r) d.1 (record {
       within = l;

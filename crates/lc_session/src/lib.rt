@@ -10,3 +10,6 @@ mod status;
 pub use least::least_word;
 pub use session::run_session;
 pub use status::Status;
+
+#[cfg(test)]
+mod tests;

@@ -3,8 +3,8 @@ ghost use Rattle.std.specs.Prelude.{◌≡◌, ◌<◌, length, Some, option_map
 ghost use Rattle.lc_session.specs.Query.{most_bytes};
 ghost use Rattle.lc_session.specs.Reading.{Gives, symbol_at, mark_at, listed, row_at, rows_at, after_text, at_most_a_newline, of_length, first_length, are_fit, query_at};
 
-use lc_vec::Word;
 use lc_field::NoMemory;
+use lc_vec::Word;
 use std::alloc::{AllocError, AllocFailed, Global};
 
 /// Why bytes give no rows.
@@ -56,10 +56,12 @@ pub(crate) enum Mark {
 }
 
 const HEAD: &[u8] = b"LeastWord([";
+
 const TAIL: &[u8] = b",GF(2));";
 
 /// The most symbols of a row, and the most rows.
 const MOST_SYMBOLS: u8 = 255;
+
 const MOST_ROWS: u8 = 16;
 
 // A symbol 0 or 1 at the front.
