@@ -6,10 +6,9 @@
 --   joined text xs, IsList     the texts with commas between them; what was read of a list
 --   listed_takes               what a list reads is the joined texts and the bracket that closes them
 --   listed_again               and such a text is read so
-use Rattle.std.proofs.Common.{◌≡◌, ℕ, zero, suc, ◌+◌, ◌-◌, ◌<◌, ◌≤◌, ◌⊎◌, Bool, true, false, cond, ◌==◌, List, [], ◌∷◌, ◌++◌, length, map, Option, Some, None, refl, sym, ap, subst, ◌∙◌, append_assoc, arith, inl, inr}
+use Rattle.std.proofs.Common.{◌≡◌, ℕ, zero, suc, ◌+◌, ◌-◌, ◌<◌, ◌≤◌, List, [], ◌∷◌, ◌++◌, length, map, Option, Some, None, refl, sym, ap, subst, ◌∙◌, append_assoc, arith}
 use Rattle.std.specs.Prelude.{option_map, option_and_then}
 use Rattle.std.specs.List.{join_with_byte, AllByRecursion}
-use Rattle.std.proofs.lemmas.List.{append-nil}
 use Rattle.std.proofs.lemmas.Bool.Decides.{nat_tests}
 use Rattle.lc_session.specs.declared.query.QueryRefusal.{QueryRefusal}
 use Rattle.lc_session.specs.declared.query.QueryRefusal.TheVariants.{Unbuilt, NoMemory}

@@ -6,7 +6,7 @@
 --   least_found, least_none      the whole scan, from the zero word and none
 --   zeros_fit, scan_whole        from where it starts
 --   rows_tail, row_word, scan_empty, scan_turn, scan_back, scan_done      the same, with the equations that the code has
-use Rattle.std.proofs.Common.{◌≡◌, ℕ, zero, suc, ◌+◌, ◌<◌, ◌≤◌, ◌⊎◌, ◌↔◌, Bool, true, false, cond, ◌==◌, ◌&&◌, ◌||◌, nat_lt, List, [], ◌∷◌, length, slice_index_or, All, refl, sym, ap, subst, ◌∙◌, arith, inl, inr, ⊎_elim}
+use Rattle.std.proofs.Common.{◌≡◌, ℕ, ◌+◌, ◌<◌, ◌≤◌, ◌⊎◌, ◌↔◌, Bool, List, [], ◌∷◌, length, slice_index_or, All, refl, sym, ap, subst, ◌∙◌, arith, inl, inr, ⊎_elim}
 use Rattle.std.specs.Prelude.{IsTrue, Some}
 use Rattle.std.specs.Ordering.{nat_cmp, is_le, is_some_and}
 use Rattle.std.specs.Cmp.Lexicographic.{slice_partial_cmp}
@@ -22,7 +22,7 @@ use Rattle.lc_algebra.specs.Matrix.{AreRows}
 use Rattle.lc_algebra.proofs.WordLaws.{multiple_undone, no_later_reflexive, no_later_transitive, no_later_total, sum_assoc, sum_zero, zero_sum, zero_from_weight, length_zero_word, weight_zero_word, IsWord_zero}
 use Rattle.lc_algebra.proofs.SpanLaws.{span_word, span_row}
 use Rattle.lc_algebra.proofs.SpanSearch.{at_most_test, at_most_from_test, test_from_at_most}
-use Rattle.lc_session.specs.Scan.{Precedes, IsFirst, Reaches, ReachesBelow, IsLeastOr}
+use Rattle.lc_session.specs.Scan.{IsFirst, Reaches, ReachesBelow}
 
 at_most_is : (u v : List ℕ) (r : Bool) → r ≡ is_some_and is_le (slice_partial_cmp (λ x y. Some (nat_cmp x y)) u v) → r ≡ at_most_test u v
 unfolding at_most_test

@@ -6,7 +6,7 @@
 --   refusal_other                bytes that no rows are read from
 --   gave_from                    what was read up to a limit is what the source gave
 --   given_whole, given_other, reply_not_other      where the source tells its bytes, they are those that it gave, or as little a query
-use Rattle.std.proofs.Common.{◌≡◌, ◌≢◌, ℕ, zero, suc, ◌+◌, ◌<◌, ◌≤◌, ◌⊎◌, ◌↔◌, ◌^◌, Bool, true, false, ◌==◌, ◌&&◌, nat_eq, List, [], ◌∷◌, ◌++◌, length, map, All, Option, Some, None, refl, sym, ap, subst, ◌∙◌, arith, inl, inr, ⊎_elim}
+use Rattle.std.proofs.Common.{◌≡◌, ◌≢◌, ℕ, ◌+◌, ◌<◌, ◌≤◌, Bool, true, false, ◌==◌, nat_eq, List, [], ◌∷◌, ◌++◌, length, Option, Some, None, refl, sym, ap, subst, ◌∙◌, arith, inl, inr, ⊎_elim}
 use Rattle.std.specs.Prelude.{codes, String, string_bytes, IfSome, IsNone}
 use Rattle.std.specs.Cmp.Lexicographic.{pointwise}
 use Rattle.std.specs.Io.KnownBytes.{Consumes, IsAtEnd}
@@ -16,10 +16,10 @@ use Rattle.std.proofs.lemmas.Bool.{cases_lt}
 use Rattle.lc_algebra.specs.declared.FieldName.{FieldName}
 use Rattle.lc_algebra.specs.declared.FieldName.TheVariants.{Gf2, Gf3, Gf4, Gf5, Gf7, Gf8, Gf9, Gf11, Gf13, Gf16, Gf25, Gf27, Gf32, Gf64, Gf81, Gf128, Gf243, Gf256}
 use Rattle.lc_algebra.specs.Field.{shape, shape_of, size}
-use Rattle.lc_algebra.specs.Word.{weight, zero_word}
+use Rattle.lc_algebra.specs.Word.{weight}
 use Rattle.lc_language.specs.Value.{same_bytes}
 use Rattle.lc_language.specs.Print.{least_line, least_none_line}
-use Rattle.lc_language.specs.Options.{Command, run, Settings, settings_of, Options, settings, usage, options, options_from, checked, key_named, place_of_key, row, row_named, run_alone, command_text}
+use Rattle.lc_language.specs.Options.{run, settings_of, settings, usage, options, options_from, checked, key_named, place_of_key, row, row_named, run_alone, command_text}
 use Rattle.lc_session.specs.Query.{most_bytes, IsQuery, IsOther, IsAnswer}
 use Rattle.lc_session.specs.Scan.{IsLeastOr}
 use Rattle.lc_session.specs.declared.query.QueryRefusal.{QueryRefusal}

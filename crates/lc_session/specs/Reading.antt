@@ -13,7 +13,7 @@
 --   first_length rows          the length of the first row
 --   are_fit rows end           both tests of what was read: the rows, and the bytes behind the query
 --   query_at bytes             the rows of the query that the bytes are
-use Rattle.std.specs.Prelude.{◌≡◌, ℕ, zero, suc, ◌-◌, Bool, true, false, nat_le, ◌==◌, ◌&&◌, ◌||◌, if◌then◌else◌, List, [], ◌∷◌, length, slice_index_or, codes, Option, Some, None, option_map, option_and_then, Result, Ok, Err}
+use Rattle.std.specs.Prelude.{◌≡◌, ℕ, zero, suc, ◌-◌, Bool, true, false, ◌==◌, ◌&&◌, ◌||◌, if◌then◌else◌, List, [], ◌∷◌, length, slice_index_or, codes, Option, Some, None, option_map, option_and_then, Result, Ok, Err}
 use Rattle.std.specs.List.{list_all}
 use Rattle.lc_session.specs.declared.query.Mark.{Mark}
 use Rattle.lc_session.specs.declared.query.Mark.TheVariants.{Comma, Close}

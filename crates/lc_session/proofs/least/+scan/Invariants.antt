@@ -1,5 +1,4 @@
 use Rattle.std.proofs.Common.{◌≡◌, length}
-use Rattle.lc_algebra.specs.Word.{zero_word}
 use Rattle.lc_session.specs.Scan.{IsFirst, ReachesBelow}
 use Rattle.lc_session.proofs.least.+scan.Given as goal
 

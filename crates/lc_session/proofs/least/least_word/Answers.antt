@@ -1,7 +1,5 @@
-use Rattle.std.proofs.Common.{◌≡◌, ◌<◌, ◌∙◌, sym, arith, List, ℕ}
+use Rattle.std.proofs.Common.{◌≡◌, ◌<◌, ◌∙◌, sym, arith}
 use Rattle.lc_algebra.specs.Word.{weight, zero_word}
-use Rattle.lc_algebra.specs.Span.{IsLeast}
-use Rattle.lc_session.specs.Scan.{IsFirst, Reaches}
 use Rattle.lc_session.proofs.ScanLaws.{zeros_fit, scan_whole, least_found, least_none}
 use Rattle.lc_session.proofs.least.least_word.Goals as goal
 

@@ -1,5 +1,3 @@
-use Rattle.std.proofs.Common.{subst, sym}
-use Rattle.lc_algebra.specs.Matrix.{AreRows}
 use Rattle.lc_session.specs.Reading.{first_length}
 use Rattle.lc_session.proofs.SessionLaws.{answer_over}
 use Rattle.lc_session.proofs.session.answer_to.Goals as goal

@@ -1,6 +1,6 @@
-use Rattle.std.proofs.Common.{◌≡◌, ◌≤◌, length, arith, sym, ◌∙◌}
+use Rattle.std.proofs.Common.{◌≤◌, length}
 use Rattle.std.proofs.lemmas.Result.{err_from_is_err_and}
-use Rattle.lc_session.specs.Query.{most_bytes, IsQuery}
+use Rattle.lc_session.specs.Query.{most_bytes}
 use Rattle.lc_session.specs.Reading.{first_length}
 use Rattle.lc_session.proofs.WrittenQuery.{query_is}
 use Rattle.lc_session.proofs.SessionLaws.{refusal_other}

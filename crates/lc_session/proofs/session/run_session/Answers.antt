@@ -1,7 +1,7 @@
-use Rattle.std.proofs.Common.{◌≡◌, List, ℕ, Err, Ok, refl, sym}
+use Rattle.std.proofs.Common.{◌≡◌, Err, refl}
 use Rattle.lc_session.specs.declared.query.QueryRefusal.TheVariants as refusal
 use Rattle.lc_session.specs.Query.{IsQuery, IsOther}
-use Rattle.lc_session.specs.Outcome.{words_of, Gave}
+use Rattle.lc_session.specs.Outcome.{words_of}
 use Rattle.lc_session.proofs.SessionLaws.{run_not_refused, gave_from, given_other, reply_not_other}
 use Rattle.lc_session.proofs.session.run_session.Goals as goal
 
