@@ -16,14 +16,17 @@ use Rattle.lc_language.proofs.Course.{Bracket, of_call, of_list, closing, filled
 below_limit : (limit depth : ℕ) → depth < limit → nat_le limit depth ≡ false
 below_limit limit depth l = grind (arith, nat_tests)
 
+at_limit : (limit depth : ℕ) → limit ≤ depth → nat_le limit depth ≡ true
+at_limit limit depth l = grind (arith, nat_tests)
+
 module _ (bytes : List ℕ) (limit : ℕ) where
   -- a token of this kind stands first
-  course_at : (s : State) (t : Token) (ts : List Token) (ending : Ending) (kind : TokenKind) → t.kind ≡ kind → course bytes limit s (t ∷ ts) ending ≡ outcome_by t (kind_move bytes limit s t kind) (λ after. course bytes limit after ts ending)
+  pub course_at : (s : State) (t : Token) (ts : List Token) (ending : Ending) (kind : TokenKind) → t.kind ≡ kind → course bytes limit s (t ∷ ts) ending ≡ outcome_by t (kind_move bytes limit s t kind) (λ after. course bytes limit after ts ending)
   unfolding course
   course_at s t ts ending kind e = ap (λ k. outcome_by t (kind_move bytes limit s t k) (λ after. course bytes limit after ts ending)) e
 
   -- a sign opens below the limit
-  course_open : (s : State) (t : Token) (ts : List Token) (ending : Ending) (after : State) → opens t.kind ≡ true → level_of s < limit → next bytes s t ≡ Some after → course bytes limit s (t ∷ ts) ending ≡ course bytes limit after ts ending
+  pub course_open : (s : State) (t : Token) (ts : List Token) (ending : Ending) (after : State) → opens t.kind ≡ true → level_of s < limit → next bytes s t ≡ Some after → course bytes limit s (t ∷ ts) ending ≡ course bytes limit after ts ending
   unfolding course
   course_open s t ts ending after o l e = rw (o, below_limit limit (level_of s) l, e) refl
 
@@ -35,7 +38,7 @@ module _ (bytes : List ℕ) (limit : ℕ) where
   after_read a (list place es) = done a (list place es)
 
   -- two states that one token moves alike
-  same_course : (s s' : State) (t : Token) (ts : List Token) (ending : Ending) (kind : TokenKind) → t.kind ≡ kind → kind_move bytes limit s t kind ≡ kind_move bytes limit s' t kind → course bytes limit s (t ∷ ts) ending ≡ course bytes limit s' (t ∷ ts) ending
+  pub same_course : (s s' : State) (t : Token) (ts : List Token) (ending : Ending) (kind : TokenKind) → t.kind ≡ kind → kind_move bytes limit s t kind ≡ kind_move bytes limit s' t kind → course bytes limit s (t ∷ ts) ending ≡ course bytes limit s' (t ∷ ts) ending
   same_course s s' t ts ending kind e same = course_at s t ts ending kind e ∙ ap (λ m. outcome_by t m (λ after. course bytes limit after ts ending)) same ∙ sym (course_at s' t ts ending kind e)
 
   name_move : (a : Around) (place : ℕ) (x : List ℕ) (t : Token) (kind : TokenKind) → (kind ≡ Open → ⊥) → kind_move bytes limit (named a place x) t kind ≡ kind_move bytes limit (done a (name place x)) t kind
@@ -48,6 +51,16 @@ module _ (bytes : List ℕ) (limit : ℕ) where
   name_move a place x t CloseList no_call = refl
   name_move a place x t Comma no_call = refl
   name_move a place x t End no_call = refl
+
+  -- the grammar lets no token stand first
+  pub stuck_course : (s : State) (t : Token) (ts : List Token) (ending : Ending) (n : ℕ) → next bytes s t ≡ None → move_by (opens t.kind && nat_le limit (level_of s)) None ≡ stops n → course bytes limit s (t ∷ ts) ending ≡ fault n t.start
+  unfolding course
+  stuck_course s t ts ending n stuck is = ap (λ o. outcome_by t (move_by (opens t.kind && nat_le limit (level_of s)) o) (λ after. course bytes limit after ts ending)) stuck ∙ ap (λ m. outcome_by t m (λ after. course bytes limit after ts ending)) is
+
+  -- a sign opens too deep
+  pub course_deep : (s : State) (t : Token) (ts : List Token) (ending : Ending) → opens t.kind ≡ true → limit ≤ level_of s → course bytes limit s (t ∷ ts) ending ≡ fault 42 t.start
+  unfolding course
+  course_deep s t ts ending o l = rw (o, at_limit limit (level_of s) l) refl
 
   -- a name that no opening sign follows is a whole expression
   pub name_read : (a : Around) (place : ℕ) (x : List ℕ) (t : Token) (ts : List Token) (ending : Ending) → (t.kind ≡ Open → ⊥) → course bytes limit (named a place x) (t ∷ ts) ending ≡ course bytes limit (done a (name place x)) (t ∷ ts) ending
@@ -88,6 +101,27 @@ module _ (bytes : List ℕ) (limit : ℕ) where
   opened_move b a t Comma h = absurd (cc)
   opened_move b a t End h = absurd (cc)
 
+  -- behind an opening sign, where no closing sign follows
+  pub opened_wants : (b : Bracket) (a : Around) (t : Token) (kind : TokenKind) → (kind ≡ closing b → ⊥) → kind_move bytes limit (opened b a) t kind ≡ kind_move bytes limit (want (inside b none a)) t kind
+  opened_wants (of_call place x) a t Close h = absurd (h refl)
+  opened_wants (of_list place) a t CloseList h = absurd (h refl)
+  opened_wants (of_call place x) a t Name h = refl
+  opened_wants (of_call place x) a t Number h = refl
+  opened_wants (of_call place x) a t Assign h = refl
+  opened_wants (of_call place x) a t Open h = refl
+  opened_wants (of_call place x) a t OpenList h = refl
+  opened_wants (of_call place x) a t CloseList h = refl
+  opened_wants (of_call place x) a t Comma h = refl
+  opened_wants (of_call place x) a t End h = refl
+  opened_wants (of_list place) a t Name h = refl
+  opened_wants (of_list place) a t Number h = refl
+  opened_wants (of_list place) a t Assign h = refl
+  opened_wants (of_list place) a t Open h = refl
+  opened_wants (of_list place) a t Close h = refl
+  opened_wants (of_list place) a t OpenList h = refl
+  opened_wants (of_list place) a t Comma h = refl
+  opened_wants (of_list place) a t End h = refl
+
   -- an element may come where one must come
   opened_begins : (b : Bracket) (a : Around) (us ts : List Token) (ending : Ending) → Begins us → course bytes limit (opened b a) (us ++ ts) ending ≡ course bytes limit (want (inside b none a)) (us ++ ts) ending
   opened_begins b a us ts ending first =
@@ -127,15 +161,15 @@ module _ (bytes : List ℕ) (limit : ℕ) where
   read_whole a (call place x es) t ts ending h = refl
   read_whole a (list place es) t ts ending h = refl
 
-  closes_opened : (b : Bracket) (a : Around) (t : Token) (ts : List Token) (ending : Ending) → t.kind ≡ closing b → course bytes limit (opened b a) (t ∷ ts) ending ≡ course bytes limit (done a (filled b none)) ts ending
+  pub closes_opened : (b : Bracket) (a : Around) (t : Token) (ts : List Token) (ending : Ending) → t.kind ≡ closing b → course bytes limit (opened b a) (t ∷ ts) ending ≡ course bytes limit (done a (filled b none)) ts ending
   closes_opened (of_call place x) a t ts ending e = course_at (opened (of_call place x) a) t ts ending Close e
   closes_opened (of_list place) a t ts ending e = course_at (opened (of_list place) a) t ts ending CloseList e
 
-  closes_done : (b : Bracket) (es : Exprs) (a : Around) (e : Expr) (t : Token) (ts : List Token) (ending : Ending) → t.kind ≡ closing b → course bytes limit (done (inside b es a) e) (t ∷ ts) ending ≡ course bytes limit (done a (filled b (after_all es e))) ts ending
+  pub closes_done : (b : Bracket) (es : Exprs) (a : Around) (e : Expr) (t : Token) (ts : List Token) (ending : Ending) → t.kind ≡ closing b → course bytes limit (done (inside b es a) e) (t ∷ ts) ending ≡ course bytes limit (done a (filled b (after_all es e))) ts ending
   closes_done (of_call place x) es a e t ts ending k = course_at (done (inside (of_call place x) es a) e) t ts ending Close k
   closes_done (of_list place) es a e t ts ending k = course_at (done (inside (of_list place) es a) e) t ts ending CloseList k
 
-  comma_done : (b : Bracket) (es : Exprs) (a : Around) (e : Expr) (t : Token) (ts : List Token) (ending : Ending) → t.kind ≡ Comma → course bytes limit (done (inside b es a) e) (t ∷ ts) ending ≡ course bytes limit (want (inside b (after_all es e) a)) ts ending
+  pub comma_done : (b : Bracket) (es : Exprs) (a : Around) (e : Expr) (t : Token) (ts : List Token) (ending : Ending) → t.kind ≡ Comma → course bytes limit (done (inside b es a) e) (t ∷ ts) ending ≡ course bytes limit (want (inside b (after_all es e) a)) ts ending
   comma_done (of_call place x) es a e t ts ending k = course_at (done (inside (of_call place x) es a) e) t ts ending Comma k
   comma_done (of_list place) es a e t ts ending k = course_at (done (inside (of_list place) es a) e) t ts ending Comma k
 
@@ -264,7 +298,7 @@ module _ (bytes : List ℕ) (limit : ℕ) where
       no_name t [] e = tt
       no_name t (u ∷ us) e = λ m a. cc
 
-  ends_done : (ss : List Statement) (target : Option (List ℕ)) (e : Expr) (t : Token) (ts : List Token) (ending : Ending) → t.kind ≡ End → course bytes limit (done (statement ss target) e) (t ∷ ts) ending ≡ course bytes limit (start (ss ++ with_target target e ∷ [])) ts ending
+  pub ends_done : (ss : List Statement) (target : Option (List ℕ)) (e : Expr) (t : Token) (ts : List Token) (ending : Ending) → t.kind ≡ End → course bytes limit (done (statement ss target) e) (t ∷ ts) ending ≡ course bytes limit (start (ss ++ with_target target e ∷ [])) ts ending
   ends_done ss target e t ts ending k = course_at (done (statement ss target) e) t ts ending End k
 
   -- an expression up to the end of its statement
@@ -290,10 +324,10 @@ module _ (bytes : List ℕ) (limit : ℕ) where
       ∙ ap (λ y. course bytes limit (want (statement ss (Some y))) (middle ++ (last ∷ ts)) ending) text
       ∙ expr_ends ss (Some x) e middle is l last k ts ending
 
-  abbrev AreShallow : List Statement → Type 0
+  abbrev pub AreShallow : List Statement → Type 0
   AreShallow ss = AllByRecursion (λ s. nesting s.expr ≤ limit) ss
 
-  script_course : (ss' : List Statement) (ts : List Token) → IsScript bytes ts ss' → AreShallow ss' → (ss : List Statement) (place : ℕ) → course bytes limit (start ss) ts (script_end place) ≡ read (ss ++ ss')
+  pub script_course : (ss' : List Statement) (ts : List Token) → IsScript bytes ts ss' → AreShallow ss' → (ss : List Statement) (place : ℕ) → course bytes limit (start ss) ts (script_end place) ≡ read (ss ++ ss')
   unfolding course
   script_course [] ts h all ss place = rw h (ap read (sym (append-nil ss)))
   script_course (s ∷ ss') ts (us, (vs, split, is, rest)) all ss place =
@@ -303,11 +337,11 @@ module _ (bytes : List ℕ) (limit : ℕ) where
       ∙ ap read (append_assoc ss (s ∷ []) ss')
 
   -- what a token that doesn't end in a fault did
-  record Went (s : State) (t : Token) (ts : List Token) (ending : Ending) (out : List Statement) (kind : TokenKind) : Type 0 where
-    after : State
-    moves : next_by bytes s t kind ≡ Some after
-    allowed : (opens kind && nat_le limit (level_of s)) ≡ false
-    goes_on : course bytes limit after ts ending ≡ read out
+  pub record Went (s : State) (t : Token) (ts : List Token) (ending : Ending) (out : List Statement) (kind : TokenKind) : Type 0 where
+    pub after : State
+    pub moves : next_by bytes s t kind ≡ Some after
+    pub allowed : (opens kind && nat_le limit (level_of s)) ≡ false
+    pub goes_on : course bytes limit after ts ending ≡ read out
 
   went_by : (s : State) (t : Token) (ts : List Token) (ending : Ending) (out : List Statement) (kind : TokenKind) (b : Bool) (o : Option State) → (opens kind && nat_le limit (level_of s)) ≡ b → next_by bytes s t kind ≡ o
       → outcome_by t (move_by b o) (λ after. course bytes limit after ts ending) ≡ read out → Went s t ts ending out kind
@@ -315,19 +349,19 @@ module _ (bytes : List ℕ) (limit : ℕ) where
   went_by s t ts ending out kind false None eb eo h = absurd (cc)
   went_by s t ts ending out kind false (Some after) eb eo h = record { after = after; moves = eo; allowed = eb; goes_on = h }
 
-  went : (s : State) (t : Token) (ts : List Token) (ending : Ending) (out : List Statement) (kind : TokenKind) → t.kind ≡ kind → course bytes limit s (t ∷ ts) ending ≡ read out → Went s t ts ending out kind
+  pub went : (s : State) (t : Token) (ts : List Token) (ending : Ending) (out : List Statement) (kind : TokenKind) → t.kind ≡ kind → course bytes limit s (t ∷ ts) ending ≡ read out → Went s t ts ending out kind
   went s t ts ending out kind e h = went_by s t ts ending out kind (opens kind && nat_le limit (level_of s)) (next_by bytes s t kind) refl refl (sym (course_at s t ts ending kind e) ∙ h)
 
   -- the tokens begin with an expression
-  record ExprRead (ts : List Token) (a : Around) (ending : Ending) (out : List Statement) : Type 0 where
-    us : List Token
-    e : Expr
-    rest : List Token
-    split : ts ≡ us ++ rest
-    is : IsExpr bytes us e
-    shallow : nesting e + depth_of a ≤ limit
-    goes_on : course bytes limit (done a e) rest ending ≡ read out
-    shorter : length rest < length ts
+  pub record ExprRead (ts : List Token) (a : Around) (ending : Ending) (out : List Statement) : Type 0 where
+    pub us : List Token
+    pub e : Expr
+    pub rest : List Token
+    pub split : ts ≡ us ++ rest
+    pub is : IsExpr bytes us e
+    pub shallow : nesting e + depth_of a ≤ limit
+    pub goes_on : course bytes limit (done a e) rest ending ≡ read out
+    pub shorter : length rest < length ts
 
   -- the tokens begin with elements and the closing sign
   record ListRead (ts : List Token) (b : Bracket) (so_far : Exprs) (a : Around) (ending : Ending) (out : List Statement) : Type 0 where
@@ -358,17 +392,17 @@ module _ (bytes : List ℕ) (limit : ℕ) where
   end_refused s (bad_token p) out s' h no_end = cc
   end_refused s (too_wide p) out s' h no_end = cc
 
-  want_end : (a : Around) (ending : Ending) (out : List Statement) → ended_at (want a) ending ≡ read out → ⊥
+  pub want_end : (a : Around) (ending : Ending) (out : List Statement) → ended_at (want a) ending ≡ read out → ⊥
   want_end a (script_end p) out h = cc
   want_end a (bad_token p) out h = cc
   want_end a (too_wide p) out h = cc
 
-  opened_end : (b : Bracket) (a : Around) (ending : Ending) (out : List Statement) → ended_at (opened b a) ending ≡ read out → ⊥
+  pub opened_end : (b : Bracket) (a : Around) (ending : Ending) (out : List Statement) → ended_at (opened b a) ending ≡ read out → ⊥
   opened_end b a (script_end p) out h = cc
   opened_end b a (bad_token p) out h = cc
   opened_end b a (too_wide p) out h = cc
 
-  done_end : (a : Around) (e : Expr) (ending : Ending) (out : List Statement) → ended_at (done a e) ending ≡ read out → ⊥
+  pub done_end : (a : Around) (e : Expr) (ending : Ending) (out : List Statement) → ended_at (done a e) ending ≡ read out → ⊥
   done_end a e (script_end p) out h = cc
   done_end a e (bad_token p) out h = cc
   done_end a e (too_wide p) out h = cc
@@ -381,7 +415,7 @@ module _ (bytes : List ℕ) (limit : ℕ) where
   above : (depth : ℕ) → nat_le limit depth ≡ false → depth < limit
   above depth h = grind (arith, nat_tests)
 
-  tail_kinds : (b : Bracket) (so_far : Exprs) (a : Around) (e : Expr) (t : Token) (kind : TokenKind) (after : State) → next_by bytes (done (inside b so_far a) e) t kind ≡ Some after
+  pub tail_kinds : (b : Bracket) (so_far : Exprs) (a : Around) (e : Expr) (t : Token) (kind : TokenKind) (after : State) → next_by bytes (done (inside b so_far a) e) t kind ≡ Some after
       → ((kind ≡ Comma) × (after ≡ want (inside b (after_all so_far e) a))) ⊎ ((kind ≡ closing b) × (after ≡ done a (filled b (after_all so_far e))))
   tail_kinds (of_call place x) so_far a e t Name after h = absurd (cc)
   tail_kinds (of_call place x) so_far a e t Number after h = absurd (cc)
@@ -421,7 +455,7 @@ module _ (bytes : List ℕ) (limit : ℕ) where
   opened_kinds (of_list place) a t Comma after h = absurd (cc)
   opened_kinds (of_list place) a t End after h = absurd (cc)
 
-  end_kinds : (ss : List Statement) (target : Option (List ℕ)) (e : Expr) (t : Token) (kind : TokenKind) (after : State) → next_by bytes (done (statement ss target) e) t kind ≡ Some after
+  pub end_kinds : (ss : List Statement) (target : Option (List ℕ)) (e : Expr) (t : Token) (kind : TokenKind) (after : State) → next_by bytes (done (statement ss target) e) t kind ≡ Some after
       → (kind ≡ End) × (after ≡ start (ss ++ with_target target e ∷ []))
   end_kinds ss target e t Name after h = absurd (cc)
   end_kinds ss target e t Number after h = absurd (cc)
@@ -434,12 +468,12 @@ module _ (bytes : List ℕ) (limit : ℕ) where
   end_kinds ss target e t End after h = (refl, cc)
 
   -- with tokens no longer than n
-  ExprReads : ℕ → Type 0
+  abbrev pub ExprReads : ℕ → Type 0
   ExprReads n = (ts : List Token) (a : Around) (ending : Ending) (out : List Statement) → length ts ≤ n → depth_of a ≤ limit → course bytes limit (want a) ts ending ≡ read out → ExprRead ts a ending out
 
   tail_read : (n : ℕ) → ExprReads n → (m : ℕ) (ts : List Token) (b : Bracket) (so_far : Exprs) (a : Around) (e : Expr) (ending : Ending) (out : List Statement) → length ts ≤ m → length ts ≤ n → suc (depth_of a) ≤ limit
       → course bytes limit (done (inside b so_far a) e) ts ending ≡ read out → TailRead ts b (after_all so_far e) a ending out
-  unfolding course ExprReads nesting_all
+  unfolding course nesting_all
   tail_read n reads m [] b so_far a e ending out lm ln d h = absurd (done_end (inside b so_far a) e ending out h)
   tail_read n reads zero (t ∷ ts) b so_far a e ending out lm ln d h = absurd (omega arith)
   tail_read n reads (suc m) (t ∷ ts) b so_far a e ending out lm ln d h =
@@ -475,7 +509,7 @@ module _ (bytes : List ℕ) (limit : ℕ) where
 
   list_read : (n : ℕ) → ExprReads n → (ts : List Token) (b : Bracket) (a : Around) (ending : Ending) (out : List Statement) → length ts ≤ n → suc (depth_of a) ≤ limit
       → course bytes limit (opened b a) ts ending ≡ read out → ListRead ts b none a ending out
-  unfolding course ExprReads nesting_all
+  unfolding course nesting_all
   list_read n reads [] b a ending out l d h = absurd (opened_end b a ending out h)
   list_read n reads (t ∷ ts) b a ending out l d h =
       let step = went (opened b a) t ts ending out t.kind refl h in
@@ -605,31 +639,23 @@ module _ (bytes : List ℕ) (limit : ℕ) where
   expr_kinds n reads t ts a ending out l d Comma e step = absurd (let m = step.moves in cc)
   expr_kinds n reads t ts a ending out l d End e step = absurd (let m = step.moves in cc)
 
-  expr_read : (n : ℕ) → ExprReads n
-  unfolding course ExprReads
+  pub expr_read : (n : ℕ) → ExprReads n
+  unfolding course
   expr_read n [] a ending out l d h = absurd (want_end a ending out h)
   expr_read zero (t ∷ ts) a ending out l d h = absurd (omega arith)
   expr_read (suc n) (t ∷ ts) a ending out l d h = expr_kinds n (expr_read n) t ts a ending out (omega arith) d t.kind refl (went (want a) t ts ending out t.kind refl h)
 
-  record StatementEnds (ts : List Token) (ss : List Statement) (s : Statement) (ending : Ending) (out : List Statement) : Type 0 where
-    last : Token
-    rest : List Token
-    split : ts ≡ last ∷ rest
-    ends : last.kind ≡ End
-    goes_on : course bytes limit (start (ss ++ s ∷ [])) rest ending ≡ read out
+  pub record StatementEnds (ts : List Token) (ss : List Statement) (s : Statement) (ending : Ending) (out : List Statement) : Type 0 where
+    pub last : Token
+    pub rest : List Token
+    pub split : ts ≡ last ∷ rest
+    pub ends : last.kind ≡ End
+    pub goes_on : course bytes limit (start (ss ++ s ∷ [])) rest ending ≡ read out
 
-  statement_ends : (ts : List Token) (ss : List Statement) (target : Option (List ℕ)) (e : Expr) (ending : Ending) (out : List Statement) → course bytes limit (done (statement ss target) e) ts ending ≡ read out → StatementEnds ts ss (with_target target e) ending out
+  pub statement_ends : (ts : List Token) (ss : List Statement) (target : Option (List ℕ)) (e : Expr) (ending : Ending) (out : List Statement) → course bytes limit (done (statement ss target) e) ts ending ≡ read out → StatementEnds ts ss (with_target target e) ending out
   unfolding course
   statement_ends [] ss target e ending out h = absurd (done_end (statement ss target) e ending out h)
   statement_ends (t ∷ ts) ss target e ending out h =
       let step = went (done (statement ss target) e) t ts ending out t.kind refl h in
       let k = end_kinds ss target e t t.kind step.after step.moves in
       record { last = t; rest = ts; split = refl; ends = k.0; goes_on = ap (λ s. course bytes limit s ts ending) (sym k.1) ∙ step.goes_on }
-
-  -- the tokens are a script
-  record ScriptRead (ts : List Token) (ss out : List Statement) : Type 0 where
-    ss' : List Statement
-    is : IsScript bytes ts ss'
-    shallow : AreShallow ss'
-    all : out ≡ ss ++ ss'
-

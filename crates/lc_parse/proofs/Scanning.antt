@@ -291,3 +291,6 @@ Scans-end bytes ts at ending s h = go s.most s.enough s.all
     go : (most : ℕ) → length bytes - at < most → scan bytes ≡ with_front ts (scan_within most at (drop at bytes)) → scan bytes ≡ record { tokens = ts; ending = ending_of ending }
     go zero e a = absurd (omega arith)
     go (suc most) e a = a ∙ ap (with_front ts) (h most) ∙ ap (λ l. record { tokens = l; ending = ending_of ending }) (append-nil ts)
+
+pub not_35 : (b : ℕ) → (b ≡ 35 → ⊥) → (b == 35) ≡ false
+not_35 b h = grind (arith, nat_tests)
