@@ -8,10 +8,11 @@
 --                        come, an opening sign, a name, or a whole expression
 --   level_of s           how many brackets are open
 --   next bytes s t       the state behind one more token, where the grammar lets it stand there
+--   IsNoTarget ts        no name and `:=` stand first
 --   Move, move           the same below the limit of open brackets, or the number of the fault (kind_move: by the kind)
 --   reach                the state behind several tokens
 --   Outcome, course      the statements that the tokens are with this ending, or the first fault
-use Rattle.std.specs.Prelude.{ℕ, zero, suc, Bool, true, false, nat_le, ◌&&◌, List, [], ◌∷◌, ◌++◌, Option, Some, None}
+use Rattle.std.specs.Prelude.{◌≡◌, ℕ, zero, suc, Bool, true, false, nat_le, ◌&&◌, List, [], ◌∷◌, ◌++◌, Option, Some, None}
 use Rattle.lc_language.specs.declared.TokenKind.{TokenKind}
 use Rattle.lc_language.specs.declared.TokenKind.TheVariants.{Name, Number, Assign, Open, Close, OpenList, CloseList, Comma, End}
 use Rattle.lc_language.specs.declared.Token.{Token}
@@ -110,6 +111,12 @@ module _ (bytes : List ℕ) where
 
   abbrev pub next : State → Token → Option State
   next s t = next_by s t t.kind
+
+-- these tokens don't begin with a target
+abbrev pub IsNoTarget : List Token → Type 0
+IsNoTarget [] = Unit {0}
+IsNoTarget (t ∷ []) = Unit {0}
+IsNoTarget (t ∷ u ∷ ts) = t.kind ≡ Name → u.kind ≡ Assign → ⊥
 
 pub data Move : Type 0 where
   goes : State → Move

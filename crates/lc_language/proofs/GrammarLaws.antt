@@ -10,7 +10,7 @@ use Rattle.lc_language.specs.declared.Token.{Token}
 use Rattle.lc_language.specs.Token.{scan, text_of, number_of, Ending, script_end, bad_token, too_wide}
 use Rattle.lc_language.specs.Tree.{Expr, Exprs, number, name, call, list, none, more, Statement, nesting, nesting_all}
 use Rattle.lc_language.specs.Grammar.{IsToken, IsNamed, IsNumbered, IsBetween, IsExpr, IsList, IsTarget, IsStatement, IsScript, deepest, Reads, MayGoOn, opens, closes, is_opening, is_closing, open_signs, IsTooDeep, GoesOn, Fault, IsFaultAtToken, EndsIn, IsFault}
-use Rattle.lc_language.proofs.Course.{Bracket, of_call, of_list, closing, filled, after_all, with_target, Around, statement, inside, depth_of, State, start, begun, want, opened, named, done, level_of, after_expr, after_name, after_first, at_expr, at_start, at_opened, next_by, next, Move, goes, stops, moved, move_by, Outcome, read, fault, at_end, ended_at, outcome_by, state_by, kind_move, move, reach, course}
+use Rattle.lc_language.proofs.Course.{Bracket, of_call, of_list, closing, filled, after_all, with_target, Around, statement, inside, depth_of, State, start, begun, want, opened, named, done, level_of, after_expr, after_name, after_first, at_expr, at_start, at_opened, next_by, next, Move, goes, stops, moved, move_by, Outcome, read, fault, at_end, ended_at, outcome_by, state_by, kind_move, move, reach, course, IsNoTarget}
 
 -- a test of the limit that is passed
 below_limit : (limit depth : ℕ) → depth < limit → nat_le limit depth ≡ false
@@ -226,12 +226,6 @@ module _ (bytes : List ℕ) (limit : ℕ) where
         ∙ comma_done b so_far a e comma (vs ++ (last ∷ ts)) ending is
         ∙ list_course (more next es) vs tail b (after_all so_far e) a (omega arith) last closes_it ts ending
 
-  -- these tokens don't begin with a target
-  abbrev pub IsNoTarget : List Token → Type 0
-  IsNoTarget [] = Unit {0}
-  IsNoTarget (t ∷ []) = Unit {0}
-  IsNoTarget (t ∷ u ∷ ts) = t.kind ≡ Name → u.kind ≡ Assign → ⊥
-
   start_move : (ss : List Statement) (t : Token) (kind : TokenKind) → (kind ≡ Name → ⊥) → kind_move bytes limit (start ss) t kind ≡ kind_move bytes limit (want (statement ss None)) t kind
   start_move ss t Name h = absurd (h refl)
   start_move ss t Number h = refl
@@ -407,7 +401,7 @@ module _ (bytes : List ℕ) (limit : ℕ) where
   done_end a e (bad_token p) out h = cc
   done_end a e (too_wide p) out h = cc
 
-  named_end : (a : Around) (place : ℕ) (x : List ℕ) (ending : Ending) → ended_at (named a place x) ending ≡ ended_at (done a (name place x)) ending
+  pub named_end : (a : Around) (place : ℕ) (x : List ℕ) (ending : Ending) → ended_at (named a place x) ending ≡ ended_at (done a (name place x)) ending
   named_end a place x (script_end p) = refl
   named_end a place x (bad_token p) = refl
   named_end a place x (too_wide p) = refl

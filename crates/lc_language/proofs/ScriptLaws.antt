@@ -10,8 +10,8 @@ use Rattle.lc_language.specs.declared.Token.{Token}
 use Rattle.lc_language.specs.Token.{scan, text_of, number_of, Ending, script_end, bad_token, too_wide}
 use Rattle.lc_language.specs.Tree.{Expr, Exprs, number, name, call, list, none, more, Statement, nesting, nesting_all}
 use Rattle.lc_language.specs.Grammar.{IsToken, IsExpr, IsStatement, IsScript, deepest, Reads, MayGoOn, opens, closes, is_opening, is_closing, open_signs, IsTooDeep, GoesOn, Fault, IsFaultAtToken, EndsIn, IsFault}
-use Rattle.lc_language.proofs.Course.{Bracket, of_call, of_list, closing, filled, after_all, with_target, Around, statement, inside, depth_of, State, start, begun, want, opened, named, done, level_of, after_expr, after_name, after_first, at_expr, at_start, at_opened, next_by, next, Move, goes, stops, moved, move_by, Outcome, read, fault, at_end, ended_at, outcome_by, state_by, kind_move, move, reach, course}
-use Rattle.lc_language.proofs.GrammarLaws.{course_at, closes_opened, closes_done, ends_done, name_read, Went, went, ExprRead, expr_read, StatementEnds, statement_ends, IsNoTarget, start_wants, start_target, AreShallow, script_course}
+use Rattle.lc_language.proofs.Course.{Bracket, of_call, of_list, closing, filled, after_all, with_target, Around, statement, inside, depth_of, State, start, begun, want, opened, named, done, level_of, after_expr, after_name, after_first, at_expr, at_start, at_opened, next_by, next, Move, goes, stops, moved, move_by, Outcome, read, fault, at_end, ended_at, outcome_by, state_by, kind_move, move, reach, course, IsNoTarget}
+use Rattle.lc_language.proofs.GrammarLaws.{course_at, closes_opened, closes_done, ends_done, name_read, Went, went, ExprRead, expr_read, StatementEnds, statement_ends, start_wants, start_target, AreShallow, script_course}
 
 module _ (bytes : List ℕ) (limit : ℕ) where
   is_name : (kind : TokenKind) → (kind ≡ Name) ⊎ (kind ≡ Name → ⊥)
@@ -45,7 +45,7 @@ module _ (bytes : List ℕ) (limit : ℕ) where
     kind : first.kind ≡ Name
     assigns : assign.kind ≡ Assign
 
-  target_first : (ts : List Token) → TargetFirst ts ⊎ IsNoTarget bytes limit ts
+  target_first : (ts : List Token) → TargetFirst ts ⊎ IsNoTarget ts
   target_first [] = inr tt
   target_first (t ∷ []) = inr tt
   target_first (t ∷ u ∷ ts) =
@@ -75,7 +75,7 @@ module _ (bytes : List ℕ) (limit : ℕ) where
     goes_on : course bytes limit (start (ss ++ s ∷ [])) rest (script_end place) ≡ read out
     shorter : length rest < length ts
 
-  plain_read : (t : Token) (ts : List Token) (ss : List Statement) (place : ℕ) (out : List Statement) → IsNoTarget bytes limit (t ∷ ts) → course bytes limit (start ss) (t ∷ ts) (script_end place) ≡ read out → StatementRead (t ∷ ts) ss place out
+  plain_read : (t : Token) (ts : List Token) (ss : List Statement) (place : ℕ) (out : List Statement) → IsNoTarget (t ∷ ts) → course bytes limit (start ss) (t ∷ ts) (script_end place) ≡ read out → StatementRead (t ∷ ts) ss place out
   plain_read t ts ss place out no_target h =
       let e = expr_read bytes limit (length (t ∷ ts)) (t ∷ ts) (statement ss None) (script_end place) out (omega arith) (omega arith) (sym (start_wants bytes limit ss t ts (script_end place) no_target) ∙ h) in
       let ends = statement_ends bytes limit e.rest ss None e.e (script_end place) out e.goes_on in

@@ -5,6 +5,8 @@
 --   AreWithin bytes ts         the same of each token
 --   IsNotFirst kind ts         no token of this kind stands first
 --   IsBehind kind ts rest      a token of this kind stands first, the rest behind it
+--   IsTooDeepFirst ts depth e  a parenthesis opens first and too deep, and e is its fault
+--   IsTargetFirst ts t rest    a name and `:=` stand first, the rest behind them
 --   IsStep bytes at step       what the tokens from this place on begin with
 --   Stays bytes ending ..      to read goes on with these tokens as from those
 --   IsStuck s ts               the grammar lets no token stand first, and the script can't end
@@ -12,7 +14,7 @@
 use Rattle.std.specs.Prelude.{◌≡◌, ℕ, suc, ◌+◌, ◌<◌, ◌≤◌, List, [], ◌∷◌, length, drop, slice_index, Option, Some, None}
 use Rattle.std.specs.List.{AllByRecursion}
 use Rattle.lc_language.specs.declared.TokenKind.{TokenKind}
-use Rattle.lc_language.specs.declared.TokenKind.TheVariants.{Name, Number}
+use Rattle.lc_language.specs.declared.TokenKind.TheVariants.{Name, Number, Assign, Open}
 use Rattle.lc_language.specs.declared.Token.{Token}
 use Rattle.lc_language.specs.Token as language
 use Rattle.lc_language.specs.Token.{scan_within, token_first, ended, text_of, number_of, widest}
@@ -54,6 +56,14 @@ IsNotFirst kind (t ∷ ts) = t.kind ≡ kind → ⊥
 
 abbrev pub IsBehind : TokenKind → List Token → List Token → Type 0
 IsBehind kind ts rest = (t : Token) × (t.kind ≡ kind) × (ts ≡ t ∷ rest)
+
+-- a parenthesis opens first, where as many signs are open as may be
+abbrev pub IsTooDeepFirst : List Token → ℕ → ParseRefusal → Type 0
+IsTooDeepFirst ts depth e = (t : Token) × ((rest : List Token) × (ts ≡ t ∷ rest) × (t.kind ≡ Open) × (deepest ≤ depth) × (e ≡ refusal.Fault 42 t.start))
+
+-- a name and `:=` stand first, the rest behind them
+abbrev pub IsTargetFirst : List Token → Token → List Token → Type 0
+IsTargetFirst ts t rest = (u : Token) × (ts ≡ t ∷ u ∷ rest) × (t.kind ≡ Name) × (u.kind ≡ Assign)
 
 abbrev pub IsStep : List ℕ → ℕ → Step → Type 0
 IsStep bytes at (step.Skip n) =

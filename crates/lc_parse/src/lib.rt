@@ -1,6 +1,7 @@
 //! Reads scripts.
 #![tactic(auto)]
 
+mod parse;
 mod refusal;
 mod scan;
 mod tree;
