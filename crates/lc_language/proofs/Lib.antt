@@ -1,3 +1,5 @@
 pub mod Course
+pub mod FaultLaws
+pub mod FirstFault
 pub mod GrammarLaws
 pub mod ScriptLaws

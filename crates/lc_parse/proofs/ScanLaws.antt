@@ -1,0 +1,95 @@
+-- What holds of the tokens of any bytes.
+--   step_exists          what stands at each place, with a token that stands within the bytes
+--   tokens_within        each token stands within the bytes, names are ASCII, numbers have 64 bits
+--   end_place            where the tokens end at the script's end, that is the bytes' length
+--   tokens_apart         spans rise and don't overlap
+use Rattle.std.proofs.Common.{◌≡◌, ℕ, zero, suc, ◌+◌, ◌-◌, ◌^◌, ◌<◌, ◌≤◌, Bool, true, false, cond, ◌⊎◌, inl, inr, ◌==◌, ◌&&◌, ◌||◌, nat_lt, nat_le, List, [], ◌∷◌, ◌++◌, length, get_or, take, drop, Option, Some, None, refl, sym, ap, ◌∙◌, subst, length-drop, arith}
+use Rattle.std.proofs.lemmas.Bool.Decides.{nat_tests}
+use Rattle.std.proofs.Math.Numerals.{one-add}
+use Rattle.std.specs.List.{prefix_len, slice_range, AllByRecursion}
+use Rattle.lc_language.specs.declared.TokenKind.TheVariants.{Name, Number}
+use Rattle.lc_language.specs.declared.Token.{Token}
+use Rattle.lc_language.specs.Token as language
+use Rattle.lc_language.specs.Token.{is_blank, is_letter, is_digit, is_name_byte, number_of, token_at, Cut, Scanned, ended, token_first, comment_length, scan_within, scan, is_number, widest, text_of}
+use Rattle.lc_parse.specs.Reading.{IsStep, IsWithin, AreWithin, ending_of}
+use Rattle.lc_parse.specs.Spans.{AreApart}
+use Rattle.lc_parse.specs.declared.scan.Ending.{Ending}
+use Rattle.lc_parse.specs.declared.scan.Ending.TheVariants.{ScriptEnd, BadToken, TooWide}
+use Rattle.lc_parse.specs.declared.scan.Step.{Step}
+use Rattle.lc_parse.specs.declared.scan.Step.TheVariants as step
+use Rattle.lc_parse.proofs.Scanning.{cut_cases, cut_within, step_end, step_blank, step_comment, step_bad, step_wide, step_token, IsSign}
+
+-- bytes of names are ASCII
+name_byte_ascii : (b : ℕ) → is_name_byte b ≡ true → b < 128
+unfolding is_name_byte is_letter is_digit
+name_byte_ascii b h = grind (arith, nat_tests)
+
+ascii_prefix : (xs : List ℕ) (i : ℕ) → get_or (take (prefix_len is_name_byte xs) xs) i 0 < 128
+ascii_prefix [] i = omega arith
+ascii_prefix (x ∷ xs) i = by_test (is_name_byte x) refl (ascii_prefix xs) i
+  where
+    by_test : (b : Bool) → is_name_byte x ≡ b → ((i : ℕ) → get_or (take (prefix_len is_name_byte xs) xs) i 0 < 128) → (i : ℕ) → get_or (take (cond b (1 + prefix_len is_name_byte xs) 0) (x ∷ xs)) i 0 < 128
+    by_test true e again i = rw (one-add (prefix_len is_name_byte xs)) (by_place i)
+      where
+        by_place : (i : ℕ) → get_or (x ∷ take (prefix_len is_name_byte xs) xs) i 0 < 128
+        by_place zero = name_byte_ascii x e
+        by_place (suc i) = again i
+    by_test false e again i = omega arith
+
+below_widest : (kind_is x : ℕ) → (true && nat_lt widest x) ≡ false → x ≤ widest
+below_widest k x h = grind (arith, nat_tests)
+
+cases_bool : (b : Bool) → (b ≡ true) ⊎ (b ≡ false)
+cases_bool true = inl refl
+cases_bool false = inr refl
+
+-- what the step at a place says besides
+IsGood : List ℕ → ℕ → Step → Type 0
+IsGood bytes at (step.Skip n) = Unit {0}
+IsGood bytes at (step.Token t) = IsWithin bytes t × (t.start ≡ at)
+IsGood bytes at (step.End (ScriptEnd p)) = p ≡ length bytes
+IsGood bytes at (step.End (BadToken p)) = Unit {0}
+IsGood bytes at (step.End (TooWide p)) = Unit {0}
+
+record StepAt (bytes : List ℕ) (at : ℕ) : Type 0 where
+  step_is : Step
+  is : IsStep bytes at step_is
+  good : IsGood bytes at step_is
+
+module _ (bytes : List ℕ) (at : ℕ) where
+  text_at : (cut : Cut) (t : Token) → t.start ≡ at → t.end ≡ at + cut.bytes → text_of bytes t ≡ take cut.bytes (drop at bytes)
+  unfolding text_of
+  text_at cut t s e = rw (s, e) (ap (λ n. take n (drop at bytes)) (omega arith))
+
+  module _ (b : ℕ) (rest : List ℕ) (here : drop at bytes ≡ b ∷ rest) (cut : Cut) (is_cut : token_at b rest ≡ Some cut) (narrow : (is_number cut.kind && nat_lt widest (number_of (slice_range (drop at bytes) 0 cut.bytes))) ≡ false) where
+    cut_token : Token
+    cut_token = record { kind = cut.kind; start = at; end = at + cut.bytes }
+
+    within_ascii : cut.kind ≡ Name → (i : ℕ) → get_or (take cut.bytes (b ∷ rest)) i 0 < 128
+    within_ascii k i =
+        elim (cut_cases b rest cut is_cut) [
+          | inl p ↦ rw (ap (λ (c : Cut). c.bytes) p.1) (ascii_prefix (b ∷ rest) i)
+          | inr q ↦ elim q [
+            | inl p ↦ absurd (let e = ap (λ (c : Cut). c.kind) p.1 in cc)
+            | inr s ↦ absurd (s.no_name k)
+          ]
+        ]
+
+    within_fits : cut.kind ≡ Number → number_of (take cut.bytes (drop at bytes)) ≤ widest
+    unfolding is_number
+    within_fits k = below_widest 0 (number_of (take cut.bytes (drop at bytes))) (rw (← sub_none) (rw k at narrow))
+      where
+        sub_none : cut.bytes - 0 ≡ cut.bytes
+        sub_none = omega arith
+
+    within : IsWithin bytes cut_token
+    unfolding cut_token
+    within =
+        let l = cut_within b rest cut is_cut in
+        let text = text_at cut cut_token refl refl in
+        record {
+          ordered = omega (arith, l.0);
+          within = omega (arith, l.1, length-drop at bytes, ap length here);
+          ascii = λ k i. rw (text, here) (within_ascii k i);
+          fits = λ k. rw text (within_fits k);
+        }
