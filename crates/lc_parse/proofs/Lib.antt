@@ -1,3 +1,4 @@
+pub mod Outcomes
 pub mod Parsing
 pub mod ScanLaws
 pub mod Scanning

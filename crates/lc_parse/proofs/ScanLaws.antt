@@ -44,7 +44,7 @@ cases_bool true = inl refl
 cases_bool false = inr refl
 
 -- what the step at a place says besides
-IsGood : List ℕ → ℕ → Step → Type 0
+abbrev IsGood : List ℕ → ℕ → Step → Type 0
 IsGood bytes at (step.Skip n) = Unit {0}
 IsGood bytes at (step.Token t) = IsWithin bytes t × (t.start ≡ at)
 IsGood bytes at (step.End (ScriptEnd p)) = p ≡ length bytes
@@ -62,9 +62,6 @@ module _ (bytes : List ℕ) (at : ℕ) where
   text_at cut t s e = rw (s, e) (ap (λ n. take n (drop at bytes)) (omega arith))
 
   module _ (b : ℕ) (rest : List ℕ) (here : drop at bytes ≡ b ∷ rest) (cut : Cut) (is_cut : token_at b rest ≡ Some cut) (narrow : (is_number cut.kind && nat_lt widest (number_of (slice_range (drop at bytes) 0 cut.bytes))) ≡ false) where
-    cut_token : Token
-    cut_token = record { kind = cut.kind; start = at; end = at + cut.bytes }
-
     within_ascii : cut.kind ≡ Name → (i : ℕ) → get_or (take cut.bytes (b ∷ rest)) i 0 < 128
     within_ascii k i =
         elim (cut_cases b rest cut is_cut) [
@@ -82,14 +79,87 @@ module _ (bytes : List ℕ) (at : ℕ) where
         sub_none : cut.bytes - 0 ≡ cut.bytes
         sub_none = omega arith
 
-    within : IsWithin bytes cut_token
-    unfolding cut_token
-    within =
+    within_here : IsWithin bytes (record { kind = cut.kind; start = at; end = at + cut.bytes })
+    within_here =
         let l = cut_within b rest cut is_cut in
-        let text = text_at cut cut_token refl refl in
+        let text = text_at cut (record { kind = cut.kind; start = at; end = at + cut.bytes }) refl refl in
         record {
           ordered = omega (arith, l.0);
           within = omega (arith, l.1, length-drop at bytes, ap length here);
           ascii = λ k i. rw (text, here) (within_ascii k i);
           fits = λ k. rw text (within_fits k);
         }
+
+  behind_sharp : (b : ℕ) → (b == 35) ≡ true → b ≡ 35
+  behind_sharp b h = grind (arith, nat_tests)
+
+  step_here : at ≤ length bytes → (l : List ℕ) → drop at bytes ≡ l → StepAt bytes at
+  step_here le [] here = record { step_is = step.End (ScriptEnd at); is = step_end bytes at here; good = omega (arith, length-drop at bytes, ap length here) }
+  step_here le (b ∷ rest) here =
+      elim (cases_bool (is_blank b)) [
+        | inl blank ↦ record { step_is = step.Skip 1; is = step_blank bytes at b rest here blank; good = tt }
+        | inr no_blank ↦ elim (cases_bool (b == 35)) [
+          | inl sharp ↦ record { step_is = step.Skip _; is = step_comment bytes at b rest here no_blank (behind_sharp b sharp) _ refl; good = tt }
+          | inr no_sharp ↦ by_token no_blank no_sharp (token_at b rest) refl
+        ]
+      ]
+    where
+      by_token : is_blank b ≡ false → (b == 35) ≡ false → (o : Option Cut) → token_at b rest ≡ o → StepAt bytes at
+      by_token no_blank no_sharp None e = record { step_is = step.End (BadToken at); is = step_bad bytes at b rest here no_blank no_sharp e; good = tt }
+      by_token no_blank no_sharp (Some cut) e =
+          elim (cases_bool (is_number cut.kind && nat_lt widest (number_of (slice_range (drop at bytes) 0 cut.bytes)))) [
+            | inl wide ↦ record { step_is = step.End (TooWide at); is = step_wide bytes at b rest here no_blank no_sharp cut e wide; good = tt }
+            | inr narrow ↦
+              record {
+                step_is = step.Token (record { kind = cut.kind; start = at; end = at + cut.bytes });
+                is = step_token bytes at b rest here no_blank no_sharp cut e narrow;
+                good = (within_here b rest here cut e narrow, refl);
+              }
+          ]
+
+step_exists : (bytes : List ℕ) (at : ℕ) → at ≤ length bytes → StepAt bytes at
+step_exists bytes at le = step_here bytes at le (drop at bytes) refl
+
+-- the tokens from a place on
+record Tokens (bytes : List ℕ) (at : ℕ) (s : Scanned) : Type 0 where
+  within : AreWithin bytes s.tokens
+  place : (p : ℕ) → s.ending ≡ language.script_end p → p ≡ length bytes
+  apart : AreApart at s.tokens
+
+lower : (at place : ℕ) (ts : List Token) → at ≤ place → AreApart place ts → AreApart at ts
+lower at place [] le h = tt
+lower at place (t ∷ ts) le h = (omega (arith, h.0), h.1, h.2)
+
+tokens_from : (most : ℕ) (bytes : List ℕ) (at : ℕ) → at ≤ length bytes → length bytes - at < most → Tokens bytes at (scan_within most at (drop at bytes))
+unfolding ended token_first
+tokens_from zero bytes at le l = absurd (omega arith)
+tokens_from (suc most) bytes at le l =
+    let st = step_exists bytes at le in
+    by_step st.step_is st.is st.good (λ place more_le less. tokens_from most bytes place more_le less)
+  where
+    by_end : (ending : Ending) → IsGood bytes at (step.End ending) → Tokens bytes at (ended (ending_of ending))
+    by_end (ScriptEnd p) good = record { within = tt; place = λ q e. let same : p ≡ q = cc in sym same ∙ good; apart = tt }
+    by_end (BadToken p) good = record { within = tt; place = λ q e. absurd (cc); apart = tt }
+    by_end (TooWide p) good = record { within = tt; place = λ q e. absurd (cc); apart = tt }
+
+    by_step : (st : Step) → IsStep bytes at st → IsGood bytes at st → ((place : ℕ) → place ≤ length bytes → length bytes - place < most → Tokens bytes place (scan_within most place (drop place bytes))) → Tokens bytes at (scan_within (suc most) at (drop at bytes))
+    by_step (step.Skip n) is good again =
+        let rest = again (at + n) is.1 (omega (arith, is.0, is.1)) in
+        rw is.2 (record { within = rest.within; place = rest.place; apart = lower at (at + n) _ (omega arith) rest.apart })
+    by_step (step.Token t) is good again =
+        let rest = again t.end is.1 (omega (arith, is.0, is.1)) in
+        rw is.2 (record { within = (good.0, rest.within); place = rest.place; apart = (omega (arith, good.1), good.0.ordered, rest.apart) })
+    by_step (step.End ending) is good again = rw is (by_end ending good)
+
+tokens_of : (bytes : List ℕ) → Tokens bytes 0 (scan bytes)
+unfolding scan
+tokens_of bytes = tokens_from (suc (length bytes)) bytes 0 (omega arith) (omega arith)
+
+pub tokens_within : (bytes : List ℕ) → AreWithin bytes (scan bytes).tokens
+tokens_within bytes = (tokens_of bytes).within
+
+pub end_place : (bytes : List ℕ) (p : ℕ) → (scan bytes).ending ≡ language.script_end p → p ≡ length bytes
+end_place bytes = (tokens_of bytes).place
+
+pub tokens_apart : (bytes : List ℕ) → AreApart 0 (scan bytes).tokens
+tokens_apart bytes = (tokens_of bytes).apart

@@ -1,6 +1,6 @@
 use Rattle.std.proofs.Common.{arith}
 use Rattle.lc_parse.proofs.Parsing.{refuse_end, refuse_first}
-use Rattle.lc_parse.proofs.parse.refusal.Goals as goal
+use Rattle.lc_parse.proofs.reading.refusal.Goals as goal
 
 pub returns-in-None : goal.returns-in-None
 returns-in-None c = λ s level stuck. refuse_end c.args.source.now.bytes.now c.args.source.now.ending s c.args.tokens.now c.end_refusal.result c.in-None.ensures.cases c.end_refusal.ensures stuck

@@ -1,7 +1,7 @@
 use Rattle.std.proofs.Common.{◌≡◌, sym, ap, ◌∙◌, arith}
 use Rattle.lc_language.specs.Token.{text_of}
 use Rattle.lc_parse.proofs.Parsing.{number_found}
-use Rattle.lc_parse.proofs.parse.number_of.Goals as goal
+use Rattle.lc_parse.proofs.reading.number_of.Goals as goal
 
 pub returns : goal.returns
 unfolding text_of

@@ -9,7 +9,7 @@ use Rattle.lc_parse.specs.Views.{tree_of, trees_of}
 use Rattle.lc_parse.specs.Reading.{ending_of, AreWithin, IsNotFirst, IsBehind, Stays}
 use Rattle.lc_parse.proofs.Views.{tree_of-Number, tree_of-Name, tree_of-Call, tree_of-List, trees_of-push}
 use Rattle.lc_parse.proofs.Parsing.{within_rest, too_deep, step_number, step_list, step_call, step_alone, step_opened, step_empty, step_closed, step_comma, refuses_from, deep_first, name_reads, name_refuses}
-use Rattle.lc_parse.proofs.parse.+expression.Goals as goal
+use Rattle.lc_parse.proofs.reading.+expression.Goals as goal
 
 pub expression-returns-then-depth-ge-DEEPEST-clause-refused : goal.expression-returns-then-depth-ge-DEEPEST-clause-refused
 expression-returns-then-depth-ge-DEEPEST-clause-refused t c = λ a d.

@@ -1,15 +1,16 @@
-ghost use Rattle.std.specs.Prelude.{◌≡◌, ◌+◌, ◌<◌, ◌≤◌, ◌++◌, ◌∷◌, ◌&&◌, [], List, None, nat_le, length, option_map, string_bytes, IfOk, IfErr, MatchOption};
+ghost use Rattle.std.specs.Prelude.{◌≡◌, map, ◌+◌, ◌<◌, ◌≤◌, ◌++◌, ◌∷◌, ◌&&◌, [], List, None, nat_le, length, option_map, string_bytes, IfOk, IfErr, MatchOption};
 ghost use Rattle.lc_language.specs.declared.TokenKind.TheVariants.{Name, Number, Open};
-ghost use Rattle.lc_language.specs.Token.{text_of, number_of};
+ghost use Rattle.lc_language.specs.Token.{text_of, number_of, scan, script_end};
 ghost use Rattle.lc_language.specs.Tree as trees;
-ghost use Rattle.lc_language.specs.Grammar.{deepest, opens};
-ghost use Rattle.lc_language.proofs.Course.{State, start, want, opened, done, named, Around, Bracket, statement, depth_of, level_of, closing, filled, move_by, stops, ended_at, IsNoTarget};
-ghost use Rattle.lc_parse.specs.Views.{tree_of, trees_of, statement_of};
+ghost use Rattle.lc_language.specs.Grammar.{deepest, opens, Reads, Fault, IsFault, TokenFault};
+ghost use Rattle.lc_language.proofs.Course.{State, start, want, opened, done, named, Around, Bracket, statement, depth_of, level_of, closing, filled, move_by, stops, ended_at, IsNoTarget, course, read};
+ghost use Rattle.lc_parse.specs.Refusal.{IsRefusedAs, IsReadAs, IsFaultAs};
+ghost use Rattle.lc_parse.specs.Views.{tree_of, trees_of, statement_of, script_of};
 ghost use Rattle.lc_parse.specs.Reading.{IsWithin, AreWithin, IsNotFirst, IsBehind, IsTooDeepFirst, IsTargetFirst, Stays, IsStuck, IsNotStart, IsOutcome, Refuses, ending_of};
 
 use crate::refusal::ParseRefusal;
-use crate::scan::{Ending, value_of};
-use crate::tree::{Expr, Node, Statement};
+use crate::scan::{Ending, scan, value_of};
+use crate::tree::{Expr, Node, Script, Statement};
 use lc_language::{Token, TokenKind};
 use std::alloc::Global;
 
@@ -258,4 +259,68 @@ fn statement_first<'a>(
         Some(rest) => Ok((Statement { target, expr }, rest)),
         None => Err(refusal(source, after, 0)),
     }
+}
+
+// The statements of all the tokens.
+fn statements(source: &Source<'_>, tokens: &[Token]) -> Result<Vec<Statement>, ParseRefusal>
+    requires { AreWithin source.now.bytes.now tokens.now }
+    ensures read { IfOk result (λ v. course source.now.bytes.now deepest (start []) tokens.now (ending_of source.now.ending)
+        ≡ read (map statement_of v.items)) }
+    ensures refused { IfErr result (λ e. Refuses source.now.bytes.now source.now.ending (start []) tokens.now e) }
+{
+    let mut found = Vec::new(source.alloc);
+    let mut left = tokens;
+    while !left.is_empty() {
+        let (statement, rest) = statement_first(source, left)?;
+        found.push(statement)?;
+        left = rest;
+    }
+    match source.ending {
+        Ending::ScriptEnd(_) => Ok(found),
+        Ending::BadToken(place) => Err(ParseRefusal::Fault { number: 40, place }),
+        Ending::TooWide(place) => Err(ParseRefusal::Fault { number: 43, place }),
+    }
+}
+
+/// The tokens of a script, in order: the kind of each, the place of its first byte and the place behind its
+/// last one, so that its text is `bytes[start..end]`. Spaces, tabs, carriage returns, newlines and comments
+/// from `#` to before the next newline stand between tokens. It refuses with the number 40 a byte that begins
+/// no token, and with 43 a number above 2^64 - 1, whichever comes first, and where memory runs out.
+pub fn tokens(alloc: Global, bytes: &[u8]) -> Result<Vec<Token>, ParseRefusal>
+    // What is answered are the script's tokens, up to its end.
+    ensures read { IfOk result (λ v. ((scan bytes.now).ending ≡ script_end (length bytes.now)) × (v.items ≡ (scan bytes.now).tokens)) }
+    // They are answered where the tokens go up to the end, unless memory runs out.
+    ensures readable { (scan bytes.now).ending ≡ script_end (length bytes.now) → IsReadAs result (λ v. v.items ≡ (scan bytes.now).tokens) }
+
+    ensures fault { IfErr result (λ e. IsRefusedAs e (TokenFault (scan bytes.now).ending)) }
+    ensures faulty { (f : Fault) → TokenFault (scan bytes.now).ending f → IsFaultAs result f }
+{
+    let (tokens, ending) = scan(alloc, bytes)?;
+    match ending {
+        Ending::ScriptEnd(_) => Ok(tokens),
+        Ending::BadToken(place) => Err(ParseRefusal::Fault { number: 40, place }),
+        Ending::TooWide(place) => Err(ParseRefusal::Fault { number: 43, place }),
+    }
+}
+
+/// The script that the bytes are: its statements with their trees, and the place of each expression. The bytes
+/// may be any. Where they are no script it refuses with the number of the fault and the first place at which
+/// they can't go on: 40 at a byte that begins no token, 43 at a number above 2^64 - 1, 42 at the parenthesis or
+/// bracket that would be the 33rd open one, 41 at a token that the grammar doesn't allow there, or at the
+/// script's length where its end isn't allowed. It refuses where memory runs out.
+pub fn parse(alloc: Global, bytes: &[u8]) -> Result<Script, ParseRefusal>
+    // What is answered is a script that the bytes are.
+    ensures read { IfOk result (λ s. Reads bytes.now (script_of s)) }
+    // The script that the bytes are is answered, unless memory runs out.
+    ensures readable { (ss : List trees.Statement) → Reads bytes.now ss → IsReadAs result (λ s. script_of s ≡ ss) }
+
+    // A fault that is answered is that of the bytes.
+    ensures fault { IfErr result (λ e. IsRefusedAs e (IsFault bytes.now)) }
+    // The fault of the bytes is answered, unless memory runs out.
+    ensures faulty { (f : Fault) → IsFault bytes.now f → IsFaultAs result f }
+{
+    let (tokens, ending) = scan(alloc, bytes)?;
+    let source = Source { alloc, bytes, ending };
+    let statements = statements(&source, &tokens)?;
+    Ok(Script { statements })
 }

@@ -2,7 +2,7 @@ use Rattle.std.proofs.Common.{◌≡◌, refl, sym, ap, ◌∙◌, option_map, s
 use Rattle.lc_language.proofs.Course.{statement}
 use Rattle.lc_parse.specs.Views.{tree_of}
 use Rattle.lc_parse.proofs.Parsing.{step_end}
-use Rattle.lc_parse.proofs.parse.statement_first.Goals as goal
+use Rattle.lc_parse.proofs.reading.statement_first.Goals as goal
 
 pub returns-in-Some-clause-read : goal.returns-in-Some-clause-read
 returns-in-Some-clause-read c =

@@ -1,6 +1,6 @@
 use Rattle.lc_language.specs.Token.{text_of}
 use Rattle.lc_parse.proofs.Parsing.{name_ascii}
-use Rattle.lc_parse.proofs.parse.name_of.Goals as goal
+use Rattle.lc_parse.proofs.reading.name_of.Goals as goal
 
 pub returns-clause-text : goal.returns-clause-text
 unfolding text_of

@@ -2,7 +2,7 @@ use Rattle.std.proofs.Common.{◌≡◌, ◌+◌, ◌*◌, ◌≤◌, length}
 use Rattle.lc_language.proofs.Course.{Bracket, Around, opened, want, inside, closing, depth_of}
 use Rattle.lc_parse.specs.Views.{trees_of}
 use Rattle.lc_parse.specs.Reading.{AreWithin, Stays}
-use Rattle.lc_parse.proofs.parse.+expression.Given as goal
+use Rattle.lc_parse.proofs.reading.+expression.Given as goal
 
 abbrev pub decreases-expression : goal.decreases-expression
 decreases-expression l = 3 * length l.tokens.now

@@ -3,7 +3,7 @@ use Rattle.lc_language.specs.Grammar.{deepest}
 use Rattle.lc_language.proofs.Course.{want, statement, course}
 use Rattle.lc_parse.specs.Reading.{ending_of}
 use Rattle.lc_parse.proofs.Parsing.{step_target, step_no_target}
-use Rattle.lc_parse.proofs.parse.target.Goals as goal
+use Rattle.lc_parse.proofs.reading.target.Goals as goal
 
 pub returns-in-None-clause-read : goal.returns-in-None-clause-read
 returns-in-None-clause-read c = λ ss. step_no_target c.args.source.now.bytes.now c.args.source.now.ending ss c.args.tokens.now c.requires.some c.in-None.ensures
