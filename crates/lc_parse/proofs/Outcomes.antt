@@ -1,5 +1,6 @@
 -- The outcomes of bytes, for the goals of `parse`, `tokens` and the laws.
-use Rattle.std.proofs.Common.{◌≡◌, ℕ, ◌≤◌, ◌⊎◌, inl, inr, List, [], ◌∷◌, length, get_or, Result, Ok, Err, IfOk, IfErr, refl, sym, ap, ap₂, ◌∙◌, subst, arith}
+use Rattle.std.proofs.Common.{◌≡◌, ℕ, ◌≤◌, Bool, true, ◌==◌, ◌⊎◌, inl, inr, List, [], ◌∷◌, length, get_or, Option, Some, None, Result, Ok, Err, IfOk, IfErr, refl, sym, ap, ap₂, ◌∙◌, subst, arith}
+use Rattle.std.proofs.lemmas.Bool.Decides.{nat_tests}
 use Rattle.std.specs.Prelude.{All}
 use Rattle.std.specs.List.{AllByRecursion}
 use Rattle.std.proofs.lemmas.List.Elements.{All-from_recursion}
@@ -10,7 +11,7 @@ use Rattle.lc_language.specs.Tree.{Statement}
 use Rattle.lc_language.specs.Grammar.{deepest, Reads, Fault, IsFault, TokenFault}
 use Rattle.lc_language.proofs.Course.{start, Outcome, read, fault, ended_at, course}
 use Rattle.lc_language.proofs.FirstFault.{fault_is_course, fault_of_course, script_outcome, outcome_script}
-use Rattle.lc_parse.specs.Reading.{IsWithin, AreWithin, IsOutcome, ending_of}
+use Rattle.lc_parse.specs.Reading.{IsWithin, AreWithin, IsOutcome, IsTokenRefusal, ending_of}
 use Rattle.lc_parse.specs.Refusal.{IsRefusedAs, IsReadAs, IsFaultAs}
 use Rattle.lc_parse.specs.Spans.{AreApart}
 use Rattle.lc_parse.specs.declared.scan.Ending.{Ending}
@@ -77,8 +78,52 @@ ends_within bytes (t ∷ ts) h = (h.0.within, ends_within bytes ts h.1)
 pub spans_within : (bytes : List ℕ) → All (λ t. t.end ≤ length bytes) (scan bytes).tokens
 spans_within bytes = All-from_recursion (λ t. t.end ≤ length bytes) (scan bytes).tokens (ends_within bytes (scan bytes).tokens (tokens_within bytes))
 
+-- the end of the tokens
+pub read_end : (bytes : List ℕ) (ending : Ending) (ts : List Token) (ss : List Statement) → length ts ≡ 0 → IsTokenRefusal ending None → course bytes deepest (start ss) ts (ending_of ending) ≡ read ss
+unfolding course
+read_end bytes (ScriptEnd p) [] ss l h = refl
+read_end bytes (BadToken p) [] ss l h = absurd (cc)
+read_end bytes (TooWide p) [] ss l h = absurd (cc)
+read_end bytes ending (t ∷ ts) ss l h = absurd (omega arith)
+
+pub refuse_token : (bytes : List ℕ) (ending : Ending) (ts : List Token) (ss : List Statement) (e : ParseRefusal) → length ts ≡ 0 → IsTokenRefusal ending (Some e) → IsOutcome e (course bytes deepest (start ss) ts (ending_of ending))
+unfolding course
+refuse_token bytes (ScriptEnd p) [] ss e l h = absurd (cc)
+refuse_token bytes (BadToken p) [] ss e l h = let is : e ≡ refusal.Fault 40 p = cc in rw is refl
+refuse_token bytes (TooWide p) [] ss e l h = let is : e ≡ refusal.Fault 43 p = cc in rw is refl
+refuse_token bytes ending (t ∷ ts) ss e l h = absurd (omega arith)
+
 -- the tokens alone
-pub whole_ending : (bytes : List ℕ) (ending : Ending) (place : ℕ) → ending_of ending ≡ (scan bytes).ending → ending ≡ ScriptEnd place → (scan bytes).ending ≡ language.script_end (length bytes)
-whole_ending bytes ending place e is =
-    let end : (scan bytes).ending ≡ language.script_end place = sym e ∙ ap ending_of is in
-    end ∙ ap language.script_end (end_place bytes place end)
+pub whole_tokens : (bytes : List ℕ) (ending : Ending) → ending_of ending ≡ (scan bytes).ending → IsTokenRefusal ending None → (scan bytes).ending ≡ language.script_end (length bytes)
+whole_tokens bytes (ScriptEnd p) e h = sym e ∙ ap language.script_end (end_place bytes p (sym e))
+whole_tokens bytes (BadToken p) e h = absurd (cc)
+whole_tokens bytes (TooWide p) e h = absurd (cc)
+
+pub token_fault : (ending : Ending) (end : language.Ending) (e : ParseRefusal) → ending_of ending ≡ end → IsTokenRefusal ending (Some e) → IsRefusedAs e (TokenFault end)
+token_fault (ScriptEnd p) end e is h = absurd (cc)
+token_fault (BadToken p) end e is h = let same : e ≡ refusal.Fault 40 p = cc in rw (same, ← is) (refl, refl)
+token_fault (TooWide p) end e is h = let same : e ≡ refusal.Fault 43 p = cc in rw (same, ← is) (refl, refl)
+
+pub token_readable : {T : Type 0} (ending : Ending) (end : language.Ending) (e : ParseRefusal) (n : ℕ) (P : T → Type 0) → ending_of ending ≡ end → IsTokenRefusal ending (Some e) → end ≡ language.script_end n → IsReadAs (Err e) P
+token_readable (ScriptEnd p) end e n P is h whole = absurd (cc)
+token_readable (BadToken p) end e n P is h whole = absurd (cc)
+token_readable (TooWide p) end e n P is h whole = absurd (cc)
+
+pub token_faulty : (T : Type 0) (ending : Ending) (end : language.Ending) (e : ParseRefusal) (f : Fault) → ending_of ending ≡ end → IsTokenRefusal ending (Some e) → TokenFault end f → IsFaultAs {T = T} (Err e) f
+token_faulty T (ScriptEnd p) end e f is h fault_is = absurd (cc)
+token_faulty T (BadToken p) end e f is h fault_is =
+    let same : e ≡ refusal.Fault 40 p = cc in
+    let there = subst (λ x. TokenFault x f) (sym is) fault_is in
+    rw same (there.1, there.0)
+token_faulty T (TooWide p) end e f is h fault_is =
+    let same : e ≡ refusal.Fault 43 p = cc in
+    let there = subst (λ x. TokenFault x f) (sym is) fault_is in
+    rw same (there.1, there.0)
+
+pub no_token_fault : (ending : Ending) (end : language.Ending) (f : Fault) → ending_of ending ≡ end → IsTokenRefusal ending None → TokenFault end f → ⊥
+no_token_fault (ScriptEnd p) end f is h fault_is = subst (λ x. TokenFault x f) (sym is) fault_is
+no_token_fault (BadToken p) end f is h fault_is = absurd (cc)
+no_token_fault (TooWide p) end f is h fault_is = absurd (cc)
+
+pub empty_of : (n : ℕ) (b : Bool) → b ≡ (n == 0) → b ≡ true → n ≡ 0
+empty_of n b e t = let h : (n == 0) ≡ true = sym e ∙ t in grind (arith, nat_tests)

@@ -110,11 +110,11 @@ module _ (bytes : List ℕ) (at : ℕ) where
           elim (cases_bool (is_number cut.kind && nat_lt widest (number_of (slice_range (drop at bytes) 0 cut.bytes)))) [
             | inl wide ↦ record { step_is = step.End (TooWide at); is = step_wide bytes at b rest here no_blank no_sharp cut e wide; good = tt }
             | inr narrow ↦
-              record {
-                step_is = step.Token (record { kind = cut.kind; start = at; end = at + cut.bytes });
-                is = step_token bytes at b rest here no_blank no_sharp cut e narrow;
-                good = (within_here b rest here cut e narrow, refl);
-              }
+                record {
+                  step_is = step.Token (record { kind = cut.kind; start = at; end = at + cut.bytes });
+                  is = step_token bytes at b rest here no_blank no_sharp cut e narrow;
+                  good = (within_here b rest here cut e narrow, refl);
+                }
           ]
 
 step_exists : (bytes : List ℕ) (at : ℕ) → at ≤ length bytes → StepAt bytes at

@@ -135,10 +135,10 @@ assign_sign [] cut h = absurd (cc)
 assign_sign (b ∷ rest) cut h =
     elim (chosen (b == 61) (Some (record { kind = Assign; bytes = 2 })) None (Some cut) h) [
       | inl p ↦
-        let q = p.1 in
-        let k : cut.kind ≡ Assign = cc in
-        let n : cut.bytes ≡ 2 = cc in
-        record { no_name = λ e. cc; no_number = λ e. cc; some = omega arith; within = omega arith }
+          let q = p.1 in
+          let k : cut.kind ≡ Assign = cc in
+          let n : cut.bytes ≡ 2 = cc in
+          record { no_name = λ e. cc; no_number = λ e. cc; some = omega arith; within = omega arith }
       | inr p ↦ absurd (let q = p.1 in cc)
     ]
 
@@ -201,12 +201,12 @@ pub cut_within : (b : ℕ) (rest : List ℕ) (cut : Cut) → token_at b rest ≡
 cut_within b rest cut h =
     elim (cut_cases b rest cut h) [
       | inl p ↦
-        let n = ap (λ (c : Cut). c.bytes) p.1 in
-        (omega (arith, n, prefix_first is_name_byte b rest (letter_name b p.0)), omega (arith, n, prefix_within is_name_byte (b ∷ rest)))
+          let n = ap (λ (c : Cut). c.bytes) p.1 in
+          (omega (arith, n, prefix_first is_name_byte b rest (letter_name b p.0)), omega (arith, n, prefix_within is_name_byte (b ∷ rest)))
       | inr q ↦ elim q [
         | inl p ↦
-          let n = ap (λ (c : Cut). c.bytes) p.1 in
-          (omega (arith, n, prefix_first is_digit b rest p.0), omega (arith, n, prefix_within is_digit (b ∷ rest)))
+            let n = ap (λ (c : Cut). c.bytes) p.1 in
+            (omega (arith, n, prefix_first is_digit b rest p.0), omega (arith, n, prefix_within is_digit (b ∷ rest)))
         | inr s ↦ (s.some, s.within)
       ]
     ]

@@ -8,6 +8,7 @@
 --   IsTooDeepFirst ts depth e  a parenthesis opens first and too deep, and e is its fault
 --   IsTargetFirst ts t rest    a name and `:=` stand first, the rest behind them
 --   IsStep bytes at step       what the tokens from this place on begin with
+--   IsTokenRefusal ending o     the refusal of an ending at a bad token or at a number that is too wide
 --   Stays bytes ending ..      to read goes on with these tokens as from those
 --   IsStuck s ts               the grammar lets no token stand first, and the script can't end
 --   IsOutcome e o              a refusal is this outcome; want of memory says nothing
@@ -73,6 +74,12 @@ IsStep bytes at (step.Token token) =
     (at < token.end) × (token.end ≤ length bytes)
     × ((most : ℕ) → scan_within (suc most) at (drop at bytes) ≡ token_first token (scan_within most token.end (drop token.end bytes)))
 IsStep bytes at (step.End ending) = (most : ℕ) → scan_within (suc most) at (drop at bytes) ≡ ended (ending_of ending)
+
+-- the refusal of an ending at a token
+abbrev pub IsTokenRefusal : Ending → Option ParseRefusal → Type 0
+IsTokenRefusal (ScriptEnd place) o = o ≡ None
+IsTokenRefusal (BadToken place) o = o ≡ Some (refusal.Fault 40 place)
+IsTokenRefusal (TooWide place) o = o ≡ Some (refusal.Fault 43 place)
 
 abbrev pub Stays : List ℕ → Ending → State → List Token → State → List Token → Type 0
 Stays bytes ending s ts after rest = course bytes deepest s ts (ending_of ending) ≡ course bytes deepest after rest (ending_of ending)

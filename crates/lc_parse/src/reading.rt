@@ -6,7 +6,7 @@ ghost use Rattle.lc_language.specs.Grammar.{deepest, opens, Reads, Fault, IsFaul
 ghost use Rattle.lc_language.proofs.Course.{State, start, want, opened, done, named, Around, Bracket, statement, depth_of, level_of, closing, filled, move_by, stops, ended_at, IsNoTarget, course, read};
 ghost use Rattle.lc_parse.specs.Refusal.{IsRefusedAs, IsReadAs, IsFaultAs};
 ghost use Rattle.lc_parse.specs.Views.{tree_of, trees_of, statement_of, script_of};
-ghost use Rattle.lc_parse.specs.Reading.{IsWithin, AreWithin, IsNotFirst, IsBehind, IsTooDeepFirst, IsTargetFirst, Stays, IsStuck, IsNotStart, IsOutcome, Refuses, ending_of};
+ghost use Rattle.lc_parse.specs.Reading.{IsWithin, AreWithin, IsNotFirst, IsBehind, IsTooDeepFirst, IsTargetFirst, IsTokenRefusal, Stays, IsStuck, IsNotStart, IsOutcome, Refuses, ending_of};
 
 use crate::refusal::ParseRefusal;
 use crate::scan::{Ending, scan, value_of};
@@ -46,7 +46,11 @@ fn behind<'a>(kind: TokenKind, tokens: &'a [Token]) -> Option<&'a [Token]>
 fn refused_number(kind: TokenKind, depth: usize) -> u8
     ensures { move_by (opens kind && nat_le deepest depth) None ≡ stops result }
 {
-    if opens(kind) && depth >= DEEPEST { 42 } else { 41 }
+    if opens(kind) && depth >= DEEPEST {
+        42
+    } else {
+        41
+    }
 }
 
 // The refusal where the grammar doesn't let the first token stand, or the script end.
@@ -58,7 +62,10 @@ fn refusal(source: &Source<'_>, tokens: &[Token], depth: usize) -> ParseRefusal
         None => end_refusal(source.ending),
         Some((token, _)) => {
             let number = refused_number(token.kind, depth);
-            ParseRefusal::Fault { number, place: token.start }
+            ParseRefusal::Fault {
+                number,
+                place: token.start,
+            }
         }
     }
 }
@@ -115,14 +122,29 @@ fn expression<'a>(
         TokenKind::Name => named_expression(source, first, rest, depth),
         TokenKind::Number => {
             let n = number_of(source, first);
-            Ok((Expr { place: first.start, node: Node::Number(n) }, rest))
+            Ok((
+                Expr {
+                    place: first.start,
+                    node: Node::Number(n),
+                },
+                rest,
+            ))
         }
         TokenKind::OpenList => {
             if depth >= DEEPEST {
-                return Err(ParseRefusal::Fault { number: 42, place: first.start });
+                return Err(ParseRefusal::Fault {
+                    number: 42,
+                    place: first.start,
+                });
             }
             let (elements, rest) = expressions(source, rest, TokenKind::CloseList, depth + 1)?;
-            Ok((Expr { place: first.start, node: Node::List(elements) }, rest))
+            Ok((
+                Expr {
+                    place: first.start,
+                    node: Node::List(elements),
+                },
+                rest,
+            ))
         }
         _ => Err(refusal(source, tokens, depth)),
     }
@@ -136,7 +158,10 @@ fn opening(tokens: &[Token], depth: usize) -> Result<Option<&[Token]>, ParseRefu
     match tokens.split_first() {
         Some((first, rest)) if first.kind == TokenKind::Open => {
             if depth >= DEEPEST {
-                return Err(ParseRefusal::Fault { number: 42, place: first.start });
+                return Err(ParseRefusal::Fault {
+                    number: 42,
+                    place: first.start,
+                });
             }
             Ok(Some(rest))
         }
@@ -165,10 +190,22 @@ fn named_expression<'a>(
     let place = first.start;
     let name = name_of(source, first)?;
     match opening(tokens, depth)? {
-        None => Ok((Expr { place, node: Node::Name(name) }, tokens)),
+        None => Ok((
+            Expr {
+                place,
+                node: Node::Name(name),
+            },
+            tokens,
+        )),
         Some(rest) => {
             let (arguments, rest) = expressions(source, rest, TokenKind::Close, depth + 1)?;
-            Ok((Expr { place, node: Node::Call(name, arguments) }, rest))
+            Ok((
+                Expr {
+                    place,
+                    node: Node::Call(name, arguments),
+                },
+                rest,
+            ))
         }
     }
 }
@@ -261,6 +298,17 @@ fn statement_first<'a>(
     }
 }
 
+// The refusal of a bad token or of a number that is too wide, where the tokens end at one.
+fn token_refusal(ending: Ending) -> Option<ParseRefusal>
+    ensures { IsTokenRefusal ending result }
+{
+    match ending {
+        Ending::ScriptEnd(_) => None,
+        Ending::BadToken(place) => Some(ParseRefusal::Fault { number: 40, place }),
+        Ending::TooWide(place) => Some(ParseRefusal::Fault { number: 43, place }),
+    }
+}
+
 // The statements of all the tokens.
 fn statements(source: &Source<'_>, tokens: &[Token]) -> Result<Vec<Statement>, ParseRefusal>
     requires { AreWithin source.now.bytes.now tokens.now }
@@ -275,10 +323,9 @@ fn statements(source: &Source<'_>, tokens: &[Token]) -> Result<Vec<Statement>, P
         found.push(statement)?;
         left = rest;
     }
-    match source.ending {
-        Ending::ScriptEnd(_) => Ok(found),
-        Ending::BadToken(place) => Err(ParseRefusal::Fault { number: 40, place }),
-        Ending::TooWide(place) => Err(ParseRefusal::Fault { number: 43, place }),
+    match token_refusal(source.ending) {
+        None => Ok(found),
+        Some(refusal) => Err(refusal),
     }
 }
 
@@ -296,10 +343,9 @@ pub fn tokens(alloc: Global, bytes: &[u8]) -> Result<Vec<Token>, ParseRefusal>
     ensures faulty { (f : Fault) → TokenFault (scan bytes.now).ending f → IsFaultAs result f }
 {
     let (tokens, ending) = scan(alloc, bytes)?;
-    match ending {
-        Ending::ScriptEnd(_) => Ok(tokens),
-        Ending::BadToken(place) => Err(ParseRefusal::Fault { number: 40, place }),
-        Ending::TooWide(place) => Err(ParseRefusal::Fault { number: 43, place }),
+    match token_refusal(ending) {
+        None => Ok(tokens),
+        Some(refusal) => Err(refusal),
     }
 }
 
@@ -320,7 +366,11 @@ pub fn parse(alloc: Global, bytes: &[u8]) -> Result<Script, ParseRefusal>
     ensures faulty { (f : Fault) → IsFault bytes.now f → IsFaultAs result f }
 {
     let (tokens, ending) = scan(alloc, bytes)?;
-    let source = Source { alloc, bytes, ending };
+    let source = Source {
+        alloc,
+        bytes,
+        ending,
+    };
     let statements = statements(&source, &tokens)?;
     Ok(Script { statements })
 }

@@ -101,7 +101,10 @@ fn assign_at(rest: &[u8]) -> Option<Cut>
 {
     let (first, _) = rest.split_first()?;
     if *first == b'=' {
-        Some(Cut { kind: TokenKind::Assign, len: 2 })
+        Some(Cut {
+            kind: TokenKind::Assign,
+            len: 2,
+        })
     } else {
         None
     }
@@ -144,9 +147,15 @@ fn token_at(here: &[u8], first: u8, rest: &[u8]) -> Option<Cut>
     ensures { cuts_of result ≡ token_at first rest.now }
 {
     if is_letter(first) {
-        Some(Cut { kind: TokenKind::Name, len: name_len(here) })
+        Some(Cut {
+            kind: TokenKind::Name,
+            len: name_len(here),
+        })
     } else if is_digit(first) {
-        Some(Cut { kind: TokenKind::Number, len: digits_len(here) })
+        Some(Cut {
+            kind: TokenKind::Number,
+            len: digits_len(here),
+        })
     } else {
         sign_at(first, rest)
     }
@@ -188,7 +197,11 @@ fn step_at(bytes: &[u8], at: usize) -> Step
     if is_wide(cut, here) {
         return Step::End(Ending::TooWide(at));
     }
-    Step::Token(Token { kind: cut.kind, start: at, end: at + cut.len })
+    Step::Token(Token {
+        kind: cut.kind,
+        start: at,
+        end: at + cut.len,
+    })
 }
 
 // The tokens of a script, and how they end.

@@ -19,9 +19,9 @@ pub expression-returns-in_err-elements-in-OpenList-clause-refused : goal.express
 expression-returns-in_err-elements-in-OpenList-clause-refused t c =
     let p = err_from_is_err_and c.from_residual.result c.from_residual.ensures.1 in
     rw (p.1, p.2) (λ a d.
-        refuses_from c.args.source.now.bytes.now c.args.source.now.ending (want a) c.args.tokens.now (opened (of_list c.in-Some.first.now.start) a) c.in-Some.rest.now _
-        (step_list c.args.source.now.bytes.now c.args.source.now.ending a c.args.tokens.now c.in-Some.first.now c.in-Some.rest.now c.in-Some.ensures.cases.0 c.in-OpenList.is (omega arith))
-        (c.in_err-elements-in-OpenList.ensures.refused (of_list c.in-Some.first.now.start) a refl (omega arith)))
+    refuses_from c.args.source.now.bytes.now c.args.source.now.ending (want a) c.args.tokens.now (opened (of_list c.in-Some.first.now.start) a) c.in-Some.rest.now _
+    (step_list c.args.source.now.bytes.now c.args.source.now.ending a c.args.tokens.now c.in-Some.first.now c.in-Some.rest.now c.in-Some.ensures.cases.0 c.in-OpenList.is (omega arith))
+    (c.in_err-elements-in-OpenList.ensures.refused (of_list c.in-Some.first.now.start) a refl (omega arith)))
 
 pub expression-returns-in-Name-clause-read : goal.expression-returns-in-Name-clause-read
 expression-returns-in-Name-clause-read t c =
@@ -105,9 +105,9 @@ named_expression-returns-in_err-arguments-in-Some-clause-refused t c =
     let open_first = rw c.in-Some.is at c.in_ok-opening.ensures.read in
     let p = err_from_is_err_and c.from_residual-in_err-arguments-in-Some.result c.from_residual-in_err-arguments-in-Some.ensures.1 in
     rw (p.1, p.2) (λ a d.
-        refuses_from bytes c.args.source.now.ending (named a place x) c.args.tokens.now (opened (of_call place x) a) c.in-Some.rest.now _
-        (step_call bytes c.args.source.now.ending a place x c.args.tokens.now c.in-Some.rest.now open_first.0 (omega (arith, open_first.1)))
-        (c.in_err-arguments-in-Some.ensures.refused (of_call place x) a refl (omega arith)))
+    refuses_from bytes c.args.source.now.ending (named a place x) c.args.tokens.now (opened (of_call place x) a) c.in-Some.rest.now _
+    (step_call bytes c.args.source.now.ending a place x c.args.tokens.now c.in-Some.rest.now open_first.0 (omega (arith, open_first.1)))
+    (c.in_err-arguments-in-Some.ensures.refused (of_call place x) a refl (omega arith)))
 
 pub named_expression-returns-in-None-clause-read : goal.named_expression-returns-in-None-clause-read
 named_expression-returns-in-None-clause-read t c = λ a d.

@@ -9,4 +9,4 @@ returns-in-Some-clause-read c =
     let bytes = c.args.source.now.bytes.now in
     let target = option_map string_bytes c.in_ok-target.target in
     λ ss. c.in_ok-target.ensures.read ss ∙ c.in_ok-expr.ensures.read (statement ss target) refl
-        ∙ step_end bytes c.args.source.now.ending ss target (tree_of c.in_ok-expr.expr) c.in_ok-expr.after.now c.in-Some.rest.now c.in-Some.ensures
+    ∙ step_end bytes c.args.source.now.ending ss target (tree_of c.in_ok-expr.expr) c.in_ok-expr.after.now c.in-Some.rest.now c.in-Some.ensures

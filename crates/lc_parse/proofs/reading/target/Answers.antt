@@ -12,4 +12,4 @@ pub returns-in_ok-name_of-in-Some-clause-read : goal.returns-in_ok-name_of-in-So
 returns-in_ok-name_of-in-Some-clause-read c =
     let rest = c.in-Some.rest.now in
     λ ss. step_target c.args.source.now.bytes.now c.args.source.now.ending ss c.args.tokens.now c.in-Some.first.now rest c.in-Some.ensures
-        ∙ ap (λ x. course c.args.source.now.bytes.now deepest (want (statement ss (Some x))) rest (ending_of c.args.source.now.ending)) (sym c.in_ok-name_of-in-Some.ensures.text)
+    ∙ ap (λ x. course c.args.source.now.bytes.now deepest (want (statement ss (Some x))) rest (ending_of c.args.source.now.ending)) (sym c.in_ok-name_of-in-Some.ensures.text)
