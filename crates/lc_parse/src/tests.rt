@@ -117,3 +117,39 @@ fn a_script_has_its_tree(rt: HostRuntime) -> Result<(), Fail> {
     assert_eq!(rt; second.expr.place, 27);
     Ok(())
 }
+
+// The bytes that scripts are made of, and one that begins no token.
+static BYTES: [u8; 16] = [
+    b'a', b'b', b'_', b'1', b'9', b' ', b'\n', b'(', b')', b'[', b']', b',', b';', b':', b'=', 255,
+];
+
+// The generator of the inputs: x goes to 6364136223846793005 x + 1442695040888963407 modulo 2^64, and the
+// bits from 33 on pick a byte, or the length.
+fn next(seed: u64) -> u64 {
+    seed.wrapping_mul(6364136223846793005)
+        .wrapping_add(1442695040888963407)
+}
+
+#[test]
+fn any_bytes_are_parsed_or_refused(rt: HostRuntime) -> Result<(), Fail> {
+    let mut seed = 1u64;
+    let mut read = false;
+    for _ in 0..100000 {
+        let mut bytes = [0u8; 12];
+        for b in bytes.iter_mut() {
+            seed = next(seed);
+            *b = BYTES[((seed >> 33) % 16) as usize];
+        }
+        seed = next(seed);
+        let len = ((seed >> 33) % 13) as usize;
+        match parse(rt.alloc(), &bytes[..len]) {
+            Ok(_) => read = true,
+            Err(ParseRefusal::Fault { number, place }) => {
+                assert!(rt; number >= 40 && number <= 43 && place <= len, "{bytes:?}");
+            }
+            Err(ParseRefusal::NoMemory) => return Err("no memory")?,
+        }
+    }
+    assert!(rt; read);
+    Ok(())
+}
