@@ -12,7 +12,7 @@
 --   Move, move           the same below the limit of open brackets, or the number of the fault (kind_move: by the kind)
 --   reach                the state behind several tokens
 --   Outcome, course      the statements that the tokens are with this ending, or the first fault
-use Rattle.std.specs.Prelude.{◌≡◌, ℕ, zero, suc, Bool, true, false, nat_le, ◌&&◌, List, [], ◌∷◌, ◌++◌, Option, Some, None}
+use Rattle.std.specs.Prelude.{◌≡◌, ℕ, suc, Bool, true, false, nat_le, ◌&&◌, List, [], ◌∷◌, ◌++◌, Option, Some, None}
 use Rattle.lc_language.specs.declared.TokenKind.{TokenKind}
 use Rattle.lc_language.specs.declared.TokenKind.TheVariants.{Name, Number, Assign, Open, Close, OpenList, CloseList, Comma, End}
 use Rattle.lc_language.specs.declared.Token.{Token}

@@ -2,21 +2,18 @@
 --   completes        from each state some tokens lead to a whole script
 --   may_go_on        tokens that lead to a state may go on; reached: tokens that may go on lead to one
 --   level_reach      how many signs are open behind tokens
-use Rattle.std.proofs.Common.{◌≡◌, ℕ, zero, suc, ◌+◌, ◌-◌, ◌<◌, ◌≤◌, max, Bool, true, false, cond, ◌&&◌, nat_le, IsTrue, List, [], ◌∷◌, ◌++◌, length, take, drop, get_or, Option, Some, None, refl, sym, ap, ap₂, ◌∙◌, subst, ◌⊎◌, inl, inr, append_assoc, arith, length-append}
-use Rattle.std.proofs.lemmas.Bool.Decides.{nat_tests}
-use Rattle.std.proofs.lemmas.List.{append-nil, take-append-drop}
+use Rattle.std.proofs.Common.{◌≡◌, ℕ, suc, ◌+◌, Bool, true, false, cond, ◌&&◌, nat_le, List, [], ◌∷◌, ◌++◌, length, Option, Some, None, refl, sym, ap, ◌∙◌, subst, arith}
 use Rattle.std.proofs.lemmas.List.Sums.{sum_by-cons}
-use Rattle.std.specs.Prelude.{All}
-use Rattle.std.specs.List.{count_by, slice_get, AllByRecursion}
+use Rattle.std.specs.List.{count_by}
 use Rattle.lc_language.specs.declared.TokenKind.{TokenKind}
 use Rattle.lc_language.specs.declared.TokenKind.TheVariants.{Name, Number, Assign, Open, Close, OpenList, CloseList, Comma, End}
 use Rattle.lc_language.specs.declared.Token.{Token}
-use Rattle.lc_language.specs.Token.{scan, text_of, number_of, Ending, script_end, bad_token, too_wide}
-use Rattle.lc_language.specs.Tree.{Expr, Exprs, number, name, call, list, none, more, Statement, nesting, nesting_all}
-use Rattle.lc_language.specs.Grammar.{IsToken, IsExpr, IsStatement, IsScript, deepest, Reads, MayGoOn, opens, closes, is_opening, is_closing, open_signs, IsTooDeep, GoesOn, Fault, IsFaultAtToken, EndsIn, IsFault}
-use Rattle.lc_language.proofs.Course.{Bracket, of_call, of_list, closing, filled, after_all, with_target, Around, statement, inside, depth_of, State, start, begun, want, opened, named, done, level_of, after_expr, after_name, after_first, at_expr, at_start, at_opened, next_by, next, Move, goes, stops, moved, move_by, Outcome, read, fault, at_end, ended_at, outcome_by, state_by, kind_move, move, reach, course}
-use Rattle.lc_language.proofs.GrammarLaws.{course_at, closes_opened, closes_done, ends_done, name_read, AreShallow, script_course}
-use Rattle.lc_language.proofs.ScriptLaws.{ScriptRead, script_read}
+use Rattle.lc_language.specs.Token.{text_of, number_of, Ending, script_end}
+use Rattle.lc_language.specs.Tree.{Expr, number, name, none, Statement}
+use Rattle.lc_language.specs.Grammar.{MayGoOn, opens, closes, is_opening, is_closing}
+use Rattle.lc_language.proofs.Course.{Bracket, of_call, of_list, closing, filled, after_all, with_target, Around, statement, inside, depth_of, State, start, begun, want, opened, named, done, level_of, after_expr, after_name, after_first, at_expr, at_start, at_opened, next_by, next, Move, goes, stops, move_by, read, outcome_by, state_by, move, reach, course}
+use Rattle.lc_language.proofs.GrammarLaws.{course_at, closes_opened, closes_done, ends_done, name_read}
+use Rattle.lc_language.proofs.ScriptLaws.{script_read}
 
 token_of : TokenKind → Token
 token_of kind = record { kind = kind; start = 0; end = 0 }

@@ -2,22 +2,21 @@
 --   outcome bytes        what the course of the bytes' tokens comes to
 --   fault_course, course_fault      the fault of the bytes is that outcome
 --   script_outcome, outcome_script  the script of the bytes is that outcome
-use Rattle.std.proofs.Common.{◌≡◌, ℕ, zero, suc, ◌+◌, ◌-◌, ◌<◌, ◌≤◌, min, max, Bool, true, false, cond, ◌&&◌, nat_le, IsTrue, List, [], ◌∷◌, ◌++◌, length, take, drop, get_or, Option, Some, None, refl, sym, ap, ap₂, ◌∙◌, subst, ◌⊎◌, inl, inr, append_assoc, arith, length-append, length-take}
+use Rattle.std.proofs.Common.{◌≡◌, ℕ, zero, suc, ◌+◌, ◌<◌, ◌≤◌, max, Bool, true, false, ◌&&◌, nat_le, List, [], ◌∷◌, ◌++◌, length, take, drop, Option, Some, None, refl, sym, ap, ◌∙◌, subst, ◌⊎◌, inl, inr, append_assoc, arith, length-append, length-take}
 use Rattle.std.proofs.lemmas.Bool.{cases_lt}
 use Rattle.std.proofs.lemmas.Bool.Decides.{nat_tests}
-use Rattle.std.proofs.lemmas.List.{append-nil, take-append-drop, take_at, take_all, length-take-le}
+use Rattle.std.proofs.lemmas.List.{append-nil, take-append-drop, take_at, take_all}
 use Rattle.std.proofs.lemmas.List.Elements.{recursion_from_All, All-from_recursion}
 use Rattle.std.specs.Prelude.{All}
-use Rattle.std.specs.List.{count_by, slice_get, AllByRecursion}
-use Rattle.lc_language.specs.declared.TokenKind.{TokenKind}
+use Rattle.std.specs.List.{slice_get}
 use Rattle.lc_language.specs.declared.Token.{Token}
 use Rattle.lc_language.specs.Token.{scan, Ending, script_end, bad_token, too_wide}
 use Rattle.lc_language.specs.Tree.{Statement, nesting}
-use Rattle.lc_language.specs.Grammar.{IsScript, deepest, Reads, MayGoOn, opens, is_opening, is_closing, open_signs, IsTooDeep, GoesOn, Fault, IsFaultAtToken, EndsIn, IsFault}
-use Rattle.lc_language.proofs.Course.{State, start, begun, want, opened, named, done, level_of, next, Move, goes, stops, moved, move_by, Outcome, read, fault, at_end, ended_at, outcome_by, state_by, move, reach, course}
+use Rattle.lc_language.specs.Grammar.{IsScript, deepest, Reads, MayGoOn, opens, open_signs, IsTooDeep, GoesOn, Fault, IsFaultAtToken, EndsIn}
+use Rattle.lc_language.proofs.Course.{State, start, begun, want, opened, named, done, level_of, next, Move, goes, stops, moved, move_by, read, fault, at_end, ended_at, outcome_by, state_by, move, reach, course}
 use Rattle.lc_language.proofs.GrammarLaws.{AreShallow, script_course}
-use Rattle.lc_language.proofs.ScriptLaws.{ScriptRead, script_read}
-use Rattle.lc_language.proofs.FaultLaws.{course_reach, Reached, reaches, reach-append, may_go_on, Goes, moves_on, level_reach}
+use Rattle.lc_language.proofs.ScriptLaws.{script_read}
+use Rattle.lc_language.proofs.FaultLaws.{course_reach, Reached, reaches, reach-append, may_go_on, moves_on, level_reach}
 
 -- tokens at a place of a list
 get_at : (front : List Token) (t : Token) (rest : List Token) → slice_get (front ++ t ∷ rest) (length front) ≡ Some t
@@ -57,7 +56,7 @@ deep_whole true level e l = grind (arith, nat_tests)
 deep_whole false level e l = absurd (cc)
 
 cases_last : (j n : ℕ) → j < suc n → (j < n) ⊎ (j ≡ n)
-cases_last j n l = elim (cases_lt j n) [ | inl less ↦ inl less | inr more_of ↦ inr (omega arith) ]
+cases_last j n l = elim (cases_lt j n) [ inl less ↦ inl less | inr more_of ↦ inr (omega arith) ]
 
 -- the deepest nesting of a script
 greatest : List Statement → ℕ
@@ -215,7 +214,7 @@ module _ (bytes : List ℕ) where
         end_fault all ending s n place all_reached h,
       )
   course_is_fault all ending n place (t ∷ ts) front s split reached shallow h = by_test (opens t.kind && nat_le deepest (level_of s)) (next bytes s t) refl refl h
-    (λ after e more_of. course_is_fault all ending n place ts (front ++ t ∷ []) after (split ∙ sym (append_assoc front (t ∷ []) ts)) (reach_next front t s after reached e) more_of)
+      (λ after e more_of. course_is_fault all ending n place ts (front ++ t ∷ []) after (split ∙ sym (append_assoc front (t ∷ []) ts)) (reach_next front t s after reached e) more_of)
     where
       goes_on : GoesOn bytes all (length front)
       goes_on = record { may = rw (front_is all front t ts split s reached) (may_go_on bytes deepest front s reached); shallow = shallow }

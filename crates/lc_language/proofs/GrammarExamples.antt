@@ -4,10 +4,10 @@
 --   sign            a byte that begins no token: 40
 --   deep            33 opening brackets: 42 at the last of them
 --   empty_statement, empty_parentheses   41 at the first byte
-use Rattle.std.proofs.Common.{◌≡◌, ℕ, List, [], ◌∷◌, ◌++◌, replicate, refl}
+use Rattle.std.proofs.Common.{◌≡◌, ℕ, List, [], replicate, refl}
 use Rattle.std.specs.Prelude.{codes}
 use Rattle.lc_language.specs.Token.{is_blank, is_letter, is_digit, is_name_byte, number_from, number_of, widest, cut_of, assign_at, sign_at, token_at, ended, token_first, is_number, comment_length, scan_within, scan, text_of}
-use Rattle.lc_language.specs.Grammar.{deepest, IsFault, open_signs}
+use Rattle.lc_language.specs.Grammar.{deepest, IsFault}
 use Rattle.lc_language.proofs.Course.{start, fault, course}
 use Rattle.lc_language.proofs.FirstFault.{fault_of_course}
 

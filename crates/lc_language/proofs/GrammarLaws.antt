@@ -1,16 +1,15 @@
 -- The grammar and the course of its tokens say the same.
-use Rattle.std.proofs.Common.{◌≡◌, ℕ, zero, suc, ◌+◌, ◌-◌, ◌<◌, ◌≤◌, max, Bool, true, false, ◌&&◌, nat_le, IsTrue, List, [], ◌∷◌, ◌++◌, length, take, drop, get_or, Option, Some, None, refl, sym, ap, ap₂, ◌∙◌, subst, ◌⊎◌, inl, inr, append_assoc, arith, length-append}
+use Rattle.std.proofs.Common.{◌≡◌, ℕ, zero, suc, ◌+◌, ◌<◌, ◌≤◌, Bool, true, false, ◌&&◌, nat_le, List, [], ◌∷◌, ◌++◌, length, Option, Some, None, refl, sym, ap, ap₂, ◌∙◌, subst, ◌⊎◌, inl, inr, append_assoc, arith, length-append}
 use Rattle.std.proofs.lemmas.Bool.Decides.{nat_tests}
 use Rattle.std.proofs.lemmas.List.{append-nil}
-use Rattle.std.specs.Prelude.{All}
-use Rattle.std.specs.List.{count_by, slice_get, AllByRecursion}
+use Rattle.std.specs.List.{AllByRecursion}
 use Rattle.lc_language.specs.declared.TokenKind.{TokenKind}
 use Rattle.lc_language.specs.declared.TokenKind.TheVariants.{Name, Number, Assign, Open, Close, OpenList, CloseList, Comma, End}
 use Rattle.lc_language.specs.declared.Token.{Token}
-use Rattle.lc_language.specs.Token.{scan, text_of, number_of, Ending, script_end, bad_token, too_wide}
+use Rattle.lc_language.specs.Token.{text_of, number_of, Ending, script_end, bad_token, too_wide}
 use Rattle.lc_language.specs.Tree.{Expr, Exprs, number, name, call, list, none, more, Statement, nesting, nesting_all}
-use Rattle.lc_language.specs.Grammar.{IsToken, IsNamed, IsNumbered, IsBetween, IsExpr, IsList, IsTarget, IsStatement, IsScript, deepest, Reads, MayGoOn, opens, closes, is_opening, is_closing, open_signs, IsTooDeep, GoesOn, Fault, IsFaultAtToken, EndsIn, IsFault}
-use Rattle.lc_language.proofs.Course.{Bracket, of_call, of_list, closing, filled, after_all, with_target, Around, statement, inside, depth_of, State, start, begun, want, opened, named, done, level_of, after_expr, after_name, after_first, at_expr, at_start, at_opened, next_by, next, Move, goes, stops, moved, move_by, Outcome, read, fault, at_end, ended_at, outcome_by, state_by, kind_move, move, reach, course, IsNoTarget}
+use Rattle.lc_language.specs.Grammar.{IsExpr, IsList, IsStatement, IsScript, opens}
+use Rattle.lc_language.proofs.Course.{Bracket, of_call, of_list, closing, filled, after_all, with_target, Around, statement, inside, depth_of, State, start, begun, want, opened, named, done, level_of, after_name, at_expr, next_by, next, stops, move_by, read, fault, at_end, ended_at, outcome_by, kind_move, course, IsNoTarget}
 
 -- a test of the limit that is passed
 below_limit : (limit depth : ℕ) → depth < limit → nat_le limit depth ≡ false
@@ -187,6 +186,7 @@ module _ (bytes : List ℕ) (limit : ℕ) where
 
   mutual
     unfolding nesting nesting_all
+
     expr_course : (e : Expr) (us : List Token) → IsExpr bytes us e → (a : Around) → nesting e + depth_of a ≤ limit → (ts : List Token) (ending : Ending) → course bytes limit (want a) (us ++ ts) ending ≡ course bytes limit (after_read a e) ts ending
     expr_course (number place n) us (t, split, is) a l ts ending =
         rw split (course_at (want a) t ts ending Number is.kind ∙ cc (is.stands, is.value))
@@ -474,31 +474,31 @@ module _ (bytes : List ℕ) (limit : ℕ) where
       let step = went (done (inside b so_far a) e) t ts ending out t.kind refl h in
       elim (tail_kinds b so_far a e t t.kind step.after step.moves) [
         | inl k ↦
-          let more_of = reads ts (inside b (after_all so_far e) a) ending out (omega arith) d (ap (λ s. course bytes limit s ts ending) (sym k.1) ∙ step.goes_on) in
-          let tail = tail_read n reads m more_of.rest b (after_all so_far e) a more_of.e ending out (omega (arith, more_of.shorter)) (omega (arith, more_of.shorter)) d more_of.goes_on in
-          record {
-            vs = t ∷ (more_of.us ++ tail.vs);
-            es = more more_of.e tail.es;
-            last = tail.last;
-            rest = tail.rest;
-            split = ap (λ l. t ∷ l) (more_of.split ∙ ap (λ l. more_of.us ++ l) tail.split ∙ sym (append_assoc more_of.us tail.vs (tail.last ∷ tail.rest)));
-            is = λ us e' is. (us, (t, (more_of.us ++ tail.vs, refl, k.0, is, tail.is more_of.us more_of.e more_of.is)));
-            closes_it = tail.closes_it;
-            shallow = omega (arith, more_of.shallow, tail.shallow);
-            goes_on = tail.goes_on;
-          }
+            let more_of = reads ts (inside b (after_all so_far e) a) ending out (omega arith) d (ap (λ s. course bytes limit s ts ending) (sym k.1) ∙ step.goes_on) in
+            let tail = tail_read n reads m more_of.rest b (after_all so_far e) a more_of.e ending out (omega (arith, more_of.shorter)) (omega (arith, more_of.shorter)) d more_of.goes_on in
+            record {
+              vs = t ∷ (more_of.us ++ tail.vs);
+              es = more more_of.e tail.es;
+              last = tail.last;
+              rest = tail.rest;
+              split = ap (λ l. t ∷ l) (more_of.split ∙ ap (λ l. more_of.us ++ l) tail.split ∙ sym (append_assoc more_of.us tail.vs (tail.last ∷ tail.rest)));
+              is = λ us e' is. (us, (t, (more_of.us ++ tail.vs, refl, k.0, is, tail.is more_of.us more_of.e more_of.is)));
+              closes_it = tail.closes_it;
+              shallow = omega (arith, more_of.shallow, tail.shallow);
+              goes_on = tail.goes_on;
+            }
         | inr k ↦
-          record {
-            vs = [];
-            es = none;
-            last = t;
-            rest = ts;
-            split = refl;
-            is = λ us e' is. subst (λ l. IsExpr bytes l e') (sym (append-nil us)) is;
-            closes_it = k.0;
-            shallow = omega arith;
-            goes_on = ap (λ s. course bytes limit s ts ending) (sym k.1) ∙ step.goes_on;
-          }
+            record {
+              vs = [];
+              es = none;
+              last = t;
+              rest = ts;
+              split = refl;
+              is = λ us e' is. subst (λ l. IsExpr bytes l e') (sym (append-nil us)) is;
+              closes_it = k.0;
+              shallow = omega arith;
+              goes_on = ap (λ s. course bytes limit s ts ending) (sym k.1) ∙ step.goes_on;
+            }
       ]
 
   list_read : (n : ℕ) → ExprReads n → (ts : List Token) (b : Bracket) (a : Around) (ending : Ending) (out : List Statement) → length ts ≤ n → suc (depth_of a) ≤ limit
@@ -509,32 +509,32 @@ module _ (bytes : List ℕ) (limit : ℕ) where
       let step = went (opened b a) t ts ending out t.kind refl h in
       elim (opened_kinds b a t t.kind step.after step.moves) [
         | inl k ↦
-          record {
-            us = [];
-            es = none;
-            last = t;
-            rest = ts;
-            split = refl;
-            is = refl;
-            closes_it = k.0;
-            shallow = omega arith;
-            goes_on = ap (λ s. course bytes limit s ts ending) (sym k.1) ∙ step.goes_on;
-          }
+            record {
+              us = [];
+              es = none;
+              last = t;
+              rest = ts;
+              split = refl;
+              is = refl;
+              closes_it = k.0;
+              shallow = omega arith;
+              goes_on = ap (λ s. course bytes limit s ts ending) (sym k.1) ∙ step.goes_on;
+            }
         | inr k ↦
-          let wanted = sym (same_course (opened b a) (want (inside b none a)) t ts ending t.kind refl (opened_move b a t t.kind k)) ∙ h in
-          let first = reads (t ∷ ts) (inside b none a) ending out l d wanted in
-          let tail = tail_read n reads n first.rest b none a first.e ending out (omega (arith, first.shorter)) (omega (arith, first.shorter)) d first.goes_on in
-          record {
-            us = first.us ++ tail.vs;
-            es = more first.e tail.es;
-            last = tail.last;
-            rest = tail.rest;
-            split = first.split ∙ ap (λ l. first.us ++ l) tail.split ∙ sym (append_assoc first.us tail.vs (tail.last ∷ tail.rest));
-            is = tail.is first.us first.e first.is;
-            closes_it = tail.closes_it;
-            shallow = omega (arith, first.shallow, tail.shallow);
-            goes_on = tail.goes_on;
-          }
+            let wanted = sym (same_course (opened b a) (want (inside b none a)) t ts ending t.kind refl (opened_move b a t t.kind k)) ∙ h in
+            let first = reads (t ∷ ts) (inside b none a) ending out l d wanted in
+            let tail = tail_read n reads n first.rest b none a first.e ending out (omega (arith, first.shorter)) (omega (arith, first.shorter)) d first.goes_on in
+            record {
+              us = first.us ++ tail.vs;
+              es = more first.e tail.es;
+              last = tail.last;
+              rest = tail.rest;
+              split = first.split ∙ ap (λ l. first.us ++ l) tail.split ∙ sym (append_assoc first.us tail.vs (tail.last ∷ tail.rest));
+              is = tail.is first.us first.e first.is;
+              closes_it = tail.closes_it;
+              shallow = omega (arith, first.shallow, tail.shallow);
+              goes_on = tail.goes_on;
+            }
       ]
 
   -- a name is a whole expression, or an opening sign follows
@@ -590,28 +590,28 @@ module _ (bytes : List ℕ) (limit : ℕ) where
       let is : step.after ≡ named a t.start (text_of bytes t) = let m = step.moves in cc in
       elim (name_cases ts a t.start (text_of bytes t) ending out (ap (λ s. course bytes limit s ts ending) (sym is) ∙ step.goes_on)) [
         | inl h ↦
-          record {
-            us = t ∷ [];
-            e = name t.start (text_of bytes t);
-            rest = ts;
-            split = refl;
-            is = (t, refl, record { kind = e; stands = refl; text = refl });
-            shallow = omega arith;
-            goes_on = h;
-            shorter = omega arith;
-          }
+            record {
+              us = t ∷ [];
+              e = name t.start (text_of bytes t);
+              rest = ts;
+              split = refl;
+              is = (t, refl, record { kind = e; stands = refl; text = refl });
+              shallow = omega arith;
+              goes_on = h;
+              shorter = omega arith;
+            }
         | inr c ↦
-          let inside_it = list_read n reads c.rest (of_call t.start (text_of bytes t)) a ending out (omega (arith, ap length c.split)) c.room c.goes_on in
-          record {
-            us = t ∷ c.first ∷ (inside_it.us ++ inside_it.last ∷ []);
-            e = call t.start (text_of bytes t) inside_it.es;
-            rest = inside_it.rest;
-            split = ap (λ l. t ∷ l) (c.split ∙ ap (λ l. c.first ∷ l) (inside_it.split ∙ sym (append_assoc inside_it.us (inside_it.last ∷ []) inside_it.rest)));
-            is = (t, (c.first ∷ (inside_it.us ++ inside_it.last ∷ []), refl, record { kind = e; stands = refl; text = refl }, (c.first, (inside_it.us, (inside_it.last, record { all = refl; opens = c.opens_it; closes = inside_it.closes_it }, inside_it.is)))));
-            shallow = omega (arith, inside_it.shallow);
-            goes_on = ap (λ es. course bytes limit (done a (call t.start (text_of bytes t) es)) inside_it.rest ending) (sym (all_after_none inside_it.es)) ∙ inside_it.goes_on;
-            shorter = omega (arith, ap length c.split, ap length inside_it.split, length-append inside_it.us (inside_it.last ∷ inside_it.rest));
-          }
+            let inside_it = list_read n reads c.rest (of_call t.start (text_of bytes t)) a ending out (omega (arith, ap length c.split)) c.room c.goes_on in
+            record {
+              us = t ∷ c.first ∷ (inside_it.us ++ inside_it.last ∷ []);
+              e = call t.start (text_of bytes t) inside_it.es;
+              rest = inside_it.rest;
+              split = ap (λ l. t ∷ l) (c.split ∙ ap (λ l. c.first ∷ l) (inside_it.split ∙ sym (append_assoc inside_it.us (inside_it.last ∷ []) inside_it.rest)));
+              is = (t, (c.first ∷ (inside_it.us ++ inside_it.last ∷ []), refl, record { kind = e; stands = refl; text = refl }, (c.first, (inside_it.us, (inside_it.last, record { all = refl; opens = c.opens_it; closes = inside_it.closes_it }, inside_it.is)))));
+              shallow = omega (arith, inside_it.shallow);
+              goes_on = ap (λ es. course bytes limit (done a (call t.start (text_of bytes t) es)) inside_it.rest ending) (sym (all_after_none inside_it.es)) ∙ inside_it.goes_on;
+              shorter = omega (arith, ap length c.split, ap length inside_it.split, length-append inside_it.us (inside_it.last ∷ inside_it.rest));
+            }
       ]
   expr_kinds n reads t ts a ending out l d OpenList e step =
       let is : step.after ≡ opened (of_list t.start) a = let m = step.moves in cc in

@@ -1,17 +1,14 @@
 -- Scripts and first faults, by the course of the tokens.
-use Rattle.std.proofs.Common.{◌≡◌, ℕ, zero, suc, ◌+◌, ◌-◌, ◌<◌, ◌≤◌, max, Bool, true, false, ◌&&◌, nat_le, IsTrue, List, [], ◌∷◌, ◌++◌, length, take, drop, get_or, Option, Some, None, refl, sym, ap, ap₂, ◌∙◌, subst, ◌⊎◌, inl, inr, append_assoc, arith, length-append}
-use Rattle.std.proofs.lemmas.Bool.Decides.{nat_tests}
-use Rattle.std.proofs.lemmas.List.{append-nil, take-append-drop}
-use Rattle.std.specs.Prelude.{All}
-use Rattle.std.specs.List.{count_by, slice_get, AllByRecursion}
+use Rattle.std.proofs.Common.{◌≡◌, ℕ, zero, suc, ◌<◌, ◌≤◌, List, [], ◌∷◌, ◌++◌, length, Some, None, refl, sym, ap, ◌∙◌, ◌⊎◌, inl, inr, append_assoc, arith}
+use Rattle.std.proofs.lemmas.List.{append-nil}
 use Rattle.lc_language.specs.declared.TokenKind.{TokenKind}
 use Rattle.lc_language.specs.declared.TokenKind.TheVariants.{Name, Number, Assign, Open, Close, OpenList, CloseList, Comma, End}
 use Rattle.lc_language.specs.declared.Token.{Token}
-use Rattle.lc_language.specs.Token.{scan, text_of, number_of, Ending, script_end, bad_token, too_wide}
-use Rattle.lc_language.specs.Tree.{Expr, Exprs, number, name, call, list, none, more, Statement, nesting, nesting_all}
-use Rattle.lc_language.specs.Grammar.{IsToken, IsExpr, IsStatement, IsScript, deepest, Reads, MayGoOn, opens, closes, is_opening, is_closing, open_signs, IsTooDeep, GoesOn, Fault, IsFaultAtToken, EndsIn, IsFault}
-use Rattle.lc_language.proofs.Course.{Bracket, of_call, of_list, closing, filled, after_all, with_target, Around, statement, inside, depth_of, State, start, begun, want, opened, named, done, level_of, after_expr, after_name, after_first, at_expr, at_start, at_opened, next_by, next, Move, goes, stops, moved, move_by, Outcome, read, fault, at_end, ended_at, outcome_by, state_by, kind_move, move, reach, course, IsNoTarget}
-use Rattle.lc_language.proofs.GrammarLaws.{course_at, closes_opened, closes_done, ends_done, name_read, Went, went, ExprRead, expr_read, StatementEnds, statement_ends, start_wants, start_target, AreShallow, script_course}
+use Rattle.lc_language.specs.Token.{text_of, script_end}
+use Rattle.lc_language.specs.Tree.{Statement, nesting}
+use Rattle.lc_language.specs.Grammar.{IsStatement, IsScript}
+use Rattle.lc_language.proofs.Course.{with_target, statement, start, read, course, IsNoTarget}
+use Rattle.lc_language.proofs.GrammarLaws.{expr_read, statement_ends, start_wants, start_target, AreShallow}
 
 module _ (bytes : List ℕ) (limit : ℕ) where
   is_name : (kind : TokenKind) → (kind ≡ Name) ⊎ (kind ≡ Name → ⊥)

@@ -22,7 +22,7 @@
 --                                  script's end where it is none (41)
 --   IsFault bytes fault            bytes that are no script, and the first place at which they can't go on
 --   TokenFault ending fault        the fault of the tokens alone: 40 or 43
-use Rattle.std.specs.Prelude.{◌≡◌, ℕ, zero, suc, ◌+◌, ◌-◌, ◌<◌, ◌≤◌, ◌⊎◌, Bool, true, false, IsTrue, List, [], ◌∷◌, ◌++◌, length, take, count_by, slice_get, Option, Some, None, All}
+use Rattle.std.specs.Prelude.{◌≡◌, ℕ, suc, ◌-◌, ◌<◌, ◌≤◌, ◌⊎◌, Bool, true, false, IsTrue, List, [], ◌∷◌, ◌++◌, length, take, count_by, slice_get, Option, Some, None, All}
 use Rattle.lc_language.specs.declared.TokenKind.{TokenKind}
 use Rattle.lc_language.specs.declared.TokenKind.TheVariants.{Name, Number, Assign, Open, Close, OpenList, CloseList, Comma, End}
 use Rattle.lc_language.specs.declared.Token.{Token}

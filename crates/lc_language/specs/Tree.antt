@@ -5,7 +5,7 @@
 --   place_of e     the place of an expression
 --   count_of es    how many expressions there are
 --   nesting e      how deep parentheses and brackets nest in an expression
-use Rattle.std.specs.Prelude.{ℕ, zero, suc, max, List, Option}
+use Rattle.std.specs.Prelude.{ℕ, suc, max, List, Option}
 
 mutual
   pub data Expr : Type 0 where

@@ -1,5 +1,5 @@
 -- The outcomes of bytes, for the goals of `parse`, `tokens` and the laws.
-use Rattle.std.proofs.Common.{◌≡◌, ℕ, ◌≤◌, Bool, true, ◌==◌, ◌⊎◌, inl, inr, List, [], ◌∷◌, length, get_or, Option, Some, None, Result, Ok, Err, IfOk, IfErr, refl, sym, ap, ap₂, ◌∙◌, subst, arith}
+use Rattle.std.proofs.Common.{◌≡◌, ℕ, ◌≤◌, Bool, true, ◌==◌, ◌⊎◌, inl, inr, List, [], ◌∷◌, length, Some, None, Result, Ok, Err, refl, sym, ap, ap₂, ◌∙◌, subst, arith}
 use Rattle.std.proofs.lemmas.Bool.Decides.{nat_tests}
 use Rattle.std.specs.Prelude.{All}
 use Rattle.std.specs.List.{AllByRecursion}
@@ -9,16 +9,15 @@ use Rattle.lc_language.specs.Token as language
 use Rattle.lc_language.specs.Token.{scan}
 use Rattle.lc_language.specs.Tree.{Statement}
 use Rattle.lc_language.specs.Grammar.{deepest, Reads, Fault, IsFault, TokenFault}
-use Rattle.lc_language.proofs.Course.{start, Outcome, read, fault, ended_at, course}
+use Rattle.lc_language.proofs.Course.{start, Outcome, read, fault, course}
 use Rattle.lc_language.proofs.FirstFault.{fault_is_course, fault_of_course, script_outcome, outcome_script}
-use Rattle.lc_parse.specs.Reading.{IsWithin, AreWithin, IsOutcome, IsTokenRefusal, ending_of}
+use Rattle.lc_parse.specs.Reading.{AreWithin, IsOutcome, IsTokenRefusal, ending_of}
 use Rattle.lc_parse.specs.Refusal.{IsRefusedAs, IsReadAs, IsFaultAs}
-use Rattle.lc_parse.specs.Spans.{AreApart}
 use Rattle.lc_parse.specs.declared.scan.Ending.{Ending}
 use Rattle.lc_parse.specs.declared.scan.Ending.TheVariants.{ScriptEnd, BadToken, TooWide}
 use Rattle.lc_parse.specs.declared.refusal.ParseRefusal.{ParseRefusal}
 use Rattle.lc_parse.specs.declared.refusal.ParseRefusal.TheVariants as refusal
-use Rattle.lc_parse.proofs.ScanLaws.{tokens_within, end_place, tokens_apart}
+use Rattle.lc_parse.proofs.ScanLaws.{tokens_within, end_place}
 
 abbrev pub outcome : List ℕ → Outcome
 outcome bytes = course bytes deepest (start []) (scan bytes).tokens (scan bytes).ending

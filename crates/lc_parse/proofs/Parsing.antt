@@ -4,7 +4,7 @@
 --   within_first, within_rest    the first token and the others stand within the bytes
 --   step_number .. step_deep     one token read
 --   stuck_done                   what may not stand behind an element
-use Rattle.std.proofs.Common.{◌≡◌, ℕ, zero, suc, ◌+◌, ◌-◌, ◌^◌, ◌<◌, ◌≤◌, Bool, true, false, ◌&&◌, nat_le, List, [], ◌∷◌, ◌++◌, length, get_or, take, drop, Option, Some, None, Result, Ok, Err, IfOk, IfErr, MatchOption, unwrap_or, refl, sym, ap, ap₂, ◌∙◌, subst, arith}
+use Rattle.std.proofs.Common.{◌≡◌, ℕ, ◌^◌, ◌<◌, ◌≤◌, true, ◌&&◌, nat_le, List, [], ◌∷◌, ◌++◌, length, Option, Some, None, Result, Ok, Err, IfOk, IfErr, MatchOption, unwrap_or, refl, sym, ap, ◌∙◌, subst, arith}
 use Rattle.std.proofs.lemmas.Str.{IsUtf8-from_ascii}
 use Rattle.std.specs.Str.{IsUtf8}
 use Rattle.lc_language.specs.declared.TokenKind.{TokenKind}
@@ -15,7 +15,7 @@ use Rattle.lc_language.specs.Token.{text_of, number_of, widest}
 use Rattle.lc_language.specs.Tree as tree
 use Rattle.lc_language.specs.Tree.{Expr, Exprs, Statement}
 use Rattle.lc_language.specs.Grammar.{deepest, opens}
-use Rattle.lc_language.proofs.Course.{Bracket, of_call, of_list, closing, filled, after_all, with_target, Around, statement, inside, depth_of, State, start, begun, want, opened, named, done, level_of, after_name, at_expr, next_by, next, Move, goes, stops, move_by, Outcome, read, fault, ended_at, kind_move, course, IsNoTarget}
+use Rattle.lc_language.proofs.Course.{Bracket, of_call, of_list, closing, filled, after_all, with_target, Around, statement, inside, depth_of, State, start, want, opened, named, done, level_of, after_name, at_expr, next_by, stops, move_by, ended_at, course, IsNoTarget}
 use Rattle.lc_language.proofs.GrammarLaws.{course_at, course_open, course_deep, stuck_course, same_course, name_read, opened_wants, closes_opened, closes_done, comma_done, ends_done, start_wants, start_target, named_end}
 use Rattle.lc_parse.specs.Reading.{ending_of, IsWithin, AreWithin, IsNotFirst, IsBehind, Stays, IsStuck, IsNotStart, IsOutcome, Refuses, IsTooDeepFirst, IsTargetFirst}
 use Rattle.lc_parse.specs.declared.scan.Ending.{Ending}

@@ -3,10 +3,10 @@
 --   tokens_within        each token stands within the bytes, names are ASCII, numbers have 64 bits
 --   end_place            where the tokens end at the script's end, that is the bytes' length
 --   tokens_apart         spans rise and don't overlap
-use Rattle.std.proofs.Common.{◌≡◌, ℕ, zero, suc, ◌+◌, ◌-◌, ◌^◌, ◌<◌, ◌≤◌, Bool, true, false, cond, ◌⊎◌, inl, inr, ◌==◌, ◌&&◌, ◌||◌, nat_lt, nat_le, List, [], ◌∷◌, ◌++◌, length, get_or, take, drop, Option, Some, None, refl, sym, ap, ◌∙◌, subst, length-drop, arith}
+use Rattle.std.proofs.Common.{◌≡◌, ℕ, zero, suc, ◌+◌, ◌-◌, ◌<◌, ◌≤◌, Bool, true, false, cond, ◌⊎◌, inl, inr, ◌==◌, ◌&&◌, nat_lt, List, [], ◌∷◌, length, get_or, take, drop, Option, Some, None, refl, sym, ap, ◌∙◌, length-drop, arith}
 use Rattle.std.proofs.lemmas.Bool.Decides.{nat_tests}
 use Rattle.std.proofs.Math.Numerals.{one-add}
-use Rattle.std.specs.List.{prefix_len, slice_range, AllByRecursion}
+use Rattle.std.specs.List.{prefix_len, slice_range}
 use Rattle.lc_language.specs.declared.TokenKind.TheVariants.{Name, Number}
 use Rattle.lc_language.specs.declared.Token.{Token}
 use Rattle.lc_language.specs.Token as language
@@ -17,7 +17,7 @@ use Rattle.lc_parse.specs.declared.scan.Ending.{Ending}
 use Rattle.lc_parse.specs.declared.scan.Ending.TheVariants.{ScriptEnd, BadToken, TooWide}
 use Rattle.lc_parse.specs.declared.scan.Step.{Step}
 use Rattle.lc_parse.specs.declared.scan.Step.TheVariants as step
-use Rattle.lc_parse.proofs.Scanning.{cut_cases, cut_within, step_end, step_blank, step_comment, step_bad, step_wide, step_token, IsSign}
+use Rattle.lc_parse.proofs.Scanning.{cut_cases, cut_within, step_end, step_blank, step_comment, step_bad, step_wide, step_token}
 
 -- bytes of names are ASCII
 name_byte_ascii : (b : ℕ) → is_name_byte b ≡ true → b < 128

@@ -19,9 +19,8 @@ use Rattle.lc_language.specs.declared.TokenKind.TheVariants.{Name, Number, Assig
 use Rattle.lc_language.specs.declared.Token.{Token}
 use Rattle.lc_language.specs.Token as language
 use Rattle.lc_language.specs.Token.{scan_within, token_first, ended, text_of, number_of, widest}
-use Rattle.lc_language.specs.Tree.{Expr, Statement}
 use Rattle.lc_language.specs.Grammar.{deepest}
-use Rattle.lc_language.proofs.Course.{State, start, begun, want, opened, named, done, Around, Outcome, fault, course, next, level_of, depth_of}
+use Rattle.lc_language.proofs.Course.{State, start, Outcome, fault, course, next}
 use Rattle.lc_parse.specs.declared.scan.Cut.{Cut}
 use Rattle.lc_parse.specs.declared.scan.Ending.{Ending}
 use Rattle.lc_parse.specs.declared.scan.Ending.TheVariants.{ScriptEnd, BadToken, TooWide}

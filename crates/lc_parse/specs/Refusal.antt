@@ -2,7 +2,7 @@
 --   IsRefusedAs e P         where e is a fault, P holds of it; want of memory says nothing
 --   IsReadAs r P            r is an answer of which P holds, unless memory ran out
 --   IsFaultAs r number place  r is that fault, unless memory ran out
-use Rattle.std.specs.Prelude.{◌≡◌, ℕ, Result, Ok, Err}
+use Rattle.std.specs.Prelude.{◌≡◌, Result, Ok, Err}
 use Rattle.lc_language.specs.Grammar.{Fault}
 use Rattle.lc_parse.specs.declared.refusal.ParseRefusal.{ParseRefusal}
 use Rattle.lc_parse.specs.declared.refusal.ParseRefusal.TheVariants as refusal

@@ -1,12 +1,11 @@
-use Rattle.std.proofs.Common.{◌≡◌, ◌+◌, ◌<◌, ◌≤◌, suc, [], ◌∷◌, ◌++◌, length, IfErr, refl, sym, ap, ◌∙◌, subst, string_bytes, arith}
+use Rattle.std.proofs.Common.{length, refl, sym, ap, ◌∙◌, subst, arith}
 use Rattle.std.proofs.lemmas.Result.{err_from_is_err_and}
-use Rattle.lc_language.specs.declared.TokenKind.TheVariants.{Name, Number, Open, OpenList, Comma}
 use Rattle.lc_language.specs.Token.{text_of}
 use Rattle.lc_language.specs.Tree as tree
 use Rattle.lc_language.specs.Grammar.{deepest, opens}
-use Rattle.lc_language.proofs.Course.{Bracket, of_call, of_list, closing, filled, Around, inside, depth_of, want, opened, named, done, course}
+use Rattle.lc_language.proofs.Course.{of_call, of_list, filled, inside, want, opened, named, done, course}
 use Rattle.lc_parse.specs.Views.{tree_of, trees_of}
-use Rattle.lc_parse.specs.Reading.{ending_of, AreWithin, IsNotFirst, IsBehind, Stays}
+use Rattle.lc_parse.specs.Reading.{ending_of, IsNotFirst, IsBehind}
 use Rattle.lc_parse.proofs.Views.{tree_of-Number, tree_of-Name, tree_of-Call, tree_of-List, trees_of-push}
 use Rattle.lc_parse.proofs.Parsing.{within_rest, too_deep, step_number, step_list, step_call, step_alone, step_opened, step_empty, step_closed, step_comma, refuses_from, deep_first, name_reads, name_refuses}
 use Rattle.lc_parse.proofs.reading.+expression.Goals as goal

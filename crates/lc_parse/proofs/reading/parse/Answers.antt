@@ -1,6 +1,6 @@
-use Rattle.std.proofs.Common.{◌≡◌, length, map, Ok, Err, sym, ap, ◌∙◌, subst}
+use Rattle.std.proofs.Common.{◌≡◌, map, Ok, Err, sym, ◌∙◌, subst}
 use Rattle.std.proofs.lemmas.Result.{err_from_is_err_and}
-use Rattle.lc_parse.specs.Reading.{AreWithin, IsOutcome, ending_of}
+use Rattle.lc_parse.specs.Reading.{IsOutcome}
 use Rattle.lc_language.proofs.Course.{read}
 use Rattle.lc_parse.specs.Views.{script_of, statement_of}
 use Rattle.lc_parse.proofs.ScanLaws.{tokens_within}

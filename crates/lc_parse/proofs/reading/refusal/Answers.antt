@@ -1,4 +1,3 @@
-use Rattle.std.proofs.Common.{arith}
 use Rattle.lc_parse.proofs.Parsing.{refuse_end, refuse_first}
 use Rattle.lc_parse.proofs.reading.refusal.Goals as goal
 

@@ -1,4 +1,4 @@
-use Rattle.std.proofs.Common.{◌≡◌, refl, sym, ap, ◌∙◌, option_map, string_bytes}
+use Rattle.std.proofs.Common.{refl, ◌∙◌, option_map, string_bytes}
 use Rattle.lc_language.proofs.Course.{statement}
 use Rattle.lc_parse.specs.Views.{tree_of}
 use Rattle.lc_parse.proofs.Parsing.{step_end}

@@ -1,9 +1,8 @@
-use Rattle.std.proofs.Common.{◌≡◌, List, [], length, map, Some, None, sym, ap, ◌∙◌, subst, arith, rules}
+use Rattle.std.proofs.Common.{◌≡◌, [], length, map, ◌∙◌}
 use Rattle.lc_language.proofs.Course.{start}
 use Rattle.lc_parse.specs.Views.{statement_of}
 use Rattle.lc_parse.proofs.Parsing.{refuses_from}
 use Rattle.lc_parse.proofs.Outcomes.{read_end, refuse_token, empty_of}
-use Rattle.lc_parse.specs.Reading.{IsTokenRefusal}
 use Rattle.lc_parse.proofs.reading.statements.Goals as goal
 
 pub returns-in-None-clause-read : goal.returns-in-None-clause-read

@@ -1,4 +1,4 @@
-use Rattle.std.proofs.Common.{◌≡◌, length, map, []}
+use Rattle.std.proofs.Common.{length, map, []}
 use Rattle.lc_language.proofs.Course.{start}
 use Rattle.lc_parse.specs.Views.{statement_of}
 use Rattle.lc_parse.specs.Reading.{AreWithin, Stays}

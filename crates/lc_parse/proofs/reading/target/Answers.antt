@@ -1,4 +1,4 @@
-use Rattle.std.proofs.Common.{◌≡◌, Some, sym, ap, ◌∙◌}
+use Rattle.std.proofs.Common.{Some, sym, ap, ◌∙◌}
 use Rattle.lc_language.specs.Grammar.{deepest}
 use Rattle.lc_language.proofs.Course.{want, statement, course}
 use Rattle.lc_parse.specs.Reading.{ending_of}

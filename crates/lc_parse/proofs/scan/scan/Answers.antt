@@ -1,5 +1,5 @@
-use Rattle.std.proofs.Common.{◌≡◌, List, [], ◌∷◌, ◌++◌, sym, ap, ◌∙◌, subst, arith}
-use Rattle.lc_parse.proofs.Scanning.{Scans, Scans-none, Scans-skip, Scans-token, Scans-end}
+use Rattle.std.proofs.Common.{sym, ap, arith}
+use Rattle.lc_parse.proofs.Scanning.{Scans-none, Scans-skip, Scans-token, Scans-end}
 use Rattle.lc_language.specs.Token.{Scanned}
 use Rattle.lc_parse.proofs.scan.scan.Goals as goal
 
