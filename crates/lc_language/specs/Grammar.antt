@@ -12,6 +12,7 @@
 --   deepest                        32: how deep parentheses and brackets may nest
 --   Reads bytes ss                 the bytes are the script ss
 --   MayGoOn bytes ts               some further tokens make the tokens ts a script
+--   opens kind, closes kind        whether tokens of a kind open, and whether they close
 --   is_opening t, open_signs ts    whether a token opens; how many signs are open behind the tokens
 --   IsTooDeep ts i                 token i opens where 32 signs are open
 --   GoesOn bytes ts i              the first i tokens may go on, and none of them opens too deep
@@ -89,21 +90,21 @@ pub record Reads (bytes : List ℕ) (ss : List Statement) : Type 0 where
 abbrev pub MayGoOn : List ℕ → List Token → Type 0
 MayGoOn bytes ts = (rest : List Token) × ((ss : List Statement) × IsScript bytes (ts ++ rest) ss)
 
-unfoldable pub is_opening : Token → Bool
-is_opening t = is_opening_kind t.kind
-  where
-    is_opening_kind : TokenKind → Bool
-    is_opening_kind Open = true
-    is_opening_kind OpenList = true
-    is_opening_kind _ = false
+abbrev pub opens : TokenKind → Bool
+opens Open = true
+opens OpenList = true
+opens _ = false
 
-unfoldable pub is_closing : Token → Bool
-is_closing t = is_closing_kind t.kind
-  where
-    is_closing_kind : TokenKind → Bool
-    is_closing_kind Close = true
-    is_closing_kind CloseList = true
-    is_closing_kind _ = false
+abbrev pub closes : TokenKind → Bool
+closes Close = true
+closes CloseList = true
+closes _ = false
+
+abbrev pub is_opening : Token → Bool
+is_opening t = opens t.kind
+
+abbrev pub is_closing : Token → Bool
+is_closing t = closes t.kind
 
 unfoldable pub open_signs : List Token → ℕ
 open_signs ts = count_by is_opening ts - count_by is_closing ts

@@ -1,0 +1,4 @@
+pub mod Views
+pub mod Refusal
+pub mod Reading
+pub mod Spans
