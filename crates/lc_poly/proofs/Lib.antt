@@ -1,0 +1,5 @@
+pub mod PolynomialLaws
+pub mod ListLaws
+pub mod DivisionLaws
+pub mod MinimalLaws
+pub mod CyclotomicLaws
