@@ -3,3 +3,4 @@ pub mod ListLaws
 pub mod DivisionLaws
 pub mod MinimalLaws
 pub mod CyclotomicLaws
+pub mod ZeroLaws

@@ -1,0 +1,37 @@
+//! The laws of polynomials, as the contracts of functions that do nothing: for every field and all polynomials over it.
+
+ghost use Rattle.std.specs.Prelude.{◌≡◌, ◌≢◌, ℕ, ◌<◌, List, [], length, slice_index, AllPairs, Contains};
+ghost use Rattle.lc_algebra.specs.Field.{size, add, mul};
+ghost use Rattle.lc_algebra.specs.Polynomial.{value_at, poly_sum, poly_product, IsPolynomial, IsDivision};
+
+use lc_algebra::FieldName;
+
+/// A polynomial has one quotient and one remainder on division by a polynomial without last zeros.
+/// (MacWilliams and Sloane, The Theory of Error-Correcting Codes, chapter 4.)
+pub fn division_is_unique(field: FieldName)
+    ensures unique { (a b q r p s : List ℕ) → IsPolynomial field b → IsDivision field a b q r → IsDivision field a b p s → (q ≡ p) × (r ≡ s) }
+{}
+
+/// Products of polynomials commute, associate and distribute over sums, coefficient by coefficient.
+/// (MacWilliams and Sloane, chapter 4.)
+#[tactic(auto, using(crate::proofs::PolynomialLaws::product_commutes, crate::proofs::PolynomialLaws::product_associates, crate::proofs::PolynomialLaws::product_sum))]
+pub fn products_of_polynomials(field: FieldName)
+    ensures commutes { (u v : List ℕ) (i : ℕ) → slice_index (poly_product field u v) i ≡ slice_index (poly_product field v u) i }
+    ensures associates { (u v w : List ℕ) (i : ℕ) → slice_index (poly_product field (poly_product field u v) w) i ≡ slice_index (poly_product field u (poly_product field v w)) i }
+    ensures distributes { (u v w : List ℕ) (i : ℕ) → slice_index (poly_product field u (poly_sum field v w)) i ≡ add field (slice_index (poly_product field u v) i) (slice_index (poly_product field u w) i) }
+{}
+
+/// The value of a sum is the sum of the values, and that of a product their product.
+/// (MacWilliams and Sloane, chapter 4.)
+#[tactic(auto, using(crate::proofs::PolynomialLaws::value_sum, crate::proofs::PolynomialLaws::value_product))]
+pub fn values_of_polynomials(field: FieldName)
+    ensures sums { (u v : List ℕ) (x : ℕ) → value_at field (poly_sum field u v) x ≡ add field (value_at field u x) (value_at field v x) }
+    ensures products { (u v : List ℕ) (x : ℕ) → value_at field (poly_product field u v) x ≡ mul field (value_at field u x) (value_at field v x) }
+{}
+
+/// A polynomial of degree d that isn't zero has at most d zeros: distinct ones are fewer than its coefficients.
+/// (MacWilliams and Sloane, chapter 4.)
+pub fn zeros_at_most_degree(field: FieldName)
+    ensures at_most { (u xs : List ℕ) → IsPolynomial field u → u ≢ [] → AllPairs (λ x y. x ≢ y) xs →
+        ((x : ℕ) → Contains xs x → (x < size field) × (value_at field u x ≡ 0)) → length xs < length u }
+{}
