@@ -1,5 +1,6 @@
 -- Division of polynomials: one quotient and one remainder, and what divides what.
 --   division_told              what is left in place of the dividend, without last zeros
+--   first_zero                 a polynomial whose constant and other coefficients are 0
 --   low_product                where the coefficients of u b vanish from the degree of b on, u is 0
 --   division_unique            there is one pair of quotient and remainder
 --   divides_exactly            the remainder is 0 exactly where the divisor divides
@@ -32,7 +33,7 @@ zero_above : (u : List ℕ) → ((i : ℕ) → slice_index u i ≡ 0) → (i : �
 zero_above u h zero = refl
 zero_above u h (suc i) = h i
 
-first_zero : (c : ℕ) (u : List ℕ) → c ≡ 0 → ((i : ℕ) → slice_index u i ≡ 0) → (i : ℕ) → slice_index (c ∷ u) i ≡ 0
+pub first_zero : (c : ℕ) (u : List ℕ) → c ≡ 0 → ((i : ℕ) → slice_index u i ≡ 0) → (i : ℕ) → slice_index (c ∷ u) i ≡ 0
 first_zero c u e h zero = e
 first_zero c u e h (suc i) = h i
 

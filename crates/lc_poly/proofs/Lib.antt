@@ -4,3 +4,4 @@ pub mod DivisionLaws
 pub mod MinimalLaws
 pub mod CyclotomicLaws
 pub mod ZeroLaws
+pub mod QuotientLaws

@@ -5,6 +5,8 @@
 --   added_step, added_whole     one more, and all of them
 --   IsMultiplied, product_none, product_step     the product, from the first factor's last coefficient down
 --   product_whole               the whole product
+--   part_low, part_high         the coefficients of a window of a list
+--   one_more, undone            one more coefficient of the quotient; what is taken away and added again
 --   IsDivided, division_none, division_step      the division, from the last place down
 --   division_whole, division_short               the whole division, and that of a shorter polynomial
 --   fits_set, fits_take, fits_drop, fits_zeros   lists whose entries are elements
@@ -141,10 +143,10 @@ pub record IsDivided (f : FieldName) (by : List ℕ) (m : ℕ) (old : List ℕ) 
   pub before : (i : ℕ) → i < at → slice_index new i ≡ slice_index old i
   pub whole : (k : ℕ) → slice_index old (at + k) ≡ add f (slice_index (poly_product f (drop (at + m) new) by) k) (slice_index (take m (drop at new)) k)
 
-part_low : (u : List ℕ) (at m k : ℕ) → k < m → slice_index (take m (drop at u)) k ≡ slice_index u (at + k)
+pub part_low : (u : List ℕ) (at m k : ℕ) → k < m → slice_index (take m (drop at u)) k ≡ slice_index u (at + k)
 part_low u at m k l = get_or-take m (drop at u) k 0 l ∙ get_or-drop at u k 0
 
-part_high : (u : List ℕ) (m k : ℕ) → m ≤ k → slice_index (take m u) k ≡ 0
+pub part_high : (u : List ℕ) (m k : ℕ) → m ≤ k → slice_index (take m u) k ≡ 0
 part_high [] zero k l = refl
 part_high [] (suc m) k l = refl
 part_high (a ∷ u) zero k l = refl
@@ -201,7 +203,7 @@ read_after u at (suc k) =
     get_or-drop (at + 1) u k 0 ∙ ap (slice_index u) d
 
 -- one more place: c is the coefficient above which d is q by + r
-one_more : (f : FieldName) (by q d r s : List ℕ) (c factor : ℕ) → c < size f → ((k : ℕ) → slice_index s k < size f) → ((k : ℕ) → slice_index d k ≡ add f (slice_index (poly_product f q by) k) (slice_index r k)) → ((k : ℕ) → add f (mul f factor (slice_index by k)) (slice_index s k) ≡ slice_index (c ∷ r) k) → (k : ℕ) → slice_index (c ∷ d) k ≡ add f (slice_index (poly_product f (factor ∷ q) by) k) (slice_index s k)
+pub one_more : (f : FieldName) (by q d r s : List ℕ) (c factor : ℕ) → c < size f → ((k : ℕ) → slice_index s k < size f) → ((k : ℕ) → slice_index d k ≡ add f (slice_index (poly_product f q by) k) (slice_index r k)) → ((k : ℕ) → add f (mul f factor (slice_index by k)) (slice_index s k) ≡ slice_index (c ∷ r) k) → (k : ℕ) → slice_index (c ∷ d) k ≡ add f (slice_index (poly_product f (factor ∷ q) by) k) (slice_index s k)
 one_more f by q d r s c factor l i h g zero = cc (index_product_zero f factor q by, g 0)
 one_more f by q d r s c factor l i h g (suc k) =
     let M = mul f factor (slice_index by (suc k)) in
@@ -209,7 +211,7 @@ one_more f by q d r s c factor l i h g (suc k) =
     let S = slice_index s (suc k) in
     cc (index_product_suc f factor q by k, g (suc k), h k, add_comm f M P, add_assoc f P M S)
 
-undone : (f : FieldName) (a b : ℕ) → a < size f → add f b (add f a (neg f b)) ≡ a
+pub undone : (f : FieldName) (a b : ℕ) → a < size f → add f b (add f a (neg f b)) ≡ a
 undone f a b l = cc (add_comm f b (add f a (neg f b)), add_assoc f a (neg f b) b, add_comm f (neg f b) b, add_neg f b, add_zero f a l)
 
 pub division_step : (f : FieldName) (by : List ℕ) (m : ℕ) (old : List ℕ) (at : ℕ) (work added : List ℕ) (factor inverse : ℕ) → length by ≡ m + 1 → Fits f old → IsDivided f by m old (at + 1) work → at + m < length work → IsInverse f (slice_index by m) inverse → factor ≡ mul f (slice_index work (at + m)) inverse → length added ≡ length work → Fits f added → ((i : ℕ) → i < at → slice_index added i ≡ slice_index work i) → ((i : ℕ) → slice_index added (at + i) ≡ add f (slice_index work (at + i)) (mul f (neg f factor) (slice_index by i))) → IsDivided f by m old at (set added (at + m) factor)

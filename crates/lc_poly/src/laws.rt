@@ -1,8 +1,9 @@
 //! The laws of polynomials, as the contracts of functions that do nothing: for every field and all polynomials over it.
 
-ghost use Rattle.std.specs.Prelude.{◌≡◌, ◌≢◌, ℕ, ◌<◌, List, [], length, slice_index, AllPairs, Contains};
-ghost use Rattle.lc_algebra.specs.Field.{size, add, mul};
-ghost use Rattle.lc_algebra.specs.Polynomial.{value_at, poly_sum, poly_product, IsPolynomial, IsDivision};
+ghost use Rattle.std.specs.Prelude.{◌≡◌, ◌≢◌, ℕ, ◌<◌, ◌≤◌, List, [], length, map, slice_index, AllPairs, Contains};
+ghost use Rattle.lc_algebra.specs.Field.{size, add, subtract, mul, pow};
+ghost use Rattle.lc_algebra.specs.Polynomial.{value_at, poly_sum, poly_product, x_power_minus_one, IsPolynomial, IsDivision, Divides};
+ghost use Rattle.lc_algebra.specs.Embedding.{IsSubfield, embed, IsMinimal};
 
 use lc_algebra::FieldName;
 
@@ -34,4 +35,18 @@ pub fn values_of_polynomials(field: FieldName)
 pub fn zeros_at_most_degree(field: FieldName)
     ensures at_most { (u xs : List ℕ) → IsPolynomial field u → u ≢ [] → AllPairs (λ x y. x ≢ y) xs →
         ((x : ℕ) → Contains xs x → (x < size field) × (value_at field u x ≡ 0)) → length xs < length u }
+{}
+
+/// A minimal polynomial divides each polynomial over the small field that has its zero in the large one.
+/// (MacWilliams and Sloane, chapter 4.)
+pub fn minimal_polynomial_divides(small: FieldName, large: FieldName)
+    ensures divides { IsSubfield small large → (a : ℕ) (u v : List ℕ) → IsMinimal small large a u → IsPolynomial small v →
+        value_at large (map (embed small large) v) a ≡ 0 → Divides small u v }
+{}
+
+/// The zeros in a large field of x^n - 1 over a small one are the elements whose n-th power is 1.
+/// (MacWilliams and Sloane, chapter 7.)
+pub fn zeros_of_x_power_minus_one(small: FieldName, large: FieldName)
+    ensures value { IsSubfield small large → (n a : ℕ) → 1 ≤ n →
+        value_at large (map (embed small large) (x_power_minus_one small n)) a ≡ subtract large (pow large a n) 1 }
 {}
