@@ -5,3 +5,5 @@ pub mod MinimalLaws
 pub mod CyclotomicLaws
 pub mod ZeroLaws
 pub mod QuotientLaws
+pub mod ConjugateLaws
+pub mod RootLaws

@@ -2,6 +2,7 @@
 --   reaches_none, none_reached         no coefficients more
 --   reaches_more, more_reached         one coefficient more
 --   value_power, value_x_power         the values of x^n and of x^n - 1
+--   length_x_power, last_up            how long x^n - 1 is; the last coefficient, one place up
 --   value_scaled                       the value of a multiple by an element of the small field
 --   embedded_x_power                   x^n - 1 stands for itself in the large field
 --   reaches_lower                      a polynomial with the zero is reached from its upper coefficients
@@ -100,11 +101,11 @@ unfolding poly_scale
 length_multiple f c [] = refl
 length_multiple f c (a ∷ u) = ap suc (length_multiple f c u)
 
-length_x_power : (f : FieldName) (n : ℕ) → 1 ≤ n → length (x_power_minus_one f n) ≡ n + 1
+pub length_x_power : (f : FieldName) (n : ℕ) → 1 ≤ n → length (x_power_minus_one f n) ≡ n + 1
 length_x_power f zero l = absurd (omega (arith, l))
 length_x_power f (suc k) l = rw (x_power_cons f k) (omega (arith, length-append {A = ℕ} (replicate k 0) (1 ∷ []), length-replicate {A = ℕ} k 0))
 
-last_up : (u : List ℕ) → 0 < length u → 0 < slice_index u (length u - 1) → 0 < slice_index (0 ∷ u) (length (0 ∷ u) - 1)
+pub last_up : (u : List ℕ) → 0 < length u → 0 < slice_index u (length u - 1) → 0 < slice_index (0 ∷ u) (length (0 ∷ u) - 1)
 last_up [] l h = absurd (omega (arith, l))
 last_up (c ∷ u) l h =
     let e : length (0 ∷ c ∷ u) - 1 ≡ suc (length u) = omega arith in
