@@ -33,15 +33,14 @@ record IsSignificant (u : List ℕ) (n : ℕ) : Type 0 where
 significant_cons : (c : ℕ) (u : List ℕ) (n : ℕ) → IsSignificant u n → (k : ℕ) × IsSignificant (c ∷ u) k
 significant_cons zero u zero h = (0, record { within = omega arith; leads = λ k. absurd (omega (arith, k)); zeros = λ i k. first_zero 0 u refl (λ j. h.zeros j (omega arith)) i })
 significant_cons (suc c) u zero h = (1, record { within = omega arith; leads = λ k. omega arith; zeros = later (suc c) u 0 h.zeros })
-significant_cons c u (suc n) h =
-    (
-      suc (suc n),
-      record {
-        within = omega (arith, h.within);
-        leads = λ k. let e : suc (suc n) - 1 ≡ suc n = omega arith in let d : suc n - 1 ≡ n = omega arith in rw e (rw d at (h.leads (omega arith)));
-        zeros = later c u (suc n) h.zeros;
-      },
-    )
+significant_cons c u (suc n) h = (
+  suc (suc n),
+  record {
+    within = omega (arith, h.within);
+    leads = λ k. let e : suc (suc n) - 1 ≡ suc n = omega arith in let d : suc n - 1 ≡ n = omega arith in rw e (rw d at (h.leads (omega arith)));
+    zeros = later c u (suc n) h.zeros;
+  },
+)
 
 significant : (u : List ℕ) → (n : ℕ) × IsSignificant u n
 significant [] = (0, record { within = omega arith; leads = λ l. absurd (omega (arith, l)); zeros = λ i l. refl })
@@ -72,18 +71,17 @@ parts_more f m b c a q r hb eb lead l h =
     let fs : Fits f s = fits_take f w m fw in
     let top : mul f factor (slice_index b m) ≡ slice_index (c ∷ r) m = cc (mul_assoc f (slice_index (c ∷ r) m) i.0 (slice_index b m), mul_comm f i.0 (slice_index b m), i.1.one, mul_one f (slice_index (c ∷ r) m) (hr m)) in
     let g : (k : ℕ) → add f (mul f factor (slice_index b k)) (slice_index s k) ≡ slice_index (c ∷ r) k = λ k.
-        ⊎_elim
-        (λ n.
-        let e : slice_index s k ≡ add f (slice_index (c ∷ r) k) (mul f (neg f factor) (slice_index b k)) = get_or-take m w k 0 n ∙ index_sum f (c ∷ r) (poly_scale f (neg f factor) b) k fr (fits_multiple f (neg f factor) b) ∙ ap (add f (slice_index (c ∷ r) k)) (index_multiple f (neg f factor) b k) in
-        cc (e, neg_mul f factor (slice_index b k), undone f (slice_index (c ∷ r) k) (mul f factor (slice_index b k)) (hr k)))
-        (λ n.
-        let e : slice_index s k ≡ 0 = part_high w m k n in
-        ⊎_elim
-        (λ d. let t : mul f factor (slice_index b k) ≡ slice_index (c ∷ r) k = rw d top in cc (e, t, add_zero f (slice_index (c ∷ r) k) (hr k)))
-        (λ d. cc (e, get_or_past b k 0 (omega (arith, d, n, eb)), mul_zero f factor, zero_add f 0 (zero_inside f), get_or_past (c ∷ r) k 0 (omega (arith, d, n, h.short))))
-        (cases_eq k m))
-        (cases_lt k m) in
-    (
+    ⊎_elim
+    (λ n.
+    let e : slice_index s k ≡ add f (slice_index (c ∷ r) k) (mul f (neg f factor) (slice_index b k)) = get_or-take m w k 0 n ∙ index_sum f (c ∷ r) (poly_scale f (neg f factor) b) k fr (fits_multiple f (neg f factor) b) ∙ ap (add f (slice_index (c ∷ r) k)) (index_multiple f (neg f factor) b k) in
+    cc (e, neg_mul f factor (slice_index b k), undone f (slice_index (c ∷ r) k) (mul f factor (slice_index b k)) (hr k)))
+    (λ n.
+    let e : slice_index s k ≡ 0 = part_high w m k n in
+    ⊎_elim
+    (λ d. let t : mul f factor (slice_index b k) ≡ slice_index (c ∷ r) k = rw d top in cc (e, t, add_zero f (slice_index (c ∷ r) k) (hr k)))
+    (λ d. cc (e, get_or_past b k 0 (omega (arith, d, n, eb)), mul_zero f factor, zero_add f 0 (zero_inside f), get_or_past (c ∷ r) k 0 (omega (arith, d, n, h.short))))
+    (cases_eq k m))
+    (cases_lt k m) in (
       factor ∷ q,
       s,
       record {
@@ -104,8 +102,7 @@ pub division_exists : (f : FieldName) (a b : List ℕ) → Fits f a → IsPolyno
 division_exists f a b h p l =
     let t = parts_exist f (length b - 1) b a p.fits (omega arith) (p.leads l) h in
     let q = trimmed_exists f t.0 t.2.quotient in
-    let r = trimmed_exists f t.1 t.2.remainder in
-    (
+    let r = trimmed_exists f t.1 t.2.remainder in (
       q.0,
       r.0,
       record {

@@ -145,12 +145,12 @@ module _ (small large : FieldName) (sub : IsSubfield small large) where
         distinct_map (embed small large) (below q) (λ x y s t k. embed_injective small large x y sub (contains_below q x s) (contains_below q y t) k) (distinct_below q),
       ) in
       let zeros : (x : ℕ) → Contains (c ∷ images) x → (x < size large) × (value_at large U x ≡ 0) = λ x m.
-          ⊎_elim
-          (λ s. subst (λ y. (y < size large) × (value_at large U y ≡ 0)) s (l, fixed_zero c l e))
-          (λ s.
-          let t = contains_map (embed small large) (below q) x s in
-          subst (λ y. (y < size large) × (value_at large U y ≡ 0)) (sym t.2) (embed_inside small large t.0, fixed_zero (embed small large t.0) (embed_inside small large t.0) (embed_fixed small large sub t.0 (contains_below q t.0 t.1))))
-          (contains_cases c x images m) in
+      ⊎_elim
+      (λ s. subst (λ y. (y < size large) × (value_at large U y ≡ 0)) s (l, fixed_zero c l e))
+      (λ s.
+      let t = contains_map (embed small large) (below q) x s in
+      subst (λ y. (y < size large) × (value_at large U y ≡ 0)) (sym t.2) (embed_inside small large t.0, fixed_zero (embed small large t.0) (embed_inside small large t.0) (embed_fixed small large sub t.0 (contains_below q t.0 t.1))))
+      (contains_cases c x images m) in
       let z : slice_index U (length U - 1) ≡ 0 = few_zeros large U (c ∷ images) (fits_cons large 0 X (zero_inside large) p.fits) distinct zeros (omega (arith, lX, li)) (length U - 1) in
       absurd (omega (arith, lead, z)))
       (found c (size small))
@@ -238,8 +238,8 @@ module _ (small large : FieldName) (sub : IsSubfield small large) where
   pub cyclotomic_roots : (a n i : ℕ) (xs u : List ℕ) (b : ℕ) → pow large a n ≡ 1 → IsCyclotomicSet n (size small) i xs → IsMinimal small large (pow large a i) u → b < size large → (value_at large (map (embed small large) u) b ≡ 0) ↔ ((k : ℕ) × Contains xs k × (b ≡ pow large a k))
   cyclotomic_roots a n i xs u b o s m lb = (
     (λ z.
-    let t = minimal_roots (pow large a i) u b (pow_inside large a i) m lb z in
-    let k = (i * size small ^ t.0) % n in
-    (k, (s.members k).1 (t.0, refl), t.1 ∙ sym (pow_mul large a i (size small ^ t.0)) ∙ sym (power_of_rest large a n (i * size small ^ t.0) o))),
+        let t = minimal_roots (pow large a i) u b (pow_inside large a i) m lb z in
+        let k = (i * size small ^ t.0) % n in
+        (k, (s.members k).1 (t.0, refl), t.1 ∙ sym (pow_mul large a i (size small ^ t.0)) ∙ sym (power_of_rest large a n (i * size small ^ t.0) o))),
     (λ t. ap (value_at large (map (embed small large) u)) t.2 ∙ cyclotomic_zeros small large sub u a n i xs m.polynomial.fits o s m.zero_at t.0 t.1),
   )

@@ -91,8 +91,8 @@ few_zeros f (c ∷ u) [] h d z l i = absurd (omega (arith, l))
 few_zeros f (c ∷ u) (a ∷ xs) h d z l i =
     let za = z a (contains_head a xs) in
     let each : (x : ℕ) → Contains xs x → (x < size f) × (value_at f (lowered f a (c ∷ u)) x ≡ 0) = λ x m.
-        let zx = z x (contains_tail a x xs m) in
-        (zx.0, other_zero f a (c ∷ u) x za.0 zx.0 h za.1 zx.1 (λ e. d.0 (subst (Contains xs) e m))) in
+    let zx = z x (contains_tail a x xs m) in
+    (zx.0, other_zero f a (c ∷ u) x za.0 zx.0 h za.1 zx.1 (λ e. d.0 (subst (Contains xs) e m))) in
     lowered_zeros f a (c ∷ u) h za.1 (few_zeros f (lowered f a (c ∷ u)) xs (fits_lowered f a (c ∷ u)) d.1 each (omega (arith, l, length_lowered f a (c ∷ u)))) i
 
 distinct_from_pairs : (xs : List ℕ) → AllPairs (λ x y. x ≢ y) xs → AreDistinct xs

@@ -1,9 +1,10 @@
 //! The laws of polynomials, as the contracts of functions that do nothing: for every field and all polynomials over it.
 
-ghost use Rattle.std.specs.Prelude.{◌≡◌, ◌≢◌, ℕ, ◌<◌, ◌≤◌, List, [], length, map, slice_index, AllPairs, Contains};
+ghost use Rattle.std.specs.Prelude.{◌≡◌, ◌≢◌, ◌↔◌, ℕ, ◌^◌, ◌<◌, ◌≤◌, List, [], length, map, slice_index, AllPairs, Contains};
 ghost use Rattle.lc_algebra.specs.Field.{size, add, subtract, mul, pow};
+ghost use Rattle.lc_algebra.specs.Word.{Fits};
 ghost use Rattle.lc_algebra.specs.Polynomial.{value_at, poly_sum, poly_product, x_power_minus_one, IsPolynomial, IsDivision, Divides};
-ghost use Rattle.lc_algebra.specs.Embedding.{IsSubfield, embed, IsMinimal};
+ghost use Rattle.lc_algebra.specs.Embedding.{IsSubfield, embed, IsMinimal, IsCyclotomicSet};
 
 use lc_algebra::FieldName;
 
@@ -49,4 +50,25 @@ pub fn minimal_polynomial_divides(small: FieldName, large: FieldName)
 pub fn zeros_of_x_power_minus_one(small: FieldName, large: FieldName)
     ensures value { IsSubfield small large → (n a : ℕ) → 1 ≤ n →
         value_at large (map (embed small large) (x_power_minus_one small n)) a ≡ subtract large (pow large a n) 1 }
+{}
+
+/// The zeros of the minimal polynomial of an element are its powers by powers of the small field's size, and no others. Of a
+/// power of an element whose n-th power is 1 they are the powers by the numbers of a cyclotomic set modulo n.
+/// (MacWilliams and Sloane, chapters 4 and 7.)
+pub fn zeros_of_minimal_polynomials(small: FieldName, large: FieldName)
+    ensures conjugates { IsSubfield small large → (a : ℕ) (u : List ℕ) (b : ℕ) → a < size large → IsMinimal small large a u → b < size large →
+        (value_at large (map (embed small large) u) b ≡ 0) ↔ ((j : ℕ) × (b ≡ pow large a (size small ^ j))) }
+    ensures cyclotomic { IsSubfield small large → (a n i : ℕ) (xs u : List ℕ) (b : ℕ) → pow large a n ≡ 1 → IsCyclotomicSet n (size small) i xs →
+        IsMinimal small large (pow large a i) u → b < size large →
+        (value_at large (map (embed small large) u) b ≡ 0) ↔ ((k : ℕ) × Contains xs k × (b ≡ pow large a k)) }
+{}
+
+/// A divisor of a polynomial with a zero that the divisor lacks may be multiplied by the minimal polynomial of the zero: so
+/// products of minimal polynomials over different cyclotomic sets divide x^n - 1. (MacWilliams and Sloane, chapter 7.)
+pub fn divisors_multiply(small: FieldName, large: FieldName)
+    ensures divides { IsSubfield small large → (a : ℕ) (g u v : List ℕ) → IsMinimal small large a u → IsPolynomial small g →
+        value_at large (map (embed small large) g) a ≢ 0 → Divides small g v → value_at large (map (embed small large) v) a ≡ 0 →
+        Divides small (poly_product small g u) v }
+    ensures values { IsSubfield small large → (g u : List ℕ) (x : ℕ) → Fits small g → Fits small u →
+        value_at large (map (embed small large) (poly_product small g u)) x ≡ mul large (value_at large (map (embed small large) g) x) (value_at large (map (embed small large) u) x) }
 {}

@@ -17,7 +17,13 @@ fn poly(rt: &impl Abort, alloc: Global, field: &Field, list: &[u8]) -> Result<Po
 }
 
 // The minimal polynomials over the field of r elements of all elements of that of q.
-fn all_minimal(rt: &impl Abort, alloc: Global, q: u64, r: u64, expected: &[&[u8]]) -> Result<(), Fail> {
+fn all_minimal(
+    rt: &impl Abort,
+    alloc: Global,
+    q: u64,
+    r: u64,
+    expected: &[&[u8]],
+) -> Result<(), Fail> {
     let large = Field::of(alloc, q)?;
     let small = Field::of(alloc, r)?;
     assert!(rt; large.holds(&small));
@@ -31,29 +37,97 @@ fn all_minimal(rt: &impl Abort, alloc: Global, q: u64, r: u64, expected: &[&[u8]
 
 #[test]
 fn minimal_polynomials_over_2(rt: HostRuntime) -> Result<(), Fail> {
-    all_minimal(&rt, rt.alloc(), 16, 2, &[
-        &[0, 1], &[1, 1], &[1, 1, 0, 0, 1], &[1, 1, 0, 0, 1], &[1, 1, 0, 0, 1], &[1, 1, 0, 0, 1], &[1, 1, 1], &[1, 1, 1],
-        &[1, 1, 1, 1, 1], &[1, 0, 0, 1, 1], &[1, 1, 1, 1, 1], &[1, 0, 0, 1, 1], &[1, 1, 1, 1, 1], &[1, 0, 0, 1, 1],
-        &[1, 0, 0, 1, 1], &[1, 1, 1, 1, 1],
-    ])
+    all_minimal(
+        &rt,
+        rt.alloc(),
+        16,
+        2,
+        &[
+            &[0, 1],
+            &[1, 1],
+            &[1, 1, 0, 0, 1],
+            &[1, 1, 0, 0, 1],
+            &[1, 1, 0, 0, 1],
+            &[1, 1, 0, 0, 1],
+            &[1, 1, 1],
+            &[1, 1, 1],
+            &[1, 1, 1, 1, 1],
+            &[1, 0, 0, 1, 1],
+            &[1, 1, 1, 1, 1],
+            &[1, 0, 0, 1, 1],
+            &[1, 1, 1, 1, 1],
+            &[1, 0, 0, 1, 1],
+            &[1, 0, 0, 1, 1],
+            &[1, 1, 1, 1, 1],
+        ],
+    )
 }
 
 #[test]
 fn minimal_polynomials_over_4(rt: HostRuntime) -> Result<(), Fail> {
-    all_minimal(&rt, rt.alloc(), 16, 4, &[
-        &[0, 1], &[1, 1], &[2, 1, 1], &[2, 1, 1], &[3, 1, 1], &[3, 1, 1], &[2, 1], &[3, 1], &[1, 3, 1], &[3, 3, 1],
-        &[1, 2, 1], &[2, 2, 1], &[1, 2, 1], &[2, 2, 1], &[3, 3, 1], &[1, 3, 1],
-    ])
+    all_minimal(
+        &rt,
+        rt.alloc(),
+        16,
+        4,
+        &[
+            &[0, 1],
+            &[1, 1],
+            &[2, 1, 1],
+            &[2, 1, 1],
+            &[3, 1, 1],
+            &[3, 1, 1],
+            &[2, 1],
+            &[3, 1],
+            &[1, 3, 1],
+            &[3, 3, 1],
+            &[1, 2, 1],
+            &[2, 2, 1],
+            &[1, 2, 1],
+            &[2, 2, 1],
+            &[3, 3, 1],
+            &[1, 3, 1],
+        ],
+    )
 }
 
 #[test]
 fn minimal_polynomials_over_3(rt: HostRuntime) -> Result<(), Fail> {
-    all_minimal(&rt, rt.alloc(), 27, 3, &[
-        &[0, 1], &[2, 1], &[1, 1], &[1, 2, 0, 1], &[1, 2, 0, 1], &[1, 2, 0, 1], &[2, 2, 0, 1], &[2, 2, 0, 1], &[2, 2, 0, 1],
-        &[2, 1, 1, 1], &[1, 2, 1, 1], &[2, 0, 1, 1], &[2, 0, 1, 1], &[2, 1, 1, 1], &[1, 2, 1, 1], &[2, 0, 1, 1],
-        &[2, 1, 1, 1], &[1, 2, 1, 1], &[1, 1, 2, 1], &[1, 0, 2, 1], &[2, 2, 2, 1], &[1, 0, 2, 1], &[2, 2, 2, 1],
-        &[1, 1, 2, 1], &[1, 0, 2, 1], &[2, 2, 2, 1], &[1, 1, 2, 1],
-    ])
+    all_minimal(
+        &rt,
+        rt.alloc(),
+        27,
+        3,
+        &[
+            &[0, 1],
+            &[2, 1],
+            &[1, 1],
+            &[1, 2, 0, 1],
+            &[1, 2, 0, 1],
+            &[1, 2, 0, 1],
+            &[2, 2, 0, 1],
+            &[2, 2, 0, 1],
+            &[2, 2, 0, 1],
+            &[2, 1, 1, 1],
+            &[1, 2, 1, 1],
+            &[2, 0, 1, 1],
+            &[2, 0, 1, 1],
+            &[2, 1, 1, 1],
+            &[1, 2, 1, 1],
+            &[2, 0, 1, 1],
+            &[2, 1, 1, 1],
+            &[1, 2, 1, 1],
+            &[1, 1, 2, 1],
+            &[1, 0, 2, 1],
+            &[2, 2, 2, 1],
+            &[1, 0, 2, 1],
+            &[2, 2, 2, 1],
+            &[1, 1, 2, 1],
+            &[1, 0, 2, 1],
+            &[2, 2, 2, 1],
+            &[1, 1, 2, 1],
+        ],
+    )
 }
 
 #[test]
@@ -97,7 +171,10 @@ fn products_and_quotients(rt: HostRuntime) -> Result<(), Fail> {
     let a = poly(&rt, rt.alloc(), &field, &[4, 0, 2, 0, 0])?;
     let b = poly(&rt, rt.alloc(), &field, &[1, 4])?;
     assert_eq!(rt; a.coefficients(), [4, 0, 2].as_slice());
-    assert_eq!(rt; a.mul(rt.alloc(), &b)?.coefficients(), [4, 1, 2, 3].as_slice());
+    assert_eq!(rt;
+        a.mul(rt.alloc(), &b)?.coefficients(),
+        [4, 1, 2, 3].as_slice()
+    );
     assert!(rt; !b.is_zero() && field.size() > 4);
     let (quotient, remainder) = a.divide(rt.alloc(), &b)?;
     assert_eq!(rt; quotient.coefficients(), [3, 3].as_slice());
