@@ -4,7 +4,7 @@
 --   index_embedded             the coefficients of a polynomial, seen in a larger field
 --   value_embedded_same, value_embedded_sum, value_embedded_product      values in a larger field of sums and products
 --   minimal_divides            each polynomial over the small field with the zero is a multiple of the minimal one
-use Rattle.std.proofs.Common.{◌≡◌, ℕ, zero, suc, ◌+◌, ◌-◌, ◌<◌, ◌≤◌, ⊎_elim, List, [], ◌∷◌, length, map, slice_index, take, refl, sym, ap, ◌∙◌, arith}
+use Rattle.std.proofs.Common.{◌≡◌, ℕ, zero, suc, ◌-◌, ◌<◌, ◌≤◌, ⊎_elim, List, [], ◌∷◌, length, map, slice_index, take, refl, sym, ap, ◌∙◌, arith}
 use Rattle.std.proofs.lemmas.Bool.{cases_lt, cases_eq}
 use Rattle.std.proofs.lemmas.List.{get_or_past, get_or-take, length-take}
 use Rattle.lc_algebra.specs.declared.FieldName.{FieldName}
@@ -12,8 +12,8 @@ use Rattle.lc_algebra.specs.Field.{size, add, neg, mul}
 use Rattle.lc_algebra.specs.Word.{Fits}
 use Rattle.lc_algebra.specs.Polynomial.{value_at, poly_sum, poly_scale, poly_product, SamePolynomial, IsPolynomial, IsDivision, Divides}
 use Rattle.lc_algebra.specs.Embedding.{IsSubfield, embed, IsMinimal}
-use Rattle.lc_algebra.proofs.FieldLaws.{zero_inside, add_inside, mul_inside, zero_add, add_zero, mul_comm, mul_assoc, mul_swap, mul_add, add_mul, mul_zero, zero_mul, mul_one, neg_mul, inverse_of}
-use Rattle.lc_algebra.proofs.EmbeddingLaws.{embed_inside, embed_zero, embed_add, embed_mul}
+use Rattle.lc_algebra.proofs.FieldLaws.{zero_inside, mul_inside, zero_add, add_zero, mul_comm, mul_assoc, mul_add, add_mul, mul_zero, zero_mul, mul_one, neg_mul, inverse_of}
+use Rattle.lc_algebra.proofs.EmbeddingLaws.{embed_zero, embed_add}
 use Rattle.lc_algebra.proofs.WordLaws.{fits_head, fits_tail, fits_cons, fits_symbol, add_exchange}
 use Rattle.lc_poly.specs.Poly.{IsTrimmed}
 use Rattle.lc_poly.proofs.PolynomialLaws.{index_sum, index_multiple, fits_sum, fits_multiple, fits_product, same_product, value_inside, value_same, no_longer}

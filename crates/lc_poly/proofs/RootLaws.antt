@@ -8,7 +8,7 @@
 --   orbit                      a and its powers by that size
 --   minimal_roots, minimal_zeros      the zeros of the minimal polynomial of a are these
 --   cyclotomic_roots           and where a is a power, those of its cyclotomic set
-use Rattle.std.proofs.Common.{◌≡◌, ◌≢◌, ℕ, zero, suc, ◌+◌, ◌-◌, ◌*◌, ◌/◌, ◌%◌, ◌^◌, ◌<◌, ◌≤◌, ◌↔◌, ◌⊎◌, inl, inr, ⊎_elim, List, [], ◌∷◌, ◌++◌, length, map, slice_index, Contains, refl, sym, ap, subst, ◌∙◌, arith, mul-zero}
+use Rattle.std.proofs.Common.{◌≡◌, ◌≢◌, ℕ, zero, suc, ◌+◌, ◌-◌, ◌*◌, ◌/◌, ◌%◌, ◌^◌, ◌<◌, ◌↔◌, ◌⊎◌, inl, inr, ⊎_elim, List, [], ◌∷◌, ◌++◌, length, map, slice_index, Contains, refl, sym, ap, subst, ◌∙◌, arith, mul-zero}
 use Rattle.std.proofs.Math.Nat.{pow-suc, pow-zero, pow-succ', mul-suc, mod-add-div}
 use Rattle.std.proofs.lemmas.Nat.{pow-add}
 use Rattle.std.proofs.lemmas.Bool.{cases_eq}
@@ -19,13 +19,13 @@ use Rattle.lc_algebra.specs.Word.{Fits}
 use Rattle.lc_algebra.specs.Span.{below}
 use Rattle.lc_algebra.specs.Polynomial.{value_at, poly_product, x_power_minus_one, SamePolynomial, IsPolynomial}
 use Rattle.lc_algebra.specs.Embedding.{IsSubfield, embed, IsMinimal, IsCyclotomicSet}
-use Rattle.lc_algebra.proofs.FieldLaws.{zero_inside, one_inside, add_inside, neg_inside, mul_inside, add_comm, add_neg, neg_add, zero_add, add_zero, mul_add, mul_zero, zero_mul, mul_one, mul_neg, negative_unique, subtract_zero, no_zero_divisors}
+use Rattle.lc_algebra.proofs.FieldLaws.{zero_inside, one_inside, neg_inside, mul_inside, add_comm, add_neg, neg_add, zero_add, add_zero, mul_add, mul_zero, zero_mul, mul_one, mul_neg, negative_unique, subtract_zero, no_zero_divisors}
 use Rattle.lc_algebra.proofs.PowerLaws.{pow_suc, pow_inside, pow_one, one_pow, zero_pow, pow_mul, mul_pow, pow_size}
 use Rattle.lc_algebra.proofs.EmbeddingLaws.{embed_inside, embed_injective}
-use Rattle.lc_algebra.proofs.WordLaws.{fits_cons, fits_symbol}
+use Rattle.lc_algebra.proofs.WordLaws.{fits_cons}
 use Rattle.lc_algebra.proofs.SpanLaws.{contains_head, contains_tail, contains_cases, contains_map, contains_below, length_below}
 use Rattle.lc_algebra.proofs.DimensionLaws.{AreDistinct, distinct_map, distinct_below}
-use Rattle.lc_poly.proofs.PolynomialLaws.{index_product_zero, index_product_suc, product_inside, fits_product, product_commutes, product_associates, product_same, same_product, value_inside, value_same, value_product}
+use Rattle.lc_poly.proofs.PolynomialLaws.{index_product_zero, index_product_suc, product_inside, product_commutes, product_associates, product_same, same_product, value_inside, value_product}
 use Rattle.lc_poly.proofs.DivisionLaws.{x_power_polynomial}
 use Rattle.lc_poly.proofs.MinimalLaws.{value_x_power, length_x_power, last_up}
 use Rattle.lc_poly.proofs.ZeroLaws.{few_zeros}

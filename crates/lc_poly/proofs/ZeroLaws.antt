@@ -3,14 +3,14 @@
 --   length_lowered, fits_lowered, lowered_value, lowered_zeros      what that is
 --   few_zeros                a polynomial with as many distinct zeros as coefficients is 0
 --   zeros_at_most            so one of degree d, but 0, has at most d zeros
-use Rattle.std.proofs.Common.{◌≡◌, ◌≢◌, ℕ, zero, suc, ◌+◌, ◌-◌, ◌<◌, ◌≤◌, ⊎_elim, List, [], ◌∷◌, length, slice_index, AllPairs, Contains, get_or, refl, sym, ap, subst, ◌∙◌, arith}
+use Rattle.std.proofs.Common.{◌≡◌, ◌≢◌, ℕ, zero, suc, ◌-◌, ◌<◌, ◌≤◌, ⊎_elim, List, [], ◌∷◌, length, slice_index, AllPairs, Contains, refl, sym, ap, subst, ◌∙◌, arith}
 use Rattle.std.proofs.lemmas.Bool.{cases_lt}
 use Rattle.lc_algebra.specs.declared.FieldName.{FieldName}
 use Rattle.lc_algebra.specs.Field.{size, add, neg, mul}
 use Rattle.lc_algebra.specs.Word.{Fits}
 use Rattle.lc_algebra.specs.Polynomial.{value_at, IsPolynomial}
-use Rattle.lc_algebra.proofs.FieldLaws.{zero_inside, add_inside, mul_inside, add_comm, add_assoc, add_neg, neg_add, zero_add, add_zero, mul_comm, mul_assoc, mul_swap, mul_add, add_mul, mul_zero, subtract_zero, no_zero_divisors}
-use Rattle.lc_algebra.proofs.WordLaws.{fits_head, fits_tail, fits_cons, add_exchange}
+use Rattle.lc_algebra.proofs.FieldLaws.{zero_inside, add_inside, mul_inside, add_comm, add_assoc, add_neg, zero_add, add_zero, mul_swap, mul_add, add_mul, mul_zero, subtract_zero, no_zero_divisors}
+use Rattle.lc_algebra.proofs.WordLaws.{fits_head, fits_tail, fits_cons}
 use Rattle.lc_algebra.proofs.SpanLaws.{contains_head, contains_tail}
 use Rattle.lc_algebra.proofs.DimensionLaws.{AreDistinct}
 use Rattle.lc_poly.proofs.PolynomialLaws.{value_inside}
