@@ -1,0 +1,8 @@
+use Rattle.lc_poly.proofs.ListLaws.{trimmed}
+use Rattle.lc_poly.proofs.poly.Poly.from_list.Goals as goal
+
+pub invariant_of-result : goal.invariant_of-result
+invariant_of-result c = rw (c.in_ok-copy.ensures.same, c.in_ok-coefficients.ensures) ((trimmed c.args.field.now c.args.list.now c.significant.result c.requires.list c.significant.ensures.within c.significant.ensures.leads c.significant.ensures.zeros).polynomial)
+
+pub returns-clause-coefficients : goal.returns-clause-coefficients
+returns-clause-coefficients c = rw c.in_ok-coefficients.ensures (trimmed c.args.field.now c.args.list.now c.significant.result c.requires.list c.significant.ensures.within c.significant.ensures.leads c.significant.ensures.zeros)

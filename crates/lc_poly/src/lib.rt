@@ -1,0 +1,16 @@
+//! Polynomials over the eighteen fields of `codes`: products, quotients and remainders, values, minimal polynomials and
+//! cyclotomic sets.
+#![tactic(auto)]
+
+mod arithmetic;
+mod cyclotomic;
+pub mod laws;
+mod minimal_polynomial;
+mod poly;
+
+pub use cyclotomic::cyclotomic_set;
+pub use minimal_polynomial::minimal;
+pub use poly::{Poly, x_power_minus_one};
+
+#[cfg(test)]
+mod tests;
