@@ -1,12 +1,9 @@
-<<<<<<< HEAD
-pub mod LineExamples
-pub mod FormatExamples
 pub mod CheckExamples
-=======
 pub mod Course
 pub mod FaultLaws
 pub mod FirstFault
+pub mod FormatExamples
 pub mod GrammarExamples
 pub mod GrammarLaws
+pub mod LineExamples
 pub mod ScriptLaws
->>>>>>> 6a4084bbde39f5f6eb113c0593aaf6eb34cfd6d6
