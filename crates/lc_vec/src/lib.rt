@@ -1,0 +1,8 @@
+//! Words over a field, and the loops on their symbols that everything above runs through.
+#![tactic(auto)]
+
+mod slices;
+mod word;
+
+pub use slices::{add_scaled, dot, first_nonzero, scale, weight};
+pub use word::Word;
