@@ -2,7 +2,7 @@
 --   word_sum_made      what has the symbols of a sum of a word and a multiple is that sum
 --   scale_made         what has the symbols of a multiple is that multiple
 --   dot_none, dot_more, dot_all      a dot that is summed from the left: at the first place, at one place more, at the end
-use Rattle.std.proofs.Common.{◌≡◌, ℕ, ◌+◌, ◌<◌, List, [], ◌∷◌, length, drop, slice_index, refl, sym, ap, ◌∙◌, arith, add-one}
+use Rattle.std.proofs.Common.{◌≡◌, ℕ, ◌+◌, ◌<◌, List, [], ◌∷◌, length, drop, slice_index, sym, ap, ◌∙◌, arith, add-one}
 use Rattle.std.proofs.lemmas.List.{ext_get_or, drop_all}
 use Rattle.std.proofs.Math.Seq.{drop-cons}
 use Rattle.lc_algebra.specs.declared.FieldName.{FieldName}

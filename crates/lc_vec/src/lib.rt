@@ -2,7 +2,9 @@
 #![tactic(auto)]
 
 mod slices;
+#[cfg(test)]
+mod tests;
 mod word;
 
-pub use slices::{add_scaled, dot, first_nonzero, scale, weight};
+pub use slices::{add_scaled, dot, first_nonzero, fits, scale, weight};
 pub use word::Word;

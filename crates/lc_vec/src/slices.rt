@@ -1,9 +1,22 @@
 //! Functions on words that are lent as slices of symbols. None of them takes memory.
-ghost use Rattle.std.specs.Prelude.{◌≡◌, ◌<◌, length};
+ghost use Rattle.std.specs.Prelude.{◌≡◌, ◌<◌, ◌↔◌, IsTrue, length};
 ghost use Rattle.lc_algebra.specs.Field.{size};
 ghost use Rattle.lc_algebra.specs.Word.{Fits, word_sum, scale as scale_of, weight as weight_of, word_dot, first_nonzero as first_nonzero_of};
 
 use lc_field::Field;
+
+/// Whether each symbol is an element of the field: its number is below the field's size.
+pub fn fits(field: &Field, symbols: &[u8]) -> bool
+    ensures is { IsTrue result ↔ Fits field.now symbols.now }
+{
+    let size = field.size();
+    for a in symbols {
+        if *a as u16 >= size {
+            return false;
+        }
+    }
+    true
+}
 
 /// Adds `c` times the word `from` to the word `to`, symbol by symbol.
 ///

@@ -60,3 +60,11 @@ impl Word {
         self.symbols.len()
     }
 }
+
+// Proved only where its argument may go to another thread and be shared with it.
+fn crosses_threads<T: Send + Sync>(_value: &T) {}
+
+// A word is `Send` and `Sync`.
+fn word_crosses_threads(word: &Word) {
+    crosses_threads(word);
+}

@@ -1,4 +1,4 @@
-use Rattle.std.proofs.Common.{◌≡◌, ◌<◌, ◌≤◌, ℕ, length, slice_index}
+use Rattle.std.proofs.Common.{◌≡◌, ◌<◌, ◌≤◌, ℕ, slice_index}
 use Rattle.lc_algebra.specs.Field.{add, mul}
 use Rattle.lc_algebra.specs.Word.{Fits}
 use Rattle.lc_vec.proofs.slices.add_scaled.Given as goal
