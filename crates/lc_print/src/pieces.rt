@@ -119,9 +119,10 @@ pub fn push_field(text: &mut Vec<u8>, q: u64) -> Result<(), NoMemory>
 pub fn push_values(text: &mut Vec<u8>, values: &[u64]) -> Result<(), NoMemory>
     ensures { OnOk result (text.new.items ≡ text.old.items ++ with_values values.now) }
 {
-    if !values.is_empty() {
-        push_text(text, b" with")?;
-        push_led(text, b' ', values)?;
-    }
+    let [_, ..] = values else {
+        return Ok(());
+    };
+    push_text(text, b" with")?;
+    push_led(text, b' ', values)?;
     Ok(())
 }
