@@ -4,7 +4,7 @@
 --   map_numbers_text                      the texts of lists that are themselves read from items
 --   lists_none, lists_more                the same of a list of lists
 --   spaced_led                            values, each with a space before it
---   with_values_none, with_values_some    what a fault carries: nothing, or `with` and the values
+--   with_values_none, with_values_more    what a fault carries: nothing, or `with` and the values
 use Rattle.std.proofs.Common.{◌≡◌, refl, ℕ, ◌<◌, ◌≤◌, ◌-◌, List, [], ◌∷◌, ◌++◌, length, get_or, drop, take, map, flat_map, codes, decimal, arith, ◌∙◌, ap, append_assoc, append-nil, sym}
 use Rattle.std.proofs.lemmas.List.{length-map, take_rest}
 use Rattle.std.specs.List.{join_with_byte}
@@ -46,7 +46,7 @@ unfolding with_values
 with_values_none [] l = refl
 with_values_none (n ∷ values) l = absurd (omega arith)
 
-pub with_values_some : (values : List ℕ) → 0 < length values → with_values values ≡ codes " with" ++ flat_map (λ n. 32 ∷ decimal n) values
-unfolding with_values
-with_values_some [] l = absurd (omega arith)
-with_values_some (n ∷ values) l = ap (λ t. codes " with" ++ t) (spaced_led (n ∷ values))
+pub with_values_more : (values : List ℕ) (d : ℕ) → 1 ≤ length values → with_values values ≡ codes " with " ++ (decimal (get_or values 0 d) ++ flat_map (λ n. 32 ∷ decimal n) (take (length values - 1) (drop 1 values)))
+unfolding with_values spaced
+with_values_more [] d l = absurd (omega arith)
+with_values_more (n ∷ values) d l = rw (take_rest (n ∷ values) 1) (ap (λ t. codes " with " ++ (decimal n ++ t)) (spaced_led values))

@@ -119,10 +119,11 @@ pub fn push_field(text: &mut Vec<u8>, q: u64) -> Result<(), NoMemory>
 pub fn push_values(text: &mut Vec<u8>, values: &[u64]) -> Result<(), NoMemory>
     ensures { OnOk result (text.new.items ≡ text.old.items ++ with_values values.now) }
 {
-    let [_, ..] = values else {
+    let [first, rest @ ..] = values else {
         return Ok(());
     };
-    push_text(text, b" with")?;
-    push_led(text, b' ', values)?;
+    push_text(text, b" with ")?;
+    push_number(text, *first)?;
+    push_led(text, b' ', rest)?;
     Ok(())
 }
