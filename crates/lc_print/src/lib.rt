@@ -1,0 +1,200 @@
+//! The lines that a session prints: values, least words, distances and faults, each with its
+//! newline, byte for byte as the definitions of `lc_language` say. A call fails only for want of
+//! memory.
+#![tactic(auto)]
+
+ghost use Rattle.std.specs.Prelude.{◌≡◌, map, IfOk, decimal};
+ghost use Rattle.lc_language.specs.Value.{truth, nothing};
+ghost use Rattle.lc_language.specs.Print.{line, value_line, numbers_text, lists_text, field_text, code_text, least_line as least_text, least_none_line as least_none_text, distance_line as distance_text, distance_none_line as distance_none_text, bracket_line as bracket_text, fault_line as fault_text};
+
+mod pieces;
+#[cfg(test)]
+mod tests;
+
+use lc_field::NoMemory;
+use lc_vec::Word;
+use pieces::{
+    push_field, push_list, push_newline, push_number, push_rows, push_text, push_values, push_word,
+};
+use std::alloc::Global;
+
+/// The line of a number: `12`.
+pub fn number_line(alloc: Global, n: u64) -> Result<Vec<u8>, NoMemory>
+    ensures { IfOk result (λ v. v.items ≡ line (decimal n)) }
+{
+    let mut text = Vec::new(alloc);
+    push_number(&mut text, n)?;
+    push_newline(&mut text)?;
+    Ok(text)
+}
+
+/// The line of a list of numbers: `[1,0,3]`, and `[]` for the empty one.
+pub fn list_line(alloc: Global, list: &[u64]) -> Result<Vec<u8>, NoMemory>
+    ensures { IfOk result (λ v. v.items ≡ line (numbers_text list.now)) }
+{
+    let mut text = Vec::new(alloc);
+    push_list(&mut text, list)?;
+    push_newline(&mut text)?;
+    Ok(text)
+}
+
+/// The line of a list of lists of numbers: `[[1,0],[0,1]]`, and `[]` for the empty one.
+pub fn rows_line(alloc: Global, rows: &[Vec<u64>]) -> Result<Vec<u8>, NoMemory>
+    ensures { IfOk result (λ v. v.items ≡ line (lists_text (map (λ row. row.items) rows.now))) }
+{
+    let mut text = Vec::new(alloc);
+    push_rows(&mut text, rows)?;
+    push_newline(&mut text)?;
+    Ok(text)
+}
+
+/// The line of a field of `q` elements: `GF(4)`.
+pub fn field_line(alloc: Global, q: u64) -> Result<Vec<u8>, NoMemory>
+    ensures { IfOk result (λ v. v.items ≡ line (field_text q)) }
+{
+    let mut text = Vec::new(alloc);
+    push_field(&mut text, q)?;
+    push_newline(&mut text)?;
+    Ok(text)
+}
+
+/// The line of a code of length `n` and dimension `k` over the field of `q` elements:
+/// `code [7,4] GF(2)`.
+#[tactic(auto, unfolding(lc_language::specs::Print::code_text))]
+pub fn code_line(alloc: Global, n: usize, k: usize, q: u64) -> Result<Vec<u8>, NoMemory>
+    ensures { IfOk result (λ v. v.items ≡ line (code_text n k q)) }
+{
+    let mut text = Vec::new(alloc);
+    push_text(&mut text, b"code [")?;
+    push_number(&mut text, n as u64)?;
+    push_text(&mut text, b",")?;
+    push_number(&mut text, k as u64)?;
+    push_text(&mut text, b"] ")?;
+    push_field(&mut text, q)?;
+    push_newline(&mut text)?;
+    Ok(text)
+}
+
+/// The line of a truth value: `true` or `false`.
+#[tactic(auto, unfolding(lc_language::specs::Print::value_line, lc_language::specs::Print::value_text))]
+pub fn truth_line(alloc: Global, holds: bool) -> Result<Vec<u8>, NoMemory>
+    ensures { IfOk result (λ v. v.items ≡ value_line (truth holds)) }
+{
+    let mut text = Vec::new(alloc);
+    push_text(&mut text, if holds { b"true" } else { b"false" })?;
+    push_newline(&mut text)?;
+    Ok(text)
+}
+
+/// The line of a value that is absent: `none`.
+#[tactic(auto, unfolding(lc_language::specs::Print::value_line, lc_language::specs::Print::value_text))]
+pub fn none_line(alloc: Global) -> Result<Vec<u8>, NoMemory>
+    ensures { IfOk result (λ v. v.items ≡ value_line nothing) }
+{
+    let mut text = Vec::new(alloc);
+    push_text(&mut text, b"none")?;
+    push_newline(&mut text)?;
+    Ok(text)
+}
+
+/// What a search for a least word prints: `least 2 word [0,1,1]`, `d` being the weight of the word.
+#[tactic(auto, unfolding(lc_language::specs::Print::least_line))]
+pub fn least_line(alloc: Global, d: u64, word: &Word) -> Result<Vec<u8>, NoMemory>
+    ensures { IfOk result (λ v. v.items ≡ least_text d word.now) }
+{
+    let mut text = Vec::new(alloc);
+    push_text(&mut text, b"least ")?;
+    push_number(&mut text, d)?;
+    push_text(&mut text, b" word ")?;
+    push_word(&mut text, word)?;
+    push_newline(&mut text)?;
+    Ok(text)
+}
+
+/// What a search for a least word prints of a code that has no word but zero: `least none`.
+#[tactic(auto, unfolding(lc_language::specs::Print::least_none_line))]
+pub fn least_none_line(alloc: Global) -> Result<Vec<u8>, NoMemory>
+    ensures { IfOk result (λ v. v.items ≡ least_none_text) }
+{
+    let mut text = Vec::new(alloc);
+    push_text(&mut text, b"least none")?;
+    push_newline(&mut text)?;
+    Ok(text)
+}
+
+/// What a search for the minimum distance prints of an exact answer, `d` being the weight of the
+/// word and `blocks` the number of blocks that were searched:
+/// `distance 3 word [1,0,0,0,0,1,1] blocks 2`.
+#[tactic(auto, unfolding(lc_language::specs::Print::distance_line))]
+pub fn distance_line(alloc: Global, d: u64, word: &Word, blocks: u64) -> Result<Vec<u8>, NoMemory>
+    ensures { IfOk result (λ v. v.items ≡ distance_text d word.now blocks) }
+{
+    let mut text = Vec::new(alloc);
+    push_text(&mut text, b"distance ")?;
+    push_number(&mut text, d)?;
+    push_text(&mut text, b" word ")?;
+    push_word(&mut text, word)?;
+    push_text(&mut text, b" blocks ")?;
+    push_number(&mut text, blocks)?;
+    push_newline(&mut text)?;
+    Ok(text)
+}
+
+/// What a search for the minimum distance prints of bounds, where it ended before the answer was
+/// known: `distance between 1 and 3 word [1,0,0,0,0,1,1] blocks 0`, `high` being the weight of the
+/// word.
+#[tactic(auto, unfolding(lc_language::specs::Print::bracket_line))]
+pub fn bracket_line(
+    alloc: Global,
+    low: u64,
+    high: u64,
+    word: &Word,
+    blocks: u64,
+) -> Result<Vec<u8>, NoMemory>
+    ensures { IfOk result (λ v. v.items ≡ bracket_text low high word.now blocks) }
+{
+    let mut text = Vec::new(alloc);
+    push_text(&mut text, b"distance between ")?;
+    push_number(&mut text, low)?;
+    push_text(&mut text, b" and ")?;
+    push_number(&mut text, high)?;
+    push_text(&mut text, b" word ")?;
+    push_word(&mut text, word)?;
+    push_text(&mut text, b" blocks ")?;
+    push_number(&mut text, blocks)?;
+    push_newline(&mut text)?;
+    Ok(text)
+}
+
+/// What a search for the minimum distance prints of a code that has no word but zero:
+/// `distance none`.
+#[tactic(auto, unfolding(lc_language::specs::Print::distance_none_line))]
+pub fn distance_none_line(alloc: Global) -> Result<Vec<u8>, NoMemory>
+    ensures { IfOk result (λ v. v.items ≡ distance_none_text) }
+{
+    let mut text = Vec::new(alloc);
+    push_text(&mut text, b"distance none")?;
+    push_newline(&mut text)?;
+    Ok(text)
+}
+
+/// The line of a fault: its number, its place in the script, and the numbers that it carries:
+/// `fault 44 at 10`, `fault 8 at 0 with 1 2`.
+#[tactic(auto, unfolding(lc_language::specs::Print::fault_line))]
+pub fn fault_line(
+    alloc: Global,
+    number: u8,
+    place: usize,
+    values: &[u64],
+) -> Result<Vec<u8>, NoMemory>
+    ensures { IfOk result (λ v. v.items ≡ fault_text number place values.now) }
+{
+    let mut text = Vec::new(alloc);
+    push_text(&mut text, b"fault ")?;
+    push_number(&mut text, u64::from(number))?;
+    push_text(&mut text, b" at ")?;
+    push_number(&mut text, place as u64)?;
+    push_values(&mut text, values)?;
+    push_newline(&mut text)?;
+    Ok(text)
+}
