@@ -7,8 +7,9 @@
 --                                      has its first nonzero symbol, a 1, at place at_i of the order; these places rise, and each is
 --                                      0 in the other rows; the rows after these are 0 at the first t columns of the order
 --   IsInOrder n order                  the columns 0 to n - 1, in their order
+--   IsTurned n order                   the columns n - 1 to 0
 --   IsRest f n ps rows w i rest        the rest is the word w less multiples of the rows, and is 0 at the first i of the places
-use Rattle.std.specs.Prelude.{◌≡◌, ◌≢◌, ℕ, ◌<◌, ◌≤◌, ◌↔◌, List, length, slice_index, slice_index_or, []}
+use Rattle.std.specs.Prelude.{◌≡◌, ◌≢◌, ℕ, ◌-◌, ◌<◌, ◌≤◌, ◌↔◌, List, length, slice_index, slice_index_or, []}
 use Rattle.lc_algebra.specs.declared.FieldName.{FieldName}
 use Rattle.lc_algebra.specs.Field.{neg}
 use Rattle.lc_algebra.specs.Word.{IsWord, word_sum, scale}
@@ -39,6 +40,10 @@ pub record IsReducedTo (order : List ℕ) (t : ℕ) (at : List ℕ) (rows : List
 pub record IsInOrder (n : ℕ) (order : List ℕ) : Type 0 where
   pub count : length order ≡ n
   pub entries : (c : ℕ) → c < n → slice_index order c ≡ c
+
+pub record IsTurned (n : ℕ) (order : List ℕ) : Type 0 where
+  pub count : length order ≡ n
+  pub entries : (c : ℕ) → c < n → slice_index order c ≡ n - 1 - c
 
 pub record IsRest (f : FieldName) (n : ℕ) (ps : List ℕ) (rows : List (List ℕ)) (w : List ℕ) (i : ℕ) (rest : List ℕ) : Type 0 where
   pub word : IsWord f n rest

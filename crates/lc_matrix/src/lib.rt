@@ -2,6 +2,7 @@
 #![tactic(auto)]
 
 mod forms;
+mod kernel;
 mod matrix;
 mod reduce;
 
