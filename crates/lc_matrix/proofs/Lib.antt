@@ -1,0 +1,4 @@
+pub mod FlatLaws
+pub mod EliminationLaws
+pub mod FormLaws
+pub mod KernelLaws

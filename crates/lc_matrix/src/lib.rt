@@ -1,0 +1,9 @@
+//! Matrices over a field: reduced forms, kernels, linear systems and spans.
+#![tactic(auto)]
+
+mod forms;
+mod kernel;
+mod matrix;
+mod reduce;
+
+pub use matrix::Matrix;
