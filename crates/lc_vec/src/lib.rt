@@ -1,0 +1,10 @@
+//! Words over a field, and the loops on their symbols that everything above runs through.
+#![tactic(auto)]
+
+mod slices;
+#[cfg(test)]
+mod tests;
+mod word;
+
+pub use slices::{add_scaled, dot, first_nonzero, fits, scale, weight};
+pub use word::Word;

@@ -1,0 +1,70 @@
+//! Words that own their symbols.
+ghost use Rattle.std.specs.Prelude.{◌≡◌, ℕ, List, length, IfOk};
+ghost use Rattle.lc_algebra.specs.Word.{zero_word};
+
+use lc_field::NoMemory;
+use std::alloc::Global;
+use std::marker::Model;
+
+/// A word: a list of symbols, each the number of an element of some field, so at most 255.
+///
+/// Contracts see it as the list of its symbols, from the left.
+#[derive(Drop)]
+pub struct Word {
+    symbols: Vec<u8>,
+}
+
+impl Model for Word {
+    ghost Value = { List ℕ };
+
+    ghost view = { λ w. w.symbols.items };
+}
+
+impl Word {
+    /// The word with these symbols. Any list of symbols is a word; which field they belong to is the caller's to know.
+    pub fn from_slice(alloc: Global, symbols: &[u8]) -> Result<Word, NoMemory>
+        ensures is { IfOk result (λ w. w ≡ symbols.now) }
+    {
+        Ok(Word {
+            symbols: symbols.to_vec(alloc)?,
+        })
+    }
+
+    /// The zero word of `n` symbols.
+    pub fn zero(alloc: Global, n: usize) -> Result<Word, NoMemory>
+        ensures is { IfOk result (λ w. w ≡ zero_word n) }
+    {
+        Ok(Word {
+            symbols: vec![in alloc; 0u8; n]?,
+        })
+    }
+
+    /// The same word, with symbols of its own.
+    pub fn copy(&self, alloc: Global) -> Result<Word, NoMemory>
+        ensures same { IfOk result (λ w. w ≡ self.now) }
+    {
+        Word::from_slice(alloc, &self.symbols)
+    }
+
+    /// The symbols, from the left.
+    pub fn symbols(&self) -> &[u8]
+        ensures are { result.now ≡ self.now }
+    {
+        &self.symbols
+    }
+
+    /// The number of symbols.
+    pub fn len(&self) -> usize
+        ensures is { result ≡ length self.now }
+    {
+        self.symbols.len()
+    }
+}
+
+// Proved only where its argument may go to another thread and be shared with it.
+fn crosses_threads<T: Send + Sync>(_value: &T) {}
+
+// A word is `Send` and `Sync`.
+fn word_crosses_threads(word: &Word) {
+    crosses_threads(word);
+}
