@@ -23,8 +23,8 @@ use Rattle.lc_code.specs.Kept.{IsKept}
 pub same_generator : (f : FieldName) (n : ℕ) (P Q : List ℕ → Type 0) (e : List (List ℕ)) → ((w : List ℕ) → IsWord f n w → P w ↔ Q w) → IsReducedGenerator f n P e → IsReducedGenerator f n Q e
 same_generator f n P Q e h g = record {
   members = λ w. (
-      (λ s. let m = (g.members w).0 s in (m.0, (h w m.0).0 m.1)),
-      (λ m. (g.members w).1 (m.0, (h w m.0).1 m.1)),
+    (λ s. let m = (g.members w).0 s in (m.0, (h w m.0).0 m.1)),
+    (λ m. (g.members w).1 (m.0, (h w m.0).1 m.1)),
   );
   reduced = g.reduced;
   words = g.words;
@@ -51,8 +51,8 @@ kept_code f n P C s l m c = record {
 generated : (f : FieldName) (n : ℕ) (rows e : List (List ℕ)) → IsEchelon f n rows e → IsReducedGenerator f n (GeneratedBy f n rows) e
 generated f n rows e h = record {
   members = λ w. (
-      (λ s. (span_word f n e w h.words s, (h.same w).1 s)),
-      (λ m. (h.same w).0 m.1),
+    (λ s. (span_word f n e w h.words s, (h.same w).1 s)),
+    (λ m. (h.same w).0 m.1),
   );
   reduced = h.reduced;
   words = h.words;

@@ -95,12 +95,11 @@ nothing_left C word rest k t s =
 
 pub tried_last : (C : Matrix) (i : ℕ) (word rest : List ℕ) → IsKept C → i ≡ length C.rows → IsTried C i word rest → IsTrue (weight rest == 0) ↔ InCode C word
 tried_last C i word rest k e s =
-    let t : IsTried C (length C.rows) word rest = subst (λ j. IsTried C j word rest) e s in
-    (
+    let t : IsTried C (length C.rows) word rest = subst (λ j. IsTried C j word rest) e s in (
       (λ z.
-      let a : rest ≡ zero_word C.columns = zero_from_weight C.columns rest t.fits.long ((Decides-eqb (weight rest) 0).0 z) in
-      t.same.1 (subst (InCode C) (sym a) (span_zero C.field C.columns C.rows k.words))),
+          let a : rest ≡ zero_word C.columns = zero_from_weight C.columns rest t.fits.long ((Decides-eqb (weight rest) 0).0 z) in
+          t.same.1 (subst (InCode C) (sym a) (span_zero C.field C.columns C.rows k.words))),
       (λ m.
-      let a : rest ≡ zero_word C.columns = nothing_left C word rest k t (t.same.0 m) in
-      (Decides-eqb (weight rest) 0).1 (ap weight a ∙ weight_zero_word C.columns)),
+          let a : rest ≡ zero_word C.columns = nothing_left C word rest k t (t.same.0 m) in
+          (Decides-eqb (weight rest) 0).1 (ap weight a ∙ weight_zero_word C.columns)),
     )

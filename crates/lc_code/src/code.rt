@@ -41,7 +41,12 @@ impl Code {
     ///
     /// The field has at most 16 elements, `n` is 1 to 255, and the rows are words of `n` symbols of the field.
     #[tactic(auto, using(crate::proofs::CodeLaws::generated_kept, crate::proofs::CodeLaws::generated_code))]
-    pub fn from_rows(alloc: Global, field: &Field, n: usize, rows: &[Word]) -> Result<Code, NoMemory>
+    pub fn from_rows(
+        alloc: Global,
+        field: &Field,
+        n: usize,
+        rows: &[Word],
+    ) -> Result<Code, NoMemory>
         requires symbol { IsTrue (is_symbol field.now) }
         requires least { 1 ≤ n }
         requires most { n ≤ 255 }
@@ -58,7 +63,12 @@ impl Code {
     ///
     /// The field has at most 16 elements, `n` is 1 to 255, and the checks are words of `n` symbols of the field.
     #[tactic(auto, using(crate::proofs::CodeLaws::checked_kept, crate::proofs::CodeLaws::checked_code))]
-    pub fn from_checks(alloc: Global, field: &Field, n: usize, checks: &[Word]) -> Result<Code, NoMemory>
+    pub fn from_checks(
+        alloc: Global,
+        field: &Field,
+        n: usize,
+        checks: &[Word],
+    ) -> Result<Code, NoMemory>
         requires symbol { IsTrue (is_symbol field.now) }
         requires least { 1 ≤ n }
         requires most { n ≤ 255 }
