@@ -10,12 +10,11 @@
 use Rattle.std.proofs.Common.{◌≡◌, ℕ, ◌≤◌, ◌↔◌, IsTrue, List, length, sym, ap, ◌∙◌, subst}
 use Rattle.lc_algebra.specs.declared.FieldName.{FieldName}
 use Rattle.lc_algebra.specs.Field.{is_symbol}
-use Rattle.lc_algebra.specs.Word.{IsWord, word_dot}
-use Rattle.lc_algebra.specs.Span.{InSpan}
+use Rattle.lc_algebra.specs.Word.{IsWord}
 use Rattle.lc_algebra.specs.Matrix.{Matrix, AreRows, IsReduced, IsEchelon, IsReducedGenerator, IsOrthogonal}
 use Rattle.lc_algebra.proofs.SpanLaws.{span_word, span_row, dot_span}
 use Rattle.lc_algebra.proofs.ReducedLaws.{reduced_at_most}
-use Rattle.lc_constructions.specs.Code.{InCode, IsCode, CheckedBy}
+use Rattle.lc_constructions.specs.Code.{IsCode, CheckedBy}
 use Rattle.lc_constructions.specs.Basic.{GeneratedBy}
 use Rattle.lc_constructions.specs.Combined.{InDual}
 use Rattle.lc_code.specs.Kept.{IsKept}

@@ -1,5 +1,5 @@
 use Rattle.std.proofs.Common.{◌∙◌}
-use Rattle.lc_code.proofs.CodeLaws.{rows_kept, same_matrix}
+use Rattle.lc_code.proofs.CodeLaws.{rows_kept}
 use Rattle.lc_code.proofs.code.Code.copy.Goals as goal
 
 pub invariant_of-result : goal.invariant_of-result
