@@ -9,7 +9,7 @@
 --   digits_word                    these are words over the field
 --   checks_rows                    so the check matrix has words as rows
 --   map_more, digits_first, digits_more, columns_more, checks_first, checks_more, checks_whole      the loops that write the digits and the rows
-use Rattle.std.proofs.Common.{◌≡◌, ℕ, zero, suc, ◌+◌, ◌-◌, ◌*◌, ◌/◌, ◌%◌, ◌^◌, ◌<◌, ◌≤◌, List, [], ◌∷◌, ◌++◌, map, length, replicate, flat_map, slice_index, slice_index_or, refl, sym, ap, subst, ◌∙◌, ⊎_elim, arith, zero-lt-suc, add-zero, add-suc}
+use Rattle.std.proofs.Common.{◌≡◌, ℕ, zero, suc, ◌+◌, ◌-◌, ◌*◌, ◌/◌, ◌%◌, ◌^◌, ◌<◌, ◌≤◌, List, [], ◌∷◌, ◌++◌, map, length, replicate, flat_map, slice_index, slice_index_or, refl, sym, ap, subst, ◌∙◌, ⊎_elim, arith, add-zero, add-suc}
 use Rattle.std.proofs.Math.Nat.{pow-suc, pow-zero, one-le-pow, mul-add-div, mul-add-mod_self_left, pow-le-pow_right, mod-lt, mod-eq_of_lt, mul-le-mul_right}
 use Rattle.std.proofs.lemmas.Nat.{div-mul-add, pow-add, div_below}
 use Rattle.std.proofs.lemmas.List.{map-append, length-map, get_or_append_left, get_or_push, length-append, replicate-append-replicate, append_assoc, append-nil}

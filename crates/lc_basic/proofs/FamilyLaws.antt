@@ -4,12 +4,11 @@
 --   constant_code      the multiples of the word of ones are the words of equal symbols
 --   any_code           every word has dot 0 with each of no rows
 --   zero_code          the sums of multiples of no rows are the zero word
-use Rattle.std.proofs.Common.{◌≡◌, ℕ, zero, suc, ◌<◌, ◌≤◌, ◌↔◌, List, [], ◌∷◌, length, replicate, slice_index, slice_index_or, All, refl, sym, ap, subst, ◌∙◌, arith}
+use Rattle.std.proofs.Common.{◌≡◌, ℕ, zero, suc, ◌<◌, ◌≤◌, ◌↔◌, List, [], ◌∷◌, length, replicate, slice_index, refl, sym, ap, subst, ◌∙◌, arith}
 use Rattle.std.proofs.lemmas.List.{ext_get_or, length-replicate, get_or-replicate}
 use Rattle.lc_algebra.specs.declared.FieldName.{FieldName}
-use Rattle.lc_algebra.specs.Field.{size, add, mul}
-use Rattle.lc_algebra.specs.Word.{Fits, IsWord, zero_word, word_sum, scale}
-use Rattle.lc_algebra.specs.Span.{InSpan}
+use Rattle.lc_algebra.specs.Field.{size}
+use Rattle.lc_algebra.specs.Word.{IsWord, zero_word, word_sum, scale}
 use Rattle.lc_algebra.specs.Matrix.{Matrix, AreRows}
 use Rattle.lc_algebra.proofs.FieldLaws.{one_inside, add_zero, mul_one}
 use Rattle.lc_algebra.proofs.WordLaws.{index_word_sum, index_scale, index_zero_word, length_word_sum, length_scale, length_zero_word, word_symbol}

@@ -7,7 +7,7 @@
 --   two_elements, some_two, binary_symbol, binary_is_symbol, binary_rows, binary_code      over the field of two elements
 --   long_power, short_power       when 2^m is a length
 --   reed_muller_long, reed_muller_high, reed_muller_fine      the first refusal
-use Rattle.std.proofs.Common.{◌≡◌, ◌≢◌, ℕ, zero, suc, ◌+◌, ◌-◌, ◌*◌, ◌/◌, ◌%◌, ◌^◌, ◌<◌, ◌≤◌, ◌==◌, ◌&&◌, Bool, true, false, Some, None, nat_le, nat_lt, if◌then◌else◌, List, [], ◌∷◌, ◌++◌, map, length, slice_index, slice_index_or, IsTrue, refl, sym, ap, subst, ◌∙◌, arith, add-zero}
+use Rattle.std.proofs.Common.{◌≡◌, ◌≢◌, ℕ, zero, suc, ◌+◌, ◌-◌, ◌/◌, ◌%◌, ◌^◌, ◌<◌, ◌≤◌, ◌==◌, ◌&&◌, Bool, true, false, Some, None, nat_lt, if◌then◌else◌, List, [], ◌∷◌, ◌++◌, map, length, slice_index, slice_index_or, IsTrue, refl, sym, ap, subst, ◌∙◌, arith, add-zero}
 use Rattle.std.specs.List.{list_all}
 use Rattle.std.proofs.Math.Nat.{one-le-pow, pow-le-pow_right}
 use Rattle.std.proofs.lemmas.List.{map-append, append_assoc, length-map, ext_get_or, get_or-map}

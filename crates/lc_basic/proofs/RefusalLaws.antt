@@ -3,7 +3,7 @@
 --   elements_told                  the test on the entries, by what it decides
 --   matrix_too_large, matrix_bad_length, matrix_uneven, matrix_no_elements, matrix_fine      the first refusal of a matrix
 --   matrix_rows                    a matrix that isn't refused has words as rows
-use Rattle.std.proofs.Common.{◌≡◌, ℕ, ◌<◌, ◌↔◌, ◌⊎◌, true, false, Bool, ◌==◌, IsTrue, MatchResult, IfOk, Result, Ok, Err, is_ok, Option, Some, None, is_none, nat_lt, List, length, slice_index, slice_index_or, All, refl, sym, ap, subst, ◌∙◌, ⊎_elim, arith, true≢false}
+use Rattle.std.proofs.Common.{◌≡◌, ℕ, ◌<◌, ◌↔◌, true, false, Bool, ◌==◌, IsTrue, MatchResult, IfOk, Result, Ok, Err, is_ok, Option, Some, None, is_none, nat_lt, List, length, slice_index, slice_index_or, All, refl, sym, ap, subst, ◌∙◌, ⊎_elim, true≢false}
 use Rattle.std.specs.List.{list_all}
 use Rattle.std.proofs.lemmas.List.Sums.{AllPass-from_list_all, list_all-from_AllPass}
 use Rattle.std.proofs.lemmas.List.{get_or_default}
@@ -11,7 +11,7 @@ use Rattle.std.proofs.lemmas.Bool.{cases_Bool}
 use Rattle.std.proofs.lemmas.Bool.Decides.{Decides-eqb, Decides-ltb}
 use Rattle.lc_algebra.specs.declared.FieldName.{FieldName}
 use Rattle.lc_algebra.specs.Field.{size, is_symbol}
-use Rattle.lc_algebra.specs.Word.{Fits, IsWord}
+use Rattle.lc_algebra.specs.Word.{Fits}
 use Rattle.lc_algebra.specs.Matrix.{AreRows}
 use Rattle.lc_code.specs.declared.refusal.CodeRefusal.{CodeRefusal}
 use Rattle.lc_code.specs.declared.refusal.CodeRefusal.TheVariants.{BadLength, BadArgument, LengthsDiffer, FieldTooLarge, NoMemory}

@@ -3,10 +3,10 @@
 --   constant_generator             and that of a repetition code
 --   zero_generator                 no rows are the reduced matrix of a null code
 --   repetition_dimension, null_dimension      so these have dimension 1 and 0
-use Rattle.std.proofs.Common.{◌≡◌, ℕ, zero, suc, ◌<◌, ◌≤◌, List, [], ◌∷◌, length, slice_index, refl, sym, ap, subst, ◌∙◌, arith}
+use Rattle.std.proofs.Common.{◌≡◌, ℕ, zero, suc, ◌≤◌, [], ◌∷◌, length, slice_index, refl, sym, ap, subst, arith}
 use Rattle.lc_algebra.specs.declared.FieldName.{FieldName}
-use Rattle.lc_algebra.specs.Word.{IsWord, zero_word}
-use Rattle.lc_algebra.specs.Matrix.{Matrix, entry, AreRows, HasPivots, IsReduced, IsReducedGenerator}
+use Rattle.lc_algebra.specs.Word.{IsWord}
+use Rattle.lc_algebra.specs.Matrix.{Matrix, entry, AreRows, IsReduced, IsReducedGenerator}
 use Rattle.lc_algebra.proofs.WordLaws.{IsWord_zero}
 use Rattle.lc_algebra.proofs.SpanLaws.{span_word}
 use Rattle.lc_algebra.proofs.ReducedLaws.{generator_unique}

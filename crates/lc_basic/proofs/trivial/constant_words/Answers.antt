@@ -1,5 +1,5 @@
-use Rattle.std.proofs.Common.{◌≡◌, List, [], ◌∷◌, ℕ, ap, ◌∙◌}
-use Rattle.lc_basic.proofs.FamilyLaws.{ones, ones_rows, constant_code}
+use Rattle.std.proofs.Common.{[], ◌∷◌, ap, ◌∙◌}
+use Rattle.lc_basic.proofs.FamilyLaws.{ones_rows, constant_code}
 use Rattle.lc_basic.proofs.trivial.constant_words.Goals as goal
 
 pub from_rows-requires-clause-rows : goal.from_rows-requires-clause-rows
