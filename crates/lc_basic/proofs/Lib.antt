@@ -1,0 +1,6 @@
+pub mod RefusalLaws
+pub mod FamilyLaws
+pub mod ColumnLaws
+pub mod HammingLaws
+pub mod ProductLaws
+pub mod TrivialLaws

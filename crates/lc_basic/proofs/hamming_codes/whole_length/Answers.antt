@@ -1,0 +1,6 @@
+use Rattle.std.proofs.Common.{arith}
+use Rattle.lc_basic.proofs.HammingLaws.{small_field}
+use Rattle.lc_basic.proofs.hamming_codes.whole_length.Goals as goal
+
+pub length_of-requires-clause-most : goal.length_of-requires-clause-most
+length_of-requires-clause-most c = omega (arith, small_field c.args.field.now c.requires.symbol, c.size.ensures.is)

@@ -1,0 +1,11 @@
+//! Linear codes: sets of words of one length over a symbol field, closed under sums and multiples, each kept as its reduced
+//! generator matrix.
+#![tactic(auto)]
+
+mod code;
+mod refusal;
+#[cfg(test)]
+mod tests;
+
+pub use code::Code;
+pub use refusal::CodeRefusal;
