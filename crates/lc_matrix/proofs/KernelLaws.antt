@@ -21,7 +21,7 @@
 --   kernel_of_rows             or with each of any rows with the same words
 --   kernel_generator           so their echelon form is the reduced generator matrix of the words orthogonal to the rows
 --   rank_of_kernel             which has n less the rank rows
-use Rattle.std.proofs.Common.{◌≡◌, ◌≢◌, ℕ, zero, suc, ◌+◌, ◌<◌, ◌≤◌, ◌↔◌, if◌then◌else◌, ◌==◌, true, false, List, [], ◌∷◌, ◌++◌, map, length, slice_index, slice_index_or, Contains, All, refl, sym, ap, subst, ◌∙◌, ⊎_elim, arith, zero-lt-suc}
+use Rattle.std.proofs.Common.{◌≡◌, ◌≢◌, ℕ, zero, suc, ◌+◌, ◌<◌, ◌≤◌, ◌↔◌, if◌then◌else◌, true, false, List, [], ◌∷◌, ◌++◌, length, slice_index, slice_index_or, Contains, refl, sym, ap, subst, ◌∙◌, ⊎_elim, arith, zero-lt-suc}
 use Rattle.std.proofs.lemmas.List.{ext_get_or, get_or-map, length-map, length-append, get_or_default, get_or_append_left}
 use Rattle.std.proofs.Math.Seq.{get_or-append_seam}
 use Rattle.std.proofs.lemmas.List.Elements.{All-from_get_or, Contains-append_left, Contains-append_right, Contains-append_cases}
@@ -30,11 +30,11 @@ use Rattle.lc_algebra.specs.declared.FieldName.{FieldName}
 use Rattle.lc_algebra.specs.Field.{size, add, neg, mul}
 use Rattle.lc_algebra.specs.Word.{IsWord, zero_word, scale, difference, word_dot}
 use Rattle.lc_algebra.specs.Span.{below, combine, InSpan, SameSpan, AreIndependent}
-use Rattle.lc_algebra.specs.Matrix.{entry, AreRows, HasPivots, IsReduced, IsEchelon, IsReducedGenerator, IsOrthogonal, IsIdentityOn}
+use Rattle.lc_algebra.specs.Matrix.{entry, AreRows, HasPivots, IsEchelon, IsReducedGenerator, IsOrthogonal, IsIdentityOn}
 use Rattle.lc_algebra.specs.SpanLaws.{restrict}
 use Rattle.lc_algebra.proofs.FieldLaws.{one_inside, zero_inside, add_inside, neg_inside, mul_inside, add_comm, zero_add, add_zero, add_neg, neg_add, mul_one, one_mul, zero_mul, mul_zero}
 use Rattle.lc_algebra.proofs.WordLaws.{length_scale, length_zero_word, index_zero_word, index_difference, IsWord_difference, same_from_difference, word_symbol, dot_comm}
-use Rattle.lc_algebra.proofs.SpanLaws.{span_word, span_row, span_difference, dot_span, orthogonal_shared, orthogonal_sum, orthogonal_scale, same_span_symmetric, word_of_combination, contains_head, contains_tail, contains_cases, contains_below, below_contains, length_below, contains_decided}
+use Rattle.lc_algebra.proofs.SpanLaws.{span_word, dot_span, orthogonal_shared, orthogonal_sum, orthogonal_scale, same_span_symmetric, word_of_combination, contains_head, contains_tail, contains_cases, contains_below, below_contains, length_below, contains_decided}
 use Rattle.lc_algebra.proofs.ReducedLaws.{dot_nothing, symbol_of_combination, independent_by_places, reduced_independent}
 use Rattle.lc_algebra.proofs.ColumnLaws.{index_restrict, length_restrict}
 use Rattle.lc_algebra.proofs.DimensionLaws.{AreDistinct, pairs_from_distinct, distinct_append, distinct_below, distinct_at_most, dimension_unique}
@@ -235,9 +235,9 @@ is_free_word f n ps e j h l o =
       here = index_free_word f n ps e j j l ∙ symbol_here f ps e j o;
       places = λ i k. index_free_word f n ps e j (slice_index ps i) (h.inside i k) ∙ symbol_place f ps e j i h.rises h.count k;
       others = λ c a b. ⊎_elim
-      (λ m. index_free_word f n ps e j c m ∙ symbol_other f ps e j c a b)
-      (λ m. past_end (free_word f n ps e j) c (omega (arith, m, length_free_word f n ps e j)))
-      (cases_lt c n);
+          (λ m. index_free_word f n ps e j c m ∙ symbol_other f ps e j c a b)
+          (λ m. past_end (free_word f n ps e j) c (omega (arith, m, length_free_word f n ps e j)))
+          (cases_lt c n);
     }
 
 pub free_word_unique : (f : FieldName) (n : ℕ) (ps : List ℕ) (e : List (List ℕ)) (j : ℕ) (v w : List ℕ) → IsFreeWord f n ps e j v → IsFreeWord f n ps e j w → v ≡ w
@@ -367,8 +367,7 @@ kernel_members f n ps e w r h =
 
 pub kernel_of_rows : (f : FieldName) (n : ℕ) (ps : List ℕ) (rows e : List (List ℕ)) (w : List ℕ) → AreRows f n rows → IsEchelon f n rows e → HasPivots n ps e → InSpan f n (free_words f n ps e) w ↔ (IsWord f n w × IsOrthogonal f rows w)
 kernel_of_rows f n ps rows e w r p h =
-    let m = kernel_members f n ps e w p.words h in
-    (
+    let m = kernel_members f n ps e w p.words h in (
       (λ t. let s = m.0 t in (s.0, orthogonal_shared f n e rows w p.words r (same_span_symmetric f n rows e p.same) s.1)),
       (λ t. m.1 (t.0, orthogonal_shared f n rows e w r p.words p.same t.1)),
     )

@@ -11,18 +11,18 @@
 --   solution_of            where the last column is no place, the solution solves the system
 --   no_solution            where it is a place, nothing does
 --   solvable               so the system has a solution exactly where the last column is no place
-use Rattle.std.proofs.Common.{◌≡◌, ◌≢◌, ℕ, zero, suc, ◌+◌, ◌<◌, ◌≤◌, ◌↔◌, if◌then◌else◌, ◌==◌, true, false, List, [], ◌∷◌, ◌++◌, map, length, slice_index, slice_index_or, Contains, All, refl, sym, ap, subst, ◌∙◌, ⊎_elim, arith, zero-lt-suc}
+use Rattle.std.proofs.Common.{◌≡◌, ◌≢◌, ℕ, zero, suc, ◌+◌, ◌<◌, ◌↔◌, List, [], ◌∷◌, ◌++◌, length, slice_index, slice_index_or, Contains, refl, sym, ap, subst, ◌∙◌, ⊎_elim, arith, zero-lt-suc}
 use Rattle.std.proofs.lemmas.List.{ext_get_or, get_or-map, length-map, length-append, get_or_append_left}
-use Rattle.std.proofs.Math.Seq.{get_or-append_seam, get_or-append_right}
+use Rattle.std.proofs.Math.Seq.{get_or-append_seam}
 use Rattle.std.proofs.lemmas.List.Elements.{All-from_get_or, All-head, All-tail}
 use Rattle.std.proofs.lemmas.Bool.{cases_lt, cases_eq, eq-eqb, ne_eqb}
 use Rattle.lc_algebra.specs.declared.FieldName.{FieldName}
 use Rattle.lc_algebra.specs.Field.{size, add, neg, mul}
-use Rattle.lc_algebra.specs.Word.{Fits, IsWord, word_dot}
+use Rattle.lc_algebra.specs.Word.{IsWord, word_dot}
 use Rattle.lc_algebra.specs.Span.{below}
 use Rattle.lc_algebra.specs.Matrix.{entry, AreRows, HasPivots, IsEchelon, IsOrthogonal}
-use Rattle.lc_algebra.proofs.FieldLaws.{one_inside, zero_inside, neg_inside, mul_inside, add_comm, add_assoc, zero_add, add_zero, add_neg, subtract_zero, mul_comm, mul_one, one_mul, zero_mul, mul_zero, neg_one_mul}
-use Rattle.lc_algebra.proofs.WordLaws.{fits_head, fits_tail, word_symbol, neg_one_nonzero, dot_inside}
+use Rattle.lc_algebra.proofs.FieldLaws.{zero_inside, neg_inside, add_comm, add_assoc, add_neg, subtract_zero, mul_comm, one_mul, zero_mul, mul_zero, neg_one_mul}
+use Rattle.lc_algebra.proofs.WordLaws.{word_symbol, neg_one_nonzero, dot_inside}
 use Rattle.lc_algebra.proofs.SpanLaws.{orthogonal_shared, same_span_symmetric, contains_head, contains_tail, length_below, contains_decided}
 use Rattle.lc_matrix.specs.Solve.{augmented, Solves, solution_symbol, solution_word, IsSolutionWord}
 use Rattle.lc_matrix.proofs.KernelLaws.{dot_single, past_end, place_at, at_place, balanced_orthogonal, index_below}
@@ -47,9 +47,9 @@ word_behind f n w a q l =
     record {
       long = long;
       fits = λ c m. ⊎_elim
-      (λ k. rw (symbol_before w a c k) (q.fits c k))
-      (λ k. let e : c ≡ n = omega (arith, m, k, long, q.long) in subst (λ x. x < size f) (sym (ap (slice_index (w ++ a ∷ [])) e ∙ symbol_behind n w a q.long)) l)
-      (cases_lt c (length w));
+          (λ k. rw (symbol_before w a c k) (q.fits c k))
+          (λ k. let e : c ≡ n = omega (arith, m, k, long, q.long) in subst (λ x. x < size f) (sym (ap (slice_index (w ++ a ∷ [])) e ∙ symbol_behind n w a q.long)) l)
+          (cases_lt c (length w));
     }
 
 pub length_augmented : (rows : List (List ℕ)) (right : List ℕ) → length right ≡ length rows → length (augmented rows right) ≡ length rows
@@ -139,9 +139,9 @@ is_solution_word f n ps e r h o =
       };
       places = λ i k. index_solution n ps e (slice_index ps i) (inner_place n ps e i h o k) ∙ symbol_place n ps e i h.rises h.count k;
       others = λ c a. ⊎_elim
-      (λ m. index_solution n ps e c m ∙ symbol_other n ps e c a)
-      (λ m. past_end (solution_word n ps e) c (omega (arith, m, length_solution_word n ps e)))
-      (cases_lt c n);
+          (λ m. index_solution n ps e c m ∙ symbol_other n ps e c a)
+          (λ m. past_end (solution_word n ps e) c (omega (arith, m, length_solution_word n ps e)))
+          (cases_lt c n);
     }
 
 pub solution_word_unique : (f : FieldName) (n : ℕ) (ps : List ℕ) (e : List (List ℕ)) (v w : List ℕ) → IsSolutionWord f n ps e v → IsSolutionWord f n ps e w → v ≡ w
@@ -188,10 +188,9 @@ no_solution f n ps rows e right w r s p h t q d =
     omega (arith, neg_one_nonzero f, sym value ∙ o i [] l)
 
 pub solvable : (f : FieldName) (n : ℕ) (ps : List ℕ) (rows e : List (List ℕ)) (right : List ℕ) → AreRows f n rows → IsWord f (length rows) right → IsEchelon f (n + 1) (augmented rows right) e → HasPivots (n + 1) ps e → ((w : List ℕ) × IsWord f n w × Solves f rows right w) ↔ (Contains ps n → ⊥)
-solvable f n ps rows e right r s p h =
-    (
-      (λ t o. no_solution f n ps rows e right t.0 r s p h o t.1 t.2),
-      (λ o.
+solvable f n ps rows e right r s p h = (
+  (λ t o. no_solution f n ps rows e right t.0 r s p h o t.1 t.2),
+  (λ o.
       let q = is_solution_word f n ps e p.words h o in
       (solution_word n ps e, q.word, solution_of f n ps rows e right (solution_word n ps e) r s p h o q)),
-    )
+)

@@ -5,6 +5,7 @@
 --   free_word f n ps e j       the word of n symbols that is 1 at column j, the negative of e_i's symbol at j at place i, and 0 elsewhere
 --   free_words f n ps e        the free words of the free columns, in their order
 --   IsFreeWord f n ps e j w    w is the free word of column j, said symbol by symbol
+--   IsFreeTo f n ps e j i w    w is written so far as the first i places
 use Rattle.std.specs.Prelude.{◌≡◌, ◌≢◌, ℕ, zero, suc, ◌<◌, if◌then◌else◌, ◌==◌, Bool, true, false, List, [], ◌∷◌, ◌++◌, length, map, slice_index, Contains}
 use Rattle.lc_algebra.specs.declared.FieldName.{FieldName}
 use Rattle.lc_algebra.specs.Field.{neg}
@@ -35,4 +36,10 @@ pub record IsFreeWord (f : FieldName) (n : ℕ) (ps : List ℕ) (e : List (List 
   pub word : IsWord f n w
   pub here : slice_index w j ≡ 1
   pub places : (i : ℕ) → i < length ps → slice_index w (slice_index ps i) ≡ neg f (entry e i j)
+  pub others : (c : ℕ) → c ≢ j → (Contains ps c → ⊥) → slice_index w c ≡ 0
+
+pub record IsFreeTo (f : FieldName) (n : ℕ) (ps : List ℕ) (e : List (List ℕ)) (j i : ℕ) (w : List ℕ) : Type 0 where
+  pub long : length w ≡ n
+  pub here : slice_index w j ≡ 1
+  pub places : (k : ℕ) → k < i → slice_index w (slice_index ps k) ≡ neg f (entry e k j)
   pub others : (c : ℕ) → c ≢ j → (Contains ps c → ⊥) → slice_index w c ≡ 0
