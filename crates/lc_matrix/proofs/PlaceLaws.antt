@@ -15,8 +15,8 @@ use Rattle.lc_algebra.specs.Matrix.{entry, AreRows, HasPivots, IsEchelon, IsRedu
 use Rattle.lc_algebra.proofs.WordLaws.{index_zero_word, length_zero_word}
 use Rattle.lc_algebra.proofs.SpanLaws.{contains_decided}
 use Rattle.lc_algebra.proofs.SpanSearch.{any_contains}
-use Rattle.lc_matrix.specs.Kernel.{free_columns, free_word, free_words, IsFreeWord, IsFreeTo}
-use Rattle.lc_matrix.proofs.KernelLaws.{place_at, at_place, free_none, free_at_place, free_elsewhere, is_free_word, kernel_generator}
+use Rattle.lc_matrix.specs.FreeWord.{free_columns, free_word, free_words, IsFreeWord, IsFreeTo}
+use Rattle.lc_matrix.proofs.FreeWordLaws.{place_at, at_place, free_none, free_at_place, free_elsewhere, is_free_word, kernel_generator}
 
 pub free_begun : (f : FieldName) (n : ℕ) (ps : List ℕ) (e : List (List ℕ)) (j : ℕ) → j < n → IsFreeTo f n ps e j 0 (set (zero_word n) j 1)
 free_begun f n ps e j l =

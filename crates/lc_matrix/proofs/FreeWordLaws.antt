@@ -38,7 +38,7 @@ use Rattle.lc_algebra.proofs.SpanLaws.{span_word, dot_span, orthogonal_shared, o
 use Rattle.lc_algebra.proofs.ReducedLaws.{dot_nothing, symbol_of_combination, independent_by_places, reduced_independent}
 use Rattle.lc_algebra.proofs.ColumnLaws.{index_restrict, length_restrict}
 use Rattle.lc_algebra.proofs.DimensionLaws.{AreDistinct, pairs_from_distinct, distinct_append, distinct_below, distinct_at_most, dimension_unique}
-use Rattle.lc_matrix.specs.Kernel.{is_place, free_columns, free_symbol, free_word, free_words, IsFreeWord}
+use Rattle.lc_matrix.specs.FreeWord.{is_place, free_columns, free_symbol, free_word, free_words, IsFreeWord}
 
 pub dot_single : (f : FieldName) (u v : List ℕ) (a : ℕ) → ((i : ℕ) → i ≢ a → mul f (slice_index u i) (slice_index v i) ≡ 0) → word_dot f u v ≡ mul f (slice_index u a) (slice_index v a)
 unfolding word_dot
