@@ -1,0 +1,3 @@
+pub mod FlatLaws
+pub mod EliminationLaws
+pub mod FormLaws

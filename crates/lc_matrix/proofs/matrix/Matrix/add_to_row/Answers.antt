@@ -1,0 +1,19 @@
+use Rattle.std.proofs.Common.{◌≡◌, ◌<◌, length, arith}
+use Rattle.lc_matrix.proofs.FlatLaws.{row_added, length_rows_of}
+use Rattle.lc_matrix.proofs.matrix.Matrix.add_to_row.Goals as goal
+
+pub invariant_of-self : goal.invariant_of-self
+invariant_of-self c =
+    let i = c.self.inside in
+    let r = rw (← c.self.view_is) at c.requires.row in
+    let l : c.args.i < i.height = omega (arith, r, length_rows_of i.width i.height i.symbols.items) in
+    let w : length c.args.from.now ≡ i.width = rw (← c.self.view_is) at c.requires.word.long in
+    (row_added i.field i.width i.height c.args.i i.symbols.len c.args.c i.symbols.items c.deref_mut.result.now c.add_scaled.new.to c.args.from.now c.deref_mut.ensures.value (omega (arith, i.symbols.ok)) l c.self.invariant w c.add_scaled.ensures.fits c.add_scaled.ensures.is).0
+
+pub returns-clause-rows : goal.returns-clause-rows
+returns-clause-rows c =
+    let i = c.self.inside in
+    let r = rw (← c.self.view_is) at c.requires.row in
+    let l : c.args.i < i.height = omega (arith, r, length_rows_of i.width i.height i.symbols.items) in
+    let w : length c.args.from.now ≡ i.width = rw (← c.self.view_is) at c.requires.word.long in
+    rw (← c.self.view_is) (row_added i.field i.width i.height c.args.i i.symbols.len c.args.c i.symbols.items c.deref_mut.result.now c.add_scaled.new.to c.args.from.now c.deref_mut.ensures.value (omega (arith, i.symbols.ok)) l c.self.invariant w c.add_scaled.ensures.fits c.add_scaled.ensures.is).1
