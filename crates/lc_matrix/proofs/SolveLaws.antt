@@ -125,7 +125,7 @@ unfolding solution_word
 index_solution n ps e c l = get_or-map (solution_symbol n ps e) (below n) c 0 0 (omega (arith, l, length_below n)) ∙ ap (solution_symbol n ps e) (index_below n c l)
 
 -- a place of a matrix of n + 1 columns that isn't the last
-inner_place : (n : ℕ) (ps : List ℕ) (e : List (List ℕ)) (i : ℕ) → HasPivots (n + 1) ps e → (Contains ps n → ⊥) → i < length ps → slice_index ps i < n
+pub inner_place : (n : ℕ) (ps : List ℕ) (e : List (List ℕ)) (i : ℕ) → HasPivots (n + 1) ps e → (Contains ps n → ⊥) → i < length ps → slice_index ps i < n
 inner_place n ps e i h o l =
     let a : slice_index ps i < n + 1 = h.inside i l in
     ⊎_elim (λ m. m) (λ m. let s : slice_index ps i ≡ n = omega (arith, a, m) in absurd (o (at_place ps i n l s))) (cases_lt (slice_index ps i) n)

@@ -1,2 +1,4 @@
 pub mod Rows
 pub mod Elimination
+pub mod FreeWord
+pub mod Solve

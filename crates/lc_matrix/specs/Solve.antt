@@ -4,6 +4,7 @@
 --   solution_symbol n ps e c      the symbol of the solution at column c
 --   solution_word n ps e          the word of n symbols that is e_i's symbol at column n at place i, and 0 elsewhere
 --   IsSolutionWord f n ps e w     w is that word, said symbol by symbol
+--   IsSolutionTo f n ps e i w     w is written so far as the first i places
 use Rattle.std.specs.Prelude.{◌≡◌, ℕ, ◌<◌, if◌then◌else◌, ◌==◌, List, [], ◌∷◌, ◌++◌, length, map, slice_index, slice_index_or, Contains}
 use Rattle.lc_algebra.specs.declared.FieldName.{FieldName}
 use Rattle.lc_algebra.specs.Word.{IsWord, word_dot}
@@ -29,4 +30,9 @@ solution_word n ps e = map (solution_symbol n ps e) (below n)
 pub record IsSolutionWord (f : FieldName) (n : ℕ) (ps : List ℕ) (e : List (List ℕ)) (w : List ℕ) : Type 0 where
   pub word : IsWord f n w
   pub places : (i : ℕ) → i < length ps → slice_index w (slice_index ps i) ≡ entry e i n
+  pub others : (c : ℕ) → (Contains ps c → ⊥) → slice_index w c ≡ 0
+
+pub record IsSolutionTo (f : FieldName) (n : ℕ) (ps : List ℕ) (e : List (List ℕ)) (i : ℕ) (w : List ℕ) : Type 0 where
+  pub word : IsWord f n w
+  pub places : (k : ℕ) → k < i → slice_index w (slice_index ps k) ≡ entry e k n
   pub others : (c : ℕ) → (Contains ps c → ⊥) → slice_index w c ≡ 0

@@ -4,5 +4,6 @@
 mod forms;
 mod matrix;
 mod reduce;
+mod solve;
 
 pub use matrix::Matrix;
