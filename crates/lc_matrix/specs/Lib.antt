@@ -1,3 +1,5 @@
 pub mod Rows
 pub mod Elimination
 pub mod Kernel
+pub mod FreeWord
+pub mod Solve

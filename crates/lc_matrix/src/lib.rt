@@ -3,7 +3,12 @@
 
 mod forms;
 mod kernel;
+mod laws;
 mod matrix;
 mod reduce;
+mod solve;
+#[cfg(test)]
+mod solve_tests;
 
+pub use laws::rank_of_kernel;
 pub use matrix::Matrix;
