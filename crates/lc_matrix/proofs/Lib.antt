@@ -4,5 +4,4 @@ pub mod FormLaws
 pub mod KernelLaws
 pub mod FreeWordLaws
 pub mod SolveLaws
-pub mod PlaceLaws
 pub mod SolutionLaws
