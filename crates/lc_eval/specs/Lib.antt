@@ -1,0 +1,4 @@
+pub mod Built
+pub mod Value
+pub mod Machine
+pub mod Applied

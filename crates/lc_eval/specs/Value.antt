@@ -1,0 +1,28 @@
+-- The values and bindings of `lc_language` that those of the machine stand for.
+--   value_of v, values_of vs      the value; the values of a list
+--   binding_of b                  the binding
+--   refused_of r                  the fault
+use Rattle.std.specs.Prelude.{List, map, None, string_bytes}
+use Rattle.lc_language.specs.Value as language
+use Rattle.lc_language.specs.Evaluation as evaluation
+use Rattle.lc_eval.specs.declared.values.Value.{Value}
+use Rattle.lc_eval.specs.declared.values.Value.TheVariants.{Number, Field, Numbers, Lists, Code, Truth}
+use Rattle.lc_eval.specs.declared.values.Binding.{Binding}
+use Rattle.lc_eval.specs.declared.refusals.Refused.{Refused}
+
+abbrev pub value_of : Value → language.Value
+value_of (Number n) = language.number n
+value_of (Field f) = language.field f
+value_of (Numbers u) = language.numbers u.items
+value_of (Lists rows) = language.lists (map (λ row. row.items) rows.items)
+value_of (Code C) = language.code C None
+value_of (Truth b) = language.truth b
+
+abbrev pub values_of : List Value → List language.Value
+values_of vs = map value_of vs
+
+abbrev pub binding_of : Binding → language.Binding
+binding_of b = record { name = string_bytes b.name; value = value_of b.value }
+
+abbrev pub refused_of : Refused → evaluation.Refused
+refused_of r = record { number = r.number; place = r.place; values = r.values.items }

@@ -1,0 +1,69 @@
+//! The statements of a script, one after another.
+ghost use Rattle.std.specs.Prelude.{◌≡◌, [], IfOk, IfErr};
+ghost use Rattle.lc_parse.specs.Views.{script_of};
+ghost use Rattle.lc_eval.specs.Machine.{State, Does};
+
+use crate::values::Binding;
+use lc_field::NoMemory;
+use lc_parse::Script;
+use std::alloc::Global;
+use std::marker::Model;
+
+/// What a step of the machine answers.
+#[derive(Drop)]
+pub enum Step {
+    /// the line that the statement prints, with its newline
+    Line(Vec<u8>),
+    /// the statement assigned a value to a name, and prints nothing
+    Silent,
+    /// the fault line, with its newline; no statement is done behind it
+    Fault(Vec<u8>),
+    /// no statement is left
+    End,
+}
+
+/// The state between two statements of a script: the names that are bound, and the statements that are left.
+#[derive(Drop)]
+pub struct Machine {
+    script: Script,
+    next: usize,
+    bindings: Vec<Binding>,
+}
+
+impl Model for Machine {
+    ghost use Rattle.std.specs.Prelude.{◌≤◌, length, map, drop, reverse};
+    ghost use Rattle.std.specs.Coded.{codes};
+    ghost use Rattle.lc_parse.specs.contracts.tree.Expr as expr;
+    ghost use Rattle.lc_eval.specs.Value.{binding_of};
+    ghost use Rattle.lc_eval.specs.Machine.{State};
+
+    ghost Value = { State };
+
+    ghost view = { λ m. record { bindings = reverse (map binding_of m.bindings.items); left = drop m.next m.script.statements.items } };
+
+    ghost coded = { Prim.hlevel (codes, expr.the_row.coded) };
+
+    ghost invariant = { λ m. m.next ≤ length m.script.statements.items };
+}
+
+impl Machine {
+    /// The machine at the first statement of the script, with no name bound. The script is dropped where memory is refused.
+    pub fn start(alloc: Global, script: Script) -> Result<Machine, NoMemory>
+        ensures start { IfOk result (λ m. m ≡ record { bindings = []; left = script.statements.items }) }
+    {
+        Ok(Machine {
+            script,
+            next: 0,
+            bindings: Vec::new(alloc),
+        })
+    }
+
+    /// Does one statement: evaluates its expression, and binds the value to the statement's name or answers the line that it
+    /// prints. A fault is the last answer but `End`. Where memory is refused the machine is as before.
+    pub fn step(&mut self, _alloc: Global) -> Result<Step, NoMemory>
+        ensures does { IfOk result (λ step. Does self.old step self.new) }
+        ensures kept { IfErr result (λ _. self.new ≡ self.old) }
+    {
+        Err(NoMemory)
+    }
+}
