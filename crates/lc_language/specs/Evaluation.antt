@@ -85,11 +85,15 @@ abbrev pub Applies : Call → ℕ → List Kind → Exprs → Outcomes → Outco
 Applies c place kinds es (one_refused r) o = o ≡ refused r
 Applies c place kinds es (all_give vs) o = MatchOption (first_misfit kinds es vs) (AppliesTo c place (as_kinds kinds vs) o) (λ p. o ≡ refuse_at 45 p)
 
--- the first fault, from the left
-abbrev pub Joins : Outcome → Outcomes → Outcomes → Type 0
-Joins (refused r) rest os = os ≡ one_refused r
-Joins (gives v) (one_refused r) os = os ≡ one_refused r
-Joins (gives v) (all_give vs) os = os ≡ all_give (v ∷ vs)
+-- a value, and then those of the rest or its first fault
+abbrev pub Joins : Value → Outcomes → Outcomes → Type 0
+Joins v (one_refused r) os = os ≡ one_refused r
+Joins v (all_give vs) os = os ≡ all_give (v ∷ vs)
+
+-- the first fault, from the left: behind it nothing is evaluated
+abbrev pub GoesOn : Outcome → (Outcomes → Type 0) → Outcomes → Type 0
+GoesOn (refused r) Later os = os ≡ one_refused r
+GoesOn (gives v) Later os = (rest : Outcomes) × Later rest × Joins v rest os
 
 abbrev pub ListGives : Exprs → Outcomes → Outcome → Type 0
 ListGives es (one_refused r) o = o ≡ refused r
@@ -110,7 +114,7 @@ abbrev mutual
 
   pub EvaluatesAll : List Call → List Binding → Exprs → Outcomes → Type 0
   EvaluatesAll table env none os = os ≡ all_give []
-  EvaluatesAll table env (more e es) os = (o : Outcome) × ((rest : Outcomes) × Evaluates table env e o × EvaluatesAll table env es rest × Joins o rest os)
+  EvaluatesAll table env (more e es) os = (o : Outcome) × Evaluates table env e o × GoesOn o (λ rest. EvaluatesAll table env es rest) os
 
 pub data Step : Type 0 where
   binds : Binding → Step
