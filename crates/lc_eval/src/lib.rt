@@ -2,8 +2,15 @@
 #![tactic(auto)]
 
 mod calls;
+mod copies;
+mod evaluate;
+mod kinds;
+mod lines;
+mod lists;
 mod machine;
 mod refusals;
+mod statement;
+mod table;
 mod values;
 
 pub use machine::{Machine, Step};

@@ -3,6 +3,7 @@ ghost use Rattle.std.specs.Prelude.{◌≡◌, [], IfOk, IfErr};
 ghost use Rattle.lc_parse.specs.Views.{script_of};
 ghost use Rattle.lc_eval.specs.Machine.{State, Does};
 
+use crate::statement::{Effect, effect_of};
 use crate::values::Binding;
 use lc_field::NoMemory;
 use lc_parse::Script;
@@ -60,10 +61,27 @@ impl Machine {
 
     /// Does one statement: evaluates its expression, and binds the value to the statement's name or answers the line that it
     /// prints. A fault is the last answer but `End`. Where memory is refused the machine is as before.
-    pub fn step(&mut self, _alloc: Global) -> Result<Step, NoMemory>
+    pub fn step(&mut self, alloc: Global) -> Result<Step, NoMemory>
         ensures does { IfOk result (λ step. Does self.old step self.new) }
         ensures kept { IfErr result (λ _. self.new ≡ self.old) }
     {
-        Err(NoMemory)
+        let Some(statement) = self.script.statements.get(self.next) else {
+            return Ok(Step::End);
+        };
+        match effect_of(alloc, &self.bindings, statement)? {
+            Effect::Binds(binding) => {
+                self.bindings.push(binding)?;
+                self.next += 1;
+                Ok(Step::Silent)
+            }
+            Effect::Prints(line) => {
+                self.next += 1;
+                Ok(Step::Line(line))
+            }
+            Effect::Fails(line) => {
+                self.next = self.script.statements.len();
+                Ok(Step::Fault(line))
+            }
+        }
     }
 }

@@ -1,0 +1,76 @@
+-- What a statement does, and what a step of the machine.
+--   alone_fault, alone_given, query_alone      an expression that stands alone, and a query
+--   first_left                                 the statement that is next, and those behind it
+--   silent_step, line_step, fault_step         a step that binds a name, that prints a line, and that ends in a fault
+use Rattle.std.proofs.Common.{◌≡◌, ℕ, zero, suc, ◌+◌, ◌<◌, ◌++◌, [], ◌∷◌, length, drop, get_or, arith, add-one, List, Some, None, Result, Ok, Err, refl, sym, ap, subst, ◌∙◌}
+use Rattle.std.specs.Global.{Vec}
+use Rattle.std.proofs.lemmas.List.{drop_all}
+use Rattle.lc_language.specs.declared.Call.{Call}
+use Rattle.lc_language.specs.Tree as tree
+use Rattle.lc_language.specs.Value as language
+use Rattle.lc_language.specs.Print.{value_line}
+use Rattle.lc_language.specs.Evaluation.{gives, refused, prints, fails, fail_with, Step, Evaluates, StepsOf, StepsAsQuery, query_of}
+use Rattle.lc_eval.specs.Built.{built_calls}
+use Rattle.lc_eval.specs.declared.values.Value.{Value}
+use Rattle.lc_eval.specs.declared.refusals.Stop.{Stop}
+use Rattle.lc_eval.specs.declared.refusals.Stop.TheVariants as stop
+use Rattle.lc_eval.specs.Value.{value_of, refused_of}
+use Rattle.lc_eval.specs.Applied.{Answers}
+use Rattle.lc_eval.specs.Evaluated.{env_of, Asked}
+use Rattle.lc_parse.specs.declared.tree.Statement.{Statement}
+use Rattle.lc_parse.specs.Views.{statement_of}
+use Rattle.lc_eval.specs.declared.values.Binding.{Binding}
+use Rattle.lc_language.specs.Evaluation.{Refused}
+use Rattle.lc_eval.specs.declared.machine.Step.TheVariants.{Line, Silent, Fault}
+use Rattle.lc_eval.specs.Machine.{State, Does}
+use Rattle.lc_eval.specs.Value.{binding_of}
+use Rattle.lc_language.specs.Print.{fault_line}
+use Rattle.lc_language.specs.Evaluation.{Steps, binds}
+use Rattle.lc_eval.proofs.Bindings.{env_last}
+
+module _ (env : List language.Binding) (e : tree.Expr) where
+  pub alone_fault : (s : Stop) → query_of built_calls e ≡ None → Answers (Err s) (Evaluates built_calls env e) → Asked (Err s) (StepsOf built_calls env None e)
+  unfolding fail_with
+  alone_fault (stop.Refused r) n h = rw n (refused (refused_of r), h, refl)
+  alone_fault stop.NoMemory n h = tt
+
+  pub alone_given : (v : Value) (l : List ℕ) → query_of built_calls e ≡ None → Evaluates built_calls env e (gives (value_of v)) → l ≡ value_line (value_of v) → StepsOf built_calls env None e (prints l)
+  unfolding fail_with
+  alone_given v l n h is = rw n (gives (value_of v), h, ap prints is)
+
+  query_steps : (c : Call) (place : ℕ) (x : List ℕ) (es : tree.Exprs) (step : Step) → query_of built_calls e ≡ Some c → e ≡ tree.call place x es → StepsAsQuery built_calls env c (tree.call place x es) step → StepsOf built_calls env None e step
+  query_steps c place x es step q is h =
+      let at : StepsAsQuery built_calls env c e step = subst (λ y. StepsAsQuery built_calls env c y step) (sym is) h in
+      rw q at
+
+  pub query_alone : (c : Call) (place : ℕ) (x : List ℕ) (es : tree.Exprs) (r : Result (Vec ℕ) Stop) → query_of built_calls e ≡ Some c → e ≡ tree.call place x es → Asked r (StepsAsQuery built_calls env c (tree.call place x es)) → Asked r (StepsOf built_calls env None e)
+  query_alone c place x es (Ok l) q is h = query_steps c place x es (prints l.items) q is h
+  query_alone c place x es (Err (stop.Refused r)) q is h = query_steps c place x es (fails (refused_of r)) q is h
+  query_alone c place x es (Err stop.NoMemory) q is h = tt
+
+-- ---- a step of the machine
+
+first_left : (ss : List Statement) (next : ℕ) (s : Statement) → next < length ss → s ≡ get_or ss next s → drop next ss ≡ s ∷ drop (next + 1) ss
+first_left ss next s l is = rw add-one (left ss next s l ∙ ap (λ (x : Statement). x ∷ drop (suc next) ss) (sym is))
+  where
+    left : (ss : List Statement) (next : ℕ) (d : Statement) → next < length ss → drop next ss ≡ get_or ss next d ∷ drop (suc next) ss
+    left [] next d l = absurd (omega (arith, l))
+    left (s ∷ ss) zero d l = refl
+    left (s ∷ ss) (suc next) d l = left ss next d (omega (arith, l))
+
+abbrev state_at : List Binding → List Statement → ℕ → State
+state_at bs ss next = record { bindings = env_of bs; left = drop next ss }
+
+module _ (old : State) (bs : List Binding) (ss : List Statement) (next : ℕ) (s : Statement) where
+  pub silent_step : (now : List Binding) (b : Binding) → state_at bs ss next ≡ old → next < length ss → s ≡ get_or ss next s → now ≡ bs ++ b ∷ [] → Steps built_calls (env_of bs) (statement_of s) (binds (binding_of b)) → Does old Silent (state_at now ss (next + 1))
+  silent_step now b view l is n h =
+      let bound : state_at now ss (next + 1) ≡ record { bindings = binding_of b ∷ env_of bs; left = drop (next + 1) ss } = ap (λ (env : List language.Binding). record { bindings = env; left = drop (next + 1) ss }) (ap env_of n ∙ env_last bs b) in
+      subst (λ o. Does o Silent (state_at now ss (next + 1))) view (s, (drop (next + 1) ss, first_left ss next s l is, (binding_of b, h, bound)))
+
+  pub line_step : (text : Vec ℕ) → state_at bs ss next ≡ old → next < length ss → s ≡ get_or ss next s → Steps built_calls (env_of bs) (statement_of s) (prints text.items) → Does old (Line text) (state_at bs ss (next + 1))
+  line_step text view l is h = subst (λ o. Does o (Line text) (state_at bs ss (next + 1))) view (s, (drop (next + 1) ss, first_left ss next s l is, (h, refl)))
+
+  pub fault_step : (text : Vec ℕ) (r : Refused) (n : ℕ) → state_at bs ss next ≡ old → next < length ss → s ≡ get_or ss next s → Steps built_calls (env_of bs) (statement_of s) (fails r) → text.items ≡ fault_line r.number r.place r.values → n ≡ length ss → Does old (Fault text) (state_at bs ss n)
+  fault_step text r n view l is h line ends =
+      let none : state_at bs ss n ≡ record { bindings = env_of bs; left = [] } = ap (λ (left : List Statement). record { bindings = env_of bs; left = left }) (drop_all n ss (omega arith)) in
+      subst (λ o. Does o (Fault text) (state_at bs ss n)) view (s, (drop (next + 1) ss, first_left ss next s l is, (r, h, line, none)))

@@ -1,0 +1,107 @@
+//! What a statement does.
+ghost use Rattle.std.specs.Prelude.{◌≡◌, ℕ, true, List, None, Contains, IfOk};
+ghost use Rattle.lc_language.specs.Tree as tree;
+ghost use Rattle.lc_language.specs.Calls.{is_query};
+ghost use Rattle.lc_language.specs.Evaluation.{Steps, StepsOf, StepsAsQuery};
+ghost use Rattle.lc_parse.specs.Views.{tree_of, trees_of, statement_of};
+ghost use Rattle.lc_eval.specs.Built.{built_calls};
+ghost use Rattle.lc_eval.specs.Evaluated.{env_of, Asked, Affects, AffectsOrFails, IsQueryOf};
+
+use crate::calls::answer;
+use crate::evaluate::{evaluate, prepare};
+use crate::lines::value_line;
+use crate::refusals::Stop;
+use crate::table::{call_named, is_query};
+use crate::values::Binding;
+use lc_field::NoMemory;
+use lc_language::Call;
+use lc_parse::{Expr, Node, Statement};
+use lc_print::fault_line;
+use std::alloc::Global;
+
+// What a statement does.
+#[derive(Drop)]
+pub(crate) enum Effect {
+    // it binds a name to a value
+    Binds(Binding),
+    // it prints a line
+    Prints(Vec<u8>),
+    // it has a fault, whose line this is
+    Fails(Vec<u8>),
+}
+
+// What a statement does.
+pub(crate) fn effect_of(
+    alloc: Global,
+    bindings: &[Binding],
+    statement: &Statement,
+) -> Result<Effect, NoMemory>
+    ensures { IfOk result (λ effect. Affects effect (Steps built_calls (env_of bindings.now) (statement_of statement.now))) }
+{
+    match done(alloc, bindings, statement) {
+        Ok(effect) => Ok(effect),
+        Err(Stop::Refused(refused)) => {
+            let line = fault_line(alloc, refused.number, refused.place, &refused.values)?;
+            Ok(Effect::Fails(line))
+        }
+        Err(Stop::NoMemory) => Err(NoMemory),
+    }
+}
+
+// What a statement does, or its fault.
+fn done(alloc: Global, bindings: &[Binding], statement: &Statement) -> Result<Effect, Stop>
+    ensures { AffectsOrFails result (Steps built_calls (env_of bindings.now) (statement_of statement.now)) }
+{
+    match &statement.target {
+        Some(name) => {
+            let value = evaluate(alloc, bindings, &statement.expr)?;
+            let name = name.clone()?;
+            Ok(Effect::Binds(Binding { name, value }))
+        }
+        None => Ok(Effect::Prints(printed(alloc, bindings, &statement.expr)?)),
+    }
+}
+
+// The line of an expression that stands alone.
+fn printed(alloc: Global, bindings: &[Binding], expr: &Expr) -> Result<Vec<u8>, Stop>
+    ensures { Asked result (StepsOf built_calls (env_of bindings.now) None (tree_of expr.now)) }
+{
+    match query_of(expr) {
+        Some((call, arguments)) => ask(alloc, bindings, call, expr.place, arguments),
+        None => {
+            let value = evaluate(alloc, bindings, expr)?;
+            Ok(value_line(alloc, &value)?)
+        }
+    }
+}
+
+// The query that an expression is, and its arguments.
+fn query_of(expr: &Expr) -> Option<(Call, &[Expr])>
+    ensures { IsQueryOf expr.now result }
+{
+    let Node::Call(name, arguments) = &expr.node else {
+        return None;
+    };
+    let call = call_named(name.as_str())?;
+    if is_query(call) {
+        Some((call, arguments.as_slice()))
+    } else {
+        None
+    }
+}
+
+// The line of a query of these arguments.
+fn ask(
+    alloc: Global,
+    bindings: &[Binding],
+    call: Call,
+    place: usize,
+    arguments: &[Expr],
+) -> Result<Vec<u8>, Stop>
+    requires built { Contains built_calls call }
+    requires query { is_query call ≡ true }
+    ensures { (x : List ℕ) → Asked result (StepsAsQuery built_calls (env_of bindings.now) call (tree.call place x (trees_of arguments.now))) }
+{
+    let values = prepare(alloc, bindings, call, place, arguments)?;
+    answer(alloc, call, place, &values)
+}
