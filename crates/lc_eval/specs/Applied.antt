@@ -3,7 +3,7 @@
 --   AreArguments c vs            the values are of the kinds that the call takes
 --   Answers r P                  r is an answer, a value or a fault, of which P holds, unless memory ran out
 --   IsRefusedOr r P o            r is the fault o, or where there is none P holds of what it gives; unless memory ran out
-use Rattle.std.specs.Prelude.{◌≡◌, ℕ, IsTrue, List, [], ◌∷◌, length, Option, Some, Result, Ok, Err}
+use Rattle.std.specs.Prelude.{◌≡◌, IsTrue, List, [], ◌∷◌, length, Some, Result, Ok, Err}
 use Rattle.lc_language.specs.declared.Call.{Call}
 use Rattle.lc_language.specs.declared.Kind.{Kind}
 use Rattle.lc_language.specs.Value as language

@@ -2,3 +2,4 @@ pub mod Built
 pub mod Value
 pub mod Machine
 pub mod Applied
+pub mod Scan

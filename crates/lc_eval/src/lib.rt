@@ -2,6 +2,7 @@
 #![tactic(auto)]
 
 mod calls;
+mod least;
 mod machine;
 mod refusals;
 mod values;
