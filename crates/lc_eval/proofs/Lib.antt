@@ -1,1 +1,8 @@
-mod ScanLaws
+pub mod ScanLaws
+pub mod TableLaws
+pub mod ArgumentLaws
+pub mod AnswerLaws
+pub mod RowLaws
+pub mod ConstructorLaws
+pub mod PropertyLaws
+pub mod QueryLaws

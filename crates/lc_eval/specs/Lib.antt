@@ -3,3 +3,5 @@ pub mod Value
 pub mod Machine
 pub mod Applied
 pub mod Scan
+pub mod Made
+pub mod Rows

@@ -4,10 +4,12 @@
 --   Reaches f n rows u w            w is the sum of u and a word of the rows
 --   ReachesBelow f n c g rows u w   so it is of u, a multiple of g by an element below c, and a word of the rows
 --   IsLeastOr f n rows found        the first nonzero word of the rows, or none where they have none
+--   IsLeastLine f n rows text       the line that tells it
 use Rattle.std.specs.Prelude.{◌≡◌, ℕ, ◌<◌, ◌⊎◌, List, Option, Some, None}
 use Rattle.lc_algebra.specs.declared.FieldName.{FieldName}
 use Rattle.lc_algebra.specs.Word.{word_sum, scale, weight, ComesNoLater}
 use Rattle.lc_algebra.specs.Span.{InSpan, IsLeast}
+use Rattle.lc_language.specs.Print.{least_line, least_none_line}
 
 abbrev pub Precedes : List ℕ → List ℕ → Type 0
 Precedes u w = (0 < weight u) × ComesNoLater u w
@@ -26,3 +28,8 @@ ReachesBelow f n c g rows u w = (d : ℕ) × (d < c) × Reaches f n rows (word_s
 abbrev pub IsLeastOr : FieldName → ℕ → List (List ℕ) → Option (List ℕ) → Type 0
 IsLeastOr f n rows (Some w) = IsLeast f n rows w
 IsLeastOr f n rows None = (w : List ℕ) → InSpan f n rows w → weight w ≡ 0
+
+abbrev pub IsLeastLine : FieldName → ℕ → List (List ℕ) → List ℕ → Type 0
+IsLeastLine f n rows text =
+    ((w : List ℕ) × IsLeast f n rows w × (text ≡ least_line (weight w) w))
+    ⊎ (((w : List ℕ) → InSpan f n rows w → weight w ≡ 0) × (text ≡ least_none_line))
