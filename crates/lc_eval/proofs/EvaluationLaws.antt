@@ -20,8 +20,8 @@ use Rattle.lc_eval.specs.declared.values.Value.{Value}
 use Rattle.lc_eval.specs.declared.refusals.Stop.{Stop}
 use Rattle.lc_eval.specs.declared.refusals.Stop.TheVariants as stop
 use Rattle.lc_eval.specs.Value.{value_of, values_of, refused_of}
-use Rattle.lc_eval.specs.Applied.{FitKinds, AreArguments, Answers}
-use Rattle.lc_eval.specs.Evaluated.{AnswersAll, IsFault, FitsAll, Prepares, Asked, QueriesTo, Follows, FollowsAsked}
+use Rattle.lc_eval.specs.Applied.{FitKinds, AreArguments, Answers, AnswersLine, QueriesTo}
+use Rattle.lc_eval.specs.Evaluated.{AnswersAll, IsFault, FitsAll, Prepares, Follows, FollowsAsked}
 use Rattle.lc_eval.proofs.KindLaws.{count_is, signature_counts, fit_count}
 
 record GaveAll (Later : Outcomes → Type 0) (o : Outcome) (vs : List language.Value) : Type 0 where
@@ -170,11 +170,11 @@ query_prepared env place x es c os step p h =
     (λ kinds t. (t.0, t.1, queries_kinds c place kinds es t.0 os step t.2 h))
     p
 
-pub query_fault : (env : List language.Binding) (place : ℕ) (x : List ℕ) (es : tree.Exprs) (c : Call) (s : Stop) → AnswersAll (Err s) (Prepares env c place es) → Asked (Err s) (StepsAsQuery built_calls env c (tree.call place x es))
+pub query_fault : (env : List language.Binding) (place : ℕ) (x : List ℕ) (es : tree.Exprs) (c : Call) (s : Stop) → AnswersAll (Err s) (Prepares env c place es) → AnswersLine (Err s) (StepsAsQuery built_calls env c (tree.call place x es))
 query_fault env place x es c (stop.Refused r) p = query_prepared env place x es c (one_refused (refused_of r)) (fails (refused_of r)) p refl
 query_fault env place x es c stop.NoMemory p = tt
 
-pub query_asked : (env : List language.Binding) (place : ℕ) (x : List ℕ) (es : tree.Exprs) (c : Call) (vs : List language.Value) (r : Result (Vec ℕ) Stop) → Prepares env c place es (all_give vs) → Asked r (QueriesTo c place vs) → Asked r (StepsAsQuery built_calls env c (tree.call place x es))
+pub query_asked : (env : List language.Binding) (place : ℕ) (x : List ℕ) (es : tree.Exprs) (c : Call) (vs : List language.Value) (r : Result (Vec ℕ) Stop) → Prepares env c place es (all_give vs) → AnswersLine r (QueriesTo c place vs) → AnswersLine r (StepsAsQuery built_calls env c (tree.call place x es))
 query_asked env place x es c vs (Ok l) p h = query_prepared env place x es c (all_give vs) (evaluation.prints l.items) p h
 query_asked env place x es c vs (Err (stop.Refused r)) p h = query_prepared env place x es c (all_give vs) (fails (refused_of r)) p h
 query_asked env place x es c vs (Err stop.NoMemory) p h = tt

@@ -15,8 +15,8 @@ use Rattle.lc_eval.specs.declared.values.Value.{Value}
 use Rattle.lc_eval.specs.declared.refusals.Stop.{Stop}
 use Rattle.lc_eval.specs.declared.refusals.Stop.TheVariants as stop
 use Rattle.lc_eval.specs.Value.{value_of, refused_of}
-use Rattle.lc_eval.specs.Applied.{Answers}
-use Rattle.lc_eval.specs.Evaluated.{env_of, Asked}
+use Rattle.lc_eval.specs.Applied.{Answers, AnswersLine}
+use Rattle.lc_eval.specs.Evaluated.{env_of}
 use Rattle.lc_parse.specs.declared.tree.Statement.{Statement}
 use Rattle.lc_parse.specs.Views.{statement_of}
 use Rattle.lc_eval.specs.declared.values.Binding.{Binding}
@@ -29,7 +29,7 @@ use Rattle.lc_language.specs.Evaluation.{Steps, binds}
 use Rattle.lc_eval.proofs.Bindings.{env_last}
 
 module _ (env : List language.Binding) (e : tree.Expr) where
-  pub alone_fault : (s : Stop) → query_of built_calls e ≡ None → Answers (Err s) (Evaluates built_calls env e) → Asked (Err s) (StepsOf built_calls env None e)
+  pub alone_fault : (s : Stop) → query_of built_calls e ≡ None → Answers (Err s) (Evaluates built_calls env e) → AnswersLine (Err s) (StepsOf built_calls env None e)
   unfolding fail_with
   alone_fault (stop.Refused r) n h = rw n (refused (refused_of r), h, refl)
   alone_fault stop.NoMemory n h = tt
@@ -43,7 +43,7 @@ module _ (env : List language.Binding) (e : tree.Expr) where
       let at : StepsAsQuery built_calls env c e step = subst (λ y. StepsAsQuery built_calls env c y step) (sym is) h in
       rw q at
 
-  pub query_alone : (c : Call) (place : ℕ) (x : List ℕ) (es : tree.Exprs) (r : Result (Vec ℕ) Stop) → query_of built_calls e ≡ Some c → e ≡ tree.call place x es → Asked r (StepsAsQuery built_calls env c (tree.call place x es)) → Asked r (StepsOf built_calls env None e)
+  pub query_alone : (c : Call) (place : ℕ) (x : List ℕ) (es : tree.Exprs) (r : Result (Vec ℕ) Stop) → query_of built_calls e ≡ Some c → e ≡ tree.call place x es → AnswersLine r (StepsAsQuery built_calls env c (tree.call place x es)) → AnswersLine r (StepsOf built_calls env None e)
   query_alone c place x es (Ok l) q is h = query_steps c place x es (prints l.items) q is h
   query_alone c place x es (Err (stop.Refused r)) q is h = query_steps c place x es (fails (refused_of r)) q is h
   query_alone c place x es (Err stop.NoMemory) q is h = tt

@@ -2,6 +2,8 @@
 --   named, unnamed, named_built      the row that is found by its name
 --   kinds_at, passed                 the row that is found by its call
 --   signature_fits, signature_misses      the kinds, where a call takes that many
+--   kinds_fit                        the arguments of a call are of its kinds
+--   IsNone c ds, absent              a built call is one of those
 use Rattle.std.proofs.Common.{◌≡◌, ◌≢◌, ℕ, zero, suc, ◌<◌, ◌≤◌, Bool, true, false, ◌==◌, nat_eq, cond, List, [], ◌∷◌, length, map, find, Contains, slice_index_or, Option, Some, None, is_some, refl, sym, ap, subst, ◌∙◌, arith, ⊎_elim, true≢false}
 use Rattle.std.specs.Cmp.Lexicographic.{pointwise}
 use Rattle.std.proofs.lemmas.Bool.Decides.{nat_tests}
@@ -12,7 +14,9 @@ use Rattle.lc_language.specs.declared.Kind.{Kind}
 use Rattle.lc_language.specs.Value.{same_bytes}
 use Rattle.lc_language.specs.Calls.{name_of, one, signatures, call_named, signature_for}
 use Rattle.lc_eval.specs.Built.{built_calls}
-use Rattle.lc_eval.specs.declared.table.Row.{Row}
+use Rattle.lc_eval.specs.declared.calls.Row.{Row}
+use Rattle.lc_language.specs.Value.{Value}
+use Rattle.lc_eval.specs.Applied.{FitKinds, AreArguments}
 
 same_swapped : (u v : List ℕ) → pointwise nat_eq u v ≡ same_bytes v u
 unfolding same_bytes
@@ -95,3 +99,29 @@ signature_fits c kinds n e l = rw e (let t : (length kinds == n) ≡ true = grin
 pub signature_misses : (c : Call) (kinds : List Kind) (n : ℕ) → signatures c ≡ one kinds → length kinds ≢ n → signature_for c n ≡ None
 unfolding signature_for one
 signature_misses c kinds n e l = rw e (let t : (length kinds == n) ≡ false = grind (arith, nat_tests) in rw t refl)
+
+-- ---- the arguments of each call
+
+pub kinds_fit : (c d : Call) (kinds : List Kind) (vs : List Value) → c ≡ d → signatures d ≡ one kinds → AreArguments c vs → FitKinds kinds vs
+unfolding signature_for one
+kinds_fit c d kinds vs e s a =
+    let h : signature_for c (length vs) ≡ cond (length kinds == length vs) (Some kinds) None = rw (e, s) refl in
+    ⊎_elim
+    (λ (t : (length kinds == length vs) ≡ true). let k : Some kinds ≡ Some a.0 = sym (rw t at h) ∙ a.1 in let n : a.0 ≡ kinds = cc in subst (λ u. FitKinds u vs) n a.2)
+    (λ (t : (length kinds == length vs) ≡ false). let k : None ≡ Some a.0 = sym (rw t at h) ∙ a.1 in absurd (true≢false (sym (ap is_some k))))
+    (cases_Bool (length kinds == length vs))
+
+-- ---- the built calls are all
+
+-- c is none of these
+abbrev pub IsNone : Call → List Call → Type 0
+IsNone c [] = Unit {0}
+IsNone c (d ∷ ds) = (c ≢ d) × IsNone c ds
+
+absent_from : (c : Call) (ds : List Call) → Contains ds c → IsNone c ds → ⊥
+absent_from c [] m n = absurd (omega (arith, m.1))
+absent_from c (d ∷ ds) (zero, l, e) n = n.0 (sym e)
+absent_from c (d ∷ ds) (suc k, l, e) n = absent_from c ds (k, omega (arith, l), e) n.1
+
+pub absent : (c : Call) → Contains built_calls c → IsNone c built_calls → ⊥
+absent c m n = absent_from c built_calls m n

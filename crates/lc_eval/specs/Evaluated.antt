@@ -4,8 +4,6 @@
 --   IsFault o os                 o is a fault, and os that fault
 --   FitsAll kinds es vs os       the values as their kinds ask for, or the fault of the first that is not of its kind
 --   Prepares env c place es os   the arguments of a call, counted, evaluated and of their kinds; or the first fault
---   Asked r P                    r is the line of a query or its fault, of which P holds, unless memory ran out
---   QueriesTo c place vs step    what a query does, its arguments being of their kinds
 --   Follows c place os o, FollowsAsked c place os step      what is answered where the arguments are prepared
 --   Affects e P                  e is what a statement does, of which P holds
 --   AffectsOrFails r P           r is what a statement does, or its fault, of which P holds, unless memory ran out
@@ -21,11 +19,11 @@ use Rattle.lc_parse.specs.Views.{tree_of, trees_of}
 use Rattle.std.specs.Borrow.{Bor}
 use Rattle.lc_language.specs.Value as language
 use Rattle.lc_language.specs.Calls.{signature_for, is_query}
-use Rattle.lc_language.specs.Refusal.{refusal_of}
 use Rattle.lc_language.specs.Print.{fault_line}
 use Rattle.lc_language.specs.Evaluation as evaluation
-use Rattle.lc_language.specs.Evaluation.{Outcome, Outcomes, refused, all_give, one_refused, refuse_at, refuse_call, first_misfit, as_kinds, EvaluatesAll, AppliesTo, Step, prints, binds, fails, Queries, fail_with, query_of}
+use Rattle.lc_language.specs.Evaluation.{Outcome, Outcomes, refused, all_give, one_refused, refuse_at, first_misfit, as_kinds, EvaluatesAll, AppliesTo, Step, prints, binds, fails, query_of}
 use Rattle.lc_eval.specs.Built.{built_calls}
+use Rattle.lc_eval.specs.Applied.{QueriesTo}
 use Rattle.lc_eval.specs.Value.{values_of, binding_of, refused_of}
 use Rattle.lc_eval.specs.declared.values.Value.{Value}
 use Rattle.lc_eval.specs.declared.values.Binding.{Binding}
@@ -53,14 +51,6 @@ abbrev pub Prepares : List language.Binding → Call → ℕ → Exprs → Outco
 Prepares env c place es os =
     MatchOption (signature_for c (count_of es)) (IsFault (refuse_at 46 place) os)
     (λ kinds. (before : Outcomes) × EvaluatesAll built_calls env es before × FitsAll kinds es before os)
-
-abbrev pub Asked : Result (Vec ℕ) Stop → (Step → Type 0) → Type 0
-Asked (Ok l) P = P (prints l.items)
-Asked (Err (stop.Refused r)) P = P (fails (refused_of r))
-Asked (Err stop.NoMemory) P = Unit {0}
-
-abbrev pub QueriesTo : Call → ℕ → List language.Value → Step → Type 0
-QueriesTo c place vs step = MatchOption (refusal_of c vs) (Queries c vs step) (λ r. step ≡ fail_with (refuse_call place r))
 
 abbrev pub Follows : Call → ℕ → Outcomes → Outcome → Type 0
 Follows c place (one_refused r) o = o ≡ refused r

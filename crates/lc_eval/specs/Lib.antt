@@ -3,3 +3,6 @@ pub mod Value
 pub mod Machine
 pub mod Applied
 pub mod Evaluated
+pub mod Scan
+pub mod Made
+pub mod Rows

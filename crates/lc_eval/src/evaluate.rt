@@ -9,12 +9,11 @@ ghost use Rattle.lc_eval.specs.Value.{value_of, values_of};
 ghost use Rattle.lc_eval.specs.Applied.{Answers, AreArguments};
 ghost use Rattle.lc_eval.specs.Evaluated.{env_of, AnswersAll, Prepares};
 
-use crate::calls::apply;
+use crate::calls::{apply, call_named, is_query, signature};
 use crate::copies::copy_of;
 use crate::kinds::fitted;
 use crate::lists::list_of;
 use crate::refusals::{Stop, fault};
-use crate::table::{call_named, is_query, signature};
 use crate::values::{Binding, Value};
 use lc_language::Call;
 use lc_parse::{Expr, Node};

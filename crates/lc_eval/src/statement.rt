@@ -5,13 +5,13 @@ ghost use Rattle.lc_language.specs.Calls.{is_query};
 ghost use Rattle.lc_language.specs.Evaluation.{Steps, StepsOf, StepsAsQuery};
 ghost use Rattle.lc_parse.specs.Views.{tree_of, trees_of, statement_of};
 ghost use Rattle.lc_eval.specs.Built.{built_calls};
-ghost use Rattle.lc_eval.specs.Evaluated.{env_of, Asked, Affects, AffectsOrFails, IsQueryOf};
+ghost use Rattle.lc_eval.specs.Evaluated.{env_of, Affects, AffectsOrFails, IsQueryOf};
+ghost use Rattle.lc_eval.specs.Applied.{AnswersLine};
 
-use crate::calls::answer;
+use crate::calls::{answer, call_named, is_query};
 use crate::evaluate::{evaluate, prepare};
 use crate::lines::value_line;
 use crate::refusals::Stop;
-use crate::table::{call_named, is_query};
 use crate::values::Binding;
 use lc_field::NoMemory;
 use lc_language::Call;
@@ -64,7 +64,7 @@ fn done(alloc: Global, bindings: &[Binding], statement: &Statement) -> Result<Ef
 
 // The line of an expression that stands alone.
 fn printed(alloc: Global, bindings: &[Binding], expr: &Expr) -> Result<Vec<u8>, Stop>
-    ensures { Asked result (StepsOf built_calls (env_of bindings.now) None (tree_of expr.now)) }
+    ensures { AnswersLine result (StepsOf built_calls (env_of bindings.now) None (tree_of expr.now)) }
 {
     match query_of(expr) {
         Some((call, arguments)) => ask(alloc, bindings, call, expr.place, arguments),
@@ -100,7 +100,7 @@ fn ask(
 ) -> Result<Vec<u8>, Stop>
     requires built { Contains built_calls call }
     requires query { is_query call ≡ true }
-    ensures { (x : List ℕ) → Asked result (StepsAsQuery built_calls (env_of bindings.now) call (tree.call place x (trees_of arguments.now))) }
+    ensures { (x : List ℕ) → AnswersLine result (StepsAsQuery built_calls (env_of bindings.now) call (tree.call place x (trees_of arguments.now))) }
 {
     let values = prepare(alloc, bindings, call, place, arguments)?;
     answer(alloc, call, place, &values)

@@ -11,4 +11,4 @@ returns-in_err-values c =
     rw (p.1, p.2) (λ x. query_fault (env_of c.args.bindings.now) c.args.place x (trees_of c.args.arguments.now) c.args.call c.in_err-values.field-0.0 c.in_err-values.ensures.prepared)
 
 pub returns : goal.returns
-returns c = λ x. query_asked (env_of c.args.bindings.now) c.args.place x (trees_of c.args.arguments.now) c.args.call (values_of c.in_ok-values.values.items) c.answer.result c.in_ok-values.ensures.prepared (rw (← c.deref.ensures.value) c.answer.ensures.asked)
+returns c = λ x. query_asked (env_of c.args.bindings.now) c.args.place x (trees_of c.args.arguments.now) c.args.call (values_of c.in_ok-values.values.items) c.answer.result c.in_ok-values.ensures.prepared (rw (← c.deref.ensures.value) c.answer.ensures.answers)

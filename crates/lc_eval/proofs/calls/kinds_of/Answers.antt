@@ -2,7 +2,7 @@ use Rattle.std.proofs.Common.{sym, rules}
 use denote.Enum.Bare.{same_true}
 use Rattle.lc_language.specs.contracts.Call.{the_type}
 use Rattle.lc_eval.proofs.TableLaws.{kinds_at, passed}
-use Rattle.lc_eval.proofs.table.kinds_of.Goals as goal
+use Rattle.lc_eval.proofs.calls.kinds_of.Goals as goal
 
 pub returns-then-eq : goal.returns-then-eq
 returns-then-eq c = record {

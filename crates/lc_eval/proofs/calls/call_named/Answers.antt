@@ -1,5 +1,5 @@
 use Rattle.lc_eval.proofs.TableLaws.{named, unnamed, named_built}
-use Rattle.lc_eval.proofs.table.call_named.Goals as goal
+use Rattle.lc_eval.proofs.calls.call_named.Goals as goal
 
 pub returns-in-Some-clause-is : goal.returns-in-Some-clause-is
 returns-in-Some-clause-is c = named c.args.name.now c.table.result.now c.in-Some.row.now c.table.ensures.calls c.table.ensures.names c.in-Some.ensures

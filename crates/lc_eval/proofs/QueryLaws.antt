@@ -1,0 +1,166 @@
+-- What the query for a least word answers is what the definitions say.
+--   words_next, words_many, words_few      whether there are too many words
+--   rows_at                      the rows of a code
+--   least_refused                a matrix that is refused
+--   least_many                   too many words
+--   least_told                   the line
+use Rattle.std.proofs.Common.{◌≡◌, ℕ, ◌+◌, ◌*◌, ◌^◌, ◌<◌, ◌≤◌, ◌↔◌, inl, inr, Bool, true, false, nat_lt, List, [], ◌∷◌, ◌++◌, length, map, Vec, Global, Option, Some, None, is_ok, is_some, Ok, Err, MatchOption, option_map, refl, sym, ap, subst, ◌∙◌, true≢false, arith}
+use Rattle.std.proofs.Math.Nat.{pow-le-pow_right}
+use Rattle.std.proofs.lemmas.List.{length-map}
+use Rattle.std.proofs.lemmas.Bool.Decides.{nat_tests, Decides-ltb}
+use Rattle.lc_algebra.specs.declared.FieldName.{FieldName}
+use Rattle.lc_algebra.specs.Field.{size}
+use Rattle.lc_algebra.specs.Span.{InSpan}
+use Rattle.lc_algebra.specs.Matrix.{Matrix, AreRows}
+use Rattle.lc_algebra.proofs.SpanLaws.{span_word}
+use Rattle.lc_constructions.specs.Code.{IsCode}
+use Rattle.lc_constructions.specs.Basic.{GeneratedBy}
+use Rattle.lc_code.specs.declared.refusal.CodeRefusal.{CodeRefusal}
+use Rattle.lc_basic.proofs.HammingLaws.{power_next}
+use Rattle.lc_basic.specs.Refusal as basic
+use Rattle.lc_basic.specs.Refusal.{matrix_refusal, IsRefusedAs}
+use Rattle.lc_language.specs.declared.Call.TheVariants as call
+use Rattle.lc_language.specs.Value as language
+use Rattle.lc_language.specs.Value.{field, lists}
+use Rattle.lc_language.specs.Refusal.{Refusal, refuse, when, first_of, columns_of, matrix_refusals, refusals_of, refusal_of}
+use Rattle.lc_language.specs.Evaluation.{refused, refuse_call, Step, prints, fails, fail_with, PrintsLeast}
+use Rattle.lc_eval.specs.declared.refusals.Refused.{Refused}
+use Rattle.lc_eval.specs.declared.refusals.Stop.{Stop}
+use Rattle.lc_eval.specs.declared.refusals.Stop.TheVariants as stop
+use Rattle.lc_eval.specs.Value.{refused_of}
+use Rattle.lc_eval.specs.Applied.{QueriesTo, AnswersLine}
+use Rattle.lc_eval.specs.Made.{refusal_from, IsMade}
+use Rattle.lc_eval.specs.Rows.{clamped, clamped_rows}
+use Rattle.lc_eval.specs.Scan.{IsLeastLine}
+use Rattle.lc_eval.proofs.AnswerLaws.{Agrees}
+use Rattle.lc_eval.proofs.RowLaws.{clamped_each, columns_same, matrix_agrees, fine_same, fine_rows}
+
+-- ---- how many words
+
+pub words_next : (q i words new : ℕ) → words ≡ q ^ i → new ≡ words * q → new ≡ q ^ (i + 1)
+words_next q i words new e n = n ∙ ap (λ m. m * q) e ∙ sym (power_next q i)
+
+pub words_many : (s q i k words : ℕ) → q ≡ s → 1 < q → i < k → words ≡ s ^ i → 65536 < words * q → true ≡ nat_lt (2 ^ 16) (s ^ k)
+words_many s q i k words p l h e m =
+    let n : s ^ (i + 1) ≤ s ^ k = pow-le-pow_right (omega (arith, p, l)) (omega (arith, h)) in
+    let o : words * q ≡ s ^ (i + 1) = words_next s i words (words * q) e (ap (λ x. words * x) p) in
+    let t : 65536 < s ^ k = omega (arith, m, o, n) in
+    sym ((Decides-ltb 65536 (s ^ k)).1 t)
+
+pub words_few : (q i k words : ℕ) → i ≡ k → words ≡ q ^ i → words ≤ 65536 → false ≡ nat_lt (2 ^ 16) (q ^ k)
+words_few q i k words h e m =
+    let n : q ^ k ≤ 65536 = subst (λ j. q ^ j ≤ 65536) h (omega (arith, e, m)) in
+    grind (arith, nat_tests, n)
+
+pub rows_at : (f g : FieldName) (n m : ℕ) (rows others : List (List ℕ)) → f ≡ g → n ≡ m → rows ≡ others → AreRows g m others → AreRows f n rows
+rows_at f g n m rows others p q r h = rw (p, q, r) h
+
+-- ---- the refusals
+
+first_stays : (xs ys : List (Option Refusal)) (r : Refusal) → first_of xs ≡ Some r → first_of (xs ++ ys) ≡ Some r
+unfolding first_of
+first_stays [] ys r h = absurd (true≢false (ap is_some (sym h)))
+first_stays (None ∷ xs) ys r h = first_stays xs ys r h
+first_stays (Some x ∷ xs) ys r h = h
+
+first_behind : (xs ys : List (Option Refusal)) → first_of xs ≡ None → first_of (xs ++ ys) ≡ first_of ys
+unfolding first_of
+first_behind [] ys h = refl
+first_behind (None ∷ xs) ys h = first_behind xs ys h
+first_behind (Some x ∷ xs) ys h = absurd (true≢false (ap is_some h))
+
+matrix_first : (rows : List (List ℕ)) (f : FieldName) (r : Refusal) → first_of (matrix_refusals rows f) ≡ Some r → refusal_of call.LeastWord (lists rows ∷ field f ∷ []) ≡ Some r
+unfolding refusal_of refusals_of
+matrix_first rows f r h = first_stays (matrix_refusals rows f) _ r h
+
+when_passes : (b : Bool) (r : Refusal) → b ≡ true → first_of (when b r ∷ []) ≡ Some r
+unfolding first_of when
+when_passes b r e = rw e refl
+
+when_fails : (b : Bool) (r : Refusal) → b ≡ false → first_of (when b r ∷ []) ≡ None
+unfolding first_of when
+when_fails b r e = rw e refl
+
+matrix_many : (rows : List (List ℕ)) (f : FieldName) → first_of (matrix_refusals rows f) ≡ None → nat_lt (2 ^ 16) (size f ^ length rows) ≡ true → refusal_of call.LeastWord (lists rows ∷ field f ∷ []) ≡ Some (refuse 16 [])
+unfolding refusal_of refusals_of
+matrix_many rows f h t = first_behind (matrix_refusals rows f) _ h ∙ when_passes (nat_lt (2 ^ 16) (size f ^ length rows)) (refuse 16 []) t
+
+matrix_few : (rows : List (List ℕ)) (f : FieldName) → first_of (matrix_refusals rows f) ≡ None → nat_lt (2 ^ 16) (size f ^ length rows) ≡ false → refusal_of call.LeastWord (lists rows ∷ field f ∷ []) ≡ None
+unfolding refusal_of refusals_of
+matrix_few rows f h t = first_behind (matrix_refusals rows f) _ h ∙ when_fails (nat_lt (2 ^ 16) (size f ^ length rows)) (refuse 16 []) t
+
+-- ---- the statement
+
+abbrev Querying : ℕ → List (List ℕ) → FieldName → Option Refusal → Step → Type 0
+Querying place rows f r step = MatchOption r (PrintsLeast rows f step) (λ r. step ≡ fail_with (refuse_call place r))
+
+querying : (place : ℕ) (rows : List (List ℕ)) (f : FieldName) (r : Option Refusal) (step : Step) → refusal_of call.LeastWord (lists rows ∷ field f ∷ []) ≡ r → Querying place rows f r step → QueriesTo call.LeastWord place (lists rows ∷ field f ∷ []) step
+querying place rows f r step e h = subst (λ t. Querying place rows f t step) (sym e) h
+
+fails_so : (place : ℕ) (r : Refused) (refusal : Refusal) → refused (refused_of r) ≡ refuse_call place refusal → fails (refused_of r) ≡ fail_with (refuse_call place refusal)
+unfolding fail_with
+fails_so place r refusal h = ap fail_with h
+
+pub least_refused : (place : ℕ) (rows : List (Vec ℕ Global)) (f : FieldName) (vs : List language.Value) (words : List (List ℕ)) (e : CodeRefusal) (s : Stop)
+    → vs ≡ lists (map (λ row. row.items) rows) ∷ field f ∷ [] → words ≡ map (λ row. clamped row.items) rows
+    → IsRefusedAs {C = Matrix} (Err e) (matrix_refusal f words) → IsMade (Err e) place (Err s) → AnswersLine (Err s) (QueriesTo call.LeastWord place vs)
+least_refused place rows f vs words e (stop.Refused r) v w h m =
+    let given : List (List ℕ) = map (λ row. row.items) rows in
+    let c : words ≡ clamped_rows given = w ∙ clamped_each rows in
+    let o : matrix_refusal f (clamped_rows given) ≡ Some e = subst (λ u. matrix_refusal f u ≡ Some e) c ((h e m.0).0 refl) in
+    let first : refusal_of call.LeastWord (lists given ∷ field f ∷ []) ≡ Some (refusal_from e) = matrix_first given f (refusal_from e) ((matrix_agrees f given).0 ∙ ap (option_map refusal_from) o) in
+    rw v (querying place given f (Some (refusal_from e)) (fails (refused_of r)) first (fails_so place r (refusal_from e) m.1))
+least_refused place rows f vs words e stop.NoMemory v w h m = tt
+
+unrefused : (C : Matrix) (o : Option CodeRefusal) (r : Option Refusal) → IsRefusedAs (Ok C) o → Agrees r o → (o ≡ None) × (r ≡ None)
+unrefused C None r h a = (refl, a.0)
+unrefused C (Some x) r h a = absurd (let t : Ok C ≡ Err x = (h x (λ k. a.1 (ap (λ (y : CodeRefusal). Some y) k))).1 refl in true≢false (ap is_ok t))
+
+pub least_many : (place : ℕ) (rows : List (Vec ℕ Global)) (f : FieldName) (vs : List language.Value) (words : List (List ℕ)) (C : Matrix) (b : Bool) (none : List ℕ)
+    → vs ≡ lists (map (λ row. row.items) rows) ∷ field f ∷ [] → words ≡ map (λ row. clamped row.items) rows
+    → IsRefusedAs (Ok C) (matrix_refusal f words) → b ≡ nat_lt (2 ^ 16) (size f ^ length rows) → b ≡ true → none ≡ []
+    → QueriesTo call.LeastWord place vs (fails (record { number = 16; place = place; values = none }))
+unfolding fail_with refuse_call refuse
+least_many place rows f vs words C b none v w h t e z =
+    let given : List (List ℕ) = map (λ row. row.items) rows in
+    let c : words ≡ clamped_rows given = w ∙ clamped_each rows in
+    let k : IsRefusedAs (Ok C) (matrix_refusal f (clamped_rows given)) = subst (λ u. IsRefusedAs (Ok C) (matrix_refusal f u)) c h in
+    let n = unrefused C (matrix_refusal f (clamped_rows given)) (first_of (matrix_refusals given f)) k (matrix_agrees f given) in
+    let many : nat_lt (2 ^ 16) (size f ^ length given) ≡ true = ap (λ m. nat_lt (2 ^ 16) (size f ^ m)) (length-map rows (λ row. row.items)) ∙ sym t ∙ e in
+    rw (v, z) (querying place given f (Some (refuse 16 [])) _ (matrix_many given f n.1 many) refl)
+
+-- ---- the line
+
+span_moved : (f : FieldName) (n : ℕ) (words : List (List ℕ)) (C : Matrix) → AreRows f n words → IsCode f n (GeneratedBy f n words) C → (w : List ℕ) → InSpan f n C.rows w ↔ InSpan f n words w
+span_moved f n words C a h w = ((λ s. ((h.generator.members w).0 s).1), (λ s. (h.generator.members w).1 (span_word f n words w a s, s)))
+
+line_moved : (f : FieldName) (n : ℕ) (rows words : List (List ℕ)) (text : List ℕ) → ((w : List ℕ) → InSpan f n rows w ↔ InSpan f n words w) → IsLeastLine f n rows text → IsLeastLine f n words text
+line_moved f n rows words text m (inl t) =
+    let h = t.1 in
+    inl (t.0, record { inside = (m t.0).0 h.inside; nonzero = h.nonzero; first = λ v s q. h.first v ((m v).1 s) q }, t.2)
+line_moved f n rows words text m (inr t) = inr ((λ w s. t.0 w ((m w).1 s)), t.1)
+
+printed : (rows : List (List ℕ)) (f : FieldName) (text : List ℕ) → IsLeastLine f (columns_of rows) rows text → PrintsLeast rows f (prints text)
+printed rows f text (inl t) = inl (t.0, t.1, ap (λ (x : List ℕ). prints x) t.2)
+printed rows f text (inr t) = inr (t.0, ap (λ (x : List ℕ). prints x) t.1)
+
+pub least_told : (place : ℕ) (rows : List (Vec ℕ Global)) (f : FieldName) (vs : List language.Value) (words : List (List ℕ)) (C : Matrix) (b : Bool) (text : List ℕ)
+    → vs ≡ lists (map (λ row. row.items) rows) ∷ field f ∷ [] → words ≡ map (λ row. clamped row.items) rows
+    → IsRefusedAs (Ok C) (matrix_refusal f words) → IsCode f (basic.columns_of words) (GeneratedBy f (basic.columns_of words) words) C
+    → b ≡ nat_lt (2 ^ 16) (size f ^ length rows) → b ≡ false
+    → IsLeastLine C.field C.columns C.rows text → QueriesTo call.LeastWord place vs (prints text)
+least_told place rows f vs words C b text v w h i t e l =
+    let given : List (List ℕ) = map (λ row. row.items) rows in
+    let c : words ≡ clamped_rows given = w ∙ clamped_each rows in
+    let k : IsRefusedAs (Ok C) (matrix_refusal f (clamped_rows given)) = subst (λ u. IsRefusedAs (Ok C) (matrix_refusal f u)) c h in
+    let n = unrefused C (matrix_refusal f (clamped_rows given)) (first_of (matrix_refusals given f)) k (matrix_agrees f given) in
+    let few : nat_lt (2 ^ 16) (size f ^ length given) ≡ false = ap (λ m. nat_lt (2 ^ 16) (size f ^ m)) (length-map rows (λ row. row.items)) ∙ sym t ∙ e in
+    let same : words ≡ given = c ∙ fine_same f given n.0 in
+    let long : basic.columns_of words ≡ columns_of given = ap basic.columns_of c ∙ columns_same given in
+    let fit : AreRows f (basic.columns_of words) words = fine_rows f words (subst (λ u. matrix_refusal f u ≡ None) (sym c) n.0) in
+    let over : IsLeastLine f C.columns C.rows text = subst (λ g. IsLeastLine g C.columns C.rows text) i.over l in
+    let at : IsLeastLine f (basic.columns_of words) C.rows text = subst (λ m. IsLeastLine f m C.rows text) i.length_is over in
+    let moved : IsLeastLine f (basic.columns_of words) words text = line_moved f (basic.columns_of words) C.rows words text (span_moved f (basic.columns_of words) words C fit i) at in
+    let here : IsLeastLine f (columns_of given) words text = subst (λ m. IsLeastLine f m words text) long moved in
+    let line : IsLeastLine f (columns_of given) given text = subst (λ u. IsLeastLine f (columns_of given) u text) same here in
+    rw v (querying place given f None (prints text) (matrix_few given f n.1 few) (printed given f text line))
