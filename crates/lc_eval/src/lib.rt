@@ -11,6 +11,8 @@ mod machine;
 mod refusals;
 mod statement;
 mod table;
+#[cfg(test)]
+mod tests;
 mod values;
 
 pub use machine::{Machine, Step};
