@@ -7,6 +7,7 @@
 --   Follows c place os o, FollowsAsked c place os step      what is answered where the arguments are prepared
 --   Affects e P                  e is what a statement does, of which P holds
 --   AffectsOrFails r P           r is what a statement does, or its fault, of which P holds, unless memory ran out
+--   IsQueryAt e c es             the expression is the query c of these arguments
 --   IsQueryOf e o                o is the call and the arguments of the expression, where it is a query of the table
 use Rattle.std.specs.Prelude.{◌≡◌, ℕ, true, List, Contains, map, reverse, Option, Some, None, Result, Ok, Err, MatchOption}
 use Rattle.std.specs.Global.{Vec}
@@ -70,6 +71,13 @@ AffectsOrFails (Ok e) P = Affects e P
 AffectsOrFails (Err (stop.Refused r)) P = P (fails (refused_of r))
 AffectsOrFails (Err stop.NoMemory) P = Unit {0}
 
+pub record IsQueryAt (e : Expr) (c : Call) (es : List Expr) : Type 0 where
+  pub built : Contains built_calls c
+  pub query : is_query c ≡ true
+  pub found : query_of built_calls (tree_of e) ≡ Some c
+  pub name : List ℕ
+  pub seen : tree_of e ≡ tree.call e.place name (trees_of es)
+
 abbrev pub IsQueryOf : Expr → Option (Call × Bor (List Expr)) → Type 0
 IsQueryOf e None = query_of built_calls (tree_of e) ≡ None
-IsQueryOf e (Some (c, es)) = Contains built_calls c × (is_query c ≡ true) × (query_of built_calls (tree_of e) ≡ Some c) × ((x : List ℕ) × (tree_of e ≡ tree.call e.place x (trees_of es.now)))
+IsQueryOf e (Some (c, es)) = IsQueryAt e c es.now

@@ -2,7 +2,7 @@
 ghost use Rattle.std.specs.Prelude.{◌≡◌, false, MatchOption, Some, None, string_bytes, length, Contains, IfOk};
 ghost use Rattle.lc_language.specs.Tree as tree;
 ghost use Rattle.lc_language.specs.Value as language;
-ghost use Rattle.lc_language.specs.Evaluation.{Evaluates, EvaluatesAll};
+ghost use Rattle.lc_language.specs.Evaluation.{Outcomes, Evaluates, EvaluatesAll, ListGives};
 ghost use Rattle.lc_parse.specs.Views.{tree_of, trees_of};
 ghost use Rattle.lc_eval.specs.Built.{built_calls};
 ghost use Rattle.lc_eval.specs.Value.{value_of, values_of};
@@ -52,7 +52,7 @@ pub(crate) fn evaluate(alloc: Global, bindings: &[Binding], expr: &Expr) -> Resu
     match &expr.node {
         Node::Number(n) => Ok(Value::Number(*n)),
         Node::Name(name) => named(alloc, bindings, expr.place, name.as_str()),
-        Node::List(elements) => list(alloc, bindings, expr.place, elements),
+        Node::List(elements) => list(alloc, bindings, elements),
         Node::Call(name, arguments) => {
             call(alloc, bindings, expr.place, name.as_str(), arguments)
         }
@@ -61,8 +61,8 @@ pub(crate) fn evaluate(alloc: Global, bindings: &[Binding], expr: &Expr) -> Resu
 
 // The value of the list of these elements.
 #[cycle(evaluation)]
-fn list(alloc: Global, bindings: &[Binding], place: usize, elements: &[Expr]) -> Result<Value, Stop>
-    ensures { Answers result (Evaluates built_calls (env_of bindings.now) (tree.list place (trees_of elements.now))) }
+fn list(alloc: Global, bindings: &[Binding], elements: &[Expr]) -> Result<Value, Stop>
+    ensures { Answers result (λ o. (os : Outcomes) × EvaluatesAll built_calls (env_of bindings.now) (trees_of elements.now) os × ListGives (trees_of elements.now) os o) }
 {
     let values = evaluate_all(alloc, bindings, elements)?;
     list_of(alloc, elements, &values)

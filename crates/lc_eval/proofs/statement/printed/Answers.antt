@@ -15,4 +15,4 @@ returns-in_ok-value_line-in-None c = alone_given (env_of c.args.bindings.now) (t
 pub returns-in-Some : goal.returns-in-Some
 returns-in-Some c =
     let q = c.in-Some.ensures in
-    query_alone (env_of c.args.bindings.now) (tree_of c.args.expr.now) c.in-Some.call c.args.expr.now.place q.3.0 (trees_of c.in-Some.arguments.now) c.ask.result q.2 q.3.1 (c.ask.ensures q.3.0)
+    query_alone (env_of c.args.bindings.now) (tree_of c.args.expr.now) c.in-Some.call c.args.expr.now.place q.name (trees_of c.in-Some.arguments.now) c.ask.result q.found q.seen (c.ask.ensures q.name)
