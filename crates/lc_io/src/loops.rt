@@ -1,7 +1,7 @@
 // The two loops over a source and a sink.
 ghost use Rattle.std.specs.Prelude.{◌≡◌, ◌<◌, ◌≤◌, length, IfOk, OnOk, OnErr, IsErrOf, MatchResult};
 ghost use Rattle.std.specs.Io.KnownBytes.{Consumes, Appends, IsAtEnd};
-ghost use Rattle.lc_io.specs.Outside.{HasRisen, GaveFront, AppendsPart};
+ghost use Rattle.lc_io.specs.Outside.{HasRisen, GaveFront, GaveLess, AppendsPart};
 
 use crate::{Failed, Sink, Source};
 use std::alloc::{AllocError, Global};
@@ -33,6 +33,8 @@ pub fn read_to_limit<S: Source>(
     ensures front { OnErr result (GaveFront (S.rest source.old) (S.rest source.new) limit) }
     ensures failed { IsErrOf result ReadRefusal.Failed
         → HasRisen (S.faults source.old) (S.faults source.new) }
+    ensures before { IsErrOf result ReadRefusal.Failed
+        → GaveLess (S.rest source.old) (S.rest source.new) limit }
     ensures no_memory { IsErrOf result ReadRefusal.NoMemory
         → S.faults source.new ≡ S.faults source.old }
     ensures count { OnOk result (S.faults source.new ≡ S.faults source.old) }
