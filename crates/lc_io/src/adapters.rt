@@ -3,12 +3,10 @@ ghost use Rattle.std.specs.Prelude.{◌≡◌, ◌<◌, ◌≤◌, length, take,
 ghost use Rattle.std.specs.Io.KnownBytes.{Consumes, Appends, Keeps, IsAtEnd};
 ghost use Rattle.lc_io.specs.Outside.{HasRisen, counted};
 
+use crate::loops::CHUNK;
 use crate::{Failed, Sink, Source};
 use std::io::{Read, Write};
 use std::marker::Model;
-
-/// How many bytes of a reader are asked for at once, at most.
-const PIECE: usize = 4096;
 
 /// A source of what a reader gives. Each of its errors is a fault, also one by which the reader
 /// says that it was interrupted.
@@ -60,11 +58,11 @@ impl<R: Read> Source for ReaderSource<R> {
         if buf.is_empty() {
             return Ok(0);
         }
-        let mut piece = [0; PIECE];
-        let room = PIECE.min(buf.len());
-        match self.reader.read(&mut piece[..room]) {
+        let mut chunk = [0; CHUNK];
+        let room = CHUNK.min(buf.len());
+        match self.reader.read(&mut chunk[..room]) {
             Ok(count) => {
-                buf[..count].copy_from_slice(&piece[..count]);
+                buf[..count].copy_from_slice(&chunk[..count]);
                 Ok(count)
             }
             Err(_) => {

@@ -15,8 +15,8 @@ pub enum ReadRefusal {
     NoMemory,
 }
 
-/// How many bytes a loop asks a source for at once, at most.
-const CHUNK: usize = 4096;
+/// How many bytes are asked for at once, at most.
+pub(crate) const CHUNK: usize = 4096;
 
 /// Reads a source until it ends or has given `limit` bytes, and answers what it gave. Each turn
 /// takes at least one byte or ends. Refused where a read fails, and for want of memory: then some
