@@ -2,8 +2,8 @@
 """Words and matrices over fields of up to 16 elements, by plain arithmetic.
 
 Stands beside the product and shares nothing with it: products are remainders of long products of coefficient lists, and
-spans, kernels and solutions are found by listing all words. Prints the values that the tests of lc_vec and lc_matrix
-hold.
+spans, kernels and solutions are found by listing all words. Prints the values that the tests of lc_vec, lc_matrix, lc_code
+and lc_basic hold.
 """
 from itertools import product as tuples
 
@@ -102,6 +102,32 @@ def matrices_over_fields():
                     print("  systematic on", set_, systematic(words, set_))
 
 
+def members_over_fields():
+    for q, rows, words in (
+        (3, [[1, 2, 0], [2, 1, 1]], ([2, 1, 2], [2, 2, 0])),
+        (9, [[3, 4, 5, 0], [6, 8, 7, 1]], ([3, 4, 5, 8], [3, 4, 0, 8])),
+        (16, [[0, 7, 9, 2], [5, 1, 0, 14]], ([1, 1, 13, 9], [1, 1, 13, 8])),
+    ):
+        members = span(Field(q), len(rows[0]), rows)
+        print("members", q, rows, [(w, tuple(w) in members) for w in words])
+
+
+def plain_codes():
+    """Rows of Hamming, Reed-Muller and dual repetition codes, each from the list of its words."""
+    for q, r in ((2, 3), (3, 2)):
+        field = Field(q)
+        columns = [u for u in tuples(range(q), repeat=r) if any(u) and next(a for a in u if a) == 1]
+        checks = [[u[i] for u in columns] for i in range(r)]
+        words = [w for w in tuples(range(q), repeat=len(columns)) if all(field.dot(c, w) == 0 for c in checks)]
+        print("hamming", q, r, reduced(set(words)))
+    rows = [[1] * 8] + [[i >> v & 1 for i in range(8)] for v in range(3)]
+    print("reed_muller", 1, 3, reduced(span(Field(2), 8, rows)))
+    words = [w for w in tuples(range(3), repeat=4) if sum(w) % 3 == 0]
+    print("dual of repetition", 4, 3, reduced(set(words)))
+
+
 if __name__ == "__main__":
     words_over_fields()
     matrices_over_fields()
+    members_over_fields()
+    plain_codes()

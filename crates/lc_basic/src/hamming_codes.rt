@@ -141,7 +141,7 @@ fn digits_of(alloc: Global, q: u64, unit: u64, r: u64) -> Result<Word, NoMemory>
         add_block(&mut symbols, q, unit, first)?;
         first *= q;
     }
-    Ok(Word::from_slice(alloc, &symbols)?)
+    Ok(Word::from_vec(symbols))
 }
 
 // The digits that count units, of the columns first to 2 first - 1.

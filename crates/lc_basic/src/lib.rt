@@ -7,6 +7,8 @@ mod hamming_codes;
 mod matrices;
 mod reed_muller_codes;
 mod refusal;
+#[cfg(test)]
+mod tests;
 mod trivial;
 
 pub use dimensions::dimensions_of_trivial_codes;

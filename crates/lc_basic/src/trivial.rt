@@ -40,8 +40,7 @@ fn constant_words(alloc: Global, n: usize, field: &Field) -> Result<Code, NoMemo
 pub(crate) fn ones(alloc: Global, n: usize) -> Result<Word, NoMemory>
     ensures is { IfOk result (λ w. w ≡ replicate n 1) }
 {
-    let symbols = vec![in alloc; 1u8; n]?;
-    Ok(Word::from_slice(alloc, &symbols)?)
+    Ok(Word::from_vec(vec![in alloc; 1u8; n]?))
 }
 
 /// The code of all words of length `n` (GUAVA manual, `WholeSpaceCode`).

@@ -1,6 +1,7 @@
 -- What each step on a board's table asks for.
---   claims, reports, splits, joins    the step is allowed
 --   opened            a new board is under the rule
+--   claim_keeps_rule, report_keeps_rule, split_keeps_rule, join_keeps_rule    and each step leaves it so
+--   claims, reports, splits, joins    the step is allowed
 --   joined_more       the root's view after one more join
 --   closes, closed_by                            what the last state of a table says, with the root's view
 use Rattle.std.proofs.Common.{◌≡◌, ℕ, ◌+◌, ◌%◌, ◌^◌, ◌<◌, ◌≤◌, min, true, false, cond, eqb, ltb, List, [], ◌∷◌, ◌++◌, length, get_or, set, append_assoc, map, refl, sym, ap, ◌∙◌, subst, arith}
@@ -13,7 +14,7 @@ use Rattle.atomic_table.specs.Table.{State, Me, step, keeps, Allows, Splits, Joi
 use Rattle.lc_board.specs.Counting.{StandOnce, least}
 use Rattle.lc_board.specs.Board.{root_view, nothing, drew, told, split, newcomer, joined, AllReported, Owes, reported_numbers, drawn_numbers, reported_values, BoardRule, Draws, Tells}
 use Rattle.lc_board.specs.Round.{start, moved}
-use Rattle.lc_board.specs.Machine.{IsReached, IsRuled}
+use Rattle.lc_board.specs.Machine.{IsReached, IsRuled, OpensUnderTheRule, ClaimKeepsTheRule, ReportKeepsTheRule, SplitKeepsTheRule, JoinKeepsTheRule}
 use Rattle.lc_board.specs.declared.round.Event.TheVariants.{Claim, Report}
 use Rattle.lc_board.specs.Seats.{Seated, joined_all}
 use Rattle.lc_board.specs.declared.views.Terms.{Terms}
@@ -46,14 +47,17 @@ claim_reached t words views id v h at e all =
     let k = claim_event t words views r id v h.0 h.1.3 at e all in
     (moved r (Claim v.book.number), h.1.1 ++ Claim v.book.number ∷ [], reaches_more (start t.count t.first 256) r h.1.1 (Claim v.book.number) h.1.2 k.0, k.1)
 
+pub claim_keeps_rule : ClaimKeepsTheRule
+claim_keeps_rule t words views id v h at e all =
+    let c = counter t words views h.0 in
+    (subst (λ (n : ℕ). BoardRule t (set words 0 (n + 1)) (set views id (drew v n))) (sym c) (claim_keeps t words views id v h.0 at e all), claim_reached t words views id v h at e all)
+
 claim_ruled : (t : Terms) (words : List ℕ) (views : List View) (id : ℕ) (v : View) → IsRuled t words views → get_elem? views id ≡ some v → v.spent ≡ false → AllReported v.book
     → IsRuled t (set words 0 ((slice_index words 0 + 1) % 2 ^ 64)) (set views id (drew v (slice_index words 0)))
 claim_ruled t words views id v h at e all =
     let c = counter t words views h.0 in
-    let w = no_wrap t words views h.0 in
-    let kept = subst (λ (n : ℕ). BoardRule t (set words 0 (n + 1)) (set views id (drew v n))) (sym c) (claim_keeps t words views id v h.0 at e all) in
-    let same : (slice_index words 0 + 1) % 2 ^ 64 ≡ slice_index words 0 + 1 = w ∙ ap (λ n. n + 1) (sym c) in
-    subst (λ (n : ℕ). IsRuled t (set words 0 n) (set views id (drew v (slice_index words 0)))) (sym same) (kept, claim_reached t words views id v h at e all)
+    let same : (slice_index words 0 + 1) % 2 ^ 64 ≡ slice_index words 0 + 1 = no_wrap t words views h.0 ∙ ap (λ n. n + 1) (sym c) in
+    subst (λ (n : ℕ). IsRuled t (set words 0 n) (set views id (drew v (slice_index words 0)))) (sym same) (claim_keeps_rule t words views id v h at e all)
 
 pub claims : (t : Terms) (slots id : ℕ) (m : Me (Unit {0}) View) → m.0.spent ≡ false → AllReported m.0.book
     → Allows (Holds t) slots id m 0 (λ n. (n + 1) % 2 ^ 64) (Draws (step slots 0 1 0 none) m)
@@ -71,9 +75,8 @@ same_last : (b : Book) (x y : ℕ) → Owes b x → Owes b y → x ≡ y
 same_last b x y p q = let e : get_or (reported_numbers b ++ x ∷ []) (length (reported_numbers b)) 0 ≡ get_or (reported_numbers b ++ y ∷ []) (length (reported_numbers b)) 0 = ap (λ l. get_or l (length (reported_numbers b)) 0) (sym p ∙ q) in
     sym (get_or_push (reported_numbers b) x 0 (length (reported_numbers b)) refl) ∙ e ∙ get_or_push (reported_numbers b) y 0 (length (reported_numbers b)) refl
 
-report_ruled : (t : Terms) (words : List ℕ) (views : List View) (id : ℕ) (v : View) (x value : ℕ) → IsRuled t words views → get_elem? views id ≡ some v → v.spent ≡ false → Owes v.book x → x < t.count
-    → IsRuled t (set words 1 (min (slice_index words 1) value)) (set views id (told v x value))
-report_ruled t words views id v x value h at e owes small =
+pub report_keeps_rule : ReportKeepsTheRule
+report_keeps_rule t words views id v x value h at e owes small =
     let r = h.1.0 in
     let b = best_word t words views h.0 in
     let k = report_event t words views r id v x value h.0 h.1.3 at e owes small in (
@@ -87,19 +90,25 @@ reports t slots id x value m e owes small s h sized at fits = (
   told m.0 x value,
   keeps,
   tt,
-  report_ruled t s.words s.views id m.0 x value h at e owes small,
+  report_keeps_rule t s.words s.views id m.0 x value h at e owes small,
   ((λ y owes'. ap (λ (z : ℕ). told m.0 z value) (same_last m.0.book x y owes owes')), refl),
 )
 
+pub split_keeps_rule : SplitKeepsTheRule
+split_keeps_rule t words views id v h at e r room = (split_keeps t words views id v h.0 at e r room, (h.1.0, h.1.1, h.1.2, split_stays t words views h.1.0 id v h.0 h.1.3 at e r room))
+
 pub splits : (t : Terms) (id : ℕ) (v : View) → v.spent ≡ false → v.root ≡ true → v.made < 256 → Splits (Holds t) id v (split v) (newcomer v)
-splits t id v e r room s h at = (split_keeps t s.words s.views id v h.0 at e r room, (h.1.0, h.1.1, h.1.2, split_stays t s.words s.views h.1.0 id v h.0 h.1.3 at e r room))
+splits t id v e r room s h at = split_keeps_rule t s.words s.views id v h at e r room
+
+pub join_keeps_rule : JoinKeepsTheRule
+join_keeps_rule t words views id v other w h at e r apart at' e' =
+    (join_keeps t words views id other v w h.0 at e r apart at' e', (h.1.0, h.1.1, h.1.2, join_stays t words views h.1.0 id v other w h.0 h.1.3 at e r apart at' e'))
 
 pub joins : (t : Terms) (id other : ℕ) (v w : View) → v.spent ≡ false → v.root ≡ true → w.spent ≡ false → Joins (Holds t) id v other w (joined v w) nothing
-joins t id other v w e r e' s h at apart at' =
-    (join_keeps t s.words s.views id other v w h.0 at e r apart at' e', (h.1.0, h.1.1, h.1.2, join_stays t s.words s.views h.1.0 id v other w h.0 h.1.3 at e r apart at' e'))
+joins t id other v w e r e' s h at apart at' = join_keeps_rule t s.words s.views id v other w h at e r apart at' e'
 
 -- a new board
-pub opened : (t : Terms) → t.count ≤ 2 ^ 40 → IsRuled t (0 ∷ t.first ∷ t.first ∷ t.count ∷ []) (root_view t ∷ [])
+pub opened : OpensUnderTheRule
 opened t small = (begins t small, (start t.count t.first 256, [], refl, opens t))
 
 -- what a closed board shows, from the root that took in all others

@@ -91,6 +91,7 @@ rule_says t words views h =
     record {
       first = first;
       count = count;
+      small = let s = h.small in omega arith;
       terms = λ id v at e. (h.each_view id v at).terms e;
       spent = λ id v at e. (h.each_view id v at).spent e;
       others = λ id v at e. (h.each_view id v at).others e;

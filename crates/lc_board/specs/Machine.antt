@@ -6,8 +6,10 @@
 --   IsRound words views r    the words and views are the state r
 --   IsReached t words views  they are a state that events reach from the start
 --   IsRuled t words views    what holds between any two steps on a board
+--   OpensUnderTheRule    a new board is under that
+--   ClaimKeepsTheRule, ReportKeepsTheRule, SplitKeepsTheRule, JoinKeepsTheRule    and each step leaves it so
 --   ClaimIsAnEvent, ReportIsAnEvent, SplitLeavesTheState, JoinLeavesTheState    what the steps are in the machine
-use Rattle.std.specs.Prelude.{◌≡◌, ◌≢◌, ◌↔◌, ℕ, ◌+◌, ◌<◌, ◌≤◌, min, true, false, cond, ltb, List, [], ◌∷◌, ◌++◌, length, drop, set, Some, None, All, Contains, slice_index}
+use Rattle.std.specs.Prelude.{◌≡◌, ◌≢◌, ◌↔◌, ℕ, ◌+◌, ◌^◌, ◌<◌, ◌≤◌, min, true, false, cond, ltb, List, [], ◌∷◌, ◌++◌, length, drop, set, Some, None, All, Contains, slice_index}
 use mathlib.Core.Option.{some}
 use lib.ListN.{get_elem?}
 use Rattle.lc_board.specs.Counting.{times}
@@ -51,6 +53,27 @@ IsReached t words views = (r : Round) × (events : List Event) × Reaches (start
 
 abbrev pub IsRuled : Terms → List ℕ → List View → Type 0
 IsRuled t words views = BoardRule t words views × IsReached t words views
+
+-- a new board is under the rule, and each step of a seat keeps it, so whatever the order of the steps it holds between
+-- any two
+abbrev pub OpensUnderTheRule : Type 0
+OpensUnderTheRule = (t : Terms) → t.count ≤ 2 ^ 40 → IsRuled t (0 ∷ t.first ∷ t.first ∷ t.count ∷ []) (root_view t ∷ [])
+
+abbrev pub ClaimKeepsTheRule : Type 0
+ClaimKeepsTheRule = (t : Terms) (words : List ℕ) (views : List View) (id : ℕ) (v : View) → IsRuled t words views → get_elem? views id ≡ some v → v.spent ≡ false → AllReported v.book
+    → IsRuled t (set words 0 (slice_index words 0 + 1)) (set views id (drew v (slice_index words 0)))
+
+abbrev pub ReportKeepsTheRule : Type 0
+ReportKeepsTheRule = (t : Terms) (words : List ℕ) (views : List View) (id : ℕ) (v : View) (x value : ℕ) → IsRuled t words views → get_elem? views id ≡ some v → v.spent ≡ false → Owes v.book x → x < t.count
+    → IsRuled t (set words 1 (min (slice_index words 1) value)) (set views id (told v x value))
+
+abbrev pub SplitKeepsTheRule : Type 0
+SplitKeepsTheRule = (t : Terms) (words : List ℕ) (views : List View) (id : ℕ) (v : View) → IsRuled t words views → get_elem? views id ≡ some v → v.spent ≡ false → v.root ≡ true → v.made < 256
+    → IsRuled t words (set views id (split v) ++ newcomer v ∷ [])
+
+abbrev pub JoinKeepsTheRule : Type 0
+JoinKeepsTheRule = (t : Terms) (words : List ℕ) (views : List View) (id : ℕ) (v : View) (other : ℕ) (w : View) → IsRuled t words views → get_elem? views id ≡ some v → v.spent ≡ false → v.root ≡ true
+    → other ≢ id → get_elem? (set views id (joined v w)) other ≡ some w → w.spent ≡ false → IsRuled t words (set (set views id (joined v w)) other nothing)
 
 module _ (t : Terms) (words : List ℕ) (views : List View) (r : Round) where
   -- a claim of a seat that has reported all that it drew is the event Claim of its number

@@ -2,7 +2,7 @@
 --   SeatSays count b           the sentences on one book
 --   BoardSays t words views    the sentences on a board
 --   RuleSays                   each board under the rule meets them
-use Rattle.std.specs.Prelude.{◌≡◌, ◌≢◌, ◌⊎◌, ℕ, ◌+◌, ◌<◌, ◌≤◌, true, false, List, [], length, All, Contains, slice_index}
+use Rattle.std.specs.Prelude.{◌≡◌, ◌≢◌, ◌⊎◌, ℕ, ◌+◌, ◌^◌, ◌<◌, ◌≤◌, true, false, List, [], length, All, Contains, slice_index}
 use mathlib.Core.Option.{some}
 use lib.ListN.{get_elem?}
 use Rattle.lc_board.specs.Counting.{StandOnce, least}
@@ -23,9 +23,10 @@ pub record SeatSays (count : ℕ) (b : Book) : Type 0 where
   pub held : (k : ℕ) → k < length b.drawn → slice_index b.drawn k < count → Contains (reported_numbers b) (slice_index b.drawn k) ⊎ ((j : ℕ) → k < j → j < length b.drawn → count ≤ slice_index b.drawn j)
 
 pub record BoardSays (t : Terms) (words : List ℕ) (views : List View) : Type 0 where
-  -- word 2 is the first value and word 3 the count that each view holds
+  -- word 2 is the first value and word 3 the count that each view holds; the count is at most 2^40
   pub first : slice_index words 2 ≡ t.first
   pub count : slice_index words 3 ≡ t.count
+  pub small : slice_index words 3 ≤ 2 ^ 40
   pub terms : (id : ℕ) (v : View) → get_elem? views id ≡ some v → v.spent ≡ false → (v.first ≡ t.first) × (v.count ≡ t.count)
   -- a spent view holds nothing, and a view that isn't the root's holds neither a number of seats nor what joined seats left
   pub spent : (id : ℕ) (v : View) → get_elem? views id ≡ some v → v.spent ≡ true → v ≡ nothing

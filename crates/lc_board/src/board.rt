@@ -47,7 +47,8 @@ impl Model for BoardSeat {
 }
 
 impl Board {
-    /// A board of `count` numbers, at most 2^40, with its root's seat. `first` is the best value before any report.
+    /// A board of `count` numbers, at most 2^40, with its root's seat, which draws and reports as any other. `first`, any
+    /// number of 64 bits, is the best value before any report. Refused only for want of memory.
     pub fn open(alloc: Global, count: u64, first: u64) -> Result<(Board, BoardSeat), NoMemory>
         requires { count ≤ 2 ^ 40 }
         ensures board { IfOk result (λ r. (r.0.first ≡ first) × (r.0.count ≡ count)) }
@@ -58,7 +59,8 @@ impl Board {
         Ok((Board { table, count }, BoardSeat { seat }))
     }
 
-    /// Another seat, made by the root's, of fewer than 256.
+    /// Another seat of this board, which has drawn nothing. The root's seat alone makes it, while fewer than 256 were
+    /// made, the root's counted. Takes no memory.
     pub fn split(&self, seat: &mut BoardSeat) -> BoardSeat
         requires board { seat.old.table ≡ self.now.table }
         requires root { seat.old.view.root ≡ true }
@@ -71,7 +73,8 @@ impl Board {
     }
 
     /// Draws a number by one fetch-add, for a seat that has reported each number that it drew. None comes exactly where
-    /// the number is at or above the count. It exceeds all that this seat drew before, and no other seat draws it.
+    /// the number is at or above the count, and then the seat draws no more. The number exceeds all that this seat drew
+    /// before, and no other seat draws it. Takes no memory.
     pub fn claim(&self, seat: &mut BoardSeat) -> Option<u64>
         requires board { seat.old.table ≡ self.now.table }
         requires reported { AllReported seat.old.view.book }
@@ -87,7 +90,8 @@ impl Board {
         }
     }
 
-    /// Reports a value for the number that the seat drew last, by one fetch-min.
+    /// Reports a value, any number of 64 bits, for the number that the seat drew last and hasn't reported, by one
+    /// fetch-min. Takes no memory.
     pub fn report(&self, seat: &mut BoardSeat, block: u64, value: u64)
         requires board { seat.old.table ≡ self.now.table }
         requires owed { Owes seat.old.view.book block × (block < self.now.count) }
@@ -99,7 +103,7 @@ impl Board {
     }
 
     /// Closes the board with its root's seat and all others, which are as many as were made. The numbers that these
-    /// seats drew are those below some `next`, each drawn by exactly one of them.
+    /// seats drew are those below some `next`, each drawn by exactly one of them. Takes no memory.
     pub fn close(self, root: BoardSeat, seats: Vec<BoardSeat>) -> RoundResult
         requires root { (root.table ≡ self.table) × (root.view.root ≡ true) }
         requires seats { All (λ s. s.table ≡ self.table) seats.items }

@@ -1,6 +1,6 @@
 //! What holds of boards and rounds, on functions that do nothing.
 ghost use Rattle.lc_board.specs.Round.{IsAlwaysSound, EndsWithTheLeast};
-ghost use Rattle.lc_board.specs.Machine.{ClaimIsAnEvent, ReportIsAnEvent, SplitLeavesTheState, JoinLeavesTheState, OpensAtTheStart, ActorsAreSeats};
+ghost use Rattle.lc_board.specs.Machine.{OpensUnderTheRule, ClaimKeepsTheRule, ReportKeepsTheRule, SplitKeepsTheRule, JoinKeepsTheRule, ClaimIsAnEvent, ReportIsAnEvent, SplitLeavesTheState, JoinLeavesTheState, OpensAtTheStart, ActorsAreSeats};
 ghost use Rattle.lc_board.specs.Sentences.{RuleSays};
 
 /// In each state that a list of events reaches, held and finished blocks are the numbers below the lesser of next and
@@ -11,11 +11,19 @@ pub fn law_of_rounds()
     ensures ended { EndsWithTheLeast }
 {}
 
+/// A new board is under the rule, and a claim, a report, a split and a join keep it: whatever the order of the steps, it
+/// holds between any two, and then each of its sentences does.
+///
 /// Words and views of a board are at each moment a state of the round machine that events reach: a new board is the
 /// starting state, a claim and a report are the events of these names, and a split and a join leave the state. A
 /// number below the count that a seat drew and hasn't reported is the block that it holds, and a seat that drew a
 /// number at or above the count is past.
 pub fn law_of_boards()
+    ensures opened { OpensUnderTheRule }
+    ensures claimed { ClaimKeepsTheRule }
+    ensures reported { ReportKeepsTheRule }
+    ensures parted { SplitKeepsTheRule }
+    ensures joined { JoinKeepsTheRule }
     ensures sentences { RuleSays }
     ensures start { OpensAtTheStart }
     ensures claim { ClaimIsAnEvent }

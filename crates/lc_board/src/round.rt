@@ -189,7 +189,7 @@ impl Model for RoundState {
 
 impl RoundState {
     /// The starting state of a round of `count` blocks, at most 256, for `actors` actors, 1 to 256. `first` is the
-    /// best value before any report.
+    /// best value before any report. Refused only for want of memory.
     pub fn new(alloc: Global, count: u64, first: u64, actors: u32) -> Result<RoundState, NoMemory>
         requires blocks { count ≤ 256 }
         requires actors { (1 ≤ actors) × (actors ≤ 256) }

@@ -1,5 +1,4 @@
 -- Sources and sinks in memory, as contracts see them.
---   counted n                the number after n, which stays at the largest of 64 bits
 --   Calls                    the numbers of the calls that fail, that of the next call, and the count of faults
 --   IsFailing calls          the next call is one of those that fail
 --   answered calls           after a call that gave its answer
@@ -9,10 +8,8 @@
 --   MemoryOutput             the bytes taken, how many fit in all, the most that a write takes, and the calls
 --   IsFull output            no room is left
 --   write_length output n    how many bytes of n a write takes
-use Rattle.std.specs.Prelude.{◌+◌, ◌-◌, ◌^◌, ◌≤◌, ℕ, List, length, min, Contains}
-
-abbrev pub counted : ℕ → ℕ
-counted n = min (n + 1) (2 ^ 64 - 1)
+use Rattle.std.specs.Prelude.{◌-◌, ◌≤◌, ℕ, List, length, min, Contains}
+use Rattle.lc_io.specs.Outside.{counted}
 
 pub record Calls : Type 0 where
   pub failing : List ℕ  -- the numbers of the calls that fail

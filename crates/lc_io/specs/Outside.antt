@@ -1,10 +1,15 @@
 -- What a source and a sink tell of themselves, beside the library's words for known bytes.
+--   counted n                  the number after n, which stays at the largest number of 64 bits
 --   HasRisen before now        a count of faults rose, or stands at the largest number of 64 bits
 --   GaveFront old new limit    at most limit bytes went from the front of those still to come
+--   GaveLess old new limit     the same of fewer than limit bytes
 --   AppendsPart old new bytes  a front of bytes, and not all of them, was taken
 --   Counted X                  something of the outside, and how often it has failed
-use Rattle.std.specs.Prelude.{◌≡◌, ◌⊎◌, ◌<◌, ◌≤◌, ◌-◌, ◌^◌, ℕ, List, length, take, Option}
+use Rattle.std.specs.Prelude.{◌≡◌, ◌⊎◌, ◌+◌, ◌<◌, ◌≤◌, ◌-◌, ◌^◌, ℕ, List, length, take, min, Option}
 use Rattle.std.specs.Io.KnownBytes.{Consumes, Appends}
+
+abbrev pub counted : ℕ → ℕ
+counted n = min (n + 1) (2 ^ 64 - 1)
 
 -- a count rose, or stands at the largest number of 64 bits
 abbrev pub HasRisen : ℕ → ℕ → Type 0
@@ -13,6 +18,10 @@ HasRisen before now = (before < now) ⊎ ((now ≡ before) × (now ≡ 2 ^ 64 - 
 -- at most limit bytes were given, which were the front of those still to come
 abbrev pub GaveFront : Option (List ℕ) → Option (List ℕ) → ℕ → Type 0
 GaveFront old new limit = (bytes : List ℕ) × (length bytes ≤ limit) × Consumes old new bytes
+
+-- fewer than limit bytes were given, which were the front of those still to come
+abbrev pub GaveLess : Option (List ℕ) → Option (List ℕ) → ℕ → Type 0
+GaveLess old new limit = (bytes : List ℕ) × (length bytes < limit) × Consumes old new bytes
 
 -- a front of these bytes was taken, and at least one of them was not
 abbrev pub AppendsPart : Option (List ℕ) → Option (List ℕ) → List ℕ → Type 0

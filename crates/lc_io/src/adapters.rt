@@ -1,6 +1,9 @@
 // A source of any reader, and a sink of any writer.
-ghost use Rattle.std.specs.Prelude.{◌≡◌};
+ghost use Rattle.std.specs.Prelude.{◌≡◌, ◌<◌, ◌≤◌, length, take, drop, IfOk, IsOk, OnErr, MatchResult};
+ghost use Rattle.std.specs.Io.KnownBytes.{Consumes, Appends, Keeps, IsAtEnd};
+ghost use Rattle.lc_io.specs.Outside.{HasRisen, counted};
 
+use crate::loops::CHUNK;
 use crate::{Failed, Sink, Source};
 use std::io::{Read, Write};
 use std::marker::Model;
@@ -35,9 +38,33 @@ impl<R: Read> Source for ReaderSource<R> {
 
     ghost faults = { λ s. s.faults };
 
-    fn read(&mut self, buf: &mut [u8]) -> Result<usize, Failed> {
-        match self.reader.read(buf) {
-            Ok(count) => Ok(count),
+    /// Asks the reader once, unless `buf` is empty. A reader that fails may leave anything in the
+    /// bytes that it was lent, so it is lent others than those of `buf`.
+    fn read(&mut self, buf: &mut [u8]) -> Result<usize, Failed>
+        ensures bound { IfOk result (λ n. n ≤ length buf.old) }
+        ensures gave { IfOk result
+            (λ n. Consumes (R.remaining self.old.inner) (R.remaining self.new.inner) (take n buf.new)) }
+        ensures end { IfOk result
+            (λ n. n ≡ 0 → 0 < length buf.old → IsAtEnd (R.remaining self.new.inner)) }
+        ensures failed { OnErr result
+            (Keeps (R.remaining self.old.inner) (R.remaining self.new.inner)) }
+        ensures untouched { OnErr result (buf.new ≡ buf.old) }
+        ensures count { MatchResult result (λ _. self.new.faults ≡ self.old.faults)
+            (λ _. HasRisen self.old.faults self.new.faults) }
+        ensures behind { IfOk result (λ n. drop n buf.new ≡ drop n buf.old) }
+        ensures once { OnErr result (self.new.faults ≡ counted self.old.faults) }
+        ensures nothing { length buf.old ≡ 0 → IsOk result }
+    {
+        if buf.is_empty() {
+            return Ok(0);
+        }
+        let mut chunk = [0; CHUNK];
+        let room = CHUNK.min(buf.len());
+        match self.reader.read(&mut chunk[..room]) {
+            Ok(count) => {
+                buf[..count].copy_from_slice(&chunk[..count]);
+                Ok(count)
+            }
             Err(_) => {
                 self.faults = self.faults.saturating_add(1);
                 Err(Failed)
@@ -76,9 +103,24 @@ impl<W: Write> Sink for WriterSink<W> {
 
     ghost faults = { λ s. s.faults };
 
-    fn write(&mut self, buf: &[u8]) -> Result<usize, Failed> {
+    /// Asks the writer once, unless `buf` is empty.
+    fn write(&mut self, buf: &[u8]) -> Result<usize, Failed>
+        ensures bound { IfOk result (λ n. n ≤ length buf.now) }
+        ensures some { IfOk result (λ n. 0 < length buf.now → 0 < n) }
+        ensures took { IfOk result
+            (λ n. Appends (W.contents self.old.inner) (W.contents self.new.inner) (take n buf.now)) }
+        ensures failed { OnErr result
+            (Keeps (W.contents self.old.inner) (W.contents self.new.inner)) }
+        ensures count { MatchResult result (λ _. self.new.faults ≡ self.old.faults)
+            (λ _. HasRisen self.old.faults self.new.faults) }
+        ensures once { OnErr result (self.new.faults ≡ counted self.old.faults) }
+        ensures nothing { length buf.now ≡ 0 → IsOk result }
+    {
+        if buf.is_empty() {
+            return Ok(0);
+        }
         match self.writer.write(buf) {
-            Ok(count) if count > 0 || buf.is_empty() => Ok(count),
+            Ok(count) if count > 0 => Ok(count),
             _ => {
                 self.faults = self.faults.saturating_add(1);
                 Err(Failed)

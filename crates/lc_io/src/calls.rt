@@ -7,6 +7,7 @@ use crate::{Failed, NoMemory};
 use std::alloc::Global;
 use std::marker::Model;
 
+/// Which calls fail, the number of the next one, and how many have failed.
 #[derive(Drop)]
 pub(crate) struct Schedule {
     failing: Vec<u64>,

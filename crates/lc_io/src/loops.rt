@@ -1,7 +1,7 @@
 // The two loops over a source and a sink.
 ghost use Rattle.std.specs.Prelude.{◌≡◌, ◌<◌, ◌≤◌, length, IfOk, OnOk, OnErr, IsErrOf, MatchResult};
 ghost use Rattle.std.specs.Io.KnownBytes.{Consumes, Appends, IsAtEnd};
-ghost use Rattle.lc_io.specs.Outside.{HasRisen, GaveFront, AppendsPart};
+ghost use Rattle.lc_io.specs.Outside.{HasRisen, GaveFront, GaveLess, AppendsPart};
 
 use crate::{Failed, Sink, Source};
 use std::alloc::{AllocError, Global};
@@ -15,8 +15,8 @@ pub enum ReadRefusal {
     NoMemory,
 }
 
-/// How many bytes a loop asks a source for at once, at most.
-const CHUNK: usize = 4096;
+/// How many bytes are asked for at once, at most.
+pub(crate) const CHUNK: usize = 4096;
 
 /// Reads a source until it ends or has given `limit` bytes, and answers what it gave. Each turn
 /// takes at least one byte or ends. Refused where a read fails, and for want of memory: then some
@@ -33,6 +33,8 @@ pub fn read_to_limit<S: Source>(
     ensures front { OnErr result (GaveFront (S.rest source.old) (S.rest source.new) limit) }
     ensures failed { IsErrOf result ReadRefusal.Failed
         → HasRisen (S.faults source.old) (S.faults source.new) }
+    ensures before { IsErrOf result ReadRefusal.Failed
+        → GaveLess (S.rest source.old) (S.rest source.new) limit }
     ensures no_memory { IsErrOf result ReadRefusal.NoMemory
         → S.faults source.new ≡ S.faults source.old }
     ensures count { OnOk result (S.faults source.new ≡ S.faults source.old) }

@@ -35,13 +35,14 @@ pub trait Source {
 
     /// Writes the next bytes to the front of `buf`, and answers how many: at most its length, and
     /// for a nonempty `buf` 0 only at the end of the input. What stands behind them in `buf` may
-    /// be anything. A call that fails takes no byte.
+    /// be anything. A call that fails takes no byte and leaves `buf` as it was.
     fn read(&mut self, buf: &mut [u8]) -> Result<usize, Failed>
         ensures bound { IfOk result (λ n. n ≤ length buf.old) }
         ensures gave { IfOk result
             (λ n. Consumes (rest self.old) (rest self.new) (take n buf.new)) }
         ensures end { IfOk result (λ n. n ≡ 0 → 0 < length buf.old → IsAtEnd (rest self.new)) }
         ensures failed { OnErr result (Keeps (rest self.old) (rest self.new)) }
+        ensures untouched { OnErr result (buf.new ≡ buf.old) }
         ensures count { MatchResult result (λ _. faults self.new ≡ faults self.old)
             (λ _. HasRisen (faults self.old) (faults self.new)) };
 }

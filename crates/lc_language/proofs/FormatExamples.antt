@@ -1,13 +1,12 @@
--- Worked queries, certificates, checkpoints and options, by evaluation of the definitions.
+-- Worked queries, certificates and options, by evaluation of the definitions.
 --   hamming_distance, hamming_bracket      what MinimumDistance prints of the Hamming code of length 7, and for a budget of one block
 --   hamming_certificate                    its certificate by levels
 --   repetition_scan                        the certificate by a scan of the repetition code of length 2
---   checkpoint_body                        the body of a checkpoint
 --   no_words, bad_workers, slice_alone, kept_twice, no_seed      the index of the word that is refused
 --   sliced                                 the settings of words that are accepted
 --   run_only                               a second word is refused where there are no keys
 use Rattle.std.proofs.Common.{◌≡◌, refl}
-use Rattle.std.specs.Prelude.{[], ◌∷◌, ◌++◌, map, codes, replicate, ◌^◌, Some, true}
+use Rattle.std.specs.Prelude.{[], ◌∷◌, ◌++◌, map, codes, ◌^◌, Some, true}
 use Rattle.std.specs.Fmt.{digits}
 use Rattle.lc_algebra.specs.declared.FieldName.TheVariants.{Gf2}
 use Rattle.lc_algebra.specs.Residue.{digits as residues, number, plus, minus, times, top, up, times_x, product}
@@ -26,8 +25,6 @@ use Rattle.lc_language.specs.Print.{bracketed, numbers_text, line, distance_line
 use Rattle.lc_language.specs.Query.{distance, by_levels, by_scan, number_json, items, numbers_json, claim_json, way_text, with_sets, certificate_json, certificate_text, claims_at, proof_of, certificate_of, longest, no_certificate_line, certificate_line, word_at_place, distance_answer_line, certificate_answer_line, query_line}
 use Rattle.lc_language.specs.Options.{Command, run, Key, Settings, settings, usage, command_text, key_text, row, all_options, run_alone, settings_of, number_in, number_within, yes_or_no, put_key, key_named, row_named, same_key, place_of_key, checked, options_from, options}
 use Rattle.lc_language.specs.Options as words
-use Rattle.lc_language.specs.Checkpoint.{settled_json, body_json, body_of}
-use Rattle.hex.specs.Hex.{encode_with}
 use Rattle.json.specs.Print.{escape_byte}
 
 abbrev pub hamming : Matrix
@@ -48,10 +45,6 @@ hamming_certificate = refl
 pub repetition_scan : query_line by_scan (record { field = Gf2; columns = 2; rows = (1 ∷ 1 ∷ []) ∷ [] }) (2 ^ 20) ≡ codes "{\"by\":\"scan\",\"distance\":2,\"field\":2,\"rows\":[[1,1]],\"version\":1,\"word\":[1,1]}" ++ 10 ∷ []
 unfolding digits escape_byte residues number plus minus times top up times_x product shape shape_of size coefficients add neg mul word_sum scale below combine words supports supports_from numbers_from nonzero_lists leading_lists messages vector_from vector_of choose message_count cut phase_level phase_set level_blocks blocks_before total phase_at phase_ends block_messages place_of plan_phases phase_of same_word in_span greedy dimension is_member first_basis columns_in_order with_fresh next_set sets_after information_sets unit_word systematic echelon_rows sets_of set_count ranks_of generator_at word_of word_at beats found_along found_in_block blocks_within found_from least_of found_first found_below best last_that is_whole_below level_below levels_below bound_sum bound_of bound is_done ends_of answer_at answer code_length code_dimension level_in messages_through cost_of cost bracketed numbers_text line distance_line bracket_line distance_none_line number_json items numbers_json claim_json way_text with_sets certificate_json certificate_text claims_at proof_of certificate_of longest no_certificate_line certificate_line word_at_place distance_answer_line certificate_answer_line query_line
 repetition_scan = refl
-
-pub checkpoint_body : body_of (record { script = replicate 32 171; budget = 1048576; turn = 3; settled = record { blocks = 2; weight = 3; place = 0 } ∷ []; blocks = 2; weight = 7; place = 0 }) ≡ codes "{\"blocks\":2,\"budget\":1048576,\"done\":[[2,3,0]],\"place\":0,\"script\":\"abababababababababababababababababababababababababababababababab\",\"turn\":3,\"version\":1,\"weight\":7}"
-unfolding digits escape_byte number_json items numbers_json settled_json body_json body_of encode_with
-checkpoint_body = refl
 
 pub no_words : options all_options [] ≡ usage 0
 unfolding is_digit number_from number_of widest same_bytes command_text key_text row all_options run_alone settings_of number_in number_within yes_or_no put_key key_named row_named same_key place_of_key checked options_from options

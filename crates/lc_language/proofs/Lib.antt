@@ -1,4 +1,5 @@
 pub mod CheckExamples
+pub mod CheckpointExamples
 pub mod Course
 pub mod FaultLaws
 pub mod FirstFault

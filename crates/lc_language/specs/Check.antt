@@ -10,10 +10,8 @@
 --   check_text bytes             the line that `check` prints
 use Rattle.std.specs.Prelude.{ℕ, Bool, true, false, not, nat_le, nat_lt, ◌==◌, ◌&&◌, ◌||◌, if◌then◌else◌, List, [], length, map, find, codes, Option, Some, None, is_some, option_map, option_and_then}
 use Rattle.std.specs.List.{list_all}
-use Rattle.std.specs.Str.{is_utf8}
 use Rattle.serde_json.specs.Data.{Data, Members}
 use Rattle.serde_json.specs.Find.{get_member, as_str, as_array, as_object}
-use Rattle.serde_json.specs.Read.{read}
 use Rattle.lc_algebra.specs.declared.FieldName.{FieldName}
 use Rattle.lc_algebra.specs.Field.{size, is_symbol}
 use Rattle.lc_constructions.specs.Cyclic.{all_fields}
@@ -21,7 +19,7 @@ use Rattle.lc_enumeration.specs.InformationSet.{is_member}
 use Rattle.lc_enumeration.specs.Certificate.{Certificate, SetClaim, Proof, scan, levels, Reason, not_json, shape, limit, Verdict, rejected, verdict}
 use Rattle.lc_language.specs.Value.{same_bytes}
 use Rattle.lc_language.specs.Refusal.{is_rising, columns_of, reaches}
-use Rattle.lc_language.specs.Checkpoint.{listed, each, plain_number, number_at, member_count}
+use Rattle.lc_language.specs.Checkpoint.{listed, each, plain_number, number_at, member_count, json_in}
 use Rattle.lc_language.specs.Session.{line_of_verdict}
 
 pub data CertificateRead : Type 0 where
@@ -114,10 +112,6 @@ object_in (Some ms) = (if is_some (provided (λ v. v == 1) (number_at (codes "ve
 unfoldable pub data_in : Option Data → CertificateRead
 data_in None = refused_as not_json
 data_in (Some d) = object_in (as_object d)
-
--- JSON is text: bytes that aren't UTF-8 are none
-unfoldable pub json_in : List ℕ → Option Data
-json_in bytes = (if is_utf8 bytes then read bytes else None)
 
 unfoldable pub certificate_in : List ℕ → CertificateRead
 certificate_in bytes = data_in (json_in bytes)

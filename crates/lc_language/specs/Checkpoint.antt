@@ -4,10 +4,12 @@
 --   body_of point, checkpoint_text point      the body, and the seal with it: the SHA-256 of the body in lower-case hexadecimal digits,
 --                                a newline, and the body: compact JSON, its keys rising
 --   CheckpointRefusal            damaged (20), another version (21, with it), or another shape (22)
+--   json_in bytes                the JSON value that the bytes are; bytes that aren't UTF-8 are none
 --   checkpoint_in bytes          the checkpoint that the bytes are, or why they are none; the first that applies
 --   state_of C blocks            the blocks with the best pair below them
 --   IsTrueFor needs digest budget point      a checkpoint as a session of a chain writes it
 use Rattle.std.specs.Prelude.{◌≡◌, ℕ, suc, ◌+◌, ◌-◌, ◌*◌, ◌^◌, ◌<◌, ◌≤◌, Bool, not, nat_le, nat_lt, ◌==◌, ◌&&◌, if◌then◌else◌, List, [], ◌∷◌, ◌++◌, length, map, drop, slice_get, sum, codes, Option, Some, None, option_map, option_and_then}
+use Rattle.std.specs.Str.{is_utf8}
 use Rattle.sha2.specs.Sha256.{sha256}
 use Rattle.hex.specs.Hex.{encode_lower, hex_digit_value}
 use Rattle.serde_json.specs.Data.{Data, Items, Members, item, no_items, member, no_members, array, object, string}
@@ -143,8 +145,11 @@ unfoldable pub body_in : Option Data → ReadCheckpoint
 body_in (Some (object ms)) = versioned ms (number_at (codes "version") ms)
 body_in _ = refused shape
 
+unfoldable pub json_in : List ℕ → Option Data
+json_in bytes = (if is_utf8 bytes then read bytes else None)
+
 unfoldable pub checkpoint_in : List ℕ → ReadCheckpoint
-checkpoint_in bytes = (if is_whole bytes then body_in (read (drop 65 bytes)) else refused damaged)
+checkpoint_in bytes = (if is_whole bytes then body_in (json_in (drop 65 bytes)) else refused damaged)
 
 -- the answer of a settled need
 abbrev pub SettlesAs : Settled → Answer → Type 0

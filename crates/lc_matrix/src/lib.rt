@@ -7,6 +7,8 @@ mod laws;
 mod matrix;
 mod reduce;
 mod solve;
+#[cfg(test)]
+mod tests;
 
 pub use laws::rank_of_kernel;
 pub use matrix::Matrix;

@@ -85,8 +85,7 @@ impl Matrix {
         for i in 0..places.len() {
             word[places[i]] = self.symbol(i, n);
         }
-        let word = Word::from_slice(alloc, &word)?;
-        Ok(word)
+        Ok(Word::from_vec(word))
     }
 }
 

@@ -13,7 +13,7 @@ use Rattle.std.proofs.Math.Nat.{pow-suc, pow-zero, mod-add-div}
 use Rattle.lc_algebra.specs.declared.FieldName.{FieldName}
 use Rattle.lc_algebra.specs.Field.{shape_of, size, add, mul, pow}
 use Rattle.lc_algebra.specs.Word.{Fits}
-use Rattle.lc_algebra.specs.Polynomial.{value_at, poly_product, IsPolynomial, Divides}
+use Rattle.lc_algebra.specs.Polynomial.{value_at, poly_product, Divides}
 use Rattle.lc_algebra.specs.Embedding.{IsSubfield, embed, IsMinimal, IsCyclotomicSet}
 use Rattle.lc_algebra.proofs.FieldLaws.{zero_inside, add_inside, mul_inside, one_mul, no_zero_divisors}
 use Rattle.lc_algebra.proofs.PowerLaws.{pow_zero, pow_suc, pow_inside, pow_add, pow_one, one_pow, zero_pow, pow_mul, mul_pow, pow_size, frobenius}
@@ -84,10 +84,10 @@ module _ (small large : FieldName) (sub : IsSubfield small large) where
       let e : pow large a k ≡ pow large (pow large a i) (size small ^ t.0) = ap (pow large a) t.1 ∙ power_of_rest large a n (i * size small ^ t.0) o ∙ pow_mul large a i (size small ^ t.0) in
       ap (value_at large (map (embed small large) u)) e ∙ conjugate_zero u (pow large a i) t.0 h (pow_inside large a i) z
 
-  pub product_divides : (a : ℕ) (g u v : List ℕ) → IsMinimal small large a u → IsPolynomial small g → value_at large (map (embed small large) g) a ≢ 0 → Divides small g v → value_at large (map (embed small large) v) a ≡ 0 → Divides small (poly_product small g u) v
-  product_divides a g u v m pg n d z =
+  pub product_divides : (a : ℕ) (g u v : List ℕ) → IsMinimal small large a u → Fits small g → value_at large (map (embed small large) g) a ≢ 0 → Divides small g v → value_at large (map (embed small large) v) a ≡ 0 → Divides small (poly_product small g u) v
+  product_divides a g u v m fg n d z =
       let h = d.0 in
-      let e : mul large (value_at large (map (embed small large) h) a) (value_at large (map (embed small large) g) a) ≡ 0 = sym (value_embedded_same small large sub v (poly_product small h g) a d.2 ∙ value_embedded_product small large sub h g a d.1.fits pg.fits) ∙ z in
+      let e : mul large (value_at large (map (embed small large) h) a) (value_at large (map (embed small large) g) a) ≡ 0 = sym (value_embedded_same small large sub v (poly_product small h g) a d.2 ∙ value_embedded_product small large sub h g a d.1.fits fg) ∙ z in
       let zh : value_at large (map (embed small large) h) a ≡ 0 = ⊎_elim (λ s. s) (λ s. absurd (n s)) (no_zero_divisors large _ _ (value_inside large (map (embed small large) h) a) (value_inside large (map (embed small large) g) a) e) in
       let k = minimal_divides small large sub a u h m d.1 zh in
       (k.0, k.1, λ i. d.2 i ∙ same_product small h (poly_product small k.0 u) g i k.2 ∙ product_associates small k.0 u g i ∙ product_same small k.0 (poly_product small u g) (poly_product small g u) i (product_commutes small u g))

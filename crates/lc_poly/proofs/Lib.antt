@@ -7,3 +7,4 @@ pub mod ZeroLaws
 pub mod QuotientLaws
 pub mod ConjugateLaws
 pub mod RootLaws
+pub mod FactorLaws

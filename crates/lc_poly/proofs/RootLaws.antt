@@ -215,7 +215,7 @@ module _ (small large : FieldName) (sub : IsSubfield small large) where
   at_least_one zero e = absurd (omega (arith, one_inside large, e ∙ pow-zero (size small)))
   at_least_one (suc k) e = (k, e)
 
-  size_power : (k : ℕ) × (size large ≡ size small ^ suc k)
+  pub size_power : (k : ℕ) × (size large ≡ size small ^ suc k)
   unfolding size
   size_power =
       let p = (shape_of large).characteristic in

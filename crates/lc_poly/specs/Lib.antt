@@ -1,2 +1,3 @@
 pub mod Poly
 pub mod Minimal
+pub mod Factors

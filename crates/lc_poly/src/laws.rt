@@ -1,10 +1,11 @@
 //! The laws of polynomials, as the contracts of functions that do nothing: for every field and all polynomials over it.
 
-ghost use Rattle.std.specs.Prelude.{◌≡◌, ◌≢◌, ◌↔◌, ℕ, ◌^◌, ◌<◌, ◌≤◌, List, [], length, map, slice_index, AllPairs, Contains};
-ghost use Rattle.lc_algebra.specs.Field.{size, add, subtract, mul, pow};
+ghost use Rattle.std.specs.Prelude.{◌≡◌, ◌≢◌, ◌↔◌, ℕ, ◌-◌, ◌/◌, ◌%◌, ◌^◌, ◌<◌, ◌≤◌, List, [], ◌∷◌, length, map, slice_index, AllPairs, Contains};
+ghost use Rattle.lc_algebra.specs.Field.{shape_of, size, add, subtract, mul, pow};
 ghost use Rattle.lc_algebra.specs.Word.{Fits};
-ghost use Rattle.lc_algebra.specs.Polynomial.{value_at, poly_sum, poly_product, x_power_minus_one, IsPolynomial, IsDivision, Divides};
+ghost use Rattle.lc_algebra.specs.Polynomial.{value_at, poly_sum, poly_product, x_power_minus_one, SamePolynomial, IsPolynomial, IsDivision, Divides};
 ghost use Rattle.lc_algebra.specs.Embedding.{IsSubfield, embed, IsMinimal, IsCyclotomicSet};
+ghost use Rattle.lc_poly.specs.Factors.{HasOrder, Factor, IsFactor, AreFactors, StandsIn, product_of};
 
 use lc_algebra::FieldName;
 
@@ -71,4 +72,33 @@ pub fn divisors_multiply(small: FieldName, large: FieldName)
         Divides small (poly_product small g u) v }
     ensures values { IsSubfield small large → (g u : List ℕ) (x : ℕ) → Fits small g → Fits small u →
         value_at large (map (embed small large) (poly_product small g u)) x ≡ mul large (value_at large (map (embed small large) g) x) (value_at large (map (embed small large) u) x) }
+{}
+
+/// Let b be an element of order n of the large field. A product of minimal polynomials over the small field of powers of b, whose
+/// cyclotomic sets modulo n have no number in common, has exactly these zeros: the powers of b by the numbers of the sets. Its
+/// multiples are the polynomials over the small field with all these zeros, and x^n - 1 is one. (MacWilliams and Sloane, chapter 7.)
+pub fn products_of_minimal_polynomials(small: FieldName, large: FieldName)
+    ensures zeros { IsSubfield small large → (b n : ℕ) (ts : List Factor) (g : List ℕ) → HasOrder large b n → AreFactors small large b n ts → SamePolynomial (product_of small ts) g →
+        (x : ℕ) → x < size large → (value_at large (map (embed small large) g) x ≡ 0) ↔ ((k : ℕ) × StandsIn ts k × (x ≡ pow large b k)) }
+    ensures multiples { IsSubfield small large → (b n : ℕ) (ts : List Factor) (g : List ℕ) → HasOrder large b n → AreFactors small large b n ts → SamePolynomial (product_of small ts) g →
+        (v : List ℕ) → IsPolynomial small v → Divides small g v ↔ ((k : ℕ) → StandsIn ts k → value_at large (map (embed small large) v) (pow large b k) ≡ 0) }
+    ensures divides { IsSubfield small large → (b n : ℕ) (ts : List Factor) (g : List ℕ) → HasOrder large b n → AreFactors small large b n ts → SamePolynomial (product_of small ts) g →
+        Divides small g (x_power_minus_one small n) }
+{}
+
+/// How such a product is made, one number after another. A polynomial that has one power of b as a zero has all those of its
+/// cyclotomic set; a number that stands in no set yet has a set that is apart from all of them, since two sets with a common
+/// number are equal. (MacWilliams and Sloane, chapter 7.)
+pub fn factors_of_x_power_minus_one(small: FieldName, large: FieldName)
+    ensures spread { IsSubfield small large → (u : List ℕ) (b n i : ℕ) (xs : List ℕ) → Fits small u → HasOrder large b n → IsCyclotomicSet n (size small) i xs →
+        value_at large (map (embed small large) u) (pow large b i) ≡ 0 → (k : ℕ) → Contains xs k → value_at large (map (embed small large) u) (pow large b k) ≡ 0 }
+    ensures equal { IsSubfield small large → (b n : ℕ) → HasOrder large b n → (i j x : ℕ) (xs ys : List ℕ) → IsCyclotomicSet n (size small) i xs → IsCyclotomicSet n (size small) j ys →
+        Contains xs x → Contains ys x → (k : ℕ) → Contains xs k ↔ Contains ys k }
+    ensures one_more { IsSubfield small large → (b n : ℕ) → HasOrder large b n → (t : Factor) (ts : List Factor) → AreFactors small large b n ts → IsFactor small large b n t →
+        (StandsIn ts (t.number % n) → ⊥) → AreFactors small large b n (t ∷ ts) }
+{}
+
+/// The power of the primitive element by (size - 1) / n has order n, where n divides size - 1. (MacWilliams and Sloane, chapter 4.)
+pub fn powers_of_order(field: FieldName)
+    ensures order { (n : ℕ) → 1 ≤ n → (size field - 1) % n ≡ 0 → HasOrder field (pow field (shape_of field).primitive ((size field - 1) / n)) n }
 {}

@@ -75,15 +75,22 @@ pub fn code_line(alloc: Global, n: usize, k: usize, q: u64) -> Result<Vec<u8>, N
     Ok(text)
 }
 
+// The line of a text that stands for itself.
+fn text_line(alloc: Global, text: &[u8]) -> Result<Vec<u8>, NoMemory>
+    ensures { IfOk result (λ v. v.items ≡ line text.now) }
+{
+    let mut written = Vec::new(alloc);
+    push_text(&mut written, text)?;
+    push_newline(&mut written)?;
+    Ok(written)
+}
+
 /// The line of a truth value: `true` or `false`.
 #[tactic(auto, unfolding(lc_language::specs::Print::value_line, lc_language::specs::Print::value_text))]
 pub fn truth_line(alloc: Global, holds: bool) -> Result<Vec<u8>, NoMemory>
     ensures { IfOk result (λ v. v.items ≡ value_line (truth holds)) }
 {
-    let mut text = Vec::new(alloc);
-    push_text(&mut text, if holds { b"true" } else { b"false" })?;
-    push_newline(&mut text)?;
-    Ok(text)
+    text_line(alloc, if holds { b"true" } else { b"false" })
 }
 
 /// The line of a value that is absent: `none`.
@@ -91,10 +98,7 @@ pub fn truth_line(alloc: Global, holds: bool) -> Result<Vec<u8>, NoMemory>
 pub fn none_line(alloc: Global) -> Result<Vec<u8>, NoMemory>
     ensures { IfOk result (λ v. v.items ≡ value_line nothing) }
 {
-    let mut text = Vec::new(alloc);
-    push_text(&mut text, b"none")?;
-    push_newline(&mut text)?;
-    Ok(text)
+    text_line(alloc, b"none")
 }
 
 /// What a search for a least word prints: `least 2 word [0,1,1]`, `d` being the weight of the word.
@@ -116,10 +120,7 @@ pub fn least_line(alloc: Global, d: u64, word: &Word) -> Result<Vec<u8>, NoMemor
 pub fn least_none_line(alloc: Global) -> Result<Vec<u8>, NoMemory>
     ensures { IfOk result (λ v. v.items ≡ least_none_text) }
 {
-    let mut text = Vec::new(alloc);
-    push_text(&mut text, b"least none")?;
-    push_newline(&mut text)?;
-    Ok(text)
+    text_line(alloc, b"least none")
 }
 
 /// What a search for the minimum distance prints of an exact answer, `d` being the weight of the
@@ -172,10 +173,7 @@ pub fn bracket_line(
 pub fn distance_none_line(alloc: Global) -> Result<Vec<u8>, NoMemory>
     ensures { IfOk result (λ v. v.items ≡ distance_none_text) }
 {
-    let mut text = Vec::new(alloc);
-    push_text(&mut text, b"distance none")?;
-    push_newline(&mut text)?;
-    Ok(text)
+    text_line(alloc, b"distance none")
 }
 
 /// The line of a fault: its number, its place in the script, and the numbers that it carries:

@@ -30,6 +30,13 @@ impl Word {
         })
     }
 
+    /// The word with these symbols, whose memory it keeps; no other is taken.
+    pub fn from_vec(symbols: Vec<u8>) -> Word
+        ensures is { result ≡ symbols.items }
+    {
+        Word { symbols }
+    }
+
     /// The zero word of `n` symbols.
     pub fn zero(alloc: Global, n: usize) -> Result<Word, NoMemory>
         ensures is { IfOk result (λ w. w ≡ zero_word n) }
