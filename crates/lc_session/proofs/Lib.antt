@@ -1,5 +1,2 @@
-pub mod Listed
-pub mod WrittenQuery
-pub mod ScanLaws
-pub mod LineLaws
+pub mod RunLaws
 pub mod SessionLaws
