@@ -1,2 +1,5 @@
+pub mod AtMostOne
+pub mod OneText
+pub mod OneValue
 pub mod RunLaws
 pub mod SessionLaws

@@ -2,10 +2,12 @@
 #![tactic(auto)]
 
 mod input;
+mod laws;
 mod session;
 mod status;
 mod text;
 
+pub use laws::one_text;
 pub use session::run_session;
 pub use status::{Status, status_line};
 
