@@ -1,7 +1,7 @@
 -- What the program says of the status of a session.
 --   number_of status     the number with which it ends
---   told text            a text of its own: with its name in front and a newline behind
---   line_of status       what it writes to standard error: a line that names the trouble; nothing where the whole text was written
+--   told text            `codes: `, the text, and a newline
+--   line_of status       what it writes to standard error: a line that tells why there is no text, or nothing where it was written
 use Rattle.std.specs.Prelude.{ℕ, List, [], ◌∷◌, ◌++◌, codes, decimal}
 use Rattle.lc_session.specs.declared.status.Status.{Status}
 use Rattle.lc_session.specs.declared.status.Status.TheVariants.{Done, Usage, SourceFault, SinkFault, NoMemory, TooLong}

@@ -9,7 +9,7 @@ use lc_io::{ReadRefusal, Source, read_to_limit};
 use std::alloc::Global;
 
 /// Why there is no script.
-#[derive(Clone, Copy, Debug, PartialEq, Eq, Drop)]
+#[derive(Drop)]
 pub(crate) enum InputRefusal {
     /// A read failed.
     Failed,
