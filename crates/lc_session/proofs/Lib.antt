@@ -1,5 +1,5 @@
-pub mod Listed
-pub mod WrittenQuery
-pub mod ScanLaws
-pub mod LineLaws
+pub mod AtMostOne
+pub mod OneText
+pub mod OneValue
+pub mod RunLaws
 pub mod SessionLaws

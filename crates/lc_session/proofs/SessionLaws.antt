@@ -1,32 +1,20 @@
--- The words of the command line, the field of two elements, and what a source gave.
+-- The words of the command line, and what a source gave.
 --   run_told                     whether a word is `run`, as the library compares texts
 --   none_refused, first_refused, second_refused, run_settings, run_not_refused      the words that are accepted, and the others
---   binary, binary_is_a_field    the field of two elements
---   answer_from, answer_over     the line that answers a query
---   refusal_other                bytes that no rows are read from
---   gave_from                    what was read up to a limit is what the source gave
---   given_whole, given_other, reply_not_other      where the source tells its bytes, they are those that it gave, or as little a query
-use Rattle.std.proofs.Common.{◌≡◌, ◌≢◌, ℕ, ◌+◌, ◌<◌, ◌≤◌, Bool, true, false, ◌==◌, nat_eq, List, [], ◌∷◌, ◌++◌, length, Option, Some, None, refl, sym, ap, subst, ◌∙◌, arith, inl, inr, ⊎_elim}
-use Rattle.std.specs.Prelude.{codes, String, string_bytes, IfSome, IsNone}
+--   given_whole                  a source that tells its bytes and was read to its end gave all of them
+--   not_too_much, too_much       where it tells them, it gave too much exactly where they are too many
+--   reply                        what was read and the text that it prints
+use Rattle.std.proofs.Common.{◌≡◌, ℕ, ◌<◌, ◌≤◌, Bool, true, false, ◌==◌, nat_eq, List, [], ◌∷◌, ◌++◌, length, Option, Some, None, refl, sym, ap, subst, ◌∙◌, arith}
+use Rattle.std.specs.Prelude.{codes, String, string_bytes}
 use Rattle.std.specs.Cmp.Lexicographic.{pointwise}
 use Rattle.std.specs.Io.KnownBytes.{Consumes, IsAtEnd}
 use Rattle.std.proofs.lemmas.List.{append-nil, length-append}
 use Rattle.std.proofs.lemmas.Bool.Decides.{nat_tests}
-use Rattle.std.proofs.lemmas.Bool.{cases_lt}
-use Rattle.lc_algebra.specs.declared.FieldName.{FieldName}
-use Rattle.lc_algebra.specs.declared.FieldName.TheVariants.{Gf2, Gf3, Gf4, Gf5, Gf7, Gf8, Gf9, Gf11, Gf13, Gf16, Gf25, Gf27, Gf32, Gf64, Gf81, Gf128, Gf243, Gf256}
-use Rattle.lc_algebra.specs.Field.{shape, shape_of, size}
-use Rattle.lc_algebra.specs.Word.{weight}
 use Rattle.lc_language.specs.Value.{same_bytes}
-use Rattle.lc_language.specs.Print.{least_line, least_none_line}
-use Rattle.lc_language.specs.Options.{run, settings_of, settings, usage, options, options_from, checked, key_named, place_of_key, row, row_named, run_alone, command_text}
-use Rattle.lc_session.specs.Query.{most_bytes, IsQuery, IsOther, IsAnswer}
-use Rattle.lc_session.specs.Scan.{IsLeastOr}
-use Rattle.lc_session.specs.declared.query.QueryRefusal.{QueryRefusal}
-use Rattle.lc_session.specs.declared.query.QueryRefusal.TheVariants.{Unbuilt, NoMemory}
-use Rattle.lc_session.specs.Reading.{Fails, query_at}
-use Rattle.lc_session.proofs.WrittenQuery.{query_other}
-use Rattle.lc_session.specs.Outcome.{words_of, Gave}
+use Rattle.lc_language.specs.Evaluation.{IsText}
+use Rattle.lc_language.specs.Options.{Settings, run, settings_of, settings, usage, options, options_from, checked, key_named, place_of_key, row, row_named, run_alone, command_text}
+use Rattle.lc_eval.specs.Built.{built_calls}
+use Rattle.lc_session.specs.Outcome.{most_bytes, words_of, GaveTooMuch, IsReply}
 
 same_swapped : (u v : List ℕ) → pointwise nat_eq u v ≡ same_bytes v u
 unfolding same_bytes
@@ -75,73 +63,33 @@ run_not_refused words i e h =
     let both : settings (settings_of run) ≡ usage i = sym (alone_bytes (codes "run") same_run) ∙ ap (options run_alone) (sym e) ∙ h in
     absurd cc
 
--- ---- the field
-
-pub binary : (f : FieldName) → size f ≡ 2 → f ≡ Gf2
-unfolding size shape_of shape
-binary Gf2 e = refl
-binary Gf3 e = absurd (omega (arith, e))
-binary Gf4 e = absurd (omega (arith, e))
-binary Gf5 e = absurd (omega (arith, e))
-binary Gf7 e = absurd (omega (arith, e))
-binary Gf8 e = absurd (omega (arith, e))
-binary Gf9 e = absurd (omega (arith, e))
-binary Gf11 e = absurd (omega (arith, e))
-binary Gf13 e = absurd (omega (arith, e))
-binary Gf16 e = absurd (omega (arith, e))
-binary Gf25 e = absurd (omega (arith, e))
-binary Gf27 e = absurd (omega (arith, e))
-binary Gf32 e = absurd (omega (arith, e))
-binary Gf64 e = absurd (omega (arith, e))
-binary Gf81 e = absurd (omega (arith, e))
-binary Gf128 e = absurd (omega (arith, e))
-binary Gf243 e = absurd (omega (arith, e))
-binary Gf256 e = absurd (omega (arith, e))
-
-pub binary_is_a_field : ((f : FieldName) → size f ≢ 2) → ⊥
-unfolding size shape_of shape
-binary_is_a_field h = h Gf2 refl
-
--- ---- the answer
-
-pub answer_from : (n : ℕ) (rows : List (List ℕ)) (word : Option (List ℕ)) (line : List ℕ) → IsLeastOr Gf2 n rows word → IfSome word (λ w. line ≡ least_line (weight w) w) → (IsNone word → line ≡ least_none_line) → IsAnswer n rows line
-answer_from n rows (Some w) line l s k = inr (w, l, s)
-answer_from n rows None line l s k = inl (l, k refl)
-
-pub answer_over : (f : FieldName) (m n : ℕ) (rows : List (List ℕ)) (word : Option (List ℕ)) (line : List ℕ) → f ≡ Gf2 → m ≡ n → IsLeastOr f m rows word → IfSome word (λ w. line ≡ least_line (weight w) w) → (IsNone word → line ≡ least_none_line) → IsAnswer n rows line
-answer_over f m n rows word line e d l s k =
-    let x : IsLeastOr Gf2 m rows word = subst (λ g. IsLeastOr g m rows word) e l in
-    let y : IsLeastOr Gf2 n rows word = subst (λ i. IsLeastOr Gf2 i rows word) d x in
-    answer_from n rows word line y s k
-
-pub refusal_other : (e : QueryRefusal) (bytes : List ℕ) → Fails e (query_at bytes) → e ≡ Unbuilt → IsOther bytes
-refusal_other Unbuilt bytes h p = query_other bytes h
-refusal_other NoMemory bytes h p = absurd cc
-
 -- ---- what the source gave
 
-pub gave_from : (old new : Option (List ℕ)) (bytes : List ℕ) → Consumes old new bytes → length bytes ≤ most_bytes + 1 → (length bytes < most_bytes + 1 → IsAtEnd new) → Gave old new bytes
-gave_from old new bytes c l e = record { taken = c; whole = ⊎_elim (λ k. inl (e k)) (λ k. inr (omega (arith, k, l))) (cases_lt (length bytes) (most_bytes + 1)) }
+pub given_whole : (script : List ℕ) (new : Option (List ℕ)) (bytes : List ℕ) → Consumes (Some script) new bytes → IsAtEnd new → script ≡ bytes
+given_whole script None bytes c e = absurd c
+given_whole script (Some rest) bytes c e = c ∙ ap (λ (r : List ℕ). bytes ++ r) e ∙ append-nil bytes
 
--- all that the source had
-pub given_whole : (text : List ℕ) (new : Option (List ℕ)) (bytes : List ℕ) → Consumes (Some text) new bytes → IsAtEnd new → text ≡ bytes
-given_whole text None bytes c e = absurd c
-given_whole text (Some rest) bytes c e = c ∙ ap (λ (r : List ℕ). bytes ++ r) e ∙ append-nil bytes
+pub not_too_much : (old : Option (List ℕ)) (script : List ℕ) (new : Option (List ℕ)) (bytes : List ℕ) → old ≡ Some script → Consumes old new bytes → IsAtEnd new → length bytes ≤ most_bytes → most_bytes < length script → ⊥
+not_too_much old script new bytes e c end l m =
+    let t : Consumes (Some script) new bytes = subst (λ x. Consumes x new bytes) e c in
+    omega (arith, ap (λ (u : List ℕ). length u) (given_whole script new bytes t end))
 
-pub given_long : (text : List ℕ) (new : Option (List ℕ)) (bytes : List ℕ) → Consumes (Some text) new bytes → most_bytes < length bytes → IsOther text
-given_long text None bytes c l = absurd c
-given_long text (Some rest) bytes c l = λ n rows q. omega (arith, ap length c, length-append bytes rest, l, q.within)
+consumed_length : (script : List ℕ) (new : Option (List ℕ)) (bytes : List ℕ) → Consumes (Some script) new bytes → length bytes ≤ length script
+consumed_length script None bytes c = absurd c
+consumed_length script (Some rest) bytes c = omega (arith, ap (λ (u : List ℕ). length u) c, length-append bytes rest)
 
-pub given_other : (old : Option (List ℕ)) (text : List ℕ) (new : Option (List ℕ)) (bytes : List ℕ) → old ≡ Some text → Gave old new bytes → IsOther bytes → IsOther text
-given_other old text new bytes e g o =
-    let t : Consumes (Some text) new bytes = subst (λ x. Consumes x new bytes) e g.taken in
-    ⊎_elim
-    (λ h. subst IsOther (sym (given_whole text new bytes t h)) o)
-    (λ h. given_long text new bytes t (omega (arith, h)))
-    g.whole
+pub too_much : (old : Option (List ℕ)) (script : List ℕ) (new : Option (List ℕ)) → old ≡ Some script → GaveTooMuch old new → most_bytes < length script
+too_much old script new e g =
+    let t : Consumes (Some script) new g.0 = subst (λ x. Consumes x new g.0) e g.2 in
+    omega (arith, consumed_length script new g.0 t, g.1)
 
-pub reply_not_other : (old : Option (List ℕ)) (text : List ℕ) (new : Option (List ℕ)) (bytes : List ℕ) (n : ℕ) (rows : List (List ℕ)) → old ≡ Some text → Consumes old new bytes → (length bytes < most_bytes + 1 → IsAtEnd new) → IsQuery bytes n rows → IsOther text → ⊥
-reply_not_other old text new bytes n rows e c h q o =
-    let t : Consumes (Some text) new bytes = subst (λ x. Consumes x new bytes) e c in
-    let ended : IsAtEnd new = h (omega (arith, q.within)) in
-    subst IsOther (given_whole text new bytes t ended) o n rows q
+pub reply : (words : List (List ℕ)) (old new : Option (List ℕ)) (bytes text : List ℕ) (ends : Bool) → (s : Settings) × (options run_alone words ≡ settings s) → Consumes old new bytes → IsAtEnd new → length bytes ≤ most_bytes → ((budget : ℕ) → IsText built_calls budget bytes text ends) → IsReply words old new text ends
+reply words old new bytes text ends s given ended within printed = record {
+  asked = s.0;
+  accepted = s.1;
+  bytes = bytes;
+  given = given;
+  ended = ended;
+  within = within;
+  printed = printed s.0.budget;
+}

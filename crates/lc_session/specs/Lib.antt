@@ -1,6 +1,2 @@
-pub mod Query
-pub mod Scan
-pub mod Reading
-pub mod Number
-pub mod Line
+pub mod Ending
 pub mod Outcome

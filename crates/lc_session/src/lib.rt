@@ -1,15 +1,15 @@
 //! A session: the words of the command line, the bytes in and the bytes out.
 #![tactic(auto)]
 
-mod least;
-mod line;
-mod query;
+mod input;
+mod laws;
 mod session;
 mod status;
+mod text;
 
-pub use least::least_word;
+pub use laws::one_text;
 pub use session::run_session;
-pub use status::Status;
+pub use status::{Status, status_line};
 
 #[cfg(test)]
 mod tests;

@@ -1,11 +1,15 @@
 // How a session ends.
-ghost use Rattle.std.specs.Prelude.{◌≡◌};
-ghost use Rattle.lc_session.specs.Number.{number_of};
+ghost use Rattle.std.specs.Prelude.{◌≡◌, ◌++◌, IfOk, OnOk, decimal};
+ghost use Rattle.lc_session.specs.Ending.{number_of, line_of};
+
+use itoa::Buffer;
+use lc_field::NoMemory;
+use std::alloc::Global;
 
 /// How a session ends.
 #[derive(Clone, Copy, Debug, PartialEq, Eq)]
 pub enum Status {
-    /// The line was written. The number is 0.
+    /// The whole text was written. The number is 1 where a fault line ends it, else 0.
     Done(u8),
     /// The words of the command line are refused; the index of the first one that is, from 0.
     Usage(usize),
@@ -15,13 +19,13 @@ pub enum Status {
     SinkFault,
     /// Memory was refused.
     NoMemory,
-    /// What the source gave is no query that can be answered.
-    Unbuilt,
+    /// The source gave more than 1,048,576 bytes.
+    TooLong,
 }
 
 impl Status {
     /// The number with which the program ends: that of `Done`, 2 for `Usage`, 4 for `SourceFault`,
-    /// 5 for `SinkFault`, 7 for `NoMemory` and 14 for `Unbuilt`.
+    /// 5 for `SinkFault`, 7 for `NoMemory` and 12 for `TooLong`.
     pub fn number(&self) -> u8
         ensures { result ≡ number_of self.now }
     {
@@ -31,7 +35,43 @@ impl Status {
             Status::SourceFault => 4,
             Status::SinkFault => 5,
             Status::NoMemory => 7,
-            Status::Unbuilt => 14,
+            Status::TooLong => 12,
         }
     }
+}
+
+// The number in decimal digits.
+fn push_number(text: &mut Vec<u8>, number: usize) -> Result<(), NoMemory>
+    ensures { OnOk result (text.new.items ≡ text.old.items ++ decimal number) }
+{
+    text.extend_from_slice(Buffer::new().format(number).as_bytes())?;
+    Ok(())
+}
+
+// The line of the word with this index.
+fn usage_line(alloc: Global, index: usize) -> Result<Vec<u8>, NoMemory>
+    ensures { IfOk result (λ line. line.items ≡ line_of (Status.Usage index)) }
+{
+    let mut line = Vec::from_slice(alloc, b"codes: word ")?;
+    push_number(&mut line, index)?;
+    line.extend_from_slice(b" refused\n")?;
+    Ok(line)
+}
+
+/// The line that tells a status, for standard error: nothing for `Done`; else, with a newline
+/// behind it, `codes: word N refused`, N being the index of the word from 0, `codes: source fault`,
+/// `codes: sink fault`, `codes: no memory` or `codes: input too long`. Refused only for want of
+/// memory.
+pub fn status_line(alloc: Global, status: &Status) -> Result<Vec<u8>, NoMemory>
+    ensures { IfOk result (λ line. line.items ≡ line_of status.now) }
+{
+    let line: &[u8] = match status {
+        Status::Done(_) => b"",
+        Status::Usage(index) => return usage_line(alloc, *index),
+        Status::SourceFault => b"codes: source fault\n",
+        Status::SinkFault => b"codes: sink fault\n",
+        Status::NoMemory => b"codes: no memory\n",
+        Status::TooLong => b"codes: input too long\n",
+    };
+    Ok(Vec::from_slice(alloc, line)?)
 }

@@ -1,0 +1,195 @@
+-- Where each call of a table gives one value and has one answer, expressions have one outcome, statements do one thing, and bytes
+-- print one text.
+--   named_one                    the call that a name stands for is one of the table
+--   evaluates_one, evaluates_all_one     an expression, and several, have one outcome
+--   steps_one                    a statement does one thing
+--   runs_one                     statements have one text
+--   text_one                     and so have bytes
+--   one_text                     by the calls that are built
+use Rattle.std.proofs.Common.{◌≡◌, ℕ, ◌⊎◌, Bool, true, false, cond, List, [], ◌∷◌, ◌++◌, Option, Some, None, refl, sym, ap, subst, ◌∙◌, ⊎_elim}
+use Rattle.std.specs.Prelude.{IsTrue, MatchOption, find}
+use Rattle.std.specs.List.{AllByRecursion}
+use Rattle.lc_parse.proofs.Outcomes.{one_script, one_fault, no_both}
+use Rattle.lc_language.specs.declared.Call.{Call}
+use Rattle.lc_language.specs.declared.Kind.{Kind}
+use Rattle.lc_language.specs.Tree.{Expr, Exprs, number, name, call, list, none, more, Statement, count_of}
+use Rattle.lc_language.specs.Grammar.{Reads, Fault, IsFault}
+use Rattle.lc_language.specs.Value as value
+use Rattle.lc_language.specs.Value.{Value, Binding, value_named}
+use Rattle.lc_language.specs.Calls.{call_named, signature_for, is_query}
+use Rattle.lc_language.specs.Refusal.{refusal_of}
+use Rattle.lc_language.specs.Meaning.{Gives, IsNotDivisor}
+use Rattle.lc_language.specs.Print.{fault_line}
+use Rattle.lc_language.specs.Query.{query_line}
+use Rattle.lc_language.specs.Evaluation.{Outcome, gives, refused, Outcomes, all_give, one_refused, refuse_at, refuse_call, first_misfit, as_kinds, list_of, AppliesTo, Applies, Joins, GoesOn, ListGives, Evaluates, EvaluatesAll, Step, binds, prints, asks, fails, Queries, fail_with, QueriesAll, query_of, Assigns, StepsAsQuery, StepsOf, Steps, Prints, Runs, IsText}
+use Rattle.lc_eval.specs.Built.{built_calls}
+use Rattle.lc_session.proofs.AtMostOne.{One, Both, one_value, one_option, one_either, one_some}
+use Rattle.lc_session.proofs.OneValue.{IsDeterminate, built_one}
+
+-- ---- the calls of a table
+
+picked : (P : Call → Type 0) (b : Bool) (d c : Call) (r : Option Call) → P d → (r ≡ Some c → P c) → cond b (Some d) r ≡ Some c → P c
+picked P true d c r p h e = let same : d ≡ c = cc in subst P same p
+picked P false d c r p h e = h e
+
+found_one : (P : Call → Type 0) (test : Call → Bool) (table : List Call) (c : Call) → AllByRecursion P table → find test table ≡ Some c → P c
+found_one P test [] c h e = absurd (cc)
+found_one P test (d ∷ table) c h e = picked P (test d) d c (find test table) h.0 (λ k. found_one P test table c h.1 k) e
+
+pub named_one : (P : Call → Type 0) (table : List Call) (x : List ℕ) (c : Call) → AllByRecursion P table → call_named table x ≡ Some c → P c
+unfolding call_named
+named_one P table x c h e = found_one P _ table c h e
+
+-- ---- expressions
+
+joins_one : (v : Value) (rest : Outcomes) → One (Joins v rest)
+joins_one v (one_refused r) = one_value (one_refused r)
+joins_one v (all_give vs) = one_value (all_give (v ∷ vs))
+
+goes_on_one : (Later : Outcomes → Type 0) (o : Outcome) → One Later → One (GoesOn o Later)
+goes_on_one Later (refused r) h = one_value (one_refused r)
+goes_on_one Later (gives v) h = one_some Later (Joins v) h (joins_one v)
+
+list_gives_one : (es : Exprs) (os : Outcomes) → One (ListGives es os)
+list_gives_one es (one_refused r) = one_value (refused r)
+list_gives_one es (all_give vs) = one_value (list_of es vs)
+
+applies_to_one : (c : Call) (place : ℕ) (arguments : List Value) → IsDeterminate c → One (AppliesTo c place arguments)
+applies_to_one c place arguments d =
+    one_option (refusal_of c arguments)
+    (λ o. (IsNotDivisor c arguments × (o ≡ refuse_at 4 place)) ⊎ (¬ IsNotDivisor c arguments × ((v : Value) × Gives c arguments v × (o ≡ gives v))))
+    (λ r o. o ≡ refuse_call place r)
+    (one_either (IsNotDivisor c arguments) (¬ IsNotDivisor c arguments)
+    (λ o. o ≡ refuse_at 4 place) (λ o. (v : Value) × Gives c arguments v × (o ≡ gives v))
+    (λ a b. b a)
+    (one_value (refuse_at 4 place))
+    (one_some (Gives c arguments) (λ v o. o ≡ gives v) (d.gives_one arguments) (λ v. one_value (gives v))))
+    (λ r e. one_value (refuse_call place r))
+
+applies_one : (c : Call) (place : ℕ) (kinds : List Kind) (es : Exprs) → IsDeterminate c → (os : Outcomes) → One (Applies c place kinds es os)
+applies_one c place kinds es d (one_refused r) = one_value (refused r)
+applies_one c place kinds es d (all_give vs) =
+    one_option (first_misfit kinds es vs) (AppliesTo c place (as_kinds kinds vs)) (λ p o. o ≡ refuse_at 45 p)
+    (applies_to_one c place (as_kinds kinds vs) d)
+    (λ p e. one_value (refuse_at 45 p))
+
+-- what a call that the table has gives, by the outcomes of its arguments
+abbrev Counted : ℕ → Exprs → (Outcomes → Type 0) → Call → Outcome → Type 0
+Counted place es Arguments c o = MatchOption (signature_for c (count_of es)) (o ≡ refuse_at 46 place) (λ kinds. (os : Outcomes) × Arguments os × Applies c place kinds es os o)
+
+abbrev Called : ℕ → Exprs → (Outcomes → Type 0) → Call → Outcome → Type 0
+Called place es Arguments c o = (IsTrue (is_query c) × (o ≡ refuse_at 45 place)) ⊎ ((is_query c ≡ false) × Counted place es Arguments c o)
+
+called_one : (place : ℕ) (es : Exprs) (Arguments : Outcomes → Type 0) (c : Call) → IsDeterminate c → One Arguments → One (Called place es Arguments c)
+called_one place es Arguments c d h =
+    one_either (IsTrue (is_query c)) (is_query c ≡ false)
+    (λ o. o ≡ refuse_at 45 place) (Counted place es Arguments c)
+    (λ a b. let e : true ≡ false = sym a ∙ b in absurd (cc))
+    (one_value (refuse_at 45 place))
+    (one_option (signature_for c (count_of es)) (λ o. o ≡ refuse_at 46 place) (λ kinds o. (os : Outcomes) × Arguments os × Applies c place kinds es os o)
+    (one_value (refuse_at 46 place))
+    (λ kinds e. one_some Arguments (Applies c place kinds es) h (applies_one c place kinds es d)))
+
+mutual
+  pub evaluates_one : (table : List Call) (env : List Binding) → AllByRecursion IsDeterminate table → (e : Expr) → One (Evaluates table env e)
+  evaluates_one table env h (number place n) = one_value (gives (value.number n))
+  evaluates_one table env h (name place x) = one_option (value_named x env) (λ o. o ≡ refuse_at 44 place) (λ v o. o ≡ gives v) (one_value (refuse_at 44 place)) (λ v e. one_value (gives v))
+  evaluates_one table env h (list place es) = one_some (EvaluatesAll table env es) (ListGives es) (evaluates_all_one table env h es) (list_gives_one es)
+  evaluates_one table env h (call place x es) =
+      one_option (call_named table x) (λ o. o ≡ refuse_at 44 place) (Called place es (EvaluatesAll table env es))
+      (one_value (refuse_at 44 place))
+      (λ c e. called_one place es (EvaluatesAll table env es) c (named_one IsDeterminate table x c h e) (evaluates_all_one table env h es))
+
+  pub evaluates_all_one : (table : List Call) (env : List Binding) → AllByRecursion IsDeterminate table → (es : Exprs) → One (EvaluatesAll table env es)
+  evaluates_all_one table env h none = one_value (all_give [])
+  evaluates_all_one table env h (more e es) =
+      one_some (Evaluates table env e) (λ o. GoesOn o (λ rest. EvaluatesAll table env es rest))
+      (evaluates_one table env h e)
+      (λ o. goes_on_one (EvaluatesAll table env es) o (evaluates_all_one table env h es))
+
+-- ---- statements
+
+queries_all_one : (c : Call) (place : ℕ) (kinds : List Kind) (es : Exprs) → IsDeterminate c → (os : Outcomes) → One (QueriesAll c place kinds es os)
+queries_all_one c place kinds es d (one_refused r) = one_value (fails r)
+queries_all_one c place kinds es d (all_give vs) =
+    one_option (first_misfit kinds es vs)
+    (λ step. MatchOption (refusal_of c (as_kinds kinds vs)) (Queries c (as_kinds kinds vs) step) (λ r. step ≡ fail_with (refuse_call place r)))
+    (λ p step. step ≡ fail_with (refuse_at 45 p))
+    (one_option (refusal_of c (as_kinds kinds vs)) (Queries c (as_kinds kinds vs)) (λ r step. step ≡ fail_with (refuse_call place r))
+    (d.answers_one (as_kinds kinds vs))
+    (λ r e. one_value (fail_with (refuse_call place r))))
+    (λ p e. one_value (fail_with (refuse_at 45 p)))
+
+steps_as_query_one : (table : List Call) (env : List Binding) → AllByRecursion IsDeterminate table → (c : Call) → IsDeterminate c → (e : Expr) → One (StepsAsQuery table env c e)
+steps_as_query_one table env h c d (call place x es) =
+    one_option (signature_for c (count_of es)) (λ step. step ≡ fail_with (refuse_at 46 place)) (λ kinds step. (os : Outcomes) × EvaluatesAll table env es os × QueriesAll c place kinds es os step)
+    (one_value (fail_with (refuse_at 46 place)))
+    (λ kinds e. one_some (EvaluatesAll table env es) (QueriesAll c place kinds es) (evaluates_all_one table env h es) (queries_all_one c place kinds es d))
+steps_as_query_one table env h c d _ = λ s t a b. absurd a
+
+assigns_one : (x : List ℕ) (o : Outcome) → One (Assigns x o)
+assigns_one x (gives v) = one_value (binds (record { name = x; value = v }))
+assigns_one x (refused r) = one_value (fails r)
+
+asked : (P : Call → Type 0) (b : Bool) (d c : Call) → P d → elim b as (λ _. Option Call) [ true ↦ Some d | false ↦ None ] ≡ Some c → P c
+asked P true d c p e = let same : d ≡ c = cc in subst P same p
+asked P false d c p e = absurd (cc)
+
+asked_of : (P : Call → Type 0) (r : Option Call) (c : Call) → ((d : Call) → r ≡ Some d → P d) → elim r as (λ _. Option Call) [ None ↦ None | Some d ↦ elim (is_query d) as (λ _. Option Call) [ true ↦ Some d | false ↦ None ] ] ≡ Some c → P c
+asked_of P None c h e = absurd (cc)
+asked_of P (Some d) c h e = asked P (is_query d) d c (h d refl) e
+
+query_one : (table : List Call) → AllByRecursion IsDeterminate table → (e : Expr) (c : Call) → query_of table e ≡ Some c → IsDeterminate c
+query_one table h (call place x es) c e = asked_of IsDeterminate (call_named table x) c (λ d k. named_one IsDeterminate table x d h k) e
+query_one table h (number place n) c e = absurd (cc)
+query_one table h (name place x) c e = absurd (cc)
+query_one table h (list place es) c e = absurd (cc)
+
+steps_of_one : (table : List Call) (env : List Binding) → AllByRecursion IsDeterminate table → (target : Option (List ℕ)) (e : Expr) → One (StepsOf table env target e)
+steps_of_one table env h (Some x) e = one_some (Evaluates table env e) (Assigns x) (evaluates_one table env h e) (assigns_one x)
+steps_of_one table env h None e =
+    one_option (query_of table e) (λ step. (o : Outcome) × Evaluates table env e o × (step ≡ fail_with o)) (λ c. StepsAsQuery table env c e)
+    (one_some (Evaluates table env e) (λ o step. step ≡ fail_with o) (evaluates_one table env h e) (λ o. one_value (fail_with o)))
+    (λ c k. steps_as_query_one table env h c (query_one table h e c k) e)
+
+pub steps_one : (table : List Call) (env : List Binding) → AllByRecursion IsDeterminate table → (s : Statement) → One (Steps table env s)
+steps_one table env h s = steps_of_one table env h s.target s.expr
+
+-- ---- texts
+
+behind_one : (Later : List ℕ → Bool → Type 0) (line text other : List ℕ) (ends end : Bool) → Both Later → (rest : List ℕ) × Later rest ends × (text ≡ line ++ rest) → (rest : List ℕ) × Later rest end × (other ≡ line ++ rest) → (text ≡ other) × (ends ≡ end)
+behind_one Later line text other ends end h p q =
+    let same = h p.0 q.0 ends end p.1 q.1 in
+    (p.2 ∙ ap (λ (rest : List ℕ). line ++ rest) same.0 ∙ sym q.2, same.1)
+
+prints_one : (budget : ℕ) (env : List Binding) (step : Step) (later : List Binding → List ℕ → Bool → Type 0) → ((env : List Binding) → Both (later env)) → Both (Prints budget env step later)
+prints_one budget env (binds b) later h = h (b ∷ env)
+prints_one budget env (prints l) later h = λ text other ends end p q. behind_one (later env) l text other ends end (h env) p q
+prints_one budget env (asks kind C) later h = λ text other ends end p q. behind_one (later env) (query_line kind C budget) text other ends end (h env) p q
+prints_one budget env (fails r) later h = λ text other ends end p q. (p.0 ∙ sym q.0, p.1 ∙ sym q.1)
+
+pub runs_one : (table : List Call) (budget : ℕ) → AllByRecursion IsDeterminate table → (ss : List Statement) (env : List Binding) → Both (Runs table budget env ss)
+runs_one table budget h [] env = λ text other ends end p q. (p.0 ∙ sym q.0, p.1 ∙ sym q.1)
+runs_one table budget h (s ∷ ss) env = λ text other ends end p q.
+    let Later : List Binding → List ℕ → Bool → Type 0 = λ later. Runs table budget later ss in
+    let same : p.0 ≡ q.0 = steps_one table env h s p.0 q.0 p.1 q.1 in
+    let moved : Prints budget env q.0 Later text ends = subst (λ step. Prints budget env step Later text ends) same p.2 in
+    prints_one budget env q.0 Later (λ later. runs_one table budget h ss later) text other ends end moved q.2
+
+pub text_one : (table : List Call) (budget : ℕ) → AllByRecursion IsDeterminate table → (bytes : List ℕ) → Both (IsText table budget bytes)
+text_one table budget h bytes = λ text other ends end p q.
+    let Script : List ℕ → Bool → Type 0 = λ t e. (ss : List Statement) × Reads bytes ss × Runs table budget [] ss t e in
+    let Faulty : List ℕ → Bool → Type 0 = λ t e. (fault : Fault) × IsFault bytes fault × (t ≡ fault_line fault.number fault.place []) × (e ≡ true) in
+    ⊎_elim
+    (λ (a : Script text ends). ⊎_elim
+    (λ (b : Script other end). runs_one table budget h b.0 [] text other ends end (subst (λ ss. Runs table budget [] ss text ends) (one_script bytes a.0 b.0 a.1 b.1) a.2) b.2)
+    (λ (b : Faulty other end). absurd (no_both bytes a.0 b.0 a.1 b.1))
+    q)
+    (λ (a : Faulty text ends). ⊎_elim
+    (λ (b : Script other end). absurd (no_both bytes b.0 a.0 b.1 a.1))
+    (λ (b : Faulty other end). let same = one_fault bytes a.0 b.0 a.1 b.1 in (a.2 ∙ ap (λ (f : Fault). fault_line f.number f.place []) same ∙ sym b.2, a.3 ∙ sym b.3))
+    q)
+    p
+
+pub one_text : (budget : ℕ) (bytes text other : List ℕ) (ends end : Bool) → IsText built_calls budget bytes text ends → IsText built_calls budget bytes other end → (text ≡ other) × (ends ≡ end)
+one_text budget bytes text other ends end p q = text_one built_calls budget built_one bytes text other ends end p q
