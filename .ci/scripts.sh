@@ -114,7 +114,7 @@ ends() {
     "$@" >"$room/out" 2>"$room/err"
     got=$?
     [ "$got" -eq "$status" ] || { echo "status $got, wanted $status"; return 1; }
-    [ "$(cat "$room/err")" = "$says" ] || { echo "standard error: $(head -c 200 "$room/err")"; return 1; }
+    { [ -z "$says" ] || echo "$says"; } | cmp - "$room/err" || { echo "standard error: $(head -c 200 "$room/err")"; return 1; }
 }
 
 reads_a_folder() { "$program" run </; }
@@ -122,9 +122,12 @@ writes_to_a_full_device() { echo 'GF(2);' | "$program" run >/dev/full; }
 writes_nothing_to_a_full_device() { echo 'x := GF(2);' | "$program" run >/dev/full; }
 asks() { "$program" "$1" </dev/null; }
 
+asks_in_other_bytes() { "$program" $'\xff' </dev/null; }
+
 a_source_that_fails() { ends 4 'codes: source fault' reads_a_folder && [ ! -s "$room/out" ]; }
 a_sink_that_fails() { ends 5 'codes: sink fault' writes_to_a_full_device; }
 a_sink_that_is_not_used() { ends 0 '' writes_nothing_to_a_full_device; }
+a_word_that_is_no_text() { ends 2 'codes: word 0 refused' asks_in_other_bytes && [ ! -s "$room/out" ]; }
 help_says_where_to_look() { ends 0 '' asks --help && grep -q 'codes run' "$room/out" && grep -q 'docs/SCRIPT.md' "$room/out"; }
 version_is_one_line() { ends 0 '' asks --version && [ "$(grep -cE '^codes [0-9]+\.[0-9]+\.[0-9]+$' "$room/out")" = 1 ] && [ "$(wc -l <"$room/out")" -eq 1 ]; }
 
@@ -132,6 +135,7 @@ check_outside() {
     check 'a source that fails: status 4' a_source_that_fails
     check 'a sink that fails: status 5' a_sink_that_fails
     check 'a text of no bytes into a full device: status 0' a_sink_that_is_not_used
+    check 'a word that is no UTF-8: status 2' a_word_that_is_no_text
     check '--help names the command and the documents' help_says_where_to_look
     check '--version is one line' version_is_one_line
 }

@@ -157,7 +157,9 @@ class Maker:
         if way == 0:
             return self.pick(UNKNOWN)
         if way == 1 or not depth:
-            return self.pick(("LeastWord()", "LeastWord([[1,1]],GF(2))", f"{self.pick(UNKNOWN)}({self.pick(UNKNOWN)})", "[]"))
+            unknown = self.pick(UNKNOWN)
+            calls = ("LeastWord()", "LeastWord([[1,1]],GF(2))", f"LeastWord([{unknown}],GF(6))", f"{unknown}({self.pick(UNKNOWN)})")
+            return self.pick(calls + ("[]", f"[GF(2),{unknown}]"))
         if way == 2:
             return f"[{','.join(self.expr(self.pick(kinds), depth - 1) for _ in range(self.below(4)))}]"
         if way == 3:
