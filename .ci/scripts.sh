@@ -105,6 +105,17 @@ check_limits() {
     made deep_lists 1 $'fault 45 at 30\n' 'lists 32 deep'
     { repeated '[' 33; printf '1'; repeated ']' 33; printf ';'; } >"$room/too_deep_lists.codes"
     made too_deep_lists 1 $'fault 42 at 32\n' 'lists 33 deep'
+
+    awk 'BEGIN {
+        printf "C := GeneratorMatCode(["
+        for (i = 0; i < 300; i++) {
+            printf "%s[", (i > 0 ? "," : "")
+            for (j = 0; j < 255; j++) printf "%s%d", (j > 0 ? "," : ""), (j == i % 255)
+            printf "]"
+        }
+        print "],GF(2)); C; DualCode(C);"
+    }' >"$room/large_matrix.codes"
+    made large_matrix 0 $'code [255,255] GF(2)\ncode [255,0] GF(2)\n' 'a matrix of 300 rows of 255 symbols'
 }
 
 # ends STATUS SAYS COMMAND..: the command ends with the status, and standard error is exactly the line SAYS

@@ -20,6 +20,7 @@ SIZES = (2, 3, 4, 5, 7, 8, 9, 11, 13, 16)
 LARGE_SIZES = (25, 27, 32, 64, 81, 128, 243, 256)
 NAMES = ("C", "D", "x", "rows", "F", "a_1")
 UNKNOWN = ("MinimumDistance", "BCHCode", "ExtendedCode", "Foo", "hammingCode", "GF_", "Decode", "z")
+CALLS = ("GF", "Weight", "Dimension", "DualCode", "IsCodeword", "HammingCode", "ReedMullerCode", "CheckMat")
 SIGNS = "()[],;:=#_ \n\tab19GF"
 KINDS = ("valid", "refused", "unfit", "cut", "altered", "noise")
 
@@ -42,7 +43,7 @@ class Maker:
 
     def __init__(self, seed, faults=0.0, misfits=0.0):
         self.source, self.faults, self.misfits = random.Random(seed), faults, misfits
-        self.names = {}  # what was assigned to a name: a code, or None for another value
+        self.names = {}  # what was assigned to a name: a code, or the kind of another value
 
     def chance(self, p):
         return self.source.random() < p
@@ -66,7 +67,7 @@ class Maker:
     def length(self):
         if self.chance(self.faults):
             return self.pick((0, 256, 257, 1000, 2**64 - 1))
-        return self.pick((1, 2, 3, 4, 5, 6, 7, 8, 12, 254, 255)) if self.chance(0.2) else 1 + self.below(9)
+        return self.pick((1, 2, 3, 4, 5, 6, 7, 8, 12, 31, 255)) if self.chance(0.2) else 1 + self.below(9)
 
     def row(self, size, length):
         if self.chance(self.faults / 4):
@@ -89,7 +90,7 @@ class Maker:
     # -- codes
 
     def code(self, depth=2):
-        kept = [x for x in sorted(self.names) if self.names[x] is not None]
+        kept = [x for x in sorted(self.names) if isinstance(self.names[x], Made)]
         if kept and self.chance(0.5):
             x = self.pick(kept)
             return self.names[x].called(x)
@@ -133,6 +134,9 @@ class Maker:
     def expr(self, kind, depth=2):
         if self.chance(self.misfits):
             return self.misfit(depth)
+        kept = [x for x in sorted(self.names) if self.names[x] == kind]
+        if kept and self.chance(0.4):
+            return self.pick(kept)
         if kind == "code":
             return self.code(depth).text
         if kind == "field":
@@ -158,12 +162,12 @@ class Maker:
             return self.pick(UNKNOWN)
         if way == 1 or not depth:
             unknown = self.pick(UNKNOWN)
-            calls = ("LeastWord()", "LeastWord([[1,1]],GF(2))", f"LeastWord([{unknown}],GF(6))", f"{unknown}({self.pick(UNKNOWN)})")
-            return self.pick(calls + ("[]", f"[GF(2),{unknown}]"))
+            queries = ("LeastWord()", "LeastWord([[1,1]],GF(2))", f"LeastWord([{unknown}],GF(6))")
+            return self.pick(queries + (f"{unknown}({self.pick(UNKNOWN)})", "[]", f"[GF(2),{unknown}]"))
         if way == 2:
             return f"[{','.join(self.expr(self.pick(kinds), depth - 1) for _ in range(self.below(4)))}]"
         if way == 3:
-            call = self.pick(("GF", "Weight", "Dimension", "DualCode", "IsCodeword", "HammingCode", "ReedMullerCode", "CheckMat"))
+            call = self.pick(CALLS)
             return f"{call}({','.join(self.expr(self.pick(kinds), depth - 1) for _ in range(self.below(4)))})"
         return self.expr(self.pick(kinds), depth - 1)
 
@@ -188,8 +192,9 @@ class Maker:
             self.names[name] = code = self.code()
             return f"{name}{sign}{code.text};"
         if way == 4:
-            text = self.expr(self.pick(("number", "numbers", "lists", "field")))
-            self.names[name] = None
+            kind = self.pick(("number", "numbers", "lists", "field"))
+            text = self.expr(kind)
+            self.names[name] = kind
             return f"{name}{sign}{text};"
         if way == 5:
             return f"{f'{name}{sign}' if self.chance(self.misfits) else ''}{self.least()};"
@@ -214,7 +219,8 @@ def noise(maker):
         depth = 28 + maker.below(5)
         return b"DualCode(" * depth + b"RepetitionCode(3,GF(2))" + b")" * depth + b";"
     if way == 2:
-        return f"{maker.pick(('', 'x := ', 'GF(', '['))}{maker.pick(('', '0', '000'))}{2**64 - 3 + maker.below(6)};".encode()
+        front = maker.pick(("", "x := ", "GF(", "[")) + maker.pick(("", "0", "000"))
+        return f"{front}{2**64 - 3 + maker.below(6)};".encode()
     if way == 3:
         return bytes(maker.below(256) for _ in range(maker.below(12)))
     return "".join(maker.pick(SIGNS) for _ in range(maker.below(14))).encode()
