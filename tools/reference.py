@@ -249,7 +249,7 @@ def code_of_rows(size, length, rows):
 
 
 def code_of_checks(size, length, checks):
-    """The words with dot 0 with each check. Where the checks are reduced, the symbols at their first places follow from
+    """The words whose dot product with each check is 0. Where the checks are reduced, the symbols at their first places follow from
     the others: one word for each other place, which is 1 there and 0 at the rest of them."""
     field = arithmetic(size)
     reduced = reduce_rows(size, length, checks)
@@ -302,7 +302,7 @@ def need_entries(entries, field_size, argument):
 
 
 def need_matrix(rows, field):
-    """The length of a matrix is that of its first row."""
+    """Its length, which is how many entries the first row has."""
     need_symbol_field(field)
     length = len(rows[0]) if rows else 0
     need_length(length)
