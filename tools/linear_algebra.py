@@ -8,7 +8,10 @@ and lc_basic hold.
 from itertools import product as tuples
 
 # size: characteristic, coefficients of the monic polynomial from the constant upwards, without the leading 1
-FIELDS = {2: (2, [0]), 3: (3, [0]), 4: (2, [1, 1]), 9: (3, [2, 2]), 16: (2, [1, 1, 0, 0])}
+FIELDS = {
+    2: (2, [0]), 3: (3, [0]), 4: (2, [1, 1]), 5: (5, [0]), 7: (7, [0]), 8: (2, [1, 1, 0]),
+    9: (3, [2, 2]), 11: (11, [0]), 13: (13, [0]), 16: (2, [1, 1, 0, 0]),
+}
 
 
 class Field:

@@ -1,0 +1,176 @@
+# How the repository's checks run the program on scripts. `.ci/checks` reads this file; it sets `program`, the path of the
+# program, and `room`, an empty folder for what it writes, and counts by its function `check`.
+
+# gives SCRIPT OUT STATUS ERR WORD..: on that script, with these words, the program writes exactly the bytes of OUT and ERR,
+# and ends with STATUS
+gives() {
+    local script=$1 out=$2 status=$3 err=$4 got
+    shift 4
+    timeout 60 "$program" "$@" <"$script" >"$room/out" 2>"$room/err"
+    got=$?
+    [ "$got" -eq "$status" ] || echo "status $got, wanted $status"
+    cmp "$room/out" "$out" || echo "standard output: $(head -c 200 "$room/out" | head -n 5)"
+    cmp "$room/err" "$err" || echo "standard error: $(head -c 200 "$room/err")"
+    [ "$got" -eq "$status" ] && cmp -s "$room/out" "$out" && cmp -s "$room/err" "$err"
+}
+
+# stored FRONT: the case of the files FRONT.codes (the script), FRONT.out (the text), and where they are there FRONT.status
+# (the status, else 0), FRONT.err (standard error, else nothing) and FRONT.words (one word a line, else the one word `run`)
+stored() {
+    local front=$1 status=0 err=$room/nothing words=(run)
+    [ -f "$front.status" ] && status=$(cat "$front.status")
+    [ -f "$front.err" ] && err=$front.err
+    [ -f "$front.words" ] && mapfile -t words <"$front.words"
+    gives "$front.codes" "$front.out" "$status" "$err" ${words[@]+"${words[@]}"}
+}
+
+# each file of a folder belongs to a script there
+nothing_stands_alone() {
+    local file
+    for file in "$1"/*; do
+        case $file in
+        *.codes) [ -f "${file%.codes}.out" ] || { echo "$file has no .out"; return 1; } ;;
+        *.out | *.status | *.err | *.words) [ -f "${file%.*}.codes" ] || { echo "$file has no .codes"; return 1; } ;;
+        *.md) ;;
+        *) echo "$file is no file of a case"; return 1 ;;
+        esac
+    done
+}
+
+check_folder() {
+    local script
+    check "$1: each file belongs to a script" nothing_stands_alone "$1"
+    for script in "$1"/*.codes; do
+        check "${script%.codes}" stored "${script%.codes}"
+    done
+}
+
+# from_document FILE FRONT: writes each fenced block `codes` of a document to FRONT-N.codes and the block `text` behind it to
+# FRONT-N.out; fails where a block `codes` has none
+from_document() {
+    awk -v front="$2" '
+        /^```/ && into != "" { close(into); into = ""; next }
+        /^```codes$/ { if (waits) exit 1; waits = 1; n++; into = front "-" n ".codes"; printf "" > into; next }
+        /^```text$/ && waits { waits = 0; into = front "-" n ".out"; printf "" > into; next }
+        /^```/ { into = "/dev/null"; next }
+        into != "" { print > into }
+        END { if (waits) { print "a block `codes` has no block `text` behind it"; exit 1 } }
+    ' "$1"
+}
+
+# the examples of a document; the status is 1 where the text ends with a fault line
+check_document() {
+    local document=$1 front n=1
+    front=$room/$(basename "$document")
+    check "$document: each script has its text" from_document "$document" "$front"
+    while [ -f "$front-$n.codes" ]; do
+        if [ -f "$front-$n.out" ] && tail -n 1 "$front-$n.out" | grep -q '^fault '; then echo 1 >"$front-$n.status"; fi
+        check "$document, example $n" stored "$front-$n"
+        n=$((n + 1))
+    done
+}
+
+# repeated TEXT COUNT
+repeated() {
+    local i
+    for ((i = 0; i < $2; i++)); do printf '%s' "$1"; done
+}
+
+# made NAME STATUS TEXT: the case of the script that was written to $room/NAME.codes
+made() {
+    printf '%s' "$3" >"$room/$1.out"
+    [ "$2" -ne 12 ] || echo 'codes: input too long' >"$room/$1.err"
+    echo "$2" >"$room/$1.status"
+    check "$4" stored "$room/$1"
+}
+
+# scripts at the limits of length and of nesting
+check_limits() {
+    local most=1048576
+    printf '%*s' "$most" '' >"$room/blanks.codes"
+    made blanks 0 '' '1,048,576 spaces'
+    printf '%*s' $((most + 1)) '' >"$room/too_many_blanks.codes"
+    made too_many_blanks 12 '' '1,048,577 spaces'
+    { yes 'Weight([]);' | head -n $((most / 11)) | tr -d '\n'; printf '%*s' $((most % 11)) ''; } >"$room/weights.codes"
+    yes 0 | head -n $((most / 11)) >"$room/weights.text"
+    made weights 0 "$(cat "$room/weights.text")"$'\n' 'a statement repeated up to the greatest length'
+    { cat "$room/weights.codes"; echo; } >"$room/too_many_weights.codes"
+    made too_many_weights 12 '' 'a statement repeated beyond the greatest length'
+
+    { repeated 'DualCode(' 30; printf 'RepetitionCode(3,GF(2))'; repeated ')' 30; printf ';'; } >"$room/deep_calls.codes"
+    made deep_calls 0 $'code [3,1] GF(2)\n' 'calls 32 deep'
+    { repeated 'DualCode(' 31; printf 'RepetitionCode(3,GF(2))'; repeated ')' 31; printf ';'; } >"$room/too_deep_calls.codes"
+    made too_deep_calls 1 "fault 42 at $((31 * 9 + 19))"$'\n' 'calls 33 deep'
+    { repeated '[' 32; printf '1'; repeated ']' 32; printf ';'; } >"$room/deep_lists.codes"
+    made deep_lists 1 $'fault 45 at 30\n' 'lists 32 deep'
+    { repeated '[' 33; printf '1'; repeated ']' 33; printf ';'; } >"$room/too_deep_lists.codes"
+    made too_deep_lists 1 $'fault 42 at 32\n' 'lists 33 deep'
+
+    awk 'BEGIN {
+        printf "C := GeneratorMatCode(["
+        for (i = 0; i < 300; i++) {
+            printf "%s[", (i > 0 ? "," : "")
+            for (j = 0; j < 255; j++) printf "%s%d", (j > 0 ? "," : ""), (j == i % 255)
+            printf "]"
+        }
+        print "],GF(2)); C; DualCode(C);"
+    }' >"$room/large_matrix.codes"
+    made large_matrix 0 $'code [255,255] GF(2)\ncode [255,0] GF(2)\n' 'a matrix of 300 rows of 255 symbols'
+}
+
+# ends STATUS SAYS COMMAND..: the command ends with the status, and standard error is exactly the line SAYS
+ends() {
+    local status=$1 says=$2 got
+    shift 2
+    "$@" >"$room/out" 2>"$room/err"
+    got=$?
+    [ "$got" -eq "$status" ] || { echo "status $got, wanted $status"; return 1; }
+    { [ -z "$says" ] || echo "$says"; } | cmp - "$room/err" || { echo "standard error: $(head -c 200 "$room/err")"; return 1; }
+}
+
+reads_a_folder() { "$program" run </; }
+writes_to_a_full_device() { echo 'GF(2);' | "$program" run >/dev/full; }
+writes_nothing_to_a_full_device() { echo 'x := GF(2);' | "$program" run >/dev/full; }
+asks() { "$program" "$1" </dev/null; }
+
+asks_in_other_bytes() { "$program" $'\xff' </dev/null; }
+
+a_source_that_fails() { ends 4 'codes: source fault' reads_a_folder && [ ! -s "$room/out" ]; }
+a_sink_that_fails() { ends 5 'codes: sink fault' writes_to_a_full_device; }
+a_sink_that_is_not_used() { ends 0 '' writes_nothing_to_a_full_device; }
+a_word_that_is_no_text() { ends 2 'codes: word 0 refused' asks_in_other_bytes && [ ! -s "$room/out" ]; }
+help_says_where_to_look() { ends 0 '' asks --help && grep -q 'codes run' "$room/out" && grep -q 'docs/SCRIPT.md' "$room/out"; }
+version_is_one_line() { ends 0 '' asks --version && [ "$(grep -cE '^codes [0-9]+\.[0-9]+\.[0-9]+$' "$room/out")" = 1 ] && [ "$(wc -l <"$room/out")" -eq 1 ]; }
+
+check_outside() {
+    check 'a source that fails: status 4' a_source_that_fails
+    check 'a sink that fails: status 5' a_sink_that_fails
+    check 'a text of no bytes into a full device: status 0' a_sink_that_is_not_used
+    check 'a word that is no UTF-8: status 2' a_word_that_is_no_text
+    check '--help names the command and the documents' help_says_where_to_look
+    check '--version is one line' version_is_one_line
+}
+
+# agrees KIND COUNT: on so many scripts that are made at random the program and the reference program give the same
+agrees() { check "$2 scripts, $1: the program and tools/reference.py agree" python3 -B tools/compare.py "$program" "$1" "$2"; }
+
+check_against_reference() {
+    check 'tools/reference.py gives the stored texts' python3 -B tools/check_reference.py examples tests/rows
+    agrees valid 500
+    agrees refused 400
+    agrees unfit 400
+    agrees cut 250
+    agrees altered 250
+    agrees noise 200
+}
+
+check_program() {
+    local document
+    : >"$room/nothing"
+    check_folder examples
+    check_folder tests/rows
+    for document in README.md docs/*.md; do check_document "$document"; done
+    check_limits
+    check_outside
+    check_against_reference
+}

@@ -1,0 +1,266 @@
+#!/usr/bin/env python3
+"""Scripts made at random from a fixed seed, to compare the program with the reference program on.
+
+    tools/random_scripts.py KIND COUNT
+
+prints COUNT scripts of that kind, each as a Python literal; `tools/compare.py` runs them. The kinds:
+
+    valid      statements that mostly give values: constructors with small arguments, queries on what was assigned
+    refused    the same with arguments out of range: uneven rows, entries too large, large fields, bad lengths
+    unfit      wrong kinds, wrong counts, unknown names, calls in places where they may not stand
+    cut        scripts of the three kinds above, cut off at some byte
+    altered    the same, with a few bytes changed, left out or put in
+    noise      bytes, most of them from those that scripts are made of, and deep nesting and wide numbers
+"""
+import random
+import sys
+from dataclasses import dataclass, replace
+
+SIZES = (2, 3, 4, 5, 7, 8, 9, 11, 13, 16)
+LARGE_SIZES = (25, 27, 32, 64, 81, 128, 243, 256)
+NAMES = ("C", "D", "x", "rows", "F", "a_1")
+UNKNOWN = ("MinimumDistance", "BCHCode", "ExtendedCode", "Foo", "hammingCode", "GF_", "Decode", "z")
+CALLS = ("GF", "Weight", "Dimension", "DualCode", "IsCodeword", "HammingCode", "ReedMullerCode", "CheckMat")
+SIGNS = "()[],;:=#_ \n\tab19GF"
+KINDS = ("valid", "refused", "unfit", "cut", "altered", "noise")
+
+
+@dataclass
+class Made:
+    """The text of a code, with its length, the size of its field and one of its words, as far as they are known."""
+    text: str
+    length: int
+    size: int
+    word: list
+
+    def called(self, name):
+        return replace(self, text=name)
+
+
+class Maker:
+    """Makes expressions of a kind. `faults` says how often an argument is out of range, `misfits` how often an expression
+    is of the wrong kind."""
+
+    def __init__(self, seed, faults=0.0, misfits=0.0):
+        self.source, self.faults, self.misfits = random.Random(seed), faults, misfits
+        self.names = {}  # what was assigned to a name: a code, or the kind of another value
+
+    def chance(self, p):
+        return self.source.random() < p
+
+    def below(self, n):
+        return int(self.source.random() * n)
+
+    def pick(self, items):
+        return items[self.below(len(items))]
+
+    # -- arguments
+
+    def size(self):
+        return self.pick((2, 2, 2, 3, 3, 4) + SIZES)
+
+    def field(self, size):
+        if self.chance(self.faults / 3):
+            size = self.pick(LARGE_SIZES + (0, 1, 6, 10, 17, 2**32, 2**64 - 1))
+        return f"GF({size})"
+
+    def length(self):
+        if self.chance(self.faults):
+            return self.pick((0, 256, 257, 1000, 2**64 - 1))
+        return self.pick((1, 2, 3, 4, 5, 6, 7, 8, 12, 31, 255)) if self.chance(0.2) else 1 + self.below(9)
+
+    def row(self, size, length):
+        if self.chance(self.faults / 4):
+            length = self.below(length + 3)
+        entries = [0 if self.chance(0.35) else self.below(size) for _ in range(length)]
+        if length and self.chance(self.faults / 4):
+            entries[self.below(length)] = self.pick((size, size + 1, 255, 256, 2**64 - 1))
+        return entries
+
+    def matrix(self, size, length, most):
+        count = 0 if self.chance(self.faults / 4) else 1 + self.below(most)
+        return [self.row(size, length) for _ in range(count)]
+
+    def text(self, value):
+        if isinstance(value, list):
+            blank = " " if self.chance(0.1) else ""
+            return "[" + ("," + blank).join(self.text(a) for a in value) + "]"
+        return ("0" if self.chance(0.02) else "") + str(value)
+
+    # -- codes
+
+    def code(self, depth=2):
+        kept = [x for x in sorted(self.names) if isinstance(self.names[x], Made)]
+        if kept and self.chance(0.5):
+            x = self.pick(kept)
+            return self.names[x].called(x)
+        if depth and self.chance(0.25):
+            inner = self.code(depth - 1)
+            return Made(f"DualCode({inner.text})", inner.length, inner.size, [0] * min(inner.length, 300))
+        return self.constructed()
+
+    def constructed(self):
+        size, length, way = self.size(), self.length(), self.below(8)
+        if way < 3:
+            return self.by_matrix(self.pick(("GeneratorMatCode", "GeneratorMatCode", "CheckMatCode")), size)
+        if way == 6:
+            faulty = self.chance(self.faults)
+            r = self.pick((0, 1, 9, 64, 2**64 - 1)) if faulty else self.pick((2, 2, 2, 3, 3, 4))
+            length = sum(size**i for i in range(min(r, 9)))
+            return Made(f"HammingCode({r},{self.field(size)})", length, size, [int(size == 2)] * min(length, 300))
+        if way == 7:
+            m = self.pick((8, 63, 64, 2**64 - 1)) if self.chance(self.faults) else self.below(7)
+            r = self.pick((m, m + 1, 2**64 - 1)) if self.chance(self.faults) else self.below(m % 7 + 1)
+            length = 2 ** min(m, 8)
+            return Made(f"ReedMullerCode({min(r, 2**64 - 1)},{m})", length, 2, [1] * length)
+        call = self.pick(("RepetitionCode", "WholeSpaceCode", "NullCode"))
+        word = [0 if call == "NullCode" else self.below(size)] * min(length, 300)
+        return Made(f"{call}({length},{self.field(size)})", length, size, word)
+
+    def by_matrix(self, call, size):
+        length = 1 + self.below(9)
+        rows = self.matrix(size, length, 5)
+        word = self.pick(rows) if rows and call == "GeneratorMatCode" else [0] * length
+        return Made(f"{call}({self.text(rows)},{self.field(size)})", length, size, word)
+
+    # a word of the code, or, as often, any word
+    def word(self, code):
+        if self.chance(0.5):
+            return self.text(code.word)
+        return self.text(self.row(code.size, min(code.length, 300)))
+
+    # -- expressions
+
+    def expr(self, kind, depth=2):
+        if self.chance(self.misfits):
+            return self.misfit(depth)
+        kept = [x for x in sorted(self.names) if self.names[x] == kind]
+        if kept and self.chance(0.4):
+            return self.pick(kept)
+        if kind == "code":
+            return self.code(depth).text
+        if kind == "field":
+            return self.field(self.size())
+        if kind == "number":
+            if depth and self.chance(0.4):
+                call = self.pick(("Dimension", "WordLength", "Weight"))
+                return f"{call}({self.expr('numbers' if call == 'Weight' else 'code', depth - 1)})"
+            return self.text(self.below(20))
+        if kind == "numbers":
+            return self.text(self.row(self.size(), self.below(7)))
+        if kind == "lists":
+            if depth and self.chance(0.5):
+                return f"{self.pick(('GeneratorMat', 'CheckMat'))}({self.expr('code', depth - 1)})"
+            return self.text(self.matrix(self.size(), self.below(5), 3))
+        code = self.code(depth)
+        return f"IsCodeword({code.text},{self.word(code)})"
+
+    def misfit(self, depth):
+        kinds = ("number", "numbers", "lists", "code", "field", "truth")
+        way = self.below(6)
+        if way == 0:
+            return self.pick(UNKNOWN)
+        if way == 1 or not depth:
+            unknown = self.pick(UNKNOWN)
+            queries = ("LeastWord()", "LeastWord([[1,1]],GF(2))", f"LeastWord([{unknown}],GF(6))")
+            return self.pick(queries + (f"{unknown}({self.pick(UNKNOWN)})", "[]", f"[GF(2),{unknown}]"))
+        if way == 2:
+            return f"[{','.join(self.expr(self.pick(kinds), depth - 1) for _ in range(self.below(4)))}]"
+        if way == 3:
+            call = self.pick(CALLS)
+            return f"{call}({','.join(self.expr(self.pick(kinds), depth - 1) for _ in range(self.below(4)))})"
+        return self.expr(self.pick(kinds), depth - 1)
+
+    def least(self):
+        size = self.size()
+        most = {2: 8, 3: 5, 4: 4}.get(size, 3 if size < 9 else 2)
+        if self.chance(self.faults):
+            count = {2: 17, 3: 11, 4: 9, 5: 7, 7: 6, 8: 6, 9: 6}.get(size, 5)
+            rows = [self.row(size, 3) for _ in range(count)]
+        else:
+            rows = self.matrix(size, 1 + self.below(8), most)
+        return f"LeastWord({self.text(rows)},{self.field(size)})"
+
+    def blank(self):
+        return self.pick(("", "", "\n", " ", "\r\n", "\t", " # a comment\n", "#;(\xff\n"))
+
+    def statement(self):
+        way = self.below(12)
+        name = self.pick(NAMES)
+        sign = self.pick((":=", " := "))
+        if way < 4:
+            self.names[name] = code = self.code()
+            return f"{name}{sign}{code.text};"
+        if way == 4:
+            kind = self.pick(("number", "numbers", "lists", "field"))
+            text = self.expr(kind)
+            self.names[name] = kind
+            return f"{name}{sign}{text};"
+        if way == 5:
+            return f"{f'{name}{sign}' if self.chance(self.misfits) else ''}{self.least()};"
+        if way < 8:
+            return f"{self.expr('truth')};"
+        return f"{self.expr(self.pick(('code', 'code', 'number', 'number', 'lists', 'lists', 'numbers', 'field')))};"
+
+    def script(self):
+        self.names = {}
+        parts = []
+        for _ in range(1 + self.below(6)):
+            parts += [self.blank(), self.statement()]
+        return ("".join(parts) + self.blank()).encode("latin-1")
+
+
+def noise(maker):
+    way = maker.below(8)
+    if way == 0:
+        depth = 30 + maker.below(5)
+        return b"[" * depth + b"1" + b"]" * maker.below(depth + 1) + b";"
+    if way == 1:
+        depth = 28 + maker.below(5)
+        return b"DualCode(" * depth + b"RepetitionCode(3,GF(2))" + b")" * depth + b";"
+    if way == 2:
+        front = maker.pick(("", "x := ", "GF(", "[")) + maker.pick(("", "0", "000"))
+        return f"{front}{2**64 - 3 + maker.below(6)};".encode()
+    if way == 3:
+        return bytes(maker.below(256) for _ in range(maker.below(12)))
+    return "".join(maker.pick(SIGNS) for _ in range(maker.below(14))).encode()
+
+
+def altered(maker, script):
+    script = bytearray(script)
+    for _ in range(1 + maker.below(3)):
+        at, way = maker.below(len(script) + 1), maker.below(3)
+        byte = ord(maker.pick(SIGNS)) if maker.chance(0.9) else maker.below(256)
+        if way == 0 or at == len(script):
+            script.insert(at, byte)
+        elif way == 1:
+            script[at] = ord(maker.pick("0123456789")) if chr(script[at]).isdigit() else byte
+        else:
+            del script[at]
+    return bytes(script)
+
+
+def scripts(kind, count):
+    """`count` scripts of a kind, the same at each call."""
+    seed = KINDS.index(kind) + 1
+    makers = {"valid": Maker(seed), "refused": Maker(seed, faults=0.3), "unfit": Maker(seed, faults=0.05, misfits=0.25)}
+    others = Maker(seed)
+    bases = [Maker(10 * seed), Maker(10 * seed + 1, faults=0.2), Maker(10 * seed + 2, misfits=0.1)]
+    for _ in range(count):
+        if kind in makers:
+            yield makers[kind].script()
+        elif kind == "noise":
+            yield noise(others)
+        else:
+            script = others.pick(bases).script()
+            yield script[:others.below(len(script) + 1)] if kind == "cut" else altered(others, script)
+
+
+def main():
+    kind, count = sys.argv[1], int(sys.argv[2])
+    for script in scripts(kind, count):
+        print(script)
+
+
+if __name__ == "__main__":
+    main()
