@@ -1,6 +1,5 @@
 //! The calls that make a field or a code.
-ghost use Rattle.std.specs.Prelude.{◌≡◌, ◌≢◌, ◌∷◌, [], Err};
-ghost use Rattle.lc_code.specs.declared.refusal.CodeRefusal.TheVariants as refusal;
+ghost use Rattle.std.specs.Prelude.{◌∷◌, [], Err};
 ghost use Rattle.lc_language.specs.declared.Kind.TheVariants as kind;
 ghost use Rattle.lc_language.specs.declared.Call.TheVariants as call;
 ghost use Rattle.lc_language.specs.Evaluation.{AppliesTo};

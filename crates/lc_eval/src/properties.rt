@@ -12,7 +12,7 @@ use crate::constructors::refused_as;
 use crate::refusals::Stop;
 use crate::rows::{lists_of, word_of};
 use crate::values::Value;
-use lc_code::{Code, CodeRefusal};
+use lc_code::CodeRefusal;
 use lc_vec::fits;
 use std::alloc::Global;
 
