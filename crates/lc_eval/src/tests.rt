@@ -27,7 +27,7 @@ fn text_of(alloc: Global, script: &str) -> Result<Vec<u8>, AllocError> {
 
 #[test]
 fn texts_of_scripts(rt: HostRuntime) -> Result<(), Fail> {
-    let cases: [(&str, &str); 12] = [
+    let cases: [(&str, &str); 18] = [
         ("", ""),
         ("x := 5; y := [x, 2]; y; x;", "[5,2]\n5\n"),
         ("[[], [1]]; []; [[]];", "[[],[1]]\n[]\n[[]]\n"),
@@ -40,6 +40,21 @@ fn texts_of_scripts(rt: HostRuntime) -> Result<(), Fail> {
         ("x := LeastWord(z);", "fault 45 at 5\n"),
         ("GF(z, 3);", "fault 46 at 0\n"),
         ("HammingCode([1], [2]);", "fault 45 at 12\n"),
+        (
+            "c := HammingCode(3, GF(2)); c; [Dimension(c), WordLength(c)];",
+            "code [7,4] GF(2)\n[4,7]\n",
+        ),
+        (
+            "LeastWord([[1,0,1],[0,1,1]], GF(2));",
+            "least 2 word [0,1,1]\n",
+        ),
+        ("LeastWord([[0,0]], GF(3));", "least none\n"),
+        ("Weight([]); Weight([0,3,0]);", "0\n1\n"),
+        (
+            "CheckMat(RepetitionCode(3, GF(2))); 1;",
+            "[[1,0,1],[0,1,1]]\n1\n",
+        ),
+        ("IsCodeword(NullCode(2, GF(2)), [0,0]);", "true\n"),
     ];
     for (script, text) in cases {
         assert_eq!(rt; text_of(rt.alloc(), script)?.as_slice(), text.as_bytes());
