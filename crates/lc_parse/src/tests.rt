@@ -1,4 +1,4 @@
-use crate::{Expr, Node, ParseRefusal, TokenKind, parse, tokens};
+use crate::{ParseRefusal, TokenKind, parse, tokens};
 use std::alloc::{AllocError, Global};
 use std::test::Fail;
 
@@ -87,34 +87,50 @@ fn tokens_have_kinds_and_spans(rt: HostRuntime) -> Result<(), Fail> {
     Ok(())
 }
 
-fn is_number(expr: &Expr, place: usize, value: u64) -> bool {
-    match &expr.node {
-        Node::Number(n) => expr.place == place && *n == value,
-        _ => false,
+// A script of six statements, and what `tools/script_tree.py` prints for it: the spans of its tokens, and its tree.
+const SCRIPT: &str = "\
+C := HammingCode(3,GF(2));
+C;
+MinimumDistance(C);
+y := [1,1,0,0,0,1,1];
+Decode(C,y);
+IsCodeword(C,y);
+";
+
+const SPANS: &str = "\
+    0-1 2-4 5-16 16-17 17-18 18-19 19-21 21-22 22-23 23-24 24-25 25-26 27-28 28-29 \
+    30-45 45-46 46-47 47-48 48-49 50-51 52-54 55-56 56-57 57-58 58-59 59-60 60-61 61-62 \
+    62-63 63-64 64-65 65-66 66-67 67-68 68-69 69-70 70-71 72-78 78-79 79-80 80-81 81-82 \
+    82-83 83-84 85-95 95-96 96-97 97-98 98-99 99-100 100-101 ";
+
+const TREE: &str = "\
+    Script { statements: [Statement { target: Some(\"C\"), expr: Expr { place: 5, node: Call(\"HammingCode\", [Expr { place: 17, node: Number(3) }, Expr { place: 19, node: Call(\"GF\", [Expr { place: 22, node: Number(2) }]) }]) } }, \
+    Statement { target: None, expr: Expr { place: 27, node: Name(\"C\") } }, \
+    Statement { target: None, expr: Expr { place: 30, node: Call(\"MinimumDistance\", [Expr { place: 46, node: Name(\"C\") }]) } }, \
+    Statement { target: Some(\"y\"), expr: Expr { place: 55, node: List([Expr { place: 56, node: Number(1) }, Expr { place: 58, node: Number(1) }, Expr { place: 60, node: Number(0) }, Expr { place: 62, node: Number(0) }, Expr { place: 64, node: Number(0) }, Expr { place: 66, node: Number(1) }, Expr { place: 68, node: Number(1) }]) } }, \
+    Statement { target: None, expr: Expr { place: 72, node: Call(\"Decode\", [Expr { place: 79, node: Name(\"C\") }, Expr { place: 81, node: Name(\"y\") }]) } }, \
+    Statement { target: None, expr: Expr { place: 85, node: Call(\"IsCodeword\", [Expr { place: 96, node: Name(\"C\") }, Expr { place: 98, node: Name(\"y\") }]) } }] }";
+
+#[test]
+fn a_script_has_its_spans(rt: HostRuntime) -> Result<(), Fail> {
+    let found = tokens(rt.alloc(), SCRIPT.as_bytes())
+        .ok()
+        .ok_or("no tokens")?;
+    let mut spans = String::new(rt.alloc());
+    for token in found.iter() {
+        write!(spans, "{}-{} ", token.start, token.end)?;
     }
+    assert_eq!(rt; spans.as_str(), SPANS);
+    Ok(())
 }
 
 #[test]
 fn a_script_has_its_tree(rt: HostRuntime) -> Result<(), Fail> {
-    let script = parse(rt.alloc(), b"C := HammingCode(3,GF(2));\nC;")
+    let script = parse(rt.alloc(), SCRIPT.as_bytes())
         .ok()
         .ok_or("no script")?;
-    assert_eq!(rt; script.statements.len(), 2);
-    let first = &script.statements[0];
-    assert_eq!(rt; first.target.as_ref().map(|x| x.len()), Some(1));
-    assert_eq!(rt; first.expr.place, 5);
-    match &first.expr.node {
-        Node::Call(name, arguments) => {
-            assert_eq!(rt; name.as_str(), "HammingCode");
-            assert_eq!(rt; arguments.len(), 2);
-            assert!(rt; is_number(&arguments[0], 17, 3));
-            assert_eq!(rt; arguments[1].place, 19);
-        }
-        _ => assert!(rt; false, "no call"),
-    }
-    let second = &script.statements[1];
-    assert!(rt; second.target.is_none());
-    assert_eq!(rt; second.expr.place, 27);
+    let tree = format!(in rt.alloc(); "{script:?}")?;
+    assert_eq!(rt; tree.as_str(), TREE);
     Ok(())
 }
 

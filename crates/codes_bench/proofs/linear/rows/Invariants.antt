@@ -1,0 +1,5 @@
+use Rattle.lc_algebra.specs.Matrix.{AreRows}
+use Rattle.codes_bench.proofs.linear.rows.Given as goal
+
+abbrev pub invariant-loop : goal.invariant-loop
+invariant-loop l = AreRows l.field 255 l.rows.items

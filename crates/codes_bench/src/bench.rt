@@ -1,0 +1,44 @@
+//! The benches, by their names.
+
+/// What is measured.
+#[derive(Clone, Copy, Debug, PartialEq, Eq, Drop)]
+pub enum Bench {
+    /// adding multiples of a word of 255 symbols over the field of this size
+    AddScaled(u64),
+    /// reduced echelon forms of a matrix of 128 rows of 255 symbols over the field of this size
+    Echelon(u64),
+    /// the messages of weight 5 and length 45 over 2 elements
+    StepBinary,
+    /// the messages of weight 4 and length 20 over 4 elements
+    StepQuaternary,
+    /// a script of 95,325 statements, 1,048,575 bytes
+    ParseWeights,
+    /// a script of one statement, a list of 255 lists of 255 numbers
+    ParseMatrix,
+}
+
+/// The benches with their names.
+pub const BENCHES: [(&str, Bench); 12] = [
+    ("add_scaled_2", Bench::AddScaled(2)),
+    ("add_scaled_3", Bench::AddScaled(3)),
+    ("add_scaled_4", Bench::AddScaled(4)),
+    ("add_scaled_16", Bench::AddScaled(16)),
+    ("echelon_2", Bench::Echelon(2)),
+    ("echelon_3", Bench::Echelon(3)),
+    ("echelon_4", Bench::Echelon(4)),
+    ("echelon_16", Bench::Echelon(16)),
+    ("step_2", Bench::StepBinary),
+    ("step_4", Bench::StepQuaternary),
+    ("parse_weights", Bench::ParseWeights),
+    ("parse_matrix", Bench::ParseMatrix),
+];
+
+/// The bench with a name, where there is one.
+pub fn bench_named(word: &str) -> Option<Bench> {
+    for (name, bench) in BENCHES {
+        if word == name {
+            return Some(bench);
+        }
+    }
+    None
+}

@@ -1,0 +1,96 @@
+//! Sums of words, and reduced echelon forms.
+
+ghost use Rattle.std.specs.Prelude.{◌≡◌, ◌<◌, ◌≤◌, length, IfOk};
+ghost use Rattle.lc_algebra.specs.Field.{size};
+ghost use Rattle.lc_algebra.specs.Word.{Fits, IsWord};
+ghost use Rattle.lc_algebra.specs.Matrix.{AreRows};
+
+use crate::rate::{Failure, Rate};
+use lc_field::Field;
+use lc_matrix::Matrix;
+use lc_vec::{Word, add_scaled};
+use std::alloc::{AllocError, AllocGlobal, Global};
+use std::rt::Clock;
+use std::time::Instant;
+
+/// The length of the words.
+const LENGTH: usize = 255;
+
+/// How many rows the matrix has.
+const ROWS: usize = 128;
+
+/// How many multiples are added.
+const SUMS: u64 = 400_000;
+
+/// How many echelon forms are made.
+const FORMS: u64 = 40;
+
+// Pseudo-random symbols of the field, from a generator that goes on from `state`.
+fn symbols(alloc: Global, field: &Field, state: &mut u64) -> Result<Vec<u8>, AllocError>
+    ensures word { IfOk result (λ symbols. IsWord field.now LENGTH symbols.items) }
+{
+    let q = u64::from(field.size());
+    let mut symbols = Vec::new(alloc);
+    for place in 0..LENGTH {
+        *state = state
+            .wrapping_mul(6_364_136_223_846_793_005)
+            .wrapping_add(1_442_695_040_888_963_407);
+        symbols.push(((*state >> 33) % q) as u8)?;
+    }
+    Ok(symbols)
+}
+
+// Adds multiples of a word to another, again and again.
+fn add_often(field: &Field, to: &mut [u8], from: &[u8])
+    requires to { IsWord field.now LENGTH to.old }
+    requires from { IsWord field.now LENGTH from.now }
+{
+    for _ in 0..SUMS {
+        add_scaled(field, to, from, field.primitive());
+    }
+}
+
+/// The rate of `add_scaled` over the field of `q` elements.
+pub fn add_scaled_rate<R: Clock + AllocGlobal>(rt: &R, q: u64) -> Result<Rate, Failure> {
+    let field = Field::of(rt.alloc(), q)?;
+    let mut state = 1;
+    let from = symbols(rt.alloc(), &field, &mut state)?;
+    let mut to = symbols(rt.alloc(), &field, &mut state)?;
+    let start = Instant::now(rt)?;
+    add_often(&field, &mut to, &from);
+    Ok(Rate {
+        count: SUMS * LENGTH as u64,
+        what: "symbols",
+        elapsed: start.elapsed(rt)?,
+    })
+}
+
+// Pseudo-random rows.
+fn rows(alloc: Global, field: &Field) -> Result<Vec<Word>, Failure>
+    ensures words { IfOk result (λ rows. AreRows field.now LENGTH rows.items) }
+{
+    let mut state = 1;
+    let mut rows = Vec::new(alloc);
+    for _ in 0..ROWS {
+        let row = Word::from_slice(alloc, &symbols(alloc, field, &mut state)?)?;
+        if rows.push(row).is_err() {
+            return Err(Failure::NoMemory);
+        }
+    }
+    Ok(rows)
+}
+
+/// The rate of `Matrix::echelon` over the field of `q` elements, in rows of the matrix.
+pub fn echelon_rate<R: Clock + AllocGlobal>(rt: &R, q: u64) -> Result<Rate, Failure> {
+    let field = Field::of(rt.alloc(), q)?;
+    let matrix = Matrix::from_rows(rt.alloc(), &field, LENGTH, &rows(rt.alloc(), &field)?)?;
+    let start = Instant::now(rt)?;
+    for _ in 0..FORMS {
+        let _form = matrix.echelon(rt.alloc())?;
+    }
+    Ok(Rate {
+        count: FORMS * ROWS as u64,
+        what: "rows",
+        elapsed: start.elapsed(rt)?,
+    })
+}

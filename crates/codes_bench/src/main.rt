@@ -1,0 +1,64 @@
+//! Prints how fast the loops of `codes` are: `codes_bench NAME` runs one bench and prints a line with its
+//! rate; with no name it prints the names.
+#![tactic(auto)]
+
+mod bench;
+mod linear;
+mod messages;
+mod rate;
+mod scripts;
+
+use bench::{BENCHES, Bench, bench_named};
+use rate::{Failure, Rate};
+use std::alloc::AllocGlobal;
+use std::env;
+use std::process::ExitCode;
+use std::rt::{Clock, Env, Runtime};
+
+// The first word after the program's name, where there is one.
+fn first_word<R: Env + AllocGlobal>(rt: &R) -> Result<Option<String>, Failure> {
+    Ok(env::args(rt)?.nth(1))
+}
+
+// The rate of a bench.
+fn measure<R: Clock + AllocGlobal>(rt: &R, bench: Bench) -> Result<Rate, Failure> {
+    match bench {
+        Bench::AddScaled(q) => linear::add_scaled_rate(rt, q),
+        Bench::Echelon(q) => linear::echelon_rate(rt, q),
+        Bench::StepBinary => messages::step_rate(rt, 45, 5, 2),
+        Bench::StepQuaternary => messages::step_rate(rt, 20, 4, 4),
+        Bench::ParseWeights => scripts::weights_rate(rt),
+        Bench::ParseMatrix => scripts::matrix_rate(rt),
+    }
+}
+
+// Prints the names of all benches.
+fn print_names<R: Runtime + AllocGlobal>(rt: &R) -> Result<(), Failure> {
+    for (name, _) in BENCHES {
+        println!(rt; "{name}")?;
+    }
+    Ok(())
+}
+
+// Prints the line of the bench with a name, or the names of all.
+fn run<R: Runtime + AllocGlobal>(rt: &R) -> Result<(), Failure> {
+    let Some(word) = first_word(rt)? else {
+        return print_names(rt);
+    };
+    let Some(bench) = bench_named(&word) else {
+        return Err(Failure::Unknown);
+    };
+    let rate = measure(rt, bench)?;
+    println!(rt; "{word}: {rate}")?;
+    Ok(())
+}
+
+fn main(rt: HostRuntime) -> ExitCode {
+    match run(&rt) {
+        Ok(()) => ExitCode::SUCCESS,
+        Err(failure) => {
+            let _ = eprintln!(rt; "codes_bench: {failure}");
+            ExitCode::FAILURE
+        }
+    }
+}
