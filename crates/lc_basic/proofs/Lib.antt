@@ -4,3 +4,4 @@ pub mod ColumnLaws
 pub mod HammingLaws
 pub mod ProductLaws
 pub mod TrivialLaws
+pub mod HammingDimension
