@@ -5,3 +5,4 @@ pub mod HammingLaws
 pub mod ProductLaws
 pub mod TrivialLaws
 pub mod HammingDimension
+pub mod ReedMullerDimension
