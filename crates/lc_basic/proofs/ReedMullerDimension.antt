@@ -28,7 +28,7 @@ use Rattle.lc_algebra.proofs.DimensionLaws.{dimension_unique}
 use Rattle.lc_constructions.specs.Code.{IsCode}
 use Rattle.lc_constructions.specs.Basic.{GeneratedBy, subsets, monomial, reed_muller_rows}
 use Rattle.lc_enumeration.specs.Message.{choose}
-use Rattle.lc_matrix.proofs.FreeWordLaws.{dot_single, past_end}
+use Rattle.lc_matrix.proofs.PlaceLaws.{dot_single, past_end}
 use Rattle.lc_basic.specs.Product.{variables}
 use Rattle.lc_basic.proofs.ColumnLaws.{index_below}
 use Rattle.lc_basic.proofs.ProductLaws.{variables_below, monomials_rows}

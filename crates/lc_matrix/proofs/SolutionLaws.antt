@@ -12,7 +12,7 @@ use Rattle.lc_algebra.specs.Word.{IsWord, zero_word}
 use Rattle.lc_algebra.specs.Matrix.{entry, AreRows, HasPivots, IsEchelon, Matrix}
 use Rattle.lc_algebra.proofs.WordLaws.{index_zero_word, IsWord_zero, word_symbol}
 use Rattle.lc_matrix.specs.Solve.{augmented, Solves, IsSolutionWord, IsSolutionTo}
-use Rattle.lc_matrix.proofs.FreeWordLaws.{at_place}
+use Rattle.lc_matrix.proofs.PlaceLaws.{at_place}
 use Rattle.lc_matrix.proofs.SolveLaws.{length_augmented, row_of_augmented, inner_place, solution_of, no_solution}
 
 pub solution_begun : (f : FieldName) (n : ℕ) (ps : List ℕ) (e : List (List ℕ)) (w : List ℕ) → w ≡ zero_word n → IsSolutionTo f n ps e 0 w
