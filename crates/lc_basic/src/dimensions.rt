@@ -6,15 +6,17 @@ ghost use Rattle.lc_algebra.specs.Field.{size};
 ghost use Rattle.lc_algebra.specs.Span.{below, AreIndependent};
 ghost use Rattle.lc_algebra.specs.Matrix.{Matrix};
 ghost use Rattle.lc_constructions.specs.Code.{IsCode, CheckedBy};
-ghost use Rattle.lc_constructions.specs.Basic.{GeneratedBy, IsConstant, IsZero, hamming_checks, hamming_length, reed_muller_rows};
+ghost use Rattle.lc_constructions.specs.Basic.{GeneratedBy, IsConstant, IsAny, IsZero, hamming_checks, hamming_length, reed_muller_rows};
 ghost use Rattle.lc_enumeration.specs.Message.{choose};
 
 use lc_algebra::FieldName;
 
-/// Repetition codes have dimension 1, and null codes dimension 0 (MacWilliams and Sloane, chapter 1).
-#[tactic(auto, using(crate::proofs::TrivialLaws::repetition_dimension, crate::proofs::TrivialLaws::null_dimension))]
+/// Repetition codes have dimension 1, the whole space has dimension n and null codes have dimension 0 (MacWilliams and Sloane,
+/// chapter 1).
+#[tactic(auto, using(crate::proofs::TrivialLaws::repetition_dimension, crate::proofs::TrivialLaws::whole_dimension, crate::proofs::TrivialLaws::null_dimension))]
 pub fn dimensions_of_trivial_codes(field: FieldName)
     ensures repetition { (n : ℕ) (C : Matrix) → 1 ≤ n → IsCode field n IsConstant C → length C.rows ≡ 1 }
+    ensures whole { (n : ℕ) (C : Matrix) → IsCode field n IsAny C → length C.rows ≡ n }
     ensures null { (n : ℕ) (C : Matrix) → IsCode field n IsZero C → length C.rows ≡ 0 }
 {}
 

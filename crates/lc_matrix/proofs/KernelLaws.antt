@@ -28,7 +28,7 @@ use Rattle.lc_algebra.proofs.ReducedLaws.{dot_nothing, symbol_of_combination}
 use Rattle.lc_algebra.proofs.ColumnLaws.{length_restrict, index_restrict}
 use Rattle.lc_matrix.specs.Elimination.{IsReducedTo, IsTurned}
 use Rattle.lc_matrix.specs.Kernel.{IsReducedBack, IsFree, IsKernelWord, AreKernelWords}
-use Rattle.lc_matrix.proofs.FormLaws.{dot_one, dot_two}
+use Rattle.lc_matrix.proofs.PlaceLaws.{dot_pair, dot_one}
 
 -- each of the first rows has a place, where it is a 1 that is alone in its column; the rows after these are 0
 pub record IsReducedAt (n : ℕ) (ps : List ℕ) (rows : List (List ℕ)) : Type 0 where
@@ -107,9 +107,6 @@ one_place : (f : FieldName) (n k i : ℕ) (ps : List ℕ) (rows : List (List ℕ
 one_place f n k i ps rows b l m o e =
     omega (arith, b.leads i m, ap (entry rows i) (sym e) ∙ b.clears k i l (omega (arith, m, b.at_most)) o)
 
-at_least : (i g : ℕ) → g ≤ i → i ≢ g → g < i
-at_least i g l o = ⊎_elim (λ a. a) (λ a. absurd (o (omega (arith, a, l)))) (cases_lt g i)
-
 held_not : (p c : ℕ) (ps : List ℕ) → p ≢ c → ((k : ℕ) → k < length ps → slice_index ps k ≢ c) → (k : ℕ) → k < length (p ∷ ps) → slice_index (p ∷ ps) k ≢ c
 held_not p c ps o z zero l = o
 held_not p c ps o z (suc k) l = z k (omega (arith, l))
@@ -185,7 +182,6 @@ pub kernel_orthogonal : (f : FieldName) (n j k : ℕ) (ps : List ℕ) (rows : Li
 kernel_orthogonal f n j k ps rows w r b l o h m =
     let g = slice_index_or rows k [] in
     let row = r k [] m in
-    let long : length g ≡ length w = row.long ∙ sym h.word.long in
     let product : ℕ → ℕ = λ c. mul f (slice_index g c) (slice_index w c) in
     let at_j : product j ≡ entry rows k j = ap (mul f (slice_index g j)) h.one ∙ mul_one f (slice_index g j) (word_symbol f n g row j) in
     ⊎_elim
@@ -198,10 +194,7 @@ kernel_orthogonal f n j k ps rows w r b l o h m =
     ap (λ v. mul f v (slice_index w c)) (ap (entry rows k) (sym z.2) ∙ b.clears z.0 k z.1 m other) ∙ zero_mul f (slice_index w c))
     (λ z. ap (mul f (slice_index g c)) (h.others c y z) ∙ mul_zero f (slice_index g c))
     (held ps c) in
-    ⊎_elim
-    (λ x. dot_two f g w p j x (omega (arith, l, h.word.long)) long (λ c y z t. elsewhere c z t) ∙ ap (λ v. add f v (product j)) at_p ∙ ap (add f (neg f (entry rows k j))) at_j ∙ neg_add f (entry rows k j))
-    (λ x. dot_two f g w j p (at_least p j x (o k a)) (omega (arith, b.inside k a, h.word.long)) long (λ c y z t. elsewhere c t z) ∙ ap (λ v. add f v (product p)) at_j ∙ ap (add f (entry rows k j)) at_p ∙ add_neg f (entry rows k j))
-    (cases_lt p j))
+    dot_pair f g w p j (o k a) elsewhere ∙ ap (λ v. add f v (product j)) at_p ∙ ap (add f (neg f (entry rows k j))) at_j ∙ neg_add f (entry rows k j))
     (λ a. dot_nothing f g w (λ c x. ap (λ v. mul f v (slice_index w c)) (b.below k c a m (omega (arith, x, h.word.long))) ∙ zero_mul f (slice_index w c)))
     (cases_lt k (length ps))
 
@@ -279,7 +272,7 @@ kernel_whole f n ps rows free kernel w r b o h word orth =
     let g = slice_index_or rows i [] in
     let m : i < length rows = omega (arith, l, b.at_most) in
     let p = slice_index ps i in
-    let single : word_dot f g d ≡ mul f (slice_index g p) (slice_index d p) = dot_one f g d p (omega (arith, b.inside i l, d_word.long)) ((r i [] m).long ∙ sym d_word.long) (λ c x y. ⊎_elim
+    let single : word_dot f g d ≡ mul f (slice_index g p) (slice_index d p) = dot_one f g d p (λ c x y. ⊎_elim
     (λ z.
     let other : z.0 ≢ i = λ q. y (sym z.2 ∙ ap (slice_index ps) q) in
     ap (λ v. mul f v (slice_index d c)) (ap (entry rows i) (sym z.2) ∙ b.clears z.0 i z.1 m other) ∙ zero_mul f (slice_index d c))

@@ -1,6 +1,7 @@
 -- Dots with few terms, and the places of reduced rows.
 --   dot_single, dot_pair       the dot where all products but those at one place, or at two, are 0
 --   past_end                   past its end a word is 0
+--   dot_one, dot_two           the same, where this is known of the places of the words alone
 --   index_below                the numbers below n, one by one
 --   place_at, at_place         a place of the list, and a column that it holds
 --   place_clears               row i is 0 at each place but its own
@@ -53,6 +54,17 @@ pub past_end : (w : List ℕ) (c : ℕ) → length w ≤ c → slice_index w c �
 past_end [] c l = refl
 past_end (a ∷ w) zero l = absurd (omega (arith, l))
 past_end (a ∷ w) (suc c) l = past_end w c (omega (arith, l))
+
+-- past the end of the second word the products are 0
+product_zero : (f : FieldName) (cs us : List ℕ) (i : ℕ) → (i < length us → mul f (slice_index cs i) (slice_index us i) ≡ 0) → mul f (slice_index cs i) (slice_index us i) ≡ 0
+product_zero f cs us i z =
+    ⊎_elim z (λ m. ap (mul f (slice_index cs i)) (past_end us i m) ∙ mul_zero f (slice_index cs i)) (cases_lt i (length us))
+
+pub dot_one : (f : FieldName) (cs us : List ℕ) (q : ℕ) → ((i : ℕ) → i < length us → i ≢ q → mul f (slice_index cs i) (slice_index us i) ≡ 0) → word_dot f cs us ≡ mul f (slice_index cs q) (slice_index us q)
+dot_one f cs us q z = dot_single f cs us q (λ i o. product_zero f cs us i (λ m. z i m o))
+
+pub dot_two : (f : FieldName) (cs us : List ℕ) (p q : ℕ) → p < q → ((i : ℕ) → i < length us → i ≢ p → i ≢ q → mul f (slice_index cs i) (slice_index us i) ≡ 0) → word_dot f cs us ≡ add f (mul f (slice_index cs p) (slice_index us p)) (mul f (slice_index cs q) (slice_index us q))
+dot_two f cs us p q k z = dot_pair f cs us p q (λ e. omega (arith, e, k)) (λ i o r. product_zero f cs us i (λ m. z i m o r))
 
 pub index_below : (n c : ℕ) → c < n → slice_index (below n) c ≡ c
 unfolding below
