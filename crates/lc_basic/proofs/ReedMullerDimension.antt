@@ -16,7 +16,7 @@ use Rattle.std.proofs.lemmas.List.Sums.{sum_by-append}
 use Rattle.std.proofs.lemmas.Bool.{cases_lt}
 use Rattle.lc_algebra.specs.declared.FieldName.{FieldName}
 use Rattle.lc_algebra.specs.declared.FieldName.TheVariants.{Gf2}
-use Rattle.lc_algebra.specs.Field.{size, mul}
+use Rattle.lc_algebra.specs.Field.{mul}
 use Rattle.lc_algebra.specs.Word.{IsWord, zero_word, word_dot}
 use Rattle.lc_algebra.specs.Span.{below, combine, SameSpan, AreIndependent}
 use Rattle.lc_algebra.specs.Matrix.{Matrix, AreRows, entry, column}

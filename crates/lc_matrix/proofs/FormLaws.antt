@@ -8,7 +8,7 @@
 --   systematic_of          over a set whose columns are all taken: the systematic matrix
 --   dependent_of           where a column is left out, the columns are dependent
 --   echelon_made, systematic_made, dependent_made      the same, in the shape of the calls
-use Rattle.std.proofs.Common.{◌≡◌, ◌≢◌, ℕ, zero, suc, ◌+◌, ◌-◌, ◌<◌, ◌≤◌, ◌↔◌, Bool, IsTrue, inl, inr, ◌==◌, List, [], ◌∷◌, ◌++◌, length, map, take, slice_index, slice_index_or, Contains, sym, ap, subst, ◌∙◌, ⊎_elim, arith, zero-lt-suc}
+use Rattle.std.proofs.Common.{◌≡◌, ◌≢◌, ℕ, zero, suc, ◌+◌, ◌-◌, ◌<◌, ◌≤◌, ◌↔◌, Bool, IsTrue, inl, inr, ◌==◌, List, [], ◌∷◌, ◌++◌, length, map, take, slice_index, slice_index_or, Contains, sym, ap, subst, ◌∙◌, ⊎_elim, arith}
 use Rattle.std.proofs.lemmas.Bool.{cases_eq, cases_lt, eq-eqb, ne_eqb, eqb-true}
 use Rattle.std.proofs.lemmas.List.{length-take-le, get_or-take, get_or_default, get_or-map, length-map, ext_get_or, length-append}
 use Rattle.std.proofs.Math.ListN.{get_or-append}
@@ -20,7 +20,7 @@ use Rattle.lc_algebra.specs.Word.{IsWord, zero_word, word_sum, scale, word_dot, 
 use Rattle.lc_algebra.specs.Span.{InSpan, SameSpan}
 use Rattle.lc_algebra.specs.Matrix.{AreRows, HasPivots, IsEchelon, IsSystematic, AreIndependentColumns, Matrix, entry}
 use Rattle.lc_algebra.specs.SpanLaws.{restrict}
-use Rattle.lc_algebra.proofs.FieldLaws.{zero_inside, zero_add, add_zero, add_neg, mul_zero, zero_mul, mul_one, neg_inside, add_inside, mul_inside, neg_one_mul}
+use Rattle.lc_algebra.proofs.FieldLaws.{zero_inside, zero_add, add_neg, mul_zero, zero_mul, mul_one, neg_inside, neg_one_mul}
 use Rattle.lc_algebra.proofs.WordLaws.{length_scale, length_zero_word, index_zero_word, index_scale, index_word_sum, word_symbol, multiple_undone, IsWord_sum, neg_one_nonzero, weight_zero}
 use Rattle.lc_algebra.proofs.SpanLaws.{span_row, span_sum, span_scale, span_zero, span_but_zeros, same_span_transitive}
 use Rattle.lc_algebra.proofs.ReducedLaws.{reduced_told, echelon_unique, dot_nothing}

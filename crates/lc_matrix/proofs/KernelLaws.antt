@@ -10,20 +10,20 @@
 --   kernel_members         so these are the words with dot 0 with the rows
 --   words_none, words_more  the words of the free columns, one by one
 --   kernel_of, kernel_made, back_made      the kernel, and the calls' shape of it
-use Rattle.std.proofs.Common.{◌≡◌, ◌≢◌, ℕ, zero, suc, ◌+◌, ◌-◌, ◌<◌, ◌≤◌, ◌↔◌, ◌⊎◌, inl, inr, if◌then◌else◌, ◌==◌, List, [], ◌∷◌, ◌++◌, length, set, slice_index, slice_index_or, All, refl, sym, ap, subst, ◌∙◌, ⊎_elim, arith}
+use Rattle.std.proofs.Common.{◌≡◌, ◌≢◌, ℕ, zero, suc, ◌+◌, ◌-◌, ◌<◌, ◌≤◌, ◌↔◌, ◌⊎◌, inl, inr, List, [], ◌∷◌, ◌++◌, length, set, slice_index, slice_index_or, refl, sym, ap, subst, ◌∙◌, ⊎_elim, arith}
 use Rattle.std.proofs.lemmas.Bool.{cases_eq, cases_lt, eq-eqb, ne_eqb}
 use Rattle.std.proofs.lemmas.List.{length-set, get_or-set_same, get_or-set_other, get_or_push, length_push, ext_get_or}
 use Rattle.std.proofs.Math.ListN.{get_or-append}
 use Rattle.std.proofs.lemmas.List.Elements.{All-from_get_or}
 use Rattle.lc_algebra.specs.declared.FieldName.{FieldName}
 use Rattle.lc_algebra.specs.Field.{size, add, mul, neg}
-use Rattle.lc_algebra.specs.Word.{Fits, IsWord, zero_word, scale, word_dot, difference}
+use Rattle.lc_algebra.specs.Word.{IsWord, zero_word, scale, word_dot, difference}
 use Rattle.lc_algebra.specs.Span.{combine, InSpan, SameSpan}
 use Rattle.lc_algebra.specs.Matrix.{AreRows, HasPivots, IsReducedGenerator, IsOrthogonal, IsIdentityOn, Matrix, entry}
 use Rattle.lc_algebra.specs.SpanLaws.{restrict}
-use Rattle.lc_algebra.proofs.FieldLaws.{one_inside, zero_inside, zero_add, add_neg, neg_add, add_comm, mul_zero, zero_mul, mul_one, one_mul, neg_inside, neg_zero}
-use Rattle.lc_algebra.proofs.WordLaws.{length_scale, length_zero_word, index_zero_word, word_symbol, index_difference, length_difference, IsWord_zero, IsWord_difference, same_from_difference, difference_zero, dot_comm, dot_sum, dot_scale, fits_symbol}
-use Rattle.lc_algebra.proofs.SpanLaws.{span_word, dot_span, orthogonal_shared, orthogonal_sum, orthogonal_scale, word_of_combination, same_span_symmetric}
+use Rattle.lc_algebra.proofs.FieldLaws.{one_inside, zero_inside, zero_add, add_neg, neg_add, mul_zero, zero_mul, mul_one, one_mul, neg_inside, neg_zero}
+use Rattle.lc_algebra.proofs.WordLaws.{length_scale, length_zero_word, index_zero_word, word_symbol, index_difference, IsWord_difference, same_from_difference, dot_comm, dot_sum, dot_scale}
+use Rattle.lc_algebra.proofs.SpanLaws.{span_word, dot_span, orthogonal_shared, word_of_combination, same_span_symmetric}
 use Rattle.lc_algebra.proofs.ReducedLaws.{dot_nothing, symbol_of_combination}
 use Rattle.lc_algebra.proofs.ColumnLaws.{length_restrict, index_restrict}
 use Rattle.lc_matrix.specs.Elimination.{IsReducedTo, IsTurned}

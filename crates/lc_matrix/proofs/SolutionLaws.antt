@@ -3,7 +3,7 @@
 --   augmented_more, augmented_whole      the augmented rows, row by row
 --   echelon_shaped, places_shaped, place_told      the echelon form of the augmented rows, and its places, in the shape of the call
 --   unsolvable_made, inside_made, solution_made      the answers, in the shape of the call
-use Rattle.std.proofs.Common.{◌≡◌, ℕ, ◌+◌, ◌<◌, ◌↔◌, List, [], ◌∷◌, ◌++◌, set, take, length, slice_index, slice_index_or, Contains, refl, sym, ap, subst, ◌∙◌, ⊎_elim, arith}
+use Rattle.std.proofs.Common.{◌≡◌, ℕ, ◌+◌, ◌<◌, ◌↔◌, List, [], ◌∷◌, ◌++◌, set, take, length, slice_index, slice_index_or, Contains, sym, ap, subst, ◌∙◌, ⊎_elim, arith}
 use Rattle.std.proofs.lemmas.List.{get_or-set_same, get_or-set_other, length-set, take_more, take_all}
 use Rattle.std.proofs.lemmas.Bool.{cases_lt, cases_eq}
 use Rattle.lc_algebra.specs.declared.FieldName.{FieldName}
