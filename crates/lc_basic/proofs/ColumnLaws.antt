@@ -27,7 +27,7 @@ use Rattle.lc_algebra.proofs.SpanLaws.{length_below, length_flat_map_even}
 use Rattle.lc_constructions.specs.Basic.{all_lists, hamming_columns, hamming_checks, hamming_length}
 use Rattle.lc_basic.specs.Column.{points, digits_from, digits_of, checks_part}
 
-power_step : (q r : ℕ) → q ^ suc r ≡ q * q ^ r
+pub power_step : (q r : ℕ) → q ^ suc r ≡ q * q ^ r
 power_step q r = omega (arith, pow-suc q r)
 
 pub points_power : (p r : ℕ) → p * points (suc p) r + 1 ≡ suc p ^ r
@@ -161,7 +161,7 @@ block_zero q e m l k =
     let z : (q ^ m + v) / q ^ e ≡ 0 = omega (arith, s) in
     ap (λ x. x % q) z ∙ mod-eq_of_lt (omega (arith, l))) ∙ map_constant 0 (below (q ^ m)) ∙ ap (λ x. replicate x 0) (length_below (q ^ m))
 
-digits_zero : (q e m : ℕ) → 1 < q → m ≤ e → digits_of q (q ^ e) m ≡ replicate (points q m) 0
+pub digits_zero : (q e m : ℕ) → 1 < q → m ≤ e → digits_of q (q ^ e) m ≡ replicate (points q m) 0
 unfolding digits_of points
 digits_zero q e zero l k = refl
 digits_zero q e (suc m) l k =
@@ -204,14 +204,14 @@ digits_inside q unit zero z i = z
 digits_inside q unit (suc r) z i =
     append_inside q (digits_of q unit r) (map (λ v. (q ^ r + v) / unit % q) (below (q ^ r))) (digits_inside q unit r z) (map_inside q (λ v. (q ^ r + v) / unit % q) (below (q ^ r)) z (λ v. mod-lt ((q ^ r + v) / unit) z)) i
 
-length_digits : (q unit r : ℕ) → length (digits_of q unit r) ≡ points q r
+pub length_digits : (q unit r : ℕ) → length (digits_of q unit r) ≡ points q r
 unfolding digits_of digits_from points
 length_digits q unit zero = refl
 length_digits q unit (suc r) =
     let b : length (map (λ v. (q ^ r + v) / unit % q) (below (q ^ r))) ≡ q ^ r = length-map (below (q ^ r)) (λ v. (q ^ r + v) / unit % q) ∙ length_below (q ^ r) in
     length-append (digits_of q unit r) (map (λ v. (q ^ r + v) / unit % q) (below (q ^ r))) ∙ cc (length_digits q unit r, b)
 
-digits_word : (f : FieldName) (unit r : ℕ) → IsWord f (points (size f) r) (digits_of (size f) unit r)
+pub digits_word : (f : FieldName) (unit r : ℕ) → IsWord f (points (size f) r) (digits_of (size f) unit r)
 digits_word f unit r = record { long = length_digits (size f) unit r; fits = λ i l. digits_inside (size f) unit r (zero_inside f) i }
 
 pub checks_rows : (f : FieldName) (r : ℕ) → AreRows f (hamming_length (size f) r) (hamming_checks (size f) r)

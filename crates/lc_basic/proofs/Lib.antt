@@ -4,3 +4,5 @@ pub mod ColumnLaws
 pub mod HammingLaws
 pub mod ProductLaws
 pub mod TrivialLaws
+pub mod HammingDimension
+pub mod ReedMullerDimension

@@ -118,7 +118,7 @@ variables_last v (suc left) =
     let e : suc v + left ≡ v + suc left = omega arith in
     ap (λ u. v ∷ u) (variables_last (suc v) left) ∙ ap (λ k. v ∷ variables (suc v) left ++ k ∷ []) e
 
-variables_below : (m : ℕ) → variables 0 m ≡ below m
+pub variables_below : (m : ℕ) → variables 0 m ≡ below m
 unfolding below variables
 variables_below zero = refl
 variables_below (suc m) =
@@ -149,7 +149,7 @@ monomial_word m vs = record {
   fits = λ i l. map_inside 2 (λ place. if list_all (λ v. place / 2 ^ v % 2 == 1) vs then 1 else 0) (below (2 ^ m)) (omega arith) (λ place. bit_inside (list_all (λ v. place / 2 ^ v % 2 == 1) vs)) i;
 }
 
-monomials_rows : (r m : ℕ) → AreRows Gf2 (2 ^ m) (reed_muller_rows r m)
+pub monomials_rows : (r m : ℕ) → AreRows Gf2 (2 ^ m) (reed_muller_rows r m)
 unfolding reed_muller_rows
 monomials_rows r m = All-map (IsWord Gf2 (2 ^ m)) (monomial m) (subsets (below m) r) (λ k d l. monomial_word m (slice_index_or (subsets (below m) r) k d))
 

@@ -1,17 +1,19 @@
--- The dimensions of repetition codes and null codes.
+-- The dimensions of repetition codes, of the whole space and of null codes.
 --   reduced_ones                   the row of ones alone is a reduced matrix
 --   constant_generator             and that of a repetition code
 --   zero_generator                 no rows are the reduced matrix of a null code
 --   repetition_dimension, null_dimension      so these have dimension 1 and 0
+--   whole_dimension                and the whole space, the kernel of no rows, has dimension n
 use Rattle.std.proofs.Common.{◌≡◌, ℕ, zero, suc, ◌≤◌, [], ◌∷◌, length, slice_index, refl, sym, ap, subst, arith}
 use Rattle.lc_algebra.specs.declared.FieldName.{FieldName}
 use Rattle.lc_algebra.specs.Word.{IsWord}
-use Rattle.lc_algebra.specs.Matrix.{Matrix, entry, AreRows, IsReduced, IsReducedGenerator}
+use Rattle.lc_algebra.specs.Matrix.{Matrix, entry, AreRows, IsReduced, IsEchelon, IsReducedGenerator, IsOrthogonal}
 use Rattle.lc_algebra.proofs.WordLaws.{IsWord_zero}
-use Rattle.lc_algebra.proofs.SpanLaws.{span_word}
+use Rattle.lc_algebra.proofs.SpanLaws.{span_word, same_span_reflexive}
 use Rattle.lc_algebra.proofs.ReducedLaws.{generator_unique}
 use Rattle.lc_constructions.specs.Code.{IsCode}
-use Rattle.lc_constructions.specs.Basic.{IsConstant, IsZero}
+use Rattle.lc_constructions.specs.Basic.{IsConstant, IsAny, IsZero}
+use Rattle.lc_matrix.proofs.RankLaws.{rank_of_kernel}
 use Rattle.lc_basic.proofs.FamilyLaws.{ones, index_ones, one_row, no_rows, ones_word, ones_constant, zero_is}
 
 zero_at : (i : ℕ) → slice_index (0 ∷ []) i ≡ 0
@@ -72,3 +74,15 @@ repetition_dimension f n C a c = ap length (generator_unique f n IsConstant C.ro
 
 pub null_dimension : (f : FieldName) (n : ℕ) (C : Matrix) → IsCode f n IsZero C → length C.rows ≡ 0
 null_dimension f n C c = ap length (generator_unique f n IsZero C.rows [] c.generator (zero_generator f n))
+
+pub whole_dimension : (f : FieldName) (n : ℕ) (C : Matrix) → IsCode f n IsAny C → length C.rows ≡ n
+whole_dimension f n C c =
+    let g = c.generator in
+    let zero = zero_generator f n in
+    let none : IsEchelon f n [] [] = record { same = same_span_reflexive f n []; reduced = zero.reduced; words = zero.words } in
+    let kernel : IsReducedGenerator f n (IsOrthogonal f []) C.rows = record {
+      members = λ w. ((λ t. (((g.members w).0 t).0, (λ k d l. absurd (omega (arith, l))))), (λ t. (g.members w).1 (t.0, tt)));
+      reduced = g.reduced;
+      words = g.words;
+    } in
+    omega (arith, rank_of_kernel f n [] [] C.rows zero.words none kernel)

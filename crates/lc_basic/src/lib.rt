@@ -11,7 +11,9 @@ mod refusal;
 mod tests;
 mod trivial;
 
-pub use dimensions::dimensions_of_trivial_codes;
+pub use dimensions::{
+    dimension_of_hamming_codes, dimension_of_reed_muller_codes, dimensions_of_trivial_codes,
+};
 pub use hamming_codes::hamming;
 pub use matrices::{check_mat, generator_mat};
 pub use reed_muller_codes::reed_muller;

@@ -3,13 +3,12 @@
 --   pivots_of, echelon_of  over all columns in order: the reduced matrix and its places
 --   rank_is                its number of rows is the rank
 --   rest_none, rest_more, rest_told, in_span_made      a word less multiples of reduced rows
---   dot_one, dot_two       a dot whose products are 0 but at one or two places
 --   rise, full             rising places: place i is at least i, and is i where there are as many as they may be
 --   gap                    else there is a first place that is left out
 --   systematic_of          over a set whose columns are all taken: the systematic matrix
 --   dependent_of           where a column is left out, the columns are dependent
 --   echelon_made, systematic_made, dependent_made      the same, in the shape of the calls
-use Rattle.std.proofs.Common.{◌≡◌, ◌≢◌, ℕ, zero, suc, ◌+◌, ◌-◌, ◌<◌, ◌≤◌, ◌↔◌, Bool, IsTrue, inl, inr, ◌==◌, List, [], ◌∷◌, ◌++◌, length, map, take, slice_index, slice_index_or, Contains, sym, ap, subst, ◌∙◌, ⊎_elim, arith, zero-lt-suc}
+use Rattle.std.proofs.Common.{◌≡◌, ◌≢◌, ℕ, zero, suc, ◌+◌, ◌-◌, ◌<◌, ◌≤◌, ◌↔◌, Bool, IsTrue, inl, inr, ◌==◌, List, [], ◌∷◌, ◌++◌, length, map, take, slice_index, slice_index_or, Contains, sym, ap, subst, ◌∙◌, ⊎_elim, arith}
 use Rattle.std.proofs.lemmas.Bool.{cases_eq, cases_lt, eq-eqb, ne_eqb, eqb-true}
 use Rattle.std.proofs.lemmas.List.{length-take-le, get_or-take, get_or_default, get_or-map, length-map, ext_get_or, length-append}
 use Rattle.std.proofs.Math.ListN.{get_or-append}
@@ -21,12 +20,13 @@ use Rattle.lc_algebra.specs.Word.{IsWord, zero_word, word_sum, scale, word_dot, 
 use Rattle.lc_algebra.specs.Span.{InSpan, SameSpan}
 use Rattle.lc_algebra.specs.Matrix.{AreRows, HasPivots, IsEchelon, IsSystematic, AreIndependentColumns, Matrix, entry}
 use Rattle.lc_algebra.specs.SpanLaws.{restrict}
-use Rattle.lc_algebra.proofs.FieldLaws.{zero_inside, zero_add, add_zero, add_neg, mul_zero, zero_mul, mul_one, neg_inside, add_inside, mul_inside, neg_one_mul}
+use Rattle.lc_algebra.proofs.FieldLaws.{zero_inside, zero_add, add_neg, mul_zero, zero_mul, mul_one, neg_inside, neg_one_mul}
 use Rattle.lc_algebra.proofs.WordLaws.{length_scale, length_zero_word, index_zero_word, index_scale, index_word_sum, word_symbol, multiple_undone, IsWord_sum, neg_one_nonzero, weight_zero}
 use Rattle.lc_algebra.proofs.SpanLaws.{span_row, span_sum, span_scale, span_zero, span_but_zeros, same_span_transitive}
 use Rattle.lc_algebra.proofs.ReducedLaws.{reduced_told, echelon_unique, dot_nothing}
 use Rattle.lc_algebra.proofs.ColumnLaws.{length_restrict, index_restrict, relation_from_columns, independent_columns_shared}
 use Rattle.lc_matrix.specs.Elimination.{IsReducedTo, IsInOrder, IsRest}
+use Rattle.lc_matrix.proofs.PlaceLaws.{dot_two}
 
 pub zero_rows_dropped : (f : FieldName) (n r : ℕ) (rows : List (List ℕ)) → AreRows f n rows → r ≤ length rows → ((j : ℕ) → r ≤ j → j < length rows → slice_index_or rows j [] ≡ zero_word n) → SameSpan f n rows (take r rows)
 zero_rows_dropped f n r rows w l z =
@@ -109,37 +109,6 @@ pub in_span_made : (original e : Matrix) (w old : List ℕ) (b : Bool) → e.fie
 in_span_made original e w old b ef ec h eo t =
     let s = subst (λ x. IsTrue b ↔ InSpan original.field original.columns e.rows x) eo (subst (λ x. IsTrue b ↔ InSpan original.field x e.rows old) ec (subst (λ x. IsTrue b ↔ InSpan x e.columns e.rows old) ef t)) in
     (λ x. (h.same w).1 (s.0 x), λ x. s.1 ((h.same w).0 x))
-
-mul_below : (f : FieldName) (a b : ℕ) → mul f a b < size f
-mul_below f a b = mul_inside f a b
-
-add_below : (f : FieldName) (a b : ℕ) → add f a b < size f
-add_below f a b = add_inside f a b
-
-pub dot_one : (f : FieldName) (cs us : List ℕ) (q : ℕ) → q < length us → length cs ≡ length us → ((i : ℕ) → i < length us → i ≢ q → mul f (slice_index cs i) (slice_index us i) ≡ 0) → word_dot f cs us ≡ mul f (slice_index cs q) (slice_index us q)
-unfolding word_dot
-dot_one f [] us q l e z = absurd (omega (arith, l, e))
-dot_one f (c ∷ cs) [] q l e z = absurd (omega (arith, l))
-dot_one f (c ∷ cs) (u ∷ us) zero l e z =
-    let a : word_dot f cs us ≡ 0 = dot_nothing f cs us (λ i m. z (suc i) (omega (arith, m)) (λ s. omega (arith, s))) in
-    ap (add f (mul f c u)) a ∙ add_zero f (mul f c u) (mul_below f c u)
-dot_one f (c ∷ cs) (u ∷ us) (suc q) l e z =
-    let a : mul f c u ≡ 0 = z 0 (zero-lt-suc (length us)) (λ s. omega (arith, s)) in
-    let b : word_dot f cs us ≡ mul f (slice_index cs q) (slice_index us q) = dot_one f cs us q (omega (arith, l)) (omega (arith, e)) (λ i m o. z (suc i) (omega (arith, m)) (λ s. o (omega (arith, s)))) in
-    ap (λ x. add f x (word_dot f cs us)) a ∙ ap (add f 0) b ∙ zero_add f (mul f (slice_index cs q) (slice_index us q)) (mul_below f (slice_index cs q) (slice_index us q))
-
-pub dot_two : (f : FieldName) (cs us : List ℕ) (p q : ℕ) → p < q → q < length us → length cs ≡ length us → ((i : ℕ) → i < length us → i ≢ p → i ≢ q → mul f (slice_index cs i) (slice_index us i) ≡ 0) → word_dot f cs us ≡ add f (mul f (slice_index cs p) (slice_index us p)) (mul f (slice_index cs q) (slice_index us q))
-unfolding word_dot
-dot_two f [] us p q k l e z = absurd (omega (arith, l, e))
-dot_two f (c ∷ cs) [] p q k l e z = absurd (omega (arith, l))
-dot_two f (c ∷ cs) (u ∷ us) zero zero k l e z = absurd (omega (arith, k))
-dot_two f (c ∷ cs) (u ∷ us) zero (suc q) k l e z =
-    ap (add f (mul f c u)) (dot_one f cs us q (omega (arith, l)) (omega (arith, e)) (λ i m o. z (suc i) (omega (arith, m)) (λ s. omega (arith, s)) (λ s. o (omega (arith, s)))))
-dot_two f (c ∷ cs) (u ∷ us) (suc p) zero k l e z = absurd (omega (arith, k))
-dot_two f (c ∷ cs) (u ∷ us) (suc p) (suc q) k l e z =
-    let a : mul f c u ≡ 0 = z 0 (zero-lt-suc (length us)) (λ s. omega (arith, s)) (λ s. omega (arith, s)) in
-    let b = dot_two f cs us p q (omega (arith, k)) (omega (arith, l)) (omega (arith, e)) (λ i m o r. z (suc i) (omega (arith, m)) (λ s. o (omega (arith, s))) (λ s. r (omega (arith, s)))) in
-    ap (λ x. add f x (word_dot f cs us)) a ∙ ap (add f 0) b ∙ zero_add f (add f (mul f (slice_index cs p) (slice_index us p)) (mul f (slice_index cs q) (slice_index us q))) (add_below f (mul f (slice_index cs p) (slice_index us p)) (mul f (slice_index cs q) (slice_index us q)))
 
 pub rise : (at : List ℕ) → ((i j : ℕ) → i < j → j < length at → slice_index at i < slice_index at j) → (i : ℕ) → i < length at → i ≤ slice_index at i
 rise at r zero l = omega arith
@@ -239,7 +208,7 @@ dependent_of f n set at original rows r w s h k ind =
     (λ a.
     let one : slice_index us j ≡ 1 = us_at j (omega (arith, a, here)) ∙ ap (λ x. entry rows j (slice_index set x)) (sym (gap.first j a)) ∙ h.leads j (omega (arith, a, gap.inside)) in
     let b : entry rows j c < size f = word_symbol f n (slice_index_or rows j []) (w j [] l) c in
-    dot_two f xs us j g a (omega (arith, here, us_long)) (long ∙ sym us_long) (λ i m o q. ⊎_elim
+    dot_two f xs us j g a (λ i m o q. ⊎_elim
     (λ x. ap (mul f (slice_index xs i)) (us_at i (omega (arith, m, us_long)) ∙ zero_at j i l x o) ∙ mul_zero f (slice_index xs i))
     (λ x. ap (λ y. mul f y (slice_index us i)) (high i (at_least i g x q)) ∙ zero_mul f (slice_index us i))
     (cases_lt i g)) ∙ ap (λ y. add f (mul f y (slice_index us j)) (mul f (slice_index xs g) (slice_index us g))) (low j a) ∙ ap (λ y. add f (mul f (entry rows j c) y) (mul f (slice_index xs g) (slice_index us g))) one ∙ ap (λ y. add f y (mul f (slice_index xs g) (slice_index us g))) (mul_one f (entry rows j c) b) ∙ ap (λ y. add f (entry rows j c) (mul f y (slice_index us g))) mid ∙ ap (λ y. add f (entry rows j c) (mul f (neg f 1) y)) (us_at g here) ∙ ap (add f (entry rows j c)) (neg_one_mul f (entry rows j c)) ∙ add_neg f (entry rows j c))

@@ -1,32 +1,45 @@
 -- The kernel of some rows from rows with the same words that are reduced from the right.
---   turned_order           the columns n - 1 to 0, as an order of elimination
+--   IsReducedAt n ps rows  each of the first rows has a place, where it is a 1 that is alone in its column; the others are 0
 --   back_of                rows that are reduced in that order are reduced from the right
 --   free_none, free_held, free_pushed      which columns are free
---   kernel_word_none, kernel_word_more     the word of a free column, place by place
+--   kernel_word_none, kernel_word_at, kernel_word_more     the word of a free column, place by place
 --   kernel_orthogonal      it has dot 0 with the rows
 --   kernel_places          the words of all free columns are reduced
+--   kernel_identity        they are the identity on the free columns
 --   kernel_whole           and each word that has dot 0 with the rows is one of theirs
+--   kernel_members         so these are the words with dot 0 with the rows
 --   words_none, words_more  the words of the free columns, one by one
 --   kernel_of, kernel_made, back_made      the kernel, and the calls' shape of it
-use Rattle.std.proofs.Common.{◌≡◌, ◌≢◌, ℕ, zero, suc, ◌+◌, ◌-◌, ◌<◌, ◌≤◌, ◌↔◌, ◌⊎◌, inl, inr, if◌then◌else◌, ◌==◌, List, [], ◌∷◌, ◌++◌, length, set, slice_index, slice_index_or, All, refl, sym, ap, subst, ◌∙◌, ⊎_elim, arith}
+use Rattle.std.proofs.Common.{◌≡◌, ◌≢◌, ℕ, zero, suc, ◌+◌, ◌-◌, ◌<◌, ◌≤◌, ◌↔◌, ◌⊎◌, inl, inr, List, [], ◌∷◌, ◌++◌, length, set, slice_index, slice_index_or, refl, sym, ap, subst, ◌∙◌, ⊎_elim, arith}
 use Rattle.std.proofs.lemmas.Bool.{cases_eq, cases_lt, eq-eqb, ne_eqb}
 use Rattle.std.proofs.lemmas.List.{length-set, get_or-set_same, get_or-set_other, get_or_push, length_push, ext_get_or}
 use Rattle.std.proofs.Math.ListN.{get_or-append}
 use Rattle.std.proofs.lemmas.List.Elements.{All-from_get_or}
 use Rattle.lc_algebra.specs.declared.FieldName.{FieldName}
 use Rattle.lc_algebra.specs.Field.{size, add, mul, neg}
-use Rattle.lc_algebra.specs.Word.{Fits, IsWord, zero_word, scale, word_dot, difference}
+use Rattle.lc_algebra.specs.Word.{IsWord, zero_word, scale, word_dot, difference}
 use Rattle.lc_algebra.specs.Span.{combine, InSpan, SameSpan}
 use Rattle.lc_algebra.specs.Matrix.{AreRows, HasPivots, IsReducedGenerator, IsOrthogonal, IsIdentityOn, Matrix, entry}
 use Rattle.lc_algebra.specs.SpanLaws.{restrict}
-use Rattle.lc_algebra.proofs.FieldLaws.{one_inside, zero_inside, zero_add, add_neg, neg_add, add_comm, mul_zero, zero_mul, mul_one, one_mul, neg_inside, neg_zero}
-use Rattle.lc_algebra.proofs.WordLaws.{length_scale, length_zero_word, index_zero_word, word_symbol, index_difference, length_difference, IsWord_zero, IsWord_difference, same_from_difference, difference_zero, dot_comm, dot_sum, dot_scale, fits_symbol}
-use Rattle.lc_algebra.proofs.SpanLaws.{span_word, dot_span, orthogonal_shared, orthogonal_sum, orthogonal_scale, word_of_combination, same_span_symmetric}
-use Rattle.lc_algebra.proofs.ReducedLaws.{dot_nothing, symbol_of_combination, identity_on_pivots}
+use Rattle.lc_algebra.proofs.FieldLaws.{one_inside, zero_inside, zero_add, add_neg, neg_add, mul_zero, zero_mul, mul_one, one_mul, neg_inside, neg_zero}
+use Rattle.lc_algebra.proofs.WordLaws.{length_scale, length_zero_word, index_zero_word, word_symbol, index_difference, IsWord_difference, same_from_difference, dot_comm, dot_sum, dot_scale}
+use Rattle.lc_algebra.proofs.SpanLaws.{span_word, dot_span, orthogonal_shared, word_of_combination, same_span_symmetric}
+use Rattle.lc_algebra.proofs.ReducedLaws.{dot_nothing, symbol_of_combination}
 use Rattle.lc_algebra.proofs.ColumnLaws.{length_restrict, index_restrict}
 use Rattle.lc_matrix.specs.Elimination.{IsReducedTo, IsTurned}
 use Rattle.lc_matrix.specs.Kernel.{IsReducedBack, IsFree, IsKernelWord, AreKernelWords}
-use Rattle.lc_matrix.proofs.FormLaws.{dot_one, dot_two}
+use Rattle.lc_matrix.proofs.PlaceLaws.{dot_pair, dot_one}
+
+-- each of the first rows has a place, where it is a 1 that is alone in its column; the rows after these are 0
+pub record IsReducedAt (n : ℕ) (ps : List ℕ) (rows : List (List ℕ)) : Type 0 where
+  pub at_most : length ps ≤ length rows
+  pub inside : (i : ℕ) → i < length ps → slice_index ps i < n
+  pub leads : (i : ℕ) → i < length ps → entry rows i (slice_index ps i) ≡ 1
+  pub clears : (i j : ℕ) → i < length ps → j < length rows → i ≢ j → entry rows j (slice_index ps i) ≡ 0
+  pub below : (j c : ℕ) → length ps ≤ j → j < length rows → c < n → entry rows j c ≡ 0
+
+at_of_back : (n : ℕ) (ps : List ℕ) (rows : List (List ℕ)) → IsReducedBack n ps rows → IsReducedAt n ps rows
+at_of_back n ps rows b = record { at_most = b.at_most; inside = b.inside; leads = b.leads; clears = b.clears; below = b.below }
 
 pub back_of : (n : ℕ) (order at ps : List ℕ) (rows : List (List ℕ)) → IsTurned n order → IsReducedTo order (length order) at rows → length ps ≡ length at → ((i : ℕ) → i < length at → slice_index ps i ≡ n - 1 - slice_index at i) → IsReducedBack n ps rows
 back_of n order at ps rows o h e p =
@@ -90,19 +103,16 @@ free_pushed ps free j h o =
     }
 
 -- two rows have different places
-one_place : (f : FieldName) (n k i : ℕ) (ps : List ℕ) (rows : List (List ℕ)) → IsReducedBack n ps rows → k < length ps → i < length ps → k ≢ i → slice_index ps k ≡ slice_index ps i → ⊥
+one_place : (f : FieldName) (n k i : ℕ) (ps : List ℕ) (rows : List (List ℕ)) → IsReducedAt n ps rows → k < length ps → i < length ps → k ≢ i → slice_index ps k ≡ slice_index ps i → ⊥
 one_place f n k i ps rows b l m o e =
     omega (arith, b.leads i m, ap (entry rows i) (sym e) ∙ b.clears k i l (omega (arith, m, b.at_most)) o)
-
-at_least : (i g : ℕ) → g ≤ i → i ≢ g → g < i
-at_least i g l o = ⊎_elim (λ a. a) (λ a. absurd (o (omega (arith, a, l)))) (cases_lt g i)
 
 held_not : (p c : ℕ) (ps : List ℕ) → p ≢ c → ((k : ℕ) → k < length ps → slice_index ps k ≢ c) → (k : ℕ) → k < length (p ∷ ps) → slice_index (p ∷ ps) k ≢ c
 held_not p c ps o z zero l = o
 held_not p c ps o z (suc k) l = z k (omega (arith, l))
 
 -- a column is a place or it isn't
-held : (ps : List ℕ) (c : ℕ) → ((k : ℕ) × (k < length ps) × (slice_index ps k ≡ c)) ⊎ ((k : ℕ) → k < length ps → slice_index ps k ≢ c)
+pub held : (ps : List ℕ) (c : ℕ) → ((k : ℕ) × (k < length ps) × (slice_index ps k ≡ c)) ⊎ ((k : ℕ) → k < length ps → slice_index ps k ≢ c)
 held [] c = inr (λ k l. absurd (omega (arith, l)))
 held (p ∷ ps) c =
     ⊎_elim
@@ -142,8 +152,8 @@ kernel_word_none f n j ps rows w l e =
       others = λ c q o. get_or-set_other z j c 1 0 q ∙ index_zero_word n c;
     })
 
-pub kernel_word_more : (f : FieldName) (n j i a : ℕ) (ps : List ℕ) (rows : List (List ℕ)) (w new : List ℕ) → IsReducedBack n ps rows → IsKernelWord f n ps rows j i w → i < length ps → ((k : ℕ) → k < length ps → slice_index ps k ≢ j) → a ≡ neg f (entry rows i j) → new ≡ set w (slice_index ps i) a → IsKernelWord f n ps rows j (i + 1) new
-kernel_word_more f n j i a ps rows w new b h l o e q =
+pub kernel_word_at : (f : FieldName) (n j i a : ℕ) (ps : List ℕ) (rows : List (List ℕ)) (w new : List ℕ) → IsReducedAt n ps rows → IsKernelWord f n ps rows j i w → i < length ps → ((k : ℕ) → k < length ps → slice_index ps k ≢ j) → a ≡ neg f (entry rows i j) → new ≡ set w (slice_index ps i) a → IsKernelWord f n ps rows j (i + 1) new
+kernel_word_at f n j i a ps rows w new b h l o e q =
     let p = slice_index ps i in
     let room : p < length w = omega (arith, b.inside i l, h.word.long) in
     subst (IsKernelWord f n ps rows j (i + 1)) (sym q) (record {
@@ -165,11 +175,13 @@ kernel_word_more f n j i a ps rows w new b h l o e q =
       others = λ c x y. get_or-set_other w p c a 0 (λ z. y i l (sym z)) ∙ h.others c x y;
     })
 
-pub kernel_orthogonal : (f : FieldName) (n j k : ℕ) (ps : List ℕ) (rows : List (List ℕ)) (w : List ℕ) → AreRows f n rows → IsReducedBack n ps rows → j < n → ((i : ℕ) → i < length ps → slice_index ps i ≢ j) → IsKernelWord f n ps rows j (length ps) w → k < length rows → word_dot f (slice_index_or rows k []) w ≡ 0
+pub kernel_word_more : (f : FieldName) (n j i a : ℕ) (ps : List ℕ) (rows : List (List ℕ)) (w new : List ℕ) → IsReducedBack n ps rows → IsKernelWord f n ps rows j i w → i < length ps → ((k : ℕ) → k < length ps → slice_index ps k ≢ j) → a ≡ neg f (entry rows i j) → new ≡ set w (slice_index ps i) a → IsKernelWord f n ps rows j (i + 1) new
+kernel_word_more f n j i a ps rows w new b h l o e q = kernel_word_at f n j i a ps rows w new (at_of_back n ps rows b) h l o e q
+
+pub kernel_orthogonal : (f : FieldName) (n j k : ℕ) (ps : List ℕ) (rows : List (List ℕ)) (w : List ℕ) → AreRows f n rows → IsReducedAt n ps rows → j < n → ((i : ℕ) → i < length ps → slice_index ps i ≢ j) → IsKernelWord f n ps rows j (length ps) w → k < length rows → word_dot f (slice_index_or rows k []) w ≡ 0
 kernel_orthogonal f n j k ps rows w r b l o h m =
     let g = slice_index_or rows k [] in
     let row = r k [] m in
-    let long : length g ≡ length w = row.long ∙ sym h.word.long in
     let product : ℕ → ℕ = λ c. mul f (slice_index g c) (slice_index w c) in
     let at_j : product j ≡ entry rows k j = ap (mul f (slice_index g j)) h.one ∙ mul_one f (slice_index g j) (word_symbol f n g row j) in
     ⊎_elim
@@ -182,10 +194,7 @@ kernel_orthogonal f n j k ps rows w r b l o h m =
     ap (λ v. mul f v (slice_index w c)) (ap (entry rows k) (sym z.2) ∙ b.clears z.0 k z.1 m other) ∙ zero_mul f (slice_index w c))
     (λ z. ap (mul f (slice_index g c)) (h.others c y z) ∙ mul_zero f (slice_index g c))
     (held ps c) in
-    ⊎_elim
-    (λ x. dot_two f g w p j x (omega (arith, l, h.word.long)) long (λ c y z t. elsewhere c z t) ∙ ap (λ v. add f v (product j)) at_p ∙ ap (add f (neg f (entry rows k j))) at_j ∙ neg_add f (entry rows k j))
-    (λ x. dot_two f g w j p (at_least p j x (o k a)) (omega (arith, b.inside k a, h.word.long)) long (λ c y z t. elsewhere c t z) ∙ ap (λ v. add f v (product p)) at_j ∙ ap (add f (entry rows k j)) at_p ∙ add_neg f (entry rows k j))
-    (cases_lt p j))
+    dot_pair f g w p j (o k a) elsewhere ∙ ap (λ v. add f v (product j)) at_p ∙ ap (add f (neg f (entry rows k j))) at_j ∙ neg_add f (entry rows k j))
     (λ a. dot_nothing f g w (λ c x. ap (λ v. mul f v (slice_index w c)) (b.below k c a m (omega (arith, x, h.word.long))) ∙ zero_mul f (slice_index w c)))
     (cases_lt k (length ps))
 
@@ -230,10 +239,17 @@ kernel_places f n ps rows free kernel b o h =
           (h.words j c).others (slice_index free i) (λ x. q (rises_apart free o.rises i j a c x)) (λ k t. o.apart i k a t);
     }
 
-pub kernel_whole : (f : FieldName) (n : ℕ) (ps : List ℕ) (rows : List (List ℕ)) (free : List ℕ) (kernel : List (List ℕ)) (w : List ℕ) → AreRows f n rows → IsReducedBack n ps rows → IsFree ps n free → AreKernelWords f n ps rows free (length free) kernel → IsWord f n w → IsOrthogonal f rows w → InSpan f n kernel w
+pub kernel_identity : (f : FieldName) (n : ℕ) (ps : List ℕ) (rows : List (List ℕ)) (free : List ℕ) (kernel : List (List ℕ)) → IsFree ps n free → AreKernelWords f n ps rows free (length free) kernel → IsIdentityOn free kernel
+kernel_identity f n ps rows free kernel o h i j l m =
+    let a : i < length free = omega (arith, l, h.count) in
+    ⊎_elim
+    (λ e. rw (eq-eqb i j e) (ap (λ k. entry kernel i (slice_index free k)) (sym e) ∙ (h.words i a).one))
+    (λ x. rw (ne_eqb i j x) ((h.words i a).others (slice_index free j) (λ y. x (rises_apart free o.rises i j a m (sym y))) (λ k t. o.apart j k m t)))
+    (cases_eq i j)
+
+pub kernel_whole : (f : FieldName) (n : ℕ) (ps : List ℕ) (rows : List (List ℕ)) (free : List ℕ) (kernel : List (List ℕ)) (w : List ℕ) → AreRows f n rows → IsReducedAt n ps rows → IsFree ps n free → AreKernelWords f n ps rows free (length free) kernel → IsWord f n w → IsOrthogonal f rows w → InSpan f n kernel w
 kernel_whole f n ps rows free kernel w r b o h word orth =
     let k = kernel_rows f n ps rows free kernel h in
-    let pivots = kernel_places f n ps rows free kernel b o h in
     let cs = restrict free w in
     let cs_word : IsWord f (length kernel) cs = record {
       long = length_restrict free w ∙ sym h.count;
@@ -250,13 +266,13 @@ kernel_whole f n ps rows free kernel w r b o h word orth =
     let d_orth : (i : ℕ) → i < length rows → word_dot f (slice_index_or rows i []) d ≡ 0 = λ i l. dot_difference f (slice_index_or rows i []) w u (word.long ∙ sym u_word.long) (orth i [] l) (u_orth i l) in
     let d_at : (c : ℕ) → slice_index d c ≡ add f (slice_index w c) (neg f (slice_index u c)) = λ c. index_difference f w u c (word.long ∙ sym u_word.long) in
     let at_free : (i : ℕ) → i < length free → slice_index d (slice_index free i) ≡ 0 = λ i l.
-    let same : slice_index u (slice_index free i) ≡ slice_index w (slice_index free i) = symbol_of_combination f n free kernel cs i k h.count (identity_on_pivots n free kernel pivots) cs_word l ∙ index_restrict free w i l in
+    let same : slice_index u (slice_index free i) ≡ slice_index w (slice_index free i) = symbol_of_combination f n free kernel cs i k h.count (kernel_identity f n ps rows free kernel o h) cs_word l ∙ index_restrict free w i l in
     d_at (slice_index free i) ∙ ap (λ x. add f (slice_index w (slice_index free i)) (neg f x)) same ∙ add_neg f (slice_index w (slice_index free i)) in
     let at_place : (i : ℕ) → i < length ps → slice_index d (slice_index ps i) ≡ 0 = λ i l.
     let g = slice_index_or rows i [] in
     let m : i < length rows = omega (arith, l, b.at_most) in
     let p = slice_index ps i in
-    let single : word_dot f g d ≡ mul f (slice_index g p) (slice_index d p) = dot_one f g d p (omega (arith, b.inside i l, d_word.long)) ((r i [] m).long ∙ sym d_word.long) (λ c x y. ⊎_elim
+    let single : word_dot f g d ≡ mul f (slice_index g p) (slice_index d p) = dot_one f g d p (λ c x y. ⊎_elim
     (λ z.
     let other : z.0 ≢ i = λ q. y (sym z.2 ∙ ap (slice_index ps) q) in
     ap (λ v. mul f v (slice_index d c)) (ap (entry rows i) (sym z.2) ∙ b.clears z.0 i z.1 m other) ∙ zero_mul f (slice_index d c))
@@ -269,23 +285,25 @@ kernel_whole f n ps rows free kernel w r b o h word orth =
     (o.whole c (omega (arith, l, d_word.long))) ∙ sym (index_zero_word n c)) in
     subst (InSpan f n kernel) (sym (same_from_difference f n w u word u_word nothing)) inside
 
+pub kernel_members : (f : FieldName) (n : ℕ) (ps : List ℕ) (original rows : List (List ℕ)) (free : List ℕ) (kernel : List (List ℕ)) (w : List ℕ) → AreRows f n original → AreRows f n rows → SameSpan f n original rows → IsReducedAt n ps rows → IsFree ps n free → AreKernelWords f n ps rows free (length free) kernel → InSpan f n kernel w ↔ (IsWord f n w × IsOrthogonal f original w)
+kernel_members f n ps original rows free kernel w q r s b o h =
+    let k = kernel_rows f n ps rows free kernel h in (
+      (λ x. (
+        span_word f n kernel w k x,
+        orthogonal_shared f n rows original w r q (same_span_symmetric f n original rows s) (All-from_get_or (λ row. word_dot f row w ≡ 0) rows [] (λ i l.
+            dot_comm f (slice_index_or rows i []) w ∙ dot_span f n kernel (slice_index_or rows i []) w k (All-from_get_or (λ v. word_dot f v (slice_index_or rows i []) ≡ 0) kernel [] (λ j m.
+            let a : j < length free = omega (arith, m, h.count) in
+            dot_comm f (slice_index_or kernel j []) (slice_index_or rows i []) ∙ kernel_orthogonal f n (slice_index free j) i ps rows (slice_index_or kernel j []) r b (o.inside j a) (λ t y. o.apart j t a y) (h.words j a) l)) x)),
+      )),
+      (λ x. kernel_whole f n ps rows free kernel w r b o h x.0 (orthogonal_shared f n original rows w q r s x.1)),
+    )
+
 pub kernel_of : (f : FieldName) (n : ℕ) (ps : List ℕ) (original rows : List (List ℕ)) (free : List ℕ) (kernel : List (List ℕ)) → AreRows f n original → AreRows f n rows → SameSpan f n original rows → IsReducedBack n ps rows → IsFree ps n free → AreKernelWords f n ps rows free (length free) kernel → IsReducedGenerator f n (IsOrthogonal f original) kernel
-kernel_of f n ps original rows free kernel q r s b o h =
-    let k = kernel_rows f n ps rows free kernel h in
-    record {
-      members = λ w. (
-        λ x. (
-          span_word f n kernel w k x,
-          orthogonal_shared f n rows original w r q (same_span_symmetric f n original rows s) (All-from_get_or (λ row. word_dot f row w ≡ 0) rows [] (λ i l.
-              dot_comm f (slice_index_or rows i []) w ∙ dot_span f n kernel (slice_index_or rows i []) w k (All-from_get_or (λ v. word_dot f v (slice_index_or rows i []) ≡ 0) kernel [] (λ j m.
-              let a : j < length free = omega (arith, m, h.count) in
-              dot_comm f (slice_index_or kernel j []) (slice_index_or rows i []) ∙ kernel_orthogonal f n (slice_index free j) i ps rows (slice_index_or kernel j []) r b (o.inside j a) (λ t y. o.apart j t a y) (h.words j a) l)) x)),
-        ),
-        λ x. kernel_whole f n ps rows free kernel w r b o h x.0 (orthogonal_shared f n original rows w q r s x.1),
-      );
-      reduced = record { pivots = (free, kernel_places f n ps rows free kernel b o h) };
-      words = k;
-    }
+kernel_of f n ps original rows free kernel q r s b o h = record {
+  members = λ w. kernel_members f n ps original rows free kernel w q r s (at_of_back n ps rows b) o h;
+  reduced = record { pivots = (free, kernel_places f n ps rows free kernel b o h) };
+  words = kernel_rows f n ps rows free kernel h;
+}
 
 pub back_made : (n m : ℕ) (order read at seen ps : List ℕ) (rows : List (List ℕ)) → n ≡ m → IsTurned n order → read ≡ order → IsReducedTo read (length read) at rows → seen ≡ at → length ps ≡ length seen → ((i : ℕ) → i < length seen → slice_index ps i ≡ n - 1 - slice_index seen i) → IsReducedBack m ps rows
 back_made n m order read at seen ps rows e o q h x l p =

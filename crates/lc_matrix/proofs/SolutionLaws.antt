@@ -3,7 +3,7 @@
 --   augmented_more, augmented_whole      the augmented rows, row by row
 --   echelon_shaped, places_shaped, place_told      the echelon form of the augmented rows, and its places, in the shape of the call
 --   unsolvable_made, inside_made, solution_made      the answers, in the shape of the call
-use Rattle.std.proofs.Common.{◌≡◌, ℕ, ◌+◌, ◌<◌, ◌↔◌, List, [], ◌∷◌, ◌++◌, set, take, length, slice_index, slice_index_or, Contains, refl, sym, ap, subst, ◌∙◌, ⊎_elim, arith}
+use Rattle.std.proofs.Common.{◌≡◌, ℕ, ◌+◌, ◌<◌, ◌↔◌, List, [], ◌∷◌, ◌++◌, set, take, length, slice_index, slice_index_or, Contains, sym, ap, subst, ◌∙◌, ⊎_elim, arith}
 use Rattle.std.proofs.lemmas.List.{get_or-set_same, get_or-set_other, length-set, take_more, take_all}
 use Rattle.std.proofs.lemmas.Bool.{cases_lt, cases_eq}
 use Rattle.lc_algebra.specs.declared.FieldName.{FieldName}
@@ -12,7 +12,7 @@ use Rattle.lc_algebra.specs.Word.{IsWord, zero_word}
 use Rattle.lc_algebra.specs.Matrix.{entry, AreRows, HasPivots, IsEchelon, Matrix}
 use Rattle.lc_algebra.proofs.WordLaws.{index_zero_word, IsWord_zero, word_symbol}
 use Rattle.lc_matrix.specs.Solve.{augmented, Solves, IsSolutionWord, IsSolutionTo}
-use Rattle.lc_matrix.proofs.FreeWordLaws.{at_place}
+use Rattle.lc_matrix.proofs.PlaceLaws.{at_place}
 use Rattle.lc_matrix.proofs.SolveLaws.{length_augmented, row_of_augmented, inner_place, solution_of, no_solution}
 
 pub solution_begun : (f : FieldName) (n : ℕ) (ps : List ℕ) (e : List (List ℕ)) (w : List ℕ) → w ≡ zero_word n → IsSolutionTo f n ps e 0 w

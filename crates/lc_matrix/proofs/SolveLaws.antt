@@ -25,7 +25,7 @@ use Rattle.lc_algebra.proofs.FieldLaws.{zero_inside, neg_inside, add_comm, add_a
 use Rattle.lc_algebra.proofs.WordLaws.{word_symbol, neg_one_nonzero, dot_inside}
 use Rattle.lc_algebra.proofs.SpanLaws.{orthogonal_shared, same_span_symmetric, contains_head, contains_tail, length_below, contains_decided}
 use Rattle.lc_matrix.specs.Solve.{augmented, Solves, solution_symbol, solution_word, IsSolutionWord}
-use Rattle.lc_matrix.proofs.FreeWordLaws.{dot_single, past_end, place_at, at_place, balanced_orthogonal, index_below}
+use Rattle.lc_matrix.proofs.PlaceLaws.{dot_single, past_end, place_at, at_place, balanced_orthogonal, index_below}
 
 pub dot_behind : (f : FieldName) (u v : List ℕ) (a b : ℕ) → length u ≡ length v → word_dot f (u ++ a ∷ []) (v ++ b ∷ []) ≡ add f (word_dot f u v) (mul f a b)
 unfolding word_dot

@@ -1,5 +1,4 @@
 pub mod Rows
 pub mod Elimination
 pub mod Kernel
-pub mod FreeWord
 pub mod Solve

@@ -1,4 +1,4 @@
-use Rattle.lc_matrix.proofs.FreeWordLaws.{rank_of_kernel}
+use Rattle.lc_matrix.proofs.RankLaws.{rank_of_kernel}
 use Rattle.lc_matrix.proofs.laws.rank_of_kernel.Goals as goal
 
 pub returns : goal.returns

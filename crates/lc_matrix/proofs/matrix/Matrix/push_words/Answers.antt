@@ -1,4 +1,4 @@
-use Rattle.std.proofs.Common.{length, slice_index, sym, ap, subst, ◌∙◌}
+use Rattle.std.proofs.Common.{length, slice_index, sym, subst, ◌∙◌}
 use Rattle.lc_matrix.specs.Kernel.{IsKernelWord}
 use Rattle.lc_matrix.proofs.KernelLaws.{words_more}
 use Rattle.lc_matrix.proofs.matrix.Matrix.push_words.Goals as goal
