@@ -23,7 +23,10 @@ const REFUSALS: [(CodeRefusal, u8, usize); 5] = [
 fn numbers_of_refusals(rt: HostRuntime) -> Result<(), Fail> {
     for (refusal, number, count) in REFUSALS {
         let values = refusal.values(rt.alloc())?;
-        assert!(rt; refusal.number() == number && values.len() == count, "{number}");
+        assert!(rt;
+            refusal.number() == number && values.len() == count,
+            "{number}"
+        );
     }
     Ok(())
 }
