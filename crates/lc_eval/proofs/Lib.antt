@@ -1,4 +1,3 @@
-pub mod Names
 pub mod Bindings
 pub mod ListLaws
 pub mod KindLaws

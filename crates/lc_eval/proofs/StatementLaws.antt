@@ -2,7 +2,7 @@
 --   alone_fault, alone_given, query_alone      an expression that stands alone, and a query
 --   first_left                                 the statement that is next, and those behind it
 --   silent_step, line_step, fault_step         a step that binds a name, that prints a line, and that ends in a fault
-use Rattle.std.proofs.Common.{◌≡◌, ℕ, zero, suc, ◌+◌, ◌<◌, ◌++◌, [], ◌∷◌, length, drop, get_or, arith, add-one, List, Some, None, Result, Ok, Err, refl, sym, ap, subst, ◌∙◌}
+use Rattle.std.proofs.Common.{◌≡◌, ℕ, zero, suc, ◌+◌, ◌<◌, [], ◌∷◌, length, drop, get_or, arith, add-one, List, Some, None, Result, Ok, Err, refl, sym, ap, subst, ◌∙◌}
 use Rattle.std.specs.Global.{Vec}
 use Rattle.std.proofs.lemmas.List.{drop_all}
 use Rattle.lc_language.specs.declared.Call.{Call}
@@ -16,17 +16,13 @@ use Rattle.lc_eval.specs.declared.refusals.Stop.{Stop}
 use Rattle.lc_eval.specs.declared.refusals.Stop.TheVariants as stop
 use Rattle.lc_eval.specs.Value.{value_of, refused_of}
 use Rattle.lc_eval.specs.Applied.{Answers, AnswersLine}
-use Rattle.lc_eval.specs.Evaluated.{env_of}
 use Rattle.lc_parse.specs.declared.tree.Statement.{Statement}
 use Rattle.lc_parse.specs.Views.{statement_of}
-use Rattle.lc_eval.specs.declared.values.Binding.{Binding}
 use Rattle.lc_language.specs.Evaluation.{Refused}
 use Rattle.lc_eval.specs.declared.machine.Step.TheVariants.{Line, Silent, Fault}
 use Rattle.lc_eval.specs.Machine.{State, Does}
-use Rattle.lc_eval.specs.Value.{binding_of}
 use Rattle.lc_language.specs.Print.{fault_line}
 use Rattle.lc_language.specs.Evaluation.{Steps, binds}
-use Rattle.lc_eval.proofs.Bindings.{env_last}
 
 module _ (env : List language.Binding) (e : tree.Expr) where
   pub alone_fault : (s : Stop) → query_of built_calls e ≡ None → Answers (Err s) (Evaluates built_calls env e) → AnswersLine (Err s) (StepsOf built_calls env None e)
@@ -58,19 +54,19 @@ first_left ss next s l is = rw add-one (left ss next s l ∙ ap (λ (x : Stateme
     left (s ∷ ss) zero d l = refl
     left (s ∷ ss) (suc next) d l = left ss next d (omega (arith, l))
 
-abbrev state_at : List Binding → List Statement → ℕ → State
-state_at bs ss next = record { bindings = env_of bs; left = drop next ss }
+abbrev state_at : List language.Binding → List Statement → ℕ → State
+state_at env ss next = record { bindings = env; left = drop next ss }
 
-module _ (old : State) (bs : List Binding) (ss : List Statement) (next : ℕ) (s : Statement) where
-  pub silent_step : (now : List Binding) (b : Binding) → state_at bs ss next ≡ old → next < length ss → s ≡ get_or ss next s → now ≡ bs ++ b ∷ [] → Steps built_calls (env_of bs) (statement_of s) (binds (binding_of b)) → Does old Silent (state_at now ss (next + 1))
+module _ (old : State) (env : List language.Binding) (ss : List Statement) (next : ℕ) (s : Statement) where
+  pub silent_step : (now : List language.Binding) (b : language.Binding) → state_at env ss next ≡ old → next < length ss → s ≡ get_or ss next s → now ≡ b ∷ env → Steps built_calls env (statement_of s) (binds b) → Does old Silent (state_at now ss (next + 1))
   silent_step now b view l is n h =
-      let bound : state_at now ss (next + 1) ≡ record { bindings = binding_of b ∷ env_of bs; left = drop (next + 1) ss } = ap (λ (env : List language.Binding). record { bindings = env; left = drop (next + 1) ss }) (ap env_of n ∙ env_last bs b) in
-      subst (λ o. Does o Silent (state_at now ss (next + 1))) view (s, (drop (next + 1) ss, first_left ss next s l is, (binding_of b, h, bound)))
+      let bound : state_at now ss (next + 1) ≡ record { bindings = b ∷ env; left = drop (next + 1) ss } = ap (λ (bs : List language.Binding). record { bindings = bs; left = drop (next + 1) ss }) n in
+      subst (λ o. Does o Silent (state_at now ss (next + 1))) view (s, (drop (next + 1) ss, first_left ss next s l is, (b, h, bound)))
 
-  pub line_step : (text : Vec ℕ) → state_at bs ss next ≡ old → next < length ss → s ≡ get_or ss next s → Steps built_calls (env_of bs) (statement_of s) (prints text.items) → Does old (Line text) (state_at bs ss (next + 1))
-  line_step text view l is h = subst (λ o. Does o (Line text) (state_at bs ss (next + 1))) view (s, (drop (next + 1) ss, first_left ss next s l is, (h, refl)))
+  pub line_step : (text : Vec ℕ) → state_at env ss next ≡ old → next < length ss → s ≡ get_or ss next s → Steps built_calls env (statement_of s) (prints text.items) → Does old (Line text) (state_at env ss (next + 1))
+  line_step text view l is h = subst (λ o. Does o (Line text) (state_at env ss (next + 1))) view (s, (drop (next + 1) ss, first_left ss next s l is, (h, refl)))
 
-  pub fault_step : (text : Vec ℕ) (r : Refused) (n : ℕ) → state_at bs ss next ≡ old → next < length ss → s ≡ get_or ss next s → Steps built_calls (env_of bs) (statement_of s) (fails r) → text.items ≡ fault_line r.number r.place r.values → n ≡ length ss → Does old (Fault text) (state_at bs ss n)
+  pub fault_step : (text : Vec ℕ) (r : Refused) (n : ℕ) → state_at env ss next ≡ old → next < length ss → s ≡ get_or ss next s → Steps built_calls env (statement_of s) (fails r) → text.items ≡ fault_line r.number r.place r.values → n ≡ length ss → Does old (Fault text) (state_at env ss n)
   fault_step text r n view l is h line ends =
-      let none : state_at bs ss n ≡ record { bindings = env_of bs; left = [] } = ap (λ (left : List Statement). record { bindings = env_of bs; left = left }) (drop_all n ss (omega arith)) in
-      subst (λ o. Does o (Fault text) (state_at bs ss n)) view (s, (drop (next + 1) ss, first_left ss next s l is, (r, h, line, none)))
+      let none : state_at env ss n ≡ record { bindings = env; left = [] } = ap (λ (left : List Statement). record { bindings = env; left = left }) (drop_all n ss (omega arith)) in
+      subst (λ o. Does o (Fault text) (state_at env ss n)) view (s, (drop (next + 1) ss, first_left ss next s l is, (r, h, line, none)))

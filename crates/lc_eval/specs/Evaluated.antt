@@ -1,5 +1,4 @@
 -- What the evaluation of expressions and statements answers; the clauses of private functions alone speak of these.
---   env_of bs                    the bindings, the last one first
 --   AnswersAll r P               r is the values of several expressions or the first fault, of which P holds, unless memory ran out
 --   IsFault o os                 o is a fault, and os that fault
 --   FitsAll kinds es vs os       the values as their kinds ask for, or the fault of the first that is not of its kind
@@ -9,7 +8,7 @@
 --   AffectsOrFails r P           r is what a statement does, or its fault, of which P holds, unless memory ran out
 --   IsQueryAt e c es             the expression is the query c of these arguments
 --   IsQueryOf e o                o is the call and the arguments of the expression, where it is a query of the table
-use Rattle.std.specs.Prelude.{◌≡◌, ℕ, true, List, Contains, map, reverse, Option, Some, None, Result, Ok, Err, MatchOption}
+use Rattle.std.specs.Prelude.{◌≡◌, ℕ, true, List, Contains, Option, Some, None, Result, Ok, Err, MatchOption}
 use Rattle.std.specs.Global.{Vec}
 use Rattle.lc_language.specs.declared.Call.{Call}
 use Rattle.lc_language.specs.declared.Kind.{Kind}
@@ -27,14 +26,10 @@ use Rattle.lc_eval.specs.Built.{built_calls}
 use Rattle.lc_eval.specs.Applied.{QueriesTo}
 use Rattle.lc_eval.specs.Value.{values_of, binding_of, refused_of}
 use Rattle.lc_eval.specs.declared.values.Value.{Value}
-use Rattle.lc_eval.specs.declared.values.Binding.{Binding}
 use Rattle.lc_eval.specs.declared.refusals.Stop.{Stop}
 use Rattle.lc_eval.specs.declared.refusals.Stop.TheVariants as stop
 use Rattle.lc_eval.specs.declared.statement.Effect.{Effect}
 use Rattle.lc_eval.specs.declared.statement.Effect.TheVariants as effect
-
-abbrev pub env_of : List Binding → List language.Binding
-env_of bs = reverse (map binding_of bs)
 
 abbrev pub AnswersAll : Result (Vec Value) Stop → (Outcomes → Type 0) → Type 0
 AnswersAll (Ok vs) P = P (all_give (values_of vs.items))

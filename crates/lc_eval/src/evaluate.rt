@@ -1,44 +1,29 @@
 //! The values of expressions.
-ghost use Rattle.std.specs.Prelude.{◌≡◌, false, MatchOption, Some, None, string_bytes, length, Contains, IfOk};
+ghost use Rattle.std.specs.Prelude.{◌≡◌, length, Contains, IfOk};
 ghost use Rattle.lc_language.specs.Tree as tree;
-ghost use Rattle.lc_language.specs.Value as language;
 ghost use Rattle.lc_language.specs.Evaluation.{Outcomes, Evaluates, EvaluatesAll, ListGives};
 ghost use Rattle.lc_parse.specs.Views.{tree_of, trees_of};
 ghost use Rattle.lc_eval.specs.Built.{built_calls};
-ghost use Rattle.lc_eval.specs.Value.{value_of, values_of};
+ghost use Rattle.lc_eval.specs.Value.{values_of};
 ghost use Rattle.lc_eval.specs.Applied.{Answers, AreArguments};
-ghost use Rattle.lc_eval.specs.Evaluated.{env_of, AnswersAll, Prepares};
+ghost use Rattle.lc_eval.specs.Evaluated.{AnswersAll, Prepares};
 
 use crate::calls::{apply, call_named, is_query, signature};
 use crate::copies::copy_of;
 use crate::kinds::fitted;
 use crate::lists::list_of;
+use crate::names::Names;
 use crate::refusals::{Stop, fault};
-use crate::values::{Binding, Value};
+use crate::values::Value;
 use lc_language::Call;
 use lc_parse::{Expr, Node};
 use std::alloc::Global;
 
-// The value that a name was assigned last.
-fn value_named<'a>(bindings: &'a [Binding], name: &str) -> Option<&'a Value>
-    ensures { MatchOption result (language.value_named name.now (env_of bindings.now) ≡ None)
-        (λ v. language.value_named name.now (env_of bindings.now) ≡ Some (value_of v.now)) }
-{
-    let mut left = bindings;
-    while let Some((last, others)) = left.split_last() {
-        if name == last.name.as_str() {
-            return Some(&last.value);
-        }
-        left = others;
-    }
-    None
-}
-
 // The value of a name that stands alone.
-fn named(alloc: Global, bindings: &[Binding], place: usize, name: &str) -> Result<Value, Stop>
-    ensures { Answers result (Evaluates built_calls (env_of bindings.now) (tree.name place name.now)) }
+fn named(alloc: Global, names: &Names, place: usize, name: &str) -> Result<Value, Stop>
+    ensures { Answers result (Evaluates built_calls names.now (tree.name place name.now)) }
 {
-    match value_named(bindings, name) {
+    match names.value_of(name) {
         Some(value) => Ok(copy_of(alloc, value)?),
         None => Err(Stop::Refused(fault(alloc, 44, place))),
     }
@@ -46,25 +31,23 @@ fn named(alloc: Global, bindings: &[Binding], place: usize, name: &str) -> Resul
 
 // The value of an expression, or its fault.
 #[cycle(evaluation)]
-pub(crate) fn evaluate(alloc: Global, bindings: &[Binding], expr: &Expr) -> Result<Value, Stop>
-    ensures { Answers result (Evaluates built_calls (env_of bindings.now) (tree_of expr.now)) }
+pub(crate) fn evaluate(alloc: Global, names: &Names, expr: &Expr) -> Result<Value, Stop>
+    ensures { Answers result (Evaluates built_calls names.now (tree_of expr.now)) }
 {
     match &expr.node {
         Node::Number(n) => Ok(Value::Number(*n)),
-        Node::Name(name) => named(alloc, bindings, expr.place, name.as_str()),
-        Node::List(elements) => list(alloc, bindings, elements),
-        Node::Call(name, arguments) => {
-            call(alloc, bindings, expr.place, name.as_str(), arguments)
-        }
+        Node::Name(name) => named(alloc, names, expr.place, name.as_str()),
+        Node::List(elements) => list(alloc, names, elements),
+        Node::Call(name, arguments) => { call(alloc, names, expr.place, name.as_str(), arguments) }
     }
 }
 
 // The value of the list of these elements.
 #[cycle(evaluation)]
-fn list(alloc: Global, bindings: &[Binding], elements: &[Expr]) -> Result<Value, Stop>
-    ensures { Answers result (λ o. (os : Outcomes) × EvaluatesAll built_calls (env_of bindings.now) (trees_of elements.now) os × ListGives (trees_of elements.now) os o) }
+fn list(alloc: Global, names: &Names, elements: &[Expr]) -> Result<Value, Stop>
+    ensures { Answers result (λ o. (os : Outcomes) × EvaluatesAll built_calls names.now (trees_of elements.now) os × ListGives (trees_of elements.now) os o) }
 {
-    let values = evaluate_all(alloc, bindings, elements)?;
+    let values = evaluate_all(alloc, names, elements)?;
     list_of(alloc, elements, &values)
 }
 
@@ -72,12 +55,12 @@ fn list(alloc: Global, bindings: &[Binding], elements: &[Expr]) -> Result<Value,
 #[cycle(evaluation)]
 fn call(
     alloc: Global,
-    bindings: &[Binding],
+    names: &Names,
     place: usize,
     name: &str,
     arguments: &[Expr],
 ) -> Result<Value, Stop>
-    ensures { Answers result (Evaluates built_calls (env_of bindings.now) (tree.call place name.now (trees_of arguments.now))) }
+    ensures { Answers result (Evaluates built_calls names.now (tree.call place name.now (trees_of arguments.now))) }
 {
     let Some(call) = call_named(name) else {
         return Err(Stop::Refused(fault(alloc, 44, place)));
@@ -85,7 +68,7 @@ fn call(
     if is_query(call) {
         return Err(Stop::Refused(fault(alloc, 45, place)));
     }
-    let values = prepare(alloc, bindings, call, place, arguments)?;
+    let values = prepare(alloc, names, call, place, arguments)?;
     apply(alloc, call, place, &values)
 }
 
@@ -93,31 +76,31 @@ fn call(
 #[cycle(evaluation)]
 pub(crate) fn prepare(
     alloc: Global,
-    bindings: &[Binding],
+    names: &Names,
     call: Call,
     place: usize,
     arguments: &[Expr],
 ) -> Result<Vec<Value>, Stop>
     requires built { Contains built_calls call }
-    ensures prepared { AnswersAll result (Prepares (env_of bindings.now) call place (trees_of arguments.now)) }
+    ensures prepared { AnswersAll result (Prepares names.now call place (trees_of arguments.now)) }
     ensures arguments { IfOk result (λ vs. AreArguments call (values_of vs.items)) }
 {
     let Some(kinds) = signature(call, arguments.len()) else {
         return Err(Stop::Refused(fault(alloc, 46, place)));
     };
-    let values = evaluate_all(alloc, bindings, arguments)?;
+    let values = evaluate_all(alloc, names, arguments)?;
     fitted(alloc, kinds, arguments, values)
 }
 
 // The values of expressions, from the left, or the first fault.
 #[cycle(evaluation)]
-fn evaluate_all(alloc: Global, bindings: &[Binding], exprs: &[Expr]) -> Result<Vec<Value>, Stop>
-    ensures evaluated { AnswersAll result (EvaluatesAll built_calls (env_of bindings.now) (trees_of exprs.now)) }
+fn evaluate_all(alloc: Global, names: &Names, exprs: &[Expr]) -> Result<Vec<Value>, Stop>
+    ensures evaluated { AnswersAll result (EvaluatesAll built_calls names.now (trees_of exprs.now)) }
     ensures count { IfOk result (λ vs. length vs.items ≡ length exprs.now) }
 {
     let mut values = Vec::new(alloc);
     for expr in exprs {
-        values.push(evaluate(alloc, bindings, expr)?)?;
+        values.push(evaluate(alloc, names, expr)?)?;
     }
     Ok(values)
 }

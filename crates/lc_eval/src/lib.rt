@@ -11,6 +11,7 @@ mod least;
 mod lines;
 mod lists;
 mod machine;
+mod names;
 mod properties;
 mod queries;
 mod refusals;

@@ -3,6 +3,7 @@ ghost use Rattle.std.specs.Prelude.{◌≡◌, [], IfOk, IfErr};
 ghost use Rattle.lc_parse.specs.Views.{script_of};
 ghost use Rattle.lc_eval.specs.Machine.{State, Does};
 
+use crate::names::Names;
 use crate::statement::{Effect, effect_of};
 use crate::values::Binding;
 use lc_field::NoMemory;
@@ -28,19 +29,18 @@ pub enum Step {
 pub struct Machine {
     script: Script,
     next: usize,
-    bindings: Vec<Binding>,
+    names: Names,
 }
 
 impl Model for Machine {
-    ghost use Rattle.std.specs.Prelude.{◌≤◌, length, map, drop, reverse};
+    ghost use Rattle.std.specs.Prelude.{◌≤◌, length, drop};
     ghost use Rattle.std.specs.Coded.{codes};
     ghost use Rattle.lc_parse.specs.contracts.tree.Expr as expr;
-    ghost use Rattle.lc_eval.specs.Value.{binding_of};
     ghost use Rattle.lc_eval.specs.Machine.{State};
 
     ghost Value = { State };
 
-    ghost view = { λ m. record { bindings = reverse (map binding_of m.bindings.items); left = drop m.next m.script.statements.items } };
+    ghost view = { λ m. record { bindings = m.names; left = drop m.next m.script.statements.items } };
 
     ghost coded = { Prim.hlevel (codes, expr.the_row.coded) };
 
@@ -55,7 +55,7 @@ impl Machine {
         Ok(Machine {
             script,
             next: 0,
-            bindings: Vec::new(alloc),
+            names: Names::new(alloc),
         })
     }
 
@@ -68,9 +68,9 @@ impl Machine {
         let Some(statement) = self.script.statements.get(self.next) else {
             return Ok(Step::End);
         };
-        match effect_of(alloc, &self.bindings, statement)? {
-            Effect::Binds(binding) => {
-                self.bindings.push(binding)?;
+        match effect_of(alloc, &self.names, statement)? {
+            Effect::Binds(Binding { name, value }) => {
+                self.names.bind(name, value)?;
                 self.next += 1;
                 Ok(Step::Silent)
             }

@@ -5,12 +5,13 @@ ghost use Rattle.lc_language.specs.Calls.{is_query};
 ghost use Rattle.lc_language.specs.Evaluation.{Steps, StepsOf, StepsAsQuery};
 ghost use Rattle.lc_parse.specs.Views.{tree_of, trees_of, statement_of};
 ghost use Rattle.lc_eval.specs.Built.{built_calls};
-ghost use Rattle.lc_eval.specs.Evaluated.{env_of, Affects, AffectsOrFails, IsQueryOf};
+ghost use Rattle.lc_eval.specs.Evaluated.{Affects, AffectsOrFails, IsQueryOf};
 ghost use Rattle.lc_eval.specs.Applied.{AnswersLine};
 
 use crate::calls::{answer, call_named, is_query};
 use crate::evaluate::{evaluate, prepare};
 use crate::lines::value_line;
+use crate::names::Names;
 use crate::refusals::Stop;
 use crate::values::Binding;
 use lc_field::NoMemory;
@@ -33,12 +34,12 @@ pub(crate) enum Effect {
 // What a statement does.
 pub(crate) fn effect_of(
     alloc: Global,
-    bindings: &[Binding],
+    names: &Names,
     statement: &Statement,
 ) -> Result<Effect, NoMemory>
-    ensures { IfOk result (λ effect. Affects effect (Steps built_calls (env_of bindings.now) (statement_of statement.now))) }
+    ensures { IfOk result (λ effect. Affects effect (Steps built_calls names.now (statement_of statement.now))) }
 {
-    match done(alloc, bindings, statement) {
+    match done(alloc, names, statement) {
         Ok(effect) => Ok(effect),
         Err(Stop::Refused(refused)) => {
             let line = fault_line(alloc, refused.number, refused.place, &refused.values)?;
@@ -49,27 +50,27 @@ pub(crate) fn effect_of(
 }
 
 // What a statement does, or its fault.
-fn done(alloc: Global, bindings: &[Binding], statement: &Statement) -> Result<Effect, Stop>
-    ensures { AffectsOrFails result (Steps built_calls (env_of bindings.now) (statement_of statement.now)) }
+fn done(alloc: Global, names: &Names, statement: &Statement) -> Result<Effect, Stop>
+    ensures { AffectsOrFails result (Steps built_calls names.now (statement_of statement.now)) }
 {
     match &statement.target {
         Some(name) => {
-            let value = evaluate(alloc, bindings, &statement.expr)?;
+            let value = evaluate(alloc, names, &statement.expr)?;
             let name = name.clone()?;
             Ok(Effect::Binds(Binding { name, value }))
         }
-        None => Ok(Effect::Prints(printed(alloc, bindings, &statement.expr)?)),
+        None => Ok(Effect::Prints(printed(alloc, names, &statement.expr)?)),
     }
 }
 
 // The line of an expression that stands alone.
-fn printed(alloc: Global, bindings: &[Binding], expr: &Expr) -> Result<Vec<u8>, Stop>
-    ensures { AnswersLine result (StepsOf built_calls (env_of bindings.now) None (tree_of expr.now)) }
+fn printed(alloc: Global, names: &Names, expr: &Expr) -> Result<Vec<u8>, Stop>
+    ensures { AnswersLine result (StepsOf built_calls names.now None (tree_of expr.now)) }
 {
     match query_of(expr) {
-        Some((call, arguments)) => ask(alloc, bindings, call, expr.place, arguments),
+        Some((call, arguments)) => ask(alloc, names, call, expr.place, arguments),
         None => {
-            let value = evaluate(alloc, bindings, expr)?;
+            let value = evaluate(alloc, names, expr)?;
             Ok(value_line(alloc, &value)?)
         }
     }
@@ -93,15 +94,15 @@ fn query_of(expr: &Expr) -> Option<(Call, &[Expr])>
 // The line of a query of these arguments.
 fn ask(
     alloc: Global,
-    bindings: &[Binding],
+    names: &Names,
     call: Call,
     place: usize,
     arguments: &[Expr],
 ) -> Result<Vec<u8>, Stop>
     requires built { Contains built_calls call }
     requires query { is_query call ≡ true }
-    ensures { (x : List ℕ) → AnswersLine result (StepsAsQuery built_calls (env_of bindings.now) call (tree.call place x (trees_of arguments.now))) }
+    ensures { (x : List ℕ) → AnswersLine result (StepsAsQuery built_calls names.now call (tree.call place x (trees_of arguments.now))) }
 {
-    let values = prepare(alloc, bindings, call, place, arguments)?;
+    let values = prepare(alloc, names, call, place, arguments)?;
     answer(alloc, call, place, &values)
 }
