@@ -15,3 +15,4 @@ pub mod EmbeddingTests
 pub mod EmbeddingLaws
 pub mod RemainderLaws
 pub mod FieldRecords
+pub mod FurtherExamples

@@ -37,6 +37,9 @@ pub fn powers_of_primitive(field: FieldName)
 
 /// Where a field lies in a larger one, the embedding takes its elements to distinct elements of the
 /// larger one and keeps sums and products. (MacWilliams and Sloane, chapter 4.)
+#[tactic(auto, using(crate::proofs::EmbeddingLaws::embed_self, crate::proofs::EmbeddingLaws::embed_prime))]
 pub fn embedding_keeps_arithmetic(small: FieldName, large: FieldName)
     ensures embedding { IsSubfield small large → IsEmbedding small large (embed small large) }
+    ensures itself { (a : ℕ) → a < size small → embed small small a ≡ a }
+    ensures residues { IsSubfield small large → (a : ℕ) → a < (shape_of small).characteristic → embed small large a ≡ a }
 {}
