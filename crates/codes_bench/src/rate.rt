@@ -69,8 +69,11 @@ impl From<ParseRefusal> for Failure {
 /// How much was done in which time.
 #[derive(Debug, Drop)]
 pub struct Rate {
+    /// how many were done
     pub count: u64,
+    /// what was done, in the plural
     pub what: &'static str,
+    /// the time that it took
     pub elapsed: Duration,
 }
 

@@ -13,11 +13,11 @@ use Rattle.std.proofs.lemmas.Bool.Decides.{Decides-eqb, Decides-and}
 use Rattle.lc_algebra.specs.declared.FieldName.{FieldName}
 use Rattle.lc_algebra.specs.Field.{shape_of, size, coefficients, add, neg, mul}
 use Rattle.lc_algebra.specs.Polynomial.{value_at}
-use Rattle.lc_algebra.specs.Embedding.{IsSubfield, root, embed}
+use Rattle.lc_algebra.specs.Embedding.{IsSubfield, is_subfield, root, embed}
 use Rattle.lc_algebra.proofs.FieldTests.{below, below_each, positive, above_one_characteristic, characteristic_inside}
 use Rattle.lc_algebra.proofs.FieldLaws.{zero_inside, add_inside, neg_inside, mul_inside, add_neg, negative_unique}
-use Rattle.lc_algebra.proofs.EmbeddingTests.{both_true, each_name, told_by_size, is_subfield, is_proper, sum_kept, product_kept, told_apart, keeps_test, images_test, images, image_at, found_root, found_is_root, pair_when, pair_test, pairs_test, self_from, self_test}
-pub use Rattle.lc_algebra.proofs.EmbeddingTests.{is_subfield, told_by_size}
+use Rattle.lc_algebra.proofs.EmbeddingTests.{both_true, each_name, told_by_size, is_proper, sum_kept, product_kept, told_apart, keeps_test, images_test, images, image_at, found_root, found_is_root, pair_when, pair_test, pairs_test, self_from, self_test}
+pub use Rattle.lc_algebra.proofs.EmbeddingTests.{told_by_size}
 
 pub decides_subfield : (small large : FieldName) → Decides (is_subfield small large) (IsSubfield small large)
 unfolding is_subfield

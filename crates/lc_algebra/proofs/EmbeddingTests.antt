@@ -1,7 +1,6 @@
 -- What is told of the eighteen proper embeddings of one of the eighteen fields in another by computing with the elements
 -- of the small field, of which there are at most 16; and of each field in itself.
---   is_subfield small large      the small field lies in the large one
---   is_proper small large        and is another field
+--   is_proper small large        the small field lies in the large one, and is another field
 --   names                        the eighteen fields
 --   each_of test fs, each_name   the test is passed by each field of a list; by each of the eighteen, and so by any
 --   both_true                    what an `and` tells of its parts
@@ -18,11 +17,8 @@ use Rattle.lc_algebra.specs.declared.FieldName.TheVariants.{Gf2, Gf3, Gf4, Gf5, 
 use Rattle.lc_algebra.specs.Residue.{digits, number, plus, minus, times, top, up, times_x, product}
 use Rattle.lc_algebra.specs.Field.{shape, shape_of, size, coefficients, add, mul}
 use Rattle.lc_algebra.specs.Polynomial.{value_at}
-use Rattle.lc_algebra.specs.Embedding.{first_from, first_that, root}
+use Rattle.lc_algebra.specs.Embedding.{is_subfield, first_from, first_that, root}
 use Rattle.lc_algebra.proofs.FieldTests.{below}
-
-unfoldable pub is_subfield : FieldName → FieldName → Bool
-is_subfield small large = ((shape_of small).characteristic == (shape_of large).characteristic) && ((shape_of large).degree % (shape_of small).degree == 0)
 
 unfoldable pub is_proper : FieldName → FieldName → Bool
 is_proper small large = is_subfield small large && not ((shape_of small).degree == (shape_of large).degree)

@@ -15,4 +15,3 @@ pub mod EmbeddingTests
 pub mod EmbeddingLaws
 pub mod RemainderLaws
 pub mod FieldRecords
-pub mod FurtherExamples

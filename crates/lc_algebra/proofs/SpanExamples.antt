@@ -7,12 +7,15 @@
 --   reed_solomon           the reduced generator matrix of a Reed-Solomon code of length 4 over the field of 5 elements
 --   reed_solomon_count, reed_solomon_weights, reed_solomon_distance, reed_solomon_reduced      the same of it
 --   sums                   a sum, a multiple, a difference, a dot and a distance
-use Rattle.std.proofs.Common.{◌≡◌, ℕ, ◌==◌, List, [], ◌∷◌, length, count_by, map, refl, arith}
-use Rattle.lc_algebra.specs.declared.FieldName.TheVariants.{Gf2, Gf4, Gf5}
+--   first_symbols          the places of first nonzero symbols
+--   combination            a sum of multiples of rows
+--   words_in_order         the list of words, in its order
+use Rattle.std.proofs.Common.{◌≡◌, ℕ, ◌==◌, List, [], ◌∷◌, length, count_by, map, Some, None, refl, arith}
+use Rattle.lc_algebra.specs.declared.FieldName.TheVariants.{Gf2, Gf3, Gf4, Gf5}
 use Rattle.lc_algebra.specs.Residue.{digits, number, plus, minus, times, top, up, times_x, product}
 use Rattle.lc_algebra.specs.Field.{shape, shape_of, size, coefficients, add, neg, mul}
-use Rattle.lc_algebra.specs.Word.{word_sum, scale, difference, weight, word_dot, distance}
-use Rattle.lc_algebra.specs.Span.{below, words, IsDistance, IsLeast}
+use Rattle.lc_algebra.specs.Word.{word_sum, scale, difference, weight, word_dot, distance, first_nonzero}
+use Rattle.lc_algebra.specs.Span.{below, combine, words, IsDistance, IsLeast}
 use Rattle.lc_algebra.specs.Matrix.{HasPivots}
 use Rattle.lc_algebra.proofs.SpanSearch.{distance_from_words, at_most_test, least_from_words, pivots_from_test}
 
@@ -62,3 +65,15 @@ reed_solomon_distance = distance_from_words Gf5 4 reed_solomon 3 (omega arith) r
 
 pub reed_solomon_reduced : HasPivots 4 (0 ∷ 1 ∷ []) reed_solomon
 reed_solomon_reduced = pivots_from_test 4 (0 ∷ 1 ∷ []) reed_solomon refl
+
+pub first_symbols : map first_nonzero ((0 ∷ 0 ∷ 3 ∷ 1 ∷ []) ∷ (0 ∷ 0 ∷ []) ∷ [] ∷ []) ≡ Some 2 ∷ None ∷ None ∷ []
+first_symbols = refl
+
+pub combination : combine Gf3 3 (2 ∷ 1 ∷ []) ((1 ∷ 0 ∷ 1 ∷ []) ∷ (0 ∷ 1 ∷ 2 ∷ []) ∷ []) ≡ 2 ∷ 1 ∷ 1 ∷ []
+unfolding digits number plus minus times top up times_x product shape shape_of coefficients add mul word_sum scale combine
+combination = refl
+
+-- the words in their order: the multiple of the first row counts first
+pub words_in_order : words Gf3 2 ((1 ∷ 2 ∷ []) ∷ (0 ∷ 1 ∷ []) ∷ []) ≡ (0 ∷ 0 ∷ []) ∷ (0 ∷ 1 ∷ []) ∷ (0 ∷ 2 ∷ []) ∷ (1 ∷ 2 ∷ []) ∷ (1 ∷ 0 ∷ []) ∷ (1 ∷ 1 ∷ []) ∷ (2 ∷ 1 ∷ []) ∷ (2 ∷ 2 ∷ []) ∷ (2 ∷ 0 ∷ []) ∷ []
+unfolding digits number plus minus times top up times_x product shape shape_of size coefficients add mul word_sum scale below words
+words_in_order = refl

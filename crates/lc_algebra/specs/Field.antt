@@ -1,6 +1,7 @@
 -- The eighteen fields (MacWilliams and Sloane, chapters 3 and 4).
 --   Shape                 a row of the table of fields: characteristic, degree, the lower coefficients of the monic
 --                         polynomial that is divided by, and the chosen primitive element
+--   shape p s lower γ     such a row
 --   shape_of f            the row of the field; a prime field is divided by the polynomial x
 --   size f                the number of elements
 --   is_symbol f           whether words may be written over it: at most 16 elements

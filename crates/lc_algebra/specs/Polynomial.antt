@@ -7,7 +7,7 @@
 --   SamePolynomial u v        equal coefficients, with 0 past the end of a list
 --   IsPolynomial f u          coefficients of the field, the last one nonzero; the zero polynomial has none
 --   IsMonic u                 the last coefficient is 1
---   IsDivision f a b q r      q is the quotient and r the remainder of a on division by b
+--   IsDivision f a b q r      q is the quotient and r the remainder of a on division by b, whose last coefficient isn't 0
 --   Divides f a b             some multiple of a is b
 --   x_power_minus_one f n     x^n - 1, for n of at least 1
 use Rattle.std.specs.Prelude.{◌≡◌, ℕ, ◌-◌, ◌<◌, List, [], ◌∷◌, ◌++◌, length, replicate, slice_index, EachIndex}

@@ -7,7 +7,7 @@
 --   times p c u                 the multiple of a polynomial by the residue c
 --   long_plus p u v             the sum of two polynomials of any lengths
 --   long_times p u v            the product of two polynomials, with nothing reduced
---   IsRemainder p m a r         r is the remainder of a on division by the monic polynomial with the lower coefficients m
+--   IsRemainder p m a r         r, a list of residues, is the remainder of a on division by the monic polynomial with the lower coefficients m
 --   top c u                     the last coefficient of u, and c where there is none
 --   up c u                      u with each coefficient one place up, c in the lowest place, and the last one let go
 --   times_x p m u               x u modulo that monic polynomial, where u is as long as m

@@ -13,12 +13,12 @@ use Rattle.lc_algebra.specs.declared.FieldName.TheVariants.{Gf2, Gf5, Gf8, Gf16}
 use Rattle.lc_algebra.specs.Residue.{digits, number, plus, minus, times, top, up, times_x, product}
 use Rattle.lc_algebra.specs.Field.{shape, shape_of, size, coefficients, add, neg, mul, pow}
 use Rattle.lc_algebra.specs.Polynomial.{value_at}
-use Rattle.lc_algebra.specs.Embedding.{first_from, first_that, root, embed}
+use Rattle.lc_algebra.specs.Embedding.{is_subfield, first_from, first_that, root, embed}
 use Rattle.lc_algebra.specs.Word.{word_sum, scale, word_dot, difference}
 use Rattle.lc_algebra.specs.Span.{below, words}
 use Rattle.lc_algebra.specs.Matrix.{Matrix}
-use Rattle.lc_constructions.specs.Basic.{all_lists, hamming_columns, hamming_checks, variable, monomial, subsets, reed_muller_rows}
-use Rattle.lc_constructions.specs.Cyclic.{put_on, trimmed, value_in, exponents_from, all_fields, is_subfield, locator_field}
+use Rattle.lc_constructions.specs.Basic.{all_lists, hamming_columns, hamming_checks, monomial, subsets, reed_muller_rows}
+use Rattle.lc_constructions.specs.Cyclic.{put_on, trimmed, value_in, exponents_from, all_fields, locator_field}
 use Rattle.lc_constructions.specs.Alternant.{inverse, check_row, goppa_multipliers, goppa_sum}
 use Rattle.lc_constructions.specs.Nearest.{is_before, is_better, nearest_among, nearest}
 
@@ -27,7 +27,7 @@ unfolding below all_lists hamming_columns hamming_checks
 hamming_check_rows = refl
 
 pub reed_muller_words : reed_muller_rows 1 3 ≡ (0 ∷ 1 ∷ 0 ∷ 1 ∷ 0 ∷ 1 ∷ 0 ∷ 1 ∷ []) ∷ (0 ∷ 0 ∷ 1 ∷ 1 ∷ 0 ∷ 0 ∷ 1 ∷ 1 ∷ []) ∷ (0 ∷ 0 ∷ 0 ∷ 0 ∷ 1 ∷ 1 ∷ 1 ∷ 1 ∷ []) ∷ (1 ∷ 1 ∷ 1 ∷ 1 ∷ 1 ∷ 1 ∷ 1 ∷ 1 ∷ []) ∷ []
-unfolding below variable monomial subsets reed_muller_rows
+unfolding below monomial subsets reed_muller_rows
 reed_muller_words = refl
 
 pub reed_solomon_first : map (λ i. value_in Gf5 Gf5 (1 ∷ 0 ∷ 3 ∷ 4 ∷ []) (pow Gf5 (shape_of Gf5).primitive i)) (exponents_from 1 2) ≡ 0 ∷ 0 ∷ []

@@ -1,3 +1,3 @@
 pub mod Examples
-pub mod FurtherExamples
+pub mod MembershipExamples
 pub mod NearestLaws

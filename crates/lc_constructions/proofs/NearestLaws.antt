@@ -3,7 +3,6 @@
 --   better_true, better_false      and of that by weight first
 --   IsScanned ..              what a look through some words from a first one keeps
 --   nearest_is_nearest             the word that is found is the nearest one
---   one_nearest                    and no other word is
 --   goppa_form_is_the_code         a Goppa code and its alternant form have the same words
 use Rattle.std.proofs.Common.{◌≡◌, ℕ, ◌⊎◌, ◌↔◌, Bool, true, false, ◌&&◌, ◌==◌, nat_lt, if◌then◌else◌, List, [], ◌∷◌, length, Contains, refl, sym, ap, subst, ◌∙◌, inl, inr, ⊎_elim, arith, true≢false}
 use Rattle.std.proofs.lemmas.Bool.{cases_lt, and_parts, or_cases, or_parts, eqb-true, ltb-true, lt-ltb, eq-eqb}
@@ -119,7 +118,7 @@ nearest_is_nearest C x r l =
     let ws = words C.field n C.rows in
     let z = zero_word n in
     let s : IsScanned C x z ws (nearest_among C x z ws) = scan C x z n ws (long_error C x z l (length_zero_word n))
-        (λ v c. long_error C x v l (span_word C.field n C.rows v r (word_of_member C.field n C.rows v c)).long) in
+    (λ v c. long_error C x v l (span_word C.field n C.rows v r (word_of_member C.field n C.rows v c)).long) in
     record {
       inside = ⊎_elim (λ q. subst (InCode C) q (span_zero C.field n C.rows r)) (λ c. word_of_member C.field n C.rows (nearest_among C x z ws) c) s.among;
       first = λ v h. s.least v (member_of_word C.field n C.rows v h);

@@ -2,8 +2,10 @@
 -- field, the locator field.
 --   AlternantForm                      the locator field, the points, as many multipliers, and the number r of checks
 --   inverse K a                        the inverse of a nonzero element: the least b with a b = 1
+--   check_row K points multipliers j   the products y_i a_i^j
 --   syndrome_at f form w j             the sum of w_i y_i a_i^j
 --   IsAlternantWord f form w           these sums are 0 for each j below r
+--   goppa_multipliers K g points       1 / G(a_i), for each point
 --   goppa_sum f K g points w j         the sum of w_i a_i^j / G(a_i)
 --   IsGoppaWord f K g points w         these sums are 0 for each j below the degree of G
 --   goppa_form K g points              the form of a Goppa code: multipliers 1 / G(a_i), and r the degree of G

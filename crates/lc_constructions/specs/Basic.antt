@@ -9,8 +9,8 @@
 --   hamming_columns q r          those whose first nonzero entry is 1: a column for each point of the projective space
 --   hamming_checks q r           the matrix with these columns: its r rows
 --   hamming_length q r           (q^r - 1) / (q - 1), the number of columns
---   variable m v                 the values of the binary variable v at the places 0 to 2^m - 1: bit v of the place
---   monomial m vs                the values of the product of the variables vs: 1 where all of them are 1; the empty product is 1
+--   monomial m vs                the values, at the places 0 to 2^m - 1, of the product of the variables vs: 1 where all of them are 1.
+--                                The variable v is bit v of the place; the empty product is 1
 --   subsets vs r                 the parts of the list with at most r members
 --   reed_muller_rows r m         the values of all products of at most r different variables among m
 use Rattle.std.specs.Prelude.{◌≡◌, ℕ, zero, suc, ◌-◌, ◌/◌, ◌%◌, ◌^◌, ◌<◌, ◌==◌, if◌then◌else◌, List, [], ◌∷◌, ◌++◌, length, map, flat_map, slice_index, ⊤}
@@ -43,9 +43,6 @@ hamming_checks q r = map (λ i. map (λ u. slice_index u i) (hamming_columns q r
 
 unfoldable pub hamming_length : ℕ → ℕ → ℕ
 hamming_length q r = (q ^ r - 1) / (q - 1)
-
-unfoldable pub variable : ℕ → ℕ → List ℕ
-variable m v = map (λ place. place / 2 ^ v % 2) (below (2 ^ m))
 
 unfoldable pub monomial : ℕ → List ℕ → List ℕ
 monomial m vs = map (λ place. if list_all (λ v. place / 2 ^ v % 2 == 1) vs then 1 else 0) (below (2 ^ m))

@@ -2,7 +2,8 @@
 -- and 18). C and D are codes.
 --   InDual C w              dot 0 with each word of C
 --   InExtended C w          a word of C with minus the sum of its symbols behind it
---   without places w        w without the symbols at these places
+--   symbol_sum f w          the sum of the symbols of w
+--   without places w        w without the symbols at these places; without_from, of which the first symbol of w stands at a place i
 --   InPunctured C places w  some word of C without these places
 --   InShortened C places w  some word of C that is 0 at these places, without them
 --   InEvenWeight C w        a word of C of even weight; C is binary

@@ -1,7 +1,10 @@
 -- Decoding (MacWilliams and Sloane, chapter 1): the words of a code near to a received word x.
 --   IsNearest C x w            w is x less the first error, by weight and then lexicographically, that leads into the code
 --   IsWithin C x t w           w is a word of the code at distance at most t from x
---   nearest C x                that word, by going through the errors of all words of the code
+--   is_before u v              u comes before v in lexicographic order
+--   is_better u v              u comes before v by weight and then lexicographically
+--   nearest_among C x w ws     the word among w and ws whose error comes first, w where several are equal
+--   nearest C x                the nearest word, by going through the errors of all words of the code
 --   words_within C x t         the list of the words within t, by going through all words of the code
 use Rattle.std.specs.Prelude.{ℕ, ◌≤◌, Bool, false, nat_lt, nat_le, ◌==◌, ◌&&◌, ◌||◌, if◌then◌else◌, List, [], ◌∷◌, filter}
 use Rattle.lc_algebra.specs.Word.{difference, distance, weight, zero_word, ComesNoLater}

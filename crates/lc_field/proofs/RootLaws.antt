@@ -9,8 +9,8 @@ use Rattle.lc_algebra.specs.declared.FieldName.TheVariants.{Gf2}
 use Rattle.lc_algebra.specs.Residue.{digits, number, plus, minus, times, top, up, times_x, product}
 use Rattle.lc_algebra.specs.Field.{shape, shape_of, size, coefficients, add, mul}
 use Rattle.lc_algebra.specs.Polynomial.{value_at}
-use Rattle.lc_algebra.specs.Embedding.{IsSubfield, first_from, first_that, root, embed}
-use Rattle.lc_algebra.proofs.EmbeddingTests.{is_subfield, names, each_of, each_name, both_true}
+use Rattle.lc_algebra.specs.Embedding.{IsSubfield, is_subfield, first_from, first_that, root, embed}
+use Rattle.lc_algebra.proofs.EmbeddingTests.{names, each_of, each_name, both_true}
 use Rattle.lc_algebra.proofs.EmbeddingLaws.{decides_subfield}
 use Rattle.lc_field.specs.Roots.{root_by_size}
 

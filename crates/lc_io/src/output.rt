@@ -56,7 +56,7 @@ impl MemorySink {
         })
     }
 
-    /// The bytes taken so far.
+    /// The bytes taken so far. Takes no memory.
     pub fn bytes(&self) -> &[u8]
         ensures { result.now ≡ self.now.written }
     {

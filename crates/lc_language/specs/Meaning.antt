@@ -1,5 +1,4 @@
 -- What a call gives that isn't refused, by its arguments.
---   Outcome                 a value, or a refusal at a place
 --   Made f n P v            v is the code over f of length n of the words that meet P, with no alternant form
 --   MadeWith f n P form v   .. with this form
 --   Gives c arguments v     the value of the call

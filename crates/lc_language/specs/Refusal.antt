@@ -16,7 +16,8 @@ use Rattle.lc_algebra.specs.Polynomial.{value_at}
 use Rattle.lc_algebra.specs.Span.{below}
 use Rattle.lc_algebra.specs.Matrix.{Matrix}
 use Rattle.lc_constructions.specs.Basic.{hamming_length}
-use Rattle.lc_constructions.specs.Cyclic.{trimmed, all_fields, is_subfield, locator_field}
+use Rattle.lc_algebra.specs.Embedding.{is_subfield}
+use Rattle.lc_constructions.specs.Cyclic.{trimmed, all_fields, locator_field}
 use Rattle.lc_enumeration.specs.InformationSet.{is_member}
 use Rattle.lc_language.specs.declared.Call.{Call}
 use Rattle.lc_language.specs.declared.Call.TheVariants.{Gf, GeneratorMatCode, CheckMatCode, RepetitionCode, WholeSpaceCode, NullCode, HammingCode, ReedMullerCode, GeneratorPolCode, CheckPolCode, BchCode, ReedSolomonCode, GoppaCode, AlternantCode, ExtendedCode, PuncturedCode, ShortenedCode, EvenWeightSubcode, DirectSumCode, UuvCode, DirectProductCode, IntersectionCode, ConcatenatedCode, IsCodeword, Decode, AlgebraicDecode, LeastWord}

@@ -1,7 +1,7 @@
 // A session from the words and the bytes in to the bytes out.
-ghost use Rattle.std.specs.Prelude.{◌≡◌, ◌⊎◌, ◌↔◌, ◌<◌, ◌≤◌, ℕ, Bool, List, [], ◌∷◌, length, Some, codes, MatchOption};
+ghost use Rattle.std.specs.Prelude.{◌≡◌, ◌⊎◌, ◌↔◌, ◌+◌, ◌<◌, ◌≤◌, ℕ, Bool, List, [], ◌∷◌, length, Some, codes, MatchOption};
 ghost use Rattle.std.specs.Io.KnownBytes.{Appends};
-ghost use Rattle.lc_io.specs.Outside.{HasRisen, AppendsPart};
+ghost use Rattle.lc_io.specs.Outside.{HasRisen, GaveFront, GaveLess, AppendsPart};
 ghost use Rattle.lc_language.specs.Options.{Settings, options, settings, usage, run_alone};
 ghost use Rattle.lc_language.specs.Value.{same_bytes};
 ghost use Rattle.lc_session.specs.Outcome.{most_bytes, words_of, end_number, IsReply, GaveTooMuch, IsReached};
@@ -38,6 +38,12 @@ fn refused(words: &[String]) -> Option<usize>
 /// `run` reads a script of at most 1,048,576 bytes from the source, and writes the text that it
 /// prints to the sink: a line for each value and each answer, and a fault line where the script or
 /// a statement is refused, which ends the text. Nothing is written unless the whole text is ready.
+///
+/// Answers `Usage` where the words aren't the one word `run`, and then nothing is read;
+/// `SourceFault` where a read failed; `TooLong` where the source gave more than 1,048,576 bytes;
+/// `NoMemory` where memory was refused; `SinkFault` where a write failed, a front of the text being
+/// written; else `Done`. Under all but the last two the sink is as it was. At most 1,048,577 bytes
+/// are taken from the source.
 pub fn run_session<S: Source, K: Sink>(
     alloc: Global,
     words: &[String],
@@ -53,7 +59,8 @@ pub fn run_session<S: Source, K: Sink>(
     ensures sink_fault { result ≡ Status.SinkFault → HasRisen (K.faults sink.old) (K.faults sink.new) × ((text : List ℕ) × ((ends : Bool) × IsReply (words_of words.now) (S.rest source.old) (S.rest source.new) text ends × AppendsPart (K.written sink.old) (K.written sink.new) text)) }
 
     // Why there is none.
-    ensures source_fault { result ≡ Status.SourceFault → HasRisen (S.faults source.old) (S.faults source.new) }
+    ensures source_fault { result ≡ Status.SourceFault → HasRisen (S.faults source.old) (S.faults source.new) × GaveLess (S.rest source.old) (S.rest source.new) (most_bytes + 1) }
+    ensures no_memory { result ≡ Status.NoMemory → GaveFront (S.rest source.old) (S.rest source.new) (most_bytes + 1) }
     ensures too_long { result ≡ Status.TooLong → GaveTooMuch (S.rest source.old) (S.rest source.new) }
     ensures told { (script : List ℕ) → S.rest source.old ≡ Some script → IsReached result → (result ≡ Status.TooLong) ↔ (most_bytes < length script) }
 

@@ -1,4 +1,18 @@
--- Worked examples of the definitions that no other example computes.
+-- Worked examples of each constructor and combinator: what its definition is made of, and a word that is in the code.
+--   hamming_ternary, hamming_lengths       check columns and lengths of Hamming codes
+--   reed_muller_least, reed_muller_whole   Reed-Muller codes of order 0, and of all orders
+--   binary_golay_divides, ternary_golay_divides      the generator polynomials divide x^23 - 1 and x^11 - 1
+--   multiple_word, checked_word            a cyclic code by a generator and by a check polynomial
+--   locators, ternary_locators, roots_of_unity      the locator field and the zeros of BCH codes
+--   bch_points, bch_periodic               the alternant form, b counting modulo the length
+--   bch_values, bch_syndromes              the values of a word at the zeros, and the same by the form
+--   bch_word, reed_solomon_word, reed_solomon_form_word      words of a BCH and of a Reed-Solomon code
+--   goppa_points, checks, inverses         the alternant form of a Goppa code; a check row; inverses
+--   goppa_code_word                        a word of a Goppa code
+--   extended_word, punctured_word, shortened_word, even_word, sum_word, uuv_word, product_word      a word of each combined code
+--   places_left_out, tensors               words without some places; a word u_i v_j
+--   expansions, replaced                   the elements of 16 by two of 4; a word of a concatenated code
+--   within_one, nearest_from_words, tie    words within a radius; the nearest word, and of two the first
 use Rattle.std.proofs.Common.{◌≡◌, ℕ, zero, suc, true, slice_index, refl, arith}
 use Rattle.std.specs.Prelude.{[], ◌∷◌, List, map, Some, None, All, Contains}
 use Rattle.std.specs.List.{list_all}
@@ -8,7 +22,7 @@ use Rattle.lc_algebra.specs.declared.FieldName.TheVariants.{Gf2, Gf3, Gf4, Gf5, 
 use Rattle.lc_algebra.specs.Residue.{digits, number, plus, minus, times, top, up, times_x, product}
 use Rattle.lc_algebra.specs.Field.{shape, shape_of, size, coefficients, add, neg, mul, pow}
 use Rattle.lc_algebra.specs.Polynomial.{value_at, poly_sum, poly_scale, poly_product, IsPolynomial, x_power_minus_one}
-use Rattle.lc_algebra.specs.Embedding.{first_from, first_that, root, embed}
+use Rattle.lc_algebra.specs.Embedding.{is_subfield, first_from, first_that, root, embed}
 use Rattle.lc_algebra.specs.Word.{Fits, IsWord, word_sum, scale, word_dot, difference}
 use Rattle.lc_algebra.specs.Span.{below, words, combine}
 use Rattle.lc_algebra.specs.Matrix.{Matrix}
@@ -17,7 +31,7 @@ use Rattle.lc_algebra.proofs.SpanLaws.{word_of_member, member_of_word}
 use Rattle.lc_algebra.proofs.SpanSearch.{at_most_test, no_later_test, no_later_from_test}
 use Rattle.lc_constructions.specs.Code.{InCode}
 use Rattle.lc_constructions.specs.Basic.{all_lists, hamming_columns, hamming_checks, hamming_length, monomial, subsets, reed_muller_rows}
-use Rattle.lc_constructions.specs.Cyclic.{binary_golay_generator, ternary_golay_generator, all_fields, is_subfield, locator_field, root_of_unity, value_in, exponents_from, IsMultipleOf, IsCheckedBy, IsBchWord, IsReedSolomonWord}
+use Rattle.lc_constructions.specs.Cyclic.{binary_golay_generator, ternary_golay_generator, all_fields, locator_field, root_of_unity, value_in, exponents_from, IsMultipleOf, IsCheckedBy, IsBchWord, IsReedSolomonWord}
 use Rattle.lc_constructions.specs.Alternant.{inverse, check_row, syndrome_at, goppa_multipliers, goppa_sum, goppa_form, bch_form, IsAlternantWord, IsGoppaWord}
 use Rattle.lc_constructions.specs.Combined.{symbol_sum, without_from, without, tensor, InExtended, InPunctured, InShortened, InEvenWeight, InDirectSum, InUuv, InDirectProduct}
 use Rattle.lc_constructions.specs.Concatenated.{InConcatenated}
