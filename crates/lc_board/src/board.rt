@@ -11,7 +11,7 @@ use atomic_table::{Seat, Shared, Table};
 use std::alloc::Global;
 use std::marker::Model;
 
-/// The numbers of a round, below its count, and the least value that was reported.
+/// The numbers of a round, below its count, and the least of its first value and all that were reported.
 #[derive(Drop)]
 pub struct Board {
     table: Table<(), View, Terms, Ruled, Global>,
@@ -102,7 +102,7 @@ impl Board {
             .fetch_min::<Reports>(&mut seat.seat, 1, value);
     }
 
-    /// Closes the board with its root's seat and all others, which are as many as were made. The numbers that these
+    /// Closes the board with its root's seat and all other seats, together as many as were made. The numbers that these
     /// seats drew are those below some `next`, each drawn by exactly one of them. Takes no memory.
     pub fn close(self, root: BoardSeat, seats: Vec<BoardSeat>) -> RoundResult
         requires root { (root.table ≡ self.table) × (root.view.root ≡ true) }

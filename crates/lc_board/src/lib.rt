@@ -3,8 +3,7 @@
 //!
 //! A `Board` has four words: a counter, the best value, the first value and the count. A thread acts through a
 //! `BoardSeat`, which it can't copy. `open` gives the root's seat, and `split` makes others from it, up to 256 in all.
-//! `claim` is one fetch-add on the counter and `report` one fetch-min on the best value: no lock, no memory, no waiting,
-//! and no step is tried again. `close` takes the board apart with all its seats and gives a `RoundResult`, which nothing
+//! `claim` is a fetch-add on the counter and `report` a fetch-min on the best value: no lock, no memory, no waiting. `close` takes the board apart with all its seats and gives a `RoundResult`, which nothing
 //! else makes.
 //!
 //! What is proved, whatever the order of the steps of all seats:
@@ -17,7 +16,8 @@
 //! - `RoundState` is that machine, one event a step. `law_of_rounds` says what holds after every list of events, kills
 //!   and resumptions included.
 //!
-//! What is not said: that two threads ran at the same time, that each seat gets its share, that anything is fast, and any
+//! What is not said: that `claim` and `report` are one step each and that none is tried again, which the code shows and
+//! no clause counts; that two threads ran at the same time, that each seat gets its share, that anything is fast, and any
 //! order between threads but that of the steps. A seat that is dropped makes `close` impossible, and no clause says that a
 //! seat comes back.
 #![tactic(auto)]

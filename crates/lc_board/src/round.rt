@@ -155,7 +155,7 @@ pub enum Event {
     Claim(u32),
     /// The actor reports a value for the block that it holds.
     Report(u32, u64),
-    /// All blocks were drawn and nobody holds one.
+    /// The round ends. It is possible where all blocks were drawn and nobody holds one.
     EndRound,
     /// The round is broken off.
     Kill,
@@ -301,7 +301,7 @@ impl RoundState {
         self.next
     }
 
-    /// The least of the first value and all reported ones.
+    /// The least of the first value and all that were reported since the round began.
     pub fn best(&self) -> u64
         ensures { result ≡ self.now.best }
     {

@@ -1,6 +1,6 @@
 -- The messages of a weight, in the order in which a search looks at them (Grassl's description of the method of Brouwer and
 -- Zimmermann).
---   Message                  a support, its places rising from 0, and as many nonzero elements, the first one 1
+--   Message                  a support, its places counted from 0 and rising, and as many nonzero elements, the first one 1
 --   supports k w             the lists of w places below k, rising, in lexicographic order
 --   nonzero_lists q n        the lists of n elements from 1 to q - 1, in lexicographic order
 --   leading_lists q n        those that begin with 1

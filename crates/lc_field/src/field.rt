@@ -99,7 +99,7 @@ impl Field {
         self.row.size
     }
 
-    /// The prime by which numbers of ones are counted.
+    /// The characteristic: the prime number of ones whose sum is 0.
     pub fn characteristic(&self) -> u8
         ensures is { result ≡ (shape_of self.now).characteristic }
         ensures least { 1 < result }

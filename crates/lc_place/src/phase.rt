@@ -11,9 +11,13 @@ use crate::table::{CUT, Size};
 /// the first block and the block after the last one.
 #[derive(Clone, Copy, Debug, PartialEq, Eq, Drop)]
 pub struct Phase {
+    /// how many nonzero entries its messages have
     pub level: usize,
+    /// the index of the information set
     pub set: usize,
+    /// its first block
     pub start: u64,
+    /// the block after its last one, at most 2^40
     pub end: u64,
 }
 

@@ -6,8 +6,8 @@ use crate::NoMemory;
 use std::alloc::Global;
 use std::marker::Model;
 
-/// A set and a message: the places of the support, rising from 0, and as many coefficients, from 1 to
-/// q - 1, the first one 1. Its room is made once: a bound on the number of places that it can hold.
+/// A set and a message: the places of the support, counted from 0 and rising, and as many coefficients,
+/// from 1 to q - 1, the first one 1. Its room is made once: a bound on the number of places that it can hold.
 #[derive(Drop)]
 pub struct Spot {
     pub(crate) set: usize,
@@ -53,7 +53,8 @@ impl Spot {
         self.set
     }
 
-    /// The places of the message that aren't zero, rising from 0. There are at most as many as the room.
+    /// The places of the message that aren't zero, counted from 0 and rising. There are at most as many as the
+    /// room.
     pub fn support(&self) -> &[usize]
         ensures places { result.now ≡ self.now.support }
         ensures few { length self.now.support ≤ self.now.room }

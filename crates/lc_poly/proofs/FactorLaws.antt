@@ -2,6 +2,7 @@
 --   distinct_powers            powers with different exponents below n differ
 --   equal_powers               equal powers have equal exponents modulo n
 --   primitive_power            a power of the primitive element that has order n
+--   order_of_element           an order divides the size less 1
 --   common_number              two cyclotomic sets with a common number are equal
 --   spread                     a zero at one power brings those of its cyclotomic set
 --   zeros_of_product           the zeros of the product
@@ -23,7 +24,7 @@ use Rattle.lc_algebra.specs.Word.{Fits}
 use Rattle.lc_algebra.specs.Polynomial.{value_at, poly_product, x_power_minus_one, SamePolynomial, IsPolynomial, Divides}
 use Rattle.lc_algebra.specs.Embedding.{IsSubfield, embed, IsCyclotomicSet}
 use Rattle.lc_algebra.proofs.FieldLaws.{zero_inside, one_inside, add_neg, add_zero, mul_zero, zero_mul, mul_one, one_mul, no_zero_divisors}
-use Rattle.lc_algebra.proofs.PowerLaws.{pow_one, pow_size, power_order, power_order_least, pow_inside, pow_add, one_pow, zero_pow, pow_mul, pow_nonzero, mul_cancel}
+use Rattle.lc_algebra.proofs.PowerLaws.{pow_one, pow_size, order_divides, power_order, power_order_least, pow_inside, pow_add, one_pow, zero_pow, pow_mul, pow_nonzero, mul_cancel}
 use Rattle.lc_algebra.proofs.EmbeddingLaws.{embed_one}
 use Rattle.lc_algebra.proofs.WordLaws.{fits_cons, fits_symbol}
 use Rattle.lc_algebra.proofs.SpanLaws.{contains_head, contains_tail, contains_cases}
@@ -110,6 +111,15 @@ primitive_power f n l d =
       one = sym (pow_mul f g m n) ∙ ap (pow f g) c ∙ power_order f;
       least = λ r a b t. power_order_least f (m * r) (mul-pos p a) (let k : m * r < m * n = mul-lt-mul_of_pos_left b p in omega (arith, k, c)) (pow_mul f g m r ∙ t);
     }
+
+pub order_of_element : (f : FieldName) (b n : ℕ) → HasOrder f b n → (size f - 1) % n ≡ 0
+order_of_element f b n h =
+    let r = (size f - 1) % n in
+    let e : pow f b r ≡ 1 = power_of_rest f b n (size f - 1) h.one ∙ order_divides f b (nonzero_of_order f b n h) h.inside in
+    ⊎_elim
+    (λ p. absurd (h.least r p (mod-lt (size f - 1) (omega (arith, h.positive))) e))
+    (λ l. omega (arith, l))
+    (cases_lt 0 r)
 
 module _ (small large : FieldName) (sub : IsSubfield small large) where
   abbrev values : List ℕ → ℕ → ℕ

@@ -5,6 +5,7 @@ use Rattle.lc_board.proofs.laws.law_of_boards.Goals as goal
 
 pub returns : goal.returns
 returns c = record {
+  rule = λ t s. ((λ h. h), (λ h. h));
   opened = opened;
   claimed = claim_keeps_rule;
   reported = report_keeps_rule;
