@@ -5,3 +5,4 @@ pub mod Machines
 pub mod Moves
 pub mod Rounds
 pub mod Sentences
+pub mod RoundExamples

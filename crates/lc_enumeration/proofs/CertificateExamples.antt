@@ -17,7 +17,7 @@ use Rattle.lc_algebra.specs.Span.{below, combine, words}
 use Rattle.lc_enumeration.specs.Message.{supports, supports_from, numbers_from, nonzero_lists, leading_lists, messages, vector_from, vector_of, choose, message_count}
 use Rattle.lc_enumeration.specs.InformationSet.{same_word, in_span, greedy, dimension, is_member, first_basis, unit_word, systematic, echelon_rows}
 use Rattle.lc_enumeration.specs.Search.{bound_sum}
-use Rattle.lc_enumeration.specs.Certificate.{Certificate, SetClaim, levels, accepted, rejected, word_weight, word_not_in_code, set_not_information, fresh_overlap, bound_short, seen_lighter, code_length, code_dimension, level_in, messages_through, cost_of, cost, words_through, seen_by, seen_words, is_lighter, first_lighter, claimed_sum, is_information_set, first_dependent, least_overlap, reaches, or_else, when, carrying, set_reasons, verdict}
+use Rattle.lc_enumeration.specs.Certificate.{Certificate, SetClaim, levels, accepted, rejected, word_weight, word_not_in_code, set_not_information, fresh_overlap, bound_short, seen_lighter, code_length, code_dimension, level_in, messages_through, cost_of, cost, words_through, seen_by, seen_words, is_lighter, first_lighter, claimed_sum, is_information_set, first_dependent, least_overlap, reaches, or_else, when, carrying, set_reasons, cost_reason, verdict}
 
 abbrev pub claim : List ℕ → List ℕ → ℕ → SetClaim
 claim basis fresh level = record { basis = basis; fresh = fresh; level = level }
@@ -44,33 +44,33 @@ abbrev pub two : ℕ → ℕ → List SetClaim
 two first second = first_claim first ∷ claim (0 ∷ 4 ∷ 5 ∷ 6 ∷ []) (4 ∷ 5 ∷ 6 ∷ []) second ∷ []
 
 pub valid : verdict (hamming_with row 3 (two 1 1)) ≡ accepted
-unfolding digits number plus minus times top up times_x product shape shape_of size coefficients add mul word_sum scale below combine words supports supports_from numbers_from nonzero_lists leading_lists messages vector_from vector_of choose message_count same_word in_span greedy dimension is_member first_basis unit_word systematic echelon_rows bound_sum code_length code_dimension level_in messages_through cost_of cost words_through seen_by seen_words is_lighter first_lighter claimed_sum is_information_set first_dependent least_overlap reaches or_else when carrying set_reasons verdict
+unfolding digits number plus minus times top up times_x product shape shape_of size coefficients add mul word_sum scale below combine words supports supports_from numbers_from nonzero_lists leading_lists messages vector_from vector_of choose message_count same_word in_span greedy dimension is_member first_basis unit_word systematic echelon_rows bound_sum code_length code_dimension level_in messages_through cost_of cost words_through seen_by seen_words is_lighter first_lighter claimed_sum is_information_set first_dependent least_overlap reaches or_else when carrying set_reasons cost_reason verdict
 valid = refl
 
 pub wrong_distance : verdict (hamming_with row 4 (two 1 1)) ≡ rejected (word_weight 3)
-unfolding digits number plus minus times top up times_x product shape shape_of size coefficients add mul word_sum scale below combine words supports supports_from numbers_from nonzero_lists leading_lists messages vector_from vector_of choose message_count same_word in_span greedy dimension is_member first_basis unit_word systematic echelon_rows bound_sum code_length code_dimension level_in messages_through cost_of cost words_through seen_by seen_words is_lighter first_lighter claimed_sum is_information_set first_dependent least_overlap reaches or_else when carrying set_reasons verdict
+unfolding digits number plus minus times top up times_x product shape shape_of size coefficients add mul word_sum scale below combine words supports supports_from numbers_from nonzero_lists leading_lists messages vector_from vector_of choose message_count same_word in_span greedy dimension is_member first_basis unit_word systematic echelon_rows bound_sum code_length code_dimension level_in messages_through cost_of cost words_through seen_by seen_words is_lighter first_lighter claimed_sum is_information_set first_dependent least_overlap reaches or_else when carrying set_reasons cost_reason verdict
 wrong_distance = refl
 
 pub short_level : verdict (hamming_with row 3 (two 1 0)) ≡ rejected (bound_short 2)
-unfolding digits number plus minus times top up times_x product shape shape_of size coefficients add mul word_sum scale below combine words supports supports_from numbers_from nonzero_lists leading_lists messages vector_from vector_of choose message_count same_word in_span greedy dimension is_member first_basis unit_word systematic echelon_rows bound_sum code_length code_dimension level_in messages_through cost_of cost words_through seen_by seen_words is_lighter first_lighter claimed_sum is_information_set first_dependent least_overlap reaches or_else when carrying set_reasons verdict
+unfolding digits number plus minus times top up times_x product shape shape_of size coefficients add mul word_sum scale below combine words supports supports_from numbers_from nonzero_lists leading_lists messages vector_from vector_of choose message_count same_word in_span greedy dimension is_member first_basis unit_word systematic echelon_rows bound_sum code_length code_dimension level_in messages_through cost_of cost words_through seen_by seen_words is_lighter first_lighter claimed_sum is_information_set first_dependent least_overlap reaches or_else when carrying set_reasons cost_reason verdict
 short_level = refl
 
 pub outside : verdict (hamming_with (1 ∷ 0 ∷ 0 ∷ 0 ∷ 0 ∷ 0 ∷ 0 ∷ []) 1 (two 1 1)) ≡ rejected word_not_in_code
-unfolding digits number plus minus times top up times_x product shape shape_of size coefficients add mul word_sum scale below combine words supports supports_from numbers_from nonzero_lists leading_lists messages vector_from vector_of choose message_count same_word in_span greedy dimension is_member first_basis unit_word systematic echelon_rows bound_sum code_length code_dimension level_in messages_through cost_of cost words_through seen_by seen_words is_lighter first_lighter claimed_sum is_information_set first_dependent least_overlap reaches or_else when carrying set_reasons verdict
+unfolding digits number plus minus times top up times_x product shape shape_of size coefficients add mul word_sum scale below combine words supports supports_from numbers_from nonzero_lists leading_lists messages vector_from vector_of choose message_count same_word in_span greedy dimension is_member first_basis unit_word systematic echelon_rows bound_sum code_length code_dimension level_in messages_through cost_of cost words_through seen_by seen_words is_lighter first_lighter claimed_sum is_information_set first_dependent least_overlap reaches or_else when carrying set_reasons cost_reason verdict
 outside = refl
 
 pub dependent : verdict (hamming_with row 3 (first_claim 1 ∷ claim (0 ∷ 1 ∷ 4 ∷ 5 ∷ []) (4 ∷ 5 ∷ []) 1 ∷ [])) ≡ rejected (set_not_information 2)
-unfolding digits number plus minus times top up times_x product shape shape_of size coefficients add mul word_sum scale below combine words supports supports_from numbers_from nonzero_lists leading_lists messages vector_from vector_of choose message_count same_word in_span greedy dimension is_member first_basis unit_word systematic echelon_rows bound_sum code_length code_dimension level_in messages_through cost_of cost words_through seen_by seen_words is_lighter first_lighter claimed_sum is_information_set first_dependent least_overlap reaches or_else when carrying set_reasons verdict
+unfolding digits number plus minus times top up times_x product shape shape_of size coefficients add mul word_sum scale below combine words supports supports_from numbers_from nonzero_lists leading_lists messages vector_from vector_of choose message_count same_word in_span greedy dimension is_member first_basis unit_word systematic echelon_rows bound_sum code_length code_dimension level_in messages_through cost_of cost words_through seen_by seen_words is_lighter first_lighter claimed_sum is_information_set first_dependent least_overlap reaches or_else when carrying set_reasons cost_reason verdict
 dependent = refl
 
 pub overlap : verdict (hamming_with row 3 (first_claim 1 ∷ claim (0 ∷ 4 ∷ 5 ∷ 6 ∷ []) (0 ∷ 4 ∷ []) 1 ∷ [])) ≡ rejected (fresh_overlap 0)
-unfolding digits number plus minus times top up times_x product shape shape_of size coefficients add mul word_sum scale below combine words supports supports_from numbers_from nonzero_lists leading_lists messages vector_from vector_of choose message_count same_word in_span greedy dimension is_member first_basis unit_word systematic echelon_rows bound_sum code_length code_dimension level_in messages_through cost_of cost words_through seen_by seen_words is_lighter first_lighter claimed_sum is_information_set first_dependent least_overlap reaches or_else when carrying set_reasons verdict
+unfolding digits number plus minus times top up times_x product shape shape_of size coefficients add mul word_sum scale below combine words supports supports_from numbers_from nonzero_lists leading_lists messages vector_from vector_of choose message_count same_word in_span greedy dimension is_member first_basis unit_word systematic echelon_rows bound_sum code_length code_dimension level_in messages_through cost_of cost words_through seen_by seen_words is_lighter first_lighter claimed_sum is_information_set first_dependent least_overlap reaches or_else when carrying set_reasons cost_reason verdict
 overlap = refl
 
 pub short_for_seven : verdict (hamming_with ones 7 (two 1 1)) ≡ rejected (bound_short 3)
-unfolding digits number plus minus times top up times_x product shape shape_of size coefficients add mul word_sum scale below combine words supports supports_from numbers_from nonzero_lists leading_lists messages vector_from vector_of choose message_count same_word in_span greedy dimension is_member first_basis unit_word systematic echelon_rows bound_sum code_length code_dimension level_in messages_through cost_of cost words_through seen_by seen_words is_lighter first_lighter claimed_sum is_information_set first_dependent least_overlap reaches or_else when carrying set_reasons verdict
+unfolding digits number plus minus times top up times_x product shape shape_of size coefficients add mul word_sum scale below combine words supports supports_from numbers_from nonzero_lists leading_lists messages vector_from vector_of choose message_count same_word in_span greedy dimension is_member first_basis unit_word systematic echelon_rows bound_sum code_length code_dimension level_in messages_through cost_of cost words_through seen_by seen_words is_lighter first_lighter claimed_sum is_information_set first_dependent least_overlap reaches or_else when carrying set_reasons cost_reason verdict
 short_for_seven = refl
 
 pub lighter : verdict (hamming_with ones 7 (two 4 1)) ≡ rejected (seen_lighter row)
-unfolding digits number plus minus times top up times_x product shape shape_of size coefficients add mul word_sum scale below combine words supports supports_from numbers_from nonzero_lists leading_lists messages vector_from vector_of choose message_count same_word in_span greedy dimension is_member first_basis unit_word systematic echelon_rows bound_sum code_length code_dimension level_in messages_through cost_of cost words_through seen_by seen_words is_lighter first_lighter claimed_sum is_information_set first_dependent least_overlap reaches or_else when carrying set_reasons verdict
+unfolding digits number plus minus times top up times_x product shape shape_of size coefficients add mul word_sum scale below combine words supports supports_from numbers_from nonzero_lists leading_lists messages vector_from vector_of choose message_count same_word in_span greedy dimension is_member first_basis unit_word systematic echelon_rows bound_sum code_length code_dimension level_in messages_through cost_of cost words_through seen_by seen_words is_lighter first_lighter claimed_sum is_information_set first_dependent least_overlap reaches or_else when carrying set_reasons cost_reason verdict
 lighter = refl

@@ -1,2 +1,3 @@
 pub mod SearchExamples
 pub mod CertificateExamples
+pub mod PlanExamples

@@ -15,7 +15,7 @@
 --   least_overlap c claims   the least place that is fresh in two sets
 --   verdict c                accepted, or the first reason in the checker's order
 --   IsValid c                the certificate proves its distance: what accepted says, each fact by itself
-use Rattle.std.specs.Prelude.{◌≡◌, ℕ, suc, ◌^◌, ◌<◌, ◌≤◌, ◌⊎◌, min, max, Bool, not, nat_le, nat_lt, ◌==◌, ◌&&◌, ◌||◌, if◌then◌else◌, List, [], ◌∷◌, length, map, find, flat_map, sum, count_by, Option, Some, None, All, AllPairs, Any, Contains, ⊤}
+use Rattle.std.specs.Prelude.{◌≡◌, ℕ, suc, ◌-◌, ◌^◌, ◌<◌, ◌≤◌, ◌⊎◌, min, max, Bool, not, nat_le, nat_lt, ◌==◌, ◌&&◌, ◌||◌, if◌then◌else◌, List, [], ◌∷◌, length, map, find, flat_map, sum, count_by, Option, Some, None, All, AllPairs, Any, Contains, ⊤}
 use Rattle.lc_algebra.specs.declared.FieldName.{FieldName}
 use Rattle.lc_algebra.specs.Field.{size}
 use Rattle.lc_algebra.specs.Word.{weight}
@@ -152,9 +152,13 @@ set_reasons c (levels claims) later =
     (or_else (carrying fresh_overlap (least_overlap c claims))
     (or_else (when (not (reaches c claims)) (bound_short (claimed_sum c claims))) later))
 
+-- a cost above 2^32 is refused; it is told as at most the greatest number of 64 bits
+unfoldable pub cost_reason : ℕ → Option Reason
+cost_reason n = when (nat_lt (2 ^ 32) n) (too_costly (min n (2 ^ 64 - 1)))
+
 unfoldable pub verdict : Certificate → Verdict
 verdict c =
-    or_else (when (nat_lt (2 ^ 32) (cost c)) (too_costly (cost c)))
+    or_else (cost_reason (cost c))
     (or_else (when (not (in_span c.field (code_length c) c.rows c.word)) word_not_in_code)
     (or_else (when (not (weight c.word == c.distance)) (word_weight (weight c.word)))
     (set_reasons c c.proof (or_else (carrying seen_lighter (first_lighter c)) accepted))))

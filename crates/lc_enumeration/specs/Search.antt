@@ -24,7 +24,12 @@
 --                                    else the bracket at the budget
 --   may_end C l                      whether a state at l may be exact: 0, a phase end, or past the end of a plan that isn't cut
 --   finished C budget l state        what is answered in the state that a session is in; None where it goes on
-use Rattle.std.specs.Prelude.{ℕ, zero, suc, ◌+◌, ◌-◌, ◌*◌, ◌/◌, ◌%◌, max, Bool, nat_le, nat_lt, ◌==◌, ◌&&◌, ◌||◌, cond, if◌then◌else◌, List, [], ◌∷◌, length, map, slice_index_or, filter, find, flat_map, slice_get, Option, Some, None, option_and_then}
+--   board_value found                what a worker reports: the weight times 2^52 plus the place
+--   weight_at C place                the weight of the word at the place; 0 where no word stands there
+--   fits C l found                   a record of l blocks fits its need: the place is 0 or below the blocks' places, a word stands there,
+--                                    and it has the weight
+--   fits_settled C budget l found    besides, the search is answered in that state
+use Rattle.std.specs.Prelude.{ℕ, zero, suc, ◌+◌, ◌-◌, ◌*◌, ◌/◌, ◌%◌, ◌^◌, max, Bool, nat_le, nat_lt, ◌==◌, ◌&&◌, ◌||◌, cond, if◌then◌else◌, List, [], ◌∷◌, length, map, slice_index_or, filter, find, flat_map, slice_get, unwrap_or, is_some, Option, Some, None, option_and_then}
 use Rattle.lc_algebra.specs.Field.{size}
 use Rattle.lc_algebra.specs.Word.{weight}
 use Rattle.lc_algebra.specs.Span.{combine, below}
@@ -133,3 +138,15 @@ may_end C l = (l == 0) || (is_member (ends_of C) l || (nat_lt (blocks_before (le
 
 unfoldable pub finished : Matrix → ℕ → ℕ → Found → Option Answer
 finished C budget l state = (if may_end C l && nat_le state.weight (bound C l state.weight) then Some (exact state l) else (if l == budget then Some (bracket (bound C l state.weight) state l) else None))
+
+unfoldable pub board_value : Found → ℕ
+board_value found = found.weight * 2 ^ 52 + found.place
+
+unfoldable pub weight_at : Matrix → ℕ → ℕ
+weight_at C place = weight (unwrap_or (word_at C place) [])
+
+unfoldable pub fits : Matrix → ℕ → Found → Bool
+fits C l found = ((found.place == 0) || nat_lt found.place (l * 4096)) && (is_some (word_at C found.place) && (weight_at C found.place == found.weight))
+
+unfoldable pub fits_settled : Matrix → ℕ → ℕ → Found → Bool
+fits_settled C budget l found = fits C l found && is_some (finished C budget l found)

@@ -8,3 +8,5 @@ pub mod GrammarExamples
 pub mod GrammarLaws
 pub mod LineExamples
 pub mod ScriptLaws
+pub mod LanguageExamples
+pub mod TextExamples

@@ -6,7 +6,6 @@
 --   CheckpointRefusal            damaged (20), another version (21, with it), or another shape (22)
 --   json_in bytes                the JSON value that the bytes are; bytes that aren't UTF-8 are none
 --   checkpoint_in bytes          the checkpoint that the bytes are, or why they are none; the first that applies
---   state_of C blocks            the blocks with the best pair below them
 --   IsTrueFor needs digest budget point      a checkpoint as a session of a chain writes it
 use Rattle.std.specs.Prelude.{◌≡◌, ℕ, suc, ◌+◌, ◌-◌, ◌*◌, ◌^◌, ◌<◌, ◌≤◌, Bool, not, nat_le, nat_lt, ◌==◌, ◌&&◌, if◌then◌else◌, List, [], ◌∷◌, ◌++◌, length, map, drop, slice_get, sum, codes, Option, Some, None, option_map, option_and_then}
 use Rattle.std.specs.Str.{is_utf8}

@@ -2,7 +2,7 @@
 --   Command                   run, resume, check or summary
 --   Key                       workers, budget, slice, keep, seed
 --   Settings                  what the words ask for; a number is the value of seed, 0 where there is none
---   OptionTable               the commands and keys that exist; a command or key that it lacks is an unknown one
+--   CommandRow                a command with its keys; of a table of such rows, a command or key that it lacks is an unknown one
 --   all_options               the table with all of them
 --   run_alone                 the table of a program that knows the command `run` and no key
 --   number_in text            the number that the text writes: one to twenty digits with no leading zero, save 0 itself

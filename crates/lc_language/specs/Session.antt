@@ -1,5 +1,4 @@
--- What a session of the program prints, beside the text of a script: the lines of `check` and of `summary`; and how sessions follow
--- one another over the two slots of a vault.
+-- What `check` prints of a certificate, and how sessions follow one another over the two slots of a vault.
 --   Needs table env ss needs          the codes of the queries that search, in the order in which the statements ask them
 --   IsNeeds table bytes needs         those of a script
 --   reason_line r                     the line of a certificate that is rejected
@@ -9,12 +8,12 @@
 --                                     turn has the slot's parity
 --   AreTrueSlots needs digest budget slots       both slots: turns that are even in slot Zero, odd ones in slot One
 --   chosen slots                      the checkpoint that `resume` takes: the greater turn, slot Zero where they are equal
-use Rattle.std.specs.Prelude.{◌≡◌, ℕ, ◌%◌, nat_lt, if◌then◌else◌, List, [], ◌∷◌, ◌++◌, codes, decimal, Option, Some, None}
+use Rattle.std.specs.Prelude.{◌≡◌, ℕ, ◌%◌, ◌⊎◌, ◌+◌, ◌^◌, min, nat_lt, if◌then◌else◌, List, [], ◌∷◌, ◌++◌, codes, decimal, Option, Some, None}
 use Rattle.lc_algebra.specs.Matrix.{Matrix}
 use Rattle.lc_enumeration.specs.Certificate.{Certificate, Reason, reason_number, reason_values, Verdict, accepted, rejected, verdict}
 use Rattle.lc_language.specs.declared.Call.{Call}
 use Rattle.lc_language.specs.Tree.{Statement}
-use Rattle.lc_language.specs.Grammar.{Reads}
+use Rattle.lc_language.specs.Grammar.{Reads, Fault, IsFault}
 use Rattle.lc_language.specs.Value.{Binding}
 use Rattle.lc_language.specs.Print.{line, with_values}
 use Rattle.lc_language.specs.Evaluation.{Step, Steps, binds, prints, asks, fails}
@@ -30,8 +29,11 @@ abbrev pub Needs : List Call → List Binding → List Statement → List Matrix
 Needs table env [] needs = needs ≡ []
 Needs table env (s ∷ ss) needs = (step : Step) × Steps table env s step × NeedsOn env step (λ later. Needs table later ss) needs
 
+-- bytes that are no script ask nothing
 abbrev pub IsNeeds : List Call → List ℕ → List Matrix → Type 0
-IsNeeds table bytes needs = (ss : List Statement) × Reads bytes ss × Needs table [] ss needs
+IsNeeds table bytes needs =
+    ((ss : List Statement) × Reads bytes ss × Needs table [] ss needs)
+    ⊎ ((fault : Fault) × IsFault bytes fault × (needs ≡ []))
 
 unfoldable pub reason_line : Reason → List ℕ
 reason_line r = line (codes "rejected " ++ decimal (reason_number r) ++ with_values (reason_values r))
@@ -50,6 +52,15 @@ pub record Slots : Type 0 where
 abbrev pub IsTornOr : ℕ → List Matrix → List ℕ → ℕ → ReadCheckpoint → Type 0
 IsTornOr parity needs digest budget (point p) = IsTrueFor needs digest budget p × (p.turn % 2 ≡ parity)
 IsTornOr parity needs digest budget (refused r) = Unit {0}
+
+-- a slot that a session stored without a fault: the empty string, or a true checkpoint
+abbrev pub IsEmptyOrTrue : ℕ → List Matrix → List ℕ → ℕ → List ℕ → Type 0
+IsEmptyOrTrue parity needs digest budget slot =
+    (slot ≡ []) ⊎ ((p : Checkpoint) × (checkpoint_in slot ≡ point p) × IsTrueFor needs digest budget p × (p.turn % 2 ≡ parity))
+
+-- the turn of the next checkpoint
+unfoldable pub next_turn : ℕ → ℕ
+next_turn turn = min (turn + 1) (2 ^ 60)
 
 abbrev pub AreTrueSlots : List Matrix → List ℕ → ℕ → Slots → Type 0
 AreTrueSlots needs digest budget slots = IsTornOr 0 needs digest budget (checkpoint_in slots.zero_slot) × IsTornOr 1 needs digest budget (checkpoint_in slots.one_slot)
