@@ -1,12 +1,13 @@
 -- Worked values, calls, refusals, lists, texts, slots, certificates and the summary's input, by evaluation of the definitions.
 --   empty_lists, asked_lists, last_value       the empty list is of both kinds; a name has its last value
---   named, forms, queries                      calls by their names; the two forms of BCHCode; the calls that stand alone
---   reed_muller, reed_solomon, bch, goppa, alternant, positions, pairs, concatenated, decoded, algebraic, many_words      refusals
+--   named, unknown, forms, queries             calls by their names; the two forms of BCHCode; the calls that stand alone
+--   reed_muller, reed_solomon, bch, goppa, alternant, positions, pairs, concatenated, words, decoders, many_words      refusals
 --   listed_values, mixed_lists                 lists of both kinds, and the first element that doesn't fit
 --   misfits                                    the first argument that is of another kind
---   least                                      the lines of LeastWord, and distance none
+--   least, none                                the lines of LeastWord, and distance none
+--   empty_text, unknown_text                   the text of the empty script, and of one name that has no value
 --   later                                      the later of two checkpoints, slot Zero's where their turns are equal
---   reads_levels, broken_sets, broken_rows, too_many_rows      a certificate by levels, the rules 8 to 11, 4 and 5, and the limit
+--   reads_levels, broken_sets, too_long        a certificate by levels, the rules 8 to 11, and the limit
 --   summary_words, first_row                   the words of seed 1, and the first row that they give
 use Rattle.std.proofs.Common.{◌≡◌, refl}
 use Rattle.std.specs.Prelude.{ℕ, List, [], ◌∷◌, ◌++◌, map, filter, codes, replicate, Some, None, true, false, Option}
@@ -33,7 +34,7 @@ use Rattle.lc_language.specs.Calls.{name_of, signatures, is_query, all_calls, ca
 use Rattle.lc_language.specs.Refusal.{refuse, when, first_of, is_length, too_large, bad_length, bad_argument, reaches, repeated, place_of_point, repeated_point, root_at, not_subfield, fields_differ, codes_differ, is_rising, bad_positions, degree_over, concatenation_refusals, word_refusals, too_many_cosets, bch_refusals, is_symbol_size, bad_goppa, columns_of, lengths_differ, matrix_refusals, refusals_of, refusal_of}
 use Rattle.lc_language.specs.Print.{bracketed, numbers_text, line, least_line, least_none_line, distance_none_line}
 use Rattle.lc_language.specs.Query.{number_json, items, numbers_json}
-use Rattle.lc_language.specs.Evaluation.{gives, refuse_at, first_misfit, numbers_in, lists_in, list_of}
+use Rattle.lc_language.specs.Evaluation.{first_misfit}
 use Rattle.lc_language.specs.Checkpoint.{Checkpoint, point, refused as unread, damaged, listed, each, plain_number, number_at, member_count}
 use Rattle.lc_language.specs.Session.{later_of}
 use Rattle.lc_language.specs.Check.{reads_as, refused_as, numbers_of, list_at, rows_at, provided, field_at, fit, are_rows, is_scan, are_places, claim_in, sets_at, fresh_in_basis, above, with_keys, certificate_over, levels_in, sets_in, way_in, distance_in, word_in, rows_in, field_in, object_in, data_in}
@@ -120,14 +121,6 @@ many_words = refl
 abbrev pub at : List ℕ → tree.Exprs
 at [] = tree.none
 at (place ∷ places) = tree.more (tree.number place 0) (at places)
-
-pub listed_values : map (list_of (at (1 ∷ 3 ∷ []))) ((number 1 ∷ number 2 ∷ []) ∷ (numbers (1 ∷ []) ∷ lists [] ∷ []) ∷ (numbers [] ∷ numbers [] ∷ []) ∷ []) ≡ gives (numbers (1 ∷ 2 ∷ [])) ∷ gives (lists ((1 ∷ []) ∷ [] ∷ [])) ∷ gives (lists ([] ∷ [] ∷ [])) ∷ []
-unfolding place_of refuse_at numbers_in lists_in list_of
-listed_values = refl
-
-pub mixed_lists : map (list_of (at (1 ∷ 3 ∷ []))) ((number 1 ∷ numbers [] ∷ []) ∷ (numbers [] ∷ number 1 ∷ []) ∷ (lists ((1 ∷ []) ∷ []) ∷ number 1 ∷ []) ∷ (numbers [] ∷ lists ((1 ∷ []) ∷ []) ∷ []) ∷ []) ≡ refuse_at 45 3 ∷ refuse_at 45 3 ∷ refuse_at 45 1 ∷ refuse_at 45 3 ∷ []
-unfolding place_of refuse_at numbers_in lists_in list_of
-mixed_lists = refl
 
 pub misfits : map (first_misfit (Number ∷ Field ∷ []) (at (4 ∷ 6 ∷ []))) ((number 1 ∷ field Gf2 ∷ []) ∷ (field Gf2 ∷ number 1 ∷ []) ∷ (number 1 ∷ numbers [] ∷ []) ∷ []) ≡ None ∷ Some 4 ∷ Some 6 ∷ []
 unfolding place_of is_kind first_misfit

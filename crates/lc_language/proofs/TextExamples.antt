@@ -8,6 +8,7 @@
 use Rattle.std.proofs.Common.{◌≡◌, ℕ, inl, inr, refl, arith, ap}
 use Rattle.std.specs.Prelude.{List, [], ◌∷◌, ◌++◌, codes, ◌^◌, None, false}
 use Rattle.std.specs.Fmt.{digits as decimal_digits}
+use Rattle.lc_algebra.specs.declared.FieldName.TheVariants.{Gf2}
 use Rattle.lc_algebra.specs.Residue.{digits, number as number_of_digits, plus, minus, times, top, up, times_x, product}
 use Rattle.lc_algebra.specs.Field.{shape, shape_of, size, coefficients, add, mul}
 use Rattle.lc_algebra.specs.Word.{word_sum, scale}
@@ -24,7 +25,7 @@ use Rattle.lc_language.specs.Value.{is_kind, as_kind, same_bytes, value_named}
 use Rattle.lc_language.specs.Calls.{name_of, one, signatures, is_query, all_calls, call_named, signature_for}
 use Rattle.lc_language.specs.Refusal.{first_of, refusals_of, refusal_of}
 use Rattle.lc_language.specs.Print.{value_text, line, value_line}
-use Rattle.lc_language.specs.Evaluation.{gives, all_give, one_refused, refuse_at, first_misfit, as_kinds, numbers_in, list_of, Evaluates, EvaluatesAll, prints, fails, fail_with, Steps, IsText}
+use Rattle.lc_language.specs.Evaluation.{gives, all_give, one_refused, refuse_at, first_misfit, as_kinds, listed_with, list_value, Evaluates, EvaluatesAll, prints, fails, fail_with, Steps, IsText}
 use Rattle.lc_language.specs.Checkpoint.{Checkpoint, blocks_in, IsTrueFor}
 
 pub text_of_nothing : (budget : ℕ) → IsText all_calls budget [] [] false
@@ -58,20 +59,19 @@ weight_of elements = record { target = None; expr = call 0 (codes "Weight") (mor
 
 -- Weight([0,5]);
 pub printed_weight : Steps all_calls [] (weight_of (more (number 8 0) (more (number 10 5) none))) (prints (codes "1" ++ 10 ∷ []))
-unfolding decimal_digits same_bytes name_of one signatures is_query all_calls call_named signature_for count_of is_kind as_kind first_misfit as_kinds numbers_in list_of refuse_at first_of refusals_of refusal_of value_text line value_line fail_with
+unfolding decimal_digits same_bytes name_of one signatures is_query all_calls call_named signature_for count_of is_kind as_kind first_misfit as_kinds listed_with list_value refuse_at first_of refusals_of refusal_of value_text line value_line fail_with
 printed_weight =
     let list_gives : Evaluates all_calls [] (list 7 (more (number 8 0) (more (number 10 5) none))) (gives (value.numbers (0 ∷ 5 ∷ []))) =
-        (all_give (value.number 0 ∷ value.number 5 ∷ []), (gives (value.number 0), refl, (all_give (value.number 5 ∷ []), (gives (value.number 5), refl, (all_give [], refl, refl)), refl)), refl) in
+        (gives (value.number 0), refl, (gives (value.number 5), refl, refl)) in
     (gives (value.number 1), inr (refl, (all_give (value.numbers (0 ∷ 5 ∷ []) ∷ []), (gives (value.numbers (0 ∷ 5 ∷ [])), list_gives, (all_give [], refl, refl)), inr (λ e. e, (value.number 1, refl, refl)))), refl)
 
 -- Weight([1,[2]]);
 pub misfit_element : Steps all_calls [] (weight_of (more (number 8 1) (more (list 10 (more (number 11 2) none)) none))) (fails (record { number = 45; place = 10; values = [] }))
-unfolding same_bytes name_of one signatures is_query all_calls call_named signature_for count_of place_of_expr numbers_in list_of refuse_at fail_with
+unfolding same_bytes name_of one signatures is_query all_calls call_named signature_for count_of place_of_expr listed_with list_value refuse_at fail_with
 misfit_element =
-    let two_gives : Evaluates all_calls [] (list 10 (more (number 11 2) none)) (gives (value.numbers (2 ∷ []))) =
-        (all_give (value.number 2 ∷ []), (gives (value.number 2), refl, (all_give [], refl, refl)), refl) in
+    let two_gives : Evaluates all_calls [] (list 10 (more (number 11 2) none)) (gives (value.numbers (2 ∷ []))) = (gives (value.number 2), refl, refl) in
     let list_gives : Evaluates all_calls [] (list 7 (more (number 8 1) (more (list 10 (more (number 11 2) none)) none))) (refuse_at 45 10) =
-        (all_give (value.number 1 ∷ value.numbers (2 ∷ []) ∷ []), (gives (value.number 1), refl, (all_give (value.numbers (2 ∷ []) ∷ []), (gives (value.numbers (2 ∷ [])), two_gives, (all_give [], refl, refl)), refl)), refl) in
+        (gives (value.number 1), refl, (gives (value.numbers (2 ∷ [])), two_gives, refl)) in
     (refuse_at 45 10, inr (refl, (one_refused (record { number = 45; place = 10; values = [] }), (refuse_at 45 10, list_gives, refl), refl)), refl)
 
 abbrev pub after_one : List ℕ → Checkpoint
@@ -93,3 +93,8 @@ is_true_after_one digest = record {
   current = (hamming, refl, omega arith, omega (arith, blocks_of_answer), best_of_one);
   turn = omega arith;
 }
+
+-- [GF(2), Foo]; is refused at its first element, which is before the unknown name
+pub misfit_before_unknown : Evaluates all_calls ((record { name = codes "F"; value = value.field Gf2 }) ∷ []) (list 0 (more (name 1 (codes "F")) (more (name 3 (codes "Foo")) none))) (refuse_at 45 1)
+unfolding same_bytes value_named refuse_at listed_with place_of_expr
+misfit_before_unknown = (gives (value.field Gf2), refl, refl)

@@ -56,24 +56,32 @@ unfoldable pub as_kinds : List Kind → List Value → List Value
 as_kinds (kind ∷ kinds) (v ∷ vs) = as_kind kind v ∷ as_kinds kinds vs
 as_kinds _ _ = []
 
--- elements that are all numbers
-unfoldable pub numbers_in : Exprs → List Value → List ℕ → Outcome
-numbers_in (more e es) (value.number n ∷ vs) found = numbers_in es vs (found ++ n ∷ [])
-numbers_in (more e es) (_ ∷ vs) found = refuse_at 45 (place_of e)
-numbers_in _ _ found = gives (value.numbers found)
+-- what the elements so far make: nothing yet, numbers, or lists of numbers
+pub data Listed : Type 0 where
+  nothing_yet : Listed
+  all_numbers : List ℕ → Listed
+  all_lists : List (List ℕ) → Listed
 
--- elements that are all lists of numbers
-unfoldable pub lists_in : Exprs → List Value → List (List ℕ) → Outcome
-lists_in (more e es) (value.numbers u ∷ vs) found = lists_in es vs (found ++ u ∷ [])
-lists_in (more e es) (value.lists [] ∷ vs) found = lists_in es vs (found ++ [] ∷ [])
-lists_in (more e es) (_ ∷ vs) found = refuse_at 45 (place_of e)
-lists_in _ _ found = gives (value.lists found)
+-- the same with one element more; None where it doesn't fit. The first element says which of the two the list is
+unfoldable pub listed_with : Listed → Value → Option Listed
+listed_with nothing_yet (value.number n) = Some (all_numbers (n ∷ []))
+listed_with nothing_yet (value.numbers u) = Some (all_lists (u ∷ []))
+listed_with nothing_yet (value.lists []) = Some (all_lists ([] ∷ []))
+listed_with (all_numbers found) (value.number n) = Some (all_numbers (found ++ n ∷ []))
+listed_with (all_lists found) (value.numbers u) = Some (all_lists (found ++ u ∷ []))
+listed_with (all_lists found) (value.lists []) = Some (all_lists (found ++ [] ∷ []))
+listed_with _ _ = None
 
--- the first element says which of the two the list is; the empty list is both
-unfoldable pub list_of : Exprs → List Value → Outcome
-list_of es (value.numbers u ∷ vs) = lists_in es (value.numbers u ∷ vs) []
-list_of es (value.lists [] ∷ vs) = lists_in es (value.lists [] ∷ vs) []
-list_of es vs = numbers_in es vs []
+-- the empty list is both; it is kept as one of numbers
+unfoldable pub list_value : Listed → Value
+list_value nothing_yet = value.numbers []
+list_value (all_numbers found) = value.numbers found
+list_value (all_lists found) = value.lists found
+
+-- an element and then the rest: the element's own fault, or 45 at an element that doesn't fit, and behind it nothing is evaluated
+abbrev pub ListGoesOn : Expr → Outcome → Listed → (Listed → Type 0) → Outcome → Type 0
+ListGoesOn e (refused r) found Later o = o ≡ refused r
+ListGoesOn e (gives v) found Later o = MatchOption (listed_with found v) (o ≡ refuse_at 45 (place_of e)) Later
 
 abbrev pub AppliesTo : Call → ℕ → List Value → Outcome → Type 0
 AppliesTo c place arguments o =
@@ -95,17 +103,13 @@ abbrev pub GoesOn : Outcome → (Outcomes → Type 0) → Outcomes → Type 0
 GoesOn (refused r) Later os = os ≡ one_refused r
 GoesOn (gives v) Later os = (rest : Outcomes) × Later rest × Joins v rest os
 
-abbrev pub ListGives : Exprs → Outcomes → Outcome → Type 0
-ListGives es (one_refused r) o = o ≡ refused r
-ListGives es (all_give vs) o = o ≡ list_of es vs
-
 -- a call is looked at in this order: its name, its place (a query stands only as a whole statement), the count of its arguments,
 -- the arguments from the left, their kinds, and its own refusals
 abbrev mutual
   pub Evaluates : List Call → List Binding → Expr → Outcome → Type 0
   Evaluates table env (number place n) o = o ≡ gives (value.number n)
   Evaluates table env (name place x) o = MatchOption (value_named x env) (o ≡ refuse_at 44 place) (λ v. o ≡ gives v)
-  Evaluates table env (list place es) o = (os : Outcomes) × EvaluatesAll table env es os × ListGives es os o
+  Evaluates table env (list place es) o = EvaluatesList table env es nothing_yet o
   Evaluates table env (call place x es) o =
       MatchOption (call_named table x) (o ≡ refuse_at 44 place)
       (λ c. (IsTrue (is_query c) × (o ≡ refuse_at 45 place))
@@ -115,6 +119,10 @@ abbrev mutual
   pub EvaluatesAll : List Call → List Binding → Exprs → Outcomes → Type 0
   EvaluatesAll table env none os = os ≡ all_give []
   EvaluatesAll table env (more e es) os = (o : Outcome) × Evaluates table env e o × GoesOn o (λ rest. EvaluatesAll table env es rest) os
+
+  pub EvaluatesList : List Call → List Binding → Exprs → Listed → Outcome → Type 0
+  EvaluatesList table env none found o = o ≡ gives (list_value found)
+  EvaluatesList table env (more e es) found o = (p : Outcome) × Evaluates table env e p × ListGoesOn e p found (λ next. EvaluatesList table env es next o) o
 
 pub data Step : Type 0 where
   binds : Binding → Step
