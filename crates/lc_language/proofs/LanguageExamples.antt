@@ -2,7 +2,7 @@
 --   empty_lists, asked_lists, last_value       the empty list is of both kinds; a name has its last value
 --   named, unknown, forms, queries             calls by their names; the two forms of BCHCode; the calls that stand alone
 --   reed_muller, reed_solomon, bch, goppa, alternant, positions, pairs, concatenated, words, decoders, many_words      refusals
---   listed_values, mixed_lists                 lists of both kinds, and the first element that doesn't fit
+--   listed_values, mixed_lists, made_lists     one element more, of lists of both kinds; elements that don't fit; the lists
 --   misfits                                    the first argument that is of another kind
 --   least, none                                the lines of LeastWord, and distance none
 --   empty_text, unknown_text                   the text of the empty script, and of one name that has no value
@@ -34,7 +34,7 @@ use Rattle.lc_language.specs.Calls.{name_of, signatures, is_query, all_calls, ca
 use Rattle.lc_language.specs.Refusal.{refuse, when, first_of, is_length, too_large, bad_length, bad_argument, reaches, repeated, place_of_point, repeated_point, root_at, not_subfield, fields_differ, codes_differ, is_rising, bad_positions, degree_over, concatenation_refusals, word_refusals, too_many_cosets, bch_refusals, is_symbol_size, bad_goppa, columns_of, lengths_differ, matrix_refusals, refusals_of, refusal_of}
 use Rattle.lc_language.specs.Print.{bracketed, numbers_text, line, least_line, least_none_line, distance_none_line}
 use Rattle.lc_language.specs.Query.{number_json, items, numbers_json}
-use Rattle.lc_language.specs.Evaluation.{first_misfit}
+use Rattle.lc_language.specs.Evaluation.{first_misfit, nothing_yet, all_numbers, all_lists, listed_with, list_value}
 use Rattle.lc_language.specs.Checkpoint.{Checkpoint, point, refused as unread, damaged, listed, each, plain_number, number_at, member_count}
 use Rattle.lc_language.specs.Session.{later_of}
 use Rattle.lc_language.specs.Check.{reads_as, refused_as, numbers_of, list_at, rows_at, provided, field_at, fit, are_rows, is_scan, are_places, claim_in, sets_at, fresh_in_basis, above, with_keys, certificate_over, levels_in, sets_in, way_in, distance_in, word_in, rows_in, field_in, object_in, data_in}
@@ -121,6 +121,18 @@ many_words = refl
 abbrev pub at : List ℕ → tree.Exprs
 at [] = tree.none
 at (place ∷ places) = tree.more (tree.number place 0) (at places)
+
+pub listed_values : map (listed_with nothing_yet) (number 1 ∷ numbers (1 ∷ []) ∷ numbers [] ∷ lists [] ∷ []) ++ listed_with (all_numbers (1 ∷ [])) (number 2) ∷ map (listed_with (all_lists ((1 ∷ []) ∷ []))) (numbers (2 ∷ []) ∷ numbers [] ∷ lists [] ∷ []) ≡ Some (all_numbers (1 ∷ [])) ∷ Some (all_lists ((1 ∷ []) ∷ [])) ∷ Some (all_lists ([] ∷ [])) ∷ Some (all_lists ([] ∷ [])) ∷ Some (all_numbers (1 ∷ 2 ∷ [])) ∷ Some (all_lists ((1 ∷ []) ∷ (2 ∷ []) ∷ [])) ∷ Some (all_lists ((1 ∷ []) ∷ [] ∷ [])) ∷ Some (all_lists ((1 ∷ []) ∷ [] ∷ [])) ∷ []
+unfolding listed_with
+listed_values = refl
+
+pub mixed_lists : map (listed_with nothing_yet) (field Gf2 ∷ lists ((1 ∷ []) ∷ []) ∷ []) ++ map (listed_with (all_numbers (1 ∷ []))) (numbers [] ∷ lists [] ∷ field Gf2 ∷ []) ++ map (listed_with (all_lists ([] ∷ []))) (number 1 ∷ lists ((1 ∷ []) ∷ []) ∷ field Gf2 ∷ []) ≡ replicate 8 None
+unfolding listed_with
+mixed_lists = refl
+
+pub made_lists : map list_value (nothing_yet ∷ all_numbers (1 ∷ []) ∷ all_lists ([] ∷ []) ∷ []) ≡ numbers [] ∷ numbers (1 ∷ []) ∷ lists ([] ∷ []) ∷ []
+unfolding list_value
+made_lists = refl
 
 pub misfits : map (first_misfit (Number ∷ Field ∷ []) (at (4 ∷ 6 ∷ []))) ((number 1 ∷ field Gf2 ∷ []) ∷ (field Gf2 ∷ number 1 ∷ []) ∷ (number 1 ∷ numbers [] ∷ []) ∷ []) ≡ None ∷ Some 4 ∷ Some 6 ∷ []
 unfolding place_of is_kind first_misfit

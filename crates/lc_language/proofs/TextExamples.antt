@@ -4,6 +4,7 @@
 --   first_fault                the arguments are evaluated from the left, up to the first fault
 --   printed_weight             a statement prints the value of its call
 --   misfit_element             Weight([1,[2]]); is refused at the second element
+--   misfit_before_unknown      [F,Foo]; is refused at its first element, the field F, which stands before the unknown name
 --   is_true_after_one, true_slots      a checkpoint of the Hamming code of length 7 after one block; the slots that hold it
 use Rattle.std.proofs.Common.{◌≡◌, ℕ, inl, inr, refl, arith, ap}
 use Rattle.std.specs.Prelude.{List, [], ◌∷◌, ◌++◌, codes, ◌^◌, None, false}
@@ -62,7 +63,7 @@ pub printed_weight : Steps all_calls [] (weight_of (more (number 8 0) (more (num
 unfolding decimal_digits same_bytes name_of one signatures is_query all_calls call_named signature_for count_of is_kind as_kind first_misfit as_kinds listed_with list_value refuse_at first_of refusals_of refusal_of value_text line value_line fail_with
 printed_weight =
     let list_gives : Evaluates all_calls [] (list 7 (more (number 8 0) (more (number 10 5) none))) (gives (value.numbers (0 ∷ 5 ∷ []))) =
-        (gives (value.number 0), refl, (gives (value.number 5), refl, refl)) in
+    (gives (value.number 0), refl, (gives (value.number 5), refl, refl)) in
     (gives (value.number 1), inr (refl, (all_give (value.numbers (0 ∷ 5 ∷ []) ∷ []), (gives (value.numbers (0 ∷ 5 ∷ [])), list_gives, (all_give [], refl, refl)), inr (λ e. e, (value.number 1, refl, refl)))), refl)
 
 -- Weight([1,[2]]);
@@ -71,7 +72,7 @@ unfolding same_bytes name_of one signatures is_query all_calls call_named signat
 misfit_element =
     let two_gives : Evaluates all_calls [] (list 10 (more (number 11 2) none)) (gives (value.numbers (2 ∷ []))) = (gives (value.number 2), refl, refl) in
     let list_gives : Evaluates all_calls [] (list 7 (more (number 8 1) (more (list 10 (more (number 11 2) none)) none))) (refuse_at 45 10) =
-        (gives (value.number 1), refl, (gives (value.numbers (2 ∷ [])), two_gives, refl)) in
+    (gives (value.number 1), refl, (gives (value.numbers (2 ∷ [])), two_gives, refl)) in
     (refuse_at 45 10, inr (refl, (one_refused (record { number = 45; place = 10; values = [] }), (refuse_at 45 10, list_gives, refl), refl)), refl)
 
 abbrev pub after_one : List ℕ → Checkpoint
@@ -94,7 +95,7 @@ is_true_after_one digest = record {
   turn = omega arith;
 }
 
--- [GF(2), Foo]; is refused at its first element, which is before the unknown name
+-- [F,Foo]; where F is a field
 pub misfit_before_unknown : Evaluates all_calls ((record { name = codes "F"; value = value.field Gf2 }) ∷ []) (list 0 (more (name 1 (codes "F")) (more (name 3 (codes "Foo")) none))) (refuse_at 45 1)
 unfolding same_bytes value_named refuse_at listed_with place_of_expr
 misfit_before_unknown = (gives (value.field Gf2), refl, refl)

@@ -3,10 +3,14 @@
 --   Refused                      a fault: its number, its place and the numbers behind it
 --   Outcome, Outcomes            the value of an expression, or the fault; the values of several, or the first fault
 --   first_misfit kinds es vs     the place of the first argument whose value is not of its kind
---   list_of es vs                the list of the values: numbers, or lists of numbers; the first that doesn't fit is refused
+--   Listed                       what the elements of a list so far make
+--   listed_with found v          the same with one element more, where it fits; the first says whether they are numbers or lists
+--   list_value found             the list
 --   Applies c es os o            what a call gives of its arguments' values
 --   Evaluates table env e o      what an expression evaluates to
 --   EvaluatesAll table env es os several expressions, from the left
+--   ListGoesOn e p found Later o      an element with the outcome p, behind those found so far: its fault, or 45, or what Later says
+--   EvaluatesList table env es found o      the list whose elements so far are found, and then es, from the left
 --   Step                         what a statement does: it binds a name, prints a line, asks a query of a code, or is refused
 --   Steps table env s step       what the statement s does
 --   Runs table budget env ss text ends      the text of the statements, and whether a fault ends it
