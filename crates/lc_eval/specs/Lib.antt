@@ -1,5 +1,6 @@
 pub mod Built
 pub mod Value
+pub mod Listed
 pub mod Places
 pub mod Machine
 pub mod Applied

@@ -1,7 +1,7 @@
 //! The values of expressions.
 ghost use Rattle.std.specs.Prelude.{◌≡◌, length, Contains, IfOk};
 ghost use Rattle.lc_language.specs.Tree as tree;
-ghost use Rattle.lc_language.specs.Evaluation.{Outcomes, Evaluates, EvaluatesAll, ListGives};
+ghost use Rattle.lc_language.specs.Evaluation.{Evaluates, EvaluatesAll, EvaluatesList, nothing_yet};
 ghost use Rattle.lc_parse.specs.Views.{tree_of, trees_of};
 ghost use Rattle.lc_eval.specs.Built.{built_calls};
 ghost use Rattle.lc_eval.specs.Value.{values_of};
@@ -11,7 +11,7 @@ ghost use Rattle.lc_eval.specs.Evaluated.{AnswersAll, Prepares};
 use crate::calls::{apply, call_named, is_query, signature};
 use crate::copies::copy_of;
 use crate::kinds::fitted;
-use crate::lists::list_of;
+use crate::lists::Listed;
 use crate::names::Names;
 use crate::refusals::{Stop, fault};
 use crate::values::Value;
@@ -42,13 +42,17 @@ pub(crate) fn evaluate(alloc: Global, names: &Names, expr: &Expr) -> Result<Valu
     }
 }
 
-// The value of the list of these elements.
+// The value of the list of these elements, from the left: each is evaluated, and must then fit those before it.
 #[cycle(evaluation)]
 fn list(alloc: Global, names: &Names, elements: &[Expr]) -> Result<Value, Stop>
-    ensures { Answers result (λ o. (os : Outcomes) × EvaluatesAll built_calls names.now (trees_of elements.now) os × ListGives (trees_of elements.now) os o) }
+    ensures { Answers result (EvaluatesList built_calls names.now (trees_of elements.now) nothing_yet) }
 {
-    let values = evaluate_all(alloc, names, elements)?;
-    list_of(alloc, elements, &values)
+    let mut found = Listed::Nothing;
+    for element in elements {
+        let value = evaluate(alloc, names, element)?;
+        found = found.with(alloc, element.place, value)?;
+    }
+    Ok(found.value(alloc))
 }
 
 // The value of the call of this name with these arguments.

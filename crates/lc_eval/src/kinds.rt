@@ -16,7 +16,7 @@ use std::alloc::Global;
 
 // Whether the value is of the kind.
 #[tactic(auto, unfolding(lc_language::specs::Value::is_kind))]
-pub(crate) fn is_kind(kind: Kind, value: &Value) -> bool
+fn is_kind(kind: Kind, value: &Value) -> bool
     ensures { result ≡ language.is_kind kind (value_of value.now) }
 {
     match (kind, value) {

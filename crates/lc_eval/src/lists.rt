@@ -1,66 +1,81 @@
 //! The values of lists.
-ghost use Rattle.std.specs.Prelude.{◌≡◌, [], map, length};
+ghost use Rattle.std.specs.Prelude.{◌≡◌};
+ghost use Rattle.lc_language.specs.Value as language;
 ghost use Rattle.lc_language.specs.Evaluation as evaluation;
-ghost use Rattle.lc_parse.specs.Views.{trees_of};
-ghost use Rattle.lc_eval.specs.Value.{values_of};
-ghost use Rattle.lc_eval.specs.Applied.{Answers};
+ghost use Rattle.lc_eval.specs.Value.{value_of};
+ghost use Rattle.lc_eval.specs.Listed.{listed_of, ListsOn};
 
-use crate::kinds::is_kind;
 use crate::refusals::{Stop, fault};
 use crate::values::Value;
-use lc_language::Kind;
-use lc_parse::Expr;
 use std::alloc::Global;
 
-// The list of these values, which are those of the elements; the place of an element is that of its fault.
-pub(crate) fn list_of(alloc: Global, elements: &[Expr], values: &[Value]) -> Result<Value, Stop>
-    ensures { Answers result (λ o. o ≡ evaluation.list_of (trees_of elements.now) (values_of values.now)) }
-{
-    match values.split_first() {
-        Some((first, _)) if is_kind(Kind::Numbers, first) => lists_in(alloc, elements, values),
-        _ => numbers_in(alloc, elements, values),
-    }
+/// What the elements of a list so far make.
+#[derive(Drop)]
+pub(crate) enum Listed {
+    /// there are none yet
+    Nothing,
+    /// numbers
+    Numbers(Vec<u64>),
+    /// lists of numbers
+    Lists(Vec<Vec<u64>>),
 }
 
-// The list of values that are all numbers.
-fn numbers_in(alloc: Global, elements: &[Expr], values: &[Value]) -> Result<Value, Stop>
-    ensures { Answers result (λ o. o ≡ evaluation.numbers_in (trees_of elements.now) (values_of values.now) []) }
-{
-    let mut found = Vec::new(alloc);
-    let mut left = elements;
-    let mut rest = values;
-    while let Some((value, others)) = rest.split_first() {
-        let Some((element, behind)) = left.split_first() else {
-            break;
-        };
+impl Listed {
+    // The same with one value more, which is that of the element at the place; a value that doesn't fit is refused there.
+    pub(crate) fn with(self, alloc: Global, place: usize, value: Value) -> Result<Listed, Stop>
+        ensures { ListsOn result (listed_of self) (value_of value) place }
+    {
         match value {
-            Value::Number(n) => found.push(*n)?,
-            _ => return Err(Stop::Refused(fault(alloc, 45, element.place))),
+            Value::Number(number) => self.with_number(alloc, place, number),
+            Value::Numbers(numbers) => self.with_list(alloc, place, numbers),
+            Value::Lists(lists) => {
+                if lists.is_empty() {
+                    self.with_list(alloc, place, Vec::new(alloc))
+                } else {
+                    Err(Stop::Refused(fault(alloc, 45, place)))
+                }
+            }
+            _other => Err(Stop::Refused(fault(alloc, 45, place))),
         }
-        left = behind;
-        rest = others;
     }
-    Ok(Value::Numbers(found))
-}
 
-// The list of values that are all lists of numbers.
-fn lists_in(alloc: Global, elements: &[Expr], values: &[Value]) -> Result<Value, Stop>
-    ensures { Answers result (λ o. o ≡ evaluation.lists_in (trees_of elements.now) (values_of values.now) []) }
-{
-    let mut found = Vec::new(alloc);
-    let mut left = elements;
-    let mut rest = values;
-    while let Some((value, others)) = rest.split_first() {
-        let Some((element, behind)) = left.split_first() else {
-            break;
+    // The same with one number more.
+    #[tactic(auto, unfolding(lc_language::specs::Evaluation::listed_with))]
+    fn with_number(self, alloc: Global, place: usize, number: u64) -> Result<Listed, Stop>
+        ensures { ListsOn result (listed_of self) (language.number number) place }
+    {
+        let mut found = match self {
+            Listed::Nothing => Vec::new(alloc),
+            Listed::Numbers(numbers) => numbers,
+            Listed::Lists(_) => return Err(Stop::Refused(fault(alloc, 45, place))),
         };
-        match value {
-            Value::Numbers(numbers) => found.push(numbers.clone()?)?,
-            Value::Lists(lists) if lists.is_empty() => found.push(Vec::new(alloc))?,
-            _ => return Err(Stop::Refused(fault(alloc, 45, element.place))),
-        }
-        left = behind;
-        rest = others;
+        found.push(number)?;
+        Ok(Listed::Numbers(found))
     }
-    Ok(Value::Lists(found))
+
+    // The same with one list of numbers more.
+    #[tactic(auto, unfolding(lc_language::specs::Evaluation::listed_with))]
+    fn with_list(self, alloc: Global, place: usize, list: Vec<u64>) -> Result<Listed, Stop>
+        ensures { ListsOn result (listed_of self) (language.numbers list.items) place }
+    {
+        let mut found = match self {
+            Listed::Nothing => Vec::new(alloc),
+            Listed::Lists(lists) => lists,
+            Listed::Numbers(_) => return Err(Stop::Refused(fault(alloc, 45, place))),
+        };
+        found.push(list)?;
+        Ok(Listed::Lists(found))
+    }
+
+    // The list of these elements.
+    #[tactic(auto, unfolding(lc_language::specs::Evaluation::list_value))]
+    pub(crate) fn value(self, alloc: Global) -> Value
+        ensures { value_of result ≡ evaluation.list_value (listed_of self) }
+    {
+        match self {
+            Listed::Nothing => Value::Numbers(Vec::new(alloc)),
+            Listed::Numbers(numbers) => Value::Numbers(numbers),
+            Listed::Lists(lists) => Value::Lists(lists),
+        }
+    }
 }

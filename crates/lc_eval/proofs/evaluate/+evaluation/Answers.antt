@@ -1,9 +1,12 @@
 use Rattle.std.proofs.Common.{length, refl, sym, ◌∙◌, rules}
 use Rattle.std.proofs.lemmas.Result.{err_from_is_err_and}
 use Rattle.std.proofs.lemmas.List.{length_push}
+use Rattle.lc_language.specs.Evaluation.{EvaluatesList, nothing_yet}
 use Rattle.lc_parse.specs.Views.{trees_of}
+use Rattle.lc_eval.specs.Built.{built_calls}
 use Rattle.lc_eval.specs.Value.{values_of}
 use Rattle.lc_eval.proofs.KindLaws.{signature_counts}
+use Rattle.lc_eval.proofs.ListLaws.{misfit_element}
 use Rattle.lc_eval.proofs.EvaluationLaws.{evaluated_more, evaluated_fault, counted_wrong, prepared_fault, prepared_fitted, prepared_fits, call_applied}
 use Rattle.lc_eval.proofs.evaluate.+evaluation.Goals as goal
 
@@ -38,3 +41,8 @@ prepare-returns-clause-arguments t c = prepared_fits c.args.call (length c.args.
 pub call-returns : goal.call-returns
 call-returns t c =
     call_applied c.args.names.now c.args.place c.args.name.now (trees_of c.args.arguments.now) c.in-Some.call (values_of c.in_ok-values.values.items) c.apply.result c.in-Some.ensures.is (sym c.is_query.ensures.is ∙ c.if-is_query.false) c.in_ok-values.ensures.prepared (rw (← c.deref.ensures.value) c.apply.ensures.applies)
+
+pub list-returns-in_err-found : goal.list-returns-in_err-found
+list-returns-in_err-found t c =
+    let p = err_from_is_err_and c.from_residual-in_err-found.result c.from_residual-in_err-found.ensures.1 in
+    rw (p.1, p.2) (misfit_element c.args.names.now c.args.elements.now c.loop-element.element-index c.element-item.result c.loop-element.found c.in_err-found.field-0.0 c.in_ok-value.value (λ o. EvaluatesList built_calls c.args.names.now (trees_of c.args.elements.now) nothing_yet o) c.loop-element-test.true c.element-item.is c.loop-element.invariant c.in_ok-value.ensures c.in_err-found.ensures)
