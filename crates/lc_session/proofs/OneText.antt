@@ -1,7 +1,7 @@
 -- Where each call of a table gives one value and has one answer, expressions have one outcome, statements do one thing, and bytes
 -- print one text.
 --   named_one                    the call that a name stands for is one of the table
---   evaluates_one, evaluates_all_one     an expression, and several, have one outcome
+--   evaluates_one, evaluates_all_one, evaluates_list_one     an expression, several, and the elements of a list have one outcome
 --   steps_one                    a statement does one thing
 --   runs_one                     statements have one text
 --   text_one                     and so have bytes
@@ -12,7 +12,7 @@ use Rattle.std.specs.List.{AllByRecursion}
 use Rattle.lc_parse.proofs.Outcomes.{one_script, one_fault, no_both}
 use Rattle.lc_language.specs.declared.Call.{Call}
 use Rattle.lc_language.specs.declared.Kind.{Kind}
-use Rattle.lc_language.specs.Tree.{Expr, Exprs, number, name, call, list, none, more, Statement, count_of}
+use Rattle.lc_language.specs.Tree.{Expr, Exprs, number, name, call, list, none, more, Statement, place_of, count_of}
 use Rattle.lc_language.specs.Grammar.{Reads, Fault, IsFault}
 use Rattle.lc_language.specs.Value as value
 use Rattle.lc_language.specs.Value.{Value, Binding, value_named}
@@ -21,7 +21,7 @@ use Rattle.lc_language.specs.Refusal.{refusal_of}
 use Rattle.lc_language.specs.Meaning.{Gives, IsNotDivisor}
 use Rattle.lc_language.specs.Print.{fault_line}
 use Rattle.lc_language.specs.Query.{query_line}
-use Rattle.lc_language.specs.Evaluation.{Outcome, gives, refused, Outcomes, all_give, one_refused, refuse_at, refuse_call, first_misfit, as_kinds, list_of, AppliesTo, Applies, Joins, GoesOn, ListGives, Evaluates, EvaluatesAll, Step, binds, prints, asks, fails, Queries, fail_with, QueriesAll, query_of, Assigns, StepsAsQuery, StepsOf, Steps, Prints, Runs, IsText}
+use Rattle.lc_language.specs.Evaluation.{Outcome, gives, refused, Outcomes, all_give, one_refused, refuse_at, refuse_call, first_misfit, as_kinds, Listed, nothing_yet, listed_with, list_value, ListGoesOn, AppliesTo, Applies, Joins, GoesOn, Evaluates, EvaluatesAll, EvaluatesList, Step, binds, prints, asks, fails, Queries, fail_with, QueriesAll, query_of, Assigns, StepsAsQuery, StepsOf, Steps, Prints, Runs, IsText}
 use Rattle.lc_eval.specs.Built.{built_calls}
 use Rattle.lc_session.proofs.AtMostOne.{One, Both, one_value, one_option, one_either, one_some}
 use Rattle.lc_session.proofs.OneValue.{IsDeterminate, built_one}
@@ -50,9 +50,9 @@ goes_on_one : (Later : Outcomes → Type 0) (o : Outcome) → One Later → One 
 goes_on_one Later (refused r) h = one_value (one_refused r)
 goes_on_one Later (gives v) h = one_some Later (Joins v) h (joins_one v)
 
-list_gives_one : (es : Exprs) (os : Outcomes) → One (ListGives es os)
-list_gives_one es (one_refused r) = one_value (refused r)
-list_gives_one es (all_give vs) = one_value (list_of es vs)
+list_goes_on_one : (e : Expr) (found : Listed) (Later : Listed → Outcome → Type 0) → ((next : Listed) → One (Later next)) → (p : Outcome) → One (λ o. ListGoesOn e p found (λ next. Later next o) o)
+list_goes_on_one e found Later h (refused r) = one_value (refused r)
+list_goes_on_one e found Later h (gives v) = one_option (listed_with found v) (λ o. o ≡ refuse_at 45 (place_of e)) Later (one_value (refuse_at 45 (place_of e))) (λ next k. h next)
 
 applies_to_one : (c : Call) (place : ℕ) (arguments : List Value) → IsDeterminate c → One (AppliesTo c place arguments)
 applies_to_one c place arguments d =
@@ -94,7 +94,7 @@ mutual
   pub evaluates_one : (table : List Call) (env : List Binding) → AllByRecursion IsDeterminate table → (e : Expr) → One (Evaluates table env e)
   evaluates_one table env h (number place n) = one_value (gives (value.number n))
   evaluates_one table env h (name place x) = one_option (value_named x env) (λ o. o ≡ refuse_at 44 place) (λ v o. o ≡ gives v) (one_value (refuse_at 44 place)) (λ v e. one_value (gives v))
-  evaluates_one table env h (list place es) = one_some (EvaluatesAll table env es) (ListGives es) (evaluates_all_one table env h es) (list_gives_one es)
+  evaluates_one table env h (list place es) = evaluates_list_one table env h es nothing_yet
   evaluates_one table env h (call place x es) =
       one_option (call_named table x) (λ o. o ≡ refuse_at 44 place) (Called place es (EvaluatesAll table env es))
       (one_value (refuse_at 44 place))
@@ -106,6 +106,13 @@ mutual
       one_some (Evaluates table env e) (λ o. GoesOn o (λ rest. EvaluatesAll table env es rest))
       (evaluates_one table env h e)
       (λ o. goes_on_one (EvaluatesAll table env es) o (evaluates_all_one table env h es))
+
+  pub evaluates_list_one : (table : List Call) (env : List Binding) → AllByRecursion IsDeterminate table → (es : Exprs) (found : Listed) → One (EvaluatesList table env es found)
+  evaluates_list_one table env h none found = one_value (gives (list_value found))
+  evaluates_list_one table env h (more e es) found =
+      one_some (Evaluates table env e) (λ p o. ListGoesOn e p found (λ next. EvaluatesList table env es next o) o)
+      (evaluates_one table env h e)
+      (list_goes_on_one e found (EvaluatesList table env es) (evaluates_list_one table env h es))
 
 -- ---- statements
 
