@@ -449,13 +449,17 @@ def text_of(value):
 
 # ---- evaluation ---------------------------------------------------------------------------------------------------
 
-def list_value(places, values):
-    """The first element says whether it is a list of numbers or of lists; the first that doesn't fit is refused."""
-    wants_lists = bool(values) and is_numbers(values[0])
-    for place, value in zip(places, values):
+def list_value(parts, names):
+    """From the left: each element is evaluated, and must then be of the kind that the first one says, a number or a list
+    of numbers."""
+    values = []
+    for part in parts:
+        value = value_of(part, names)
+        wants_lists = is_numbers(values[0] if values else value)
         if not (is_numbers(value) if wants_lists else is_number(value)):
-            raise Fault(45, place)
-    return list(values)
+            raise Fault(45, part.place)
+        values.append(value)
+    return values
 
 
 def call_value(expr, table, names):
@@ -477,7 +481,7 @@ def value_of(expr, names):
     if expr.kind == "number":
         return expr.value
     if expr.kind == "list":
-        return list_value([part.place for part in expr.parts], [value_of(part, names) for part in expr.parts])
+        return list_value(expr.parts, names)
     if expr.kind == "name":
         if expr.value not in names:
             raise Fault(44, expr.place)
