@@ -1,13 +1,12 @@
 -- Worked values, calls, refusals, lists, texts, slots, certificates and the summary's input, by evaluation of the definitions.
 --   empty_lists, asked_lists, last_value       the empty list is of both kinds; a name has its last value
---   named, unknown, forms, queries             calls by their names; the two forms of BCHCode; the calls that stand alone
---   reed_muller, reed_solomon, bch, goppa, alternant, positions, pairs, concatenated, words, decoders, many_words      refusals
+--   named, forms, queries                      calls by their names; the two forms of BCHCode; the calls that stand alone
+--   reed_muller, reed_solomon, bch, goppa, alternant, positions, pairs, concatenated, decoded, algebraic, many_words      refusals
 --   listed_values, mixed_lists, made_lists     one element more, of lists of both kinds; elements that don't fit; the lists
 --   misfits                                    the first argument that is of another kind
---   least, none                                the lines of LeastWord, and distance none
---   empty_text, unknown_text                   the text of the empty script, and of one name that has no value
+--   least                                      the lines of LeastWord, and distance none
 --   later                                      the later of two checkpoints, slot Zero's where their turns are equal
---   reads_levels, broken_sets, too_long        a certificate by levels, the rules 8 to 11, and the limit
+--   reads_levels, broken_sets, broken_rows, too_many_rows      a certificate by levels, the rules 8 to 11, 4 and 5, and the limit
 --   summary_words, first_row                   the words of seed 1, and the first row that they give
 use Rattle.std.proofs.Common.{◌≡◌, refl}
 use Rattle.std.specs.Prelude.{ℕ, List, [], ◌∷◌, ◌++◌, map, filter, codes, replicate, Some, None, true, false, Option}
