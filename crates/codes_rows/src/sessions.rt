@@ -1,6 +1,6 @@
 //! Sessions over sources and sinks in memory, and what is told of statuses.
-use crate::{Status, run_session, status_line};
 use lc_io::{MemorySink, MemorySource};
+use lc_session::{Status, run_session, status_line};
 use std::alloc::{AllocError, Global};
 use std::test::Fail;
 

@@ -1,8 +1,11 @@
+//! Boards: four threads draw each number once, and the machine of a round event by event.
 ghost use Rattle.std.specs.Prelude.{◌≡◌, ◌+◌, ◌<◌, ◌≤◌, length, true, All, IfOk};
 ghost use Rattle.std.specs.Thread.{IsSync};
 ghost use Rattle.lc_board.specs.Board.{AllReported};
 
-use super::*;
+use lc_board::{
+    Board, BoardSeat, Event, NoMemory, RoundResult, RoundState, law_of_boards, law_of_rounds,
+};
 use std::alloc::{AllocError, Global};
 use std::test::Fail;
 use std::thread::{Threads, join_mut};
@@ -20,7 +23,7 @@ fn value_of(number: u64) -> u64 {
     (number ^ 0x5555) | 1_000
 }
 
-#[tactic(auto, using(crate::proofs::Callers::owes, crate::proofs::Callers::settled))]
+#[tactic(auto, using(lc_board::proofs::Callers::owes, lc_board::proofs::Callers::settled))]
 fn work(board: &Board, worker: &mut Worker)
     requires { (worker.old.seat.table ≡ board.now.table) × AllReported worker.old.seat.view.book }
     ensures { worker.new.seat.table ≡ board.now.table }

@@ -1,5 +1,5 @@
 //! What scripts print, by the steps of the machine.
-use crate::{Machine, Step};
+use lc_eval::{Machine, Step};
 use lc_parse::parse;
 use std::alloc::{AllocError, Global};
 use std::test::Fail;

@@ -1,4 +1,5 @@
-use crate::{ParseRefusal, TokenKind, parse, tokens};
+//! Scripts as they are read: trees, tokens and faults.
+use lc_parse::{ParseRefusal, TokenKind, parse, tokens};
 use std::alloc::{AllocError, Global};
 use std::test::Fail;
 

@@ -1,5 +1,5 @@
 //! Each line once, as a session prints it.
-use crate::{
+use lc_print::{
     bracket_line, code_line, distance_line, distance_none_line, fault_line, field_line, least_line,
     least_none_line, list_line, none_line, number_line, rows_line, truth_line,
 };
