@@ -1,6 +1,6 @@
 //! The values are those of `tools/plan_numbers.py`, which counts and lists without this crate.
 
-use crate::{NoMemory, Plan, Spot};
+use lc_place::{NoMemory, Plan, Spot};
 
 fn crosses<T: Send>(_value: &T) {}
 

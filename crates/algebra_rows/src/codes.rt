@@ -1,9 +1,6 @@
 //! Tests of what the contracts are meant to say, by values from outside; each call is seen to answer.
-ghost use Rattle.std.specs.Prelude.{IsTrue};
-ghost use Rattle.lc_algebra.specs.Word.{IsWord};
-ghost use Rattle.lc_algebra.specs.Matrix.{AreRows};
-
-use crate::{Code, CodeRefusal};
+use crate::shapes::{are_words, words_of};
+use lc_code::{Code, CodeRefusal};
 use lc_field::{Field, NoMemory};
 use lc_vec::{Word, fits};
 use std::alloc::Global;
@@ -31,33 +28,6 @@ fn numbers_of_refusals(rt: HostRuntime) -> Result<(), Fail> {
     Ok(())
 }
 
-// Whether the word has n symbols of the field.
-fn is_word(field: &Field, n: usize, word: &Word) -> bool
-    ensures is { IsTrue result → IsWord field.now n word.now }
-{
-    word.len() == n && fits(field, word.symbols())
-}
-
-// Whether the words have n symbols of the field.
-fn are_words(field: &Field, n: usize, words: &[Word]) -> bool
-    ensures is { IsTrue result → AreRows field.now n words.now }
-{
-    for word in words {
-        if !is_word(field, n, word) {
-            return false;
-        }
-    }
-    true
-}
-
-fn words(alloc: Global, rows: &[&[u8]]) -> Result<Vec<Word>, NoMemory> {
-    let mut words = Vec::new(alloc);
-    for row in rows {
-        words.push(Word::from_slice(alloc, row)?)?;
-    }
-    Ok(words)
-}
-
 // The code of rows that are seen to be words of n symbols.
 fn generated(
     rt: &impl Abort,
@@ -67,7 +37,7 @@ fn generated(
     rows: &[&[u8]],
 ) -> Result<Code, Fail> {
     let field = Field::of(alloc, q)?;
-    let words = words(alloc, rows)?;
+    let words = words_of(alloc, rows)?;
     assert!(rt; field.is_symbol() && 1 <= n && n <= 255 && are_words(&field, n, &words));
     Ok(Code::from_rows(alloc, &field, n, &words)?)
 }
@@ -75,7 +45,7 @@ fn generated(
 // The code of checks that are seen to be words of n symbols.
 fn checked(rt: &impl Abort, alloc: Global, q: u64, n: usize, rows: &[&[u8]]) -> Result<Code, Fail> {
     let field = Field::of(alloc, q)?;
-    let words = words(alloc, rows)?;
+    let words = words_of(alloc, rows)?;
     assert!(rt; field.is_symbol() && 1 <= n && n <= 255 && are_words(&field, n, &words));
     Ok(Code::from_checks(alloc, &field, n, &words)?)
 }

@@ -1,6 +1,6 @@
 //! Tests of what the contracts are meant to say, by values from outside.
-use crate::{Word, add_scaled, dot, first_nonzero, fits, scale, weight};
 use lc_field::Field;
+use lc_vec::{Word, add_scaled, dot, first_nonzero, fits, scale, weight};
 use std::test::Fail;
 
 // Over fields of 3, 4, 9 and 16 elements: c, the sum of [0, 1, 2, q - 1] and c times [1, 2, q - 1, q - 1], and the dot of

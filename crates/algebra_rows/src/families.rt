@@ -1,5 +1,8 @@
 //! Tests of what the contracts are meant to say, by values from outside; each call is seen to answer.
-use crate::{check_mat, generator_mat, hamming, null_code, reed_muller, repetition, whole_space};
+use crate::shapes::words_of;
+use lc_basic::{
+    check_mat, generator_mat, hamming, null_code, reed_muller, repetition, whole_space,
+};
 use lc_code::{Code, CodeRefusal};
 use lc_field::{Field, NoMemory};
 use lc_vec::Word;
@@ -162,14 +165,6 @@ fn the_dual_of_a_repetition_code(rt: HostRuntime) -> Result<(), Fail> {
     Ok(())
 }
 
-fn words(alloc: Global, rows: &[&[u8]]) -> Result<Vec<Word>, NoMemory> {
-    let mut words = Vec::new(alloc);
-    for row in rows {
-        words.push(Word::from_slice(alloc, row)?)?;
-    }
-    Ok(words)
-}
-
 // The size of the field, rows, and the length and the dimension of the code that they generate, or why there is none.
 const MATRICES: [(u64, &[&[u8]], Result<(usize, usize), CodeRefusal>); 8] = [
     (3, &[&[1, 1, 1]], Ok((3, 1))),
@@ -212,7 +207,7 @@ fn have_shape(
 fn codes_by_a_matrix(rt: HostRuntime) -> Result<(), Fail> {
     for (q, rows, expected) in MATRICES {
         let field = Field::of(rt.alloc(), q)?;
-        let rows = words(rt.alloc(), rows)?;
+        let rows = words_of(rt.alloc(), rows)?;
         assert!(rt; have_shape(rt.alloc(), &rows, &field, expected), "over {q}");
     }
     Ok(())
@@ -252,7 +247,7 @@ fn is_dual_of_dual(alloc: Global, code: Result<Code, CodeRefusal>, rows: &[&[u8]
 fn a_code_is_the_dual_of_its_dual(rt: HostRuntime) -> Result<(), Fail> {
     for (q, rows, reduced) in REDUCED {
         let field = Field::of(rt.alloc(), q)?;
-        let rows = words(rt.alloc(), rows)?;
+        let rows = words_of(rt.alloc(), rows)?;
         let code = generator_mat(rt.alloc(), &rows, &field);
         assert!(rt; is_dual_of_dual(rt.alloc(), code, reduced), "over {q}");
     }

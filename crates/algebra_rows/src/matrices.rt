@@ -1,41 +1,11 @@
 //! Tests of what the contracts are meant to say, by values that `tools/linear_algebra.py` prints; each call is seen to answer.
-ghost use Rattle.std.specs.Prelude.{IsTrue};
-ghost use Rattle.lc_algebra.specs.Word.{IsWord};
-ghost use Rattle.lc_algebra.specs.Matrix.{AreRows};
-
-use crate::{Matrix, rank_of_kernel};
+use crate::shapes::{are_words, words_of};
 use lc_field::{Field, NoMemory};
+use lc_matrix::{Matrix, rank_of_kernel};
 use lc_vec::{Word, dot, fits, weight};
 use std::alloc::Global;
 use std::process::Abort;
 use std::test::Fail;
-
-// Whether the word has n symbols of the field.
-fn is_word(field: &Field, n: usize, word: &Word) -> bool
-    ensures is { IsTrue result → IsWord field.now n word.now }
-{
-    word.len() == n && fits(field, word.symbols())
-}
-
-// Whether the words have n symbols of the field.
-fn are_words(field: &Field, n: usize, words: &[Word]) -> bool
-    ensures is { IsTrue result → AreRows field.now n words.now }
-{
-    for word in words {
-        if !is_word(field, n, word) {
-            return false;
-        }
-    }
-    true
-}
-
-fn words(alloc: Global, rows: &[&[u8]]) -> Result<Vec<Word>, NoMemory> {
-    let mut words = Vec::new(alloc);
-    for row in rows {
-        words.push(Word::from_slice(alloc, row)?)?;
-    }
-    Ok(words)
-}
 
 // The matrix of rows that are seen to be words of n symbols.
 fn matrix_of(
@@ -46,7 +16,7 @@ fn matrix_of(
     rows: &[&[u8]],
 ) -> Result<Matrix, Fail> {
     let field = Field::of(alloc, q)?;
-    let words = words(alloc, rows)?;
+    let words = words_of(alloc, rows)?;
     assert!(rt; are_words(&field, n, &words));
     Ok(Matrix::from_rows(alloc, &field, n, &words)?)
 }
