@@ -7,8 +7,6 @@ mod hamming_codes;
 mod matrices;
 mod reed_muller_codes;
 mod refusal;
-#[cfg(test)]
-mod tests;
 mod trivial;
 
 pub use dimensions::{

@@ -27,8 +27,6 @@ mod laws;
 mod memory;
 mod round;
 mod rule;
-#[cfg(test)]
-mod tests;
 mod views;
 
 pub use board::{Board, BoardSeat, RoundResult};

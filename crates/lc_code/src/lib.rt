@@ -4,8 +4,6 @@
 
 mod code;
 mod refusal;
-#[cfg(test)]
-mod tests;
 
 pub use code::Code;
 pub use refusal::CodeRefusal;

@@ -17,8 +17,6 @@ mod queries;
 mod refusals;
 mod rows;
 mod statement;
-#[cfg(test)]
-mod tests;
 mod values;
 
 pub use machine::{Machine, Step};

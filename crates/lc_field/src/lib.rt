@@ -9,8 +9,6 @@ mod pairs;
 mod refusal;
 mod roots;
 mod row;
-#[cfg(test)]
-mod tests;
 
 pub use field::Field;
 pub use refusal::{FieldRefusal, NoMemory};

@@ -7,8 +7,6 @@ mod laws;
 mod matrix;
 mod reduce;
 mod solve;
-#[cfg(test)]
-mod tests;
 
 pub use laws::rank_of_kernel;
 pub use matrix::Matrix;

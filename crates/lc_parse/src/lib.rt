@@ -15,8 +15,6 @@ mod laws;
 mod reading;
 mod refusal;
 mod scan;
-#[cfg(test)]
-mod tests;
 mod tree;
 
 pub use laws::{one_fault, one_script, script_or_fault, spans_rise};

@@ -17,6 +17,3 @@ pub use spot::Spot;
 /// Memory ran out.
 #[derive(Clone, Copy, Debug, PartialEq, Eq, Drop)]
 pub struct NoMemory;
-
-#[cfg(test)]
-mod tests;

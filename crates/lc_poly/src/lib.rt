@@ -11,6 +11,3 @@ mod poly;
 pub use cyclotomic::cyclotomic_set;
 pub use minimal_polynomial::minimal;
 pub use poly::{Poly, x_power_minus_one};
-
-#[cfg(test)]
-mod tests;

@@ -10,6 +10,3 @@ mod text;
 pub use laws::one_text;
 pub use session::run_session;
 pub use status::{Status, status_line};
-
-#[cfg(test)]
-mod tests;

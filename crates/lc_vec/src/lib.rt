@@ -2,8 +2,6 @@
 #![tactic(auto)]
 
 mod slices;
-#[cfg(test)]
-mod tests;
 mod word;
 
 pub use slices::{add_scaled, dot, first_nonzero, fits, scale, weight};

@@ -1,0 +1,20 @@
+//! Tests of the crates of fields, words, matrices, polynomials, codes and plans, by values from outside. They stand here so
+//! that no crate is proved twice, once with its tests.
+#![tactic(auto)]
+
+#[cfg(test)]
+mod codes;
+#[cfg(test)]
+mod families;
+#[cfg(test)]
+mod fields;
+#[cfg(test)]
+mod matrices;
+#[cfg(test)]
+mod plan;
+#[cfg(test)]
+mod polynomials;
+#[cfg(test)]
+mod shapes;
+#[cfg(test)]
+mod words;

@@ -1,0 +1,63 @@
+//! What scripts print, by the steps of the machine.
+use lc_eval::{Machine, Step};
+use lc_parse::parse;
+use std::alloc::{AllocError, Global};
+use std::test::Fail;
+
+// The text of a script of at most twenty statements.
+fn text_of(alloc: Global, script: &str) -> Result<Vec<u8>, AllocError> {
+    let Ok(script) = parse(alloc, script.as_bytes()) else {
+        return Err(AllocError);
+    };
+    let Ok(mut machine) = Machine::start(alloc, script) else {
+        return Err(AllocError);
+    };
+    let mut text = Vec::new(alloc);
+    for _ in 0..20 {
+        match machine.step(alloc) {
+            Ok(Step::Line(line)) => text.extend_from_slice(&line)?,
+            Ok(Step::Fault(line)) => text.extend_from_slice(&line)?,
+            Ok(Step::Silent) => {}
+            Ok(Step::End) => return Ok(text),
+            Err(_) => return Err(AllocError),
+        }
+    }
+    Ok(text)
+}
+
+#[test]
+fn texts_of_scripts(rt: HostRuntime) -> Result<(), Fail> {
+    let cases: [(&str, &str); 18] = [
+        ("", ""),
+        ("x := 5; y := [x, 2]; y; x;", "[5,2]\n5\n"),
+        ("[[], [1]]; []; [[]];", "[[],[1]]\n[]\n[[]]\n"),
+        ("x := 1; x := [x]; x;", "[1]\n"),
+        ("1; z; 2;", "1\nfault 44 at 3\n"),
+        ("[1, [2], z];", "fault 44 at 9\n"),
+        ("[1, [2], [3]];", "fault 45 at 4\n"),
+        ("[[1], 2, 3];", "fault 45 at 6\n"),
+        ("Nothing(z);", "fault 44 at 0\n"),
+        ("x := LeastWord(z);", "fault 45 at 5\n"),
+        ("GF(z, 3);", "fault 46 at 0\n"),
+        ("HammingCode([1], [2]);", "fault 45 at 12\n"),
+        (
+            "c := HammingCode(3, GF(2)); c; [Dimension(c), WordLength(c)];",
+            "code [7,4] GF(2)\n[4,7]\n",
+        ),
+        (
+            "LeastWord([[1,0,1],[0,1,1]], GF(2));",
+            "least 2 word [0,1,1]\n",
+        ),
+        ("LeastWord([[0,0]], GF(3));", "least none\n"),
+        ("Weight([]); Weight([0,3,0]);", "0\n1\n"),
+        (
+            "CheckMat(RepetitionCode(3, GF(2))); 1;",
+            "[[1,0,1],[0,1,1]]\n1\n",
+        ),
+        ("IsCodeword(NullCode(2, GF(2)), [0,0]);", "true\n"),
+    ];
+    for (script, text) in cases {
+        assert_eq!(rt; text_of(rt.alloc(), script)?.as_slice(), text.as_bytes());
+    }
+    Ok(())
+}
