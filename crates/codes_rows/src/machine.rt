@@ -33,7 +33,7 @@ fn texts_of_scripts(rt: HostRuntime) -> Result<(), Fail> {
         ("[[], [1]]; []; [[]];", "[[],[1]]\n[]\n[[]]\n"),
         ("x := 1; x := [x]; x;", "[1]\n"),
         ("1; z; 2;", "1\nfault 44 at 3\n"),
-        ("[1, [2], z];", "fault 44 at 9\n"),
+        ("[1, [2], z];", "fault 45 at 4\n"),
         ("[1, [2], [3]];", "fault 45 at 4\n"),
         ("[[1], 2, 3];", "fault 45 at 6\n"),
         ("Nothing(z);", "fault 44 at 0\n"),
