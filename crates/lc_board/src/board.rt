@@ -183,3 +183,15 @@ impl RoundResult {
         self.best
     }
 }
+
+// Proved only where its argument may go to another thread and be shared with it.
+fn crosses_threads<T: Send + Sync>(_value: &T) {}
+
+// Proved only where its argument may go to another thread.
+fn moves_to_a_thread<T: Send>(_value: &T) {}
+
+// A board is `Send` and `Sync`, and a seat is `Send`.
+fn board_crosses_threads(board: &Board, seat: &BoardSeat) {
+    crosses_threads(board);
+    moves_to_a_thread(seat);
+}

@@ -198,3 +198,11 @@ impl Plan {
         let _field = self.size.q;
     }
 }
+
+// Proved only where its argument may go to another thread and be shared with it.
+fn crosses_threads<T: Send + Sync>(_value: &T) {}
+
+// A plan is `Send` and `Sync`.
+fn plan_crosses_threads(plan: &Plan) {
+    crosses_threads(plan);
+}

@@ -71,3 +71,11 @@ impl Spot {
         self.coefficients.as_slice()
     }
 }
+
+// Proved only where its argument may go to another thread.
+fn moves_to_a_thread<T: Send>(_value: &T) {}
+
+// A spot is `Send`.
+fn spot_moves_to_a_thread(spot: &Spot) {
+    moves_to_a_thread(spot);
+}
