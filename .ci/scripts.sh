@@ -132,6 +132,7 @@ reads_a_folder() { "$program" run </; }
 writes_to_a_full_device() { echo 'GF(2);' | "$program" run >/dev/full; }
 writes_nothing_to_a_full_device() { echo 'x := GF(2);' | "$program" run >/dev/full; }
 asks() { "$program" "$1" </dev/null; }
+asks_into_a_full_device() { "$program" --help </dev/null >/dev/full; }
 
 asks_in_other_bytes() { "$program" $'\xff' </dev/null; }
 
@@ -139,6 +140,7 @@ a_source_that_fails() { ends 4 'codes: source fault' reads_a_folder && [ ! -s "$
 a_sink_that_fails() { ends 5 'codes: sink fault' writes_to_a_full_device; }
 a_sink_that_is_not_used() { ends 0 '' writes_nothing_to_a_full_device; }
 a_word_that_is_no_text() { ends 2 'codes: word 0 refused' asks_in_other_bytes && [ ! -s "$room/out" ]; }
+help_into_a_full_device() { ends 5 'codes: sink fault' asks_into_a_full_device; }
 help_says_where_to_look() { ends 0 '' asks --help && grep -q 'codes run' "$room/out" && grep -q 'docs/SCRIPT.md' "$room/out"; }
 version_is_one_line() { ends 0 '' asks --version && [ "$(grep -cE '^codes [0-9]+\.[0-9]+\.[0-9]+$' "$room/out")" = 1 ] && [ "$(wc -l <"$room/out")" -eq 1 ]; }
 
@@ -148,6 +150,7 @@ check_outside() {
     check 'a text of no bytes into a full device: status 0' a_sink_that_is_not_used
     check 'a word that is no UTF-8: status 2' a_word_that_is_no_text
     check '--help names the command and the documents' help_says_where_to_look
+    check '--help into a full device: status 5' help_into_a_full_device
     check '--version is one line' version_is_one_line
 }
 
