@@ -5,18 +5,18 @@
 --   Stays-none, Stays-more, Goes-last, Goes-more    one watcher
 --   Kept-none          before the first record every watcher is there
 --   Kept-more          one record more
-use Rattle.std.proofs.Common.{◌≡◌, ◌+◌, ◌-◌, ◌++◌, ℕ, suc, zero, Bool, true, false, cond, List, [], ◌∷◌, length, take, refl, sym, ap, subst, ◌∙◌, arith}
+--   Stays-unpaused     a watcher that is handed back and answered no Pause to the last record, nor could before, never did
+use Rattle.std.proofs.Common.{◌≡◌, ◌+◌, ◌++◌, ℕ, suc, zero, Bool, true, false, cond, List, [], ◌∷◌, length, refl, sym, ap, subst, ◌∙◌, arith}
 use Rattle.std.specs.Prelude.{count_by, Option, Some, None, option_map, IfSome, not}
 use Rattle.std.specs.List.{list_any}
 use Rattle.std.proofs.lemmas.List.{append_assoc, append-nil}
 use Rattle.std.proofs.lemmas.List.Folds.{list_any-append}
 use Rattle.std.proofs.lemmas.List.Sums.{sum_by-append}
-use Rattle.std.proofs.Math.Seq.{take-append_seam}
 use Rattle.lc_io.specs.declared.watcher.Record.{Record}
 use Rattle.lc_io.specs.declared.watcher.Advice.{Advice}
 use Rattle.lc_io.specs.declared.watcher.Advice.TheVariants.{Go, Pause, Leave}
 use Rattle.lc_io.specs.Watchers.{Hearing, Hears, Tells, is_leave, is_pause, first_advice, AnswersFrom, HearsUnlessLeft, pauses_after}
-use Rattle.lc_io.specs.Told.{outlasts, Gave, Stays, Goes, Kept}
+use Rattle.lc_io.specs.Told.{outlasts, ends_paused, pauses_early, Gave, Stays, Goes, Kept}
 
 pub outlasts-suc : (n : ℕ) (coming : List Advice) → outlasts n coming ≡ false → outlasts (suc n) coming ≡ false
 outlasts-suc zero coming ends = absurd (let e = ends in cc)
@@ -62,7 +62,7 @@ Stays-none keep w = record {
   heard = heard-none w.heard;
   pauses = omega arith;
   calm = λ k. refl;
-  unpaused = λ k p. refl;
+  last = refl;
 }
 
 Gave-more : (before mid after : Option (List Advice)) (advices : List Advice) (advice : Advice) → Gave before advices mid → AnswersFrom mid advice after → is_leave advice ≡ false → Gave before (advices ++ advice ∷ []) after
@@ -114,9 +114,39 @@ to-false : (before : Option (List Advice)) (n : ℕ) (advice : Advice) → is_le
 to-false None n advice leaves is = tt
 to-false (Some coming) n advice leaves is = is ∙ ap not leaves
 
-pub Stays-more : (keep p q : Bool) (notes : List Record) (note : Record) (advice : Advice) (w v u : Hearing) → (keep ≡ true → p ≡ false) → (q ≡ false → is_pause advice ≡ false) → Stays keep notes p w v → Hears note v advice u → is_leave advice ≡ false
-    → Stays keep (notes ++ note ∷ []) q w u
-Stays-more keep p q notes note advice w v u goes flag s h stays =
+ends-one : (advices : List Advice) (advice : Advice) → ends_paused (advices ++ advice ∷ []) ≡ is_pause advice
+ends-one [] advice = refl
+ends-one (a ∷ []) advice = refl
+ends-one (a ∷ b ∷ rest) advice = ends-one (b ∷ rest) advice
+
+early-one : (advices : List Advice) (advice : Advice) → list_any is_pause advices ≡ false → pauses_early (advices ++ advice ∷ []) ≡ false
+early-one [] advice none = refl
+early-one (Go ∷ []) advice none = refl
+early-one (Pause ∷ []) advice none = absurd (let e = none in cc)
+early-one (Leave ∷ []) advice none = refl
+early-one (Go ∷ b ∷ rest) advice none = early-one (b ∷ rest) advice none
+early-one (Pause ∷ b ∷ rest) advice none = absurd (let e = none in cc)
+early-one (Leave ∷ b ∷ rest) advice none = early-one (b ∷ rest) advice none
+
+-- with no Pause before the last advice, and none there, there is none
+calm-whole : (advices : List Advice) → pauses_early advices ≡ false → ends_paused advices ≡ false → list_any is_pause advices ≡ false
+calm-whole [] calm last = refl
+calm-whole (Go ∷ []) calm last = refl
+calm-whole (Pause ∷ []) calm last = absurd (let e = last in cc)
+calm-whole (Leave ∷ []) calm last = refl
+calm-whole (Go ∷ b ∷ rest) calm last = calm-whole (b ∷ rest) calm last
+calm-whole (Pause ∷ b ∷ rest) calm last = absurd (let e = calm in cc)
+calm-whole (Leave ∷ b ∷ rest) calm last = calm-whole (b ∷ rest) calm last
+
+none-counted : (advices : List Advice) → list_any is_pause advices ≡ false → count_by is_pause advices ≡ 0
+none-counted [] none = refl
+none-counted (Go ∷ rest) none = sum_by-append (λ a. cond (is_pause a) 1 0) (Go ∷ []) rest ∙ (let e = none-counted rest none in omega (arith, e))
+none-counted (Pause ∷ rest) none = absurd (let e = none in cc)
+none-counted (Leave ∷ rest) none = sum_by-append (λ a. cond (is_pause a) 1 0) (Leave ∷ []) rest ∙ (let e = none-counted rest none in omega (arith, e))
+
+pub Stays-more : (keep p : Bool) (notes : List Record) (note : Record) (advice : Advice) (w v u : Hearing) → (keep ≡ true → p ≡ false) → Stays keep notes p w v → Hears note v advice u → is_leave advice ≡ false
+    → Stays keep (notes ++ note ∷ []) (is_pause advice) w u
+Stays-more keep p notes note advice w v u goes s h stays =
     let size : length (s.advices ++ advice ∷ []) ≡ length (notes ++ note ∷ []) = one-longer s.advices advice ∙ ap suc s.as_many ∙ sym (one-longer notes note) in
     record {
       advices = s.advices ++ advice ∷ [];
@@ -126,8 +156,8 @@ Stays-more keep p q notes note advice w v u goes flag s h stays =
       outlasting = to-true w.coming (length (notes ++ note ∷ [])) advice stays (subst (λ (n : ℕ). IfSome w.coming (λ c. outlasts n c ≡ not (is_leave advice))) (sym (one-longer notes note)) (goes-on w.coming v.coming u.coming s.advices advice (length notes) (sym s.as_many) s.none_leaves s.coming h.coming));
       heard = heard-more w.heard v.heard u.heard notes note advice s.heard h.heard stays;
       pauses = h.pauses ∙ ap (λ (n : ℕ). pauses_after n advice) s.pauses ∙ paused-once (w.pauses + count_by is_pause s.advices) advice ∙ (let e = paused-more s.advices advice in omega arith);
-      calm = λ k. (let m : length (notes ++ note ∷ []) - 1 ≡ length s.advices = omega (arith, s.as_many, one-longer notes note) in ap (λ (n : ℕ). list_any is_pause (take n (s.advices ++ advice ∷ []))) m ∙ ap (list_any is_pause) (take-append_seam s.advices (advice ∷ [])) ∙ s.unpaused k (goes k));
-      unpaused = λ k none. any-one is_pause s.advices advice (s.unpaused k (goes k)) (flag none);
+      calm = λ k. early-one s.advices advice (calm-whole s.advices (s.calm k) (sym s.last ∙ goes k));
+      last = sym (ends-one s.advices advice);
     }
 
 pub Goes-last : (keep p : Bool) (notes : List Record) (note : Record) (advice : Advice) (w v u : Hearing) → Stays keep notes p w v → Hears note v advice u → is_leave advice ≡ true → Goes (notes ++ note ∷ []) w
@@ -142,28 +172,26 @@ ends-more (Some coming) n is = outlasts-suc n coming is
 pub Goes-more : (notes : List Record) (note : Record) (w : Hearing) → Goes notes w → Goes (notes ++ note ∷ []) w
 Goes-more notes note w goes = record { leaving = rw (one-longer notes note) (ends-more w.coming (length notes) goes.leaving) }
 
+both-false : (p q : Bool) → cond p true q ≡ false → (p ≡ false) × (q ≡ false)
+both-false true q none = absurd (let e = none in cc)
+both-false false q none = (refl, none)
+
 pub Kept-none : (keep : Bool) (ws : List Hearing) → Kept keep [] false ws ws
 Kept-none keep [] = Kept.no_more
-Kept-none keep (w ∷ ws) = Kept.kept w w ws ws (Stays-none keep w) (Kept-none keep ws)
+Kept-none keep (w ∷ ws) = Kept.kept w w ws ws false false (Stays-none keep w) (Kept-none keep ws)
 
-no_pause : (advice : Advice) (p q : Bool) → q ≡ cond (is_pause advice) true p → q ≡ false → is_pause advice ≡ false
-no_pause Go p q is none = refl
-no_pause Pause p q is none = absurd (let e : true ≡ false = sym is ∙ none in cc)
-no_pause Leave p q is none = refl
-
-none_behind : (advice : Advice) (p : Bool) → cond (is_pause advice) true p ≡ false → p ≡ false
-none_behind Go p none = none
-none_behind Pause p none = absurd (let e = none in cc)
-none_behind Leave p none = none
-
-more : (keep p : Bool) (notes : List Record) (note : Record) (ws vs us : List Hearing) (q r : Bool) → (keep ≡ true → p ≡ false) → Kept keep notes p ws vs → Tells note vs us q → (r ≡ false → q ≡ false) → Kept keep (notes ++ note ∷ []) r ws us
-more keep p notes note _ _ _ _ r goes Kept.no_more Tells.nobody low = Kept.no_more
-more keep p notes note _ _ us q r goes (Kept.gone w ws vs g past) told low = Kept.gone w ws us (Goes-more notes note w g) (more keep p notes note ws vs us q r goes past told low)
-more keep p notes note _ _ _ _ r goes (Kept.kept w _ ws _ s past) (Tells.stays v u advice vs us paused stays h told) low =
-    Kept.kept w u ws us (Stays-more keep p r notes note advice w v u goes (λ none. no_pause advice paused (cond (is_pause advice) true paused) refl (low none)) s h stays)
-    (more keep p notes note ws vs us paused r goes past told (λ none. none_behind advice paused (low none)))
-more keep p notes note _ _ _ _ r goes (Kept.kept w _ ws _ s past) (Tells.leaves v u advice vs us paused leaves h told) low =
-    Kept.gone w ws us (Goes-last keep p notes note advice w v u s h leaves) (more keep p notes note ws vs us paused r goes past told low)
+more : (keep : Bool) (notes : List Record) (note : Record) (p q : Bool) (ws vs us : List Hearing) → (keep ≡ true → p ≡ false) → Kept keep notes p ws vs → Tells note vs us q → Kept keep (notes ++ note ∷ []) q ws us
+more keep notes note _ _ _ _ _ goes Kept.no_more Tells.nobody = Kept.no_more
+more keep notes note _ q _ _ us goes (Kept.gone w ws vs p g past) told = Kept.gone w ws us q (Goes-more notes note w g) (more keep notes note p q ws vs us goes past told)
+more keep notes note _ _ _ _ _ goes (Kept.kept w _ ws _ p paused s past) (Tells.stays v u advice vs us q stays h told) =
+    Kept.kept w u ws us (is_pause advice) q (Stays-more keep p notes note advice w v u (λ k. (both-false p paused (goes k)).0) s h stays)
+    (more keep notes note paused q ws vs us (λ k. (both-false p paused (goes k)).1) past told)
+more keep notes note _ _ _ _ _ goes (Kept.kept w _ ws _ p paused s past) (Tells.leaves v u advice vs us q leaves h told) =
+    Kept.gone w ws us q (Goes-last keep p notes note advice w v u s h leaves) (more keep notes note paused q ws vs us (λ k. (both-false p paused (goes k)).1) past told)
 
 pub Kept-more : (keep p q : Bool) (notes : List Record) (note : Record) (ws vs us : List Hearing) → (keep ≡ true → p ≡ false) → Kept keep notes p ws vs → Tells note vs us q → Kept keep (notes ++ note ∷ []) q ws us
-Kept-more keep p q notes note ws vs us goes past told = more keep p notes note ws vs us q q goes past told (λ none. none)
+Kept-more keep p q notes note ws vs us goes past told = more keep notes note p q ws vs us goes past told
+
+-- a session that nobody paused at its last record, and that kept its checkpoints, was never paused
+pub Stays-unpaused : (notes : List Record) (w v : Hearing) → Stays true notes false w v → v.pauses ≡ w.pauses
+Stays-unpaused notes w v s = s.pauses ∙ ap (λ (n : ℕ). w.pauses + n) (none-counted s.advices (calm-whole s.advices (s.calm refl) (sym s.last))) ∙ omega arith

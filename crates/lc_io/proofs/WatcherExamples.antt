@@ -39,11 +39,11 @@ stays = record {
   heard = refl;
   pauses = refl;
   calm = λ k. refl;
-  unpaused = λ k p. refl;
+  last = refl;
 }
 
 pub three_watchers : Kept true (first ∷ second ∷ []) false (fresh (Go ∷ Go ∷ []) ∷ fresh (Go ∷ []) ∷ fresh [] ∷ []) (after_both ∷ [])
-three_watchers = Kept.kept _ _ _ _ stays (Kept.gone _ _ _ (record { leaving = refl }) (Kept.gone _ _ _ (record { leaving = refl }) Kept.no_more))
+three_watchers = Kept.kept _ _ _ _ _ _ stays (Kept.gone _ _ _ _ (record { leaving = refl }) (Kept.gone _ _ _ _ (record { leaving = refl }) Kept.no_more))
 
 pub too_short : (keep paused : Bool) (after : Hearing) → Stays keep (first ∷ second ∷ []) paused (fresh (Go ∷ [])) after → ⊥
 too_short keep paused after s = let e : false ≡ true = s.outlasting in cc
