@@ -1,3 +1,2 @@
-pub mod SearchExamples
-pub mod CertificateExamples
 pub mod PlanExamples
+pub mod SearchExamples

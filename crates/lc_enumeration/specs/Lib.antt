@@ -3,4 +3,3 @@ pub mod Plan
 pub mod InformationSet
 pub mod Search
 pub mod Records
-pub mod Certificate

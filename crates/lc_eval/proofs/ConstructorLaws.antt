@@ -22,7 +22,8 @@ use Rattle.lc_basic.specs.Refusal.{length_refusal, matrix_refusal, hamming_refus
 use Rattle.lc_language.specs.declared.Call.TheVariants as call
 use Rattle.lc_language.specs.Value as language
 use Rattle.lc_language.specs.Value.{number, field, lists, code}
-use Rattle.lc_language.specs.Refusal.{refuse, when, first_of, is_length, too_large, bad_length, bad_argument, columns_of, refusals_of, refusal_of}
+use Rattle.lc_language.specs.Refusal.{refuse, when, first_of, is_length, too_large, bad_length, bad_argument, refusals_of, refusal_of}
+use Rattle.lc_formats.specs.Entries.{columns_of}
 use Rattle.lc_language.specs.Evaluation.{gives, refused, refuse_call, AppliesTo}
 use Rattle.lc_eval.specs.declared.values.Value.{Value}
 use Rattle.lc_eval.specs.declared.refusals.Stop.{Stop}

@@ -19,7 +19,8 @@ use Rattle.lc_code.specs.Refusal.{refusal_number, refusal_values}
 use Rattle.lc_language.specs.declared.Call.TheVariants as call
 use Rattle.lc_language.specs.Value as language
 use Rattle.lc_language.specs.Value.{number, numbers, lists, code, truth}
-use Rattle.lc_language.specs.Refusal.{refuse, when, first_of, bad_argument, reaches, word_refusals, refusals_of, refusal_of}
+use Rattle.lc_language.specs.Refusal.{refuse, when, first_of, bad_argument, word_refusals, refusals_of, refusal_of}
+use Rattle.lc_formats.specs.Entries.{reaches}
 use Rattle.lc_language.specs.Evaluation.{gives, AppliesTo}
 use Rattle.lc_eval.specs.declared.refusals.Stop.{Stop}
 use Rattle.lc_eval.specs.Applied.{Answers}

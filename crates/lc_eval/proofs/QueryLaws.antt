@@ -22,7 +22,8 @@ use Rattle.lc_basic.specs.Refusal.{matrix_refusal, IsRefusedAs}
 use Rattle.lc_language.specs.declared.Call.TheVariants as call
 use Rattle.lc_language.specs.Value as language
 use Rattle.lc_language.specs.Value.{field, lists}
-use Rattle.lc_language.specs.Refusal.{Refusal, refuse, when, first_of, columns_of, matrix_refusals, refusals_of, refusal_of}
+use Rattle.lc_language.specs.Refusal.{Refusal, refuse, when, first_of, matrix_refusals, refusals_of, refusal_of}
+use Rattle.lc_formats.specs.Entries.{columns_of}
 use Rattle.lc_language.specs.Evaluation.{refused, refuse_call, Step, prints, fails, fail_with, PrintsLeast}
 use Rattle.lc_eval.specs.declared.refusals.Refused.{Refused}
 use Rattle.lc_eval.specs.declared.refusals.Stop.{Stop}

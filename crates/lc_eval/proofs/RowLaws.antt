@@ -16,7 +16,8 @@ use Rattle.lc_code.specs.declared.refusal.CodeRefusal.TheVariants.{BadLength, Ba
 use Rattle.lc_code.specs.Refusal.{refusal_number, refusal_values}
 use Rattle.lc_basic.specs.Refusal as basic
 use Rattle.lc_basic.specs.Refusal.{are_even, have_elements, matrix_refusal}
-use Rattle.lc_language.specs.Refusal.{refuse, first_of, is_length, too_large, bad_length, bad_argument, reaches, columns_of, lengths_differ, matrix_refusals}
+use Rattle.lc_language.specs.Refusal.{refuse, first_of, is_length, too_large, bad_length, bad_argument, lengths_differ, matrix_refusals}
+use Rattle.lc_formats.specs.Entries.{reaches, columns_of}
 use Rattle.lc_eval.specs.Made.{refusal_from}
 use Rattle.lc_eval.specs.Rows.{clamped, clamped_rows}
 use Rattle.lc_eval.proofs.AnswerLaws.{Agrees, no_refusal, unless_so}

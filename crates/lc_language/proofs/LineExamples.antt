@@ -13,11 +13,13 @@ use Rattle.lc_algebra.specs.Span.{below}
 use Rattle.lc_constructions.specs.Basic.{hamming_length}
 use Rattle.lc_constructions.specs.Cyclic.{all_fields}
 use Rattle.lc_language.specs.declared.Call.TheVariants.{Gf, HammingCode, RepetitionCode, LeastWord}
-use Rattle.lc_language.specs.declared.TokenKind.TheVariants.{Name, Assign, Open, Close, Number, End}
+use Rattle.lc_grammar.specs.declared.TokenKind.TheVariants.{Name, Assign, Open, Close, Number, End}
 use Rattle.lc_language.specs.Value.{number, field, numbers, lists, truth, nothing}
-use Rattle.lc_language.specs.Print.{bracketed, numbers_text, lists_text, field_text, code_text, value_text, line, value_line, spaced, with_values, fault_line}
-use Rattle.lc_language.specs.Token.{is_blank, is_letter, is_digit, is_name_byte, number_from, number_of, widest, cut_of, assign_at, sign_at, token_at, script_end, bad_token, too_wide, ended, token_first, is_number, comment_length, scan_within, scan}
-use Rattle.lc_language.specs.Refusal.{refuse, when, first_of, is_length, too_large, bad_length, bad_argument, reaches, columns_of, lengths_differ, matrix_refusals, refusals_of, refusal_of}
+use Rattle.lc_formats.specs.Text.{bracketed, numbers_text, lists_text, line, spaced, with_values}
+use Rattle.lc_language.specs.Print.{field_text, code_text, value_text, value_line, fault_line}
+use Rattle.lc_grammar.specs.Token.{is_blank, is_letter, is_digit, is_name_byte, number_from, number_of, widest, cut_of, assign_at, sign_at, token_at, script_end, bad_token, too_wide, ended, token_first, is_number, comment_length, scan_within, scan}
+use Rattle.lc_language.specs.Refusal.{refuse, when, first_of, is_length, too_large, bad_length, bad_argument, lengths_differ, matrix_refusals, refusals_of, refusal_of}
+use Rattle.lc_formats.specs.Entries.{reaches, columns_of}
 
 pub lines : map value_line (number 12 ∷ field Gf4 ∷ numbers (1 ∷ 0 ∷ 3 ∷ []) ∷ numbers [] ∷ lists ((1 ∷ 0 ∷ []) ∷ (0 ∷ 1 ∷ []) ∷ []) ∷ truth true ∷ truth false ∷ nothing ∷ []) ≡ (codes "12" ++ 10 ∷ []) ∷ (codes "GF(4)" ++ 10 ∷ []) ∷ (codes "[1,0,3]" ++ 10 ∷ []) ∷ (codes "[]" ++ 10 ∷ []) ∷ (codes "[[1,0],[0,1]]" ++ 10 ∷ []) ∷ (codes "true" ++ 10 ∷ []) ∷ (codes "false" ++ 10 ∷ []) ∷ (codes "none" ++ 10 ∷ []) ∷ []
 unfolding digits shape shape_of size bracketed numbers_text lists_text field_text code_text value_text line value_line

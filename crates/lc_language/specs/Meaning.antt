@@ -20,7 +20,7 @@ use Rattle.lc_constructions.specs.Nearest.{IsNearest, IsWithin}
 use Rattle.lc_language.specs.declared.Call.{Call}
 use Rattle.lc_language.specs.declared.Call.TheVariants.{Gf, GeneratorMatCode, CheckMatCode, RepetitionCode, WholeSpaceCode, NullCode, HammingCode, ReedMullerCode, GeneratorPolCode, CheckPolCode, BinaryGolayCode, TernaryGolayCode, ExtendedBinaryGolayCode, ExtendedTernaryGolayCode, BchCode, ReedSolomonCode, GoppaCode, AlternantCode, DualCode, ExtendedCode, PuncturedCode, ShortenedCode, EvenWeightSubcode, DirectSumCode, UuvCode, DirectProductCode, IntersectionCode, ConcatenatedCode, Dimension, WordLength, GeneratorMat, CheckMat, Weight, IsCodeword, Decode, AlgebraicDecode}
 use Rattle.lc_language.specs.Value.{Value, number, field, numbers, lists, code, truth, nothing}
-use Rattle.lc_language.specs.Refusal.{columns_of}
+use Rattle.lc_formats.specs.Entries.{columns_of}
 
 pub record IsCodeValue (f : FieldName) (n : ℕ) (P : List ℕ → Type 0) (form : Option AlternantForm) (v : Value) : Type 0 where
   pub code_is : (C : Matrix) × IsCode f n P C × (v ≡ code C form)

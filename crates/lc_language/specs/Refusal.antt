@@ -8,7 +8,7 @@
 --   12 LengthsDiffer, 13 BadPositions, 14 InnerDimension (with the dimension and the degree), 15 TooManyCosets (with n - k),
 --   16 TooManyWords, 17 FieldTooLarge, 18 NoAlternant
 --   refusal_of c arguments  the first refusal of the call, in the order that the call states
-use Rattle.std.specs.Prelude.{ℕ, ◌+◌, ◌-◌, ◌*◌, ◌^◌, Bool, true, not, nat_le, nat_lt, ◌==◌, ◌&&◌, ◌||◌, if◌then◌else◌, List, [], ◌∷◌, ◌++◌, length, take, slice_index, find, Option, Some, None, is_some, option_map, unwrap_or}
+use Rattle.std.specs.Prelude.{ℕ, ◌+◌, ◌-◌, ◌*◌, ◌^◌, Bool, not, nat_le, nat_lt, ◌==◌, ◌&&◌, ◌||◌, if◌then◌else◌, List, [], ◌∷◌, ◌++◌, length, take, slice_index, find, Option, Some, None, is_some, option_map, unwrap_or}
 use Rattle.std.specs.List.{list_any, list_all}
 use Rattle.lc_algebra.specs.declared.FieldName.{FieldName}
 use Rattle.lc_algebra.specs.Field.{size, is_symbol}
@@ -22,6 +22,7 @@ use Rattle.lc_enumeration.specs.InformationSet.{is_member}
 use Rattle.lc_language.specs.declared.Call.{Call}
 use Rattle.lc_language.specs.declared.Call.TheVariants.{Gf, GeneratorMatCode, CheckMatCode, RepetitionCode, WholeSpaceCode, NullCode, HammingCode, ReedMullerCode, GeneratorPolCode, CheckPolCode, BchCode, ReedSolomonCode, GoppaCode, AlternantCode, ExtendedCode, PuncturedCode, ShortenedCode, EvenWeightSubcode, DirectSumCode, UuvCode, DirectProductCode, IntersectionCode, ConcatenatedCode, IsCodeword, Decode, AlgebraicDecode, LeastWord}
 use Rattle.lc_language.specs.Value.{Value, number, field, numbers, lists, code}
+use Rattle.lc_formats.specs.Entries.{reaches, columns_of, is_rising}
 
 pub record Refusal : Type 0 where
   pub number : ℕ
@@ -49,15 +50,6 @@ bad_length n = when (not (is_length n)) (refuse 2 [])
 
 unfoldable pub bad_argument : Bool → ℕ → Option Refusal
 bad_argument test n = when test (refuse 3 (n ∷ []))
-
--- whether some entry isn't below the bound
-unfoldable pub reaches : ℕ → List ℕ → Bool
-reaches bound entries = list_any (nat_le bound) entries
-
--- the length of a matrix is that of its first row; without rows it has none
-unfoldable pub columns_of : List (List ℕ) → ℕ
-columns_of [] = 0
-columns_of (row ∷ rows) = length row
 
 unfoldable pub lengths_differ : List (List ℕ) → Option Refusal
 lengths_differ rows = when (not (list_all (λ row. length row == columns_of rows) rows)) (refuse 12 [])
@@ -89,11 +81,6 @@ fields_differ C D = when (not (size C.field == size D.field)) (refuse 11 [])
 
 unfoldable pub codes_differ : Matrix → Matrix → Option Refusal
 codes_differ C D = when (not (C.columns == D.columns)) (refuse 12 [])
-
-unfoldable pub is_rising : List ℕ → Bool
-is_rising [] = true
-is_rising (a ∷ []) = true
-is_rising (a ∷ b ∷ rest) = nat_lt a b && is_rising (b ∷ rest)
 
 unfoldable pub bad_positions : Matrix → List ℕ → Option Refusal
 bad_positions C places = when (not (is_rising places) || (reaches C.columns places || (length places == C.columns))) (refuse 13 [])

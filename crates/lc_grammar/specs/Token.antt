@@ -12,9 +12,9 @@
 --   text_of bytes token          the bytes of a token
 use Rattle.std.specs.Prelude.{ℕ, zero, suc, ◌+◌, ◌-◌, ◌*◌, ◌^◌, Bool, true, false, not, nat_le, nat_lt, ◌==◌, ◌&&◌, ◌||◌, if◌then◌else◌, List, [], ◌∷◌, length, drop, slice_range, Option, Some, None}
 use Rattle.std.specs.List.{prefix_len}
-use Rattle.lc_language.specs.declared.TokenKind.{TokenKind}
-use Rattle.lc_language.specs.declared.TokenKind.TheVariants.{Name, Number, Assign, Open, Close, OpenList, CloseList, Comma, End}
-use Rattle.lc_language.specs.declared.Token.{Token}
+use Rattle.lc_grammar.specs.declared.TokenKind.{TokenKind}
+use Rattle.lc_grammar.specs.declared.TokenKind.TheVariants.{Name, Number, Assign, Open, Close, OpenList, CloseList, Comma, End}
+use Rattle.lc_grammar.specs.declared.Token.{Token}
 
 unfoldable pub is_blank : ℕ → Bool
 is_blank b = (b == 32) || ((b == 9) || ((b == 13) || (b == 10)))

@@ -4,21 +4,18 @@
 --   body_of point, checkpoint_text point      the body, and the seal with it: the SHA-256 of the body in lower-case hexadecimal digits,
 --                                a newline, and the body: compact JSON, its keys rising
 --   CheckpointRefusal            damaged (20), another version (21, with it), or another shape (22)
---   json_in bytes                the JSON value that the bytes are; bytes that aren't UTF-8 are none
 --   checkpoint_in bytes          the checkpoint that the bytes are, or why they are none; the first that applies
 --   IsTrueFor needs digest budget point      a checkpoint as a session of a chain writes it
-use Rattle.std.specs.Prelude.{◌≡◌, ℕ, suc, ◌+◌, ◌-◌, ◌*◌, ◌^◌, ◌<◌, ◌≤◌, Bool, not, nat_le, nat_lt, ◌==◌, ◌&&◌, if◌then◌else◌, List, [], ◌∷◌, ◌++◌, length, map, drop, slice_get, sum, codes, Option, Some, None, option_map, option_and_then}
-use Rattle.std.specs.Str.{is_utf8}
+use Rattle.std.specs.Prelude.{◌≡◌, ℕ, ◌+◌, ◌-◌, ◌*◌, ◌^◌, ◌<◌, ◌≤◌, Bool, not, nat_le, nat_lt, ◌==◌, ◌&&◌, if◌then◌else◌, List, [], ◌∷◌, ◌++◌, length, map, drop, slice_get, sum, codes, Option, Some, None, option_map, option_and_then}
 use Rattle.sha2.specs.Sha256.{sha256}
 use Rattle.hex.specs.Hex.{encode_lower, hex_digit_value}
-use Rattle.serde_json.specs.Data.{Data, Items, Members, item, no_items, member, no_members, array, object, string}
-use Rattle.serde_json.specs.Find.{get_member, as_number, as_u64, as_str, as_array}
-use Rattle.serde_json.specs.Read.{read}
+use Rattle.serde_json.specs.Data.{Data, Members, member, no_members, array, object, string}
+use Rattle.serde_json.specs.Find.{get_member, as_str, as_array}
 use Rattle.serde_json.specs.Written.{compact_text}
 use Rattle.lc_algebra.specs.Matrix.{Matrix}
 use Rattle.lc_enumeration.specs.Search.{Answer, no_word, exact, bracket, answer, best}
-use Rattle.lc_language.specs.Value.{same_bytes}
-use Rattle.lc_language.specs.Query.{number_json, numbers_json, items}
+use Rattle.lc_formats.specs.Text.{same_bytes}
+use Rattle.lc_formats.specs.Json.{number_json, numbers_json, items, number_at, listed, each, plain_number, member_count, json_in}
 
 pub record Settled : Type 0 where
   pub blocks : ℕ
@@ -75,24 +72,8 @@ pub data ReadCheckpoint : Type 0 where
 unfoldable pub is_whole : List ℕ → Bool
 is_whole bytes = nat_le 65 (length bytes) && (nat_le (length bytes) 4194304 && same_bytes bytes (sealed (drop 65 bytes)))
 
-unfoldable pub number_at : List ℕ → Members → Option ℕ
-number_at key ms = option_and_then as_u64 (option_and_then as_number (get_member key ms))
-
 unfoldable pub number_up_to : ℕ → ℕ → Option ℕ → Option ℕ
 number_up_to low high found = option_and_then (λ n. if nat_le low n && nat_le n high then Some n else None) found
-
-unfoldable pub listed : Items → List Data
-listed no_items = []
-listed (item d ds) = d ∷ listed ds
-
--- all of them, where each is there
-unfoldable pub each : {X : Type 0} → List (Option X) → Option (List X)
-each [] = Some []
-each (None ∷ xs) = None
-each (Some x ∷ xs) = option_map (λ rest. x ∷ rest) (each xs)
-
-unfoldable pub plain_number : Data → Option ℕ
-plain_number d = option_and_then as_u64 (as_number d)
 
 unfoldable pub triple_of : List ℕ → Option Settled
 triple_of (l ∷ w ∷ p ∷ []) = Some (record { blocks = l; weight = w; place = p })
@@ -115,10 +96,6 @@ script_in ms = option_and_then (λ digits. option_and_then (λ bytes. if (length
 
 unfoldable pub done_in : ℕ → Members → Option (List Settled)
 done_in budget ms = option_and_then (λ ds. if nat_le (length (listed ds)) 131072 then each (map (settled_in budget) (listed ds)) else None) (option_and_then as_array (get_member (codes "done") ms))
-
-unfoldable pub member_count : Members → ℕ
-member_count no_members = 0
-member_count (member _ _ ms) = suc (member_count ms)
 
 -- the state in a body whose budget is known: all ranges hold, and there is no key but the eight
 unfoldable pub state_in : Members → ℕ → Option Checkpoint
@@ -143,9 +120,6 @@ versioned ms (Some v) = (if v == 1 then point_or_shape (option_and_then (state_i
 unfoldable pub body_in : Option Data → ReadCheckpoint
 body_in (Some (object ms)) = versioned ms (number_at (codes "version") ms)
 body_in _ = refused shape
-
-unfoldable pub json_in : List ℕ → Option Data
-json_in bytes = (if is_utf8 bytes then read bytes else None)
 
 unfoldable pub checkpoint_in : List ℕ → ReadCheckpoint
 checkpoint_in bytes = (if is_whole bytes then body_in (json_in (drop 65 bytes)) else refused damaged)

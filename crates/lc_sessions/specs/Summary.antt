@@ -13,7 +13,7 @@ use Rattle.lc_algebra.specs.Matrix.{Matrix}
 use Rattle.lc_enumeration.specs.InformationSet.{unit_word}
 use Rattle.lc_enumeration.specs.Search.{found_first}
 use Rattle.lc_enumeration.specs.Records.{records}
-use Rattle.lc_language.specs.Print.{line}
+use Rattle.lc_formats.specs.Text.{line}
 use Rattle.lc_language.specs.Query.{distance, query_line}
 
 unfoldable pub generator_words : ℕ → Lcg → List ℕ

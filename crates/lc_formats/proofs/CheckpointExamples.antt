@@ -25,9 +25,9 @@ use Rattle.json.specs.Lex.{lex, punctuate}
 use Rattle.json.specs.Json.{items as item_values, members as member_values, value}
 use Rattle.serde_json.specs.Read.{number_of, read}
 use Rattle.lc_algebra.proofs.EmbeddingTests.{both_true}
-use Rattle.lc_language.specs.Value.{same_bytes}
-use Rattle.lc_language.specs.Query.{number_json, items, numbers_json}
-use Rattle.lc_language.specs.Checkpoint.{ReadCheckpoint, Checkpoint, settled_json, body_json, body_of, sealed, checkpoint_text, damaged, version, shape, checkpoint_refusal_number, point, refused, is_whole, number_at, number_up_to, listed, each, plain_number, triple_of, is_in_range, settled_in, digest_in, script_in, done_in, member_count, state_in, point_or_shape, versioned, body_in, json_in, checkpoint_in}
+use Rattle.lc_formats.specs.Text.{same_bytes}
+use Rattle.lc_formats.specs.Json.{number_json, items, numbers_json, number_at, listed, each, plain_number, member_count, json_in}
+use Rattle.lc_formats.specs.Checkpoint.{ReadCheckpoint, Checkpoint, settled_json, body_json, body_of, sealed, checkpoint_text, damaged, version, shape, checkpoint_refusal_number, point, refused, is_whole, number_up_to, triple_of, is_in_range, settled_in, digest_in, script_in, done_in, state_in, point_or_shape, versioned, body_in, checkpoint_in}
 
 abbrev pub halfway : Checkpoint
 halfway = record { script = replicate 32 171; budget = 1048576; turn = 3; settled = record { blocks = 2; weight = 3; place = 0 } ∷ []; blocks = 2; weight = 7; place = 0 }

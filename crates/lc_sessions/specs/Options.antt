@@ -10,8 +10,8 @@
 --   options table words       the settings, or the index of the word that is refused
 use Rattle.std.specs.Prelude.{ℕ, suc, ◌^◌, Bool, true, false, not, nat_le, ◌==◌, ◌&&◌, ◌||◌, if◌then◌else◌, List, [], ◌∷◌, ◌++◌, length, codes, Option, Some, None, is_some, option_map, option_and_then, slice_index}
 use Rattle.std.specs.List.{list_all, list_any, before_first, after_first}
-use Rattle.lc_language.specs.Token.{is_digit, number_of, widest}
-use Rattle.lc_language.specs.Value.{same_bytes}
+use Rattle.lc_grammar.specs.Token.{is_digit, number_of, widest}
+use Rattle.lc_formats.specs.Text.{same_bytes}
 
 pub data Command : Type 0 where
   run : Command

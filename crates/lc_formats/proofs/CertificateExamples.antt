@@ -7,8 +7,10 @@
 --   overlap            a place that is fresh in both sets
 --   short_for_seven    the word of seven ones at distance 7, with levels that give 3
 --   lighter            the word of seven ones: a seen word is lighter, where all levels are stated
+--   scanned, scanned_seven     certificates by a scan: accepted, and a lighter word
+--   costs, cost_reasons        what certificates cost, and when a cost is refused, with what is told of it
 use Rattle.std.proofs.Common.{◌≡◌, refl}
-use Rattle.std.specs.Prelude.{ℕ, List, [], ◌∷◌}
+use Rattle.std.specs.Prelude.{ℕ, List, [], ◌∷◌, map, Some, None}
 use Rattle.lc_algebra.specs.declared.FieldName.TheVariants.{Gf2}
 use Rattle.lc_algebra.specs.Residue.{digits, number, plus, minus, times, top, up, times_x, product}
 use Rattle.lc_algebra.specs.Field.{shape, shape_of, size, coefficients, add, mul}
@@ -17,7 +19,7 @@ use Rattle.lc_algebra.specs.Span.{below, combine, words}
 use Rattle.lc_enumeration.specs.Message.{supports, supports_from, numbers_from, nonzero_lists, leading_lists, messages, vector_from, vector_of, choose, message_count}
 use Rattle.lc_enumeration.specs.InformationSet.{same_word, in_span, greedy, dimension, is_member, first_basis, unit_word, systematic, echelon_rows}
 use Rattle.lc_enumeration.specs.Search.{bound_sum}
-use Rattle.lc_enumeration.specs.Certificate.{Certificate, SetClaim, levels, accepted, rejected, word_weight, word_not_in_code, set_not_information, fresh_overlap, bound_short, seen_lighter, code_length, code_dimension, level_in, messages_through, cost_of, cost, words_through, seen_by, seen_words, is_lighter, first_lighter, claimed_sum, is_information_set, first_dependent, least_overlap, reaches, or_else, when, carrying, set_reasons, cost_reason, verdict}
+use Rattle.lc_formats.specs.Certificate.{Certificate, SetClaim, levels, accepted, rejected, word_weight, word_not_in_code, set_not_information, fresh_overlap, bound_short, seen_lighter, code_length, code_dimension, level_in, messages_through, cost_of, cost, words_through, seen_by, seen_words, is_lighter, first_lighter, claimed_sum, is_information_set, first_dependent, least_overlap, reaches, or_else, when, carrying, set_reasons, cost_reason, verdict, scan, too_costly}
 
 abbrev pub claim : List ℕ → List ℕ → ℕ → SetClaim
 claim basis fresh level = record { basis = basis; fresh = fresh; level = level }
@@ -74,3 +76,22 @@ short_for_seven = refl
 pub lighter : verdict (hamming_with ones 7 (two 4 1)) ≡ rejected (seen_lighter row)
 unfolding digits number plus minus times top up times_x product shape shape_of size coefficients add mul word_sum scale below combine words supports supports_from numbers_from nonzero_lists leading_lists messages vector_from vector_of choose message_count same_word in_span greedy dimension is_member first_basis unit_word systematic echelon_rows bound_sum code_length code_dimension level_in messages_through cost_of cost words_through seen_by seen_words is_lighter first_lighter claimed_sum is_information_set first_dependent least_overlap reaches or_else when carrying set_reasons cost_reason verdict
 lighter = refl
+
+abbrev pub by_scan : List ℕ → ℕ → Certificate
+by_scan word distance = record (hamming_with word distance []) { proof = scan }
+
+pub scanned : verdict (by_scan row 3) ≡ accepted
+unfolding digits number plus minus times top up times_x product shape shape_of size coefficients add mul word_sum scale below combine words supports supports_from numbers_from nonzero_lists leading_lists messages vector_from vector_of choose message_count same_word in_span greedy dimension is_member first_basis unit_word systematic echelon_rows code_length code_dimension cost_of cost words_through seen_by seen_words is_lighter first_lighter or_else when carrying set_reasons cost_reason verdict
+scanned = refl
+
+pub scanned_seven : verdict (by_scan ones 7) ≡ rejected (seen_lighter row)
+unfolding digits number plus minus times top up times_x product shape shape_of size coefficients add mul word_sum scale below combine words supports supports_from numbers_from nonzero_lists leading_lists messages vector_from vector_of choose message_count same_word in_span greedy dimension is_member first_basis unit_word systematic echelon_rows code_length code_dimension cost_of cost words_through seen_by seen_words is_lighter first_lighter or_else when carrying set_reasons cost_reason verdict
+scanned_seven = refl
+
+pub costs : map cost (by_scan row 3 ∷ hamming_with row 3 (two 1 1) ∷ hamming_with row 3 (two 2 9) ∷ hamming_with row 3 (two 0 0) ∷ []) ≡ 16 ∷ 8 ∷ 25 ∷ 0 ∷ []
+unfolding digits number plus minus times top up times_x product shape shape_of size coefficients add mul word_sum scale below words numbers_from choose message_count same_word in_span greedy dimension code_length code_dimension level_in messages_through cost_of cost
+costs = refl
+
+pub cost_reasons : map cost_reason (4294967296 ∷ 4294967297 ∷ 8589934592 ∷ 18446744073709551616 ∷ []) ≡ None ∷ Some (too_costly 4294967297) ∷ Some (too_costly 8589934592) ∷ Some (too_costly 18446744073709551615) ∷ []
+unfolding when cost_reason
+cost_reasons = refl

@@ -6,10 +6,10 @@
 --   empty_statement, empty_parentheses   41 at the first byte
 use Rattle.std.proofs.Common.{◌≡◌, ℕ, List, [], replicate, refl}
 use Rattle.std.specs.Prelude.{codes}
-use Rattle.lc_language.specs.Token.{is_blank, is_letter, is_digit, is_name_byte, number_from, number_of, widest, cut_of, assign_at, sign_at, token_at, ended, token_first, is_number, comment_length, scan_within, scan, text_of}
-use Rattle.lc_language.specs.Grammar.{deepest, IsFault}
-use Rattle.lc_language.proofs.Course.{start, fault, course}
-use Rattle.lc_language.proofs.FirstFault.{fault_of_course}
+use Rattle.lc_grammar.specs.Token.{is_blank, is_letter, is_digit, is_name_byte, number_from, number_of, widest, cut_of, assign_at, sign_at, token_at, ended, token_first, is_number, comment_length, scan_within, scan, text_of}
+use Rattle.lc_grammar.specs.Grammar.{deepest, IsFault}
+use Rattle.lc_grammar.proofs.Course.{start, fault, course}
+use Rattle.lc_grammar.proofs.FirstFault.{fault_of_course}
 
 -- the fault of a text, where its course comes to it
 fault_at : (bytes : List ℕ) (n place : ℕ) → course bytes deepest (start []) (scan bytes).tokens (scan bytes).ending ≡ fault n place → IsFault bytes (record { number = n; place = place })

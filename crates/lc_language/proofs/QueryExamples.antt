@@ -1,12 +1,9 @@
--- Worked queries, certificates and options, by evaluation of the definitions.
+-- Worked queries, by evaluation of the definitions.
 --   hamming_distance, hamming_bracket      what MinimumDistance prints of the Hamming code of length 7, and for a budget of one block
 --   hamming_certificate                    its certificate by levels
 --   repetition_scan                        the certificate by a scan of the repetition code of length 2
---   no_words, bad_workers, slice_alone, kept_twice, no_seed      the index of the word that is refused
---   sliced                                 the settings of words that are accepted
---   run_only                               a second word is refused where there are no keys
 use Rattle.std.proofs.Common.{◌≡◌, refl}
-use Rattle.std.specs.Prelude.{[], ◌∷◌, ◌++◌, map, codes, ◌^◌, Some, true}
+use Rattle.std.specs.Prelude.{[], ◌∷◌, ◌++◌, codes, ◌^◌}
 use Rattle.std.specs.Fmt.{digits}
 use Rattle.lc_algebra.specs.declared.FieldName.TheVariants.{Gf2}
 use Rattle.lc_algebra.specs.Residue.{digits as residues, number, plus, minus, times, top, up, times_x, product}
@@ -18,13 +15,12 @@ use Rattle.lc_enumeration.specs.Message.{supports, supports_from, numbers_from, 
 use Rattle.lc_enumeration.specs.Plan.{cut, phase_level, phase_set, level_blocks, blocks_before, total, phase_at, phase_ends, block_messages, place_of, plan_phases, phase_of}
 use Rattle.lc_enumeration.specs.InformationSet.{same_word, in_span, greedy, dimension, is_member, first_basis, columns_in_order, with_fresh, next_set, sets_after, information_sets, unit_word, systematic, echelon_rows}
 use Rattle.lc_enumeration.specs.Search.{sets_of, set_count, ranks_of, generator_at, word_of, word_at, beats, found_along, found_in_block, blocks_within, found_from, least_of, found_first, found_below, best, last_that, is_whole_below, level_below, levels_below, bound_sum, bound_of, bound, is_done, ends_of, answer_at, answer}
-use Rattle.lc_enumeration.specs.Certificate.{code_length, code_dimension, level_in, messages_through, cost_of, cost}
-use Rattle.lc_language.specs.Token.{is_digit, number_from, number_of, widest}
-use Rattle.lc_language.specs.Value.{same_bytes}
-use Rattle.lc_language.specs.Print.{bracketed, numbers_text, line, distance_line, bracket_line, distance_none_line}
-use Rattle.lc_language.specs.Query.{distance, by_levels, by_scan, number_json, items, numbers_json, claim_json, way_text, with_sets, certificate_json, certificate_text, claims_at, proof_of, certificate_of, longest, no_certificate_line, certificate_line, word_at_place, distance_answer_line, certificate_answer_line, query_line}
-use Rattle.lc_language.specs.Options.{Command, run, Key, Settings, settings, usage, command_text, key_text, row, all_options, run_alone, settings_of, number_in, number_within, yes_or_no, put_key, key_named, row_named, same_key, place_of_key, checked, options_from, options}
-use Rattle.lc_language.specs.Options as words
+use Rattle.lc_formats.specs.Certificate.{code_length, code_dimension, level_in, messages_through, cost_of, cost}
+use Rattle.lc_formats.specs.Text.{bracketed, numbers_text, line}
+use Rattle.lc_language.specs.Print.{distance_line, bracket_line, distance_none_line}
+use Rattle.lc_language.specs.Query.{distance, by_levels, by_scan, claims_at, proof_of, certificate_of, longest, no_certificate_line, certificate_line, word_at_place, distance_answer_line, certificate_answer_line, query_line}
+use Rattle.lc_formats.specs.Json.{number_json, items, numbers_json}
+use Rattle.lc_formats.specs.CertificateText.{claim_json, way_text, with_sets, certificate_json, certificate_text}
 use Rattle.json.specs.Print.{escape_byte}
 
 abbrev pub hamming : Matrix
@@ -45,31 +41,3 @@ hamming_certificate = refl
 pub repetition_scan : query_line by_scan (record { field = Gf2; columns = 2; rows = (1 ∷ 1 ∷ []) ∷ [] }) (2 ^ 20) ≡ codes "{\"by\":\"scan\",\"distance\":2,\"field\":2,\"rows\":[[1,1]],\"version\":1,\"word\":[1,1]}" ++ 10 ∷ []
 unfolding digits escape_byte residues number plus minus times top up times_x product shape shape_of size coefficients add neg mul word_sum scale below combine words supports supports_from numbers_from nonzero_lists leading_lists messages vector_from vector_of choose message_count cut phase_level phase_set level_blocks blocks_before total phase_at phase_ends block_messages place_of plan_phases phase_of same_word in_span greedy dimension is_member first_basis columns_in_order with_fresh next_set sets_after information_sets unit_word systematic echelon_rows sets_of set_count ranks_of generator_at word_of word_at beats found_along found_in_block blocks_within found_from least_of found_first found_below best last_that is_whole_below level_below levels_below bound_sum bound_of bound is_done ends_of answer_at answer code_length code_dimension level_in messages_through cost_of cost bracketed numbers_text line distance_line bracket_line distance_none_line number_json items numbers_json claim_json way_text with_sets certificate_json certificate_text claims_at proof_of certificate_of longest no_certificate_line certificate_line word_at_place distance_answer_line certificate_answer_line query_line
 repetition_scan = refl
-
-pub no_words : options all_options [] ≡ usage 0
-unfolding is_digit number_from number_of widest same_bytes command_text key_text row all_options run_alone settings_of number_in number_within yes_or_no put_key key_named row_named same_key place_of_key checked options_from options
-no_words = refl
-
-pub bad_workers : options all_options (codes "run" ∷ codes "workers=0" ∷ []) ≡ usage 1
-unfolding is_digit number_from number_of widest same_bytes command_text key_text row all_options run_alone settings_of number_in number_within yes_or_no put_key key_named row_named same_key place_of_key checked options_from options
-bad_workers = refl
-
-pub slice_alone : options all_options (codes "run" ∷ codes "slice=2" ∷ []) ≡ usage 1
-unfolding is_digit number_from number_of widest same_bytes command_text key_text row all_options run_alone settings_of number_in number_within yes_or_no put_key key_named row_named same_key place_of_key checked options_from options
-slice_alone = refl
-
-pub kept_twice : options all_options (codes "run" ∷ codes "keep=yes" ∷ codes "keep=no" ∷ []) ≡ usage 2
-unfolding is_digit number_from number_of widest same_bytes command_text key_text row all_options run_alone settings_of number_in number_within yes_or_no put_key key_named row_named same_key place_of_key checked options_from options
-kept_twice = refl
-
-pub no_seed : options all_options (codes "summary" ∷ []) ≡ usage 1
-unfolding is_digit number_from number_of widest same_bytes command_text key_text row all_options run_alone settings_of number_in number_within yes_or_no put_key key_named row_named same_key place_of_key checked options_from options
-no_seed = refl
-
-pub sliced : options all_options (codes "resume" ∷ codes "slice=3" ∷ codes "keep=yes" ∷ []) ≡ settings (record { command = words.resume; workers = 1; budget = 2 ^ 20; slice = Some 3; keep = true; number = 0 })
-unfolding is_digit number_from number_of widest same_bytes command_text key_text row all_options run_alone settings_of number_in number_within yes_or_no put_key key_named row_named same_key place_of_key checked options_from options
-sliced = refl
-
-pub run_only : map (options run_alone) ((codes "run" ∷ []) ∷ (codes "run" ∷ codes "run" ∷ []) ∷ (codes "check" ∷ []) ∷ []) ≡ settings (settings_of run) ∷ usage 1 ∷ usage 0 ∷ []
-unfolding is_digit number_from number_of widest same_bytes command_text key_text row all_options run_alone settings_of number_in number_within yes_or_no put_key key_named row_named same_key place_of_key checked options_from options
-run_only = refl

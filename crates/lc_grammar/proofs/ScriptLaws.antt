@@ -1,14 +1,14 @@
 -- Scripts and first faults, by the course of the tokens.
 use Rattle.std.proofs.Common.{◌≡◌, ℕ, zero, suc, ◌<◌, ◌≤◌, List, [], ◌∷◌, ◌++◌, length, Some, None, refl, sym, ap, ◌∙◌, ◌⊎◌, inl, inr, append_assoc, arith}
 use Rattle.std.proofs.lemmas.List.{append-nil}
-use Rattle.lc_language.specs.declared.TokenKind.{TokenKind}
-use Rattle.lc_language.specs.declared.TokenKind.TheVariants.{Name, Number, Assign, Open, Close, OpenList, CloseList, Comma, End}
-use Rattle.lc_language.specs.declared.Token.{Token}
-use Rattle.lc_language.specs.Token.{text_of, script_end}
-use Rattle.lc_language.specs.Tree.{Statement, nesting}
-use Rattle.lc_language.specs.Grammar.{IsStatement, IsScript}
-use Rattle.lc_language.proofs.Course.{with_target, statement, start, read, course, IsNoTarget}
-use Rattle.lc_language.proofs.GrammarLaws.{expr_read, statement_ends, start_wants, start_target, AreShallow}
+use Rattle.lc_grammar.specs.declared.TokenKind.{TokenKind}
+use Rattle.lc_grammar.specs.declared.TokenKind.TheVariants.{Name, Number, Assign, Open, Close, OpenList, CloseList, Comma, End}
+use Rattle.lc_grammar.specs.declared.Token.{Token}
+use Rattle.lc_grammar.specs.Token.{text_of, script_end}
+use Rattle.lc_grammar.specs.Tree.{Statement, nesting}
+use Rattle.lc_grammar.specs.Grammar.{IsStatement, IsScript}
+use Rattle.lc_grammar.proofs.Course.{with_target, statement, start, read, course, IsNoTarget}
+use Rattle.lc_grammar.proofs.GrammarLaws.{expr_read, statement_ends, start_wants, start_target, AreShallow}
 
 module _ (bytes : List ℕ) (limit : ℕ) where
   is_name : (kind : TokenKind) → (kind ≡ Name) ⊎ (kind ≡ Name → ⊥)

@@ -3,13 +3,13 @@ use Rattle.std.proofs.Common.{◌≡◌, ℕ, zero, suc, ◌+◌, ◌<◌, ◌�
 use Rattle.std.proofs.lemmas.Bool.Decides.{nat_tests}
 use Rattle.std.proofs.lemmas.List.{append-nil}
 use Rattle.std.specs.List.{AllByRecursion}
-use Rattle.lc_language.specs.declared.TokenKind.{TokenKind}
-use Rattle.lc_language.specs.declared.TokenKind.TheVariants.{Name, Number, Assign, Open, Close, OpenList, CloseList, Comma, End}
-use Rattle.lc_language.specs.declared.Token.{Token}
-use Rattle.lc_language.specs.Token.{text_of, number_of, Ending, script_end, bad_token, too_wide}
-use Rattle.lc_language.specs.Tree.{Expr, Exprs, number, name, call, list, none, more, Statement, nesting, nesting_all}
-use Rattle.lc_language.specs.Grammar.{IsExpr, IsList, IsStatement, IsScript, opens}
-use Rattle.lc_language.proofs.Course.{Bracket, of_call, of_list, closing, filled, after_all, with_target, Around, statement, inside, depth_of, State, start, begun, want, opened, named, done, level_of, after_name, at_expr, next_by, next, stops, move_by, read, fault, at_end, ended_at, outcome_by, kind_move, course, IsNoTarget}
+use Rattle.lc_grammar.specs.declared.TokenKind.{TokenKind}
+use Rattle.lc_grammar.specs.declared.TokenKind.TheVariants.{Name, Number, Assign, Open, Close, OpenList, CloseList, Comma, End}
+use Rattle.lc_grammar.specs.declared.Token.{Token}
+use Rattle.lc_grammar.specs.Token.{text_of, number_of, Ending, script_end, bad_token, too_wide}
+use Rattle.lc_grammar.specs.Tree.{Expr, Exprs, number, name, call, list, none, more, Statement, nesting, nesting_all}
+use Rattle.lc_grammar.specs.Grammar.{IsExpr, IsList, IsStatement, IsScript, opens}
+use Rattle.lc_grammar.proofs.Course.{Bracket, of_call, of_list, closing, filled, after_all, with_target, Around, statement, inside, depth_of, State, start, begun, want, opened, named, done, level_of, after_name, at_expr, next_by, next, stops, move_by, read, fault, at_end, ended_at, outcome_by, kind_move, course, IsNoTarget}
 
 -- a test of the limit that is passed
 below_limit : (limit depth : ℕ) → depth < limit → nat_le limit depth ≡ false

@@ -7,8 +7,12 @@
 --   objects; 9 in each set `basis` and `fresh` are strictly rising lists of places below the length, and `level` is a whole number;
 --   10 each place of `fresh` stands in `basis` too; 11 there are no other keys, in the object and in the sets
 --   certificate_in bytes         how the bytes read
+--   reason_line r                the line of a certificate that is rejected
+--   verdict_line c               what `check` prints of a certificate
 --   check_text bytes             the line that `check` prints
-use Rattle.std.specs.Prelude.{ℕ, Bool, true, false, not, nat_le, nat_lt, ◌==◌, ◌&&◌, ◌||◌, if◌then◌else◌, List, [], length, map, find, codes, Option, Some, None, is_some, option_map, option_and_then}
+use Rattle.std.specs.Prelude.{ℕ, nat_lt, if◌then◌else◌, List, [], ◌++◌, codes, decimal, Option, Some, None, Bool, true, false, not, nat_le, ◌==◌, ◌&&◌, ◌||◌, length, map, find, is_some, option_map, option_and_then}
+use Rattle.lc_formats.specs.Certificate.{Certificate, Reason, reason_number, reason_values, Verdict, accepted, rejected, verdict, SetClaim, Proof, scan, levels, not_json, shape, limit}
+use Rattle.lc_formats.specs.Text.{line, with_values, same_bytes}
 use Rattle.std.specs.List.{list_all}
 use Rattle.serde_json.specs.Data.{Data, Members}
 use Rattle.serde_json.specs.Find.{get_member, as_str, as_array, as_object}
@@ -16,28 +20,25 @@ use Rattle.lc_algebra.specs.declared.FieldName.{FieldName}
 use Rattle.lc_algebra.specs.Field.{size, is_symbol}
 use Rattle.lc_constructions.specs.Cyclic.{all_fields}
 use Rattle.lc_enumeration.specs.InformationSet.{is_member}
-use Rattle.lc_enumeration.specs.Certificate.{Certificate, SetClaim, Proof, scan, levels, Reason, not_json, shape, limit, Verdict, rejected, verdict}
-use Rattle.lc_language.specs.Value.{same_bytes}
-use Rattle.lc_language.specs.Refusal.{is_rising, columns_of, reaches}
-use Rattle.lc_language.specs.Checkpoint.{listed, each, plain_number, number_at, member_count, json_in}
-use Rattle.lc_language.specs.Session.{line_of_verdict}
+use Rattle.lc_formats.specs.Entries.{is_rising, columns_of, reaches}
+use Rattle.lc_formats.specs.Json.{listed, each, number_at, member_count, json_in, numbers_of, list_at, provided}
+
+unfoldable pub reason_line : Reason → List ℕ
+reason_line r = line (codes "rejected " ++ decimal (reason_number r) ++ with_values (reason_values r))
+
+unfoldable pub line_of_verdict : ℕ → Verdict → List ℕ
+line_of_verdict d accepted = line (codes "accepted distance " ++ decimal d)
+line_of_verdict d (rejected r) = reason_line r
+
+unfoldable pub verdict_line : Certificate → List ℕ
+verdict_line c = line_of_verdict c.distance (verdict c)
 
 pub data CertificateRead : Type 0 where
   reads_as : Certificate → CertificateRead
   refused_as : Reason → CertificateRead
 
-unfoldable pub numbers_of : Data → Option (List ℕ)
-numbers_of d = option_and_then (λ ds. each (map plain_number (listed ds))) (as_array d)
-
-unfoldable pub list_at : List ℕ → Members → Option (List ℕ)
-list_at key ms = option_and_then numbers_of (get_member key ms)
-
 unfoldable pub rows_at : Members → Option (List (List ℕ))
 rows_at ms = option_and_then (λ ds. each (map numbers_of (listed ds))) (option_and_then as_array (get_member (codes "rows") ms))
-
-unfoldable pub provided : {X : Type 0} → (X → Bool) → Option X → Option X
-provided test None = None
-provided test (Some x) = (if test x then Some x else None)
 
 unfoldable pub field_at : Members → Option FieldName
 field_at ms = option_and_then (λ q. find (λ f. (size f == q) && is_symbol f) all_fields) (number_at (codes "field") ms)

@@ -2,22 +2,20 @@
 --   reads_scan                 the certificate by a scan of the repetition code of length 2
 --   no_object, no_version, no_field, low_distance, other_way, sets_of_scan, further_key      the rule that is broken
 --   rejected_line, accepted_line      the lines of check
+--   reads_levels, broken_sets, broken_rows, too_many_rows      a certificate by levels, the rules 8 to 11, 4 and 5, and the limit
 use Rattle.std.proofs.Common.{◌≡◌, ℕ, refl}
-use Rattle.std.specs.Prelude.{[], ◌∷◌, ◌++◌, map, codes, Some}
+use Rattle.std.specs.Prelude.{[], ◌∷◌, ◌++◌, map, codes, Some, ℕ, List, replicate, Option}
 use Rattle.std.specs.Fmt.{digits}
 use Rattle.serde_json.specs.Data.{Data, Members, no_members, member, object, array, string, null}
 use Rattle.lc_algebra.specs.declared.FieldName.TheVariants.{Gf2}
 use Rattle.lc_algebra.specs.Field.{shape, shape_of, size, is_symbol}
 use Rattle.lc_constructions.specs.Cyclic.{all_fields}
 use Rattle.lc_enumeration.specs.InformationSet.{is_member}
-use Rattle.lc_enumeration.specs.Certificate.{scan, shape as broken, accepted, word_weight, seen_lighter, not_json, reason_number, reason_values}
-use Rattle.lc_language.specs.Value.{same_bytes}
-use Rattle.lc_language.specs.Refusal.{is_rising, columns_of, reaches}
-use Rattle.lc_language.specs.Print.{line, spaced, with_values}
-use Rattle.lc_language.specs.Query.{number_json, items, numbers_json}
-use Rattle.lc_language.specs.Checkpoint.{listed, each, plain_number, number_at, member_count}
-use Rattle.lc_language.specs.Session.{reason_line, line_of_verdict}
-use Rattle.lc_language.specs.Check.{reads_as, refused_as, numbers_of, list_at, rows_at, provided, field_at, fit, are_rows, is_scan, are_places, claim_in, sets_at, fresh_in_basis, above, with_keys, certificate_over, levels_in, sets_in, way_in, distance_in, word_in, rows_in, field_in, object_in, data_in}
+use Rattle.lc_formats.specs.Certificate.{scan, shape as broken, accepted, word_weight, seen_lighter, not_json, reason_number, reason_values, levels, limit}
+use Rattle.lc_formats.specs.Text.{same_bytes, line, spaced, with_values}
+use Rattle.lc_formats.specs.Entries.{is_rising, columns_of, reaches}
+use Rattle.lc_formats.specs.Json.{number_json, items, numbers_json, listed, each, plain_number, number_at, member_count, numbers_of, list_at, provided}
+use Rattle.lc_formats.specs.Check.{reason_line, line_of_verdict, reads_as, refused_as, rows_at, field_at, fit, are_rows, is_scan, are_places, claim_in, sets_at, fresh_in_basis, above, with_keys, certificate_over, levels_in, sets_in, way_in, distance_in, word_in, rows_in, field_in, object_in, data_in}
 
 -- the members of a certificate, its keys rising, before some further ones
 abbrev pub members_with : Data → ℕ → Members → Members
@@ -66,3 +64,33 @@ accepted_line = refl
 pub rejected_line : map reason_line (not_json ∷ word_weight 3 ∷ seen_lighter (1 ∷ 0 ∷ 1 ∷ []) ∷ []) ≡ (codes "rejected 30" ++ 10 ∷ []) ∷ (codes "rejected 34 with 3" ++ 10 ∷ []) ∷ (codes "rejected 37 with 1 0 1" ++ 10 ∷ []) ∷ []
 unfolding digits line spaced with_values reason_number reason_values reason_line
 rejected_line = refl
+
+-- a certificate by levels of the repetition code of length 2: its sets, and what stands behind the key `sets`
+abbrev pub with_rows : Data → Data → Data → Members → Members
+with_rows rows word sets rest =
+    member (codes "by") (string (codes "levels")) (member (codes "distance") (number_json 2) (member (codes "field") (number_json 2) (member (codes "rows") rows (member (codes "sets") sets (member (codes "version") (number_json 1) (member (codes "word") word rest))))))
+
+abbrev pub one_row : Data
+one_row = array (items (numbers_json (1 ∷ 1 ∷ []) ∷ []))
+
+abbrev pub set_of : List ℕ → List ℕ → Members → Data
+set_of basis fresh rest = object (member (codes "basis") (numbers_json basis) (member (codes "fresh") (numbers_json fresh) (member (codes "level") (number_json 0) rest)))
+
+abbrev pub of_sets : List Data → Option Data
+of_sets sets = Some (object (with_rows one_row (numbers_json (1 ∷ 1 ∷ [])) (array (items sets)) no_members))
+
+pub reads_levels : data_in (of_sets (set_of (0 ∷ []) (0 ∷ []) no_members ∷ set_of (1 ∷ []) (1 ∷ []) no_members ∷ [])) ≡ reads_as (record { field = Gf2; rows = (1 ∷ 1 ∷ []) ∷ []; word = 1 ∷ 1 ∷ []; distance = 2; proof = levels (record { basis = 0 ∷ []; fresh = 0 ∷ []; level = 0 } ∷ record { basis = 1 ∷ []; fresh = 1 ∷ []; level = 0 } ∷ []) })
+unfolding number_json items numbers_json shape shape_of size is_symbol all_fields is_member same_bytes is_rising columns_of reaches listed each plain_number number_at member_count numbers_of list_at rows_at provided field_at fit are_rows is_scan are_places claim_in sets_at fresh_in_basis above with_keys certificate_over levels_in sets_in way_in distance_in word_in rows_in field_in object_in data_in
+reads_levels = refl
+
+pub broken_sets : map (λ sets. data_in (of_sets sets)) ([] ∷ (null ∷ []) ∷ (set_of (1 ∷ 0 ∷ []) [] no_members ∷ []) ∷ (set_of (2 ∷ []) [] no_members ∷ []) ∷ (set_of (0 ∷ []) (1 ∷ []) no_members ∷ object no_members ∷ []) ∷ (set_of (0 ∷ []) (1 ∷ []) no_members ∷ []) ∷ (set_of (0 ∷ []) [] (member (codes "of") null no_members) ∷ []) ∷ []) ≡ map (λ rule. refused_as (broken rule)) (8 ∷ 8 ∷ 9 ∷ 9 ∷ 9 ∷ 10 ∷ 11 ∷ [])
+unfolding number_json items numbers_json shape shape_of size is_symbol all_fields is_member same_bytes is_rising columns_of reaches listed each plain_number number_at member_count numbers_of list_at rows_at provided field_at fit are_rows is_scan are_places claim_in sets_at fresh_in_basis above with_keys certificate_over levels_in sets_in way_in distance_in word_in rows_in field_in object_in data_in
+broken_sets = refl
+
+pub broken_rows : map (λ rows. data_in (Some (object (with_rows rows (numbers_json (1 ∷ 1 ∷ 1 ∷ [])) null no_members)))) (null ∷ array (items []) ∷ array (items (numbers_json [] ∷ [])) ∷ array (items (numbers_json (1 ∷ 2 ∷ []) ∷ [])) ∷ array (items (numbers_json (1 ∷ 1 ∷ []) ∷ numbers_json (1 ∷ []) ∷ [])) ∷ one_row ∷ []) ≡ map (λ rule. refused_as (broken rule)) (4 ∷ 4 ∷ 4 ∷ 4 ∷ 4 ∷ 5 ∷ [])
+unfolding number_json items numbers_json shape shape_of size is_symbol all_fields is_member same_bytes is_rising columns_of reaches listed each plain_number number_at member_count numbers_of list_at rows_at provided field_at fit are_rows is_scan are_places claim_in sets_at fresh_in_basis above with_keys certificate_over levels_in sets_in way_in distance_in word_in rows_in field_in object_in data_in
+broken_rows = refl
+
+pub too_many_rows : data_in (Some (object (with_rows (array (items (replicate 256 (numbers_json (1 ∷ 1 ∷ []))))) (numbers_json (1 ∷ 1 ∷ [])) (array (items (set_of [] [] no_members ∷ []))) no_members))) ≡ refused_as limit
+unfolding number_json items numbers_json shape shape_of size is_symbol all_fields is_member same_bytes is_rising columns_of reaches listed each plain_number number_at member_count numbers_of list_at rows_at provided field_at fit are_rows is_scan are_places claim_in sets_at fresh_in_basis above with_keys certificate_over levels_in sets_in way_in distance_in word_in rows_in field_in object_in data_in
+too_many_rows = refl

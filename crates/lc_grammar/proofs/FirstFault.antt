@@ -9,14 +9,14 @@ use Rattle.std.proofs.lemmas.List.{append-nil, take-append-drop, take_at, take_a
 use Rattle.std.proofs.lemmas.List.Elements.{recursion_from_All, All-from_recursion}
 use Rattle.std.specs.Prelude.{All}
 use Rattle.std.specs.List.{slice_get}
-use Rattle.lc_language.specs.declared.Token.{Token}
-use Rattle.lc_language.specs.Token.{scan, Ending, script_end, bad_token, too_wide}
-use Rattle.lc_language.specs.Tree.{Statement, nesting}
-use Rattle.lc_language.specs.Grammar.{IsScript, deepest, Reads, MayGoOn, opens, open_signs, IsTooDeep, GoesOn, Fault, IsFaultAtToken, EndsIn}
-use Rattle.lc_language.proofs.Course.{State, start, begun, want, opened, named, done, level_of, next, Move, goes, stops, moved, move_by, read, fault, at_end, ended_at, outcome_by, state_by, move, reach, course}
-use Rattle.lc_language.proofs.GrammarLaws.{AreShallow, script_course}
-use Rattle.lc_language.proofs.ScriptLaws.{script_read}
-use Rattle.lc_language.proofs.FaultLaws.{course_reach, Reached, reaches, reach-append, may_go_on, moves_on, level_reach}
+use Rattle.lc_grammar.specs.declared.Token.{Token}
+use Rattle.lc_grammar.specs.Token.{scan, Ending, script_end, bad_token, too_wide}
+use Rattle.lc_grammar.specs.Tree.{Statement, nesting}
+use Rattle.lc_grammar.specs.Grammar.{IsScript, deepest, Reads, MayGoOn, opens, open_signs, IsTooDeep, GoesOn, Fault, IsFaultAtToken, EndsIn}
+use Rattle.lc_grammar.proofs.Course.{State, start, begun, want, opened, named, done, level_of, next, Move, goes, stops, moved, move_by, read, fault, at_end, ended_at, outcome_by, state_by, move, reach, course}
+use Rattle.lc_grammar.proofs.GrammarLaws.{AreShallow, script_course}
+use Rattle.lc_grammar.proofs.ScriptLaws.{script_read}
+use Rattle.lc_grammar.proofs.FaultLaws.{course_reach, Reached, reaches, reach-append, may_go_on, moves_on, level_reach}
 
 -- tokens at a place of a list
 get_at : (front : List Token) (t : Token) (rest : List Token) → slice_get (front ++ t ∷ rest) (length front) ≡ Some t

@@ -1,23 +1,19 @@
--- What `check` prints of a certificate, and how sessions follow one another over the two slots of a vault.
+-- The queries that a script searches, and how sessions follow one another over the two slots of a vault.
 --   Needs table env ss needs          the codes of the queries that search, in the order in which the statements ask them
 --   IsNeeds table bytes needs         those of a script
---   reason_line r                     the line of a certificate that is rejected
---   verdict_line c                    what `check` prints of a certificate
 --   Slots                             what the two slots hold; empty where nothing was stored
 --   IsTornOr parity needs digest budget read      a slot as sessions of a chain leave it: no checkpoint at all, or a true one whose
 --                                     turn has the slot's parity
 --   AreTrueSlots needs digest budget slots       both slots: turns that are even in slot Zero, odd ones in slot One
 --   chosen slots                      the checkpoint that `resume` takes: the greater turn, slot Zero where they are equal
-use Rattle.std.specs.Prelude.{◌≡◌, ℕ, ◌%◌, ◌⊎◌, ◌+◌, ◌^◌, min, nat_lt, if◌then◌else◌, List, [], ◌∷◌, ◌++◌, codes, decimal, Option, Some, None}
+use Rattle.std.specs.Prelude.{◌≡◌, ℕ, ◌%◌, ◌⊎◌, ◌+◌, ◌^◌, min, nat_lt, if◌then◌else◌, List, [], ◌∷◌, Option, Some, None}
 use Rattle.lc_algebra.specs.Matrix.{Matrix}
-use Rattle.lc_enumeration.specs.Certificate.{Certificate, Reason, reason_number, reason_values, Verdict, accepted, rejected, verdict}
 use Rattle.lc_language.specs.declared.Call.{Call}
-use Rattle.lc_language.specs.Tree.{Statement}
-use Rattle.lc_language.specs.Grammar.{Reads, Fault, IsFault}
+use Rattle.lc_grammar.specs.Tree.{Statement}
+use Rattle.lc_grammar.specs.Grammar.{Reads, Fault, IsFault}
 use Rattle.lc_language.specs.Value.{Binding}
-use Rattle.lc_language.specs.Print.{line, with_values}
 use Rattle.lc_language.specs.Evaluation.{Step, Steps, binds, prints, asks, fails}
-use Rattle.lc_language.specs.Checkpoint.{Checkpoint, ReadCheckpoint, point, refused, checkpoint_in, IsTrueFor}
+use Rattle.lc_formats.specs.Checkpoint.{Checkpoint, ReadCheckpoint, point, refused, checkpoint_in, IsTrueFor}
 
 abbrev pub NeedsOn : List Binding → Step → (List Binding → List Matrix → Type 0) → List Matrix → Type 0
 NeedsOn env (binds b) later needs = later (b ∷ env) needs
@@ -34,16 +30,6 @@ abbrev pub IsNeeds : List Call → List ℕ → List Matrix → Type 0
 IsNeeds table bytes needs =
     ((ss : List Statement) × Reads bytes ss × Needs table [] ss needs)
     ⊎ ((fault : Fault) × IsFault bytes fault × (needs ≡ []))
-
-unfoldable pub reason_line : Reason → List ℕ
-reason_line r = line (codes "rejected " ++ decimal (reason_number r) ++ with_values (reason_values r))
-
-unfoldable pub line_of_verdict : ℕ → Verdict → List ℕ
-line_of_verdict d accepted = line (codes "accepted distance " ++ decimal d)
-line_of_verdict d (rejected r) = reason_line r
-
-unfoldable pub verdict_line : Certificate → List ℕ
-verdict_line c = line_of_verdict c.distance (verdict c)
 
 pub record Slots : Type 0 where
   pub zero_slot : List ℕ

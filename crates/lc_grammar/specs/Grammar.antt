@@ -23,11 +23,11 @@
 --   IsFault bytes fault            bytes that are no script, and the first place at which they can't go on
 --   TokenFault ending fault        the fault of the tokens alone: 40 or 43
 use Rattle.std.specs.Prelude.{◌≡◌, ℕ, suc, ◌-◌, ◌<◌, ◌≤◌, ◌⊎◌, Bool, true, false, IsTrue, List, [], ◌∷◌, ◌++◌, length, take, count_by, slice_get, Option, Some, None, All}
-use Rattle.lc_language.specs.declared.TokenKind.{TokenKind}
-use Rattle.lc_language.specs.declared.TokenKind.TheVariants.{Name, Number, Assign, Open, Close, OpenList, CloseList, Comma, End}
-use Rattle.lc_language.specs.declared.Token.{Token}
-use Rattle.lc_language.specs.Token.{scan, text_of, number_of, Ending, script_end, bad_token, too_wide}
-use Rattle.lc_language.specs.Tree.{Expr, Exprs, number, name, call, list, none, more, Statement, nesting}
+use Rattle.lc_grammar.specs.declared.TokenKind.{TokenKind}
+use Rattle.lc_grammar.specs.declared.TokenKind.TheVariants.{Name, Number, Assign, Open, Close, OpenList, CloseList, Comma, End}
+use Rattle.lc_grammar.specs.declared.Token.{Token}
+use Rattle.lc_grammar.specs.Token.{scan, text_of, number_of, Ending, script_end, bad_token, too_wide}
+use Rattle.lc_grammar.specs.Tree.{Expr, Exprs, number, name, call, list, none, more, Statement, nesting}
 
 abbrev pub IsToken : TokenKind → Token → Type 0
 IsToken kind t = t.kind ≡ kind

@@ -5,15 +5,15 @@
 use Rattle.std.proofs.Common.{◌≡◌, ℕ, suc, ◌+◌, Bool, true, false, cond, ◌&&◌, nat_le, List, [], ◌∷◌, ◌++◌, length, Option, Some, None, refl, sym, ap, ◌∙◌, subst, arith}
 use Rattle.std.proofs.lemmas.List.Sums.{sum_by-cons}
 use Rattle.std.specs.List.{count_by}
-use Rattle.lc_language.specs.declared.TokenKind.{TokenKind}
-use Rattle.lc_language.specs.declared.TokenKind.TheVariants.{Name, Number, Assign, Open, Close, OpenList, CloseList, Comma, End}
-use Rattle.lc_language.specs.declared.Token.{Token}
-use Rattle.lc_language.specs.Token.{text_of, number_of, Ending, script_end}
-use Rattle.lc_language.specs.Tree.{Expr, number, name, none, Statement}
-use Rattle.lc_language.specs.Grammar.{MayGoOn, opens, closes, is_opening, is_closing}
-use Rattle.lc_language.proofs.Course.{Bracket, of_call, of_list, closing, filled, after_all, with_target, Around, statement, inside, depth_of, State, start, begun, want, opened, named, done, level_of, after_expr, after_name, after_first, at_expr, at_start, at_opened, next_by, next, Move, goes, stops, move_by, read, outcome_by, state_by, move, reach, course}
-use Rattle.lc_language.proofs.GrammarLaws.{course_at, closes_opened, closes_done, ends_done, name_read}
-use Rattle.lc_language.proofs.ScriptLaws.{script_read}
+use Rattle.lc_grammar.specs.declared.TokenKind.{TokenKind}
+use Rattle.lc_grammar.specs.declared.TokenKind.TheVariants.{Name, Number, Assign, Open, Close, OpenList, CloseList, Comma, End}
+use Rattle.lc_grammar.specs.declared.Token.{Token}
+use Rattle.lc_grammar.specs.Token.{text_of, number_of, Ending, script_end}
+use Rattle.lc_grammar.specs.Tree.{Expr, number, name, none, Statement}
+use Rattle.lc_grammar.specs.Grammar.{MayGoOn, opens, closes, is_opening, is_closing}
+use Rattle.lc_grammar.proofs.Course.{Bracket, of_call, of_list, closing, filled, after_all, with_target, Around, statement, inside, depth_of, State, start, begun, want, opened, named, done, level_of, after_expr, after_name, after_first, at_expr, at_start, at_opened, next_by, next, Move, goes, stops, move_by, read, outcome_by, state_by, move, reach, course}
+use Rattle.lc_grammar.proofs.GrammarLaws.{course_at, closes_opened, closes_done, ends_done, name_read}
+use Rattle.lc_grammar.proofs.ScriptLaws.{script_read}
 
 token_of : TokenKind → Token
 token_of kind = record { kind = kind; start = 0; end = 0 }

@@ -13,12 +13,12 @@
 --   reach                the state behind several tokens
 --   Outcome, course      the statements that the tokens are with this ending, or the first fault
 use Rattle.std.specs.Prelude.{◌≡◌, ℕ, suc, Bool, true, false, nat_le, ◌&&◌, List, [], ◌∷◌, ◌++◌, Option, Some, None}
-use Rattle.lc_language.specs.declared.TokenKind.{TokenKind}
-use Rattle.lc_language.specs.declared.TokenKind.TheVariants.{Name, Number, Assign, Open, Close, OpenList, CloseList, Comma, End}
-use Rattle.lc_language.specs.declared.Token.{Token}
-use Rattle.lc_language.specs.Token.{text_of, number_of, Ending, script_end, bad_token, too_wide}
-use Rattle.lc_language.specs.Tree.{Expr, Exprs, number, name, call, list, none, more, Statement}
-use Rattle.lc_language.specs.Grammar.{opens}
+use Rattle.lc_grammar.specs.declared.TokenKind.{TokenKind}
+use Rattle.lc_grammar.specs.declared.TokenKind.TheVariants.{Name, Number, Assign, Open, Close, OpenList, CloseList, Comma, End}
+use Rattle.lc_grammar.specs.declared.Token.{Token}
+use Rattle.lc_grammar.specs.Token.{text_of, number_of, Ending, script_end, bad_token, too_wide}
+use Rattle.lc_grammar.specs.Tree.{Expr, Exprs, number, name, call, list, none, more, Statement}
+use Rattle.lc_grammar.specs.Grammar.{opens}
 
 pub data Bracket : Type 0 where
   of_call : ℕ → List ℕ → Bracket

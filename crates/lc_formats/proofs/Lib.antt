@@ -1,0 +1,4 @@
+pub mod CertificateExamples
+pub mod CheckExamples
+pub mod CheckpointExamples
+pub mod TruthExamples
