@@ -43,7 +43,7 @@ test_from_divisible f n rows d h = each_passes (λ v. weight v % d == 0) (words 
     let m = h w (word_of_member f n rows w l) in
     eq-eqb (weight w % d) 0 (ap (λ a. a % d) m.1 ∙ mul-mod_left m.0 d))
 
-pub no_member : (e : ℕ) → Contains {X = ℕ} [] e → ⊥
+pub no_member : {X : Type 0} (e : X) → Contains {X = X} [] e → ⊥
 no_member e (k, l, s) = omega (arith, l)
 
 -- some numbers of at least 1, each at least all later ones

@@ -1,3 +1,4 @@
 pub mod SearchExamples
 pub mod CertificateExamples
 pub mod PlanExamples
+pub mod SearchLaws

@@ -2,5 +2,6 @@ pub mod Message
 pub mod Plan
 pub mod InformationSet
 pub mod Search
+pub mod Truth
 pub mod Records
 pub mod Certificate

@@ -14,6 +14,8 @@
 --   found_first C m                  that of the word at place 0
 --   found_below C m l                that of the word at place 0, and those of the words of the blocks below l
 --   least_of a others                the one that none of them beats
+--   least_in founds                  the one that none of some beats; None if there is none
+--   block_least C m b                the least pair of weight and place of block b; None past the plan's end
 --   best C m l                       the least pair of weight and place among those
 --   level_below C l j                the last level of set j whose phase lies wholly below l; 0 if there is none
 --   levels_below C l                 these levels, set by set
@@ -83,6 +85,13 @@ found_from C m first count = flat_map (found_in_block C m) (numbers_from first c
 unfoldable pub least_of : Found → List Found → Found
 least_of a [] = a
 least_of a (b ∷ others) = least_of (if beats b a then b else a) others
+
+unfoldable pub least_in : List Found → Option Found
+least_in [] = None
+least_in (a ∷ others) = Some (least_of a others)
+
+unfoldable pub block_least : Matrix → ℕ → ℕ → Option Found
+block_least C m b = least_in (found_in_block C m b)
 
 -- place 0 has the first word of all: message 1, 0, .., 0 over the first set
 unfoldable pub found_first : Matrix → ℕ → Found
