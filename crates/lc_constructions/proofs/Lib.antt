@@ -1,3 +1,4 @@
+pub mod RefusalLaws
 pub mod Examples
 pub mod MembershipExamples
 pub mod NearestLaws
