@@ -1,4 +1,3 @@
 pub mod CertificateExamples
 pub mod CheckExamples
 pub mod CheckpointExamples
-pub mod TruthExamples

@@ -13,7 +13,7 @@ use Rattle.serde_json.specs.Data.{Data, Members, member, no_members, array, obje
 use Rattle.serde_json.specs.Find.{get_member, as_str, as_array}
 use Rattle.serde_json.specs.Written.{compact_text}
 use Rattle.lc_algebra.specs.Matrix.{Matrix}
-use Rattle.lc_enumeration.specs.Search.{Answer, no_word, exact, bracket, answer, best}
+use Rattle.lc_enumeration.specs.Search.{Answer, no_word, exact, bracket, answer, best, set_count}
 use Rattle.lc_formats.specs.Text.{same_bytes}
 use Rattle.lc_formats.specs.Json.{number_json, numbers_json, items, number_at, listed, each, plain_number, member_count, json_in}
 
@@ -139,6 +139,6 @@ blocks_in (bracket low found l) = l
 pub record IsTrueFor (needs : List Matrix) (digest : List ℕ) (budget : ℕ) (p : Checkpoint) : Type 0 where
   pub script : p.script ≡ digest
   pub budget_is : p.budget ≡ budget
-  pub settled : (i : ℕ) (s : Settled) → slice_get p.settled i ≡ Some s → (C : Matrix) × (slice_get needs i ≡ Some C) × SettlesAs s (answer C budget)
-  pub current : (C : Matrix) × (slice_get needs (length p.settled) ≡ Some C) × (1 ≤ p.blocks) × (p.blocks ≤ blocks_in (answer C budget)) × (best C p.blocks ≡ record { weight = p.weight; place = p.place })
+  pub settled : (i : ℕ) (s : Settled) → slice_get p.settled i ≡ Some s → (C : Matrix) × (slice_get needs i ≡ Some C) × SettlesAs s (answer 1 C budget)
+  pub current : (C : Matrix) × (slice_get needs (length p.settled) ≡ Some C) × (1 ≤ p.blocks) × (p.blocks ≤ blocks_in (answer 1 C budget)) × (best C (set_count C) p.blocks ≡ record { weight = p.weight; place = p.place })
   pub turn : p.turn < p.blocks + sum (map (λ s. s.blocks) p.settled)

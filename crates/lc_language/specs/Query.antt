@@ -6,8 +6,9 @@
 --   query_line kind C budget      the line
 use Rattle.std.specs.Prelude.{ℕ, ◌^◌, ◌-◌, min, nat_lt, if◌then◌else◌, List, [], ◌∷◌, ◌++◌, length, codes, decimal, unwrap_or}
 use Rattle.lc_algebra.specs.Matrix.{Matrix}
+use Rattle.lc_algebra.specs.Divisor.{code_divisor}
 use Rattle.lc_enumeration.specs.InformationSet.{InformationSet}
-use Rattle.lc_enumeration.specs.Search.{Answer, no_word, exact, bracket, answer, sets_of, levels_below, word_at}
+use Rattle.lc_enumeration.specs.Search.{Answer, no_word, exact, bracket, answer, sets_of, set_count, levels_below, word_at}
 use Rattle.lc_formats.specs.Certificate.{Certificate, SetClaim, Proof, scan, levels, cost}
 use Rattle.lc_formats.specs.Text.{line}
 use Rattle.lc_language.specs.Print.{distance_line, bracket_line, distance_none_line}
@@ -42,7 +43,7 @@ certificate_line c =
     line (certificate_text c)
 
 unfoldable pub word_at_place : Matrix → ℕ → List ℕ
-word_at_place C place = unwrap_or (word_at C place) []
+word_at_place C place = unwrap_or (word_at C (set_count C) place) []
 
 unfoldable pub distance_answer_line : Matrix → Answer → List ℕ
 distance_answer_line C no_word = distance_none_line
@@ -55,5 +56,5 @@ certificate_answer_line kind C (exact found l) = certificate_line (certificate_o
 certificate_answer_line kind C (bracket low found l) = line (codes "certificate none between " ++ decimal low ++ codes " and " ++ decimal found.weight)
 
 unfoldable pub query_line : QueryKind → Matrix → ℕ → List ℕ
-query_line distance C budget = distance_answer_line C (answer C budget)
-query_line kind C budget = certificate_answer_line kind C (answer C budget)
+query_line distance C budget = distance_answer_line C (answer (code_divisor C) C budget)
+query_line kind C budget = certificate_answer_line kind C (answer (code_divisor C) C budget)

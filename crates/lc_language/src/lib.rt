@@ -60,4 +60,7 @@ pub enum Call {
     MinimumDistance,
     Certificate,
     ScanCertificate,
+    WeightDistribution,
+    AlternantCertificate,
+    NearestWord,
 }
