@@ -13,5 +13,7 @@ pub mod SpanExamples
 pub mod PowerLaws
 pub mod EmbeddingTests
 pub mod EmbeddingLaws
+pub mod DivisorLaws
+pub mod DivisorExamples
 pub mod RemainderLaws
 pub mod FieldRecords

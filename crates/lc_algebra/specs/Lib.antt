@@ -7,3 +7,4 @@ pub mod Word
 pub mod Span
 pub mod Matrix
 pub mod SpanLaws
+pub mod Divisor

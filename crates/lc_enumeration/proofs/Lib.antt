@@ -1,2 +1,3 @@
 pub mod PlanExamples
 pub mod SearchExamples
+pub mod SearchLaws

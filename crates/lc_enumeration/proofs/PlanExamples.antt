@@ -14,10 +14,11 @@ use Rattle.lc_algebra.specs.Residue.{digits, number, plus, minus, times, top, up
 use Rattle.lc_algebra.specs.Field.{shape, shape_of, size, coefficients, add, mul}
 use Rattle.lc_algebra.specs.Word.{word_sum, scale}
 use Rattle.lc_algebra.specs.Span.{below, combine, words}
+use Rattle.lc_algebra.specs.Divisor.{rounded}
 use Rattle.lc_enumeration.specs.Message.{supports, supports_from, numbers_from, nonzero_lists, leading_lists, messages, vector_from, vector_of, choose, message_count}
 use Rattle.lc_enumeration.specs.Plan.{cut, phase_level, phase_set, level_blocks, blocks_before, total, phase_at, phase_ends, block_length, block_messages, place_of, plan_phases, phase_of}
 use Rattle.lc_enumeration.specs.InformationSet.{same_word, in_span, greedy, is_member, first_basis, columns_in_order, with_fresh, next_set, sets_after, information_sets, unit_word, systematic}
-use Rattle.lc_enumeration.specs.Search.{exact, bracket, Found, sets_of, set_count, ranks_of, generator_at, word_of, word_at, beats, found_along, found_in_block, blocks_within, found_from, least_of, found_first, found_below, best, last_that, is_whole_below, level_below, levels_below, bound_sum, bound_of, bound, is_done, ends_of, answer_at, answer, may_end, finished, board_value, weight_at, fits, fits_settled}
+use Rattle.lc_enumeration.specs.Search.{exact, bracket, Found, sets_of, set_count, ranks_of, generator_at, word_of, word_at, beats, found_along, found_in_block, block_words, found_from, least_of, found_first, found_below, best, last_that, is_whole_below, level_below, levels_below, bound_sum, bound_of, bound, is_done, ends_of, answer_at, answer, may_end, finished, board_value, weight_at, fits, fits_settled}
 use Rattle.lc_enumeration.specs.Records.{end_of_phase, within_slice, round_length, after_round, is_used_up, note_first, note_of, no_round, less_slice, rounds_within, rounds, notes_then, records, records_from}
 use Rattle.lc_enumeration.proofs.SearchExamples.{hamming, first_found}
 
@@ -49,41 +50,41 @@ pub cut_last : phase_at 14 16 1 13 ≡ record { level = 14; set = 0; start = 697
 unfolding choose message_count cut phase_level phase_set level_blocks blocks_before phase_at
 cut_last = refl
 
-pub words_at : map (word_at hamming) (3 ∷ 4 ∷ 4096 ∷ 32768 ∷ []) ≡ Some (0 ∷ 0 ∷ 0 ∷ 1 ∷ 1 ∷ 1 ∷ 1 ∷ []) ∷ None ∷ Some (1 ∷ 1 ∷ 1 ∷ 0 ∷ 0 ∷ 0 ∷ 0 ∷ []) ∷ None ∷ []
-unfolding digits number plus minus times top up times_x product shape shape_of size coefficients add mul word_sum scale below combine words supports supports_from numbers_from nonzero_lists leading_lists messages vector_from vector_of choose message_count cut phase_level phase_set level_blocks blocks_before phase_at block_messages phase_of same_word in_span greedy is_member first_basis columns_in_order with_fresh next_set sets_after information_sets unit_word systematic sets_of set_count generator_at word_of word_at
+pub words_at : map (word_at hamming 2) (3 ∷ 4 ∷ 4096 ∷ 32768 ∷ []) ≡ Some (0 ∷ 0 ∷ 0 ∷ 1 ∷ 1 ∷ 1 ∷ 1 ∷ []) ∷ None ∷ Some (1 ∷ 1 ∷ 1 ∷ 0 ∷ 0 ∷ 0 ∷ 0 ∷ []) ∷ None ∷ []
+unfolding digits number plus minus times top up times_x product shape shape_of size coefficients add mul word_sum scale below combine words supports supports_from numbers_from nonzero_lists leading_lists messages vector_from vector_of choose message_count cut phase_level phase_set level_blocks blocks_before phase_at block_messages phase_of same_word in_span greedy is_member first_basis columns_in_order with_fresh next_set sets_after information_sets unit_word systematic sets_of set_count generator_at word_of word_at block_words
 words_at = refl
 
-pub states : map (λ l. finished hamming (2 ^ 20) l first_found) (1 ∷ 2 ∷ 9 ∷ []) ≡ None ∷ Some (exact first_found 2) ∷ Some (exact first_found 9) ∷ []
-unfolding digits number plus minus times top up times_x product shape shape_of size coefficients add mul word_sum scale below words choose message_count cut phase_level level_blocks blocks_before total phase_ends same_word in_span greedy is_member first_basis columns_in_order with_fresh next_set sets_after information_sets sets_of set_count ranks_of last_that is_whole_below level_below levels_below bound_sum bound_of bound ends_of may_end finished
+pub states : map (λ l. finished 1 hamming (2 ^ 20) l first_found) (1 ∷ 2 ∷ 9 ∷ []) ≡ None ∷ Some (exact first_found 2) ∷ Some (exact first_found 9) ∷ []
+unfolding digits number plus minus times top up times_x product shape shape_of size coefficients add mul word_sum scale below words choose message_count cut phase_level level_blocks blocks_before total phase_ends same_word in_span greedy is_member first_basis columns_in_order with_fresh next_set sets_after information_sets sets_of set_count ranks_of last_that is_whole_below level_below levels_below bound_sum bound_of rounded bound ends_of may_end finished
 states = refl
 
-pub at_budget : finished hamming 1 1 first_found ≡ Some (bracket 2 first_found 1)
-unfolding digits number plus minus times top up times_x product shape shape_of size coefficients add mul word_sum scale below words choose message_count cut phase_level level_blocks blocks_before total phase_ends same_word in_span greedy is_member first_basis columns_in_order with_fresh next_set sets_after information_sets sets_of set_count ranks_of last_that is_whole_below level_below levels_below bound_sum bound_of bound ends_of may_end finished
+pub at_budget : finished 1 hamming 1 1 first_found ≡ Some (bracket 2 first_found 1)
+unfolding digits number plus minus times top up times_x product shape shape_of size coefficients add mul word_sum scale below words choose message_count cut phase_level level_blocks blocks_before total phase_ends same_word in_span greedy is_member first_basis columns_in_order with_fresh next_set sets_after information_sets sets_of set_count ranks_of last_that is_whole_below level_below levels_below bound_sum bound_of rounded bound ends_of may_end finished
 at_budget = refl
 
-pub sliced : records (hamming ∷ hamming ∷ []) 0 (2 ^ 20) (Some 3) 0 first_found ≡ record { need = 0; blocks = 1; bound = 2; best = 3 } ∷ record { need = 0; blocks = 2; bound = 3; best = 3 } ∷ record { need = 1; blocks = 1; bound = 2; best = 3 } ∷ []
-unfolding digits number plus minus times top up times_x product shape shape_of size coefficients add mul word_sum scale below combine words supports supports_from numbers_from nonzero_lists leading_lists messages vector_from vector_of choose message_count cut phase_level phase_set level_blocks blocks_before total phase_at phase_ends block_messages place_of plan_phases same_word in_span greedy is_member first_basis columns_in_order with_fresh next_set sets_after information_sets unit_word systematic sets_of set_count ranks_of generator_at word_of beats found_along found_in_block blocks_within found_from least_of found_first found_below best last_that is_whole_below level_below levels_below bound_sum bound_of bound is_done ends_of answer_at answer may_end finished end_of_phase within_slice round_length after_round is_used_up note_first note_of no_round less_slice rounds_within rounds notes_then records records_from
+pub sliced : records (λ C. 1) (hamming ∷ hamming ∷ []) 0 (2 ^ 20) (Some 3) 0 first_found ≡ record { need = 0; blocks = 1; bound = 2; best = 3 } ∷ record { need = 0; blocks = 2; bound = 3; best = 3 } ∷ record { need = 1; blocks = 1; bound = 2; best = 3 } ∷ []
+unfolding digits number plus minus times top up times_x product shape shape_of size coefficients add mul word_sum scale below combine words supports supports_from numbers_from nonzero_lists leading_lists messages vector_from vector_of choose message_count cut phase_level phase_set level_blocks blocks_before total phase_at phase_ends block_messages place_of plan_phases same_word in_span greedy is_member first_basis columns_in_order with_fresh next_set sets_after information_sets unit_word systematic sets_of set_count ranks_of generator_at word_of beats found_along found_in_block block_words found_from least_of found_first found_below best last_that is_whole_below level_below levels_below bound_sum bound_of rounded bound is_done ends_of answer_at answer may_end finished end_of_phase within_slice round_length after_round is_used_up note_first note_of no_round less_slice rounds_within rounds notes_then records records_from phase_of
 sliced = refl
 
-pub stops : map (λ left. (rounds hamming (2 ^ 20) 0 (Some left) 0 first_found).is_stopped) (0 ∷ 1 ∷ 2 ∷ []) ≡ true ∷ true ∷ false ∷ []
-unfolding digits number plus minus times top up times_x product shape shape_of size coefficients add mul word_sum scale below combine words supports supports_from numbers_from nonzero_lists leading_lists messages vector_from vector_of choose message_count cut phase_level phase_set level_blocks blocks_before total phase_at phase_ends block_messages place_of plan_phases same_word in_span greedy is_member first_basis columns_in_order with_fresh next_set sets_after information_sets unit_word systematic sets_of set_count ranks_of generator_at word_of beats found_along found_in_block blocks_within found_from least_of found_first found_below best last_that is_whole_below level_below levels_below bound_sum bound_of bound is_done ends_of answer_at answer may_end finished end_of_phase within_slice round_length after_round is_used_up note_first note_of no_round less_slice rounds_within rounds
+pub stops : map (λ left. (rounds 1 hamming (2 ^ 20) 0 (Some left) 0 first_found).is_stopped) (0 ∷ 1 ∷ 2 ∷ []) ≡ true ∷ true ∷ false ∷ []
+unfolding digits number plus minus times top up times_x product shape shape_of size coefficients add mul word_sum scale below combine words supports supports_from numbers_from nonzero_lists leading_lists messages vector_from vector_of choose message_count cut phase_level phase_set level_blocks blocks_before total phase_at phase_ends block_messages place_of plan_phases same_word in_span greedy is_member first_basis columns_in_order with_fresh next_set sets_after information_sets unit_word systematic sets_of set_count ranks_of generator_at word_of beats found_along found_in_block block_words found_from least_of found_first found_below best last_that is_whole_below level_below levels_below bound_sum bound_of rounded bound is_done ends_of answer_at answer may_end finished end_of_phase within_slice round_length after_round is_used_up note_first note_of no_round less_slice rounds_within rounds phase_of
 stops = refl
 
 abbrev pub pair : ℕ → ℕ → Found
 pair weight place = record { weight = weight; place = place }
 
 pub found_weights : map (weight_at hamming) (0 ∷ 3 ∷ 4 ∷ []) ≡ 3 ∷ 4 ∷ 0 ∷ []
-unfolding digits number plus minus times top up times_x product shape shape_of size coefficients add mul word_sum scale below combine words supports supports_from numbers_from nonzero_lists leading_lists messages vector_from vector_of choose message_count cut phase_level phase_set level_blocks blocks_before total phase_at phase_ends block_messages phase_of same_word in_span greedy is_member first_basis columns_in_order with_fresh next_set sets_after information_sets unit_word systematic sets_of set_count ranks_of generator_at word_of word_at last_that is_whole_below level_below levels_below bound_sum bound_of bound ends_of may_end finished weight_at fits fits_settled
+unfolding digits number plus minus times top up times_x product shape shape_of size coefficients add mul word_sum scale below combine words supports supports_from numbers_from nonzero_lists leading_lists messages vector_from vector_of choose message_count cut phase_level phase_set level_blocks blocks_before total phase_at phase_ends block_messages phase_of same_word in_span greedy is_member first_basis columns_in_order with_fresh next_set sets_after information_sets unit_word systematic sets_of set_count ranks_of generator_at word_of word_at last_that is_whole_below level_below levels_below bound_sum bound_of rounded bound ends_of may_end finished weight_at fits fits_settled block_words
 found_weights = refl
 
 -- a wrong weight; a true one; the same behind the blocks; no word there; place 0, which needs no block
 pub fitting : fits hamming 2 (pair 2 0) ∷ fits hamming 2 (pair 4 3) ∷ fits hamming 0 (pair 4 3) ∷ fits hamming 2 (pair 3 4) ∷ fits hamming 0 (pair 3 0) ∷ [] ≡ false ∷ true ∷ false ∷ false ∷ true ∷ []
-unfolding digits number plus minus times top up times_x product shape shape_of size coefficients add mul word_sum scale below combine words supports supports_from numbers_from nonzero_lists leading_lists messages vector_from vector_of choose message_count cut phase_level phase_set level_blocks blocks_before total phase_at phase_ends block_messages phase_of same_word in_span greedy is_member first_basis columns_in_order with_fresh next_set sets_after information_sets unit_word systematic sets_of set_count ranks_of generator_at word_of word_at last_that is_whole_below level_below levels_below bound_sum bound_of bound ends_of may_end finished weight_at fits fits_settled
+unfolding digits number plus minus times top up times_x product shape shape_of size coefficients add mul word_sum scale below combine words supports supports_from numbers_from nonzero_lists leading_lists messages vector_from vector_of choose message_count cut phase_level phase_set level_blocks blocks_before total phase_at phase_ends block_messages phase_of same_word in_span greedy is_member first_basis columns_in_order with_fresh next_set sets_after information_sets unit_word systematic sets_of set_count ranks_of generator_at word_of word_at last_that is_whole_below level_below levels_below bound_sum bound_of rounded bound ends_of may_end finished weight_at fits fits_settled block_words
 fitting = refl
 
 -- an answered state, one at the budget, and one that goes on
-pub fitting_settled : fits_settled hamming (2 ^ 20) 2 first_found ∷ fits_settled hamming 1 1 first_found ∷ fits_settled hamming (2 ^ 20) 1 first_found ∷ [] ≡ true ∷ true ∷ false ∷ []
-unfolding digits number plus minus times top up times_x product shape shape_of size coefficients add mul word_sum scale below combine words supports supports_from numbers_from nonzero_lists leading_lists messages vector_from vector_of choose message_count cut phase_level phase_set level_blocks blocks_before total phase_at phase_ends block_messages phase_of same_word in_span greedy is_member first_basis columns_in_order with_fresh next_set sets_after information_sets unit_word systematic sets_of set_count ranks_of generator_at word_of word_at last_that is_whole_below level_below levels_below bound_sum bound_of bound ends_of may_end finished weight_at fits fits_settled
+pub fitting_settled : fits_settled 1 hamming (2 ^ 20) 2 first_found ∷ fits_settled 1 hamming 1 1 first_found ∷ fits_settled 1 hamming (2 ^ 20) 1 first_found ∷ [] ≡ true ∷ true ∷ false ∷ []
+unfolding digits number plus minus times top up times_x product shape shape_of size coefficients add mul word_sum scale below combine words supports supports_from numbers_from nonzero_lists leading_lists messages vector_from vector_of choose message_count cut phase_level phase_set level_blocks blocks_before total phase_at phase_ends block_messages phase_of same_word in_span greedy is_member first_basis columns_in_order with_fresh next_set sets_after information_sets unit_word systematic sets_of set_count ranks_of generator_at word_of word_at last_that is_whole_below level_below levels_below bound_sum bound_of rounded bound ends_of may_end finished weight_at fits fits_settled block_words
 fitting_settled = refl
 
 pub on_the_board : board_value (pair 3 8194) ≡ 13510798882119682

@@ -2,4 +2,5 @@ pub mod Message
 pub mod Plan
 pub mod InformationSet
 pub mod Search
+pub mod Truth
 pub mod Records

@@ -5,8 +5,9 @@
 --   after_round C state l count       the state after the blocks l to l + count - 1
 --   Rounds                            the records of some rounds, what is then left of the slice, and whether the slice stopped
 --                                     the session
---   rounds C budget need slice l state           the rounds of one search from a state on
---   records needs need budget slice l state      those of all needs, numbered from need on, the first one from a state on
+--   rounds d C budget need slice l state         the rounds of one search from a state on; d divides all weights of the code
+--   records divisor needs need budget slice l state      those of all needs, numbered from need on, the first one from a state
+--                                     on; divisor is what divides the weights of a need's code
 use Rattle.std.specs.Prelude.{ℕ, zero, suc, ◌+◌, ◌-◌, min, Bool, true, false, cond, nat_lt, List, [], ◌∷◌, ◌++◌, length, map, find, unwrap_or, Option, Some, None, option_map}
 use Rattle.lc_algebra.specs.Field.{size}
 use Rattle.lc_algebra.specs.Matrix.{Matrix}
@@ -31,7 +32,7 @@ unfoldable pub round_length : Matrix → ℕ → Option ℕ → ℕ → ℕ
 round_length C budget slice l = within_slice slice (min 256 (min (end_of_phase C l - l) (budget - l)))
 
 unfoldable pub after_round : Matrix → Found → ℕ → ℕ → Found
-after_round C state l count = least_of state (found_from C l count)
+after_round C state l count = least_of state (found_from C (set_count C) l count)
 
 pub record Rounds : Type 0 where
   pub notes : List Note
@@ -46,8 +47,8 @@ is_used_up (Some (suc n)) = false
 unfoldable pub note_first : Note → Rounds → Rounds
 note_first note r = record { notes = note ∷ r.notes; left = r.left; is_stopped = r.is_stopped }
 
-unfoldable pub note_of : Matrix → ℕ → ℕ → Found → Note
-note_of C need l state = record { need = need; blocks = l; bound = bound C l state.weight; best = state.weight }
+unfoldable pub note_of : ℕ → Matrix → ℕ → ℕ → Found → Note
+note_of d C need l state = record { need = need; blocks = l; bound = bound d C l state.weight; best = state.weight }
 
 -- no further round: the search is answered, or the slice is used up
 unfoldable pub no_round : Option ℕ → Bool → Rounds
@@ -58,31 +59,31 @@ unfoldable pub less_slice : Option ℕ → ℕ → Option ℕ
 less_slice slice count = option_map (λ left. left - count) slice
 
 -- at most so many rounds; each does a block at least, so that the budget's blocks are enough
-unfoldable pub rounds_within : ℕ → Matrix → ℕ → ℕ → Option ℕ → ℕ → Found → Rounds
-rounds_within zero C budget need slice l state = no_round slice false
-rounds_within (suc most) C budget need slice l state =
-    elim (finished C budget l state) as (λ _. Rounds) [
+unfoldable pub rounds_within : ℕ → ℕ → Matrix → ℕ → ℕ → Option ℕ → ℕ → Found → Rounds
+rounds_within zero d C budget need slice l state = no_round slice false
+rounds_within (suc most) d C budget need slice l state =
+    elim (finished d C budget l state) as (λ _. Rounds) [
       | Some _ ↦ no_round slice false
       | None ↦ elim (is_used_up slice) as (λ _. Rounds) [
         | true ↦ no_round slice true
         | false ↦
             let count = round_length C budget slice l in
             let next = after_round C state l count in
-            note_first (note_of C need (l + count) next) (rounds_within most C budget need (less_slice slice count) (l + count) next)
+            note_first (note_of d C need (l + count) next) (rounds_within most d C budget need (less_slice slice count) (l + count) next)
       ]
     ]
 
-unfoldable pub rounds : Matrix → ℕ → ℕ → Option ℕ → ℕ → Found → Rounds
-rounds C budget need slice l state = rounds_within (suc (budget - l)) C budget need slice l state
+unfoldable pub rounds : ℕ → Matrix → ℕ → ℕ → Option ℕ → ℕ → Found → Rounds
+rounds d C budget need slice l state = rounds_within (suc (budget - l)) d C budget need slice l state
 
 unfoldable pub notes_then : Rounds → (Option ℕ → List Note) → List Note
 notes_then r later = r.notes ++ cond r.is_stopped [] (later r.left)
 
 -- needs are the codes of the queries that search, from the one with this number on
-unfoldable pub records_from : List Matrix → ℕ → ℕ → Option ℕ → List Note
-records_from [] need budget slice = []
-records_from (C ∷ needs) need budget slice = notes_then (rounds C budget need slice 0 (found_first C)) (records_from needs (suc need) budget)
+unfoldable pub records_from : (Matrix → ℕ) → List Matrix → ℕ → ℕ → Option ℕ → List Note
+records_from divisor [] need budget slice = []
+records_from divisor (C ∷ needs) need budget slice = notes_then (rounds (divisor C) C budget need slice 0 (found_first C (set_count C))) (records_from divisor needs (suc need) budget)
 
-unfoldable pub records : List Matrix → ℕ → ℕ → Option ℕ → ℕ → Found → List Note
-records [] need budget slice l state = []
-records (C ∷ needs) need budget slice l state = notes_then (rounds C budget need slice l state) (records_from needs (suc need) budget)
+unfoldable pub records : (Matrix → ℕ) → List Matrix → ℕ → ℕ → Option ℕ → ℕ → Found → List Note
+records divisor [] need budget slice l state = []
+records divisor (C ∷ needs) need budget slice l state = notes_then (rounds (divisor C) C budget need slice l state) (records_from divisor needs (suc need) budget)

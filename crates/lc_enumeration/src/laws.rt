@@ -1,0 +1,27 @@
+//! The laws of what a search finds.
+//!
+//! Each function proves what its clauses say, for every code, and does nothing when it is run.
+
+ghost use Rattle.std.specs.Prelude.{◌≡◌, ℕ, ◌^◌, ◌<◌, ◌↔◌, nat_lt, List, ◌∷◌, length, map, Some, Contains};
+ghost use Rattle.lc_algebra.specs.Field.{size};
+ghost use Rattle.lc_algebra.specs.Matrix.{Matrix};
+ghost use Rattle.lc_enumeration.specs.Plan.{IsInPhase, block_messages, phase_of};
+ghost use Rattle.lc_enumeration.specs.Search.{Found, word_of, block_words, found_from, beats, least_of, least_in, board_value};
+ghost use Rattle.lc_enumeration.specs.Truth.{IsFoundBetween, IsLeastOf};
+
+/// What is found in some blocks is the weights and places of the words at their places; the words of a
+/// block are those of its messages, in the phase that it belongs to.
+pub fn found_words_are_at_their_places()
+    ensures found { (C : Matrix) (m first count : ℕ) (x : Found) → Contains (found_from C m first count) x ↔ IsFoundBetween C m first count x }
+    ensures phase { (k q m p b : ℕ) → IsInPhase k q m p b → phase_of k q m b ≡ Some p }
+    ensures block { (C : Matrix) (m p b : ℕ) → IsInPhase (length C.rows) (size C.field) m p b → block_words C m b ≡ map (word_of C m p) (block_messages (length C.rows) (size C.field) m p b) }
+{}
+
+/// The least of some words is one of them that no other beats, and there is only one such. For places
+/// below 2^52, a word beats another if and only if its value on the board is less.
+pub fn least_word_is_unbeaten()
+    ensures least { (a : Found) (others : List Found) → IsLeastOf (a ∷ others) (least_of a others) }
+    ensures least_in { (founds : List Found) (x : Found) → least_in founds ≡ Some x → IsLeastOf founds x }
+    ensures one { (founds : List Found) (x y : Found) → IsLeastOf founds x → IsLeastOf founds y → x ≡ y }
+    ensures board { (a b : Found) → a.place < 2 ^ 52 → b.place < 2 ^ 52 → beats a b ≡ nat_lt (board_value a) (board_value b) }
+{}
