@@ -1,3 +1,5 @@
+pub mod RefusalLaws
+pub mod RefusalExamples
 pub mod Examples
 pub mod MembershipExamples
 pub mod NearestLaws

@@ -5,3 +5,5 @@ pub mod Alternant
 pub mod Combined
 pub mod Concatenated
 pub mod Nearest
+pub mod Refusal
+pub mod Refusals

@@ -1,12 +1,14 @@
-//! Why a constructor of codes gives none.
+//! Why a constructor or a combinator of codes gives no code.
 ghost use Rattle.std.specs.Prelude.{◌≡◌, IfOk};
-ghost use Rattle.lc_code.specs.Refusal.{refusal_number, refusal_values};
-ghost use Rattle.lc_code.specs.declared.refusal.CodeRefusal.TheVariants as refusal;
+ghost use Rattle.lc_constructions.specs.Refusal.{refusal_number, refusal_values};
+ghost use Rattle.lc_constructions.specs.declared.refusal.CodeRefusal.TheVariants as refusal;
 
 use lc_field::NoMemory as FieldMemory;
 use std::alloc::Global;
 
-/// Why a constructor of codes, or a combinator of codes, gives no code.
+/// Why a constructor or a combinator of codes gives no code.
+///
+/// `specs/Refusals.antt` lists the refusals of each constructor in order.
 #[derive(Clone, Copy, Debug, PartialEq, Eq)]
 pub enum CodeRefusal {
     /// The length of the code would be 0 or above 255, or a matrix has no rows.
@@ -15,35 +17,35 @@ pub enum CodeRefusal {
     BadArgument(u64),
     /// The polynomial doesn't divide x^n - 1.
     NotADivisor,
-    /// No locator field that holds the field has an element of order n.
+    /// No locator field that contains the field has an element of order n.
     NoRoot,
     /// The design distance is above the length, or too small.
     BadDelta,
     /// No symbol field has one element more than the length.
     NoFieldOfLength,
-    /// Two points are equal: the least place of a point that stood before, behind the place where it stands first.
+    /// Two points coincide: the index of the first occurrence, then the least index that repeats an earlier point.
     RepeatedPoint(usize, usize),
-    /// The Goppa polynomial is 0 at the point of this place.
+    /// The Goppa polynomial is 0 at the point with this index, the least one.
     RootAt(usize),
-    /// The symbol field doesn't lie in the locator field.
+    /// The symbol field isn't a subfield of the locator field.
     NotASubfield,
     /// The fields of two codes differ.
     FieldsDiffer,
     /// Rows of a matrix, two lists or two codes have different lengths.
     LengthsDiffer,
-    /// The places aren't strictly rising, one of them isn't a place of the code, or they are all its places.
+    /// The coordinates aren't strictly rising, one of them isn't a coordinate of the code, or they are all its coordinates.
     BadPositions,
     /// The dimension of the inner code and the degree of the outer field over the inner one, which differ.
     InnerDimension(usize, usize),
     /// The field has more than 16 elements.
     FieldTooLarge,
-    /// Memory was refused.
+    /// No memory is left.
     NoMemory,
 }
 
 impl CodeRefusal {
     /// The number of the refusal: 2 for `BadLength` to 14 for `InnerDimension`, in the order of the variants, and 17 for
-    /// `FieldTooLarge`; want of memory has none, and gives 0.
+    /// `FieldTooLarge`; `NoMemory` has none, and gives 0.
     #[tactic(auto, unfolding(crate::specs::Refusal::refusal_number))]
     pub fn number(&self) -> u8
         ensures is { result ≡ refusal_number self.now }
