@@ -1,3 +1,4 @@
+pub mod Evaluated
 pub mod CertificateExamples
 pub mod CheckExamples
 pub mod CheckpointExamples
