@@ -4,4 +4,5 @@ pub mod InformationSet
 pub mod Search
 pub mod Truth
 pub mod Records
+pub mod Fitting
 pub mod Certificate
