@@ -4,3 +4,7 @@ pub mod PlanExamples
 pub mod SearchLaws
 pub mod RecordsExamples
 pub mod RecordsLaws
+pub mod DistributionExamples
+pub mod NearExamples
+pub mod MemberLaws
+pub mod DistributionLaws

@@ -5,4 +5,6 @@ pub mod Search
 pub mod Truth
 pub mod Records
 pub mod Fitting
+pub mod Distribution
+pub mod NearWord
 pub mod Certificate
