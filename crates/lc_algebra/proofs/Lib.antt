@@ -15,5 +15,6 @@ pub mod EmbeddingTests
 pub mod EmbeddingLaws
 pub mod DivisorLaws
 pub mod DivisorExamples
+pub mod PlaneExamples
 pub mod RemainderLaws
 pub mod FieldRecords
