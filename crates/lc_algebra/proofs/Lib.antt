@@ -11,6 +11,7 @@ pub mod DimensionLaws
 pub mod SpanSearch
 pub mod SpanExamples
 pub mod PowerLaws
+pub mod OrderLaws
 pub mod EmbeddingTests
 pub mod EmbeddingLaws
 pub mod DivisorLaws

@@ -14,8 +14,9 @@ use Rattle.lc_algebra.specs.Field.{size, is_symbol}
 use Rattle.lc_algebra.proofs.FieldLaws.{one_inside}
 use Rattle.lc_constructions.specs.Basic.{hamming_length}
 use Rattle.lc_constructions.specs.declared.refusal.CodeRefusal.TheVariants.{BadLength, BadArgument, FieldTooLarge}
+use Rattle.lc_constructions.specs.Code.{is_length}
 use Rattle.lc_constructions.specs.Refusal.{refuse_if, first_refusal}
-use Rattle.lc_constructions.specs.Refusals.{is_length, too_large, bad_length, bad_argument, hamming_refusals}
+use Rattle.lc_constructions.specs.Refusals.{too_large, bad_length, bad_argument, hamming_refusals}
 use Rattle.lc_basic.specs.Column.{points}
 use Rattle.lc_basic.proofs.ColumnLaws.{power_points, length_points, points_more}
 

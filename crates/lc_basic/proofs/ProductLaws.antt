@@ -23,8 +23,9 @@ use Rattle.lc_algebra.proofs.SpanLaws.{length_below}
 use Rattle.lc_constructions.specs.Code.{IsCode}
 use Rattle.lc_constructions.specs.Basic.{GeneratedBy, subsets, monomial, reed_muller_rows}
 use Rattle.lc_constructions.specs.declared.refusal.CodeRefusal.TheVariants.{BadLength, BadArgument}
+use Rattle.lc_constructions.specs.Code.{is_length}
 use Rattle.lc_constructions.specs.Refusal.{refuse_if, first_refusal}
-use Rattle.lc_constructions.specs.Refusals.{is_length, bad_length, bad_argument, reed_muller_refusals}
+use Rattle.lc_constructions.specs.Refusals.{bad_length, bad_argument, reed_muller_refusals}
 use Rattle.lc_basic.specs.Column.{points}
 use Rattle.lc_basic.specs.Product.{variables, times_all, times_part, products}
 use Rattle.lc_basic.proofs.FamilyLaws.{ones, length_ones, index_ones}

@@ -14,8 +14,9 @@ use Rattle.lc_algebra.specs.Field.{size, is_symbol}
 use Rattle.lc_algebra.specs.Word.{Fits}
 use Rattle.lc_algebra.specs.Matrix.{AreRows}
 use Rattle.lc_constructions.specs.declared.refusal.CodeRefusal.TheVariants.{BadLength, BadArgument, LengthsDiffer, FieldTooLarge}
+use Rattle.lc_constructions.specs.Code.{is_length}
 use Rattle.lc_constructions.specs.Refusal.{refuse_if, first_refusal}
-use Rattle.lc_constructions.specs.Refusals.{is_length, columns_of, are_elements, have_elements, are_equally_long, too_large, bad_length, bad_argument, length_refusals, matrix_refusals}
+use Rattle.lc_constructions.specs.Refusals.{columns_of, are_elements, have_elements, are_equally_long, too_large, bad_length, bad_argument, length_refusals, matrix_refusals}
 
 elements_fit : (f : FieldName) (rows : List (List ℕ)) → have_elements f rows ≡ true → All (Fits f) rows
 unfolding have_elements are_elements

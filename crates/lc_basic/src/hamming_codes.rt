@@ -1,10 +1,10 @@
 //! Hamming codes.
 ghost use Rattle.std.specs.Prelude.{◌≡◌, ℕ, ◌+◌, ◌-◌, ◌^◌, ◌<◌, ◌≤◌, ◌++◌, map, IfOk, IsTrue};
 ghost use Rattle.lc_algebra.specs.Field.{size, is_symbol};
-ghost use Rattle.lc_constructions.specs.Code.{IsCode, CheckedBy};
+ghost use Rattle.lc_constructions.specs.Code.{longest, is_length, IsCode, CheckedBy};
 ghost use Rattle.lc_constructions.specs.Basic.{hamming_checks, hamming_length};
 ghost use Rattle.lc_constructions.specs.Refusal.{first_refusal, IsRefusedAs, RefusesFirst};
-ghost use Rattle.lc_constructions.specs.Refusals.{longest, is_length, hamming_refusals};
+ghost use Rattle.lc_constructions.specs.Refusals.{hamming_refusals};
 ghost use Rattle.lc_basic.specs.Checked.{IsChecked};
 ghost use Rattle.lc_basic.specs.Column.{points, digits_from, digits_of};
 

@@ -4,8 +4,9 @@ ghost use Rattle.std.specs.List.{list_all};
 ghost use Rattle.lc_algebra.specs.Field.{is_symbol};
 ghost use Rattle.lc_algebra.specs.Word.{Fits};
 ghost use Rattle.lc_algebra.specs.Matrix.{AreRows};
+ghost use Rattle.lc_constructions.specs.Code.{longest, is_length};
 ghost use Rattle.lc_constructions.specs.Refusal.{first_refusal};
-ghost use Rattle.lc_constructions.specs.Refusals.{longest, is_length, columns_of, are_equally_long, length_refusals, matrix_refusals};
+ghost use Rattle.lc_constructions.specs.Refusals.{columns_of, are_equally_long, length_refusals, matrix_refusals};
 ghost use Rattle.lc_basic.specs.Checked.{IsChecked};
 
 use lc_code::CodeRefusal;
@@ -13,7 +14,7 @@ use lc_field::Field;
 use lc_vec::{Word, fits};
 
 // Whether n is the length of a code.
-#[tactic(auto, unfolding(lc_constructions::specs::Refusals::is_length))]
+#[tactic(auto, unfolding(lc_constructions::specs::Code::is_length))]
 pub(crate) fn is_length(n: u64) -> bool
     ensures is { result ≡ is_length n }
     ensures least { IsTrue result → 1 ≤ n }

@@ -1,10 +1,10 @@
 //! Repetition codes, the whole space and the null code.
 ghost use Rattle.std.specs.Prelude.{◌≡◌, ◌≤◌, replicate, IfOk, IsTrue};
 ghost use Rattle.lc_algebra.specs.Field.{is_symbol};
-ghost use Rattle.lc_constructions.specs.Code.{IsCode};
+ghost use Rattle.lc_constructions.specs.Code.{longest, IsCode};
 ghost use Rattle.lc_constructions.specs.Basic.{IsConstant, IsAny, IsZero};
 ghost use Rattle.lc_constructions.specs.Refusal.{first_refusal, IsRefusedAs, RefusesFirst};
-ghost use Rattle.lc_constructions.specs.Refusals.{longest, length_refusals};
+ghost use Rattle.lc_constructions.specs.Refusals.{length_refusals};
 
 use crate::refusal::check_length;
 use lc_code::{Code, CodeRefusal};

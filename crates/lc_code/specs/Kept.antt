@@ -6,8 +6,7 @@ use Rattle.std.specs.Prelude.{◌≡◌, ℕ, ◌<◌, ◌≤◌, ◌↔◌, Lis
 use Rattle.lc_algebra.specs.Field.{is_symbol, neg}
 use Rattle.lc_algebra.specs.Word.{IsWord, word_sum, scale, first_nonzero}
 use Rattle.lc_algebra.specs.Matrix.{Matrix, AreRows, IsReduced}
-use Rattle.lc_constructions.specs.Code.{InCode}
-use Rattle.lc_constructions.specs.Refusals.{longest}
+use Rattle.lc_constructions.specs.Code.{longest, InCode}
 
 pub record IsKept (C : Matrix) : Type 0 where
   pub symbol : IsTrue (is_symbol C.field)

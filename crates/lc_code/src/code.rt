@@ -3,9 +3,8 @@ ghost use Rattle.std.specs.Prelude.{◌≡◌, ℕ, ◌<◌, ◌≤◌, ◌↔�
 ghost use Rattle.lc_algebra.specs.Field.{is_symbol};
 ghost use Rattle.lc_algebra.specs.Word.{IsWord};
 ghost use Rattle.lc_algebra.specs.Matrix.{AreRows, IsReduced};
-ghost use Rattle.lc_constructions.specs.Code.{InCode, IsCode, CheckedBy};
+ghost use Rattle.lc_constructions.specs.Code.{longest, InCode, IsCode, CheckedBy};
 ghost use Rattle.lc_constructions.specs.Basic.{GeneratedBy};
-ghost use Rattle.lc_constructions.specs.Refusals.{longest};
 ghost use Rattle.lc_constructions.specs.Combined.{InDual};
 ghost use Rattle.lc_code.specs.Kept.{IsCleared};
 

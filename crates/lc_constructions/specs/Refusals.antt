@@ -1,8 +1,6 @@
 -- For each constructor and combinator of codes the list of its refusals, in the order in which they are looked for. An entry is
 -- the refusal if it applies, else None, and the call is refused with the first one (first_refusal). Golay codes, extended Golay
 -- codes and dual codes are never refused.
---   longest                       the greatest length of a code
---   is_length n                   n is the length of a code: 1 to 255
 --   columns_of rows               the length of a matrix is that of its first row; without rows it is 0
 --   are_elements f entries        each entry is below the size of the field
 --   have_elements f rows          so is each entry of each row
@@ -33,21 +31,16 @@ use Rattle.std.specs.Prelude.{ℕ, ◌+◌, ◌*◌, ◌^◌, ◌↔◌, Bool, t
 use Rattle.std.specs.List.{list_any, list_all}
 use Rattle.lc_algebra.specs.declared.FieldName.{FieldName}
 use Rattle.lc_algebra.specs.Field.{size, is_symbol}
-use Rattle.lc_algebra.specs.Polynomial.{value_at, Divides, x_power_minus_one}
+use Rattle.lc_algebra.specs.Polynomial.{value_at, trimmed, Divides, x_power_minus_one}
 use Rattle.lc_algebra.specs.Embedding.{is_subfield, first_that}
 use Rattle.lc_algebra.specs.Span.{below}
 use Rattle.lc_algebra.specs.Matrix.{Matrix}
 use Rattle.lc_constructions.specs.declared.refusal.CodeRefusal.{CodeRefusal}
 use Rattle.lc_constructions.specs.declared.refusal.CodeRefusal.TheVariants.{BadLength, BadArgument, NotADivisor, NoRoot, BadDelta, NoFieldOfLength, RepeatedPoint, RootAt, NotASubfield, FieldsDiffer, LengthsDiffer, BadPositions, InnerDimension, FieldTooLarge}
+use Rattle.lc_constructions.specs.Code.{is_length}
 use Rattle.lc_constructions.specs.Basic.{hamming_length}
-use Rattle.lc_constructions.specs.Cyclic.{trimmed, all_fields, locator_field}
+use Rattle.lc_constructions.specs.Cyclic.{all_fields, locator_field}
 use Rattle.lc_constructions.specs.Refusal.{refuse_if}
-
-abbrev pub longest : ℕ
-longest = 255
-
-unfoldable pub is_length : ℕ → Bool
-is_length n = nat_le 1 n && nat_le n longest
 
 unfoldable pub columns_of : List (List ℕ) → ℕ
 columns_of [] = 0

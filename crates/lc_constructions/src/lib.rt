@@ -2,6 +2,7 @@
 //! the word of a code nearest to a received one is. The definitions stand in `specs/`.
 #![tactic(auto)]
 
+pub mod laws;
 mod refusal;
 
 pub use refusal::CodeRefusal;
