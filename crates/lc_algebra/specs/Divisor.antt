@@ -4,7 +4,7 @@
 --   possible_divisors f              the divisors that are asked for, the greatest first: 4 and 2 over 2 elements, 3 over 3
 --   divides_weights d ws             whether d divides the weight of each word of a list
 --   weight_divisor f n rows          the first of these that divides the weight of each word of the rows, and 1 if none does
---   code_divisor C                   that of the words of a code
+--   divisor_of C                     that of a code
 --   IsWeightDivisor f n rows d       d is the greatest of these and 1 that divides the weight of each word of the rows
 --   rounded d t                      t rounded up to a multiple of d
 --   IsLeastMultiple d t s            s is the least multiple of d that is at least t
@@ -30,8 +30,8 @@ divides_weights d ws = list_all (λ w. weight w % d == 0) ws
 unfoldable pub weight_divisor : FieldName → ℕ → List (List ℕ) → ℕ
 weight_divisor f n rows = unwrap_or (find (λ d. divides_weights d (words f n rows)) (possible_divisors f)) 1
 
-unfoldable pub code_divisor : Matrix → ℕ
-code_divisor C = weight_divisor C.field C.columns C.rows
+unfoldable pub divisor_of : Matrix → ℕ
+divisor_of C = weight_divisor C.field C.columns C.rows
 
 pub record IsWeightDivisor (f : FieldName) (n : ℕ) (rows : List (List ℕ)) (d : ℕ) : Type 0 where
   pub possible : Contains (possible_divisors f ++ 1 ∷ []) d

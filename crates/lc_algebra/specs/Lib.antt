@@ -8,3 +8,4 @@ pub mod Span
 pub mod Matrix
 pub mod SpanLaws
 pub mod Divisor
+pub mod Plane

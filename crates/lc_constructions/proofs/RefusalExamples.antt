@@ -3,14 +3,14 @@ use Rattle.std.proofs.Common.{◌≡◌, true, false, [], ◌∷◌, Some, None,
 use Rattle.lc_algebra.specs.declared.FieldName.TheVariants.{Gf2, Gf3, Gf4, Gf8, Gf16, Gf25}
 use Rattle.lc_algebra.specs.Field.{shape, shape_of, size, is_symbol, coefficients, add, mul}
 use Rattle.lc_algebra.specs.Residue.{digits, number, plus, minus, times, top, up, times_x, product}
-use Rattle.lc_algebra.specs.Polynomial.{value_at}
+use Rattle.lc_algebra.specs.Polynomial.{value_at, put_on, trimmed}
 use Rattle.lc_algebra.specs.Embedding.{is_subfield, first_from, first_that}
 use Rattle.lc_algebra.specs.Span.{below}
 use Rattle.lc_algebra.specs.Matrix.{Matrix}
 use Rattle.lc_constructions.specs.declared.refusal.CodeRefusal.TheVariants.{BadLength, BadArgument, NotADivisor, NoRoot, BadDelta, NoFieldOfLength, RepeatedPoint, RootAt, NotASubfield, FieldsDiffer, LengthsDiffer, BadPositions, InnerDimension, FieldTooLarge}
 use Rattle.lc_constructions.specs.Code.{is_length}
 use Rattle.lc_constructions.specs.Basic.{hamming_length}
-use Rattle.lc_constructions.specs.Cyclic.{put_on, trimmed, all_fields, locator_field}
+use Rattle.lc_constructions.specs.Cyclic.{all_fields, locator_field}
 use Rattle.lc_constructions.specs.Refusal.{refuse_if, first_refusal}
 use Rattle.lc_constructions.specs.Refusals.{columns_of, are_elements, have_elements, are_equally_long, is_rising, too_large, bad_length, bad_argument, not_subfield, first_place, repeated_point, root_at, fields_differ, lengths_differ, matrix_refusals, length_refusals, hamming_refusals, reed_muller_refusals, cyclic_refusals, bch_refusals, is_size_of_symbol_field, reed_solomon_refusals, is_goppa_polynomial, goppa_refusals, form_refusals, alternant_refusals, extended_refusals, deleted_refusals, even_weight_refusals, direct_sum_refusals, uuv_refusals, direct_product_refusals, intersection_refusals, degree_over, nested_refusals, concatenated_refusals}
 

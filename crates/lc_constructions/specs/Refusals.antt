@@ -31,7 +31,7 @@ use Rattle.std.specs.Prelude.{ℕ, ◌+◌, ◌*◌, ◌^◌, ◌↔◌, Bool, t
 use Rattle.std.specs.List.{list_any, list_all}
 use Rattle.lc_algebra.specs.declared.FieldName.{FieldName}
 use Rattle.lc_algebra.specs.Field.{size, is_symbol}
-use Rattle.lc_algebra.specs.Polynomial.{value_at, Divides, x_power_minus_one}
+use Rattle.lc_algebra.specs.Polynomial.{value_at, trimmed, Divides, x_power_minus_one}
 use Rattle.lc_algebra.specs.Embedding.{is_subfield, first_that}
 use Rattle.lc_algebra.specs.Span.{below}
 use Rattle.lc_algebra.specs.Matrix.{Matrix}
@@ -39,7 +39,7 @@ use Rattle.lc_constructions.specs.declared.refusal.CodeRefusal.{CodeRefusal}
 use Rattle.lc_constructions.specs.declared.refusal.CodeRefusal.TheVariants.{BadLength, BadArgument, NotADivisor, NoRoot, BadDelta, NoFieldOfLength, RepeatedPoint, RootAt, NotASubfield, FieldsDiffer, LengthsDiffer, BadPositions, InnerDimension, FieldTooLarge}
 use Rattle.lc_constructions.specs.Code.{is_length}
 use Rattle.lc_constructions.specs.Basic.{hamming_length}
-use Rattle.lc_constructions.specs.Cyclic.{trimmed, all_fields, locator_field}
+use Rattle.lc_constructions.specs.Cyclic.{all_fields, locator_field}
 use Rattle.lc_constructions.specs.Refusal.{refuse_if}
 
 unfoldable pub columns_of : List (List ℕ) → ℕ

@@ -4,3 +4,6 @@ pub mod InformationSet
 pub mod Search
 pub mod Truth
 pub mod Records
+pub mod Fitting
+pub mod Distribution
+pub mod NearWord

@@ -5,6 +5,7 @@
 --   ranks_of C                       the number of fresh columns of each set
 --   generator_at C j                 the generator matrix that is the identity on the basis of set j
 --   word_of C m p message            the word of a message in phase p: the sum of its multiples of the rows of the phase's set
+--   partial_words C m p message      the words of the fronts of a message: of its first entry, of its first two, and so on
 --   Found                            the weight of a word, and its place
 --   block_words C m b                the words of block b, in order; none past the plan's end
 --   word_at C m place                the word at a place; None if there is none
@@ -34,7 +35,7 @@
 --   fits C l found                   a record of l blocks fits its need: the place is 0 or below the blocks' places, there is a
 --                                    word, and it has the weight
 --   fits_settled d C budget l found  besides, the search is answered in that state
-use Rattle.std.specs.Prelude.{ℕ, zero, suc, ◌+◌, ◌-◌, ◌*◌, ◌/◌, ◌%◌, ◌^◌, max, Bool, nat_le, nat_lt, ◌==◌, ◌&&◌, ◌||◌, cond, if◌then◌else◌, List, [], ◌∷◌, length, map, slice_index_or, filter, find, flat_map, slice_get, unwrap_or, is_some, Option, Some, None, option_map}
+use Rattle.std.specs.Prelude.{ℕ, zero, suc, ◌+◌, ◌-◌, ◌*◌, ◌/◌, ◌%◌, ◌^◌, max, Bool, nat_le, nat_lt, ◌==◌, ◌&&◌, ◌||◌, cond, if◌then◌else◌, List, [], ◌∷◌, length, map, slice_index_or, filter, find, flat_map, take, slice_get, unwrap_or, is_some, Option, Some, None, option_map}
 use Rattle.lc_algebra.specs.Field.{size}
 use Rattle.lc_algebra.specs.Word.{weight}
 use Rattle.lc_algebra.specs.Span.{combine, below}
@@ -58,6 +59,12 @@ generator_at C j = systematic C.field C.columns C.rows (slice_index_or (sets_of 
 
 unfoldable pub word_of : Matrix → ℕ → ℕ → Message → List ℕ
 word_of C m p message = combine C.field C.columns (vector_of (length C.rows) message) (generator_at C (phase_set m p))
+
+unfoldable pub front_of : Message → ℕ → Message
+front_of message n = record { support = take n message.support; coefficients = take n message.coefficients }
+
+unfoldable pub partial_words : Matrix → ℕ → ℕ → Message → List (List ℕ)
+partial_words C m p message = map (λ i. word_of C m p (front_of message (suc i))) (below (length message.support))
 
 pub record Found : Type 0 where
   pub weight : ℕ

@@ -12,14 +12,8 @@
 use Rattle.std.proofs.Common.{◌≡◌, refl}
 use Rattle.std.specs.Prelude.{ℕ, List, [], ◌∷◌, map, Some, None}
 use Rattle.lc_algebra.specs.declared.FieldName.TheVariants.{Gf2}
-use Rattle.lc_algebra.specs.Residue.{digits, number, plus, minus, times, top, up, times_x, product}
-use Rattle.lc_algebra.specs.Field.{shape, shape_of, size, coefficients, add, mul}
-use Rattle.lc_algebra.specs.Word.{word_sum, scale}
-use Rattle.lc_algebra.specs.Span.{below, combine, words}
-use Rattle.lc_enumeration.specs.Message.{supports, supports_from, numbers_from, nonzero_lists, leading_lists, messages, vector_from, vector_of, choose, message_count}
-use Rattle.lc_enumeration.specs.InformationSet.{same_word, in_span, greedy, dimension, is_member, first_basis, unit_word, systematic, echelon_rows}
-use Rattle.lc_enumeration.specs.Search.{bound_sum}
-use Rattle.lc_formats.specs.Certificate.{Certificate, SetClaim, levels, accepted, rejected, word_weight, word_not_in_code, set_not_information, fresh_overlap, bound_short, seen_lighter, code_length, code_dimension, level_in, messages_through, cost_of, cost, words_through, seen_by, seen_words, is_lighter, first_lighter, claimed_sum, is_information_set, first_dependent, least_overlap, reaches, or_else, when, carrying, set_reasons, cost_reason, verdict, scan, too_costly}
+use Rattle.lc_formats.specs.Certificate.{Certificate, SetClaim, levels, scan, accepted, rejected, word_weight, word_not_in_code, set_not_information, fresh_overlap, bound_short, seen_lighter, too_costly, cost, cost_reason, verdict}
+use Rattle.lc_formats.proofs.Evaluated.{certificate_computes}
 
 abbrev pub claim : List ℕ → List ℕ → ℕ → SetClaim
 claim basis fresh level = record { basis = basis; fresh = fresh; level = level }
@@ -46,52 +40,52 @@ abbrev pub two : ℕ → ℕ → List SetClaim
 two first second = first_claim first ∷ claim (0 ∷ 4 ∷ 5 ∷ 6 ∷ []) (4 ∷ 5 ∷ 6 ∷ []) second ∷ []
 
 pub valid : verdict (hamming_with row 3 (two 1 1)) ≡ accepted
-unfolding digits number plus minus times top up times_x product shape shape_of size coefficients add mul word_sum scale below combine words supports supports_from numbers_from nonzero_lists leading_lists messages vector_from vector_of choose message_count same_word in_span greedy dimension is_member first_basis unit_word systematic echelon_rows bound_sum code_length code_dimension level_in messages_through cost_of cost words_through seen_by seen_words is_lighter first_lighter claimed_sum is_information_set first_dependent least_overlap reaches or_else when carrying set_reasons cost_reason verdict
+unfolding certificate_computes
 valid = refl
 
 pub wrong_distance : verdict (hamming_with row 4 (two 1 1)) ≡ rejected (word_weight 3)
-unfolding digits number plus minus times top up times_x product shape shape_of size coefficients add mul word_sum scale below combine words supports supports_from numbers_from nonzero_lists leading_lists messages vector_from vector_of choose message_count same_word in_span greedy dimension is_member first_basis unit_word systematic echelon_rows bound_sum code_length code_dimension level_in messages_through cost_of cost words_through seen_by seen_words is_lighter first_lighter claimed_sum is_information_set first_dependent least_overlap reaches or_else when carrying set_reasons cost_reason verdict
+unfolding certificate_computes
 wrong_distance = refl
 
 pub short_level : verdict (hamming_with row 3 (two 1 0)) ≡ rejected (bound_short 2)
-unfolding digits number plus minus times top up times_x product shape shape_of size coefficients add mul word_sum scale below combine words supports supports_from numbers_from nonzero_lists leading_lists messages vector_from vector_of choose message_count same_word in_span greedy dimension is_member first_basis unit_word systematic echelon_rows bound_sum code_length code_dimension level_in messages_through cost_of cost words_through seen_by seen_words is_lighter first_lighter claimed_sum is_information_set first_dependent least_overlap reaches or_else when carrying set_reasons cost_reason verdict
+unfolding certificate_computes
 short_level = refl
 
 pub outside : verdict (hamming_with (1 ∷ 0 ∷ 0 ∷ 0 ∷ 0 ∷ 0 ∷ 0 ∷ []) 1 (two 1 1)) ≡ rejected word_not_in_code
-unfolding digits number plus minus times top up times_x product shape shape_of size coefficients add mul word_sum scale below combine words supports supports_from numbers_from nonzero_lists leading_lists messages vector_from vector_of choose message_count same_word in_span greedy dimension is_member first_basis unit_word systematic echelon_rows bound_sum code_length code_dimension level_in messages_through cost_of cost words_through seen_by seen_words is_lighter first_lighter claimed_sum is_information_set first_dependent least_overlap reaches or_else when carrying set_reasons cost_reason verdict
+unfolding certificate_computes
 outside = refl
 
 pub dependent : verdict (hamming_with row 3 (first_claim 1 ∷ claim (0 ∷ 1 ∷ 4 ∷ 5 ∷ []) (4 ∷ 5 ∷ []) 1 ∷ [])) ≡ rejected (set_not_information 2)
-unfolding digits number plus minus times top up times_x product shape shape_of size coefficients add mul word_sum scale below combine words supports supports_from numbers_from nonzero_lists leading_lists messages vector_from vector_of choose message_count same_word in_span greedy dimension is_member first_basis unit_word systematic echelon_rows bound_sum code_length code_dimension level_in messages_through cost_of cost words_through seen_by seen_words is_lighter first_lighter claimed_sum is_information_set first_dependent least_overlap reaches or_else when carrying set_reasons cost_reason verdict
+unfolding certificate_computes
 dependent = refl
 
 pub overlap : verdict (hamming_with row 3 (first_claim 1 ∷ claim (0 ∷ 4 ∷ 5 ∷ 6 ∷ []) (0 ∷ 4 ∷ []) 1 ∷ [])) ≡ rejected (fresh_overlap 0)
-unfolding digits number plus minus times top up times_x product shape shape_of size coefficients add mul word_sum scale below combine words supports supports_from numbers_from nonzero_lists leading_lists messages vector_from vector_of choose message_count same_word in_span greedy dimension is_member first_basis unit_word systematic echelon_rows bound_sum code_length code_dimension level_in messages_through cost_of cost words_through seen_by seen_words is_lighter first_lighter claimed_sum is_information_set first_dependent least_overlap reaches or_else when carrying set_reasons cost_reason verdict
+unfolding certificate_computes
 overlap = refl
 
 pub short_for_seven : verdict (hamming_with ones 7 (two 1 1)) ≡ rejected (bound_short 3)
-unfolding digits number plus minus times top up times_x product shape shape_of size coefficients add mul word_sum scale below combine words supports supports_from numbers_from nonzero_lists leading_lists messages vector_from vector_of choose message_count same_word in_span greedy dimension is_member first_basis unit_word systematic echelon_rows bound_sum code_length code_dimension level_in messages_through cost_of cost words_through seen_by seen_words is_lighter first_lighter claimed_sum is_information_set first_dependent least_overlap reaches or_else when carrying set_reasons cost_reason verdict
+unfolding certificate_computes
 short_for_seven = refl
 
 pub lighter : verdict (hamming_with ones 7 (two 4 1)) ≡ rejected (seen_lighter row)
-unfolding digits number plus minus times top up times_x product shape shape_of size coefficients add mul word_sum scale below combine words supports supports_from numbers_from nonzero_lists leading_lists messages vector_from vector_of choose message_count same_word in_span greedy dimension is_member first_basis unit_word systematic echelon_rows bound_sum code_length code_dimension level_in messages_through cost_of cost words_through seen_by seen_words is_lighter first_lighter claimed_sum is_information_set first_dependent least_overlap reaches or_else when carrying set_reasons cost_reason verdict
+unfolding certificate_computes
 lighter = refl
 
 abbrev pub by_scan : List ℕ → ℕ → Certificate
 by_scan word distance = record (hamming_with word distance []) { proof = scan }
 
 pub scanned : verdict (by_scan row 3) ≡ accepted
-unfolding digits number plus minus times top up times_x product shape shape_of size coefficients add mul word_sum scale below combine words supports supports_from numbers_from nonzero_lists leading_lists messages vector_from vector_of choose message_count same_word in_span greedy dimension is_member first_basis unit_word systematic echelon_rows code_length code_dimension cost_of cost words_through seen_by seen_words is_lighter first_lighter or_else when carrying set_reasons cost_reason verdict
+unfolding certificate_computes
 scanned = refl
 
 pub scanned_seven : verdict (by_scan ones 7) ≡ rejected (seen_lighter row)
-unfolding digits number plus minus times top up times_x product shape shape_of size coefficients add mul word_sum scale below combine words supports supports_from numbers_from nonzero_lists leading_lists messages vector_from vector_of choose message_count same_word in_span greedy dimension is_member first_basis unit_word systematic echelon_rows code_length code_dimension cost_of cost words_through seen_by seen_words is_lighter first_lighter or_else when carrying set_reasons cost_reason verdict
+unfolding certificate_computes
 scanned_seven = refl
 
 pub costs : map cost (by_scan row 3 ∷ hamming_with row 3 (two 1 1) ∷ hamming_with row 3 (two 2 9) ∷ hamming_with row 3 (two 0 0) ∷ []) ≡ 16 ∷ 8 ∷ 25 ∷ 0 ∷ []
-unfolding digits number plus minus times top up times_x product shape shape_of size coefficients add mul word_sum scale below words numbers_from choose message_count same_word in_span greedy dimension code_length code_dimension level_in messages_through cost_of cost
+unfolding certificate_computes
 costs = refl
 
 pub cost_reasons : map cost_reason (4294967296 ∷ 4294967297 ∷ 8589934592 ∷ 18446744073709551616 ∷ []) ≡ None ∷ Some (too_costly 4294967297) ∷ Some (too_costly 8589934592) ∷ Some (too_costly 18446744073709551615) ∷ []
-unfolding when cost_reason
+unfolding certificate_computes
 cost_reasons = refl

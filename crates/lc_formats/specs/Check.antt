@@ -19,8 +19,8 @@ use Rattle.serde_json.specs.Find.{get_member, as_str, as_array, as_object}
 use Rattle.lc_algebra.specs.declared.FieldName.{FieldName}
 use Rattle.lc_algebra.specs.Field.{size, is_symbol}
 use Rattle.lc_constructions.specs.Cyclic.{all_fields}
+use Rattle.lc_constructions.specs.Refusals.{longest, is_rising, columns_of, are_elements}
 use Rattle.lc_enumeration.specs.InformationSet.{is_member}
-use Rattle.lc_formats.specs.Entries.{is_rising, columns_of, reaches}
 use Rattle.lc_formats.specs.Json.{listed, each, number_at, member_count, json_in, numbers_of, list_at, provided}
 
 unfoldable pub reason_line : Reason → List ℕ
@@ -44,7 +44,7 @@ unfoldable pub field_at : Members → Option FieldName
 field_at ms = option_and_then (λ q. find (λ f. (size f == q) && is_symbol f) all_fields) (number_at (codes "field") ms)
 
 unfoldable pub fit : FieldName → ℕ → List ℕ → Bool
-fit f n row = (length row == n) && not (reaches (size f) row)
+fit f n row = (length row == n) && are_elements f row
 
 unfoldable pub are_rows : FieldName → List (List ℕ) → Bool
 are_rows f rows = nat_le 1 (columns_of rows) && list_all (fit f (columns_of rows)) rows
@@ -53,7 +53,7 @@ unfoldable pub is_scan : List ℕ → Option Bool
 is_scan text = (if same_bytes text (codes "scan") then Some true else (if same_bytes text (codes "levels") then Some false else None))
 
 unfoldable pub are_places : ℕ → List ℕ → Bool
-are_places n places = is_rising places && not (reaches n places)
+are_places n places = is_rising places && list_all (λ place. nat_lt place n) places
 
 -- a set of the certificate, by rule 9
 unfoldable pub claim_in : ℕ → Members → Option SetClaim
@@ -66,7 +66,7 @@ unfoldable pub fresh_in_basis : SetClaim → Bool
 fresh_in_basis claim = list_all (is_member claim.basis) claim.fresh
 
 unfoldable pub above : ℕ → Bool
-above n = nat_lt 255 n
+above n = nat_lt longest n
 
 -- rule 11 and the limits, once all keys are there: a scan has 6 keys, levels have 7, and a set has 3
 unfoldable pub with_keys : Members → Certificate → ℕ → List Members → CertificateRead

@@ -1,19 +1,19 @@
 -- Checkpoints: how they are written, how bytes are read as one, and when one is true.
---   Settled                      the blocks, the weight and the place of a settled need
---   Checkpoint                   digest of the script, budget, turn, the settled needs, and the state of the current one
---   body_of point, checkpoint_text point      the body, and the seal with it: the SHA-256 of the body in lower-case hexadecimal digits,
+--   Settled                      the blocks, the weight and the place of a need: of a settled one, or of the one being searched
+--   Checkpoint                   the version, the digest of the script, the budget, the turn, the settled needs, and the blocks, the
+--                                weight and the place of the current one
+--   body_of p, checkpoint_text p      the body, and the seal with it: the SHA-256 of the body in lower-case hexadecimal digits,
 --                                a newline, and the body: compact JSON, its keys rising
+--   IsInRange p                  a version that is read, and numbers within the ranges
+--   IsWritable p                 what is written: a checkpoint in range, of version 2, whose text isn't too long
 --   CheckpointRefusal            damaged (20), another version (21, with it), or another shape (22)
---   checkpoint_in bytes          the checkpoint that the bytes are, or why they are none; the first that applies
---   IsTrueFor needs digest budget point      a checkpoint as a session of a chain writes it
-use Rattle.std.specs.Prelude.{◌≡◌, ℕ, ◌+◌, ◌-◌, ◌*◌, ◌^◌, ◌<◌, ◌≤◌, Bool, not, nat_le, nat_lt, ◌==◌, ◌&&◌, if◌then◌else◌, List, [], ◌∷◌, ◌++◌, length, map, drop, slice_get, sum, codes, Option, Some, None, option_map, option_and_then}
+--   checkpoint_in bytes          the checkpoint that the bytes are, or why they are none; the first reason that applies
+use Rattle.std.specs.Prelude.{◌≡◌, ℕ, ◌+◌, ◌*◌, ◌^◌, ◌-◌, ◌<◌, ◌≤◌, ◌⊎◌, Bool, not, nat_le, nat_lt, ◌==◌, ◌&&◌, ◌||◌, if◌then◌else◌, List, [], ◌∷◌, ◌++◌, length, map, drop, codes, All, Option, Some, None, option_map, option_and_then}
 use Rattle.sha2.specs.Sha256.{sha256}
 use Rattle.hex.specs.Hex.{encode_lower, hex_digit_value}
 use Rattle.serde_json.specs.Data.{Data, Members, member, no_members, array, object, string}
 use Rattle.serde_json.specs.Find.{get_member, as_str, as_array}
 use Rattle.serde_json.specs.Written.{compact_text}
-use Rattle.lc_algebra.specs.Matrix.{Matrix}
-use Rattle.lc_enumeration.specs.Search.{Answer, no_word, exact, bracket, answer, best, set_count}
 use Rattle.lc_formats.specs.Text.{same_bytes}
 use Rattle.lc_formats.specs.Json.{number_json, numbers_json, items, number_at, listed, each, plain_number, member_count, json_in}
 
@@ -23,6 +23,7 @@ pub record Settled : Type 0 where
   pub place : ℕ
 
 pub record Checkpoint : Type 0 where
+  pub version : ℕ
   pub script : List ℕ
   pub budget : ℕ
   pub turn : ℕ
@@ -35,33 +36,54 @@ unfoldable pub settled_json : Settled → Data
 settled_json s = numbers_json (s.blocks ∷ s.weight ∷ s.place ∷ [])
 
 unfoldable pub body_json : Checkpoint → Data
-body_json point =
-    object (member (codes "blocks") (number_json point.blocks)
-    (member (codes "budget") (number_json point.budget)
-    (member (codes "done") (array (items (map settled_json point.settled)))
-    (member (codes "place") (number_json point.place)
-    (member (codes "script") (string (encode_lower point.script))
-    (member (codes "turn") (number_json point.turn)
-    (member (codes "version") (number_json 1)
-    (member (codes "weight") (number_json point.weight) no_members))))))))
+body_json p =
+    object (member (codes "blocks") (number_json p.blocks)
+    (member (codes "budget") (number_json p.budget)
+    (member (codes "done") (array (items (map settled_json p.settled)))
+    (member (codes "place") (number_json p.place)
+    (member (codes "script") (string (encode_lower p.script))
+    (member (codes "turn") (number_json p.turn)
+    (member (codes "version") (number_json p.version)
+    (member (codes "weight") (number_json p.weight) no_members))))))))
 
 unfoldable pub body_of : Checkpoint → List ℕ
-body_of point = compact_text (body_json point)
+body_of p = compact_text (body_json p)
 
 unfoldable pub sealed : List ℕ → List ℕ
 sealed body = encode_lower (sha256 body) ++ 10 ∷ body
 
 unfoldable pub checkpoint_text : Checkpoint → List ℕ
-checkpoint_text point = sealed (body_of point)
+checkpoint_text p = sealed (body_of p)
+
+pub record IsSettled (budget : ℕ) (s : Settled) : Type 0 where
+  pub done : s.blocks ≤ budget
+  pub nonzero : 1 ≤ s.weight
+  pub light : s.weight ≤ 255
+  pub near : s.place < 2 ^ 52
+
+pub record IsInRange (p : Checkpoint) : Type 0 where
+  pub known : (p.version ≡ 1) ⊎ (p.version ≡ 2)
+  pub digest : length p.script ≡ 32
+  pub bytes : All (λ b. b < 256) p.script
+  pub small : p.budget ≤ 2 ^ 40
+  pub early : p.turn ≤ 2 ^ 60
+  pub few : length p.settled ≤ 131072
+  pub records : All (IsSettled p.budget) p.settled
+  pub current : IsSettled p.budget (record { blocks = p.blocks; weight = p.weight; place = p.place })
+
+pub record IsWritable (p : Checkpoint) : Type 0 where
+  pub in_range : IsInRange p
+  pub newest : p.version ≡ 2
+  pub short : length (checkpoint_text p) ≤ 4194304
 
 pub data CheckpointRefusal : Type 0 where
   damaged : CheckpointRefusal
-  version : ℕ → CheckpointRefusal
+  other_version : ℕ → CheckpointRefusal
   shape : CheckpointRefusal
 
 unfoldable pub checkpoint_refusal_number : CheckpointRefusal → ℕ
 checkpoint_refusal_number damaged = 20
-checkpoint_refusal_number (version _) = 21
+checkpoint_refusal_number (other_version _) = 21
 checkpoint_refusal_number shape = 22
 
 pub data ReadCheckpoint : Type 0 where
@@ -97,11 +119,11 @@ script_in ms = option_and_then (λ digits. option_and_then (λ bytes. if (length
 unfoldable pub done_in : ℕ → Members → Option (List Settled)
 done_in budget ms = option_and_then (λ ds. if nat_le (length (listed ds)) 131072 then each (map (settled_in budget) (listed ds)) else None) (option_and_then as_array (get_member (codes "done") ms))
 
--- the state in a body whose budget is known: all ranges hold, and there is no key but the eight
-unfoldable pub state_in : Members → ℕ → Option Checkpoint
-state_in ms budget =
+-- the state in a body whose version and budget are known: all ranges hold, and there is no key but the eight
+unfoldable pub state_in : Members → ℕ → ℕ → Option Checkpoint
+state_in ms version budget =
     if not (member_count ms == 8) then None else
-    option_and_then (λ script. option_and_then (λ turn. option_and_then (λ settled. option_and_then (λ blocks. option_and_then (λ weight. option_map (λ place. record { script = script; budget = budget; turn = turn; settled = settled; blocks = blocks; weight = weight; place = place })
+    option_and_then (λ script. option_and_then (λ turn. option_and_then (λ settled. option_and_then (λ blocks. option_and_then (λ weight. option_map (λ place. record { version = version; script = script; budget = budget; turn = turn; settled = settled; blocks = blocks; weight = weight; place = place })
     (number_up_to 0 (2 ^ 52 - 1) (number_at (codes "place") ms)))
     (number_up_to 1 255 (number_at (codes "weight") ms)))
     (number_up_to 0 budget (number_at (codes "blocks") ms)))
@@ -115,7 +137,7 @@ point_or_shape (Some p) = point p
 
 unfoldable pub versioned : Members → Option ℕ → ReadCheckpoint
 versioned ms None = refused shape
-versioned ms (Some v) = (if v == 1 then point_or_shape (option_and_then (state_in ms) (number_up_to 0 (2 ^ 40) (number_at (codes "budget") ms))) else refused (version v))
+versioned ms (Some v) = (if (v == 1) || (v == 2) then point_or_shape (option_and_then (state_in ms v) (number_up_to 0 (2 ^ 40) (number_at (codes "budget") ms))) else refused (other_version v))
 
 unfoldable pub body_in : Option Data → ReadCheckpoint
 body_in (Some (object ms)) = versioned ms (number_at (codes "version") ms)
@@ -123,22 +145,3 @@ body_in _ = refused shape
 
 unfoldable pub checkpoint_in : List ℕ → ReadCheckpoint
 checkpoint_in bytes = (if is_whole bytes then body_in (json_in (drop 65 bytes)) else refused damaged)
-
--- the answer of a settled need
-abbrev pub SettlesAs : Settled → Answer → Type 0
-SettlesAs s no_word = ⊥
-SettlesAs s (exact found l) = (s.blocks ≡ l) × (s.weight ≡ found.weight) × (s.place ≡ found.place)
-SettlesAs s (bracket low found l) = (s.blocks ≡ l) × (s.weight ≡ found.weight) × (s.place ≡ found.place)
-
-unfoldable pub blocks_in : Answer → ℕ
-blocks_in no_word = 0
-blocks_in (exact found l) = l
-blocks_in (bracket low found l) = l
-
--- needs are the codes of the script's queries that search, in order
-pub record IsTrueFor (needs : List Matrix) (digest : List ℕ) (budget : ℕ) (p : Checkpoint) : Type 0 where
-  pub script : p.script ≡ digest
-  pub budget_is : p.budget ≡ budget
-  pub settled : (i : ℕ) (s : Settled) → slice_get p.settled i ≡ Some s → (C : Matrix) × (slice_get needs i ≡ Some C) × SettlesAs s (answer 1 C budget)
-  pub current : (C : Matrix) × (slice_get needs (length p.settled) ≡ Some C) × (1 ≤ p.blocks) × (p.blocks ≤ blocks_in (answer 1 C budget)) × (best C (set_count C) p.blocks ≡ record { weight = p.weight; place = p.place })
-  pub turn : p.turn < p.blocks + sum (map (λ s. s.blocks) p.settled)

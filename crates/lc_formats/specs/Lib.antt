@@ -4,4 +4,6 @@ pub mod Check
 pub mod Checkpoint
 pub mod Entries
 pub mod Json
+pub mod Shape
 pub mod Text
+pub mod Truth

@@ -6,7 +6,7 @@
 --   query_line kind C budget      the line
 use Rattle.std.specs.Prelude.{ℕ, ◌^◌, ◌-◌, min, nat_lt, if◌then◌else◌, List, [], ◌∷◌, ◌++◌, length, codes, decimal, unwrap_or}
 use Rattle.lc_algebra.specs.Matrix.{Matrix}
-use Rattle.lc_algebra.specs.Divisor.{code_divisor}
+use Rattle.lc_algebra.specs.Divisor.{divisor_of}
 use Rattle.lc_enumeration.specs.InformationSet.{InformationSet}
 use Rattle.lc_enumeration.specs.Search.{Answer, no_word, exact, bracket, answer, sets_of, set_count, levels_below, word_at}
 use Rattle.lc_formats.specs.Certificate.{Certificate, SetClaim, Proof, scan, levels, cost}
@@ -56,5 +56,5 @@ certificate_answer_line kind C (exact found l) = certificate_line (certificate_o
 certificate_answer_line kind C (bracket low found l) = line (codes "certificate none between " ++ decimal low ++ codes " and " ++ decimal found.weight)
 
 unfoldable pub query_line : QueryKind → Matrix → ℕ → List ℕ
-query_line distance C budget = distance_answer_line C (answer (code_divisor C) C budget)
-query_line kind C budget = certificate_answer_line kind C (answer (code_divisor C) C budget)
+query_line distance C budget = distance_answer_line C (answer (divisor_of C) C budget)
+query_line kind C budget = certificate_answer_line kind C (answer (divisor_of C) C budget)
