@@ -11,7 +11,11 @@ pub mod DimensionLaws
 pub mod SpanSearch
 pub mod SpanExamples
 pub mod PowerLaws
+pub mod OrderLaws
 pub mod EmbeddingTests
 pub mod EmbeddingLaws
+pub mod DivisorLaws
+pub mod DivisorExamples
+pub mod PlaneExamples
 pub mod RemainderLaws
 pub mod FieldRecords

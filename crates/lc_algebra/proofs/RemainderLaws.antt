@@ -2,12 +2,13 @@
 -- and remainders are unique.
 --   index-plus, index-times, index-long_plus      coefficients of sums and multiples
 --   whole_multiple             moving up without letting go is times_x and the top multiple of the monic polynomial
+--   each_residue, residues_each      lists of residues, entry by entry
 --   remainder_of_product       product is a remainder of long_times, for residues modulo any p
 --   product_is_remainder       so it is in each of the eighteen fields
 --   one_of_remainder           a remainder is what multiplying by 1 gives
 --   remainder_unique           two remainders of one polynomial are equal
 --   told_by_remainder          the element whose coefficients are a remainder of the plain product is the product
-use Rattle.std.proofs.Common.{◌≡◌, ℕ, zero, suc, ◌+◌, ◌-◌, ◌*◌, ◌%◌, ◌<◌, ◌≤◌, List, [], ◌∷◌, ◌++◌, length, replicate, slice_index, refl, sym, ap, ◌∙◌, arith, mod-lt, mod-eq_of_lt, mul-add}
+use Rattle.std.proofs.Common.{◌≡◌, ℕ, zero, suc, ◌+◌, ◌-◌, ◌*◌, ◌%◌, ◌<◌, ◌≤◌, List, [], ◌∷◌, ◌++◌, length, replicate, slice_index, EachIndex, refl, sym, ap, ◌∙◌, arith, mod-lt, mod-eq_of_lt, mul-add}
 use Rattle.std.proofs.Math.Nat.{zero-mod, add-mul-mod_self_left}
 use Rattle.std.proofs.lemmas.Nat.{mul-mod_second}
 use Rattle.lc_algebra.specs.declared.FieldName.{FieldName}
@@ -16,7 +17,7 @@ use Rattle.lc_algebra.specs.Field.{shape_of, size, coefficients, mul}
 use Rattle.lc_algebra.proofs.ResidueLaws.{Residues, sum_of_rests, rest_sum_second, plus_zero, plus_comm, plus_times, times_zero, times_none, times_plus, times_times, plus_middle, length-times, residues_plus, residues_times}
 use Rattle.lc_algebra.proofs.ProductLaws.{times_x_plus, times_x_times, times_x_zeros, zeros_plus_zeros, length-times_x, length-product, residues_product}
 use Rattle.lc_algebra.proofs.FieldTests.{positive, length-lower, residues_lower, monic_test}
-use Rattle.lc_algebra.proofs.FieldLaws.{coefficients_mul, coefficients_fit, residues_coefficients, told_by_coefficients, mul_inside, product_one, coefficients-number}
+use Rattle.lc_algebra.proofs.FieldLaws.{coefficients_mul, coefficients_fit, told_by_coefficients, mul_inside, product_one, coefficients-number}
 
 -- coefficients of sums and multiples
 
@@ -128,8 +129,17 @@ whole_product p m (c ∷ u) v i l r e =
     let a4 : slice_index (plus p (times p c v) (times_x p m w)) i ≡ (slice_index (times p c v) i + slice_index (times_x p m w) i) % p = index-plus p (times p c v) (times_x p m w) i same in
     cc (four_rests (slice_index (times p c v) i) (slice_index (0 ∷ h) i) (slice_index (times p t M) i) (slice_index (times_x p m w) i) p)
 
+each_residue : (p : ℕ) (u : List ℕ) → Residues p u → EachIndex u (λ i. slice_index u i < p)
+each_residue p [] r i l = absurd (omega (arith, l))
+each_residue p (a ∷ u) r zero l = r.0
+each_residue p (a ∷ u) r (suc i) l = each_residue p u r.1 i (omega (arith, l))
+
+residues_each : (p : ℕ) (u : List ℕ) → EachIndex u (λ i. slice_index u i < p) → Residues p u
+residues_each p [] h = tt
+residues_each p (a ∷ u) h = (h 0 (omega arith), residues_each p u (λ i l. h (suc i) (omega (arith, l))))
+
 pub remainder_of_product : (p : ℕ) (m u v : List ℕ) → 0 < p → Residues p m → length v ≡ length m → IsRemainder p m (long_times p u v) (product p m u v)
-remainder_of_product p m u v l r e = record { degree = length-product p m u v e; multiple = (quotient p m u v, λ i. whole_product p m u v i l r e) }
+remainder_of_product p m u v l r e = record { residues = each_residue p (product p m u v) (residues_product p m u v l); degree = length-product p m u v e; multiple = (quotient p m u v, λ i. whole_product p m u v i l r e) }
 
 pub product_is_remainder : (f : FieldName) (a b : ℕ) → IsRemainder (shape_of f).characteristic (shape_of f).lower (long_times (shape_of f).characteristic (coefficients f a) (coefficients f b)) (coefficients f (mul f a b))
 product_is_remainder f a b =
@@ -180,8 +190,9 @@ same_product p m (a ∷ u) (b ∷ v) w e h =
     let z : a ≡ b = h 0 in
     cc (same_product p m u v w e (λ i. h (suc i)))
 
-pub one_of_remainder : (f : FieldName) (a r : List ℕ) → Residues (shape_of f).characteristic r → IsRemainder (shape_of f).characteristic (shape_of f).lower a r → r ≡ product (shape_of f).characteristic (shape_of f).lower a (coefficients f 1)
-one_of_remainder f a r s i =
+pub one_of_remainder : (f : FieldName) (a r : List ℕ) → IsRemainder (shape_of f).characteristic (shape_of f).lower a r → r ≡ product (shape_of f).characteristic (shape_of f).lower a (coefficients f 1)
+one_of_remainder f a r i =
+    let s : Residues (shape_of f).characteristic r = residues_each (shape_of f).characteristic r i.residues in
     let p = (shape_of f).characteristic in
     let m = (shape_of f).lower in
     let M = m ++ 1 ∷ [] in
@@ -193,10 +204,10 @@ one_of_remainder f a r s i =
     let z : plus p (replicate (length r) 0) r ≡ r = plus_zero p r s in
     cc (long_plus_product p m (long_times p h M) r w (positive f) (coefficients_fit f 1), multiple_product p m h M w (positive f) (coefficients_fit f 1) (monic_test f), i.degree)
 
-pub remainder_unique : (f : FieldName) (a r s : List ℕ) → Residues (shape_of f).characteristic r → Residues (shape_of f).characteristic s → IsRemainder (shape_of f).characteristic (shape_of f).lower a r → IsRemainder (shape_of f).characteristic (shape_of f).lower a s → r ≡ s
-remainder_unique f a r s l m i j = one_of_remainder f a r l i ∙ sym (one_of_remainder f a s m j)
+pub remainder_unique : (f : FieldName) (a r s : List ℕ) → IsRemainder (shape_of f).characteristic (shape_of f).lower a r → IsRemainder (shape_of f).characteristic (shape_of f).lower a s → r ≡ s
+remainder_unique f a r s i j = one_of_remainder f a r i ∙ sym (one_of_remainder f a s j)
 
 pub told_by_remainder : (f : FieldName) (a b c : ℕ) → c < size f → IsRemainder (shape_of f).characteristic (shape_of f).lower (long_times (shape_of f).characteristic (coefficients f a) (coefficients f b)) (coefficients f c) → c ≡ mul f a b
 told_by_remainder f a b c l i =
     told_by_coefficients f c (mul f a b) l (mul_inside f a b)
-    (remainder_unique f (long_times (shape_of f).characteristic (coefficients f a) (coefficients f b)) (coefficients f c) (coefficients f (mul f a b)) (residues_coefficients f c) (residues_coefficients f (mul f a b)) i (product_is_remainder f a b))
+    (remainder_unique f (long_times (shape_of f).characteristic (coefficients f a) (coefficients f b)) (coefficients f c) (coefficients f (mul f a b)) i (product_is_remainder f a b))

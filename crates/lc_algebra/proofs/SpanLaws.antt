@@ -25,6 +25,10 @@
 --   span_same_members, span_permuted, span_swapped, span_zero_removed, span_zero_head      cases of it
 -- Least words
 --   distance_unique, least_unique      some rows have one minimum distance and one first nonzero word
+--   span_lengths           the words of some rows have one length
+--   weight_bound_attained, weight_bound_at_most      a bound of the weights that some word attains is the minimum distance, and
+--                          each bound is at most that distance
+--   weight_bound_apart     two words are at least as far apart as the bound
 --   least_distance         the weight of that word is the minimum distance
 --   words_apart            two words are at least the minimum distance apart
 --   words_at_distance      and some word is that far from the zero word
@@ -37,12 +41,12 @@ use Rattle.std.proofs.lemmas.Bool.{cases_lt, cases_eq}
 use Rattle.lc_algebra.specs.declared.FieldName.{FieldName}
 use Rattle.lc_algebra.specs.Field.{size, add, neg, mul}
 use Rattle.lc_algebra.specs.Word.{IsWord, zero_word, word_sum, scale, difference, weight, word_dot, distance}
-use Rattle.lc_algebra.specs.Span.{below, combine, InSpan, words, SameSpan, AreIndependent, IsDistance, IsLeast}
+use Rattle.lc_algebra.specs.Span.{below, combine, InSpan, words, SameSpan, AreIndependent, IsWeightBound, IsDistance, IsLeast}
 use Rattle.lc_algebra.specs.Matrix.{AreRows, IsOrthogonal}
 use Rattle.lc_algebra.specs.SpanLaws.{AddsMultiples, ScalesRows}
 use Rattle.std.proofs.Math.Nat.{pow-zero}
 use Rattle.lc_algebra.proofs.FieldLaws.{one_inside, zero_inside, add_inside, mul_inside, zero_add, mul_comm, mul_zero, inverse_of}
-use Rattle.lc_algebra.proofs.WordLaws.{length_word_sum, length_scale, difference_self, same_from_difference, IsWord_difference, length_zero_word, IsWord_zero, IsWord_scale, IsWord_sum, word_head, word_tail, word_cons, sum_exchange, multiple_undone, zero_sum, sum_zero, scale_sum, sum_scale, scale_scale, one_scale, zero_scale, scale_zero, sum_dot, scale_dot, dot_sum, dot_scale, zero_dot, dot_zero, positive_weight, weight_zero_word, difference_zero, no_later_antisymmetric, no_later_weight}
+use Rattle.lc_algebra.proofs.WordLaws.{length_word_sum, length_sums, length_scale, difference_self, same_from_difference, IsWord_difference, length_zero_word, IsWord_zero, IsWord_scale, IsWord_sum, word_head, word_tail, word_cons, sum_exchange, multiple_undone, zero_sum, sum_zero, scale_sum, sum_scale, scale_scale, one_scale, zero_scale, scale_zero, sum_dot, scale_dot, dot_sum, dot_scale, zero_dot, dot_zero, positive_weight, weight_zero_word, difference_zero, no_later_antisymmetric, no_later_weight}
 
 pub span_word : (f : FieldName) (n : ℕ) (rows : List (List ℕ)) (w : List ℕ) → AreRows f n rows → InSpan f n rows w → IsWord f n w
 span_word f n [] w r h = rw h (IsWord_zero f n)
@@ -402,18 +406,34 @@ pub distance_unique : (f : FieldName) (n : ℕ) (rows : List (List ℕ)) (d e : 
 distance_unique f n rows d e p q =
     omega (arith, p.least q.attained.0 q.attained.1 q.attained.2, q.least p.attained.0 p.attained.1 p.attained.2, p.attained.3, q.attained.3)
 
-pub least_unique : (f : FieldName) (n : ℕ) (rows : List (List ℕ)) (u v : List ℕ) → AreRows f n rows → IsLeast f n rows u → IsLeast f n rows v → u ≡ v
-least_unique f n rows u v r p q =
-    no_later_antisymmetric u v ((span_word f n rows u r p.inside).long ∙ sym (span_word f n rows v r q.inside).long) (p.first v q.inside q.nonzero) (q.first u p.inside p.nonzero)
+pub span_lengths : (f : FieldName) (n : ℕ) (rows : List (List ℕ)) (u v : List ℕ) → InSpan f n rows u → InSpan f n rows v → length u ≡ length v
+span_lengths f n [] u v p q = ap (λ (w : List ℕ). length w) (p ∙ sym q)
+span_lengths f n (g ∷ rows) u v p q =
+    let tails : length p.2.0 ≡ length q.2.0 = span_lengths f n rows p.2.0 q.2.0 p.2.1 q.2.1 in
+    let heads : length (scale f p.0 g) ≡ length (scale f q.0 g) = length_scale f p.0 g ∙ sym (length_scale f q.0 g) in
+    ap (λ (w : List ℕ). length w) p.2.2 ∙ length_sums f (scale f p.0 g) (scale f q.0 g) p.2.0 q.2.0 heads tails ∙ sym (ap (λ (w : List ℕ). length w) q.2.2)
+
+pub weight_bound_attained : (f : FieldName) (n : ℕ) (rows : List (List ℕ)) (d : ℕ) (w : List ℕ) → IsWeightBound f n rows d → InSpan f n rows w → 0 < weight w → weight w ≡ d → IsDistance f n rows d
+weight_bound_attained f n rows d w b c p e = record { attained = (w, c, p, e); least = b }
+
+pub weight_bound_at_most : (f : FieldName) (n : ℕ) (rows : List (List ℕ)) (d e : ℕ) → IsWeightBound f n rows d → IsDistance f n rows e → d ≤ e
+weight_bound_at_most f n rows d e b k = let (w, c, p, q) = k.attained in omega (arith, q, b w c p)
+
+pub weight_bound_apart : (f : FieldName) (n : ℕ) (rows : List (List ℕ)) (d : ℕ) (u v : List ℕ) → AreRows f n rows → IsWeightBound f n rows d → InSpan f n rows u → InSpan f n rows v → u ≢ v → d ≤ distance f u v
+weight_bound_apart f n rows d u v r b p q k =
+    let wu = span_word f n rows u r p in
+    let wv = span_word f n rows v r q in
+    b (difference f u v) (span_difference f n rows u v p q)
+    (positive_weight n (difference f u v) (IsWord_difference f n u v wu.long wv.long).long (λ e. k (same_from_difference f n u v wu wv e)))
+
+pub least_unique : (f : FieldName) (n : ℕ) (rows : List (List ℕ)) (u v : List ℕ) → IsLeast f n rows u → IsLeast f n rows v → u ≡ v
+least_unique f n rows u v p q = no_later_antisymmetric u v (span_lengths f n rows u v p.inside q.inside) (p.first v q.inside q.nonzero) (q.first u p.inside p.nonzero)
 
 pub least_distance : (f : FieldName) (n : ℕ) (rows : List (List ℕ)) (w : List ℕ) → IsLeast f n rows w → IsDistance f n rows (weight w)
 least_distance f n rows w p = record { attained = (w, p.inside, p.nonzero, refl); least = λ v h l. no_later_weight w v (p.first v h l) }
 
 pub words_apart : (f : FieldName) (n : ℕ) (rows : List (List ℕ)) (d : ℕ) (u v : List ℕ) → AreRows f n rows → IsDistance f n rows d → InSpan f n rows u → InSpan f n rows v → u ≢ v → d ≤ distance f u v
-words_apart f n rows d u v r p h k o =
-    let a : IsWord f n u = span_word f n rows u r h in
-    let b : IsWord f n v = span_word f n rows v r k in
-    p.least (difference f u v) (span_difference f n rows u v h k) (positive_weight n (difference f u v) (IsWord_difference f n u v a.long b.long).long (λ e. o (same_from_difference f n u v a b e)))
+words_apart f n rows d u v r p = weight_bound_apart f n rows d u v r p.least
 
 pub words_at_distance : (f : FieldName) (n : ℕ) (rows : List (List ℕ)) (d : ℕ) → AreRows f n rows → IsDistance f n rows d → (u : List ℕ) × InSpan f n rows u × (u ≢ zero_word n) × (distance f u (zero_word n) ≡ d)
 words_at_distance f n rows d r p =

@@ -1,5 +1,5 @@
 -- What a look through the list of words of some rows tells, and what small tests tell of a matrix.
---   any_contains           where a test finds something in a list, some entry passes it
+--   any_contains, contains_any      a test finds something in a list exactly if some entry passes it
 --   distance_from_words    the minimum distance, from a test of every word
 --   at_most_test, at_most_from_test, test_from_at_most      the lexicographic order as a test
 --   no_later_test, no_later_from_test, test_from_no_later   and that by weight first
@@ -20,6 +20,22 @@ use Rattle.lc_algebra.specs.Span.{InSpan, words, IsDistance, IsLeast}
 use Rattle.lc_algebra.specs.Matrix.{entry, AreRows, HasPivots}
 use Rattle.lc_algebra.proofs.WordLaws.{zero_from_weight, no_later_reflexive, no_later_transitive, no_later_total}
 use Rattle.lc_algebra.proofs.SpanLaws.{span_word, contains_head, contains_tail, contains_cases, word_of_member, member_of_word, least_distance}
+
+true_or : (b d : Bool) → b ≡ true → (b || d) ≡ true
+true_or true d e = refl
+true_or false d e = absurd (false≢true e)
+
+or_true : (b d : Bool) → d ≡ true → (b || d) ≡ true
+or_true true d e = refl
+or_true false d e = e
+
+pub contains_any : {X : Type 0} (test : X → Bool) (xs : List X) (x : X) → Contains xs x → test x ≡ true → list_any test xs ≡ true
+contains_any test [] x c h = absurd (omega (arith, c.1))
+contains_any test (y ∷ xs) x c h =
+    ⊎_elim
+    (λ e. true_or (test y) (list_any test xs) (ap test e ∙ h))
+    (λ t. or_true (test y) (list_any test xs) (contains_any test xs x t h))
+    (contains_cases y x xs c)
 
 pub any_contains : {X : Type 0} (test : X → Bool) (xs : List X) → list_any test xs ≡ true → (x : X) × Contains xs x × (test x ≡ true)
 any_contains test [] h = absurd (false≢true h)

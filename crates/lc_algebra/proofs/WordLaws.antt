@@ -1,6 +1,6 @@
 -- The laws of words over a field: length, symbols, sum, multiple, difference, weight, dot and the two orders.
 -- Length and symbols
---   length_word_sum, length_scale, length_zero_word, length_difference      how long they are
+--   length_word_sum, length_sums, length_scale, length_zero_word, length_difference      how long they are
 --   index_word_sum, index_scale, index_zero_word, index_difference          the symbol at a place
 --   same_words             words of one length with the same symbols are equal
 --   fits_head, fits_tail, fits_cons, word_head, word_tail, word_cons        Fits and IsWord, symbol by symbol
@@ -39,6 +39,16 @@ length_word_sum f [] [] e = refl
 length_word_sum f [] (b ∷ v) e = e
 length_word_sum f (a ∷ u) [] e = refl
 length_word_sum f (a ∷ u) (b ∷ v) e = ap suc (length_word_sum f u v (omega (arith, e)))
+
+pub length_sums : (f : FieldName) (u x v y : List ℕ) → length u ≡ length x → length v ≡ length y → length (word_sum f u v) ≡ length (word_sum f x y)
+unfolding word_sum
+length_sums f [] [] v y p q = refl
+length_sums f [] (b ∷ x) v y p q = absurd (omega (arith, p))
+length_sums f (a ∷ u) [] v y p q = absurd (omega (arith, p))
+length_sums f (a ∷ u) (b ∷ x) [] [] p q = refl
+length_sums f (a ∷ u) (b ∷ x) [] (d ∷ y) p q = absurd (omega (arith, q))
+length_sums f (a ∷ u) (b ∷ x) (c ∷ v) [] p q = absurd (omega (arith, q))
+length_sums f (a ∷ u) (b ∷ x) (c ∷ v) (d ∷ y) p q = omega (arith, length_sums f u x v y (omega (arith, p)) (omega (arith, q)))
 
 pub length_scale : (f : FieldName) (c : ℕ) (u : List ℕ) → length (scale f c u) ≡ length u
 unfolding scale

@@ -10,7 +10,8 @@
 --   subtract f a b        a less b
 --   pow f a n             the n-th power; the zeroth is 1
 --   IsInverse f a b       b is an element, and a times b is 1
-use Rattle.std.specs.Prelude.{◌≡◌, ℕ, zero, suc, ◌^◌, ◌<◌, Bool, nat_le, List, [], ◌∷◌}
+--   HasOrder f b n        b is an element, its n-th power is 1, and none of its powers 1 to n - 1 is
+use Rattle.std.specs.Prelude.{◌≡◌, ◌≢◌, ℕ, zero, suc, ◌^◌, ◌<◌, ◌≤◌, Bool, nat_le, List, [], ◌∷◌}
 use Rattle.lc_algebra.specs.declared.FieldName.{FieldName}
 use Rattle.lc_algebra.specs.declared.FieldName.TheVariants.{Gf2, Gf3, Gf4, Gf5, Gf7, Gf8, Gf9, Gf11, Gf13, Gf16, Gf25, Gf27, Gf32, Gf64, Gf81, Gf128, Gf243, Gf256}
 use Rattle.lc_algebra.specs.Residue.{digits, number, plus, minus, product}
@@ -72,3 +73,9 @@ pow f a (suc n) = mul f a (pow f a n)
 pub record IsInverse (f : FieldName) (a b : ℕ) : Type 0 where
   pub inside : b < size f
   pub one : mul f a b ≡ 1
+
+pub record HasOrder (f : FieldName) (b n : ℕ) : Type 0 where
+  pub inside : b < size f
+  pub positive : 1 ≤ n
+  pub one : pow f b n ≡ 1
+  pub least : (m : ℕ) → 0 < m → m < n → pow f b m ≢ 1

@@ -7,3 +7,5 @@ pub mod Word
 pub mod Span
 pub mod Matrix
 pub mod SpanLaws
+pub mod Divisor
+pub mod Plane

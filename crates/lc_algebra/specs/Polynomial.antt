@@ -4,13 +4,15 @@
 --   poly_sum f u v            the sum
 --   poly_scale f c u          the multiple by the element c
 --   poly_product f u v        the product
+--   put_on a u                the coefficient a before the list u, unless a is 0 and u has none
+--   trimmed u                 the list without its last zeros: the coefficients of a polynomial that is given by any list
 --   SamePolynomial u v        equal coefficients, with 0 past the end of a list
 --   IsPolynomial f u          coefficients of the field, the last one nonzero; the zero polynomial has none
 --   IsMonic u                 the last coefficient is 1
 --   IsDivision f a b q r      q is the quotient and r the remainder of a on division by b, whose last coefficient isn't 0
 --   Divides f a b             some multiple of a is b
 --   x_power_minus_one f n     x^n - 1, for n of at least 1
-use Rattle.std.specs.Prelude.{◌≡◌, ℕ, ◌-◌, ◌<◌, List, [], ◌∷◌, ◌++◌, length, replicate, slice_index, EachIndex}
+use Rattle.std.specs.Prelude.{◌≡◌, ℕ, zero, suc, ◌-◌, ◌<◌, List, [], ◌∷◌, ◌++◌, length, replicate, slice_index, EachIndex}
 use Rattle.lc_algebra.specs.declared.FieldName.{FieldName}
 use Rattle.lc_algebra.specs.Field.{size, add, neg, mul}
 
@@ -30,6 +32,15 @@ poly_scale f c (a ∷ u) = mul f c a ∷ poly_scale f c u
 unfoldable pub poly_product : FieldName → List ℕ → List ℕ → List ℕ
 poly_product f [] v = []
 poly_product f (c ∷ u) v = poly_sum f (poly_scale f c v) (0 ∷ poly_product f u v)
+
+unfoldable pub put_on : ℕ → List ℕ → List ℕ
+put_on zero [] = []
+put_on (suc a) [] = suc a ∷ []
+put_on a (b ∷ u) = a ∷ b ∷ u
+
+unfoldable pub trimmed : List ℕ → List ℕ
+trimmed [] = []
+trimmed (a ∷ u) = put_on a (trimmed u)
 
 abbrev pub SamePolynomial : List ℕ → List ℕ → Type 0
 SamePolynomial u v = (i : ℕ) → slice_index u i ≡ slice_index v i

@@ -12,7 +12,7 @@
 --   up c u                      u with each coefficient one place up, c in the lowest place, and the last one let go
 --   times_x p m u               x u modulo that monic polynomial, where u is as long as m
 --   product p m u v             u v modulo that polynomial, by Horner's rule: v is as long as m
-use Rattle.std.specs.Prelude.{◌≡◌, ℕ, zero, suc, ◌+◌, ◌-◌, ◌*◌, ◌/◌, ◌%◌, List, [], ◌∷◌, ◌++◌, length, replicate, slice_index}
+use Rattle.std.specs.Prelude.{◌≡◌, ℕ, zero, suc, ◌+◌, ◌-◌, ◌*◌, ◌/◌, ◌%◌, ◌<◌, List, [], ◌∷◌, ◌++◌, length, replicate, slice_index, EachIndex}
 
 unfoldable pub digits : ℕ → ℕ → ℕ → List ℕ
 digits p zero a = []
@@ -43,9 +43,10 @@ unfoldable pub long_times : ℕ → List ℕ → List ℕ → List ℕ
 long_times p [] v = []
 long_times p (c ∷ u) v = long_plus p (times p c v) (0 ∷ long_times p u v)
 
--- a is some multiple of the monic polynomial plus r, coefficient by coefficient, and the degree of r is below that
--- polynomial's
+-- a is some multiple of the monic polynomial plus r, coefficient by coefficient, and r is a list of residues whose degree is
+-- below that polynomial's
 pub record IsRemainder (p : ℕ) (lower a r : List ℕ) : Type 0 where
+  pub residues : EachIndex r (λ i. slice_index r i < p)
   pub degree : length r ≡ length lower
   pub multiple : (h : List ℕ) × ((i : ℕ) → slice_index a i ≡ slice_index (long_plus p (long_times p h (lower ++ 1 ∷ [])) r) i)
 

@@ -5,6 +5,7 @@
 --   words f n rows               the list of these words: c g + v for each element c and each word v of the rows after g
 --   SameSpan f n rows others     the two lists of rows have the same words
 --   AreIndependent f n rows      only the combination with all coefficients 0 is the zero word
+--   IsWeightBound f n rows d     every nonzero word has weight at least d
 --   IsDistance f n rows d        some nonzero word has weight d, and none is lighter: the minimum distance
 --   IsLeast f n rows w           w is the first nonzero word, by weight and then lexicographically
 use Rattle.std.specs.Prelude.{◌≡◌, ℕ, zero, suc, ◌<◌, ◌≤◌, ◌↔◌, List, [], ◌∷◌, ◌++◌, length, map, flat_map}
@@ -34,9 +35,12 @@ SameSpan f n rows others = (w : List ℕ) → InSpan f n rows w ↔ InSpan f n o
 abbrev pub AreIndependent : FieldName → ℕ → List (List ℕ) → Type 0
 AreIndependent f n rows = (cs : List ℕ) → IsWord f (length rows) cs → combine f n cs rows ≡ zero_word n → cs ≡ zero_word (length rows)
 
+abbrev pub IsWeightBound : FieldName → ℕ → List (List ℕ) → ℕ → Type 0
+IsWeightBound f n rows d = (v : List ℕ) → InSpan f n rows v → 0 < weight v → d ≤ weight v
+
 pub record IsDistance (f : FieldName) (n : ℕ) (rows : List (List ℕ)) (d : ℕ) : Type 0 where
   pub attained : (w : List ℕ) × InSpan f n rows w × (0 < weight w) × (weight w ≡ d)
-  pub least : (v : List ℕ) → InSpan f n rows v → 0 < weight v → d ≤ weight v
+  pub least : IsWeightBound f n rows d
 
 pub record IsLeast (f : FieldName) (n : ℕ) (rows : List (List ℕ)) (w : List ℕ) : Type 0 where
   pub inside : InSpan f n rows w

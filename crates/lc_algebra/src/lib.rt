@@ -3,6 +3,7 @@
 //! `proofs/`, and on the contracts of the functions of `laws`.
 #![tactic(auto)]
 
+pub mod divisor_laws;
 pub mod laws;
 pub mod span_laws;
 

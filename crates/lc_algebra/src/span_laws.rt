@@ -7,7 +7,7 @@
 ghost use Rattle.std.specs.Prelude.{◌≡◌, ◌≢◌, ℕ, ◌+◌, ◌^◌, ◌<◌, ◌≤◌, ◌⊎◌, ◌↔◌, List, [], ◌∷◌, length, set, slice_index, slice_index_or, All, Contains, swap, remove, IsPermutation, AllPairs, Bool, IsTrue};
 ghost use Rattle.lc_algebra.specs.Field.{size, add, neg, mul};
 ghost use Rattle.lc_algebra.specs.Word.{Fits, IsWord, zero_word, word_sum, scale, difference, weight, word_dot, distance, AtMost, ComesNoLater};
-ghost use Rattle.lc_algebra.specs.Span.{combine, InSpan, words, SameSpan, AreIndependent, IsDistance, IsLeast};
+ghost use Rattle.lc_algebra.specs.Span.{combine, InSpan, words, SameSpan, AreIndependent, IsWeightBound, IsDistance, IsLeast};
 ghost use Rattle.lc_algebra.specs.Matrix.{AreRows, IsOrthogonal, HasPivots, IsReduced, IsEchelon, IsReducedGenerator, IsSystematic, AreIndependentColumns};
 ghost use Rattle.lc_algebra.specs.SpanLaws.{AddsMultiples, ScalesRows, restrict};
 
@@ -129,15 +129,20 @@ pub fn systematic_matrix_is_unique(field: FieldName)
 
 /// Rows with a nonzero word have exactly one minimum distance and exactly one first nonzero word, whose
 /// weight is that distance. Two different words of the rows are at least that far apart, and some are
-/// exactly that far apart.
+/// exactly that far apart. A bound of the weights of nonzero words is at most the distance, is the
+/// distance if some nonzero word attains it, and two different words are at least that far apart.
 pub fn least_word_has_the_distance(field: FieldName)
     ensures some_word { (n : ℕ) (rows : List (List ℕ)) → AreRows field n rows → ((w : List ℕ) × IsLeast field n rows w) ⊎ ((w : List ℕ) → InSpan field n rows w → w ≡ zero_word n) }
     ensures distance { (n : ℕ) (rows : List (List ℕ)) (w : List ℕ) → IsLeast field n rows w → IsDistance field n rows (weight w) }
     ensures one_distance { (n : ℕ) (rows : List (List ℕ)) (d e : ℕ) → IsDistance field n rows d → IsDistance field n rows e → d ≡ e }
-    ensures one_word { (n : ℕ) (rows : List (List ℕ)) (u v : List ℕ) → AreRows field n rows → IsLeast field n rows u → IsLeast field n rows v → u ≡ v }
+    ensures one_word { (n : ℕ) (rows : List (List ℕ)) (u v : List ℕ) → IsLeast field n rows u → IsLeast field n rows v → u ≡ v }
     ensures apart { (n : ℕ) (rows : List (List ℕ)) (d : ℕ) (u v : List ℕ) → AreRows field n rows → IsDistance field n rows d → InSpan field n rows u → InSpan field n rows v → u ≢ v → d ≤ distance field u v }
     ensures attained { (n : ℕ) (rows : List (List ℕ)) (d : ℕ) → AreRows field n rows → IsDistance field n rows d → (u : List ℕ) × InSpan field n rows u × (u ≢ zero_word n) × (distance field u (zero_word n) ≡ d) }
     ensures distance_told_by_words { (n : ℕ) (rows others : List (List ℕ)) (d : ℕ) → SameSpan field n rows others → IsDistance field n rows d → IsDistance field n others d }
+    ensures bound { (n : ℕ) (rows : List (List ℕ)) (d : ℕ) → IsDistance field n rows d → IsWeightBound field n rows d }
+    ensures bound_attained { (n : ℕ) (rows : List (List ℕ)) (d : ℕ) (w : List ℕ) → IsWeightBound field n rows d → InSpan field n rows w → 0 < weight w → weight w ≡ d → IsDistance field n rows d }
+    ensures bound_at_most { (n : ℕ) (rows : List (List ℕ)) (d e : ℕ) → IsWeightBound field n rows d → IsDistance field n rows e → d ≤ e }
+    ensures bound_apart { (n : ℕ) (rows : List (List ℕ)) (d : ℕ) (u v : List ℕ) → AreRows field n rows → IsWeightBound field n rows d → InSpan field n rows u → InSpan field n rows v → u ≢ v → d ≤ distance field u v }
     ensures word_told_by_words { (n : ℕ) (rows others : List (List ℕ)) (w : List ℕ) → SameSpan field n rows others → IsLeast field n rows w → IsLeast field n others w }
 {}
 

@@ -13,8 +13,10 @@ use Rattle.lc_algebra.specs.declared.FieldName.{FieldName}
 use Rattle.lc_algebra.specs.Field.{size, is_symbol}
 use Rattle.lc_algebra.proofs.FieldLaws.{one_inside}
 use Rattle.lc_constructions.specs.Basic.{hamming_length}
-use Rattle.lc_code.specs.declared.refusal.CodeRefusal.TheVariants.{BadLength, BadArgument, FieldTooLarge}
-use Rattle.lc_basic.specs.Refusal.{is_length, hamming_refusal}
+use Rattle.lc_constructions.specs.declared.refusal.CodeRefusal.TheVariants.{BadLength, BadArgument, FieldTooLarge}
+use Rattle.lc_constructions.specs.Code.{is_length}
+use Rattle.lc_constructions.specs.Refusal.{refuse_if, first_refusal}
+use Rattle.lc_constructions.specs.Refusals.{too_large, bad_length, bad_argument, hamming_refusals}
 use Rattle.lc_basic.specs.Column.{points}
 use Rattle.lc_basic.proofs.ColumnLaws.{power_points, length_points, points_more}
 
@@ -60,22 +62,22 @@ points_within q i r l h = omega (arith, points_more q i r l, h)
 pub length_least : (q r : ℕ) → 1 < q → 1 ≤ r → 1 ≤ hamming_length q r
 length_least q r l k = omega (arith, length_points q r l, points_more q 1 r k, points_one q)
 
-pub hamming_too_large : (f : FieldName) (r : ℕ) → is_symbol f ≡ false → hamming_refusal f r ≡ Some FieldTooLarge
-unfolding hamming_refusal
+pub hamming_too_large : (f : FieldName) (r : ℕ) → is_symbol f ≡ false → first_refusal (hamming_refusals f r) ≡ Some FieldTooLarge
+unfolding first_refusal refuse_if too_large bad_length bad_argument hamming_refusals
 hamming_too_large f r a = rw a refl
 
-pub hamming_few : (f : FieldName) (r : ℕ) → is_symbol f ≡ true → nat_lt r 2 ≡ true → hamming_refusal f r ≡ Some (BadArgument 1)
-unfolding hamming_refusal
+pub hamming_few : (f : FieldName) (r : ℕ) → is_symbol f ≡ true → nat_lt r 2 ≡ true → first_refusal (hamming_refusals f r) ≡ Some (BadArgument 1)
+unfolding first_refusal refuse_if too_large bad_length bad_argument hamming_refusals
 hamming_few f r a b = rw (a, b) refl
 
-pub hamming_long : (f : FieldName) (r q n : ℕ) → is_symbol f ≡ true → nat_lt r 2 ≡ false → q ≡ size f → (n ≤ 255 → n ≡ hamming_length q r) → (255 < n → 255 < hamming_length q r) → is_length n ≡ false → hamming_refusal f r ≡ Some BadLength
-unfolding hamming_refusal
+pub hamming_long : (f : FieldName) (r q n : ℕ) → is_symbol f ≡ true → nat_lt r 2 ≡ false → q ≡ size f → (n ≤ 255 → n ≡ hamming_length q r) → (255 < n → 255 < hamming_length q r) → is_length n ≡ false → first_refusal (hamming_refusals f r) ≡ Some BadLength
+unfolding first_refusal refuse_if too_large bad_length bad_argument hamming_refusals
 hamming_long f r q n a b s h k c =
     let t : is_length (hamming_length (size f) r) ≡ false = subst (λ x. is_length (hamming_length x r) ≡ false) s (⊎_elim (λ m. too_long (hamming_length q r) (k m)) (λ m. subst (λ x. is_length x ≡ false) (h (omega (arith, m))) c) (cases_lt 255 n)) in
     rw (a, b, t) refl
 
-pub hamming_fine : (f : FieldName) (r q n : ℕ) → is_symbol f ≡ true → nat_lt r 2 ≡ false → q ≡ size f → n ≤ 255 → (n ≤ 255 → n ≡ hamming_length q r) → is_length n ≡ true → hamming_refusal f r ≡ None
-unfolding hamming_refusal
+pub hamming_fine : (f : FieldName) (r q n : ℕ) → is_symbol f ≡ true → nat_lt r 2 ≡ false → q ≡ size f → n ≤ 255 → (n ≤ 255 → n ≡ hamming_length q r) → is_length n ≡ true → first_refusal (hamming_refusals f r) ≡ None
+unfolding first_refusal refuse_if too_large bad_length bad_argument hamming_refusals
 hamming_fine f r q n a b s m h c =
     let t : is_length (hamming_length (size f) r) ≡ true = subst (λ x. is_length (hamming_length x r) ≡ true) s (subst (λ x. is_length x ≡ true) (h m) c) in
     rw (a, b, t) refl

@@ -22,8 +22,10 @@ use Rattle.lc_algebra.specs.Matrix.{Matrix, AreRows}
 use Rattle.lc_algebra.proofs.SpanLaws.{length_below}
 use Rattle.lc_constructions.specs.Code.{IsCode}
 use Rattle.lc_constructions.specs.Basic.{GeneratedBy, subsets, monomial, reed_muller_rows}
-use Rattle.lc_code.specs.declared.refusal.CodeRefusal.TheVariants.{BadLength, BadArgument}
-use Rattle.lc_basic.specs.Refusal.{is_length, reed_muller_refusal}
+use Rattle.lc_constructions.specs.declared.refusal.CodeRefusal.TheVariants.{BadLength, BadArgument}
+use Rattle.lc_constructions.specs.Code.{is_length}
+use Rattle.lc_constructions.specs.Refusal.{refuse_if, first_refusal}
+use Rattle.lc_constructions.specs.Refusals.{bad_length, bad_argument, reed_muller_refusals}
 use Rattle.lc_basic.specs.Column.{points}
 use Rattle.lc_basic.specs.Product.{variables, times_all, times_part, products}
 use Rattle.lc_basic.proofs.FamilyLaws.{ones, length_ones, index_ones}
@@ -213,14 +215,14 @@ short_length m l =
     let b : 1 ≤ 2 ^ m = one-le-pow m 2 (omega arith) in
     grind (arith, a, b)
 
-pub reed_muller_long : (r m : ℕ) → 7 < m → reed_muller_refusal r m ≡ Some BadLength
-unfolding reed_muller_refusal
+pub reed_muller_long : (r m : ℕ) → 7 < m → first_refusal (reed_muller_refusals r m) ≡ Some BadLength
+unfolding first_refusal refuse_if bad_length bad_argument reed_muller_refusals
 reed_muller_long r m l = rw (long_power m l) refl
 
-pub reed_muller_high : (r m : ℕ) → m ≤ 7 → nat_lt m r ≡ true → reed_muller_refusal r m ≡ Some (BadArgument 1)
-unfolding reed_muller_refusal
+pub reed_muller_high : (r m : ℕ) → m ≤ 7 → nat_lt m r ≡ true → first_refusal (reed_muller_refusals r m) ≡ Some (BadArgument 1)
+unfolding first_refusal refuse_if bad_length bad_argument reed_muller_refusals
 reed_muller_high r m l e = rw (short_length m l, e) refl
 
-pub reed_muller_fine : (r m : ℕ) → m ≤ 7 → nat_lt m r ≡ false → reed_muller_refusal r m ≡ None
-unfolding reed_muller_refusal
+pub reed_muller_fine : (r m : ℕ) → m ≤ 7 → nat_lt m r ≡ false → first_refusal (reed_muller_refusals r m) ≡ None
+unfolding first_refusal refuse_if bad_length bad_argument reed_muller_refusals
 reed_muller_fine r m l e = rw (short_length m l, e) refl

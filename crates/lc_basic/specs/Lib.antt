@@ -1,3 +1,3 @@
-pub mod Refusal
+pub mod Checked
 pub mod Column
 pub mod Product

@@ -1,12 +1,14 @@
 //! Hamming codes.
-ghost use Rattle.std.specs.Prelude.{◌≡◌, ℕ, ◌+◌, ◌-◌, ◌^◌, ◌<◌, ◌≤◌, ◌++◌, map, IfOk, IsTrue, IsNone, Option};
+ghost use Rattle.std.specs.Prelude.{◌≡◌, ℕ, ◌+◌, ◌-◌, ◌^◌, ◌<◌, ◌≤◌, ◌++◌, map, IfOk, IsTrue};
 ghost use Rattle.lc_algebra.specs.Field.{size, is_symbol};
-ghost use Rattle.lc_constructions.specs.Code.{IsCode, CheckedBy};
+ghost use Rattle.lc_constructions.specs.Code.{longest, is_length, IsCode, CheckedBy};
 ghost use Rattle.lc_constructions.specs.Basic.{hamming_checks, hamming_length};
-ghost use Rattle.lc_basic.specs.Refusal.{is_length, hamming_refusal, IsRefusedAs};
+ghost use Rattle.lc_constructions.specs.Refusal.{first_refusal, IsRefusedAs, RefusesFirst};
+ghost use Rattle.lc_constructions.specs.Refusals.{hamming_refusals};
+ghost use Rattle.lc_basic.specs.Checked.{IsChecked};
 ghost use Rattle.lc_basic.specs.Column.{points, digits_from, digits_of};
 
-use crate::refusal::{is_length, made};
+use crate::refusal::is_length;
 use lc_code::{Code, CodeRefusal};
 use lc_field::{Field, NoMemory};
 use lc_vec::Word;
@@ -17,35 +19,34 @@ use std::alloc::Global;
 ///
 /// Its length n is (q^r - 1) / (q - 1) over a field of q elements, and its dimension n - r. Refused in this order: the field has
 /// more than 16 elements, FieldTooLarge; `r` is below 2, BadArgument(1); n is above 255, BadLength. `r` may be any number.
-#[tactic(auto, using(crate::proofs::RefusalLaws::refused, crate::proofs::RefusalLaws::answered, crate::proofs::RefusalLaws::kept))]
+#[tactic(auto, using(lc_constructions::proofs::RefusalLaws::refuses_first, lc_constructions::proofs::RefusalLaws::refuses_nothing))]
 pub fn hamming(alloc: Global, r: u64, field: &Field) -> Result<Code, CodeRefusal>
     ensures code { IfOk result (λ c. IsCode field.now (hamming_length (size field.now) r) (CheckedBy field.now (hamming_checks (size field.now) r)) c) }
-    ensures refused { IsRefusedAs result (hamming_refusal field.now r) }
+    ensures refused { IsRefusedAs result (first_refusal (hamming_refusals field.now r)) }
+    ensures first { RefusesFirst result (first_refusal (hamming_refusals field.now r)) }
 {
-    match refused_hamming(field, r) {
-        Some(refusal) => Err(refusal),
-        None => made(code_of_columns(alloc, r as usize, field)),
-    }
+    check_hamming(field, r)?;
+    Ok(code_of_columns(alloc, r as usize, field)?)
 }
 
-// The first refusal of a field and a number of checks.
+// Checks a field and a number of checks.
 #[tactic(auto, using(crate::proofs::HammingLaws::small_field, crate::proofs::HammingLaws::hamming_too_large, crate::proofs::HammingLaws::hamming_few, crate::proofs::HammingLaws::hamming_long, crate::proofs::HammingLaws::hamming_fine))]
-fn refused_hamming(field: &Field, r: u64) -> Option<CodeRefusal>
-    ensures is { result ≡ hamming_refusal field.now r }
-    ensures symbol { IsNone result → IsTrue (is_symbol field.now) }
-    ensures least { IsNone result → 2 ≤ r }
-    ensures most { IsNone result → hamming_length (size field.now) r ≤ 255 }
+fn check_hamming(field: &Field, r: u64) -> Result<(), CodeRefusal>
+    ensures is { IsChecked result (first_refusal (hamming_refusals field.now r)) }
+    ensures symbol { IfOk result (λ _. IsTrue (is_symbol field.now)) }
+    ensures least { IfOk result (λ _. 2 ≤ r) }
+    ensures most { IfOk result (λ _. hamming_length (size field.now) r ≤ longest) }
 {
     if !field.is_symbol() {
-        return Some(CodeRefusal::FieldTooLarge);
+        return Err(CodeRefusal::FieldTooLarge);
     }
     if r < 2 {
-        return Some(CodeRefusal::BadArgument(1));
+        return Err(CodeRefusal::BadArgument(1));
     }
     if !is_length(length_of(field.size() as u64, r)) {
-        return Some(CodeRefusal::BadLength);
+        return Err(CodeRefusal::BadLength);
     }
-    None
+    Ok(())
 }
 
 // The length, or else some number above 255 where the length is above 255.

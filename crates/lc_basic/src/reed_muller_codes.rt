@@ -1,13 +1,14 @@
 //! Reed-Muller codes.
-ghost use Rattle.std.specs.Prelude.{◌≡◌, ◌+◌, ◌^◌, ◌≤◌, ◌++◌, ◌∷◌, [], IfOk, IsNone};
+ghost use Rattle.std.specs.Prelude.{◌≡◌, ◌+◌, ◌^◌, ◌≤◌, ◌++◌, ◌∷◌, [], IfOk};
 ghost use Rattle.lc_algebra.specs.declared.FieldName.TheVariants.{Gf2};
 ghost use Rattle.lc_constructions.specs.Code.{IsCode};
 ghost use Rattle.lc_constructions.specs.Basic.{GeneratedBy, reed_muller_rows};
-ghost use Rattle.lc_basic.specs.Refusal.{reed_muller_refusal, IsRefusedAs};
+ghost use Rattle.lc_constructions.specs.Refusal.{first_refusal, IsRefusedAs, RefusesFirst};
+ghost use Rattle.lc_constructions.specs.Refusals.{reed_muller_refusals};
+ghost use Rattle.lc_basic.specs.Checked.{IsChecked};
 ghost use Rattle.lc_basic.specs.Product.{times_all, products};
 
 use crate::hamming_codes::power;
-use crate::refusal::made;
 use crate::trivial::ones;
 use lc_code::{Code, CodeRefusal};
 use lc_field::{Field, FieldRefusal, NoMemory};
@@ -18,30 +19,29 @@ use std::alloc::Global;
 /// most `r`, where the bits of i are the variables (MacWilliams and Sloane, chapter 13; GUAVA manual, `ReedMullerCode`).
 ///
 /// Its length is 2^m. Refused in this order: 2^m is above 255, BadLength; `r` is above `m`, BadArgument(1). Both may be any numbers.
-#[tactic(auto, using(crate::proofs::RefusalLaws::refused, crate::proofs::RefusalLaws::answered, crate::proofs::RefusalLaws::kept))]
+#[tactic(auto, using(lc_constructions::proofs::RefusalLaws::refuses_first, lc_constructions::proofs::RefusalLaws::refuses_nothing))]
 pub fn reed_muller(alloc: Global, r: u64, m: u64) -> Result<Code, CodeRefusal>
     ensures code { IfOk result (λ c. IsCode Gf2 (2 ^ m) (GeneratedBy Gf2 (2 ^ m) (reed_muller_rows r m)) c) }
-    ensures refused { IsRefusedAs result (reed_muller_refusal r m) }
+    ensures refused { IsRefusedAs result (first_refusal (reed_muller_refusals r m)) }
+    ensures first { RefusesFirst result (first_refusal (reed_muller_refusals r m)) }
 {
-    match refused_reed_muller(r, m) {
-        Some(refusal) => Err(refusal),
-        None => made(code_of_products(alloc, r, m)),
-    }
+    check_reed_muller(r, m)?;
+    Ok(code_of_products(alloc, r, m)?)
 }
 
-// The first refusal of an order and a number of variables.
+// Checks an order and a number of variables.
 #[tactic(auto, using(crate::proofs::ProductLaws::reed_muller_long, crate::proofs::ProductLaws::reed_muller_high, crate::proofs::ProductLaws::reed_muller_fine))]
-fn refused_reed_muller(r: u64, m: u64) -> Option<CodeRefusal>
-    ensures is { result ≡ reed_muller_refusal r m }
-    ensures most { IsNone result → m ≤ 7 }
+fn check_reed_muller(r: u64, m: u64) -> Result<(), CodeRefusal>
+    ensures is { IsChecked result (first_refusal (reed_muller_refusals r m)) }
+    ensures most { IfOk result (λ _. m ≤ 7) }
 {
     if m > 7 {
-        return Some(CodeRefusal::BadLength);
+        return Err(CodeRefusal::BadLength);
     }
     if r > m {
-        return Some(CodeRefusal::BadArgument(1));
+        return Err(CodeRefusal::BadArgument(1));
     }
-    None
+    Ok(())
 }
 
 #[tactic(auto, using(crate::proofs::ProductLaws::binary_is_symbol, crate::proofs::ProductLaws::binary_rows, crate::proofs::ProductLaws::binary_code))]

@@ -1,11 +1,12 @@
 //! Repetition codes, the whole space and the null code.
 ghost use Rattle.std.specs.Prelude.{◌≡◌, ◌≤◌, replicate, IfOk, IsTrue};
 ghost use Rattle.lc_algebra.specs.Field.{is_symbol};
-ghost use Rattle.lc_constructions.specs.Code.{IsCode};
+ghost use Rattle.lc_constructions.specs.Code.{longest, IsCode};
 ghost use Rattle.lc_constructions.specs.Basic.{IsConstant, IsAny, IsZero};
-ghost use Rattle.lc_basic.specs.Refusal.{length_refusal, IsRefusedAs};
+ghost use Rattle.lc_constructions.specs.Refusal.{first_refusal, IsRefusedAs, RefusesFirst};
+ghost use Rattle.lc_constructions.specs.Refusals.{length_refusals};
 
-use crate::refusal::{made, refused_length};
+use crate::refusal::check_length;
 use lc_code::{Code, CodeRefusal};
 use lc_field::{Field, NoMemory};
 use lc_vec::Word;
@@ -14,22 +15,21 @@ use std::alloc::Global;
 /// The repetition code of length `n`: the words whose symbols are all equal (GUAVA manual, `RepetitionCode`).
 ///
 /// Refused in this order: the field has more than 16 elements, FieldTooLarge; `n` is 0 or above 255, BadLength.
-#[tactic(auto, using(crate::proofs::RefusalLaws::refused, crate::proofs::RefusalLaws::answered, crate::proofs::RefusalLaws::kept))]
+#[tactic(auto, using(lc_constructions::proofs::RefusalLaws::refuses_first, lc_constructions::proofs::RefusalLaws::refuses_nothing))]
 pub fn repetition(alloc: Global, n: u64, field: &Field) -> Result<Code, CodeRefusal>
     ensures code { IfOk result (λ c. IsCode field.now n IsConstant c) }
-    ensures refused { IsRefusedAs result (length_refusal field.now n) }
+    ensures refused { IsRefusedAs result (first_refusal (length_refusals field.now n)) }
+    ensures first { RefusesFirst result (first_refusal (length_refusals field.now n)) }
 {
-    match refused_length(field, n) {
-        Some(refusal) => Err(refusal),
-        None => made(constant_words(alloc, n as usize, field)),
-    }
+    check_length(field, n)?;
+    Ok(constant_words(alloc, n as usize, field)?)
 }
 
 #[tactic(auto, using(crate::proofs::FamilyLaws::ones_rows, crate::proofs::FamilyLaws::constant_code))]
 fn constant_words(alloc: Global, n: usize, field: &Field) -> Result<Code, NoMemory>
     requires symbol { IsTrue (is_symbol field.now) }
     requires least { 1 ≤ n }
-    requires most { n ≤ 255 }
+    requires most { n ≤ longest }
     ensures code { IfOk result (λ c. IsCode field.now n IsConstant c) }
 {
     let rows = vec![in alloc; ones(alloc, n)?]?;
@@ -46,22 +46,21 @@ pub(crate) fn ones(alloc: Global, n: usize) -> Result<Word, NoMemory>
 /// The code of all words of length `n` (GUAVA manual, `WholeSpaceCode`).
 ///
 /// Refused in this order: the field has more than 16 elements, FieldTooLarge; `n` is 0 or above 255, BadLength.
-#[tactic(auto, using(crate::proofs::RefusalLaws::refused, crate::proofs::RefusalLaws::answered, crate::proofs::RefusalLaws::kept))]
+#[tactic(auto, using(lc_constructions::proofs::RefusalLaws::refuses_first, lc_constructions::proofs::RefusalLaws::refuses_nothing))]
 pub fn whole_space(alloc: Global, n: u64, field: &Field) -> Result<Code, CodeRefusal>
     ensures code { IfOk result (λ c. IsCode field.now n IsAny c) }
-    ensures refused { IsRefusedAs result (length_refusal field.now n) }
+    ensures refused { IsRefusedAs result (first_refusal (length_refusals field.now n)) }
+    ensures first { RefusesFirst result (first_refusal (length_refusals field.now n)) }
 {
-    match refused_length(field, n) {
-        Some(refusal) => Err(refusal),
-        None => made(all_words(alloc, n as usize, field)),
-    }
+    check_length(field, n)?;
+    Ok(all_words(alloc, n as usize, field)?)
 }
 
 #[tactic(auto, using(crate::proofs::FamilyLaws::no_rows, crate::proofs::FamilyLaws::any_code))]
 fn all_words(alloc: Global, n: usize, field: &Field) -> Result<Code, NoMemory>
     requires symbol { IsTrue (is_symbol field.now) }
     requires least { 1 ≤ n }
-    requires most { n ≤ 255 }
+    requires most { n ≤ longest }
     ensures code { IfOk result (λ c. IsCode field.now n IsAny c) }
 {
     let checks = Vec::new(alloc);
@@ -71,22 +70,21 @@ fn all_words(alloc: Global, n: usize, field: &Field) -> Result<Code, NoMemory>
 /// The null code of length `n`, of the zero word alone (GUAVA manual, `NullCode`).
 ///
 /// Refused in this order: the field has more than 16 elements, FieldTooLarge; `n` is 0 or above 255, BadLength.
-#[tactic(auto, using(crate::proofs::RefusalLaws::refused, crate::proofs::RefusalLaws::answered, crate::proofs::RefusalLaws::kept))]
+#[tactic(auto, using(lc_constructions::proofs::RefusalLaws::refuses_first, lc_constructions::proofs::RefusalLaws::refuses_nothing))]
 pub fn null_code(alloc: Global, n: u64, field: &Field) -> Result<Code, CodeRefusal>
     ensures code { IfOk result (λ c. IsCode field.now n IsZero c) }
-    ensures refused { IsRefusedAs result (length_refusal field.now n) }
+    ensures refused { IsRefusedAs result (first_refusal (length_refusals field.now n)) }
+    ensures first { RefusesFirst result (first_refusal (length_refusals field.now n)) }
 {
-    match refused_length(field, n) {
-        Some(refusal) => Err(refusal),
-        None => made(zero_words(alloc, n as usize, field)),
-    }
+    check_length(field, n)?;
+    Ok(zero_words(alloc, n as usize, field)?)
 }
 
 #[tactic(auto, using(crate::proofs::FamilyLaws::no_rows, crate::proofs::FamilyLaws::zero_code))]
 fn zero_words(alloc: Global, n: usize, field: &Field) -> Result<Code, NoMemory>
     requires symbol { IsTrue (is_symbol field.now) }
     requires least { 1 ≤ n }
-    requires most { n ≤ 255 }
+    requires most { n ≤ longest }
     ensures code { IfOk result (λ c. IsCode field.now n IsZero c) }
 {
     let rows = Vec::new(alloc);

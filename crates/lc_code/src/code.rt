@@ -3,7 +3,7 @@ ghost use Rattle.std.specs.Prelude.{◌≡◌, ℕ, ◌<◌, ◌≤◌, ◌↔�
 ghost use Rattle.lc_algebra.specs.Field.{is_symbol};
 ghost use Rattle.lc_algebra.specs.Word.{IsWord};
 ghost use Rattle.lc_algebra.specs.Matrix.{AreRows, IsReduced};
-ghost use Rattle.lc_constructions.specs.Code.{InCode, IsCode, CheckedBy};
+ghost use Rattle.lc_constructions.specs.Code.{longest, InCode, IsCode, CheckedBy};
 ghost use Rattle.lc_constructions.specs.Basic.{GeneratedBy};
 ghost use Rattle.lc_constructions.specs.Combined.{InDual};
 ghost use Rattle.lc_code.specs.Kept.{IsCleared};
@@ -49,7 +49,7 @@ impl Code {
     ) -> Result<Code, NoMemory>
         requires symbol { IsTrue (is_symbol field.now) }
         requires least { 1 ≤ n }
-        requires most { n ≤ 255 }
+        requires most { n ≤ longest }
         requires rows { AreRows field.now n rows.now }
         ensures code { IfOk result (λ c. IsCode field.now n (GeneratedBy field.now n rows.now) c) }
     {
@@ -71,7 +71,7 @@ impl Code {
     ) -> Result<Code, NoMemory>
         requires symbol { IsTrue (is_symbol field.now) }
         requires least { 1 ≤ n }
-        requires most { n ≤ 255 }
+        requires most { n ≤ longest }
         requires checks { AreRows field.now n checks.now }
         ensures code { IfOk result (λ c. IsCode field.now n (CheckedBy field.now checks.now) c) }
     {
@@ -104,7 +104,7 @@ impl Code {
     pub fn length(&self) -> usize
         ensures is { result ≡ self.now.columns }
         ensures least { 1 ≤ result }
-        ensures most { result ≤ 255 }
+        ensures most { result ≤ longest }
     {
         self.matrix.cols()
     }

@@ -3,7 +3,6 @@
 #![tactic(auto)]
 
 mod code;
-mod refusal;
 
 pub use code::Code;
-pub use refusal::CodeRefusal;
+pub use lc_constructions::CodeRefusal;

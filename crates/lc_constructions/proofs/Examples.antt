@@ -12,15 +12,15 @@ use Rattle.std.specs.Prelude.{[], ◌∷◌, map, Some, None}
 use Rattle.lc_algebra.specs.declared.FieldName.TheVariants.{Gf2, Gf5, Gf8, Gf16}
 use Rattle.lc_algebra.specs.Residue.{digits, number, plus, minus, times, top, up, times_x, product}
 use Rattle.lc_algebra.specs.Field.{shape, shape_of, size, coefficients, add, neg, mul, pow}
-use Rattle.lc_algebra.specs.Polynomial.{value_at}
+use Rattle.lc_algebra.specs.Polynomial.{value_at, put_on, trimmed}
 use Rattle.lc_algebra.specs.Embedding.{is_subfield, first_from, first_that, root, embed}
 use Rattle.lc_algebra.specs.Word.{word_sum, scale, word_dot, difference}
 use Rattle.lc_algebra.specs.Span.{below, words}
 use Rattle.lc_algebra.specs.Matrix.{Matrix}
 use Rattle.lc_constructions.specs.Basic.{all_lists, hamming_columns, hamming_checks, monomial, subsets, reed_muller_rows}
-use Rattle.lc_constructions.specs.Cyclic.{put_on, trimmed, value_in, exponents_from, all_fields, locator_field}
+use Rattle.lc_constructions.specs.Cyclic.{value_in, exponents_from, all_fields, locator_field}
 use Rattle.lc_constructions.specs.Alternant.{inverse, check_row, goppa_multipliers, goppa_sum}
-use Rattle.lc_constructions.specs.Nearest.{is_before, is_better, nearest_among, nearest}
+use Rattle.lc_constructions.proofs.NearestLaws.{is_before, is_better, nearest_among, nearest}
 
 pub hamming_check_rows : hamming_checks 2 3 ≡ (0 ∷ 0 ∷ 0 ∷ 1 ∷ 1 ∷ 1 ∷ 1 ∷ []) ∷ (0 ∷ 1 ∷ 1 ∷ 0 ∷ 0 ∷ 1 ∷ 1 ∷ []) ∷ (1 ∷ 0 ∷ 1 ∷ 0 ∷ 1 ∷ 0 ∷ 1 ∷ []) ∷ []
 unfolding below all_lists hamming_columns hamming_checks

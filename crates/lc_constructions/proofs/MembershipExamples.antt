@@ -35,7 +35,8 @@ use Rattle.lc_constructions.specs.Cyclic.{binary_golay_generator, ternary_golay_
 use Rattle.lc_constructions.specs.Alternant.{inverse, check_row, syndrome_at, goppa_multipliers, goppa_sum, goppa_form, bch_form, IsAlternantWord, IsGoppaWord}
 use Rattle.lc_constructions.specs.Combined.{symbol_sum, without_from, without, tensor, InExtended, InPunctured, InShortened, InEvenWeight, InDirectSum, InUuv, InDirectProduct}
 use Rattle.lc_constructions.specs.Concatenated.{InConcatenated}
-use Rattle.lc_constructions.specs.Nearest.{IsNearest, words_within}
+use Rattle.lc_constructions.specs.Nearest.{IsNearest}
+use Rattle.lc_constructions.proofs.NearestLaws.{words_within}
 
 pub hamming_ternary : hamming_checks 3 2 ≡ (0 ∷ 1 ∷ 1 ∷ 1 ∷ []) ∷ (1 ∷ 0 ∷ 1 ∷ 2 ∷ []) ∷ []
 unfolding below all_lists hamming_columns hamming_checks

@@ -1,20 +1,46 @@
--- The nearest word that is found by going through all words is the nearest word.
+-- The nearest word: a scan of all words finds it, and it is the only one. The one word within half of the checks.
+--   is_before u v                  u comes before v in lexicographic order
+--   is_better u v                  u comes before v by weight and then lexicographically
+--   nearest_among C x w ws         the word among w and ws whose error comes first, w where several are equal
+--   nearest C x                    the nearest word, by going through the errors of all words of the code
+--   words_within C x t             the list of the words within t, by going through all words of the code
 --   before_true, before_false      the test of the lexicographic order
 --   better_true, better_false      and of that by weight first
 --   IsScanned ..              what a look through some words from a first one keeps
 --   nearest_is_nearest             the word that is found is the nearest one
+--   nearest_exists, nearest_once   so each received word has a nearest word, and it has one
+--   decoded_once                   at most one answer is what is decoded
 --   goppa_form_is_the_code         a Goppa code and its alternant form have the same words
-use Rattle.std.proofs.Common.{◌≡◌, ℕ, ◌⊎◌, ◌↔◌, Bool, true, false, ◌&&◌, ◌==◌, nat_lt, if◌then◌else◌, List, [], ◌∷◌, length, Contains, refl, sym, ap, subst, ◌∙◌, inl, inr, ⊎_elim, arith, true≢false}
+use Rattle.std.proofs.Common.{◌≡◌, ℕ, ◌⊎◌, ◌↔◌, Bool, true, false, ◌&&◌, ◌||◌, ◌==◌, nat_lt, nat_le, if◌then◌else◌, Option, Some, None, List, [], ◌∷◌, length, filter, Contains, refl, sym, ap, subst, ◌∙◌, inl, inr, ⊎_elim, arith, true≢false}
 use Rattle.std.proofs.lemmas.Bool.{cases_lt, and_parts, or_cases, or_parts, eqb-true, ltb-true, lt-ltb, eq-eqb}
 use Rattle.lc_algebra.specs.declared.FieldName.{FieldName}
-use Rattle.lc_algebra.specs.Word.{difference, weight, zero_word, AtMost, ComesNoLater}
+use Rattle.lc_algebra.specs.Field.{neg}
+use Rattle.lc_algebra.specs.Word.{IsWord, word_sum, scale, difference, distance, weight, zero_word, AtMost, ComesNoLater}
 use Rattle.lc_algebra.specs.Span.{words}
 use Rattle.lc_algebra.specs.Matrix.{Matrix, AreRows}
-use Rattle.lc_algebra.proofs.WordLaws.{length_difference, length_zero_word, no_later_reflexive, no_later_transitive}
+use Rattle.lc_algebra.proofs.WordLaws.{length_difference, length_zero_word, sum_comm, sum_assoc, sum_negative, zero_sum, difference_back, no_later_reflexive, no_later_transitive, no_later_antisymmetric}
 use Rattle.lc_algebra.proofs.SpanLaws.{span_word, contains_head, contains_tail, contains_cases, word_of_member, member_of_word, span_zero}
 use Rattle.lc_constructions.specs.Code.{InCode}
-use Rattle.lc_constructions.specs.Alternant.{IsAlternantWord, IsGoppaWord, goppa_sum, goppa_form, syndrome_at}
-use Rattle.lc_constructions.specs.Nearest.{IsNearest, is_before, is_better, nearest_among, nearest}
+use Rattle.lc_constructions.specs.Alternant.{AlternantForm, IsAlternantWord, IsGoppaWord, goppa_sum, goppa_form, syndrome_at}
+use Rattle.lc_constructions.specs.Nearest.{IsNearest, IsDecoded}
+
+unfoldable pub is_before : List ℕ → List ℕ → Bool
+is_before [] [] = false
+is_before (a ∷ u) (b ∷ v) = nat_lt a b || ((a == b) && is_before u v)
+is_before _ _ = false
+
+unfoldable pub is_better : List ℕ → List ℕ → Bool
+is_better u v = nat_lt (weight u) (weight v) || ((weight u == weight v) && is_before u v)
+
+unfoldable pub nearest_among : Matrix → List ℕ → List ℕ → List (List ℕ) → List ℕ
+nearest_among C x w [] = w
+nearest_among C x w (v ∷ others) = nearest_among C x (if is_better (difference C.field x v) (difference C.field x w) then v else w) others
+
+unfoldable pub nearest : Matrix → List ℕ → List ℕ
+nearest C x = nearest_among C x (zero_word C.columns) (words C.field C.columns C.rows)
+
+unfoldable pub words_within : Matrix → List ℕ → ℕ → List (List ℕ)
+words_within C x t = filter (λ w. nat_le (distance C.field x w) t) (words C.field C.columns C.rows)
 
 before_true : (u v : List ℕ) → is_before u v ≡ true → AtMost u v
 unfolding is_before
@@ -123,6 +149,37 @@ nearest_is_nearest C x r l =
       inside = ⊎_elim (λ q. subst (InCode C) q (span_zero C.field n C.rows r)) (λ c. word_of_member C.field n C.rows (nearest_among C x z ws) c) s.among;
       first = λ v h. s.least v (member_of_word C.field n C.rows v h);
     }
+
+pub nearest_exists : (C : Matrix) (x : List ℕ) → AreRows C.field C.columns C.rows → length x ≡ C.columns → (w : List ℕ) × IsNearest C x w
+nearest_exists C x r l = (nearest C x, nearest_is_nearest C x r l)
+
+word_cancels : (f : FieldName) (n : ℕ) (x u v : List ℕ) → IsWord f n x → IsWord f n u → IsWord f n v → word_sum f x u ≡ word_sum f x v → u ≡ v
+word_cancels f n x u v a b c e =
+    let m = scale f (neg f 1) x in
+    let back : (w : List ℕ) → IsWord f n w → word_sum f m (word_sum f x w) ≡ w =
+    λ w k. sym (sum_assoc f m x w) ∙ ap (λ t. word_sum f t w) (sum_comm f m x ∙ sum_negative f n x a.long) ∙ zero_sum f n w k in
+    sym (back u b) ∙ ap (λ t. word_sum f m t) e ∙ back v c
+
+same_error : (f : FieldName) (n : ℕ) (x u v : List ℕ) → IsWord f n x → IsWord f n u → IsWord f n v → difference f x u ≡ difference f x v → u ≡ v
+same_error f n x u v a b c e =
+    let p : word_sum f (difference f x u) (word_sum f u v) ≡ word_sum f x v = sym (sum_assoc f (difference f x u) u v) ∙ ap (λ t. word_sum f t v) (difference_back f n x u a b.long) in
+    let q : word_sum f (difference f x v) (word_sum f u v) ≡ word_sum f x u = ap (λ t. word_sum f (difference f x v) t) (sum_comm f u v) ∙ sym (sum_assoc f (difference f x v) v u) ∙ ap (λ t. word_sum f t u) (difference_back f n x v a c.long) in
+    let s : word_sum f x v ≡ word_sum f x u = sym p ∙ ap (λ t. word_sum f t (word_sum f u v)) e ∙ q in
+    word_cancels f n x u v a b c (sym s)
+
+pub nearest_once : (C : Matrix) (x u v : List ℕ) → AreRows C.field C.columns C.rows → IsWord C.field C.columns x → IsNearest C x u → IsNearest C x v → u ≡ v
+nearest_once C x u v r a p q =
+    let n = C.columns in
+    let wu = span_word C.field n C.rows u r p.inside in
+    let wv = span_word C.field n C.rows v r q.inside in
+    same_error C.field n x u v a wu wv
+    (no_later_antisymmetric (error C x u) (error C x v) (long_error C x u a.long wu.long ∙ sym (long_error C x v a.long wv.long)) (p.first v q.inside) (q.first u p.inside))
+
+pub decoded_once : (C : Matrix) (form : AlternantForm) (x : List ℕ) (o p : Option (List ℕ)) → IsDecoded C form x o → IsDecoded C form x p → o ≡ p
+decoded_once C form x None None h k = refl
+decoded_once C form x None (Some v) h k = absurd (h v k.0)
+decoded_once C form x (Some u) None h k = absurd (k u h.0)
+decoded_once C form x (Some u) (Some v) h k = ap (λ (w : List ℕ). Some w) (k.1 u h.0)
 
 pub goppa_form_is_the_code : (f K : FieldName) (g points w : List ℕ) → IsGoppaWord f K g points w ↔ IsAlternantWord f (goppa_form K g points) w
 unfolding goppa_sum goppa_form syndrome_at

@@ -1,12 +1,20 @@
 -- Codes: sets of words of one length, closed under sums and multiples (MacWilliams and Sloane, chapter 1). Contracts see a code
 -- as the matrix of its rows.
+--   longest              the greatest length of a code
+--   is_length n          n is the length of a code: 1 to 255
 --   InCode C w           w is a word of the code
 --   IsCode f n P C       C is the code over f of length n whose words are those that meet P, given by its reduced generator matrix
 --   CheckedBy f rows w   w has dot 0 with each row
-use Rattle.std.specs.Prelude.{◌≡◌, ℕ, List}
+use Rattle.std.specs.Prelude.{◌≡◌, ℕ, Bool, nat_le, ◌&&◌, List}
 use Rattle.lc_algebra.specs.declared.FieldName.{FieldName}
 use Rattle.lc_algebra.specs.Span.{InSpan}
 use Rattle.lc_algebra.specs.Matrix.{Matrix, IsReducedGenerator, IsOrthogonal}
+
+abbrev pub longest : ℕ
+longest = 255
+
+unfoldable pub is_length : ℕ → Bool
+is_length n = nat_le 1 n && nat_le n longest
 
 abbrev pub InCode : Matrix → List ℕ → Type 0
 InCode C w = InSpan C.field C.columns C.rows w

@@ -1,7 +1,5 @@
 -- Which words the cyclic constructors put into their codes (MacWilliams and Sloane, chapter 7; GUAVA manual, "Cyclic codes").
 -- The polynomial of a word has the word's symbols as its coefficients, from the constant upwards.
---   trimmed u                      the list without its last zeros: the coefficients of a polynomial that is given by any list
---   put_on a u                     the coefficient a before the list u, unless a is 0 and u has none
 --   IsResidue f n u c              c, of length n, is the polynomial u modulo x^n - 1
 --   IsMultipleOf f n x c           generator polynomial: c is x a modulo x^n - 1 for some a of degree below n
 --   IsCheckedBy f n x c            check polynomial: c times x is 0 modulo x^n - 1
@@ -20,16 +18,8 @@ use Rattle.lc_algebra.specs.declared.FieldName.TheVariants.{Gf2, Gf3, Gf4, Gf5, 
 use Rattle.lc_algebra.specs.Field.{shape_of, size, pow}
 use Rattle.lc_algebra.specs.Polynomial.{value_at, poly_sum, poly_product, SamePolynomial, IsPolynomial, x_power_minus_one}
 use Rattle.lc_algebra.specs.Embedding.{is_subfield, embed}
+unfoldable pub use Rattle.lc_algebra.specs.Polynomial.{put_on, trimmed}
 use Rattle.lc_algebra.specs.Word.{IsWord, zero_word}
-
-unfoldable pub put_on : ℕ → List ℕ → List ℕ
-put_on zero [] = []
-put_on (suc a) [] = suc a ∷ []
-put_on a (b ∷ u) = a ∷ b ∷ u
-
-unfoldable pub trimmed : List ℕ → List ℕ
-trimmed [] = []
-trimmed (a ∷ u) = put_on a (trimmed u)
 
 pub record IsResidue (f : FieldName) (n : ℕ) (u c : List ℕ) : Type 0 where
   pub word : IsWord f n c

@@ -5,3 +5,6 @@ pub mod Alternant
 pub mod Combined
 pub mod Concatenated
 pub mod Nearest
+pub mod Coset
+pub mod Refusal
+pub mod Refusals

@@ -1,3 +1,8 @@
-//! What `codes` means by each code that a script can construct or combine, and by the word of a code
-//! nearest to a received one. The definitions stand in `specs/`.
+//! What `codes` means by each code that a script can construct or combine, when a constructor refuses its arguments, and what
+//! the word of a code nearest to a received one is. The definitions stand in `specs/`.
 #![tactic(auto)]
+
+pub mod laws;
+mod refusal;
+
+pub use refusal::CodeRefusal;

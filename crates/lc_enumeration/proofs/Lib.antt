@@ -1,3 +1,9 @@
-pub mod SearchExamples
-pub mod CertificateExamples
 pub mod PlanExamples
+pub mod SearchExamples
+pub mod SearchLaws
+pub mod RecordsExamples
+pub mod RecordsLaws
+pub mod DistributionExamples
+pub mod NearExamples
+pub mod MemberLaws
+pub mod DistributionLaws

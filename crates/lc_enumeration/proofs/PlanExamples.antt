@@ -5,25 +5,34 @@
 --   cut_total, cut_phases, cut_last      a plan that the cut ends in the middle of a phase
 --   words_at                   the words at places of the Hamming code: the last of block 0, none, the first of block 1, none
 --   states, at_budget          a state that goes on, one at a phase end, one past the plan's end; and one at its budget
+<<<<<<< HEAD
 --   sliced, stops              records of two needs under a slice; whether a slice of 0, 1 and 2 blocks stops a search of 2
+=======
 --   scanned, scanned_seven     certificates by a scan: accepted, and a lighter word
 --   costs, cost_reasons        what certificates cost, and when a cost is refused, with what is told of it
+>>>>>>> fca8d07d7347f2822cf21f01f32ecf349763b667
 --   found_weights, fitting, fitting_settled      what stands at a place; which records fit their need
 --   on_the_board               what a worker reports of a word
 use Rattle.std.proofs.Common.{◌≡◌, refl}
-use Rattle.std.specs.Prelude.{ℕ, List, [], ◌∷◌, map, length, ◌^◌, Some, None, true, false}
+use Rattle.std.specs.Prelude.{ℕ, [], ◌∷◌, map, length, ◌^◌, Some, None, true, false}
 use Rattle.lc_algebra.specs.Residue.{digits, number, plus, minus, times, top, up, times_x, product}
 use Rattle.lc_algebra.specs.Field.{shape, shape_of, size, coefficients, add, mul}
 use Rattle.lc_algebra.specs.Word.{word_sum, scale}
 use Rattle.lc_algebra.specs.Span.{below, combine, words}
+use Rattle.lc_algebra.specs.Divisor.{rounded}
 use Rattle.lc_enumeration.specs.Message.{supports, supports_from, numbers_from, nonzero_lists, leading_lists, messages, vector_from, vector_of, choose, message_count}
+<<<<<<< HEAD
 use Rattle.lc_enumeration.specs.Plan.{cut, phase_level, phase_set, level_blocks, blocks_before, total, phase_at, phase_ends, block_length, block_messages, place_of, plan_phases, phase_of}
-use Rattle.lc_enumeration.specs.InformationSet.{same_word, in_span, greedy, dimension, is_member, first_basis, columns_in_order, with_fresh, next_set, sets_after, information_sets, unit_word, systematic, echelon_rows}
-use Rattle.lc_enumeration.specs.Search.{exact, bracket, Found, sets_of, set_count, ranks_of, generator_at, word_of, word_at, beats, found_along, found_in_block, blocks_within, found_from, least_of, found_first, found_below, best, last_that, is_whole_below, level_below, levels_below, bound_sum, bound_of, bound, is_done, ends_of, answer_at, answer, may_end, finished, board_value, weight_at, fits, fits_settled}
+use Rattle.lc_enumeration.specs.InformationSet.{same_word, in_span, greedy, is_member, first_basis, columns_in_order, with_fresh, next_set, sets_after, information_sets, unit_word, systematic}
+use Rattle.lc_enumeration.specs.Search.{exact, bracket, Found, sets_of, set_count, ranks_of, generator_at, word_of, word_at, beats, found_along, found_in_block, block_words, found_from, least_of, found_first, found_below, best, last_that, is_whole_below, level_below, levels_below, bound_sum, bound_of, bound, is_done, ends_of, answer_at, answer, may_end, finished, board_value, weight_at, fits, fits_settled}
 use Rattle.lc_enumeration.specs.Records.{end_of_phase, within_slice, round_length, after_round, is_used_up, note_first, note_of, no_round, less_slice, rounds_within, rounds, notes_then, records, records_from}
+=======
+use Rattle.lc_enumeration.specs.Plan.{cut, phase_level, phase_set, level_blocks, blocks_before, total, phase_at, phase_ends, block_length, block_messages, plan_phases, phase_of}
+use Rattle.lc_enumeration.specs.InformationSet.{same_word, in_span, greedy, dimension, is_member, first_basis, columns_in_order, with_fresh, next_set, sets_after, information_sets, unit_word, systematic, echelon_rows}
+use Rattle.lc_enumeration.specs.Search.{exact, bracket, Found, sets_of, set_count, ranks_of, generator_at, word_of, word_at, block_words, last_that, is_whole_below, level_below, levels_below, bound_sum, bound_of, bound, ends_of, may_end, finished, board_value, weight_at, fits, fits_settled}
 use Rattle.lc_enumeration.specs.Certificate.{Certificate, scan, accepted, rejected, seen_lighter, too_costly, code_length, code_dimension, level_in, messages_through, cost_of, cost, words_through, seen_by, seen_words, is_lighter, first_lighter, or_else, when, carrying, set_reasons, cost_reason, verdict}
+>>>>>>> fca8d07d7347f2822cf21f01f32ecf349763b667
 use Rattle.lc_enumeration.proofs.SearchExamples.{hamming, first_found}
-use Rattle.lc_enumeration.proofs.CertificateExamples.{hamming_with, row, ones, two}
 
 pub counts : map (message_count 5 16) (1 ∷ 2 ∷ 3 ∷ 4 ∷ 5 ∷ []) ≡ 5 ∷ 150 ∷ 2250 ∷ 16875 ∷ 50625 ∷ []
 unfolding choose message_count
@@ -53,26 +62,27 @@ pub cut_last : phase_at 14 16 1 13 ≡ record { level = 14; set = 0; start = 697
 unfolding choose message_count cut phase_level phase_set level_blocks blocks_before phase_at
 cut_last = refl
 
-pub words_at : map (word_at hamming) (3 ∷ 4 ∷ 4096 ∷ 32768 ∷ []) ≡ Some (0 ∷ 0 ∷ 0 ∷ 1 ∷ 1 ∷ 1 ∷ 1 ∷ []) ∷ None ∷ Some (1 ∷ 1 ∷ 1 ∷ 0 ∷ 0 ∷ 0 ∷ 0 ∷ []) ∷ None ∷ []
-unfolding digits number plus minus times top up times_x product shape shape_of size coefficients add mul word_sum scale below combine words supports supports_from numbers_from nonzero_lists leading_lists messages vector_from vector_of choose message_count cut phase_level phase_set level_blocks blocks_before phase_at block_messages phase_of same_word in_span greedy is_member first_basis columns_in_order with_fresh next_set sets_after information_sets unit_word systematic sets_of set_count generator_at word_of word_at
+pub words_at : map (word_at hamming 2) (3 ∷ 4 ∷ 4096 ∷ 32768 ∷ []) ≡ Some (0 ∷ 0 ∷ 0 ∷ 1 ∷ 1 ∷ 1 ∷ 1 ∷ []) ∷ None ∷ Some (1 ∷ 1 ∷ 1 ∷ 0 ∷ 0 ∷ 0 ∷ 0 ∷ []) ∷ None ∷ []
+unfolding digits number plus minus times top up times_x product shape shape_of size coefficients add mul word_sum scale below combine words supports supports_from numbers_from nonzero_lists leading_lists messages vector_from vector_of choose message_count cut phase_level phase_set level_blocks blocks_before phase_at block_messages phase_of same_word in_span greedy is_member first_basis columns_in_order with_fresh next_set sets_after information_sets unit_word systematic sets_of set_count generator_at word_of word_at block_words
 words_at = refl
 
-pub states : map (λ l. finished hamming (2 ^ 20) l first_found) (1 ∷ 2 ∷ 9 ∷ []) ≡ None ∷ Some (exact first_found 2) ∷ Some (exact first_found 9) ∷ []
-unfolding digits number plus minus times top up times_x product shape shape_of size coefficients add mul word_sum scale below words choose message_count cut phase_level level_blocks blocks_before total phase_ends same_word in_span greedy is_member first_basis columns_in_order with_fresh next_set sets_after information_sets sets_of set_count ranks_of last_that is_whole_below level_below levels_below bound_sum bound_of bound ends_of may_end finished
+pub states : map (λ l. finished 1 hamming (2 ^ 20) l first_found) (1 ∷ 2 ∷ 9 ∷ []) ≡ None ∷ Some (exact first_found 2) ∷ Some (exact first_found 9) ∷ []
+unfolding digits number plus minus times top up times_x product shape shape_of size coefficients add mul word_sum scale below words choose message_count cut phase_level level_blocks blocks_before total phase_ends same_word in_span greedy is_member first_basis columns_in_order with_fresh next_set sets_after information_sets sets_of set_count ranks_of last_that is_whole_below level_below levels_below bound_sum bound_of rounded bound ends_of may_end finished
 states = refl
 
-pub at_budget : finished hamming 1 1 first_found ≡ Some (bracket 2 first_found 1)
-unfolding digits number plus minus times top up times_x product shape shape_of size coefficients add mul word_sum scale below words choose message_count cut phase_level level_blocks blocks_before total phase_ends same_word in_span greedy is_member first_basis columns_in_order with_fresh next_set sets_after information_sets sets_of set_count ranks_of last_that is_whole_below level_below levels_below bound_sum bound_of bound ends_of may_end finished
+pub at_budget : finished 1 hamming 1 1 first_found ≡ Some (bracket 2 first_found 1)
+unfolding digits number plus minus times top up times_x product shape shape_of size coefficients add mul word_sum scale below words choose message_count cut phase_level level_blocks blocks_before total phase_ends same_word in_span greedy is_member first_basis columns_in_order with_fresh next_set sets_after information_sets sets_of set_count ranks_of last_that is_whole_below level_below levels_below bound_sum bound_of rounded bound ends_of may_end finished
 at_budget = refl
 
-pub sliced : records (hamming ∷ hamming ∷ []) 0 (2 ^ 20) (Some 3) 0 first_found ≡ record { need = 0; blocks = 1; bound = 2; best = 3 } ∷ record { need = 0; blocks = 2; bound = 3; best = 3 } ∷ record { need = 1; blocks = 1; bound = 2; best = 3 } ∷ []
-unfolding digits number plus minus times top up times_x product shape shape_of size coefficients add mul word_sum scale below combine words supports supports_from numbers_from nonzero_lists leading_lists messages vector_from vector_of choose message_count cut phase_level phase_set level_blocks blocks_before total phase_at phase_ends block_messages place_of plan_phases same_word in_span greedy is_member first_basis columns_in_order with_fresh next_set sets_after information_sets unit_word systematic sets_of set_count ranks_of generator_at word_of beats found_along found_in_block blocks_within found_from least_of found_first found_below best last_that is_whole_below level_below levels_below bound_sum bound_of bound is_done ends_of answer_at answer may_end finished end_of_phase within_slice round_length after_round is_used_up note_first note_of no_round less_slice rounds_within rounds notes_then records records_from
+<<<<<<< HEAD
+pub sliced : records (λ C. 1) (hamming ∷ hamming ∷ []) 0 (2 ^ 20) (Some 3) 0 first_found ≡ record { need = 0; blocks = 1; bound = 2; best = 3 } ∷ record { need = 0; blocks = 2; bound = 3; best = 3 } ∷ record { need = 1; blocks = 1; bound = 2; best = 3 } ∷ []
+unfolding digits number plus minus times top up times_x product shape shape_of size coefficients add mul word_sum scale below combine words supports supports_from numbers_from nonzero_lists leading_lists messages vector_from vector_of choose message_count cut phase_level phase_set level_blocks blocks_before total phase_at phase_ends block_messages place_of plan_phases same_word in_span greedy is_member first_basis columns_in_order with_fresh next_set sets_after information_sets unit_word systematic sets_of set_count ranks_of generator_at word_of beats found_along found_in_block block_words found_from least_of found_first found_below best last_that is_whole_below level_below levels_below bound_sum bound_of rounded bound is_done ends_of answer_at answer may_end finished end_of_phase within_slice round_length after_round is_used_up note_first note_of no_round less_slice rounds_within rounds notes_then records records_from phase_of
 sliced = refl
 
-pub stops : map (λ left. (rounds hamming (2 ^ 20) 0 (Some left) 0 first_found).is_stopped) (0 ∷ 1 ∷ 2 ∷ []) ≡ true ∷ true ∷ false ∷ []
-unfolding digits number plus minus times top up times_x product shape shape_of size coefficients add mul word_sum scale below combine words supports supports_from numbers_from nonzero_lists leading_lists messages vector_from vector_of choose message_count cut phase_level phase_set level_blocks blocks_before total phase_at phase_ends block_messages place_of plan_phases same_word in_span greedy is_member first_basis columns_in_order with_fresh next_set sets_after information_sets unit_word systematic sets_of set_count ranks_of generator_at word_of beats found_along found_in_block blocks_within found_from least_of found_first found_below best last_that is_whole_below level_below levels_below bound_sum bound_of bound is_done ends_of answer_at answer may_end finished end_of_phase within_slice round_length after_round is_used_up note_first note_of no_round less_slice rounds_within rounds
+pub stops : map (λ left. (rounds 1 hamming (2 ^ 20) 0 (Some left) 0 first_found).is_stopped) (0 ∷ 1 ∷ 2 ∷ []) ≡ true ∷ true ∷ false ∷ []
+unfolding digits number plus minus times top up times_x product shape shape_of size coefficients add mul word_sum scale below combine words supports supports_from numbers_from nonzero_lists leading_lists messages vector_from vector_of choose message_count cut phase_level phase_set level_blocks blocks_before total phase_at phase_ends block_messages place_of plan_phases same_word in_span greedy is_member first_basis columns_in_order with_fresh next_set sets_after information_sets unit_word systematic sets_of set_count ranks_of generator_at word_of beats found_along found_in_block block_words found_from least_of found_first found_below best last_that is_whole_below level_below levels_below bound_sum bound_of rounded bound is_done ends_of answer_at answer may_end finished end_of_phase within_slice round_length after_round is_used_up note_first note_of no_round less_slice rounds_within rounds phase_of
 stops = refl
-
+=======
 abbrev pub by_scan : List ℕ → ℕ → Certificate
 by_scan word distance = record (hamming_with word distance []) { proof = scan }
 
@@ -91,22 +101,23 @@ costs = refl
 pub cost_reasons : map cost_reason (4294967296 ∷ 4294967297 ∷ 8589934592 ∷ 18446744073709551616 ∷ []) ≡ None ∷ Some (too_costly 4294967297) ∷ Some (too_costly 8589934592) ∷ Some (too_costly 18446744073709551615) ∷ []
 unfolding when cost_reason
 cost_reasons = refl
+>>>>>>> fca8d07d7347f2822cf21f01f32ecf349763b667
 
 abbrev pub pair : ℕ → ℕ → Found
 pair weight place = record { weight = weight; place = place }
 
 pub found_weights : map (weight_at hamming) (0 ∷ 3 ∷ 4 ∷ []) ≡ 3 ∷ 4 ∷ 0 ∷ []
-unfolding digits number plus minus times top up times_x product shape shape_of size coefficients add mul word_sum scale below combine words supports supports_from numbers_from nonzero_lists leading_lists messages vector_from vector_of choose message_count cut phase_level phase_set level_blocks blocks_before total phase_at phase_ends block_messages phase_of same_word in_span greedy is_member first_basis columns_in_order with_fresh next_set sets_after information_sets unit_word systematic sets_of set_count ranks_of generator_at word_of word_at last_that is_whole_below level_below levels_below bound_sum bound_of bound ends_of may_end finished weight_at fits fits_settled
+unfolding digits number plus minus times top up times_x product shape shape_of size coefficients add mul word_sum scale below combine words supports supports_from numbers_from nonzero_lists leading_lists messages vector_from vector_of choose message_count cut phase_level phase_set level_blocks blocks_before total phase_at phase_ends block_messages phase_of same_word in_span greedy is_member first_basis columns_in_order with_fresh next_set sets_after information_sets unit_word systematic sets_of set_count ranks_of generator_at word_of word_at last_that is_whole_below level_below levels_below bound_sum bound_of rounded bound ends_of may_end finished weight_at fits fits_settled block_words
 found_weights = refl
 
 -- a wrong weight; a true one; the same behind the blocks; no word there; place 0, which needs no block
 pub fitting : fits hamming 2 (pair 2 0) ∷ fits hamming 2 (pair 4 3) ∷ fits hamming 0 (pair 4 3) ∷ fits hamming 2 (pair 3 4) ∷ fits hamming 0 (pair 3 0) ∷ [] ≡ false ∷ true ∷ false ∷ false ∷ true ∷ []
-unfolding digits number plus minus times top up times_x product shape shape_of size coefficients add mul word_sum scale below combine words supports supports_from numbers_from nonzero_lists leading_lists messages vector_from vector_of choose message_count cut phase_level phase_set level_blocks blocks_before total phase_at phase_ends block_messages phase_of same_word in_span greedy is_member first_basis columns_in_order with_fresh next_set sets_after information_sets unit_word systematic sets_of set_count ranks_of generator_at word_of word_at last_that is_whole_below level_below levels_below bound_sum bound_of bound ends_of may_end finished weight_at fits fits_settled
+unfolding digits number plus minus times top up times_x product shape shape_of size coefficients add mul word_sum scale below combine words supports supports_from numbers_from nonzero_lists leading_lists messages vector_from vector_of choose message_count cut phase_level phase_set level_blocks blocks_before total phase_at phase_ends block_messages phase_of same_word in_span greedy is_member first_basis columns_in_order with_fresh next_set sets_after information_sets unit_word systematic sets_of set_count ranks_of generator_at word_of word_at last_that is_whole_below level_below levels_below bound_sum bound_of rounded bound ends_of may_end finished weight_at fits fits_settled block_words
 fitting = refl
 
 -- an answered state, one at the budget, and one that goes on
-pub fitting_settled : fits_settled hamming (2 ^ 20) 2 first_found ∷ fits_settled hamming 1 1 first_found ∷ fits_settled hamming (2 ^ 20) 1 first_found ∷ [] ≡ true ∷ true ∷ false ∷ []
-unfolding digits number plus minus times top up times_x product shape shape_of size coefficients add mul word_sum scale below combine words supports supports_from numbers_from nonzero_lists leading_lists messages vector_from vector_of choose message_count cut phase_level phase_set level_blocks blocks_before total phase_at phase_ends block_messages phase_of same_word in_span greedy is_member first_basis columns_in_order with_fresh next_set sets_after information_sets unit_word systematic sets_of set_count ranks_of generator_at word_of word_at last_that is_whole_below level_below levels_below bound_sum bound_of bound ends_of may_end finished weight_at fits fits_settled
+pub fitting_settled : fits_settled 1 hamming (2 ^ 20) 2 first_found ∷ fits_settled 1 hamming 1 1 first_found ∷ fits_settled 1 hamming (2 ^ 20) 1 first_found ∷ [] ≡ true ∷ true ∷ false ∷ []
+unfolding digits number plus minus times top up times_x product shape shape_of size coefficients add mul word_sum scale below combine words supports supports_from numbers_from nonzero_lists leading_lists messages vector_from vector_of choose message_count cut phase_level phase_set level_blocks blocks_before total phase_at phase_ends block_messages phase_of same_word in_span greedy is_member first_basis columns_in_order with_fresh next_set sets_after information_sets unit_word systematic sets_of set_count ranks_of generator_at word_of word_at last_that is_whole_below level_below levels_below bound_sum bound_of rounded bound ends_of may_end finished weight_at fits fits_settled block_words
 fitting_settled = refl
 
 pub on_the_board : board_value (pair 3 8194) ≡ 13510798882119682

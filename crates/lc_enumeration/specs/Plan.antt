@@ -8,16 +8,13 @@
 --   PlanPhase                           level, set, first block, and the block after the last one
 --   phase_at k q m p                    phase p, cut at 2^40
 --   IsInPhase k q m p b                 block b belongs to phase p
---   IsPhaseEnd k q m end                a phase ends there, wholly below the cut
---   phase_ends k q m                    the list of these ends, rising
+--   phase_ends k q m                    the blocks at which a phase ends that lies wholly below the cut, rising
 --   block_length k q m p b              how many messages block b of phase p has: 4,096, or what is left of the level
 --   block_messages k q m p b            the messages of block b of phase p
 --   place_of b offset                   the place of a word: its block times 4,096 plus its offset in the block
 --   plan_phases k q m                   the phases up to the first that the cut reaches, as the plan keeps them
---   MessageAt k q m place p message     the message that stands at the place, in phase p
 --   phase_of k q m b                    the phase that block b belongs to; None past the plan's end
-use Rattle.std.specs.Prelude.{◌≡◌, ℕ, zero, suc, ◌+◌, ◌-◌, ◌*◌, ◌/◌, ◌%◌, ◌^◌, ◌<◌, ◌≤◌, min, nat_le, nat_lt, ◌&&◌, List, take, drop, filter, find, map, slice_get, Option}
-use Rattle.std.specs.declared.option.Option.TheVariants.{Some}
+use Rattle.std.specs.Prelude.{ℕ, zero, suc, ◌+◌, ◌-◌, ◌*◌, ◌/◌, ◌%◌, ◌^◌, ◌<◌, ◌≤◌, min, nat_le, nat_lt, ◌&&◌, List, take, drop, filter, find, map, Option}
 use Rattle.lc_algebra.specs.Span.{below}
 use Rattle.lc_enumeration.specs.Message.{Message, messages, message_count}
 
@@ -59,10 +56,6 @@ pub record IsInPhase (k q m p b : ℕ) : Type 0 where
   pub after : (phase_at k q m p).start ≤ b
   pub before : b < (phase_at k q m p).end
 
-pub record IsPhaseEnd (k q m end : ℕ) : Type 0 where
-  pub phase : (p : ℕ) × (p < k * m) × (blocks_before k q m (suc p) ≡ end)
-  pub below_cut : end < cut
-
 unfoldable pub phase_ends : ℕ → ℕ → ℕ → List ℕ
 phase_ends k q m = filter (λ end. nat_lt end cut) (map (λ p. blocks_before k q m (suc p)) (below (k * m)))
 
@@ -77,10 +70,6 @@ place_of b offset = b * 4096 + offset
 
 unfoldable pub plan_phases : ℕ → ℕ → ℕ → List PlanPhase
 plan_phases k q m = map (phase_at k q m) (filter (λ p. nat_lt (blocks_before k q m p) cut) (below (k * m)))
-
-pub record MessageAt (k q m place p : ℕ) (message : Message) : Type 0 where
-  pub block : IsInPhase k q m p (place / 4096)
-  pub stands : slice_get (block_messages k q m p (place / 4096)) (place % 4096) ≡ Some message
 
 unfoldable pub phase_of : ℕ → ℕ → ℕ → ℕ → Option ℕ
 phase_of k q m b = find (λ p. nat_le (phase_at k q m p).start b && nat_lt b (phase_at k q m p).end) (below (k * m))

@@ -14,7 +14,8 @@ use Rattle.std.proofs.Math.Seq.{get_or-append_seam}
 use Rattle.std.proofs.lemmas.Bool.{cases_Bool}
 use Rattle.std.proofs.lemmas.Map.Text.{btree_map_updates_text}
 use Rattle.lc_language.specs.Value as language
-use Rattle.lc_language.specs.Value.{same_bytes, value_named}
+use Rattle.lc_formats.specs.Text.{same_bytes}
+use Rattle.lc_language.specs.Value.{value_named}
 use Rattle.lc_eval.specs.declared.values.Binding.{Binding}
 use Rattle.lc_eval.specs.Value.{value_of, binding_of, env_of}
 use Rattle.lc_eval.specs.Places.{place_named, ArePlaces}

@@ -13,24 +13,22 @@ use Rattle.lc_algebra.specs.Matrix.{Matrix}
 use Rattle.lc_constructions.specs.Code.{IsCode, CheckedBy}
 use Rattle.lc_constructions.specs.Basic.{GeneratedBy, IsConstant, IsAny, IsZero, hamming_checks, hamming_length, reed_muller_rows}
 use Rattle.lc_constructions.specs.Combined.{InDual}
+use Rattle.lc_constructions.specs.declared.refusal.CodeRefusal.{CodeRefusal}
+use Rattle.lc_constructions.specs.Refusal.{first_refusal, IsRefusedAs}
+use Rattle.lc_constructions.specs.Refusals.{columns_of, length_refusals, matrix_refusals, hamming_refusals, reed_muller_refusals}
 use Rattle.lc_constructions.specs.Cyclic.{all_fields}
-use Rattle.lc_code.specs.declared.refusal.CodeRefusal.{CodeRefusal}
-use Rattle.lc_code.specs.declared.refusal.CodeRefusal.TheVariants.{BadLength, BadArgument, FieldTooLarge}
-use Rattle.lc_code.specs.Refusal.{refusal_number, refusal_values}
-use Rattle.lc_basic.specs.Refusal as basic
-use Rattle.lc_basic.specs.Refusal.{length_refusal, matrix_refusal, hamming_refusal, reed_muller_refusal, IsRefusedAs}
 use Rattle.lc_language.specs.declared.Call.TheVariants as call
 use Rattle.lc_language.specs.Value as language
 use Rattle.lc_language.specs.Value.{number, field, lists, code}
-use Rattle.lc_language.specs.Refusal.{refuse, when, first_of, is_length, too_large, bad_length, bad_argument, columns_of, refusals_of, refusal_of}
+use Rattle.lc_language.specs.Refusal.{refuse, when, first_of, from_codes, refusals_of, refusal_of}
 use Rattle.lc_language.specs.Evaluation.{gives, refused, refuse_call, AppliesTo}
 use Rattle.lc_eval.specs.declared.values.Value.{Value}
 use Rattle.lc_eval.specs.declared.refusals.Stop.{Stop}
 use Rattle.lc_eval.specs.Applied.{Answers}
-use Rattle.lc_eval.specs.Made.{refusal_from, IsMade}
+use Rattle.lc_eval.specs.Made.{IsMade}
 use Rattle.lc_eval.specs.Rows.{clamped, clamped_rows}
-use Rattle.lc_eval.proofs.AnswerLaws.{Agrees, applied, no_refusal, where_so, unless_so}
-use Rattle.lc_eval.proofs.RowLaws.{clamped_each, columns_same, matrix_agrees, fine_same}
+use Rattle.lc_eval.proofs.AnswerLaws.{applied}
+use Rattle.lc_eval.proofs.RowLaws.{clamped_each, columns_same, clamped_refusals, fine_same}
 
 -- ---- fields
 
@@ -80,49 +78,49 @@ gf_refused place q vs e h = rw e (rw (gf_none q h) refl)
 
 -- ---- codes by a matrix
 
-generator_refused : (f : FieldName) (rows : List (List ℕ)) → Agrees (refusal_of call.GeneratorMatCode (lists rows ∷ field f ∷ [])) (matrix_refusal f (clamped_rows rows))
+generator_refused : (f : FieldName) (rows : List (List ℕ)) → refusal_of call.GeneratorMatCode (lists rows ∷ field f ∷ []) ≡ first_of (from_codes (matrix_refusals f rows))
 unfolding refusal_of refusals_of
-generator_refused f rows = matrix_agrees f rows
+generator_refused f rows = refl
 
 pub generator_applies : (place : ℕ) (rows : List (Vec ℕ Global)) (f : FieldName) (vs : List language.Value) (words : List (List ℕ)) (made : Result Matrix CodeRefusal) (result : Result Value Stop)
     → vs ≡ lists (map (λ row. row.items) rows) ∷ field f ∷ []
     → words ≡ map (λ row. clamped row.items) rows
-    → IfOk made (λ C. IsCode f (basic.columns_of words) (GeneratedBy f (basic.columns_of words) words) C)
-    → IsRefusedAs made (matrix_refusal f words) → IsMade made place result → Answers result (AppliesTo call.GeneratorMatCode place vs)
+    → IfOk made (λ C. IsCode f (columns_of words) (GeneratedBy f (columns_of words) words) C)
+    → IsRefusedAs made (first_refusal (matrix_refusals f words)) → IsMade made place result → Answers result (AppliesTo call.GeneratorMatCode place vs)
 generator_applies place rows f vs words made result e w g h s =
     let given : List (List ℕ) = map (λ row. row.items) rows in
     let c : words ≡ clamped_rows given = w ∙ clamped_each rows in
-    let k : IsRefusedAs made (matrix_refusal f (clamped_rows given)) = subst (λ u. IsRefusedAs made (matrix_refusal f u)) c h in
+    let k : IsRefusedAs made (first_refusal (matrix_refusals f given)) = subst (λ r. IsRefusedAs made r) (clamped_refusals f given) (subst (λ u. IsRefusedAs made (first_refusal (matrix_refusals f u))) c h) in
     rw e
-    (applied call.GeneratorMatCode place (lists given ∷ field f ∷ []) (matrix_refusal f (clamped_rows given)) made result (generator_refused f given) (λ n. n)
+    (applied call.GeneratorMatCode place (lists given ∷ field f ∷ []) (matrix_refusals f given) made result (generator_refused f given) (λ n. n)
     (λ C m o.
-    let same : words ≡ given = c ∙ fine_same f given o in
-    let long : basic.columns_of words ≡ columns_of given = ap basic.columns_of c ∙ columns_same given in
-    let x : IsCode f (basic.columns_of words) (GeneratedBy f (basic.columns_of words) words) C = rw m at g in
+    let same : words ≡ given = c ∙ fine_same f given (clamped_refusals f given ∙ o) in
+    let long : columns_of words ≡ columns_of given = ap columns_of c ∙ columns_same given in
+    let x : IsCode f (columns_of words) (GeneratedBy f (columns_of words) words) C = rw m at g in
     let y : IsCode f (columns_of given) (GeneratedBy f (columns_of given) words) C = subst (λ n. IsCode f n (GeneratedBy f n words) C) long x in
     let z : IsCode f (columns_of given) (GeneratedBy f (columns_of given) given) C = subst (λ u. IsCode f (columns_of given) (GeneratedBy f (columns_of given) u) C) same y in
     record { code_is = (C, z, refl) })
     k s)
 
-check_refused : (f : FieldName) (rows : List (List ℕ)) → Agrees (refusal_of call.CheckMatCode (lists rows ∷ field f ∷ [])) (matrix_refusal f (clamped_rows rows))
+check_refused : (f : FieldName) (rows : List (List ℕ)) → refusal_of call.CheckMatCode (lists rows ∷ field f ∷ []) ≡ first_of (from_codes (matrix_refusals f rows))
 unfolding refusal_of refusals_of
-check_refused f rows = matrix_agrees f rows
+check_refused f rows = refl
 
 pub check_applies : (place : ℕ) (rows : List (Vec ℕ Global)) (f : FieldName) (vs : List language.Value) (words : List (List ℕ)) (made : Result Matrix CodeRefusal) (result : Result Value Stop)
     → vs ≡ lists (map (λ row. row.items) rows) ∷ field f ∷ []
     → words ≡ map (λ row. clamped row.items) rows
-    → IfOk made (λ C. IsCode f (basic.columns_of words) (CheckedBy f words) C)
-    → IsRefusedAs made (matrix_refusal f words) → IsMade made place result → Answers result (AppliesTo call.CheckMatCode place vs)
+    → IfOk made (λ C. IsCode f (columns_of words) (CheckedBy f words) C)
+    → IsRefusedAs made (first_refusal (matrix_refusals f words)) → IsMade made place result → Answers result (AppliesTo call.CheckMatCode place vs)
 check_applies place rows f vs words made result e w g h s =
     let given : List (List ℕ) = map (λ row. row.items) rows in
     let c : words ≡ clamped_rows given = w ∙ clamped_each rows in
-    let k : IsRefusedAs made (matrix_refusal f (clamped_rows given)) = subst (λ u. IsRefusedAs made (matrix_refusal f u)) c h in
+    let k : IsRefusedAs made (first_refusal (matrix_refusals f given)) = subst (λ r. IsRefusedAs made r) (clamped_refusals f given) (subst (λ u. IsRefusedAs made (first_refusal (matrix_refusals f u))) c h) in
     rw e
-    (applied call.CheckMatCode place (lists given ∷ field f ∷ []) (matrix_refusal f (clamped_rows given)) made result (check_refused f given) (λ n. n)
+    (applied call.CheckMatCode place (lists given ∷ field f ∷ []) (matrix_refusals f given) made result (check_refused f given) (λ n. n)
     (λ C m o.
-    let same : words ≡ given = c ∙ fine_same f given o in
-    let long : basic.columns_of words ≡ columns_of given = ap basic.columns_of c ∙ columns_same given in
-    let x : IsCode f (basic.columns_of words) (CheckedBy f words) C = rw m at g in
+    let same : words ≡ given = c ∙ fine_same f given (clamped_refusals f given ∙ o) in
+    let long : columns_of words ≡ columns_of given = ap columns_of c ∙ columns_same given in
+    let x : IsCode f (columns_of words) (CheckedBy f words) C = rw m at g in
     let y : IsCode f (columns_of given) (CheckedBy f words) C = subst (λ n. IsCode f n (CheckedBy f words) C) long x in
     let z : IsCode f (columns_of given) (CheckedBy f given) C = subst (λ u. IsCode f (columns_of given) (CheckedBy f u) C) same y in
     record { code_is = (C, z, refl) })
@@ -130,70 +128,59 @@ check_applies place rows f vs words made result e w g h s =
 
 -- ---- codes by a length
 
-repetition_refused : (n : ℕ) (f : FieldName) → Agrees (refusal_of call.RepetitionCode (number n ∷ field f ∷ [])) (length_refusal f n)
-unfolding refusal_of refusals_of too_large bad_length refuse is_length basic.is_length length_refusal refusal_from refusal_number refusal_values
-repetition_refused n f =
-    unless_so (is_symbol f) FieldTooLarge _ _ (λ k. cc) (λ s.
-    unless_so (is_length n) BadLength _ _ (λ k. cc) (λ l. no_refusal))
+repetition_refused : (n : ℕ) (f : FieldName) → refusal_of call.RepetitionCode (number n ∷ field f ∷ []) ≡ first_of (from_codes (length_refusals f n))
+unfolding refusal_of refusals_of
+repetition_refused n f = refl
 
 pub repetition_applies : (place n : ℕ) (f : FieldName) (vs : List language.Value) (made : Result Matrix CodeRefusal) (result : Result Value Stop)
     → vs ≡ number n ∷ field f ∷ [] → IfOk made (λ C. IsCode f n IsConstant C)
-    → IsRefusedAs made (length_refusal f n) → IsMade made place result → Answers result (AppliesTo call.RepetitionCode place vs)
+    → IsRefusedAs made (first_refusal (length_refusals f n)) → IsMade made place result → Answers result (AppliesTo call.RepetitionCode place vs)
 repetition_applies place n f vs made result e g h s =
-    rw e (applied call.RepetitionCode place (number n ∷ field f ∷ []) (length_refusal f n) made result (repetition_refused n f) (λ n. n) (λ C m o. let k = rw m at g in record { code_is = (C, k, refl) }) h s)
+    rw e (applied call.RepetitionCode place (number n ∷ field f ∷ []) (length_refusals f n) made result (repetition_refused n f) (λ n. n) (λ C m o. let k = rw m at g in record { code_is = (C, k, refl) }) h s)
 
-space_refused : (n : ℕ) (f : FieldName) → Agrees (refusal_of call.WholeSpaceCode (number n ∷ field f ∷ [])) (length_refusal f n)
-unfolding refusal_of refusals_of too_large bad_length refuse is_length basic.is_length length_refusal refusal_from refusal_number refusal_values
-space_refused n f =
-    unless_so (is_symbol f) FieldTooLarge _ _ (λ k. cc) (λ s.
-    unless_so (is_length n) BadLength _ _ (λ k. cc) (λ l. no_refusal))
+space_refused : (n : ℕ) (f : FieldName) → refusal_of call.WholeSpaceCode (number n ∷ field f ∷ []) ≡ first_of (from_codes (length_refusals f n))
+unfolding refusal_of refusals_of
+space_refused n f = refl
 
 pub space_applies : (place n : ℕ) (f : FieldName) (vs : List language.Value) (made : Result Matrix CodeRefusal) (result : Result Value Stop)
     → vs ≡ number n ∷ field f ∷ [] → IfOk made (λ C. IsCode f n IsAny C)
-    → IsRefusedAs made (length_refusal f n) → IsMade made place result → Answers result (AppliesTo call.WholeSpaceCode place vs)
+    → IsRefusedAs made (first_refusal (length_refusals f n)) → IsMade made place result → Answers result (AppliesTo call.WholeSpaceCode place vs)
 space_applies place n f vs made result e g h s =
-    rw e (applied call.WholeSpaceCode place (number n ∷ field f ∷ []) (length_refusal f n) made result (space_refused n f) (λ n. n) (λ C m o. let k = rw m at g in record { code_is = (C, k, refl) }) h s)
+    rw e (applied call.WholeSpaceCode place (number n ∷ field f ∷ []) (length_refusals f n) made result (space_refused n f) (λ n. n) (λ C m o. let k = rw m at g in record { code_is = (C, k, refl) }) h s)
 
-null_refused : (n : ℕ) (f : FieldName) → Agrees (refusal_of call.NullCode (number n ∷ field f ∷ [])) (length_refusal f n)
-unfolding refusal_of refusals_of too_large bad_length refuse is_length basic.is_length length_refusal refusal_from refusal_number refusal_values
-null_refused n f =
-    unless_so (is_symbol f) FieldTooLarge _ _ (λ k. cc) (λ s.
-    unless_so (is_length n) BadLength _ _ (λ k. cc) (λ l. no_refusal))
+null_refused : (n : ℕ) (f : FieldName) → refusal_of call.NullCode (number n ∷ field f ∷ []) ≡ first_of (from_codes (length_refusals f n))
+unfolding refusal_of refusals_of
+null_refused n f = refl
 
 pub null_applies : (place n : ℕ) (f : FieldName) (vs : List language.Value) (made : Result Matrix CodeRefusal) (result : Result Value Stop)
     → vs ≡ number n ∷ field f ∷ [] → IfOk made (λ C. IsCode f n IsZero C)
-    → IsRefusedAs made (length_refusal f n) → IsMade made place result → Answers result (AppliesTo call.NullCode place vs)
+    → IsRefusedAs made (first_refusal (length_refusals f n)) → IsMade made place result → Answers result (AppliesTo call.NullCode place vs)
 null_applies place n f vs made result e g h s =
-    rw e (applied call.NullCode place (number n ∷ field f ∷ []) (length_refusal f n) made result (null_refused n f) (λ n. n) (λ C m o. let k = rw m at g in record { code_is = (C, k, refl) }) h s)
+    rw e (applied call.NullCode place (number n ∷ field f ∷ []) (length_refusals f n) made result (null_refused n f) (λ n. n) (λ C m o. let k = rw m at g in record { code_is = (C, k, refl) }) h s)
 
 -- ---- Hamming and Reed-Muller codes
 
-hamming_refused : (r : ℕ) (f : FieldName) → Agrees (refusal_of call.HammingCode (number r ∷ field f ∷ [])) (hamming_refusal f r)
-unfolding refusal_of refusals_of too_large bad_argument bad_length refuse is_length basic.is_length hamming_refusal refusal_from refusal_number refusal_values
-hamming_refused r f =
-    unless_so (is_symbol f) FieldTooLarge _ _ (λ k. cc) (λ s.
-    where_so (nat_lt r 2) (BadArgument 1) _ _ (λ k. cc)
-    (unless_so (is_length (hamming_length (size f) r)) BadLength _ _ (λ k. cc) (λ l. no_refusal)))
+hamming_refused : (r : ℕ) (f : FieldName) → refusal_of call.HammingCode (number r ∷ field f ∷ []) ≡ first_of (from_codes (hamming_refusals f r))
+unfolding refusal_of refusals_of
+hamming_refused r f = refl
 
 pub hamming_applies : (place r : ℕ) (f : FieldName) (vs : List language.Value) (made : Result Matrix CodeRefusal) (result : Result Value Stop)
     → vs ≡ number r ∷ field f ∷ []
     → IfOk made (λ C. IsCode f (hamming_length (size f) r) (CheckedBy f (hamming_checks (size f) r)) C)
-    → IsRefusedAs made (hamming_refusal f r) → IsMade made place result → Answers result (AppliesTo call.HammingCode place vs)
+    → IsRefusedAs made (first_refusal (hamming_refusals f r)) → IsMade made place result → Answers result (AppliesTo call.HammingCode place vs)
 hamming_applies place r f vs made result e g h s =
-    rw e (applied call.HammingCode place (number r ∷ field f ∷ []) (hamming_refusal f r) made result (hamming_refused r f) (λ n. n) (λ C m o. let k = rw m at g in record { code_is = (C, k, refl) }) h s)
+    rw e (applied call.HammingCode place (number r ∷ field f ∷ []) (hamming_refusals f r) made result (hamming_refused r f) (λ n. n) (λ C m o. let k = rw m at g in record { code_is = (C, k, refl) }) h s)
 
-muller_refused : (r m : ℕ) → Agrees (refusal_of call.ReedMullerCode (number r ∷ number m ∷ [])) (reed_muller_refusal r m)
-unfolding refusal_of refusals_of bad_argument bad_length refuse is_length basic.is_length reed_muller_refusal refusal_from refusal_number refusal_values
-muller_refused r m =
-    unless_so (is_length (2 ^ m)) BadLength _ _ (λ k. cc) (λ l.
-    where_so (nat_lt m r) (BadArgument 1) _ _ (λ k. cc) no_refusal)
+muller_refused : (r m : ℕ) → refusal_of call.ReedMullerCode (number r ∷ number m ∷ []) ≡ first_of (from_codes (reed_muller_refusals r m))
+unfolding refusal_of refusals_of
+muller_refused r m = refl
 
 pub reed_muller_applies : (place r m : ℕ) (vs : List language.Value) (made : Result Matrix CodeRefusal) (result : Result Value Stop)
     → vs ≡ number r ∷ number m ∷ []
     → IfOk made (λ C. IsCode Gf2 (2 ^ m) (GeneratedBy Gf2 (2 ^ m) (reed_muller_rows r m)) C)
-    → IsRefusedAs made (reed_muller_refusal r m) → IsMade made place result → Answers result (AppliesTo call.ReedMullerCode place vs)
+    → IsRefusedAs made (first_refusal (reed_muller_refusals r m)) → IsMade made place result → Answers result (AppliesTo call.ReedMullerCode place vs)
 reed_muller_applies place r m vs made result e g h s =
-    rw e (applied call.ReedMullerCode place (number r ∷ number m ∷ []) (reed_muller_refusal r m) made result (muller_refused r m) (λ n. n) (λ C l o. let k = rw l at g in record { code_is = (C, k, refl) }) h s)
+    rw e (applied call.ReedMullerCode place (number r ∷ number m ∷ []) (reed_muller_refusals r m) made result (muller_refused r m) (λ n. n) (λ C l o. let k = rw l at g in record { code_is = (C, k, refl) }) h s)
 
 -- ---- duals
 

@@ -7,8 +7,8 @@ use Rattle.std.specs.Global.{Vec}
 use Rattle.std.proofs.lemmas.List.{map-append, map_more}
 use Rattle.lc_language.specs.declared.Call.{Call}
 use Rattle.lc_language.specs.declared.Kind.{Kind}
-use Rattle.lc_language.specs.Tree as tree
-use Rattle.lc_language.specs.Tree.{count_of}
+use Rattle.lc_grammar.specs.Tree as tree
+use Rattle.lc_grammar.specs.Tree.{count_of}
 use Rattle.lc_language.specs.Value as language
 use Rattle.lc_language.specs.Calls.{call_named, signature_for, is_query}
 use Rattle.lc_language.specs.Evaluation as evaluation

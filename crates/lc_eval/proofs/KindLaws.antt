@@ -11,8 +11,8 @@ use Rattle.std.proofs.Math.ListN.{get_or-map}
 use Rattle.lc_language.specs.declared.Call.{Call}
 use Rattle.lc_language.specs.declared.Kind.{Kind}
 use Rattle.lc_language.specs.declared.Kind.TheVariants.{Number, Field, Numbers, Lists, Code}
-use Rattle.lc_language.specs.Tree as tree
-use Rattle.lc_language.specs.Tree.{place_of, count_of}
+use Rattle.lc_grammar.specs.Tree as tree
+use Rattle.lc_grammar.specs.Tree.{place_of, count_of}
 use Rattle.lc_language.specs.Value as language
 use Rattle.lc_language.specs.Value.{is_kind, as_kind}
 use Rattle.lc_language.specs.Calls.{signatures, signature_for}

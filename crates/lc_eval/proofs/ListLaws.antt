@@ -9,13 +9,12 @@ use Rattle.std.proofs.Common.{◌≡◌, ℕ, zero, suc, ◌+◌, ◌<◌, Bool,
 use Rattle.std.proofs.lemmas.Bool.{eqb-true, eq-eqb}
 use Rattle.std.specs.Global.{Vec}
 use Rattle.std.proofs.lemmas.List.{map-append, map_more}
-use Rattle.lc_language.specs.Tree as tree
-use Rattle.lc_language.specs.Tree.{place_of}
+use Rattle.lc_grammar.specs.Tree as tree
+use Rattle.lc_grammar.specs.Tree.{place_of}
 use Rattle.lc_language.specs.Evaluation as evaluation
 use Rattle.lc_language.specs.Evaluation.{Outcome, gives, refused, refuse_at, nothing_yet, all_numbers, all_lists, listed_with, Evaluates, ListGoesOn, EvaluatesList}
 use Rattle.lc_language.specs.Value as language
-use Rattle.lc_parse.specs.declared.tree.Expr.{Expr}
-use Rattle.lc_parse.specs.declared.tree.Expr.{fold_out-Expr}
+use Rattle.lc_parse.specs.declared.tree.Expr.{Expr, fold_out-Expr}
 use Rattle.lc_parse.specs.declared.tree.Node.{fold_out-Node}
 use Rattle.lc_parse.specs.declared.tree.Node.TheOpen.{Node-F}
 use Rattle.lc_parse.specs.Views.{tree_of, trees_of, node_step, expr_step}

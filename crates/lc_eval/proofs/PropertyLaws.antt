@@ -13,20 +13,21 @@ use Rattle.lc_algebra.specs.Word.{Fits, weight}
 use Rattle.lc_algebra.specs.Matrix.{Matrix}
 use Rattle.lc_constructions.specs.Code.{InCode, IsCode}
 use Rattle.lc_constructions.specs.Combined.{InDual}
+use Rattle.lc_constructions.specs.declared.refusal.CodeRefusal.TheVariants.{LengthsDiffer, BadArgument}
+use Rattle.lc_constructions.specs.Refusal.{refuse_if}
+use Rattle.lc_constructions.specs.Refusals.{are_elements}
 use Rattle.lc_basic.proofs.HammingLaws.{small_field}
-use Rattle.lc_code.specs.declared.refusal.CodeRefusal.TheVariants.{LengthsDiffer, BadArgument}
-use Rattle.lc_code.specs.Refusal.{refusal_number, refusal_values}
 use Rattle.lc_language.specs.declared.Call.TheVariants as call
 use Rattle.lc_language.specs.Value as language
 use Rattle.lc_language.specs.Value.{number, numbers, lists, code, truth}
-use Rattle.lc_language.specs.Refusal.{refuse, when, first_of, bad_argument, reaches, word_refusals, refusals_of, refusal_of}
+use Rattle.lc_language.specs.Refusal.{first_of, refusal_from, from_codes, word_refusals, refusals_of, refusal_of}
 use Rattle.lc_language.specs.Evaluation.{gives, AppliesTo}
 use Rattle.lc_eval.specs.declared.refusals.Stop.{Stop}
 use Rattle.lc_eval.specs.Applied.{Answers}
-use Rattle.lc_eval.specs.Made.{refusal_from, IsMade}
+use Rattle.lc_eval.specs.Made.{IsMade}
 use Rattle.lc_eval.specs.Rows.{clamped}
 use Rattle.lc_eval.proofs.AnswerLaws.{given_by, refused_by}
-use Rattle.lc_eval.proofs.RowLaws.{row_same, row_kept, twice_not}
+use Rattle.lc_eval.proofs.RowLaws.{elements_same, row_kept}
 
 dimension_fine : (C : Matrix) → refusal_of call.Dimension (code C None ∷ []) ≡ None
 unfolding refusal_of refusals_of first_of
@@ -66,18 +67,19 @@ check_mat_applies place C D rows vs e h k = rw e (rw (check_mat_fine C) (inr ((�
 -- ---- words of a code
 
 codeword_uneven : (C : Matrix) (x : List ℕ) → length x ≢ C.columns → refusal_of call.IsCodeword (code C None ∷ numbers x ∷ []) ≡ Some (refusal_from LengthsDiffer)
-unfolding refusal_of refusals_of word_refusals first_of when refuse refusal_from refusal_number refusal_values
+unfolding refusal_of refusals_of word_refusals from_codes first_of refuse_if
 codeword_uneven C x h = let t : (length x == C.columns) ≡ false = grind (arith, nat_tests) in rw t refl
 
-codeword_high : (C : Matrix) (x : List ℕ) → length x ≡ C.columns → reaches (size C.field) x ≡ true → refusal_of call.IsCodeword (code C None ∷ numbers x ∷ []) ≡ Some (refusal_from (BadArgument 2))
-unfolding refusal_of refusals_of word_refusals bad_argument first_of when refuse refusal_from refusal_number refusal_values
+codeword_high : (C : Matrix) (x : List ℕ) → length x ≡ C.columns → are_elements C.field x ≡ false → refusal_of call.IsCodeword (code C None ∷ numbers x ∷ []) ≡ Some (refusal_from (BadArgument 2))
+unfolding refusal_of refusals_of word_refusals from_codes first_of refuse_if
 codeword_high C x h k = let t : (length x == C.columns) ≡ true = grind (arith, nat_tests) in rw (t, k) refl
 
-codeword_fine : (C : Matrix) (x : List ℕ) → length x ≡ C.columns → reaches (size C.field) x ≡ false → refusal_of call.IsCodeword (code C None ∷ numbers x ∷ []) ≡ None
-unfolding refusal_of refusals_of word_refusals bad_argument first_of when
+codeword_fine : (C : Matrix) (x : List ℕ) → length x ≡ C.columns → are_elements C.field x ≡ true → refusal_of call.IsCodeword (code C None ∷ numbers x ∷ []) ≡ None
+unfolding refusal_of refusals_of word_refusals from_codes first_of refuse_if
 codeword_fine C x h k = let t : (length x == C.columns) ≡ true = grind (arith, nat_tests) in rw (t, k) refl
 
-fits_told : (f : FieldName) (w : List ℕ) (b : Bool) → IsTrue b ↔ Fits f w → list_all (λ a. nat_lt a (size f)) w ≡ b
+fits_told : (f : FieldName) (w : List ℕ) (b : Bool) → IsTrue b ↔ Fits f w → are_elements f w ≡ b
+unfolding are_elements
 fits_told f w true h = list_all-from_AllPass (λ a. nat_lt a (size f)) w (λ k d l. (Decides-ltb (slice_index_or w k d) (size f)).1 (subst (λ a. a < size f) (get_or_default w k 0 d l) (h.0 refl k l)))
 fits_told f w false h =
     ⊎_elim
@@ -85,23 +87,24 @@ fits_told f w false h =
     (λ (t : list_all (λ a. nat_lt a (size f)) w ≡ false). t)
     (cases_Bool (list_all (λ a. nat_lt a (size f)) w))
 
-entries_told : (f : FieldName) (x w : List ℕ) (b : Bool) → IsTrue (is_symbol f) → w ≡ clamped x → IsTrue b ↔ Fits f w → reaches (size f) x ≡ not b
-unfolding reaches
-entries_told f x w b s e h =
-    let a : list_all (λ a. nat_lt a (size f)) (clamped x) ≡ b = subst (λ u. list_all (λ a. nat_lt a (size f)) u ≡ b) e (fits_told f w b h) in
-    sym (twice_not (list_any (nat_le (size f)) x)) ∙ ap not (sym (row_same (size f) x (small_field f s)) ∙ a)
+entries_told : (f : FieldName) (x w : List ℕ) (b : Bool) → IsTrue (is_symbol f) → w ≡ clamped x → IsTrue b ↔ Fits f w → are_elements f x ≡ b
+entries_told f x w b s e h = sym (elements_same f x (small_field f s)) ∙ subst (λ u. are_elements f u ≡ b) e (fits_told f w b h)
+
+kept_told : (f : FieldName) (x : List ℕ) → IsTrue (is_symbol f) → are_elements f (clamped x) ≡ true → clamped x ≡ x
+unfolding are_elements
+kept_told f x s h = row_kept (size f) x (small_field f s) h
 
 pub codeword_long : (place : ℕ) (C : Matrix) (x : List ℕ) (vs : List language.Value) (s : Stop) → vs ≡ code C None ∷ numbers x ∷ [] → length x ≢ C.columns → IsMade (Err LengthsDiffer) place (Err s) → Answers (Err s) (AppliesTo call.IsCodeword place vs)
 codeword_long place C x vs s e h m = rw e (refused_by call.IsCodeword place (code C None ∷ numbers x ∷ []) LengthsDiffer s (codeword_uneven C x h) m)
 
 pub codeword_no_symbol : (place : ℕ) (C : Matrix) (f : FieldName) (x w : List ℕ) (b : Bool) (vs : List language.Value) (s : Stop) → vs ≡ code C None ∷ numbers x ∷ [] → length x ≡ C.columns → IsTrue (is_symbol C.field) → f ≡ C.field → w ≡ clamped x → IsTrue b ↔ Fits f w → b ≡ false → IsMade (Err (BadArgument 2)) place (Err s) → Answers (Err s) (AppliesTo call.IsCodeword place vs)
 codeword_no_symbol place C f x w b vs s e l y o c h k m =
-    let high : reaches (size C.field) x ≡ true = entries_told C.field x w b y c (subst (λ g. IsTrue b ↔ Fits g w) o h) ∙ ap not k in
+    let high : are_elements C.field x ≡ false = entries_told C.field x w b y c (subst (λ g. IsTrue b ↔ Fits g w) o h) ∙ k in
     rw e (refused_by call.IsCodeword place (code C None ∷ numbers x ∷ []) (BadArgument 2) s (codeword_high C x l high) m)
 
 pub codeword_told : (place : ℕ) (C : Matrix) (f : FieldName) (x w u : List ℕ) (b r : Bool) (vs : List language.Value) → vs ≡ code C None ∷ numbers x ∷ [] → length x ≡ C.columns → IsTrue (is_symbol C.field) → f ≡ C.field → w ≡ clamped x → IsTrue b ↔ Fits f w → b ≡ true → u ≡ clamped x → IsTrue r ↔ InCode C u → AppliesTo call.IsCodeword place vs (gives (truth r))
 codeword_told place C f x w u b r vs e l y o c h k d t =
     let g : IsTrue b ↔ Fits C.field w = subst (λ g. IsTrue b ↔ Fits g w) o h in
-    let same : clamped x ≡ x = row_kept (size C.field) x (small_field C.field y) (subst (λ v. list_all (λ a. nat_lt a (size C.field)) v ≡ true) c (fits_told C.field w b g ∙ k)) in
+    let same : clamped x ≡ x = kept_told C.field x y (subst (λ v. are_elements C.field v ≡ true) c (fits_told C.field w b g ∙ k)) in
     let told : IsTrue r ↔ InCode C x = subst (λ v. IsTrue r ↔ InCode C v) (d ∙ same) t in
-    rw e (given_by call.IsCodeword place (code C None ∷ numbers x ∷ []) (truth r) (codeword_fine C x l (entries_told C.field x w b y c g ∙ ap not k)) (λ n. n) (r, refl, told))
+    rw e (given_by call.IsCodeword place (code C None ∷ numbers x ∷ []) (truth r) (codeword_fine C x l (entries_told C.field x w b y c g ∙ k)) (λ n. n) (r, refl, told))

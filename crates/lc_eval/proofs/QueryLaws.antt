@@ -15,25 +15,25 @@ use Rattle.lc_algebra.specs.Matrix.{Matrix, AreRows}
 use Rattle.lc_algebra.proofs.SpanLaws.{span_word}
 use Rattle.lc_constructions.specs.Code.{IsCode}
 use Rattle.lc_constructions.specs.Basic.{GeneratedBy}
-use Rattle.lc_code.specs.declared.refusal.CodeRefusal.{CodeRefusal}
+use Rattle.lc_constructions.specs.declared.refusal.CodeRefusal.{CodeRefusal}
+use Rattle.lc_constructions.specs.Refusal.{first_refusal, IsRefusedAs}
+use Rattle.lc_constructions.specs.Refusals.{columns_of, matrix_refusals}
 use Rattle.lc_basic.proofs.HammingLaws.{power_next}
-use Rattle.lc_basic.specs.Refusal as basic
-use Rattle.lc_basic.specs.Refusal.{matrix_refusal, IsRefusedAs}
 use Rattle.lc_language.specs.declared.Call.TheVariants as call
 use Rattle.lc_language.specs.Value as language
 use Rattle.lc_language.specs.Value.{field, lists}
-use Rattle.lc_language.specs.Refusal.{Refusal, refuse, when, first_of, columns_of, matrix_refusals, refusals_of, refusal_of}
+use Rattle.lc_language.specs.Refusal.{Refusal, refuse, when, first_of, refusal_from, from_codes, refusals_of, refusal_of}
 use Rattle.lc_language.specs.Evaluation.{refused, refuse_call, Step, prints, fails, fail_with, PrintsLeast}
 use Rattle.lc_eval.specs.declared.refusals.Refused.{Refused}
 use Rattle.lc_eval.specs.declared.refusals.Stop.{Stop}
 use Rattle.lc_eval.specs.declared.refusals.Stop.TheVariants as stop
 use Rattle.lc_eval.specs.Value.{refused_of}
 use Rattle.lc_eval.specs.Applied.{QueriesTo, AnswersLine}
-use Rattle.lc_eval.specs.Made.{refusal_from, IsMade}
+use Rattle.lc_eval.specs.Made.{IsMade}
 use Rattle.lc_eval.specs.Rows.{clamped, clamped_rows}
 use Rattle.lc_eval.specs.Scan.{IsLeastLine}
-use Rattle.lc_eval.proofs.AnswerLaws.{Agrees}
-use Rattle.lc_eval.proofs.RowLaws.{clamped_each, columns_same, matrix_agrees, fine_same, fine_rows}
+use Rattle.lc_eval.proofs.AnswerLaws.{first_from_codes}
+use Rattle.lc_eval.proofs.RowLaws.{clamped_each, columns_same, clamped_refusals, fine_same, fine_rows}
 
 -- ---- how many words
 
@@ -69,9 +69,9 @@ first_behind [] ys h = refl
 first_behind (None ∷ xs) ys h = first_behind xs ys h
 first_behind (Some x ∷ xs) ys h = absurd (true≢false (ap is_some h))
 
-matrix_first : (rows : List (List ℕ)) (f : FieldName) (r : Refusal) → first_of (matrix_refusals rows f) ≡ Some r → refusal_of call.LeastWord (lists rows ∷ field f ∷ []) ≡ Some r
+matrix_first : (rows : List (List ℕ)) (f : FieldName) (r : Refusal) → first_of (from_codes (matrix_refusals f rows)) ≡ Some r → refusal_of call.LeastWord (lists rows ∷ field f ∷ []) ≡ Some r
 unfolding refusal_of refusals_of
-matrix_first rows f r h = first_stays (matrix_refusals rows f) _ r h
+matrix_first rows f r h = first_stays (from_codes (matrix_refusals f rows)) _ r h
 
 when_passes : (b : Bool) (r : Refusal) → b ≡ true → first_of (when b r ∷ []) ≡ Some r
 unfolding first_of when
@@ -81,13 +81,13 @@ when_fails : (b : Bool) (r : Refusal) → b ≡ false → first_of (when b r ∷
 unfolding first_of when
 when_fails b r e = rw e refl
 
-matrix_many : (rows : List (List ℕ)) (f : FieldName) → first_of (matrix_refusals rows f) ≡ None → nat_lt (2 ^ 16) (size f ^ length rows) ≡ true → refusal_of call.LeastWord (lists rows ∷ field f ∷ []) ≡ Some (refuse 16 [])
+matrix_many : (rows : List (List ℕ)) (f : FieldName) → first_of (from_codes (matrix_refusals f rows)) ≡ None → nat_lt (2 ^ 16) (size f ^ length rows) ≡ true → refusal_of call.LeastWord (lists rows ∷ field f ∷ []) ≡ Some (refuse 16 [])
 unfolding refusal_of refusals_of
-matrix_many rows f h t = first_behind (matrix_refusals rows f) _ h ∙ when_passes (nat_lt (2 ^ 16) (size f ^ length rows)) (refuse 16 []) t
+matrix_many rows f h t = first_behind (from_codes (matrix_refusals f rows)) _ h ∙ when_passes (nat_lt (2 ^ 16) (size f ^ length rows)) (refuse 16 []) t
 
-matrix_few : (rows : List (List ℕ)) (f : FieldName) → first_of (matrix_refusals rows f) ≡ None → nat_lt (2 ^ 16) (size f ^ length rows) ≡ false → refusal_of call.LeastWord (lists rows ∷ field f ∷ []) ≡ None
+matrix_few : (rows : List (List ℕ)) (f : FieldName) → first_of (from_codes (matrix_refusals f rows)) ≡ None → nat_lt (2 ^ 16) (size f ^ length rows) ≡ false → refusal_of call.LeastWord (lists rows ∷ field f ∷ []) ≡ None
 unfolding refusal_of refusals_of
-matrix_few rows f h t = first_behind (matrix_refusals rows f) _ h ∙ when_fails (nat_lt (2 ^ 16) (size f ^ length rows)) (refuse 16 []) t
+matrix_few rows f h t = first_behind (from_codes (matrix_refusals f rows)) _ h ∙ when_fails (nat_lt (2 ^ 16) (size f ^ length rows)) (refuse 16 []) t
 
 -- ---- the statement
 
@@ -103,29 +103,29 @@ fails_so place r refusal h = ap fail_with h
 
 pub least_refused : (place : ℕ) (rows : List (Vec ℕ Global)) (f : FieldName) (vs : List language.Value) (words : List (List ℕ)) (e : CodeRefusal) (s : Stop)
     → vs ≡ lists (map (λ row. row.items) rows) ∷ field f ∷ [] → words ≡ map (λ row. clamped row.items) rows
-    → IsRefusedAs {C = Matrix} (Err e) (matrix_refusal f words) → IsMade (Err e) place (Err s) → AnswersLine (Err s) (QueriesTo call.LeastWord place vs)
+    → IsRefusedAs {T = Matrix} (Err e) (first_refusal (matrix_refusals f words)) → IsMade (Err e) place (Err s) → AnswersLine (Err s) (QueriesTo call.LeastWord place vs)
 least_refused place rows f vs words e (stop.Refused r) v w h m =
     let given : List (List ℕ) = map (λ row. row.items) rows in
     let c : words ≡ clamped_rows given = w ∙ clamped_each rows in
-    let o : matrix_refusal f (clamped_rows given) ≡ Some e = subst (λ u. matrix_refusal f u ≡ Some e) c ((h e m.0).0 refl) in
-    let first : refusal_of call.LeastWord (lists given ∷ field f ∷ []) ≡ Some (refusal_from e) = matrix_first given f (refusal_from e) ((matrix_agrees f given).0 ∙ ap (option_map refusal_from) o) in
+    let o : first_refusal (matrix_refusals f (clamped_rows given)) ≡ Some e = subst (λ u. first_refusal (matrix_refusals f u) ≡ Some e) c (h m.0) in
+    let first : refusal_of call.LeastWord (lists given ∷ field f ∷ []) ≡ Some (refusal_from e) = matrix_first given f (refusal_from e) (first_from_codes (matrix_refusals f given) ∙ ap (option_map refusal_from) (sym (clamped_refusals f given) ∙ o)) in
     rw v (querying place given f (Some (refusal_from e)) (fails (refused_of r)) first (fails_so place r (refusal_from e) m.1))
 least_refused place rows f vs words e stop.NoMemory v w h m = tt
 
-unrefused : (C : Matrix) (o : Option CodeRefusal) (r : Option Refusal) → IsRefusedAs (Ok C) o → Agrees r o → (o ≡ None) × (r ≡ None)
-unrefused C None r h a = (refl, a.0)
-unrefused C (Some x) r h a = absurd (let t : Ok C ≡ Err x = (h x (λ k. a.1 (ap (λ (y : CodeRefusal). Some y) k))).1 refl in true≢false (ap is_ok t))
+unrefused : (f : FieldName) (given words : List (List ℕ)) → words ≡ clamped_rows given → first_refusal (matrix_refusals f words) ≡ None → (first_refusal (matrix_refusals f (clamped_rows given)) ≡ None) × (first_of (from_codes (matrix_refusals f given)) ≡ None)
+unrefused f given words c h =
+    let k : first_refusal (matrix_refusals f (clamped_rows given)) ≡ None = subst (λ u. first_refusal (matrix_refusals f u) ≡ None) c h in
+    (k, first_from_codes (matrix_refusals f given) ∙ ap (option_map refusal_from) (sym (clamped_refusals f given) ∙ k))
 
 pub least_many : (place : ℕ) (rows : List (Vec ℕ Global)) (f : FieldName) (vs : List language.Value) (words : List (List ℕ)) (C : Matrix) (b : Bool) (none : List ℕ)
     → vs ≡ lists (map (λ row. row.items) rows) ∷ field f ∷ [] → words ≡ map (λ row. clamped row.items) rows
-    → IsRefusedAs (Ok C) (matrix_refusal f words) → b ≡ nat_lt (2 ^ 16) (size f ^ length rows) → b ≡ true → none ≡ []
+    → IsRefusedAs (Ok C) (first_refusal (matrix_refusals f words)) → b ≡ nat_lt (2 ^ 16) (size f ^ length rows) → b ≡ true → none ≡ []
     → QueriesTo call.LeastWord place vs (fails (record { number = 16; place = place; values = none }))
 unfolding fail_with refuse_call refuse
 least_many place rows f vs words C b none v w h t e z =
     let given : List (List ℕ) = map (λ row. row.items) rows in
     let c : words ≡ clamped_rows given = w ∙ clamped_each rows in
-    let k : IsRefusedAs (Ok C) (matrix_refusal f (clamped_rows given)) = subst (λ u. IsRefusedAs (Ok C) (matrix_refusal f u)) c h in
-    let n = unrefused C (matrix_refusal f (clamped_rows given)) (first_of (matrix_refusals given f)) k (matrix_agrees f given) in
+    let n = unrefused f given words c h in
     let many : nat_lt (2 ^ 16) (size f ^ length given) ≡ true = ap (λ m. nat_lt (2 ^ 16) (size f ^ m)) (length-map rows (λ row. row.items)) ∙ sym t ∙ e in
     rw (v, z) (querying place given f (Some (refuse 16 [])) _ (matrix_many given f n.1 many) refl)
 
@@ -146,21 +146,20 @@ printed rows f text (inr t) = inr (t.0, ap (λ (x : List ℕ). prints x) t.1)
 
 pub least_told : (place : ℕ) (rows : List (Vec ℕ Global)) (f : FieldName) (vs : List language.Value) (words : List (List ℕ)) (C : Matrix) (b : Bool) (text : List ℕ)
     → vs ≡ lists (map (λ row. row.items) rows) ∷ field f ∷ [] → words ≡ map (λ row. clamped row.items) rows
-    → IsRefusedAs (Ok C) (matrix_refusal f words) → IsCode f (basic.columns_of words) (GeneratedBy f (basic.columns_of words) words) C
+    → IsRefusedAs (Ok C) (first_refusal (matrix_refusals f words)) → IsCode f (columns_of words) (GeneratedBy f (columns_of words) words) C
     → b ≡ nat_lt (2 ^ 16) (size f ^ length rows) → b ≡ false
     → IsLeastLine C.field C.columns C.rows text → QueriesTo call.LeastWord place vs (prints text)
 least_told place rows f vs words C b text v w h i t e l =
     let given : List (List ℕ) = map (λ row. row.items) rows in
     let c : words ≡ clamped_rows given = w ∙ clamped_each rows in
-    let k : IsRefusedAs (Ok C) (matrix_refusal f (clamped_rows given)) = subst (λ u. IsRefusedAs (Ok C) (matrix_refusal f u)) c h in
-    let n = unrefused C (matrix_refusal f (clamped_rows given)) (first_of (matrix_refusals given f)) k (matrix_agrees f given) in
+    let n = unrefused f given words c h in
     let few : nat_lt (2 ^ 16) (size f ^ length given) ≡ false = ap (λ m. nat_lt (2 ^ 16) (size f ^ m)) (length-map rows (λ row. row.items)) ∙ sym t ∙ e in
     let same : words ≡ given = c ∙ fine_same f given n.0 in
-    let long : basic.columns_of words ≡ columns_of given = ap basic.columns_of c ∙ columns_same given in
-    let fit : AreRows f (basic.columns_of words) words = fine_rows f words (subst (λ u. matrix_refusal f u ≡ None) (sym c) n.0) in
+    let long : columns_of words ≡ columns_of given = ap columns_of c ∙ columns_same given in
+    let fit : AreRows f (columns_of words) words = fine_rows f words h in
     let over : IsLeastLine f C.columns C.rows text = subst (λ g. IsLeastLine g C.columns C.rows text) i.over l in
-    let at : IsLeastLine f (basic.columns_of words) C.rows text = subst (λ m. IsLeastLine f m C.rows text) i.length_is over in
-    let moved : IsLeastLine f (basic.columns_of words) words text = line_moved f (basic.columns_of words) C.rows words text (span_moved f (basic.columns_of words) words C fit i) at in
+    let at : IsLeastLine f (columns_of words) C.rows text = subst (λ m. IsLeastLine f m C.rows text) i.length_is over in
+    let moved : IsLeastLine f (columns_of words) words text = line_moved f (columns_of words) C.rows words text (span_moved f (columns_of words) words C fit i) at in
     let here : IsLeastLine f (columns_of given) words text = subst (λ m. IsLeastLine f m words text) long moved in
     let line : IsLeastLine f (columns_of given) given text = subst (λ u. IsLeastLine f (columns_of given) u text) same here in
     rw v (querying place given f None (prints text) (matrix_few given f n.1 few) (printed given f text line))

@@ -6,10 +6,10 @@ use Rattle.std.proofs.Common.{◌≡◌, ℕ, zero, suc, ◌+◌, ◌<◌, [], �
 use Rattle.std.specs.Global.{Vec}
 use Rattle.std.proofs.lemmas.List.{drop_all}
 use Rattle.lc_language.specs.declared.Call.{Call}
-use Rattle.lc_language.specs.Tree as tree
+use Rattle.lc_grammar.specs.Tree as tree
 use Rattle.lc_language.specs.Value as language
-use Rattle.lc_language.specs.Print.{value_line}
-use Rattle.lc_language.specs.Evaluation.{gives, refused, prints, fails, fail_with, Step, Evaluates, StepsOf, StepsAsQuery, query_of}
+use Rattle.lc_language.specs.Print.{value_line, fault_line}
+use Rattle.lc_language.specs.Evaluation.{gives, refused, prints, fails, fail_with, Step, Evaluates, StepsOf, StepsAsQuery, query_of, Refused, Steps, binds}
 use Rattle.lc_eval.specs.Built.{built_calls}
 use Rattle.lc_eval.specs.declared.values.Value.{Value}
 use Rattle.lc_eval.specs.declared.refusals.Stop.{Stop}
@@ -18,11 +18,8 @@ use Rattle.lc_eval.specs.Value.{value_of, refused_of}
 use Rattle.lc_eval.specs.Applied.{Answers, AnswersLine}
 use Rattle.lc_parse.specs.declared.tree.Statement.{Statement}
 use Rattle.lc_parse.specs.Views.{statement_of}
-use Rattle.lc_language.specs.Evaluation.{Refused}
 use Rattle.lc_eval.specs.declared.machine.Step.TheVariants.{Line, Silent, Fault}
 use Rattle.lc_eval.specs.Machine.{State, Does}
-use Rattle.lc_language.specs.Print.{fault_line}
-use Rattle.lc_language.specs.Evaluation.{Steps, binds}
 
 module _ (env : List language.Binding) (e : tree.Expr) where
   pub alone_fault : (s : Stop) → query_of built_calls e ≡ None → Answers (Err s) (Evaluates built_calls env e) → AnswersLine (Err s) (StepsOf built_calls env None e)

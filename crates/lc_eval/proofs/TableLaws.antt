@@ -11,7 +11,7 @@ use Rattle.std.proofs.lemmas.Bool.{cases_Bool}
 use Rattle.lc_algebra.proofs.SpanLaws.{contains_map}
 use Rattle.lc_language.specs.declared.Call.{Call}
 use Rattle.lc_language.specs.declared.Kind.{Kind}
-use Rattle.lc_language.specs.Value.{same_bytes}
+use Rattle.lc_formats.specs.Text.{same_bytes}
 use Rattle.lc_language.specs.Calls.{name_of, one, signatures, call_named, signature_for}
 use Rattle.lc_eval.specs.Built.{built_calls}
 use Rattle.lc_eval.specs.declared.calls.Row.{Row}

@@ -12,8 +12,8 @@ use Rattle.std.specs.Prelude.{◌≡◌, ℕ, true, List, Contains, Option, Some
 use Rattle.std.specs.Global.{Vec}
 use Rattle.lc_language.specs.declared.Call.{Call}
 use Rattle.lc_language.specs.declared.Kind.{Kind}
-use Rattle.lc_language.specs.Tree as tree
-use Rattle.lc_language.specs.Tree.{Exprs, count_of}
+use Rattle.lc_grammar.specs.Tree as tree
+use Rattle.lc_grammar.specs.Tree.{Exprs, count_of}
 use Rattle.lc_parse.specs.declared.tree.Expr.{Expr}
 use Rattle.lc_parse.specs.Views.{tree_of, trees_of}
 use Rattle.std.specs.Borrow.{Bor}

@@ -3,7 +3,8 @@
 --   ArePlaces places env    the map has each name that is bound, and no other, with the place of its last binding
 use Rattle.std.specs.Prelude.{◌≡◌, ℕ, List, [], ◌∷◌, length, String, Option, Some, None, if◌then◌else◌}
 use Rattle.std.specs.BTreeMap.{BTreeMap, get_by_text}
-use Rattle.lc_language.specs.Value.{Binding, same_bytes}
+use Rattle.lc_language.specs.Value.{Binding}
+use Rattle.lc_formats.specs.Text.{same_bytes}
 
 abbrev pub place_named : List ℕ → List Binding → Option ℕ
 place_named x [] = None

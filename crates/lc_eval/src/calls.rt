@@ -191,6 +191,9 @@ pub(crate) fn is_query(call: Call) -> bool
             | Call::MinimumDistance
             | Call::Certificate
             | Call::ScanCertificate
+            | Call::WeightDistribution
+            | Call::AlternantCertificate
+            | Call::NearestWord
     )
 }
 

@@ -26,7 +26,7 @@ fn made(alloc: Global, place: usize, code: Result<Code, CodeRefusal>) -> Result<
 }
 
 /// The refusal of a constructor of codes, at this place.
-#[tactic(auto, unfolding(crate::specs::Made::refusal_from, lc_language::specs::Evaluation::refuse_call))]
+#[tactic(auto, unfolding(lc_language::specs::Refusal::refusal_from, lc_language::specs::Refusal::refuse, lc_language::specs::Evaluation::refuse_call))]
 pub(crate) fn refused_as(alloc: Global, place: usize, refusal: CodeRefusal) -> Stop
     ensures { IsMade (Err refusal) place (Err result) }
 {

@@ -1,6 +1,6 @@
 //! The values of expressions.
 ghost use Rattle.std.specs.Prelude.{◌≡◌, length, Contains, IfOk};
-ghost use Rattle.lc_language.specs.Tree as tree;
+ghost use Rattle.lc_grammar.specs.Tree as tree;
 ghost use Rattle.lc_language.specs.Evaluation.{Evaluates, EvaluatesAll, EvaluatesList, nothing_yet};
 ghost use Rattle.lc_parse.specs.Views.{tree_of, trees_of};
 ghost use Rattle.lc_eval.specs.Built.{built_calls};

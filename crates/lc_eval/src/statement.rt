@@ -1,6 +1,6 @@
 //! What a statement does.
 ghost use Rattle.std.specs.Prelude.{◌≡◌, ℕ, true, List, None, Contains, IfOk};
-ghost use Rattle.lc_language.specs.Tree as tree;
+ghost use Rattle.lc_grammar.specs.Tree as tree;
 ghost use Rattle.lc_language.specs.Calls.{is_query};
 ghost use Rattle.lc_language.specs.Evaluation.{Steps, StepsOf, StepsAsQuery};
 ghost use Rattle.lc_parse.specs.Views.{tree_of, trees_of, statement_of};

@@ -5,39 +5,32 @@
 --   listed_values, mixed_lists, made_lists     one element more, of lists of both kinds; elements that don't fit; the lists
 --   misfits                                    the first argument that is of another kind
 --   least                                      the lines of LeastWord, and distance none
---   later                                      the later of two checkpoints, slot Zero's where their turns are equal
---   reads_levels, broken_sets, broken_rows, too_many_rows      a certificate by levels, the rules 8 to 11, 4 and 5, and the limit
---   summary_words, first_row                   the words of seed 1, and the first row that they give
 use Rattle.std.proofs.Common.{◌≡◌, refl}
-use Rattle.std.specs.Prelude.{ℕ, List, [], ◌∷◌, ◌++◌, map, filter, codes, replicate, Some, None, true, false, Option}
+use Rattle.std.specs.Prelude.{ℕ, List, [], ◌∷◌, ◌++◌, map, filter, codes, replicate, Some, None, true, false}
 use Rattle.std.specs.Fmt.{digits}
-use Rattle.serde_json.specs.Data.{Data, Members, no_members, member, object, array, string, null}
-use Rattle.rand_core.specs.Pcg32Seed.{pcg32_seed}
-use Rattle.rand_core.specs.Steps.{word_bytes, u32_at}
 use Rattle.lc_algebra.specs.declared.FieldName.{FieldName}
 use Rattle.lc_algebra.specs.declared.FieldName.TheVariants.{Gf2, Gf3, Gf4, Gf5, Gf8, Gf25}
 use Rattle.lc_algebra.specs.Residue.{digits as residues, number as number_of_residues, plus, minus, times, top, up, times_x, product}
 use Rattle.lc_algebra.specs.Field.{shape, shape_of, size, is_symbol, coefficients, add, mul}
 use Rattle.lc_algebra.specs.Polynomial.{value_at}
-use Rattle.lc_algebra.specs.Embedding.{is_subfield}
+use Rattle.lc_algebra.specs.Embedding.{is_subfield, first_from, first_that}
 use Rattle.lc_algebra.specs.Span.{below}
 use Rattle.lc_constructions.specs.Cyclic.{put_on, trimmed, all_fields, locator_field}
-use Rattle.lc_enumeration.specs.InformationSet.{is_member, unit_word}
-use Rattle.lc_enumeration.specs.Certificate.{levels, limit, shape as broken}
-use Rattle.lc_language.specs.declared.Call.TheVariants.{Gf, ReedMullerCode, BchCode, ReedSolomonCode, GoppaCode, AlternantCode, PuncturedCode, UuvCode, ConcatenatedCode, Decode, AlgebraicDecode, LeastWord, MinimumDistance, Certificate, ScanCertificate}
+use Rattle.lc_enumeration.specs.InformationSet.{is_member}
+use Rattle.lc_language.specs.declared.Call.TheVariants.{Gf, ReedMullerCode, BchCode, ReedSolomonCode, GoppaCode, AlternantCode, PuncturedCode, UuvCode, ConcatenatedCode, Decode, AlgebraicDecode, LeastWord, MinimumDistance, Certificate, ScanCertificate, WeightDistribution, AlternantCertificate, NearestWord}
 use Rattle.lc_language.specs.declared.Kind.TheVariants.{Number, Field, Numbers, Lists}
-use Rattle.lc_language.specs.Tree as tree
-use Rattle.lc_language.specs.Tree.{Expr, place_of}
-use Rattle.lc_language.specs.Value.{Value, number, field, numbers, lists, code, is_kind, as_kind, Binding, same_bytes, value_named}
+use Rattle.lc_grammar.specs.Tree as tree
+use Rattle.lc_grammar.specs.Tree.{place_of}
+use Rattle.lc_language.specs.Value.{Value, number, field, numbers, lists, code, is_kind, as_kind, Binding, value_named}
+use Rattle.lc_formats.specs.Text.{same_bytes, bracketed, numbers_text, line}
 use Rattle.lc_language.specs.Calls.{name_of, signatures, is_query, all_calls, call_named, signature_for}
-use Rattle.lc_language.specs.Refusal.{refuse, when, first_of, is_length, too_large, bad_length, bad_argument, reaches, repeated, place_of_point, repeated_point, root_at, not_subfield, fields_differ, codes_differ, is_rising, bad_positions, degree_over, concatenation_refusals, word_refusals, too_many_cosets, bch_refusals, is_symbol_size, bad_goppa, columns_of, lengths_differ, matrix_refusals, refusals_of, refusal_of}
-use Rattle.lc_language.specs.Print.{bracketed, numbers_text, line, least_line, least_none_line, distance_none_line}
-use Rattle.lc_language.specs.Query.{number_json, items, numbers_json}
+use Rattle.lc_constructions.specs.Code.{is_length}
+use Rattle.lc_constructions.specs.Coset.{too_many_cosets}
+use Rattle.lc_constructions.specs.Refusal.{refusal_number, refusal_values, refuse_if}
+use Rattle.lc_constructions.specs.Refusals.{columns_of, are_elements, have_elements, are_equally_long, is_rising, too_large, bad_length, bad_argument, not_subfield, first_place, repeated_point, root_at, fields_differ, lengths_differ, matrix_refusals, bch_refusals, is_size_of_symbol_field, reed_solomon_refusals, is_goppa_polynomial, goppa_refusals, form_refusals, alternant_refusals, reed_muller_refusals, deleted_refusals, uuv_refusals, degree_over, nested_refusals, concatenated_refusals}
+use Rattle.lc_language.specs.Refusal.{refuse, when, first_of, refusal_from, from_codes, word_refusals, coset_refusal, no_form, refusals_of, refusal_of}
+use Rattle.lc_language.specs.Print.{least_line, least_none_line, distance_none_line}
 use Rattle.lc_language.specs.Evaluation.{first_misfit, nothing_yet, all_numbers, all_lists, listed_with, list_value}
-use Rattle.lc_language.specs.Checkpoint.{Checkpoint, point, refused as unread, damaged, listed, each, plain_number, number_at, member_count}
-use Rattle.lc_language.specs.Session.{later_of}
-use Rattle.lc_language.specs.Check.{reads_as, refused_as, numbers_of, list_at, rows_at, provided, field_at, fit, are_rows, is_scan, are_places, claim_in, sets_at, fresh_in_basis, above, with_keys, certificate_over, levels_in, sets_in, way_in, distance_in, word_in, rows_in, field_in, object_in, data_in}
-use Rattle.lc_language.specs.Summary.{generator_words, seeded, summary_row}
 
 pub empty_lists : map (λ kind. map (is_kind kind) (numbers [] ∷ lists [] ∷ numbers (1 ∷ []) ∷ lists ((1 ∷ []) ∷ []) ∷ [])) (Numbers ∷ Lists ∷ Number ∷ []) ≡ (true ∷ true ∷ true ∷ false ∷ []) ∷ (true ∷ true ∷ false ∷ true ∷ []) ∷ (false ∷ false ∷ false ∷ false ∷ []) ∷ []
 unfolding is_kind
@@ -62,28 +55,28 @@ pub forms : map (signature_for BchCode) (2 ∷ 3 ∷ 4 ∷ []) ≡ None ∷ Some
 unfolding signatures signature_for
 forms = refl
 
-pub queries : filter is_query all_calls ≡ AlgebraicDecode ∷ LeastWord ∷ MinimumDistance ∷ Certificate ∷ ScanCertificate ∷ []
+pub queries : filter is_query all_calls ≡ AlgebraicDecode ∷ LeastWord ∷ MinimumDistance ∷ Certificate ∷ ScanCertificate ∷ WeightDistribution ∷ AlternantCertificate ∷ NearestWord ∷ []
 unfolding is_query all_calls
 queries = refl
 
 pub reed_muller : map (refusal_of ReedMullerCode) ((number 1 ∷ number 7 ∷ []) ∷ (number 1 ∷ number 8 ∷ []) ∷ (number 0 ∷ number 0 ∷ []) ∷ (number 4 ∷ number 3 ∷ []) ∷ (number 9 ∷ number 8 ∷ []) ∷ []) ≡ None ∷ Some (refuse 2 []) ∷ None ∷ Some (refuse 3 (1 ∷ [])) ∷ Some (refuse 2 []) ∷ []
-unfolding shape shape_of size is_symbol below refuse when first_of is_length too_large bad_length bad_argument reaches columns_of lengths_differ matrix_refusals all_fields locator_field residues number_of_residues plus minus times top up times_x product coefficients add mul value_at put_on trimmed is_subfield is_member repeated place_of_point repeated_point root_at not_subfield fields_differ codes_differ is_rising bad_positions degree_over concatenation_refusals word_refusals too_many_cosets bch_refusals is_symbol_size bad_goppa refusals_of refusal_of
+unfolding shape shape_of size is_symbol below refuse when first_of refusal_number refusal_values refuse_if refusal_from from_codes is_length too_large bad_length bad_argument are_elements have_elements are_equally_long columns_of lengths_differ matrix_refusals all_fields locator_field residues number_of_residues plus minus times top up times_x product coefficients add mul value_at put_on trimmed is_subfield first_from first_that first_place repeated_point root_at not_subfield fields_differ is_rising deleted_refusals uuv_refusals degree_over nested_refusals concatenated_refusals word_refusals too_many_cosets coset_refusal no_form bch_refusals is_size_of_symbol_field reed_solomon_refusals reed_muller_refusals is_goppa_polynomial goppa_refusals form_refusals alternant_refusals refusals_of refusal_of
 reed_muller = refl
 
 pub reed_solomon : map (refusal_of ReedSolomonCode) ((number 4 ∷ number 3 ∷ []) ∷ (number 14 ∷ number 3 ∷ []) ∷ (number 4 ∷ number 0 ∷ []) ∷ (number 4 ∷ number 5 ∷ []) ∷ (number 1 ∷ number 1 ∷ []) ∷ (number 24 ∷ number 1 ∷ []) ∷ []) ≡ None ∷ Some (refuse 7 []) ∷ Some (refuse 6 []) ∷ Some (refuse 6 []) ∷ None ∷ Some (refuse 7 []) ∷ []
-unfolding shape shape_of size is_symbol below refuse when first_of is_length too_large bad_length bad_argument reaches columns_of lengths_differ matrix_refusals all_fields locator_field residues number_of_residues plus minus times top up times_x product coefficients add mul value_at put_on trimmed is_subfield is_member repeated place_of_point repeated_point root_at not_subfield fields_differ codes_differ is_rising bad_positions degree_over concatenation_refusals word_refusals too_many_cosets bch_refusals is_symbol_size bad_goppa refusals_of refusal_of
+unfolding shape shape_of size is_symbol below refuse when first_of refusal_number refusal_values refuse_if refusal_from from_codes is_length too_large bad_length bad_argument are_elements have_elements are_equally_long columns_of lengths_differ matrix_refusals all_fields locator_field residues number_of_residues plus minus times top up times_x product coefficients add mul value_at put_on trimmed is_subfield first_from first_that first_place repeated_point root_at not_subfield fields_differ is_rising deleted_refusals uuv_refusals degree_over nested_refusals concatenated_refusals word_refusals too_many_cosets coset_refusal no_form bch_refusals is_size_of_symbol_field reed_solomon_refusals reed_muller_refusals is_goppa_polynomial goppa_refusals form_refusals alternant_refusals refusals_of refusal_of
 reed_solomon = refl
 
 pub bch : map (refusal_of BchCode) ((number 15 ∷ number 5 ∷ field Gf2 ∷ []) ∷ (number 4 ∷ number 3 ∷ field Gf2 ∷ []) ∷ (number 15 ∷ number 16 ∷ field Gf2 ∷ []) ∷ (number 15 ∷ number 1 ∷ field Gf2 ∷ []) ∷ (number 15 ∷ number 0 ∷ number 2 ∷ field Gf2 ∷ []) ∷ (number 0 ∷ number 2 ∷ field Gf25 ∷ []) ∷ (number 256 ∷ number 2 ∷ field Gf2 ∷ []) ∷ []) ≡ None ∷ Some (refuse 5 []) ∷ Some (refuse 6 []) ∷ Some (refuse 6 []) ∷ None ∷ Some (refuse 17 []) ∷ Some (refuse 2 []) ∷ []
-unfolding shape shape_of size is_symbol below refuse when first_of is_length too_large bad_length bad_argument reaches columns_of lengths_differ matrix_refusals all_fields locator_field residues number_of_residues plus minus times top up times_x product coefficients add mul value_at put_on trimmed is_subfield is_member repeated place_of_point repeated_point root_at not_subfield fields_differ codes_differ is_rising bad_positions degree_over concatenation_refusals word_refusals too_many_cosets bch_refusals is_symbol_size bad_goppa refusals_of refusal_of
+unfolding shape shape_of size is_symbol below refuse when first_of refusal_number refusal_values refuse_if refusal_from from_codes is_length too_large bad_length bad_argument are_elements have_elements are_equally_long columns_of lengths_differ matrix_refusals all_fields locator_field residues number_of_residues plus minus times top up times_x product coefficients add mul value_at put_on trimmed is_subfield first_from first_that first_place repeated_point root_at not_subfield fields_differ is_rising deleted_refusals uuv_refusals degree_over nested_refusals concatenated_refusals word_refusals too_many_cosets coset_refusal no_form bch_refusals is_size_of_symbol_field reed_solomon_refusals reed_muller_refusals is_goppa_polynomial goppa_refusals form_refusals alternant_refusals refusals_of refusal_of
 bch = refl
 
 pub goppa : map (refusal_of GoppaCode) ((numbers (1 ∷ 1 ∷ 1 ∷ []) ∷ numbers (0 ∷ 1 ∷ 2 ∷ []) ∷ field Gf8 ∷ field Gf2 ∷ []) ∷ (numbers (1 ∷ 1 ∷ 1 ∷ []) ∷ numbers (0 ∷ 1 ∷ 1 ∷ []) ∷ field Gf8 ∷ field Gf2 ∷ []) ∷ (numbers (0 ∷ 1 ∷ []) ∷ numbers (1 ∷ 0 ∷ []) ∷ field Gf8 ∷ field Gf2 ∷ []) ∷ (numbers (1 ∷ 0 ∷ 0 ∷ []) ∷ numbers (1 ∷ []) ∷ field Gf8 ∷ field Gf2 ∷ []) ∷ (numbers (1 ∷ 1 ∷ []) ∷ numbers (8 ∷ []) ∷ field Gf8 ∷ field Gf2 ∷ []) ∷ (numbers (1 ∷ 1 ∷ []) ∷ numbers (0 ∷ []) ∷ field Gf8 ∷ field Gf3 ∷ []) ∷ (numbers (1 ∷ 1 ∷ []) ∷ numbers [] ∷ field Gf8 ∷ field Gf2 ∷ []) ∷ []) ≡ None ∷ Some (refuse 8 (1 ∷ 2 ∷ [])) ∷ Some (refuse 9 (1 ∷ [])) ∷ Some (refuse 3 (1 ∷ [])) ∷ Some (refuse 3 (2 ∷ [])) ∷ Some (refuse 10 []) ∷ Some (refuse 2 []) ∷ []
-unfolding shape shape_of size is_symbol below refuse when first_of is_length too_large bad_length bad_argument reaches columns_of lengths_differ matrix_refusals all_fields locator_field residues number_of_residues plus minus times top up times_x product coefficients add mul value_at put_on trimmed is_subfield is_member repeated place_of_point repeated_point root_at not_subfield fields_differ codes_differ is_rising bad_positions degree_over concatenation_refusals word_refusals too_many_cosets bch_refusals is_symbol_size bad_goppa refusals_of refusal_of
+unfolding shape shape_of size is_symbol below refuse when first_of refusal_number refusal_values refuse_if refusal_from from_codes is_length too_large bad_length bad_argument are_elements have_elements are_equally_long columns_of lengths_differ matrix_refusals all_fields locator_field residues number_of_residues plus minus times top up times_x product coefficients add mul value_at put_on trimmed is_subfield first_from first_that first_place repeated_point root_at not_subfield fields_differ is_rising deleted_refusals uuv_refusals degree_over nested_refusals concatenated_refusals word_refusals too_many_cosets coset_refusal no_form bch_refusals is_size_of_symbol_field reed_solomon_refusals reed_muller_refusals is_goppa_polynomial goppa_refusals form_refusals alternant_refusals refusals_of refusal_of
 goppa = refl
 
 pub alternant : map (refusal_of AlternantCode) ((number 2 ∷ numbers (0 ∷ 1 ∷ 2 ∷ []) ∷ numbers (1 ∷ 1 ∷ 1 ∷ []) ∷ field Gf5 ∷ field Gf5 ∷ []) ∷ (number 2 ∷ numbers (0 ∷ 1 ∷ 2 ∷ []) ∷ numbers (1 ∷ 1 ∷ []) ∷ field Gf5 ∷ field Gf5 ∷ []) ∷ (number 0 ∷ numbers (0 ∷ 1 ∷ []) ∷ numbers (1 ∷ 1 ∷ []) ∷ field Gf5 ∷ field Gf5 ∷ []) ∷ (number 3 ∷ numbers (0 ∷ 1 ∷ []) ∷ numbers (1 ∷ 1 ∷ []) ∷ field Gf5 ∷ field Gf5 ∷ []) ∷ (number 1 ∷ numbers (0 ∷ 1 ∷ []) ∷ numbers (1 ∷ 0 ∷ []) ∷ field Gf5 ∷ field Gf5 ∷ []) ∷ (number 1 ∷ numbers (3 ∷ 0 ∷ 1 ∷ 0 ∷ []) ∷ numbers (1 ∷ 1 ∷ 1 ∷ 1 ∷ []) ∷ field Gf5 ∷ field Gf5 ∷ []) ∷ []) ≡ None ∷ Some (refuse 12 []) ∷ Some (refuse 3 (1 ∷ [])) ∷ Some (refuse 3 (1 ∷ [])) ∷ Some (refuse 3 (3 ∷ [])) ∷ Some (refuse 8 (1 ∷ 3 ∷ [])) ∷ []
-unfolding shape shape_of size is_symbol below refuse when first_of is_length too_large bad_length bad_argument reaches columns_of lengths_differ matrix_refusals all_fields locator_field residues number_of_residues plus minus times top up times_x product coefficients add mul value_at put_on trimmed is_subfield is_member repeated place_of_point repeated_point root_at not_subfield fields_differ codes_differ is_rising bad_positions degree_over concatenation_refusals word_refusals too_many_cosets bch_refusals is_symbol_size bad_goppa refusals_of refusal_of
+unfolding shape shape_of size is_symbol below refuse when first_of refusal_number refusal_values refuse_if refusal_from from_codes is_length too_large bad_length bad_argument are_elements have_elements are_equally_long columns_of lengths_differ matrix_refusals all_fields locator_field residues number_of_residues plus minus times top up times_x product coefficients add mul value_at put_on trimmed is_subfield first_from first_that first_place repeated_point root_at not_subfield fields_differ is_rising deleted_refusals uuv_refusals degree_over nested_refusals concatenated_refusals word_refusals too_many_cosets coset_refusal no_form bch_refusals is_size_of_symbol_field reed_solomon_refusals reed_muller_refusals is_goppa_polynomial goppa_refusals form_refusals alternant_refusals refusals_of refusal_of
 alternant = refl
 
 abbrev pub code_of : FieldName → ℕ → List (List ℕ) → Value
@@ -93,27 +86,27 @@ abbrev pub repetition : ℕ → Value
 repetition n = code_of Gf2 n (replicate n 1 ∷ [])
 
 pub positions : map (refusal_of PuncturedCode) ((repetition 3 ∷ numbers (0 ∷ 2 ∷ []) ∷ []) ∷ (repetition 3 ∷ numbers [] ∷ []) ∷ (repetition 3 ∷ numbers (2 ∷ 0 ∷ []) ∷ []) ∷ (repetition 3 ∷ numbers (1 ∷ 1 ∷ []) ∷ []) ∷ (repetition 3 ∷ numbers (3 ∷ []) ∷ []) ∷ (repetition 2 ∷ numbers (0 ∷ 1 ∷ []) ∷ []) ∷ []) ≡ None ∷ None ∷ Some (refuse 13 []) ∷ Some (refuse 13 []) ∷ Some (refuse 13 []) ∷ Some (refuse 13 []) ∷ []
-unfolding shape shape_of size is_symbol below refuse when first_of is_length too_large bad_length bad_argument reaches columns_of lengths_differ matrix_refusals all_fields locator_field residues number_of_residues plus minus times top up times_x product coefficients add mul value_at put_on trimmed is_subfield is_member repeated place_of_point repeated_point root_at not_subfield fields_differ codes_differ is_rising bad_positions degree_over concatenation_refusals word_refusals too_many_cosets bch_refusals is_symbol_size bad_goppa refusals_of refusal_of
+unfolding shape shape_of size is_symbol below refuse when first_of refusal_number refusal_values refuse_if refusal_from from_codes is_length too_large bad_length bad_argument are_elements have_elements are_equally_long columns_of lengths_differ matrix_refusals all_fields locator_field residues number_of_residues plus minus times top up times_x product coefficients add mul value_at put_on trimmed is_subfield first_from first_that first_place repeated_point root_at not_subfield fields_differ is_rising deleted_refusals uuv_refusals degree_over nested_refusals concatenated_refusals word_refusals too_many_cosets coset_refusal no_form bch_refusals is_size_of_symbol_field reed_solomon_refusals reed_muller_refusals is_goppa_polynomial goppa_refusals form_refusals alternant_refusals refusals_of refusal_of
 positions = refl
 
 pub pairs : map (refusal_of UuvCode) ((repetition 2 ∷ repetition 2 ∷ []) ∷ (repetition 2 ∷ repetition 3 ∷ []) ∷ (code_of Gf2 128 [] ∷ code_of Gf2 128 [] ∷ []) ∷ (code_of Gf3 2 [] ∷ repetition 3 ∷ []) ∷ []) ≡ None ∷ Some (refuse 12 []) ∷ Some (refuse 2 []) ∷ Some (refuse 11 []) ∷ []
-unfolding shape shape_of size is_symbol below refuse when first_of is_length too_large bad_length bad_argument reaches columns_of lengths_differ matrix_refusals all_fields locator_field residues number_of_residues plus minus times top up times_x product coefficients add mul value_at put_on trimmed is_subfield is_member repeated place_of_point repeated_point root_at not_subfield fields_differ codes_differ is_rising bad_positions degree_over concatenation_refusals word_refusals too_many_cosets bch_refusals is_symbol_size bad_goppa refusals_of refusal_of
+unfolding shape shape_of size is_symbol below refuse when first_of refusal_number refusal_values refuse_if refusal_from from_codes is_length too_large bad_length bad_argument are_elements have_elements are_equally_long columns_of lengths_differ matrix_refusals all_fields locator_field residues number_of_residues plus minus times top up times_x product coefficients add mul value_at put_on trimmed is_subfield first_from first_that first_place repeated_point root_at not_subfield fields_differ is_rising deleted_refusals uuv_refusals degree_over nested_refusals concatenated_refusals word_refusals too_many_cosets coset_refusal no_form bch_refusals is_size_of_symbol_field reed_solomon_refusals reed_muller_refusals is_goppa_polynomial goppa_refusals form_refusals alternant_refusals refusals_of refusal_of
 pairs = refl
 
 pub concatenated : map (refusal_of ConcatenatedCode) ((code_of Gf4 3 [] ∷ repetition 3 ∷ []) ∷ (code_of Gf4 3 [] ∷ code_of Gf2 3 ((1 ∷ 0 ∷ 1 ∷ []) ∷ (0 ∷ 1 ∷ 1 ∷ []) ∷ []) ∷ []) ∷ (code_of Gf3 3 [] ∷ repetition 3 ∷ []) ∷ (code_of Gf4 86 [] ∷ code_of Gf2 3 ((1 ∷ 0 ∷ 1 ∷ []) ∷ (0 ∷ 1 ∷ 1 ∷ []) ∷ []) ∷ []) ∷ []) ≡ Some (refuse 14 (1 ∷ 2 ∷ [])) ∷ None ∷ Some (refuse 11 []) ∷ Some (refuse 2 []) ∷ []
-unfolding shape shape_of size is_symbol below refuse when first_of is_length too_large bad_length bad_argument reaches columns_of lengths_differ matrix_refusals all_fields locator_field residues number_of_residues plus minus times top up times_x product coefficients add mul value_at put_on trimmed is_subfield is_member repeated place_of_point repeated_point root_at not_subfield fields_differ codes_differ is_rising bad_positions degree_over concatenation_refusals word_refusals too_many_cosets bch_refusals is_symbol_size bad_goppa refusals_of refusal_of
+unfolding shape shape_of size is_symbol below refuse when first_of refusal_number refusal_values refuse_if refusal_from from_codes is_length too_large bad_length bad_argument are_elements have_elements are_equally_long columns_of lengths_differ matrix_refusals all_fields locator_field residues number_of_residues plus minus times top up times_x product coefficients add mul value_at put_on trimmed is_subfield first_from first_that first_place repeated_point root_at not_subfield fields_differ is_rising deleted_refusals uuv_refusals degree_over nested_refusals concatenated_refusals word_refusals too_many_cosets coset_refusal no_form bch_refusals is_size_of_symbol_field reed_solomon_refusals reed_muller_refusals is_goppa_polynomial goppa_refusals form_refusals alternant_refusals refusals_of refusal_of
 concatenated = refl
 
 pub decoded : map (refusal_of Decode) ((repetition 2 ∷ numbers (1 ∷ 0 ∷ []) ∷ []) ∷ (repetition 2 ∷ numbers (1 ∷ []) ∷ []) ∷ (repetition 2 ∷ numbers (1 ∷ 2 ∷ []) ∷ []) ∷ (code_of Gf2 21 [] ∷ numbers (replicate 21 0) ∷ []) ∷ (code_of Gf2 20 [] ∷ numbers (replicate 20 0) ∷ []) ∷ []) ≡ None ∷ Some (refuse 12 []) ∷ Some (refuse 3 (2 ∷ [])) ∷ Some (refuse 15 (21 ∷ [])) ∷ None ∷ []
-unfolding shape shape_of size is_symbol below refuse when first_of is_length too_large bad_length bad_argument reaches columns_of lengths_differ matrix_refusals all_fields locator_field residues number_of_residues plus minus times top up times_x product coefficients add mul value_at put_on trimmed is_subfield is_member repeated place_of_point repeated_point root_at not_subfield fields_differ codes_differ is_rising bad_positions degree_over concatenation_refusals word_refusals too_many_cosets bch_refusals is_symbol_size bad_goppa refusals_of refusal_of
+unfolding shape shape_of size is_symbol below refuse when first_of refusal_number refusal_values refuse_if refusal_from from_codes is_length too_large bad_length bad_argument are_elements have_elements are_equally_long columns_of lengths_differ matrix_refusals all_fields locator_field residues number_of_residues plus minus times top up times_x product coefficients add mul value_at put_on trimmed is_subfield first_from first_that first_place repeated_point root_at not_subfield fields_differ is_rising deleted_refusals uuv_refusals degree_over nested_refusals concatenated_refusals word_refusals too_many_cosets coset_refusal no_form bch_refusals is_size_of_symbol_field reed_solomon_refusals reed_muller_refusals is_goppa_polynomial goppa_refusals form_refusals alternant_refusals refusals_of refusal_of
 decoded = refl
 
 pub algebraic : map (refusal_of AlgebraicDecode) ((repetition 2 ∷ numbers (0 ∷ []) ∷ []) ∷ []) ≡ Some (refuse 18 []) ∷ []
-unfolding shape shape_of size is_symbol below refuse when first_of is_length too_large bad_length bad_argument reaches columns_of lengths_differ matrix_refusals all_fields locator_field residues number_of_residues plus minus times top up times_x product coefficients add mul value_at put_on trimmed is_subfield is_member repeated place_of_point repeated_point root_at not_subfield fields_differ codes_differ is_rising bad_positions degree_over concatenation_refusals word_refusals too_many_cosets bch_refusals is_symbol_size bad_goppa refusals_of refusal_of
+unfolding shape shape_of size is_symbol below refuse when first_of refusal_number refusal_values refuse_if refusal_from from_codes is_length too_large bad_length bad_argument are_elements have_elements are_equally_long columns_of lengths_differ matrix_refusals all_fields locator_field residues number_of_residues plus minus times top up times_x product coefficients add mul value_at put_on trimmed is_subfield first_from first_that first_place repeated_point root_at not_subfield fields_differ is_rising deleted_refusals uuv_refusals degree_over nested_refusals concatenated_refusals word_refusals too_many_cosets coset_refusal no_form bch_refusals is_size_of_symbol_field reed_solomon_refusals reed_muller_refusals is_goppa_polynomial goppa_refusals form_refusals alternant_refusals refusals_of refusal_of
 algebraic = refl
 
 pub many_words : map (λ n. refusal_of LeastWord (lists (replicate n (1 ∷ [])) ∷ field Gf2 ∷ [])) (0 ∷ 16 ∷ 17 ∷ []) ≡ Some (refuse 2 []) ∷ None ∷ Some (refuse 16 []) ∷ []
-unfolding shape shape_of size is_symbol below refuse when first_of is_length too_large bad_length bad_argument reaches columns_of lengths_differ matrix_refusals all_fields locator_field residues number_of_residues plus minus times top up times_x product coefficients add mul value_at put_on trimmed is_subfield is_member repeated place_of_point repeated_point root_at not_subfield fields_differ codes_differ is_rising bad_positions degree_over concatenation_refusals word_refusals too_many_cosets bch_refusals is_symbol_size bad_goppa refusals_of refusal_of
+unfolding shape shape_of size is_symbol below refuse when first_of refusal_number refusal_values refuse_if refusal_from from_codes is_length too_large bad_length bad_argument are_elements have_elements are_equally_long columns_of lengths_differ matrix_refusals all_fields locator_field residues number_of_residues plus minus times top up times_x product coefficients add mul value_at put_on trimmed is_subfield first_from first_that first_place repeated_point root_at not_subfield fields_differ is_rising deleted_refusals uuv_refusals degree_over nested_refusals concatenated_refusals word_refusals too_many_cosets coset_refusal no_form bch_refusals is_size_of_symbol_field reed_solomon_refusals reed_muller_refusals is_goppa_polynomial goppa_refusals form_refusals alternant_refusals refusals_of refusal_of
 many_words = refl
 
 -- elements with their places
@@ -140,48 +133,3 @@ misfits = refl
 pub least : least_line 2 (0 ∷ 1 ∷ 1 ∷ []) ++ least_none_line ++ distance_none_line ≡ codes "least 2 word [0,1,1]" ++ 10 ∷ codes "least none" ++ 10 ∷ codes "distance none" ++ 10 ∷ []
 unfolding digits bracketed numbers_text line least_line least_none_line distance_none_line
 least = refl
-
-abbrev pub of_turn : ℕ → ℕ → Checkpoint
-of_turn turn blocks = record { script = []; budget = 9; turn = turn; settled = []; blocks = blocks; weight = 1; place = 0 }
-
-pub later : later_of (point (of_turn 2 1)) (point (of_turn 3 2)) ∷ later_of (point (of_turn 4 1)) (point (of_turn 3 2)) ∷ later_of (point (of_turn 3 1)) (point (of_turn 3 2)) ∷ later_of (unread damaged) (point (of_turn 3 2)) ∷ later_of (unread damaged) (unread damaged) ∷ [] ≡ Some (of_turn 3 2) ∷ Some (of_turn 4 1) ∷ Some (of_turn 3 1) ∷ Some (of_turn 3 2) ∷ None ∷ []
-unfolding later_of
-later = refl
-
--- a certificate by levels of the repetition code of length 2: its sets, and what stands behind the key `sets`
-abbrev pub with_rows : Data → Data → Data → Members → Members
-with_rows rows word sets rest =
-    member (codes "by") (string (codes "levels")) (member (codes "distance") (number_json 2) (member (codes "field") (number_json 2) (member (codes "rows") rows (member (codes "sets") sets (member (codes "version") (number_json 1) (member (codes "word") word rest))))))
-
-abbrev pub one_row : Data
-one_row = array (items (numbers_json (1 ∷ 1 ∷ []) ∷ []))
-
-abbrev pub set_of : List ℕ → List ℕ → Members → Data
-set_of basis fresh rest = object (member (codes "basis") (numbers_json basis) (member (codes "fresh") (numbers_json fresh) (member (codes "level") (number_json 0) rest)))
-
-abbrev pub of_sets : List Data → Option Data
-of_sets sets = Some (object (with_rows one_row (numbers_json (1 ∷ 1 ∷ [])) (array (items sets)) no_members))
-
-pub reads_levels : data_in (of_sets (set_of (0 ∷ []) (0 ∷ []) no_members ∷ set_of (1 ∷ []) (1 ∷ []) no_members ∷ [])) ≡ reads_as (record { field = Gf2; rows = (1 ∷ 1 ∷ []) ∷ []; word = 1 ∷ 1 ∷ []; distance = 2; proof = levels (record { basis = 0 ∷ []; fresh = 0 ∷ []; level = 0 } ∷ record { basis = 1 ∷ []; fresh = 1 ∷ []; level = 0 } ∷ []) })
-unfolding number_json items numbers_json shape shape_of size is_symbol all_fields is_member same_bytes is_rising columns_of reaches listed each plain_number number_at member_count numbers_of list_at rows_at provided field_at fit are_rows is_scan are_places claim_in sets_at fresh_in_basis above with_keys certificate_over levels_in sets_in way_in distance_in word_in rows_in field_in object_in data_in
-reads_levels = refl
-
-pub broken_sets : map (λ sets. data_in (of_sets sets)) ([] ∷ (null ∷ []) ∷ (set_of (1 ∷ 0 ∷ []) [] no_members ∷ []) ∷ (set_of (2 ∷ []) [] no_members ∷ []) ∷ (set_of (0 ∷ []) (1 ∷ []) no_members ∷ object no_members ∷ []) ∷ (set_of (0 ∷ []) (1 ∷ []) no_members ∷ []) ∷ (set_of (0 ∷ []) [] (member (codes "of") null no_members) ∷ []) ∷ []) ≡ map (λ rule. refused_as (broken rule)) (8 ∷ 8 ∷ 9 ∷ 9 ∷ 9 ∷ 10 ∷ 11 ∷ [])
-unfolding number_json items numbers_json shape shape_of size is_symbol all_fields is_member same_bytes is_rising columns_of reaches listed each plain_number number_at member_count numbers_of list_at rows_at provided field_at fit are_rows is_scan are_places claim_in sets_at fresh_in_basis above with_keys certificate_over levels_in sets_in way_in distance_in word_in rows_in field_in object_in data_in
-broken_sets = refl
-
-pub broken_rows : map (λ rows. data_in (Some (object (with_rows rows (numbers_json (1 ∷ 1 ∷ 1 ∷ [])) null no_members)))) (null ∷ array (items []) ∷ array (items (numbers_json [] ∷ [])) ∷ array (items (numbers_json (1 ∷ 2 ∷ []) ∷ [])) ∷ array (items (numbers_json (1 ∷ 1 ∷ []) ∷ numbers_json (1 ∷ []) ∷ [])) ∷ one_row ∷ []) ≡ map (λ rule. refused_as (broken rule)) (4 ∷ 4 ∷ 4 ∷ 4 ∷ 4 ∷ 5 ∷ [])
-unfolding number_json items numbers_json shape shape_of size is_symbol all_fields is_member same_bytes is_rising columns_of reaches listed each plain_number number_at member_count numbers_of list_at rows_at provided field_at fit are_rows is_scan are_places claim_in sets_at fresh_in_basis above with_keys certificate_over levels_in sets_in way_in distance_in word_in rows_in field_in object_in data_in
-broken_rows = refl
-
-pub too_many_rows : data_in (Some (object (with_rows (array (items (replicate 256 (numbers_json (1 ∷ 1 ∷ []))))) (numbers_json (1 ∷ 1 ∷ [])) (array (items (set_of [] [] no_members ∷ []))) no_members))) ≡ refused_as limit
-unfolding number_json items numbers_json shape shape_of size is_symbol all_fields is_member same_bytes is_rising columns_of reaches listed each plain_number number_at member_count numbers_of list_at rows_at provided field_at fit are_rows is_scan are_places claim_in sets_at fresh_in_basis above with_keys certificate_over levels_in sets_in way_in distance_in word_in rows_in field_in object_in data_in
-too_many_rows = refl
-
-pub summary_words : generator_words 3 (seeded 1) ≡ 866585574 ∷ 2109535214 ∷ 3403630417 ∷ []
-unfolding word_bytes u32_at pcg32_seed generator_words seeded
-summary_words = refl
-
-pub first_row : summary_row 0 866585574 ≡ 1 ∷ replicate 23 0 ++ 0 ∷ 1 ∷ 1 ∷ 0 ∷ 0 ∷ 1 ∷ 1 ∷ 1 ∷ 1 ∷ 1 ∷ 0 ∷ 1 ∷ 0 ∷ 0 ∷ 0 ∷ 0 ∷ 1 ∷ 1 ∷ 1 ∷ 0 ∷ 0 ∷ 1 ∷ 0 ∷ 1 ∷ []
-unfolding below unit_word summary_row
-first_row = refl

@@ -1,12 +1,4 @@
-pub mod CheckExamples
-pub mod CheckpointExamples
-pub mod Course
-pub mod FaultLaws
-pub mod FirstFault
-pub mod FormatExamples
-pub mod GrammarExamples
-pub mod GrammarLaws
-pub mod LineExamples
-pub mod ScriptLaws
 pub mod LanguageExamples
+pub mod LineExamples
+pub mod QueryExamples
 pub mod TextExamples

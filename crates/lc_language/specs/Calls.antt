@@ -7,10 +7,10 @@
 --   signature_for c n     the kinds of its arguments, where it takes n of them
 use Rattle.std.specs.Prelude.{ℕ, Bool, true, false, ◌==◌, List, [], ◌∷◌, length, find, codes, Option}
 use Rattle.lc_language.specs.declared.Call.{Call}
-use Rattle.lc_language.specs.declared.Call.TheVariants.{Gf, GeneratorMatCode, CheckMatCode, RepetitionCode, WholeSpaceCode, NullCode, HammingCode, ReedMullerCode, GeneratorPolCode, CheckPolCode, BinaryGolayCode, TernaryGolayCode, ExtendedBinaryGolayCode, ExtendedTernaryGolayCode, BchCode, ReedSolomonCode, GoppaCode, AlternantCode, DualCode, ExtendedCode, PuncturedCode, ShortenedCode, EvenWeightSubcode, DirectSumCode, UuvCode, DirectProductCode, IntersectionCode, ConcatenatedCode, Dimension, WordLength, GeneratorMat, CheckMat, Weight, IsCodeword, Decode, AlgebraicDecode, LeastWord, MinimumDistance, Certificate, ScanCertificate}
+use Rattle.lc_language.specs.declared.Call.TheVariants.{Gf, GeneratorMatCode, CheckMatCode, RepetitionCode, WholeSpaceCode, NullCode, HammingCode, ReedMullerCode, GeneratorPolCode, CheckPolCode, BinaryGolayCode, TernaryGolayCode, ExtendedBinaryGolayCode, ExtendedTernaryGolayCode, BchCode, ReedSolomonCode, GoppaCode, AlternantCode, DualCode, ExtendedCode, PuncturedCode, ShortenedCode, EvenWeightSubcode, DirectSumCode, UuvCode, DirectProductCode, IntersectionCode, ConcatenatedCode, Dimension, WordLength, GeneratorMat, CheckMat, Weight, IsCodeword, Decode, AlgebraicDecode, LeastWord, MinimumDistance, Certificate, ScanCertificate, WeightDistribution, AlternantCertificate, NearestWord}
 use Rattle.lc_language.specs.declared.Kind.{Kind}
 use Rattle.lc_language.specs.declared.Kind.TheVariants.{Number, Field, Numbers, Lists, Code}
-use Rattle.lc_language.specs.Value.{same_bytes}
+use Rattle.lc_formats.specs.Text.{same_bytes}
 
 unfoldable pub name_of : Call → List ℕ
 name_of Gf = codes "GF"
@@ -53,6 +53,9 @@ name_of LeastWord = codes "LeastWord"
 name_of MinimumDistance = codes "MinimumDistance"
 name_of Certificate = codes "Certificate"
 name_of ScanCertificate = codes "ScanCertificate"
+name_of WeightDistribution = codes "WeightDistribution"
+name_of AlternantCertificate = codes "AlternantCertificate"
+name_of NearestWord = codes "NearestWord"
 
 unfoldable pub one : List Kind → List (List Kind)
 one kinds = kinds ∷ []
@@ -98,6 +101,9 @@ signatures LeastWord = one (Lists ∷ Field ∷ [])
 signatures MinimumDistance = one (Code ∷ [])
 signatures Certificate = one (Code ∷ [])
 signatures ScanCertificate = one (Code ∷ [])
+signatures WeightDistribution = one (Code ∷ [])
+signatures AlternantCertificate = one (Code ∷ Numbers ∷ [])
+signatures NearestWord = one (Code ∷ Numbers ∷ [])
 
 unfoldable pub is_query : Call → Bool
 is_query AlgebraicDecode = true
@@ -105,10 +111,13 @@ is_query LeastWord = true
 is_query MinimumDistance = true
 is_query Certificate = true
 is_query ScanCertificate = true
+is_query WeightDistribution = true
+is_query AlternantCertificate = true
+is_query NearestWord = true
 is_query _ = false
 
 unfoldable pub all_calls : List Call
-all_calls = Gf ∷ GeneratorMatCode ∷ CheckMatCode ∷ RepetitionCode ∷ WholeSpaceCode ∷ NullCode ∷ HammingCode ∷ ReedMullerCode ∷ GeneratorPolCode ∷ CheckPolCode ∷ BinaryGolayCode ∷ TernaryGolayCode ∷ ExtendedBinaryGolayCode ∷ ExtendedTernaryGolayCode ∷ BchCode ∷ ReedSolomonCode ∷ GoppaCode ∷ AlternantCode ∷ DualCode ∷ ExtendedCode ∷ PuncturedCode ∷ ShortenedCode ∷ EvenWeightSubcode ∷ DirectSumCode ∷ UuvCode ∷ DirectProductCode ∷ IntersectionCode ∷ ConcatenatedCode ∷ Dimension ∷ WordLength ∷ GeneratorMat ∷ CheckMat ∷ Weight ∷ IsCodeword ∷ Decode ∷ AlgebraicDecode ∷ LeastWord ∷ MinimumDistance ∷ Certificate ∷ ScanCertificate ∷ []
+all_calls = Gf ∷ GeneratorMatCode ∷ CheckMatCode ∷ RepetitionCode ∷ WholeSpaceCode ∷ NullCode ∷ HammingCode ∷ ReedMullerCode ∷ GeneratorPolCode ∷ CheckPolCode ∷ BinaryGolayCode ∷ TernaryGolayCode ∷ ExtendedBinaryGolayCode ∷ ExtendedTernaryGolayCode ∷ BchCode ∷ ReedSolomonCode ∷ GoppaCode ∷ AlternantCode ∷ DualCode ∷ ExtendedCode ∷ PuncturedCode ∷ ShortenedCode ∷ EvenWeightSubcode ∷ DirectSumCode ∷ UuvCode ∷ DirectProductCode ∷ IntersectionCode ∷ ConcatenatedCode ∷ Dimension ∷ WordLength ∷ GeneratorMat ∷ CheckMat ∷ Weight ∷ IsCodeword ∷ Decode ∷ AlgebraicDecode ∷ LeastWord ∷ MinimumDistance ∷ Certificate ∷ ScanCertificate ∷ WeightDistribution ∷ AlternantCertificate ∷ NearestWord ∷ []
 
 unfoldable pub call_named : List Call → List ℕ → Option Call
 call_named table x = find (λ c. same_bytes x (name_of c)) table

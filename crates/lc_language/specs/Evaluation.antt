@@ -23,12 +23,13 @@ use Rattle.lc_algebra.specs.Matrix.{Matrix}
 use Rattle.lc_language.specs.declared.Call.{Call}
 use Rattle.lc_language.specs.declared.Call.TheVariants.{AlgebraicDecode, LeastWord, MinimumDistance, Certificate, ScanCertificate}
 use Rattle.lc_language.specs.declared.Kind.{Kind}
-use Rattle.lc_language.specs.Tree.{Expr, Exprs, number, name, call, list, none, more, Statement, place_of, count_of}
-use Rattle.lc_language.specs.Grammar.{Reads, Fault, IsFault}
+use Rattle.lc_grammar.specs.Tree.{Expr, Exprs, number, name, call, list, none, more, Statement, place_of, count_of}
+use Rattle.lc_grammar.specs.Grammar.{Reads, Fault, IsFault}
 use Rattle.lc_language.specs.Value as value
 use Rattle.lc_language.specs.Value.{Value, is_kind, as_kind, Binding, value_named}
 use Rattle.lc_language.specs.Calls.{call_named, signature_for, is_query}
-use Rattle.lc_language.specs.Refusal.{Refusal, refusal_of, columns_of}
+use Rattle.lc_language.specs.Refusal.{Refusal, refusal_of}
+use Rattle.lc_constructions.specs.Refusals.{columns_of}
 use Rattle.lc_language.specs.Meaning.{Gives, IsNotDivisor}
 use Rattle.lc_language.specs.Print.{value_line, fault_line, least_line, least_none_line}
 use Rattle.lc_language.specs.Query.{QueryKind, distance, by_levels, by_scan, query_line}

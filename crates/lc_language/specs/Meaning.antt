@@ -2,6 +2,7 @@
 --   Made f n P v            v is the code over f of length n of the words that meet P, with no alternant form
 --   MadeWith f n P form v   .. with this form
 --   Gives c arguments v     the value of the call
+--   decoded o               a decoder's answer as a value: the word, or nothing
 --   IsNotDivisor c arguments      the polynomial of a cyclic code doesn't divide x^n - 1: refusal 4
 use Rattle.std.specs.Prelude.{◌≡◌, ℕ, ◌+◌, ◌-◌, ◌*◌, ◌/◌, ◌%◌, ◌^◌, ◌⊎◌, ◌↔◌, Bool, IsTrue, List, [], ◌∷◌, length, Option, Some, None}
 use Rattle.lc_algebra.specs.declared.FieldName.{FieldName}
@@ -16,11 +17,11 @@ use Rattle.lc_constructions.specs.Cyclic.{trimmed, IsMultipleOf, IsCheckedBy, bi
 use Rattle.lc_constructions.specs.Alternant.{AlternantForm, IsAlternantWord, IsGoppaWord, goppa_form, bch_form}
 use Rattle.lc_constructions.specs.Combined.{InDual, InExtended, InPunctured, InShortened, InEvenWeight, InDirectSum, InUuv, InDirectProduct, InIntersection}
 use Rattle.lc_constructions.specs.Concatenated.{InConcatenated}
-use Rattle.lc_constructions.specs.Nearest.{IsNearest, IsWithin}
+use Rattle.lc_constructions.specs.Nearest.{IsNearest, IsDecoded}
 use Rattle.lc_language.specs.declared.Call.{Call}
 use Rattle.lc_language.specs.declared.Call.TheVariants.{Gf, GeneratorMatCode, CheckMatCode, RepetitionCode, WholeSpaceCode, NullCode, HammingCode, ReedMullerCode, GeneratorPolCode, CheckPolCode, BinaryGolayCode, TernaryGolayCode, ExtendedBinaryGolayCode, ExtendedTernaryGolayCode, BchCode, ReedSolomonCode, GoppaCode, AlternantCode, DualCode, ExtendedCode, PuncturedCode, ShortenedCode, EvenWeightSubcode, DirectSumCode, UuvCode, DirectProductCode, IntersectionCode, ConcatenatedCode, Dimension, WordLength, GeneratorMat, CheckMat, Weight, IsCodeword, Decode, AlgebraicDecode}
 use Rattle.lc_language.specs.Value.{Value, number, field, numbers, lists, code, truth, nothing}
-use Rattle.lc_language.specs.Refusal.{columns_of}
+use Rattle.lc_constructions.specs.Refusals.{columns_of}
 
 pub record IsCodeValue (f : FieldName) (n : ℕ) (P : List ℕ → Type 0) (form : Option AlternantForm) (v : Value) : Type 0 where
   pub code_is : (C : Matrix) × IsCode f n P C × (v ≡ code C form)
@@ -44,11 +45,10 @@ IsBch f n b d v = (K : FieldName) × (locator_field f n ≡ Some K) × MadeWith 
 abbrev pub IsReedSolomon : ℕ → ℕ → Value → Type 0
 IsReedSolomon n d v = (f : FieldName) × (size f ≡ n + 1) × IsTrue (is_symbol f) × MadeWith f n (IsReedSolomonWord f d) (bch_form f n 1 d) v
 
--- the one word within half of the checks, or nothing where there is none
-abbrev pub IsDecoded : Matrix → AlternantForm → List ℕ → Value → Type 0
-IsDecoded C form x v =
-    ((w : List ℕ) × IsWithin C x (form.r / 2) w × (v ≡ numbers w))
-    ⊎ ((v ≡ nothing) × ((w : List ℕ) → ¬ IsWithin C x (form.r / 2) w))
+-- a decoder's answer as a value
+unfoldable pub decoded : Option (List ℕ) → Value
+decoded None = nothing
+decoded (Some w) = numbers w
 
 abbrev pub Gives : Call → List Value → Value → Type 0
 Gives Gf (number q ∷ []) v = (f : FieldName) × (size f ≡ q) × (v ≡ field f)
@@ -89,7 +89,7 @@ Gives CheckMat (code C _ ∷ []) v = (D : Matrix) × IsCode C.field C.columns (I
 Gives Weight (numbers x ∷ []) v = v ≡ number (weight x)
 Gives IsCodeword (code C _ ∷ numbers x ∷ []) v = (b : Bool) × (v ≡ truth b) × (IsTrue b ↔ InCode C x)
 Gives Decode (code C _ ∷ numbers x ∷ []) v = (w : List ℕ) × IsNearest C x w × (v ≡ numbers w)
-Gives AlgebraicDecode (code C (Some form) ∷ numbers x ∷ []) v = IsDecoded C form x v
+Gives AlgebraicDecode (code C (Some form) ∷ numbers x ∷ []) v = (o : Option (List ℕ)) × IsDecoded C form x o × (v ≡ decoded o)
 Gives _ _ v = ⊥
 
 abbrev pub IsNotDivisor : Call → List Value → Type 0

@@ -1,22 +1,12 @@
 -- The lines that a session prints, each with its newline.
---   numbers_text u, lists_text rows        [1,0,3] and [[1,0],[0,1]]; [] for an empty list
 --   value_line v                           a value's line
 --   fault_line n place values              a fault's line
 --   least_line d w, least_none_line        what LeastWord prints
 --   distance_line, bracket_line, distance_none_line      what MinimumDistance prints
-use Rattle.std.specs.Prelude.{ℕ, true, false, List, [], ◌∷◌, ◌++◌, length, map, codes, decimal}
-use Rattle.std.specs.List.{join_with_byte}
+use Rattle.std.specs.Prelude.{ℕ, true, false, List, ◌++◌, length, codes, decimal}
 use Rattle.lc_algebra.specs.Field.{size}
 use Rattle.lc_language.specs.Value.{Value, number, field, numbers, lists, code, truth, nothing}
-
-unfoldable pub bracketed : List (List ℕ) → List ℕ
-bracketed texts = codes "[" ++ join_with_byte 44 texts ++ codes "]"
-
-unfoldable pub numbers_text : List ℕ → List ℕ
-numbers_text u = bracketed (map decimal u)
-
-unfoldable pub lists_text : List (List ℕ) → List ℕ
-lists_text rows = bracketed (map numbers_text rows)
+use Rattle.lc_formats.specs.Text.{numbers_text, lists_text, line, with_values}
 
 unfoldable pub field_text : ℕ → List ℕ
 field_text q = codes "GF(" ++ decimal q ++ codes ")"
@@ -34,20 +24,8 @@ value_text (truth true) = codes "true"
 value_text (truth false) = codes "false"
 value_text nothing = codes "none"
 
-unfoldable pub line : List ℕ → List ℕ
-line text = text ++ 10 ∷ []
-
 unfoldable pub value_line : Value → List ℕ
 value_line v = line (value_text v)
-
--- each number with a space before it
-unfoldable pub spaced : List ℕ → List ℕ
-spaced [] = []
-spaced (n ∷ values) = codes " " ++ decimal n ++ spaced values
-
-unfoldable pub with_values : List ℕ → List ℕ
-with_values [] = []
-with_values (n ∷ values) = codes " with" ++ spaced (n ∷ values)
 
 unfoldable pub fault_line : ℕ → ℕ → List ℕ → List ℕ
 fault_line n place values = line (codes "fault " ++ decimal n ++ codes " at " ++ decimal place ++ with_values values)

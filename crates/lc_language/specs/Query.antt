@@ -2,59 +2,22 @@
 --   QueryKind                     the distance, or a certificate by levels or by a scan
 --   certificate_of kind C w d l   the certificate of an exact answer: the code's rows, the word and its weight, and for levels the
 --                                 information sets with their levels at l
---   certificate_text c            its JSON text, compact, the keys rising
 --   certificate_line c            that text as a line; where it costs a checker too much, or is too long, a line that says so
 --   query_line kind C budget      the line
-use Rattle.std.specs.Prelude.{ℕ, ◌^◌, ◌-◌, min, nat_lt, if◌then◌else◌, List, [], ◌∷◌, ◌++◌, length, map, codes, decimal, unwrap_or}
-use Rattle.serde_json.specs.Data.{Data, Items, Members, item, no_items, member, no_members, array, object, string, unsigned}
-use Rattle.serde_json.specs.Data as json
-use Rattle.serde_json.specs.Written.{compact_text}
-use Rattle.lc_algebra.specs.Field.{size}
+use Rattle.std.specs.Prelude.{ℕ, ◌^◌, ◌-◌, min, nat_lt, if◌then◌else◌, List, [], ◌∷◌, ◌++◌, length, codes, decimal, unwrap_or}
 use Rattle.lc_algebra.specs.Matrix.{Matrix}
+use Rattle.lc_algebra.specs.Divisor.{divisor_of}
 use Rattle.lc_enumeration.specs.InformationSet.{InformationSet}
-use Rattle.lc_enumeration.specs.Search.{Answer, no_word, exact, bracket, answer, sets_of, levels_below, word_at}
-use Rattle.lc_enumeration.specs.Certificate.{Certificate, SetClaim, Proof, scan, levels, cost}
-use Rattle.lc_language.specs.Print.{line, distance_line, bracket_line, distance_none_line}
+use Rattle.lc_enumeration.specs.Search.{Answer, no_word, exact, bracket, answer, sets_of, set_count, levels_below, word_at}
+use Rattle.lc_formats.specs.Certificate.{Certificate, SetClaim, Proof, scan, levels, cost}
+use Rattle.lc_formats.specs.Text.{line}
+use Rattle.lc_language.specs.Print.{distance_line, bracket_line, distance_none_line}
+use Rattle.lc_formats.specs.CertificateText.{certificate_text}
 
 pub data QueryKind : Type 0 where
   distance : QueryKind
   by_levels : QueryKind
   by_scan : QueryKind
-
-unfoldable pub number_json : ℕ → Data
-number_json n = json.number (unsigned n)
-
-unfoldable pub items : List Data → Items
-items [] = no_items
-items (d ∷ ds) = item d (items ds)
-
-unfoldable pub numbers_json : List ℕ → Data
-numbers_json u = array (items (map number_json u))
-
-unfoldable pub claim_json : SetClaim → Data
-claim_json c = object (member (codes "basis") (numbers_json c.basis) (member (codes "fresh") (numbers_json c.fresh) (member (codes "level") (number_json c.level) no_members)))
-
-unfoldable pub way_text : Proof → List ℕ
-way_text scan = codes "scan"
-way_text (levels _) = codes "levels"
-
--- the key `sets`, for a proof by levels alone
-unfoldable pub with_sets : Proof → Members → Members
-with_sets scan rest = rest
-with_sets (levels claims) rest = member (codes "sets") (array (items (map claim_json claims))) rest
-
-unfoldable pub certificate_json : Certificate → Data
-certificate_json c =
-    object (member (codes "by") (string (way_text c.proof))
-    (member (codes "distance") (number_json c.distance)
-    (member (codes "field") (number_json (size c.field))
-    (member (codes "rows") (array (items (map numbers_json c.rows)))
-    (with_sets c.proof
-    (member (codes "version") (number_json 1)
-    (member (codes "word") (numbers_json c.word) no_members)))))))
-
-unfoldable pub certificate_text : Certificate → List ℕ
-certificate_text c = compact_text (certificate_json c)
 
 unfoldable pub claims_at : List InformationSet → List ℕ → List SetClaim
 claims_at (s ∷ sets) (w ∷ ws) = record { basis = s.basis; fresh = s.fresh; level = w } ∷ claims_at sets ws
@@ -80,7 +43,7 @@ certificate_line c =
     line (certificate_text c)
 
 unfoldable pub word_at_place : Matrix → ℕ → List ℕ
-word_at_place C place = unwrap_or (word_at C place) []
+word_at_place C place = unwrap_or (word_at C (set_count C) place) []
 
 unfoldable pub distance_answer_line : Matrix → Answer → List ℕ
 distance_answer_line C no_word = distance_none_line
@@ -93,5 +56,5 @@ certificate_answer_line kind C (exact found l) = certificate_line (certificate_o
 certificate_answer_line kind C (bracket low found l) = line (codes "certificate none between " ++ decimal low ++ codes " and " ++ decimal found.weight)
 
 unfoldable pub query_line : QueryKind → Matrix → ℕ → List ℕ
-query_line distance C budget = distance_answer_line C (answer C budget)
-query_line kind C budget = certificate_answer_line kind C (answer C budget)
+query_line distance C budget = distance_answer_line C (answer (divisor_of C) C budget)
+query_line kind C budget = certificate_answer_line kind C (answer (divisor_of C) C budget)

@@ -1,26 +1,29 @@
 -- When a call is refused, with which number, and which numbers the refusal carries. The arguments are of the call's kinds.
---   Refusal                 the number, and what is printed behind it
---   when test r             the refusal, where the test passes
+-- What a constructor or a combinator of codes refuses is listed in `lc_constructions`.
+--   Refusal                 the number, and the numbers that are printed after it
+--   when test r             the refusal, if the test passes
 --   first_of rs             the first refusal of some that are in order
---   is_length n             n is a length of a code: 1 to 255
---   Numbers: 1 NotAField, 2 BadLength, 3 BadArgument (with the argument's number from 1), 4 NotADivisor, 5 NoRoot, 6 BadDelta,
---   7 NoFieldOfLength, 8 RepeatedPoint (with both places), 9 RootAt (with the place), 10 NotASubfield, 11 FieldsDiffer,
---   12 LengthsDiffer, 13 BadPositions, 14 InnerDimension (with the dimension and the degree), 15 TooManyCosets (with n - k),
---   16 TooManyWords, 17 FieldTooLarge, 18 NoAlternant
---   refusal_of c arguments  the first refusal of the call, in the order that the call states
-use Rattle.std.specs.Prelude.{ℕ, ◌+◌, ◌-◌, ◌*◌, ◌^◌, Bool, true, not, nat_le, nat_lt, ◌==◌, ◌&&◌, ◌||◌, if◌then◌else◌, List, [], ◌∷◌, ◌++◌, length, take, slice_index, find, Option, Some, None, is_some, option_map, unwrap_or}
-use Rattle.std.specs.List.{list_any, list_all}
+--   refusal_from e          a constructor's refusal as that of a call; from_codes rs those of a list
+--   word_refusals C x       of a list that should be a word of the length of C over its field: 12, then 3 with 2
+--   Numbers beside those of `CodeRefusal`: 1 NotAField, 15 TooManyCosets (with n - k), 16 TooManyWords, 18 NoAlternant,
+--   19 NotAttained (with the weight and r + 1), 47 NoDistribution (with k and n - k)
+--   refusals_of c arguments the refusals of the call in its order; refusal_of the first of them
+use Rattle.std.specs.Prelude.{ℕ, ◌+◌, ◌-◌, ◌^◌, Bool, true, not, nat_lt, ◌==◌, ◌&&◌, ◌||◌, if◌then◌else◌, List, [], ◌∷◌, ◌++◌, length, map, Option, Some, None, is_some, option_map}
+use Rattle.std.specs.List.{list_any}
 use Rattle.lc_algebra.specs.declared.FieldName.{FieldName}
-use Rattle.lc_algebra.specs.Field.{size, is_symbol}
-use Rattle.lc_algebra.specs.Polynomial.{value_at}
-use Rattle.lc_algebra.specs.Span.{below}
+use Rattle.lc_algebra.specs.Field.{size}
+use Rattle.lc_algebra.specs.Word.{weight}
 use Rattle.lc_algebra.specs.Matrix.{Matrix}
-use Rattle.lc_constructions.specs.Basic.{hamming_length}
-use Rattle.lc_algebra.specs.Embedding.{is_subfield}
-use Rattle.lc_constructions.specs.Cyclic.{trimmed, all_fields, locator_field}
-use Rattle.lc_enumeration.specs.InformationSet.{is_member}
+use Rattle.lc_constructions.specs.declared.refusal.CodeRefusal.{CodeRefusal}
+use Rattle.lc_constructions.specs.declared.refusal.CodeRefusal.TheVariants.{BadArgument, LengthsDiffer}
+use Rattle.lc_constructions.specs.Refusal.{refusal_number, refusal_values, refuse_if}
+use Rattle.lc_constructions.specs.Refusals.{are_elements, matrix_refusals, length_refusals, hamming_refusals, reed_muller_refusals, cyclic_refusals, bch_refusals, reed_solomon_refusals, goppa_refusals, alternant_refusals, extended_refusals, deleted_refusals, even_weight_refusals, direct_sum_refusals, uuv_refusals, direct_product_refusals, intersection_refusals, concatenated_refusals}
+use Rattle.lc_constructions.specs.Alternant.{AlternantForm}
+use Rattle.lc_constructions.specs.Cyclic.{all_fields}
+use Rattle.lc_constructions.specs.Coset.{too_many_cosets}
+use Rattle.lc_enumeration.specs.InformationSet.{in_span}
 use Rattle.lc_language.specs.declared.Call.{Call}
-use Rattle.lc_language.specs.declared.Call.TheVariants.{Gf, GeneratorMatCode, CheckMatCode, RepetitionCode, WholeSpaceCode, NullCode, HammingCode, ReedMullerCode, GeneratorPolCode, CheckPolCode, BchCode, ReedSolomonCode, GoppaCode, AlternantCode, ExtendedCode, PuncturedCode, ShortenedCode, EvenWeightSubcode, DirectSumCode, UuvCode, DirectProductCode, IntersectionCode, ConcatenatedCode, IsCodeword, Decode, AlgebraicDecode, LeastWord}
+use Rattle.lc_language.specs.declared.Call.TheVariants.{Gf, GeneratorMatCode, CheckMatCode, RepetitionCode, WholeSpaceCode, NullCode, HammingCode, ReedMullerCode, GeneratorPolCode, CheckPolCode, BchCode, ReedSolomonCode, GoppaCode, AlternantCode, ExtendedCode, PuncturedCode, ShortenedCode, EvenWeightSubcode, DirectSumCode, UuvCode, DirectProductCode, IntersectionCode, ConcatenatedCode, IsCodeword, Decode, AlgebraicDecode, LeastWord, WeightDistribution, AlternantCertificate, NearestWord}
 use Rattle.lc_language.specs.Value.{Value, number, field, numbers, lists, code}
 
 pub record Refusal : Type 0 where
@@ -38,121 +41,66 @@ first_of [] = None
 first_of (None ∷ rs) = first_of rs
 first_of (Some r ∷ rs) = Some r
 
-unfoldable pub is_length : ℕ → Bool
-is_length n = nat_le 1 n && nat_le n 255
+unfoldable pub refusal_from : CodeRefusal → Refusal
+refusal_from e = refuse (refusal_number e) (refusal_values e)
 
-unfoldable pub too_large : FieldName → Option Refusal
-too_large f = when (not (is_symbol f)) (refuse 17 [])
+unfoldable pub from_codes : List (Option CodeRefusal) → List (Option Refusal)
+from_codes rs = map (option_map refusal_from) rs
 
-unfoldable pub bad_length : ℕ → Option Refusal
-bad_length n = when (not (is_length n)) (refuse 2 [])
+unfoldable pub word_refusals : Matrix → List ℕ → List (Option CodeRefusal)
+word_refusals C x = refuse_if (not (length x == C.columns)) LengthsDiffer ∷ refuse_if (not (are_elements C.field x)) (BadArgument 2) ∷ []
 
-unfoldable pub bad_argument : Bool → ℕ → Option Refusal
-bad_argument test n = when test (refuse 3 (n ∷ []))
+unfoldable pub coset_refusal : Matrix → Option Refusal
+coset_refusal C = option_map (λ n. refuse 15 (n ∷ [])) (too_many_cosets C)
 
--- whether some entry isn't below the bound
-unfoldable pub reaches : ℕ → List ℕ → Bool
-reaches bound entries = list_any (nat_le bound) entries
+unfoldable pub no_form : Option AlternantForm → Option Refusal
+no_form form = when (not (is_some form)) (refuse 18 [])
 
--- the length of a matrix is that of its first row; without rows it has none
-unfoldable pub columns_of : List (List ℕ) → ℕ
-columns_of [] = 0
-columns_of (row ∷ rows) = length row
+-- x is no word of the code of weight r + 1
+unfoldable pub not_attained : Matrix → Option AlternantForm → List ℕ → Option Refusal
+not_attained C None x = None
+not_attained C (Some form) x = when (not (in_span C.field C.columns C.rows x && (weight x == form.r + 1))) (refuse 19 (weight x ∷ (form.r + 1) ∷ []))
 
-unfoldable pub lengths_differ : List (List ℕ) → Option Refusal
-lengths_differ rows = when (not (list_all (λ row. length row == columns_of rows) rows)) (refuse 12 [])
+-- neither the code's own words nor those of its dual are few enough to be counted
+unfoldable pub no_distribution : Matrix → Option Refusal
+no_distribution C =
+    when (nat_lt (2 ^ 24) (size C.field ^ length C.rows) && (nat_lt (2 ^ 24) (size C.field ^ (C.columns - length C.rows)) || nat_lt (2 ^ 63) (size C.field ^ C.columns)))
+    (refuse 47 (length C.rows ∷ (C.columns - length C.rows) ∷ []))
 
-unfoldable pub matrix_refusals : List (List ℕ) → FieldName → List (Option Refusal)
-matrix_refusals rows f = too_large f ∷ bad_length (columns_of rows) ∷ lengths_differ rows ∷ bad_argument (list_any (reaches (size f)) rows) 1 ∷ []
-
-unfoldable pub cyclic_refusals : List ℕ → ℕ → FieldName → List (Option Refusal)
-cyclic_refusals x n f = too_large f ∷ bad_length n ∷ bad_argument (reaches (size f) x || (length (trimmed x) == 0)) 1 ∷ []
-
--- the least place of a point that stands before it too, with the place where it stands first
-unfoldable pub repeated : List ℕ → Option ℕ
-repeated points = find (λ j. is_member (take j points) (slice_index points j)) (below (length points))
-
-unfoldable pub place_of_point : List ℕ → ℕ → ℕ
-place_of_point points j = unwrap_or (find (λ i. slice_index points i == slice_index points j) (below (length points))) j
-
-unfoldable pub repeated_point : List ℕ → Option Refusal
-repeated_point points = option_map (λ j. refuse 8 (place_of_point points j ∷ j ∷ [])) (repeated points)
-
-unfoldable pub root_at : FieldName → List ℕ → List ℕ → Option Refusal
-root_at K g points = option_map (λ i. refuse 9 (i ∷ [])) (find (λ i. value_at K g (slice_index points i) == 0) (below (length points)))
-
-unfoldable pub not_subfield : FieldName → FieldName → Option Refusal
-not_subfield f K = when (not (is_subfield f K)) (refuse 10 [])
-
-unfoldable pub fields_differ : Matrix → Matrix → Option Refusal
-fields_differ C D = when (not (size C.field == size D.field)) (refuse 11 [])
-
-unfoldable pub codes_differ : Matrix → Matrix → Option Refusal
-codes_differ C D = when (not (C.columns == D.columns)) (refuse 12 [])
-
-unfoldable pub is_rising : List ℕ → Bool
-is_rising [] = true
-is_rising (a ∷ []) = true
-is_rising (a ∷ b ∷ rest) = nat_lt a b && is_rising (b ∷ rest)
-
-unfoldable pub bad_positions : Matrix → List ℕ → Option Refusal
-bad_positions C places = when (not (is_rising places) || (reaches C.columns places || (length places == C.columns))) (refuse 13 [])
-
--- the number s with q^s = Q, from 1 to 8
-unfoldable pub degree_over : ℕ → ℕ → Option ℕ
-degree_over q Q = find (λ s. q ^ s == Q) (1 ∷ 2 ∷ 3 ∷ 4 ∷ 5 ∷ 6 ∷ 7 ∷ 8 ∷ [])
-
-unfoldable pub concatenation_refusals : Matrix → Matrix → Option ℕ → List (Option Refusal)
-concatenation_refusals C D None = Some (refuse 11 []) ∷ []
-concatenation_refusals C D (Some s) = when (not (length D.rows == s)) (refuse 14 (length D.rows ∷ s ∷ [])) ∷ bad_length (C.columns * D.columns) ∷ []
-
-unfoldable pub word_refusals : Matrix → List ℕ → List (Option Refusal)
-word_refusals C x = when (not (length x == C.columns)) (refuse 12 []) ∷ bad_argument (reaches (size C.field) x) 2 ∷ []
-
-unfoldable pub too_many_cosets : Matrix → Option Refusal
-too_many_cosets C = when (nat_lt (2 ^ 20) (size C.field ^ (C.columns - length C.rows))) (refuse 15 ((C.columns - length C.rows) ∷ []))
-
-unfoldable pub bch_refusals : ℕ → ℕ → FieldName → List (Option Refusal)
-bch_refusals n d f = too_large f ∷ bad_length n ∷ when (not (is_some (locator_field f n))) (refuse 5 []) ∷ when (nat_lt n d || nat_lt d 2) (refuse 6 []) ∷ []
-
-unfoldable pub is_symbol_size : ℕ → Bool
-is_symbol_size q = list_any (λ f. (size f == q) && is_symbol f) all_fields
-
--- a Goppa polynomial has a degree from 1 to 255
-unfoldable pub bad_goppa : FieldName → List ℕ → Bool
-bad_goppa K g = reaches (size K) g || (nat_lt (length (trimmed g)) 2 || nat_lt 256 (length (trimmed g)))
-
+-- of the cyclic codes, besides: the polynomial doesn't divide x^n - 1. That is a fact and not a test, and is told with the values
 unfoldable pub refusals_of : Call → List Value → List (Option Refusal)
 refusals_of Gf (number q ∷ []) = when (not (list_any (λ f. size f == q) all_fields)) (refuse 1 []) ∷ []
-refusals_of GeneratorMatCode (lists rows ∷ field f ∷ []) = matrix_refusals rows f
-refusals_of CheckMatCode (lists rows ∷ field f ∷ []) = matrix_refusals rows f
-refusals_of RepetitionCode (number n ∷ field f ∷ []) = too_large f ∷ bad_length n ∷ []
-refusals_of WholeSpaceCode (number n ∷ field f ∷ []) = too_large f ∷ bad_length n ∷ []
-refusals_of NullCode (number n ∷ field f ∷ []) = too_large f ∷ bad_length n ∷ []
-refusals_of HammingCode (number r ∷ field f ∷ []) = too_large f ∷ bad_argument (nat_lt r 2) 1 ∷ bad_length (hamming_length (size f) r) ∷ []
-refusals_of ReedMullerCode (number r ∷ number m ∷ []) = bad_length (2 ^ m) ∷ bad_argument (nat_lt m r) 1 ∷ []
-refusals_of BchCode (number n ∷ number d ∷ field f ∷ []) = bch_refusals n d f
-refusals_of BchCode (number n ∷ number b ∷ number d ∷ field f ∷ []) = bch_refusals n d f
-refusals_of ReedSolomonCode (number n ∷ number d ∷ []) = when (not (is_symbol_size (n + 1))) (refuse 7 []) ∷ when (nat_lt n d || nat_lt d 1) (refuse 6 []) ∷ []
-refusals_of GoppaCode (numbers g ∷ numbers points ∷ field K ∷ field f ∷ []) = too_large f ∷ not_subfield f K ∷ bad_length (length points) ∷ bad_argument (bad_goppa K g) 1 ∷ bad_argument (reaches (size K) points) 2 ∷ repeated_point points ∷ root_at K g points ∷ []
-refusals_of AlternantCode (number r ∷ numbers points ∷ numbers multipliers ∷ field K ∷ field f ∷ []) = too_large f ∷ not_subfield f K ∷ bad_length (length points) ∷ when (not (length points == length multipliers)) (refuse 12 []) ∷ bad_argument ((r == 0) || nat_lt (length points) r) 1 ∷ bad_argument (reaches (size K) points) 2 ∷ bad_argument (reaches (size K) multipliers || is_member multipliers 0) 3 ∷ repeated_point points ∷ []
-refusals_of ExtendedCode (code C _ ∷ []) = bad_length (C.columns + 1) ∷ []
-refusals_of PuncturedCode (code C _ ∷ numbers places ∷ []) = bad_positions C places ∷ []
-refusals_of ShortenedCode (code C _ ∷ numbers places ∷ []) = bad_positions C places ∷ []
-refusals_of EvenWeightSubcode (code C _ ∷ []) = bad_argument (not (size C.field == 2)) 1 ∷ []
-refusals_of DirectSumCode (code C _ ∷ code D _ ∷ []) = fields_differ C D ∷ bad_length (C.columns + D.columns) ∷ []
-refusals_of UuvCode (code C _ ∷ code D _ ∷ []) = fields_differ C D ∷ codes_differ C D ∷ bad_length (C.columns + D.columns) ∷ []
-refusals_of DirectProductCode (code C _ ∷ code D _ ∷ []) = fields_differ C D ∷ bad_length (C.columns * D.columns) ∷ []
-refusals_of IntersectionCode (code C _ ∷ code D _ ∷ []) = fields_differ C D ∷ codes_differ C D ∷ []
-refusals_of ConcatenatedCode (code C _ ∷ code D _ ∷ []) = concatenation_refusals C D (degree_over (size D.field) (size C.field))
-refusals_of IsCodeword (code C _ ∷ numbers x ∷ []) = word_refusals C x
-refusals_of Decode (code C _ ∷ numbers x ∷ []) = word_refusals C x ++ too_many_cosets C ∷ []
-refusals_of AlgebraicDecode (code C form ∷ numbers x ∷ []) = when (not (is_some form)) (refuse 18 []) ∷ word_refusals C x
-refusals_of LeastWord (lists rows ∷ field f ∷ []) = matrix_refusals rows f ++ when (nat_lt (2 ^ 16) (size f ^ length rows)) (refuse 16 []) ∷ []
+refusals_of GeneratorMatCode (lists rows ∷ field f ∷ []) = from_codes (matrix_refusals f rows)
+refusals_of CheckMatCode (lists rows ∷ field f ∷ []) = from_codes (matrix_refusals f rows)
+refusals_of RepetitionCode (number n ∷ field f ∷ []) = from_codes (length_refusals f n)
+refusals_of WholeSpaceCode (number n ∷ field f ∷ []) = from_codes (length_refusals f n)
+refusals_of NullCode (number n ∷ field f ∷ []) = from_codes (length_refusals f n)
+refusals_of HammingCode (number r ∷ field f ∷ []) = from_codes (hamming_refusals f r)
+refusals_of ReedMullerCode (number r ∷ number m ∷ []) = from_codes (reed_muller_refusals r m)
+refusals_of GeneratorPolCode (numbers x ∷ number n ∷ field f ∷ []) = from_codes (cyclic_refusals f x n true)
+refusals_of CheckPolCode (numbers x ∷ number n ∷ field f ∷ []) = from_codes (cyclic_refusals f x n true)
+refusals_of BchCode (number n ∷ number d ∷ field f ∷ []) = from_codes (bch_refusals f n d)
+refusals_of BchCode (number n ∷ number b ∷ number d ∷ field f ∷ []) = from_codes (bch_refusals f n d)
+refusals_of ReedSolomonCode (number n ∷ number d ∷ []) = from_codes (reed_solomon_refusals n d)
+refusals_of GoppaCode (numbers g ∷ numbers points ∷ field K ∷ field f ∷ []) = from_codes (goppa_refusals f K g points)
+refusals_of AlternantCode (number r ∷ numbers points ∷ numbers multipliers ∷ field K ∷ field f ∷ []) = from_codes (alternant_refusals f K r points multipliers)
+refusals_of ExtendedCode (code C _ ∷ []) = from_codes (extended_refusals C)
+refusals_of PuncturedCode (code C _ ∷ numbers places ∷ []) = from_codes (deleted_refusals C places)
+refusals_of ShortenedCode (code C _ ∷ numbers places ∷ []) = from_codes (deleted_refusals C places)
+refusals_of EvenWeightSubcode (code C _ ∷ []) = from_codes (even_weight_refusals C)
+refusals_of DirectSumCode (code C _ ∷ code D _ ∷ []) = from_codes (direct_sum_refusals C D)
+refusals_of UuvCode (code C _ ∷ code D _ ∷ []) = from_codes (uuv_refusals C D)
+refusals_of DirectProductCode (code C _ ∷ code D _ ∷ []) = from_codes (direct_product_refusals C D)
+refusals_of IntersectionCode (code C _ ∷ code D _ ∷ []) = from_codes (intersection_refusals C D)
+refusals_of ConcatenatedCode (code C _ ∷ code D _ ∷ []) = from_codes (concatenated_refusals C D)
+refusals_of IsCodeword (code C _ ∷ numbers x ∷ []) = from_codes (word_refusals C x)
+refusals_of Decode (code C _ ∷ numbers x ∷ []) = from_codes (word_refusals C x) ++ coset_refusal C ∷ []
+refusals_of AlgebraicDecode (code C form ∷ numbers x ∷ []) = no_form form ∷ from_codes (word_refusals C x)
+refusals_of LeastWord (lists rows ∷ field f ∷ []) = from_codes (matrix_refusals f rows) ++ when (nat_lt (2 ^ 16) (size f ^ length rows)) (refuse 16 []) ∷ []
+refusals_of WeightDistribution (code C _ ∷ []) = no_distribution C ∷ []
+refusals_of AlternantCertificate (code C form ∷ numbers x ∷ []) = no_form form ∷ from_codes (word_refusals C x) ++ not_attained C form x ∷ []
+refusals_of NearestWord (code C _ ∷ numbers x ∷ []) = from_codes (word_refusals C x)
 refusals_of _ _ = []
 
--- of the cyclic codes, besides: the polynomial doesn't divide x^n - 1. That is a fact and not a test, and stands with the values
 unfoldable pub refusal_of : Call → List Value → Option Refusal
-refusal_of GeneratorPolCode (numbers x ∷ number n ∷ field f ∷ []) = first_of (cyclic_refusals x n f)
-refusal_of CheckPolCode (numbers x ∷ number n ∷ field f ∷ []) = first_of (cyclic_refusals x n f)
 refusal_of c arguments = first_of (refusals_of c arguments)

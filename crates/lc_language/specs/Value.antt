@@ -5,13 +5,13 @@
 --   as_kind kind v    the value, with the empty list as the list that the kind asks for
 --   Binding           a name and the value that it was assigned
 --   value_named x env     the value that a name was assigned last
---   same_bytes        whether two texts are equal
-use Rattle.std.specs.Prelude.{ℕ, Bool, true, false, ◌==◌, ◌&&◌, List, [], ◌∷◌, Option, Some, None, if◌then◌else◌}
+use Rattle.std.specs.Prelude.{ℕ, Bool, true, false, List, [], ◌∷◌, Option, Some, None, if◌then◌else◌}
 use Rattle.lc_algebra.specs.declared.FieldName.{FieldName}
 use Rattle.lc_algebra.specs.Matrix.{Matrix}
 use Rattle.lc_constructions.specs.Alternant.{AlternantForm}
 use Rattle.lc_language.specs.declared.Kind.{Kind}
 use Rattle.lc_language.specs.declared.Kind.TheVariants.{Number, Field, Numbers, Lists, Code}
+use Rattle.lc_formats.specs.Text.{same_bytes}
 
 pub data Value : Type 0 where
   number : ℕ → Value
@@ -40,11 +40,6 @@ as_kind _ v = v
 pub record Binding : Type 0 where
   pub name : List ℕ
   pub value : Value
-
-unfoldable pub same_bytes : List ℕ → List ℕ → Bool
-same_bytes [] [] = true
-same_bytes (a ∷ u) (b ∷ v) = (a == b) && same_bytes u v
-same_bytes _ _ = false
 
 -- bindings stand with the last one first
 unfoldable pub value_named : List ℕ → List Binding → Option Value

@@ -1,39 +1,6 @@
-//! What `codes` means by a script, its tokens and its tree; by the value of an expression and the text
-//! that a script prints; by the words of the command line; and by a checkpoint. The definitions stand in
-//! `specs/`.
+//! What `codes` means by a call of the script language, by the value of an expression, and by the text
+//! that a script prints. The definitions are in `specs/`.
 #![tactic(auto)]
-
-/// The kinds of tokens of a script.
-#[derive(Clone, Copy, Debug, PartialEq, Eq)]
-pub enum TokenKind {
-    /// a letter of ASCII, followed by letters, digits and `_`
-    Name,
-    /// decimal digits
-    Number,
-    /// `:=`
-    Assign,
-    /// `(`
-    Open,
-    /// `)`
-    Close,
-    /// `[`
-    OpenList,
-    /// `]`
-    CloseList,
-    /// `,`
-    Comma,
-    /// `;`
-    End,
-}
-
-/// A token of a script: its kind, the place of its first byte, and the place behind its last byte.
-/// Its text is `bytes[start..end]`.
-#[derive(Clone, Copy, Debug, PartialEq, Eq)]
-pub struct Token {
-    pub kind: TokenKind,
-    pub start: usize,
-    pub end: usize,
-}
 
 /// What an argument of a call must be.
 #[derive(Clone, Copy, Debug, PartialEq, Eq)]
@@ -93,4 +60,7 @@ pub enum Call {
     MinimumDistance,
     Certificate,
     ScanCertificate,
+    WeightDistribution,
+    AlternantCertificate,
+    NearestWord,
 }

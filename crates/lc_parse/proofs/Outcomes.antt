@@ -4,13 +4,13 @@ use Rattle.std.proofs.lemmas.Bool.Decides.{nat_tests}
 use Rattle.std.specs.Prelude.{All}
 use Rattle.std.specs.List.{AllByRecursion}
 use Rattle.std.proofs.lemmas.List.Elements.{All-from_recursion}
-use Rattle.lc_language.specs.declared.Token.{Token}
-use Rattle.lc_language.specs.Token as language
-use Rattle.lc_language.specs.Token.{scan}
-use Rattle.lc_language.specs.Tree.{Statement}
-use Rattle.lc_language.specs.Grammar.{deepest, Reads, Fault, IsFault, TokenFault}
-use Rattle.lc_language.proofs.Course.{start, Outcome, read, fault, course}
-use Rattle.lc_language.proofs.FirstFault.{fault_is_course, fault_of_course, script_outcome, outcome_script}
+use Rattle.lc_grammar.specs.declared.Token.{Token}
+use Rattle.lc_grammar.specs.Token as language
+use Rattle.lc_grammar.specs.Token.{scan}
+use Rattle.lc_grammar.specs.Tree.{Statement}
+use Rattle.lc_grammar.specs.Grammar.{deepest, Reads, Fault, IsFault, TokenFault}
+use Rattle.lc_grammar.proofs.Course.{start, Outcome, read, fault, course}
+use Rattle.lc_grammar.proofs.FirstFault.{fault_is_course, fault_of_course, script_outcome, outcome_script}
 use Rattle.lc_parse.specs.Reading.{AreWithin, IsOutcome, IsTokenRefusal, ending_of}
 use Rattle.lc_parse.specs.Refusal.{IsRefusedAs, IsReadAs, IsFaultAs}
 use Rattle.lc_parse.specs.declared.scan.Ending.{Ending}

@@ -7,16 +7,16 @@
 use Rattle.std.proofs.Common.{◌≡◌, ℕ, ◌^◌, ◌<◌, ◌≤◌, true, ◌&&◌, nat_le, List, [], ◌∷◌, ◌++◌, length, Option, Some, None, Result, Ok, Err, IfOk, IfErr, MatchOption, unwrap_or, refl, sym, ap, ◌∙◌, subst, arith}
 use Rattle.std.proofs.lemmas.Str.{IsUtf8-from_ascii}
 use Rattle.std.specs.Str.{IsUtf8}
-use Rattle.lc_language.specs.declared.TokenKind.{TokenKind}
-use Rattle.lc_language.specs.declared.TokenKind.TheVariants.{Name, Number, Assign, Open, Close, OpenList, CloseList, Comma, End}
-use Rattle.lc_language.specs.declared.Token.{Token}
-use Rattle.lc_language.specs.Token as language
-use Rattle.lc_language.specs.Token.{text_of, number_of, widest}
-use Rattle.lc_language.specs.Tree as tree
-use Rattle.lc_language.specs.Tree.{Expr, Exprs, Statement}
-use Rattle.lc_language.specs.Grammar.{deepest, opens}
-use Rattle.lc_language.proofs.Course.{Bracket, of_call, of_list, closing, filled, after_all, with_target, Around, statement, inside, depth_of, State, start, want, opened, named, done, level_of, after_name, at_expr, next_by, stops, move_by, ended_at, course, IsNoTarget}
-use Rattle.lc_language.proofs.GrammarLaws.{course_at, course_open, course_deep, stuck_course, same_course, name_read, opened_wants, closes_opened, closes_done, comma_done, ends_done, start_wants, start_target, named_end}
+use Rattle.lc_grammar.specs.declared.TokenKind.{TokenKind}
+use Rattle.lc_grammar.specs.declared.TokenKind.TheVariants.{Name, Number, Assign, Open, Close, OpenList, CloseList, Comma, End}
+use Rattle.lc_grammar.specs.declared.Token.{Token}
+use Rattle.lc_grammar.specs.Token as language
+use Rattle.lc_grammar.specs.Token.{text_of, number_of, widest}
+use Rattle.lc_grammar.specs.Tree as tree
+use Rattle.lc_grammar.specs.Tree.{Expr, Exprs, Statement}
+use Rattle.lc_grammar.specs.Grammar.{deepest, opens}
+use Rattle.lc_grammar.proofs.Course.{Bracket, of_call, of_list, closing, filled, after_all, with_target, Around, statement, inside, depth_of, State, start, want, opened, named, done, level_of, after_name, at_expr, next_by, stops, move_by, ended_at, course, IsNoTarget}
+use Rattle.lc_grammar.proofs.GrammarLaws.{course_at, course_open, course_deep, stuck_course, same_course, name_read, opened_wants, closes_opened, closes_done, comma_done, ends_done, start_wants, start_target, named_end}
 use Rattle.lc_parse.specs.Reading.{ending_of, IsWithin, AreWithin, IsNotFirst, IsBehind, Stays, IsStuck, IsNotStart, IsOutcome, Refuses, IsTooDeepFirst, IsTargetFirst}
 use Rattle.lc_parse.specs.declared.scan.Ending.{Ending}
 use Rattle.lc_parse.specs.declared.refusal.ParseRefusal.{ParseRefusal}

@@ -7,10 +7,10 @@ use Rattle.std.proofs.Common.{◌≡◌, ℕ, zero, suc, ◌+◌, ◌-◌, ◌<�
 use Rattle.std.proofs.lemmas.Bool.Decides.{nat_tests}
 use Rattle.std.proofs.Math.Numerals.{one-add}
 use Rattle.std.specs.List.{prefix_len, slice_range}
-use Rattle.lc_language.specs.declared.TokenKind.TheVariants.{Name, Number}
-use Rattle.lc_language.specs.declared.Token.{Token}
-use Rattle.lc_language.specs.Token as language
-use Rattle.lc_language.specs.Token.{is_blank, is_letter, is_digit, is_name_byte, number_of, token_at, Cut, Scanned, ended, token_first, comment_length, scan_within, scan, is_number, widest, text_of}
+use Rattle.lc_grammar.specs.declared.TokenKind.TheVariants.{Name, Number}
+use Rattle.lc_grammar.specs.declared.Token.{Token}
+use Rattle.lc_grammar.specs.Token as language
+use Rattle.lc_grammar.specs.Token.{is_blank, is_letter, is_digit, is_name_byte, number_of, token_at, Cut, Scanned, ended, token_first, comment_length, scan_within, scan, is_number, widest, text_of}
 use Rattle.lc_parse.specs.Reading.{IsStep, IsWithin, AreWithin, ending_of}
 use Rattle.lc_parse.specs.Spans.{AreApart}
 use Rattle.lc_parse.specs.declared.scan.Ending.{Ending}

@@ -9,11 +9,11 @@ use Rattle.std.proofs.lemmas.List.{at_drop_more, at_drop_all, drop-drop, append-
 use Rattle.std.proofs.lemmas.Bool.Decides.{nat_tests}
 use Rattle.std.proofs.Math.Numerals.{one-add}
 use Rattle.std.specs.List.{prefix_len, slice_range}
-use Rattle.lc_language.specs.declared.TokenKind.{TokenKind}
-use Rattle.lc_language.specs.declared.TokenKind.TheVariants.{Name, Number, Assign, Open, Close, OpenList, CloseList, Comma, End}
-use Rattle.lc_language.specs.declared.Token.{Token}
-use Rattle.lc_language.specs.Token as language
-use Rattle.lc_language.specs.Token.{is_blank, is_letter, is_digit, is_name_byte, number_from, number_of, token_at, cut_of, sign_at, assign_at, Cut, Scanned, ended, token_first, comment_length, scan_within, scan, is_number, widest}
+use Rattle.lc_grammar.specs.declared.TokenKind.{TokenKind}
+use Rattle.lc_grammar.specs.declared.TokenKind.TheVariants.{Name, Number, Assign, Open, Close, OpenList, CloseList, Comma, End}
+use Rattle.lc_grammar.specs.declared.Token.{Token}
+use Rattle.lc_grammar.specs.Token as language
+use Rattle.lc_grammar.specs.Token.{is_blank, is_letter, is_digit, is_name_byte, number_from, number_of, token_at, cut_of, sign_at, assign_at, Cut, Scanned, ended, token_first, comment_length, scan_within, scan, is_number, widest}
 use Rattle.lc_parse.specs.Reading.{IsStep, ending_of}
 use Rattle.lc_parse.specs.declared.scan.Ending.{Ending}
 use Rattle.lc_parse.specs.declared.scan.Ending.TheVariants.{ScriptEnd, BadToken, TooWide}

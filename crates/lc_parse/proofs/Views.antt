@@ -2,8 +2,8 @@
 --   tree_of-Number, -Name, -Call, -List      the tree of an expression by its node
 --   trees_of-push                            one more expression at the end
 use Rattle.std.proofs.Common.{◌≡◌, ℕ, List, [], ◌∷◌, ◌++◌, String, Vec, Global, string_bytes, refl, ap, rules}
-use Rattle.lc_language.specs.Tree as tree
-use Rattle.lc_language.proofs.Course.{after_all}
+use Rattle.lc_grammar.specs.Tree as tree
+use Rattle.lc_grammar.proofs.Course.{after_all}
 use Rattle.lc_parse.specs.Views.{tree_of, trees_of}
 use Rattle.lc_parse.specs.declared.tree.Expr.{Expr}
 use Rattle.lc_parse.specs.declared.tree.Node.{Node, Number, Name, Call, List as ListNode, the_lemmas}

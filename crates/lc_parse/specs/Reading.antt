@@ -1,6 +1,6 @@
 -- How the readers of this crate go over bytes and tokens; the clauses of private functions alone speak of these.
---   cut_of, cuts_of            the cut of `lc_language` that a cut stands for
---   ending_of                  the ending of `lc_language` that an ending stands for
+--   cut_of, cuts_of            the cut of `lc_grammar` that a cut stands for
+--   ending_of                  the ending of `lc_grammar` that an ending stands for
 --   IsWithin bytes t           a token stands within the bytes, a name's bytes are ASCII, a number's value has 64 bits
 --   AreWithin bytes ts         the same of each token
 --   IsNotFirst kind ts         no token of this kind stands first
@@ -14,13 +14,13 @@
 --   IsOutcome e o              a refusal is this outcome; want of memory says nothing
 use Rattle.std.specs.Prelude.{◌≡◌, ℕ, suc, ◌+◌, ◌<◌, ◌≤◌, List, [], ◌∷◌, length, drop, slice_index, Option, Some, None}
 use Rattle.std.specs.List.{AllByRecursion}
-use Rattle.lc_language.specs.declared.TokenKind.{TokenKind}
-use Rattle.lc_language.specs.declared.TokenKind.TheVariants.{Name, Number, Assign, Open}
-use Rattle.lc_language.specs.declared.Token.{Token}
-use Rattle.lc_language.specs.Token as language
-use Rattle.lc_language.specs.Token.{scan_within, token_first, ended, text_of, number_of, widest}
-use Rattle.lc_language.specs.Grammar.{deepest}
-use Rattle.lc_language.proofs.Course.{State, start, Outcome, fault, course, next}
+use Rattle.lc_grammar.specs.declared.TokenKind.{TokenKind}
+use Rattle.lc_grammar.specs.declared.TokenKind.TheVariants.{Name, Number, Assign, Open}
+use Rattle.lc_grammar.specs.declared.Token.{Token}
+use Rattle.lc_grammar.specs.Token as language
+use Rattle.lc_grammar.specs.Token.{scan_within, token_first, ended, text_of, number_of, widest}
+use Rattle.lc_grammar.specs.Grammar.{deepest}
+use Rattle.lc_grammar.proofs.Course.{State, start, Outcome, fault, course, next}
 use Rattle.lc_parse.specs.declared.scan.Cut.{Cut}
 use Rattle.lc_parse.specs.declared.scan.Ending.{Ending}
 use Rattle.lc_parse.specs.declared.scan.Ending.TheVariants.{ScriptEnd, BadToken, TooWide}

@@ -3,7 +3,7 @@
 --   IsReadAs r P            r is an answer of which P holds, unless memory ran out
 --   IsFaultAs r number place  r is that fault, unless memory ran out
 use Rattle.std.specs.Prelude.{◌≡◌, Result, Ok, Err}
-use Rattle.lc_language.specs.Grammar.{Fault}
+use Rattle.lc_grammar.specs.Grammar.{Fault}
 use Rattle.lc_parse.specs.declared.refusal.ParseRefusal.{ParseRefusal}
 use Rattle.lc_parse.specs.declared.refusal.ParseRefusal.TheVariants as refusal
 

@@ -1,7 +1,7 @@
 -- The spans of tokens.
 --   AreApart place ts      the tokens stand one behind another from this place on, none of them empty
 use Rattle.std.specs.Prelude.{ℕ, ◌<◌, ◌≤◌, List, [], ◌∷◌}
-use Rattle.lc_language.specs.declared.Token.{Token}
+use Rattle.lc_grammar.specs.declared.Token.{Token}
 
 abbrev pub AreApart : ℕ → List Token → Type 0
 AreApart place [] = Unit {0}

@@ -1,10 +1,10 @@
--- The tree of `lc_language` that an expression, a statement and a script stand for.
+-- The tree of `lc_grammar` that an expression, a statement and a script stand for.
 --   all_of es          the expressions of a list, one after another
 --   tree_of e          the tree of an expression
 --   statement_of s     the statement of the grammar
 --   script_of s        the statements of a script
 use Rattle.std.specs.Prelude.{ℕ, List, [], ◌∷◌, map, option_map, string_bytes}
-use Rattle.lc_language.specs.Tree as tree
+use Rattle.lc_grammar.specs.Tree as tree
 use Rattle.lc_parse.specs.declared.tree.Expr.{Expr, fold-Expr, Expr-F}
 use Rattle.lc_parse.specs.declared.tree.Node.TheOpen.{Node-F}
 use Rattle.lc_parse.specs.declared.tree.Statement.{Statement}

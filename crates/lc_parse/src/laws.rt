@@ -1,7 +1,7 @@
 ghost use Rattle.std.specs.Prelude.{◌≡◌, ℕ, ◌≤◌, ◌⊎◌, All, List, length};
-ghost use Rattle.lc_language.specs.Token.{scan};
-ghost use Rattle.lc_language.specs.Tree.{Statement};
-ghost use Rattle.lc_language.specs.Grammar.{Reads, Fault, IsFault};
+ghost use Rattle.lc_grammar.specs.Token.{scan};
+ghost use Rattle.lc_grammar.specs.Tree.{Statement};
+ghost use Rattle.lc_grammar.specs.Grammar.{Reads, Fault, IsFault};
 ghost use Rattle.lc_parse.specs.Spans.{AreApart};
 
 /// No bytes are two scripts: a script's tree is the only one of its bytes.

@@ -7,7 +7,7 @@
 //! ```
 //!
 //! `parse` answers the one script that the bytes are, else the number and the first place at which they can't
-//! go on. `tokens` answers the tokens alone. What these words mean is `lc_language`'s, and the laws say that
+//! go on. `tokens` answers the tokens alone. What these words mean is `lc_grammar`'s, and the laws say that
 //! each bytes are one script, or have one fault, and never both.
 #![tactic(auto)]
 
@@ -18,7 +18,7 @@ mod scan;
 mod tree;
 
 pub use laws::{one_fault, one_script, script_or_fault, spans_rise};
-pub use lc_language::{Token, TokenKind};
+pub use lc_grammar::{Token, TokenKind};
 pub use reading::{parse, tokens};
 pub use refusal::ParseRefusal;
 pub use tree::{Expr, Node, Script, Statement};

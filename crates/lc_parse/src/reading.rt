@@ -1,9 +1,9 @@
 ghost use Rattle.std.specs.Prelude.{◌≡◌, map, ◌+◌, ◌<◌, ◌≤◌, ◌++◌, ◌∷◌, ◌&&◌, [], List, None, nat_le, length, option_map, string_bytes, IfOk, IfErr, MatchOption};
-ghost use Rattle.lc_language.specs.declared.TokenKind.TheVariants.{Name, Number, Open};
-ghost use Rattle.lc_language.specs.Token.{text_of, number_of, scan, script_end};
-ghost use Rattle.lc_language.specs.Tree as trees;
-ghost use Rattle.lc_language.specs.Grammar.{deepest, opens, Reads, Fault, IsFault, TokenFault};
-ghost use Rattle.lc_language.proofs.Course.{State, start, want, opened, done, named, Around, Bracket, statement, depth_of, level_of, closing, filled, move_by, stops, ended_at, IsNoTarget, course, read};
+ghost use Rattle.lc_grammar.specs.declared.TokenKind.TheVariants.{Name, Number, Open};
+ghost use Rattle.lc_grammar.specs.Token.{text_of, number_of, scan, script_end};
+ghost use Rattle.lc_grammar.specs.Tree as trees;
+ghost use Rattle.lc_grammar.specs.Grammar.{deepest, opens, Reads, Fault, IsFault, TokenFault};
+ghost use Rattle.lc_grammar.proofs.Course.{State, start, want, opened, done, named, Around, Bracket, statement, depth_of, level_of, closing, filled, move_by, stops, ended_at, IsNoTarget, course, read};
 ghost use Rattle.lc_parse.specs.Refusal.{IsRefusedAs, IsReadAs, IsFaultAs};
 ghost use Rattle.lc_parse.specs.Views.{tree_of, trees_of, statement_of, script_of};
 ghost use Rattle.lc_parse.specs.Reading.{IsWithin, AreWithin, IsNotFirst, IsBehind, IsTooDeepFirst, IsTargetFirst, IsTokenRefusal, Stays, IsStuck, IsNotStart, IsOutcome, Refuses, ending_of};
@@ -11,7 +11,7 @@ ghost use Rattle.lc_parse.specs.Reading.{IsWithin, AreWithin, IsNotFirst, IsBehi
 use crate::refusal::ParseRefusal;
 use crate::scan::{Ending, scan, value_of};
 use crate::tree::{Expr, Node, Script, Statement};
-use lc_language::{Token, TokenKind};
+use lc_grammar::{Token, TokenKind};
 use std::alloc::Global;
 
 // How deep parentheses and brackets may nest.

@@ -1,9 +1,9 @@
 ghost use Rattle.std.specs.Prelude.{◌≡◌, ◌∷◌, ◌^◌, ◌≤◌, ◌==◌, ◌&&◌, nat_lt, not, length, slice_range, IfOk, MatchOption};
 ghost use Rattle.std.specs.List.{prefix_len};
-ghost use Rattle.lc_language.specs.Token.{is_blank, is_letter, is_digit, is_name_byte, number_of, cut_of, assign_at, sign_at, token_at, is_number, widest, scan};
+ghost use Rattle.lc_grammar.specs.Token.{is_blank, is_letter, is_digit, is_name_byte, number_of, cut_of, assign_at, sign_at, token_at, is_number, widest, scan};
 ghost use Rattle.lc_parse.specs.Reading.{cuts_of, ending_of, IsStep};
 
-use lc_language::{Token, TokenKind};
+use lc_grammar::{Token, TokenKind};
 use std::alloc::{AllocError, Global};
 
 // How the tokens of a script end, each with its place.
@@ -29,28 +29,28 @@ pub(crate) enum Step {
     End(Ending),
 }
 
-#[tactic(auto, unfolding(lc_language::specs::Token::is_blank))]
+#[tactic(auto, unfolding(lc_grammar::specs::Token::is_blank))]
 fn is_blank(b: u8) -> bool
     ensures { result ≡ is_blank b }
 {
     b == b' ' || b == b'\t' || b == b'\r' || b == b'\n'
 }
 
-#[tactic(auto, unfolding(lc_language::specs::Token::is_letter))]
+#[tactic(auto, unfolding(lc_grammar::specs::Token::is_letter))]
 fn is_letter(b: u8) -> bool
     ensures { result ≡ is_letter b }
 {
     (b >= b'A' && b <= b'Z') || (b >= b'a' && b <= b'z')
 }
 
-#[tactic(auto, unfolding(lc_language::specs::Token::is_digit))]
+#[tactic(auto, unfolding(lc_grammar::specs::Token::is_digit))]
 fn is_digit(b: u8) -> bool
     ensures { result ≡ is_digit b }
 {
     b >= b'0' && b <= b'9'
 }
 
-#[tactic(auto, unfolding(lc_language::specs::Token::is_name_byte))]
+#[tactic(auto, unfolding(lc_grammar::specs::Token::is_name_byte))]
 fn is_name_byte(b: u8) -> bool
     ensures { result ≡ is_name_byte b }
 {
@@ -95,7 +95,7 @@ pub(crate) fn value_of(text: &[u8]) -> Option<u64>
 }
 
 // `:=`, behind the colon.
-#[tactic(auto, unfolding(lc_language::specs::Token::assign_at, lc_language::specs::Token::cut_of))]
+#[tactic(auto, unfolding(lc_grammar::specs::Token::assign_at, lc_grammar::specs::Token::cut_of))]
 fn assign_at(rest: &[u8]) -> Option<Cut>
     ensures { cuts_of result ≡ assign_at rest.now }
 {
@@ -110,7 +110,7 @@ fn assign_at(rest: &[u8]) -> Option<Cut>
     }
 }
 
-#[tactic(auto, unfolding(lc_language::specs::Token::cut_of))]
+#[tactic(auto, unfolding(lc_grammar::specs::Token::cut_of))]
 fn sign(kind: TokenKind) -> Option<Cut>
     ensures { cuts_of result ≡ cut_of kind 1 }
 {
@@ -118,7 +118,7 @@ fn sign(kind: TokenKind) -> Option<Cut>
 }
 
 // The sign that begins with the byte, the rest behind it.
-#[tactic(auto, unfolding(lc_language::specs::Token::sign_at))]
+#[tactic(auto, unfolding(lc_grammar::specs::Token::sign_at))]
 fn sign_at(b: u8, rest: &[u8]) -> Option<Cut>
     ensures { cuts_of result ≡ sign_at b rest.now }
 {

@@ -4,7 +4,6 @@
 --   small_power_sum            the power by the size of the small field keeps sums
 --   value_conjugate            the value at that power is that power of the value
 --   conjugate_zero             so each power of a zero by powers of the size is a zero
---   power_of_rest              exponents count modulo n where the n-th power is 1
 --   value_cons, value_none     a value by the constant and the rest
 --   cyclotomic_zeros           a zero a^i brings those of the cyclotomic set of i
 --   product_divides            a divisor times a minimal polynomial whose zero it lacks
@@ -17,6 +16,7 @@ use Rattle.lc_algebra.specs.Polynomial.{value_at, poly_product, Divides}
 use Rattle.lc_algebra.specs.Embedding.{IsSubfield, embed, IsMinimal, IsCyclotomicSet}
 use Rattle.lc_algebra.proofs.FieldLaws.{zero_inside, add_inside, mul_inside, one_mul, no_zero_divisors}
 use Rattle.lc_algebra.proofs.PowerLaws.{pow_zero, pow_suc, pow_inside, pow_add, pow_one, one_pow, zero_pow, pow_mul, mul_pow, pow_size, frobenius}
+use Rattle.lc_algebra.proofs.OrderLaws.{power_of_rest}
 use Rattle.lc_algebra.proofs.EmbeddingLaws.{embed_inside, embed_one, embed_mul}
 use Rattle.lc_algebra.proofs.WordLaws.{fits_head, fits_tail}
 use Rattle.lc_poly.proofs.PolynomialLaws.{product_commutes, product_associates, product_same, same_product, value_inside}
@@ -30,12 +30,6 @@ power_sum f a b (suc s) l m =
     let p = (shape_of f).characteristic in
     rw (pow-suc p s)
     (cc (pow_mul f (add f a b) (p ^ s) p, power_sum f a b s l m, pow_mul f a (p ^ s) p, pow_mul f b (p ^ s) p, frobenius f (pow f a (p ^ s)) (pow f b (p ^ s)) (pow_inside f a (p ^ s)) (pow_inside f b (p ^ s))))
-
-pub power_of_rest : (f : FieldName) (a n m : ℕ) → pow f a n ≡ 1 → pow f a (m % n) ≡ pow f a m
-power_of_rest f a n m h =
-    let e : m ≡ n * (m / n) + m % n = omega (arith, mod-add-div m n) in
-    let r : pow f a (n * (m / n)) ≡ 1 = pow_mul f a n (m / n) ∙ ap (λ x. pow f x (m / n)) h ∙ one_pow f (m / n) in
-    sym (ap (pow f a) e ∙ pow_add f a (n * (m / n)) (m % n) ∙ ap (λ x. mul f x (pow f a (m % n))) r ∙ one_mul f (pow f a (m % n)) (pow_inside f a (m % n)))
 
 pub value_cons : (f : FieldName) (c : ℕ) (u : List ℕ) (x : ℕ) → value_at f (c ∷ u) x ≡ add f c (mul f x (value_at f u x))
 unfolding value_at

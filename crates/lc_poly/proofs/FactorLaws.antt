@@ -1,8 +1,4 @@
 -- Products of minimal polynomials of powers of an element of order n, over cyclotomic sets without a common number.
---   distinct_powers            powers with different exponents below n differ
---   equal_powers               equal powers have equal exponents modulo n
---   primitive_power            a power of the primitive element that has order n
---   order_of_element           an order divides the size less 1
 --   common_number              two cyclotomic sets with a common number are equal
 --   spread                     a zero at one power brings those of its cyclotomic set
 --   zeros_of_product           the zeros of the product
@@ -19,50 +15,23 @@ use Rattle.std.proofs.lemmas.Bool.{cases_lt, cases_eq}
 use Rattle.std.proofs.lemmas.List.Elements.{All-cons, All-contains}
 use Rattle.std.proofs.lemmas.List.Kept.{AllPairs-cons}
 use Rattle.lc_algebra.specs.declared.FieldName.{FieldName}
-use Rattle.lc_algebra.specs.Field.{shape_of, size, add, neg, mul, pow}
+use Rattle.lc_algebra.specs.Field.{shape_of, size, add, neg, mul, pow, HasOrder}
 use Rattle.lc_algebra.specs.Word.{Fits}
 use Rattle.lc_algebra.specs.Polynomial.{value_at, poly_product, x_power_minus_one, SamePolynomial, IsPolynomial, Divides}
 use Rattle.lc_algebra.specs.Embedding.{IsSubfield, embed, IsCyclotomicSet}
 use Rattle.lc_algebra.proofs.FieldLaws.{zero_inside, one_inside, add_neg, add_zero, mul_zero, zero_mul, mul_one, one_mul, no_zero_divisors}
 use Rattle.lc_algebra.proofs.PowerLaws.{pow_one, pow_size, order_divides, power_order, power_order_least, pow_inside, pow_add, one_pow, zero_pow, pow_mul, pow_nonzero, mul_cancel}
+use Rattle.lc_algebra.proofs.OrderLaws.{power_of_rest, equal_powers}
 use Rattle.lc_algebra.proofs.EmbeddingLaws.{embed_one}
 use Rattle.lc_algebra.proofs.WordLaws.{fits_cons, fits_symbol}
 use Rattle.lc_algebra.proofs.SpanLaws.{contains_head, contains_tail, contains_cases}
-use Rattle.lc_poly.specs.Factors.{HasOrder, Factor, IsFactor, AreApart, AreFactors, StandsIn, product_of}
+use Rattle.lc_poly.specs.Factors.{Factor, IsFactor, AreApart, AreFactors, StandsIn, product_of}
 use Rattle.lc_poly.proofs.PolynomialLaws.{index_both, fits_product, product_commutes, product_same, same_product, value_inside}
 use Rattle.lc_poly.proofs.MinimalLaws.{value_x_power, embedded_x_power}
 use Rattle.lc_poly.proofs.DivisionLaws.{x_power_polynomial}
 use Rattle.lc_poly.proofs.QuotientLaws.{value_embedded_same, value_embedded_product}
-use Rattle.lc_poly.proofs.ConjugateLaws.{power_of_rest, cyclotomic_zeros, product_divides}
+use Rattle.lc_poly.proofs.ConjugateLaws.{cyclotomic_zeros, product_divides}
 use Rattle.lc_poly.proofs.RootLaws.{size_power, cyclotomic_roots}
-
--- an element of an order isn't 0
-nonzero_of_order : (f : FieldName) (b n : ℕ) → HasOrder f b n → 0 < b
-nonzero_of_order f b n h =
-    ⊎_elim (λ l. l)
-    (λ l.
-    let e : b ≡ 0 = omega (arith, l) in
-    let z : pow f b n ≡ 0 = ap (λ x. pow f x n) e ∙ zero_pow f n (omega (arith, h.positive)) in
-    absurd (omega (arith, z, h.one)))
-    (cases_lt 0 b)
-
-later_differs : (f : FieldName) (b n i j : ℕ) → HasOrder f b n → i < j → j < n → pow f b i ≡ pow f b j → ⊥
-later_differs f b n i j h l k e =
-    let d = j - i in
-    let s : j ≡ i + d = omega (arith, l) in
-    let p = pow f b i in
-    let t : mul f p (pow f b d) ≡ mul f p 1 = sym (pow_add f b i d) ∙ ap (pow f b) (sym s) ∙ sym e ∙ sym (mul_one f p (pow_inside f b i)) in
-    h.least d (omega (arith, l)) (omega (arith, k)) (mul_cancel f p (pow f b d) 1 (pow_inside f b i) (pow_nonzero f b i h.inside (nonzero_of_order f b n h)) (pow_inside f b d) (one_inside f) t)
-
-pub distinct_powers : (f : FieldName) (b n i j : ℕ) → HasOrder f b n → i < n → j < n → pow f b i ≡ pow f b j → i ≡ j
-distinct_powers f b n i j h l k e =
-    ⊎_elim
-    (λ s. s)
-    (λ s. ⊎_elim (λ t. absurd (later_differs f b n i j h t k e)) (λ t. absurd (later_differs f b n j i h (omega (arith, s, t)) l (sym e))) (cases_lt i j))
-    (cases_eq i j)
-
-pub equal_powers : (f : FieldName) (b n i j : ℕ) → HasOrder f b n → pow f b i ≡ pow f b j → i % n ≡ j % n
-equal_powers f b n i j h e = distinct_powers f b n (i % n) (j % n) h (mod-lt i (omega (arith, h.positive))) (mod-lt j (omega (arith, h.positive))) (power_of_rest f b n i h.one ∙ e ∙ sym (power_of_rest f b n j h.one))
 
 inside_set : (n q i : ℕ) (xs : List ℕ) (k : ℕ) → 1 ≤ n → IsCyclotomicSet n q i xs → Contains xs k → k < n
 inside_set n q i xs k l s c = let t = (s.members k).0 c in rw (t.1) (mod-lt (i * q ^ t.0) (omega (arith, l)))
@@ -97,29 +66,6 @@ all_of_members : (ts : List Factor) (P : Factor → Type 0) → ((s : Factor) �
 all_of_members [] P h k d l = absurd (omega (arith, l))
 all_of_members (t ∷ ts) P h zero d l = h t (contains_head t ts)
 all_of_members (t ∷ ts) P h (suc k) d l = all_of_members ts P (λ s c. h s (contains_tail t s ts c)) k d (omega (arith, l))
-
-pub primitive_power : (f : FieldName) (n : ℕ) → 1 ≤ n → (size f - 1) % n ≡ 0 → HasOrder f (pow f (shape_of f).primitive ((size f - 1) / n)) n
-primitive_power f n l d =
-    let g = (shape_of f).primitive in
-    let m = (size f - 1) / n in
-    let e : n * m ≡ size f - 1 = omega (arith, mod-add-div (size f - 1) n) in
-    let c : m * n ≡ size f - 1 = mul_comm m n ∙ e in
-    let p : 0 < m = ⊎_elim (λ s. s) (λ s. let z : m ≡ 0 = omega (arith, s) in absurd (omega (arith, one_inside f, c, ap (λ x. x * n) z, zero-mul n))) (cases_lt 0 m) in
-    record {
-      inside = pow_inside f g m;
-      positive = l;
-      one = sym (pow_mul f g m n) ∙ ap (pow f g) c ∙ power_order f;
-      least = λ r a b t. power_order_least f (m * r) (mul-pos p a) (let k : m * r < m * n = mul-lt-mul_of_pos_left b p in omega (arith, k, c)) (pow_mul f g m r ∙ t);
-    }
-
-pub order_of_element : (f : FieldName) (b n : ℕ) → HasOrder f b n → (size f - 1) % n ≡ 0
-order_of_element f b n h =
-    let r = (size f - 1) % n in
-    let e : pow f b r ≡ 1 = power_of_rest f b n (size f - 1) h.one ∙ order_divides f b (nonzero_of_order f b n h) h.inside in
-    ⊎_elim
-    (λ p. absurd (h.least r p (mod-lt (size f - 1) (omega (arith, h.positive))) e))
-    (λ l. omega (arith, l))
-    (cases_lt 0 r)
 
 module _ (small large : FieldName) (sub : IsSubfield small large) where
   abbrev values : List ℕ → ℕ → ℕ

@@ -21,6 +21,7 @@ use Rattle.lc_algebra.specs.Polynomial.{value_at, poly_product, x_power_minus_on
 use Rattle.lc_algebra.specs.Embedding.{IsSubfield, embed, IsMinimal, IsCyclotomicSet}
 use Rattle.lc_algebra.proofs.FieldLaws.{zero_inside, one_inside, neg_inside, mul_inside, add_comm, add_neg, neg_add, zero_add, add_zero, mul_add, mul_zero, zero_mul, mul_one, mul_neg, negative_unique, subtract_zero, no_zero_divisors}
 use Rattle.lc_algebra.proofs.PowerLaws.{pow_suc, pow_inside, pow_one, one_pow, zero_pow, pow_mul, mul_pow, pow_size}
+use Rattle.lc_algebra.proofs.OrderLaws.{power_of_rest}
 use Rattle.lc_algebra.proofs.EmbeddingLaws.{embed_inside, embed_injective}
 use Rattle.lc_algebra.proofs.WordLaws.{fits_cons}
 use Rattle.lc_algebra.proofs.SpanLaws.{contains_head, contains_tail, contains_cases, contains_map, contains_below, length_below}
@@ -30,7 +31,7 @@ use Rattle.lc_poly.proofs.DivisionLaws.{x_power_polynomial}
 use Rattle.lc_poly.proofs.MinimalLaws.{value_x_power, length_x_power, last_up}
 use Rattle.lc_poly.proofs.ZeroLaws.{few_zeros}
 use Rattle.lc_poly.proofs.QuotientLaws.{trimmed_exists, value_embedded_same, value_embedded_product, minimal_divides}
-use Rattle.lc_poly.proofs.ConjugateLaws.{value_cons, value_none, small_power_sum, embed_fixed, power_of_rest, conjugate_zero, cyclotomic_zeros}
+use Rattle.lc_poly.proofs.ConjugateLaws.{value_cons, value_none, small_power_sum, embed_fixed, conjugate_zero, cyclotomic_zeros}
 
 linear : FieldName → ℕ → List ℕ
 linear f r = neg f r ∷ 1 ∷ []

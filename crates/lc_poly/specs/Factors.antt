@@ -1,6 +1,5 @@
 -- Products of minimal polynomials of powers of an element, one for each of some cyclotomic sets (MacWilliams and Sloane,
 -- chapter 7).
---   HasOrder f b n                 b is an element of f, its n-th power is 1, and none of its powers 1 to n - 1 is
 --   Factor                         a number, its cyclotomic set, and a polynomial
 --   IsFactor small large b n t     the set is that of the number modulo n, and the polynomial is the minimal one of b to the number
 --   AreApart s t                   no number stands in the sets of both
@@ -12,12 +11,6 @@ use Rattle.lc_algebra.specs.declared.FieldName.{FieldName}
 use Rattle.lc_algebra.specs.Field.{size, pow}
 use Rattle.lc_algebra.specs.Polynomial.{poly_product}
 use Rattle.lc_algebra.specs.Embedding.{IsMinimal, IsCyclotomicSet}
-
-pub record HasOrder (f : FieldName) (b n : ℕ) : Type 0 where
-  pub inside : b < size f
-  pub positive : 1 ≤ n
-  pub one : pow f b n ≡ 1
-  pub least : (m : ℕ) → 0 < m → m < n → pow f b m ≢ 1
 
 pub record Factor : Type 0 where
   pub number : ℕ

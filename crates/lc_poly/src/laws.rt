@@ -1,11 +1,11 @@
 //! The laws of polynomials, as the contracts of functions that do nothing: for every field and all polynomials over it.
 
 ghost use Rattle.std.specs.Prelude.{◌≡◌, ◌≢◌, ◌↔◌, ℕ, ◌-◌, ◌/◌, ◌%◌, ◌^◌, ◌<◌, ◌≤◌, List, [], ◌∷◌, length, map, slice_index, AllPairs, Contains};
-ghost use Rattle.lc_algebra.specs.Field.{shape_of, size, add, subtract, mul, pow};
+ghost use Rattle.lc_algebra.specs.Field.{shape_of, size, add, subtract, mul, pow, HasOrder};
 ghost use Rattle.lc_algebra.specs.Word.{Fits};
 ghost use Rattle.lc_algebra.specs.Polynomial.{value_at, poly_sum, poly_product, x_power_minus_one, SamePolynomial, IsPolynomial, IsDivision, Divides};
 ghost use Rattle.lc_algebra.specs.Embedding.{IsSubfield, embed, IsMinimal, IsCyclotomicSet};
-ghost use Rattle.lc_poly.specs.Factors.{HasOrder, Factor, IsFactor, AreFactors, StandsIn, product_of};
+ghost use Rattle.lc_poly.specs.Factors.{Factor, IsFactor, AreFactors, StandsIn, product_of};
 
 use lc_algebra::FieldName;
 

@@ -8,7 +8,7 @@
 use Rattle.std.proofs.Common.{◌≡◌, refl, ℕ, ◌<◌, ◌≤◌, ◌-◌, List, [], ◌∷◌, ◌++◌, length, get_or, drop, take, map, flat_map, codes, decimal, arith, ◌∙◌, ap, append_assoc, append-nil, sym}
 use Rattle.std.proofs.lemmas.List.{length-map, take_rest}
 use Rattle.std.specs.List.{join_with_byte}
-use Rattle.lc_language.specs.Print.{bracketed, numbers_text, lists_text, spaced, with_values}
+use Rattle.lc_formats.specs.Text.{bracketed, numbers_text, lists_text, spaced, with_values}
 
 pub join_led : {A : Type 0} (c : ℕ) (f : A → List ℕ) (x : A) (xs : List A) → join_with_byte c (map f (x ∷ xs)) ≡ f x ++ flat_map (λ y. c ∷ f y) xs
 join_led c f x [] = sym (append-nil (f x))

@@ -5,7 +5,8 @@
 
 ghost use Rattle.std.specs.Prelude.{◌≡◌, map, IfOk, decimal};
 ghost use Rattle.lc_language.specs.Value.{truth, nothing};
-ghost use Rattle.lc_language.specs.Print.{line, value_line, numbers_text, lists_text, field_text, code_text, least_line as least_text, least_none_line as least_none_text, distance_line as distance_text, distance_none_line as distance_none_text, bracket_line as bracket_text, fault_line as fault_text};
+ghost use Rattle.lc_formats.specs.Text.{line, numbers_text, lists_text};
+ghost use Rattle.lc_language.specs.Print.{value_line, field_text, code_text, least_line as least_text, least_none_line as least_none_text, distance_line as distance_text, distance_none_line as distance_none_text, bracket_line as bracket_text, fault_line as fault_text};
 
 mod pieces;
 

@@ -1,6 +1,7 @@
 //! The pieces that lines are made of, each put behind a text that has begun.
 ghost use Rattle.std.specs.Prelude.{◌≡◌, ℕ, List, [], ◌∷◌, ◌++◌, map, flat_map, OnOk, decimal};
-ghost use Rattle.lc_language.specs.Print.{line, bracketed, numbers_text, lists_text, field_text, with_values};
+ghost use Rattle.lc_formats.specs.Text.{line, bracketed, numbers_text, lists_text, with_values};
+ghost use Rattle.lc_language.specs.Print.{field_text};
 
 use itoa::{Buffer, Integer};
 use lc_field::NoMemory;
@@ -23,7 +24,7 @@ pub fn push_number(text: &mut Vec<u8>, n: u64) -> Result<(), NoMemory>
 }
 
 /// The newline that ends a line.
-#[tactic(auto, unfolding(lc_language::specs::Print::line))]
+#[tactic(auto, unfolding(lc_formats::specs::Text::line))]
 pub fn push_newline(text: &mut Vec<u8>) -> Result<(), NoMemory>
     ensures { OnOk result (text.new.items ≡ line text.old.items) }
 {
@@ -59,7 +60,7 @@ fn push_bracketed<I: Integer>(text: &mut Vec<u8>, list: &[I]) -> Result<(), NoMe
 }
 
 /// A list of numbers in brackets.
-#[tactic(auto, unfolding(lc_language::specs::Print::numbers_text))]
+#[tactic(auto, unfolding(lc_formats::specs::Text::numbers_text))]
 pub fn push_list(text: &mut Vec<u8>, list: &[u64]) -> Result<(), NoMemory>
     ensures { OnOk result (text.new.items ≡ text.old.items ++ numbers_text list.now) }
 {
@@ -68,7 +69,7 @@ pub fn push_list(text: &mut Vec<u8>, list: &[u64]) -> Result<(), NoMemory>
 }
 
 /// The symbols of a word in brackets.
-#[tactic(auto, unfolding(lc_language::specs::Print::numbers_text))]
+#[tactic(auto, unfolding(lc_formats::specs::Text::numbers_text))]
 pub fn push_word(text: &mut Vec<u8>, word: &Word) -> Result<(), NoMemory>
     ensures { OnOk result (text.new.items ≡ text.old.items ++ numbers_text word.now) }
 {

@@ -12,8 +12,8 @@ use Rattle.std.specs.List.{AllByRecursion}
 use Rattle.lc_parse.proofs.Outcomes.{one_script, one_fault, no_both}
 use Rattle.lc_language.specs.declared.Call.{Call}
 use Rattle.lc_language.specs.declared.Kind.{Kind}
-use Rattle.lc_language.specs.Tree.{Expr, Exprs, number, name, call, list, none, more, Statement, place_of, count_of}
-use Rattle.lc_language.specs.Grammar.{Reads, Fault, IsFault}
+use Rattle.lc_grammar.specs.Tree.{Expr, Exprs, number, name, call, list, none, more, Statement, place_of, count_of}
+use Rattle.lc_grammar.specs.Grammar.{Reads, Fault, IsFault}
 use Rattle.lc_language.specs.Value as value
 use Rattle.lc_language.specs.Value.{Value, Binding, value_named}
 use Rattle.lc_language.specs.Calls.{call_named, signature_for, is_query}

@@ -24,7 +24,7 @@ use Rattle.lc_constructions.specs.Alternant.{AlternantForm}
 use Rattle.lc_language.specs.declared.Call.{Call}
 use Rattle.lc_language.specs.declared.Call.TheVariants.{Gf, GeneratorMatCode, CheckMatCode, RepetitionCode, WholeSpaceCode, NullCode, HammingCode, ReedMullerCode, DualCode, Dimension, WordLength, GeneratorMat, CheckMat, Weight, IsCodeword, LeastWord}
 use Rattle.lc_language.specs.Value.{Value, number, field, numbers, lists, code, truth}
-use Rattle.lc_language.specs.Refusal.{columns_of}
+use Rattle.lc_formats.specs.Entries.{columns_of}
 use Rattle.lc_language.specs.Meaning.{IsCodeValue, Gives}
 use Rattle.lc_language.specs.Print.{least_line, least_none_line}
 use Rattle.lc_language.specs.Evaluation.{Step, prints, PrintsLeast, Queries}

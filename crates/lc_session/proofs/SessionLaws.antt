@@ -10,9 +10,9 @@ use Rattle.std.specs.Cmp.Lexicographic.{pointwise}
 use Rattle.std.specs.Io.KnownBytes.{Consumes, IsAtEnd}
 use Rattle.std.proofs.lemmas.List.{append-nil, length-append}
 use Rattle.std.proofs.lemmas.Bool.Decides.{nat_tests}
-use Rattle.lc_language.specs.Value.{same_bytes}
+use Rattle.lc_formats.specs.Text.{same_bytes}
 use Rattle.lc_language.specs.Evaluation.{IsText}
-use Rattle.lc_language.specs.Options.{Settings, run, settings_of, settings, usage, options, options_from, checked, key_named, place_of_key, row, row_named, run_alone, command_text}
+use Rattle.lc_sessions.specs.Options.{Settings, run, settings_of, settings, usage, options, options_from, checked, key_named, place_of_key, row, row_named, run_alone, command_text}
 use Rattle.lc_eval.specs.Built.{built_calls}
 use Rattle.lc_session.specs.Outcome.{most_bytes, words_of, GaveTooMuch, IsReply}
 

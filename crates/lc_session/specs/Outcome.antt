@@ -8,7 +8,7 @@
 --   IsReached status             the words were accepted, the source was read and memory was not refused
 use Rattle.std.specs.Prelude.{◌≡◌, ℕ, ◌+◌, ◌≤◌, ◌^◌, Bool, true, false, List, length, map, Option, String, string_bytes}
 use Rattle.std.specs.Io.KnownBytes.{Consumes, IsAtEnd}
-use Rattle.lc_language.specs.Options.{Settings, settings, options, run_alone}
+use Rattle.lc_sessions.specs.Options.{Settings, settings, options, run_alone}
 use Rattle.lc_language.specs.Evaluation.{IsText}
 use Rattle.lc_eval.specs.Built.{built_calls}
 use Rattle.lc_session.specs.declared.status.Status.{Status}

@@ -2,8 +2,8 @@
 ghost use Rattle.std.specs.Prelude.{◌≡◌, ◌⊎◌, ◌↔◌, ◌+◌, ◌<◌, ◌≤◌, ℕ, Bool, List, [], ◌∷◌, length, Some, codes, MatchOption};
 ghost use Rattle.std.specs.Io.KnownBytes.{Appends};
 ghost use Rattle.lc_io.specs.Outside.{HasRisen, GaveFront, GaveLess, AppendsPart};
-ghost use Rattle.lc_language.specs.Options.{Settings, options, settings, usage, run_alone};
-ghost use Rattle.lc_language.specs.Value.{same_bytes};
+ghost use Rattle.lc_sessions.specs.Options.{Settings, options, settings, usage, run_alone};
+ghost use Rattle.lc_formats.specs.Text.{same_bytes};
 ghost use Rattle.lc_session.specs.Outcome.{most_bytes, words_of, end_number, IsReply, GaveTooMuch, IsReached};
 
 use crate::input::{InputRefusal, input};

@@ -1,4 +1,4 @@
-use Rattle.lc_algebra.proofs.SpanLaws.{distance_unique, least_unique, least_distance, words_apart, words_at_distance, distance_shared, least_shared}
+use Rattle.lc_algebra.proofs.SpanLaws.{weight_bound_attained, weight_bound_at_most, weight_bound_apart, distance_unique, least_unique, least_distance, words_apart, words_at_distance, distance_shared, least_shared}
 use Rattle.lc_algebra.proofs.SpanSearch.{least_exists}
 use Rattle.lc_algebra.proofs.span_laws.least_word_has_the_distance.Goals as goal
 
@@ -25,3 +25,15 @@ returns-clause-distance_told_by_words c = distance_shared c.args.field
 
 pub returns-clause-word_told_by_words : goal.returns-clause-word_told_by_words
 returns-clause-word_told_by_words c = least_shared c.args.field
+
+pub returns-clause-bound : goal.returns-clause-bound
+returns-clause-bound c = λ n rows d k. k.least
+
+pub returns-clause-bound_attained : goal.returns-clause-bound_attained
+returns-clause-bound_attained c = weight_bound_attained c.args.field
+
+pub returns-clause-bound_at_most : goal.returns-clause-bound_at_most
+returns-clause-bound_at_most c = weight_bound_at_most c.args.field
+
+pub returns-clause-bound_apart : goal.returns-clause-bound_apart
+returns-clause-bound_apart c = weight_bound_apart c.args.field

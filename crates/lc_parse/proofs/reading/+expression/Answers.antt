@@ -1,9 +1,9 @@
 use Rattle.std.proofs.Common.{length, refl, sym, ap, ◌∙◌, subst, arith}
 use Rattle.std.proofs.lemmas.Result.{err_from_is_err_and}
-use Rattle.lc_language.specs.Token.{text_of}
-use Rattle.lc_language.specs.Tree as tree
-use Rattle.lc_language.specs.Grammar.{deepest, opens}
-use Rattle.lc_language.proofs.Course.{of_call, of_list, filled, inside, want, opened, named, done, course}
+use Rattle.lc_grammar.specs.Token.{text_of}
+use Rattle.lc_grammar.specs.Tree as tree
+use Rattle.lc_grammar.specs.Grammar.{deepest, opens}
+use Rattle.lc_grammar.proofs.Course.{of_call, of_list, filled, inside, want, opened, named, done, course}
 use Rattle.lc_parse.specs.Views.{tree_of, trees_of}
 use Rattle.lc_parse.specs.Reading.{ending_of, IsNotFirst, IsBehind}
 use Rattle.lc_parse.proofs.Views.{tree_of-Number, tree_of-Name, tree_of-Call, tree_of-List, trees_of-push}

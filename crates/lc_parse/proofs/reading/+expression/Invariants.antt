@@ -1,5 +1,5 @@
 use Rattle.std.proofs.Common.{◌≡◌, ◌+◌, ◌*◌, ◌≤◌, length}
-use Rattle.lc_language.proofs.Course.{Bracket, Around, opened, want, inside, closing, depth_of}
+use Rattle.lc_grammar.proofs.Course.{Bracket, Around, opened, want, inside, closing, depth_of}
 use Rattle.lc_parse.specs.Views.{trees_of}
 use Rattle.lc_parse.specs.Reading.{AreWithin, Stays}
 use Rattle.lc_parse.proofs.reading.+expression.Given as goal

@@ -1,4 +1,4 @@
-use Rattle.lc_language.specs.Token.{text_of}
+use Rattle.lc_grammar.specs.Token.{text_of}
 use Rattle.lc_parse.proofs.Parsing.{name_ascii}
 use Rattle.lc_parse.proofs.reading.name_of.Goals as goal
 

@@ -1,5 +1,5 @@
 use Rattle.std.proofs.Common.{◌∙◌}
-use Rattle.lc_language.specs.Token.{text_of}
+use Rattle.lc_grammar.specs.Token.{text_of}
 use Rattle.lc_parse.proofs.Parsing.{number_found}
 use Rattle.lc_parse.proofs.reading.number_of.Goals as goal
 

@@ -1,7 +1,7 @@
 use Rattle.std.proofs.Common.{◌≡◌, map, Ok, Err, sym, ◌∙◌, subst}
 use Rattle.std.proofs.lemmas.Result.{err_from_is_err_and}
 use Rattle.lc_parse.specs.Reading.{IsOutcome}
-use Rattle.lc_language.proofs.Course.{read}
+use Rattle.lc_grammar.proofs.Course.{read}
 use Rattle.lc_parse.specs.Views.{script_of, statement_of}
 use Rattle.lc_parse.proofs.ScanLaws.{tokens_within}
 use Rattle.lc_parse.proofs.Outcomes.{outcome, outcome_is, reads_of, refused_of, answer_reads, answer_faults}

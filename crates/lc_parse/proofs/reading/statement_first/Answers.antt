@@ -1,5 +1,5 @@
 use Rattle.std.proofs.Common.{refl, ◌∙◌, option_map, string_bytes}
-use Rattle.lc_language.proofs.Course.{statement}
+use Rattle.lc_grammar.proofs.Course.{statement}
 use Rattle.lc_parse.specs.Views.{tree_of}
 use Rattle.lc_parse.proofs.Parsing.{step_end}
 use Rattle.lc_parse.proofs.reading.statement_first.Goals as goal

@@ -1,5 +1,5 @@
 use Rattle.std.proofs.Common.{◌≡◌, [], length, map, ◌∙◌}
-use Rattle.lc_language.proofs.Course.{start}
+use Rattle.lc_grammar.proofs.Course.{start}
 use Rattle.lc_parse.specs.Views.{statement_of}
 use Rattle.lc_parse.proofs.Parsing.{refuses_from}
 use Rattle.lc_parse.proofs.Outcomes.{read_end, refuse_token, empty_of}

@@ -1,6 +1,6 @@
 use Rattle.std.proofs.Common.{Some, sym, ap, ◌∙◌}
-use Rattle.lc_language.specs.Grammar.{deepest}
-use Rattle.lc_language.proofs.Course.{want, statement, course}
+use Rattle.lc_grammar.specs.Grammar.{deepest}
+use Rattle.lc_grammar.proofs.Course.{want, statement, course}
 use Rattle.lc_parse.specs.Reading.{ending_of}
 use Rattle.lc_parse.proofs.Parsing.{step_target, step_no_target}
 use Rattle.lc_parse.proofs.reading.target.Goals as goal

@@ -1,6 +1,6 @@
 use Rattle.std.proofs.Common.{length, Vec, Global}
-use Rattle.lc_language.specs.Token.{scan}
-use Rattle.lc_language.specs.declared.Token.{Token}
+use Rattle.lc_grammar.specs.Token.{scan}
+use Rattle.lc_grammar.specs.declared.Token.{Token}
 use Rattle.lc_parse.proofs.Outcomes.{whole_tokens, token_fault, token_readable, token_faulty, no_token_fault}
 use Rattle.lc_parse.proofs.reading.tokens.Goals as goal
 

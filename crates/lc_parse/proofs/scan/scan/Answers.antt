@@ -1,6 +1,6 @@
 use Rattle.std.proofs.Common.{sym, ap, arith}
 use Rattle.lc_parse.proofs.Scanning.{Scans-none, Scans-skip, Scans-token, Scans-end}
-use Rattle.lc_language.specs.Token.{Scanned}
+use Rattle.lc_grammar.specs.Token.{Scanned}
 use Rattle.lc_parse.proofs.scan.scan.Goals as goal
 
 pub loop-n-init : goal.loop-n-init

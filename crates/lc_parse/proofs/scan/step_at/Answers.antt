@@ -1,6 +1,6 @@
 use Rattle.std.proofs.Common.{◌≡◌, ◌≤◌, ◌+◌, suc, true, false, ◌∷◌, length, drop, Some, None, sym, ap, ◌∙◌, arith, length-drop}
 use Rattle.std.proofs.lemmas.List.{take_rest, nil_from_length}
-use Rattle.lc_language.specs.Token.{is_blank, token_at}
+use Rattle.lc_grammar.specs.Token.{is_blank, token_at}
 use Rattle.lc_parse.specs.Reading.{cuts_of, cut_of}
 use Rattle.lc_parse.proofs.Scanning.{cut_within, step_end, step_blank, step_comment, step_bad, step_wide, step_token, not_35}
 use Rattle.lc_parse.proofs.scan.step_at.Goals as goal

@@ -1,7 +1,7 @@
 use Rattle.std.proofs.Common.{◌≡◌, true, false, Some, ap, ◌∙◌}
 use Rattle.std.specs.List.{prefix_len}
-use Rattle.lc_language.specs.declared.TokenKind.TheVariants.{Name, Number}
-use Rattle.lc_language.specs.Token.{is_letter, is_digit, is_name_byte}
+use Rattle.lc_grammar.specs.declared.TokenKind.TheVariants.{Name, Number}
+use Rattle.lc_grammar.specs.Token.{is_letter, is_digit, is_name_byte}
 use Rattle.lc_parse.proofs.Scanning.{name_cut, number_cut, sign_cut}
 use Rattle.lc_parse.proofs.scan.token_at.Goals as goal
 

@@ -1,5 +1,5 @@
 use Rattle.std.proofs.Common.{◌≡◌, drop}
-use Rattle.lc_language.specs.Token.{number_from, number_of}
+use Rattle.lc_grammar.specs.Token.{number_from, number_of}
 use Rattle.lc_parse.proofs.scan.value_of.Given as goal
 
 abbrev pub invariant-loop-b : goal.invariant-loop-b

@@ -1,4 +1,4 @@
-use Rattle.lc_poly.proofs.FactorLaws.{primitive_power, order_of_element}
+use Rattle.lc_algebra.proofs.OrderLaws.{primitive_power, order_of_element}
 use Rattle.lc_poly.proofs.laws.powers_of_order.Goals as goal
 
 pub returns : goal.returns

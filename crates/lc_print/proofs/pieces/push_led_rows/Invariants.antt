@@ -1,5 +1,5 @@
 use Rattle.std.proofs.Common.{◌≡◌, ◌∷◌, ◌++◌, take, flat_map}
-use Rattle.lc_language.specs.Print.{numbers_text}
+use Rattle.lc_formats.specs.Text.{numbers_text}
 use Rattle.lc_print.proofs.pieces.push_led_rows.Given as goal
 
 abbrev pub invariant-loop-row : goal.invariant-loop-row

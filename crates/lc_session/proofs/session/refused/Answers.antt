@@ -1,6 +1,6 @@
 use Rattle.std.proofs.Common.{arith, rules}
 use Rattle.std.proofs.lemmas.Grind.{common_steps}
-use Rattle.lc_language.specs.Options.{run, settings_of}
+use Rattle.lc_sessions.specs.Options.{run, settings_of}
 use Rattle.lc_session.proofs.SessionLaws.{run_settings}
 use Rattle.lc_session.proofs.session.refused.Goals as goal
 

@@ -1,0 +1,5 @@
+pub mod Evaluated
+pub mod CertificateExamples
+pub mod CheckExamples
+pub mod CheckpointExamples
+pub mod TruthExamples

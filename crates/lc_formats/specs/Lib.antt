@@ -1,0 +1,9 @@
+pub mod Certificate
+pub mod CertificateText
+pub mod Check
+pub mod Checkpoint
+pub mod Entries
+pub mod Json
+pub mod Shape
+pub mod Text
+pub mod Truth

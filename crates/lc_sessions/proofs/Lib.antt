@@ -1,0 +1,3 @@
+pub mod OptionExamples
+pub mod SessionExamples
+pub mod SummaryExamples
