@@ -5,12 +5,6 @@
 --   cut_total, cut_phases, cut_last      a plan that the cut ends in the middle of a phase
 --   words_at                   the words at places of the Hamming code: the last of block 0, none, the first of block 1, none
 --   states, at_budget          a state that goes on, one at a phase end, one past the plan's end; and one at its budget
-<<<<<<< HEAD
---   sliced, stops              records of two needs under a slice; whether a slice of 0, 1 and 2 blocks stops a search of 2
-=======
---   scanned, scanned_seven     certificates by a scan: accepted, and a lighter word
---   costs, cost_reasons        what certificates cost, and when a cost is refused, with what is told of it
->>>>>>> fca8d07d7347f2822cf21f01f32ecf349763b667
 --   found_weights, fitting, fitting_settled      what stands at a place; which records fit their need
 --   on_the_board               what a worker reports of a word
 use Rattle.std.proofs.Common.{◌≡◌, refl}
@@ -21,17 +15,9 @@ use Rattle.lc_algebra.specs.Word.{word_sum, scale}
 use Rattle.lc_algebra.specs.Span.{below, combine, words}
 use Rattle.lc_algebra.specs.Divisor.{rounded}
 use Rattle.lc_enumeration.specs.Message.{supports, supports_from, numbers_from, nonzero_lists, leading_lists, messages, vector_from, vector_of, choose, message_count}
-<<<<<<< HEAD
-use Rattle.lc_enumeration.specs.Plan.{cut, phase_level, phase_set, level_blocks, blocks_before, total, phase_at, phase_ends, block_length, block_messages, place_of, plan_phases, phase_of}
-use Rattle.lc_enumeration.specs.InformationSet.{same_word, in_span, greedy, is_member, first_basis, columns_in_order, with_fresh, next_set, sets_after, information_sets, unit_word, systematic}
-use Rattle.lc_enumeration.specs.Search.{exact, bracket, Found, sets_of, set_count, ranks_of, generator_at, word_of, word_at, beats, found_along, found_in_block, block_words, found_from, least_of, found_first, found_below, best, last_that, is_whole_below, level_below, levels_below, bound_sum, bound_of, bound, is_done, ends_of, answer_at, answer, may_end, finished, board_value, weight_at, fits, fits_settled}
-use Rattle.lc_enumeration.specs.Records.{end_of_phase, within_slice, round_length, after_round, is_used_up, note_first, note_of, no_round, less_slice, rounds_within, rounds, notes_then, records, records_from}
-=======
 use Rattle.lc_enumeration.specs.Plan.{cut, phase_level, phase_set, level_blocks, blocks_before, total, phase_at, phase_ends, block_length, block_messages, plan_phases, phase_of}
-use Rattle.lc_enumeration.specs.InformationSet.{same_word, in_span, greedy, dimension, is_member, first_basis, columns_in_order, with_fresh, next_set, sets_after, information_sets, unit_word, systematic, echelon_rows}
+use Rattle.lc_enumeration.specs.InformationSet.{same_word, in_span, greedy, is_member, first_basis, columns_in_order, with_fresh, next_set, sets_after, information_sets, unit_word, systematic}
 use Rattle.lc_enumeration.specs.Search.{exact, bracket, Found, sets_of, set_count, ranks_of, generator_at, word_of, word_at, block_words, last_that, is_whole_below, level_below, levels_below, bound_sum, bound_of, bound, ends_of, may_end, finished, board_value, weight_at, fits, fits_settled}
-use Rattle.lc_enumeration.specs.Certificate.{Certificate, scan, accepted, rejected, seen_lighter, too_costly, code_length, code_dimension, level_in, messages_through, cost_of, cost, words_through, seen_by, seen_words, is_lighter, first_lighter, or_else, when, carrying, set_reasons, cost_reason, verdict}
->>>>>>> fca8d07d7347f2822cf21f01f32ecf349763b667
 use Rattle.lc_enumeration.proofs.SearchExamples.{hamming, first_found}
 
 pub counts : map (message_count 5 16) (1 ∷ 2 ∷ 3 ∷ 4 ∷ 5 ∷ []) ≡ 5 ∷ 150 ∷ 2250 ∷ 16875 ∷ 50625 ∷ []
@@ -73,35 +59,6 @@ states = refl
 pub at_budget : finished 1 hamming 1 1 first_found ≡ Some (bracket 2 first_found 1)
 unfolding digits number plus minus times top up times_x product shape shape_of size coefficients add mul word_sum scale below words choose message_count cut phase_level level_blocks blocks_before total phase_ends same_word in_span greedy is_member first_basis columns_in_order with_fresh next_set sets_after information_sets sets_of set_count ranks_of last_that is_whole_below level_below levels_below bound_sum bound_of rounded bound ends_of may_end finished
 at_budget = refl
-
-<<<<<<< HEAD
-pub sliced : records (λ C. 1) (hamming ∷ hamming ∷ []) 0 (2 ^ 20) (Some 3) 0 first_found ≡ record { need = 0; blocks = 1; bound = 2; best = 3 } ∷ record { need = 0; blocks = 2; bound = 3; best = 3 } ∷ record { need = 1; blocks = 1; bound = 2; best = 3 } ∷ []
-unfolding digits number plus minus times top up times_x product shape shape_of size coefficients add mul word_sum scale below combine words supports supports_from numbers_from nonzero_lists leading_lists messages vector_from vector_of choose message_count cut phase_level phase_set level_blocks blocks_before total phase_at phase_ends block_messages place_of plan_phases same_word in_span greedy is_member first_basis columns_in_order with_fresh next_set sets_after information_sets unit_word systematic sets_of set_count ranks_of generator_at word_of beats found_along found_in_block block_words found_from least_of found_first found_below best last_that is_whole_below level_below levels_below bound_sum bound_of rounded bound is_done ends_of answer_at answer may_end finished end_of_phase within_slice round_length after_round is_used_up note_first note_of no_round less_slice rounds_within rounds notes_then records records_from phase_of
-sliced = refl
-
-pub stops : map (λ left. (rounds 1 hamming (2 ^ 20) 0 (Some left) 0 first_found).is_stopped) (0 ∷ 1 ∷ 2 ∷ []) ≡ true ∷ true ∷ false ∷ []
-unfolding digits number plus minus times top up times_x product shape shape_of size coefficients add mul word_sum scale below combine words supports supports_from numbers_from nonzero_lists leading_lists messages vector_from vector_of choose message_count cut phase_level phase_set level_blocks blocks_before total phase_at phase_ends block_messages place_of plan_phases same_word in_span greedy is_member first_basis columns_in_order with_fresh next_set sets_after information_sets unit_word systematic sets_of set_count ranks_of generator_at word_of beats found_along found_in_block block_words found_from least_of found_first found_below best last_that is_whole_below level_below levels_below bound_sum bound_of rounded bound is_done ends_of answer_at answer may_end finished end_of_phase within_slice round_length after_round is_used_up note_first note_of no_round less_slice rounds_within rounds phase_of
-stops = refl
-=======
-abbrev pub by_scan : List ℕ → ℕ → Certificate
-by_scan word distance = record (hamming_with word distance []) { proof = scan }
-
-pub scanned : verdict (by_scan row 3) ≡ accepted
-unfolding digits number plus minus times top up times_x product shape shape_of size coefficients add mul word_sum scale below combine words supports supports_from numbers_from nonzero_lists leading_lists messages vector_from vector_of choose message_count same_word in_span greedy dimension is_member first_basis unit_word systematic echelon_rows code_length code_dimension cost_of cost words_through seen_by seen_words is_lighter first_lighter or_else when carrying set_reasons cost_reason verdict
-scanned = refl
-
-pub scanned_seven : verdict (by_scan ones 7) ≡ rejected (seen_lighter row)
-unfolding digits number plus minus times top up times_x product shape shape_of size coefficients add mul word_sum scale below combine words supports supports_from numbers_from nonzero_lists leading_lists messages vector_from vector_of choose message_count same_word in_span greedy dimension is_member first_basis unit_word systematic echelon_rows code_length code_dimension cost_of cost words_through seen_by seen_words is_lighter first_lighter or_else when carrying set_reasons cost_reason verdict
-scanned_seven = refl
-
-pub costs : map cost (by_scan row 3 ∷ hamming_with row 3 (two 1 1) ∷ hamming_with row 3 (two 2 9) ∷ hamming_with row 3 (two 0 0) ∷ []) ≡ 16 ∷ 8 ∷ 25 ∷ 0 ∷ []
-unfolding digits number plus minus times top up times_x product shape shape_of size coefficients add mul word_sum scale below words numbers_from choose message_count same_word in_span greedy dimension code_length code_dimension level_in messages_through cost_of cost
-costs = refl
-
-pub cost_reasons : map cost_reason (4294967296 ∷ 4294967297 ∷ 8589934592 ∷ 18446744073709551616 ∷ []) ≡ None ∷ Some (too_costly 4294967297) ∷ Some (too_costly 8589934592) ∷ Some (too_costly 18446744073709551615) ∷ []
-unfolding when cost_reason
-cost_reasons = refl
->>>>>>> fca8d07d7347f2822cf21f01f32ecf349763b667
 
 abbrev pub pair : ℕ → ℕ → Found
 pair weight place = record { weight = weight; place = place }

@@ -17,23 +17,25 @@ use Rattle.lc_algebra.specs.Residue.{digits, number, plus, minus, times, top, up
 use Rattle.lc_algebra.specs.Field.{shape, shape_of, size, coefficients, add, mul, is_symbol}
 use Rattle.lc_algebra.specs.Word.{word_sum, scale}
 use Rattle.lc_algebra.specs.Span.{below, combine, words}
-use Rattle.lc_algebra.specs.Divisor.{possible_divisors, divides_weights, weight_divisor, rounded}
+use Rattle.lc_algebra.specs.Divisor.{possible_divisors, divides_weights, weight_divisor, divisor_of, rounded}
 use Rattle.lc_constructions.specs.Cyclic.{all_fields}
 use Rattle.lc_constructions.specs.Refusals.{is_rising, columns_of, are_elements}
 use Rattle.lc_enumeration.specs.Message.{supports, supports_from, numbers_from, nonzero_lists, leading_lists, messages, vector_from, vector_of, choose, message_count}
 use Rattle.lc_enumeration.specs.Plan.{cut, phase_level, phase_set, level_blocks, blocks_before, total, phase_at, phase_ends, block_messages, place_of, plan_phases, phase_of}
 use Rattle.lc_enumeration.specs.InformationSet.{same_word, in_span, greedy, dimension, is_member, first_basis, columns_in_order, with_fresh, next_set, sets_after, information_sets, unit_word, systematic, echelon_rows}
 use Rattle.lc_enumeration.specs.Search.{sets_of, set_count, ranks_of, generator_at, word_of, block_words, word_at, beats, found_along, found_in_block, found_from, least_of, found_first, found_below, best, last_that, is_whole_below, level_below, levels_below, bound_sum, bound_of, bound, is_done, ends_of, answer_at, answer, may_end, finished, weight_at, fits, fits_settled}
-use Rattle.lc_formats.specs.Certificate.{code_length, code_dimension, level_in, messages_through, cost_of, cost, words_through, seen_by, seen_words, is_lighter, first_lighter, divisor_of, claimed_sum, is_information_set, first_dependent, least_overlap, reaches, or_else, when, carrying, set_reasons, cost_reason, verdict, reason_number, reason_values}
+use Rattle.lc_formats.specs.Certificate.{code_length, code_dimension, level_in, messages_through, cost_of, cost, words_through, seen_by, seen_words, is_lighter, first_lighter, span_divisor, claimed_sum, is_information_set, first_dependent, least_overlap, reaches, or_else, when, carrying, set_reasons, cost_reason, verdict, reason_number, reason_values}
 use Rattle.lc_formats.specs.Json.{number_json, items, numbers_json, listed, each, plain_number, number_at, member_count, numbers_of, list_at, provided}
 use Rattle.lc_formats.specs.Text.{same_bytes, bracketed, numbers_text, lists_text, line, spaced, with_values}
 use Rattle.lc_formats.specs.CertificateText.{claim_json, way_text, with_sets, certificate_json, certificate_text}
 use Rattle.lc_formats.specs.Check.{reason_line, line_of_verdict, verdict_line, rows_at, field_at, fit, are_rows, is_scan, are_places, claim_in, sets_at, fresh_in_basis, above, with_keys, certificate_over, levels_in, sets_in, way_in, distance_in, word_in, rows_in, field_in, object_in, data_in, verdict_of, distance_of}
-use Rattle.lc_formats.specs.Checkpoint.{settled_json, body_json, body_of, sealed, checkpoint_text, checkpoint_refusal_number, is_whole, number_up_to, triple_of, is_in_range, settled_in, digest_in, script_in, done_in, state_in, point_or_shape, versioned, body_in}
-use Rattle.lc_formats.specs.Truth.{code_divisor, divisor_in, found_of, current_of, blocks_in, turn_allowance, first_divisible, settled_before, current_before, used_settled, used_current, start_need, is_settled_fit, is_current_fit, used_fit}
+use Rattle.lc_formats.specs.Checkpoint.{current_of, settled_json, body_json, body_of, sealed, checkpoint_text, checkpoint_refusal_number, is_whole, number_up_to, triple_of, is_in_range, settled_in, digest_in, script_in, done_in, state_in, point_or_shape, versioned, body_in}
+use Rattle.lc_formats.specs.Truth.{divisor_in, blocks_in, turn_allowance, start_of, misfit_of}
+use Rattle.lc_enumeration.specs.Records.{found_of}
+use Rattle.lc_enumeration.specs.Fitting.{first_divisible, start_before, used_start, misfit_at, count_current, too_many, misfit_from, misfit}
 
 unfoldable pub algebra_computes : ⊤
-unfolding digits number plus minus times top up times_x product shape shape_of size coefficients add mul is_symbol word_sum scale below combine words possible_divisors divides_weights weight_divisor rounded
+unfolding digits number plus minus times top up times_x product shape shape_of size coefficients add mul is_symbol word_sum scale below combine words possible_divisors divides_weights weight_divisor divisor_of rounded
 algebra_computes = tt
 
 unfoldable pub search_computes : ⊤
@@ -41,7 +43,7 @@ unfolding algebra_computes supports supports_from numbers_from nonzero_lists lea
 search_computes = tt
 
 unfoldable pub certificate_computes : ⊤
-unfolding search_computes code_length code_dimension level_in messages_through cost_of cost words_through seen_by seen_words is_lighter first_lighter divisor_of claimed_sum is_information_set first_dependent least_overlap reaches or_else when carrying set_reasons cost_reason verdict reason_number reason_values
+unfolding search_computes code_length code_dimension level_in messages_through cost_of cost words_through seen_by seen_words is_lighter first_lighter span_divisor claimed_sum is_information_set first_dependent least_overlap reaches or_else when carrying set_reasons cost_reason verdict reason_number reason_values
 certificate_computes = tt
 
 unfoldable pub json_computes : ⊤
@@ -57,9 +59,9 @@ unfolding encode_with first_words schedule rounds compress hash_after digest_byt
 seal_computes = tt
 
 unfoldable pub checkpoint_computes : ⊤
-unfolding json_computes seal_computes settled_json body_json body_of sealed checkpoint_text checkpoint_refusal_number is_whole number_up_to triple_of is_in_range settled_in digest_in script_in done_in state_in point_or_shape versioned body_in
+unfolding json_computes seal_computes current_of settled_json body_json body_of sealed checkpoint_text checkpoint_refusal_number is_whole number_up_to triple_of is_in_range settled_in digest_in script_in done_in state_in point_or_shape versioned body_in
 checkpoint_computes = tt
 
 unfoldable pub truth_computes : ⊤
-unfolding search_computes code_divisor divisor_in found_of current_of blocks_in turn_allowance first_divisible settled_before current_before used_settled used_current start_need is_settled_fit is_current_fit used_fit
+unfolding search_computes found_of first_divisible start_before used_start misfit_at count_current too_many misfit_from misfit current_of divisor_in blocks_in turn_allowance start_of misfit_of
 truth_computes = tt

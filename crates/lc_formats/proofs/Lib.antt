@@ -1,4 +1,5 @@
 pub mod Evaluated
+pub mod JsonLaws
 pub mod CertificateExamples
 pub mod CheckExamples
 pub mod CheckpointExamples

@@ -10,7 +10,7 @@
 --   seen_words c             these words: by levels those of each set in order, level by level; by scan the sums of multiples of
 --                            the echelon rows, level by level
 --   first_lighter c          the first nonzero one of them that is lighter than the distance
---   divisor_of c             the divisor of the weights of the span of the rows
+--   span_divisor c           the divisor of the weights of the span of the rows
 --   claimed_sum c claims     the rounded sum, which is the bound that the levels give: the least multiple of the divisor that is at
 --                            least 1 and at least the sum of level + 1 - (k - fresh columns)
 --   first_dependent c claims number    the number, from 1, of the first basis that is no information set
@@ -121,11 +121,11 @@ is_lighter d w = nat_lt 0 (weight w) && nat_lt (weight w) d
 unfoldable pub first_lighter : Certificate → Option (List ℕ)
 first_lighter c = find (is_lighter c.distance) (seen_words c)
 
-unfoldable pub divisor_of : Certificate → ℕ
-divisor_of c = weight_divisor c.field (code_length c) c.rows
+unfoldable pub span_divisor : Certificate → ℕ
+span_divisor c = weight_divisor c.field (code_length c) c.rows
 
 unfoldable pub claimed_sum : Certificate → List SetClaim → ℕ
-claimed_sum c claims = rounded (divisor_of c) (max 1 (bound_sum (code_dimension c) (map (λ claim. length claim.fresh) claims) (map (level_in c) claims)))
+claimed_sum c claims = rounded (span_divisor c) (max 1 (bound_sum (code_dimension c) (map (λ claim. length claim.fresh) claims) (map (level_in c) claims)))
 
 unfoldable pub is_information_set : Certificate → List ℕ → Bool
 is_information_set c basis = (length basis == code_dimension c) && (length (greedy c.field (length c.rows) (column c.rows) [] basis) == length basis)

@@ -19,7 +19,8 @@ use Rattle.serde_json.specs.Find.{get_member, as_str, as_array, as_object}
 use Rattle.lc_algebra.specs.declared.FieldName.{FieldName}
 use Rattle.lc_algebra.specs.Field.{size, is_symbol}
 use Rattle.lc_constructions.specs.Cyclic.{all_fields}
-use Rattle.lc_constructions.specs.Refusals.{longest, is_rising, columns_of, are_elements}
+use Rattle.lc_constructions.specs.Code.{longest}
+use Rattle.lc_constructions.specs.Refusals.{is_rising, columns_of, are_elements}
 use Rattle.lc_enumeration.specs.InformationSet.{is_member}
 use Rattle.lc_formats.specs.Json.{listed, each, number_at, member_count, json_in, numbers_of, list_at, provided}
 

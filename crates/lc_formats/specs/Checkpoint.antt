@@ -1,9 +1,10 @@
 -- Checkpoints: how they are written, how bytes are read as one, and when one is true.
---   Settled                      the blocks, the weight and the place of a need: of a settled one, or of the one being searched
---   Checkpoint                   the version, the digest of the script, the budget, the turn, the settled needs, and the blocks, the
---                                weight and the place of the current one
+--   Checkpoint                   the version, the digest of the script, the budget, the turn, how far the searches of the settled needs
+--                                went, and the blocks, the weight and the place of the current one
+--   current_of p                 how far the search of the current need is
 --   body_of p, checkpoint_text p      the body, and the seal with it: the SHA-256 of the body in lower-case hexadecimal digits,
 --                                a newline, and the body: compact JSON, its keys rising
+--   IsProgress budget s          the blocks of s are within the budget, its weight is 1 to 255, and its place is below 2^52
 --   IsInRange p                  a version that is read, and numbers within the ranges
 --   IsWritable p                 what is written: a checkpoint in range, of version 2, whose text isn't too long
 --   CheckpointRefusal            damaged (20), another version (21, with it), or another shape (22)
@@ -14,25 +15,24 @@ use Rattle.hex.specs.Hex.{encode_lower, hex_digit_value}
 use Rattle.serde_json.specs.Data.{Data, Members, member, no_members, array, object, string}
 use Rattle.serde_json.specs.Find.{get_member, as_str, as_array}
 use Rattle.serde_json.specs.Written.{compact_text}
+use Rattle.lc_enumeration.specs.Records.{Progress}
 use Rattle.lc_formats.specs.Text.{same_bytes}
 use Rattle.lc_formats.specs.Json.{number_json, numbers_json, items, number_at, listed, each, plain_number, member_count, json_in}
-
-pub record Settled : Type 0 where
-  pub blocks : ℕ
-  pub weight : ℕ
-  pub place : ℕ
 
 pub record Checkpoint : Type 0 where
   pub version : ℕ
   pub script : List ℕ
   pub budget : ℕ
   pub turn : ℕ
-  pub settled : List Settled
+  pub settled : List Progress
   pub blocks : ℕ
   pub weight : ℕ
   pub place : ℕ
 
-unfoldable pub settled_json : Settled → Data
+unfoldable pub current_of : Checkpoint → Progress
+current_of p = record { blocks = p.blocks; weight = p.weight; place = p.place }
+
+unfoldable pub settled_json : Progress → Data
 settled_json s = numbers_json (s.blocks ∷ s.weight ∷ s.place ∷ [])
 
 unfoldable pub body_json : Checkpoint → Data
@@ -55,7 +55,7 @@ sealed body = encode_lower (sha256 body) ++ 10 ∷ body
 unfoldable pub checkpoint_text : Checkpoint → List ℕ
 checkpoint_text p = sealed (body_of p)
 
-pub record IsSettled (budget : ℕ) (s : Settled) : Type 0 where
+pub record IsProgress (budget : ℕ) (s : Progress) : Type 0 where
   pub done : s.blocks ≤ budget
   pub nonzero : 1 ≤ s.weight
   pub light : s.weight ≤ 255
@@ -68,8 +68,8 @@ pub record IsInRange (p : Checkpoint) : Type 0 where
   pub small : p.budget ≤ 2 ^ 40
   pub early : p.turn ≤ 2 ^ 60
   pub few : length p.settled ≤ 131072
-  pub records : All (IsSettled p.budget) p.settled
-  pub current : IsSettled p.budget (record { blocks = p.blocks; weight = p.weight; place = p.place })
+  pub records : All (IsProgress p.budget) p.settled
+  pub current : IsProgress p.budget (current_of p)
 
 pub record IsWritable (p : Checkpoint) : Type 0 where
   pub in_range : IsInRange p
@@ -97,14 +97,14 @@ is_whole bytes = nat_le 65 (length bytes) && (nat_le (length bytes) 4194304 && s
 unfoldable pub number_up_to : ℕ → ℕ → Option ℕ → Option ℕ
 number_up_to low high found = option_and_then (λ n. if nat_le low n && nat_le n high then Some n else None) found
 
-unfoldable pub triple_of : List ℕ → Option Settled
+unfoldable pub triple_of : List ℕ → Option Progress
 triple_of (l ∷ w ∷ p ∷ []) = Some (record { blocks = l; weight = w; place = p })
 triple_of _ = None
 
-unfoldable pub is_in_range : ℕ → Settled → Bool
+unfoldable pub is_in_range : ℕ → Progress → Bool
 is_in_range budget s = nat_le s.blocks budget && (nat_le 1 s.weight && (nat_le s.weight 255 && nat_lt s.place (2 ^ 52)))
 
-unfoldable pub settled_in : ℕ → Data → Option Settled
+unfoldable pub settled_in : ℕ → Data → Option Progress
 settled_in budget d = option_and_then (λ s. if is_in_range budget s then Some s else None) (option_and_then triple_of (option_and_then (λ ds. each (map plain_number (listed ds))) (as_array d)))
 
 -- 64 lower-case hexadecimal digits, as the 32 bytes that they write
@@ -116,7 +116,7 @@ digest_in (a ∷ b ∷ digits) = option_and_then (λ high. option_and_then (λ l
 unfoldable pub script_in : Members → Option (List ℕ)
 script_in ms = option_and_then (λ digits. option_and_then (λ bytes. if (length bytes == 32) && same_bytes digits (encode_lower bytes) then Some bytes else None) (digest_in digits)) (option_and_then as_str (get_member (codes "script") ms))
 
-unfoldable pub done_in : ℕ → Members → Option (List Settled)
+unfoldable pub done_in : ℕ → Members → Option (List Progress)
 done_in budget ms = option_and_then (λ ds. if nat_le (length (listed ds)) 131072 then each (map (settled_in budget) (listed ds)) else None) (option_and_then as_array (get_member (codes "done") ms))
 
 -- the state in a body whose version and budget are known: all ranges hold, and there is no key but the eight

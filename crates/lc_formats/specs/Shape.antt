@@ -8,7 +8,7 @@ use Rattle.std.specs.List.Sorted.{IsStrictlyIncreasing}
 use Rattle.lc_algebra.specs.Field.{is_symbol}
 use Rattle.lc_algebra.specs.Word.{IsWord}
 use Rattle.lc_algebra.specs.Matrix.{AreRows}
-use Rattle.lc_constructions.specs.Refusals.{longest}
+use Rattle.lc_constructions.specs.Code.{longest}
 use Rattle.lc_formats.specs.Certificate.{Certificate, SetClaim, Proof, scan, levels, code_length}
 
 pub record IsShapedSet (n : ℕ) (claim : SetClaim) : Type 0 where

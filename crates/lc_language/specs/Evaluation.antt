@@ -11,7 +11,8 @@
 --   EvaluatesAll table env es os several expressions, from the left
 --   ListGoesOn e p found Later o      an element with the outcome p, behind those found so far: its fault, or 45, or what Later says
 --   EvaluatesList table env es found o      the list whose elements so far are found, and then es, from the left
---   Step                         what a statement does: it binds a name, prints a line, asks a query of a code, or is refused
+--   Step                         what a statement does: it binds a name, prints a line, asks a query of a code that is searched,
+--                                counts the words of a code by weight, looks for a nearest word, or is refused
 --   Steps table env s step       what the statement s does
 --   Runs table budget env ss text ends      the text of the statements, and whether a fault ends it
 --   IsText table budget bytes text ends     the text of a script
@@ -21,7 +22,7 @@ use Rattle.lc_algebra.specs.Word.{weight}
 use Rattle.lc_algebra.specs.Span.{InSpan, IsLeast}
 use Rattle.lc_algebra.specs.Matrix.{Matrix}
 use Rattle.lc_language.specs.declared.Call.{Call}
-use Rattle.lc_language.specs.declared.Call.TheVariants.{AlgebraicDecode, LeastWord, MinimumDistance, Certificate, ScanCertificate}
+use Rattle.lc_language.specs.declared.Call.TheVariants.{AlgebraicDecode, LeastWord, MinimumDistance, Certificate, ScanCertificate, WeightDistribution, NearestWord}
 use Rattle.lc_language.specs.declared.Kind.{Kind}
 use Rattle.lc_grammar.specs.Tree.{Expr, Exprs, number, name, call, list, none, more, Statement, place_of, count_of}
 use Rattle.lc_grammar.specs.Grammar.{Reads, Fault, IsFault}
@@ -32,7 +33,7 @@ use Rattle.lc_language.specs.Refusal.{Refusal, refusal_of}
 use Rattle.lc_constructions.specs.Refusals.{columns_of}
 use Rattle.lc_language.specs.Meaning.{Gives, IsNotDivisor}
 use Rattle.lc_language.specs.Print.{value_line, fault_line, least_line, least_none_line}
-use Rattle.lc_language.specs.Query.{QueryKind, distance, by_levels, by_scan, query_line}
+use Rattle.lc_language.specs.Query.{QueryKind, distance, by_levels, by_scan, query_line, distribution_line, near_line}
 
 pub record Refused : Type 0 where
   pub number : ℕ
@@ -133,6 +134,8 @@ pub data Step : Type 0 where
   binds : Binding → Step
   prints : List ℕ → Step
   asks : QueryKind → Matrix → Step
+  counts : Matrix → Step
+  nears : Matrix → List ℕ → Step
   fails : Refused → Step
 
 -- what LeastWord prints of the words of the rows
@@ -145,12 +148,18 @@ PrintsLeast rows f step =
 abbrev pub AsksOf : QueryKind → Matrix → Step → Type 0
 AsksOf kind C step = ((length C.rows ≡ 0) × (step ≡ prints (query_line kind C 0))) ⊎ ((0 < length C.rows) × (step ≡ asks kind C))
 
+-- a nearest word in a code of dimension 0 is known at once
+abbrev pub NearsOf : Matrix → List ℕ → Step → Type 0
+NearsOf C x step = ((length C.rows ≡ 0) × (step ≡ prints (near_line C x 0))) ⊎ ((0 < length C.rows) × (step ≡ nears C x))
+
 -- what a query does as a statement, its arguments being of its kinds and not refused
 abbrev pub Queries : Call → List Value → Step → Type 0
 Queries LeastWord (value.lists rows ∷ value.field f ∷ []) step = PrintsLeast rows f step
 Queries MinimumDistance (value.code C _ ∷ []) step = AsksOf distance C step
 Queries Certificate (value.code C _ ∷ []) step = AsksOf by_levels C step
 Queries ScanCertificate (value.code C _ ∷ []) step = AsksOf by_scan C step
+Queries WeightDistribution (value.code C _ ∷ []) step = step ≡ counts C
+Queries NearestWord (value.code C _ ∷ value.numbers x ∷ []) step = NearsOf C x step
 Queries AlgebraicDecode arguments step = (v : Value) × Gives AlgebraicDecode arguments v × (step ≡ prints (value_line v))
 Queries _ _ step = ⊥
 
@@ -192,6 +201,8 @@ abbrev pub Prints : ℕ → List Binding → Step → (List Binding → List ℕ
 Prints budget env (binds b) later text ends = later (b ∷ env) text ends
 Prints budget env (prints l) later text ends = (rest : List ℕ) × later env rest ends × (text ≡ l ++ rest)
 Prints budget env (asks kind C) later text ends = (rest : List ℕ) × later env rest ends × (text ≡ query_line kind C budget ++ rest)
+Prints budget env (counts C) later text ends = (rest : List ℕ) × later env rest ends × (text ≡ distribution_line C ++ rest)
+Prints budget env (nears C x) later text ends = (rest : List ℕ) × later env rest ends × (text ≡ near_line C x budget ++ rest)
 Prints budget env (fails r) later text ends = (text ≡ fault_line r.number r.place r.values) × (ends ≡ true)
 
 abbrev pub Runs : List Call → ℕ → List Binding → List Statement → List ℕ → Bool → Type 0

@@ -4,13 +4,17 @@
 --                                 information sets with their levels at l
 --   certificate_line c            that text as a line; where it costs a checker too much, or is too long, a line that says so
 --   query_line kind C budget      the line
+--   distribution_line C           what WeightDistribution prints: the number of words of each weight from 0 to n
+--   near_line C x budget          what NearestWord prints: the nearest word, its distance from x, and the blocks; or the bracket
 use Rattle.std.specs.Prelude.{ℕ, ◌^◌, ◌-◌, min, nat_lt, if◌then◌else◌, List, [], ◌∷◌, ◌++◌, length, codes, decimal, unwrap_or}
 use Rattle.lc_algebra.specs.Matrix.{Matrix}
 use Rattle.lc_algebra.specs.Divisor.{divisor_of}
 use Rattle.lc_enumeration.specs.InformationSet.{InformationSet}
 use Rattle.lc_enumeration.specs.Search.{Answer, no_word, exact, bracket, answer, sets_of, set_count, levels_below, word_at}
+use Rattle.lc_enumeration.specs.Distribution.{distribution_of}
+use Rattle.lc_enumeration.specs.NearWord.{NearAnswer, near_answer}
 use Rattle.lc_formats.specs.Certificate.{Certificate, SetClaim, Proof, scan, levels, cost}
-use Rattle.lc_formats.specs.Text.{line}
+use Rattle.lc_formats.specs.Text.{line, numbers_text}
 use Rattle.lc_language.specs.Print.{distance_line, bracket_line, distance_none_line}
 use Rattle.lc_formats.specs.CertificateText.{certificate_text}
 
@@ -58,3 +62,14 @@ certificate_answer_line kind C (bracket low found l) = line (codes "certificate 
 unfoldable pub query_line : QueryKind → Matrix → ℕ → List ℕ
 query_line distance C budget = distance_answer_line C (answer (divisor_of C) C budget)
 query_line kind C budget = certificate_answer_line kind C (answer (divisor_of C) C budget)
+
+unfoldable pub distribution_line : Matrix → List ℕ
+distribution_line C = line (numbers_text (distribution_of C))
+
+unfoldable pub near_text : NearAnswer → List ℕ
+near_text a =
+    if a.exact then codes "nearest " ++ numbers_text a.word ++ codes " at " ++ decimal a.weight ++ codes " blocks " ++ decimal a.blocks else
+    codes "nearest between " ++ decimal a.low ++ codes " and " ++ decimal a.weight ++ codes " word " ++ numbers_text a.word ++ codes " blocks " ++ decimal a.blocks
+
+unfoldable pub near_line : Matrix → List ℕ → ℕ → List ℕ
+near_line C x budget = line (near_text (near_answer C x budget))

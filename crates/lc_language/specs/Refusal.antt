@@ -22,6 +22,7 @@ use Rattle.lc_constructions.specs.Alternant.{AlternantForm}
 use Rattle.lc_constructions.specs.Cyclic.{all_fields}
 use Rattle.lc_constructions.specs.Coset.{too_many_cosets}
 use Rattle.lc_enumeration.specs.InformationSet.{in_span}
+use Rattle.lc_enumeration.specs.Distribution.{distribution_refusal}
 use Rattle.lc_language.specs.declared.Call.{Call}
 use Rattle.lc_language.specs.declared.Call.TheVariants.{Gf, GeneratorMatCode, CheckMatCode, RepetitionCode, WholeSpaceCode, NullCode, HammingCode, ReedMullerCode, GeneratorPolCode, CheckPolCode, BchCode, ReedSolomonCode, GoppaCode, AlternantCode, ExtendedCode, PuncturedCode, ShortenedCode, EvenWeightSubcode, DirectSumCode, UuvCode, DirectProductCode, IntersectionCode, ConcatenatedCode, IsCodeword, Decode, AlgebraicDecode, LeastWord, WeightDistribution, AlternantCertificate, NearestWord}
 use Rattle.lc_language.specs.Value.{Value, number, field, numbers, lists, code}
@@ -61,11 +62,8 @@ unfoldable pub not_attained : Matrix → Option AlternantForm → List ℕ → O
 not_attained C None x = None
 not_attained C (Some form) x = when (not (in_span C.field C.columns C.rows x && (weight x == form.r + 1))) (refuse 19 (weight x ∷ (form.r + 1) ∷ []))
 
--- neither the code's own words nor those of its dual are few enough to be counted
 unfoldable pub no_distribution : Matrix → Option Refusal
-no_distribution C =
-    when (nat_lt (2 ^ 24) (size C.field ^ length C.rows) && (nat_lt (2 ^ 24) (size C.field ^ (C.columns - length C.rows)) || nat_lt (2 ^ 63) (size C.field ^ C.columns)))
-    (refuse 47 (length C.rows ∷ (C.columns - length C.rows) ∷ []))
+no_distribution C = option_map (λ r. refuse 47 (r.dimension ∷ r.codimension ∷ [])) (distribution_refusal (size C.field) C.columns (length C.rows))
 
 -- of the cyclic codes, besides: the polynomial doesn't divide x^n - 1. That is a fact and not a test, and is told with the values
 unfoldable pub refusals_of : Call → List Value → List (Option Refusal)

@@ -20,8 +20,8 @@ use Rattle.lc_language.specs.Calls.{call_named, signature_for, is_query}
 use Rattle.lc_language.specs.Refusal.{refusal_of}
 use Rattle.lc_language.specs.Meaning.{Gives, IsNotDivisor}
 use Rattle.lc_language.specs.Print.{fault_line}
-use Rattle.lc_language.specs.Query.{query_line}
-use Rattle.lc_language.specs.Evaluation.{Outcome, gives, refused, Outcomes, all_give, one_refused, refuse_at, refuse_call, first_misfit, as_kinds, Listed, nothing_yet, listed_with, list_value, ListGoesOn, AppliesTo, Applies, Joins, GoesOn, Evaluates, EvaluatesAll, EvaluatesList, Step, binds, prints, asks, fails, Queries, fail_with, QueriesAll, query_of, Assigns, StepsAsQuery, StepsOf, Steps, Prints, Runs, IsText}
+use Rattle.lc_language.specs.Query.{query_line, distribution_line, near_line}
+use Rattle.lc_language.specs.Evaluation.{Outcome, gives, refused, Outcomes, all_give, one_refused, refuse_at, refuse_call, first_misfit, as_kinds, Listed, nothing_yet, listed_with, list_value, ListGoesOn, AppliesTo, Applies, Joins, GoesOn, Evaluates, EvaluatesAll, EvaluatesList, Step, binds, prints, asks, counts, nears, fails, Queries, fail_with, QueriesAll, query_of, Assigns, StepsAsQuery, StepsOf, Steps, Prints, Runs, IsText}
 use Rattle.lc_eval.specs.Built.{built_calls}
 use Rattle.lc_session.proofs.AtMostOne.{One, Both, one_value, one_option, one_either, one_some}
 use Rattle.lc_session.proofs.OneValue.{IsDeterminate, built_one}
@@ -173,6 +173,8 @@ prints_one : (budget : ℕ) (env : List Binding) (step : Step) (later : List Bin
 prints_one budget env (binds b) later h = h (b ∷ env)
 prints_one budget env (prints l) later h = λ text other ends end p q. behind_one (later env) l text other ends end (h env) p q
 prints_one budget env (asks kind C) later h = λ text other ends end p q. behind_one (later env) (query_line kind C budget) text other ends end (h env) p q
+prints_one budget env (counts C) later h = λ text other ends end p q. behind_one (later env) (distribution_line C) text other ends end (h env) p q
+prints_one budget env (nears C x) later h = λ text other ends end p q. behind_one (later env) (near_line C x budget) text other ends end (h env) p q
 prints_one budget env (fails r) later h = λ text other ends end p q. (p.0 ∙ sym q.0, p.1 ∙ sym q.1)
 
 pub runs_one : (table : List Call) (budget : ℕ) → AllByRecursion IsDeterminate table → (ss : List Statement) (env : List Binding) → Both (Runs table budget env ss)

@@ -12,13 +12,15 @@ use Rattle.lc_language.specs.declared.Call.{Call}
 use Rattle.lc_grammar.specs.Tree.{Statement}
 use Rattle.lc_grammar.specs.Grammar.{Reads, Fault, IsFault}
 use Rattle.lc_language.specs.Value.{Binding}
-use Rattle.lc_language.specs.Evaluation.{Step, Steps, binds, prints, asks, fails}
+use Rattle.lc_language.specs.Evaluation.{Step, Steps, binds, prints, asks, counts, nears, fails}
 use Rattle.lc_formats.specs.Checkpoint.{Checkpoint, ReadCheckpoint, point, refused, checkpoint_in, IsTrueFor}
 
 abbrev pub NeedsOn : List Binding → Step → (List Binding → List Matrix → Type 0) → List Matrix → Type 0
 NeedsOn env (binds b) later needs = later (b ∷ env) needs
 NeedsOn env (prints l) later needs = later env needs
 NeedsOn env (asks kind C) later needs = (rest : List Matrix) × later env rest × (needs ≡ C ∷ rest)
+NeedsOn env (counts C) later needs = later env needs
+NeedsOn env (nears C x) later needs = later env needs
 NeedsOn env (fails r) later needs = needs ≡ []
 
 abbrev pub Needs : List Call → List Binding → List Statement → List Matrix → Type 0
