@@ -12,9 +12,8 @@
 --   no_words                     the whole contract of a session without arguments
 --   runs_nothing                 the whole contract of `run` over the empty script
 --   no_false_fault               no session over the empty script ends with a fault of the source whose count stands still
-use Rattle.std.proofs.Common.{◌≡◌, ℕ, ◌+◌, ◌<◌, refl, inl, inr, arith, ap, sym, ◌∙◌, zero, suc, ⊎_elim, ◌⊎◌}
-use Rattle.std.specs.Prelude.{List, [], ◌∷◌, ◌++◌, ◌^◌, map, codes, true, false, Bool, Option, Some, None, All, take, drop, nat_lt, if◌then◌else◌, length}
-use Rattle.std.specs.Io.KnownBytes.{Consumes, Appends, IsAtEnd}
+use Rattle.std.proofs.Common.{◌≡◌, ℕ, refl, inl, inr, arith, ◌∙◌, zero, suc, ⊎_elim}
+use Rattle.std.specs.Prelude.{List, [], ◌∷◌, ◌++◌, ◌^◌, map, codes, true, false, Bool, Option, Some, None, take, drop, nat_lt, if◌then◌else◌}
 use Rattle.std.specs.List.{list_all}
 use Rattle.std.specs.Str.{IsAscii}
 use Rattle.std.proofs.lemmas.Bool.{ltb-true}
@@ -23,20 +22,18 @@ use Rattle.serde_json.specs.Read.{read}
 use Rattle.sha2.specs.Sha256.{sha256}
 use Rattle.lc_algebra.specs.Matrix.{Matrix}
 use Rattle.lc_algebra.proofs.EmbeddingTests.{both_true}
-use Rattle.lc_enumeration.specs.Records.{Note, Progress, Step, fresh_start, no_steps, session_from, session_rounds}
+use Rattle.lc_enumeration.specs.Records.{Step, fresh_start, no_steps, session_from, session_rounds}
 use Rattle.lc_enumeration.proofs.SearchExamples.{hamming}
 use Rattle.lc_formats.specs.Checkpoint.{Checkpoint, ReadCheckpoint, point, refused as unread, damaged, checkpoint_text, checkpoint_in, is_whole, body_in}
 use Rattle.lc_formats.specs.Json.{json_in}
 use Rattle.lc_formats.specs.Certificate.{not_json}
 use Rattle.lc_formats.specs.Text.{same_bytes}
-use Rattle.lc_formats.proofs.Evaluated.{checkpoint_computes, truth_computes}
-use Rattle.lc_formats.proofs.TruthExamples.{extended, after, is_true_after_one}
-use Rattle.lc_grammar.specs.Token.{ended, scan_within, scan, is_digit, number_from, number_of, widest}
-use Rattle.lc_grammar.specs.Tree.{Exprs, name, call, none, more, Statement, count_of, place_of as place_of_expr}
-use Rattle.lc_grammar.specs.Grammar.{Reads}
+use Rattle.lc_formats.proofs.Evaluated.{checkpoint_computes}
+use Rattle.lc_formats.proofs.TruthExamples.{after, is_true_after_one}
+use Rattle.lc_grammar.specs.Token.{ended, scan_within, scan}
+use Rattle.lc_grammar.specs.Tree.{name, call, none, more, Statement, count_of}
 use Rattle.lc_io.specs.declared.vault.Slot.TheVariants.{Zero, One}
-use Rattle.lc_io.specs.Outside.{HasRisen}
-use Rattle.lc_io.specs.Vaults.{Slots, empty_slots}
+use Rattle.lc_io.specs.Vaults.{empty_slots}
 use Rattle.lc_io.specs.Told.{Kept}
 use Rattle.lc_language.specs.declared.Call.{Call}
 use Rattle.lc_language.specs.Value as value
@@ -44,11 +41,11 @@ use Rattle.lc_language.specs.Value.{Binding, value_named, is_kind, as_kind}
 use Rattle.lc_language.specs.Calls.{all_calls, call_named, name_of, one, signatures, is_query, signature_for}
 use Rattle.lc_language.specs.Refusal.{first_of, refusals_of, refusal_of}
 use Rattle.lc_language.specs.Query.{distance}
-use Rattle.lc_language.specs.Evaluation.{asks, gives, all_give, refuse_at, first_misfit, as_kinds, fail_with, Steps, IsText}
+use Rattle.lc_language.specs.Evaluation.{asks, gives, all_give, first_misfit, as_kinds, Steps}
 use Rattle.lc_language.proofs.TextExamples.{text_of_nothing}
-use Rattle.lc_sessions.specs.Options.{run, settings, usage as refuses, all_options, options, settings_of, command_text, key_text, row, number_in, number_within, yes_or_no, put_key, key_named, row_named, same_key, place_of_key, checked, options_from}
+use Rattle.lc_sessions.specs.Options.{run, settings, usage as refuses, all_options, options, settings_of, command_text, key_text, row, row_named, same_key, place_of_key, checked, options_from}
 use Rattle.lc_sessions.specs.Needs.{IsNeeds, Needs, MeetsFirst}
-use Rattle.lc_sessions.specs.Slots.{slot_of, next_turn, stored_bytes, slots_after, later_of, chosen, choice_among, is_empty, choice, nothing_stored, none_decodes, start_in, IsTornOr, AreTrueSlots}
+use Rattle.lc_sessions.specs.Slots.{slot_of, next_turn, stored_bytes, slots_after, later_of, chosen, choice_among, is_empty, choice, nothing_stored, none_decodes, IsTornOr, AreTrueSlots}
 use Rattle.lc_sessions.specs.Session.{Outside, Course, IsSession}
 use Rattle.lc_sessions.specs.Endings.{done, usage, paused, source_fault, sink_fault, vault_fault, no_memory, no_checkpoint, damaged_checkpoint, other_script, rejected, too_long, unfit, ending_number, said, ending_line}
 
