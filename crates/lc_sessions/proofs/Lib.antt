@@ -4,3 +4,4 @@ pub mod OptionExamples
 pub mod SessionExamples
 pub mod SummaryExamples
 pub mod SessionLaws
+pub mod StoredLaws
