@@ -5,3 +5,4 @@ pub mod SessionExamples
 pub mod SummaryExamples
 pub mod SessionLaws
 pub mod StoredLaws
+pub mod TrueSteps
