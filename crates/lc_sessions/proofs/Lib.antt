@@ -6,3 +6,4 @@ pub mod SummaryExamples
 pub mod SessionLaws
 pub mod StoredLaws
 pub mod TrueSteps
+pub mod ChainLaws

@@ -4,15 +4,15 @@
 --   AreTrueSteps, true_append, true_front       steps whose checkpoints are true, the first one with a turn
 --   need_true                          the steps of one search
 --   session_true                       those of a session
-use Rattle.std.proofs.Common.{◌≡◌, ◌+◌, ◌-◌, ◌≤◌, ◌<◌, ℕ, zero, suc, Bool, true, false, cond, List, [], ◌∷◌, ◌++◌, length, map, take, drop, refl, sym, ap, subst, ◌∙◌, arith}
+use Rattle.std.proofs.Common.{◌≡◌, ◌+◌, ◌≤◌, ◌<◌, ℕ, zero, suc, Bool, true, false, cond, List, [], ◌∷◌, ◌++◌, length, map, take, drop, refl, sym, ap, subst, ◌∙◌, arith}
 use Rattle.std.specs.Prelude.{Option, Some, None, slice_get, sum, unwrap_or}
 use Rattle.std.proofs.lemmas.List.Sums.{sum_by-append}
-use Rattle.std.proofs.lemmas.List.{map-append, length-append, append_assoc}
+use Rattle.std.proofs.lemmas.List.{map-append}
 use Rattle.lc_algebra.specs.Matrix.{Matrix}
-use Rattle.lc_enumeration.specs.Search.{Answer, answer, best, set_count}
+use Rattle.lc_enumeration.specs.Search.{answer}
 use Rattle.lc_enumeration.specs.Records.{Progress, Step, found_of, progress_of, first_progress, last_state, rounds, step_of, no_steps, steps_first, session_from, SessionRounds, IsBestAt}
 use Rattle.lc_enumeration.proofs.RecordsLaws.{first_is_best}
-use Rattle.lc_formats.specs.Checkpoint.{Checkpoint, current_of}
+use Rattle.lc_formats.specs.Checkpoint.{current_of}
 use Rattle.lc_formats.specs.Truth.{divisor_in, SettlesAs, blocks_in, turn_allowance, IsTrueFor}
 use Rattle.lc_sessions.specs.Slots.{next_turn, turn_after, point_of}
 use Rattle.lc_sessions.specs.Chain.{Rises, EndsAtAnswer}
@@ -119,7 +119,7 @@ unfolding no_steps
 unless_stopped version needs digest budget turn true settled left later h = tt
 unless_stopped version needs digest budget turn false settled left later h = h refl
 
-starts_next : (version : ℕ) (needs : List Matrix) (budget : ℕ) (settled : List Progress) (turn : ℕ) → AreSettled (divisor_in version) budget needs settled → turn ≤ blocks_of settled + turn_allowance version → IsTrueStart version needs budget settled None turn
+pub starts_next : (version : ℕ) (needs : List Matrix) (budget : ℕ) (settled : List Progress) (turn : ℕ) → AreSettled (divisor_in version) budget needs settled → turn ≤ blocks_of settled + turn_allowance version → IsTrueStart version needs budget settled None turn
 unfolding first_progress progress_of
 starts_next version needs budget settled turn all l = record {
   done = all;

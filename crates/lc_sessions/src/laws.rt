@@ -21,6 +21,7 @@ ghost use Rattle.lc_sessions.specs.Slots.{slot_of};
 ghost use Rattle.lc_sessions.specs.Endings.{Ending, usage, no_memory};
 ghost use Rattle.lc_sessions.specs.Session.{Outside, Course, begin_with, Keeps, Tears, IsSession};
 ghost use Rattle.lc_sessions.specs.Promises.{IsAmple, IsAnswer, checkpoint_of, Holds};
+ghost use Rattle.lc_sessions.specs.Chain.{ChainsAreTrue};
 
 /// A session goes by the settings that its arguments ask for. It ends with the index of a refused
 /// argument exactly if one is refused, unless memory is refused first. If nothing fails or stops it,
@@ -63,4 +64,10 @@ pub fn texts_are_those_of_the_answers()
 pub fn pauses_are_those_of_watchers_handed_back()
     ensures paused { (keep : Bool) (notes : List Record) (paused : Bool) (before after : List Hearing) → Kept keep notes paused before after → paused ≡ true → (w v : Hearing) × Contains before w × Contains after v × (w.pauses < v.pauses) }
     ensures unpaused { (notes : List Record) (paused : Bool) (before after : List Hearing) → Kept true notes paused before after → paused ≡ false → (v : Hearing) → Contains after v → (w : Hearing) × Contains before w × (v.pauses ≡ w.pauses) }
+{}
+
+/// Chains of sessions leave both slots as `resume` asks for them: each holds a true checkpoint in the slot
+/// of its turn, or none.
+pub fn chains_leave_true_slots()
+    ensures { (table : List Call) (bytes : List ℕ) (budget : ℕ) → ChainsAreTrue table bytes budget }
 {}
