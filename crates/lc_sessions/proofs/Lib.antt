@@ -7,3 +7,4 @@ pub mod SessionLaws
 pub mod StoredLaws
 pub mod TrueSteps
 pub mod ChainLaws
+pub mod SessionChains

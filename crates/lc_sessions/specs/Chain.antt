@@ -6,6 +6,9 @@
 --   Goes version table bytes budget needs start told        these are the first steps of a session from a start on
 --   Chain version table bytes budget slots                  the slots after a chain of sessions: a `run` that emptied them, and then
 --                                        any number of `resume`. Sessions that wrote version 1 come before those that write version 2
+--   HasBegun ending course               a `run` emptied the slots: it ended with its text or paused, or it told a record
+--   TearsSo asked course before after    a store of a session that failed left in its slot what such a store may leave
+--   GoesOn table bytes budget new        the vault tells slots that are those of a chain
 --   Rises C most blocks states           the states of a search rise, are best words, and have no more blocks than this
 --   EndsAtAnswer d C budget slice s      its rounds do so up to the blocks of the answer, and end at it unless the slice stops them
 --   IsGround table bytes budget          what the law of chains rests on
@@ -19,6 +22,9 @@ use Rattle.lc_formats.specs.Checkpoint.{Checkpoint, point, refused, damaged, che
 use Rattle.lc_formats.specs.Truth.{divisor_in, SettlesAs, blocks_in}
 use Rattle.lc_io.specs.Vaults.{Slots, empty_slots, in_slot, put}
 use Rattle.lc_language.specs.declared.Call.{Call}
+use Rattle.lc_sessions.specs.Options.{Settings}
+use Rattle.lc_sessions.specs.Session.{Course, told_slots}
+use Rattle.lc_sessions.specs.Endings.{Ending, done, usage, paused, source_fault, sink_fault, vault_fault, no_memory, no_checkpoint, damaged_checkpoint, other_script, rejected, too_long, unfit}
 use Rattle.lc_sessions.specs.Needs.{MeetsFirst}
 use Rattle.lc_sessions.specs.Slots.{slot_of, next_turn, turn_after, slots_after, chosen, start_in, IsTrueCheckpoint, AreTrueSlots}
 
@@ -48,6 +54,27 @@ pub data Chain (table : List Call) (bytes : List ℕ) (budget : ℕ) : ℕ → S
   resumed : (version later : ℕ) (needs : List Matrix) (p : Checkpoint) (told : List Step) (before slots : Slots) → Chain table bytes budget version before → version ≤ later → chosen before ≡ Some p → Goes later table bytes budget needs (start_in (divisor_in later) needs p) told
       → Leaves later (sha256 bytes) budget (next_turn p.turn) told before slots → Chain table bytes budget later slots
 
+-- a store of a session that failed left in its slot what such a store may leave
+abbrev pub TearsSo : Settings → Course → Slots → Slots → Type 0
+TearsSo asked course before after =
+    (held : List ℕ) → after ≡ put (slot_of (turn_after course.turn course.told)) held (told_slots asked course before) → IsLeft (in_slot (slot_of (turn_after course.turn course.told)) (told_slots asked course before)) held
+
+-- a `run` that emptied the slots, as its ending or its records show
+abbrev pub HasBegun : Ending → Course → Type 0
+HasBegun (done n) course = Unit {0}
+HasBegun (usage i) course = ⊥
+HasBegun (paused query blocks) course = Unit {0}
+HasBegun source_fault course = ⊥
+HasBegun sink_fault course = Unit {0}
+HasBegun (vault_fault told) course = ¬ (course.told ≡ [])
+HasBegun (no_memory told) course = ¬ (course.told ≡ [])
+HasBegun no_checkpoint course = ⊥
+HasBegun damaged_checkpoint course = ⊥
+HasBegun (other_script script budget) course = ⊥
+HasBegun (rejected reason) course = ⊥
+HasBegun too_long course = ⊥
+HasBegun (unfit query told found) course = ⊥
+
 -- the states of a search rise, are the best words after their blocks, and have no more blocks than the answer
 abbrev pub Rises : Matrix → ℕ → ℕ → List Progress → Type 0
 Rises C most blocks [] = Unit {0}
@@ -73,3 +100,7 @@ pub record IsGround (table : List Call) (bytes : List ℕ) (budget : ℕ) : Type
 -- the law of chains
 abbrev pub ChainsAreTrue : List Call → List ℕ → ℕ → Type 0
 ChainsAreTrue table bytes budget = IsGround table bytes budget → (version : ℕ) (slots : Slots) → Chain table bytes budget version slots → AreTrueSlots table bytes budget slots
+
+-- the slots, told after a session, are those of a chain
+abbrev pub GoesOn : List Call → List ℕ → ℕ → Option Slots → Type 0
+GoesOn table bytes budget new = (after : Slots) × (new ≡ Some after) × ((version : ℕ) × (version ≤ 2) × Chain table bytes budget version after)

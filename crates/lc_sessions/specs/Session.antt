@@ -287,14 +287,21 @@ FailsFirst resume old new = new ≡ old
 FailsFirst check old new = ⊥
 FailsFirst summary old new = ⊥
 
+-- the searches have started: `resume` has taken a checkpoint
+abbrev pub IsStarted : Command → Settings → Option Slots → Course → Type 0
+IsStarted run asked held course = Unit {0}
+IsStarted resume asked held course = IsResumed asked held course
+IsStarted check asked held course = Unit {0}
+IsStarted summary asked held course = Unit {0}
+
 abbrev pub StoresIfKept : Ending → Settings → Course → Option Slots → Option Slots → Type 0
 StoresIfKept (done n) asked course old new = Keeps asked course old new
 StoresIfKept (usage i) asked course old new = new ≡ old
 StoresIfKept (paused query blocks) asked course old new = Keeps asked course old new
 StoresIfKept source_fault asked course old new = new ≡ old
 StoresIfKept sink_fault asked course old new = Keeps asked course old new
-StoresIfKept (vault_fault told) asked course old new = ((course.told ≡ []) × FailsFirst asked.command old new) ⊎ (¬ (course.left ≡ []) × Tears asked course old new)
-StoresIfKept (no_memory told) asked course old new = ((course.told ≡ []) × (new ≡ old)) ⊎ Keeps asked course old new
+StoresIfKept (vault_fault told) asked course old new = ((course.told ≡ []) × FailsFirst asked.command old new) ⊎ (IsStarted asked.command asked old course × ¬ (course.left ≡ []) × Tears asked course old new)
+StoresIfKept (no_memory told) asked course old new = ((course.told ≡ []) × (new ≡ old)) ⊎ (IsStarted asked.command asked old course × Keeps asked course old new)
 StoresIfKept no_checkpoint asked course old new = new ≡ old
 StoresIfKept damaged_checkpoint asked course old new = new ≡ old
 StoresIfKept (other_script script budget) asked course old new = new ≡ old

@@ -14,14 +14,14 @@ ghost use Rattle.lc_grammar.specs.Grammar.{Reads};
 ghost use Rattle.lc_language.specs.declared.Call.{Call};
 ghost use Rattle.lc_language.specs.Value.{Binding};
 ghost use Rattle.lc_language.specs.Evaluation.{Runs};
-ghost use Rattle.lc_sessions.specs.Options.{Settings, settings, usage as refuses, all_options, options};
+ghost use Rattle.lc_sessions.specs.Options.{run, resume, Settings, settings, usage as refuses, all_options, options};
 ghost use Rattle.lc_sessions.specs.Needs.{Needs, MeetsFirst};
 ghost use Rattle.lc_sessions.specs.Answers.{RunsBy, answers_of};
 ghost use Rattle.lc_sessions.specs.Slots.{slot_of};
 ghost use Rattle.lc_sessions.specs.Endings.{Ending, usage, no_memory};
 ghost use Rattle.lc_sessions.specs.Session.{Outside, Course, begin_with, Keeps, Tears, IsSession};
 ghost use Rattle.lc_sessions.specs.Promises.{IsAmple, IsAnswer, checkpoint_of, Holds};
-ghost use Rattle.lc_sessions.specs.Chain.{ChainsAreTrue};
+ghost use Rattle.lc_sessions.specs.Chain.{Chain, HasBegun, TearsSo, GoesOn, ChainsAreTrue};
 
 /// A session goes by the settings that its arguments ask for. It ends with the index of a refused
 /// argument exactly if one is refused, unless memory is refused first. If nothing fails or stops it,
@@ -70,4 +70,15 @@ pub fn pauses_are_those_of_watchers_handed_back()
 /// of its turn, or none.
 pub fn chains_leave_true_slots()
     ensures { (table : List Call) (bytes : List ℕ) (budget : ℕ) → ChainsAreTrue table bytes budget }
+{}
+
+/// Sessions that keep their checkpoints make up chains. A `run` begins one once it emptied the slots, as it
+/// did if it ended with its text, paused or told a record. A `resume` goes on with one, however it ends. If
+/// a store failed, it left in its slot what such a store may leave: what was there, or bytes that no seal
+/// fits.
+pub fn sessions_make_up_chains()
+    ensures begins { (table : List Call) (args : List (List ℕ)) (old new : Outside) (ending : Ending) (s : IsSession table args old new ending) (before : Slots) → s.asked.command ≡ run → s.asked.keep ≡ true → old.vault ≡ Some before
+        → HasBegun ending s.course → ((after : Slots) → new.vault ≡ Some after → TearsSo s.asked s.course before after) → GoesOn table s.course.bytes s.asked.budget new.vault }
+    ensures goes_on { (table : List Call) (args : List (List ℕ)) (old new : Outside) (ending : Ending) (s : IsSession table args old new ending) (version : ℕ) (before : Slots) → s.asked.command ≡ resume → s.asked.keep ≡ true → old.vault ≡ Some before → version ≤ 2
+        → Chain table s.course.bytes s.asked.budget version before → ((after : Slots) → new.vault ≡ Some after → TearsSo s.asked s.course before after) → GoesOn table s.course.bytes s.asked.budget new.vault }
 {}
