@@ -4,6 +4,7 @@
 
 ghost use Rattle.std.specs.Prelude.{◌≡◌, ◌⊎◌, ◌+◌, ◌<◌, ◌≤◌, ◌^◌, ◌++◌, ℕ, Bool, true, false, List, [], ◌∷◌, length, Option, Some, Contains};
 ghost use Rattle.lc_algebra.specs.Matrix.{Matrix};
+ghost use Rattle.lc_enumeration.specs.Search.{Answer};
 ghost use Rattle.lc_enumeration.specs.Records.{Step};
 ghost use Rattle.lc_io.specs.declared.watcher.Record.{Record};
 ghost use Rattle.lc_io.specs.Vaults.{Slots, in_slot, other, WhereTold};
@@ -51,10 +52,11 @@ pub fn slots_hold_the_last_checkpoints()
     ensures alternate { (turn : ℕ) → other (slot_of (turn + 1)) ≡ slot_of turn }
 {}
 
-/// The text of some statements is that by the answers of the search for their needs. The needs of a whole
-/// script are those of its first statements.
+/// The text of some statements is that by the answers of the search for their needs, and back. The needs of
+/// a whole script are those of its first statements.
 pub fn texts_are_those_of_the_answers()
     ensures answers { (table : List Call) (budget : ℕ) (env : List Binding) (ss : List Statement) (text : List ℕ) (ends : Bool) → Runs table budget env ss text ends → (needs : List Matrix) × Needs table env ss needs × RunsBy table budget env ss (answers_of needs budget) text ends }
+    ensures back { (table : List Call) (budget : ℕ) (env : List Binding) (ss : List Statement) (answers : List Answer) (text : List ℕ) (ends : Bool) → RunsBy table budget env ss answers text ends → (needs : List Matrix) × Needs table env ss needs × (answers ≡ answers_of needs budget → Runs table budget env ss text ends) }
     ensures whole { (table : List Call) (bytes : List ℕ) (ss : List Statement) (needs : List Matrix) → Reads bytes ss → Needs table [] ss needs → MeetsFirst table bytes needs }
 {}
 

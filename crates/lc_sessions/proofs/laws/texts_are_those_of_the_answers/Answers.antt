@@ -1,4 +1,4 @@
-use Rattle.lc_sessions.proofs.AnswerLaws.{answered, met_whole}
+use Rattle.lc_sessions.proofs.AnswerLaws.{answered, answered_back, met_whole}
 use Rattle.lc_sessions.proofs.laws.texts_are_those_of_the_answers.Goals as goal
 
 pub returns-clause-answers : goal.returns-clause-answers
@@ -6,3 +6,6 @@ returns-clause-answers _ = answered
 
 pub returns-clause-whole : goal.returns-clause-whole
 returns-clause-whole _ = met_whole
+
+pub returns-clause-back : goal.returns-clause-back
+returns-clause-back _ = answered_back
