@@ -1,8 +1,11 @@
-//! Sources and sinks: the forms in memory, the adapters, and the two loops over them.
+//! Sources and sinks: the forms in memory, the adapters, and the two loops over them. The vaults and
+//! the watcher in memory.
 use lc_io::{
-    Failed, MemorySink, MemorySource, ReadRefusal, ReaderSource, Sink, Source, WriterSink,
-    read_to_limit, write_whole,
+    Advice, Failed, FolderVault, MemorySink, MemorySource, MemoryVault, MemoryWatcher, ReadRefusal,
+    ReaderSource, Record, Sink, Slot, Source, Vault, Watcher, WriterSink, read_to_limit,
+    write_whole,
 };
+use std::fs;
 use std::test::Fail;
 
 const LINE: &[u8] = b"least 2 word [0,1,1]\n";
@@ -96,5 +99,104 @@ fn a_writer_is_a_sink(rt: HostRuntime) -> Result<(), Fail> {
         assert_eq!(rt; sink.write(piece), answer);
     }
     assert_eq!(rt; sink.write(b""), Ok(0));
+    Ok(())
+}
+
+// The first four calls of a session of which the fourth one fails, and two stores that don't fit.
+const STORES: [(Slot, &[u8], Result<(), Failed>); 6] = [
+    (Slot::Zero, b"", Ok(())),
+    (Slot::One, b"", Ok(())),
+    (Slot::Zero, b"abcde", Ok(())),
+    (Slot::One, b"fghij", Err(Failed)),
+    (Slot::Zero, b"abcdef", Ok(())),
+    (Slot::Zero, b"klmnopqrstuvwx", Err(Failed)),
+];
+
+// What the slot holds after each of them.
+const HELD: [&[u8]; 6] = [b"", b"", b"abcde", b"fg", b"abcdef", b"klmnop"];
+
+fn holds(vault: &mut MemoryVault, slot: Slot, wanted: &[u8]) -> bool {
+    let mut buf = [0; 8];
+    match vault.load(slot, &mut buf) {
+        Ok(count) => &buf[..count] == wanted,
+        Err(Failed) => false,
+    }
+}
+
+#[test]
+fn a_memory_vault_tears_a_slot_where_told(rt: HostRuntime) -> Result<(), Fail> {
+    // the loads between the stores are counted too: the seventh call is the fourth store
+    let mut vault = MemoryVault::new(rt.alloc(), 6, &[7])?;
+    for (store, held) in STORES.iter().zip(HELD) {
+        let answer = vault.store(store.0, store.1);
+        assert!(rt; answer == store.2 && holds(&mut vault, store.0, held));
+    }
+    assert!(rt; holds(&mut vault, Slot::One, b"fg"));
+    Ok(())
+}
+
+const NOTES: [Record; 2] = [
+    Record {
+        query: 0,
+        blocks: 1,
+        bound: 2,
+        best: 3,
+    },
+    Record {
+        query: 0,
+        blocks: 2,
+        bound: 3,
+        best: 3,
+    },
+];
+
+fn answers_to_notes(watcher: &mut MemoryWatcher, wanted: [Advice; 2]) -> bool {
+    watcher.told(&NOTES[0]) == wanted[0] && watcher.told(&NOTES[1]) == wanted[1]
+}
+
+#[test]
+fn a_memory_watcher_answers_in_turn_and_then_leaves(rt: HostRuntime) -> Result<(), Fail> {
+    let table: [(&[Advice], [Advice; 2]); 4] = [
+        (&[Advice::Go, Advice::Go], [Advice::Go, Advice::Go]),
+        (&[Advice::Go], [Advice::Go, Advice::Leave]),
+        (&[], [Advice::Leave, Advice::Leave]),
+        (&[Advice::Pause, Advice::Go], [Advice::Pause, Advice::Go]),
+    ];
+    for (answers, wanted) in table {
+        let mut watcher = MemoryWatcher::new(rt.alloc(), answers)?;
+        assert!(rt; answers_to_notes(&mut watcher, wanted));
+    }
+    Ok(())
+}
+
+#[test]
+fn a_memory_watcher_has_heard_what_it_was_told(rt: HostRuntime) -> Result<(), Fail> {
+    let mut watcher = MemoryWatcher::new(rt.alloc(), &[Advice::Go, Advice::Pause])?;
+    assert!(rt; answers_to_notes(&mut watcher, [Advice::Go, Advice::Pause]));
+    for (at, note) in [(0, Some(NOTES[0])), (1, Some(NOTES[1])), (2, None)] {
+        assert!(rt; watcher.heard_at(at) == note);
+    }
+    Ok(())
+}
+
+#[test]
+fn a_folder_vault_keeps_two_files(rt: HostRuntime) -> Result<(), Fail> {
+    let mut vault = FolderVault::new(rt.clone()?, rt.alloc(), "outside.slot0", "outside.slot1")?;
+    let mut buf = [b'.'; 4];
+    assert_eq!(rt; vault.load(Slot::Zero, &mut buf), Ok(0));
+    assert_eq!(rt; vault.store(Slot::Zero, b"abcdef"), Ok(()));
+    assert_eq!(rt; vault.store(Slot::Zero, b"ghi"), Ok(()));
+    assert_eq!(rt; vault.load(Slot::One, &mut buf), Ok(0));
+    assert_eq!(rt; vault.load(Slot::Zero, &mut buf), Ok(3));
+    assert_eq!(rt; &buf, b"ghi.");
+    fs::remove_file(&rt, "outside.slot0")?;
+    Ok(())
+}
+
+#[test]
+fn a_folder_vault_without_a_folder_fails(rt: HostRuntime) -> Result<(), Fail> {
+    let mut vault = FolderVault::new(rt.clone()?, rt.alloc(), "no/slot0", "no/slot1")?;
+    assert_eq!(rt; vault.load(Slot::One, &mut [0; 4]), Ok(0));
+    assert_eq!(rt; vault.store(Slot::One, b"abc"), Err(Failed));
     Ok(())
 }

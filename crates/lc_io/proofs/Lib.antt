@@ -1,2 +1,5 @@
 mod Fronts
+pub mod SlotLaws
+pub mod SeveralRecords
 pub mod MemoryExamples
+pub mod WatcherExamples

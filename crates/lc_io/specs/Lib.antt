@@ -1,2 +1,5 @@
 pub mod Outside
+pub mod Vaults
+pub mod Watchers
+pub mod Told
 pub mod Memory

@@ -1,4 +1,4 @@
--- Sources and sinks in memory, as contracts see them.
+-- Sources, sinks and vaults in memory, as contracts see them.
 --   Calls                    the numbers of the calls that fail, that of the next call, and the count of faults
 --   IsFailing calls          the next call is one of those that fail
 --   answered calls           after a call that gave its answer
@@ -8,8 +8,11 @@
 --   MemoryOutput             the bytes taken, how many fit in all, the most that a write takes, and the calls
 --   IsFull output            no room is left
 --   write_length output n    how many bytes of n a write takes
-use Rattle.std.specs.Prelude.{◌-◌, ◌≤◌, ℕ, List, length, min, Contains}
+--   MemorySlots              the two slots, how many bytes fit in one, and the calls
+--   torn_front vault bytes   what a store that fails leaves of these bytes: half of them, as much as fits
+use Rattle.std.specs.Prelude.{◌-◌, ◌/◌, ◌≤◌, ℕ, List, length, take, min, Contains}
 use Rattle.lc_io.specs.Outside.{counted}
+use Rattle.lc_io.specs.Vaults.{Slots}
 
 pub record Calls : Type 0 where
   pub failing : List ℕ  -- the numbers of the calls that fail
@@ -46,3 +49,12 @@ IsFull output = output.room ≤ length output.written
 
 abbrev pub write_length : MemoryOutput → ℕ → ℕ
 write_length output n = min (min n (output.room - length output.written)) output.piece
+
+pub record MemorySlots : Type 0 where
+  pub slots : Slots
+  pub room : ℕ  -- how many bytes fit in one slot
+  pub calls : Calls
+
+-- what a store that fails leaves of these bytes
+abbrev pub torn_front : MemorySlots → List ℕ → List ℕ
+torn_front vault bytes = take (min (length bytes / 2) vault.room) bytes

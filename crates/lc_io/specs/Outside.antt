@@ -1,6 +1,6 @@
--- What a source and a sink tell of themselves, beside the library's words for known bytes.
+-- What a source, a sink and a vault tell of themselves, beside the library's words for known bytes.
 --   counted n                  the number after n, which stays at the largest number of 64 bits
---   HasRisen before now        a count of faults rose, or stands at the largest number of 64 bits
+--   HasRisen before now        a count of faults rose by one, or stays at the largest number of 64 bits
 --   GaveFront old new limit    at most limit bytes went from the front of those still to come
 --   GaveLess old new limit     the same of fewer than limit bytes
 --   AppendsPart old new bytes  a front of bytes, and not all of them, was taken
@@ -11,9 +11,9 @@ use Rattle.std.specs.Io.KnownBytes.{Consumes, Appends}
 abbrev pub counted : ℕ → ℕ
 counted n = min (n + 1) (2 ^ 64 - 1)
 
--- a count rose, or stands at the largest number of 64 bits
+-- a count rose by one, or stays at the largest number of 64 bits
 abbrev pub HasRisen : ℕ → ℕ → Type 0
-HasRisen before now = (before < now) ⊎ ((now ≡ before) × (now ≡ 2 ^ 64 - 1))
+HasRisen before now = (now ≡ before + 1) ⊎ ((now ≡ before) × (now ≡ 2 ^ 64 - 1))
 
 -- at most limit bytes were given, which were the front of those still to come
 abbrev pub GaveFront : Option (List ℕ) → Option (List ℕ) → ℕ → Type 0

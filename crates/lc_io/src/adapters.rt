@@ -1,7 +1,7 @@
 // A source of any reader, and a sink of any writer.
 ghost use Rattle.std.specs.Prelude.{◌≡◌, ◌<◌, ◌≤◌, length, take, drop, IfOk, IsOk, OnErr, MatchResult};
 ghost use Rattle.std.specs.Io.KnownBytes.{Consumes, Appends, Keeps, IsAtEnd};
-ghost use Rattle.lc_io.specs.Outside.{HasRisen, counted};
+ghost use Rattle.lc_io.specs.Outside.{HasRisen};
 
 use crate::loops::CHUNK;
 use crate::{Failed, Sink, Source};
@@ -52,7 +52,6 @@ impl<R: Read> Source for ReaderSource<R> {
         ensures count { MatchResult result (λ _. self.new.faults ≡ self.old.faults)
             (λ _. HasRisen self.old.faults self.new.faults) }
         ensures behind { IfOk result (λ n. drop n buf.new ≡ drop n buf.old) }
-        ensures once { OnErr result (self.new.faults ≡ counted self.old.faults) }
         ensures nothing { length buf.old ≡ 0 → IsOk result }
     {
         if buf.is_empty() {
@@ -113,7 +112,6 @@ impl<W: Write> Sink for WriterSink<W> {
             (Keeps (W.contents self.old.inner) (W.contents self.new.inner)) }
         ensures count { MatchResult result (λ _. self.new.faults ≡ self.old.faults)
             (λ _. HasRisen self.old.faults self.new.faults) }
-        ensures once { OnErr result (self.new.faults ≡ counted self.old.faults) }
         ensures nothing { length buf.now ≡ 0 → IsOk result }
     {
         if buf.is_empty() {

@@ -1,19 +1,34 @@
-//! The outside of the workbench: where bytes come from and where they go.
+//! The outside of the workbench: where bytes come from and where they go, where checkpoints are
+//! kept, who hears the records of a search, and what a worker passes before it reports.
 //!
-//! `Source` and `Sink` say what a call may do. `MemorySource` and `MemorySink` are forms in memory
-//! that fail where they are told to, `ReaderSource` and `WriterSink` are made of any reader and any
-//! writer. `read_to_limit` and `write_whole` are the two loops over them.
+//! `Source`, `Sink`, `Vault` and `Watcher` say what a call may do. `MemorySource`, `MemorySink`,
+//! `MemoryVault` and `MemoryWatcher` are forms in memory that do what they are told to.
+//! `ReaderSource` and `WriterSink` are made of any reader and any writer, `FolderVault` of two
+//! files. `read_to_limit` and `write_whole` are the two loops over a source and a sink. `Gate` has
+//! no contract; `OpenGate` does nothing.
 #![tactic(auto)]
 
 mod adapters;
 mod calls;
+mod folder_vault;
+mod gate;
 mod input;
 mod loops;
+mod memory_vault;
+mod memory_watcher;
 mod output;
 mod outside;
+mod vault;
+mod watcher;
 
 pub use adapters::{ReaderSource, WriterSink};
+pub use folder_vault::FolderVault;
+pub use gate::{Gate, OpenGate};
 pub use input::MemorySource;
 pub use loops::{ReadRefusal, read_to_limit, write_whole};
+pub use memory_vault::MemoryVault;
+pub use memory_watcher::MemoryWatcher;
 pub use output::MemorySink;
 pub use outside::{Failed, NoMemory, Sink, Source};
+pub use vault::{Slot, Vault};
+pub use watcher::{Advice, Record, Watcher};

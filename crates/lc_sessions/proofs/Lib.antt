@@ -1,3 +1,5 @@
+pub mod SlotsAfter
+pub mod AnswerLaws
 pub mod OptionExamples
 pub mod SessionExamples
 pub mod SummaryExamples

@@ -1,3 +1,8 @@
 pub mod Options
-pub mod Session
 pub mod Summary
+pub mod Endings
+pub mod Needs
+pub mod Answers
+pub mod Slots
+pub mod Session
+pub mod Chain

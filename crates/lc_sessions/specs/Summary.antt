@@ -11,8 +11,8 @@ use Rattle.lc_algebra.specs.declared.FieldName.TheVariants.{Gf2}
 use Rattle.lc_algebra.specs.Span.{below}
 use Rattle.lc_algebra.specs.Matrix.{Matrix}
 use Rattle.lc_enumeration.specs.InformationSet.{unit_word}
-use Rattle.lc_enumeration.specs.Search.{found_first}
-use Rattle.lc_enumeration.specs.Records.{records}
+use Rattle.lc_enumeration.specs.Records.{fresh_start, records}
+use Rattle.lc_algebra.specs.Divisor.{divisor_of}
 use Rattle.lc_formats.specs.Text.{line}
 use Rattle.lc_language.specs.Query.{distance, query_line}
 
@@ -38,7 +38,7 @@ unfoldable pub without_newline : List ℕ → List ℕ
 without_newline text = take (length text - 1) text
 
 unfoldable pub round_count : Matrix → ℕ → ℕ
-round_count C budget = length (records (C ∷ []) 0 budget None 0 (found_first C))
+round_count C budget = length (records divisor_of (C ∷ []) budget None fresh_start)
 
 unfoldable pub summary_text : ℕ → ℕ → List ℕ
 summary_text seed budget =

@@ -1,0 +1,197 @@
+-- Lemmas on the watchers of a session: what one record more leaves of them.
+--   outlasts-suc       advice that ended before goes no further
+--   outlasts-append    advice that goes on is tested by what comes behind
+--   outlasts_one       one more advice is there, and isn't Leave
+--   Stays-none, Stays-more, Goes-last, Goes-more    one watcher
+--   Kept-none          before the first record every watcher is there
+--   Kept-more          one record more
+--   Stays-unpaused     a watcher that is handed back and answered no Pause to the last record, nor could before, never did
+use Rattle.std.proofs.Common.{◌≡◌, ◌+◌, ◌++◌, ℕ, suc, zero, Bool, true, false, cond, List, [], ◌∷◌, length, refl, sym, ap, subst, ◌∙◌, arith}
+use Rattle.std.specs.Prelude.{count_by, Option, Some, None, option_map, IfSome, not}
+use Rattle.std.specs.List.{list_any}
+use Rattle.std.proofs.lemmas.List.{append_assoc, append-nil}
+use Rattle.std.proofs.lemmas.List.Folds.{list_any-append}
+use Rattle.std.proofs.lemmas.List.Sums.{sum_by-append}
+use Rattle.lc_io.specs.declared.watcher.Record.{Record}
+use Rattle.lc_io.specs.declared.watcher.Advice.{Advice}
+use Rattle.lc_io.specs.declared.watcher.Advice.TheVariants.{Go, Pause, Leave}
+use Rattle.lc_io.specs.Watchers.{Hearing, Hears, Tells, is_leave, is_pause, first_advice, AnswersFrom, HearsUnlessLeft, pauses_after}
+use Rattle.lc_io.specs.Told.{outlasts, ends_paused, pauses_early, Gave, Stays, Goes, Kept}
+
+pub outlasts-suc : (n : ℕ) (coming : List Advice) → outlasts n coming ≡ false → outlasts (suc n) coming ≡ false
+outlasts-suc zero coming ends = absurd (let e = ends in cc)
+outlasts-suc (suc n) [] ends = refl
+outlasts-suc (suc n) (Go ∷ coming) ends = outlasts-suc n coming ends
+outlasts-suc (suc n) (Pause ∷ coming) ends = outlasts-suc n coming ends
+outlasts-suc (suc n) (Leave ∷ coming) ends = refl
+
+suc-add : (m n : ℕ) → suc m + n ≡ suc (m + n)
+suc-add m n = omega arith
+
+pub outlasts-append : (advices rest : List Advice) (n : ℕ) → list_any is_leave advices ≡ false → outlasts (length advices + n) (advices ++ rest) ≡ outlasts n rest
+outlasts-append [] rest n none = ap (λ (m : ℕ). outlasts m rest) (omega arith)
+outlasts-append (Go ∷ advices) rest n none = rw (suc-add (length advices) n) (outlasts-append advices rest n none)
+outlasts-append (Pause ∷ advices) rest n none = rw (suc-add (length advices) n) (outlasts-append advices rest n none)
+outlasts-append (Leave ∷ advices) rest n none = absurd (let e = none in cc)
+
+pub outlasts_one : (rest : List Advice) → outlasts 1 rest ≡ not (is_leave (first_advice rest))
+outlasts_one [] = refl
+outlasts_one (Go ∷ rest) = refl
+outlasts_one (Pause ∷ rest) = refl
+outlasts_one (Leave ∷ rest) = refl
+
+Gave-none : (coming : Option (List Advice)) → Gave coming [] coming
+Gave-none None = refl
+Gave-none (Some coming) = (coming, refl, refl)
+
+outlasts-none : (coming : Option (List Advice)) → IfSome coming (λ c. outlasts 0 c ≡ true)
+outlasts-none None = tt
+outlasts-none (Some coming) = refl
+
+heard-none : (heard : Option (List Record)) → heard ≡ option_map (λ past. past ++ []) heard
+heard-none None = refl
+heard-none (Some past) = ap Some (sym (append-nil past))
+
+pub Stays-none : (keep : Bool) (w : Hearing) → Stays keep [] false w w
+Stays-none keep w = record {
+  advices = [];
+  as_many = refl;
+  none_leaves = refl;
+  coming = Gave-none w.coming;
+  outlasting = outlasts-none w.coming;
+  heard = heard-none w.heard;
+  pauses = omega arith;
+  calm = λ k. refl;
+  last = refl;
+}
+
+Gave-more : (before mid after : Option (List Advice)) (advices : List Advice) (advice : Advice) → Gave before advices mid → AnswersFrom mid advice after → is_leave advice ≡ false → Gave before (advices ++ advice ∷ []) after
+Gave-more None mid after advices advice none answers stays = subst (λ (m : Option (List Advice)). AnswersFrom m advice after) none answers
+Gave-more (Some coming) mid after advices advice ([], is, told) answers stays =
+    let next : AnswersFrom (Some []) advice after = subst (λ (m : Option (List Advice)). AnswersFrom m advice after) told answers in
+    absurd (let e : true ≡ false = ap is_leave (sym next.0) ∙ stays in cc)
+Gave-more (Some coming) mid after advices advice (a ∷ rest, is, told) answers stays =
+    let next : AnswersFrom (Some (a ∷ rest)) advice after = subst (λ (m : Option (List Advice)). AnswersFrom m advice after) told answers in
+    (rest, is ∙ ap (λ (x : Advice). advices ++ x ∷ rest) (sym next.0) ∙ sym (append_assoc advices (advice ∷ []) rest), next.1)
+
+longer : (before : Option (List Record)) (notes : List Record) (note : Record) → option_map (λ past. past ++ note ∷ []) (option_map (λ past. past ++ notes) before) ≡ option_map (λ past. past ++ (notes ++ note ∷ [])) before
+longer None notes note = refl
+longer (Some past) notes note = ap Some (append_assoc past notes (note ∷ []))
+
+heard-more : (before mid after : Option (List Record)) (notes : List Record) (note : Record) (advice : Advice) → mid ≡ option_map (λ past. past ++ notes) before → HearsUnlessLeft mid note advice after → is_leave advice ≡ false → after ≡ option_map (λ past. past ++ (notes ++ note ∷ [])) before
+heard-more before mid after notes note Go is hears stays = hears ∙ ap (option_map (λ past. past ++ note ∷ [])) is ∙ longer before notes note
+heard-more before mid after notes note Pause is hears stays = hears ∙ ap (option_map (λ past. past ++ note ∷ [])) is ∙ longer before notes note
+heard-more before mid after notes note Leave is hears stays = absurd (let e = stays in cc)
+
+paused-once : (n : ℕ) (advice : Advice) → pauses_after n advice ≡ n + count_by is_pause (advice ∷ [])
+paused-once n Go = omega arith
+paused-once n Pause = refl
+paused-once n Leave = omega arith
+
+paused-more : (advices : List Advice) (advice : Advice) → count_by is_pause (advices ++ advice ∷ []) ≡ count_by is_pause advices + count_by is_pause (advice ∷ [])
+paused-more advices advice = sum_by-append (λ a. cond (is_pause a) 1 0) advices (advice ∷ [])
+
+any-one : (p : Advice → Bool) (advices : List Advice) (advice : Advice) → list_any p advices ≡ false → p advice ≡ false → list_any p (advices ++ advice ∷ []) ≡ false
+any-one p advices advice none no_more = list_any-append p advices (advice ∷ []) ∙ (let e = none in let f = no_more in grind arith)
+
+one-longer : {X : Type 0} (xs : List X) (x : X) → length (xs ++ x ∷ []) ≡ suc (length xs)
+one-longer [] x = refl
+one-longer (y ∷ xs) x = ap suc (one-longer xs x)
+
+goes-on : (before mid after : Option (List Advice)) (advices : List Advice) (advice : Advice) (n : ℕ) → n ≡ length advices → list_any is_leave advices ≡ false → Gave before advices mid → AnswersFrom mid advice after
+    → IfSome before (λ c. outlasts (suc n) c ≡ not (is_leave advice))
+goes-on None mid after advices advice n size none gave answers = tt
+goes-on (Some coming) mid after advices advice n size none (rest, is, told) answers =
+    let next : AnswersFrom (Some rest) advice after = subst (λ (m : Option (List Advice)). AnswersFrom m advice after) told answers in
+    let steps : suc n ≡ length advices + 1 = omega (arith, size) in
+    ap (λ (m : ℕ). outlasts m coming) steps ∙ ap (outlasts (length advices + 1)) is ∙ outlasts-append advices rest 1 none ∙ outlasts_one rest ∙ ap (λ (a : Advice). not (is_leave a)) (sym next.0)
+
+to-true : (before : Option (List Advice)) (n : ℕ) (advice : Advice) → is_leave advice ≡ false → IfSome before (λ c. outlasts n c ≡ not (is_leave advice)) → IfSome before (λ c. outlasts n c ≡ true)
+to-true None n advice stays is = tt
+to-true (Some coming) n advice stays is = is ∙ ap not stays
+
+to-false : (before : Option (List Advice)) (n : ℕ) (advice : Advice) → is_leave advice ≡ true → IfSome before (λ c. outlasts n c ≡ not (is_leave advice)) → IfSome before (λ c. outlasts n c ≡ false)
+to-false None n advice leaves is = tt
+to-false (Some coming) n advice leaves is = is ∙ ap not leaves
+
+ends-one : (advices : List Advice) (advice : Advice) → ends_paused (advices ++ advice ∷ []) ≡ is_pause advice
+ends-one [] advice = refl
+ends-one (a ∷ []) advice = refl
+ends-one (a ∷ b ∷ rest) advice = ends-one (b ∷ rest) advice
+
+early-one : (advices : List Advice) (advice : Advice) → list_any is_pause advices ≡ false → pauses_early (advices ++ advice ∷ []) ≡ false
+early-one [] advice none = refl
+early-one (Go ∷ []) advice none = refl
+early-one (Pause ∷ []) advice none = absurd (let e = none in cc)
+early-one (Leave ∷ []) advice none = refl
+early-one (Go ∷ b ∷ rest) advice none = early-one (b ∷ rest) advice none
+early-one (Pause ∷ b ∷ rest) advice none = absurd (let e = none in cc)
+early-one (Leave ∷ b ∷ rest) advice none = early-one (b ∷ rest) advice none
+
+-- with no Pause before the last advice, and none there, there is none
+calm-whole : (advices : List Advice) → pauses_early advices ≡ false → ends_paused advices ≡ false → list_any is_pause advices ≡ false
+calm-whole [] calm last = refl
+calm-whole (Go ∷ []) calm last = refl
+calm-whole (Pause ∷ []) calm last = absurd (let e = last in cc)
+calm-whole (Leave ∷ []) calm last = refl
+calm-whole (Go ∷ b ∷ rest) calm last = calm-whole (b ∷ rest) calm last
+calm-whole (Pause ∷ b ∷ rest) calm last = absurd (let e = calm in cc)
+calm-whole (Leave ∷ b ∷ rest) calm last = calm-whole (b ∷ rest) calm last
+
+none-counted : (advices : List Advice) → list_any is_pause advices ≡ false → count_by is_pause advices ≡ 0
+none-counted [] none = refl
+none-counted (Go ∷ rest) none = sum_by-append (λ a. cond (is_pause a) 1 0) (Go ∷ []) rest ∙ (let e = none-counted rest none in omega (arith, e))
+none-counted (Pause ∷ rest) none = absurd (let e = none in cc)
+none-counted (Leave ∷ rest) none = sum_by-append (λ a. cond (is_pause a) 1 0) (Leave ∷ []) rest ∙ (let e = none-counted rest none in omega (arith, e))
+
+pub Stays-more : (keep p : Bool) (notes : List Record) (note : Record) (advice : Advice) (w v u : Hearing) → (keep ≡ true → p ≡ false) → Stays keep notes p w v → Hears note v advice u → is_leave advice ≡ false
+    → Stays keep (notes ++ note ∷ []) (is_pause advice) w u
+Stays-more keep p notes note advice w v u goes s h stays =
+    let size : length (s.advices ++ advice ∷ []) ≡ length (notes ++ note ∷ []) = one-longer s.advices advice ∙ ap suc s.as_many ∙ sym (one-longer notes note) in
+    record {
+      advices = s.advices ++ advice ∷ [];
+      as_many = size;
+      none_leaves = any-one is_leave s.advices advice s.none_leaves stays;
+      coming = Gave-more w.coming v.coming u.coming s.advices advice s.coming h.coming stays;
+      outlasting = to-true w.coming (length (notes ++ note ∷ [])) advice stays (subst (λ (n : ℕ). IfSome w.coming (λ c. outlasts n c ≡ not (is_leave advice))) (sym (one-longer notes note)) (goes-on w.coming v.coming u.coming s.advices advice (length notes) (sym s.as_many) s.none_leaves s.coming h.coming));
+      heard = heard-more w.heard v.heard u.heard notes note advice s.heard h.heard stays;
+      pauses = h.pauses ∙ ap (λ (n : ℕ). pauses_after n advice) s.pauses ∙ paused-once (w.pauses + count_by is_pause s.advices) advice ∙ (let e = paused-more s.advices advice in omega arith);
+      calm = λ k. early-one s.advices advice (calm-whole s.advices (s.calm k) (sym s.last ∙ goes k));
+      last = sym (ends-one s.advices advice);
+    }
+
+pub Goes-last : (keep p : Bool) (notes : List Record) (note : Record) (advice : Advice) (w v u : Hearing) → Stays keep notes p w v → Hears note v advice u → is_leave advice ≡ true → Goes (notes ++ note ∷ []) w
+Goes-last keep p notes note advice w v u s h leaves = record {
+  leaving = to-false w.coming (length (notes ++ note ∷ [])) advice leaves (subst (λ (n : ℕ). IfSome w.coming (λ c. outlasts n c ≡ not (is_leave advice))) (sym (one-longer notes note)) (goes-on w.coming v.coming u.coming s.advices advice (length notes) (sym s.as_many) s.none_leaves s.coming h.coming));
+}
+
+ends-more : (before : Option (List Advice)) (n : ℕ) → IfSome before (λ c. outlasts n c ≡ false) → IfSome before (λ c. outlasts (suc n) c ≡ false)
+ends-more None n is = tt
+ends-more (Some coming) n is = outlasts-suc n coming is
+
+pub Goes-more : (notes : List Record) (note : Record) (w : Hearing) → Goes notes w → Goes (notes ++ note ∷ []) w
+Goes-more notes note w goes = record { leaving = rw (one-longer notes note) (ends-more w.coming (length notes) goes.leaving) }
+
+both-false : (p q : Bool) → cond p true q ≡ false → (p ≡ false) × (q ≡ false)
+both-false true q none = absurd (let e = none in cc)
+both-false false q none = (refl, none)
+
+pub Kept-none : (keep : Bool) (ws : List Hearing) → Kept keep [] false ws ws
+Kept-none keep [] = Kept.no_more
+Kept-none keep (w ∷ ws) = Kept.kept w w ws ws false false (Stays-none keep w) (Kept-none keep ws)
+
+more : (keep : Bool) (notes : List Record) (note : Record) (p q : Bool) (ws vs us : List Hearing) → (keep ≡ true → p ≡ false) → Kept keep notes p ws vs → Tells note vs us q → Kept keep (notes ++ note ∷ []) q ws us
+more keep notes note _ _ _ _ _ goes Kept.no_more Tells.nobody = Kept.no_more
+more keep notes note _ q _ _ us goes (Kept.gone w ws vs p g past) told = Kept.gone w ws us q (Goes-more notes note w g) (more keep notes note p q ws vs us goes past told)
+more keep notes note _ _ _ _ _ goes (Kept.kept w _ ws _ p paused s past) (Tells.stays v u advice vs us q stays h told) =
+    Kept.kept w u ws us (is_pause advice) q (Stays-more keep p notes note advice w v u (λ k. (both-false p paused (goes k)).0) s h stays)
+    (more keep notes note paused q ws vs us (λ k. (both-false p paused (goes k)).1) past told)
+more keep notes note _ _ _ _ _ goes (Kept.kept w _ ws _ p paused s past) (Tells.leaves v u advice vs us q leaves h told) =
+    Kept.gone w ws us q (Goes-last keep p notes note advice w v u s h leaves) (more keep notes note paused q ws vs us (λ k. (both-false p paused (goes k)).1) past told)
+
+pub Kept-more : (keep p q : Bool) (notes : List Record) (note : Record) (ws vs us : List Hearing) → (keep ≡ true → p ≡ false) → Kept keep notes p ws vs → Tells note vs us q → Kept keep (notes ++ note ∷ []) q ws us
+Kept-more keep p q notes note ws vs us goes past told = more keep notes note p q ws vs us goes past told
+
+-- a session that nobody paused at its last record, and that kept its checkpoints, was never paused
+pub Stays-unpaused : (notes : List Record) (w v : Hearing) → Stays true notes false w v → v.pauses ≡ w.pauses
+Stays-unpaused notes w v s = s.pauses ∙ ap (λ (n : ℕ). w.pauses + n) (none-counted s.advices (calm-whole s.advices (s.calm refl) (sym s.last))) ∙ omega arith

@@ -1,0 +1,49 @@
+-- Sessions that follow one another over the two slots of a vault, all with one script and one budget.
+--   IsLeft slot before after             what a store that failed, or was cut short, may leave in a slot of these bytes: bytes that no
+--                                        seal fits, or the bytes that were there
+--   Leaves version digest budget turn told before after      a session whose first checkpoint has this turn stored those of these
+--                                        steps; a store after them may have failed
+--   Goes version table bytes budget needs start told        these are the first steps of a session from a start on
+--   Chain version table bytes budget slots                  the slots after a chain of sessions: a `run` that emptied them, and then
+--                                        any number of `resume`. Sessions that wrote version 1 come before those that write version 2
+--   ChainsAreTrue table bytes budget     the law of chains: they leave the slots as `resume` asks for them
+use Rattle.std.specs.Prelude.{◌≡◌, ℕ, ◌⊎◌, ◌≤◌, List, ◌++◌, Option, Some}
+use Rattle.sha2.specs.Sha256.{sha256}
+use Rattle.lc_algebra.specs.Matrix.{Matrix}
+use Rattle.lc_enumeration.specs.Records.{Start, fresh_start, Step, session_rounds}
+use Rattle.lc_formats.specs.Checkpoint.{Checkpoint, refused, damaged, checkpoint_in}
+use Rattle.lc_formats.specs.Truth.{divisor_in}
+use Rattle.lc_io.specs.Vaults.{Slots, empty_slots, in_slot, put}
+use Rattle.lc_language.specs.declared.Call.{Call}
+use Rattle.lc_sessions.specs.Needs.{MeetsFirst}
+use Rattle.lc_sessions.specs.Slots.{slot_of, next_turn, turn_after, slots_after, chosen, start_in, AreTrueSlots}
+
+abbrev pub IsLeft : List ℕ → List ℕ → Type 0
+IsLeft before after = (after ≡ before) ⊎ (checkpoint_in after ≡ refused damaged)
+
+abbrev pub IsVersion : ℕ → Type 0
+IsVersion version = (version ≡ 1) ⊎ (version ≡ 2)
+
+abbrev pub Leaves : ℕ → List ℕ → ℕ → ℕ → List Step → Slots → Slots → Type 0
+Leaves version digest budget turn told slots after =
+    (after ≡ slots_after version digest budget turn told slots)
+    ⊎ ((held : List ℕ)
+    × IsLeft (in_slot (slot_of (turn_after turn told)) (slots_after version digest budget turn told slots)) held
+    × (after ≡ put (slot_of (turn_after turn told)) held (slots_after version digest budget turn told slots)))
+
+-- the steps told are the first of those from the start on; the needs are those of the first statements
+pub record Goes (version : ℕ) (table : List Call) (bytes : List ℕ) (budget : ℕ) (needs : List Matrix) (start : Start) (told : List Step) : Type 0 where
+  pub version_is : IsVersion version
+  pub met : MeetsFirst table bytes needs
+  pub slice : Option ℕ
+  pub left : List Step
+  pub rounds : (session_rounds (divisor_in version) needs budget slice start).steps ≡ told ++ left
+
+pub data Chain (table : List Call) (bytes : List ℕ) (budget : ℕ) : ℕ → Slots → Type 0 where
+  begun : (version : ℕ) (needs : List Matrix) (told : List Step) (slots : Slots) → Goes version table bytes budget needs fresh_start told → Leaves version (sha256 bytes) budget 0 told empty_slots slots → Chain table bytes budget version slots
+  resumed : (version later : ℕ) (needs : List Matrix) (p : Checkpoint) (told : List Step) (before slots : Slots) → Chain table bytes budget version before → version ≤ later → chosen before ≡ Some p → Goes later table bytes budget needs (start_in (divisor_in later) needs p) told
+      → Leaves later (sha256 bytes) budget (next_turn p.turn) told before slots → Chain table bytes budget later slots
+
+-- the law of chains
+abbrev pub ChainsAreTrue : List Call → List ℕ → ℕ → Type 0
+ChainsAreTrue table bytes budget = (version : ℕ) (slots : Slots) → Chain table bytes budget version slots → AreTrueSlots table bytes budget slots

@@ -1,0 +1,34 @@
+-- The queries of a script that search, in the order in which the statements ask them.
+--   Needs table env ss needs          the codes of the queries of some statements
+--   IsNeeds table bytes needs         those of a script
+--   MeetsFirst table bytes front      those of its first statements, however many: what a session has met that stopped on its way.
+--                                     A session that hasn't read a statement has met none
+use Rattle.std.specs.Prelude.{◌≡◌, ℕ, ◌⊎◌, List, [], ◌∷◌, take}
+use Rattle.lc_algebra.specs.Matrix.{Matrix}
+use Rattle.lc_grammar.specs.Tree.{Statement}
+use Rattle.lc_grammar.specs.Grammar.{Reads, Fault, IsFault}
+use Rattle.lc_language.specs.declared.Call.{Call}
+use Rattle.lc_language.specs.Value.{Binding}
+use Rattle.lc_language.specs.Evaluation.{Step, Steps, binds, prints, asks, counts, nears, fails}
+
+abbrev pub NeedsOn : List Binding → Step → (List Binding → List Matrix → Type 0) → List Matrix → Type 0
+NeedsOn env (binds b) later needs = later (b ∷ env) needs
+NeedsOn env (prints l) later needs = later env needs
+NeedsOn env (asks kind C) later needs = (rest : List Matrix) × later env rest × (needs ≡ C ∷ rest)
+NeedsOn env (counts C) later needs = later env needs
+NeedsOn env (nears C x) later needs = later env needs
+NeedsOn env (fails r) later needs = needs ≡ []
+
+abbrev pub Needs : List Call → List Binding → List Statement → List Matrix → Type 0
+Needs table env [] needs = needs ≡ []
+Needs table env (s ∷ ss) needs = (step : Step) × Steps table env s step × NeedsOn env step (λ later. Needs table later ss) needs
+
+-- bytes that are no script ask nothing
+abbrev pub IsNeeds : List Call → List ℕ → List Matrix → Type 0
+IsNeeds table bytes needs =
+    ((ss : List Statement) × Reads bytes ss × Needs table [] ss needs)
+    ⊎ ((fault : Fault) × IsFault bytes fault × (needs ≡ []))
+
+-- those of the first n statements, for some n
+abbrev pub MeetsFirst : List Call → List ℕ → List Matrix → Type 0
+MeetsFirst table bytes front = (front ≡ []) ⊎ ((ss : List Statement) × Reads bytes ss × ((n : ℕ) × Needs table [] (take n ss) front))
