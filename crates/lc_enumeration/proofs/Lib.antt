@@ -12,3 +12,4 @@ pub mod CodeExamples
 pub mod BchExamples
 pub mod GolayExamples
 pub mod ExtendedGolayExamples
+pub mod GolaySessionExamples
