@@ -7,3 +7,8 @@ pub mod DistributionExamples
 pub mod NearExamples
 pub mod MemberLaws
 pub mod DistributionLaws
+pub mod CodeExamples
+pub mod BchExamples
+pub mod GolayExamples
+pub mod ExtendedGolayExamples
+pub mod GolaySessionExamples
