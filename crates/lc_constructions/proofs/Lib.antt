@@ -3,5 +3,9 @@ pub mod RefusalExamples
 pub mod Examples
 pub mod MembershipExamples
 pub mod NearestLaws
+pub mod HammingLaws
+pub mod LocatorLaws
+pub mod InverseLaws
+pub mod ExpansionLaws
 pub mod CheckLaws
 pub mod AlternantLaws

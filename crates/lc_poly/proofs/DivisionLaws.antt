@@ -12,12 +12,12 @@ use Rattle.std.proofs.lemmas.List.{get_or_past, get_or_push, length-take, length
 use Rattle.lc_algebra.specs.declared.FieldName.{FieldName}
 use Rattle.lc_algebra.specs.Field.{add, neg, mul}
 use Rattle.lc_algebra.specs.Word.{Fits}
-use Rattle.lc_algebra.specs.Polynomial.{poly_sum, poly_scale, poly_product, x_power_minus_one, SamePolynomial, IsPolynomial, IsDivision, Divides}
+use Rattle.lc_algebra.specs.Polynomial.{trimmed, poly_sum, poly_scale, poly_product, x_power_minus_one, SamePolynomial, IsPolynomial, IsDivision, Divides}
 use Rattle.lc_algebra.proofs.FieldLaws.{zero_inside, one_inside, neg_inside, mul_inside, add_comm, add_neg, add_cancel, zero_add, add_zero, mul_zero, neg_one_mul, subtract_zero, no_zero_divisors}
 use Rattle.lc_algebra.proofs.WordLaws.{fits_tail, fits_cons, fits_symbol}
-use Rattle.lc_poly.specs.Poly.{IsTrimmed}
+use Rattle.lc_poly.proofs.TrimLaws.{IsTrimmed, trimmed_is}
 use Rattle.lc_poly.proofs.PolynomialLaws.{index_sum, index_multiple, index_both, index_product_suc, fits_sum, fits_multiple, fits_product, product_inside, same_product, sum_product, multiple_product, zeros_product, no_longer, only_polynomial}
-use Rattle.lc_poly.proofs.ListLaws.{fits_take, written_back}
+use Rattle.lc_poly.proofs.ListLaws.{fits_take, fits_drop, written_back}
 
 pub division_told : (f : FieldName) (a by w q r : List ℕ) → Fits f w → 0 < length by → SamePolynomial a (poly_sum f (poly_product f (drop (length by - 1) w) by) (take (length by - 1) w)) → IsTrimmed f (drop (length by - 1) w) q → IsTrimmed f (take (length by - 1) w) r → IsDivision f a by q r
 division_told f a by w q r h l s tq tr =
@@ -121,14 +121,16 @@ x_power_polynomial f n = record {
   leads = λ k. rw (last_one (neg f 1 ∷ replicate (n - 1) 0)) (omega arith);
 }
 
-pub x_power_told : (f : FieldName) (n : ℕ) (p : List ℕ) → IsTrimmed f (x_power_minus_one f n) p → p ≡ x_power_minus_one f n
-x_power_told f n p t = sym (only_polynomial f (x_power_minus_one f n) p (x_power_polynomial f n) t.polynomial t.same)
+pub x_power_told : (f : FieldName) (n : ℕ) (p : List ℕ) → p ≡ trimmed (x_power_minus_one f n) → p ≡ x_power_minus_one f n
+x_power_told f n p e =
+    let t = trimmed_is f (x_power_minus_one f n) p (x_power_fits f n) e in
+    sym (only_polynomial f (x_power_minus_one f n) p (x_power_polynomial f n) t.polynomial t.same)
 
-pub parts_told : (f : FieldName) (a by w x y u v q r : List ℕ) (m : ℕ) → Fits f w → 0 < length by → SamePolynomial a (poly_sum f (poly_product f (drop (length by - 1) w) by) (take (length by - 1) w)) → x ≡ w → y ≡ w → m ≡ length by - 1 → u ≡ drop m x → v ≡ take m y → IsTrimmed f u q → IsTrimmed f v r → IsDivision f a by q r
+pub parts_told : (f : FieldName) (a by w x y u v q r : List ℕ) (m : ℕ) → Fits f w → 0 < length by → SamePolynomial a (poly_sum f (poly_product f (drop (length by - 1) w) by) (take (length by - 1) w)) → x ≡ w → y ≡ w → m ≡ length by - 1 → u ≡ drop m x → v ≡ take m y → q ≡ trimmed u → r ≡ trimmed v → IsDivision f a by q r
 parts_told f a by w x y u v q r m h l s ex ey em eu ev tq tr =
     let eq : u ≡ drop (length by - 1) w = cc in
     let er : v ≡ take (length by - 1) w = cc in
-    division_told f a by w q r h l s (rw eq at tq) (rw er at tr)
+    division_told f a by w q r h l s (trimmed_is f (drop (length by - 1) w) q (fits_drop f w (length by - 1) h) (tq ∙ ap trimmed eq)) (trimmed_is f (take (length by - 1) w) r (fits_take f w (length by - 1) h) (tr ∙ ap trimmed er))
 
 pub divides_told : (f g : FieldName) (a b q r : List ℕ) (is_zero : Bool) → f ≡ g → IsPolynomial f b → IsDivision g a b q r → (IsTrue is_zero ↔ (r ≡ [])) → IsTrue is_zero ↔ Divides f b a
 divides_told f g a b q r is_zero e hb d t =
