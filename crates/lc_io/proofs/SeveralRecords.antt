@@ -160,8 +160,13 @@ Stays-more keep p notes note advice w v u goes s h stays =
       last = sym (ends-one s.advices advice);
     }
 
+one-told : (notes : List Record) (note : Record) → ¬ (notes ++ note ∷ [] ≡ [])
+one-told [] note none = cc
+one-told (n ∷ notes) note none = cc
+
 pub Goes-last : (keep p : Bool) (notes : List Record) (note : Record) (advice : Advice) (w v u : Hearing) → Stays keep notes p w v → Hears note v advice u → is_leave advice ≡ true → Goes (notes ++ note ∷ []) w
 Goes-last keep p notes note advice w v u s h leaves = record {
+  told = one-told notes note;
   leaving = to-false w.coming (length (notes ++ note ∷ [])) advice leaves (subst (λ (n : ℕ). IfSome w.coming (λ c. outlasts n c ≡ not (is_leave advice))) (sym (one-longer notes note)) (goes-on w.coming v.coming u.coming s.advices advice (length notes) (sym s.as_many) s.none_leaves s.coming h.coming));
 }
 
@@ -170,7 +175,7 @@ ends-more None n is = tt
 ends-more (Some coming) n is = outlasts-suc n coming is
 
 pub Goes-more : (notes : List Record) (note : Record) (w : Hearing) → Goes notes w → Goes (notes ++ note ∷ []) w
-Goes-more notes note w goes = record { leaving = rw (one-longer notes note) (ends-more w.coming (length notes) goes.leaving) }
+Goes-more notes note w goes = record { told = one-told notes note; leaving = rw (one-longer notes note) (ends-more w.coming (length notes) goes.leaving) }
 
 both-false : (p q : Bool) → cond p true q ≡ false → (p ≡ false) × (q ≡ false)
 both-false true q none = absurd (let e = none in cc)

@@ -43,7 +43,7 @@ stays = record {
 }
 
 pub three_watchers : Kept true (first ∷ second ∷ []) false (fresh (Go ∷ Go ∷ []) ∷ fresh (Go ∷ []) ∷ fresh [] ∷ []) (after_both ∷ [])
-three_watchers = Kept.kept _ _ _ _ _ _ stays (Kept.gone _ _ _ _ (record { leaving = refl }) (Kept.gone _ _ _ _ (record { leaving = refl }) Kept.no_more))
+three_watchers = Kept.kept _ _ _ _ _ _ stays (Kept.gone _ _ _ _ (record { told = λ none. cc; leaving = refl }) (Kept.gone _ _ _ _ (record { told = λ none. cc; leaving = refl }) Kept.no_more))
 
 pub too_short : (keep paused : Bool) (after : Hearing) → Stays keep (first ∷ second ∷ []) paused (fresh (Go ∷ [])) after → ⊥
 too_short keep paused after s = let e : false ≡ true = s.outlasting in cc

@@ -52,6 +52,7 @@ pub record Stays (keep : Bool) (notes : List Record) (paused : Bool) (before aft
 
 -- a watcher that left at one of these records
 pub record Goes (notes : List Record) (before : Hearing) : Type 0 where
+  pub told : ¬ (notes ≡ [])
   pub leaving : IfSome before.coming (λ coming. outlasts (length notes) coming ≡ false)
 
 -- the watchers of a session after these records, in their order

@@ -3,3 +3,5 @@ pub mod AnswerLaws
 pub mod OptionExamples
 pub mod SessionExamples
 pub mod SummaryExamples
+pub mod SessionLaws
+pub mod StoredLaws

@@ -4,6 +4,7 @@
 --   slot_of-next             the next turn goes to the other slot
 --   stored_last              the slot of the last turn holds the checkpoint of the last step
 --   stored_last_but_one      and the other slot that of the step before it
+--   stored_beside            a step leaves what the other slot holds
 --   stored_alone             after one step the other slot is as it was
 --   torn_other               a store that failed leaves the other slot as it was
 use Rattle.std.proofs.Common.{◌≡◌, ◌+◌, ◌%◌, ◌≤◌, ◌^◌, ◌++◌, ℕ, Bool, true, false, not, List, [], ◌∷◌, length, refl, ap, ◌∙◌, arith}
@@ -51,7 +52,7 @@ stored_last version digest budget turn before s slots l =
     (in_slot-put (slot_of (turn + length before)) (stored_bytes version digest budget (turn + length before) s) (slots_after version digest budget turn before slots))
 
 -- a step that is stored leaves what the other slot holds
-stored_beside : (version : ℕ) (digest : List ℕ) (budget turn : ℕ) (before : List Step) (s : Step) (slots : Slots) → turn + length before ≤ 2 ^ 60
+pub stored_beside : (version : ℕ) (digest : List ℕ) (budget turn : ℕ) (before : List Step) (s : Step) (slots : Slots) → turn + length before ≤ 2 ^ 60
     → in_slot (other (slot_of (turn + length before))) (slots_after version digest budget turn (before ++ s ∷ []) slots) ≡ in_slot (other (slot_of (turn + length before))) (slots_after version digest budget turn before slots)
 stored_beside version digest budget turn before s slots l =
     rw (slots_after-append version digest budget turn before (s ∷ []) slots, turn_is turn before l)

@@ -6,10 +6,12 @@
 --                                the turn of its first checkpoint, the steps that it told and those that were to come, whether a
 --                                watcher paused it at the last record, the text that it prints, and whether a fault line ends that
 --   most_bytes                   the most bytes of a script: 2^20
+--   can_end ending command       which commands can end so
 --   rounds_of asked course       the rounds of the searches from the start on, for the needs met
 --   WasRead old new bytes        the source was read to its end, and gave these bytes, no more than a script may have
 --   IsSession table args old new ending      the whole contract, one field for each promise:
 --     asked, accepted            the arguments are refused, or ask for the settings
+--     possible                   the command can end so
 --     read                       what was taken from the source
 --     started                    the checkpoint that resume takes; each refusal of checkpoints comes exactly in its case
 --     met                        the needs that the session met
@@ -20,6 +22,8 @@
 --     replied                    the text: that of the script, of the certificate or of the summary; that it is true
 --     written                    what the sink took
 --     counted                    whose count of faults rose
+--   IsUsable table asked bytes held      a checkpoint is taken, for this script and budget, and its records fit
+--   IsAnswer ending              the session answered what was asked, or there was no memory
 use Rattle.std.specs.Prelude.{◌≡◌, ℕ, ◌⊎◌, ◌+◌, ◌^◌, ◌<◌, ◌≤◌, Bool, true, false, IsTrue, List, [], ◌∷◌, ◌++◌, length, map, Option, Some, None, IfSome, All}
 use Rattle.std.specs.Io.KnownBytes.{Consumes, Appends, IsAtEnd}
 use Rattle.sha2.specs.Sha256.{sha256}
@@ -82,10 +86,51 @@ record_of note = record { query = note.need; blocks = note.blocks; bound = note.
 abbrev pub records_of : List Step → List Record
 records_of steps = map (λ s. record_of s.note) steps
 
--- the arguments: refused ones end the session with their index, and only these do; memory may be refused before they are read
-abbrev pub Accepts : Options → Settings → Course → Ending → Type 0
-Accepts (refuses i) asked course ending = (course.told ≡ []) × ((ending ≡ usage i) ⊎ (ending ≡ no_memory 0))
-Accepts (settings s) asked course ending = (asked ≡ s) × ((i : ℕ) → ¬ (ending ≡ usage i))
+abbrev pub keeps : Command → Bool
+keeps run = true
+keeps resume = true
+keeps check = false
+keeps summary = false
+
+abbrev pub resumes : Command → Bool
+resumes run = false
+resumes resume = true
+resumes check = false
+resumes summary = false
+
+abbrev pub checks : Command → Bool
+checks run = false
+checks resume = false
+checks check = true
+checks summary = false
+
+abbrev pub reads : Command → Bool
+reads run = true
+reads resume = true
+reads check = true
+reads summary = false
+
+-- which commands can end so
+abbrev pub can_end : Ending → Command → Bool
+can_end (done n) command = true
+can_end (usage i) command = true
+can_end (paused query blocks) command = keeps command
+can_end source_fault command = reads command
+can_end sink_fault command = true
+can_end (vault_fault told) command = keeps command
+can_end (no_memory told) command = true
+can_end no_checkpoint command = resumes command
+can_end damaged_checkpoint command = resumes command
+can_end (other_script script budget) command = resumes command
+can_end (rejected reason) command = checks command
+can_end too_long command = reads command
+can_end (unfit query told found) command = resumes command
+
+-- the arguments: refused ones end the session with their index, and only these do. Then, and if memory was refused before they were
+-- read, all is as it was
+abbrev pub Accepts : Options → Settings → Outside → Outside → Ending → Type 0
+Accepts (refuses i) asked old new ending = (new ≡ old) × ((ending ≡ usage i) ⊎ (ending ≡ no_memory 0))
+Accepts (settings s) asked old new ending = (asked ≡ s) × ((i : ℕ) → ¬ (ending ≡ usage i))
 
 -- the source was read to its end
 pub record WasRead (old new : Option (List ℕ)) (bytes : List ℕ) : Type 0 where
@@ -171,27 +216,11 @@ pub record IsFresh (course : Course) : Type 0 where
   pub start : course.start ≡ fresh_start
   pub turn : course.turn ≡ 0
 
--- the endings of `resume` alone
-abbrev pub IsOfResume : Ending → Type 0
-IsOfResume (done n) = ⊥
-IsOfResume (usage i) = ⊥
-IsOfResume (paused query blocks) = ⊥
-IsOfResume source_fault = ⊥
-IsOfResume sink_fault = ⊥
-IsOfResume (vault_fault told) = ⊥
-IsOfResume (no_memory told) = ⊥
-IsOfResume no_checkpoint = Unit {0}
-IsOfResume damaged_checkpoint = Unit {0}
-IsOfResume (other_script script budget) = Unit {0}
-IsOfResume (rejected reason) = ⊥
-IsOfResume too_long = ⊥
-IsOfResume (unfit query told found) = Unit {0}
-
 abbrev pub Starts : List Call → Command → Ending → Settings → Option Slots → Course → Type 0
-Starts table run ending asked held course = IsFresh course × ¬ IsOfResume ending
+Starts table run ending asked held course = IsFresh course
 Starts table resume ending asked held course = Resumes table ending asked held course
-Starts table check ending asked held course = IsFresh course × ¬ IsOfResume ending
-Starts table summary ending asked held course = IsFresh course × ¬ IsOfResume ending
+Starts table check ending asked held course = IsFresh course
+Starts table summary ending asked held course = IsFresh course
 
 -- which needs the session met: those of the first statements of its script; the code of a summary; none
 abbrev pub Meets : List Call → Settings → Command → Course → Type 0
@@ -330,7 +359,7 @@ Replied table (no_memory told) asked held course = Unit {0}
 Replied table no_checkpoint asked held course = Unit {0}
 Replied table damaged_checkpoint asked held course = Unit {0}
 Replied table (other_script script budget) asked held course = Unit {0}
-Replied table (rejected reason) asked held course = (asked.command ≡ check) × Replies table check asked held course × (verdict_of (certificate_in course.bytes) ≡ rejects reason)
+Replied table (rejected reason) asked held course = Replies table asked.command asked held course × (verdict_of (certificate_in course.bytes) ≡ rejects reason)
 Replied table too_long asked held course = Unit {0}
 Replied table (unfit query told found) asked held course = Unit {0}
 
@@ -373,7 +402,8 @@ Counts (unfit query told found) old new = NoneFailed old new
 pub record IsSession (table : List Call) (args : List (List ℕ)) (old new : Outside) (ending : Ending) : Type 0 where
   pub asked : Settings
   pub course : Course
-  pub accepted : Accepts (options all_options args) asked course ending
+  pub accepted : Accepts (options all_options args) asked old new ending
+  pub possible : IsTrue (can_end ending asked.command)
   pub read : Reads asked.command ending old.source new.source course
   pub started : Starts table asked.command ending asked old.vault course
   pub met : Meets table asked asked.command course
@@ -384,3 +414,28 @@ pub record IsSession (table : List Call) (args : List (List ℕ)) (old new : Out
   pub replied : Replied table ending asked old.vault course
   pub written : Writes ending course.text old.sink new.sink
   pub counted : Counts ending old new
+
+-- a checkpoint that a session of these arguments resumes: it is taken, it is for this script and budget, and its records fit
+pub record IsUsable (table : List Call) (asked : Settings) (bytes : List ℕ) (held : Option Slots) : Type 0 where
+  pub slots : Slots
+  pub told : held ≡ Some slots
+  pub p : Checkpoint
+  pub taken : choice slots ≡ takes p
+  pub same : IsTrue (is_for (sha256 bytes) asked.budget p)
+  pub fits : (needs : List Matrix) (m : Misfit) → MeetsFirst table bytes needs → misfit divisor_of needs asked.budget (start_of needs p) ≡ Some m → (length needs ≤ m.need) × ¬ IsNeeds table bytes needs
+
+-- an answer to what was asked, or no memory
+abbrev pub IsAnswer : Ending → Type 0
+IsAnswer (done n) = Unit {0}
+IsAnswer (usage i) = ⊥
+IsAnswer (paused query blocks) = ⊥
+IsAnswer source_fault = ⊥
+IsAnswer sink_fault = ⊥
+IsAnswer (vault_fault told) = ⊥
+IsAnswer (no_memory told) = Unit {0}
+IsAnswer no_checkpoint = ⊥
+IsAnswer damaged_checkpoint = ⊥
+IsAnswer (other_script script budget) = ⊥
+IsAnswer (rejected reason) = Unit {0}
+IsAnswer too_long = ⊥
+IsAnswer (unfit query told found) = ⊥

@@ -1,0 +1,87 @@
+-- What is in the slots after a session that keeps its checkpoints, as one reads it off the contract.
+--   last_stands           the slot of the greatest turn holds the checkpoint of the last record told
+--   one_before_stands     and the other slot that of the record before it
+--   alone_stands          after one record the other slot is as the session found it; `run` found it empty
+--   none_stored           without a record the slots are as the session found them
+--   last_stands_torn      after a store that failed the checkpoint of the last record told stands whole in the other slot
+--   none_stored_torn      without a record the other slot is as the session found it
+--   other_slot            which is the slot of the checkpoint that `resume` took
+use Rattle.std.proofs.Common.{◌≡◌, ◌+◌, ◌≤◌, ◌^◌, ◌++◌, ℕ, List, [], ◌∷◌, length, refl, sym, ap, subst, ◌∙◌, arith}
+use Rattle.std.specs.Prelude.{Option}
+use Rattle.std.proofs.lemmas.List.{length-append}
+use Rattle.sha2.specs.Sha256.{sha256}
+use Rattle.lc_enumeration.specs.Records.{Step}
+use Rattle.lc_io.specs.declared.vault.Slot.{Slot}
+use Rattle.lc_io.specs.Vaults.{Slots, in_slot, other, put, WhereTold, IsTorn}
+use Rattle.lc_io.proofs.SlotLaws.{WhereTold-map, other_other}
+use Rattle.lc_sessions.specs.Options.{Settings}
+use Rattle.lc_sessions.specs.Slots.{slot_of, next_turn, turn_after, stored_bytes, slots_after}
+use Rattle.lc_sessions.specs.Session.{Course, begin_with, told_slots, Keeps, Tears}
+use Rattle.lc_sessions.proofs.SlotsAfter.{turn_is, slot_of-next, stored_last, stored_beside, stored_alone, torn_other}
+
+-- the bytes of the checkpoint of a step in this session
+abbrev pub checkpoint_of : Settings → Course → ℕ → Step → List ℕ
+checkpoint_of asked course turn step = stored_bytes 2 (sha256 course.bytes) asked.budget turn step
+
+-- the vault, if it tells its slots, holds these bytes in this slot
+abbrev pub Holds : Option Slots → Option Slots → Slot → List ℕ → Type 0
+Holds old new slot bytes = WhereTold old new (λ before after. in_slot slot after ≡ bytes)
+
+pub last_stands : (asked : Settings) (course : Course) (old new : Option Slots) (before : List Step) (s : Step) → course.told ≡ before ++ s ∷ [] → course.turn + length before ≤ 2 ^ 60 → Keeps asked course old new
+    → Holds old new (slot_of (course.turn + length before)) (checkpoint_of asked course (course.turn + length before) s)
+last_stands asked course old new before s told l keeps =
+    WhereTold-map old new _ _ (λ (o n : Slots) (is : n ≡ told_slots asked course o).
+    ap (in_slot (slot_of (course.turn + length before))) (is ∙ ap (λ (t : List Step). slots_after 2 (sha256 course.bytes) asked.budget course.turn t (begin_with asked.command o)) told)
+    ∙ stored_last 2 (sha256 course.bytes) asked.budget course.turn before s (begin_with asked.command o) l) keeps
+
+pub other_slot : (turn : ℕ) → other (slot_of (turn + 1)) ≡ slot_of turn
+other_slot turn = ap other (slot_of-next turn) ∙ other_other (slot_of turn)
+
+pub one_before_stands : (asked : Settings) (course : Course) (old new : Option Slots) (before : List Step) (r s : Step) → course.told ≡ (before ++ r ∷ []) ++ s ∷ [] → course.turn + length before + 1 ≤ 2 ^ 60 → Keeps asked course old new
+    → Holds old new (slot_of (course.turn + length before)) (checkpoint_of asked course (course.turn + length before) r)
+one_before_stands asked course old new before r s told l keeps =
+    let d = sha256 course.bytes in
+    let size : course.turn + length (before ++ r ∷ []) ≡ course.turn + length before + 1 = omega (arith, length-append before (r ∷ [])) in
+    let slot : other (slot_of (course.turn + length (before ++ r ∷ []))) ≡ slot_of (course.turn + length before) = ap (λ (t : ℕ). other (slot_of t)) size ∙ other_slot (course.turn + length before) in
+    WhereTold-map old new _ _ (λ (o n : Slots) (is : n ≡ told_slots asked course o).
+    ap (in_slot (slot_of (course.turn + length before))) (is ∙ ap (λ (t : List Step). slots_after 2 d asked.budget course.turn t (begin_with asked.command o)) told)
+    ∙ subst (λ (at : Slot). in_slot at (slots_after 2 d asked.budget course.turn ((before ++ r ∷ []) ++ s ∷ []) (begin_with asked.command o)) ≡ in_slot at (slots_after 2 d asked.budget course.turn (before ++ r ∷ []) (begin_with asked.command o))) slot (stored_beside 2 d asked.budget course.turn (before ++ r ∷ []) s (begin_with asked.command o) (omega (arith, l, size)))
+    ∙ stored_last 2 d asked.budget course.turn before r (begin_with asked.command o) (omega (arith, l))) keeps
+
+pub none_stored : (asked : Settings) (course : Course) (old new : Option Slots) → course.told ≡ [] → Keeps asked course old new → WhereTold old new (λ before after. after ≡ begin_with asked.command before)
+none_stored asked course old new told keeps =
+    WhereTold-map old new _ _ (λ (o n : Slots) (is : n ≡ told_slots asked course o). is ∙ ap (λ (t : List Step). slots_after 2 (sha256 course.bytes) asked.budget course.turn t (begin_with asked.command o)) told) keeps
+
+pub alone_stands : (asked : Settings) (course : Course) (old new : Option Slots) (s : Step) → course.told ≡ s ∷ [] → Keeps asked course old new
+    → WhereTold old new (λ before after. in_slot (other (slot_of course.turn)) after ≡ in_slot (other (slot_of course.turn)) (begin_with asked.command before))
+alone_stands asked course old new s told keeps =
+    WhereTold-map old new _ _ (λ (o n : Slots) (is : n ≡ told_slots asked course o).
+    ap (in_slot (other (slot_of course.turn))) (is ∙ ap (λ (t : List Step). slots_after 2 (sha256 course.bytes) asked.budget course.turn t (begin_with asked.command o)) told)
+    ∙ stored_alone 2 (sha256 course.bytes) asked.budget course.turn s (begin_with asked.command o)) keeps
+
+-- a store that failed leaves the other slot
+beside_torn : (asked : Settings) (course : Course) (old new : Option Slots) → Tears asked course old new
+    → WhereTold old new (λ before after. in_slot (other (slot_of (turn_after course.turn course.told))) after ≡ in_slot (other (slot_of (turn_after course.turn course.told))) (told_slots asked course before))
+beside_torn asked course old new tears =
+    WhereTold-map old new _ _ (λ (o n : Slots) (is : IsTorn (slot_of (turn_after course.turn course.told)) (told_slots asked course o) n).
+    ap (in_slot (other (slot_of (turn_after course.turn course.told)))) is.1 ∙ torn_other (slot_of (turn_after course.turn course.told)) is.0 (told_slots asked course o)) tears
+
+pub last_stands_torn : (asked : Settings) (course : Course) (old new : Option Slots) (before : List Step) (s : Step) → course.told ≡ before ++ s ∷ [] → course.turn + length before + 1 ≤ 2 ^ 60 → Tears asked course old new
+    → Holds old new (slot_of (course.turn + length before)) (checkpoint_of asked course (course.turn + length before) s)
+last_stands_torn asked course old new before s told l tears =
+    let d = sha256 course.bytes in
+    let size : length (before ++ s ∷ []) ≡ length before + 1 = length-append before (s ∷ []) in
+    let turn : turn_after course.turn course.told ≡ course.turn + length before + 1 = ap (turn_after course.turn) told ∙ turn_is course.turn (before ++ s ∷ []) (omega (arith, l, size)) ∙ omega (arith, size) in
+    let slot : other (slot_of (turn_after course.turn course.told)) ≡ slot_of (course.turn + length before) = ap (λ (t : ℕ). other (slot_of t)) turn ∙ other_slot (course.turn + length before) in
+    WhereTold-map old new _ _ (λ (o n : Slots) (is : in_slot (other (slot_of (turn_after course.turn course.told))) n ≡ in_slot (other (slot_of (turn_after course.turn course.told))) (told_slots asked course o)).
+    subst (λ (at : Slot). in_slot at n ≡ in_slot at (told_slots asked course o)) slot is
+    ∙ ap (λ (t : List Step). in_slot (slot_of (course.turn + length before)) (slots_after 2 d asked.budget course.turn t (begin_with asked.command o))) told
+    ∙ stored_last 2 d asked.budget course.turn before s (begin_with asked.command o) (omega (arith, l))) (beside_torn asked course old new tears)
+
+pub none_stored_torn : (asked : Settings) (course : Course) (old new : Option Slots) → course.told ≡ [] → Tears asked course old new
+    → WhereTold old new (λ before after. in_slot (other (slot_of course.turn)) after ≡ in_slot (other (slot_of course.turn)) (begin_with asked.command before))
+none_stored_torn asked course old new told tears =
+    let turn : turn_after course.turn course.told ≡ course.turn = ap (turn_after course.turn) told in
+    WhereTold-map old new _ _ (λ (o n : Slots) (is : in_slot (other (slot_of (turn_after course.turn course.told))) n ≡ in_slot (other (slot_of (turn_after course.turn course.told))) (told_slots asked course o)).
+    subst (λ (t : ℕ). in_slot (other (slot_of t)) n ≡ in_slot (other (slot_of t)) (told_slots asked course o)) turn is
+    ∙ ap (λ (t : List Step). in_slot (other (slot_of course.turn)) (slots_after 2 (sha256 course.bytes) asked.budget course.turn t (begin_with asked.command o))) told) (beside_torn asked course old new tears)
