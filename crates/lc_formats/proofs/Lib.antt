@@ -2,6 +2,7 @@ pub mod Evaluated
 pub mod JsonLaws
 pub mod TestLaws
 pub mod CertificateBack
+pub mod CheckpointBack
 pub mod CertificateExamples
 pub mod CheckExamples
 pub mod CheckpointExamples
