@@ -1,7 +1,10 @@
 pub mod Evaluated
 pub mod JsonLaws
 pub mod TestLaws
+pub mod ReadLaws
 pub mod CertificateBack
+pub mod CertificateShaped
+pub mod CheckpointBack
 pub mod CertificateExamples
 pub mod CheckExamples
 pub mod CheckpointExamples
