@@ -7,5 +7,6 @@ pub mod HammingLaws
 pub mod LocatorLaws
 pub mod InverseLaws
 pub mod ExpansionLaws
+pub mod ClosedLaws
 pub mod CheckLaws
 pub mod AlternantLaws
