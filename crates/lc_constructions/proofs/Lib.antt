@@ -2,6 +2,7 @@ pub mod RefusalLaws
 pub mod RefusalExamples
 pub mod Examples
 pub mod MembershipExamples
+pub mod OutsideExamples
 pub mod NearestLaws
 pub mod HammingLaws
 pub mod LocatorLaws
