@@ -5,13 +5,15 @@
 --   Stays-none, Stays-more, Goes-last, Goes-more    one watcher
 --   Kept-none          before the first record every watcher is there
 --   Kept-more          one record more
+--   Kept-paused, Kept-unpaused     what the flag says of those that are handed back
 --   Stays-unpaused     a watcher that is handed back and answered no Pause to the last record, nor could before, never did
-use Rattle.std.proofs.Common.{◌≡◌, ◌+◌, ◌++◌, ℕ, suc, zero, Bool, true, false, cond, List, [], ◌∷◌, length, refl, sym, ap, subst, ◌∙◌, arith}
-use Rattle.std.specs.Prelude.{count_by, Option, Some, None, option_map, IfSome, not}
+use Rattle.std.proofs.Common.{◌<◌, ◌⊎◌, ⊎_elim, inl, inr, ◌≡◌, ◌+◌, ◌++◌, ℕ, suc, zero, Bool, true, false, cond, List, [], ◌∷◌, length, refl, sym, ap, subst, ◌∙◌, arith}
+use Rattle.std.specs.Prelude.{Contains, count_by, Option, Some, None, option_map, IfSome, not}
 use Rattle.std.specs.List.{list_any}
 use Rattle.std.proofs.lemmas.List.{append_assoc, append-nil}
 use Rattle.std.proofs.lemmas.List.Folds.{list_any-append}
 use Rattle.std.proofs.lemmas.List.Sums.{sum_by-append}
+use Rattle.std.proofs.lemmas.List.Elements.{Contains-append_right, Contains-append_cases}
 use Rattle.lc_io.specs.declared.watcher.Record.{Record}
 use Rattle.lc_io.specs.declared.watcher.Advice.{Advice}
 use Rattle.lc_io.specs.declared.watcher.Advice.TheVariants.{Go, Pause, Leave}
@@ -200,3 +202,46 @@ Kept-more keep p q notes note ws vs us goes past told = more keep notes note p q
 -- a session that nobody paused at its last record, and that kept its checkpoints, was never paused
 pub Stays-unpaused : (notes : List Record) (w v : Hearing) → Stays true notes false w v → v.pauses ≡ w.pauses
 Stays-unpaused notes w v s = s.pauses ∙ ap (λ (n : ℕ). w.pauses + n) (none-counted s.advices (calm-whole s.advices (s.calm refl) (sym s.last))) ∙ omega arith
+
+paused-counted : (advices : List Advice) → ends_paused advices ≡ true → 0 < count_by is_pause advices
+paused-counted [] last = absurd (let e = last in cc)
+paused-counted (Go ∷ []) last = absurd (let e = last in cc)
+paused-counted (Pause ∷ []) last = omega arith
+paused-counted (Leave ∷ []) last = absurd (let e = last in cc)
+paused-counted (a ∷ b ∷ rest) last =
+    let more = sum_by-append (λ x. cond (is_pause x) 1 0) (a ∷ []) (b ∷ rest) in
+    let later = paused-counted (b ∷ rest) last in
+    omega (arith, more, later)
+
+either-true : (p q : Bool) → cond p true q ≡ true → (p ≡ true) ⊎ (q ≡ true)
+either-true true q e = inl refl
+either-true false q e = inr e
+
+contains-head : (w : Hearing) (ws : List Hearing) → Contains (w ∷ ws) w
+contains-head w ws = (0, omega arith, refl)
+
+contains-tail : (w : Hearing) (ws : List Hearing) (v : Hearing) → Contains ws v → Contains (w ∷ ws) v
+contains-tail w ws v h = Contains-append_right (w ∷ []) ws v h
+
+-- whoever paused the session at its last record is handed back, and has paused once more
+pub Kept-paused : (keep : Bool) (notes : List Record) (paused : Bool) (ws vs : List Hearing) → Kept keep notes paused ws vs → paused ≡ true → (w v : Hearing) × Contains ws w × Contains vs v × (w.pauses < v.pauses)
+Kept-paused keep notes _ _ _ Kept.no_more is = absurd (let e = is in cc)
+Kept-paused keep notes _ _ _ (Kept.kept w v ws vs p paused s past) is =
+    ⊎_elim (λ (e : p ≡ true). (let n = paused-counted s.advices (sym s.last ∙ e) in (w, v, contains-head w ws, contains-head v vs, omega (arith, n, s.pauses))))
+    (λ (e : paused ≡ true). (let r = Kept-paused keep notes paused ws vs past e in (r.0, r.1, contains-tail w ws r.0 r.2, contains-tail v vs r.1 r.3, r.4)))
+    (either-true p paused is)
+Kept-paused keep notes _ _ _ (Kept.gone w ws vs paused g past) is = (let r = Kept-paused keep notes paused ws vs past is in (r.0, r.1, contains-tail w ws r.0 r.2, r.3, r.4))
+
+only : (u v : Hearing) → Contains (u ∷ []) v → u ≡ v
+only u v (zero, l, e) = e
+only u v (suc k, l, e) = absurd (omega (arith, l))
+
+-- if nobody did, and checkpoints are kept, nobody who is handed back has paused
+pub Kept-unpaused : (notes : List Record) (paused : Bool) (ws vs : List Hearing) → Kept true notes paused ws vs → paused ≡ false → (v : Hearing) → Contains vs v → (w : Hearing) × Contains ws w × (v.pauses ≡ w.pauses)
+Kept-unpaused notes _ _ _ Kept.no_more is v h = absurd (omega (arith, h.1))
+Kept-unpaused notes _ _ _ (Kept.kept w u ws us p paused s past) is v h =
+    let none = both-false p paused is in
+    ⊎_elim (λ (e : Contains (u ∷ []) v). (w, contains-head w ws, ap (λ (x : Hearing). x.pauses) (sym (only u v e)) ∙ Stays-unpaused notes w u (subst (λ (b : Bool). Stays true notes b w u) none.0 s)))
+    (λ (e : Contains us v). (let r = Kept-unpaused notes paused ws us past none.1 v e in (r.0, contains-tail w ws r.0 r.1, r.2)))
+    (Contains-append_cases (u ∷ []) us v h)
+Kept-unpaused notes _ _ _ (Kept.gone w ws vs paused g past) is v h = (let r = Kept-unpaused notes paused ws vs past is v h in (r.0, contains-tail w ws r.0 r.1, r.2))

@@ -16,12 +16,12 @@ use Rattle.lc_enumeration.specs.Fitting.{Misfit, misfit}
 use Rattle.lc_formats.specs.Checkpoint.{Checkpoint}
 use Rattle.lc_formats.specs.Truth.{start_of}
 use Rattle.lc_sessions.specs.Needs.{IsNeeds, MeetsFirst}
-use Rattle.lc_io.specs.Outside.{HasRisen}
 use Rattle.lc_io.specs.Vaults.{Slots}
 use Rattle.lc_language.specs.declared.Call.{Call}
 use Rattle.lc_sessions.specs.Options.{Command, run, resume, check, summary, Settings, Options, settings, usage as refuses, all_options, options}
 use Rattle.lc_sessions.specs.Slots.{Choice, nothing_stored, none_decodes, takes, choice, is_for}
-use Rattle.lc_sessions.specs.Session.{Outside, Course, most_bytes, Accepts, WasRead, GaveTooMuch, ReadsScript, Reads, Starts, Resumes, Meets, Finds, IsUnfit, rounds_of, resumes, reads, IsSession, IsUsable, IsAnswer}
+use Rattle.lc_sessions.specs.Session.{Outside, Course, most_bytes, Accepts, WasRead, GaveTooMuch, ReadsScript, Reads, Starts, Resumes, Meets, Finds, IsUnfit, rounds_of, resumes, reads, IsSession}
+use Rattle.lc_sessions.specs.Promises.{IsUsable, IsAnswer, IsAmple}
 use Rattle.lc_sessions.specs.Endings.{Ending, done, usage, paused, source_fault, sink_fault, vault_fault, no_memory, no_checkpoint, damaged_checkpoint, other_script, rejected, too_long, unfit}
 
 pub asks_for : (table : List Call) (args : List (List ℕ)) (old new : Outside) (ending : Ending) (asked : Settings) (s : IsSession table args old new ending) → options all_options args ≡ settings asked → s.asked ≡ asked
@@ -104,19 +104,6 @@ none_unfit : (table : List Call) (asked : Settings) (course : Course) (m : Misfi
 none_unfit table asked course m held u start met unfits =
     let f = u.fits course.needs m met (subst (λ (t : Start). misfit divisor_of course.needs asked.budget t ≡ Some m) start unfits.0) in
     ⊎_elim (λ (e : (m.need < length course.needs) × MeetsFirst table course.bytes course.needs). omega (arith, f.0, e.0)) (λ (e : IsNeeds table course.bytes course.needs). f.1 e) unfits.1
-
--- the premises of completeness
-pub record IsAmple (table : List Call) (args : List (List ℕ)) (old new : Outside) (asked : Settings) (course : Course) : Type 0 where
-  pub arguments : options all_options args ≡ settings asked
-  pub bytes : List ℕ
-  pub source : old.source ≡ Some bytes
-  pub within : length bytes ≤ most_bytes
-  pub unsliced : asked.slice ≡ None
-  pub unpaused : asked.keep ≡ true → course.is_paused ≡ false
-  pub usable : asked.command ≡ resume → IsUsable table asked bytes old.vault
-  pub source_works : ¬ HasRisen old.source_faults new.source_faults
-  pub sink_works : ¬ HasRisen old.sink_faults new.sink_faults
-  pub vault_works : ¬ HasRisen old.vault_faults new.vault_faults
 
 pub completed : (table : List Call) (args : List (List ℕ)) (old new : Outside) (ending : Ending) (s : IsSession table args old new ending) → IsAmple table args old new s.asked s.course → IsAnswer ending
 completed table args old new (done n) s a = tt

@@ -6,26 +6,22 @@
 --   last_stands_torn      after a store that failed the checkpoint of the last record told stands whole in the other slot
 --   none_stored_torn      without a record the other slot is as the session found it
 --   other_slot            which is the slot of the checkpoint that `resume` took
-use Rattle.std.proofs.Common.{◌≡◌, ◌+◌, ◌≤◌, ◌^◌, ◌++◌, ℕ, List, [], ◌∷◌, length, refl, sym, ap, subst, ◌∙◌, arith}
+use Rattle.std.proofs.Common.{◌≡◌, ◌+◌, ◌≤◌, ◌^◌, ◌++◌, ℕ, List, [], ◌∷◌, length, ap, subst, ◌∙◌, arith}
 use Rattle.std.specs.Prelude.{Option}
 use Rattle.std.proofs.lemmas.List.{length-append}
 use Rattle.sha2.specs.Sha256.{sha256}
 use Rattle.lc_enumeration.specs.Records.{Step}
 use Rattle.lc_io.specs.declared.vault.Slot.{Slot}
-use Rattle.lc_io.specs.Vaults.{Slots, in_slot, other, put, WhereTold, IsTorn}
+use Rattle.lc_io.specs.Vaults.{Slots, in_slot, other, WhereTold, IsTorn}
 use Rattle.lc_io.proofs.SlotLaws.{WhereTold-map, other_other}
 use Rattle.lc_sessions.specs.Options.{Settings}
-use Rattle.lc_sessions.specs.Slots.{slot_of, next_turn, turn_after, stored_bytes, slots_after}
+use Rattle.lc_sessions.specs.Slots.{slot_of, turn_after, slots_after}
 use Rattle.lc_sessions.specs.Session.{Course, begin_with, told_slots, Keeps, Tears}
+use Rattle.lc_sessions.specs.Promises.{checkpoint_of, Holds}
 use Rattle.lc_sessions.proofs.SlotsAfter.{turn_is, slot_of-next, stored_last, stored_beside, stored_alone, torn_other}
 
--- the bytes of the checkpoint of a step in this session
-abbrev pub checkpoint_of : Settings → Course → ℕ → Step → List ℕ
-checkpoint_of asked course turn step = stored_bytes 2 (sha256 course.bytes) asked.budget turn step
-
--- the vault, if it tells its slots, holds these bytes in this slot
-abbrev pub Holds : Option Slots → Option Slots → Slot → List ℕ → Type 0
-Holds old new slot bytes = WhereTold old new (λ before after. in_slot slot after ≡ bytes)
+pub other_slot : (turn : ℕ) → other (slot_of (turn + 1)) ≡ slot_of turn
+other_slot turn = ap other (slot_of-next turn) ∙ other_other (slot_of turn)
 
 pub last_stands : (asked : Settings) (course : Course) (old new : Option Slots) (before : List Step) (s : Step) → course.told ≡ before ++ s ∷ [] → course.turn + length before ≤ 2 ^ 60 → Keeps asked course old new
     → Holds old new (slot_of (course.turn + length before)) (checkpoint_of asked course (course.turn + length before) s)
@@ -33,9 +29,6 @@ last_stands asked course old new before s told l keeps =
     WhereTold-map old new _ _ (λ (o n : Slots) (is : n ≡ told_slots asked course o).
     ap (in_slot (slot_of (course.turn + length before))) (is ∙ ap (λ (t : List Step). slots_after 2 (sha256 course.bytes) asked.budget course.turn t (begin_with asked.command o)) told)
     ∙ stored_last 2 (sha256 course.bytes) asked.budget course.turn before s (begin_with asked.command o) l) keeps
-
-pub other_slot : (turn : ℕ) → other (slot_of (turn + 1)) ≡ slot_of turn
-other_slot turn = ap other (slot_of-next turn) ∙ other_other (slot_of turn)
 
 pub one_before_stands : (asked : Settings) (course : Course) (old new : Option Slots) (before : List Step) (r s : Step) → course.told ≡ (before ++ r ∷ []) ++ s ∷ [] → course.turn + length before + 1 ≤ 2 ^ 60 → Keeps asked course old new
     → Holds old new (slot_of (course.turn + length before)) (checkpoint_of asked course (course.turn + length before) r)

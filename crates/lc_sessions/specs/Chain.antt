@@ -6,17 +6,21 @@
 --   Goes version table bytes budget needs start told        these are the first steps of a session from a start on
 --   Chain version table bytes budget slots                  the slots after a chain of sessions: a `run` that emptied them, and then
 --                                        any number of `resume`. Sessions that wrote version 1 come before those that write version 2
+--   Rises C most blocks states           the states of a search rise, are best words, and have no more blocks than this
+--   EndsAtAnswer d C budget slice s      its rounds do so up to the blocks of the answer, and end at it unless the slice stops them
+--   IsGround table bytes budget          what the law of chains rests on
 --   ChainsAreTrue table bytes budget     the law of chains: they leave the slots as `resume` asks for them
-use Rattle.std.specs.Prelude.{◌≡◌, ℕ, ◌⊎◌, ◌≤◌, List, ◌++◌, Option, Some}
+use Rattle.std.specs.Prelude.{◌≡◌, ℕ, ◌⊎◌, ◌≤◌, List, ◌++◌, Option, Some, [], ◌∷◌, ◌<◌, ◌^◌, false, slice_get}
 use Rattle.sha2.specs.Sha256.{sha256}
 use Rattle.lc_algebra.specs.Matrix.{Matrix}
-use Rattle.lc_enumeration.specs.Records.{Start, fresh_start, Step, session_rounds}
-use Rattle.lc_formats.specs.Checkpoint.{Checkpoint, refused, damaged, checkpoint_in}
-use Rattle.lc_formats.specs.Truth.{divisor_in}
+use Rattle.lc_enumeration.specs.Search.{answer}
+use Rattle.lc_enumeration.specs.Records.{Progress, Start, fresh_start, Step, rounds, last_state, session_rounds, IsBestAt}
+use Rattle.lc_formats.specs.Checkpoint.{Checkpoint, point, refused, damaged, checkpoint_text, checkpoint_in}
+use Rattle.lc_formats.specs.Truth.{divisor_in, SettlesAs, blocks_in}
 use Rattle.lc_io.specs.Vaults.{Slots, empty_slots, in_slot, put}
 use Rattle.lc_language.specs.declared.Call.{Call}
 use Rattle.lc_sessions.specs.Needs.{MeetsFirst}
-use Rattle.lc_sessions.specs.Slots.{slot_of, next_turn, turn_after, slots_after, chosen, start_in, AreTrueSlots}
+use Rattle.lc_sessions.specs.Slots.{slot_of, next_turn, turn_after, slots_after, chosen, start_in, IsTrueCheckpoint, AreTrueSlots}
 
 abbrev pub IsLeft : List ℕ → List ℕ → Type 0
 IsLeft before after = (after ≡ before) ⊎ (checkpoint_in after ≡ refused damaged)
@@ -44,6 +48,28 @@ pub data Chain (table : List Call) (bytes : List ℕ) (budget : ℕ) : ℕ → S
   resumed : (version later : ℕ) (needs : List Matrix) (p : Checkpoint) (told : List Step) (before slots : Slots) → Chain table bytes budget version before → version ≤ later → chosen before ≡ Some p → Goes later table bytes budget needs (start_in (divisor_in later) needs p) told
       → Leaves later (sha256 bytes) budget (next_turn p.turn) told before slots → Chain table bytes budget later slots
 
+-- the states of a search rise, are the best words after their blocks, and have no more blocks than the answer
+abbrev pub Rises : Matrix → ℕ → ℕ → List Progress → Type 0
+Rises C most blocks [] = Unit {0}
+Rises C most blocks (s ∷ states) = (blocks < s.blocks) × (s.blocks ≤ most) × IsBestAt C s × Rises C most s.blocks states
+
+-- and its last one is the answer, unless the slice stopped it
+pub record EndsAtAnswer (d : ℕ) (C : Matrix) (budget : ℕ) (slice : Option ℕ) (s : Progress) : Type 0 where
+  pub rises : Rises C (blocks_in (answer d C budget)) s.blocks (rounds d C budget slice s).states
+  pub ends : (rounds d C budget slice s).is_stopped ≡ false → SettlesAs (last_state s (rounds d C budget slice s).states) (answer d C budget)
+
+-- what the law of chains rests on: facts of the script, of the search and of the format
+pub record IsGround (table : List Call) (bytes : List ℕ) (budget : ℕ) : Type 0 where
+  -- the script determines its needs
+  pub one : (needs others : List Matrix) → MeetsFirst table bytes needs → MeetsFirst table bytes others → (i : ℕ) (C D : Matrix) → slice_get needs i ≡ Some C → slice_get others i ≡ Some D → C ≡ D
+  -- a search that goes on from a best word ends at the answer
+  pub ends : (version : ℕ) (needs : List Matrix) → IsVersion version → MeetsFirst table bytes needs → (i : ℕ) (C : Matrix) → slice_get needs i ≡ Some C → (slice : Option ℕ) (s : Progress) → IsBestAt C s → s.blocks ≤ blocks_in (answer (divisor_in version C) C budget)
+      → EndsAtAnswer (divisor_in version C) C budget slice s
+  -- true checkpoints are read back
+  pub reads_back : (p : Checkpoint) → IsVersion p.version → IsTrueCheckpoint table bytes budget p → checkpoint_in (checkpoint_text p) ≡ point p
+  -- those of version 1 have turns below 2^57
+  pub early : (p : Checkpoint) → p.version ≡ 1 → IsTrueCheckpoint table bytes budget p → p.turn < 2 ^ 57
+
 -- the law of chains
 abbrev pub ChainsAreTrue : List Call → List ℕ → ℕ → Type 0
-ChainsAreTrue table bytes budget = (version : ℕ) (slots : Slots) → Chain table bytes budget version slots → AreTrueSlots table bytes budget slots
+ChainsAreTrue table bytes budget = IsGround table bytes budget → (version : ℕ) (slots : Slots) → Chain table bytes budget version slots → AreTrueSlots table bytes budget slots

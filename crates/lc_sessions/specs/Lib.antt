@@ -5,4 +5,5 @@ pub mod Needs
 pub mod Answers
 pub mod Slots
 pub mod Session
+pub mod Promises
 pub mod Chain

@@ -22,8 +22,6 @@
 --     replied                    the text: that of the script, of the certificate or of the summary; that it is true
 --     written                    what the sink took
 --     counted                    whose count of faults rose
---   IsUsable table asked bytes held      a checkpoint is taken, for this script and budget, and its records fit
---   IsAnswer ending              the session answered what was asked, or there was no memory
 use Rattle.std.specs.Prelude.{◌≡◌, ℕ, ◌⊎◌, ◌+◌, ◌^◌, ◌<◌, ◌≤◌, Bool, true, false, IsTrue, List, [], ◌∷◌, ◌++◌, length, map, Option, Some, None, IfSome, All}
 use Rattle.std.specs.Io.KnownBytes.{Consumes, Appends, IsAtEnd}
 use Rattle.sha2.specs.Sha256.{sha256}
@@ -414,28 +412,3 @@ pub record IsSession (table : List Call) (args : List (List ℕ)) (old new : Out
   pub replied : Replied table ending asked old.vault course
   pub written : Writes ending course.text old.sink new.sink
   pub counted : Counts ending old new
-
--- a checkpoint that a session of these arguments resumes: it is taken, it is for this script and budget, and its records fit
-pub record IsUsable (table : List Call) (asked : Settings) (bytes : List ℕ) (held : Option Slots) : Type 0 where
-  pub slots : Slots
-  pub told : held ≡ Some slots
-  pub p : Checkpoint
-  pub taken : choice slots ≡ takes p
-  pub same : IsTrue (is_for (sha256 bytes) asked.budget p)
-  pub fits : (needs : List Matrix) (m : Misfit) → MeetsFirst table bytes needs → misfit divisor_of needs asked.budget (start_of needs p) ≡ Some m → (length needs ≤ m.need) × ¬ IsNeeds table bytes needs
-
--- an answer to what was asked, or no memory
-abbrev pub IsAnswer : Ending → Type 0
-IsAnswer (done n) = Unit {0}
-IsAnswer (usage i) = ⊥
-IsAnswer (paused query blocks) = ⊥
-IsAnswer source_fault = ⊥
-IsAnswer sink_fault = ⊥
-IsAnswer (vault_fault told) = ⊥
-IsAnswer (no_memory told) = Unit {0}
-IsAnswer no_checkpoint = ⊥
-IsAnswer damaged_checkpoint = ⊥
-IsAnswer (other_script script budget) = ⊥
-IsAnswer (rejected reason) = Unit {0}
-IsAnswer too_long = ⊥
-IsAnswer (unfit query told found) = ⊥

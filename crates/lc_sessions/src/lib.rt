@@ -1,3 +1,6 @@
-//! What `codes` means by a session: the arguments of its command line, the queries that it searches, and
-//! how sessions follow one another over the two slots of a vault. The definitions are in `specs/`.
+//! What `codes` means by a session: the arguments of its command line, what it reads, tells, keeps and
+//! prints, and how sessions follow one another over the two slots of a vault. The definitions are in
+//! `specs/`, and their laws are the contracts of the functions of `laws`.
 #![tactic(auto)]
+
+pub mod laws;

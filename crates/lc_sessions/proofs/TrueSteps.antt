@@ -1,0 +1,148 @@
+-- The steps of a session that starts truly have true checkpoints.
+--   AreSettled, settled_reads, settled_from     records that settle the first needs, one after another
+--   settled_one, settled_take          one record more, and the first ones alone
+--   AreTrueSteps, true_append, true_front       steps whose checkpoints are true, the first one with a turn
+--   need_true                          the steps of one search
+--   session_true                       those of a session
+use Rattle.std.proofs.Common.{◌≡◌, ◌+◌, ◌≤◌, ◌<◌, ℕ, zero, suc, Bool, true, false, cond, List, [], ◌∷◌, ◌++◌, length, map, take, drop, refl, sym, ap, subst, ◌∙◌, arith}
+use Rattle.std.specs.Prelude.{Option, Some, None, slice_get, sum, unwrap_or}
+use Rattle.std.proofs.lemmas.List.Sums.{sum_by-append}
+use Rattle.std.proofs.lemmas.List.{map-append}
+use Rattle.lc_algebra.specs.Matrix.{Matrix}
+use Rattle.lc_enumeration.specs.Search.{answer}
+use Rattle.lc_enumeration.specs.Records.{Progress, Step, found_of, progress_of, first_progress, last_state, rounds, step_of, no_steps, steps_first, session_from, SessionRounds, IsBestAt}
+use Rattle.lc_enumeration.proofs.RecordsLaws.{first_is_best}
+use Rattle.lc_formats.specs.Checkpoint.{current_of}
+use Rattle.lc_formats.specs.Truth.{divisor_in, SettlesAs, blocks_in, turn_allowance, IsTrueFor}
+use Rattle.lc_sessions.specs.Slots.{next_turn, turn_after, point_of}
+use Rattle.lc_sessions.specs.Chain.{Rises, EndsAtAnswer}
+
+-- the first needs are settled by these records
+abbrev pub AreSettled : (Matrix → ℕ) → ℕ → List Matrix → List Progress → Type 0
+AreSettled divisor budget needs [] = Unit {0}
+AreSettled divisor budget [] (s ∷ settled) = ⊥
+AreSettled divisor budget (C ∷ needs) (s ∷ settled) = SettlesAs s (answer (divisor C) C budget) × AreSettled divisor budget needs settled
+
+-- one of them settles its need
+abbrev pub IsSettledAt : (Matrix → ℕ) → ℕ → List Matrix → ℕ → Progress → Type 0
+IsSettledAt divisor budget needs i s = (C : Matrix) × (slice_get needs i ≡ Some C) × SettlesAs s (answer (divisor C) C budget)
+
+pub settled_reads : (divisor : Matrix → ℕ) (budget : ℕ) (needs : List Matrix) (settled : List Progress) → AreSettled divisor budget needs settled → (i : ℕ) (s : Progress) → slice_get settled i ≡ Some s → IsSettledAt divisor budget needs i s
+settled_reads divisor budget needs [] all i s is = absurd (let e = is in cc)
+settled_reads divisor budget [] (t ∷ settled) all i s is = absurd all
+settled_reads divisor budget (C ∷ needs) (t ∷ settled) all zero s is = (C, refl, subst (λ (x : Progress). SettlesAs x (answer (divisor C) C budget)) (let e = is in cc) all.0)
+settled_reads divisor budget (C ∷ needs) (t ∷ settled) all (suc i) s is = settled_reads divisor budget needs settled all.1 i s is
+
+pub settled_from : (divisor : Matrix → ℕ) (budget : ℕ) (needs : List Matrix) (settled : List Progress) → ((i : ℕ) (s : Progress) → slice_get settled i ≡ Some s → IsSettledAt divisor budget needs i s) → AreSettled divisor budget needs settled
+settled_from divisor budget needs [] each = tt
+settled_from divisor budget [] (t ∷ settled) each = absurd (let h = each zero t refl in let e = h.1 in cc)
+settled_from divisor budget (C ∷ needs) (t ∷ settled) each =
+    let h = each zero t refl in
+    (subst (λ (D : Matrix). SettlesAs t (answer (divisor D) D budget)) (let e = h.1 in cc) h.2, settled_from divisor budget needs settled (λ i s is. each (suc i) s is))
+
+pub settled_one : (divisor : Matrix → ℕ) (budget : ℕ) (needs : List Matrix) (settled : List Progress) (C : Matrix) (rest : List Matrix) (s : Progress) → AreSettled divisor budget needs settled → drop (length settled) needs ≡ C ∷ rest → SettlesAs s (answer (divisor C) C budget)
+    → AreSettled divisor budget needs (settled ++ s ∷ []) × (drop (length (settled ++ s ∷ [])) needs ≡ rest)
+settled_one divisor budget [] [] C rest s all is h = absurd (let e = is in cc)
+settled_one divisor budget (D ∷ needs) [] C rest s all is h = ((subst (λ (E : Matrix). SettlesAs s (answer (divisor E) E budget)) (let e = is in cc) h, tt), let e = is in cc)
+settled_one divisor budget [] (t ∷ settled) C rest s all is h = absurd all
+settled_one divisor budget (D ∷ needs) (t ∷ settled) C rest s all is h = (let r = settled_one divisor budget needs settled C rest s all.1 is h in ((all.0, r.0), r.1))
+
+pub settled_take : (divisor : Matrix → ℕ) (budget : ℕ) (needs : List Matrix) (settled : List Progress) (i : ℕ) → AreSettled divisor budget needs settled → AreSettled divisor budget needs (take i settled)
+settled_take divisor budget needs settled zero all = tt
+settled_take divisor budget needs [] (suc i) all = tt
+settled_take divisor budget [] (s ∷ settled) (suc i) all = absurd all
+settled_take divisor budget (C ∷ needs) (s ∷ settled) (suc i) all = (all.0, settled_take divisor budget needs settled i all.1)
+
+pub need_at : (needs : List Matrix) (i : ℕ) (C : Matrix) (rest : List Matrix) → drop i needs ≡ C ∷ rest → slice_get needs i ≡ Some C
+need_at [] zero C rest is = absurd (let e = is in cc)
+need_at [] (suc i) C rest is = absurd (let e = is in cc)
+need_at (D ∷ needs) zero C rest is = (let e = is in cc)
+need_at (D ∷ needs) (suc i) C rest is = need_at needs i C rest is
+
+-- how many blocks the records have
+abbrev pub blocks_of : List Progress → ℕ
+blocks_of settled = sum (map (λ s. s.blocks) settled)
+
+blocks_more : (settled : List Progress) (s : Progress) → blocks_of (settled ++ s ∷ []) ≡ blocks_of settled + s.blocks
+blocks_more settled s = ap sum (map-append (λ (t : Progress). t.blocks) settled (s ∷ [])) ∙ sum_by-append (λ x. x) (map (λ t. t.blocks) settled) (s.blocks ∷ []) ∙ omega arith
+
+-- steps whose checkpoints are true, the first one with this turn
+abbrev pub AreTrueSteps : ℕ → List Matrix → List ℕ → ℕ → ℕ → List Step → Type 0
+AreTrueSteps version needs digest budget turn [] = Unit {0}
+AreTrueSteps version needs digest budget turn (s ∷ steps) = IsTrueFor needs digest budget (point_of version digest budget turn s) × AreTrueSteps version needs digest budget (next_turn turn) steps
+
+pub true_append : (version : ℕ) (needs : List Matrix) (digest : List ℕ) (budget turn : ℕ) (steps others : List Step) → AreTrueSteps version needs digest budget turn steps → AreTrueSteps version needs digest budget (turn_after turn steps) others → AreTrueSteps version needs digest budget turn (steps ++ others)
+true_append version needs digest budget turn [] others h k = k
+true_append version needs digest budget turn (s ∷ steps) others h k = (h.0, true_append version needs digest budget (next_turn turn) steps others h.1 k)
+
+pub true_front : (version : ℕ) (needs : List Matrix) (digest : List ℕ) (budget turn : ℕ) (steps others : List Step) → AreTrueSteps version needs digest budget turn (steps ++ others) → AreTrueSteps version needs digest budget turn steps
+true_front version needs digest budget turn [] others h = tt
+true_front version needs digest budget turn (s ∷ steps) others h = (h.0, true_front version needs digest budget (next_turn turn) steps others h.1)
+
+next_at_most : (turn : ℕ) → next_turn turn ≤ turn + 1
+unfolding next_turn
+next_at_most turn = omega arith
+
+step_true : (version : ℕ) (needs : List Matrix) (digest : List ℕ) (budget : ℕ) (settled : List Progress) (C : Matrix) → AreSettled (divisor_in version) budget needs settled → slice_get needs (length settled) ≡ Some C
+    → (t : Progress) (turn : ℕ) → 1 ≤ t.blocks → t.blocks ≤ blocks_in (answer (divisor_in version C) C budget) → IsBestAt C t → turn < t.blocks + blocks_of settled + turn_allowance version
+    → IsTrueFor needs digest budget (point_of version digest budget turn (step_of (divisor_in version C) C settled t))
+unfolding point_of step_of current_of found_of
+step_true version needs digest budget settled C all at t turn some few is_best early = record {
+  script = refl;
+  budget_is = refl;
+  settled = settled_reads (divisor_in version) budget needs settled all;
+  current = (C, at, some, few, sym is_best);
+  turn = early;
+}
+
+pub need_true : (version : ℕ) (needs : List Matrix) (digest : List ℕ) (budget : ℕ) (settled : List Progress) (C : Matrix) → AreSettled (divisor_in version) budget needs settled → slice_get needs (length settled) ≡ Some C
+    → (states : List Progress) (s : Progress) (turn : ℕ) → Rises C (blocks_in (answer (divisor_in version C) C budget)) s.blocks states → turn ≤ s.blocks + blocks_of settled + turn_allowance version
+    → AreTrueSteps version needs digest budget turn (map (step_of (divisor_in version C) C settled) states)
+    × (turn_after turn (map (step_of (divisor_in version C) C settled) states) ≤ (last_state s states).blocks + blocks_of settled + turn_allowance version)
+unfolding last_state
+need_true version needs digest budget settled C all at [] s turn rises l = (tt, l)
+need_true version needs digest budget settled C all at (t ∷ states) s turn rises l =
+    let n = next_at_most turn in
+    let r = need_true version needs digest budget settled C all at states t (next_turn turn) rises.3 (omega (arith, l, n, rises.0)) in
+    ((step_true version needs digest budget settled C all at t turn (omega (arith, rises.0)) rises.1 rises.2 (omega (arith, l, rises.0)), r.0), r.1)
+
+-- where a session starts truly, at a turn that isn't too late
+pub record IsTrueStart (version : ℕ) (needs : List Matrix) (budget : ℕ) (settled : List Progress) (current : Option Progress) (turn : ℕ) : Type 0 where
+  pub done : AreSettled (divisor_in version) budget needs settled
+  pub best : (C : Matrix) → slice_get needs (length settled) ≡ Some C → IsBestAt C (unwrap_or current (first_progress C)) × ((unwrap_or current (first_progress C)).blocks ≤ blocks_in (answer (divisor_in version C) C budget))
+  pub early : (C : Matrix) → slice_get needs (length settled) ≡ Some C → turn ≤ (unwrap_or current (first_progress C)).blocks + blocks_of settled + turn_allowance version
+
+-- after a search that the slice didn't stop, the next one starts afresh
+unless_stopped : (version : ℕ) (needs : List Matrix) (digest : List ℕ) (budget turn : ℕ) (stopped : Bool) (settled : List Progress) (left : Option ℕ) (later : SessionRounds)
+    → (stopped ≡ false → AreTrueSteps version needs digest budget turn later.steps) → AreTrueSteps version needs digest budget turn (cond stopped (no_steps settled left true) later).steps
+unfolding no_steps
+unless_stopped version needs digest budget turn true settled left later h = tt
+unless_stopped version needs digest budget turn false settled left later h = h refl
+
+pub starts_next : (version : ℕ) (needs : List Matrix) (budget : ℕ) (settled : List Progress) (turn : ℕ) → AreSettled (divisor_in version) budget needs settled → turn ≤ blocks_of settled + turn_allowance version → IsTrueStart version needs budget settled None turn
+unfolding first_progress progress_of
+starts_next version needs budget settled turn all l = record {
+  done = all;
+  best = λ C is. (first_is_best C, omega arith);
+  early = λ C is. omega (arith, l);
+}
+
+pub session_true : (version : ℕ) (needs : List Matrix) (digest : List ℕ) (budget : ℕ)
+    → ((i : ℕ) (C : Matrix) → slice_get needs i ≡ Some C → (slice : Option ℕ) (s : Progress) → IsBestAt C s → s.blocks ≤ blocks_in (answer (divisor_in version C) C budget) → EndsAtAnswer (divisor_in version C) C budget slice s)
+    → (left : List Matrix) (slice : Option ℕ) (settled : List Progress) (current : Option Progress) (turn : ℕ) → drop (length settled) needs ≡ left → IsTrueStart version needs budget settled current turn
+    → AreTrueSteps version needs digest budget turn (session_from (divisor_in version) left budget slice settled current).steps
+unfolding session_from steps_first no_steps
+session_true version needs digest budget ends [] slice settled current turn is start = tt
+session_true version needs digest budget ends (C ∷ left) slice settled current turn is start =
+    let s = unwrap_or current (first_progress C) in
+    let at = need_at needs (length settled) C left is in
+    let r = rounds (divisor_in version C) C budget slice s in
+    let e = ends (length settled) C at slice s (start.best C at).0 (start.best C at).1 in
+    let steps = map (step_of (divisor_in version C) C settled) r.states in
+    let n = need_true version needs digest budget settled C start.done at r.states s turn e.rises (start.early C at) in
+    true_append version needs digest budget turn steps _ n.0
+    (unless_stopped version needs digest budget (turn_after turn steps) r.is_stopped settled r.left (session_from (divisor_in version) left budget r.left (settled ++ last_state s r.states ∷ []) None)
+    (λ unstopped.
+    let one = settled_one (divisor_in version) budget needs settled C left (last_state s r.states) start.done is (e.ends unstopped) in
+    session_true version needs digest budget ends left r.left (settled ++ last_state s r.states ∷ []) None (turn_after turn steps) one.1
+    (starts_next version needs budget (settled ++ last_state s r.states ∷ []) (turn_after turn steps) one.0 (omega (arith, n.1, blocks_more settled (last_state s r.states))))))
