@@ -7,3 +7,4 @@ pub mod DistributionExamples
 pub mod NearExamples
 pub mod MemberLaws
 pub mod DistributionLaws
+pub mod GreedyLaws

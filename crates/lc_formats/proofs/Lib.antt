@@ -4,6 +4,7 @@ pub mod TestLaws
 pub mod ReadLaws
 pub mod CertificateBack
 pub mod CertificateShaped
+pub mod VerdictLaws
 pub mod CheckpointBack
 pub mod CertificateExamples
 pub mod CheckExamples
