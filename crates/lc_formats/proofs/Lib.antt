@@ -6,6 +6,7 @@ pub mod CertificateBack
 pub mod CertificateShaped
 pub mod VerdictLaws
 pub mod CheckpointBack
+pub mod CheckpointRange
 pub mod CertificateExamples
 pub mod CheckExamples
 pub mod CheckpointExamples

@@ -5,7 +5,7 @@
 --   lighter_holds, lighter_passes      the first seen word that is lighter than the distance
 --   overlap_holds, overlap_passes      the least place that is fresh in two sets
 --   reaches_holds, reaches_passes      whether the levels reach the distance
---   accepted_is_valid, valid_is_accepted
+--   accepted_is_valid, valid_is_accepted, rejected_is_not_valid, not_valid_is_rejected
 use Rattle.std.proofs.Common.{◌≡◌, ℕ, zero, suc, ◌+◌, ◌^◌, ◌<◌, ◌≤◌, ◌⊎◌, min, Bool, true, false, not, nat_le, nat_lt, ◌==◌, ◌&&◌, ◌||◌, cond, if◌then◌else◌, List, [], ◌∷◌, length, map, find, count_by, slice_index_or, All, AllPairs, Any, Contains, Option, Some, None, inl, inr, ⊎_elim, refl, sym, ap, subst, ◌∙◌, arith}
 use Rattle.std.specs.Prelude.{⊤}
 use Rattle.std.proofs.lemmas.Bool.{and_parts, and_from, or_left, or_right, eqb-true, eq-eqb, ltb-true, ltb-false, lt-ltb, le-ltb, leb-true, le-leb, false≢true, true≢false, cases_Bool, cases_lt}
@@ -87,9 +87,9 @@ columns_are_words c r i = column_word c.field (code_length c) c.rows i r
 nothing_free : (c : Certificate) → AreIndependent c.field (length c.rows) []
 nothing_free c cs w e = nil cs w.long
   where
-  nil : (cs : List ℕ) → length cs ≡ 0 → cs ≡ []
-  nil [] l = refl
-  nil (a ∷ cs) l = absurd (omega (arith, l))
+    nil : (cs : List ℕ) → length cs ≡ 0 → cs ≡ []
+    nil [] l = refl
+    nil (a ∷ cs) l = absurd (omega (arith, l))
 
 pub set_holds : (c : Certificate) (basis : List ℕ) → AreRows c.field (code_length c) c.rows → is_information_set c basis ≡ true → IsSet c basis
 unfolding is_information_set
@@ -149,7 +149,6 @@ lighter_passes c a = passes_none (is_lighter c.distance) (seen_words c) (λ k d 
 abbrev AreApart : List SetClaim → Type 0
 AreApart claims = AllPairs (λ one other. (place : ℕ) → Contains one.fresh place → ¬ Contains other.fresh place) claims
 
-
 abbrev one_if : Bool → ℕ
 one_if b = cond b 1 0
 
@@ -207,7 +206,7 @@ overlap_passes c claims a = passes_none (λ place. nat_lt 1 (count_by (λ claim.
 
 -- ---- levels
 
-or_cases : (a b : Bool) → (a || b) ≡ true → (a ≡ true) ⊎ (b ≡ true)
+pub or_cases : (a b : Bool) → (a || b) ≡ true → (a ≡ true) ⊎ (b ≡ true)
 or_cases true b e = inl refl
 or_cases false b e = inr e
 
@@ -244,10 +243,14 @@ proof_holds c scan later h s e = (tt, e)
 proof_holds c (levels claims) later h s e =
     let one = else_accepted (carrying set_not_information (first_dependent c 1 claims)) _ e in
     let two = else_accepted (carrying fresh_overlap (least_overlap c claims)) _ one.1 in
-    let three = else_accepted (when (not (reaches c claims)) (bound_short (claimed_sum c claims))) later two.1 in
-    ((sets_hold c 1 claims h.rows_fit (carrying_none set_not_information (first_dependent c 1 claims) one.0),
-    overlap_holds c claims s.2 (carrying_none fresh_overlap (least_overlap c claims) two.0),
-    reaches_holds c claims (not_false (reaches c claims) (when_not (not (reaches c claims)) (bound_short (claimed_sum c claims)) three.0))), three.1)
+    let three = else_accepted (when (not (reaches c claims)) (bound_short (claimed_sum c claims))) later two.1 in (
+      (
+        sets_hold c 1 claims h.rows_fit (carrying_none set_not_information (first_dependent c 1 claims) one.0),
+        overlap_holds c claims s.2 (carrying_none fresh_overlap (least_overlap c claims) two.0),
+        reaches_holds c claims (not_false (reaches c claims) (when_not (not (reaches c claims)) (bound_short (claimed_sum c claims)) three.0)),
+      ),
+      three.1,
+    )
 
 proof_passes : (c : Certificate) (p : Proof) (later : Verdict) → IsShaped c → SetsHold c p → later ≡ accepted → set_reasons c p later ≡ accepted
 unfolding set_reasons
@@ -281,3 +284,16 @@ valid_is_accepted c h v =
     (accepted_else (when (not (weight c.word == c.distance)) (word_weight (weight c.word))) _ (not_when _ _ (not_true _ (eq-eqb (weight c.word) c.distance v.attains)))
     (proof_passes c c.proof (or_else (carrying seen_lighter (first_lighter c)) accepted) h v.sets
     (accepted_else (carrying seen_lighter (first_lighter c)) accepted (none_carrying seen_lighter (first_lighter c) (lighter_passes c v.seen)) refl))))
+
+pub rejected_is_not_valid : (c : Certificate) → IsShaped c → ((r : Reason) × (verdict c ≡ rejected r)) → ¬ IsValid c
+rejected_is_not_valid c h (r, e) v = apart r (sym e ∙ valid_is_accepted c h v)
+  where
+    apart : (r : Reason) → rejected r ≡ accepted → ⊥
+    apart r e = absurd cc
+
+pub not_valid_is_rejected : (c : Certificate) → IsShaped c → ¬ IsValid c → (r : Reason) × (verdict c ≡ rejected r)
+not_valid_is_rejected c h invalid = from (verdict c) refl
+  where
+    from : (v : Verdict) → verdict c ≡ v → (r : Reason) × (verdict c ≡ rejected r)
+    from accepted e = absurd (invalid (accepted_is_valid c h e))
+    from (rejected r) e = (r, e)
