@@ -4,7 +4,9 @@ pub mod TestLaws
 pub mod ReadLaws
 pub mod CertificateBack
 pub mod CertificateShaped
+pub mod VerdictLaws
 pub mod CheckpointBack
+pub mod CheckpointRange
 pub mod CertificateExamples
 pub mod CheckExamples
 pub mod CheckpointExamples
