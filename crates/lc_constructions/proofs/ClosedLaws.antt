@@ -88,7 +88,7 @@ unfolding symbol_sum
 symbol_sum_of_zero f zero = refl
 symbol_sum_of_zero f (suc n) = ap (add f 0) (symbol_sum_of_zero f n) ∙ zero_add f 0 (zero_inside f)
 
-neg_of_sum : (f : FieldName) (a b : ℕ) → neg f (add f a b) ≡ add f (neg f a) (neg f b)
+pub neg_of_sum : (f : FieldName) (a b : ℕ) → neg f (add f a b) ≡ add f (neg f a) (neg f b)
 neg_of_sum f a b = cc (neg_one_mul f a, neg_one_mul f b, neg_one_mul f (add f a b), mul_add f (neg f 1) a b)
 
 one_sum : (f : FieldName) (a b : ℕ) → word_sum f (a ∷ []) (b ∷ []) ≡ add f a b ∷ []

@@ -9,5 +9,6 @@ pub mod LocatorLaws
 pub mod InverseLaws
 pub mod ExpansionLaws
 pub mod ClosedLaws
+pub mod GoppaLaws
 pub mod CheckLaws
 pub mod AlternantLaws

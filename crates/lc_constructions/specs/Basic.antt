@@ -1,4 +1,4 @@
--- Which words the plain constructors put into their codes (GUAVA manual, "Codes"; MacWilliams and Sloane, chapters 1 and 13).
+-- Which words the plain constructors put into their codes (GUAVA manual, "Generating Codes"; MacWilliams and Sloane, chapters 1 and 13).
 -- Each fact is about a word w that has the code's length and fits its field.
 --   GeneratedBy f n rows w       generator matrix: a sum of multiples of the rows
 --   CheckedBy f rows w           check matrix: dot 0 with each row (specs/Code.antt)

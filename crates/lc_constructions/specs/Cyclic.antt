@@ -1,4 +1,4 @@
--- Which words the cyclic constructors put into their codes (MacWilliams and Sloane, chapter 7; GUAVA manual, "Cyclic codes").
+-- Which words the cyclic constructors put into their codes (MacWilliams and Sloane, chapter 7; GUAVA manual, "Generating Codes").
 -- The polynomial of a word has the word's symbols as its coefficients, from the constant upwards.
 --   IsResidue f n u c              c, of length n, is the polynomial u modulo x^n - 1
 --   IsMultipleOf f n x c           generator polynomial: c is x a modulo x^n - 1 for some a of degree below n

@@ -1,18 +1,20 @@
 //! The laws of the definitions, as the contracts of functions that do nothing: what a reader of the definitions may expect of
 //! them, and what the crates above rest on.
 
-ghost use Rattle.std.specs.Prelude.{◌≡◌, ℕ, suc, ◌+◌, ◌*◌, ◌/◌, ◌<◌, ◌≤◌, ◌↔◌, List, [], ◌∷◌, ◌++◌, length, map, Option, Some, None, IsTrue};
+ghost use Rattle.std.specs.Prelude.{◌≡◌, ℕ, suc, ◌+◌, ◌*◌, ◌/◌, ◌<◌, ◌≤◌, ◌↔◌, List, [], ◌∷◌, ◌++◌, length, map, Option, Some, None, IsTrue, Contains};
 ghost use Rattle.lc_algebra.specs.declared.FieldName.{FieldName};
 ghost use Rattle.lc_algebra.specs.declared.FieldName.TheVariants.{Gf2};
 ghost use Rattle.lc_algebra.specs.Field.{size, is_symbol, IsInverse, HasOrder};
-ghost use Rattle.lc_algebra.specs.Embedding.{IsSubfield};
+ghost use Rattle.lc_algebra.specs.Polynomial.{value_at, IsPolynomial};
+ghost use Rattle.lc_algebra.specs.Embedding.{IsSubfield, embed};
 ghost use Rattle.lc_algebra.specs.Word.{IsWord, zero_word};
 ghost use Rattle.lc_algebra.specs.Span.{IsWeightBound};
 ghost use Rattle.lc_algebra.specs.Matrix.{Matrix, AreRows};
 ghost use Rattle.lc_constructions.specs.Code.{IsCode, IsClosed};
 ghost use Rattle.lc_constructions.specs.Basic.{all_lists, hamming_columns};
 ghost use Rattle.lc_constructions.specs.Cyclic.{IsLocatorField, locator_field};
-ghost use Rattle.lc_constructions.specs.Alternant.{AlternantForm, IsForm, IsFormOf, inverse, IsAlternantWord};
+ghost use Rattle.lc_constructions.specs.Alternant.{AlternantForm, IsForm, IsFormOf, inverse, IsAlternantWord, IsGoppaWord};
+ghost use Rattle.lc_constructions.specs.Goppa.{AreCongruent, AreFractions, fraction_sum, IsGoppaWordByFractions};
 ghost use Rattle.lc_constructions.specs.Combined.{InDual, InExtended, without, InPunctured, InShortened, InEvenWeight, InDirectSum, InUuv, InDirectProduct, InIntersection};
 ghost use Rattle.lc_constructions.specs.Concatenated.{IsExpansion, InConcatenated};
 ghost use Rattle.lc_constructions.specs.Nearest.{IsNearest, IsWithin, IsDecoded};
@@ -65,6 +67,14 @@ pub fn locator_field_is_least(field: FieldName)
 #[tactic(auto, using(crate::proofs::InverseLaws::inverse_is))]
 pub fn inverse_inverts(field: FieldName)
     ensures is { (a : ℕ) → a < size field → 0 < a → IsInverse field a (inverse field a) }
+{}
+
+/// A word is in a Goppa code exactly if the sum of w_i / (x - a_i) is 0 modulo the Goppa polynomial, whichever polynomials stand for
+/// these fractions. The polynomial is given without last zeros and is 0 at no point. (MacWilliams and Sloane, chapter 12.)
+pub fn goppa_codes_by_fractions(field: FieldName, locator: FieldName)
+    ensures some { (g points w : List ℕ) → IsPolynomial locator g → 0 < length g → ((a : ℕ) → Contains points a → 0 < value_at locator g a) → IsGoppaWord field locator g points w ↔ IsGoppaWordByFractions field locator g points w }
+    ensures any { (g points w : List ℕ) (hs : List (List ℕ)) → IsPolynomial locator g → 0 < length g → ((a : ℕ) → Contains points a → 0 < value_at locator g a) → AreFractions locator g points hs →
+        IsGoppaWord field locator g points w ↔ AreCongruent locator g (fraction_sum locator (map (embed field locator) w) hs) [] }
 {}
 
 /// Each element of a symbol field of q^s elements is written over the field of q elements in exactly one way: as the sum of

@@ -19,7 +19,7 @@ use Rattle.lc_algebra.proofs.PowerLaws.{pow_zero, pow_suc, pow_inside, pow_one, 
 use Rattle.lc_algebra.proofs.OrderLaws.{power_of_rest}
 use Rattle.lc_algebra.proofs.EmbeddingLaws.{embed_inside, embed_one, embed_mul}
 use Rattle.lc_algebra.proofs.WordLaws.{fits_head, fits_tail}
-use Rattle.lc_poly.proofs.PolynomialLaws.{product_commutes, product_associates, product_same, same_product, value_inside}
+use Rattle.lc_algebra.proofs.PolynomialLaws.{product_commutes, product_associates, product_same, same_product, value_inside}
 use Rattle.lc_poly.proofs.QuotientLaws.{value_embedded_same, value_embedded_product, minimal_divides}
 
 pub power_sum : (f : FieldName) (a b s : ℕ) → a < size f → b < size f → pow f (add f a b) ((shape_of f).characteristic ^ s) ≡ add f (pow f a ((shape_of f).characteristic ^ s)) (pow f b ((shape_of f).characteristic ^ s))

@@ -25,7 +25,7 @@ use Rattle.lc_algebra.proofs.EmbeddingLaws.{embed_one}
 use Rattle.lc_algebra.proofs.WordLaws.{fits_cons, fits_symbol}
 use Rattle.lc_algebra.proofs.SpanLaws.{contains_head, contains_tail, contains_cases}
 use Rattle.lc_poly.specs.Factors.{Factor, IsFactor, AreApart, AreFactors, StandsIn, product_of}
-use Rattle.lc_poly.proofs.PolynomialLaws.{index_both, fits_product, product_commutes, product_same, same_product, value_inside}
+use Rattle.lc_algebra.proofs.PolynomialLaws.{index_both, fits_product, product_commutes, product_same, same_product, value_inside}
 use Rattle.lc_poly.proofs.MinimalLaws.{value_x_power, embedded_x_power}
 use Rattle.lc_poly.proofs.DivisionLaws.{x_power_polynomial}
 use Rattle.lc_poly.proofs.QuotientLaws.{value_embedded_same, value_embedded_product}

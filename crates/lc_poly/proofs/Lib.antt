@@ -1,4 +1,3 @@
-pub mod PolynomialLaws
 pub mod TrimLaws
 pub mod ListLaws
 pub mod DivisionLaws

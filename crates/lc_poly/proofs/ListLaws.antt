@@ -24,7 +24,7 @@ use Rattle.lc_algebra.specs.Polynomial.{value_at, poly_sum, poly_product, SamePo
 use Rattle.lc_algebra.proofs.FieldLaws.{zero_inside, mul_inside, add_comm, add_assoc, zero_add, add_zero, add_neg, mul_comm, mul_assoc, mul_one, neg_mul, mul_zero}
 use Rattle.lc_algebra.proofs.WordLaws.{fits_cons, fits_symbol}
 use Rattle.lc_poly.proofs.TrimLaws.{IsTrimmed}
-use Rattle.lc_poly.proofs.PolynomialLaws.{index_sum, index_both, index_product_zero, index_product_suc, fits_product, same_product}
+use Rattle.lc_algebra.proofs.PolynomialLaws.{index_sum, index_both, index_product_zero, index_product_suc, fits_product, same_product}
 
 pub taken_trimmed : (f : FieldName) (u : List ℕ) (n : ℕ) → Fits f u → n ≤ length u → (0 < n → 0 < slice_index u (n - 1)) → ((i : ℕ) → n ≤ i → slice_index u i ≡ 0) → IsTrimmed f u (take n u)
 taken_trimmed f u n h l leads zeros =

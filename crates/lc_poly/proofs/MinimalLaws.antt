@@ -25,7 +25,7 @@ use Rattle.lc_algebra.proofs.EmbeddingLaws.{embed_zero, embed_one, embed_mul, em
 use Rattle.lc_algebra.proofs.WordLaws.{fits_head, fits_tail, fits_cons, fits_symbol}
 use Rattle.lc_poly.proofs.TrimLaws.{trimmed_is}
 use Rattle.lc_poly.specs.Minimal.{next_value, Reaches}
-use Rattle.lc_poly.proofs.PolynomialLaws.{index_multiple, fits_multiple, only_polynomial}
+use Rattle.lc_algebra.proofs.PolynomialLaws.{index_multiple, fits_multiple, only_polynomial}
 use Rattle.lc_poly.proofs.ListLaws.{fits_set, fits_zeros, dropped}
 use Rattle.lc_poly.proofs.DivisionLaws.{x_power_polynomial}
 

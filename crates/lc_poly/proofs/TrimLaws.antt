@@ -9,7 +9,7 @@ use Rattle.lc_algebra.specs.Field.{size}
 use Rattle.lc_algebra.specs.Word.{Fits}
 use Rattle.lc_algebra.specs.Polynomial.{poly_product, put_on, trimmed, SamePolynomial, IsPolynomial}
 use Rattle.lc_algebra.proofs.WordLaws.{fits_head, fits_tail, fits_cons}
-use Rattle.lc_poly.proofs.PolynomialLaws.{fits_product, only_polynomial}
+use Rattle.lc_algebra.proofs.PolynomialLaws.{fits_product, only_polynomial}
 
 pub record IsTrimmed (f : FieldName) (u v : List ℕ) : Type 0 where
   pub same : SamePolynomial u v
