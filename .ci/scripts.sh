@@ -167,6 +167,20 @@ check_against_reference() {
     agrees noise 200
 }
 
+# explains FRONT: what tools/explain.py writes of FRONT.codes, on both outputs, and its status
+explains() {
+    local got
+    python3 tools/explain.py "$program" "$1.codes" >"$room/out" 2>"$room/err"
+    got=$?
+    [ "$got" -eq "$(cat "$1.status")" ] || { echo "status $got"; return 1; }
+    cmp "$room/out" "$1.out" && diff "$room/err" "$1.err"
+}
+
+check_explanations() {
+    local script
+    for script in tests/explain/*.codes; do check "${script%.codes}" explains "${script%.codes}"; done
+}
+
 check_program() {
     local document
     : >"$room/nothing"
@@ -175,5 +189,6 @@ check_program() {
     for document in README.md docs/*.md; do check_document "$document"; done
     check_limits
     check_outside
+    check_explanations
     check_against_reference
 }

@@ -2,7 +2,7 @@
 -- (MacWilliams and Sloane, chapter 12).
 --   embedded_fits, embedded_length, embedded_sum, embedded_scale, embedded_weight      the images of a word in the locator field
 --   syndrome_sum, syndrome_multiple, syndrome_of_zero      syndromes are linear
---   alternant_zero, alternant_sum, alternant_scale         the words of a form are a linear code
+--   alternant_zero, alternant_sum, alternant_scale, alternant_closed      the words of a form are a linear code
 --   distinct_from_pairs, nonzero_each                      points and multipliers, entry by entry
 --   light_alternant        a word of the form of weight at most r is the zero word
 --   form_weight_bound      so r + 1 bounds the weights of the code's nonzero words
@@ -26,7 +26,7 @@ use Rattle.lc_algebra.proofs.WordLaws.{fits_head, fits_tail, fits_cons, IsWord_z
 use Rattle.lc_algebra.proofs.SpanLaws.{span_word, weight_bound_apart, same_word_decided, word_of_member, member_of_word}
 use Rattle.lc_algebra.proofs.SpanSearch.{any_contains, contains_any}
 use Rattle.lc_algebra.proofs.DimensionLaws.{AreDistinct}
-use Rattle.lc_constructions.specs.Code.{IsCode}
+use Rattle.lc_constructions.specs.Code.{IsCode, IsClosed}
 use Rattle.lc_constructions.specs.Alternant.{AlternantForm, IsForm, IsFormOf, check_row, syndrome_at, IsAlternantWord}
 use Rattle.lc_constructions.specs.Nearest.{IsWithin, IsDecoded}
 use Rattle.lc_constructions.proofs.CheckLaws.{AreNonzero, light_word}
@@ -96,6 +96,13 @@ alternant_sum f form n u v s a b h k = λ j l.
 pub alternant_scale : (f : FieldName) (form : AlternantForm) (n c : ℕ) (u : List ℕ) → IsSubfield f form.locator → c < size f → IsWord f n u → IsAlternantWord f form u → IsAlternantWord f form (scale f c u)
 alternant_scale f form n c u s l a h = λ j k.
     syndrome_multiple f form c u j s l a.fits ∙ ap (λ x. mul form.locator (embed f form.locator c) x) (h j k) ∙ mul_zero form.locator (embed f form.locator c)
+
+pub alternant_closed : (f : FieldName) (form : AlternantForm) (n : ℕ) → IsSubfield f form.locator → IsClosed f n (IsAlternantWord f form)
+alternant_closed f form n s = record {
+  zero = alternant_zero f form n s;
+  sums = λ u v a b p q. alternant_sum f form n u v s a b p q;
+  multiples = λ c u l a p. alternant_scale f form n c u s l a p;
+}
 
 -- ---- the weights
 

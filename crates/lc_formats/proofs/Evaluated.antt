@@ -12,7 +12,7 @@ use Rattle.std.specs.Fmt.{digits as decimal_digits}
 use Rattle.json.specs.Print.{escape_byte}
 use Rattle.serde_json.proofs.OnLiterals.{serde_json_on_literals}
 use Rattle.sha2.specs.Sha256.{sha256, first_words, schedule, rounds, compress, hash_after, digest_bytes}
-use Rattle.hex.specs.Hex.{encode_with}
+use Rattle.hex.specs.Hex.{encode_with, decode_pairs}
 use Rattle.lc_algebra.specs.Residue.{digits, number, plus, minus, times, top, up, times_x, product}
 use Rattle.lc_algebra.specs.Field.{shape, shape_of, size, coefficients, add, mul, is_symbol}
 use Rattle.lc_algebra.specs.Word.{word_sum, scale}
@@ -27,9 +27,9 @@ use Rattle.lc_enumeration.specs.Search.{sets_of, set_count, ranks_of, generator_
 use Rattle.lc_formats.specs.Certificate.{code_length, code_dimension, level_in, messages_through, cost_of, cost, words_through, seen_by, seen_words, is_lighter, first_lighter, span_divisor, claimed_sum, is_information_set, first_dependent, least_overlap, reaches, or_else, when, carrying, set_reasons, cost_reason, verdict, reason_number, reason_values}
 use Rattle.lc_formats.specs.Json.{number_json, items, numbers_json, listed, each, plain_number, number_at, member_count, numbers_of, list_at, provided}
 use Rattle.lc_formats.specs.Text.{same_bytes, bracketed, numbers_text, lists_text, line, spaced, with_values}
-use Rattle.lc_formats.specs.CertificateText.{claim_json, way_text, with_sets, certificate_json, certificate_text}
+use Rattle.lc_formats.specs.CertificateText.{claim_members, claim_json, way_text, with_sets, certificate_members, certificate_json, certificate_text}
 use Rattle.lc_formats.specs.Check.{reason_line, line_of_verdict, verdict_line, rows_at, field_at, fit, are_rows, is_scan, are_places, claim_in, sets_at, fresh_in_basis, above, with_keys, certificate_over, levels_in, sets_in, way_in, distance_in, word_in, rows_in, field_in, object_in, data_in, verdict_of, distance_of}
-use Rattle.lc_formats.specs.Checkpoint.{current_of, settled_json, body_json, body_of, sealed, checkpoint_text, checkpoint_refusal_number, is_whole, number_up_to, triple_of, is_in_range, settled_in, digest_in, script_in, done_in, state_in, point_or_shape, versioned, body_in}
+use Rattle.lc_formats.specs.Checkpoint.{current_of, settled_json, body_members, body_of, sealed, checkpoint_text, checkpoint_refusal_number, is_whole, number_up_to, triple_of, is_in_range, settled_in, digest_in, script_in, done_in, state_in, point_or_shape, versioned, body_in}
 use Rattle.lc_formats.specs.Truth.{divisor_in, blocks_in, turn_allowance, start_of, misfit_of}
 use Rattle.lc_enumeration.specs.Records.{found_of}
 use Rattle.lc_enumeration.specs.Fitting.{first_divisible, start_before, used_start, misfit_at, count_current, too_many, misfit_from, misfit}
@@ -51,15 +51,15 @@ unfolding serde_json_on_literals decimal_digits escape_byte number_json items nu
 json_computes = tt
 
 unfoldable pub reading_computes : ⊤
-unfolding json_computes all_fields is_rising columns_of are_elements claim_json way_text with_sets certificate_json certificate_text reason_line line_of_verdict verdict_line rows_at field_at fit are_rows is_scan are_places claim_in sets_at fresh_in_basis above with_keys certificate_over levels_in sets_in way_in distance_in word_in rows_in field_in object_in data_in verdict_of distance_of
+unfolding json_computes all_fields is_rising columns_of are_elements claim_members claim_json way_text with_sets certificate_members certificate_json certificate_text reason_line line_of_verdict verdict_line rows_at field_at fit are_rows is_scan are_places claim_in sets_at fresh_in_basis above with_keys certificate_over levels_in sets_in way_in distance_in word_in rows_in field_in object_in data_in verdict_of distance_of
 reading_computes = tt
 
 unfoldable pub seal_computes : ⊤
-unfolding encode_with first_words schedule rounds compress hash_after digest_bytes sha256
+unfolding encode_with decode_pairs first_words schedule rounds compress hash_after digest_bytes sha256
 seal_computes = tt
 
 unfoldable pub checkpoint_computes : ⊤
-unfolding json_computes seal_computes current_of settled_json body_json body_of sealed checkpoint_text checkpoint_refusal_number is_whole number_up_to triple_of is_in_range settled_in digest_in script_in done_in state_in point_or_shape versioned body_in
+unfolding json_computes seal_computes current_of settled_json body_members body_of sealed checkpoint_text checkpoint_refusal_number is_whole number_up_to triple_of is_in_range settled_in digest_in script_in done_in state_in point_or_shape versioned body_in
 checkpoint_computes = tt
 
 unfoldable pub truth_computes : ⊤

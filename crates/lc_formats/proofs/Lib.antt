@@ -1,5 +1,12 @@
 pub mod Evaluated
 pub mod JsonLaws
+pub mod TestLaws
+pub mod ReadLaws
+pub mod CertificateBack
+pub mod CertificateShaped
+pub mod VerdictLaws
+pub mod CheckpointBack
+pub mod CheckpointRange
 pub mod CertificateExamples
 pub mod CheckExamples
 pub mod CheckpointExamples

@@ -11,13 +11,14 @@
 --   checkpoint_in bytes          the checkpoint that the bytes are, or why they are none; the first reason that applies
 use Rattle.std.specs.Prelude.{◌≡◌, ℕ, ◌+◌, ◌*◌, ◌^◌, ◌-◌, ◌<◌, ◌≤◌, ◌⊎◌, Bool, not, nat_le, nat_lt, ◌==◌, ◌&&◌, ◌||◌, if◌then◌else◌, List, [], ◌∷◌, ◌++◌, length, map, drop, codes, All, Option, Some, None, option_map, option_and_then}
 use Rattle.sha2.specs.Sha256.{sha256}
-use Rattle.hex.specs.Hex.{encode_lower, hex_digit_value}
+use Rattle.hex.specs.Hex.{encode_lower, decode_of, IsBytes}
+use Rattle.std.specs.Result.{result_ok}
 use Rattle.serde_json.specs.Data.{Data, Members, member, no_members, array, object, string}
 use Rattle.serde_json.specs.Find.{get_member, as_str, as_array}
 use Rattle.serde_json.specs.Written.{compact_text}
 use Rattle.lc_enumeration.specs.Records.{Progress}
 use Rattle.lc_formats.specs.Text.{same_bytes}
-use Rattle.lc_formats.specs.Json.{number_json, numbers_json, items, number_at, listed, each, plain_number, member_count, json_in}
+use Rattle.lc_formats.specs.Json.{number_json, numbers_json, items, number_at, listed, each, numbers_of, provided, member_count, json_in}
 
 pub record Checkpoint : Type 0 where
   pub version : ℕ
@@ -35,19 +36,19 @@ current_of p = record { blocks = p.blocks; weight = p.weight; place = p.place }
 unfoldable pub settled_json : Progress → Data
 settled_json s = numbers_json (s.blocks ∷ s.weight ∷ s.place ∷ [])
 
-unfoldable pub body_json : Checkpoint → Data
-body_json p =
-    object (member (codes "blocks") (number_json p.blocks)
+unfoldable pub body_members : Checkpoint → Members
+body_members p =
+    member (codes "blocks") (number_json p.blocks)
     (member (codes "budget") (number_json p.budget)
     (member (codes "done") (array (items (map settled_json p.settled)))
     (member (codes "place") (number_json p.place)
     (member (codes "script") (string (encode_lower p.script))
     (member (codes "turn") (number_json p.turn)
     (member (codes "version") (number_json p.version)
-    (member (codes "weight") (number_json p.weight) no_members))))))))
+    (member (codes "weight") (number_json p.weight) no_members)))))))
 
 unfoldable pub body_of : Checkpoint → List ℕ
-body_of p = compact_text (body_json p)
+body_of p = compact_text (object (body_members p))
 
 unfoldable pub sealed : List ℕ → List ℕ
 sealed body = encode_lower (sha256 body) ++ 10 ∷ body
@@ -64,7 +65,7 @@ pub record IsProgress (budget : ℕ) (s : Progress) : Type 0 where
 pub record IsInRange (p : Checkpoint) : Type 0 where
   pub known : (p.version ≡ 1) ⊎ (p.version ≡ 2)
   pub digest : length p.script ≡ 32
-  pub bytes : All (λ b. b < 256) p.script
+  pub bytes : IsBytes p.script
   pub small : p.budget ≤ 2 ^ 40
   pub early : p.turn ≤ 2 ^ 60
   pub few : length p.settled ≤ 131072
@@ -95,7 +96,7 @@ unfoldable pub is_whole : List ℕ → Bool
 is_whole bytes = nat_le 65 (length bytes) && (nat_le (length bytes) 4194304 && same_bytes bytes (sealed (drop 65 bytes)))
 
 unfoldable pub number_up_to : ℕ → ℕ → Option ℕ → Option ℕ
-number_up_to low high found = option_and_then (λ n. if nat_le low n && nat_le n high then Some n else None) found
+number_up_to low high found = provided (λ n. nat_le low n && nat_le n high) found
 
 unfoldable pub triple_of : List ℕ → Option Progress
 triple_of (l ∷ w ∷ p ∷ []) = Some (record { blocks = l; weight = w; place = p })
@@ -105,19 +106,17 @@ unfoldable pub is_in_range : ℕ → Progress → Bool
 is_in_range budget s = nat_le s.blocks budget && (nat_le 1 s.weight && (nat_le s.weight 255 && nat_lt s.place (2 ^ 52)))
 
 unfoldable pub settled_in : ℕ → Data → Option Progress
-settled_in budget d = option_and_then (λ s. if is_in_range budget s then Some s else None) (option_and_then triple_of (option_and_then (λ ds. each (map plain_number (listed ds))) (as_array d)))
+settled_in budget d = provided (is_in_range budget) (option_and_then triple_of (numbers_of d))
 
 -- 64 lower-case hexadecimal digits, as the 32 bytes that they write
 unfoldable pub digest_in : List ℕ → Option (List ℕ)
-digest_in [] = Some []
-digest_in (a ∷ []) = None
-digest_in (a ∷ b ∷ digits) = option_and_then (λ high. option_and_then (λ low. option_map (λ rest. (16 * high + low) ∷ rest) (digest_in digits)) (hex_digit_value b)) (hex_digit_value a)
+digest_in digits = provided (λ bytes. (length bytes == 32) && same_bytes digits (encode_lower bytes)) (result_ok (decode_of digits))
 
 unfoldable pub script_in : Members → Option (List ℕ)
-script_in ms = option_and_then (λ digits. option_and_then (λ bytes. if (length bytes == 32) && same_bytes digits (encode_lower bytes) then Some bytes else None) (digest_in digits)) (option_and_then as_str (get_member (codes "script") ms))
+script_in ms = option_and_then digest_in (option_and_then as_str (get_member (codes "script") ms))
 
 unfoldable pub done_in : ℕ → Members → Option (List Progress)
-done_in budget ms = option_and_then (λ ds. if nat_le (length (listed ds)) 131072 then each (map (settled_in budget) (listed ds)) else None) (option_and_then as_array (get_member (codes "done") ms))
+done_in budget ms = option_and_then (λ ds. each (map (settled_in budget) ds)) (provided (λ ds. nat_le (length ds) 131072) (option_map listed (option_and_then as_array (get_member (codes "done") ms))))
 
 -- the state in a body whose version and budget are known: all ranges hold, and there is no key but the eight
 unfoldable pub state_in : Members → ℕ → ℕ → Option Checkpoint

@@ -1,6 +1,5 @@
 -- The zeros of a polynomial.
---   lowered f a u            the quotient of u less its value at a, on division by x - a
---   length_lowered, fits_lowered, lowered_value, lowered_zeros      what that is
+--   lowered_value, lowered_zeros      the quotient of u less its value at a, on division by x - a
 --   few_zeros                a polynomial with as many distinct zeros as coefficients is 0
 --   zeros_at_most            so one of degree d, but 0, has at most d zeros
 use Rattle.std.proofs.Common.{◌≡◌, ◌≢◌, ℕ, zero, suc, ◌-◌, ◌<◌, ◌≤◌, ⊎_elim, List, [], ◌∷◌, length, slice_index, AllPairs, Contains, refl, sym, ap, subst, ◌∙◌, arith}
@@ -10,27 +9,10 @@ use Rattle.lc_algebra.specs.Field.{size, add, neg, mul}
 use Rattle.lc_algebra.specs.Word.{Fits}
 use Rattle.lc_algebra.specs.Polynomial.{value_at, IsPolynomial}
 use Rattle.lc_algebra.proofs.FieldLaws.{zero_inside, add_inside, mul_inside, add_comm, add_assoc, add_neg, zero_add, add_zero, mul_swap, mul_add, add_mul, mul_zero, subtract_zero, no_zero_divisors}
-use Rattle.lc_algebra.proofs.WordLaws.{fits_head, fits_tail, fits_cons}
+use Rattle.lc_algebra.proofs.WordLaws.{fits_head, fits_tail}
 use Rattle.lc_algebra.proofs.SpanLaws.{contains_head, contains_tail}
 use Rattle.lc_algebra.proofs.DimensionLaws.{AreDistinct}
-use Rattle.lc_poly.proofs.PolynomialLaws.{value_inside}
-
-unfoldable pub lowered : FieldName → ℕ → List ℕ → List ℕ
-lowered f a [] = []
-lowered f a (c ∷ []) = []
-lowered f a (c ∷ d ∷ u) = value_at f (d ∷ u) a ∷ lowered f a (d ∷ u)
-
-pub length_lowered : (f : FieldName) (a : ℕ) (u : List ℕ) → length (lowered f a u) ≡ length u - 1
-unfolding lowered
-length_lowered f a [] = omega arith
-length_lowered f a (c ∷ []) = omega arith
-length_lowered f a (c ∷ d ∷ u) = omega (arith, length_lowered f a (d ∷ u))
-
-pub fits_lowered : (f : FieldName) (a : ℕ) (u : List ℕ) → Fits f (lowered f a u)
-unfolding lowered
-fits_lowered f a [] = λ i l. zero_inside f
-fits_lowered f a (c ∷ []) = λ i l. zero_inside f
-fits_lowered f a (c ∷ d ∷ u) = fits_cons f (value_at f (d ∷ u) a) (lowered f a (d ∷ u)) (value_inside f (d ∷ u) a) (fits_lowered f a (d ∷ u))
+use Rattle.lc_algebra.proofs.PolynomialLaws.{value_inside, lowered, length_lowered, fits_lowered}
 
 value_cons : (f : FieldName) (c : ℕ) (u : List ℕ) (x : ℕ) → value_at f (c ∷ u) x ≡ add f c (mul f x (value_at f u x))
 unfolding value_at

@@ -1,0 +1,292 @@
+#!/usr/bin/env python3
+"""Lists what must be believed: the definitions behind each public clause of the top call and of the laws.
+
+    tools/definitions.py                 the page docs/BELIEVED.md, on standard output
+    tools/definitions.py NAME [CLAUSE]   everything behind the clauses of one public function, or behind one of them
+
+It reads the sources alone: crates.txt, the specs of each crate, and the contracts in its src. A definition is listed with
+the line that the head of its file has for it. Equations for calls that are not built yet are left out, so that the list is
+cut to what the program can do.
+"""
+import os
+import re
+import sys
+
+ROOT = os.path.dirname(os.path.dirname(os.path.abspath(__file__)))
+TOP = [("lc_session", "run_session")]
+NAME = re.compile(r"[A-Za-z_][A-Za-z_0-9]*")
+STARTS = re.compile(r"^(?:unfoldable |abbrev )?(?:pub )?(?:(record|data) )?([A-Za-z_][A-Za-z_0-9]*)\b")
+
+
+def read(path):
+    with open(path, encoding="utf-8") as f:
+        return f.read()
+
+
+def crates_in_order():
+    lines = read(os.path.join(ROOT, "crates.txt")).split("\n")
+    names = [line.split(":")[0].split()[0] for line in lines if ":" in line and not line.startswith("#")]
+    return [name for name in names if os.path.isdir(os.path.join(ROOT, "crates", name))]
+
+
+class Definition:
+    def __init__(self, crate, module, name, order):
+        self.crate, self.module, self.name, self.order = crate, module, name, order
+        self.text = []
+        self.meaning = ""
+
+    def key(self):
+        return (self.crate, self.module, self.name)
+
+
+class Module:
+    """A file of specs: its definitions, and which names its imports bring in."""
+
+    def __init__(self, crate, name, path):
+        self.crate, self.name = crate, name
+        self.imports, self.aliases, self.definitions, self.makes = {}, {}, {}, {}
+        self.read(read(path).split("\n"))
+
+    def read(self, lines):
+        head, i = [], 0
+        while i < len(lines) and lines[i].startswith("--"):
+            head.append(lines[i])
+            i += 1
+        order, current, comment = 0, None, ""
+        for line in lines[i:]:
+            if line.startswith("use "):
+                add_import(line, self.imports, self.aliases)
+            elif line.startswith("-- "):
+                comment = line[3:]
+            elif line.startswith(("pub ", "unfoldable ", "abbrev ")):
+                name = STARTS.match(line).group(2) if STARTS.match(line) else ""
+                if name and name != "mutual":
+                    current = self.definitions.setdefault(name, Definition(self.crate, self.name, name, order))
+                    current.meaning = current.meaning or comment
+                    current.text.append(line)
+                    order += 1
+                comment = ""
+            elif line.strip():
+                signed = re.match(r"  pub ([A-Za-z_]\w*) : .*Type 0$", line)
+                own = re.match(r"(?:  )?([A-Za-z_]\w*)\b", line)
+                if signed and current is None or signed and current.text and "mutual" in "".join(current.text):
+                    current = self.definitions.setdefault(signed.group(1), Definition(self.crate, self.name, signed.group(1), order))
+                    order += 1
+                elif own and own.group(1) in self.definitions and not line.startswith("    "):
+                    current = self.definitions[own.group(1)]
+                if current is not None:
+                    made = re.match(r"  ([A-Za-z_]\w*) :", line)
+                    if made and " data " in " " + current.text[0]:
+                        self.makes[made.group(1)] = current.name
+                    current.text.append(line)
+        self.give_meanings(head)
+
+    def give_meanings(self, head):
+        entries = []
+        for line in head:
+            found = re.match(r"--   (\S.*?)(?:\s{2,}(.*))?$", line)
+            if found:
+                entries.append([found.group(1), found.group(2) or ""])
+            elif entries and re.match(r"--\s{6,}\S", line):
+                entries[-1][1] = (entries[-1][1] + " " + line[2:].strip()).strip()
+        for left, meaning in entries:
+            for name in NAME.findall(left):
+                if name in self.definitions and meaning:
+                    own = self.definitions[name]
+                    if not own.meaning or len(NAME.findall(left)) and left.split()[0].rstrip(",") == name:
+                        own.meaning = meaning
+                    own.meaning = own.meaning or meaning
+
+
+def add_import(line, imports, aliases):
+    line = line.strip().rstrip(";")
+    group = re.match(r"(?:ghost )?use Rattle\.(\w+)\.(?:specs|proofs)\.([\w.]+?)\.\{(.*)\}$", line)
+    if group:
+        for item in group.group(3).split(","):
+            parts = item.strip().split(" as ")
+            imports[parts[-1].strip()] = (group.group(1), group.group(2), parts[0].strip())
+        return
+    whole = re.match(r"(?:ghost )?use Rattle\.(\w+)\.(?:specs|proofs)\.([\w.]+) as (\w+)$", line)
+    if whole:
+        aliases[whole.group(3)] = (whole.group(1), whole.group(2))
+
+
+def all_modules(crates):
+    found = {}
+    for crate in crates:
+        folder = os.path.join(ROOT, "crates", crate, "specs")
+        listed = os.path.join(folder, "Lib.antt")
+        if not os.path.isfile(listed):
+            continue
+        for name in re.findall(r"pub mod (\w+)", read(listed)):
+            path = os.path.join(folder, name + ".antt")
+            if os.path.isfile(path):
+                found[(crate, name)] = Module(crate, name, path)
+    return found
+
+
+def built_calls():
+    text = read(os.path.join(ROOT, "crates", "lc_eval", "specs", "Built.antt"))
+    return set(NAME.findall(re.search(r"^built_calls = (.*)$", text, re.M).group(1)))
+
+
+def every_call(crates):
+    for crate in crates:
+        path = os.path.join(ROOT, "crates", crate, "src", "lib.rt")
+        found = os.path.isfile(path) and re.search(r"pub enum Call \{(.*?)\n\}", read(path), re.S)
+        if found:
+            return set(re.findall(r"^\s+(\w+),", found.group(1), re.M))
+    return set()
+
+
+class Sources:
+    def __init__(self):
+        self.crates = crates_in_order()
+        self.modules = all_modules(self.crates)
+        self.unbuilt = every_call(self.crates) - built_calls()
+
+    def resolve(self, name, imports, aliases, here=None):
+        if here and name in here.definitions:
+            return here.definitions[name].key()
+        if here and name in here.makes:
+            return (here.crate, here.name, here.makes[name])
+        if name not in imports:
+            return None
+        crate, module, own = imports[name]
+        target = self.modules.get((crate, module))
+        if target is None:
+            return None
+        if own in target.definitions:
+            return (crate, module, own)
+        if own in target.makes:
+            return (crate, module, target.makes[own])
+        return None
+
+    def words_of(self, text, imports, aliases, here=None):
+        found = set()
+        for dotted in re.findall(r"[A-Za-z_]\w*(?:\.[A-Za-z_]\w*)+", text):
+            first, second = dotted.split(".")[:2]
+            if first in aliases:
+                target = self.modules.get(aliases[first])
+                if target is not None:
+                    name = second if second in target.definitions else target.makes.get(second)
+                    if name:
+                        found.add((target.crate, target.name, name))
+        for name in NAME.findall(text):
+            key = self.resolve(name, imports, aliases, here)
+            if key:
+                found.add(key)
+        return found
+
+    def parts(self, key):
+        module = self.modules[key[:2]]
+        own = module.definitions[key[2]]
+        kept = []
+        for line in own.text:
+            if line.strip().startswith("--"):
+                continue
+            case = re.match(r"\s*" + re.escape(own.name) + r"\s+\(?([A-Z]\w*)", line)
+            if case and case.group(1) in self.unbuilt:
+                continue
+            kept.append(line)
+        return self.words_of("\n".join(kept), module.imports, module.aliases, module) - {key}
+
+    def behind(self, first):
+        seen, todo = set(), list(first)
+        while todo:
+            key = todo.pop()
+            if key not in seen:
+                seen.add(key)
+                todo.extend(self.parts(key))
+        return sorted(seen, key=self.place)
+
+    def place(self, key):
+        crate, module, name = key
+        listed = list(self.modules)
+        return (listed.index((crate, module)), self.modules[(crate, module)].definitions[name].order)
+
+    def clauses(self):
+        """(crate, function, is_law, name, text, words) for each public function with clauses."""
+        found = []
+        for crate in self.crates:
+            folder = os.path.join(ROOT, "crates", crate, "src")
+            for file in sorted(os.listdir(folder)) if os.path.isdir(folder) else []:
+                if file.endswith(".rt"):
+                    found += self.clauses_in(crate, read(os.path.join(folder, file)))
+        return found
+
+    def clauses_in(self, crate, text):
+        imports, aliases, found = {}, {}, []
+        for line in text.split("\n"):
+            if line.strip().startswith("ghost use "):
+                add_import(line, imports, aliases)
+        for start in re.finditer(r"^ *pub fn (\w+)", text, re.M):
+            rest = text[start.start():]
+            brace = re.search(r"^ *\{", rest, re.M)
+            end = brace.start() if brace else len(rest)
+            stop = re.search(r"^ *pub fn ", rest[10:], re.M)
+            if stop:
+                end = min(end, stop.start() + 10)
+            is_law = bool(re.match(r" *\{ *\n? *\}", rest[end:end + 20]))
+            for clause in re.finditer(r"^ *ensures (?:(\w+) )?\{ (.*?) \}$", rest[:end], re.M | re.S):
+                body = " ".join(clause.group(2).split())
+                found.append((crate, start.group(1), is_law, clause.group(1) or "result", body, self.words_of(body, imports, aliases)))
+        return found
+
+
+def entry(sources, key):
+    own = sources.modules[key[:2]].definitions[key[2]]
+    meaning = own.meaning or "a step of those that cite it"
+    return "| `%s` | %s |" % (own.name, meaning.replace("|", "\\|"))
+
+
+def table(sources, keys):
+    lines, last = [], None
+    for key in keys:
+        if key[:2] != last:
+            last = key[:2]
+            lines += ["", "`crates/%s/specs/%s.antt`" % last, "", "| Name | Meaning |", "|---|---|"]
+        lines.append(entry(sources, key))
+    return lines
+
+
+def page(sources):
+    lines = ["# What must be believed, clause by clause", "",
+             "Made by `tools/definitions.py` from the sources; the repository's own checks compare it. For each public clause of the",
+             "top call and of the laws it lists the definitions behind it, in reading order, each once: what an earlier clause of this",
+             "page lists is not listed again. `tools/definitions.py NAME CLAUSE` lists all that is behind one clause.",
+             "[DEFINITIONS.md](DEFINITIONS.md) says how to read a definition, where each comes from and what evaluates it."]
+    clauses = sources.clauses()
+    chosen = [c for c in clauses if (c[0], c[1]) in TOP] + [c for c in clauses if c[2] and (c[0], c[1]) not in TOP]
+    seen, last = set(), None
+    for crate, function, _law, name, body, first in chosen:
+        if (crate, function) != last:
+            last = (crate, function)
+            lines += ["", "## `%s` of `%s`" % (function, crate)]
+        all_keys = sources.behind(first)
+        new = [key for key in all_keys if key not in seen]
+        seen.update(new)
+        lines += ["", "**%s**: `%s`" % (name, body), ""]
+        lines.append("%d definitions, %s." % (len(all_keys), "all listed above" if not new else "%d of them new" % len(new)))
+        lines += table(sources, new)
+    return "\n".join(lines) + "\n"
+
+
+def main():
+    sources = Sources()
+    if len(sys.argv) == 1:
+        sys.stdout.write(page(sources))
+        return 0
+    chosen = [c for c in sources.clauses() if c[1] == sys.argv[1] and (len(sys.argv) < 3 or c[3] == sys.argv[2])]
+    if not chosen:
+        print("no public clause of that name", file=sys.stderr)
+        return 1
+    for crate, function, _law, name, body, first in chosen:
+        print("%s of %s, %s: %s" % (function, crate, name, body))
+        print("\n".join(table(sources, sources.behind(first))))
+        print()
+    return 0
+
+
+if __name__ == "__main__":
+    sys.exit(main())

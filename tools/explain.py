@@ -1,0 +1,243 @@
+#!/usr/bin/env python3
+"""Runs a script, and explains its fault line if it has one.
+
+    tools/explain.py PROGRAM FILE        FILE may be - for standard input
+
+The text of the script goes to standard output as PROGRAM writes it. If a fault line ends it, an explanation follows on
+standard error: the line and the column, the source with a caret, what the number means, and what was expected there. The
+status is that of PROGRAM. The explanation follows the rules of docs/FORMATS.md; it is found by reading the script once
+more with tools/reference.py.
+"""
+import difflib
+import subprocess
+import sys
+
+import reference
+from reference import CALLS, QUERIES, FIELD_SIZES, LONGEST, SYMBOL_SIZES, Code, Fault, FieldValue
+
+KINDS = {"number": "a number", "field": "a field", "numbers": "a list of numbers",
+         "lists": "a matrix (a list of lists of numbers)", "code": "a code"}
+MEANINGS = {
+    1: "there is no field of this size",
+    2: "a code can't have this length",
+    3: "an argument has a value that it can't have",
+    12: "lengths differ",
+    16: "these rows have too many words to look at each",
+    17: "the field is too large: codes are over fields of at most 16 elements",
+    40: "no name, number or sign begins with this byte",
+    41: "something is missing or superfluous here",
+    42: "more than 32 parentheses and brackets are open",
+    43: "the number is above 2^64 - 1",
+    44: "the name is unknown",
+    45: "the value is of the wrong kind, or a query is not a statement of its own",
+    46: "the call takes another number of arguments",
+}
+SIGNS = {"name": "a name", "number": "a number"}
+
+
+class Tokens(reference.Tokens):
+    """Remembers which tokens were allowed at the fault."""
+
+    allowed = ()
+
+    def take(self, *allowed):
+        self.allowed = allowed
+        return super().take(*allowed)
+
+
+def read(script):
+    """The statements, and the allowed tokens if a fault ends the reading."""
+    tokens, statements = Tokens(script), []
+    try:
+        while tokens.peek().kind != reference.END_OF_SCRIPT:
+            statements.append(reference.read_statement(tokens))
+    except Fault as fault:
+        return None, fault, tokens.allowed
+    return statements, None, ()
+
+
+def told(value):
+    if isinstance(value, bool):
+        return "a truth value"
+    if isinstance(value, FieldValue):
+        return f"the field GF({value.size})"
+    if isinstance(value, Code):
+        return f"a code of length {value.length}"
+    if isinstance(value, list):
+        return "a list of numbers" if all(reference.is_number(a) for a in value) else "a list of lists"
+    return "a number"
+
+
+def near(name, known):
+    found = difflib.get_close_matches(name, known, n=1, cutoff=0.6)
+    return f"did you mean `{found[0]}`?" if found else "no name is near it"
+
+
+def unknown(expr, names):
+    name = expr.value.decode()
+    calls = list(CALLS) + list(QUERIES)
+    if expr.kind == "call":
+        return f"no call is named `{name}`; {near(name, calls)}"
+    if name in calls:
+        return f"`{name}` is a call: its arguments stand in parentheses, as `{name}(..)`"
+    return f"`{name}` was given no value before; {near(name, [n.decode() for n in names] + calls)}"
+
+
+def evaluated(expr, names):
+    try:
+        return reference.value_of(expr, names)
+    except Fault:
+        return None
+
+
+def uneven(rows):
+    row = next(i for i, r in enumerate(rows) if len(r) != len(rows[0]))
+    return f"row {row + 1} has {len(rows[row])} entries, the first row has {len(rows[0])}"
+
+
+def too_large(rows, size):
+    row, column = next((i, j) for i, r in enumerate(rows) for j, a in enumerate(r) if a >= size)
+    return f"entry {column + 1} of row {row + 1} is {rows[row][column]}; the elements of GF({size}) are 0 to {size - 1}"
+
+
+def refusal(expr, fault, names):
+    """Why a call with arguments of its kinds is refused."""
+    name = expr.value.decode()
+    values = [evaluated(part, names) for part in expr.parts]
+    number = fault.number
+    if number == 1:
+        sizes = ", ".join(str(q) for q in FIELD_SIZES)
+        return f"{values[0]} is not the size of a field here; the sizes are {sizes}"
+    if number == 17:
+        return f"GF({values[-1].size}) has more than 16 elements; the sizes for codes are {', '.join(str(q) for q in SYMBOL_SIZES)}"
+    if number == 2 and isinstance(values[0], list):
+        return f"the first row has {len(values[0][0])} entries; a row has 1 to {LONGEST}" if values[0] else "the matrix has no rows"
+    if number == 2 and name == "HammingCode":
+        return f"with {values[0]} checks over GF({values[1].size}) the length is above {LONGEST}"
+    if number == 2 and name == "ReedMullerCode":
+        return f"in {values[1]} variables the length 2^{values[1]} is above {LONGEST}"
+    if number == 2:
+        return f"the length {values[0]} is not one of 1 to {LONGEST}"
+    if number == 12 and name == "IsCodeword":
+        return f"the list has {len(values[1])} entries, the words of the code have {values[0].length}"
+    if number == 12:
+        return uneven(values[0])
+    if number == 3 and name == "IsCodeword":
+        return too_large([values[1]], values[0].size).replace("of row 1 ", "of the list ")
+    if number == 3 and name == "HammingCode":
+        return f"a Hamming code has at least 2 checks, here {values[0]}"
+    if number == 3 and name == "ReedMullerCode":
+        return f"the order {values[0]} is above the number of variables {values[1]}"
+    if number == 3:
+        return too_large(values[0], values[1].size)
+    if number == 16:
+        return f"{len(values[0])} rows over GF({values[1].size}) have {values[1].size}^{len(values[0])} words, more than 65,536"
+    return ""
+
+
+def of_call(expr, fault, names):
+    """An explanation of a fault at or within a call, or None if it is elsewhere."""
+    name = expr.value.decode()
+    table = QUERIES if name in QUERIES else CALLS
+    if fault.place == expr.place:
+        if fault.number == 44:
+            return unknown(expr, names)
+        if fault.number == 45:
+            return f"`{name}` stands only as a statement of its own: not after `:=`, not in a call, not in a list"
+        kinds = table[name][0]
+        if fault.number == 46:
+            wanted = ", ".join(KINDS[k] for k in kinds) or "none"
+            return f"`{name}` takes {len(kinds)} argument{'s' * (len(kinds) != 1)} ({wanted}); here {'are' if len(expr.parts) != 1 else 'is'} {len(expr.parts)}"
+        return refusal(expr, fault, names)
+    for i, part in enumerate(expr.parts):
+        inner = of_expr(part, fault, names)
+        if inner is not None:
+            return inner
+        if part.place == fault.place and fault.number == 45 and name in table:
+            return f"argument {i + 1} of `{name}` is {KINDS[table[name][0][i]]}; here is {told(evaluated(part, names))}"
+    return None
+
+
+def of_expr(expr, fault, names):
+    if expr.kind == "call":
+        return of_call(expr, fault, names)
+    if expr.kind == "name" and expr.place == fault.place and fault.number == 44:
+        return unknown(expr, names)
+    if expr.kind == "list":
+        for i, part in enumerate(expr.parts):
+            inner = of_expr(part, fault, names)
+            if inner is not None:
+                return inner
+            if part.place == fault.place and fault.number == 45:
+                first = evaluated(expr.parts[0], names)
+                if i == 0:
+                    return f"a list has numbers or lists of numbers; here is {told(first)}"
+                return f"the first element is {told(first)}, and this one is {told(evaluated(part, names))}"
+    return None
+
+
+def of_statements(statements, fault):
+    """The explanation of the fault of evaluation, with the names that were given values before it."""
+    names = {}
+    for statement in statements:
+        try:
+            if reference.is_query(statement):
+                reference.call_value(statement.expr, QUERIES, names)
+            else:
+                value = reference.value_of(statement.expr, names)
+                if statement.target is not None:
+                    names[statement.target] = value
+        except Fault:
+            return of_expr(statement.expr, fault, names) or ""
+    return ""
+
+
+def expected(allowed, fault):
+    if fault.number != 41 or not allowed:
+        return ""
+    words = [SIGNS.get(a, f"`{a}`") for a in allowed]
+    return "expected " + (", ".join(words[:-1]) + " or " if len(words) > 1 else "") + words[-1]
+
+
+def explanation(script, fault):
+    """The lines on standard error."""
+    start = script.rfind(b"\n", 0, fault.place) + 1
+    stop = script.find(b"\n", fault.place)
+    source = script[start:stop if stop >= 0 else len(script)].decode("utf-8", "replace")
+    column = len(script[start:fault.place].decode("utf-8", "replace"))
+    row = script.count(b"\n", 0, fault.place) + 1
+    statements, _fault, allowed = read(script)
+    detail = of_statements(statements, fault) if statements is not None else expected(allowed, fault)
+    lines = [f"line {row}, column {column + 1}: {MEANINGS[fault.number]}"]
+    cut = max(0, column - 60)
+    lines.append("  " + source[cut:cut + 120])
+    lines.append("  " + "".join("\t" if c == "\t" else " " for c in source[cut:column]) + "^")
+    if detail:
+        lines.append(detail)
+    return lines
+
+
+def fault_of(text):
+    words = text.rstrip(b"\n").split(b"\n")[-1].split()
+    return Fault(int(words[1]), int(words[3]), tuple(int(n) for n in words[5:]))
+
+
+def main():
+    if len(sys.argv) != 3:
+        print("usage: explain.py PROGRAM FILE", file=sys.stderr)
+        return 2
+    try:
+        script = sys.stdin.buffer.read() if sys.argv[2] == "-" else open(sys.argv[2], "rb").read()
+    except OSError as error:
+        print(f"codes: {error.filename}: {error.strerror}", file=sys.stderr)
+        return 4
+    done = subprocess.run([sys.argv[1], "run"], input=script, stdout=subprocess.PIPE, check=False)
+    sys.stdout.buffer.write(done.stdout)
+    sys.stdout.buffer.flush()
+    if done.returncode == 1:
+        print("\n".join(explanation(script, fault_of(done.stdout))), file=sys.stderr)
+    return done.returncode
+
+
+if __name__ == "__main__":
+    sys.exit(main())
