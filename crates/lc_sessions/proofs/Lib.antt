@@ -8,3 +8,4 @@ pub mod StoredLaws
 pub mod TrueSteps
 pub mod ChainLaws
 pub mod SessionChains
+pub mod ChainExamples
