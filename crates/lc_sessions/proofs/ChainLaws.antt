@@ -164,11 +164,11 @@ pub record IsUsed (p : Checkpoint) (needs : List Matrix) (version : ℕ) (o : Op
   pub all : o ≡ None → AgreeOn (divisor_in p.version) (divisor_in version) needs (suc (length p.settled)) × (turn_allowance p.version ≤ turn_allowance version)
   pub some : (i : ℕ) → o ≡ Some i → AgreeOn (divisor_in p.version) (divisor_in version) needs i × (i ≤ length p.settled) × (p.turn + 1 ≤ turn_allowance version)
 
-start_all : (bytes : List ℕ) (budget version : ℕ) (needs front : List Matrix) (p : Checkpoint) → AgreeAsFar front needs → IsTrueFor front (sha256 bytes) budget p → AgreeOn (divisor_in p.version) (divisor_in version) needs (suc (length p.settled)) → turn_allowance p.version ≤ turn_allowance version
-    → (C : Matrix) → slice_get needs (length p.settled) ≡ Some C → IsTrueStart version needs budget p.settled (Some (current_of p)) (next_turn p.turn)
+pub start_all : (bytes : List ℕ) (budget version : ℕ) (needs front : List Matrix) (p : Checkpoint) → AgreeAsFar front needs → IsTrueFor front (sha256 bytes) budget p → AgreeOn (divisor_in p.version) (divisor_in version) needs (suc (length p.settled)) → turn_allowance p.version ≤ turn_allowance version
+    → length p.settled ≤ length needs → IsTrueStart version needs budget p.settled (Some (current_of p)) (next_turn p.turn)
 unfolding current_of found_of next_turn
-start_all bytes budget version needs front p one holds agree allowed C at = record {
-  done = transferred (divisor_in p.version) (divisor_in version) budget front needs p.settled (settled_from (divisor_in p.version) budget front p.settled holds.settled) one (λ k D m e. agree k D (omega (arith, m)) e) (let w = slice_get_within needs (length p.settled) C at in omega (arith, w));
+start_all bytes budget version needs front p one holds agree allowed within = record {
+  done = transferred (divisor_in p.version) (divisor_in version) budget front needs p.settled (settled_from (divisor_in p.version) budget front p.settled holds.settled) one (λ k D m e. agree k D (omega (arith, m)) e) within;
   best = λ D is.
       let same : holds.current.0 ≡ D = one (length p.settled) holds.current.0 D holds.current.1 is in
       let few : p.blocks ≤ blocks_in (answer (divisor_in p.version D) D budget) = subst (λ (E : Matrix). p.blocks ≤ blocks_in (answer (divisor_in p.version E) E budget)) same holds.current.3 in
@@ -176,13 +176,13 @@ start_all bytes budget version needs front p one holds agree allowed C at = reco
   early = λ D is. omega (arith, holds.turn, allowed);
 }
 
-start_some : (bytes : List ℕ) (budget version : ℕ) (needs front : List Matrix) (p : Checkpoint) (i : ℕ) → AgreeAsFar front needs → IsTrueFor front (sha256 bytes) budget p → AgreeOn (divisor_in p.version) (divisor_in version) needs i → i ≤ length p.settled → p.turn + 1 ≤ turn_allowance version
-    → (C : Matrix) → slice_get needs (length (take i p.settled)) ≡ Some C → IsTrueStart version needs budget (take i p.settled) None (next_turn p.turn)
+pub start_some : (bytes : List ℕ) (budget version : ℕ) (needs front : List Matrix) (p : Checkpoint) (i : ℕ) → AgreeAsFar front needs → IsTrueFor front (sha256 bytes) budget p → AgreeOn (divisor_in p.version) (divisor_in version) needs i → i ≤ length p.settled → p.turn + 1 ≤ turn_allowance version
+    → length (take i p.settled) ≤ length needs → IsTrueStart version needs budget (take i p.settled) None (next_turn p.turn)
 unfolding next_turn
-start_some bytes budget version needs front p i one holds agree within allowed C at =
+start_some bytes budget version needs front p i one holds agree within allowed few =
     let size : length (take i p.settled) ≡ i = length-take-le i p.settled within in
     starts_next version needs budget (take i p.settled) (next_turn p.turn)
-    (transferred (divisor_in p.version) (divisor_in version) budget front needs (take i p.settled) (settled_take (divisor_in p.version) budget front p.settled i (settled_from (divisor_in p.version) budget front p.settled holds.settled)) one (λ k D m e. agree k D (omega (arith, m, size)) e) (let w = slice_get_within needs (length (take i p.settled)) C at in omega (arith, w)))
+    (transferred (divisor_in p.version) (divisor_in version) budget front needs (take i p.settled) (settled_take (divisor_in p.version) budget front p.settled i (settled_from (divisor_in p.version) budget front p.settled holds.settled)) one (λ k D m e. agree k D (omega (arith, m, size)) e) few)
     (omega (arith, allowed))
 
 -- a session that goes on from a true checkpoint does steps whose checkpoints are true
@@ -192,14 +192,14 @@ unfolding session_rounds start_before
 resumed_truly table bytes budget version needs front p ground known met met_front holds slice None used =
     let u = used.all refl in
     true_from version needs (sha256 bytes) budget (ground.ends version needs known met) slice p.settled (Some (current_of p)) (next_turn p.turn) (drop (length p.settled) needs) refl
-    (start_all bytes budget version needs front p (met_agree table bytes ground.script ground.step front needs met_front met) holds u.0 u.1)
+    (λ C at. start_all bytes budget version needs front p (met_agree table bytes ground.script ground.step front needs met_front met) holds u.0 u.1 (let w = slice_get_within needs (length p.settled) C at in omega (arith, w)))
 resumed_truly table bytes budget version needs front p ground known met met_front holds slice (Some i) used =
     let u = used.some i refl in
     true_from version needs (sha256 bytes) budget (ground.ends version needs known met) slice (take i p.settled) None (next_turn p.turn) (drop (length (take i p.settled)) needs) refl
-    (start_some bytes budget version needs front p i (met_agree table bytes ground.script ground.step front needs met_front met) holds u.0 u.1 u.2)
+    (λ C at. start_some bytes budget version needs front p i (met_agree table bytes ground.script ground.step front needs met_front met) holds u.0 u.1 u.2 (let w = slice_get_within needs (length (take i p.settled)) C at in omega (arith, w)))
 
 -- a version that isn't 1 is used whole
-used_whole : (p : Checkpoint) (needs : List Matrix) (version : ℕ) → p.version ≡ version → IsUsed p needs version None
+pub used_whole : (p : Checkpoint) (needs : List Matrix) (version : ℕ) → p.version ≡ version → IsUsed p needs version None
 used_whole p needs version same = record {
   all = λ e. ((λ k D l is. ap (λ (v : ℕ). divisor_in v D) same), subst (λ (v : ℕ). turn_allowance p.version ≤ turn_allowance v) same (omega arith));
   some = λ i e. absurd (let f = e in cc);
@@ -232,7 +232,7 @@ abbrev any_need : Matrix
 any_need = record { field = Gf2; columns = 0; rows = [] }
 
 -- of version 1 the records before the first need with a divisor above 1 are used
-used_first : (p : Checkpoint) (needs : List Matrix) (version : ℕ) → p.version ≡ 1 → IsVersion version → p.turn < 2 ^ 57 → IsUsed p needs version (first_divisible (divisor_in version) (take (suc (length p.settled)) needs))
+pub used_first : (p : Checkpoint) (needs : List Matrix) (version : ℕ) → p.version ≡ 1 → IsVersion version → p.turn < 2 ^ 57 → IsUsed p needs version (first_divisible (divisor_in version) (take (suc (length p.settled)) needs))
 unfolding first_divisible
 used_first p needs version first known early = record {
   all = λ none. (

@@ -10,3 +10,4 @@ pub mod TrueSteps
 pub mod ChainLaws
 pub mod SessionChains
 pub mod ChainExamples
+pub mod SettledNeeds

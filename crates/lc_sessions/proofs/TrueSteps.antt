@@ -63,7 +63,7 @@ need_at (D ∷ needs) (suc i) C rest is = need_at needs i C rest is
 abbrev pub blocks_of : List Progress → ℕ
 blocks_of settled = sum (map (λ s. s.blocks) settled)
 
-blocks_more : (settled : List Progress) (s : Progress) → blocks_of (settled ++ s ∷ []) ≡ blocks_of settled + s.blocks
+pub blocks_more : (settled : List Progress) (s : Progress) → blocks_of (settled ++ s ∷ []) ≡ blocks_of settled + s.blocks
 blocks_more settled s = ap sum (map-append (λ (t : Progress). t.blocks) settled (s ∷ [])) ∙ sum_by-append (λ x. x) (map (λ t. t.blocks) settled) (s.blocks ∷ []) ∙ omega arith
 
 -- steps whose checkpoints are true, the first one with this turn

@@ -16,8 +16,8 @@
 use Rattle.std.specs.Prelude.{◌≡◌, ℕ, ◌⊎◌, ◌≤◌, List, ◌++◌, Option, Some, [], ◌∷◌, ◌<◌, ◌^◌, false, slice_get}
 use Rattle.sha2.specs.Sha256.{sha256}
 use Rattle.lc_algebra.specs.Matrix.{Matrix}
-use Rattle.lc_enumeration.specs.Search.{answer}
-use Rattle.lc_enumeration.specs.Records.{Progress, Start, fresh_start, Step, rounds, last_state, session_rounds, IsBestAt}
+use Rattle.lc_enumeration.specs.Search.{answer, finished}
+use Rattle.lc_enumeration.specs.Records.{Progress, found_of, Start, fresh_start, Step, rounds, last_state, session_rounds, IsBestAt}
 use Rattle.lc_formats.specs.Checkpoint.{Checkpoint, point, refused, damaged, checkpoint_text, checkpoint_in}
 use Rattle.lc_formats.specs.Truth.{divisor_in, SettlesAs, blocks_in}
 use Rattle.lc_io.specs.Vaults.{Slots, empty_slots, in_slot, put}
@@ -93,6 +93,9 @@ pub record IsGround (table : List Call) (bytes : List ℕ) (budget : ℕ) : Type
   -- a search that goes on from a best word ends at the answer
   pub ends : (version : ℕ) (needs : List Matrix) → IsVersion version → MeetsFirst table bytes needs → (i : ℕ) (C : Matrix) → slice_get needs i ≡ Some C → (slice : Option ℕ) (s : Progress) → IsBestAt C s → s.blocks ≤ blocks_in (answer (divisor_in version C) C budget)
       → EndsAtAnswer (divisor_in version C) C budget slice s
+  -- and there it is answered so
+  pub answered : (version : ℕ) (needs : List Matrix) → IsVersion version → MeetsFirst table bytes needs → (i : ℕ) (C : Matrix) → slice_get needs i ≡ Some C → (s : Progress) → SettlesAs s (answer (divisor_in version C) C budget)
+      → finished (divisor_in version C) C budget s.blocks (found_of s) ≡ Some (answer (divisor_in version C) C budget)
   -- true checkpoints are read back
   pub reads_back : (p : Checkpoint) → IsVersion p.version → IsTrueCheckpoint table bytes budget p → checkpoint_in (checkpoint_text p) ≡ point p
   -- those of version 1 have turns below 2^57
