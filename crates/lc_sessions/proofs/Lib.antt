@@ -11,3 +11,5 @@ pub mod ChainLaws
 pub mod SessionChains
 pub mod ChainExamples
 pub mod SettledNeeds
+pub mod HonestLaws
+pub mod Headline

@@ -20,7 +20,7 @@ use Rattle.lc_sessions.specs.Endings.{Ending, done, usage, paused, source_fault,
 use Rattle.lc_sessions.specs.Session.{Outside, Course, rounds_of, Finds, GoesOnFrom, IsResumed, IsFresh, Starts, Meets, begin_with, told_slots, Keeps, Tears, FailsFirst, IsStarted, Stores, StoresIfKept, IsSession}
 use Rattle.lc_sessions.specs.Chain.{IsLeft, Leaves, Goes, Chain, HasBegun, TearsSo, GoesOn}
 
-chosen_is : (slots : Slots) (p : Checkpoint) → choice slots ≡ takes p → chosen slots ≡ Some p
+pub chosen_is : (slots : Slots) (p : Checkpoint) → choice slots ≡ takes p → chosen slots ≡ Some p
 unfolding choice choice_among
 chosen_is slots p is = by_empty (is_empty slots.zero_slot && is_empty slots.one_slot) (chosen slots) is
   where

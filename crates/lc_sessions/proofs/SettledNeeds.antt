@@ -2,18 +2,18 @@
 --   unless_stopped       a session that a slice didn't stop went on
 --   session_settles      the states that settle the needs
 --   settled_answers      the answers that they give are those of the search
-use Rattle.std.proofs.Common.{◌≡◌, ◌+◌, ◌≤◌, ◌<◌, ℕ, zero, suc, Bool, true, false, cond, List, [], ◌∷◌, ◌++◌, length, map, drop, refl, sym, ap, subst, ◌∙◌, arith}
-use Rattle.std.specs.Prelude.{Option, Some, None, slice_get, unwrap_or, ◌-◌}
+use Rattle.std.proofs.Common.{◌≡◌, ◌+◌, ◌≤◌, ℕ, zero, suc, Bool, true, false, cond, List, [], ◌∷◌, ◌++◌, length, map, drop, refl, sym, ap, subst, ◌∙◌, arith}
+use Rattle.std.specs.Prelude.{Option, Some, None, slice_get, unwrap_or}
 use Rattle.std.proofs.lemmas.List.{length-append}
 use Rattle.lc_algebra.specs.Matrix.{Matrix}
 use Rattle.lc_algebra.specs.Divisor.{divisor_of}
 use Rattle.lc_enumeration.specs.Search.{Answer, answer, finished}
-use Rattle.lc_enumeration.specs.Records.{Progress, Step, found_of, first_progress, last_state, rounds, step_of, no_steps, steps_first, session_from, SessionRounds, IsBestAt}
-use Rattle.lc_formats.specs.Truth.{divisor_in, SettlesAs, blocks_in, turn_allowance}
+use Rattle.lc_enumeration.specs.Records.{Progress, found_of, first_progress, last_state, rounds, step_of, no_steps, steps_first, session_from, SessionRounds, IsBestAt}
+use Rattle.lc_formats.specs.Truth.{divisor_in, SettlesAs, blocks_in}
 use Rattle.lc_sessions.specs.Answers.{Settle, answers_of}
 use Rattle.lc_sessions.specs.Slots.{turn_after}
 use Rattle.lc_sessions.specs.Chain.{EndsAtAnswer}
-use Rattle.lc_sessions.proofs.TrueSteps.{AreSettled, settled_one, need_at, blocks_of, blocks_more, need_true, IsTrueStart, starts_next}
+use Rattle.lc_sessions.proofs.TrueSteps.{AreSettled, settled_one, need_at, blocks_more, need_true, IsTrueStart, starts_next}
 
 unless_stopped : (stopped : Bool) (settled : List Progress) (left : Option ℕ) (later : SessionRounds) → (cond stopped (no_steps settled left true) later).is_stopped ≡ false → (stopped ≡ false) × (cond stopped (no_steps settled left true) later ≡ later)
 unfolding no_steps

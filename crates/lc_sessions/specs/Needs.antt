@@ -4,7 +4,8 @@
 --   MeetsFirst table bytes front      those of its first statements, however many: what a session has met that stopped on its way.
 --                                     A session that hasn't read a statement has met none
 --   AgreeAsFar needs others           two lists of needs have the same need wherever both have one
---   OneScript bytes, OneStep table    what the language shows: bytes are one script, and a statement does one thing
+--   OneScript bytes, NoFault bytes, OneStep table     what the language shows: bytes are one script, a script has no fault, and a
+--                                     statement does one thing
 use Rattle.std.specs.Prelude.{◌≡◌, ℕ, ◌⊎◌, List, [], ◌∷◌, take, slice_get, Some}
 use Rattle.lc_algebra.specs.Matrix.{Matrix}
 use Rattle.lc_grammar.specs.Tree.{Statement}
@@ -41,6 +42,9 @@ AgreeAsFar needs others = (i : ℕ) (C D : Matrix) → slice_get needs i ≡ Som
 
 abbrev pub OneScript : List ℕ → Type 0
 OneScript bytes = (ss others : List Statement) → Reads bytes ss → Reads bytes others → ss ≡ others
+
+abbrev pub NoFault : List ℕ → Type 0
+NoFault bytes = (ss : List Statement) (fault : Fault) → Reads bytes ss → IsFault bytes fault → ⊥
 
 abbrev pub OneStep : List Call → Type 0
 OneStep table = (env : List Binding) (s : Statement) (step other : Step) → Steps table env s step → Steps table env s other → step ≡ other

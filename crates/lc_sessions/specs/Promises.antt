@@ -3,9 +3,11 @@
 --   IsAnswer ending                      the session answered what was asked, or there was no memory
 --   IsAmple table args old new asked course      the arguments are accepted, the source gives a script, nothing stops the session on
 --                                        its way, the checkpoint that `resume` takes is usable, and nothing failed
+--   PrintsText table budget bytes old new n      the sink took the text of the script under this budget, and n says whether a fault ends it
 --   checkpoint_of asked course turn step the bytes of the checkpoint of a step
 --   Holds old new slot bytes             the vault, if it tells its slots, holds these bytes in this slot
-use Rattle.std.specs.Prelude.{◌≡◌, ℕ, ◌≤◌, IsTrue, List, length, Option, Some, None, true, false}
+use Rattle.std.specs.Prelude.{◌≡◌, ℕ, Bool, ◌≤◌, IsTrue, List, length, Option, Some, None, true, false}
+use Rattle.std.specs.Io.KnownBytes.{Appends}
 use Rattle.sha2.specs.Sha256.{sha256}
 use Rattle.lc_algebra.specs.Matrix.{Matrix}
 use Rattle.lc_algebra.specs.Divisor.{divisor_of}
@@ -17,11 +19,12 @@ use Rattle.lc_io.specs.declared.vault.Slot.{Slot}
 use Rattle.lc_io.specs.Outside.{HasRisen}
 use Rattle.lc_io.specs.Vaults.{Slots, in_slot, WhereTold}
 use Rattle.lc_language.specs.declared.Call.{Call}
+use Rattle.lc_language.specs.Evaluation.{IsText}
 use Rattle.lc_sessions.specs.Options.{resume, Settings, settings, all_options, options}
 use Rattle.lc_sessions.specs.Needs.{IsNeeds, MeetsFirst}
 use Rattle.lc_sessions.specs.Slots.{stored_bytes, takes, choice, is_for}
 use Rattle.lc_sessions.specs.Endings.{Ending, done, usage, paused, source_fault, sink_fault, vault_fault, no_memory, no_checkpoint, damaged_checkpoint, other_script, rejected, too_long, unfit}
-use Rattle.lc_sessions.specs.Session.{most_bytes, Outside, Course}
+use Rattle.lc_sessions.specs.Session.{most_bytes, end_number, Outside, Course}
 
 -- a checkpoint that a session of these arguments resumes: it is taken, it is for this script and budget, and its records fit
 pub record IsUsable (table : List Call) (asked : Settings) (bytes : List ℕ) (held : Option Slots) : Type 0 where
@@ -68,3 +71,11 @@ checkpoint_of asked course turn step = stored_bytes 2 (sha256 course.bytes) aske
 -- the vault, if it tells its slots, holds these bytes in this slot
 abbrev pub Holds : Option Slots → Option Slots → Slot → List ℕ → Type 0
 Holds old new slot bytes = WhereTold old new (λ before after. in_slot slot after ≡ bytes)
+
+-- the sink took the text of the script under this budget
+pub record PrintsText (table : List Call) (budget : ℕ) (bytes : List ℕ) (old new : Option (List ℕ)) (n : ℕ) : Type 0 where
+  pub text : List ℕ
+  pub is_faulty : Bool
+  pub is_text : IsText table budget bytes text is_faulty
+  pub written : Appends old new text
+  pub number : n ≡ end_number is_faulty

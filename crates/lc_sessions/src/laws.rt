@@ -14,15 +14,15 @@ ghost use Rattle.lc_grammar.specs.Tree.{Statement};
 ghost use Rattle.lc_grammar.specs.Grammar.{Reads};
 ghost use Rattle.lc_language.specs.declared.Call.{Call};
 ghost use Rattle.lc_language.specs.Value.{Binding};
-ghost use Rattle.lc_language.specs.Evaluation.{Runs};
+ghost use Rattle.lc_language.specs.Evaluation.{Runs, IsText};
 ghost use Rattle.lc_sessions.specs.Options.{run, resume, Settings, settings, usage as refuses, all_options, options};
-ghost use Rattle.lc_sessions.specs.Needs.{Needs, MeetsFirst};
-ghost use Rattle.lc_sessions.specs.Answers.{RunsBy, answers_of};
-ghost use Rattle.lc_sessions.specs.Slots.{slot_of};
-ghost use Rattle.lc_sessions.specs.Endings.{Ending, usage, no_memory};
-ghost use Rattle.lc_sessions.specs.Session.{Outside, Course, begin_with, Keeps, Tears, IsSession};
-ghost use Rattle.lc_sessions.specs.Promises.{IsAmple, IsAnswer, checkpoint_of, Holds};
-ghost use Rattle.lc_sessions.specs.Chain.{Chain, HasBegun, TearsSo, GoesOn, ChainsAreTrue};
+ghost use Rattle.lc_sessions.specs.Needs.{Needs, IsNeeds, MeetsFirst, NoFault};
+ghost use Rattle.lc_sessions.specs.Answers.{RunsBy, IsTextBy, Settle, answers_of};
+ghost use Rattle.lc_sessions.specs.Slots.{slot_of, AreTrueSlots};
+ghost use Rattle.lc_sessions.specs.Endings.{Ending, done, usage, no_memory};
+ghost use Rattle.lc_sessions.specs.Session.{Outside, Course, rounds_of, IsFresh, IsResumed, Fits, begin_with, Keeps, Tears, IsSession};
+ghost use Rattle.lc_sessions.specs.Promises.{IsAmple, IsAnswer, PrintsText, checkpoint_of, Holds};
+ghost use Rattle.lc_sessions.specs.Chain.{Chain, IsGround, HasBegun, TearsSo, GoesOn, ChainsAreTrue};
 
 /// A session goes by the settings that its arguments ask for. It ends with the index of a refused
 /// argument exactly if one is refused, unless memory is refused first. If nothing fails or stops it,
@@ -83,4 +83,22 @@ pub fn sessions_make_up_chains()
         → HasBegun ending s.course → ((after : Slots) → new.vault ≡ Some after → TearsSo s.asked s.course before after) → GoesOn table s.course.bytes s.asked.budget new.vault }
     ensures goes_on { (table : List Call) (args : List (List ℕ)) (old new : Outside) (ending : Ending) (s : IsSession table args old new ending) (version : ℕ) (before : Slots) → s.asked.command ≡ resume → s.asked.keep ≡ true → old.vault ≡ Some before → version ≤ 2
         → Chain table s.course.bytes s.asked.budget version before → ((after : Slots) → new.vault ≡ Some after → TearsSo s.asked s.course before after) → GoesOn table s.course.bytes s.asked.budget new.vault }
+{}
+
+/// If a session answered each need of its script by what its records and rounds settle, its text is the text
+/// of the script: always if it started afresh, and over true slots if it resumed.
+pub fn sessions_that_start_truly_print_the_text()
+    ensures fresh { (table : List Call) (asked : Settings) (course : Course) → IsGround table course.bytes asked.budget → NoFault course.bytes → IsFresh course → IsNeeds table course.bytes course.needs → (rounds_of asked course).is_stopped ≡ false
+        → (answers : List Answer) → Settle asked.budget course.needs (rounds_of asked course).settled answers → IsTextBy table asked.budget course.bytes answers course.text course.is_faulty → IsText table asked.budget course.bytes course.text course.is_faulty }
+    ensures resumed { (table : List Call) (asked : Settings) (held : Option Slots) (course : Course) (slots : Slots) → IsGround table course.bytes asked.budget → NoFault course.bytes → held ≡ Some slots → AreTrueSlots table course.bytes asked.budget slots → IsResumed asked held course → Fits asked course
+        → IsNeeds table course.bytes course.needs → (rounds_of asked course).is_stopped ≡ false
+        → (answers : List Answer) → Settle asked.budget course.needs (rounds_of asked course).settled answers → IsTextBy table asked.budget course.bytes answers course.text course.is_faulty → IsText table asked.budget course.bytes course.text course.is_faulty }
+{}
+
+/// A session that finishes prints the text of its script under its budget, whatever its workers, its slice
+/// and the sessions before it were: `run` always, and `resume` over the slots of a chain.
+pub fn finished_sessions_print_the_text()
+    ensures run { (table : List Call) (args : List (List ℕ)) (old new : Outside) (n : ℕ) (s : IsSession table args old new (done n)) → s.asked.command ≡ run → PrintsText table s.asked.budget s.course.bytes old.sink new.sink n }
+    ensures resume { (table : List Call) (args : List (List ℕ)) (old new : Outside) (n : ℕ) (s : IsSession table args old new (done n)) (version : ℕ) (slots : Slots) → s.asked.command ≡ resume → IsGround table s.course.bytes s.asked.budget → old.vault ≡ Some slots → Chain table s.course.bytes s.asked.budget version slots
+        → PrintsText table s.asked.budget s.course.bytes old.sink new.sink n }
 {}
