@@ -28,7 +28,7 @@ use Rattle.lc_formats.specs.Certificate.{code_length, code_dimension, level_in, 
 use Rattle.lc_formats.specs.Json.{number_json, items, numbers_json, listed, each, plain_number, number_at, member_count, numbers_of, list_at, provided}
 use Rattle.lc_formats.specs.Text.{same_bytes, bracketed, numbers_text, lists_text, line, spaced, with_values}
 use Rattle.lc_formats.specs.CertificateText.{claim_members, claim_json, way_text, with_sets, certificate_members, certificate_json, certificate_text}
-use Rattle.lc_formats.specs.Check.{reason_line, line_of_verdict, verdict_line, rows_at, field_at, fit, are_rows, is_scan, are_places, claim_in, sets_at, fresh_in_basis, above, with_keys, certificate_over, levels_in, sets_in, way_in, distance_in, word_in, rows_in, field_in, object_in, data_in, verdict_of, distance_of}
+use Rattle.lc_formats.specs.Check.{reason_line, line_of_verdict, verdict_line, rows_at, field_at, fit, are_rows, is_scan, are_places, claim_in, sets_at, fresh_in_basis, above, certificate_over, levels_in, sets_in, way_in, distance_in, word_in, rows_in, parts_in, key_count, are_set_keys, set_total, is_beyond_limit, closed, field_in, is_version, object_in, data_in, verdict_of, distance_of}
 use Rattle.lc_formats.specs.Checkpoint.{current_of, settled_json, body_members, body_of, sealed, checkpoint_text, checkpoint_refusal_number, is_whole, number_up_to, triple_of, is_in_range, settled_in, digest_in, script_in, done_in, state_in, point_or_shape, versioned, body_in}
 use Rattle.lc_formats.specs.Truth.{divisor_in, blocks_in, turn_allowance, start_of, misfit_of}
 use Rattle.lc_enumeration.specs.Records.{found_of}
@@ -51,7 +51,7 @@ unfolding serde_json_on_literals decimal_digits escape_byte number_json items nu
 json_computes = tt
 
 unfoldable pub reading_computes : ⊤
-unfolding json_computes all_fields is_rising columns_of are_elements claim_members claim_json way_text with_sets certificate_members certificate_json certificate_text reason_line line_of_verdict verdict_line rows_at field_at fit are_rows is_scan are_places claim_in sets_at fresh_in_basis above with_keys certificate_over levels_in sets_in way_in distance_in word_in rows_in field_in object_in data_in verdict_of distance_of
+unfolding json_computes all_fields is_rising columns_of are_elements claim_members claim_json way_text with_sets certificate_members certificate_json certificate_text reason_line line_of_verdict verdict_line rows_at field_at fit are_rows is_scan are_places claim_in sets_at fresh_in_basis above certificate_over levels_in sets_in way_in distance_in word_in rows_in parts_in key_count are_set_keys set_total is_beyond_limit closed field_in is_version object_in data_in verdict_of distance_of
 reading_computes = tt
 
 unfoldable pub seal_computes : ⊤

@@ -9,5 +9,7 @@ pub mod CheckpointBack
 pub mod CheckpointRange
 pub mod CertificateExamples
 pub mod CheckExamples
+pub mod Plainly
+pub mod CheckTextExamples
 pub mod CheckpointExamples
 pub mod TruthExamples
