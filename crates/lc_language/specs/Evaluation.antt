@@ -22,7 +22,7 @@ use Rattle.lc_algebra.specs.Word.{weight}
 use Rattle.lc_algebra.specs.Span.{InSpan, IsLeast}
 use Rattle.lc_algebra.specs.Matrix.{Matrix}
 use Rattle.lc_language.specs.declared.Call.{Call}
-use Rattle.lc_language.specs.declared.Call.TheVariants.{AlgebraicDecode, LeastWord, MinimumDistance, Certificate, ScanCertificate, WeightDistribution, NearestWord}
+use Rattle.lc_language.specs.declared.Call.TheVariants.{AlgebraicDecode, LeastWord, MinimumDistance, Certificate, ScanCertificate, AlternantCertificate, WeightDistribution, NearestWord}
 use Rattle.lc_language.specs.declared.Kind.{Kind}
 use Rattle.lc_grammar.specs.Tree.{Expr, Exprs, number, name, call, list, none, more, Statement, place_of, count_of}
 use Rattle.lc_grammar.specs.Grammar.{Reads, Fault, IsFault}
@@ -33,7 +33,7 @@ use Rattle.lc_language.specs.Refusal.{Refusal, refusal_of}
 use Rattle.lc_constructions.specs.Refusals.{columns_of}
 use Rattle.lc_language.specs.Meaning.{Gives, IsNotDivisor}
 use Rattle.lc_language.specs.Print.{value_line, fault_line, least_line, least_none_line}
-use Rattle.lc_language.specs.Query.{QueryKind, distance, by_levels, by_scan, query_line, distribution_line, near_line}
+use Rattle.lc_language.specs.Query.{QueryKind, distance, by_levels, by_scan, query_line, form_line, distribution_line, near_line}
 
 pub record Refused : Type 0 where
   pub number : ℕ
@@ -158,6 +158,7 @@ Queries LeastWord (value.lists rows ∷ value.field f ∷ []) step = PrintsLeast
 Queries MinimumDistance (value.code C _ ∷ []) step = AsksOf distance C step
 Queries Certificate (value.code C _ ∷ []) step = AsksOf by_levels C step
 Queries ScanCertificate (value.code C _ ∷ []) step = AsksOf by_scan C step
+Queries AlternantCertificate (value.code C (Some form) ∷ value.numbers x ∷ []) step = step ≡ prints (form_line C form x)
 Queries WeightDistribution (value.code C _ ∷ []) step = step ≡ counts C
 Queries NearestWord (value.code C _ ∷ value.numbers x ∷ []) step = NearsOf C x step
 Queries AlgebraicDecode arguments step = (v : Value) × Gives AlgebraicDecode arguments v × (step ≡ prints (value_line v))
