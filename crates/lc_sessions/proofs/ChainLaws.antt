@@ -35,7 +35,8 @@ use Rattle.lc_io.specs.declared.vault.Slot.{Slot}
 use Rattle.lc_io.specs.declared.vault.Slot.TheVariants.{Zero, One}
 use Rattle.lc_io.specs.Vaults.{Slots, empty_slots, in_slot, put}
 use Rattle.lc_language.specs.declared.Call.{Call}
-use Rattle.lc_sessions.specs.Needs.{MeetsFirst}
+use Rattle.lc_sessions.specs.Needs.{MeetsFirst, AgreeAsFar}
+use Rattle.lc_sessions.proofs.NeedsLaws.{met_agree}
 use Rattle.lc_sessions.specs.Slots.{slot_of, next_turn, turn_after, point_of, stored_bytes, slots_after, IsTrueCheckpoint, IsTornOr, later_of, chosen, start_in}
 use Rattle.lc_sessions.specs.Chain.{IsLeft, IsVersion, Leaves, Goes, Chain, EndsAtAnswer, IsGround, ChainsAreTrue}
 use Rattle.lc_sessions.proofs.TrueSteps.{AreSettled, settled_from, settled_take, need_at, AreTrueSteps, true_front, IsTrueStart, starts_next, session_true}
@@ -115,15 +116,11 @@ chosen_kept table bytes budget version slots p all is = taken_kept table bytes b
 abbrev AgreeOn : (Matrix → ℕ) → (Matrix → ℕ) → List Matrix → ℕ → Type 0
 AgreeOn divisor other needs n = (k : ℕ) (D : Matrix) → k < n → slice_get needs k ≡ Some D → divisor D ≡ other D
 
--- two lists of needs agree where both have one
-abbrev AreOne : List Matrix → List Matrix → Type 0
-AreOne needs others = (i : ℕ) (C D : Matrix) → slice_get needs i ≡ Some C → slice_get others i ≡ Some D → C ≡ D
-
 settles_as : (divisor other : Matrix → ℕ) (budget : ℕ) (C D : Matrix) (s : Progress) → C ≡ D → divisor D ≡ other D → SettlesAs s (answer (divisor C) C budget) → SettlesAs s (answer (other D) D budget)
 settles_as divisor other budget C D s is same h =
     subst (λ (n : ℕ). SettlesAs s (answer n D budget)) same (subst (λ (E : Matrix). SettlesAs s (answer (divisor E) E budget)) is h)
 
-transferred : (divisor other : Matrix → ℕ) (budget : ℕ) (needs others : List Matrix) (settled : List Progress) → AreSettled divisor budget needs settled → AreOne needs others → AgreeOn divisor other others (length settled) → length settled ≤ length others → AreSettled other budget others settled
+transferred : (divisor other : Matrix → ℕ) (budget : ℕ) (needs others : List Matrix) (settled : List Progress) → AreSettled divisor budget needs settled → AgreeAsFar needs others → AgreeOn divisor other others (length settled) → length settled ≤ length others → AreSettled other budget others settled
 transferred divisor other budget needs others [] all one same l = tt
 transferred divisor other budget [] others (s ∷ settled) all one same l = absurd all
 transferred divisor other budget (C ∷ needs) [] (s ∷ settled) all one same l = absurd (omega (arith, l))
@@ -167,7 +164,7 @@ pub record IsUsed (p : Checkpoint) (needs : List Matrix) (version : ℕ) (o : Op
   pub all : o ≡ None → AgreeOn (divisor_in p.version) (divisor_in version) needs (suc (length p.settled)) × (turn_allowance p.version ≤ turn_allowance version)
   pub some : (i : ℕ) → o ≡ Some i → AgreeOn (divisor_in p.version) (divisor_in version) needs i × (i ≤ length p.settled) × (p.turn + 1 ≤ turn_allowance version)
 
-start_all : (bytes : List ℕ) (budget version : ℕ) (needs front : List Matrix) (p : Checkpoint) → AreOne front needs → IsTrueFor front (sha256 bytes) budget p → AgreeOn (divisor_in p.version) (divisor_in version) needs (suc (length p.settled)) → turn_allowance p.version ≤ turn_allowance version
+start_all : (bytes : List ℕ) (budget version : ℕ) (needs front : List Matrix) (p : Checkpoint) → AgreeAsFar front needs → IsTrueFor front (sha256 bytes) budget p → AgreeOn (divisor_in p.version) (divisor_in version) needs (suc (length p.settled)) → turn_allowance p.version ≤ turn_allowance version
     → (C : Matrix) → slice_get needs (length p.settled) ≡ Some C → IsTrueStart version needs budget p.settled (Some (current_of p)) (next_turn p.turn)
 unfolding current_of found_of next_turn
 start_all bytes budget version needs front p one holds agree allowed C at = record {
@@ -179,7 +176,7 @@ start_all bytes budget version needs front p one holds agree allowed C at = reco
   early = λ D is. omega (arith, holds.turn, allowed);
 }
 
-start_some : (bytes : List ℕ) (budget version : ℕ) (needs front : List Matrix) (p : Checkpoint) (i : ℕ) → AreOne front needs → IsTrueFor front (sha256 bytes) budget p → AgreeOn (divisor_in p.version) (divisor_in version) needs i → i ≤ length p.settled → p.turn + 1 ≤ turn_allowance version
+start_some : (bytes : List ℕ) (budget version : ℕ) (needs front : List Matrix) (p : Checkpoint) (i : ℕ) → AgreeAsFar front needs → IsTrueFor front (sha256 bytes) budget p → AgreeOn (divisor_in p.version) (divisor_in version) needs i → i ≤ length p.settled → p.turn + 1 ≤ turn_allowance version
     → (C : Matrix) → slice_get needs (length (take i p.settled)) ≡ Some C → IsTrueStart version needs budget (take i p.settled) None (next_turn p.turn)
 unfolding next_turn
 start_some bytes budget version needs front p i one holds agree within allowed C at =
@@ -195,11 +192,11 @@ unfolding session_rounds start_before
 resumed_truly table bytes budget version needs front p ground known met met_front holds slice None used =
     let u = used.all refl in
     true_from version needs (sha256 bytes) budget (ground.ends version needs known met) slice p.settled (Some (current_of p)) (next_turn p.turn) (drop (length p.settled) needs) refl
-    (start_all bytes budget version needs front p (ground.one front needs met_front met) holds u.0 u.1)
+    (start_all bytes budget version needs front p (met_agree table bytes ground.script ground.step front needs met_front met) holds u.0 u.1)
 resumed_truly table bytes budget version needs front p ground known met met_front holds slice (Some i) used =
     let u = used.some i refl in
     true_from version needs (sha256 bytes) budget (ground.ends version needs known met) slice (take i p.settled) None (next_turn p.turn) (drop (length (take i p.settled)) needs) refl
-    (start_some bytes budget version needs front p i (ground.one front needs met_front met) holds u.0 u.1 u.2)
+    (start_some bytes budget version needs front p i (met_agree table bytes ground.script ground.step front needs met_front met) holds u.0 u.1 u.2)
 
 -- a version that isn't 1 is used whole
 used_whole : (p : Checkpoint) (needs : List Matrix) (version : ℕ) → p.version ≡ version → IsUsed p needs version None

@@ -5,6 +5,8 @@ pub mod SessionExamples
 pub mod SummaryExamples
 pub mod SessionLaws
 pub mod StoredLaws
+pub mod NeedsLaws
 pub mod TrueSteps
 pub mod ChainLaws
 pub mod SessionChains
+pub mod ChainExamples

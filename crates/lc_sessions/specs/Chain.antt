@@ -25,7 +25,7 @@ use Rattle.lc_language.specs.declared.Call.{Call}
 use Rattle.lc_sessions.specs.Options.{Settings}
 use Rattle.lc_sessions.specs.Session.{Course, told_slots}
 use Rattle.lc_sessions.specs.Endings.{Ending, done, usage, paused, source_fault, sink_fault, vault_fault, no_memory, no_checkpoint, damaged_checkpoint, other_script, rejected, too_long, unfit}
-use Rattle.lc_sessions.specs.Needs.{MeetsFirst}
+use Rattle.lc_sessions.specs.Needs.{MeetsFirst, OneScript, OneStep}
 use Rattle.lc_sessions.specs.Slots.{slot_of, next_turn, turn_after, slots_after, chosen, start_in, IsTrueCheckpoint, AreTrueSlots}
 
 abbrev pub IsLeft : List ℕ → List ℕ → Type 0
@@ -87,8 +87,9 @@ pub record EndsAtAnswer (d : ℕ) (C : Matrix) (budget : ℕ) (slice : Option �
 
 -- what the law of chains rests on: facts of the script, of the search and of the format
 pub record IsGround (table : List Call) (bytes : List ℕ) (budget : ℕ) : Type 0 where
-  -- the script determines its needs
-  pub one : (needs others : List Matrix) → MeetsFirst table bytes needs → MeetsFirst table bytes others → (i : ℕ) (C D : Matrix) → slice_get needs i ≡ Some C → slice_get others i ≡ Some D → C ≡ D
+  -- the bytes are one script, and a statement does one thing
+  pub script : OneScript bytes
+  pub step : OneStep table
   -- a search that goes on from a best word ends at the answer
   pub ends : (version : ℕ) (needs : List Matrix) → IsVersion version → MeetsFirst table bytes needs → (i : ℕ) (C : Matrix) → slice_get needs i ≡ Some C → (slice : Option ℕ) (s : Progress) → IsBestAt C s → s.blocks ≤ blocks_in (answer (divisor_in version C) C budget)
       → EndsAtAnswer (divisor_in version C) C budget slice s

@@ -3,7 +3,9 @@
 --   IsNeeds table bytes needs         those of a script
 --   MeetsFirst table bytes front      those of its first statements, however many: what a session has met that stopped on its way.
 --                                     A session that hasn't read a statement has met none
-use Rattle.std.specs.Prelude.{◌≡◌, ℕ, ◌⊎◌, List, [], ◌∷◌, take}
+--   AgreeAsFar needs others           two lists of needs have the same need wherever both have one
+--   OneScript bytes, OneStep table    what the language shows: bytes are one script, and a statement does one thing
+use Rattle.std.specs.Prelude.{◌≡◌, ℕ, ◌⊎◌, List, [], ◌∷◌, take, slice_get, Some}
 use Rattle.lc_algebra.specs.Matrix.{Matrix}
 use Rattle.lc_grammar.specs.Tree.{Statement}
 use Rattle.lc_grammar.specs.Grammar.{Reads, Fault, IsFault}
@@ -32,3 +34,13 @@ IsNeeds table bytes needs =
 -- those of the first n statements, for some n
 abbrev pub MeetsFirst : List Call → List ℕ → List Matrix → Type 0
 MeetsFirst table bytes front = (front ≡ []) ⊎ ((ss : List Statement) × Reads bytes ss × ((n : ℕ) × Needs table [] (take n ss) front))
+
+-- the same need wherever both have one
+abbrev pub AgreeAsFar : List Matrix → List Matrix → Type 0
+AgreeAsFar needs others = (i : ℕ) (C D : Matrix) → slice_get needs i ≡ Some C → slice_get others i ≡ Some D → C ≡ D
+
+abbrev pub OneScript : List ℕ → Type 0
+OneScript bytes = (ss others : List Statement) → Reads bytes ss → Reads bytes others → ss ≡ others
+
+abbrev pub OneStep : List Call → Type 0
+OneStep table = (env : List Binding) (s : Statement) (step other : Step) → Steps table env s step → Steps table env s other → step ≡ other
