@@ -3,6 +3,7 @@
 --   each_passes                    a test that each element passes is passed by the list
 --   divisible_from_test, test_from_divisible      the test on the list of words, and what it tests
 --   no_member                      nothing is in the empty list
+--   Falling                        numbers of at least 1 that fall
 --   FirstDivisor, first_divisor    the first of some falling numbers that divides all weights, and else 1, is the greatest
 --   divisors_fall                  the divisors that are asked for fall, and none is 0
 --   member_positive                none of some falling numbers is 0

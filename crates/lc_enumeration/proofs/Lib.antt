@@ -8,3 +8,8 @@ pub mod NearExamples
 pub mod MemberLaws
 pub mod DistributionLaws
 pub mod GreedyLaws
+pub mod CodeExamples
+pub mod BchExamples
+pub mod GolayExamples
+pub mod ExtendedGolayExamples
+pub mod GolaySessionExamples

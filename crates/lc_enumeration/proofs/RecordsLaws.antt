@@ -4,7 +4,6 @@
 --   found_append            what is found in some blocks and in those after them
 --   best_after              the best after some blocks more
 --   round_is_best           a round keeps the best word
---   either_answered, either_used      a fact of both cases of a round
 --   rounds_are_best         so do all rounds of a search
 --   last_is_best            and so the last state
 --   search_is_best, end_is_best      the same of the rounds of a search

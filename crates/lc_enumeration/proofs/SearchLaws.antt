@@ -1,11 +1,11 @@
 -- What a search finds between two blocks, and which of it is the least.
 --   numbers_within, within_numbers      the list of the numbers from i on holds exactly these numbers
---   along_holds, along_has         what the list of weights and places holds of a list of words
---   messages_few, few_in_block     a block has at most 4,096 words
+--   found_at, along_holds, along_has         what the list of weights and places holds of a list of words
+--   few_in_block                   a block has at most 4,096 words
 --   at_place                       the word at a place, from the word of its block
 --   found_is, found_has, found_between      what is found in some blocks is what the words at their places are
 --   find_only                      a test that one element alone passes finds it
---   blocks_rise, within, in_order, one_phase      a block belongs to one phase
+--   one_phase                      a block belongs to one phase
 --   phase_is, words_in_phase       the phase of a block, and its words
 --   beats_is_less                  on the board the order is that of the values
 --   beats_itself, beats_through, beats_back, beaten_both      beating is a total order

@@ -1,0 +1,10 @@
+pub mod BoundLaws
+pub mod MultipleLaws
+pub mod SeenLaws
+pub mod SetLaws
+pub mod SearchBound
+pub mod BestLaws
+pub mod AnswerLaws
+pub mod ExistLaws
+pub mod GreedyLaws
+pub mod SearchTruth

@@ -1,0 +1,59 @@
+//! The laws of the bound of Brouwer and Zimmermann.
+//!
+//! Each function proves what its clauses say, for every field, every code and every number of blocks, and
+//! does nothing when it is run. (Grassl, Searching for linear codes with large minimum distance.)
+
+ghost use Rattle.std.specs.Prelude.{◌≡◌, ◌≢◌, ℕ, ◌<◌, ◌≤◌, min, true, List, length, map, All, AllPairs, Contains};
+ghost use Rattle.lc_algebra.specs.Word.{weight};
+ghost use Rattle.lc_algebra.specs.Span.{AreIndependent, InSpan, IsDistance};
+ghost use Rattle.lc_algebra.specs.Matrix.{Matrix, AreRows, IsSystematic};
+ghost use Rattle.lc_algebra.specs.SpanLaws.{restrict};
+ghost use Rattle.lc_algebra.specs.Divisor.{IsDivisible, divisor_of};
+ghost use Rattle.lc_enumeration.specs.InformationSet.{systematic};
+ghost use Rattle.lc_enumeration.specs.Search.{set_count, generator_at, best, levels_below, bound, is_done, answer};
+ghost use Rattle.lc_enumeration.specs.Truth.{IsSeenBelow, HasWord, AnswerHolds};
+ghost use Rattle.lc_infoset.specs.Bound.{LevelSet, AreLevelSets, IsUnseen, IsNoMultiple, set_bound, set_at};
+
+use lc_algebra::FieldName;
+
+/// A nonzero word of the code that is no combination of up to level rows of each set's matrix has at
+/// least the weight that the levels give, and there is none if some level is k. A word that is no
+/// multiple of the words of the messages of these levels is no such combination.
+pub fn unseen_words_are_heavy(field: FieldName)
+    ensures heavy { (n k : ℕ) (rows : List (List ℕ)) (sets : List LevelSet) (c : List ℕ) → AreRows field n rows → AreLevelSets field n k rows sets → InSpan field n rows c → 0 < weight c → All (IsUnseen field n c) sets → set_bound k sets ≤ weight c }
+    ensures none { (n k : ℕ) (rows : List (List ℕ)) (sets : List LevelSet) (c : List ℕ) → AreLevelSets field n k rows sets → InSpan field n rows c → 0 < weight c → All (IsUnseen field n c) sets → (s : LevelSet) → Contains sets s → k ≤ s.level → ⊥ }
+    ensures multiples { (n : ℕ) (c : List ℕ) (s : LevelSet) → IsNoMultiple field n c s → IsUnseen field n c s }
+{}
+
+/// Rows that are independent on a set of as many columns have a systematic matrix on it. The sets of a
+/// search on independent rows are such: each has a basis of k columns and a generator that is systematic
+/// on it; its fresh columns are some of these, and no two sets share one.
+pub fn information_sets_have_generators(field: FieldName)
+    ensures systematic { (n : ℕ) (rows : List (List ℕ)) (set : List ℕ) → AreRows field n rows → length set ≡ length rows → AreIndependent field (length set) (map (restrict set) rows) → IsSystematic field n rows set (systematic field n rows set) }
+    ensures generator { (C : Matrix) (j : ℕ) → AreRows C.field C.columns C.rows → AreIndependent C.field C.columns C.rows → j < set_count C → IsSystematic C.field C.columns C.rows (set_at C j).basis (generator_at C j) }
+    ensures dimension { (C : Matrix) (j : ℕ) → AreRows C.field C.columns C.rows → AreIndependent C.field C.columns C.rows → j < set_count C → length (set_at C j).basis ≡ length C.rows }
+    ensures part { (C : Matrix) (j : ℕ) → j < set_count C → All (Contains (set_at C j).basis) (set_at C j).fresh }
+    ensures once { (C : Matrix) (j : ℕ) → j < set_count C → AllPairs (λ a b. a ≢ b) (set_at C j).fresh }
+    ensures apart { (C : Matrix) (i j column : ℕ) → i < j → j < set_count C → Contains (set_at C i).fresh column → ¬ Contains (set_at C j).fresh column }
+{}
+
+/// A nonzero word of the code none of whose multiples is at place 0 or at a place of a block below l has
+/// at least the weight of the bound at l, and there is none if some level is k. The number d divides all
+/// weights; 1 does. A word that is seen is at least as heavy as the best word; so the lesser of the
+/// bound and the best weight is at most every weight.
+pub fn search_bounds_the_distance()
+    ensures heavy { (d : ℕ) (C : Matrix) (l x : ℕ) (c : List ℕ) → AreRows C.field C.columns C.rows → AreIndependent C.field C.columns C.rows → 0 < d → IsDivisible C.field C.columns C.rows d → InSpan C.field C.columns C.rows c → 0 < weight c → (IsSeenBelow C l c → ⊥) → bound d C l x ≤ weight c }
+    ensures none { (C : Matrix) (l : ℕ) (c : List ℕ) → AreRows C.field C.columns C.rows → AreIndependent C.field C.columns C.rows → InSpan C.field C.columns C.rows c → 0 < weight c → Contains (levels_below C l) (length C.rows) → (IsSeenBelow C l c → ⊥) → ⊥ }
+    ensures seen { (C : Matrix) (l : ℕ) (c : List ℕ) → AreRows C.field C.columns C.rows → 0 < length C.rows → InSpan C.field C.columns C.rows c → IsSeenBelow C l c → (best C (set_count C) l).weight ≤ weight c }
+    ensures least { (d : ℕ) (C : Matrix) (l : ℕ) (c : List ℕ) → AreRows C.field C.columns C.rows → AreIndependent C.field C.columns C.rows → 0 < d → IsDivisible C.field C.columns C.rows d → 0 < length C.rows → InSpan C.field C.columns C.rows c → 0 < weight c → min (best C (set_count C) l).weight (bound d C l (best C (set_count C) l).weight) ≤ weight c }
+{}
+
+/// Every answer of a search is true, whatever the budget: an exact one is the minimum distance, a bracket
+/// contains it, and in both the word at the place is a nonzero word of the code with the weight.
+pub fn answers_are_true()
+    ensures best { (C : Matrix) (l : ℕ) → AreRows C.field C.columns C.rows → AreIndependent C.field C.columns C.rows → 0 < length C.rows → HasWord C (best C (set_count C) l) }
+    ensures done { (d : ℕ) (C : Matrix) (l : ℕ) → AreRows C.field C.columns C.rows → AreIndependent C.field C.columns C.rows → 0 < d → IsDivisible C.field C.columns C.rows d → 0 < length C.rows → is_done d C l ≡ true → IsDistance C.field C.columns C.rows (best C (set_count C) l).weight }
+    ensures holds { (d : ℕ) (C : Matrix) (budget : ℕ) → AreRows C.field C.columns C.rows → AreIndependent C.field C.columns C.rows → 0 < d → IsDivisible C.field C.columns C.rows d → AnswerHolds C (answer d C budget) }
+    ensures own { (C : Matrix) (budget : ℕ) → AreRows C.field C.columns C.rows → AreIndependent C.field C.columns C.rows → AnswerHolds C (answer (divisor_of C) C budget) }
+    ensures by_one { (C : Matrix) (budget : ℕ) → AreRows C.field C.columns C.rows → AreIndependent C.field C.columns C.rows → AnswerHolds C (answer 1 C budget) }
+{}
