@@ -11,5 +11,8 @@ pub mod CertificateExamples
 pub mod CheckExamples
 pub mod Plainly
 pub mod CheckTextExamples
+pub mod CodeTests
+pub mod ClaimExamples
+pub mod DocumentExamples
 pub mod CheckpointExamples
 pub mod TruthExamples
