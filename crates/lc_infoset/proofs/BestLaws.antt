@@ -54,7 +54,7 @@ no_blocks : (k q m : ℕ) → blocks_before k q m 0 ≡ 0
 unfolding blocks_before
 no_blocks k q m = refl
 
-product_positive : (k m : ℕ) → 0 < k → 0 < m → 0 < k * m
+pub product_positive : (k m : ℕ) → 0 < k → 0 < m → 0 < k * m
 product_positive (suc k) (suc m) l n = omega arith
 product_positive zero m l n = absurd (omega (arith, l))
 product_positive (suc k) zero l n = absurd (omega (arith, n))

@@ -8,3 +8,5 @@ pub mod AnswerLaws
 pub mod ExistLaws
 pub mod GreedyLaws
 pub mod SearchTruth
+pub mod RoundLaws
+pub mod SessionLaws
