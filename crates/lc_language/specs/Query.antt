@@ -2,7 +2,7 @@
 --   QueryKind                     the distance, or a certificate by levels or by a scan
 --   certificate_of kind C w d l   the certificate of an exact answer: the code's rows, the word and its weight, and for levels the
 --                                 information sets with their levels at l
---   certificate_line c            that text as a line; where it costs a checker too much, or is too long, a line that says so
+--   certificate_line c            that text as a line; if it costs a checker too much, or is too long, a line that says so
 --   query_line kind C budget      the line
 --   distribution_line C           what WeightDistribution prints: the number of words of each weight from 0 to n
 --   form_line C form x             what AlternantCertificate prints: the certificate of the form for the word x
