@@ -125,7 +125,7 @@ const LENGTHS: [(u64, u64, Option<CodeRefusal>); 6] = [
     (25, 0, Some(CodeRefusal::FieldTooLarge)),
 ];
 
-// The code's shape, or the refusal, where there is to be one.
+// The code's shape, or the refusal, if there is to be one.
 fn expected(n: u64, k: u64, refusal: Option<CodeRefusal>) -> Result<(usize, usize), CodeRefusal> {
     match refusal {
         Some(refusal) => Err(refusal),
@@ -185,7 +185,7 @@ const MATRICES: [(u64, &[&[u8]], Result<(usize, usize), CodeRefusal>); 8] = [
     (25, &[], Err(CodeRefusal::FieldTooLarge)),
 ];
 
-// The shape of the code with checks, where that of the code with these rows is known.
+// The shape of the code with checks, if that of the code with these rows is known.
 fn checked(shape: Result<(usize, usize), CodeRefusal>) -> Result<(usize, usize), CodeRefusal> {
     let (n, k) = shape?;
     Ok((n, if k < n { n - k } else { 0 }))

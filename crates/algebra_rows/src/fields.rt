@@ -123,7 +123,7 @@ fn is_size(q: u64) -> bool {
     false
 }
 
-// Whether there is a field of q elements exactly where the table has one, and no field is refused as such.
+// Whether there is a field of q elements exactly if the table has one, and no field is refused as such.
 fn is_field_or_refused(alloc: Global, q: u64) -> bool {
     match Field::of(alloc, q) {
         Ok(field) => is_size(q) && field.size() as u64 == q,

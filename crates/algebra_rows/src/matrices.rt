@@ -104,7 +104,7 @@ fn forms_over_fields(rt: HostRuntime) -> Result<(), Fail> {
     Ok(())
 }
 
-// The size of the field, the rows, a set of columns, and the rows of the matrix that is the identity there; none, where there
+// The size of the field, the rows, a set of columns, and the rows of the matrix that is the identity there; none, if there
 // is no such matrix.
 const SETS: [(u64, &[&[u8]], &[usize], &[&[u8]]); 7] = [
     (
@@ -136,7 +136,7 @@ const SETS: [(u64, &[&[u8]], &[usize], &[&[u8]]); 7] = [
     ),
 ];
 
-// Whether the matrix that is the identity on the set has these rows; none, where there is no such matrix.
+// Whether the matrix that is the identity on the set has these rows; none, if there is no such matrix.
 fn is_systematic(
     alloc: Global,
     matrix: &Matrix,
@@ -196,7 +196,7 @@ const SYSTEMS: [(u64, usize, &[&[u8]], &[u8], bool); 8] = [
     (2, 2, &[], &[], true),
 ];
 
-// A solution, where the right side has a symbol for each row.
+// A solution, if the right side has a symbol for each row.
 fn solution(alloc: Global, matrix: &Matrix, right: &[u8]) -> Result<Option<Word>, NoMemory> {
     if right.len() != matrix.rows() || !fits(matrix.field(), right) {
         return Ok(None);

@@ -148,7 +148,7 @@ fn cyclotomic_sets(rt: HostRuntime) -> Result<(), Fail> {
     Ok(())
 }
 
-// The polynomial of a list; the zero polynomial where an entry is no element.
+// The polynomial of a list; the zero polynomial if an entry is no element.
 fn poly(alloc: Global, field: &Field, list: &[u8]) -> Result<Poly, NoMemory>
     ensures { IfOk result (λ p. p.field ≡ field.now) }
 {

@@ -33,7 +33,7 @@ pub const BENCHES: [(&str, Bench); 12] = [
     ("parse_matrix", Bench::ParseMatrix),
 ];
 
-/// The bench with a name, where there is one.
+/// The bench with a name, if there is one.
 pub fn bench_named(word: &str) -> Option<Bench> {
     for (name, bench) in BENCHES {
         if word == name {

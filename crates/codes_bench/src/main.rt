@@ -15,7 +15,7 @@ use std::env;
 use std::process::ExitCode;
 use std::rt::{Clock, Env, Runtime};
 
-// The first word after the program's name, where there is one.
+// The first word after the program's name, if there is one.
 fn first_word<R: Env + AllocGlobal>(rt: &R) -> Result<Option<String>, Failure> {
     Ok(env::args(rt)?.nth(1))
 }

@@ -3,7 +3,7 @@ use lc_parse::{ParseRefusal, TokenKind, parse, tokens};
 use std::alloc::{AllocError, Global};
 use std::test::Fail;
 
-// The number and the place of the fault of a script, or 0 and 0 where it has none.
+// The number and the place of the fault of a script, or 0 and 0 if it has none.
 fn fault_of(alloc: Global, bytes: &[u8]) -> Result<(u8, usize), AllocError> {
     match parse(alloc, bytes) {
         Ok(_) => Ok((0, 0)),

@@ -34,7 +34,7 @@ actor_with count pairs (x ∷ xs) = cond (ltb x count) (record { held = Some x; 
 abbrev pub actor_of : ℕ → Book → Actor
 actor_of count b = actor_with count b.reported (pending b)
 
--- an actor holds the number below the count that it drew and hasn't reported, it is past where it drew one at or above
+-- an actor holds the number below the count that it drew and hasn't reported, it is past if it drew one at or above
 -- the count, and it has finished what it reported
 pub record IsActor (count : ℕ) (b : Book) (a : Actor) : Type 0 where
   pub held : (x : ℕ) → (a.held ≡ Some x) ↔ (Contains b.drawn x × (x < count) × (Contains (reported_numbers b) x → ⊥))

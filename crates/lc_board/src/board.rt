@@ -48,7 +48,7 @@ impl Model for BoardSeat {
 
 impl Board {
     /// A board of `count` numbers, at most 2^40, with its root's seat, which draws and reports as any other. `first`, any
-    /// number of 64 bits, is the best value before any report. Refused only for want of memory.
+    /// number of 64 bits, is the best value before any report. Refused only if no memory is left.
     pub fn open(alloc: Global, count: u64, first: u64) -> Result<(Board, BoardSeat), NoMemory>
         requires { count ≤ 2 ^ 40 }
         ensures board { IfOk result (λ r. (r.0.first ≡ first) × (r.0.count ≡ count)) }
@@ -72,7 +72,7 @@ impl Board {
         BoardSeat { seat: new }
     }
 
-    /// Draws a number by one fetch-add, for a seat that has reported each number that it drew. None comes exactly where
+    /// Draws a number by one fetch-add, for a seat that has reported each number that it drew. None comes exactly if
     /// the number is at or above the count, and then the seat draws no more. The number exceeds all that this seat drew
     /// before, and no other seat draws it. Takes no memory.
     pub fn claim(&self, seat: &mut BoardSeat) -> Option<u64>

@@ -155,7 +155,7 @@ pub enum Event {
     Claim(u32),
     /// The actor reports a value for the block that it holds.
     Report(u32, u64),
-    /// The round ends. It is possible where all blocks were drawn and nobody holds one.
+    /// The round ends. It is possible if all blocks were drawn and nobody holds one.
     EndRound,
     /// The round is broken off.
     Kill,
@@ -189,7 +189,7 @@ impl Model for RoundState {
 
 impl RoundState {
     /// The starting state of a round of `count` blocks, at most 256, for `actors` actors, 1 to 256. `first` is the
-    /// best value before any report. Refused only for want of memory.
+    /// best value before any report. Refused only if no memory is left.
     pub fn new(alloc: Global, count: u64, first: u64, actors: u32) -> Result<RoundState, NoMemory>
         requires blocks { count ≤ 256 }
         requires actors { (1 ≤ actors) × (actors ≤ 256) }
@@ -209,7 +209,7 @@ impl RoundState {
         })
     }
 
-    /// Does one event, and answers false exactly where the event isn't possible; then, and where memory ran out,
+    /// Does one event, and answers false exactly if the event isn't possible; then, and if memory ran out,
     /// the state is as before.
     pub fn step(&mut self, alloc: Global, event: Event) -> Result<bool, NoMemory>
         ensures answer { IfOk result (λ done. IsTrue done ↔ Possible self.old event) }
@@ -315,7 +315,7 @@ impl RoundState {
         self.mode.is_ended()
     }
 
-    /// The block that an actor holds, and None exactly where it holds none. The actor is below the number of actors.
+    /// The block that an actor holds, and None exactly if it holds none. The actor is below the number of actors.
     pub fn held(&self, actor: u32) -> Option<u64>
         requires { actor < length self.now.actors }
         ensures { result ≡ (actor_at self.now actor).held }

@@ -88,7 +88,7 @@ all_pass : list_all (λ large. list_all (expansion_test large) all_fields) all_f
 unfolding digits number plus minus times top up times_x product shape shape_of size is_symbol coefficients add mul value_at first_from first_that root embed below all_lists all_fields degree_over all_distinct value_of degree_test expansion_test
 all_pass = refl
 
-passes : {X : Type 0} (p : X → Bool) (xs : List X) (x : X) → list_all p xs ≡ true → Contains xs x → p x ≡ true
+pub passes : {X : Type 0} (p : X → Bool) (xs : List X) (x : X) → list_all p xs ≡ true → Contains xs x → p x ≡ true
 passes p xs x h c = All-contains (λ y. p y ≡ true) xs x (AllPass-from_list_all p xs h) c
 
 tested : (b c : Bool) → IsTrue b → (not b || c) ≡ true → c ≡ true

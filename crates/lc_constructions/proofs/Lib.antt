@@ -10,5 +10,8 @@ pub mod InverseLaws
 pub mod ExpansionLaws
 pub mod ClosedLaws
 pub mod GoppaLaws
+pub mod FormLaws
+pub mod CosetLaws
+pub mod CosetExamples
 pub mod CheckLaws
 pub mod AlternantLaws

@@ -1,5 +1,5 @@
 -- Words that are in a code and words that aren't, evaluated: what tells each definition from the nearest wrong one.
---   same_list u v, is_among, absent       a word that a list lacks
+--   same_list u v, same_from_test, absent      a word that a list lacks
 --   reed_solomon_outside, bch_outside, goppa_outside      words with one zero fewer than the code's
 --   dual_inside, dual_outside             the dual of a code of length 3
 --   intersection_inside, intersection_outside
@@ -31,7 +31,7 @@ use Rattle.lc_constructions.specs.Combined.{InDual, symbol_sum, InExtended, with
 
 -- ---- a word that a list lacks
 
-unfoldable same_list : List ℕ → List ℕ → Bool
+unfoldable pub same_list : List ℕ → List ℕ → Bool
 same_list [] [] = true
 same_list (a ∷ u) (b ∷ v) = (a == b) && same_list u v
 same_list _ _ = false
@@ -40,6 +40,13 @@ same_itself : (w : List ℕ) → same_list w w ≡ true
 unfolding same_list
 same_itself [] = refl
 same_itself (a ∷ w) = rw (eq-eqb a a refl) (same_itself w)
+
+pub same_from_test : (u v : List ℕ) → same_list u v ≡ true → u ≡ v
+unfolding same_list
+same_from_test [] [] h = refl
+same_from_test [] (b ∷ v) h = absurd (true≢false (sym h))
+same_from_test (a ∷ u) [] h = absurd (true≢false (sym h))
+same_from_test (a ∷ u) (b ∷ v) h = let t = and_parts (a == b) (same_list u v) h in cc (eqb-true a b t.0, same_from_test u v t.1)
 
 absent : (w : List ℕ) (ws : List (List ℕ)) → list_any (same_list w) ws ≡ false → Contains ws w → ⊥
 absent w ws h c = true≢false (sym (contains_any (same_list w) ws w c (same_itself w)) ∙ h)

@@ -1,22 +1,24 @@
 //! The laws of the definitions, as the contracts of functions that do nothing: what a reader of the definitions may expect of
 //! them, and what the crates above rest on.
 
-ghost use Rattle.std.specs.Prelude.{◌≡◌, ℕ, suc, ◌+◌, ◌*◌, ◌/◌, ◌<◌, ◌≤◌, ◌↔◌, List, [], ◌∷◌, ◌++◌, length, map, Option, Some, None, IsTrue, Contains};
+ghost use Rattle.std.specs.Prelude.{◌≡◌, ◌≢◌, ℕ, suc, ◌+◌, ◌-◌, ◌*◌, ◌%◌, ◌/◌, ◌<◌, ◌≤◌, ◌↔◌, List, [], ◌∷◌, ◌++◌, length, map, Option, Some, None, IsTrue, Contains, AllPairs, slice_index_or};
 ghost use Rattle.lc_algebra.specs.declared.FieldName.{FieldName};
 ghost use Rattle.lc_algebra.specs.declared.FieldName.TheVariants.{Gf2};
+ghost use Rattle.lc_algebra.specs.Residue.{number};
 ghost use Rattle.lc_algebra.specs.Field.{size, is_symbol, IsInverse, HasOrder};
 ghost use Rattle.lc_algebra.specs.Polynomial.{value_at, IsPolynomial};
 ghost use Rattle.lc_algebra.specs.Embedding.{IsSubfield, embed};
-ghost use Rattle.lc_algebra.specs.Word.{IsWord, zero_word};
+ghost use Rattle.lc_algebra.specs.Word.{Fits, IsWord, zero_word, difference};
 ghost use Rattle.lc_algebra.specs.Span.{IsWeightBound};
 ghost use Rattle.lc_algebra.specs.Matrix.{Matrix, AreRows};
-ghost use Rattle.lc_constructions.specs.Code.{IsCode, IsClosed};
+ghost use Rattle.lc_constructions.specs.Code.{is_length, IsCode, IsClosed};
 ghost use Rattle.lc_constructions.specs.Basic.{all_lists, hamming_columns};
-ghost use Rattle.lc_constructions.specs.Cyclic.{IsLocatorField, locator_field};
-ghost use Rattle.lc_constructions.specs.Alternant.{AlternantForm, IsForm, IsFormOf, inverse, IsAlternantWord, IsGoppaWord};
+ghost use Rattle.lc_constructions.specs.Cyclic.{IsLocatorField, locator_field, IsBchWord, IsReedSolomonWord};
+ghost use Rattle.lc_constructions.specs.Alternant.{AlternantForm, IsForm, IsFormOf, inverse, IsAlternantWord, IsGoppaWord, goppa_form, bch_form};
 ghost use Rattle.lc_constructions.specs.Goppa.{AreCongruent, AreFractions, fraction_sum, IsGoppaWordByFractions};
 ghost use Rattle.lc_constructions.specs.Combined.{InDual, InExtended, without, InPunctured, InShortened, InEvenWeight, InDirectSum, InUuv, InDirectProduct, InIntersection};
 ghost use Rattle.lc_constructions.specs.Concatenated.{IsExpansion, InConcatenated};
+ghost use Rattle.lc_constructions.specs.Coset.{AreInOneCoset, IsLeader, syndrome, IsParityCheck, IsLeaderTable};
 ghost use Rattle.lc_constructions.specs.Nearest.{IsNearest, IsWithin, IsDecoded};
 ghost use Rattle.lc_constructions.specs.Refusals.{degree_over};
 
@@ -67,6 +69,27 @@ pub fn locator_field_is_least(field: FieldName)
 #[tactic(auto, using(crate::proofs::InverseLaws::inverse_is))]
 pub fn inverse_inverts(field: FieldName)
     ensures is { (a : ℕ) → a < size field → 0 < a → IsInverse field a (inverse field a) }
+{}
+
+/// The code of a BCH, Reed-Solomon or Goppa constructor is the code of the alternant form that is made beside it. So its nonzero
+/// words have at least the design distance, d of a BCH or Reed-Solomon code and one more than the degree of a Goppa polynomial,
+/// as their weight. (MacWilliams and Sloane, chapters 7, 10 and 12.)
+pub fn codes_have_their_forms(field: FieldName, locator: FieldName)
+    ensures bch { (n b d : ℕ) (C : Matrix) → IsTrue (is_symbol field) → IsSubfield field locator → IsTrue (is_length n) → (size locator - 1) % n ≡ 0 → IsCode field n (IsBchWord field locator n b d) C → IsFormOf C (bch_form locator n b d) }
+    ensures reed_solomon { (n d : ℕ) (C : Matrix) → IsTrue (is_symbol field) → size field ≡ n + 1 → IsTrue (is_length n) → IsCode field n (IsReedSolomonWord field d) C → IsFormOf C (bch_form field n 1 d) }
+    ensures goppa { (g points : List ℕ) (C : Matrix) → IsTrue (is_symbol field) → IsSubfield field locator → IsTrue (is_length (length points)) → Fits locator points → AllPairs (λ a b. a ≢ b) points → ((a : ℕ) → Contains points a → 0 < value_at locator g a) →
+        IsCode field (length points) (IsGoppaWord field locator g points) C → IsFormOf C (goppa_form locator g points) }
+{}
+
+/// Each coset has exactly one leader, x less the leader of its coset is the word nearest to x, and words of one coset have the same
+/// syndrome. So a table of leaders gives the nearest word. (MacWilliams and Sloane, chapter 1.)
+pub fn leaders_give_nearest_words()
+    ensures some_leader { (C : Matrix) (x : List ℕ) → AreRows C.field C.columns C.rows → IsWord C.field C.columns x → (e : List ℕ) × IsLeader C x e }
+    ensures one_leader { (C : Matrix) (x d e : List ℕ) → IsLeader C x d → IsLeader C x e → d ≡ e }
+    ensures nearest { (C : Matrix) (x e : List ℕ) → AreRows C.field C.columns C.rows → IsWord C.field C.columns x → IsLeader C x e → IsNearest C x (difference C.field x e) }
+    ensures one_syndrome { (C : Matrix) (checks : List (List ℕ)) (x y : List ℕ) → IsParityCheck C checks → IsWord C.field C.columns x → IsWord C.field C.columns y → AreInOneCoset C x y → syndrome C.field checks x ≡ syndrome C.field checks y }
+    ensures table { (C : Matrix) (checks leaders : List (List ℕ)) (x : List ℕ) → AreRows C.field C.columns C.rows → IsLeaderTable C checks leaders → IsWord C.field C.columns x →
+        IsNearest C x (difference C.field x (slice_index_or leaders (number (size C.field) (syndrome C.field checks x)) [])) }
 {}
 
 /// A word is in a Goppa code exactly if the sum of w_i / (x - a_i) is 0 modulo the Goppa polynomial, whichever polynomials stand for

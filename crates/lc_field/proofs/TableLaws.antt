@@ -40,7 +40,7 @@ digits_below p s low rest l d r =
     let m : p * suc rest ≤ p * p ^ (s - 1) = mul-le-mul_left p r in
     omega (arith, m, power_down p s l, d)
 
--- the same where the base is small, for the code's bounds
+-- the same if the base is small, for the code's bounds
 pub power_down_small : (p s : ℕ) → 0 < s → 1 < p → p ^ s ≤ 256 → p ^ (s - 1) ≤ 256
 power_down_small p s l o small =
     let m : 1 * p ^ (s - 1) ≤ p * p ^ (s - 1) = mul-le 1 (p ^ (s - 1)) p (p ^ (s - 1)) (omega arith) (omega arith) in

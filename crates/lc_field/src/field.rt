@@ -43,7 +43,7 @@ impl Model for Field {
 }
 
 impl Field {
-    /// The field of `q` elements, with its tables. Refused with `NotAField` exactly where `q` is none of
+    /// The field of `q` elements, with its tables. Refused with `NotAField` exactly if `q` is none of
     /// 2, 3, 4, 5, 7, 8, 9, 11, 13, 16, 25, 27, 32, 64, 81, 128, 243 and 256.
     pub fn of(alloc: Global, q: u64) -> Result<Field, FieldRefusal>
         ensures size { IfOk result (λ f. size f ≡ q) }
@@ -234,7 +234,7 @@ impl Field {
         self.value_at(small.row.degree, a, self.root_of(small))
     }
 
-    /// The element of the subfield `small` that is embedded as the element `b`; None exactly where there is none.
+    /// The element of the subfield `small` that is embedded as the element `b`; None exactly if there is none.
     pub fn unembed(&self, small: &Field, b: u8) -> Option<u8>
         requires subfield { IsSubfield small.now self.now }
         requires element { b < size self.now }

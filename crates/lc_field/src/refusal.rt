@@ -30,7 +30,7 @@ pub enum FieldRefusal {
 }
 
 impl FieldRefusal {
-    /// The number of the refusal, 1 for `NotAField`; want of memory has none, and gives 0.
+    /// The number of the refusal, 1 for `NotAField`; lack of memory has none, and gives 0.
     pub fn number(&self) -> u8
         ensures not_a_field { self.now ≡ refusal.NotAField → result ≡ 1 }
         ensures no_memory { self.now ≡ refusal.NoMemory → result ≡ 0 }

@@ -10,7 +10,7 @@
 --   certificate_plain, certificate_shallow      its JSON value is a plain one, three deep
 --   reads_members            its members read as the certificate
 --   certificate_back         its text reads as the certificate
-use Rattle.std.proofs.Common.{◌≡◌, ℕ, suc, ◌^◌, ◌<◌, ◌≤◌, Bool, true, false, not, nat_le, ◌==◌, ◌&&◌, ◌||◌, if◌then◌else◌, List, [], ◌∷◌, map, length, find, All, Option, Some, None, option_map, option_and_then, refl, sym, ap, ap₂, ◌∙◌, arith}
+use Rattle.std.proofs.Common.{◌≡◌, ℕ, suc, ◌^◌, ◌<◌, ◌≤◌, Bool, true, false, not, nat_le, ◌==◌, ◌&&◌, ◌||◌, if◌then◌else◌, List, [], ◌∷◌, map, length, find, All, Option, Some, None, option_map, option_and_then, unwrap_or, refl, sym, ap, ap₂, ◌∙◌, arith}
 use Rattle.std.specs.Prelude.{⊤, codes}
 use Rattle.std.specs.List.{list_all}
 use Rattle.std.proofs.lemmas.Bool.{and_from, leb-true, le-leb, le-ltb, false≢true}
@@ -32,9 +32,13 @@ use Rattle.lc_formats.specs.Json.{number_json, items, numbers_json, number_at, l
 use Rattle.lc_formats.specs.Text.{same_bytes}
 use Rattle.lc_formats.specs.CertificateText.{claim_members, claim_json, way_text, with_sets, certificate_members, certificate_json, certificate_text}
 use Rattle.lc_formats.specs.Shape.{IsShapedSet, AreShapedSets, IsShaped}
-use Rattle.lc_formats.specs.Check.{CertificateRead, reads_as, refused_as, rows_at, field_at, fit, are_rows, is_scan, are_places, claim_in, sets_at, fresh_in_basis, above, with_keys, certificate_over, levels_in, sets_in, way_in, distance_in, word_in, rows_in, field_in, object_in, data_in, certificate_in}
+use Rattle.lc_formats.specs.Check.{CertificateRead, reads_as, refused_as, rows_at, field_at, fit, are_rows, is_scan, are_places, claim_in, sets_at, fresh_in_basis, above, certificate_over, levels_in, sets_in, way_in, distance_in, word_in, rows_in, parts_in, key_count, are_set_keys, set_total, is_beyond_limit, closed, field_in, is_version, object_in, data_in, certificate_in}
 use Rattle.lc_formats.proofs.JsonLaws.{IsPlain, ArePlain, plain_items, plain_numbers, items_shallow, numbers_shallow, listed_items, each_back, numbers_back, json_back}
 use Rattle.lc_formats.proofs.TestLaws.{all_passes, word_passes, places_pass, part_passes}
+
+-- a certificate whose proof is p
+abbrev by : Certificate → Proof → Certificate
+by c p = record { field = c.field; rows = c.rows; word = c.word; distance = c.distance; proof = p }
 
 pub mapped_all : {X Y : Type 0} (write : X → Y) (P : Y → Type 0) (xs : List X) → All (λ x. P (write x)) xs → All P (map write xs)
 mapped_all write P [] a = λ k d l. absurd (omega (arith, l))
@@ -115,6 +119,12 @@ objects_back claims = ap (λ ds. each (map as_object ds)) (listed_items (map cla
 claims_back : (n : ℕ) (claims : List SetClaim) → All (IsShapedSet n) claims → each (map (claim_in n) (map claim_members claims)) ≡ Some claims
 claims_back n claims a = each_back claim_members (claim_in n) claims (λ k d l. set_members_back n _ (a k d l))
 
+sets_are_back : (c : Certificate) (claims : List SetClaim) → AreShapedSets (code_length c) (levels claims) → sets_at (certificate_members (by c (levels claims))) ≡ Some (map claim_members claims)
+unfolding sets_at certificate_members with_sets
+sets_are_back c claims s =
+    ap (provided (λ sets. nat_le 1 (length sets))) (objects_back claims)
+    ∙ provided_some (λ sets. nat_le 1 (length sets)) (map claim_members claims) (le-leb 1 _ (omega (arith, length-map claims claim_members, s.0)))
+
 keys_of_sets : (claims : List SetClaim) → list_all (λ s. member_count s == 3) (map claim_members claims) ≡ true
 unfolding member_count claim_members
 keys_of_sets [] = refl
@@ -131,10 +141,6 @@ rows_plain c h = plain_items (map numbers_json c.rows) (mapped_all numbers_json 
 
 word_plain : (c : Certificate) → IsShaped c → IsPlain (numbers_json c.word)
 word_plain c h = plain_numbers c.word (symbols_small c.field (code_length c) c.word h.field_fits h.word_fits)
-
--- a certificate whose proof is p
-abbrev by : Certificate → Proof → Certificate
-by c p = record { field = c.field; rows = c.rows; word = c.word; distance = c.distance; proof = p }
 
 plain_by : (c : Certificate) → IsShaped c → (p : Proof) → AreShapedSets (code_length c) p → IsPlain (certificate_json (by c p))
 unfolding certificate_json certificate_members with_sets way_text number_json
@@ -160,36 +166,48 @@ pub certificate_shallow : (c : Certificate) → depth (certificate_json c) ≤ 4
 certificate_shallow c = shallow_by c c.proof
 
 -- once the proof is known
-keys_back : (c : Certificate) → IsShaped c → (p : Proof) → AreShapedSets (code_length c) p → way_in (certificate_members (by c p)) (code_length c) (certificate_over c.field c.rows c.word c.distance) (is_scan (way_text p)) ≡ reads_as (by c p)
-unfolding certificate_members with_sets way_text is_scan same_bytes way_in with_keys certificate_over sets_in sets_at levels_in member_count code_length
-keys_back c h scan s =
-    ap (λ b. if b then refused_as limit else reads_as (by c scan)) (few (code_length c) (length c.rows) 0 h.few_columns h.few_rows (omega arith))
-keys_back c h (levels claims) s =
-    let ms = certificate_members (by c (levels claims)) in
+way_back : (c : Certificate) → IsShaped c → (p : Proof) → AreShapedSets (code_length c) p → way_in (certificate_members (by c p)) (code_length c) (certificate_over c.field c.rows c.word c.distance) (is_scan (way_text p)) ≡ reads_as (by c p)
+unfolding certificate_members with_sets way_text is_scan same_bytes way_in certificate_over sets_in levels_in
+way_back c h scan s = refl
+way_back c h (levels claims) s =
     let make = certificate_over c.field c.rows c.word c.distance in
     let n = code_length c in
-    ap (sets_in ms n make) (ap (provided (λ sets. nat_le 1 (length sets))) (objects_back claims) ∙ provided_some (λ sets. nat_le 1 (length sets)) (map claim_members claims) (le-leb 1 _ (omega (arith, length-map claims claim_members, s.0))))
-    ∙ ap (levels_in ms make (map claim_members claims)) (claims_back n claims s.2)
-    ∙ ap (λ b. if b then with_keys ms (make (levels claims)) 7 (map claim_members claims) else refused_as (broken 10)) (all_passes fresh_in_basis (IsShapedSet n) (λ claim shaped. part_passes claim shaped.part) claims s.2)
-    ∙ ap (λ b. if not b then refused_as (broken 11) else (if above n || (above (length c.rows) || above (length (map claim_members claims))) then refused_as limit else reads_as (by c (levels claims)))) (keys_of_sets claims)
-    ∙ ap (λ b. if b then refused_as limit else reads_as (by c (levels claims))) (few n (length c.rows) (length (map claim_members claims)) h.few_columns h.few_rows (omega (arith, length-map claims claim_members, s.1)))
+    ap (sets_in n make) (sets_are_back c claims s)
+    ∙ ap (levels_in make) (claims_back n claims s.2)
+    ∙ ap (λ b. if b then reads_as (by c (levels claims)) else refused_as (broken 10)) (all_passes fresh_in_basis (IsShapedSet n) (λ claim shaped. part_passes claim shaped.part) claims s.2)
+
+-- the rules 4 to 10
+parts_back : (c : Certificate) → IsShaped c → (p : Proof) → AreShapedSets (code_length c) p → parts_in (certificate_members (by c p)) c.field ≡ reads_as (by c p)
+unfolding certificate_members number_at number_json provided parts_in rows_at rows_in list_at word_in distance_in code_length with_sets
+parts_back c h scan s =
+    let ms = certificate_members (by c scan) in
+    ap (rows_in ms c.field) (ap (provided (are_rows c.field)) (lists_back c.rows) ∙ provided_some (are_rows c.field) c.rows (rows_pass c.field (code_length c) c.rows h.has_rows h.has_columns h.rows_fit))
+    ∙ ap (word_in ms c.field c.rows) (ap (provided (fit c.field (columns_of c.rows))) (numbers_back c.word) ∙ provided_some (fit c.field (columns_of c.rows)) c.word (ap (λ k. fit c.field k c.word) (columns_are c.field (code_length c) c.rows h.has_rows h.rows_fit) ∙ word_passes c.field (code_length c) c.word h.word_fits))
+    ∙ ap (distance_in ms (length c.word) (certificate_over c.field c.rows c.word)) (provided_some (nat_le 1) c.distance (le-leb 1 c.distance h.positive))
+    ∙ way_back c h scan s
+parts_back c h (levels claims) s =
+    let ms = certificate_members (by c (levels claims)) in
+    ap (rows_in ms c.field) (ap (provided (are_rows c.field)) (lists_back c.rows) ∙ provided_some (are_rows c.field) c.rows (rows_pass c.field (code_length c) c.rows h.has_rows h.has_columns h.rows_fit))
+    ∙ ap (word_in ms c.field c.rows) (ap (provided (fit c.field (columns_of c.rows))) (numbers_back c.word) ∙ provided_some (fit c.field (columns_of c.rows)) c.word (ap (λ k. fit c.field k c.word) (columns_are c.field (code_length c) c.rows h.has_rows h.rows_fit) ∙ word_passes c.field (code_length c) c.word h.word_fits))
+    ∙ ap (distance_in ms (length c.word) (certificate_over c.field c.rows c.word)) (provided_some (nat_le 1) c.distance (le-leb 1 c.distance h.positive))
+    ∙ way_back c h (levels claims) s
+
+closed_back : (c : Certificate) → IsShaped c → (p : Proof) → AreShapedSets (code_length c) p → closed (certificate_members (by c p)) (reads_as (by c p)) ≡ reads_as (by c p)
+unfolding certificate_members with_sets closed member_count key_count are_set_keys is_beyond_limit set_total sets_at code_length provided
+closed_back c h scan s = ap (λ b. if b then refused_as limit else reads_as (by c scan)) (few (code_length c) (length c.rows) 0 h.few_columns h.few_rows (omega arith))
+closed_back c h (levels claims) s =
+    ap (λ o. if not (list_all (λ k. member_count k == 3) (unwrap_or o [])) then refused_as (broken 11) else (if is_beyond_limit (by c (levels claims)) then refused_as limit else reads_as (by c (levels claims)))) (sets_are_back c claims s)
+    ∙ ap (λ b. if not b then refused_as (broken 11) else (if is_beyond_limit (by c (levels claims)) then refused_as limit else reads_as (by c (levels claims)))) (keys_of_sets claims)
+    ∙ ap (λ b. if b then refused_as limit else reads_as (by c (levels claims))) (few (code_length c) (length c.rows) (length claims) h.few_columns h.few_rows s.1)
 
 members_by : (c : Certificate) → IsShaped c → (p : Proof) → AreShapedSets (code_length c) p → data_in (Some (certificate_json (by c p))) ≡ reads_as (by c p)
-unfolding data_in object_in certificate_json certificate_members number_at number_json provided field_at field_in rows_at rows_in list_at word_in distance_in code_length with_sets
+unfolding data_in object_in is_version certificate_json certificate_members number_at number_json provided field_at field_in with_sets
 members_by c h scan s =
     let ms = certificate_members (by c scan) in
-    ap (field_in ms) (field_back c.field h.field_fits)
-    ∙ ap (rows_in ms c.field) (ap (provided (are_rows c.field)) (lists_back c.rows) ∙ provided_some (are_rows c.field) c.rows (rows_pass c.field (code_length c) c.rows h.has_rows h.has_columns h.rows_fit))
-    ∙ ap (word_in ms c.field c.rows) (ap (provided (fit c.field (columns_of c.rows))) (numbers_back c.word) ∙ provided_some (fit c.field (columns_of c.rows)) c.word (ap (λ k. fit c.field k c.word) (columns_are c.field (code_length c) c.rows h.has_rows h.rows_fit) ∙ word_passes c.field (code_length c) c.word h.word_fits))
-    ∙ ap (distance_in ms (length c.word) (certificate_over c.field c.rows c.word)) (provided_some (nat_le 1) c.distance (le-leb 1 c.distance h.positive))
-    ∙ keys_back c h scan s
+    ap (λ o. closed ms (field_in ms o)) (field_back c.field h.field_fits) ∙ ap (closed ms) (parts_back c h scan s) ∙ closed_back c h scan s
 members_by c h (levels claims) s =
     let ms = certificate_members (by c (levels claims)) in
-    ap (field_in ms) (field_back c.field h.field_fits)
-    ∙ ap (rows_in ms c.field) (ap (provided (are_rows c.field)) (lists_back c.rows) ∙ provided_some (are_rows c.field) c.rows (rows_pass c.field (code_length c) c.rows h.has_rows h.has_columns h.rows_fit))
-    ∙ ap (word_in ms c.field c.rows) (ap (provided (fit c.field (columns_of c.rows))) (numbers_back c.word) ∙ provided_some (fit c.field (columns_of c.rows)) c.word (ap (λ k. fit c.field k c.word) (columns_are c.field (code_length c) c.rows h.has_rows h.rows_fit) ∙ word_passes c.field (code_length c) c.word h.word_fits))
-    ∙ ap (distance_in ms (length c.word) (certificate_over c.field c.rows c.word)) (provided_some (nat_le 1) c.distance (le-leb 1 c.distance h.positive))
-    ∙ keys_back c h (levels claims) s
+    ap (λ o. closed ms (field_in ms o)) (field_back c.field h.field_fits) ∙ ap (closed ms) (parts_back c h (levels claims) s) ∙ closed_back c h (levels claims) s
 
 pub reads_members : (c : Certificate) → IsShaped c → data_in (Some (certificate_json c)) ≡ reads_as c
 reads_members c h = members_by c h c.proof h.sets_fit

@@ -4,7 +4,9 @@
 --   is_below_limit             what isn't above the limit
 --   find_passes                what was found passes the test
 --   field_found                a field that was found is a symbol field
---   keys_shaped .. object_shaped      the parts of the reading, from its end on
+--   HasRulesRead r             if r is a certificate, it meets all rules but the limits
+--   closed_shaped              with the limits, it has the shape
+--   levels_shaped .. object_shaped      the parts of the reading, from its end on
 --   certificate_shaped         a certificate that bytes read as has the shape
 use Rattle.std.proofs.Common.{◌≡◌, ℕ, ◌^◌, ◌<◌, ◌≤◌, Bool, true, false, not, nat_le, ◌==◌, ◌&&◌, ◌||◌, cond, if◌then◌else◌, List, [], ◌∷◌, map, length, find, is_some, All, Contains, Option, Some, None, option_map, option_and_then, refl, sym, ap, subst, ◌∙◌, arith}
 use Rattle.std.specs.Prelude.{⊤, codes}
@@ -24,7 +26,7 @@ use Rattle.lc_constructions.specs.Refusals.{columns_of}
 use Rattle.lc_formats.specs.Certificate.{Certificate, SetClaim, Proof, scan, levels, code_length, Reason, limit, not_json, shape as broken}
 use Rattle.lc_formats.specs.Json.{number_at, listed, each, list_at, provided, member_count, json_in}
 use Rattle.lc_formats.specs.Shape.{IsShapedSet, AreShapedSets, IsShaped}
-use Rattle.lc_formats.specs.Check.{CertificateRead, reads_as, refused_as, rows_at, field_at, fit, are_rows, is_scan, are_places, claim_in, sets_at, fresh_in_basis, above, with_keys, certificate_over, levels_in, sets_in, way_in, distance_in, word_in, rows_in, field_in, object_in, data_in, certificate_in}
+use Rattle.lc_formats.specs.Check.{CertificateRead, reads_as, refused_as, rows_at, field_at, fit, are_rows, is_scan, are_places, claim_in, sets_at, fresh_in_basis, above, certificate_over, levels_in, sets_in, way_in, distance_in, word_in, rows_in, parts_in, key_count, are_set_keys, set_total, is_beyond_limit, closed, field_in, is_version, object_in, data_in, certificate_in}
 use Rattle.lc_formats.proofs.TestLaws.{all_holds, word_holds, places_hold, part_holds}
 use Rattle.lc_formats.proofs.ReadLaws.{AreFit, MembersFit, json_fits, number_fits, object_fits, listed_fit, array_fits_at, Provided, provided_inside, each_all, each_length}
 
@@ -35,6 +37,9 @@ chosen_passes false p a x rest t h e = h e
 pub find_passes : {X : Type 0} (p : X → Bool) (xs : List X) (x : X) → find p xs ≡ Some x → p x ≡ true
 find_passes p [] x e = absurd cc
 find_passes p (a ∷ xs) x e = chosen_passes (p a) p a x (find p xs) refl (find_passes p xs x) e
+
+same_read : (c d : Certificate) → reads_as c ≡ reads_as d → c ≡ d
+same_read c d e = cc e
 
 abbrev pub IsShapedRead : CertificateRead → Type 0
 IsShapedRead r = (c : Certificate) → r ≡ reads_as c → IsShaped c
@@ -54,19 +59,6 @@ is_below_limit : (n : ℕ) → above n ≡ false → n ≤ longest
 unfolding above
 is_below_limit n e = ltb-false longest n e
 
-same_read : (c d : Certificate) → reads_as c ≡ reads_as d → c ≡ d
-same_read c d e = cc e
-
-keys_shaped : (ms : Members) (c : Certificate) (keys : ℕ) (sets : List Members) → (length c.word ≤ longest → length c.rows ≤ longest → length sets ≤ longest → IsShaped c) → IsShapedRead (with_keys ms c keys sets)
-unfolding with_keys
-keys_shaped ms c keys sets h =
-    let many = above (length c.word) || (above (length c.rows) || above (length sets)) in
-    either_way (not ((member_count ms == keys) && list_all (λ s. member_count s == 3) sets)) (refused_as (broken 11)) (if many then refused_as limit else reads_as c) (λ e. refused_shaped (broken 11))
-    (λ e. either_way many (refused_as limit) (reads_as c) (λ k. refused_shaped limit)
-    (λ k. let s = or_false (above (length c.word)) (above (length c.rows) || above (length sets)) k in
-    let t = or_false (above (length c.rows)) (above (length sets)) s.1 in
-    λ d same. subst IsShaped (same_read c d same) (h (is_below_limit (length c.word) s.0) (is_below_limit (length c.rows) t.0) (is_below_limit (length sets) t.1))))
-
 -- all but the rules of the sets
 record IsNearlyShaped (f : FieldName) (rows : List (List ℕ)) (word : List ℕ) (d : ℕ) : Type 0 where
   pub symbol : is_symbol f ≡ true
@@ -77,20 +69,59 @@ record IsNearlyShaped (f : FieldName) (rows : List (List ℕ)) (word : List ℕ)
   pub positive : 1 ≤ d
   pub small : d < 2 ^ 64
 
-nearly : (f : FieldName) (rows : List (List ℕ)) (word : List ℕ) (d : ℕ) (p : Proof) → IsNearlyShaped f rows word d → length word ≤ longest → length rows ≤ longest → AreShapedSets (length word) p → IsShaped (certificate_over f rows word d p)
-unfolding certificate_over code_length
-nearly f rows word d p h few_columns few_rows sets = record {
-  field_fits = h.symbol;
-  has_rows = h.some_rows;
-  few_rows = few_rows;
-  has_columns = h.some_columns;
-  few_columns = few_columns;
-  rows_fit = h.rows_fit;
-  word_fits = h.word_fits;
-  positive = h.positive;
-  distance_fits = h.small;
-  sets_fit = sets;
-}
+-- a certificate but for the limits
+abbrev AreSets : ℕ → Proof → Type 0
+AreSets n scan = ⊤
+AreSets n (levels claims) = (1 ≤ length claims) × All (IsShapedSet n) claims
+
+record HasRules (c : Certificate) : Type 0 where
+  pub parts : IsNearlyShaped c.field c.rows c.word c.distance
+  pub sets : AreSets (length c.word) c.proof
+
+abbrev HasRulesRead : CertificateRead → Type 0
+HasRulesRead r = (c : Certificate) → r ≡ reads_as c → HasRules c
+
+limited_sets : (n : ℕ) (p : Proof) → AreSets n p → set_total p ≤ longest → AreShapedSets n p
+unfolding set_total
+limited_sets n scan h l = tt
+limited_sets n (levels claims) h l = (h.0, l, h.1)
+
+limited : (c : Certificate) → HasRules c → is_beyond_limit c ≡ false → IsShaped c
+unfolding is_beyond_limit code_length
+limited c h e =
+    let s = or_false (above (length c.word)) (above (length c.rows) || above (set_total c.proof)) e in
+    let t = or_false (above (length c.rows)) (above (set_total c.proof)) s.1 in
+    record {
+      field_fits = h.parts.symbol;
+      has_rows = h.parts.some_rows;
+      few_rows = is_below_limit (length c.rows) t.0;
+      has_columns = h.parts.some_columns;
+      few_columns = is_below_limit (length c.word) s.0;
+      rows_fit = h.parts.rows_fit;
+      word_fits = h.parts.word_fits;
+      positive = h.parts.positive;
+      distance_fits = h.parts.small;
+      sets_fit = limited_sets (length c.word) c.proof h.sets (is_below_limit (set_total c.proof) t.1);
+    }
+
+closed_shaped : (ms : Members) (r : CertificateRead) → HasRulesRead r → IsShapedRead (closed ms r)
+unfolding closed
+closed_shaped ms (refused_as r) h = refused_shaped r
+closed_shaped ms (reads_as c) h =
+    either_way (not ((member_count ms == key_count c.proof) && are_set_keys ms)) (refused_as (broken 11)) (if is_beyond_limit c then refused_as limit else reads_as c) (λ e. refused_shaped (broken 11))
+    (λ e. either_way (is_beyond_limit c) (refused_as limit) (reads_as c) (λ k. refused_shaped limit)
+    (λ k d same. subst IsShaped (same_read c d same) (limited c (h c refl) k)))
+
+refused_ruled : (r : Reason) → HasRulesRead (refused_as r)
+refused_ruled r c e = absurd cc
+
+either_ruled : (b : Bool) (x y : CertificateRead) → (b ≡ true → HasRulesRead x) → (b ≡ false → HasRulesRead y) → HasRulesRead (if b then x else y)
+either_ruled true x y h k = h refl
+either_ruled false x y h k = k refl
+
+made_ruled : (f : FieldName) (rows : List (List ℕ)) (word : List ℕ) (d : ℕ) (p : Proof) → IsNearlyShaped f rows word d → AreSets (length word) p → HasRulesRead (reads_as (certificate_over f rows word d p))
+unfolding certificate_over
+made_ruled f rows word d p h s c e = subst HasRules {x = certificate_over f rows word d p} (same_read (certificate_over f rows word d p) c e) (record { parts = h; sets = s })
 
 -- a set but for its places being in the basis
 record IsNearlySet (n : ℕ) (claim : SetClaim) : Type 0 where
@@ -126,39 +157,38 @@ both_all n claims a e =
     let parts = all_holds fresh_in_basis (λ claim. All (Contains claim.basis) claim.fresh) part_holds claims e in
     λ k d l. shaped_set n _ (a k d l) (parts k d l)
 
-levels_shaped : (ms : Members) (f : FieldName) (rows : List (List ℕ)) (word : List ℕ) (d : ℕ) (sets : List Members) → IsNearlyShaped f rows word d → All MembersFit sets → 1 ≤ length sets → (o : Option (List SetClaim)) → each (map (claim_in (length word)) sets) ≡ o → IsShapedRead (levels_in ms (certificate_over f rows word d) sets o)
+levels_shaped : (f : FieldName) (rows : List (List ℕ)) (word : List ℕ) (d : ℕ) (sets : List Members) → IsNearlyShaped f rows word d → All MembersFit sets → 1 ≤ length sets → (o : Option (List SetClaim)) → each (map (claim_in (length word)) sets) ≡ o → HasRulesRead (levels_in (certificate_over f rows word d) o)
 unfolding levels_in certificate_over
-levels_shaped ms f rows word d sets h fits some None e = refused_shaped (broken 9)
-levels_shaped ms f rows word d sets h fits some (Some claims) e =
+levels_shaped f rows word d sets h fits some None e = refused_ruled (broken 9)
+levels_shaped f rows word d sets h fits some (Some claims) e =
     let near = each_all (claim_in (length word)) MembersFit (IsNearlySet (length word)) (set_shaped (length word)) sets claims fits e in
     let long = each_length (claim_in (length word)) sets claims e in
-    either_way (list_all fresh_in_basis claims) (with_keys ms (certificate_over f rows word d (levels claims)) 7 sets) (refused_as (broken 10))
-    (λ k. keys_shaped ms (certificate_over f rows word d (levels claims)) 7 sets (λ columns few few_sets. nearly f rows word d (levels claims) h columns few (omega (arith, some, long), omega (arith, few_sets, long), both_all (length word) claims near k)))
-    (λ k. refused_shaped (broken 10))
+    either_ruled (list_all fresh_in_basis claims) (reads_as (certificate_over f rows word d (levels claims))) (refused_as (broken 10))
+    (λ k. made_ruled f rows word d (levels claims) h (omega (arith, some, long), both_all (length word) claims near k))
+    (λ k. refused_ruled (broken 10))
 
 objects_fit : (o : Option Items) (sets : List Members) → ((ds : Items) → o ≡ Some ds → All AreFit (listed ds)) → option_and_then (λ ds. each (map as_object (listed ds))) o ≡ Some sets → All MembersFit sets
 objects_fit None sets h e = absurd cc
 objects_fit (Some ds) sets h e = each_all as_object AreFit MembersFit (λ d ms fit found. object_fits d ms fit found) (listed ds) sets (h ds refl) e
 
-sets_shaped : (ms : Members) (f : FieldName) (rows : List (List ℕ)) (word : List ℕ) (d : ℕ) → IsNearlyShaped f rows word d → MembersFit ms → (o : Option (List Members)) → sets_at ms ≡ o → IsShapedRead (sets_in ms (length word) (certificate_over f rows word d) o)
+sets_shaped : (ms : Members) (f : FieldName) (rows : List (List ℕ)) (word : List ℕ) (d : ℕ) → IsNearlyShaped f rows word d → MembersFit ms → (o : Option (List Members)) → sets_at ms ≡ o → HasRulesRead (sets_in (length word) (certificate_over f rows word d) o)
 unfolding sets_in sets_at
-sets_shaped ms f rows word d h fits None e = refused_shaped (broken 8)
+sets_shaped ms f rows word d h fits None e = refused_ruled (broken 8)
 sets_shaped ms f rows word d h fits (Some sets) e =
     let some = provided_inside (λ ss. nat_le 1 (length ss)) (option_and_then (λ ds. each (map as_object (listed ds))) (option_and_then as_array (get_member (codes "sets") ms))) sets e in
     let all = objects_fit (option_and_then as_array (get_member (codes "sets") ms)) sets (λ ds k. listed_fit ds (array_fits_at (codes "sets") ms ds fits k)) some.there in
-    levels_shaped ms f rows word d sets h all (leb-true 1 (length sets) some.passes) (each (map (claim_in (length word)) sets)) refl
+    levels_shaped f rows word d sets h all (leb-true 1 (length sets) some.passes) (each (map (claim_in (length word)) sets)) refl
 
-way_shaped : (ms : Members) (f : FieldName) (rows : List (List ℕ)) (word : List ℕ) (d : ℕ) → IsNearlyShaped f rows word d → MembersFit ms → (o : Option Bool) → IsShapedRead (way_in ms (length word) (certificate_over f rows word d) o)
+way_shaped : (ms : Members) (f : FieldName) (rows : List (List ℕ)) (word : List ℕ) (d : ℕ) → IsNearlyShaped f rows word d → MembersFit ms → (o : Option Bool) → HasRulesRead (way_in ms (length word) (certificate_over f rows word d) o)
 unfolding way_in certificate_over
-way_shaped ms f rows word d h fits None = refused_shaped (broken 7)
+way_shaped ms f rows word d h fits None = refused_ruled (broken 7)
 way_shaped ms f rows word d h fits (Some true) =
-    either_way (is_some (get_member (codes "sets") ms)) (refused_as (broken 8)) (with_keys ms (certificate_over f rows word d scan) 6 []) (λ k. refused_shaped (broken 8))
-    (λ k. keys_shaped ms (certificate_over f rows word d scan) 6 [] (λ columns few few_sets. nearly f rows word d scan h columns few tt))
+    either_ruled (is_some (get_member (codes "sets") ms)) (refused_as (broken 8)) (reads_as (certificate_over f rows word d scan)) (λ k. refused_ruled (broken 8)) (λ k. made_ruled f rows word d scan h tt)
 way_shaped ms f rows word d h fits (Some false) = sets_shaped ms f rows word d h fits (sets_at ms) refl
 
-distance_shaped : (ms : Members) (f : FieldName) (rows : List (List ℕ)) (word : List ℕ) → is_symbol f ≡ true → MembersFit ms → 1 ≤ length rows → 1 ≤ length word → AreRows f (length word) rows → IsWord f (length word) word → (o : Option ℕ) → provided (nat_le 1) (number_at (codes "distance") ms) ≡ o → IsShapedRead (distance_in ms (length word) (certificate_over f rows word) o)
+distance_shaped : (ms : Members) (f : FieldName) (rows : List (List ℕ)) (word : List ℕ) → is_symbol f ≡ true → MembersFit ms → 1 ≤ length rows → 1 ≤ length word → AreRows f (length word) rows → IsWord f (length word) word → (o : Option ℕ) → provided (nat_le 1) (number_at (codes "distance") ms) ≡ o → HasRulesRead (distance_in ms (length word) (certificate_over f rows word) o)
 unfolding distance_in
-distance_shaped ms f rows word s fits some columns r w None e = refused_shaped (broken 6)
+distance_shaped ms f rows word s fits some columns r w None e = refused_ruled (broken 6)
 distance_shaped ms f rows word s fits some columns r w (Some d) e =
     let p = provided_inside (nat_le 1) (number_at (codes "distance") ms) d e in
     way_shaped ms f rows word d (record {
@@ -171,9 +201,9 @@ distance_shaped ms f rows word s fits some columns r w (Some d) e =
       small = number_fits (codes "distance") ms d fits p.there;
     }) fits (option_and_then is_scan (option_and_then as_str (get_member (codes "by") ms)))
 
-word_shaped : (ms : Members) (f : FieldName) (rows : List (List ℕ)) → is_symbol f ≡ true → MembersFit ms → 1 ≤ length rows → 1 ≤ columns_of rows → AreRows f (columns_of rows) rows → (o : Option (List ℕ)) → provided (fit f (columns_of rows)) (list_at (codes "word") ms) ≡ o → IsShapedRead (word_in ms f rows o)
+word_shaped : (ms : Members) (f : FieldName) (rows : List (List ℕ)) → is_symbol f ≡ true → MembersFit ms → 1 ≤ length rows → 1 ≤ columns_of rows → AreRows f (columns_of rows) rows → (o : Option (List ℕ)) → provided (fit f (columns_of rows)) (list_at (codes "word") ms) ≡ o → HasRulesRead (word_in ms f rows o)
 unfolding word_in
-word_shaped ms f rows s fits some columns r None e = refused_shaped (broken 5)
+word_shaped ms f rows s fits some columns r None e = refused_ruled (broken 5)
 word_shaped ms f rows s fits some columns r (Some word) e =
     let w = word_holds f (columns_of rows) word (provided_inside (fit f (columns_of rows)) (list_at (codes "word") ms) word e).passes in
     distance_shaped ms f rows word s fits some (omega (arith, columns, w.long)) (subst (λ n. AreRows f n rows) (sym w.long) r) (subst (λ n. IsWord f n word) (sym w.long) w) (provided (nat_le 1) (number_at (codes "distance") ms)) refl
@@ -183,9 +213,9 @@ unfolding columns_of
 some_row [] l = absurd (omega (arith, l))
 some_row (row ∷ rows) l = omega arith
 
-rows_shaped : (ms : Members) (f : FieldName) → is_symbol f ≡ true → MembersFit ms → (o : Option (List (List ℕ))) → provided (are_rows f) (rows_at ms) ≡ o → IsShapedRead (rows_in ms f o)
+rows_shaped : (ms : Members) (f : FieldName) → is_symbol f ≡ true → MembersFit ms → (o : Option (List (List ℕ))) → provided (are_rows f) (rows_at ms) ≡ o → HasRulesRead (rows_in ms f o)
 unfolding rows_in are_rows
-rows_shaped ms f s fits None e = refused_shaped (broken 4)
+rows_shaped ms f s fits None e = refused_ruled (broken 4)
 rows_shaped ms f s fits (Some rows) e =
     let p = and_parts (nat_le 1 (columns_of rows)) (list_all (fit f (columns_of rows)) rows) (provided_inside (are_rows f) (rows_at ms) rows e).passes in
     let columns = leb-true 1 (columns_of rows) p.0 in
@@ -195,16 +225,16 @@ field_found : (o : Option ℕ) (f : FieldName) → option_and_then (λ q. find (
 field_found None f e = absurd cc
 field_found (Some q) f e = (and_parts (size f == q) (is_symbol f) (find_passes (λ g. (size g == q) && is_symbol g) all_fields f e)).1
 
-field_shaped : (ms : Members) → MembersFit ms → (o : Option FieldName) → field_at ms ≡ o → IsShapedRead (field_in ms o)
-unfolding field_in field_at
-field_shaped ms fits None e = refused_shaped (broken 3)
+field_shaped : (ms : Members) → MembersFit ms → (o : Option FieldName) → field_at ms ≡ o → HasRulesRead (field_in ms o)
+unfolding field_in field_at parts_in
+field_shaped ms fits None e = refused_ruled (broken 3)
 field_shaped ms fits (Some f) e = rows_shaped ms f (field_found (number_at (codes "field") ms) f e) fits (provided (are_rows f) (rows_at ms)) refl
 
 object_shaped : (o : Option Members) → ((ms : Members) → o ≡ Some ms → MembersFit ms) → IsShapedRead (object_in o)
-unfolding object_in
+unfolding object_in is_version
 object_shaped None h = refused_shaped (broken 1)
 object_shaped (Some ms) h =
-    either_way (is_some (provided (λ v. v == 1) (number_at (codes "version") ms))) (field_in ms (field_at ms)) (refused_as (broken 2)) (λ e. field_shaped ms (h ms refl) (field_at ms) refl) (λ e. refused_shaped (broken 2))
+    either_way (is_some (provided (λ v. v == 1) (number_at (codes "version") ms))) (closed ms (field_in ms (field_at ms))) (refused_as (broken 2)) (λ e. closed_shaped ms (field_in ms (field_at ms)) (field_shaped ms (h ms refl) (field_at ms) refl)) (λ e. refused_shaped (broken 2))
 
 data_shaped : (o : Option Data) → ((d : Data) → o ≡ Some d → AreFit d) → IsShapedRead (data_in o)
 unfolding data_in

@@ -9,5 +9,10 @@ pub mod CheckpointBack
 pub mod CheckpointRange
 pub mod CertificateExamples
 pub mod CheckExamples
+pub mod Plainly
+pub mod CheckTextExamples
+pub mod CodeTests
+pub mod ClaimExamples
+pub mod DocumentExamples
 pub mod CheckpointExamples
 pub mod TruthExamples

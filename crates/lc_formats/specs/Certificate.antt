@@ -55,6 +55,8 @@ pub data Reason : Type 0 where
   seen_lighter : List ℕ → Reason
   bound_short : ℕ → Reason
   too_costly : ℕ → Reason
+  part_refused : ℕ → ℕ → Reason
+  claim_short : ℕ → Reason
 
 unfoldable pub reason_number : Reason → ℕ
 reason_number not_json = 30
@@ -67,6 +69,8 @@ reason_number (fresh_overlap _) = 36
 reason_number (seen_lighter _) = 37
 reason_number (bound_short _) = 38
 reason_number (too_costly _) = 39
+reason_number (part_refused _ _) = 48
+reason_number (claim_short _) = 49
 
 unfoldable pub reason_values : Reason → List ℕ
 reason_values not_json = []
@@ -79,6 +83,8 @@ reason_values (fresh_overlap c) = c ∷ []
 reason_values (seen_lighter w) = w
 reason_values (bound_short s) = s ∷ []
 reason_values (too_costly n) = n ∷ []
+reason_values (part_refused claim refusal) = claim ∷ refusal ∷ []
+reason_values (claim_short b) = b ∷ []
 
 pub data Verdict : Type 0 where
   accepted : Verdict

@@ -10,7 +10,7 @@
 --   reason_line r                the line of a certificate that is rejected
 --   verdict_line c               what `check` prints of a certificate
 --   check_text bytes             the line that `check` prints
-use Rattle.std.specs.Prelude.{ℕ, nat_lt, if◌then◌else◌, List, [], ◌++◌, codes, decimal, Option, Some, None, Bool, true, false, not, nat_le, ◌==◌, ◌&&◌, ◌||◌, length, map, find, is_some, option_map, option_and_then}
+use Rattle.std.specs.Prelude.{ℕ, nat_lt, if◌then◌else◌, List, [], ◌++◌, codes, decimal, Option, Some, None, Bool, true, false, not, nat_le, ◌==◌, ◌&&◌, ◌||◌, length, map, find, is_some, unwrap_or, option_map, option_and_then}
 use Rattle.lc_formats.specs.Certificate.{Certificate, Reason, reason_number, reason_values, Verdict, accepted, rejected, verdict, SetClaim, Proof, scan, levels, not_json, shape, limit}
 use Rattle.lc_formats.specs.Text.{line, with_values, same_bytes}
 use Rattle.std.specs.List.{list_all}
@@ -69,27 +69,21 @@ fresh_in_basis claim = list_all (is_member claim.basis) claim.fresh
 unfoldable pub above : ℕ → Bool
 above n = nat_lt longest n
 
--- rule 11 and the limits, once all keys are there: a scan has 6 keys, levels have 7, and a set has 3
-unfoldable pub with_keys : Members → Certificate → ℕ → List Members → CertificateRead
-with_keys ms c keys sets =
-    if not ((member_count ms == keys) && list_all (λ s. member_count s == 3) sets) then refused_as (shape 11) else
-    if above (length c.word) || (above (length c.rows) || above (length sets)) then refused_as limit else reads_as c
-
 unfoldable pub certificate_over : FieldName → List (List ℕ) → List ℕ → ℕ → Proof → Certificate
 certificate_over f rows word distance proof = record { field = f; rows = rows; word = word; distance = distance; proof = proof }
 
-unfoldable pub levels_in : Members → (Proof → Certificate) → List Members → Option (List SetClaim) → CertificateRead
-levels_in ms make sets None = refused_as (shape 9)
-levels_in ms make sets (Some claims) = (if list_all fresh_in_basis claims then with_keys ms (make (levels claims)) 7 sets else refused_as (shape 10))
+unfoldable pub levels_in : (Proof → Certificate) → Option (List SetClaim) → CertificateRead
+levels_in make None = refused_as (shape 9)
+levels_in make (Some claims) = (if list_all fresh_in_basis claims then reads_as (make (levels claims)) else refused_as (shape 10))
 
-unfoldable pub sets_in : Members → ℕ → (Proof → Certificate) → Option (List Members) → CertificateRead
-sets_in ms n make None = refused_as (shape 8)
-sets_in ms n make (Some sets) = levels_in ms make sets (each (map (claim_in n) sets))
+unfoldable pub sets_in : ℕ → (Proof → Certificate) → Option (List Members) → CertificateRead
+sets_in n make None = refused_as (shape 8)
+sets_in n make (Some sets) = levels_in make (each (map (claim_in n) sets))
 
 unfoldable pub way_in : Members → ℕ → (Proof → Certificate) → Option Bool → CertificateRead
 way_in ms n make None = refused_as (shape 7)
-way_in ms n make (Some true) = (if is_some (get_member (codes "sets") ms) then refused_as (shape 8) else with_keys ms (make scan) 6 [])
-way_in ms n make (Some false) = sets_in ms n make (sets_at ms)
+way_in ms n make (Some true) = (if is_some (get_member (codes "sets") ms) then refused_as (shape 8) else reads_as (make scan))
+way_in ms n make (Some false) = sets_in n make (sets_at ms)
 
 unfoldable pub distance_in : Members → ℕ → (ℕ → Proof → Certificate) → Option ℕ → CertificateRead
 distance_in ms n make None = refused_as (shape 6)
@@ -103,13 +97,42 @@ unfoldable pub rows_in : Members → FieldName → Option (List (List ℕ)) → 
 rows_in ms f None = refused_as (shape 4)
 rows_in ms f (Some rows) = word_in ms f rows (provided (fit f (columns_of rows)) (list_at (codes "word") ms))
 
+-- the rules 4 to 10
+unfoldable pub parts_in : Members → FieldName → CertificateRead
+parts_in ms f = rows_in ms f (provided (are_rows f) (rows_at ms))
+
+-- a certificate has six keys, and `sets` for a proof by levels; each set has three
+unfoldable pub key_count : Proof → ℕ
+key_count scan = 6
+key_count (levels _) = 7
+
+unfoldable pub are_set_keys : Members → Bool
+are_set_keys ms = list_all (λ s. member_count s == 3) (unwrap_or (sets_at ms) [])
+
+unfoldable pub set_total : Proof → ℕ
+set_total scan = 0
+set_total (levels claims) = length claims
+
+unfoldable pub is_beyond_limit : Certificate → Bool
+is_beyond_limit c = above (length c.word) || (above (length c.rows) || above (set_total c.proof))
+
+-- rule 11 and the limits
+unfoldable pub closed : Members → CertificateRead → CertificateRead
+closed ms (refused_as r) = refused_as r
+closed ms (reads_as c) =
+    if not ((member_count ms == key_count c.proof) && are_set_keys ms) then refused_as (shape 11) else
+    if is_beyond_limit c then refused_as limit else reads_as c
+
 unfoldable pub field_in : Members → Option FieldName → CertificateRead
 field_in ms None = refused_as (shape 3)
-field_in ms (Some f) = rows_in ms f (provided (are_rows f) (rows_at ms))
+field_in ms (Some f) = parts_in ms f
+
+unfoldable pub is_version : ℕ → Members → Bool
+is_version n ms = is_some (provided (λ v. v == n) (number_at (codes "version") ms))
 
 unfoldable pub object_in : Option Members → CertificateRead
 object_in None = refused_as (shape 1)
-object_in (Some ms) = (if is_some (provided (λ v. v == 1) (number_at (codes "version") ms)) then field_in ms (field_at ms) else refused_as (shape 2))
+object_in (Some ms) = (if is_version 1 ms then closed ms (field_in ms (field_at ms)) else refused_as (shape 2))
 
 unfoldable pub data_in : Option Data → CertificateRead
 data_in None = refused_as not_json

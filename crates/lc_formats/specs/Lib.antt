@@ -2,6 +2,9 @@ pub mod Certificate
 pub mod CertificateText
 pub mod Check
 pub mod Checkpoint
+pub mod Claim
+pub mod ClaimMeaning
+pub mod Document
 pub mod Entries
 pub mod Json
 pub mod Shape

@@ -7,7 +7,7 @@
 --   State                what was read last: whole statements, a name that begins one, nothing of an expression that must
 --                        come, an opening sign, a name, or a whole expression
 --   level_of s           how many brackets are open
---   next bytes s t       the state behind one more token, where the grammar lets it stand there
+--   next bytes s t       the state behind one more token, if the grammar lets it stand there
 --   IsNoTarget ts        no name and `:=` stand first
 --   Move, move           the same below the limit of open brackets, or the number of the fault (kind_move: by the kind)
 --   reach                the state behind several tokens
@@ -63,7 +63,7 @@ level_of (opened b a) = suc (depth_of a)
 level_of (named a place x) = depth_of a
 level_of (done a e) = depth_of a
 
--- a token behind a whole expression
+-- a token after a whole expression
 abbrev pub after_expr : Around → Expr → TokenKind → Option State
 after_expr (statement ss target) e End = Some (start (ss ++ with_target target e ∷ []))
 after_expr (statement ss target) e _ = None
@@ -72,30 +72,30 @@ after_expr (inside (of_call place x) es a) e Close = Some (done a (call place x 
 after_expr (inside (of_list place) es a) e CloseList = Some (done a (list place (after_all es e)))
 after_expr (inside b es a) e _ = None
 
--- behind a name
+-- after a name
 abbrev pub after_name : Around → ℕ → List ℕ → TokenKind → Option State
 after_name a place x Open = Some (opened (of_call place x) a)
 after_name a place x kind = after_expr a (name place x) kind
 
--- behind a name that begins a statement
+-- after a name that begins a statement
 abbrev pub after_first : List Statement → ℕ → List ℕ → TokenKind → Option State
 after_first ss place x Assign = Some (want (statement ss (Some x)))
 after_first ss place x kind = after_name (statement ss None) place x kind
 
 module _ (bytes : List ℕ) where
-  -- where an expression must come
+  -- if an expression must come
   abbrev pub at_expr : Around → Token → TokenKind → Option State
   at_expr a t Name = Some (named a t.start (text_of bytes t))
   at_expr a t Number = Some (done a (number t.start (number_of (text_of bytes t))))
   at_expr a t OpenList = Some (opened (of_list t.start) a)
   at_expr a t _ = None
 
-  -- where a statement may come
+  -- if a statement may come
   abbrev pub at_start : List Statement → Token → TokenKind → Option State
   at_start ss t Name = Some (begun ss t.start (text_of bytes t))
   at_start ss t kind = at_expr (statement ss None) t kind
 
-  -- behind an opening sign
+  -- after an opening sign
   abbrev pub at_opened : Bracket → Around → Token → TokenKind → Option State
   at_opened (of_call place x) a t Close = Some (done a (call place x none))
   at_opened (of_list place) a t CloseList = Some (done a (list place none))

@@ -1,4 +1,4 @@
--- The fault of the grammar is where the course of the tokens stops, and a script is where it doesn't.
+-- The fault of the grammar is at the token at which their course stops; they are a script if it does not.
 --   outcome bytes        what the course of the bytes' tokens comes to
 --   fault_course, course_fault      the fault of the bytes is that outcome
 --   script_outcome, outcome_script  the script of the bytes is that outcome
@@ -271,7 +271,7 @@ module _ (bytes : List ℕ) where
           let front : take (suc i) all ≡ take i all ++ t ∷ [] = ap (λ n. take (suc n) all) (sym parts.place) ∙ ap (take (suc (length (take i all)))) parts.split ∙ take_next (take i all) t parts.rest in
           absurd (no_way (subst (MayGoOn bytes) (sym front) (may_go_on bytes deepest (take i all ++ t ∷ []) after reached_next)))
 
-  -- the end of the tokens, where the script can't end
+  -- the end of the tokens, if the script can't end
   stops_at_end : (all : List Token) (ending : Ending) (f : Fault) (s : State) → reach bytes deepest (start []) all ≡ Some s → EndsIn bytes all ending f → ended_at s ending ≡ fault f.number f.place
   stops_at_end all (bad_token p) f s reached (place, number) = rw (place, number) refl
   stops_at_end all (too_wide p) f s reached (place, number) = rw (place, number) refl

@@ -29,7 +29,7 @@ module _ (bytes : List ℕ) (limit : ℕ) where
   unfolding course
   course_open s t ts ending after o l e = rw (o, below_limit limit (level_of s) l, e) refl
 
-  -- behind an expression
+  -- after an expression
   abbrev after_read : Around → Expr → State
   after_read a (name place x) = named a place x
   after_read a (number place n) = done a (number place n)
@@ -100,7 +100,7 @@ module _ (bytes : List ℕ) (limit : ℕ) where
   opened_move b a t Comma h = absurd (cc)
   opened_move b a t End h = absurd (cc)
 
-  -- behind an opening sign, where no closing sign follows
+  -- after an opening sign, if no closing sign follows
   pub opened_wants : (b : Bracket) (a : Around) (t : Token) (kind : TokenKind) → (kind ≡ closing b → ⊥) → kind_move bytes limit (opened b a) t kind ≡ kind_move bytes limit (want (inside b none a)) t kind
   opened_wants (of_call place x) a t Close h = absurd (h refl)
   opened_wants (of_list place) a t CloseList h = absurd (h refl)
@@ -121,12 +121,12 @@ module _ (bytes : List ℕ) (limit : ℕ) where
   opened_wants (of_list place) a t Comma h = refl
   opened_wants (of_list place) a t End h = refl
 
-  -- an element may come where one must come
+  -- an element may come if one must come
   opened_begins : (b : Bracket) (a : Around) (us ts : List Token) (ending : Ending) → Begins us → course bytes limit (opened b a) (us ++ ts) ending ≡ course bytes limit (want (inside b none a)) (us ++ ts) ending
   opened_begins b a us ts ending first =
       rw first.split (same_course (opened b a) (want (inside b none a)) first.first (first.rest ++ ts) ending first.first.kind refl (opened_move b a first.first first.first.kind first.kind))
 
-  -- the expressions with these behind them
+  -- the expressions with these after them
   abbrev all_after : Exprs → Exprs → Exprs
   all_after es none = es
   all_after es (more e rest) = all_after (after_all es e) rest
@@ -253,7 +253,7 @@ module _ (bytes : List ℕ) (limit : ℕ) where
   first_end ss place x (bad_token p) = refl
   first_end ss place x (too_wide p) = refl
 
-  -- behind a name that no `:=` follows
+  -- after a name that no `:=` follows
   first_read : (ss : List Statement) (place : ℕ) (x : List ℕ) (t : Token) (ts : List Token) (ending : Ending) → t.kind ≡ Name → IsNoTarget (t ∷ ts) → course bytes limit (begun ss place x) ts ending ≡ course bytes limit (named (statement ss None) place x) ts ending
   unfolding course
   first_read ss place x t [] ending k h = first_end ss place x ending
@@ -369,7 +369,7 @@ module _ (bytes : List ℕ) (limit : ℕ) where
     shallow : nesting_all es + suc (depth_of a) ≤ limit
     goes_on : course bytes limit (done a (filled b (all_after so_far es))) rest ending ≡ read out
 
-  -- behind an expression of a list: the further elements and the closing sign
+  -- after an expression of a list: the further elements and the closing sign
   record TailRead (ts : List Token) (b : Bracket) (so_far : Exprs) (a : Around) (ending : Ending) (out : List Statement) : Type 0 where
     vs : List Token
     es : Exprs

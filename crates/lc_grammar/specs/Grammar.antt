@@ -13,13 +13,13 @@
 --   Reads bytes ss                 the bytes are the script ss
 --   MayGoOn bytes ts               some further tokens make the tokens ts a script
 --   opens kind, closes kind        whether tokens of a kind open, and whether they close
---   is_opening t, open_signs ts    whether a token opens; how many signs are open behind the tokens
+--   is_opening t, open_signs ts    whether a token opens; how many signs are open after the tokens
 --   IsTooDeep ts i                 token i opens where 32 signs are open
 --   GoesOn bytes ts i              the first i tokens may go on, and none of them opens too deep
 --   Fault                          a fault's number and place
 --   IsFaultAtToken                 the fault of a token: too deep (42), or with it nothing can make the tokens a script (41)
 --   EndsIn                         the fault of the ending: a byte that begins no token (40), a number too wide (43), or the
---                                  script's end where it is none (41)
+--                                  script's end if it is none (41)
 --   IsFault bytes fault            bytes that are no script, and the first place at which they can't go on
 --   TokenFault ending fault        the fault of the tokens alone: 40 or 43
 use Rattle.std.specs.Prelude.{◌≡◌, ℕ, suc, ◌-◌, ◌<◌, ◌≤◌, ◌⊎◌, Bool, true, false, IsTrue, List, [], ◌∷◌, ◌++◌, length, take, count_by, slice_get, Option, Some, None, All}
@@ -121,7 +121,7 @@ pub record Fault : Type 0 where
   pub number : ℕ
   pub place : ℕ
 
--- where several faults stand at one place, 42 comes before 41
+-- if several faults stand at one place, 42 comes before 41
 pub record IsFaultAtToken (bytes : List ℕ) (ts : List Token) (fault : Fault) (i : ℕ) (t : Token) : Type 0 where
   pub token : slice_get ts i ≡ Some t
   pub stands : fault.place ≡ t.start

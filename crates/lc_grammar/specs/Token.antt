@@ -3,8 +3,8 @@
 --   is_blank b, is_letter b, is_digit b, is_name_byte b      the classes of bytes
 --   number_of text               the value of decimal digits
 --   widest                       2^64 - 1, the greatest number of a script
---   token_at b bytes             the kind and the length of the token that begins with byte b, the bytes behind it following;
---                                None where b begins no token
+--   token_at b bytes             the kind and the length of the token that begins with byte b, the bytes after it following;
+--                                None if b begins no token
 --   Ending                       how the tokens end: at the script's end, at a byte that begins no token, or at the first digit
 --                                of a number above 2^64 - 1
 --   Scanned                      the tokens up to there, and the ending
@@ -45,7 +45,7 @@ pub record Cut : Type 0 where
 unfoldable pub cut_of : TokenKind → ℕ → Option Cut
 cut_of kind bytes = Some (record { kind = kind; bytes = bytes })
 
--- a `:` begins a token only where `=` follows
+-- a `:` begins a token only if `=` follows
 unfoldable pub assign_at : List ℕ → Option Cut
 assign_at [] = None
 assign_at (b ∷ bytes) = (if b == 61 then cut_of Assign 2 else None)

@@ -2,7 +2,7 @@
 --   lines                a line of each kind
 --   faults               lines of faults without and with numbers
 --   tokens_of_call       how a call is cut into tokens
---   wide_number, bad_byte      a number that is too wide; a byte that begins no token, behind a comment
+--   wide_number, bad_byte      a number that is too wide; a byte that begins no token, after a comment
 --   not_a_field, short_hamming, large_field, long_repetition, too_large_entry      refusals of calls with their numbers
 use Rattle.std.proofs.Common.{◌≡◌, refl}
 use Rattle.std.specs.Prelude.{[], ◌∷◌, ◌++◌, map, codes, Some, None, true, false}

@@ -4,7 +4,7 @@
 --   is_query c            whether it stands only as a whole statement without `:=`
 --   all_calls             all calls, in the order of the table
 --   call_named table x    the call of the table with this name; a call that the table lacks is an unknown name
---   signature_for c n     the kinds of its arguments, where it takes n of them
+--   signature_for c n     the kinds of its arguments, if it takes n of them
 use Rattle.std.specs.Prelude.{ℕ, Bool, true, false, ◌==◌, List, [], ◌∷◌, length, find, codes, Option}
 use Rattle.lc_language.specs.declared.Call.{Call}
 use Rattle.lc_language.specs.declared.Call.TheVariants.{Gf, GeneratorMatCode, CheckMatCode, RepetitionCode, WholeSpaceCode, NullCode, HammingCode, ReedMullerCode, GeneratorPolCode, CheckPolCode, BinaryGolayCode, TernaryGolayCode, ExtendedBinaryGolayCode, ExtendedTernaryGolayCode, BchCode, ReedSolomonCode, GoppaCode, AlternantCode, DualCode, ExtendedCode, PuncturedCode, ShortenedCode, EvenWeightSubcode, DirectSumCode, UuvCode, DirectProductCode, IntersectionCode, ConcatenatedCode, Dimension, WordLength, GeneratorMat, CheckMat, Weight, IsCodeword, Decode, AlgebraicDecode, LeastWord, MinimumDistance, Certificate, ScanCertificate, WeightDistribution, AlternantCertificate, NearestWord}

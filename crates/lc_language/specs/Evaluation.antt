@@ -1,15 +1,15 @@
 -- The text that a script prints. It is a function of the table of calls that exist: a call that the table lacks is an unknown
 -- name. A budget is the number of blocks that the search of one query may look at.
---   Refused                      a fault: its number, its place and the numbers behind it
+--   Refused                      a fault: its number, its place and the numbers after it
 --   Outcome, Outcomes            the value of an expression, or the fault; the values of several, or the first fault
 --   first_misfit kinds es vs     the place of the first argument whose value is not of its kind
 --   Listed                       what the elements of a list so far make
---   listed_with found v          the same with one element more, where it fits; the first says whether they are numbers or lists
+--   listed_with found v          the same with one element more, if it fits; the first says whether they are numbers or lists
 --   list_value found             the list
 --   Applies c es os o            what a call gives of its arguments' values
 --   Evaluates table env e o      what an expression evaluates to
 --   EvaluatesAll table env es os several expressions, from the left
---   ListGoesOn e p found Later o      an element with the outcome p, behind those found so far: its fault, or 45, or what Later says
+--   ListGoesOn e p found Later o      an element with the outcome p, after those found so far: its fault, or 45, or what Later says
 --   EvaluatesList table env es found o      the list whose elements so far are found, and then es, from the left
 --   Step                         what a statement does: it binds a name, prints a line, asks a query of a code that is searched,
 --                                counts the words of a code by weight, looks for a nearest word, or is refused
@@ -22,7 +22,7 @@ use Rattle.lc_algebra.specs.Word.{weight}
 use Rattle.lc_algebra.specs.Span.{InSpan, IsLeast}
 use Rattle.lc_algebra.specs.Matrix.{Matrix}
 use Rattle.lc_language.specs.declared.Call.{Call}
-use Rattle.lc_language.specs.declared.Call.TheVariants.{AlgebraicDecode, LeastWord, MinimumDistance, Certificate, ScanCertificate, WeightDistribution, NearestWord}
+use Rattle.lc_language.specs.declared.Call.TheVariants.{AlgebraicDecode, LeastWord, MinimumDistance, Certificate, ScanCertificate, AlternantCertificate, WeightDistribution, NearestWord}
 use Rattle.lc_language.specs.declared.Kind.{Kind}
 use Rattle.lc_grammar.specs.Tree.{Expr, Exprs, number, name, call, list, none, more, Statement, place_of, count_of}
 use Rattle.lc_grammar.specs.Grammar.{Reads, Fault, IsFault}
@@ -33,7 +33,7 @@ use Rattle.lc_language.specs.Refusal.{Refusal, refusal_of}
 use Rattle.lc_constructions.specs.Refusals.{columns_of}
 use Rattle.lc_language.specs.Meaning.{Gives, IsNotDivisor}
 use Rattle.lc_language.specs.Print.{value_line, fault_line, least_line, least_none_line}
-use Rattle.lc_language.specs.Query.{QueryKind, distance, by_levels, by_scan, query_line, distribution_line, near_line}
+use Rattle.lc_language.specs.Query.{QueryKind, distance, by_levels, by_scan, query_line, form_line, distribution_line, near_line}
 
 pub record Refused : Type 0 where
   pub number : ℕ
@@ -68,7 +68,7 @@ pub data Listed : Type 0 where
   all_numbers : List ℕ → Listed
   all_lists : List (List ℕ) → Listed
 
--- the same with one element more; None where it doesn't fit. The first element says which of the two the list is
+-- the same with one element more; None if it doesn't fit. The first element says which of the two the list is
 unfoldable pub listed_with : Listed → Value → Option Listed
 listed_with nothing_yet (value.number n) = Some (all_numbers (n ∷ []))
 listed_with nothing_yet (value.numbers u) = Some (all_lists (u ∷ []))
@@ -84,7 +84,7 @@ list_value nothing_yet = value.numbers []
 list_value (all_numbers found) = value.numbers found
 list_value (all_lists found) = value.lists found
 
--- an element and then the rest: the element's own fault, or 45 at an element that doesn't fit, and behind it nothing is evaluated
+-- an element and then the rest: the element's own fault, or 45 at an element that doesn't fit, and after it nothing is evaluated
 abbrev pub ListGoesOn : Expr → Outcome → Listed → (Listed → Type 0) → Outcome → Type 0
 ListGoesOn e (refused r) found Later o = o ≡ refused r
 ListGoesOn e (gives v) found Later o = MatchOption (listed_with found v) (o ≡ refuse_at 45 (place_of e)) Later
@@ -104,7 +104,7 @@ abbrev pub Joins : Value → Outcomes → Outcomes → Type 0
 Joins v (one_refused r) os = os ≡ one_refused r
 Joins v (all_give vs) os = os ≡ all_give (v ∷ vs)
 
--- the first fault, from the left: behind it nothing is evaluated
+-- the first fault, from the left: after it nothing is evaluated
 abbrev pub GoesOn : Outcome → (Outcomes → Type 0) → Outcomes → Type 0
 GoesOn (refused r) Later os = os ≡ one_refused r
 GoesOn (gives v) Later os = (rest : Outcomes) × Later rest × Joins v rest os
@@ -158,6 +158,7 @@ Queries LeastWord (value.lists rows ∷ value.field f ∷ []) step = PrintsLeast
 Queries MinimumDistance (value.code C _ ∷ []) step = AsksOf distance C step
 Queries Certificate (value.code C _ ∷ []) step = AsksOf by_levels C step
 Queries ScanCertificate (value.code C _ ∷ []) step = AsksOf by_scan C step
+Queries AlternantCertificate (value.code C (Some form) ∷ value.numbers x ∷ []) step = step ≡ prints (form_line C form x)
 Queries WeightDistribution (value.code C _ ∷ []) step = step ≡ counts C
 Queries NearestWord (value.code C _ ∷ value.numbers x ∷ []) step = NearsOf C x step
 Queries AlgebraicDecode arguments step = (v : Value) × Gives AlgebraicDecode arguments v × (step ≡ prints (value_line v))
@@ -196,7 +197,7 @@ StepsOf table env None e step = MatchOption (query_of table e) ((o : Outcome) ×
 abbrev pub Steps : List Call → List Binding → Statement → Step → Type 0
 Steps table env s step = StepsOf table env s.target s.expr step
 
--- how the text goes on behind a statement: the env and the further text, or the end
+-- how the text goes on after a statement: the env and the further text, or the end
 abbrev pub Prints : ℕ → List Binding → Step → (List Binding → List ℕ → Bool → Type 0) → List ℕ → Bool → Type 0
 Prints budget env (binds b) later text ends = later (b ∷ env) text ends
 Prints budget env (prints l) later text ends = (rest : List ℕ) × later env rest ends × (text ≡ l ++ rest)

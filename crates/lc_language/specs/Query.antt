@@ -2,9 +2,10 @@
 --   QueryKind                     the distance, or a certificate by levels or by a scan
 --   certificate_of kind C w d l   the certificate of an exact answer: the code's rows, the word and its weight, and for levels the
 --                                 information sets with their levels at l
---   certificate_line c            that text as a line; where it costs a checker too much, or is too long, a line that says so
+--   certificate_line c            that text as a line; if it costs a checker too much, or is too long, a line that says so
 --   query_line kind C budget      the line
 --   distribution_line C           what WeightDistribution prints: the number of words of each weight from 0 to n
+--   form_line C form x             what AlternantCertificate prints: the certificate of the form for the word x
 --   near_line C x budget          what NearestWord prints: the nearest word, its distance from x, and the blocks; or the bracket
 use Rattle.std.specs.Prelude.{ℕ, ◌^◌, ◌-◌, min, nat_lt, if◌then◌else◌, List, [], ◌∷◌, ◌++◌, length, codes, decimal, unwrap_or}
 use Rattle.lc_algebra.specs.Matrix.{Matrix}
@@ -16,7 +17,9 @@ use Rattle.lc_enumeration.specs.NearWord.{NearAnswer, near_answer}
 use Rattle.lc_formats.specs.Certificate.{Certificate, SetClaim, Proof, scan, levels, cost}
 use Rattle.lc_formats.specs.Text.{line, numbers_text}
 use Rattle.lc_language.specs.Print.{distance_line, bracket_line, distance_none_line}
+use Rattle.lc_constructions.specs.Alternant.{AlternantForm}
 use Rattle.lc_formats.specs.CertificateText.{certificate_text}
+use Rattle.lc_formats.specs.Claim.{built_text, form_certificate}
 
 pub data QueryKind : Type 0 where
   distance : QueryKind
@@ -65,6 +68,9 @@ query_line kind C budget = certificate_answer_line kind C (answer (divisor_of C)
 
 unfoldable pub distribution_line : Matrix → List ℕ
 distribution_line C = line (numbers_text (distribution_of C))
+
+unfoldable pub form_line : Matrix → AlternantForm → List ℕ → List ℕ
+form_line C form x = line (built_text (form_certificate C.field form x))
 
 unfoldable pub near_text : NearAnswer → List ℕ
 near_text a =

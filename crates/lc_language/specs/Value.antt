@@ -1,6 +1,6 @@
 -- The values of a script.
---   Value             a number, a field, a list of numbers, a list of lists of numbers, a code with its alternant form where it
---                     has one, a truth value, or the nothing that a decoder answers where no word is near enough
+--   Value             a number, a field, a list of numbers, a list of lists of numbers, a code with its alternant form if it
+--                     has one, a truth value, or the nothing that a decoder answers if no word is near enough
 --   is_kind kind v    whether the value is of the kind; the empty list is both a list of numbers and a list of lists
 --   as_kind kind v    the value, with the empty list as the list that the kind asks for
 --   Binding           a name and the value that it was assigned

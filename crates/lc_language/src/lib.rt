@@ -17,7 +17,7 @@ pub enum Kind {
     Code,
 }
 
-/// The calls of the script language, by the names of the GUAVA manual where it has one.
+/// The calls of the script language, by the names of the GUAVA manual if it has one.
 #[derive(Clone, Copy, Debug, PartialEq, Eq)]
 pub enum Call {
     Gf,

@@ -3,10 +3,10 @@
 --   pivots_of, echelon_of  over all columns in order: the reduced matrix and its places
 --   rank_is                its number of rows is the rank
 --   rest_none, rest_more, rest_told, in_span_made      a word less multiples of reduced rows
---   rise, full             rising places: place i is at least i, and is i where there are as many as they may be
+--   rise, full             rising places: place i is at least i, and is i if there are as many as they may be
 --   gap                    else there is a first place that is left out
 --   systematic_of          over a set whose columns are all taken: the systematic matrix
---   dependent_of           where a column is left out, the columns are dependent
+--   dependent_of           if a column is left out, the columns are dependent
 --   echelon_made, systematic_made, dependent_made      the same, in the shape of the calls
 use Rattle.std.proofs.Common.{◌≡◌, ◌≢◌, ℕ, zero, suc, ◌+◌, ◌-◌, ◌<◌, ◌≤◌, ◌↔◌, Bool, IsTrue, inl, inr, ◌==◌, List, [], ◌∷◌, ◌++◌, length, map, take, slice_index, slice_index_or, Contains, sym, ap, subst, ◌∙◌, ⊎_elim, arith}
 use Rattle.std.proofs.lemmas.Bool.{cases_eq, cases_lt, eq-eqb, ne_eqb, eqb-true}

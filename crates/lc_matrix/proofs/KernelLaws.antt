@@ -1,5 +1,5 @@
 -- The kernel of some rows from rows with the same words that are reduced from the right.
---   IsReducedAt n ps rows  each of the first rows has a place, where it is a 1 that is alone in its column; the others are 0
+--   IsReducedAt n ps rows  each of the first rows has a place, at which it is a 1 that is alone in its column; the others are 0
 --   back_of                rows that are reduced in that order are reduced from the right
 --   free_none, free_held, free_pushed      which columns are free
 --   kernel_word_none, kernel_word_at, kernel_word_more     the word of a free column, place by place
@@ -30,7 +30,7 @@ use Rattle.lc_matrix.specs.Elimination.{IsReducedTo, IsTurned}
 use Rattle.lc_matrix.specs.Kernel.{IsReducedBack, IsFree, IsKernelWord, AreKernelWords}
 use Rattle.lc_matrix.proofs.PlaceLaws.{dot_pair, dot_one}
 
--- each of the first rows has a place, where it is a 1 that is alone in its column; the rows after these are 0
+-- each of the first rows has a place, at which it is a 1 that is alone in its column; the rows after these are 0
 pub record IsReducedAt (n : ℕ) (ps : List ℕ) (rows : List (List ℕ)) : Type 0 where
   pub at_most : length ps ≤ length rows
   pub inside : (i : ℕ) → i < length ps → slice_index ps i < n

@@ -1,12 +1,12 @@
 -- Dots with few terms, and the places of reduced rows.
---   dot_single, dot_pair       the dot where all products but those at one place, or at two, are 0
+--   dot_single, dot_pair       the dot if all products but those at one place, or at two, are 0
 --   past_end                   past its end a word is 0
---   dot_one, dot_two           the same, where this is known of the places of the words alone
+--   dot_one, dot_two           the same, if this is known of the places of the words alone
 --   index_below                the numbers below n, one by one
 --   place_at, at_place         a place of the list, and a column that it holds
 --   place_clears               row i is 0 at each place but its own
 --   distinct_rising            no column comes twice in a rising list
---   balanced_orthogonal        a word that is 0 but at one further column and at the places has dot 0 with the rows where each place
+--   balanced_orthogonal        a word that is 0 but at one further column and at the places has dot 0 with the rows if each place
 --                              balances that column
 use Rattle.std.proofs.Common.{◌≡◌, ◌≢◌, ℕ, zero, suc, ◌<◌, ◌≤◌, List, [], ◌∷◌, ◌++◌, length, slice_index, slice_index_or, Contains, refl, sym, ap, ◌∙◌, ⊎_elim, arith, zero-lt-suc}
 use Rattle.std.proofs.lemmas.List.{get_or_default, get_or_append_left}

@@ -3,14 +3,14 @@
 --   dot_behind             the dot of two words with one more symbol each
 --   word_behind            a word with one more symbol is a word
 --   length_augmented, row_of_augmented, augmented_rows      each augmented row is the row and its right side
---   dots_from_orthogonal, orthogonal_from_dots      a word w solves the system exactly where w and then -1 has dot 0 with
+--   dots_from_orthogonal, orthogonal_from_dots      a word w solves the system exactly if w and then -1 has dot 0 with
 --                          each augmented row
 -- The answer
 --   length_solution_word, solution_at_place, solution_elsewhere      the solution, symbol by symbol
 --   is_solution_word, solution_word_unique      the same as a record
---   solution_of            where the last column is no place, the solution solves the system
---   no_solution            where it is a place, nothing does
---   solvable               so the system has a solution exactly where the last column is no place
+--   solution_of            if the last column is no place, the solution solves the system
+--   no_solution            if it is a place, nothing does
+--   solvable               so the system has a solution exactly if the last column is no place
 use Rattle.std.proofs.Common.{◌≡◌, ◌≢◌, ℕ, zero, suc, ◌+◌, ◌<◌, ◌↔◌, List, [], ◌∷◌, ◌++◌, length, slice_index, slice_index_or, Contains, refl, sym, ap, subst, ◌∙◌, ⊎_elim, arith, zero-lt-suc}
 use Rattle.std.proofs.lemmas.List.{ext_get_or, get_or-map, length-map, length-append, get_or_append_left}
 use Rattle.std.proofs.Math.Seq.{get_or-append_seam}

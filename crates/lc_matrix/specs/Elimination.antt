@@ -1,7 +1,7 @@
 -- Elimination over a list of columns.
---   KeepsWords f n r rows others       the others have the words of the rows, and where all rows from row r on are 0 at a column,
+--   KeepsWords f n r rows others       the others have the words of the rows, and if all rows from row r on are 0 at a column,
 --                                      the others have that column unchanged
---   IsClearedTo f c r j p rows others  the others are the rows, where each of the first j but row r, p, has the multiple of p added that
+--   IsClearedTo f c r j p rows others  the others are the rows, but each of the first j but row r, p, has the multiple of p added that
 --                                      makes its symbol at column c a 0
 --   IsReducedTo order t at rows        the rows are reduced, where columns are read in the order and only its first t count: row i
 --                                      has its first nonzero symbol, a 1, at place at_i of the order; these places rise, and each is

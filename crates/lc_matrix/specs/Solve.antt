@@ -1,5 +1,5 @@
 -- Systems of linear equations over a field (any textbook's elimination on the augmented matrix).
---   augmented rows right          each row, with its right side behind it
+--   augmented rows right          each row, with its right side after it
 --   Solves f rows right w         the dot of w with row i is the right side's symbol i, for each i
 --   solution_symbol n ps e c      the symbol of the solution at column c
 --   solution_word n ps e          the word of n symbols that is e_i's symbol at column n at place i, and 0 elsewhere

@@ -31,7 +31,7 @@ impl Matrix {
         Ok(matrix.rows())
     }
 
-    /// The matrix with the same words that is the identity on the columns of the set, in its order: None exactly where these
+    /// The matrix with the same words that is the identity on the columns of the set, in its order: None exactly if these
     /// columns are dependent. The set has one column for each row, each below the number of columns.
     pub fn systematic_on(&self, alloc: Global, set: &[usize]) -> Result<Option<Matrix>, NoMemory>
         requires count { length set.now ≡ length self.now.rows }
@@ -84,7 +84,7 @@ impl Matrix {
         }
     }
 
-    // Takes off the multiple of row i that makes the symbol of the word at column p a 0, where the row is a 1.
+    // Takes off the multiple of row i that makes the symbol of the word at column p a 0, if the row is a 1.
     fn subtract_row(&self, i: usize, p: usize, rest: &mut [u8])
         requires row { i < length self.now.rows }
         requires column { p < self.now.columns }

@@ -42,7 +42,7 @@ impl Matrix {
         Ok(places)
     }
 
-    // The words of the free columns, where the rows are reduced from the right, at these places.
+    // The words of the free columns, if the rows are reduced from the right, at these places.
     fn kernel_words(&self, alloc: Global, places: &[usize]) -> Result<Matrix, NoMemory>
         requires reduced { IsReducedBack self.now.columns places.now self.now.rows }
         ensures field { IfOk result (λ m. m.field ≡ self.now.field) }

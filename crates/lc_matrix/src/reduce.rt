@@ -12,8 +12,7 @@ use lc_field::NoMemory;
 use std::alloc::Global;
 
 impl Matrix {
-    // Reduces the rows, where columns are read in the order: the places of the order that were taken, one for each row that
-    // isn't 0 at all columns of the order.
+    // Row-reduces, trying columns in `order`. Returns, for each pivot row, the index in `order` of its pivot column.
     #[tactic(auto, using(crate::proofs::EliminationLaws::reduced_none, lc_algebra::proofs::SpanLaws::same_span_reflexive, lc_algebra::proofs::SpanLaws::same_span_transitive))]
     pub(crate) fn reduce(&mut self, alloc: Global, order: &[usize]) -> Result<Vec<usize>, NoMemory>
         requires inside { All (λ c. c < self.old.columns) order.now }
@@ -33,7 +32,7 @@ impl Matrix {
         Ok(at)
     }
 
-    // Reads the column at place t of the order, and takes the place where the column isn't 0 from the rows on that have none.
+    // Reads the column at place t of the order, and takes the place at which the column isn't 0 from the rows on that have none.
     #[tactic(auto, using(crate::proofs::EliminationLaws::reduced_left, crate::proofs::EliminationLaws::reduced_taken))]
     fn read_column(
         &mut self,
@@ -60,8 +59,8 @@ impl Matrix {
         Ok(())
     }
 
-    // Makes column c that of a row r that is a 1 there and alone, by the rows from r on; false, and nothing changes, where these
-    // are 0 at the column.
+    // Makes column `c` a pivot column with its 1 in row `r`, using the rows `r..`. Returns false, changing nothing, if they are
+    // all 0 there.
     #[tactic(auto, using(crate::proofs::EliminationLaws::keeps_reflexive, crate::proofs::EliminationLaws::keeps_transitive))]
     fn take_column(&mut self, r: usize, c: usize, pivot: &mut [u8]) -> bool
         requires column { c < self.old.columns }
@@ -146,7 +145,7 @@ impl Matrix {
         self.add_to_row(r, pivot, 1);
     }
 
-    // Makes the symbols at column c of all rows but row r, which is a 1 there and lent in the buffer, 0.
+    // Makes column `c` 0 in all rows but row `r`, which has a 1 there and is the word in `pivot`.
     #[tactic(auto, using(crate::proofs::EliminationLaws::cleared_none, crate::proofs::EliminationLaws::cleared_more, crate::proofs::EliminationLaws::cleared_keeps, crate::proofs::EliminationLaws::cleared_leads, crate::proofs::EliminationLaws::cleared_zero))]
     fn clear(&mut self, r: usize, c: usize, pivot: &[u8])
         requires column { c < self.old.columns }
@@ -165,7 +164,7 @@ impl Matrix {
         }
     }
 
-    // Makes the symbol of row j at column c 0 by the word lent, which is a 1 there; leaves row r.
+    // Makes row `j` 0 at column `c` with the word in `pivot`, which has a 1 there. Leaves row `r` as it is.
     #[tactic(auto, using(crate::proofs::EliminationLaws::nothing_cleared))]
     fn clear_row(&mut self, j: usize, r: usize, c: usize, pivot: &[u8])
         requires column { c < self.old.columns }

@@ -11,7 +11,7 @@ use lc_vec::Word;
 use std::alloc::Global;
 
 impl Matrix {
-    /// A word whose dot with row i is symbol i of the right side, for each row: None exactly where there is none. The right
+    /// A word whose dot with row i is symbol i of the right side, for each row: None exactly if there is none. The right
     /// side has one symbol for each row, an element of the field; the word has one for each column (any textbook of linear
     /// algebra: elimination on the augmented matrix).
     pub fn solve(&self, alloc: Global, right: &[u8]) -> Result<Option<Word>, NoMemory>
@@ -30,7 +30,7 @@ impl Matrix {
         Ok(Some(word))
     }
 
-    // Each row, with its right side behind it.
+    // Each row, with its right side after it.
     #[tactic(auto, using(crate::proofs::SolutionLaws::augmented_more, crate::proofs::SolutionLaws::augmented_whole))]
     fn augment(&self, alloc: Global, right: &[u8]) -> Result<Matrix, NoMemory>
         requires right { IsWord self.now.field (length self.now.rows) right.now }

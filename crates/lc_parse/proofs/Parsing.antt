@@ -3,7 +3,7 @@
 --   number_found, name_ascii     the value of a number's digits; the text of a name
 --   within_first, within_rest    the first token and the others stand within the bytes
 --   step_number .. step_deep     one token read
---   stuck_done                   what may not stand behind an element
+--   stuck_done                   what may not stand after an element
 use Rattle.std.proofs.Common.{◌≡◌, ℕ, ◌^◌, ◌<◌, ◌≤◌, true, ◌&&◌, nat_le, List, [], ◌∷◌, ◌++◌, length, Option, Some, None, Result, Ok, Err, IfOk, IfErr, MatchOption, unwrap_or, refl, sym, ap, ◌∙◌, subst, arith}
 use Rattle.std.proofs.lemmas.Str.{IsUtf8-from_ascii}
 use Rattle.std.specs.Str.{IsUtf8}
@@ -143,7 +143,7 @@ pub stuck_element : (bytes : List ℕ) (b : Bracket) (es : Exprs) (a : Around) (
 stuck_element bytes b es a e [] h k = tt
 stuck_element bytes b es a e (t ∷ ts) h k = no_element bytes b es a e t t.kind h k
 
--- where an expression must come
+-- if an expression must come
 abbrev pub IsNoExpr : TokenKind → Type 0
 IsNoExpr Name = ⊥
 IsNoExpr Number = ⊥
@@ -171,7 +171,7 @@ refuses_from bytes ending s ts after rest e stays h = subst (IsOutcome e) (sym s
 pub deep_first : (bytes : List ℕ) (ending : Ending) (s : State) (ts : List Token) (depth : ℕ) (e : ParseRefusal) → IsTooDeepFirst ts depth e → level_of s ≡ depth → Refuses bytes ending s ts e
 deep_first bytes ending s ts depth e (t, (rest, split, k, l, is)) level = rw is (too_deep bytes ending s ts t rest split (ap opens k) (omega arith))
 
--- what is read behind a name is read from the name on
+-- what is read after a name is read from the name on
 pub name_reads : {E X : Type 0} (tree_of : E → Expr) (now : X → List Token) (bytes : List ℕ) (ending : Ending) (depth : ℕ) (ts : List Token) (t : Token) (rest : List Token) → ts ≡ t ∷ rest → t.kind ≡ Name → (r : Result (E × X) ParseRefusal)
     → IfOk r (λ x. (a : Around) → depth_of a ≡ depth → Stays bytes ending (named a t.start (text_of bytes t)) rest (done a (tree_of x.0)) (now x.1))
     → IfOk r (λ x. (a : Around) → depth_of a ≡ depth → Stays bytes ending (want a) ts (done a (tree_of x.0)) (now x.1))

@@ -1,7 +1,7 @@
 -- What holds of the tokens of any bytes.
 --   step_exists          what stands at each place, with a token that stands within the bytes
 --   tokens_within        each token stands within the bytes, names are ASCII, numbers have 64 bits
---   end_place            where the tokens end at the script's end, that is the bytes' length
+--   end_place            if the tokens end at the script's end, that is the bytes' length
 --   tokens_apart         spans rise and don't overlap
 use Rattle.std.proofs.Common.{◌≡◌, ℕ, zero, suc, ◌+◌, ◌-◌, ◌<◌, ◌≤◌, Bool, true, false, cond, ◌⊎◌, inl, inr, ◌==◌, ◌&&◌, nat_lt, List, [], ◌∷◌, length, get_or, take, drop, Option, Some, None, refl, sym, ap, ◌∙◌, length-drop, arith}
 use Rattle.std.proofs.lemmas.Bool.Decides.{nat_tests}

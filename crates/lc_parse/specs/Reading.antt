@@ -4,14 +4,14 @@
 --   IsWithin bytes t           a token stands within the bytes, a name's bytes are ASCII, a number's value has 64 bits
 --   AreWithin bytes ts         the same of each token
 --   IsNotFirst kind ts         no token of this kind stands first
---   IsBehind kind ts rest      a token of this kind stands first, the rest behind it
+--   IsBehind kind ts rest      a token of this kind stands first, the rest after it
 --   IsTooDeepFirst ts depth e  a parenthesis opens first and too deep, and e is its fault
---   IsTargetFirst ts t rest    a name and `:=` stand first, the rest behind them
+--   IsTargetFirst ts t rest    a name and `:=` stand first, the rest after them
 --   IsStep bytes at step       what the tokens from this place on begin with
 --   IsTokenRefusal ending o     the refusal of an ending at a bad token or at a number that is too wide
 --   Stays bytes ending ..      to read goes on with these tokens as from those
 --   IsStuck s ts               the grammar lets no token stand first, and the script can't end
---   IsOutcome e o              a refusal is this outcome; want of memory says nothing
+--   IsOutcome e o              a refusal is this outcome; lack of memory says nothing
 use Rattle.std.specs.Prelude.{◌≡◌, ℕ, suc, ◌+◌, ◌<◌, ◌≤◌, List, [], ◌∷◌, length, drop, slice_index, Option, Some, None}
 use Rattle.std.specs.List.{AllByRecursion}
 use Rattle.lc_grammar.specs.declared.TokenKind.{TokenKind}
@@ -61,7 +61,7 @@ IsBehind kind ts rest = (t : Token) × (t.kind ≡ kind) × (ts ≡ t ∷ rest)
 abbrev pub IsTooDeepFirst : List Token → ℕ → ParseRefusal → Type 0
 IsTooDeepFirst ts depth e = (t : Token) × ((rest : List Token) × (ts ≡ t ∷ rest) × (t.kind ≡ Open) × (deepest ≤ depth) × (e ≡ refusal.Fault 42 t.start))
 
--- a name and `:=` stand first, the rest behind them
+-- a name and `:=` stand first, the rest after them
 abbrev pub IsTargetFirst : List Token → Token → List Token → Type 0
 IsTargetFirst ts t rest = (u : Token) × (ts ≡ t ∷ u ∷ rest) × (t.kind ≡ Name) × (u.kind ≡ Assign)
 

@@ -1,5 +1,5 @@
--- What `parse` and `tokens` answer where they refuse.
---   IsRefusedAs e P         where e is a fault, P holds of it; want of memory says nothing
+-- What `parse` and `tokens` answer if they refuse.
+--   IsRefusedAs e P         where e is a fault, P holds of it; lack of memory says nothing
 --   IsReadAs r P            r is an answer of which P holds, unless memory ran out
 --   IsFaultAs r number place  r is that fault, unless memory ran out
 use Rattle.std.specs.Prelude.{◌≡◌, Result, Ok, Err}

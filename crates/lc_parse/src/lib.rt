@@ -6,9 +6,9 @@
 //! expr      = number | name | name "(" [ expr { "," expr } ] ")" | "[" [ expr { "," expr } ] "]"
 //! ```
 //!
-//! `parse` answers the one script that the bytes are, else the number and the first place at which they can't
-//! go on. `tokens` answers the tokens alone. What these words mean is `lc_grammar`'s, and the laws say that
-//! each bytes are one script, or have one fault, and never both.
+//! `parse` returns the one script that the bytes are, or the number and the first offset at which they can't
+//! go on. `tokens` returns the tokens alone. `lc_grammar` says what these terms mean, and the laws say that
+//! every byte string is exactly one script or has exactly one fault, never both.
 #![tactic(auto)]
 
 mod laws;

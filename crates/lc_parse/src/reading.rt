@@ -34,7 +34,7 @@ fn opens(kind: TokenKind) -> bool
     }
 }
 
-// The rest behind a token of this kind, where one stands first.
+// The rest after a token of this kind, if one stands first.
 fn behind<'a>(kind: TokenKind, tokens: &'a [Token]) -> Option<&'a [Token]>
     ensures { MatchOption result (IsNotFirst kind tokens.now) (λ rest. IsBehind kind tokens.now rest.now) }
 {
@@ -53,7 +53,7 @@ fn refused_number(kind: TokenKind, depth: usize) -> u8
     }
 }
 
-// The refusal where the grammar doesn't let the first token stand, or the script end.
+// The refusal if the grammar doesn't let the first token stand, or the script end.
 fn refusal(source: &Source<'_>, tokens: &[Token], depth: usize) -> ParseRefusal
     ensures { (s : State) → level_of s ≡ depth → IsStuck source.now.bytes.now s tokens.now
         → Refuses source.now.bytes.now source.now.ending s tokens.now result }
@@ -70,7 +70,7 @@ fn refusal(source: &Source<'_>, tokens: &[Token], depth: usize) -> ParseRefusal
     }
 }
 
-// The refusal at the end of the tokens, where the script can't end.
+// The refusal at the end of the tokens, if the script can't end.
 fn end_refusal(ending: Ending) -> ParseRefusal
     ensures { (s : State) → IsNotStart s → IsOutcome result (ended_at s (ending_of ending)) }
 {
@@ -100,7 +100,7 @@ fn number_of(source: &Source<'_>, token: &Token) -> u64
     value_of(&source.bytes[token.start..token.end]).unwrap_or(0)
 }
 
-// The expression that stands first, and the rest behind it.
+// The expression that stands first, and the rest after it.
 #[cycle(expression)]
 fn expression<'a>(
     source: &Source<'_>,
@@ -150,7 +150,7 @@ fn expression<'a>(
     }
 }
 
-// The rest behind a parenthesis that opens, where one stands first.
+// The rest after a parenthesis that opens, if one stands first.
 fn opening(tokens: &[Token], depth: usize) -> Result<Option<&[Token]>, ParseRefusal>
     ensures read { IfOk result (λ o. MatchOption o (IsNotFirst Open tokens.now) (λ rest. IsBehind Open tokens.now rest.now × (depth < deepest))) }
     ensures refused { IfErr result (λ e. IsTooDeepFirst tokens.now depth e) }
@@ -169,7 +169,7 @@ fn opening(tokens: &[Token], depth: usize) -> Result<Option<&[Token]>, ParseRefu
     }
 }
 
-// The expression that begins with a name, the rest behind the name.
+// The expression that begins with a name, the rest after the name.
 #[cycle(expression)]
 fn named_expression<'a>(
     source: &Source<'_>,
@@ -210,7 +210,7 @@ fn named_expression<'a>(
     }
 }
 
-// The expressions up to the closing sign, with commas between them, and the rest behind the sign.
+// The expressions up to the closing sign, with commas between them, and the rest after the sign.
 #[cycle(expression)]
 fn expressions<'a>(
     source: &Source<'_>,
@@ -244,7 +244,7 @@ fn expressions<'a>(
     }
 }
 
-// The name and the rest behind `:=`, where they stand first.
+// The name and the rest after `:=`, if they stand first.
 fn assigned(tokens: &[Token]) -> Option<(&Token, &[Token])>
     ensures { MatchOption result (IsNoTarget tokens.now) (λ r. IsTargetFirst tokens.now r.0.now r.1.now) }
 {
@@ -257,7 +257,7 @@ fn assigned(tokens: &[Token]) -> Option<(&Token, &[Token])>
     }
 }
 
-// The name that a statement assigns to, if it has one, and the rest behind `:=`.
+// The name that a statement assigns to, if it has one, and the rest after `:=`.
 fn target<'a>(
     source: &Source<'_>,
     tokens: &'a [Token],
@@ -276,7 +276,7 @@ fn target<'a>(
     }
 }
 
-// The statement that stands first, and the rest behind it.
+// The statement that stands first, and the rest after it.
 fn statement_first<'a>(
     source: &Source<'_>,
     tokens: &'a [Token],
@@ -298,7 +298,7 @@ fn statement_first<'a>(
     }
 }
 
-// The refusal of a bad token or of a number that is too wide, where the tokens end at one.
+// The refusal of a bad token or of a number that is too wide, if the tokens end at one.
 fn token_refusal(ending: Ending) -> Option<ParseRefusal>
     ensures { IsTokenRefusal ending result }
 {
@@ -329,14 +329,14 @@ fn statements(source: &Source<'_>, tokens: &[Token]) -> Result<Vec<Statement>, P
     }
 }
 
-/// The tokens of a script, in order: the kind of each, the place of its first byte and the place behind its
+/// The tokens of a script, in order: the kind of each, the place of its first byte and the place after its
 /// last one, so that its text is `bytes[start..end]`. Spaces, tabs, carriage returns, newlines and comments
 /// from `#` to before the next newline stand between tokens. It refuses with the number 40 a byte that begins
-/// no token, and with 43 a number above 2^64 - 1, whichever comes first, and where memory runs out.
+/// no token, and with 43 a number above 2^64 - 1, whichever comes first, and if memory runs out.
 pub fn tokens(alloc: Global, bytes: &[u8]) -> Result<Vec<Token>, ParseRefusal>
     // What is answered are the script's tokens, up to its end.
     ensures read { IfOk result (λ v. ((scan bytes.now).ending ≡ script_end (length bytes.now)) × (v.items ≡ (scan bytes.now).tokens)) }
-    // They are answered where the tokens go up to the end, unless memory runs out.
+    // They are answered if the tokens go up to the end, unless memory runs out.
     ensures readable { (scan bytes.now).ending ≡ script_end (length bytes.now) → IsReadAs result (λ v. v.items ≡ (scan bytes.now).tokens) }
 
     ensures fault { IfErr result (λ e. IsRefusedAs e (TokenFault (scan bytes.now).ending)) }

@@ -75,7 +75,7 @@ fn line_len(rest: &[u8]) -> usize
     rest.iter().take_while(|b| **b != b'\n').count()
 }
 
-// The value of decimal digits, where it has 64 bits.
+// The value of decimal digits, if it has 64 bits.
 #[tactic(auto, using(crate::proofs::Scanning::value_none, crate::proofs::Scanning::value_grows, crate::proofs::Scanning::value_more, crate::proofs::Scanning::value_all))]
 pub(crate) fn value_of(text: &[u8]) -> Option<u64>
     ensures { MatchOption result (2 ^ 64 ≤ number_of text.now) (λ n. number_of text.now ≡ n) }
@@ -94,7 +94,7 @@ pub(crate) fn value_of(text: &[u8]) -> Option<u64>
     Some(n)
 }
 
-// `:=`, behind the colon.
+// `:=`, after the colon.
 #[tactic(auto, unfolding(lc_grammar::specs::Token::assign_at, lc_grammar::specs::Token::cut_of))]
 fn assign_at(rest: &[u8]) -> Option<Cut>
     ensures { cuts_of result ≡ assign_at rest.now }
@@ -117,7 +117,7 @@ fn sign(kind: TokenKind) -> Option<Cut>
     Some(Cut { kind, len: 1 })
 }
 
-// The sign that begins with the byte, the rest behind it.
+// The sign that begins with the byte, the rest after it.
 #[tactic(auto, unfolding(lc_grammar::specs::Token::sign_at))]
 fn sign_at(b: u8, rest: &[u8]) -> Option<Cut>
     ensures { cuts_of result ≡ sign_at b rest.now }
@@ -141,7 +141,7 @@ fn sign_at(b: u8, rest: &[u8]) -> Option<Cut>
     }
 }
 
-// The token that begins with the first byte, the rest behind it.
+// The token that begins with the first byte, the rest after it.
 fn token_at(here: &[u8], first: u8, rest: &[u8]) -> Option<Cut>
     requires { here.now ≡ first ∷ rest.now }
     ensures { cuts_of result ≡ token_at first rest.now }

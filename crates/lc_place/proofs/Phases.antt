@@ -57,7 +57,7 @@ by_true k q m e b l s le some inside se after before small =
       end,
     )
 
--- where a block stands, from the numbers of its level as the plan keeps them
+-- where a block is, from the numbers of its level as the plan keeps them
 pub record Stands (k q m e block a c s : ℕ) : Type 0 where
   pub some : 1 ≤ (c + 4095) / 4096
   pub phase : IsInPhase k q m (e * m + s) block

@@ -3,7 +3,7 @@
 --   take_same         two lists that begin alike
 --   StepsTo           from a message to the next one of its level
 --   step_raised, step_moved, step_last      by a coefficient, by a place, or not at all
---   GoesOn            what a step owes where it goes on
+--   GoesOn            what a step owes if it goes on
 --   places_below, entries_above, entries_many, entries_top, first_entry      what a spot's message is
 --   goes_by_raise, goes_by_move, stays      what the code does at a spot
 use Rattle.std.proofs.Common.{◌≡◌, ◌≢◌, ℕ, zero, suc, ◌+◌, ◌-◌, ◌<◌, ◌≤◌, List, [], ◌∷◌, length, get_or, take, replicate, Some, None, refl, ap, sym, ◌∙◌, arith, inl, inr}
@@ -85,7 +85,7 @@ step_last k q s u size h full last n e =
     let one : n + 1 ≡ suc n = omega arith in
     rw one (message_next k q (length s) n size (message_of s u) e ∙ turned_last k q s u (leading_full q u full) none)
 
--- what a step owes where it goes on: the next message, and the first change
+-- what a step owes if it goes on: the next message, and the first change
 pub record GoesOn (p : PlanSize) (old : SpotState) (t v : List ℕ) (i : ℕ) : Type 0 where
   pub next : (n : ℕ) → slice_get (messages p.k p.q (length old.support)) n ≡ Some (spot_message old) → slice_get (messages p.k p.q (length old.support)) (n + 1) ≡ Some (message_of t v)
   pub message : Contains (messages p.k p.q (length t)) (message_of t v)

@@ -1,6 +1,6 @@
 -- The order of messages, and their vectors.
 --   ListLess u v          u comes before v, lexicographically
---   MessageLess a b       a comes before b: by its support, and where the supports are equal by its coefficients
+--   MessageLess a b       a comes before b: by its support, and if the supports are equal by its coefficients
 --   IsLeadingVector k q w v      v has length k, entries below q, w of them not 0, and the first of these is 1
 use Rattle.std.specs.Prelude.{◌≡◌, ◌≢◌, ◌⊎◌, ℕ, ◌<◌, List, [], ◌∷◌, length, slice_index}
 use Rattle.lc_algebra.specs.Word.{weight}

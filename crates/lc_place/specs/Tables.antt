@@ -5,7 +5,7 @@
 --   choose_entry i         at 256 n + j the capped number of sets of j among n
 --   power_entry q e        the capped power (q - 1)^e
 --   count_entry k q e      the capped number of messages of level e + 1
---   start_entry k q m e    the first block of level e + 1, or 2^40 where it isn't below that
+--   start_entry k q m e    the first block of level e + 1, or 2^40 if it isn't below that
 use Rattle.std.specs.Prelude.{◌≡◌, ℕ, ◌+◌, ◌-◌, ◌*◌, ◌/◌, ◌%◌, ◌^◌, ◌<◌, min, List, length, slice_index}
 use Rattle.lc_enumeration.specs.Message.{choose, message_count}
 use Rattle.lc_enumeration.specs.Plan.{cut, blocks_before}

@@ -2,7 +2,7 @@
 
 ghost use Rattle.std.specs.Prelude.{◌≡◌, ◌≢◌, ℕ, ◌+◌, ◌-◌, ◌<◌, ◌≤◌, length, slice_index, IfSome, MatchOption};
 
-/// The last place from 1 on where a coefficient is below `top`; 0 where there is none. No coefficient is 0.
+/// The last place from 1 on at which a coefficient is below `top`; 0 if there is none. No coefficient is 0.
 pub(crate) fn last_below(coefficients: &[u8], top: u8) -> usize
     requires { (u : ℕ) → u < length coefficients.now → 1 ≤ slice_index coefficients.now u }
     ensures inside { 0 < result → result < length coefficients.now }
@@ -37,7 +37,7 @@ pub(crate) fn raise(coefficients: &mut [u8], place: usize)
 }
 
 /// Makes 1 of each coefficient, all of which are `top` but the first, and answers the least index at which
-/// the coefficients or the support changed, where the support changed from `place` on.
+/// the coefficients or the support changed, if the support changed from `place` on.
 #[tactic(auto, using(crate::proofs::Steps::all_same))]
 pub(crate) fn reset(coefficients: &mut [u8], top: u8, place: usize) -> usize
     requires inside { place < length coefficients.old }

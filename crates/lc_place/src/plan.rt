@@ -143,7 +143,7 @@ impl Plan {
     }
 
     /// Goes to the next message of the level, and answers the least index at which the support or the
-    /// coefficients changed. None where the spot was at the last message of its level, and then the spot is
+    /// coefficients changed. None if the spot was at the last message of its level, and then the spot is
     /// as before. The spot's support and coefficients are a message of this plan.
     pub fn step(&self, spot: &mut Spot) -> Option<usize>
         requires { Contains (messages self.now.k self.now.q (length spot.old.support)) (spot_message spot.old) }
@@ -169,7 +169,7 @@ impl Plan {
         Some(first)
     }
 
-    /// Goes to the next message of the level; false where the spot was at the last one, and then the spot is
+    /// Goes to the next message of the level; false if the spot was at the last one, and then the spot is
     /// as before. The spot's support and coefficients are a message of this plan.
     pub fn next(&self, spot: &mut Spot) -> bool
         requires { Contains (messages self.now.k self.now.q (length spot.old.support)) (spot_message spot.old) }

@@ -1,4 +1,4 @@
-//! The size of a plan and its tables, in which numbers are counted only as far as `MOST`.
+//! The size of a plan and its tables, in which counts saturate at `MOST`.
 
 ghost use Rattle.std.specs.Prelude.{◌≡◌, ◌+◌, ◌-◌, ◌*◌, ◌^◌, ◌<◌, ◌≤◌, IfOk, length};
 ghost use Rattle.lc_place.specs.Tables.{IsTable, choose_entry, power_entry, count_entry, start_entry};

@@ -2,7 +2,7 @@
 --   division_told              what is left in place of the dividend, without last zeros
 --   first_zero                 a polynomial whose constant and other coefficients are 0
 --   division_unique            there is one pair of quotient and remainder
---   divides_exactly            the remainder is 0 exactly where the divisor divides
+--   divides_exactly            the remainder is 0 exactly if the divisor divides
 --   x_power_polynomial         x^n - 1 has no last zero
 --   x_power_ends, x_power_kept, x_power_fits, x_power_told      the list that x^n - 1 is made from
 --   parts_told, divides_told   the same, of what the code holds

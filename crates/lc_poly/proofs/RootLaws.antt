@@ -7,7 +7,7 @@
 --   preimage, preimages        elements that are their own power by that size stand for elements of the small field
 --   orbit                      a and its powers by that size
 --   minimal_roots, minimal_zeros      the zeros of the minimal polynomial of a are these
---   cyclotomic_roots           and where a is a power, those of its cyclotomic set
+--   cyclotomic_roots           and if a is a power, those of its cyclotomic set
 use Rattle.std.proofs.Common.{◌≡◌, ◌≢◌, ℕ, zero, suc, ◌+◌, ◌-◌, ◌*◌, ◌/◌, ◌%◌, ◌^◌, ◌<◌, ◌↔◌, ◌⊎◌, inl, inr, ⊎_elim, List, [], ◌∷◌, ◌++◌, length, map, slice_index, Contains, refl, sym, ap, subst, ◌∙◌, arith, mul-zero}
 use Rattle.std.proofs.Math.Nat.{pow-suc, pow-zero, pow-succ', mul-suc, mod-add-div}
 use Rattle.std.proofs.lemmas.Nat.{pow-add}

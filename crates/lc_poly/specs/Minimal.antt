@@ -1,5 +1,5 @@
 -- How a polynomial over a small field gets a zero in a large one, by Horner's rule from the last coefficient down.
---   next_value small large a c v       the value at a, one coefficient c of the small field further down, where it was v
+--   next_value small large a c v       the value at a, one coefficient c of the small field further down, if it was v
 --   Reaches small large a n v          some n more coefficients of the small field make the value v to 0
 use Rattle.std.specs.Prelude.{◌≡◌, ℕ, zero, suc, ◌<◌}
 use Rattle.lc_algebra.specs.declared.FieldName.{FieldName}

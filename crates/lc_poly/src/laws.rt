@@ -99,7 +99,7 @@ pub fn factors_of_x_power_minus_one(small: FieldName, large: FieldName)
 {}
 
 /// The power of the primitive element by (size - 1) / n has order n, where n divides size - 1; and the order of each element
-/// divides size - 1. So a field has an element of order n exactly where n divides its size less 1. (MacWilliams and Sloane,
+/// divides size - 1. So a field has an element of order n exactly if n divides its size less 1. (MacWilliams and Sloane,
 /// chapter 4.)
 pub fn powers_of_order(field: FieldName)
     ensures order { (n : ℕ) → 1 ≤ n → (size field - 1) % n ≡ 0 → HasOrder field (pow field (shape_of field).primitive ((size field - 1) / n)) n }

@@ -140,7 +140,7 @@ pub fn distance_line(alloc: Global, d: u64, word: &Word, blocks: u64) -> Result<
     Ok(text)
 }
 
-/// What a search for the minimum distance prints of bounds, where it ended before the answer was
+/// What a search for the minimum distance prints of bounds, if it ended before the answer was
 /// known: `distance between 1 and 3 word [1,0,0,0,0,1,1] blocks 0`, `high` being the weight of the
 /// word.
 #[tactic(auto, unfolding(lc_language::specs::Print::bracket_line))]

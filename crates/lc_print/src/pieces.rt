@@ -1,4 +1,4 @@
-//! The pieces that lines are made of, each put behind a text that has begun.
+//! The pieces that lines are made of, each put after a text that has begun.
 ghost use Rattle.std.specs.Prelude.{◌≡◌, ℕ, List, [], ◌∷◌, ◌++◌, map, flat_map, OnOk, decimal};
 ghost use Rattle.lc_formats.specs.Text.{line, bracketed, numbers_text, lists_text, with_values};
 ghost use Rattle.lc_language.specs.Print.{field_text};
@@ -115,7 +115,7 @@ pub fn push_field(text: &mut Vec<u8>, q: u64) -> Result<(), NoMemory>
     Ok(())
 }
 
-/// What a fault carries: nothing where it carries no numbers, else `with` and each of them behind a
+/// What a fault carries: nothing if it carries no numbers, else `with` and each of them after a
 /// space.
 pub fn push_values(text: &mut Vec<u8>, values: &[u64]) -> Result<(), NoMemory>
     ensures { OnOk result (text.new.items ≡ text.old.items ++ with_values values.now) }

@@ -79,7 +79,7 @@ pub fn dot(field: &Field, a: &[u8], b: &[u8]) -> u8
     sum
 }
 
-/// The place of the first nonzero symbol, from 0; None exactly where all symbols are 0.
+/// The place of the first nonzero symbol, from 0; None exactly if all symbols are 0.
 #[inline]
 pub fn first_nonzero(symbols: &[u8]) -> Option<usize>
     ensures is { result ≡ first_nonzero_of symbols.now }

@@ -1,0 +1,74 @@
+-- That some rows are the reduced generator matrix of a set of words, from tests over all words of their length; for worked examples.
+--   lists_contain              each word is in the list of all words
+--   is_code_test f n ps rows test      the tests: the rows are words, reduced with their leading entries at ps, and a word of length n
+--                              is one of their words exactly if it passes the test
+--   code_from_test             then they are that of the words of which the test tests
+--   is_alternant f form, alternant_holds, alternant_passes      the test of an alternant word
+use Rattle.std.proofs.Common.{◌≡◌, ℕ, zero, suc, ◌<◌, Bool, true, false, not, nat_lt, ◌==◌, ◌&&◌, ◌||◌, List, [], ◌∷◌, map, length, All, Contains, flat_map, inl, inr, ⊎_elim, refl, sym, ap, subst, ◌∙◌, arith}
+use Rattle.std.specs.List.{list_all}
+use Rattle.std.proofs.lemmas.Bool.{and_parts, eqb-true, eq-eqb, false≢true}
+use Rattle.std.proofs.lemmas.List.Elements.{All-contains}
+use Rattle.lc_algebra.specs.declared.FieldName.{FieldName}
+use Rattle.lc_algebra.specs.Field.{size}
+use Rattle.lc_algebra.specs.Word.{IsWord}
+use Rattle.lc_algebra.specs.Span.{below, InSpan}
+use Rattle.lc_algebra.specs.Matrix.{Matrix, AreRows}
+use Rattle.lc_algebra.proofs.WordLaws.{word_head, word_tail}
+use Rattle.lc_algebra.proofs.SpanLaws.{span_word, flat_map_contains, map_contains, below_contains, contains_below, contains_head}
+use Rattle.lc_algebra.proofs.SpanSearch.{pivots_test, pivots_from_test}
+use Rattle.lc_constructions.specs.Basic.{all_lists}
+use Rattle.lc_constructions.specs.Code.{IsCode}
+use Rattle.lc_constructions.specs.Alternant.{AlternantForm, syndrome_at, IsAlternantWord}
+use Rattle.lc_enumeration.specs.InformationSet.{in_span}
+use Rattle.lc_enumeration.proofs.MemberLaws.{in_span_true, true_in_span}
+use Rattle.lc_formats.specs.Check.{fit}
+use Rattle.lc_formats.proofs.TestLaws.{all_holds, all_passes, word_holds}
+use Rattle.lc_enumeration.proofs.GreedyLaws.{each_contained}
+
+pub lists_contain : (f : FieldName) (n : ℕ) (w : List ℕ) → IsWord f n w → Contains (all_lists (size f) n) w
+unfolding all_lists
+lists_contain f zero [] h = contains_head [] []
+lists_contain f zero (a ∷ w) h = absurd (omega (arith, h.long))
+lists_contain f (suc n) [] h = absurd (omega (arith, h.long))
+lists_contain f (suc n) (a ∷ w) h = flat_map_contains (λ c. map (λ u. c ∷ u) (all_lists (size f) n)) (below (size f)) a (a ∷ w) (below_contains (size f) a (word_head f (suc n) a w h)) (map_contains (λ u. a ∷ u) (all_lists (size f) n) w (lists_contain f n w (word_tail f n a w h)))
+
+abbrev pub is_code_test : FieldName → ℕ → List ℕ → List (List ℕ) → (List ℕ → Bool) → Bool
+is_code_test f n ps rows test = list_all (fit f n) rows && (pivots_test n ps rows && list_all (λ w. (not (in_span f n rows w) || test w) && (not (test w) || in_span f n rows w)) (all_lists (size f) n))
+
+implied : (a b : Bool) → (not a || b) ≡ true → a ≡ true → b ≡ true
+implied true b h e = h
+implied false b h e = absurd (false≢true e)
+
+pub code_from_test : (f : FieldName) (n : ℕ) (ps : List ℕ) (rows : List (List ℕ)) (test : List ℕ → Bool) (P : List ℕ → Type 0) → ((w : List ℕ) → test w ≡ true → P w) → ((w : List ℕ) → P w → test w ≡ true) → is_code_test f n ps rows test ≡ true → IsCode f n P (record { field = f; columns = n; rows = rows })
+code_from_test f n ps rows test P holds passes e =
+    let both = λ (w : List ℕ). (not (in_span f n rows w) || test w) && (not (test w) || in_span f n rows w) in
+    let one = and_parts (list_all (fit f n) rows) (pivots_test n ps rows && list_all both (all_lists (size f) n)) e in
+    let two = and_parts (pivots_test n ps rows) (list_all both (all_lists (size f) n)) one.1 in
+    let words : AreRows f n rows = all_holds (fit f n) (IsWord f n) (word_holds f n) rows one.0 in
+    let at : (w : List ℕ) → IsWord f n w → both w ≡ true = λ w h. All-contains (λ v. both v ≡ true) (all_lists (size f) n) w (all_holds both (λ v. both v ≡ true) (λ v k. k) (all_lists (size f) n) two.1) (lists_contain f n w h) in
+    record {
+      over = refl;
+      length_is = refl;
+      generator = record {
+        members = λ w. (
+          (λ i.
+              let h = span_word f n rows w words i in
+              (h, holds w (implied (in_span f n rows w) (test w) (and_parts (not (in_span f n rows w) || test w) (not (test w) || in_span f n rows w) (at w h)).0 (true_in_span f n rows w i)))),
+          (λ p. in_span_true f n rows w (implied (test w) (in_span f n rows w) (and_parts (not (in_span f n rows w) || test w) (not (test w) || in_span f n rows w) (at w p.0)).1 (passes w p.1))),
+        );
+        reduced = record { pivots = (ps, pivots_from_test n ps rows two.0) };
+        words = words;
+      };
+    }
+
+unfoldable pub is_alternant : FieldName → AlternantForm → List ℕ → Bool
+is_alternant f form w = list_all (λ j. syndrome_at f form w j == 0) (below form.r)
+
+pub alternant_holds : (f : FieldName) (form : AlternantForm) (w : List ℕ) → is_alternant f form w ≡ true → IsAlternantWord f form w
+unfolding is_alternant
+alternant_holds f form w e j l =
+    All-contains (λ i. syndrome_at f form w i ≡ 0) (below form.r) j (all_holds (λ i. syndrome_at f form w i == 0) (λ i. syndrome_at f form w i ≡ 0) (λ i h. eqb-true (syndrome_at f form w i) 0 h) (below form.r) e) (below_contains form.r j l)
+
+pub alternant_passes : (f : FieldName) (form : AlternantForm) (w : List ℕ) → IsAlternantWord f form w → is_alternant f form w ≡ true
+unfolding is_alternant
+alternant_passes f form w h = all_passes (λ j. syndrome_at f form w j == 0) (λ j. syndrome_at f form w j ≡ 0) (λ j e. eq-eqb (syndrome_at f form w j) 0 e) (below form.r) (each_contained (λ j. syndrome_at f form w j ≡ 0) (below form.r) (λ j c. h j (contains_below form.r j c)))
