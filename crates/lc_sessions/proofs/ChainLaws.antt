@@ -37,6 +37,7 @@ use Rattle.lc_io.specs.Vaults.{Slots, empty_slots, in_slot, put}
 use Rattle.lc_language.specs.declared.Call.{Call}
 use Rattle.lc_sessions.specs.Needs.{MeetsFirst, AgreeAsFar}
 use Rattle.lc_sessions.proofs.NeedsLaws.{met_agree}
+use Rattle.lc_sessions.proofs.GroundLaws.{searches_end, early_enough}
 use Rattle.lc_sessions.specs.Slots.{slot_of, next_turn, turn_after, point_of, stored_bytes, slots_after, IsTrueCheckpoint, IsTornOr, later_of, chosen, start_in}
 use Rattle.lc_sessions.specs.Chain.{IsLeft, IsVersion, Leaves, Goes, Chain, EndsAtAnswer, IsGround, ChainsAreTrue}
 use Rattle.lc_sessions.proofs.TrueSteps.{AreSettled, settled_from, settled_take, need_at, AreTrueSteps, true_front, IsTrueStart, starts_next, session_true}
@@ -191,11 +192,11 @@ resumed_truly : (table : List Call) (bytes : List ℕ) (budget version : ℕ) (n
 unfolding session_rounds start_before
 resumed_truly table bytes budget version needs front p ground known met met_front holds slice None used =
     let u = used.all refl in
-    true_from version needs (sha256 bytes) budget (ground.ends version needs known met) slice p.settled (Some (current_of p)) (next_turn p.turn) (drop (length p.settled) needs) refl
+    true_from version needs (sha256 bytes) budget (searches_end table bytes budget ground version needs met) slice p.settled (Some (current_of p)) (next_turn p.turn) (drop (length p.settled) needs) refl
     (λ C at. start_all bytes budget version needs front p (met_agree table bytes ground.script ground.step front needs met_front met) holds u.0 u.1 (let w = slice_get_within needs (length p.settled) C at in omega (arith, w)))
 resumed_truly table bytes budget version needs front p ground known met met_front holds slice (Some i) used =
     let u = used.some i refl in
-    true_from version needs (sha256 bytes) budget (ground.ends version needs known met) slice (take i p.settled) None (next_turn p.turn) (drop (length (take i p.settled)) needs) refl
+    true_from version needs (sha256 bytes) budget (searches_end table bytes budget ground version needs met) slice (take i p.settled) None (next_turn p.turn) (drop (length (take i p.settled)) needs) refl
     (λ C at. start_some bytes budget version needs front p i (met_agree table bytes ground.script ground.step front needs met_front met) holds u.0 u.1 u.2 (let w = slice_get_within needs (length (take i p.settled)) C at in omega (arith, w)))
 
 -- a version that isn't 1 is used whole
@@ -266,7 +267,7 @@ resumed_start table bytes budget version needs front p ground known kind l met m
     newest e = ⊎_elim (λ (f : version ≡ 1). absurd (omega (arith, e, f, l))) (λ (f : version ≡ 2). e ∙ sym f) known
 
     by_kind : IsVersion p.version → AreTrueSteps version needs (sha256 bytes) budget (next_turn p.turn) (session_rounds (divisor_in version) needs budget slice (start_before p.settled (current_of p) (if p.version == 1 then first_divisible (divisor_in version) (take (suc (length p.settled)) needs) else None))).steps
-    by_kind (inl first) = rw (first-test first) (resumed_truly table bytes budget version needs front p ground known met met_front holds slice (first_divisible (divisor_in version) (take (suc (length p.settled)) needs)) (used_first p needs version first known (ground.early p first (front, met_front, holds))))
+    by_kind (inl first) = rw (first-test first) (resumed_truly table bytes budget version needs front p ground known met met_front holds slice (first_divisible (divisor_in version) (take (suc (length p.settled)) needs)) (used_first p needs version first known (early_enough table bytes budget p ground first (front, met_front, holds))))
     by_kind (inr second) = rw (second-test second) (resumed_truly table bytes budget version needs front p ground known met met_front holds slice None (used_whole p needs version (newest second)))
 
 empty_is_none : checkpoint_in [] ≡ refused damaged
@@ -284,7 +285,7 @@ goes_truly version table bytes budget needs start told turn g all = true_front v
 begun_truly : (table : List Call) (bytes : List ℕ) (budget version : ℕ) (needs : List Matrix) → IsGround table bytes budget → IsVersion version → MeetsFirst table bytes needs → (slice : Option ℕ) → AreTrueSteps version needs (sha256 bytes) budget 0 (session_rounds (divisor_in version) needs budget slice fresh_start).steps
 unfolding session_rounds fresh_start
 begun_truly table bytes budget version needs ground known met slice =
-    true_from version needs (sha256 bytes) budget (ground.ends version needs known met) slice [] None 0 needs refl (λ C at. starts_next version needs budget [] 0 tt (omega arith))
+    true_from version needs (sha256 bytes) budget (searches_end table bytes budget ground version needs met) slice [] None 0 needs refl (λ C at. starts_next version needs budget [] 0 tt (omega arith))
 
 pub chains_kept : (table : List Call) (bytes : List ℕ) (budget version : ℕ) (slots : Slots) → IsGround table bytes budget → Chain table bytes budget version slots → AreKept table bytes budget version slots
 chains_kept table bytes budget _ _ ground (Chain.begun version needs told slots g left) =

@@ -13,3 +13,4 @@ pub mod ChainExamples
 pub mod SettledNeeds
 pub mod HonestLaws
 pub mod Headline
+pub mod GroundLaws

@@ -13,11 +13,11 @@
 --   EndsAtAnswer d C budget slice s      its rounds do so up to the blocks of the answer, and end at it unless the slice stops them
 --   IsGround table bytes budget          what the law of chains rests on
 --   ChainsAreTrue table bytes budget     the law of chains: they leave the slots as `resume` asks for them
-use Rattle.std.specs.Prelude.{◌≡◌, ℕ, ◌⊎◌, ◌≤◌, List, ◌++◌, Option, Some, [], ◌∷◌, ◌<◌, ◌^◌, false, slice_get}
+use Rattle.std.specs.Prelude.{◌≡◌, ℕ, ◌⊎◌, ◌≤◌, List, ◌++◌, Option, Some, [], ◌∷◌, ◌<◌, ◌^◌, false, slice_get, length}
 use Rattle.sha2.specs.Sha256.{sha256}
 use Rattle.lc_algebra.specs.Matrix.{Matrix}
-use Rattle.lc_enumeration.specs.Search.{answer, finished}
-use Rattle.lc_enumeration.specs.Records.{Progress, found_of, Start, fresh_start, Step, rounds, last_state, session_rounds, IsBestAt}
+use Rattle.lc_enumeration.specs.Search.{answer}
+use Rattle.lc_enumeration.specs.Records.{Progress, Start, fresh_start, Step, rounds, last_state, session_rounds, IsBestAt}
 use Rattle.lc_formats.specs.Checkpoint.{Checkpoint, point, refused, damaged, checkpoint_text, checkpoint_in}
 use Rattle.lc_formats.specs.Truth.{divisor_in, SettlesAs, blocks_in}
 use Rattle.lc_io.specs.Vaults.{Slots, empty_slots, in_slot, put}
@@ -90,16 +90,12 @@ pub record IsGround (table : List Call) (bytes : List ℕ) (budget : ℕ) : Type
   -- the bytes are one script, and a statement does one thing
   pub script : OneScript bytes
   pub step : OneStep table
-  -- a search that goes on from a best word ends at the answer
-  pub ends : (version : ℕ) (needs : List Matrix) → IsVersion version → MeetsFirst table bytes needs → (i : ℕ) (C : Matrix) → slice_get needs i ≡ Some C → (slice : Option ℕ) (s : Progress) → IsBestAt C s → s.blocks ≤ blocks_in (answer (divisor_in version C) C budget)
-      → EndsAtAnswer (divisor_in version C) C budget slice s
-  -- and there it is answered so
-  pub answered : (version : ℕ) (needs : List Matrix) → IsVersion version → MeetsFirst table bytes needs → (i : ℕ) (C : Matrix) → slice_get needs i ≡ Some C → (s : Progress) → SettlesAs s (answer (divisor_in version C) C budget)
-      → finished (divisor_in version C) C budget s.blocks (found_of s) ≡ Some (answer (divisor_in version C) C budget)
+  -- a budget is at most 2^40 blocks; every need has rows, and there are fewer than 2^17 of them
+  pub small : budget ≤ 2 ^ 40
+  pub rows : (needs : List Matrix) → MeetsFirst table bytes needs → (i : ℕ) (C : Matrix) → slice_get needs i ≡ Some C → 0 < length C.rows
+  pub few : (needs : List Matrix) → MeetsFirst table bytes needs → length needs < 2 ^ 17
   -- true checkpoints are read back
   pub reads_back : (p : Checkpoint) → IsVersion p.version → IsTrueCheckpoint table bytes budget p → checkpoint_in (checkpoint_text p) ≡ point p
-  -- those of version 1 have turns below 2^57
-  pub early : (p : Checkpoint) → p.version ≡ 1 → IsTrueCheckpoint table bytes budget p → p.turn < 2 ^ 57
 
 -- the law of chains
 abbrev pub ChainsAreTrue : List Call → List ℕ → ℕ → Type 0

@@ -1,0 +1,150 @@
+-- A search that goes on from a best word ends at the answer.
+--   search_rises         its states rise
+--   settles_so           a search that is finished with an answer is settled by it
+--   ends_at_answer       so it ends at its answer, unless the slice stops it
+--   answered_so          and where it is settled it is finished
+--   early_enough         the turn of a true checkpoint of version 1
+--   searches_end         the searches of a script
+use Rattle.std.proofs.Common.{◌≡◌, ◌+◌, ◌-◌, ◌≤◌, ◌<◌, ◌^◌, ⊎_elim, ℕ, zero, suc, Bool, true, false, List, [], ◌∷◌, find, length, refl, sym, ap, subst, ◌∙◌, arith}
+use Rattle.std.specs.Prelude.{Option, Some, None, if◌then◌else◌, ◌==◌, ◌&&◌, nat_le, slice_get, map, ◌*◌, Contains}
+use Rattle.std.proofs.lemmas.Bool.{cases_Bool, cases_lt, leb-true}
+use Rattle.std.proofs.lemmas.List.Sums.{sum_by-append}
+use Rattle.std.proofs.lemmas.Option.{slice_get_within}
+use Rattle.lc_algebra.specs.Matrix.{Matrix}
+use Rattle.lc_enumeration.specs.Plan.{cut}
+use Rattle.lc_enumeration.specs.Search.{Answer, no_word, exact, bracket, set_count, best, bound, is_done, may_end, ends_of, answer_at, answer, finished}
+use Rattle.lc_enumeration.specs.Records.{Progress, Rounds, found_of, progress_of, round_length, after_round, is_used_up, state_first, no_round, less_slice, rounds_within, rounds, last_state, IsBestAt}
+use Rattle.lc_enumeration.specs.Truth.{answer_blocks}
+use Rattle.lc_enumeration.proofs.RecordsLaws.{round_is_best}
+use Rattle.lc_infoset.proofs.AnswerLaws.{some_set}
+use Rattle.lc_infoset.proofs.RoundLaws.{done_list, target, reached, round_within}
+use Rattle.lc_infoset.proofs.AnswerLaws.{ends_to}
+use Rattle.lc_infoset.proofs.BestLaws.{find_passes}
+use Rattle.lc_infoset.proofs.SetLaws.{filter_passes}
+use Rattle.lc_algebra.proofs.SpanLaws.{contains_cases}
+use Rattle.lc_infoset.proofs.SessionLaws.{answer_is, target_is, search_ends}
+use Rattle.lc_formats.specs.Truth.{divisor_in, turn_allowance, SettlesAs, blocks_in}
+use Rattle.lc_formats.specs.Checkpoint.{Checkpoint}
+use Rattle.lc_language.specs.declared.Call.{Call}
+use Rattle.lc_sessions.specs.Needs.{MeetsFirst}
+use Rattle.lc_sessions.specs.Slots.{IsTrueCheckpoint}
+use Rattle.lc_sessions.specs.Chain.{Rises, EndsAtAnswer, IsGround}
+use Rattle.lc_sessions.proofs.TrueSteps.{AreSettled, settled_from, blocks_of}
+
+next_blocks : (C : Matrix) (s : Progress) (count : ℕ) → (after_round C s count).blocks ≡ s.blocks + count
+unfolding after_round progress_of
+next_blocks C s count = refl
+
+search_rises : (most d : ℕ) (C : Matrix) (budget : ℕ) (slice o : Option ℕ) (s : Progress) → 0 < length C.rows → 0 < set_count C → budget ≤ cut → find (is_done d C) (done_list C budget) ≡ o → IsBestAt C s → s.blocks ≤ target o budget → Rises C (target o budget) s.blocks (rounds_within most d C budget slice s).states
+unfolding rounds_within state_first no_round
+search_rises zero d C budget slice o s rows sets small f h few = tt
+search_rises (suc most) d C budget slice o s rows sets small f h few =
+    let count = round_length C budget slice s.blocks in
+    let next = after_round C s count in
+    let rest = rounds_within most d C budget (less_slice slice count) next in
+    let go = λ (b : Bool). elim b as (λ _. Rounds) [ true ↦ no_round slice true | false ↦ state_first next rest ] in
+    let on = λ (a : Option Answer). elim a as (λ _. Rounds) [ Some _ ↦ no_round slice false | None ↦ go (is_used_up slice) ] in
+    let goal = λ (r : Rounds). Rises C (target o budget) s.blocks r.states in
+    let state = reached d C budget o s.blocks (found_of s) rows sets f h few in
+    ⊎_elim
+    (λ less.
+    subst (λ (a : Option Answer). goal (on a)) (sym (state.before less))
+    (⊎_elim
+    (λ u. subst (λ (b : Bool). goal (go b)) (sym u) tt)
+    (λ u.
+    let w = round_within d C budget slice o s.blocks rows sets small f less u in
+    let blocks = next_blocks C s count in
+    let best_next = round_is_best C s count h in
+    let few_next : next.blocks ≤ target o budget = omega (arith, blocks, w.1) in
+    subst (λ (b : Bool). goal (go b)) (sym u) (omega (arith, blocks, w.0), few_next, best_next, search_rises most d C budget (less_slice slice count) o next rows sets small f best_next few_next))
+    (cases_Bool (is_used_up slice))))
+    (λ least. subst (λ (a : Option Answer). goal (on a)) (sym (state.here (omega (arith, least, few)))) tt)
+    (cases_lt s.blocks (target o budget))
+
+same_blocks : (a : Answer) → blocks_in a ≡ answer_blocks a
+unfolding blocks_in answer_blocks
+same_blocks no_word = refl
+same_blocks (exact found l) = refl
+same_blocks (bracket low found l) = refl
+
+settles_so : (d : ℕ) (C : Matrix) (budget : ℕ) (s : Progress) (a : Answer) → finished d C budget s.blocks (found_of s) ≡ Some a → SettlesAs s a
+unfolding finished
+settles_so d C budget s a is =
+    by_end (may_end C s.blocks && nat_le (found_of s).weight (bound d C s.blocks (found_of s).weight)) (s.blocks == budget) is
+  where
+    by_end : (b c : Bool) → (if b then Some (exact (found_of s) s.blocks) else (if c then Some (bracket (bound d C s.blocks (found_of s).weight) (found_of s) s.blocks) else None)) ≡ Some a → SettlesAs s a
+    by_end true c e = (let same : exact (found_of s) s.blocks ≡ a = (let f = e in cc) in subst (SettlesAs s) same (refl, refl))
+    by_end false true e = (let same : bracket (bound d C s.blocks (found_of s).weight) (found_of s) s.blocks ≡ a = (let f = e in cc) in subst (SettlesAs s) same (refl, refl))
+    by_end false false e = absurd (let f = e in cc)
+
+pub ends_at_answer : (d : ℕ) (C : Matrix) (budget : ℕ) (slice : Option ℕ) (s : Progress) → 0 < length C.rows → budget ≤ 2 ^ 40 → IsBestAt C s → s.blocks ≤ blocks_in (answer d C budget) → EndsAtAnswer d C budget slice s
+unfolding rounds cut
+ends_at_answer d C budget slice s rows small h few =
+    let o = find (is_done d C) (done_list C budget) in
+    let most : target o budget ≡ blocks_in (answer d C budget) = sym (target_is d C budget rows) ∙ sym (same_blocks (answer d C budget)) in
+    let e = search_ends d C budget slice s rows small (record { best = h; few = omega (arith, few, same_blocks (answer d C budget)) }) in
+    record {
+      rises = subst (λ (n : ℕ). Rises C n s.blocks (rounds d C budget slice s).states) most (search_rises (suc (budget - s.blocks)) d C budget slice o s rows (some_set C) small refl h (omega (arith, few, most)));
+      ends = λ unstopped. settles_so d C budget (last_state s (rounds d C budget slice s).states) (answer d C budget) (e.settles unstopped);
+    }
+
+settled_at : (d : ℕ) (C : Matrix) (budget : ℕ) (o : Option ℕ) (s : Progress) → SettlesAs s (answer_at d C budget o) → (s.blocks ≡ target o budget) × (found_of s ≡ best C (set_count C) s.blocks)
+unfolding answer_at
+settled_at d C budget None s h = (h.0, h.1 ∙ ap (best C (set_count C)) (sym h.0))
+settled_at d C budget (Some l) s h = (h.0, h.1 ∙ ap (best C (set_count C)) (sym h.0))
+
+pub answered_so : (d : ℕ) (C : Matrix) (budget : ℕ) (s : Progress) → 0 < length C.rows → SettlesAs s (answer d C budget) → finished d C budget s.blocks (found_of s) ≡ Some (answer d C budget)
+answered_so d C budget s rows settles =
+    let o = find (is_done d C) (done_list C budget) in
+    let is = answer_is d C budget rows in
+    let at = settled_at d C budget o s (subst (SettlesAs s) is settles) in
+    (reached d C budget o s.blocks (found_of s) rows (some_set C) refl at.1 (omega (arith, at.0))).here at.0 ∙ ap Some (sym is)
+
+listed_within : (C : Matrix) (budget l : ℕ) → Contains (done_list C budget) l → l ≤ budget
+listed_within C budget l m = ⊎_elim (λ (e : 0 ≡ l). omega (arith, e)) (λ (r : Contains (ends_to C budget) l). leb-true l budget (filter_passes (λ e. nat_le e budget) (ends_of C) l r).passes) (contains_cases 0 l (ends_to C budget) m)
+
+target_within : (d : ℕ) (C : Matrix) (budget : ℕ) (o : Option ℕ) → find (is_done d C) (done_list C budget) ≡ o → target o budget ≤ budget
+target_within d C budget None f = omega arith
+target_within d C budget (Some e) f = listed_within C budget e (find_passes (is_done d C) (done_list C budget) e f).member
+
+-- an answer has no more blocks than the budget
+answer_within : (d : ℕ) (C : Matrix) (budget : ℕ) (s : Progress) → 0 < length C.rows → SettlesAs s (answer d C budget) → s.blocks ≤ budget
+answer_within d C budget s rows settles =
+    let o = find (is_done d C) (done_list C budget) in
+    let at = settled_at d C budget o s (subst (SettlesAs s) (answer_is d C budget rows) settles) in
+    let t = target_within d C budget o refl in
+    omega (arith, at.0, t)
+
+blocks_within : (d : ℕ) (C : Matrix) (budget : ℕ) → 0 < length C.rows → blocks_in (answer d C budget) ≤ budget
+blocks_within d C budget rows =
+    let o = find (is_done d C) (done_list C budget) in
+    let most : blocks_in (answer d C budget) ≡ target o budget = same_blocks (answer d C budget) ∙ target_is d C budget rows in
+    let t = target_within d C budget o refl in
+    omega (arith, most, t)
+
+settled_within : (divisor : Matrix → ℕ) (budget : ℕ) (needs : List Matrix) (settled : List Progress) → budget ≤ 2 ^ 40 → ((i : ℕ) (C : Matrix) → slice_get needs i ≡ Some C → 0 < length C.rows) → AreSettled divisor budget needs settled → blocks_of settled ≤ length settled * 2 ^ 40
+settled_within divisor budget needs [] small rows all = omega arith
+settled_within divisor budget [] (s ∷ settled) small rows all = absurd all
+settled_within divisor budget (C ∷ needs) (s ∷ settled) small rows all =
+    let one = answer_within (divisor C) C budget s (rows 0 C refl) all.0 in
+    let rest = settled_within divisor budget needs settled small (λ i D at. rows (suc i) D at) all.1 in
+    let sum_is = sum_by-append (λ x. x) (s.blocks ∷ []) (map (λ (t : Progress). t.blocks) settled) in
+    omega (arith, small, one, rest, sum_is)
+
+-- a true checkpoint of version 1 has a turn below 2^57
+pub early_enough : (table : List Call) (bytes : List ℕ) (budget : ℕ) (p : Checkpoint) → IsGround table bytes budget → p.version ≡ 1 → IsTrueCheckpoint table bytes budget p → p.turn < 2 ^ 57
+unfolding turn_allowance
+early_enough table bytes budget p ground first (needs, met, holds) =
+    let rows = ground.rows needs met in
+    let all = settled_from (divisor_in p.version) budget needs p.settled holds.settled in
+    let sum_of = settled_within (divisor_in p.version) budget needs p.settled ground.small rows all in
+    let here = blocks_within (divisor_in p.version holds.current.0) holds.current.0 budget (rows (length p.settled) holds.current.0 holds.current.1) in
+    let none : turn_allowance p.version ≡ 0 = ap turn_allowance first in
+    let inside = slice_get_within needs (length p.settled) holds.current.0 holds.current.1 in
+    let few = ground.few needs met in
+    omega (arith, holds.turn, sum_of, here, holds.current.3, none, inside, few, ground.small)
+
+-- what the searches of a script do, as chains need it
+pub searches_end : (table : List Call) (bytes : List ℕ) (budget : ℕ) → IsGround table bytes budget → (version : ℕ) (needs : List Matrix) → MeetsFirst table bytes needs → (i : ℕ) (C : Matrix) → slice_get needs i ≡ Some C → (slice : Option ℕ) (s : Progress) → IsBestAt C s → s.blocks ≤ blocks_in (answer (divisor_in version C) C budget)
+    → EndsAtAnswer (divisor_in version C) C budget slice s
+searches_end table bytes budget ground version needs met i C at slice s h few = ends_at_answer (divisor_in version C) C budget slice s (ground.rows needs met i C at) ground.small h few
