@@ -85,7 +85,7 @@ pub record EndsAtAnswer (d : ℕ) (C : Matrix) (budget : ℕ) (slice : Option �
   pub rises : Rises C (blocks_in (answer d C budget)) s.blocks (rounds d C budget slice s).states
   pub ends : (rounds d C budget slice s).is_stopped ≡ false → SettlesAs (last_state s (rounds d C budget slice s).states) (answer d C budget)
 
--- what the law of chains rests on: facts of the script, of the search and of the format
+-- what the law of chains rests on: facts of the language and of the format of checkpoints
 pub record IsGround (table : List Call) (bytes : List ℕ) (budget : ℕ) : Type 0 where
   -- the bytes are one script, and a statement does one thing
   pub script : OneScript bytes

@@ -124,8 +124,8 @@ can_end (rejected reason) command = checks command
 can_end too_long command = reads command
 can_end (unfit query told found) command = resumes command
 
--- the arguments: refused ones end the session with their index, and only these do. Then, and if memory was refused before they were
--- read, all is as it was
+-- refused arguments end the session with their index, and only these do; memory may be refused before they are read. Then all is as
+-- it was
 abbrev pub Accepts : Options → Settings → Outside → Outside → Ending → Type 0
 Accepts (refuses i) asked old new ending = (new ≡ old) × ((ending ≡ usage i) ⊎ (ending ≡ no_memory 0))
 Accepts (settings s) asked old new ending = (asked ≡ s) × ((i : ℕ) → ¬ (ending ≡ usage i))
@@ -162,7 +162,7 @@ Reads resume ending old new course = ReadsScript ending old new course
 Reads check ending old new course = ReadsScript ending old new course
 Reads summary ending old new course = new ≡ old
 
--- where the vault tells its slots, this is what `resume` finds in them
+-- if the vault tells its slots, this is what `resume` finds in them
 abbrev pub Finds : Option Slots → Choice → Type 0
 Finds held found = IfSome held (λ slots. choice slots ≡ found)
 
@@ -176,17 +176,17 @@ pub record GoesOnFrom (asked : Settings) (held : Option Slots) (course : Course)
 abbrev pub IsResumed : Settings → Option Slots → Course → Type 0
 IsResumed asked held course = (p : Checkpoint) × GoesOnFrom asked held course p
 
--- the first record that doesn't fit, of the needs met so far; that there are more records than needs shows at the end of the text
+-- the first record that doesn't fit its need, once that need is met; that there are more records than needs shows at the end of the text
 abbrev pub IsUnfit : List Call → Settings → Course → Misfit → Type 0
 IsUnfit table asked course m =
     (misfit divisor_of course.needs asked.budget course.start ≡ Some m)
     × (((m.need < length course.needs) × MeetsFirst table course.bytes course.needs) ⊎ IsNeeds table course.bytes course.needs)
 
--- whose records are all used by needs that they fit, as far as the session came
+-- every record that the session used fits its need
 abbrev pub Fits : Settings → Course → Type 0
 Fits asked course = misfit divisor_of course.needs asked.budget course.start ≡ None
 
--- where no checkpoint was loaded yet, or one was taken
+-- a checkpoint was taken, or no record was told: the session may have ended before it took one
 abbrev pub MayBeResumed : Settings → Option Slots → Course → Type 0
 MayBeResumed asked held course = (course.told ≡ []) ⊎ (IsResumed asked held course × Fits asked course)
 
