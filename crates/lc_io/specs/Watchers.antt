@@ -30,7 +30,7 @@ abbrev pub first_advice : List Advice → Advice
 first_advice [] = Leave
 first_advice (a ∷ rest) = a
 
--- those behind it
+-- those after it
 abbrev pub later : List Advice → List Advice
 later [] = []
 later (a ∷ rest) = rest

@@ -9,7 +9,7 @@ use crate::{Failed, NoMemory, Slot, Vault};
 use std::alloc::Global;
 use std::marker::Model;
 
-/// A vault that keeps its slots in memory, and fails where it is told to or has no room.
+/// A vault that keeps its slots in memory, and fails if it is told to or has no room.
 #[derive(Drop)]
 pub struct MemoryVault {
     zero: Vec<u8>,
@@ -93,7 +93,7 @@ impl Vault for MemoryVault {
 
     ghost faults = { λ v. v.calls.faults };
 
-    /// Fails exactly where the number of the call is one that fails. Takes no memory.
+    /// Fails exactly if the number of the call is one that fails. Takes no memory.
     fn load(&mut self, slot: Slot, buf: &mut [u8]) -> Result<usize, Failed>
         ensures bound { IfOk result (λ n. n ≤ length buf.old) }
         ensures gave { IfOk result (λ n. Loads (Some self.old.slots) slot buf.old buf.new n) }
@@ -115,7 +115,7 @@ impl Vault for MemoryVault {
         Ok(copy_front(kept, buf))
     }
 
-    /// Fails exactly where the number of the call is one that fails or the bytes don't fit. Takes
+    /// Fails exactly if the number of the call is one that fails or the bytes don't fit. Takes
     /// no memory.
     fn store(&mut self, slot: Slot, bytes: &[u8]) -> Result<(), Failed>
         ensures stored { OnOk result

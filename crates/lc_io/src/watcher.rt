@@ -32,16 +32,16 @@ pub trait Watcher: Drop {
     ghost use Rattle.lc_io.specs.declared.watcher.Record.{Record};
     ghost use Rattle.lc_io.specs.declared.watcher.Advice.{Advice};
 
-    /// The records heard, where the watcher tells them. One that tells them goes on telling.
+    /// The records heard, if the watcher tells them. One that tells them goes on telling.
     ghost heard: { Self → Option (List Record) };
 
-    /// The advice still to be given, where the watcher tells it. One that tells it goes on telling.
+    /// The advice still to be given, if the watcher tells it. One that tells it goes on telling.
     ghost coming: { Self → Option (List Advice) };
 
     /// How often it has answered Pause.
     ghost pauses: { Self → ℕ };
 
-    /// Hears a record. Returns the next advice of those to come, and takes it away; where none is
+    /// Hears a record. Returns the next advice of those to come, and takes it away; if none is
     /// left, that is Leave.
     fn told(&mut self, note: &Record) -> Advice
         ensures coming { AnswersFrom (coming self.old) result (coming self.new) }

@@ -26,7 +26,7 @@ answer_line distance C a = distance_answer_line C a
 answer_line by_levels C a = certificate_answer_line by_levels C a
 answer_line by_scan C a = certificate_answer_line by_scan C a
 
--- how the text goes on behind a statement: the bindings, the answers that are left and the further text, or the end
+-- how the text goes on after a statement: the bindings, the answers that are left and the further text, or the end
 abbrev pub PrintsBy : ℕ → List Binding → Step → (List Binding → List Answer → List ℕ → Bool → Type 0) → List Answer → List ℕ → Bool → Type 0
 PrintsBy budget env (binds b) later answers text ends = later (b ∷ env) answers text ends
 PrintsBy budget env (prints l) later answers text ends = (rest : List ℕ) × later env answers rest ends × (text ≡ l ++ rest)

@@ -107,7 +107,7 @@ checked keys s =
       | None ↦ elim s.command as (λ _. Options) [ summary ↦ if is_some (place_of_key seed keys 1) then settings s else usage (suc (length keys)) | _ ↦ settings s ]
     ]
 
--- the words behind the command; the keys of the words so far stand in their order
+-- the words after the command; the keys of the words so far stand in their order
 unfoldable pub options_from : List Key → List (List ℕ) → List Key → Settings → Options
 options_from keys [] found s = checked found s
 options_from keys (word ∷ words) found s =
