@@ -84,9 +84,9 @@ row_or_zero f n (g ∷ rows) (suc i) r = row_or_zero f n rows i (All-tail (IsWor
 no_rows_free : (f : FieldName) (n : ℕ) → AreIndependent f n []
 no_rows_free f n cs w e = nil cs w.long
   where
-  nil : (cs : List ℕ) → length cs ≡ 0 → cs ≡ []
-  nil [] l = refl
-  nil (a ∷ cs) l = absurd (omega (arith, l))
+    nil : (cs : List ℕ) → length cs ≡ 0 → cs ≡ []
+    nil [] l = refl
+    nil (a ∷ cs) l = absurd (omega (arith, l))
 
 pub independent_rows : (f : FieldName) (n : ℕ) (rows : List (List ℕ)) → AreRows f n rows → IndependentRows f n rows
 unfolding dimension
@@ -103,29 +103,29 @@ independent_rows f n rows r =
       words = chosen_rows;
       free = greedy_free f n v [] (below m) are (no_rows_free f n);
       same = same_span f n rows (map v chosen) r chosen_rows
-        (λ k d l. subst (InSpan f n (map v chosen)) (get_or_default rows k (zero_word n) d l) (there k l))
-        (each_contained (InSpan f n rows) (map v chosen) (λ w c.
-        let t = contains_map v chosen w c in
-        let inside : t.0 < m = ⊎_elim (λ a. absurd (no_member t.0 a)) (contains_below m t.0) (g.within t.0 t.1) in
-        subst (InSpan f n rows) (sym t.2) (span_of_member f n rows (v t.0) r (Contains-get_or rows t.0 (zero_word n) inside))));
+          (λ k d l. subst (InSpan f n (map v chosen)) (get_or_default rows k (zero_word n) d l) (there k l))
+          (each_contained (InSpan f n rows) (map v chosen) (λ w c.
+          let t = contains_map v chosen w c in
+          let inside : t.0 < m = ⊎_elim (λ a. absurd (no_member t.0 a)) (contains_below m t.0) (g.within t.0 t.1) in
+          subst (InSpan f n rows) (sym t.2) (span_of_member f n rows (v t.0) r (Contains-get_or rows t.0 (zero_word n) inside))));
       many = length-map chosen v ∙ ap length (greedy_same f n v (λ i. slice_index_or rows i []) [] (below m) (λ i c. absurd (no_member i c)) (λ i c. get_or_default rows i (zero_word n) [] (contains_below m i c)));
     }
 
 pub find_shared : {X : Type 0} (p : X → Bool) (xs ys : List X) → ((x : X) → Contains xs x → Contains ys x) → ((x : X) → Contains ys x → Contains xs x) → ((x y : X) → Contains xs x → Contains xs y → p x ≡ true → p y ≡ true → x ≡ y) → find p xs ≡ find p ys
 find_shared {X} p xs ys h k one = from (find p xs) (find p ys) refl refl
   where
-  from : (a b : Option X) → find p xs ≡ a → find p ys ≡ b → find p xs ≡ find p ys
-  from None None e d = e ∙ sym d
-  from None (Some y) e d =
-      let t = find_passes p ys y d in
-      absurd (false≢true (sym (find_none p xs y e (k y t.member)) ∙ t.passes))
-  from (Some x) None e d =
-      let t = find_passes p xs x e in
-      absurd (false≢true (sym (find_none p ys x d (h x t.member)) ∙ t.passes))
-  from (Some x) (Some y) e d =
-      let s = find_passes p xs x e in
-      let t = find_passes p ys y d in
-      e ∙ ap Some (one x y s.member (k y t.member) s.passes t.passes) ∙ sym d
+    from : (a b : Option X) → find p xs ≡ a → find p ys ≡ b → find p xs ≡ find p ys
+    from None None e d = e ∙ sym d
+    from None (Some y) e d =
+        let t = find_passes p ys y d in
+        absurd (false≢true (sym (find_none p xs y e (k y t.member)) ∙ t.passes))
+    from (Some x) None e d =
+        let t = find_passes p xs x e in
+        absurd (false≢true (sym (find_none p ys x d (h x t.member)) ∙ t.passes))
+    from (Some x) (Some y) e d =
+        let s = find_passes p xs x e in
+        let t = find_passes p ys y d in
+        e ∙ ap Some (one x y s.member (k y t.member) s.passes t.passes) ∙ sym d
 
 pub systematic_shared : (f : FieldName) (n : ℕ) (rows others : List (List ℕ)) (set : List ℕ) → AreRows f n others → SameSpan f n rows others → AreIndependent f (length set) (map (restrict set) others) → systematic f n rows set ≡ systematic f n others set
 unfolding systematic
@@ -163,17 +163,17 @@ columns_shared f n rows others set p r s same i =
     let t = combination_of_word f (length rows) (map (column rows) set) (column rows p) i in
     let xs = t.0 in
     let at_rows : All (λ row. slice_index row p ≡ word_dot f xs (restrict set row)) rows = λ k d l.
-        ap (λ row. slice_index row p) (get_or_default rows k d [] l) ∙ sym (get_or-map (λ row. slice_index row p) rows k [] 0 l)
-        ∙ ap (λ v. slice_index v k) t.2
-        ∙ index_combine f (length rows) xs (map (column rows) set) k (columns_rows f n rows set r)
-        ∙ ap (word_dot f xs) (column_of_columns rows set k l ∙ ap (restrict set) (get_or_default rows k [] d l)) in
+    ap (λ row. slice_index row p) (get_or_default rows k d [] l) ∙ sym (get_or-map (λ row. slice_index row p) rows k [] 0 l)
+    ∙ ap (λ v. slice_index v k) t.2
+    ∙ index_combine f (length rows) xs (map (column rows) set) k (columns_rows f n rows set r)
+    ∙ ap (word_dot f xs) (column_of_columns rows set k l ∙ ap (restrict set) (get_or_default rows k [] d l)) in
     let word : IsWord f (length (map (column others) set)) xs = subst (λ m. IsWord f m xs) (length-map set (column rows) ∙ sym (length-map set (column others))) t.1 in
     let equal : column others p ≡ combine f (length others) xs (map (column others) set) =
-        ext_get_or 0 (column others p) (combine f (length others) xs (map (column others) set)) (length-map others (λ row. slice_index row p) ∙ sym (length_combine f (length others) xs (map (column others) set) (columns_rows f n others set s))) (λ k l.
-        let inside : k < length others = omega (arith, l, length-map others (λ row. slice_index row p)) in
-        get_or-map (λ row. slice_index row p) others k [] 0 inside
-        ∙ column_holds f n rows set xs p (slice_index_or others k []) r at_rows ((same (slice_index_or others k [])).1 (span_of_member f n others (slice_index_or others k []) s (Contains-get_or others k [] inside)))
-        ∙ sym (index_combine f (length others) xs (map (column others) set) k (columns_rows f n others set s) ∙ ap (word_dot f xs) (column_of_columns others set k inside))) in
+    ext_get_or 0 (column others p) (combine f (length others) xs (map (column others) set)) (length-map others (λ row. slice_index row p) ∙ sym (length_combine f (length others) xs (map (column others) set) (columns_rows f n others set s))) (λ k l.
+    let inside : k < length others = omega (arith, l, length-map others (λ row. slice_index row p)) in
+    get_or-map (λ row. slice_index row p) others k [] 0 inside
+    ∙ column_holds f n rows set xs p (slice_index_or others k []) r at_rows ((same (slice_index_or others k [])).1 (span_of_member f n others (slice_index_or others k []) s (Contains-get_or others k [] inside)))
+    ∙ sym (index_combine f (length others) xs (map (column others) set) k (columns_rows f n others set s) ∙ ap (word_dot f xs) (column_of_columns others set k inside))) in
     subst (InSpan f (length others) (map (column others) set)) (sym equal) (word_of_combination f (length others) (map (column others) set) xs word)
 
 pub greedy_agree : (f : FieldName) (n m : ℕ) (u v : ℕ → List ℕ) (taken order : List ℕ) → ((set : List ℕ) (i : ℕ) → InSpan f n (map u set) (u i) → InSpan f m (map v set) (v i)) → ((set : List ℕ) (i : ℕ) → InSpan f m (map v set) (v i) → InSpan f n (map u set) (u i)) → greedy f n u taken order ≡ greedy f m v taken order

@@ -1,1 +1,2 @@
 pub mod DependentLaws
+pub mod ValidityLaws
