@@ -2,8 +2,8 @@ pub mod Message
 pub mod Plan
 pub mod InformationSet
 pub mod Search
-pub mod Truth
 pub mod Records
+pub mod Truth
 pub mod Fitting
 pub mod Distribution
 pub mod NearWord

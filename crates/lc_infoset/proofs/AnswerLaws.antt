@@ -5,8 +5,10 @@
 --   filter_keeps, filter_member  a filter keeps what passes, and nothing else
 --   last_that_same               the last number that passes, by equal tests
 --   find_none                    a test that finds nothing is passed by nothing
+--   ends_to, ends_are            the phase ends up to a budget
+--   whole_is, level_of, levels_of      the levels that lie wholly below some blocks
 --   levels_same                  below some blocks the same levels lie wholly as below the last phase end before them
---   bound_same                   the bound depends on the levels alone if none is k
+--   bound_same, bound_whole      the bound depends on the levels alone if none is k, and else is the weight
 --   open_bound                   if the search isn't done at the last phase end, no word is lighter than the bound
 --   answer_holds                 the answer is true
 use Rattle.std.proofs.Common.{◌≡◌, ℕ, zero, suc, ◌+◌, ◌-◌, ◌*◌, ◌<◌, ◌≤◌, max, Bool, true, false, ◌&&◌, ◌==◌, nat_le, nat_lt, if◌then◌else◌, find, filter, cond, List, [], ◌∷◌, length, map, Option, Some, None, is_some, Contains, refl, sym, ap, subst, ◌∙◌, ⊎_elim, arith}
@@ -115,10 +117,10 @@ map_same : {X Y : Type 0} (f g : X → Y) (xs : List X) → ((x : X) → Contain
 map_same f g [] h = refl
 map_same f g (x ∷ xs) h = ap (λ y. y ∷ map f xs) (h x (contains_head x xs)) ∙ ap (λ ys. g x ∷ ys) (map_same f g xs (λ y l. h y (contains_tail x y xs l)))
 
-abbrev ends_to : Matrix → ℕ → List ℕ
+abbrev pub ends_to : Matrix → ℕ → List ℕ
 ends_to C budget = filter (λ end. nat_le end budget) (ends_of C)
 
-ends_are : (C : Matrix) → ends_of C ≡ filter (λ end. nat_lt end cut) (map (λ p. blocks_before (length C.rows) (size C.field) (set_count C) (suc p)) (below (length C.rows * set_count C)))
+pub ends_are : (C : Matrix) → ends_of C ≡ filter (λ end. nat_lt end cut) (map (λ p. blocks_before (length C.rows) (size C.field) (set_count C) (suc p)) (below (length C.rows * set_count C)))
 unfolding ends_of phase_ends
 ends_are C = refl
 
@@ -137,7 +139,7 @@ greatest_within C budget t =
     (λ l. leb-true t.value budget (filter_passes (λ e. nat_le e budget) (ends_of C) t.value l).passes)
     (contains_cases 0 t.value (ends_to C budget) t.member)
 
-whole_is : (k q m l j w : ℕ) → is_whole_below k q m l j w ≡ (nat_le (blocks_before k q m ((w - 1) * m + suc j)) l && nat_lt (blocks_before k q m ((w - 1) * m + suc j)) cut)
+pub whole_is : (k q m l j w : ℕ) → is_whole_below k q m l j w ≡ (nat_le (blocks_before k q m ((w - 1) * m + suc j)) l && nat_lt (blocks_before k q m ((w - 1) * m + suc j)) cut)
 unfolding is_whole_below
 whole_is k q m l j w = refl
 
@@ -162,11 +164,11 @@ whole_same C budget j w t inside some few =
     (λ h. omega (arith, h, within)))
     ∙ sym (whole_is k q m t.value j w)
 
-level_of : (C : Matrix) (l j : ℕ) → level_below C l j ≡ last_that (is_whole_below (length C.rows) (size C.field) (set_count C) l j) (length C.rows)
+pub level_of : (C : Matrix) (l j : ℕ) → level_below C l j ≡ last_that (is_whole_below (length C.rows) (size C.field) (set_count C) l j) (length C.rows)
 unfolding level_below
 level_of C l j = refl
 
-levels_of : (C : Matrix) (l : ℕ) → levels_below C l ≡ map (level_below C l) (below (set_count C))
+pub levels_of : (C : Matrix) (l : ℕ) → levels_below C l ≡ map (level_below C l) (below (set_count C))
 unfolding levels_below
 levels_of C l = refl
 
@@ -195,7 +197,7 @@ bound_same d C l e x y same none =
     ∙ sym (ap (λ b. to b (levels_below C e) y) none)
     ∙ sym (bound_is d C e y)
 
-bound_whole : (d : ℕ) (C : Matrix) (l x : ℕ) → is_member (levels_below C l) (length C.rows) ≡ true → bound d C l x ≡ x
+pub bound_whole : (d : ℕ) (C : Matrix) (l x : ℕ) → is_member (levels_below C l) (length C.rows) ≡ true → bound d C l x ≡ x
 bound_whole d C l x h = bound_is d C l x ∙ ap (λ b. (if b then x else rounded d (max 1 (bound_sum (length C.rows) (ranks_of C) (levels_below C l))))) h
 
 pub open_bound : (d : ℕ) (C : Matrix) (budget x : ℕ) (c : List ℕ) (t : Greatest (ends_to C budget)) → AreRows C.field C.columns C.rows → AreGenerators C → 0 < d → IsDivisible C.field C.columns C.rows d → 0 < length C.rows → is_done d C t.value ≡ false → InSpan C.field C.columns C.rows c → 0 < weight c → bound d C budget x ≤ weight c

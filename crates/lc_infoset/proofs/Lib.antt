@@ -8,3 +8,6 @@ pub mod AnswerLaws
 pub mod ExistLaws
 pub mod GreedyLaws
 pub mod SearchTruth
+pub mod RoundLaws
+pub mod SessionLaws
+pub mod FittingLaws

@@ -3,15 +3,17 @@
 //! Each function proves what its clauses say, for every field, every code and every number of blocks, and
 //! does nothing when it is run. (Grassl, Searching for linear codes with large minimum distance.)
 
-ghost use Rattle.std.specs.Prelude.{◌≡◌, ◌≢◌, ℕ, ◌<◌, ◌≤◌, min, true, List, length, map, All, AllPairs, Contains};
+ghost use Rattle.std.specs.Prelude.{◌≡◌, ◌≢◌, ℕ, ◌<◌, ◌≤◌, min, true, false, ◌^◌, List, length, map, Option, Some, None, All, AllPairs, Contains};
 ghost use Rattle.lc_algebra.specs.Word.{weight};
 ghost use Rattle.lc_algebra.specs.Span.{AreIndependent, InSpan, IsDistance};
 ghost use Rattle.lc_algebra.specs.Matrix.{Matrix, AreRows, IsSystematic};
 ghost use Rattle.lc_algebra.specs.SpanLaws.{restrict};
 ghost use Rattle.lc_algebra.specs.Divisor.{IsDivisible, divisor_of};
 ghost use Rattle.lc_enumeration.specs.InformationSet.{systematic};
-ghost use Rattle.lc_enumeration.specs.Search.{set_count, generator_at, best, levels_below, bound, is_done, answer};
-ghost use Rattle.lc_enumeration.specs.Truth.{IsSeenBelow, HasWord, AnswerHolds};
+ghost use Rattle.lc_enumeration.specs.Search.{set_count, generator_at, best, levels_below, bound, is_done, answer, finished};
+ghost use Rattle.lc_enumeration.specs.Records.{Progress, Start, Step, found_of, rounds, last_state, fresh_start, session_rounds, IsBestAt};
+ghost use Rattle.lc_enumeration.specs.Fitting.{used_start, misfit};
+ghost use Rattle.lc_enumeration.specs.Truth.{IsSeenBelow, HasWord, AnswerHolds, IsSettled, AreSettled, IsUnderway, IsTrueStart, IsTrueStep, start_after};
 ghost use Rattle.lc_infoset.specs.Bound.{LevelSet, AreLevelSets, IsUnseen, IsNoMultiple, set_bound, set_at};
 
 use lc_algebra::FieldName;
@@ -56,4 +58,40 @@ pub fn answers_are_true()
     ensures holds { (d : ℕ) (C : Matrix) (budget : ℕ) → AreRows C.field C.columns C.rows → AreIndependent C.field C.columns C.rows → 0 < d → IsDivisible C.field C.columns C.rows d → AnswerHolds C (answer d C budget) }
     ensures own { (C : Matrix) (budget : ℕ) → AreRows C.field C.columns C.rows → AreIndependent C.field C.columns C.rows → AnswerHolds C (answer (divisor_of C) C budget) }
     ensures by_one { (C : Matrix) (budget : ℕ) → AreRows C.field C.columns C.rows → AreIndependent C.field C.columns C.rows → AnswerHolds C (answer 1 C budget) }
+{}
+
+/// The rounds of a search, from a best word at no more blocks than its answer has, end at the answer: each
+/// state on the way is the best after more blocks, and no more than the answer's; and if the slice doesn't
+/// stop them, the search is finished with its answer in the last one. If it does, the slice is used up and
+/// the search isn't finished.
+pub fn rounds_end_at_the_answer()
+    ensures underway { (d : ℕ) (C : Matrix) (budget : ℕ) (slice : Option ℕ) (s t : Progress) → 0 < length C.rows → budget ≤ 2 ^ 40 → IsUnderway d C budget s → Contains (rounds d C budget slice s).states t → IsUnderway d C budget t × (s.blocks < t.blocks) }
+    ensures settled { (d : ℕ) (C : Matrix) (budget : ℕ) (slice : Option ℕ) (s : Progress) → 0 < length C.rows → budget ≤ 2 ^ 40 → IsUnderway d C budget s → (rounds d C budget slice s).is_stopped ≡ false → IsSettled d C budget (last_state s (rounds d C budget slice s).states) }
+    ensures stopped { (d : ℕ) (C : Matrix) (budget : ℕ) (slice : Option ℕ) (s : Progress) → 0 < length C.rows → budget ≤ 2 ^ 40 → IsUnderway d C budget s → (rounds d C budget slice s).is_stopped ≡ true → (finished d C budget (last_state s (rounds d C budget slice s).states).blocks (found_of (last_state s (rounds d C budget slice s).states)) ≡ None) × ((rounds d C budget slice s).left ≡ Some 0) }
+{}
+
+/// A session from a true start goes through true steps, and at its end every need is settled with its
+/// answer, if the slice doesn't stop it. A fresh start is true, and so is one after a true step; so over
+/// any sessions, stops and resumptions every need is settled with its answer.
+pub fn true_starts_have_true_steps()
+    ensures steps { (divisor : Matrix → ℕ) (needs : List Matrix) (budget : ℕ) (slice : Option ℕ) (start : Start) (step : Step) → All (λ (C : Matrix). 0 < length C.rows) needs → budget ≤ 2 ^ 40 → IsTrueStart divisor needs budget start → Contains (session_rounds divisor needs budget slice start).steps step → IsTrueStep divisor needs budget step }
+    ensures settled { (divisor : Matrix → ℕ) (needs : List Matrix) (budget : ℕ) (slice : Option ℕ) (start : Start) → All (λ (C : Matrix). 0 < length C.rows) needs → budget ≤ 2 ^ 40 → IsTrueStart divisor needs budget start → (session_rounds divisor needs budget slice start).is_stopped ≡ false → AreSettled divisor budget needs (session_rounds divisor needs budget slice start).settled }
+    ensures stopped { (divisor : Matrix → ℕ) (needs : List Matrix) (budget : ℕ) (slice : Option ℕ) (start : Start) → All (λ (C : Matrix). 0 < length C.rows) needs → budget ≤ 2 ^ 40 → IsTrueStart divisor needs budget start → (session_rounds divisor needs budget slice start).is_stopped ≡ true → (session_rounds divisor needs budget slice start).left ≡ Some 0 }
+    ensures fresh { (divisor : Matrix → ℕ) (needs : List Matrix) (budget : ℕ) → IsTrueStart divisor needs budget fresh_start }
+    ensures resumed { (divisor : Matrix → ℕ) (needs : List Matrix) (budget : ℕ) (step : Step) → IsTrueStep divisor needs budget step → IsTrueStart divisor needs budget (start_after step) }
+{}
+
+/// The records of a true checkpoint fit the needs of the script: there is no misfit. A settled need has the
+/// best word after the blocks of its answer.
+pub fn true_checkpoints_fit()
+    ensures fits { (divisor : Matrix → ℕ) (needs : List Matrix) (budget : ℕ) (start : Start) → All (λ (C : Matrix). 0 < length C.rows) needs → IsTrueStart divisor needs budget start → misfit divisor needs budget start ≡ None }
+    ensures settled { (d : ℕ) (C : Matrix) (budget : ℕ) (s : Progress) → 0 < length C.rows → IsSettled d C budget s → IsBestAt C s }
+{}
+
+/// A checkpoint of version 1 is true if its records are those of searches with 1 for each divisor. The
+/// start that uses it is then true for the codes' own divisors, of whatever needs. A checkpoint of
+/// version 2 is used whole.
+pub fn version_one_starts_are_true()
+    ensures one { (divisor : Matrix → ℕ) (needs : List Matrix) (budget : ℕ) (settled : List Progress) (current : Progress) → ((C : Matrix) → 1 ≤ divisor C) → IsTrueStart (λ C. 1) needs budget (record { settled = settled; current = Some current }) → IsTrueStart divisor needs budget (used_start divisor needs 1 settled current) }
+    ensures two { (divisor : Matrix → ℕ) (needs : List Matrix) (settled : List Progress) (current : Progress) → used_start divisor needs 2 settled current ≡ record { settled = settled; current = Some current } }
 {}
