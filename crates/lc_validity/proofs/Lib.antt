@@ -1,2 +1,3 @@
 pub mod DependentLaws
 pub mod ValidityLaws
+pub mod StartLaws

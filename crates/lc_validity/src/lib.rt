@@ -1,11 +1,15 @@
-//! A valid certificate proves its distance: the law of the checker of certificates. What a certificate is,
-//! and when it is valid, stands in `lc_formats`.
+//! A valid certificate proves its distance, and a true checkpoint starts a true session. What certificates
+//! and checkpoints are, and when they are valid or true, is in `lc_formats`.
 #![tactic(auto)]
 
-ghost use Rattle.std.specs.Prelude.{◌≡◌, ℕ, List, length};
+ghost use Rattle.std.specs.Prelude.{◌≡◌, ℕ, ◌<◌, List, length, Option, None, All};
 ghost use Rattle.lc_algebra.specs.Span.{IsDistance};
-ghost use Rattle.lc_algebra.specs.Matrix.{AreRows, AreIndependentColumns, IsSystematic};
+ghost use Rattle.lc_algebra.specs.Matrix.{Matrix, AreRows, AreIndependentColumns, IsSystematic};
 ghost use Rattle.lc_enumeration.specs.InformationSet.{dimension, systematic};
+ghost use Rattle.lc_algebra.specs.Divisor.{divisor_of};
+ghost use Rattle.lc_enumeration.specs.Truth.{IsTrueStart};
+ghost use Rattle.lc_formats.specs.Checkpoint.{Checkpoint};
+ghost use Rattle.lc_formats.specs.Truth.{IsTrueFor, start_of, misfit_of};
 ghost use Rattle.lc_formats.specs.Certificate.{Certificate, verdict, accepted, code_length};
 ghost use Rattle.lc_formats.specs.Shape.{Sound};
 ghost use Rattle.lc_formats.specs.Check.{certificate_in, reads_as};
@@ -24,4 +28,11 @@ pub fn valid_certificates_prove_the_distance()
 pub fn information_sets_have_systematic_matrices(field: FieldName)
     ensures systematic { (n : ℕ) (rows : List (List ℕ)) (set : List ℕ) → AreRows field n rows → length set ≡ dimension field n rows → AreIndependentColumns field rows set → IsSystematic field n rows set (systematic field n rows set) }
     ensures unique { (n : ℕ) (rows : List (List ℕ)) (set : List ℕ) (e : List (List ℕ)) → AreRows field n rows → length set ≡ dimension field n rows → AreIndependentColumns field rows set → IsSystematic field n rows set e → systematic field n rows set ≡ e }
+{}
+
+/// The records of a true checkpoint of either version that a session uses start it truly, with the codes'
+/// own divisors, and all of them fit.
+pub fn true_checkpoints_start_true_sessions()
+    ensures starts { (needs : List Matrix) (digest : List ℕ) (budget : ℕ) (p : Checkpoint) → IsTrueFor needs digest budget p → IsTrueStart divisor_of needs budget (start_of needs p) }
+    ensures fits { (needs : List Matrix) (digest : List ℕ) (budget : ℕ) (p : Checkpoint) → All (λ (C : Matrix). 0 < length C.rows) needs → IsTrueFor needs digest budget p → misfit_of needs budget p ≡ None }
 {}
