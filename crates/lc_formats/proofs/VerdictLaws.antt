@@ -33,12 +33,12 @@ pub accepted_else : (o : Option Reason) (later : Verdict) → o ≡ None → lat
 unfolding or_else
 accepted_else o later e l = rw e l
 
-when_not : (b : Bool) (r : Reason) → when b r ≡ None → b ≡ false
+pub when_not : (b : Bool) (r : Reason) → when b r ≡ None → b ≡ false
 unfolding when
 when_not true r e = absurd cc
 when_not false r e = refl
 
-not_when : (b : Bool) (r : Reason) → b ≡ false → when b r ≡ None
+pub not_when : (b : Bool) (r : Reason) → b ≡ false → when b r ≡ None
 unfolding when
 not_when b r e = rw e refl
 
@@ -51,11 +51,11 @@ none_carrying : {X : Type 0} (r : X → Reason) (o : Option X) → o ≡ None �
 unfolding carrying
 none_carrying r o e = rw e refl
 
-not_false : (b : Bool) → not b ≡ false → b ≡ true
+pub not_false : (b : Bool) → not b ≡ false → b ≡ true
 not_false true e = refl
 not_false false e = absurd (false≢true (sym e))
 
-not_true : (b : Bool) → b ≡ true → not b ≡ false
+pub not_true : (b : Bool) → b ≡ true → not b ≡ false
 not_true b e = rw e refl
 
 false_from : (b : Bool) → (b ≡ true → ⊥) → b ≡ false
