@@ -10,15 +10,13 @@
 --   certificate_plain, certificate_shallow      its JSON value is a plain one, three deep
 --   reads_members            its members read as the certificate
 --   certificate_back         its text reads as the certificate
-use Rattle.std.proofs.Common.{◌≡◌, ℕ, suc, ◌^◌, ◌<◌, ◌≤◌, Bool, true, false, not, nat_le, ◌==◌, ◌&&◌, ◌||◌, if◌then◌else◌, List, [], ◌∷◌, map, length, find, All, Option, Some, None, option_map, option_and_then, unwrap_or, refl, sym, ap, ap₂, ◌∙◌, arith}
-use Rattle.std.specs.Prelude.{⊤, codes}
+use Rattle.std.proofs.Common.{◌≡◌, ℕ, suc, ◌^◌, ◌<◌, ◌≤◌, Bool, true, false, not, nat_le, ◌==◌, ◌&&◌, ◌||◌, if◌then◌else◌, List, [], ◌∷◌, map, length, find, All, Some, None, option_map, option_and_then, unwrap_or, refl, ap, ◌∙◌, arith}
 use Rattle.std.specs.List.{list_all}
 use Rattle.std.proofs.lemmas.Bool.{and_from, leb-true, le-leb, le-ltb, false≢true}
 use Rattle.std.proofs.lemmas.List.{length-map}
 use Rattle.std.proofs.lemmas.List.Elements.{All-cons, All-head, All-tail}
-use Rattle.serde_json.specs.Data.{Data, Members, member, no_members, array, object, string, depth, items_depth}
-use Rattle.serde_json.specs.Read.{max_depth}
-use Rattle.serde_json.specs.Find.{get_member, as_array, as_object}
+use Rattle.serde_json.specs.Data.{depth}
+use Rattle.serde_json.specs.Find.{as_object}
 use Rattle.lc_algebra.specs.declared.FieldName.{FieldName}
 use Rattle.lc_algebra.specs.declared.FieldName.TheVariants.{Gf2, Gf3, Gf4, Gf5, Gf7, Gf8, Gf9, Gf11, Gf13, Gf16, Gf25, Gf27, Gf32, Gf64, Gf81, Gf128, Gf243, Gf256}
 use Rattle.lc_algebra.specs.Field.{shape, shape_of, size, is_symbol}
@@ -32,7 +30,7 @@ use Rattle.lc_formats.specs.Json.{number_json, items, numbers_json, number_at, l
 use Rattle.lc_formats.specs.Text.{same_bytes}
 use Rattle.lc_formats.specs.CertificateText.{claim_members, claim_json, way_text, with_sets, certificate_members, certificate_json, certificate_text}
 use Rattle.lc_formats.specs.Shape.{IsShapedSet, AreShapedSets, IsShaped}
-use Rattle.lc_formats.specs.Check.{CertificateRead, reads_as, refused_as, rows_at, field_at, fit, are_rows, is_scan, are_places, claim_in, sets_at, fresh_in_basis, above, certificate_over, levels_in, sets_in, way_in, distance_in, word_in, rows_in, parts_in, key_count, are_set_keys, set_total, is_beyond_limit, closed, field_in, is_version, object_in, data_in, certificate_in}
+use Rattle.lc_formats.specs.Check.{reads_as, refused_as, rows_at, field_at, fit, are_rows, is_scan, are_places, claim_in, sets_at, fresh_in_basis, above, certificate_over, levels_in, sets_in, way_in, distance_in, word_in, rows_in, parts_in, key_count, are_set_keys, set_total, is_beyond_limit, closed, field_in, is_version, object_in, data_in, certificate_in}
 use Rattle.lc_formats.proofs.JsonLaws.{IsPlain, ArePlain, plain_items, plain_numbers, items_shallow, numbers_shallow, listed_items, each_back, numbers_back, json_back}
 use Rattle.lc_formats.proofs.TestLaws.{all_passes, word_passes, places_pass, part_passes}
 

@@ -4,21 +4,21 @@
 --   outcome_one                a claim has one outcome
 --   verdict_one                a certificate by construction has one verdict
 --   accepted_tree, valid_tree_accepted      it is accepted exactly if it is valid
-use Rattle.std.proofs.Common.{◌≡◌, ℕ, suc, ◌+◌, ◌*◌, ◌-◌, ◌≤◌, Bool, true, false, not, nat_lt, ◌==◌, List, length, Option, Some, None, unwrap_or, refl, sym, ap, ap₂, subst, ◌∙◌, arith}
+use Rattle.std.proofs.Common.{◌≡◌, ℕ, suc, ◌+◌, ◌*◌, ◌-◌, not, nat_lt, ◌==◌, List, length, Option, Some, None, unwrap_or, refl, sym, ap, ap₂, subst, ◌∙◌}
 use Rattle.std.proofs.lemmas.Bool.{eqb-true, eq-eqb, ltb-false, le-ltb}
 use Rattle.lc_algebra.specs.declared.FieldName.{FieldName}
 use Rattle.lc_algebra.specs.Word.{weight}
 use Rattle.lc_algebra.specs.Span.{InSpan}
 use Rattle.lc_algebra.specs.Matrix.{Matrix}
 use Rattle.lc_algebra.proofs.ReducedLaws.{generator_unique}
-use Rattle.lc_constructions.specs.Code.{InCode, IsCode}
+use Rattle.lc_constructions.specs.Code.{IsCode}
 use Rattle.lc_constructions.specs.Alternant.{IsAlternantWord}
 use Rattle.lc_constructions.specs.Combined.{InExtended}
 use Rattle.lc_constructions.specs.Concatenated.{InConcatenated}
 use Rattle.lc_constructions.specs.Refusals.{concatenated_refusals, deleted_refusals, extended_refusals}
 use Rattle.lc_enumeration.proofs.MemberLaws.{in_span_true, true_in_span}
-use Rattle.lc_formats.specs.Certificate.{Certificate, Reason, Verdict, accepted, rejected, code_length, or_else, when, word_not_in_code, word_weight, part_refused, claim_short}
-use Rattle.lc_formats.specs.Claim.{PairKind, PlaceKind, Claim, search, alternant, pair, concat, subcode, at_places, extend, Built, claim_total}
+use Rattle.lc_formats.specs.Certificate.{Verdict, accepted, rejected, code_length, when, word_not_in_code, word_weight, part_refused, claim_short}
+use Rattle.lc_formats.specs.Claim.{Claim, search, alternant, pair, concat, subcode, at_places, extend, Built, claim_total}
 use Rattle.lc_formats.specs.ClaimMeaning.{capped, Outcome, code_with, refused_at, HasOwn, Follows, search_refusal, first_number, field_of_size, form_refusal, form_of, in_code, subcode_refusal, pair_refusals, pair_length, InPair, pair_bound, InPlaced, place_bound, extended_bound, HasOutcome, IsValidTree, tree_reasons, verdict_after, IsTreeVerdict}
 use Rattle.lc_formats.proofs.VerdictLaws.{else_accepted, accepted_else, when_not, not_when, not_false, not_true}
 
@@ -90,16 +90,19 @@ accepted_after b (code_with C bound) h e =
     }
 accepted_after b (refused_at number refusal) h e = absurd (apart e)
   where
-  apart : rejected (part_refused number refusal) ≡ accepted → ⊥
-  apart e = cc
+    apart : rejected (part_refused number refusal) ≡ accepted → ⊥
+    apart e = cc
 
 pub accepted_tree : (b : Built) → IsTreeVerdict b accepted → IsValidTree b
 accepted_tree b h = accepted_after b h.0 h.1 (sym h.2)
 
 pub valid_tree_accepted : (b : Built) → IsValidTree b → IsTreeVerdict b accepted
 unfolding verdict_after tree_reasons in_code
-valid_tree_accepted b t =
-    (code_with t.code t.bound, t.denotes, sym
-    (accepted_else (when (not (in_code t.code b.word)) word_not_in_code) _ (not_when _ _ (not_true _ (true_in_span t.code.field t.code.columns t.code.rows b.word t.inside)))
-    (accepted_else (when (not (weight b.word == b.distance)) (word_weight (weight b.word))) _ (not_when _ _ (not_true _ (eq-eqb (weight b.word) b.distance t.attains)))
-    (accepted_else (when (nat_lt t.bound b.distance) (claim_short t.bound)) accepted (not_when _ _ (le-ltb t.bound b.distance t.reaches)) refl))))
+valid_tree_accepted b t = (
+  code_with t.code t.bound,
+  t.denotes,
+  sym
+      (accepted_else (when (not (in_code t.code b.word)) word_not_in_code) _ (not_when _ _ (not_true _ (true_in_span t.code.field t.code.columns t.code.rows b.word t.inside)))
+      (accepted_else (when (not (weight b.word == b.distance)) (word_weight (weight b.word))) _ (not_when _ _ (not_true _ (eq-eqb (weight b.word) b.distance t.attains)))
+      (accepted_else (when (nat_lt t.bound b.distance) (claim_short t.bound)) accepted (not_when _ _ (le-ltb t.bound b.distance t.reaches)) refl))),
+)

@@ -7,19 +7,18 @@
 --   reaches_holds, reaches_passes      whether the levels reach the distance
 --   accepted_is_valid, valid_is_accepted, rejected_is_not_valid, not_valid_is_rejected
 use Rattle.std.proofs.Common.{◌≡◌, ℕ, zero, suc, ◌+◌, ◌^◌, ◌<◌, ◌≤◌, ◌⊎◌, min, Bool, true, false, not, nat_le, nat_lt, ◌==◌, ◌&&◌, ◌||◌, cond, if◌then◌else◌, List, [], ◌∷◌, length, map, find, count_by, slice_index_or, All, AllPairs, Any, Contains, Option, Some, None, inl, inr, ⊎_elim, refl, sym, ap, subst, ◌∙◌, arith}
-use Rattle.std.specs.Prelude.{⊤}
-use Rattle.std.proofs.lemmas.Bool.{and_parts, and_from, or_left, or_right, eqb-true, eq-eqb, ltb-true, ltb-false, lt-ltb, le-ltb, leb-true, le-leb, false≢true, true≢false, cases_Bool, cases_lt}
+use Rattle.std.proofs.lemmas.Bool.{and_parts, and_from, or_left, or_right, eqb-true, eq-eqb, ltb-true, ltb-false, lt-ltb, le-ltb, leb-true, le-leb, false≢true, cases_Bool, cases_lt}
 use Rattle.std.proofs.lemmas.List.Elements.{All-cons, All-head, All-tail, All-contains, Contains-get_or}
 use Rattle.std.proofs.lemmas.List.Sums.{sum_by-cons}
 use Rattle.lc_algebra.specs.Word.{IsWord, weight}
-use Rattle.lc_algebra.specs.Span.{InSpan, AreIndependent, below}
+use Rattle.lc_algebra.specs.Span.{AreIndependent, below}
 use Rattle.lc_algebra.specs.Matrix.{column, AreRows, AreIndependentColumns}
 use Rattle.lc_algebra.proofs.SpanLaws.{contains_cases, contains_head, contains_tail, contains_map, map_contains, below_contains}
 use Rattle.lc_algebra.proofs.ColumnLaws.{column_word}
 use Rattle.lc_enumeration.specs.InformationSet.{in_span, greedy, is_member}
 use Rattle.lc_enumeration.proofs.MemberLaws.{in_span_true, true_in_span, member_true, true_member}
-use Rattle.lc_enumeration.proofs.GreedyLaws.{each_contained, greedy_independent, greedy_whole}
-use Rattle.lc_formats.specs.Certificate.{Certificate, SetClaim, Proof, scan, levels, Reason, Verdict, accepted, rejected, too_costly, word_not_in_code, word_weight, set_not_information, fresh_overlap, bound_short, seen_lighter, code_length, code_dimension, level_in, cost, seen_words, is_lighter, first_lighter, claimed_sum, is_information_set, first_dependent, least_overlap, reaches, or_else, when, carrying, set_reasons, cost_reason, verdict, SetsHold, IsValid}
+use Rattle.lc_enumeration.proofs.GreedyLaws.{greedy_independent, greedy_whole}
+use Rattle.lc_formats.specs.Certificate.{Certificate, SetClaim, Proof, scan, levels, Reason, Verdict, accepted, rejected, word_not_in_code, word_weight, set_not_information, fresh_overlap, bound_short, seen_lighter, code_length, code_dimension, level_in, cost, seen_words, is_lighter, first_lighter, claimed_sum, is_information_set, first_dependent, least_overlap, reaches, or_else, when, carrying, set_reasons, cost_reason, verdict, SetsHold, IsValid}
 use Rattle.lc_formats.specs.Shape.{IsShapedSet, AreShapedSets, IsShaped}
 
 -- ---- the order of the reasons
