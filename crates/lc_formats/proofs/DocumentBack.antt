@@ -176,3 +176,91 @@ claim_back (suc most) f (at_places kind of places) s h l =
     ∙ ap (λ o. with_keys 3 ms (option_and_then (λ x. option_map (at_places kind x) (list_at (codes "places") ms)) o)) (claim_back most f of s h.0 (omega (arith, l)))
     ∙ ap (λ o. with_keys 3 ms (option_map (at_places kind of) o)) (numbers_back places)
 claim_back (suc most) f (extend of) s h l = ap (λ o. with_keys 2 (claim_members_of (extend of)) (option_map extend o)) (claim_back most f of s h (omega (arith, l)))
+
+set_keys_back : (c : Certificate) (p : Proof) → AreShapedSets (code_length c) p → are_set_keys (claim_members_of (search (by c p))) ≡ true
+unfolding are_set_keys claim_members_of with_sets sets_at provided
+set_keys_back c scan s = refl
+set_keys_back c (levels claims) s = ap (λ o. list_all (λ k. member_count k == 3) (unwrap_or o [])) (search_sets c claims s) ∙ keys_of_sets claims
+
+closed_search : (most : ℕ) (c : Certificate) (p : Proof) → AreShapedSets (code_length c) p → are_closed (suc most) (claim_members_of (search (by c p))) ≡ true
+unfolding are_closed part_keys all_of object_at claim_members_of with_sets
+closed_search most c scan s = ap (λ b. b && true) (set_keys_back c scan s)
+closed_search most c (levels claims) s = ap (λ b. b && true) (set_keys_back c (levels claims) s)
+
+pub claim_closed : (most : ℕ) (f : FieldName) (claim : Claim) → IsShapedClaim f claim → are_closed most (claim_members_of claim) ≡ true
+unfolding are_closed part_keys all_of object_at claim_members_of are_set_keys sets_at provided
+claim_closed zero f claim h = refl
+claim_closed (suc most) f (search c) h = closed_search most c c.proof h.1.sets_fit
+claim_closed (suc most) f (alternant locator points multipliers r) h = refl
+claim_closed (suc most) f (pair kind left right) h = ap (λ b. b && (are_closed most (claim_members_of right) && true)) (claim_closed most f left h.0) ∙ ap (λ b. b && true) (claim_closed most f right h.1)
+claim_closed (suc most) f (concat large outer inner) h = ap (λ b. b && (are_closed most (claim_members_of inner) && true)) (claim_closed most h.0 outer h.3) ∙ ap (λ b. b && true) (claim_closed most f inner h.4)
+claim_closed (suc most) f (subcode of rows) h = ap (λ b. b && true) (claim_closed most f of h.0)
+claim_closed (suc most) f (at_places kind of places) h = ap (λ b. b && true) (claim_closed most f of h.0)
+claim_closed (suc most) f (extend of) h = ap (λ b. b && true) (claim_closed most f of h)
+
+within_sets : (n : ℕ) (p : Proof) → AreShapedSets n p → set_total p ≤ longest
+unfolding set_total
+within_sets n scan s = omega arith
+within_sets n (levels claims) s = s.1
+
+neither : (a b : Bool) → a ≡ false → b ≡ false → (a || b) ≡ false
+neither a b e d = ap (λ x. x || b) e ∙ d
+
+rows_within : (f : FieldName) (rows : List (List ℕ)) → All (λ row. (length row ≤ longest) × Fits f row) rows → list_any (λ row. above (length row)) rows ≡ false
+rows_within f [] a = refl
+rows_within f (row ∷ rows) a =
+    neither (above (length row)) (list_any (λ row. above (length row)) rows)
+    (not_above (length row) (All-head (λ row. (length row ≤ longest) × Fits f row) row rows a).0)
+    (rows_within f rows (All-tail (λ row. (length row ≤ longest) × Fits f row) row rows a))
+
+claim_within : (f : FieldName) (claim : Claim) → IsShapedClaim f claim → is_long claim ≡ false
+unfolding is_long is_beyond_limit code_length
+claim_within f (search c) h = few (length c.word) (length c.rows) (set_total c.proof) h.1.few_columns h.1.few_rows (within_sets (length c.word) c.proof h.1.sets_fit)
+claim_within f (alternant locator points multipliers r) h = neither (above (length points)) (above (length multipliers)) (not_above (length points) h.1.0) (not_above (length multipliers) h.2.0)
+claim_within f (pair kind left right) h = neither (is_long left) (is_long right) (claim_within f left h.0) (claim_within f right h.1)
+claim_within f (concat large outer inner) h = neither (is_long outer) (is_long inner) (claim_within h.0 outer h.3) (claim_within f inner h.4)
+claim_within f (subcode of rows) h = neither (is_long of) _ (claim_within f of h.0) (neither (above (length rows)) _ (not_above (length rows) h.1) (rows_within f rows h.2))
+claim_within f (at_places kind of places) h = neither (is_long of) (above (length places)) (claim_within f of h.0) (not_above (length places) h.1)
+claim_within f (extend of) h = claim_within f of h
+
+pub within_limits : (b : Built) → IsShapedTree b → is_tree_beyond_limit b ≡ false
+unfolding is_tree_beyond_limit
+within_limits b h =
+    neither (above (length b.word)) _ (not_above (length b.word) h.few_columns)
+    (neither (is_long b.claim) _ (claim_within b.field b.claim h.claims_fit)
+    (neither (nat_lt 1024 (claim_total b.claim)) (nat_lt 32 (claim_depth b.claim)) (le-ltb 1024 (claim_total b.claim) h.few_claims) (le-ltb 32 (claim_depth b.claim) h.shallow)))
+
+built_plain : (b : Built) → IsShapedTree b → IsPlain (object (built_members b))
+unfolding built_members number_json
+built_plain b h =
+    let small : size b.field < 2 ^ 64 = omega (arith, symbol_size b.field h.field_fits) in
+    ((refl, claim_plain b.field b.claim h.field_fits h.claims_fit, (refl, h.distance_fits, (refl, small, (refl, omega arith, (refl, symbols_plain b.field b.word h.field_fits h.word_fits, tt))))), (tt, ((refl, tt), ((refl, (refl, tt)), ((refl, (refl, (refl, tt))), ((refl, (refl, (refl, (refl, tt)))), tt))))))
+
+built_shallow : (b : Built) → IsShapedTree b → depth (object (built_members b)) ≤ 36
+unfolding built_members number_json
+built_shallow b h = omega (arith, claim_shallow b.claim, h.shallow, numbers_shallow b.word)
+
+deep_enough : (b : Built) → claim_depth b.claim ≤ members_depth (built_members b)
+unfolding built_members number_json
+deep_enough b = omega (arith, claim_deep b.claim)
+
+tree_word_back : (f : FieldName) (word : List ℕ) → 1 ≤ length word → Fits f word → is_tree_word f word ≡ true
+unfolding is_tree_word
+tree_word_back f word some fits = and_from (nat_le 1 (length word)) (are_elements f word) (le-leb 1 (length word) some) (elements_pass f word fits)
+
+tree_back : (b : Built) → IsShapedTree b → document_of (Some (object (built_members b))) ≡ document (tree b)
+unfolding built_members document_of either_version is_version field_at number_at number_json provided tree_field_in tree_claim_in tree_word_in tree_distance_in tree_closed built_over object_at list_at all_of member_count
+tree_back b h =
+    let ms = built_members b in
+    let f = b.field in
+    let most = members_depth ms in
+    ap (tree_field_in ms) (field_back f h.field_fits)
+    ∙ ap (tree_claim_in ms f) (claim_back most f b.claim h.field_fits h.claims_fit (deep_enough b))
+    ∙ ap (tree_word_in ms f b.claim) (ap (provided (is_tree_word f)) (numbers_back b.word) ∙ provided_some (is_tree_word f) b.word (tree_word_back f b.word h.has_columns h.word_fits))
+    ∙ ap (tree_distance_in ms (built_over f b.claim b.word)) (provided_some (nat_le 1) b.distance (le-leb 1 b.distance h.positive))
+    ∙ ap (λ x. if not x then no_document (broken 11) else (if is_tree_beyond_limit b then no_document limit else document (tree b))) (claim_closed most f b.claim h.claims_fit)
+    ∙ ap (λ x. if x then no_document limit else document (tree b)) (within_limits b h)
+
+pub document_back : (b : Built) → IsShapedTree b → document_in (built_text b) ≡ document (tree b)
+unfolding document_in built_text
+document_back b h = ap document_of (json_back (object (built_members b)) (built_plain b h) (omega (arith, built_shallow b h))) ∙ tree_back b h
