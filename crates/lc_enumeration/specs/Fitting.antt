@@ -7,13 +7,14 @@
 --                           there are, how many records, and 0
 --   misfit divisor needs budget start      the first used record that doesn't fit its need; or that the records, the current
 --                           one counted, are more than the needs; None if all fit
-use Rattle.std.specs.Prelude.{ℕ, zero, suc, ◌+◌, nat_lt, ◌==◌, if◌then◌else◌, List, [], ◌∷◌, length, take, position, Option, Some, None}
+use Rattle.std.specs.Prelude.{ℕ, zero, suc, ◌+◌, nat_lt, ◌==◌, if◌then◌else◌, List, [], ◌∷◌, length, take, Option, Some, None, option_map}
 use Rattle.lc_algebra.specs.Matrix.{Matrix}
 use Rattle.lc_enumeration.specs.Search.{fits, fits_settled, weight_at}
 use Rattle.lc_enumeration.specs.Records.{Progress, found_of, Start}
 
 unfoldable pub first_divisible : (Matrix → ℕ) → List Matrix → Option ℕ
-first_divisible divisor needs = position (λ C. nat_lt 1 (divisor C)) needs
+first_divisible divisor [] = None
+first_divisible divisor (C ∷ needs) = (if nat_lt 1 (divisor C) then Some 0 else option_map suc (first_divisible divisor needs))
 
 unfoldable pub start_before : List Progress → Progress → Option ℕ → Start
 start_before settled current None = record { settled = settled; current = Some current }

@@ -10,8 +10,9 @@
 --   IsSettled d C budget s           the search is finished in this state, with its answer
 --   AreSettled divisor budget needs states      so it is for each need and its state, and there are as many needs as states
 --   IsUnderway d C budget s          the state's word is the best after its blocks, which are no more than the answer's
---   IsUnderwayIf d C budget current  so it is if there is a state
---   IsTrueStart divisor needs budget start      the settled needs are settled, and the search of the next need is under way
+--   IsUnderwayNext divisor budget needs current      so it is for the first of some needs, if there is a state
+--   IsTrueStart divisor needs budget start      the settled needs are settled, and the search of the next need is under way or
+--                                    isn't begun
 --   start_after step                 where a session starts that goes on after a step
 --   IsTrueStep divisor needs budget step        besides, at least one block of it is done, and the record is that of the state
 use Rattle.std.specs.Prelude.{◌≡◌, ℕ, ◌+◌, ◌*◌, ◌<◌, ◌≤◌, ◌⊎◌, false, List, [], ◌∷◌, ◌++◌, length, Option, Some, None, Contains, ⊤}
@@ -63,17 +64,18 @@ pub record IsUnderway (d : ℕ) (C : Matrix) (budget : ℕ) (s : Progress) : Typ
   pub best : IsBestAt C s
   pub few : s.blocks ≤ answer_blocks (answer d C budget)
 
--- nothing is told of a current need, or its state is under way
-abbrev pub IsUnderwayIf : ℕ → Matrix → ℕ → Option Progress → Type 0
-IsUnderwayIf d C budget None = ⊤
-IsUnderwayIf d C budget (Some s) = IsUnderway d C budget s
+-- no search is under way, or that of the first of these needs is
+abbrev pub IsUnderwayNext : (Matrix → ℕ) → ℕ → List Matrix → Option Progress → Type 0
+IsUnderwayNext divisor budget needs None = ⊤
+IsUnderwayNext divisor budget [] (Some s) = ⊥
+IsUnderwayNext divisor budget (C ∷ needs) (Some s) = IsUnderway (divisor C) C budget s
 
 pub record IsTrueStart (divisor : Matrix → ℕ) (needs : List Matrix) (budget : ℕ) (start : Start) : Type 0 where
   pub before : List Matrix
   pub after : List Matrix
   pub split : needs ≡ before ++ after
   pub settled : AreSettled divisor budget before start.settled
-  pub current : (C : Matrix) (rest : List Matrix) → after ≡ C ∷ rest → IsUnderwayIf (divisor C) C budget start.current
+  pub current : IsUnderwayNext divisor budget after start.current
 
 unfoldable pub start_after : Step → Start
 start_after step = record { settled = step.settled; current = Some step.state }

@@ -8,7 +8,7 @@
 --   closed_shaped              with the limits, it has the shape
 --   levels_shaped .. object_shaped      the parts of the reading, from its end on
 --   certificate_shaped         a certificate that bytes read as has the shape
-use Rattle.std.proofs.Common.{◌≡◌, ℕ, ◌^◌, ◌<◌, ◌≤◌, Bool, true, false, not, nat_le, ◌==◌, ◌&&◌, ◌||◌, cond, if◌then◌else◌, List, [], ◌∷◌, map, length, find, is_some, All, Contains, Option, Some, None, option_map, option_and_then, refl, sym, ap, subst, ◌∙◌, arith}
+use Rattle.std.proofs.Common.{◌≡◌, ℕ, ◌^◌, ◌<◌, ◌≤◌, Bool, true, false, not, nat_le, ◌==◌, ◌&&◌, ◌||◌, cond, if◌then◌else◌, List, [], ◌∷◌, map, length, find, is_some, All, Contains, Option, Some, None, option_map, option_and_then, refl, sym, subst, arith}
 use Rattle.std.specs.Prelude.{⊤, codes}
 use Rattle.std.specs.List.{list_all}
 use Rattle.std.specs.List.Sorted.{IsStrictlyIncreasing}
@@ -28,7 +28,7 @@ use Rattle.lc_formats.specs.Json.{number_at, listed, each, list_at, provided, me
 use Rattle.lc_formats.specs.Shape.{IsShapedSet, AreShapedSets, IsShaped}
 use Rattle.lc_formats.specs.Check.{CertificateRead, reads_as, refused_as, rows_at, field_at, fit, are_rows, is_scan, are_places, claim_in, sets_at, fresh_in_basis, above, certificate_over, levels_in, sets_in, way_in, distance_in, word_in, rows_in, parts_in, key_count, are_set_keys, set_total, is_beyond_limit, closed, field_in, is_version, object_in, data_in, certificate_in}
 use Rattle.lc_formats.proofs.TestLaws.{all_holds, word_holds, places_hold, part_holds}
-use Rattle.lc_formats.proofs.ReadLaws.{AreFit, MembersFit, json_fits, number_fits, object_fits, listed_fit, array_fits_at, Provided, provided_inside, each_all, each_length}
+use Rattle.lc_formats.proofs.ReadLaws.{AreFit, MembersFit, json_fits, number_fits, object_fits, listed_fit, array_fits_at, provided_inside, each_all, each_length}
 
 chosen_passes : {X : Type 0} (b : Bool) (p : X → Bool) (a x : X) (rest : Option X) → p a ≡ b → (rest ≡ Some x → p x ≡ true) → cond b (Some a) rest ≡ Some x → p x ≡ true
 chosen_passes true p a x rest t h e = subst (λ y. p y ≡ true) (cc e) t

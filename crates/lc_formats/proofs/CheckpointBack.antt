@@ -9,26 +9,24 @@
 --   sealed_is_whole, body_is_back      a sealed body that isn't too long is whole, and follows the seal
 --   checkpoint_back          the text of a checkpoint in range reads as the checkpoint
 --   longer_is_damaged        of bytes that are too long it is enough to read one more than are allowed
-use Rattle.std.proofs.Common.{◌≡◌, ℕ, zero, suc, ◌+◌, ◌*◌, ◌-◌, ◌/◌, ◌%◌, ◌^◌, ◌<◌, ◌≤◌, ◌⊎◌, inl, inr, Bool, true, false, not, nat_le, nat_lt, ◌==◌, ◌&&◌, ◌||◌, if◌then◌else◌, List, [], ◌∷◌, ◌++◌, map, length, take, drop, slice_index, All, Option, Some, None, option_map, option_and_then, refl, sym, ap, ap₂, ◌∙◌, ⊎_elim, arith}
-use Rattle.std.specs.Prelude.{⊤, codes}
+use Rattle.std.proofs.Common.{◌≡◌, ℕ, zero, suc, ◌+◌, ◌-◌, ◌/◌, ◌%◌, ◌^◌, ◌<◌, ◌≤◌, ◌⊎◌, inl, inr, true, nat_le, nat_lt, ◌==◌, ◌&&◌, ◌||◌, if◌then◌else◌, List, [], ◌∷◌, ◌++◌, map, length, take, drop, slice_index, Some, option_and_then, refl, sym, ap, ◌∙◌, ⊎_elim, arith}
+use Rattle.std.specs.Prelude.{codes}
 use Rattle.std.specs.Result.{result_ok}
 use Rattle.std.proofs.Math.Seq.{drop-append-add}
 use Rattle.std.proofs.Math.Bool.{and-false}
 use Rattle.std.proofs.lemmas.Bool.{and_from, le-leb, lt-leb, lt-ltb, eq-eqb, cases_lt, and_parts}
 use Rattle.std.proofs.lemmas.List.{length-map, length-append, length-take-le, take_all}
-use Rattle.std.proofs.lemmas.List.Elements.{All-cons, All-head, All-tail}
 use Rattle.sha2.specs.Sha256.{sha256}
 use Rattle.sha2.proofs.Facts256.{length-sha256}
-use Rattle.hex.specs.Hex.{encode_lower, encode_with, lower_digits, decode_of, IsBytes}
+use Rattle.hex.specs.Hex.{encode_lower, encode_with, lower_digits, IsBytes}
 use Rattle.hex.proofs.HexLemmas.{length-encode_with, decode_of-encode_lower}
 use Rattle.json.proofs.Printed.Utf8.{are_ascii}
-use Rattle.serde_json.specs.Data.{Data, Members, member, no_members, array, object, string, depth}
-use Rattle.serde_json.specs.Find.{get_member, as_array, as_str}
+use Rattle.serde_json.specs.Data.{Members, object, depth}
 use Rattle.lc_enumeration.specs.Records.{Progress}
 use Rattle.lc_formats.specs.Text.{same_bytes}
-use Rattle.lc_formats.specs.Json.{number_json, items, numbers_json, number_at, listed, each, numbers_of, provided, member_count, json_in}
-use Rattle.lc_formats.specs.Checkpoint.{Checkpoint, current_of, settled_json, body_members, body_of, sealed, checkpoint_text, IsProgress, IsInRange, ReadCheckpoint, point, refused, damaged, shape, other_version, is_whole, number_up_to, triple_of, is_in_range, settled_in, digest_in, script_in, done_in, state_in, point_or_shape, versioned, body_in, checkpoint_in}
-use Rattle.lc_formats.proofs.JsonLaws.{IsPlain, ArePlain, plain_items, plain_numbers, items_shallow, numbers_shallow, listed_items, each_back, numbers_back, json_back}
+use Rattle.lc_formats.specs.Json.{number_json, items, numbers_json, number_at, each, provided, member_count, json_in}
+use Rattle.lc_formats.specs.Checkpoint.{Checkpoint, current_of, settled_json, body_members, body_of, sealed, checkpoint_text, IsProgress, IsInRange, point, refused, damaged, other_version, is_whole, number_up_to, triple_of, is_in_range, settled_in, digest_in, script_in, done_in, state_in, point_or_shape, versioned, body_in, checkpoint_in}
+use Rattle.lc_formats.proofs.JsonLaws.{IsPlain, plain_items, items_shallow, numbers_shallow, listed_items, each_back, numbers_back, json_back}
 use Rattle.lc_formats.proofs.CertificateBack.{mapped_all, provided_some}
 
 pub same_itself : (text : List ℕ) → same_bytes text text ≡ true

@@ -13,8 +13,8 @@ use Rattle.lc_algebra.specs.Matrix.{Matrix}
 use Rattle.lc_constructions.specs.Code.{IsCode}
 use Rattle.lc_constructions.specs.Alternant.{AlternantForm, IsAlternantWord}
 use Rattle.lc_formats.specs.Certificate.{accepted, rejected, word_not_in_code, claim_short, part_refused}
-use Rattle.lc_formats.specs.Claim.{Claim, alternant, pair, uuv, direct_sum, product, puncture, shorten, extend, Built, tree, built_text, form_certificate}
-use Rattle.lc_formats.specs.ClaimMeaning.{Outcome, code_with, refused_at, capped, form_of, pair_bound, place_bound, extended_bound, HasOutcome, IsTreeVerdict, not_attained}
+use Rattle.lc_formats.specs.Claim.{Claim, alternant, pair, uuv, direct_sum, product, puncture, shorten, Built, tree, built_text, form_certificate}
+use Rattle.lc_formats.specs.ClaimMeaning.{code_with, refused_at, capped, form_of, pair_bound, place_bound, extended_bound, HasOutcome, IsTreeVerdict, not_attained}
 use Rattle.lc_formats.specs.Document.{document_in, document}
 use Rattle.lc_formats.proofs.Plainly.{document_plainly}
 use Rattle.lc_formats.proofs.CodeTests.{is_alternant, alternant_holds, alternant_passes, code_from_test}

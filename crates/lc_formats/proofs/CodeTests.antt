@@ -4,15 +4,15 @@
 --                              is one of their words exactly if it passes the test
 --   code_from_test             then they are that of the words of which the test tests
 --   is_alternant f form, alternant_holds, alternant_passes      the test of an alternant word
-use Rattle.std.proofs.Common.{◌≡◌, ℕ, zero, suc, ◌<◌, Bool, true, false, not, nat_lt, ◌==◌, ◌&&◌, ◌||◌, List, [], ◌∷◌, map, length, All, Contains, flat_map, inl, inr, ⊎_elim, refl, sym, ap, subst, ◌∙◌, arith}
+use Rattle.std.proofs.Common.{◌≡◌, ℕ, zero, suc, Bool, true, false, not, ◌==◌, ◌&&◌, ◌||◌, List, [], ◌∷◌, map, Contains, refl, arith}
 use Rattle.std.specs.List.{list_all}
 use Rattle.std.proofs.lemmas.Bool.{and_parts, eqb-true, eq-eqb, false≢true}
 use Rattle.std.proofs.lemmas.List.Elements.{All-contains}
 use Rattle.lc_algebra.specs.declared.FieldName.{FieldName}
 use Rattle.lc_algebra.specs.Field.{size}
 use Rattle.lc_algebra.specs.Word.{IsWord}
-use Rattle.lc_algebra.specs.Span.{below, InSpan}
-use Rattle.lc_algebra.specs.Matrix.{Matrix, AreRows}
+use Rattle.lc_algebra.specs.Span.{below}
+use Rattle.lc_algebra.specs.Matrix.{AreRows}
 use Rattle.lc_algebra.proofs.WordLaws.{word_head, word_tail}
 use Rattle.lc_algebra.proofs.SpanLaws.{span_word, flat_map_contains, map_contains, below_contains, contains_below, contains_head}
 use Rattle.lc_algebra.proofs.SpanSearch.{pivots_test, pivots_from_test}

@@ -31,8 +31,9 @@ use Rattle.lc_formats.specs.Text.{same_bytes, bracketed, numbers_text, lists_tex
 use Rattle.lc_formats.specs.CertificateText.{claim_members, claim_json, way_text, with_sets, certificate_members, certificate_json, certificate_text}
 use Rattle.lc_formats.specs.Check.{reason_line, line_of_verdict, verdict_line, rows_at, field_at, fit, are_rows, is_scan, are_places, claim_in, sets_at, fresh_in_basis, above, certificate_over, levels_in, sets_in, way_in, distance_in, word_in, rows_in, parts_in, key_count, are_set_keys, set_total, is_beyond_limit, closed, field_in, is_version, object_in, data_in, verdict_of, distance_of}
 use Rattle.lc_formats.specs.Checkpoint.{current_of, settled_json, body_members, body_of, sealed, checkpoint_text, checkpoint_refusal_number, is_whole, number_up_to, triple_of, is_in_range, settled_in, digest_in, script_in, done_in, state_in, point_or_shape, versioned, body_in}
-use Rattle.lc_formats.specs.Truth.{divisor_in, blocks_in, turn_allowance, start_of, misfit_of}
+use Rattle.lc_formats.specs.Truth.{divisor_in, whole_start, turn_allowance, start_of, misfit_of}
 use Rattle.lc_enumeration.specs.Records.{found_of}
+use Rattle.lc_enumeration.specs.Truth.{answer_blocks}
 use Rattle.lc_enumeration.specs.Fitting.{first_divisible, start_before, used_start, misfit_at, count_current, too_many, misfit_from, misfit}
 use Rattle.lc_formats.specs.Document.{kind_text, all_kinds, kind_at, object_at, with_keys, bytes_at, symbol_field, search_of, claim_of_kind, claim_from, part_keys, all_of, are_closed, is_long, is_tree_beyond_limit, plain_read, tree_closed, tree_distance_in, built_over, tree_word_in, is_tree_word, tree_claim_in, tree_field_in, either_version, document_of}
 use Rattle.lc_formats.specs.Claim.{claim_total, claim_depth, pair_text, place_text, rows_json, claim_members_of, built_members, built_text, form_certificate}
@@ -76,7 +77,7 @@ unfolding json_computes seal_computes current_of settled_json body_members body_
 checkpoint_computes = tt
 
 unfoldable pub truth_computes : ⊤
-unfolding search_computes found_of first_divisible start_before used_start misfit_at count_current too_many misfit_from misfit current_of divisor_in blocks_in turn_allowance start_of misfit_of
+unfolding search_computes found_of first_divisible start_before used_start misfit_at count_current too_many misfit_from misfit current_of divisor_in whole_start turn_allowance answer_blocks start_of misfit_of
 truth_computes = tt
 
 unfoldable pub claim_computes : ⊤

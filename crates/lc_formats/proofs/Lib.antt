@@ -11,6 +11,8 @@ pub mod CertificateExamples
 pub mod CheckExamples
 pub mod Plainly
 pub mod CheckTextExamples
+pub mod DocumentBack
+pub mod ClaimLaws
 pub mod CodeTests
 pub mod ClaimExamples
 pub mod DocumentExamples

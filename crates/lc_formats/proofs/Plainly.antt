@@ -2,7 +2,7 @@
 --   json_plainly               the JSON value that they are
 --   certificate_plainly, check_plainly, document_plainly      the certificate, the line of `check`, the document that they are
 --   certificates_plainly, checks_plainly, documents_plainly      those of several texts
-use Rattle.std.proofs.Common.{◌≡◌, ℕ, Bool, true, if◌then◌else◌, List, [], ◌∷◌, map, Option, None, refl, ap, ◌∙◌}
+use Rattle.std.proofs.Common.{◌≡◌, ℕ, true, if◌then◌else◌, List, [], ◌∷◌, map, Option, None, refl, ap}
 use Rattle.std.specs.List.{list_all}
 use Rattle.std.proofs.lemmas.Bool.{and_parts}
 use Rattle.std.proofs.lemmas.Str.{is_utf8-from_IsUtf8}
@@ -10,8 +10,8 @@ use Rattle.json.proofs.Printed.Utf8.{are_ascii, IsUtf8-are_ascii}
 use Rattle.serde_json.specs.Data.{Data}
 use Rattle.serde_json.specs.Read.{read}
 use Rattle.lc_formats.specs.Json.{json_in}
-use Rattle.lc_formats.specs.Check.{CertificateRead, data_in, certificate_in, check_text, line_of_verdict, verdict_of, distance_of}
-use Rattle.lc_formats.specs.Document.{DocumentRead, document_of, document_in}
+use Rattle.lc_formats.specs.Check.{data_in, certificate_in, check_text, line_of_verdict, verdict_of, distance_of}
+use Rattle.lc_formats.specs.Document.{document_of, document_in}
 
 pub json_plainly : (bytes : List ℕ) → are_ascii bytes ≡ true → json_in bytes ≡ read bytes
 unfolding json_in

@@ -5,7 +5,7 @@
 --   provided_inside            what was let through was there, and passed the test
 --   each_all                   what holds of all that comes from the elements of a list holds of the list that was made of them
 --   each_length                which is as long
-use Rattle.std.proofs.Common.{◌≡◌, ℕ, suc, ◌^◌, ◌<◌, Bool, true, false, nat_lt, nat_le, ◌==◌, ◌&&◌, if◌then◌else◌, List, [], ◌∷◌, map, length, drop, slice_index, All, Contains, Option, Some, None, option_map, option_and_then, refl, sym, ap, subst, ◌∙◌, arith}
+use Rattle.std.proofs.Common.{◌≡◌, ℕ, suc, ◌^◌, ◌<◌, Bool, true, false, nat_lt, nat_le, ◌==◌, ◌&&◌, if◌then◌else◌, List, [], ◌∷◌, map, length, drop, slice_index, All, Option, Some, None, option_map, option_and_then, refl, sym, ap, subst, ◌∙◌, arith}
 use Rattle.std.specs.Prelude.{⊤, ℤ, Float}
 use Rattle.std.specs.Str.{is_utf8}
 use Rattle.std.specs.Ordering.{nat_cmp, match_ordering}
@@ -21,7 +21,6 @@ use Rattle.json.specs.Lex.{tokens}
 use Rattle.serde_json.specs.Data.{Num, unsigned, negative, float, Data, null, boolean, number, string, array, object, Items, no_items, item, Members, no_members, member, put}
 use Rattle.serde_json.specs.Read.{of_json, of_items, of_members, number_of, number_from, float_of, is_integer, max_depth, read}
 use Rattle.serde_json.specs.Find.{get_member, as_number, as_u64, as_array, as_object}
-use Rattle.lc_algebra.proofs.SpanLaws.{contains_head, contains_tail}
 use Rattle.lc_formats.specs.Json.{number_at, listed, each, provided, json_in}
 
 abbrev IsFit : Option Num → Type 0

@@ -50,7 +50,7 @@ elements_hold : (f : FieldName) (w : List ℕ) → are_elements f w ≡ true →
 unfolding are_elements
 elements_hold f w e i l = all_holds (λ a. nat_lt a (size f)) (λ a. a < size f) (λ a h. ltb-true a (size f) h) w e i 0 l
 
-elements_pass : (f : FieldName) (w : List ℕ) → Fits f w → are_elements f w ≡ true
+pub elements_pass : (f : FieldName) (w : List ℕ) → Fits f w → are_elements f w ≡ true
 unfolding are_elements
 elements_pass f [] h = refl
 elements_pass f (a ∷ w) h = and_from (nat_lt a (size f)) (are_elements f w) (lt-ltb a (size f) (h 0 (omega arith))) (elements_pass f w (λ i l. h (suc i) (omega (arith, l))))

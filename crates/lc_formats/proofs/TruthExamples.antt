@@ -6,15 +6,16 @@
 --   starts                 where sessions start: version 1 before the first need with a divisor above 1, version 2 at the current need
 --   misfits                records that fit, and some that don't: another weight, a settled record too early, more records than needs
 --   untested               a record that isn't used isn't tested
-use Rattle.std.proofs.Common.{◌≡◌, ℕ, refl, arith, ap}
-use Rattle.std.specs.Prelude.{List, [], ◌∷◌, ◌^◌, map, Some, None, option_map, unwrap_or}
+use Rattle.std.proofs.Common.{◌≡◌, ℕ, ◌≤◌, inl, inr, refl, sym, ap, arith}
+use Rattle.std.specs.Prelude.{List, [], ◌∷◌, ◌++◌, ◌^◌, map, Some, None}
 use Rattle.lc_algebra.specs.declared.FieldName.TheVariants.{Gf2}
 use Rattle.lc_algebra.specs.Matrix.{Matrix}
-use Rattle.lc_enumeration.specs.Search.{answer, best, set_count}
-use Rattle.lc_enumeration.proofs.SearchExamples.{hamming, first_found}
-use Rattle.lc_formats.specs.Checkpoint.{Checkpoint}
+use Rattle.lc_enumeration.specs.Search.{answer}
 use Rattle.lc_enumeration.specs.Records.{Progress}
-use Rattle.lc_formats.specs.Truth.{IsTrueFor, blocks_in, divisor_in, start_of, misfit_of}
+use Rattle.lc_enumeration.specs.Truth.{answer_blocks, AreSettled, IsUnderwayNext}
+use Rattle.lc_enumeration.proofs.SearchExamples.{hamming}
+use Rattle.lc_formats.specs.Checkpoint.{Checkpoint, current_of}
+use Rattle.lc_formats.specs.Truth.{IsTrueFor, divisor_in, whole_start, start_of, misfit_of}
 use Rattle.lc_formats.proofs.Evaluated.{truth_computes}
 
 abbrev pub extended : Matrix
@@ -26,47 +27,54 @@ after version digest settled blocks weight = record { version = version; script 
 abbrev pub settled_with : ℕ → ℕ → ℕ → Progress
 settled_with blocks weight place = record { blocks = blocks; weight = weight; place = place }
 
-best_of_one : best hamming (set_count hamming) 1 ≡ first_found
-unfolding truth_computes
-best_of_one = refl
-
-blocks_of_answer : blocks_in (answer (divisor_in 2 hamming) hamming (2 ^ 20)) ≡ 2
+blocks_of_answer : answer_blocks (answer (divisor_in 2 hamming) hamming (2 ^ 20)) ≡ 2
 unfolding truth_computes
 blocks_of_answer = refl
 
 pub is_true_after_one : (digest : List ℕ) → IsTrueFor (hamming ∷ []) digest (2 ^ 20) (after 2 digest [] 1 3)
 unfolding truth_computes
 is_true_after_one digest = record {
+  known = inr refl;
   script = refl;
   budget_is = refl;
-  settled = λ i s e. cc;
-  current = (hamming, refl, omega arith, omega (arith, blocks_of_answer), refl);
+  start = record { before = []; after = hamming ∷ []; split = refl; settled = tt; current = record { best = refl; few = omega (arith, blocks_of_answer) } };
+  begun = omega arith;
   turn = omega arith;
 }
 
-blocks_of_first : blocks_in (answer (divisor_in 1 extended) extended (2 ^ 20)) ≡ 2
+blocks_of_first : answer_blocks (answer (divisor_in 1 extended) extended (2 ^ 20)) ≡ 2
 unfolding truth_computes
 blocks_of_first = refl
 
 pub first_is_true : (digest : List ℕ) → IsTrueFor (extended ∷ []) digest (2 ^ 20) (after 1 digest [] 1 4)
 unfolding truth_computes
 first_is_true digest = record {
+  known = inl refl;
   script = refl;
   budget_is = refl;
-  settled = λ i s e. cc;
-  current = (extended, refl, omega arith, omega (arith, blocks_of_first), refl);
+  start = record { before = []; after = extended ∷ []; split = refl; settled = tt; current = record { best = refl; few = omega (arith, blocks_of_first) } };
+  begun = omega arith;
   turn = omega arith;
 }
 
 abbrev last_block : Matrix → ℕ
-last_block C = blocks_in (answer (divisor_in 2 C) C (2 ^ 20))
+last_block C = answer_blocks (answer (divisor_in 2 C) C (2 ^ 20))
 
 blocks_of_second : last_block extended ≡ 0
 unfolding truth_computes
 blocks_of_second = refl
 
+no_other_split : (before later : List Matrix) (states : List Progress) → AreSettled (divisor_in 2) (2 ^ 20) before states → states ≡ [] → extended ∷ [] ≡ before ++ later → (s : Progress) → 1 ≤ s.blocks → IsUnderwayNext (divisor_in 2) (2 ^ 20) later (Some s) → ⊥
+no_other_split [] [] states a e split s begun underway = underway
+no_other_split [] (C ∷ later) states a e split s begun underway =
+    let same : extended ≡ C = cc split in
+    omega (arith, begun, underway.few, ap last_block (sym same), blocks_of_second)
+no_other_split (C ∷ before) later [] a e split s begun underway = a
+no_other_split (C ∷ before) later (t ∷ states) a e split s begun underway = absurd cc
+
 pub second_is_not : (digest : List ℕ) → IsTrueFor (extended ∷ []) digest (2 ^ 20) (after 2 digest [] 1 4) → ⊥
-second_is_not digest t = omega (arith, t.current.2, t.current.3, ap (λ need. unwrap_or (option_map last_block need) 0) t.current.1, blocks_of_second)
+unfolding whole_start current_of
+second_is_not digest t = no_other_split t.start.before t.start.after [] t.start.settled refl t.start.split (settled_with 1 4 0) (omega arith) t.start.current
 
 pub starts : map (start_of (hamming ∷ extended ∷ hamming ∷ [])) (after 1 [] (settled_with 2 3 0 ∷ []) 1 4 ∷ after 2 [] (settled_with 2 3 0 ∷ []) 1 4 ∷ after 1 [] [] 1 3 ∷ after 1 [] (settled_with 2 3 0 ∷ settled_with 2 4 0 ∷ []) 1 3 ∷ []) ≡ record { settled = settled_with 2 3 0 ∷ []; current = None } ∷ record { settled = settled_with 2 3 0 ∷ []; current = Some (settled_with 1 4 0) } ∷ record { settled = []; current = Some (settled_with 1 3 0) } ∷ record { settled = settled_with 2 3 0 ∷ []; current = None } ∷ []
 unfolding truth_computes

@@ -7,19 +7,18 @@
 --   reaches_holds, reaches_passes      whether the levels reach the distance
 --   accepted_is_valid, valid_is_accepted, rejected_is_not_valid, not_valid_is_rejected
 use Rattle.std.proofs.Common.{◌≡◌, ℕ, zero, suc, ◌+◌, ◌^◌, ◌<◌, ◌≤◌, ◌⊎◌, min, Bool, true, false, not, nat_le, nat_lt, ◌==◌, ◌&&◌, ◌||◌, cond, if◌then◌else◌, List, [], ◌∷◌, length, map, find, count_by, slice_index_or, All, AllPairs, Any, Contains, Option, Some, None, inl, inr, ⊎_elim, refl, sym, ap, subst, ◌∙◌, arith}
-use Rattle.std.specs.Prelude.{⊤}
-use Rattle.std.proofs.lemmas.Bool.{and_parts, and_from, or_left, or_right, eqb-true, eq-eqb, ltb-true, ltb-false, lt-ltb, le-ltb, leb-true, le-leb, false≢true, true≢false, cases_Bool, cases_lt}
+use Rattle.std.proofs.lemmas.Bool.{and_parts, and_from, or_left, or_right, eqb-true, eq-eqb, ltb-true, ltb-false, lt-ltb, le-ltb, leb-true, le-leb, false≢true, cases_Bool, cases_lt}
 use Rattle.std.proofs.lemmas.List.Elements.{All-cons, All-head, All-tail, All-contains, Contains-get_or}
 use Rattle.std.proofs.lemmas.List.Sums.{sum_by-cons}
 use Rattle.lc_algebra.specs.Word.{IsWord, weight}
-use Rattle.lc_algebra.specs.Span.{InSpan, AreIndependent, below}
+use Rattle.lc_algebra.specs.Span.{AreIndependent, below}
 use Rattle.lc_algebra.specs.Matrix.{column, AreRows, AreIndependentColumns}
 use Rattle.lc_algebra.proofs.SpanLaws.{contains_cases, contains_head, contains_tail, contains_map, map_contains, below_contains}
 use Rattle.lc_algebra.proofs.ColumnLaws.{column_word}
 use Rattle.lc_enumeration.specs.InformationSet.{in_span, greedy, is_member}
 use Rattle.lc_enumeration.proofs.MemberLaws.{in_span_true, true_in_span, member_true, true_member}
-use Rattle.lc_enumeration.proofs.GreedyLaws.{each_contained, greedy_independent, greedy_whole}
-use Rattle.lc_formats.specs.Certificate.{Certificate, SetClaim, Proof, scan, levels, Reason, Verdict, accepted, rejected, too_costly, word_not_in_code, word_weight, set_not_information, fresh_overlap, bound_short, seen_lighter, code_length, code_dimension, level_in, cost, seen_words, is_lighter, first_lighter, claimed_sum, is_information_set, first_dependent, least_overlap, reaches, or_else, when, carrying, set_reasons, cost_reason, verdict, SetsHold, IsValid}
+use Rattle.lc_enumeration.proofs.GreedyLaws.{greedy_independent, greedy_whole}
+use Rattle.lc_formats.specs.Certificate.{Certificate, SetClaim, Proof, scan, levels, Reason, Verdict, accepted, rejected, word_not_in_code, word_weight, set_not_information, fresh_overlap, bound_short, seen_lighter, code_length, code_dimension, level_in, cost, seen_words, is_lighter, first_lighter, claimed_sum, is_information_set, first_dependent, least_overlap, reaches, or_else, when, carrying, set_reasons, cost_reason, verdict, SetsHold, IsValid}
 use Rattle.lc_formats.specs.Shape.{IsShapedSet, AreShapedSets, IsShaped}
 
 -- ---- the order of the reasons
@@ -33,12 +32,12 @@ pub accepted_else : (o : Option Reason) (later : Verdict) → o ≡ None → lat
 unfolding or_else
 accepted_else o later e l = rw e l
 
-when_not : (b : Bool) (r : Reason) → when b r ≡ None → b ≡ false
+pub when_not : (b : Bool) (r : Reason) → when b r ≡ None → b ≡ false
 unfolding when
 when_not true r e = absurd cc
 when_not false r e = refl
 
-not_when : (b : Bool) (r : Reason) → b ≡ false → when b r ≡ None
+pub not_when : (b : Bool) (r : Reason) → b ≡ false → when b r ≡ None
 unfolding when
 not_when b r e = rw e refl
 
@@ -51,11 +50,11 @@ none_carrying : {X : Type 0} (r : X → Reason) (o : Option X) → o ≡ None �
 unfolding carrying
 none_carrying r o e = rw e refl
 
-not_false : (b : Bool) → not b ≡ false → b ≡ true
+pub not_false : (b : Bool) → not b ≡ false → b ≡ true
 not_false true e = refl
 not_false false e = absurd (false≢true (sym e))
 
-not_true : (b : Bool) → b ≡ true → not b ≡ false
+pub not_true : (b : Bool) → b ≡ true → not b ≡ false
 not_true b e = rw e refl
 
 false_from : (b : Bool) → (b ≡ true → ⊥) → b ≡ false

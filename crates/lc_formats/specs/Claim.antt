@@ -12,7 +12,7 @@
 --   claim_members_of claim, built_members b      the members of their JSON values, keys rising
 --   built_text b             the text of a certificate by construction
 --   form_certificate f form x      that of an alternant form, which claims r + 1 for the word x
-use Rattle.std.specs.Prelude.{ℕ, suc, ◌+◌, max, List, [], map, codes}
+use Rattle.std.specs.Prelude.{ℕ, suc, ◌+◌, max, List, map, codes}
 use Rattle.serde_json.specs.Data.{Data, Members, member, no_members, array, object, string}
 use Rattle.serde_json.specs.Written.{compact_text}
 use Rattle.lc_algebra.specs.declared.FieldName.{FieldName}

@@ -18,7 +18,7 @@
 --   tree_reasons b C bound   the first reason against it, once its claim defines a code
 --   IsTreeVerdict b v        what a checker says of it
 --   not_attained C form x    the weight of x and r + 1, if x isn't a word of the code that has this weight
-use Rattle.std.specs.Prelude.{◌≡◌, ℕ, suc, ◌+◌, ◌-◌, ◌*◌, ◌≤◌, min, max, Bool, not, nat_lt, ◌==◌, ◌&&◌, if◌then◌else◌, List, [], ◌∷◌, length, find, Option, Some, None, option_map, unwrap_or}
+use Rattle.std.specs.Prelude.{◌≡◌, ℕ, suc, ◌+◌, ◌-◌, ◌*◌, ◌≤◌, min, max, Bool, not, nat_lt, ◌==◌, ◌&&◌, if◌then◌else◌, List, length, find, Option, Some, None, option_map, unwrap_or}
 use Rattle.std.specs.List.{list_all}
 use Rattle.lc_algebra.specs.declared.FieldName.{FieldName}
 use Rattle.lc_algebra.specs.Field.{size}

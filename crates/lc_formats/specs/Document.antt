@@ -15,16 +15,16 @@
 --   IsCheckText bytes text            the line that `check` prints
 use Rattle.std.specs.Prelude.{◌≡◌, ℕ, zero, suc, ◌-◌, ◌^◌, ◌<◌, ◌≤◌, Bool, true, not, nat_le, nat_lt, ◌==◌, ◌&&◌, ◌||◌, if◌then◌else◌, List, [], ◌∷◌, length, find, codes, All, Option, Some, None, option_map, option_and_then}
 use Rattle.std.specs.List.{list_all, list_any}
-use Rattle.serde_json.specs.Data.{Data, Members, null, boolean, number, string, array, object, depth, members_depth}
+use Rattle.serde_json.specs.Data.{Data, Members, members_depth}
 use Rattle.serde_json.specs.Find.{get_member, as_str, as_object}
 use Rattle.lc_algebra.specs.declared.FieldName.{FieldName}
 use Rattle.lc_algebra.specs.Field.{size, is_symbol}
-use Rattle.lc_algebra.specs.Word.{Fits, IsWord}
+use Rattle.lc_algebra.specs.Word.{Fits}
 use Rattle.lc_constructions.specs.Code.{longest}
 use Rattle.lc_constructions.specs.Cyclic.{all_fields}
 use Rattle.lc_constructions.specs.Refusals.{are_elements, have_elements}
 use Rattle.lc_formats.specs.Text.{same_bytes}
-use Rattle.lc_formats.specs.Certificate.{Certificate, Reason, shape, limit, Verdict}
+use Rattle.lc_formats.specs.Certificate.{Reason, shape, limit, Verdict}
 use Rattle.lc_formats.specs.Claim.{PairKind, uuv, direct_sum, product, PlaceKind, puncture, shorten, Claim, search, alternant, pair, concat, subcode, at_places, extend, Built, Document, plain, tree, claim_total, claim_depth, pair_text, place_text}
 use Rattle.lc_formats.specs.Json.{number_at, list_at, provided, member_count, json_in}
 use Rattle.lc_formats.specs.Shape.{IsShaped}

@@ -4,7 +4,7 @@
 --                               of the constructors' refusals
 use Rattle.std.specs.Prelude.{ℕ, Bool, nat_le, List}
 use Rattle.std.specs.List.{list_any}
-pub use Rattle.lc_constructions.specs.Refusals.{columns_of, is_rising}
+unfoldable pub use Rattle.lc_constructions.specs.Refusals.{columns_of, is_rising}
 
 unfoldable pub reaches : ℕ → List ℕ → Bool
 reaches bound entries = list_any (nat_le bound) entries

@@ -3,13 +3,15 @@
 --   IsShapedSet n claim      an information set as it stands in a certificate of a code of length n
 --   AreShapedSets n proof    at least one and at most 255 such sets; a scan has none
 --   IsShaped c               the certificate's field, rows, word, distance and sets are as the format wants them
+--   Sound                    the law of a checker: a valid certificate of this shape proves its distance
 use Rattle.std.specs.Prelude.{◌≡◌, ℕ, ◌^◌, ◌<◌, ◌≤◌, true, length, All, Contains, ⊤}
 use Rattle.std.specs.List.Sorted.{IsStrictlyIncreasing}
 use Rattle.lc_algebra.specs.Field.{is_symbol}
 use Rattle.lc_algebra.specs.Word.{IsWord}
 use Rattle.lc_algebra.specs.Matrix.{AreRows}
 use Rattle.lc_constructions.specs.Code.{longest}
-use Rattle.lc_formats.specs.Certificate.{Certificate, SetClaim, Proof, scan, levels, code_length}
+use Rattle.lc_algebra.specs.Span.{IsDistance}
+use Rattle.lc_formats.specs.Certificate.{IsValid, Certificate, SetClaim, Proof, scan, levels, code_length}
 
 pub record IsShapedSet (n : ℕ) (claim : SetClaim) : Type 0 where
   pub basis_rises : IsStrictlyIncreasing claim.basis
@@ -34,3 +36,6 @@ pub record IsShaped (c : Certificate) : Type 0 where
   pub positive : 1 ≤ c.distance
   pub distance_fits : c.distance < 2 ^ 64
   pub sets_fit : AreShapedSets (code_length c) c.proof
+
+abbrev pub Sound : Type 0
+Sound = (c : Certificate) → IsShaped c → IsValid c → IsDistance c.field (code_length c) c.rows c.distance

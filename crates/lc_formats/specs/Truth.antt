@@ -1,41 +1,35 @@
 -- When a checkpoint is true, where a session starts that resumes it, and whether its records fit. Needs are the codes of the
 -- script's queries that search, in order.
 --   divisor_in version C         the divisor with which sessions that wrote this version searched: 1 for version 1
---   SettlesAs s a                the record of a settled need has the blocks, the weight and the place of its answer
---   blocks_in a                  the blocks of an answer
+--   whole_start p                the start from all records of the checkpoint
 --   turn_allowance version       by how much the turn may exceed the number of blocks: 0 for version 1, 2^57 for version 2
 --   IsTrueFor needs digest budget p      a checkpoint as a session of a chain writes it
---   start_of needs p             the records that are used, and the progress of the search that goes on
+--   start_of needs p             the start from the records that are used
 --   misfit_of needs budget p     the first used record that doesn't fit its need, or that there are more records than needs
-use Rattle.std.specs.Prelude.{◌≡◌, ℕ, ◌+◌, ◌^◌, ◌<◌, ◌≤◌, ◌==◌, if◌then◌else◌, List, length, map, sum, slice_get, Option, Some}
+use Rattle.std.specs.Prelude.{◌≡◌, ℕ, ◌+◌, ◌^◌, ◌<◌, ◌≤◌, ◌⊎◌, ◌==◌, if◌then◌else◌, List, map, sum, Option, Some}
 use Rattle.lc_algebra.specs.Matrix.{Matrix}
 use Rattle.lc_algebra.specs.Divisor.{divisor_of}
-use Rattle.lc_enumeration.specs.Search.{Answer, no_word, exact, bracket, answer, best, set_count}
-use Rattle.lc_enumeration.specs.Records.{Progress, found_of, Start}
+use Rattle.lc_enumeration.specs.Records.{Start}
 use Rattle.lc_enumeration.specs.Fitting.{used_start, Misfit, misfit}
+use Rattle.lc_enumeration.specs.Truth.{IsTrueStart}
 use Rattle.lc_formats.specs.Checkpoint.{Checkpoint, current_of}
 
 unfoldable pub divisor_in : ℕ → Matrix → ℕ
 divisor_in version C = (if version == 1 then 1 else divisor_of C)
 
-abbrev pub SettlesAs : Progress → Answer → Type 0
-SettlesAs s no_word = ⊥
-SettlesAs s (exact found l) = (s.blocks ≡ l) × (found_of s ≡ found)
-SettlesAs s (bracket low found l) = (s.blocks ≡ l) × (found_of s ≡ found)
-
-unfoldable pub blocks_in : Answer → ℕ
-blocks_in no_word = 0
-blocks_in (exact found l) = l
-blocks_in (bracket low found l) = l
+unfoldable pub whole_start : Checkpoint → Start
+whole_start p = record { settled = p.settled; current = Some (current_of p) }
 
 unfoldable pub turn_allowance : ℕ → ℕ
 turn_allowance version = (if version == 1 then 0 else 2 ^ 57)
 
+-- its records are those of true searches, the one of the current need included, of which a block at least is done
 pub record IsTrueFor (needs : List Matrix) (digest : List ℕ) (budget : ℕ) (p : Checkpoint) : Type 0 where
+  pub known : (p.version ≡ 1) ⊎ (p.version ≡ 2)
   pub script : p.script ≡ digest
   pub budget_is : p.budget ≡ budget
-  pub settled : (i : ℕ) (s : Progress) → slice_get p.settled i ≡ Some s → (C : Matrix) × (slice_get needs i ≡ Some C) × SettlesAs s (answer (divisor_in p.version C) C budget)
-  pub current : (C : Matrix) × (slice_get needs (length p.settled) ≡ Some C) × (1 ≤ p.blocks) × (p.blocks ≤ blocks_in (answer (divisor_in p.version C) C budget)) × (best C (set_count C) p.blocks ≡ found_of (current_of p))
+  pub start : IsTrueStart (divisor_in p.version) needs budget (whole_start p)
+  pub begun : 1 ≤ p.blocks
   pub turn : p.turn < p.blocks + sum (map (λ s. s.blocks) p.settled) + turn_allowance p.version
 
 unfoldable pub start_of : List Matrix → Checkpoint → Start

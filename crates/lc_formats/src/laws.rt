@@ -3,10 +3,13 @@
 //! Each function proves what its clauses say and does nothing when it is run.
 
 ghost use Rattle.std.specs.Prelude.{◌≡◌, ◌≤◌, ◌↔◌, ℕ, List, length, take};
-ghost use Rattle.lc_formats.specs.Certificate.{Certificate, Reason, verdict, accepted, rejected, IsValid};
+ghost use Rattle.lc_algebra.specs.declared.FieldName.{FieldName};
+ghost use Rattle.lc_formats.specs.Certificate.{Certificate, Reason, Verdict, verdict, accepted, rejected, IsValid};
 ghost use Rattle.lc_formats.specs.CertificateText.{certificate_text};
 ghost use Rattle.lc_formats.specs.Shape.{IsShaped};
 ghost use Rattle.lc_formats.specs.Check.{certificate_in, reads_as};
+ghost use Rattle.lc_formats.specs.Claim.{Claim, Built};
+ghost use Rattle.lc_formats.specs.ClaimMeaning.{Outcome, HasOutcome, IsValidTree, IsTreeVerdict};
 ghost use Rattle.lc_formats.specs.Checkpoint.{Checkpoint, IsInRange, checkpoint_text, checkpoint_in, point};
 
 /// A certificate that was read has the shape, and each certificate that has it is read back from its text.
@@ -29,4 +32,12 @@ pub fn checkpoints_are_read_back()
     ensures ranged { (bytes : List ℕ) (p : Checkpoint) → checkpoint_in bytes ≡ point p → IsInRange p }
     ensures back { (p : Checkpoint) → IsInRange p → length (checkpoint_text p) ≤ 4194304 → checkpoint_in (checkpoint_text p) ≡ point p }
     ensures longer { (bytes : List ℕ) → checkpoint_in (take 4194305 bytes) ≡ checkpoint_in bytes }
+{}
+
+/// A claim has at most one outcome, and a certificate by construction at most one verdict. It is accepted
+/// exactly if it is valid.
+pub fn valid_trees_are_accepted()
+    ensures outcome { (f : FieldName) (number : ℕ) (claim : Claim) (o p : Outcome) → HasOutcome f number claim o → HasOutcome f number claim p → o ≡ p }
+    ensures verdict { (b : Built) (v w : Verdict) → IsTreeVerdict b v → IsTreeVerdict b w → v ≡ w }
+    ensures accepted { (b : Built) → IsTreeVerdict b accepted ↔ IsValidTree b }
 {}

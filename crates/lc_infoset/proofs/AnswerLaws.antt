@@ -5,8 +5,10 @@
 --   filter_keeps, filter_member  a filter keeps what passes, and nothing else
 --   last_that_same               the last number that passes, by equal tests
 --   find_none                    a test that finds nothing is passed by nothing
+--   ends_to, ends_are            the phase ends up to a budget
+--   whole_is, level_of, levels_of      the levels that lie wholly below some blocks
 --   levels_same                  below some blocks the same levels lie wholly as below the last phase end before them
---   bound_same                   the bound depends on the levels alone if none is k
+--   bound_same, bound_whole      the bound depends on the levels alone if none is k, and else is the weight
 --   open_bound                   if the search isn't done at the last phase end, no word is lighter than the bound
 --   answer_holds                 the answer is true
 use Rattle.std.proofs.Common.{◌≡◌, ℕ, zero, suc, ◌+◌, ◌-◌, ◌*◌, ◌<◌, ◌≤◌, max, Bool, true, false, ◌&&◌, ◌==◌, nat_le, nat_lt, if◌then◌else◌, find, filter, cond, List, [], ◌∷◌, length, map, Option, Some, None, is_some, Contains, refl, sym, ap, subst, ◌∙◌, ⊎_elim, arith}

@@ -1,5 +1,6 @@
 -- The best word of a search: it is no heavier than any word that is seen, and it is a nonzero word of the code at its place.
 --   first_message, first_listed      the first message of level 1
+--   product_positive           a product of positive numbers
 --   first_phase, first_at_zero       block 0 is in phase 0, and the word at place 0 is the one of that message
 --   not_lighter                what doesn't beat another is no lighter
 --   found_at_most, first_at_most     the best is no heavier than what is found in the blocks, and than the word at place 0
@@ -10,7 +11,7 @@
 --   MessageFound, message_found      the message of a word at a place
 --   word_some                  the word of a message over a systematic matrix isn't zero
 --   place_word                 a word at a place is a nonzero word of the code
---   word_there, best_word      and so is that of the best
+--   best_word                  and so is that of the best
 use Rattle.std.proofs.Common.{◌≡◌, ℕ, zero, suc, ◌+◌, ◌-◌, ◌*◌, ◌/◌, ◌%◌, ◌<◌, ◌≤◌, min, Bool, true, false, ◌&&◌, nat_le, nat_lt, find, cond, List, [], ◌∷◌, length, map, slice_get, Option, Some, None, unwrap_or, is_some, Contains, option_map, refl, sym, ap, subst, ◌∙◌, ⊎_elim, arith}
 use Rattle.std.proofs.lemmas.Bool.{cases_Bool, cases_lt, and_parts, leb-true, ltb-true, false≢true}
 use Rattle.std.proofs.lemmas.Bool.Decides.{nat_tests}
@@ -84,7 +85,7 @@ pub not_lighter : (a b : Found) → beats a b ≡ false → b.weight ≤ a.weigh
 unfolding beats
 not_lighter a b h = grind (arith, nat_tests, h)
 
-best_is : (C : Matrix) (m l : ℕ) → IsLeastOf (found_first C m ∷ found_first C m ∷ found_from C m 0 l) (best C m l)
+pub best_is : (C : Matrix) (m l : ℕ) → IsLeastOf (found_first C m ∷ found_first C m ∷ found_from C m 0 l) (best C m l)
 unfolding best found_below
 best_is C m l = least_is (found_first C m) (found_first C m ∷ found_from C m 0 l)
 
@@ -94,7 +95,7 @@ found_at_most C m l x h = not_lighter x (best C m l) ((best_is C m l).unbeaten x
 pub first_at_most : (C : Matrix) (m l : ℕ) → (best C m l).weight ≤ (found_first C m).weight
 first_at_most C m l = not_lighter (found_first C m) (best C m l) ((best_is C m l).unbeaten (found_first C m) (contains_head (found_first C m) (found_first C m ∷ found_from C m 0 l)))
 
-first_weight : (C : Matrix) (m : ℕ) → (found_first C m).weight ≡ weight (word_of C m 0 first_message)
+pub first_weight : (C : Matrix) (m : ℕ) → (found_first C m).weight ≡ weight (word_of C m 0 first_message)
 unfolding found_first
 first_weight C m = refl
 
@@ -226,7 +227,7 @@ place_word C place w g sets h =
 word_there : (C : Matrix) (x : Found) (w : List ℕ) → AreGenerators C → 0 < set_count C → IsAtPlace C (set_count C) x.place w → weight w ≡ x.weight → HasWord C x
 word_there C x w g sets h e = let t = place_word C x.place w g sets h in record { nonzero = omega (arith, e, t.1); word = (w, h, t.0, e) }
 
-first_place : (C : Matrix) (m : ℕ) → (found_first C m).place ≡ 0
+pub first_place : (C : Matrix) (m : ℕ) → (found_first C m).place ≡ 0
 unfolding found_first
 first_place C m = refl
 

@@ -10,3 +10,4 @@ pub mod GreedyLaws
 pub mod SearchTruth
 pub mod RoundLaws
 pub mod SessionLaws
+pub mod FittingLaws

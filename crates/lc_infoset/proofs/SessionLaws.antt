@@ -10,7 +10,7 @@
 --   fresh_is_true, resumed_is_true      true starts
 --   rounds_underway, rounds_settle, rounds_stop      the laws of rounds, as the contracts say them
 --   session_steps, session_settles, session_stops    and of sessions
-use Rattle.std.proofs.Common.{append-nil, ◌≡◌, ℕ, suc, ◌-◌, ◌<◌, ◌≤◌, Bool, true, false, ◌==◌, if◌then◌else◌, cond, find, drop, slice_index_or, ◌^◌, List, [], ◌∷◌, ◌++◌, length, map, Option, Some, None, unwrap_or, All, Contains, refl, sym, ap, subst, ◌∙◌, ⊎_elim, arith}
+use Rattle.std.proofs.Common.{append-nil, ◌≡◌, ℕ, suc, ◌-◌, ◌<◌, ◌≤◌, Bool, true, false, ◌==◌, if◌then◌else◌, cond, find, drop, ◌^◌, List, [], ◌∷◌, ◌++◌, length, map, Option, Some, None, unwrap_or, All, Contains, refl, sym, ap, subst, ◌∙◌, ⊎_elim, arith}
 use Rattle.std.proofs.lemmas.Bool.{cases_Bool, false≢true, eqb-true}
 use Rattle.std.proofs.lemmas.List.{append_assoc}
 use Rattle.std.proofs.lemmas.List.Elements.{All-head, All-tail, Contains-append_cases}
@@ -20,7 +20,7 @@ use Rattle.lc_algebra.proofs.DivisorLaws.{no_member}
 use Rattle.lc_enumeration.specs.Plan.{cut}
 use Rattle.lc_enumeration.specs.Search.{no_word, is_done, answer_at, answer, finished}
 use Rattle.lc_enumeration.specs.Records.{Progress, Rounds, Start, Step, SessionRounds, found_of, first_progress, progress_of, note_of, rounds, last_state, step_of, no_steps, steps_first, session_from, session_rounds, fresh_start}
-use Rattle.lc_enumeration.specs.Truth.{answer_blocks, IsSettled, AreSettled, IsUnderway, IsUnderwayIf, IsTrueStart, IsTrueStep, start_after}
+use Rattle.lc_enumeration.specs.Truth.{answer_blocks, IsSettled, AreSettled, IsUnderway, IsUnderwayNext, IsTrueStart, IsTrueStep, start_after}
 use Rattle.lc_enumeration.proofs.RecordsLaws.{first_is_best}
 use Rattle.lc_place.proofs.Counting.{cut_is}
 use Rattle.lc_infoset.proofs.AnswerLaws.{some_set}
@@ -67,9 +67,9 @@ first_blocks C = refl
 pub first_underway : (d : ℕ) (C : Matrix) (budget : ℕ) → IsUnderway d C budget (first_progress C)
 first_underway d C budget = record { best = first_is_best C; few = omega (arith, first_blocks C) }
 
-pub state_underway : (d : ℕ) (C : Matrix) (budget : ℕ) (current : Option Progress) → IsUnderwayIf d C budget current → IsUnderway d C budget (unwrap_or current (first_progress C))
-state_underway d C budget None h = first_underway d C budget
-state_underway d C budget (Some s) h = h
+pub state_underway : (divisor : Matrix → ℕ) (C : Matrix) (needs : List Matrix) (budget : ℕ) (current : Option Progress) → IsUnderwayNext divisor budget (C ∷ needs) current → IsUnderway (divisor C) C budget (unwrap_or current (first_progress C))
+state_underway divisor C needs budget None h = first_underway (divisor C) C budget
+state_underway divisor C needs budget (Some s) h = h
 
 pub settled_one_more : (divisor : Matrix → ℕ) (budget : ℕ) (needs : List Matrix) (states : List Progress) (C : Matrix) (s : Progress) → AreSettled divisor budget needs states → IsSettled (divisor C) C budget s → AreSettled divisor budget (needs ++ C ∷ []) (states ++ s ∷ [])
 settled_one_more divisor budget [] [] C s h one = (one, tt)
@@ -134,7 +134,7 @@ ended_is_true divisor needs budget settled left h = record {
   stops = λ t. absurd (false≢true t);
 }
 
-pub session_from_is_true : (divisor : Matrix → ℕ) (rest : List Matrix) (budget : ℕ) (slice : Option ℕ) (settled : List Progress) (current : Option Progress) (before : List Matrix) → HaveRows rest → budget ≤ cut → AreSettled divisor budget before settled → ((C : Matrix) (more : List Matrix) → rest ≡ C ∷ more → IsUnderwayIf (divisor C) C budget current) → TrueSession divisor (before ++ rest) budget (session_from divisor rest budget slice settled current)
+pub session_from_is_true : (divisor : Matrix → ℕ) (rest : List Matrix) (budget : ℕ) (slice : Option ℕ) (settled : List Progress) (current : Option Progress) (before : List Matrix) → HaveRows rest → budget ≤ cut → AreSettled divisor budget before settled → IsUnderwayNext divisor budget rest current → TrueSession divisor (before ++ rest) budget (session_from divisor rest budget slice settled current)
 unfolding session_from
 session_from_is_true divisor [] budget slice settled current before rows small h under =
     subst (λ needs. TrueSession divisor needs budget (no_steps settled slice false)) (sym (append-nil before)) (ended_is_true divisor before budget settled slice h)
@@ -142,13 +142,13 @@ session_from_is_true divisor (C ∷ needs) budget slice settled current before r
     let s = unwrap_or current (first_progress C) in
     let r = rounds (divisor C) C budget slice s in
     let last = last_state s r.states in
-    let e = search_ends (divisor C) C budget slice s (All-head (λ (D : Matrix). 0 < length D.rows) C needs rows) small (state_underway (divisor C) C budget current (under C needs refl)) in
+    let e = search_ends (divisor C) C budget slice s (All-head (λ (D : Matrix). 0 < length D.rows) C needs rows) small (state_underway divisor C needs budget current under) in
     let later = λ (b : Bool). cond b (no_steps settled r.left true) (session_from divisor needs budget r.left (settled ++ last ∷ []) None) in
     let goal = λ (b : Bool). TrueSession divisor (before ++ C ∷ needs) budget (steps_first (map (step_of (divisor C) C settled) r.states) (later b)) in
     ⊎_elim
     (λ t. subst goal (sym t) (add_search divisor budget before C needs settled s r (later true) h e (stopped_is_true divisor (before ++ C ∷ needs) budget settled r.left (e.stops t).1)))
     (λ t.
-    let more = session_from_is_true divisor needs budget r.left (settled ++ last ∷ []) None (before ++ C ∷ []) (All-tail (λ (D : Matrix). 0 < length D.rows) C needs rows) small (settled_one_more divisor budget before settled C last h (e.settles t)) (λ D rest f. tt) in
+    let more = session_from_is_true divisor needs budget r.left (settled ++ last ∷ []) None (before ++ C ∷ []) (All-tail (λ (D : Matrix). 0 < length D.rows) C needs rows) small (settled_one_more divisor budget before settled C last h (e.settles t)) tt in
     subst goal (sym t) (add_search divisor budget before C needs settled s r (later false) h e (subst (λ all. TrueSession divisor all budget (later false)) (append_assoc before (C ∷ []) needs) more)))
     (cases_Bool r.is_stopped)
 
@@ -156,7 +156,7 @@ drop_many : (before after : List Matrix) → drop (length before) (before ++ aft
 drop_many [] after = refl
 drop_many (C ∷ before) after = drop_many before after
 
-rows_after : (before after : List Matrix) → HaveRows (before ++ after) → HaveRows after
+pub rows_after : (before after : List Matrix) → HaveRows (before ++ after) → HaveRows after
 rows_after [] after h = h
 rows_after (C ∷ before) after h = rows_after before after (All-tail (λ (D : Matrix). 0 < length D.rows) C (before ++ after) h)
 
@@ -176,7 +176,7 @@ fresh_is_true divisor needs budget = record {
   after = needs;
   split = refl;
   settled = tt;
-  current = λ C rest e. tt;
+  current = tt;
 }
 
 pub resumed_is_true : (divisor : Matrix → ℕ) (needs : List Matrix) (budget : ℕ) (step : Step) → IsTrueStep divisor needs budget step → IsTrueStart divisor needs budget (start_after step)
@@ -186,7 +186,7 @@ resumed_is_true divisor needs budget step h = record {
   after = h.code ∷ h.after;
   split = h.split;
   settled = h.settled;
-  current = λ C rest e. subst (λ (D : Matrix). IsUnderway (divisor D) D budget step.state) (ap (λ (xs : List Matrix). slice_index_or xs 0 h.code) e) h.underway;
+  current = h.underway;
 }
 
 at_most_cut : (budget : ℕ) → budget ≤ 2 ^ 40 → budget ≤ cut

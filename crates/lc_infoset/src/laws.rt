@@ -11,7 +11,8 @@ ghost use Rattle.lc_algebra.specs.SpanLaws.{restrict};
 ghost use Rattle.lc_algebra.specs.Divisor.{IsDivisible, divisor_of};
 ghost use Rattle.lc_enumeration.specs.InformationSet.{systematic};
 ghost use Rattle.lc_enumeration.specs.Search.{set_count, generator_at, best, levels_below, bound, is_done, answer, finished};
-ghost use Rattle.lc_enumeration.specs.Records.{Progress, Start, Step, found_of, rounds, last_state, fresh_start, session_rounds};
+ghost use Rattle.lc_enumeration.specs.Records.{Progress, Start, Step, found_of, rounds, last_state, fresh_start, session_rounds, IsBestAt};
+ghost use Rattle.lc_enumeration.specs.Fitting.{used_start, misfit};
 ghost use Rattle.lc_enumeration.specs.Truth.{IsSeenBelow, HasWord, AnswerHolds, IsSettled, AreSettled, IsUnderway, IsTrueStart, IsTrueStep, start_after};
 ghost use Rattle.lc_infoset.specs.Bound.{LevelSet, AreLevelSets, IsUnseen, IsNoMultiple, set_bound, set_at};
 
@@ -78,4 +79,19 @@ pub fn true_starts_have_true_steps()
     ensures stopped { (divisor : Matrix → ℕ) (needs : List Matrix) (budget : ℕ) (slice : Option ℕ) (start : Start) → All (λ (C : Matrix). 0 < length C.rows) needs → budget ≤ 2 ^ 40 → IsTrueStart divisor needs budget start → (session_rounds divisor needs budget slice start).is_stopped ≡ true → (session_rounds divisor needs budget slice start).left ≡ Some 0 }
     ensures fresh { (divisor : Matrix → ℕ) (needs : List Matrix) (budget : ℕ) → IsTrueStart divisor needs budget fresh_start }
     ensures resumed { (divisor : Matrix → ℕ) (needs : List Matrix) (budget : ℕ) (step : Step) → IsTrueStep divisor needs budget step → IsTrueStart divisor needs budget (start_after step) }
+{}
+
+/// The records of a true checkpoint fit the needs of the script: there is no misfit. A settled need has the
+/// best word after the blocks of its answer.
+pub fn true_checkpoints_fit()
+    ensures fits { (divisor : Matrix → ℕ) (needs : List Matrix) (budget : ℕ) (start : Start) → All (λ (C : Matrix). 0 < length C.rows) needs → IsTrueStart divisor needs budget start → misfit divisor needs budget start ≡ None }
+    ensures settled { (d : ℕ) (C : Matrix) (budget : ℕ) (s : Progress) → 0 < length C.rows → IsSettled d C budget s → IsBestAt C s }
+{}
+
+/// A checkpoint of version 1 is true if its records are those of searches with 1 for each divisor. The
+/// start that uses it is then true for the codes' own divisors, of whatever needs. A checkpoint of
+/// version 2 is used whole.
+pub fn version_one_starts_are_true()
+    ensures one { (divisor : Matrix → ℕ) (needs : List Matrix) (budget : ℕ) (settled : List Progress) (current : Progress) → ((C : Matrix) → 1 ≤ divisor C) → IsTrueStart (λ C. 1) needs budget (record { settled = settled; current = Some current }) → IsTrueStart divisor needs budget (used_start divisor needs 1 settled current) }
+    ensures two { (divisor : Matrix → ℕ) (needs : List Matrix) (settled : List Progress) (current : Progress) → used_start divisor needs 2 settled current ≡ record { settled = settled; current = Some current } }
 {}

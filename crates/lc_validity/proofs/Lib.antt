@@ -1,0 +1,3 @@
+pub mod DependentLaws
+pub mod ValidityLaws
+pub mod StartLaws
