@@ -139,58 +139,58 @@ kept_zero : (t : Bool) (u : List ℕ) → u ≡ zero_word (length u) → cond t 
 kept_zero true u e = e
 kept_zero false u e = ap (λ t. 0 ∷ t) e
 
-without_from_sum : (f : FieldName) (i : ℕ) (places u v : List ℕ) → length u ≡ length v → word_sum f (without_from i places u) (without_from i places v) ≡ without_from i places (word_sum f u v)
+without_from_sum : (f : FieldName) (i : ℕ) (coordinates u v : List ℕ) → length u ≡ length v → word_sum f (without_from i coordinates u) (without_from i coordinates v) ≡ without_from i coordinates (word_sum f u v)
 unfolding without_from word_sum
-without_from_sum f i places [] [] e = refl
-without_from_sum f i places [] (b ∷ v) e = absurd (omega (arith, e))
-without_from_sum f i places (a ∷ u) [] e = absurd (omega (arith, e))
-without_from_sum f i places (a ∷ u) (b ∷ v) e =
-    kept_sum f (list_any (λ p. i == p) places) a b (without_from (suc i) places u) (without_from (suc i) places v) (without_from (suc i) places (word_sum f u v)) (without_from_sum f (suc i) places u v (omega (arith, e)))
+without_from_sum f i coordinates [] [] e = refl
+without_from_sum f i coordinates [] (b ∷ v) e = absurd (omega (arith, e))
+without_from_sum f i coordinates (a ∷ u) [] e = absurd (omega (arith, e))
+without_from_sum f i coordinates (a ∷ u) (b ∷ v) e =
+    kept_sum f (list_any (λ p. i == p) coordinates) a b (without_from (suc i) coordinates u) (without_from (suc i) coordinates v) (without_from (suc i) coordinates (word_sum f u v)) (without_from_sum f (suc i) coordinates u v (omega (arith, e)))
 
-without_from_scale : (f : FieldName) (c i : ℕ) (places u : List ℕ) → scale f c (without_from i places u) ≡ without_from i places (scale f c u)
+without_from_scale : (f : FieldName) (c i : ℕ) (coordinates u : List ℕ) → scale f c (without_from i coordinates u) ≡ without_from i coordinates (scale f c u)
 unfolding without_from scale
-without_from_scale f c i places [] = refl
-without_from_scale f c i places (a ∷ u) = kept_scale f (list_any (λ p. i == p) places) c a (without_from (suc i) places u) (without_from (suc i) places (scale f c u)) (without_from_scale f c (suc i) places u)
+without_from_scale f c i coordinates [] = refl
+without_from_scale f c i coordinates (a ∷ u) = kept_scale f (list_any (λ p. i == p) coordinates) c a (without_from (suc i) coordinates u) (without_from (suc i) coordinates (scale f c u)) (without_from_scale f c (suc i) coordinates u)
 
-without_from_zero : (i : ℕ) (places : List ℕ) (n : ℕ) → without_from i places (zero_word n) ≡ zero_word (length (without_from i places (zero_word n)))
+without_from_zero : (i : ℕ) (coordinates : List ℕ) (n : ℕ) → without_from i coordinates (zero_word n) ≡ zero_word (length (without_from i coordinates (zero_word n)))
 unfolding without_from
-without_from_zero i places zero = refl
-without_from_zero i places (suc n) = kept_zero (list_any (λ p. i == p) places) (without_from (suc i) places (zero_word n)) (without_from_zero (suc i) places n)
+without_from_zero i coordinates zero = refl
+without_from_zero i coordinates (suc n) = kept_zero (list_any (λ p. i == p) coordinates) (without_from (suc i) coordinates (zero_word n)) (without_from_zero (suc i) coordinates n)
 
-pub without_sum : (f : FieldName) (places u v : List ℕ) → length u ≡ length v → word_sum f (without places u) (without places v) ≡ without places (word_sum f u v)
+pub without_sum : (f : FieldName) (coordinates u v : List ℕ) → length u ≡ length v → word_sum f (without coordinates u) (without coordinates v) ≡ without coordinates (word_sum f u v)
 unfolding without
-without_sum f places u v e = without_from_sum f 0 places u v e
+without_sum f coordinates u v e = without_from_sum f 0 coordinates u v e
 
-pub without_scale : (f : FieldName) (c : ℕ) (places u : List ℕ) → scale f c (without places u) ≡ without places (scale f c u)
+pub without_scale : (f : FieldName) (c : ℕ) (coordinates u : List ℕ) → scale f c (without coordinates u) ≡ without coordinates (scale f c u)
 unfolding without
-without_scale f c places u = without_from_scale f c 0 places u
+without_scale f c coordinates u = without_from_scale f c 0 coordinates u
 
-pub without_zero : (places : List ℕ) (n : ℕ) → without places (zero_word n) ≡ zero_word (length (without places (zero_word n)))
+pub without_zero : (coordinates : List ℕ) (n : ℕ) → without coordinates (zero_word n) ≡ zero_word (length (without coordinates (zero_word n)))
 unfolding without
-without_zero places n = without_from_zero 0 places n
+without_zero coordinates n = without_from_zero 0 coordinates n
 
-pub punctured_closed : (C : Matrix) (places : List ℕ) (m : ℕ) → AreRows C.field C.columns C.rows → length (without places (zero_word C.columns)) ≡ m → IsClosed C.field m (InPunctured C places)
-punctured_closed C places m r k =
+pub punctured_closed : (C : Matrix) (coordinates : List ℕ) (m : ℕ) → AreRows C.field C.columns C.rows → length (without coordinates (zero_word C.columns)) ≡ m → IsClosed C.field m (InPunctured C coordinates)
+punctured_closed C coordinates m r k =
     let f = C.field in
     let n = C.columns in
     record {
-      zero = (zero_word n, span_zero f n C.rows r, sym (without_zero places n ∙ ap zero_word k));
+      zero = (zero_word n, span_zero f n C.rows r, sym (without_zero coordinates n ∙ ap zero_word k));
       sums = λ w z a b p q.
           let e : length p.0 ≡ length q.0 = code_word C p.0 r p.1 ∙ sym (code_word C q.0 r q.1) in
-          (word_sum f p.0 q.0, span_sum f n C.rows p.0 q.0 p.1 q.1, ap₂ (word_sum f) p.2 q.2 ∙ without_sum f places p.0 q.0 e);
-      multiples = λ c w l a p. (scale f c p.0, span_scale f n C.rows c p.0 p.1, ap (scale f c) p.2 ∙ without_scale f c places p.0);
+          (word_sum f p.0 q.0, span_sum f n C.rows p.0 q.0 p.1 q.1, ap₂ (word_sum f) p.2 q.2 ∙ without_sum f coordinates p.0 q.0 e);
+      multiples = λ c w l a p. (scale f c p.0, span_scale f n C.rows c p.0 p.1, ap (scale f c) p.2 ∙ without_scale f c coordinates p.0);
     }
 
-pub shortened_closed : (C : Matrix) (places : List ℕ) (m : ℕ) → AreRows C.field C.columns C.rows → length (without places (zero_word C.columns)) ≡ m → IsClosed C.field m (InShortened C places)
-shortened_closed C places m r k =
+pub shortened_closed : (C : Matrix) (coordinates : List ℕ) (m : ℕ) → AreRows C.field C.columns C.rows → length (without coordinates (zero_word C.columns)) ≡ m → IsClosed C.field m (InShortened C coordinates)
+shortened_closed C coordinates m r k =
     let f = C.field in
     let n = C.columns in
     record {
-      zero = (zero_word n, span_zero f n C.rows r, (λ i d l. index_zero_word n _), sym (without_zero places n ∙ ap zero_word k));
+      zero = (zero_word n, span_zero f n C.rows r, (λ i d l. index_zero_word n _), sym (without_zero coordinates n ∙ ap zero_word k));
       sums = λ w z a b p q.
           let e : length p.0 ≡ length q.0 = code_word C p.0 r p.1 ∙ sym (code_word C q.0 r q.1) in
-          (word_sum f p.0 q.0, span_sum f n C.rows p.0 q.0 p.1 q.1, (λ i d l. index_word_sum f p.0 q.0 _ e ∙ ap₂ (add f) (p.2 i d l) (q.2 i d l) ∙ zero_add f 0 (zero_inside f)), ap₂ (word_sum f) p.3 q.3 ∙ without_sum f places p.0 q.0 e);
-      multiples = λ c w l a p. (scale f c p.0, span_scale f n C.rows c p.0 p.1, (λ i d k. index_scale f c p.0 _ ∙ ap (mul f c) (p.2 i d k) ∙ mul_zero f c), ap (scale f c) p.3 ∙ without_scale f c places p.0);
+          (word_sum f p.0 q.0, span_sum f n C.rows p.0 q.0 p.1 q.1, (λ i d l. index_word_sum f p.0 q.0 _ e ∙ ap₂ (add f) (p.2 i d l) (q.2 i d l) ∙ zero_add f 0 (zero_inside f)), ap₂ (word_sum f) p.3 q.3 ∙ without_sum f coordinates p.0 q.0 e);
+      multiples = λ c w l a p. (scale f c p.0, span_scale f n C.rows c p.0 p.1, (λ i d k. index_scale f c p.0 _ ∙ ap (mul f c) (p.2 i d k) ∙ mul_zero f c), ap (scale f c) p.3 ∙ without_scale f c coordinates p.0);
     }
 
 -- ---- direct sums and (u | u + v)

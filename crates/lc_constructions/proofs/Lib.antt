@@ -9,6 +9,7 @@ pub mod LocatorLaws
 pub mod InverseLaws
 pub mod ExpansionLaws
 pub mod ClosedLaws
+pub mod WithoutLaws
 pub mod GoppaLaws
 pub mod FormLaws
 pub mod CosetLaws

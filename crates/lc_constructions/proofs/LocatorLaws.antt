@@ -1,6 +1,7 @@
 -- The locator field of a BCH code is the least field that holds the symbol field and an element of order n.
 --   each_field             the list of fields has each of them
 --   holds_order            a field passes the test exactly if it is such a field
+--   rising_head, rising_tail      the entries of a rising list
 --   find_passes, find_first, find_nothing      what is found in a list of rising fields
 --   locator_is             the field that the test finds is the least one, and the least one is found
 --   no_locator             none is found exactly if there is none
@@ -56,7 +57,7 @@ rising_fields : is_rising (map size all_fields) ≡ true
 unfolding shape shape_of size all_fields is_rising
 rising_fields = refl
 
-rising_head : (a : ℕ) (xs : List ℕ) (b : ℕ) → is_rising (a ∷ xs) ≡ true → Contains xs b → a < b
+pub rising_head : (a : ℕ) (xs : List ℕ) (b : ℕ) → is_rising (a ∷ xs) ≡ true → Contains xs b → a < b
 unfolding is_rising
 rising_head a [] b h c = absurd (omega (arith, c.1))
 rising_head a (x ∷ xs) b h c =
@@ -64,7 +65,7 @@ rising_head a (x ∷ xs) b h c =
     let l : a < x = ltb-true a x t.0 in
     ⊎_elim (λ e. omega (arith, l, e)) (λ k. omega (arith, l, rising_head x xs b t.1 k)) (contains_cases x b xs c)
 
-rising_tail : (a : ℕ) (xs : List ℕ) → is_rising (a ∷ xs) ≡ true → is_rising xs ≡ true
+pub rising_tail : (a : ℕ) (xs : List ℕ) → is_rising (a ∷ xs) ≡ true → is_rising xs ≡ true
 unfolding is_rising
 rising_tail a [] h = refl
 rising_tail a (x ∷ xs) h = (and_parts (nat_lt a x) (is_rising (x ∷ xs)) h).1

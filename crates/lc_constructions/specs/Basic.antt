@@ -10,8 +10,8 @@
 --   hamming_columns q r          the lists of r elements that begin so: a column for each point of the projective space
 --   hamming_checks q r           the matrix with these columns: its r rows
 --   hamming_length q r           (q^r - 1) / (q - 1), the number of columns
---   monomial m vs                the values, at the places 0 to 2^m - 1, of the product of the variables vs: 1 where all of them are 1.
---                                The variable v is bit v of the place; the empty product is 1
+--   monomial m vs                the values, at the coordinates 0 to 2^m - 1, of the product of the variables vs: 1 if all of them are 1.
+--                                The variable v is bit v of the coordinate; the empty product is 1
 --   subsets vs r                 the parts of the list with at most r members
 --   reed_muller_rows r m         the values of all products of at most r different variables among m
 use Rattle.std.specs.Prelude.{◌≡◌, ℕ, zero, suc, ◌-◌, ◌/◌, ◌%◌, ◌^◌, ◌<◌, ◌==◌, if◌then◌else◌, Bool, not, find, filter, unwrap_or, List, [], ◌∷◌, ◌++◌, length, map, flat_map, slice_index, ⊤}

@@ -16,11 +16,12 @@ ghost use Rattle.lc_constructions.specs.Basic.{all_lists, hamming_columns};
 ghost use Rattle.lc_constructions.specs.Cyclic.{IsLocatorField, locator_field, IsBchWord, IsReedSolomonWord};
 ghost use Rattle.lc_constructions.specs.Alternant.{AlternantForm, IsForm, IsFormOf, inverse, IsAlternantWord, IsGoppaWord, goppa_form, bch_form};
 ghost use Rattle.lc_constructions.specs.Goppa.{AreCongruent, AreFractions, fraction_sum, IsGoppaWordByFractions};
-ghost use Rattle.lc_constructions.specs.Combined.{InDual, InExtended, without, InPunctured, InShortened, InEvenWeight, InDirectSum, InUuv, InDirectProduct, InIntersection};
+ghost use Rattle.lc_constructions.specs.Combined.{InDual, InExtended, InPunctured, InShortened, InEvenWeight, InDirectSum, InUuv, InDirectProduct, InIntersection};
 ghost use Rattle.lc_constructions.specs.Concatenated.{IsExpansion, InConcatenated};
 ghost use Rattle.lc_constructions.specs.Coset.{AreInOneCoset, IsLeader, syndrome, IsParityCheck, IsLeaderTable};
 ghost use Rattle.lc_constructions.specs.Nearest.{IsNearest, IsWithin, IsDecoded};
-ghost use Rattle.lc_constructions.specs.Refusals.{degree_over};
+ghost use Rattle.lc_constructions.specs.Refusals.{degree_over, deleted_refusals};
+ghost use Rattle.lc_constructions.specs.Refusal.{first_refusal};
 
 use lc_algebra::FieldName;
 
@@ -48,8 +49,8 @@ pub fn alternant_words_are_heavy()
 pub fn combined_codes_are_linear()
     ensures dual { (C : Matrix) → IsClosed C.field C.columns (InDual C) }
     ensures extended { (C : Matrix) → AreRows C.field C.columns C.rows → IsClosed C.field (C.columns + 1) (InExtended C) }
-    ensures punctured { (C : Matrix) (places : List ℕ) (m : ℕ) → AreRows C.field C.columns C.rows → length (without places (zero_word C.columns)) ≡ m → IsClosed C.field m (InPunctured C places) }
-    ensures shortened { (C : Matrix) (places : List ℕ) (m : ℕ) → AreRows C.field C.columns C.rows → length (without places (zero_word C.columns)) ≡ m → IsClosed C.field m (InShortened C places) }
+    ensures punctured { (C : Matrix) (coordinates : List ℕ) → AreRows C.field C.columns C.rows → first_refusal (deleted_refusals C coordinates) ≡ None → IsClosed C.field (C.columns - length coordinates) (InPunctured C coordinates) }
+    ensures shortened { (C : Matrix) (coordinates : List ℕ) → AreRows C.field C.columns C.rows → first_refusal (deleted_refusals C coordinates) ≡ None → IsClosed C.field (C.columns - length coordinates) (InShortened C coordinates) }
     ensures even_weight { (C : Matrix) → AreRows C.field C.columns C.rows → C.field ≡ Gf2 → IsClosed C.field C.columns (InEvenWeight C) }
     ensures direct_sum { (C D : Matrix) → AreRows C.field C.columns C.rows → AreRows D.field D.columns D.rows → C.field ≡ D.field → IsClosed C.field (C.columns + D.columns) (InDirectSum C D) }
     ensures uuv { (C D : Matrix) → AreRows C.field C.columns C.rows → AreRows D.field D.columns D.rows → C.field ≡ D.field → C.columns ≡ D.columns → IsClosed C.field (C.columns + D.columns) (InUuv C D) }
@@ -92,8 +93,8 @@ pub fn leaders_give_nearest_words()
         IsNearest C x (difference C.field x (slice_index_or leaders (number (size C.field) (syndrome C.field checks x)) [])) }
 {}
 
-/// A word is in a Goppa code exactly if the sum of w_i / (x - a_i) is 0 modulo the Goppa polynomial, whichever polynomials stand for
-/// these fractions. The polynomial is given without last zeros and is 0 at no point. (MacWilliams and Sloane, chapter 12.)
+/// A word is in a Goppa code exactly if the sum of w_i / (x - a_i) is 0 modulo the Goppa polynomial, whichever polynomials are
+/// taken for these fractions. The polynomial is given without last zeros and is 0 at no point. (MacWilliams and Sloane, chapter 12.)
 pub fn goppa_codes_by_fractions(field: FieldName, locator: FieldName)
     ensures some { (g points w : List ℕ) → IsPolynomial locator g → 0 < length g → ((a : ℕ) → Contains points a → 0 < value_at locator g a) → IsGoppaWord field locator g points w ↔ IsGoppaWordByFractions field locator g points w }
     ensures any { (g points w : List ℕ) (hs : List (List ℕ)) → IsPolynomial locator g → 0 < length g → ((a : ℕ) → Contains points a → 0 < value_at locator g a) → AreFractions locator g points hs →
