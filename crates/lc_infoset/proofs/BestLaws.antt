@@ -53,7 +53,7 @@ first_of (suc k) q l = first_listed k q
 level_of_first : (m : ℕ) → 0 < m → phase_level m 0 ≡ 1
 level_of_first m l = let e : 0 * m + 0 ≡ 0 = omega arith in subst (λ p. phase_level m p ≡ 1) e (phase_of_level m 0 0 l)
 
-no_blocks : (k q m : ℕ) → blocks_before k q m 0 ≡ 0
+pub no_blocks : (k q m : ℕ) → blocks_before k q m 0 ≡ 0
 unfolding blocks_before
 no_blocks k q m = refl
 

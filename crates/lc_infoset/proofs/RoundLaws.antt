@@ -158,7 +158,7 @@ first_done d C budget y m t =
     let f = find_some (is_done d C) (done_list C budget) y m t in
     (f.0, f.1, find_least (is_done d C) (done_list C budget) f.0 y (done_list_rises C budget) f.1 m t)
 
-in_list : (C : Matrix) (budget l : ℕ) → Contains (ends_of C) l → l ≤ budget → Contains (done_list C budget) l
+pub in_list : (C : Matrix) (budget l : ℕ) → Contains (ends_of C) l → l ≤ budget → Contains (done_list C budget) l
 in_list C budget l m few = contains_tail 0 l (ends_to C budget) (filter_keeps (λ e. nat_le e budget) (ends_of C) l m (le-leb l budget few))
 
 may_is : (C : Matrix) (l : ℕ) → may_end C l ≡ ((l == 0) || (is_member (ends_of C) l || (nat_lt (plan_end C) cut && nat_lt (total (length C.rows) (size C.field) (set_count C)) l)))
