@@ -9,6 +9,7 @@ pub mod GreedyLaws
 pub mod MemberLaws
 pub mod NearExamples
 pub mod PlanExamples
+pub mod PlanLaws
 pub mod RecordsExamples
 pub mod RecordsLaws
 pub mod SearchExamples
