@@ -1,6 +1,7 @@
 -- The best word of a search: it is no heavier than any word that is seen, and it is a nonzero word of the code at its place.
 --   first_message, first_listed      the first message of level 1
 --   product_positive           a product of positive numbers
+--   no_blocks                  no blocks are before phase 0
 --   first_phase, first_at_zero       block 0 is in phase 0, and the word at place 0 is the one of that message
 --   first_weight, first_place  its weight and its place
 --   best_is                    the best is the least of what is found

@@ -12,3 +12,4 @@ pub mod RoundLaws
 pub mod SessionLaws
 pub mod FittingLaws
 pub mod PlanCount
+pub mod ClaimLaws

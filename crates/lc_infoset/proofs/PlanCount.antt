@@ -4,7 +4,7 @@
 --   binomial                   the binomial theorem for r + 1
 --   counts, counts_are, all_counts      the numbers of messages of the levels 1 to e; for e = k they are (q^k - 1)/(q - 1)
 --   blocks_few, blocks_fewer   a level has at most as many blocks as messages, and fewer from two messages on
---   plan_few, choose_first, plan_fewer      so the plan has at most m times as many blocks, and fewer for k of at least 2
+--   plan_few, plan_fewer      so the plan has at most m times as many blocks, and fewer for k of at least 2
 --   set_count_few              there are at most n + 1 information sets
 --   plan_within                the plan ends below the cut and within such a budget
 --   whole_budget               a budget of as many blocks gives an exact answer

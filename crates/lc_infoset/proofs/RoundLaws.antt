@@ -4,7 +4,7 @@
 --   plan_end                   how many blocks the phases of a plan have
 --   end_at, end_in_ends        the phase ends of a plan
 --   end_listed, end_done       a plan's end below the cut is a phase end, at which the search is done
---   done_list, first_done      the least number of blocks at which the search is done
+--   done_list, in_list, first_done      the least number of blocks at which the search is done
 --   may_end_done, done_may_end      a state that may be exact, and is, isn't before it; at a phase end it may be
 --   target, Reached, reached   the blocks of the answer; there the search is finished with it, and not before
 --   some_crossing              the phase that the cut ends

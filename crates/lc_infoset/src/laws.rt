@@ -3,19 +3,19 @@
 //! Each function proves what its clauses say, for every field, every code and every number of blocks, and
 //! does nothing when it is run. (Grassl, Searching for linear codes with large minimum distance.)
 
-ghost use Rattle.std.specs.Prelude.{◌≡◌, ◌≢◌, ℕ, ◌-◌, ◌*◌, ◌/◌, ◌<◌, ◌≤◌, min, true, false, ◌^◌, List, length, map, Option, Some, None, All, AllPairs, Contains};
+ghost use Rattle.std.specs.Prelude.{◌≡◌, ◌≢◌, ℕ, ◌-◌, ◌*◌, ◌/◌, ◌<◌, ◌≤◌, min, max, true, false, ◌^◌, List, length, map, Option, Some, None, All, AllPairs, Contains};
 ghost use Rattle.lc_algebra.specs.Field.{size};
 ghost use Rattle.lc_algebra.specs.Word.{weight};
 ghost use Rattle.lc_algebra.specs.Span.{AreIndependent, InSpan, IsDistance};
 ghost use Rattle.lc_algebra.specs.Matrix.{Matrix, AreRows, IsSystematic};
 ghost use Rattle.lc_algebra.specs.SpanLaws.{restrict};
-ghost use Rattle.lc_algebra.specs.Divisor.{IsDivisible, divisor_of};
+ghost use Rattle.lc_algebra.specs.Divisor.{IsDivisible, divisor_of, rounded};
 ghost use Rattle.lc_enumeration.specs.InformationSet.{systematic};
 ghost use Rattle.lc_enumeration.specs.Search.{Found, exact, set_count, generator_at, best, levels_below, bound, is_done, answer, finished};
 ghost use Rattle.lc_enumeration.specs.Records.{Progress, Start, Step, found_of, rounds, last_state, fresh_start, session_rounds, IsBestAt};
 ghost use Rattle.lc_enumeration.specs.Fitting.{used_start, misfit};
 ghost use Rattle.lc_enumeration.specs.Truth.{IsSeenBelow, HasWord, AnswerHolds, IsSettled, AreSettled, IsUnderway, IsTrueStart, IsTrueStep, start_after};
-ghost use Rattle.lc_infoset.specs.Bound.{LevelSet, AreLevelSets, IsUnseen, IsNoMultiple, set_bound, set_at};
+ghost use Rattle.lc_infoset.specs.Bound.{LevelSet, AreLevelSets, IsUnseen, IsNoMultiple, SeenAtLeast, set_bound, set_at};
 
 use lc_algebra::FieldName;
 
@@ -26,6 +26,15 @@ pub fn unseen_words_are_heavy(field: FieldName)
     ensures heavy { (n k : ℕ) (rows : List (List ℕ)) (sets : List LevelSet) (c : List ℕ) → AreRows field n rows → AreLevelSets field n k rows sets → InSpan field n rows c → 0 < weight c → All (IsUnseen field n c) sets → set_bound k sets ≤ weight c }
     ensures none { (n k : ℕ) (rows : List (List ℕ)) (sets : List LevelSet) (c : List ℕ) → AreLevelSets field n k rows sets → InSpan field n rows c → 0 < weight c → All (IsUnseen field n c) sets → (s : LevelSet) → Contains sets s → k ≤ s.level → ⊥ }
     ensures multiples { (n : ℕ) (c : List ℕ) (s : LevelSet) → IsNoMultiple field n c s → IsUnseen field n c s }
+{}
+
+/// If no nonzero word of the messages of the sets' levels is lighter than d, no nonzero word of the code is
+/// lighter than d and than what the levels give, also rounded up to a multiple of a number that divides
+/// all weights; and if some level is k, none is lighter than d.
+pub fn seen_words_bound_the_code(field: FieldName)
+    ensures bound { (n k d : ℕ) (rows : List (List ℕ)) (sets : List LevelSet) (c : List ℕ) → AreRows field n rows → AreLevelSets field n k rows sets → All (SeenAtLeast field n d) sets → InSpan field n rows c → 0 < weight c → min d (set_bound k sets) ≤ weight c }
+    ensures rounded { (n k d g : ℕ) (rows : List (List ℕ)) (sets : List LevelSet) (c : List ℕ) → AreRows field n rows → AreLevelSets field n k rows sets → All (SeenAtLeast field n d) sets → 0 < g → IsDivisible field n rows g → InSpan field n rows c → 0 < weight c → min d (rounded g (max 1 (set_bound k sets))) ≤ weight c }
+    ensures whole { (n k d : ℕ) (rows : List (List ℕ)) (sets : List LevelSet) (c : List ℕ) → AreLevelSets field n k rows sets → All (SeenAtLeast field n d) sets → InSpan field n rows c → 0 < weight c → (s : LevelSet) → Contains sets s → k ≤ s.level → d ≤ weight c }
 {}
 
 /// Rows that are independent on a set of as many columns have a systematic matrix on it. The sets of a
