@@ -244,7 +244,7 @@ object_shaped None h = refused_shaped (broken 1)
 object_shaped (Some ms) h =
     either_way (is_some (provided (λ v. v == 1) (number_at (codes "version") ms))) (closed ms (field_in ms (field_at ms))) (refused_as (broken 2)) (λ e. closed_shaped ms (field_in ms (field_at ms)) (field_shaped ms (h ms refl) (field_at ms) refl)) (λ e. refused_shaped (broken 2))
 
-data_shaped : (o : Option Data) → ((d : Data) → o ≡ Some d → AreFit d) → IsShapedRead (data_in o)
+pub data_shaped : (o : Option Data) → ((d : Data) → o ≡ Some d → AreFit d) → IsShapedRead (data_in o)
 unfolding data_in
 data_shaped None h = refused_shaped not_json
 data_shaped (Some d) h = object_shaped (as_object d) (λ ms e. object_fits d ms (h d refl) e)

@@ -12,6 +12,7 @@ pub mod CheckExamples
 pub mod Plainly
 pub mod CheckTextExamples
 pub mod DocumentBack
+pub mod DocumentShaped
 pub mod ClaimLaws
 pub mod CodeTests
 pub mod ClaimExamples
