@@ -115,3 +115,120 @@ claim_ruled (suc most) f ms claim s fits e =
     option_and_then_some (claim_of_kind f ms part) (kind_at ms) claim e (λ kind kind_is made.
     kind_ruled f ms part kind claim s fits (λ g key c symbol there.
     option_and_then_some (claim_from most g) (object_at key ms) c there (λ inner inner_is read. claim_ruled most g inner c symbol (object_at_fits key ms inner fits inner_is) read)) made)
+
+-- each row is short and over the field
+rows_limited : (f : FieldName) (rows : List (List ℕ)) → All (Fits f) rows → list_any (λ row. above (length row)) rows ≡ false → All (λ row. (length row ≤ longest) × Fits f row) rows
+rows_limited f [] a e = λ k d l. absurd (omega (arith, l))
+rows_limited f (row ∷ rows) a e =
+    let s = or_false (above (length row)) (list_any (λ row. above (length row)) rows) e in
+    All-cons (λ row. (length row ≤ longest) × Fits f row) row rows (is_below_limit (length row) s.0, All-head (Fits f) row rows a) (rows_limited f rows (All-tail (Fits f) row rows a) s.1)
+
+pub claim_limited : (f : FieldName) (claim : Claim) → HasClaimRules f claim → is_long claim ≡ false → IsShapedClaim f claim
+unfolding is_long
+claim_limited f (search c) h e = (h.0, limited c h.1 e)
+claim_limited f (alternant locator points multipliers r) h e =
+    let s = or_false (above (length points)) (above (length multipliers)) e in
+    (h.0, (is_below_limit (length points) s.0, h.1), (is_below_limit (length multipliers) s.1, h.2), h.3)
+claim_limited f (pair kind left right) h e =
+    let s = or_false (is_long left) (is_long right) e in
+    (claim_limited f left h.0 s.0, claim_limited f right h.1 s.1)
+claim_limited f (concat large outer inner) h e =
+    let s = or_false (is_long outer) (is_long inner) e in
+    (h.0, h.1, h.2, claim_limited h.0 outer h.3 s.0, claim_limited f inner h.4 s.1)
+claim_limited f (subcode of rows) h e =
+    let s = or_false (is_long of) (above (length rows) || list_any (λ row. above (length row)) rows) e in
+    let t = or_false (above (length rows)) (list_any (λ row. above (length row)) rows) s.1 in
+    (claim_limited f of h.0 s.0, is_below_limit (length rows) t.0, rows_limited f rows h.1 t.1)
+claim_limited f (at_places kind of places) h e =
+    let s = or_false (is_long of) (above (length places)) e in
+    (claim_limited f of h.0 s.0, is_below_limit (length places) s.1, h.1)
+claim_limited f (extend of) h e = claim_limited f of h e
+
+abbrev pub IsShapedDocument : Document → Type 0
+IsShapedDocument (plain c) = IsShaped c
+IsShapedDocument (tree b) = IsShapedTree b
+
+abbrev AreShapedReads : DocumentRead → Type 0
+AreShapedReads r = (x : Document) → r ≡ document x → IsShapedDocument x
+
+refused_document : (r : Reason) → AreShapedReads (no_document r)
+refused_document r x e = absurd cc
+
+either_document : (b : Bool) (x y : DocumentRead) → (b ≡ true → AreShapedReads x) → (b ≡ false → AreShapedReads y) → AreShapedReads (if b then x else y)
+either_document true x y h k = h refl
+either_document false x y h k = k refl
+
+same_document : (x y : Document) → document x ≡ document y → x ≡ y
+same_document x y e = cc e
+
+plain_shaped : (r : CertificateRead) → ((c : Certificate) → r ≡ reads_as c → IsShaped c) → AreShapedReads (plain_read r)
+unfolding plain_read
+plain_shaped (reads_as c) h x e = subst IsShapedDocument {x = plain c} (same_document (plain c) x e) (h c refl)
+plain_shaped (refused_as r) h x e = absurd cc
+
+closed_tree : (ms : Members) (b : Built) → (is_tree_beyond_limit b ≡ false → IsShapedTree b) → AreShapedReads (tree_closed ms b)
+unfolding tree_closed
+closed_tree ms b h =
+    either_document (not ((member_count ms == 5) && all_of (are_closed (members_depth ms)) (object_at (codes "claim") ms))) (no_document (broken 11)) (if is_tree_beyond_limit b then no_document limit else document (tree b)) (λ e. refused_document (broken 11))
+    (λ e. either_document (is_tree_beyond_limit b) (no_document limit) (document (tree b)) (λ k. refused_document limit)
+    (λ k x same. subst IsShapedDocument {x = tree b} (same_document (tree b) x same) (h k)))
+
+tree_limited : (f : FieldName) (claim : Claim) (word : List ℕ) (d : ℕ) → is_symbol f ≡ true → HasClaimRules f claim → 1 ≤ length word → Fits f word → 1 ≤ d → d < 2 ^ 64 → is_tree_beyond_limit (built_over f claim word d) ≡ false → IsShapedTree (built_over f claim word d)
+unfolding is_tree_beyond_limit built_over
+tree_limited f claim word d s rules some fits positive small e =
+    let one = or_false (above (length word)) (is_long claim || (nat_lt 1024 (claim_total claim) || nat_lt 32 (claim_depth claim))) e in
+    let two = or_false (is_long claim) (nat_lt 1024 (claim_total claim) || nat_lt 32 (claim_depth claim)) one.1 in
+    let three = or_false (nat_lt 1024 (claim_total claim)) (nat_lt 32 (claim_depth claim)) two.1 in
+    record {
+      field_fits = s;
+      claims_fit = claim_limited f claim rules two.0;
+      few_claims = ltb-false 1024 (claim_total claim) three.0;
+      shallow = ltb-false 32 (claim_depth claim) three.1;
+      has_columns = some;
+      few_columns = is_below_limit (length word) one.0;
+      word_fits = fits;
+      positive = positive;
+      distance_fits = small;
+    }
+
+distance_of_tree : (ms : Members) (f : FieldName) (claim : Claim) (word : List ℕ) → is_symbol f ≡ true → HasClaimRules f claim → MembersFit ms → 1 ≤ length word → Fits f word → (o : Option ℕ) → provided (nat_le 1) (number_at (codes "distance") ms) ≡ o → AreShapedReads (tree_distance_in ms (built_over f claim word) o)
+unfolding tree_distance_in
+distance_of_tree ms f claim word s rules fits some w None e = refused_document (broken 6)
+distance_of_tree ms f claim word s rules fits some w (Some d) e =
+    let p = provided_inside (nat_le 1) (number_at (codes "distance") ms) d e in
+    closed_tree ms (built_over f claim word d) (tree_limited f claim word d s rules some w (leb-true 1 d p.passes) (number_fits (codes "distance") ms d fits p.there))
+
+word_of_tree : (ms : Members) (f : FieldName) (claim : Claim) → is_symbol f ≡ true → HasClaimRules f claim → MembersFit ms → (o : Option (List ℕ)) → provided (is_tree_word f) (list_at (codes "word") ms) ≡ o → AreShapedReads (tree_word_in ms f claim o)
+unfolding tree_word_in is_tree_word
+word_of_tree ms f claim s rules fits None e = refused_document (broken 5)
+word_of_tree ms f claim s rules fits (Some word) e =
+    let p = and_parts (nat_le 1 (length word)) (are_elements f word) (provided_inside (is_tree_word f) (list_at (codes "word") ms) word e).passes in
+    distance_of_tree ms f claim word s rules fits (leb-true 1 (length word) p.0) (elements_hold f word p.1) (provided (nat_le 1) (number_at (codes "distance") ms)) refl
+
+claim_of_tree : (ms : Members) (f : FieldName) → is_symbol f ≡ true → MembersFit ms → (o : Option Claim) → option_and_then (claim_from (members_depth ms) f) (object_at (codes "claim") ms) ≡ o → AreShapedReads (tree_claim_in ms f o)
+unfolding tree_claim_in
+claim_of_tree ms f s fits None e = refused_document (broken 12)
+claim_of_tree ms f s fits (Some claim) e =
+    let rules : HasClaimRules f claim = option_and_then_some (claim_from (members_depth ms) f) (object_at (codes "claim") ms) claim e (λ inner there read. claim_ruled (members_depth ms) f inner claim s (object_at_fits (codes "claim") ms inner fits there) read) in
+    word_of_tree ms f claim s rules fits (provided (is_tree_word f) (list_at (codes "word") ms)) refl
+
+field_of_tree : (ms : Members) → MembersFit ms → (o : Option FieldName) → field_at ms ≡ o → AreShapedReads (tree_field_in ms o)
+unfolding tree_field_in field_at
+field_of_tree ms fits None e = refused_document (broken 3)
+field_of_tree ms fits (Some f) e = claim_of_tree ms f (field_found (number_at (codes "field") ms) f e) fits (option_and_then (claim_from (members_depth ms) f) (object_at (codes "claim") ms)) refl
+
+version_shaped : (d : Data) (o : Option Members) → AreFit d → as_object d ≡ o → AreShapedReads (either_version d o)
+unfolding either_version
+version_shaped d None fits e = plain_shaped (data_in (Some d)) (data_shaped (Some d) (λ x same. subst AreFit (same_some d x same) fits))
+version_shaped d (Some ms) fits e =
+    either_document (is_version 2 ms) (tree_field_in ms (field_at ms)) (plain_read (data_in (Some d))) (λ k. field_of_tree ms (object_fits d ms fits e) (field_at ms) refl)
+    (λ k. plain_shaped (data_in (Some d)) (data_shaped (Some d) (λ x same. subst AreFit (same_some d x same) fits)))
+
+document_of_shaped : (o : Option Data) → ((d : Data) → o ≡ Some d → AreFit d) → AreShapedReads (document_of o)
+unfolding document_of
+document_of_shaped None h = plain_shaped (data_in None) (data_shaped None h)
+document_of_shaped (Some d) h = version_shaped d (as_object d) (h d refl) refl
+
+pub document_shaped : (bytes : List ℕ) (x : Document) → document_in bytes ≡ document x → IsShapedDocument x
+unfolding document_in
+document_shaped bytes x e = document_of_shaped (json_in bytes) (λ d same. json_fits bytes d same) x e

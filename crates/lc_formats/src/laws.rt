@@ -8,7 +8,8 @@ ghost use Rattle.lc_formats.specs.Certificate.{Certificate, Reason, Verdict, ver
 ghost use Rattle.lc_formats.specs.CertificateText.{certificate_text};
 ghost use Rattle.lc_formats.specs.Shape.{IsShaped};
 ghost use Rattle.lc_formats.specs.Check.{certificate_in, reads_as};
-ghost use Rattle.lc_formats.specs.Claim.{Claim, Built};
+ghost use Rattle.lc_formats.specs.Claim.{Claim, Built, plain, tree, built_text};
+ghost use Rattle.lc_formats.specs.Document.{document_in, document, IsShapedTree};
 ghost use Rattle.lc_formats.specs.ClaimMeaning.{Outcome, HasOutcome, IsValidTree, IsTreeVerdict};
 ghost use Rattle.lc_formats.specs.Checkpoint.{Checkpoint, IsInRange, checkpoint_text, checkpoint_in, point};
 
@@ -32,6 +33,14 @@ pub fn checkpoints_are_read_back()
     ensures ranged { (bytes : List ℕ) (p : Checkpoint) → checkpoint_in bytes ≡ point p → IsInRange p }
     ensures back { (p : Checkpoint) → IsInRange p → length (checkpoint_text p) ≤ 4194304 → checkpoint_in (checkpoint_text p) ≡ point p }
     ensures longer { (bytes : List ℕ) → checkpoint_in (take 4194305 bytes) ≡ checkpoint_in bytes }
+{}
+
+/// A certificate of either version that was read has the shape, and each one by construction that has it is
+/// read back from its text.
+pub fn documents_are_read_back()
+    ensures plain { (bytes : List ℕ) (c : Certificate) → document_in bytes ≡ document (plain c) → IsShaped c }
+    ensures tree { (bytes : List ℕ) (b : Built) → document_in bytes ≡ document (tree b) → IsShapedTree b }
+    ensures back { (b : Built) → IsShapedTree b → document_in (built_text b) ≡ document (tree b) }
 {}
 
 /// A claim has at most one outcome, and a certificate by construction at most one verdict. It is accepted
