@@ -7,6 +7,7 @@ pub mod CertificateShaped
 pub mod VerdictLaws
 pub mod CheckpointBack
 pub mod CheckpointRange
+pub mod CheckpointSize
 pub mod CertificateExamples
 pub mod CheckExamples
 pub mod Plainly
