@@ -1,6 +1,6 @@
 -- The number of words of independent rows, and the dimension of a code.
 --   AreDistinct xs         no entry of xs occurs again after it
---   pairs_from_distinct    so any two entries differ
+--   pairs_from_distinct, distinct_from_pairs      so any two entries differ
 --   distinct_append, distinct_map, distinct_flat_map, distinct_below      lists of different entries
 --   distinct_at_most       a list of different entries that all stand in another is no longer than that
 --   independent_tail       the rows after the first of independent rows are independent
@@ -33,6 +33,10 @@ pairs_from_distinct (x ∷ xs) h zero zero d l m = absurd (omega (arith, l))
 pairs_from_distinct (x ∷ xs) h zero (suc j) d l m = λ e. h.0 (subst (Contains xs) (sym e) (Contains-get_or xs j d (omega (arith, m))))
 pairs_from_distinct (x ∷ xs) h (suc i) zero d l m = absurd (omega (arith, l))
 pairs_from_distinct (x ∷ xs) h (suc i) (suc j) d l m = pairs_from_distinct xs h.1 i j d (omega (arith, l)) (omega (arith, m))
+
+pub distinct_from_pairs : {X : Type 0} (xs : List X) → AllPairs (λ x y. x ≢ y) xs → AreDistinct xs
+distinct_from_pairs [] h = tt
+distinct_from_pairs (x ∷ xs) h = ((λ c. h 0 (suc c.0) x (omega arith) (omega (arith, c.1)) (sym c.2)), distinct_from_pairs xs (λ i j d l m. h (suc i) (suc j) d (omega (arith, l)) (omega (arith, m))))
 
 pub distinct_append : {X : Type 0} (xs ys : List X) → AreDistinct xs → AreDistinct ys → ((x : X) → Contains xs x → Contains ys x → ⊥) → AreDistinct (xs ++ ys)
 distinct_append [] ys a b h = b

@@ -10,6 +10,7 @@ pub mod ColumnLaws
 pub mod DimensionLaws
 pub mod SpanSearch
 pub mod SpanExamples
+pub mod PolynomialLaws
 pub mod PowerLaws
 pub mod OrderLaws
 pub mod EmbeddingTests

@@ -68,4 +68,3 @@ order_of_element f b n h =
     (λ p. absurd (h.least r p (mod-lt (size f - 1) (omega (arith, h.positive))) e))
     (λ l. omega (arith, l))
     (cases_lt 0 r)
-

@@ -25,6 +25,7 @@ use Rattle.lc_algebra.specs.Matrix.{AreRows}
 use Rattle.lc_algebra.proofs.FieldLaws.{zero_inside, one_inside}
 use Rattle.lc_algebra.proofs.SpanLaws.{length_below, length_flat_map_even}
 use Rattle.lc_constructions.specs.Basic.{all_lists, hamming_columns, hamming_checks, hamming_length}
+use Rattle.lc_constructions.proofs.HammingLaws.{columns_none, columns_step}
 use Rattle.lc_basic.specs.Column.{points, digits_from, digits_of, checks_part}
 
 pub power_step : (q r : ℕ) → q ^ suc r ≡ q * q ^ r
@@ -98,13 +99,13 @@ length_lists q zero = sym (pow-zero q)
 length_lists q (suc r) =
     length_flat_map_even (λ c. map (λ u. c ∷ u) (all_lists q r)) (q ^ r) (λ c. length-map (all_lists q r) (λ u. c ∷ u) ∙ length_lists q r) (below q) ∙ ap (λ k. k * q ^ r) (length_below q) ∙ sym (power_step q r)
 
-pub length_columns : (q r : ℕ) → length (hamming_columns q r) ≡ points q r
-unfolding hamming_columns points
-length_columns q zero = refl
-length_columns q (suc r) =
-    let a : length (map (λ u. 0 ∷ u) (hamming_columns q r)) ≡ points q r = length-map (hamming_columns q r) (λ u. 0 ∷ u) ∙ length_columns q r in
+pub length_columns : (q r : ℕ) → 1 < q → length (hamming_columns q r) ≡ points q r
+unfolding points
+length_columns q zero g = ap (λ us. length us) (columns_none q)
+length_columns q (suc r) g =
+    let a : length (map (λ u. 0 ∷ u) (hamming_columns q r)) ≡ points q r = length-map (hamming_columns q r) (λ u. 0 ∷ u) ∙ length_columns q r g in
     let b : length (map (λ u. 1 ∷ u) (all_lists q r)) ≡ q ^ r = length-map (all_lists q r) (λ u. 1 ∷ u) ∙ length_lists q r in
-    length-append (map (λ u. 0 ∷ u) (hamming_columns q r)) (map (λ u. 1 ∷ u) (all_lists q r)) ∙ cc (a, b)
+    ap (λ us. length us) (columns_step q r g) ∙ length-append (map (λ u. 0 ∷ u) (hamming_columns q r)) (map (λ u. 1 ∷ u) (all_lists q r)) ∙ cc (a, b)
 
 below_sum : (a b : ℕ) → below (a + b) ≡ below a ++ map (λ v. a + v) (below b)
 unfolding below
@@ -175,16 +176,16 @@ block_one q r e i l s =
 
 columns_before : (q r i e : ℕ) → 1 < q → i + e ≡ r → ((j : ℕ) → suc (j + e) ≡ r → map (λ u. slice_index u j) (hamming_columns q r) ≡ digits_of q (q ^ e) r) → map (λ u. slice_index u i) (map (λ u. 0 ∷ u) (hamming_columns q r)) ≡ digits_of q (q ^ e) r
 columns_before q r zero e l s h =
-    map-map (λ u. slice_index u 0) (λ u. 0 ∷ u) (hamming_columns q r) ∙ map_constant 0 (hamming_columns q r) ∙ ap (λ x. replicate x 0) (length_columns q r) ∙ sym (digits_zero q e r l (omega (arith, s)))
+    map-map (λ u. slice_index u 0) (λ u. 0 ∷ u) (hamming_columns q r) ∙ map_constant 0 (hamming_columns q r) ∙ ap (λ x. replicate x 0) (length_columns q r l) ∙ sym (digits_zero q e r l (omega (arith, s)))
 columns_before q r (suc i) e l s h =
     map-map (λ u. slice_index u (suc i)) (λ u. 0 ∷ u) (hamming_columns q r) ∙ h i (omega (arith, s))
 
 pub digit_columns : (q r i e : ℕ) → 1 < q → suc (i + e) ≡ r → map (λ u. slice_index u i) (hamming_columns q r) ≡ digits_of q (q ^ e) r
-unfolding hamming_columns digits_of
+unfolding digits_of
 digit_columns q zero i e l s = absurd (omega (arith, s))
 digit_columns q (suc r) i e l s =
     let t : i + e ≡ r = omega (arith, s) in
-    map-append (λ u. slice_index u i) (map (λ u. 0 ∷ u) (hamming_columns q r)) (map (λ u. 1 ∷ u) (all_lists q r)) ∙ cc (columns_before q r i e l t (λ j k. digit_columns q r j e l k), block_one q r e i l t)
+    ap (λ us. map (λ u. slice_index u i) us) (columns_step q r l) ∙ map-append (λ u. slice_index u i) (map (λ u. 0 ∷ u) (hamming_columns q r)) (map (λ u. 1 ∷ u) (all_lists q r)) ∙ cc (columns_before q r i e l t (λ j k. digit_columns q r j e l k), block_one q r e i l t)
 
 -- words
 

@@ -49,7 +49,7 @@ fn check_hamming(field: &Field, r: u64) -> Result<(), CodeRefusal>
     Ok(())
 }
 
-// The length, or else some number above 255 where the length is above 255.
+// The length, or some number above 255 if the length is above 255.
 #[tactic(auto, using(crate::proofs::HammingLaws::power_small, crate::proofs::HammingLaws::points_next, crate::proofs::HammingLaws::power_next, crate::proofs::HammingLaws::length_is, crate::proofs::HammingLaws::length_passed, crate::proofs::HammingLaws::length_least))]
 fn length_of(q: u64, r: u64) -> u64
     requires least { 1 < q }
@@ -83,7 +83,7 @@ fn code_of_columns(alloc: Global, r: usize, field: &Field) -> Result<Code, NoMem
     Ok(Code::from_checks(alloc, field, whole_length(field, r as u64), &checks)?)
 }
 
-// The length, where it isn't above 255.
+// The length, if it isn't above 255.
 #[tactic(auto, using(crate::proofs::HammingLaws::length_fits))]
 fn whole_length(field: &Field, r: u64) -> usize
     requires symbol { IsTrue (is_symbol field.now) }

@@ -2,14 +2,14 @@
 -- (MacWilliams and Sloane, chapter 12).
 --   embedded_fits, embedded_length, embedded_sum, embedded_scale, embedded_weight      the images of a word in the locator field
 --   syndrome_sum, syndrome_multiple, syndrome_of_zero      syndromes are linear
---   alternant_zero, alternant_sum, alternant_scale         the words of a form are a linear code
---   distinct_from_pairs, nonzero_each                      points and multipliers, entry by entry
+--   alternant_zero, alternant_sum, alternant_scale, alternant_closed      the words of a form are a linear code
+--   nonzero_each           multipliers, entry by entry
 --   light_alternant        a word of the form of weight at most r is the zero word
 --   form_weight_bound      so r + 1 bounds the weights of the code's nonzero words
 --   within_once            at most one word of the code is within half of r of a received word
 --   decoded_exists         so decoding has an answer
 --   form_of_code           the code of the words of a form has that form
-use Rattle.std.proofs.Common.{◌≡◌, ◌≢◌, ℕ, zero, suc, ◌+◌, ◌/◌, ◌<◌, ◌≤◌, Bool, true, false, true≢false, ◌↔◌, nat_le, Option, Some, None, List, [], ◌∷◌, length, map, slice_index, EachIndex, AllPairs, refl, sym, ap, ap₂, subst, ◌∙◌, ⊎_elim, arith}
+use Rattle.std.proofs.Common.{◌≡◌, ℕ, zero, suc, ◌+◌, ◌/◌, ◌<◌, ◌≤◌, Bool, true, false, true≢false, ◌↔◌, nat_le, Option, Some, None, List, [], ◌∷◌, length, map, slice_index, EachIndex, refl, sym, ap, ap₂, subst, ◌∙◌, ⊎_elim, arith}
 use Rattle.std.specs.List.{list_any}
 use Rattle.std.proofs.lemmas.List.{length-map}
 use Rattle.std.proofs.Math.Nat.{mul-div-le}
@@ -25,8 +25,8 @@ use Rattle.lc_algebra.proofs.EmbeddingLaws.{embed_inside, embed_zero, embed_add,
 use Rattle.lc_algebra.proofs.WordLaws.{fits_head, fits_tail, fits_cons, IsWord_zero, weight_zero_head, weight_other_head, scale_dot, sum_dot, scale_zero, distance_turned, distance_triangle}
 use Rattle.lc_algebra.proofs.SpanLaws.{span_word, weight_bound_apart, same_word_decided, word_of_member, member_of_word}
 use Rattle.lc_algebra.proofs.SpanSearch.{any_contains, contains_any}
-use Rattle.lc_algebra.proofs.DimensionLaws.{AreDistinct}
-use Rattle.lc_constructions.specs.Code.{IsCode}
+use Rattle.lc_algebra.proofs.DimensionLaws.{distinct_from_pairs}
+use Rattle.lc_constructions.specs.Code.{IsCode, IsClosed}
 use Rattle.lc_constructions.specs.Alternant.{AlternantForm, IsForm, IsFormOf, check_row, syndrome_at, IsAlternantWord}
 use Rattle.lc_constructions.specs.Nearest.{IsWithin, IsDecoded}
 use Rattle.lc_constructions.proofs.CheckLaws.{AreNonzero, light_word}
@@ -97,11 +97,14 @@ pub alternant_scale : (f : FieldName) (form : AlternantForm) (n c : ℕ) (u : Li
 alternant_scale f form n c u s l a h = λ j k.
     syndrome_multiple f form c u j s l a.fits ∙ ap (λ x. mul form.locator (embed f form.locator c) x) (h j k) ∙ mul_zero form.locator (embed f form.locator c)
 
--- ---- the weights
+pub alternant_closed : (f : FieldName) (form : AlternantForm) (n : ℕ) → IsSubfield f form.locator → IsClosed f n (IsAlternantWord f form)
+alternant_closed f form n s = record {
+  zero = alternant_zero f form n s;
+  sums = λ u v a b p q. alternant_sum f form n u v s a b p q;
+  multiples = λ c u l a p. alternant_scale f form n c u s l a p;
+}
 
-pub distinct_from_pairs : (xs : List ℕ) → AllPairs (λ x y. x ≢ y) xs → AreDistinct xs
-distinct_from_pairs [] h = tt
-distinct_from_pairs (x ∷ xs) h = ((λ c. h 0 (suc c.0) x (omega arith) (omega (arith, c.1)) (sym c.2)), distinct_from_pairs xs (λ i j d l m. h (suc i) (suc j) d (omega (arith, l)) (omega (arith, m))))
+-- ---- the weights
 
 pub nonzero_each : (K : FieldName) (ys : List ℕ) → Fits K ys → EachIndex ys (λ i. 0 < slice_index ys i) → AreNonzero K ys
 nonzero_each K [] h p = tt

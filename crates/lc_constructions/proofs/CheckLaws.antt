@@ -82,13 +82,13 @@ light_word f [] ys (c ∷ z) r h d m e k g s w = absurd (omega (arith, k))
 light_word f (x ∷ xs) [] (c ∷ z) r h d m e k g s w = absurd (omega (arith, e))
 light_word f (x ∷ xs) (y ∷ ys) (zero ∷ z) r h d m e k g s w =
     let t : (j : ℕ) → j < r → word_dot f z (check_row f xs ys j) ≡ 0 = λ j l.
-        cc (dot_first f 0 z x xs y ys j, zero_mul f (mul f y (pow f x j)), zero_add f (word_dot f z (check_row f xs ys j)) (dot_inside f z (check_row f xs ys j)), s j l) in
+    cc (dot_first f 0 z x xs y ys j, zero_mul f (mul f y (pow f x j)), zero_add f (word_dot f z (check_row f xs ys j)) (dot_inside f z (check_row f xs ys j)), s j l) in
     weight_zero_head z ∙ light_word f xs ys z r (fits_tail f x xs h) d.1 m.2 (omega (arith, e)) (omega (arith, k)) (fits_tail f 0 z g) t (omega (arith, w, weight_zero_head z))
 light_word f (x ∷ xs) (y ∷ ys) (suc c ∷ z) zero h d m e k g s w = absurd (omega (arith, w, weight_other_head (suc c) z (omega arith)))
 light_word f (x ∷ xs) (y ∷ ys) (suc c ∷ z) (suc r) h d m e k g s w =
     let q = weight_other_head (suc c) z (omega arith) in
     let t : (j : ℕ) → j < r → word_dot f z (check_row f xs (moved f x xs ys) j) ≡ 0 = λ j l.
-        cc (moved_first f x xs y ys (suc c) z j, moved_dot f x (x ∷ xs) (y ∷ ys) (suc c ∷ z) j, s j (omega (arith, l)), s (suc j) (omega (arith, l)), mul_zero f x, neg_zero f, zero_add f 0 (zero_inside f)) in
+    cc (moved_first f x xs y ys (suc c) z j, moved_dot f x (x ∷ xs) (y ∷ ys) (suc c ∷ z) j, s j (omega (arith, l)), s (suc j) (omega (arith, l)), mul_zero f x, neg_zero f, zero_add f 0 (zero_inside f)) in
     let lx = fits_head f x xs h in
     let n = moved_nonzero f x xs ys lx (fits_tail f x xs h) d.0 m.2 in
     let ih : weight z ≡ 0 = light_word f xs (moved f x xs ys) z r (fits_tail f x xs h) d.1 n (length_moved f x xs ys (omega (arith, e)) ∙ omega (arith, e)) (omega (arith, k)) (fits_tail f (suc c) z g) t (omega (arith, w, q)) in

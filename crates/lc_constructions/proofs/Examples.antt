@@ -17,13 +17,13 @@ use Rattle.lc_algebra.specs.Embedding.{is_subfield, first_from, first_that, root
 use Rattle.lc_algebra.specs.Word.{word_sum, scale, word_dot, difference}
 use Rattle.lc_algebra.specs.Span.{below, words}
 use Rattle.lc_algebra.specs.Matrix.{Matrix}
-use Rattle.lc_constructions.specs.Basic.{all_lists, hamming_columns, hamming_checks, monomial, subsets, reed_muller_rows}
+use Rattle.lc_constructions.specs.Basic.{all_lists, begins_with_one, hamming_columns, hamming_checks, monomial, subsets, reed_muller_rows}
 use Rattle.lc_constructions.specs.Cyclic.{value_in, exponents_from, all_fields, locator_field}
 use Rattle.lc_constructions.specs.Alternant.{inverse, check_row, goppa_multipliers, goppa_sum}
 use Rattle.lc_constructions.proofs.NearestLaws.{is_before, is_better, nearest_among, nearest}
 
 pub hamming_check_rows : hamming_checks 2 3 ≡ (0 ∷ 0 ∷ 0 ∷ 1 ∷ 1 ∷ 1 ∷ 1 ∷ []) ∷ (0 ∷ 1 ∷ 1 ∷ 0 ∷ 0 ∷ 1 ∷ 1 ∷ []) ∷ (1 ∷ 0 ∷ 1 ∷ 0 ∷ 1 ∷ 0 ∷ 1 ∷ []) ∷ []
-unfolding below all_lists hamming_columns hamming_checks
+unfolding below all_lists begins_with_one hamming_columns hamming_checks
 hamming_check_rows = refl
 
 pub reed_muller_words : reed_muller_rows 1 3 ≡ (0 ∷ 1 ∷ 0 ∷ 1 ∷ 0 ∷ 1 ∷ 0 ∷ 1 ∷ []) ∷ (0 ∷ 0 ∷ 1 ∷ 1 ∷ 0 ∷ 0 ∷ 1 ∷ 1 ∷ []) ∷ (0 ∷ 0 ∷ 0 ∷ 0 ∷ 1 ∷ 1 ∷ 1 ∷ 1 ∷ []) ∷ (1 ∷ 1 ∷ 1 ∷ 1 ∷ 1 ∷ 1 ∷ 1 ∷ 1 ∷ []) ∷ []

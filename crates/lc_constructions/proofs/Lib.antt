@@ -2,6 +2,17 @@ pub mod RefusalLaws
 pub mod RefusalExamples
 pub mod Examples
 pub mod MembershipExamples
+pub mod OutsideExamples
 pub mod NearestLaws
+pub mod HammingLaws
+pub mod LocatorLaws
+pub mod InverseLaws
+pub mod ExpansionLaws
+pub mod ClosedLaws
+pub mod WithoutLaws
+pub mod GoppaLaws
+pub mod FormLaws
+pub mod CosetLaws
+pub mod CosetExamples
 pub mod CheckLaws
 pub mod AlternantLaws

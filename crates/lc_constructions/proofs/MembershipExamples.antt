@@ -30,7 +30,7 @@ use Rattle.lc_algebra.proofs.WordLaws.{IsWord_zero, word_cons}
 use Rattle.lc_algebra.proofs.SpanLaws.{word_of_member, member_of_word}
 use Rattle.lc_algebra.proofs.SpanSearch.{at_most_test, no_later_test, no_later_from_test}
 use Rattle.lc_constructions.specs.Code.{InCode}
-use Rattle.lc_constructions.specs.Basic.{all_lists, hamming_columns, hamming_checks, hamming_length, monomial, subsets, reed_muller_rows}
+use Rattle.lc_constructions.specs.Basic.{all_lists, begins_with_one, hamming_columns, hamming_checks, hamming_length, monomial, subsets, reed_muller_rows}
 use Rattle.lc_constructions.specs.Cyclic.{binary_golay_generator, ternary_golay_generator, all_fields, locator_field, root_of_unity, value_in, exponents_from, IsMultipleOf, IsCheckedBy, IsBchWord, IsReedSolomonWord}
 use Rattle.lc_constructions.specs.Alternant.{inverse, check_row, syndrome_at, goppa_multipliers, goppa_sum, goppa_form, bch_form, IsAlternantWord, IsGoppaWord}
 use Rattle.lc_constructions.specs.Combined.{symbol_sum, without_from, without, tensor, InExtended, InPunctured, InShortened, InEvenWeight, InDirectSum, InUuv, InDirectProduct}
@@ -39,7 +39,7 @@ use Rattle.lc_constructions.specs.Nearest.{IsNearest}
 use Rattle.lc_constructions.proofs.NearestLaws.{words_within}
 
 pub hamming_ternary : hamming_checks 3 2 ≡ (0 ∷ 1 ∷ 1 ∷ 1 ∷ []) ∷ (1 ∷ 0 ∷ 1 ∷ 2 ∷ []) ∷ []
-unfolding below all_lists hamming_columns hamming_checks
+unfolding below all_lists begins_with_one hamming_columns hamming_checks
 hamming_ternary = refl
 
 pub hamming_lengths : map (hamming_length 4) (2 ∷ 3 ∷ []) ≡ 5 ∷ 21 ∷ []

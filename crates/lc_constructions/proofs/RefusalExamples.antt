@@ -12,7 +12,7 @@ use Rattle.lc_constructions.specs.Code.{is_length}
 use Rattle.lc_constructions.specs.Basic.{hamming_length}
 use Rattle.lc_constructions.specs.Cyclic.{all_fields, locator_field}
 use Rattle.lc_constructions.specs.Refusal.{refuse_if, first_refusal}
-use Rattle.lc_constructions.specs.Refusals.{columns_of, are_elements, have_elements, are_equally_long, is_rising, too_large, bad_length, bad_argument, not_subfield, first_place, repeated_point, root_at, fields_differ, lengths_differ, matrix_refusals, length_refusals, hamming_refusals, reed_muller_refusals, cyclic_refusals, bch_refusals, is_size_of_symbol_field, reed_solomon_refusals, is_goppa_polynomial, goppa_refusals, form_refusals, alternant_refusals, extended_refusals, deleted_refusals, even_weight_refusals, direct_sum_refusals, uuv_refusals, direct_product_refusals, intersection_refusals, degree_over, nested_refusals, concatenated_refusals}
+use Rattle.lc_constructions.specs.Refusals.{columns_of, are_elements, have_elements, are_equally_long, is_rising, too_large, bad_length, bad_argument, not_subfield, first_index, repeated_point, root_at, fields_differ, lengths_differ, matrix_refusals, length_refusals, hamming_refusals, reed_muller_refusals, cyclic_refusals, bch_refusals, is_size_of_symbol_field, reed_solomon_refusals, is_goppa_polynomial, goppa_refusals, form_refusals, alternant_refusals, extended_refusals, deleted_refusals, even_weight_refusals, direct_sum_refusals, uuv_refusals, direct_product_refusals, intersection_refusals, degree_over, nested_refusals, concatenated_refusals}
 
 -- ---- plain families
 
@@ -79,16 +79,16 @@ unfolding shape shape_of size is_symbol all_fields is_size_of_symbol_field refus
 delta_0 = refl
 
 pub second_point : first_refusal (goppa_refusals Gf2 Gf8 (1 ∷ 1 ∷ 1 ∷ []) (0 ∷ 1 ∷ 1 ∷ [])) ≡ Some (RepeatedPoint 1 2)
-unfolding shape shape_of size is_symbol is_length is_subfield put_on trimmed are_elements is_goppa_polynomial first_from first_that below too_large bad_length bad_argument not_subfield first_place repeated_point root_at refuse_if first_refusal goppa_refusals
+unfolding shape shape_of size is_symbol is_length is_subfield put_on trimmed are_elements is_goppa_polynomial first_from first_that below too_large bad_length bad_argument not_subfield first_index repeated_point root_at refuse_if first_refusal goppa_refusals
 second_point = refl
 
 -- 0 comes again at index 3 before 1 comes again at index 4
 pub two_repeat : first_refusal (goppa_refusals Gf2 Gf8 (1 ∷ 1 ∷ 1 ∷ []) (1 ∷ 0 ∷ 2 ∷ 0 ∷ 1 ∷ [])) ≡ Some (RepeatedPoint 1 3)
-unfolding shape shape_of size is_symbol is_length is_subfield put_on trimmed are_elements is_goppa_polynomial first_from first_that below too_large bad_length bad_argument not_subfield first_place repeated_point root_at refuse_if first_refusal goppa_refusals
+unfolding shape shape_of size is_symbol is_length is_subfield put_on trimmed are_elements is_goppa_polynomial first_from first_that below too_large bad_length bad_argument not_subfield first_index repeated_point root_at refuse_if first_refusal goppa_refusals
 two_repeat = refl
 
 pub root_at_1 : first_refusal (goppa_refusals Gf2 Gf8 (0 ∷ 1 ∷ []) (1 ∷ 0 ∷ [])) ≡ Some (RootAt 1)
-unfolding digits number plus minus times top up times_x product shape shape_of size is_symbol coefficients add mul value_at is_length is_subfield put_on trimmed are_elements is_goppa_polynomial first_from first_that below too_large bad_length bad_argument not_subfield first_place repeated_point root_at refuse_if first_refusal goppa_refusals
+unfolding digits number plus minus times top up times_x product shape shape_of size is_symbol coefficients add mul value_at is_length is_subfield put_on trimmed are_elements is_goppa_polynomial first_from first_that below too_large bad_length bad_argument not_subfield first_index repeated_point root_at refuse_if first_refusal goppa_refusals
 root_at_1 = refl
 
 pub degree_0 : first_refusal (goppa_refusals Gf2 Gf8 (1 ∷ 0 ∷ []) (1 ∷ 0 ∷ [])) ≡ Some (BadArgument 1)
@@ -132,21 +132,21 @@ pub too_long : first_refusal (extended_refusals long) ≡ Some BadLength
 unfolding is_length bad_length refuse_if first_refusal extended_refusals
 too_long = refl
 
-pub all_places : first_refusal (deleted_refusals pair (0 ∷ 1 ∷ [])) ≡ Some BadPositions
+pub all_coordinates : first_refusal (deleted_refusals pair (0 ∷ 1 ∷ [])) ≡ Some BadPositions
 unfolding is_rising refuse_if first_refusal deleted_refusals
-all_places = refl
+all_coordinates = refl
 
-pub falling_places : first_refusal (deleted_refusals plane (1 ∷ 0 ∷ [])) ≡ Some BadPositions
+pub falling_coordinates : first_refusal (deleted_refusals plane (1 ∷ 0 ∷ [])) ≡ Some BadPositions
 unfolding is_rising refuse_if first_refusal deleted_refusals
-falling_places = refl
+falling_coordinates = refl
 
 pub outside : first_refusal (deleted_refusals plane (3 ∷ [])) ≡ Some BadPositions
 unfolding is_rising refuse_if first_refusal deleted_refusals
 outside = refl
 
-pub no_places : first_refusal (deleted_refusals plane []) ≡ None
+pub no_coordinates : first_refusal (deleted_refusals plane []) ≡ None
 unfolding is_rising refuse_if first_refusal deleted_refusals
-no_places = refl
+no_coordinates = refl
 
 pub not_binary : first_refusal (even_weight_refusals plane) ≡ Some (BadArgument 1)
 unfolding shape shape_of size bad_argument refuse_if first_refusal even_weight_refusals

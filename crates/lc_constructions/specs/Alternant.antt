@@ -1,5 +1,5 @@
--- Alternant and Goppa codes (MacWilliams and Sloane, chapter 12). The symbols of a word stand for their images in the larger
--- field, the locator field.
+-- Alternant and Goppa codes (MacWilliams and Sloane, chapter 12). Symbols of a word are taken as
+-- their images in the larger field, the locator field.
 --   AlternantForm                      the locator field, the points, as many multipliers, and the number r of checks
 --   IsForm f form                      the form gives a code over f: a symbol field in the locator field, 1 to 255 distinct points, as
 --                                      many nonzero multipliers

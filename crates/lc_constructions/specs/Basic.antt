@@ -1,4 +1,4 @@
--- Which words the plain constructors put into their codes (GUAVA manual, "Codes"; MacWilliams and Sloane, chapters 1 and 13).
+-- Which words the plain constructors put into their codes (GUAVA manual, "Generating Codes"; MacWilliams and Sloane, chapters 1 and 13).
 -- Each fact is about a word w that has the code's length and fits its field.
 --   GeneratedBy f n rows w       generator matrix: a sum of multiples of the rows
 --   CheckedBy f rows w           check matrix: dot 0 with each row (specs/Code.antt)
@@ -6,14 +6,15 @@
 --   IsAny w                      whole space: no condition
 --   IsZero w                     null code: all symbols are 0
 --   all_lists q r                the lists of r elements, in lexicographic order
---   hamming_columns q r          those whose first nonzero entry is 1: a column for each point of the projective space
+--   begins_with_one u            the first nonzero entry of u is 1
+--   hamming_columns q r          the lists of r elements that begin so: a column for each point of the projective space
 --   hamming_checks q r           the matrix with these columns: its r rows
 --   hamming_length q r           (q^r - 1) / (q - 1), the number of columns
---   monomial m vs                the values, at the places 0 to 2^m - 1, of the product of the variables vs: 1 where all of them are 1.
---                                The variable v is bit v of the place; the empty product is 1
+--   monomial m vs                the values, at the coordinates 0 to 2^m - 1, of the product of the variables vs: 1 if all of them are 1.
+--                                The variable v is bit v of the coordinate; the empty product is 1
 --   subsets vs r                 the parts of the list with at most r members
 --   reed_muller_rows r m         the values of all products of at most r different variables among m
-use Rattle.std.specs.Prelude.{◌≡◌, ℕ, zero, suc, ◌-◌, ◌/◌, ◌%◌, ◌^◌, ◌<◌, ◌==◌, if◌then◌else◌, List, [], ◌∷◌, ◌++◌, length, map, flat_map, slice_index, ⊤}
+use Rattle.std.specs.Prelude.{◌≡◌, ℕ, zero, suc, ◌-◌, ◌/◌, ◌%◌, ◌^◌, ◌<◌, ◌==◌, if◌then◌else◌, Bool, not, find, filter, unwrap_or, List, [], ◌∷◌, ◌++◌, length, map, flat_map, slice_index, ⊤}
 use Rattle.std.specs.List.{list_all}
 use Rattle.lc_algebra.specs.declared.FieldName.{FieldName}
 use Rattle.lc_algebra.specs.Span.{InSpan, below}
@@ -34,9 +35,11 @@ unfoldable pub all_lists : ℕ → ℕ → List (List ℕ)
 all_lists q zero = [] ∷ []
 all_lists q (suc r) = flat_map (λ c. map (λ u. c ∷ u) (all_lists q r)) (below q)
 
+unfoldable pub begins_with_one : List ℕ → Bool
+begins_with_one u = unwrap_or (find (λ a. not (a == 0)) u) 0 == 1
+
 unfoldable pub hamming_columns : ℕ → ℕ → List (List ℕ)
-hamming_columns q zero = []
-hamming_columns q (suc r) = map (λ u. 0 ∷ u) (hamming_columns q r) ++ map (λ u. 1 ∷ u) (all_lists q r)
+hamming_columns q r = filter begins_with_one (all_lists q r)
 
 unfoldable pub hamming_checks : ℕ → ℕ → List (List ℕ)
 hamming_checks q r = map (λ i. map (λ u. slice_index u i) (hamming_columns q r)) (below r)

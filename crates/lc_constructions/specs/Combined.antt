@@ -1,17 +1,17 @@
 -- Which words the combinators put into their codes (GUAVA manual, "Manipulating codes"; MacWilliams and Sloane, chapters 1, 2
 -- and 18). C and D are codes.
---   InDual C w              dot 0 with each word of C
---   InExtended C w          a word of C with minus the sum of its symbols behind it
---   symbol_sum f w          the sum of the symbols of w
---   without places w        w without the symbols at these places; without_from, of which the first symbol of w stands at a place i
---   InPunctured C places w  some word of C without these places
---   InShortened C places w  some word of C that is 0 at these places, without them
---   InEvenWeight C w        a word of C of even weight; C is binary
---   InDirectSum C D w       a word u of C followed by a word v of D
---   InUuv C D w             a word u of C followed by u + v, v a word of D
---   tensor f u v            the word with u_i v_j at place i times the length of v, plus j
---   InDirectProduct C D w   a sum of multiples of such words, u in C and v in D
---   InIntersection C D w    a word of both
+--   InDual C w                    dot 0 with each word of C
+--   InExtended C w                a word of C followed by minus the sum of its symbols
+--   symbol_sum f w                the sum of the symbols of w
+--   without coordinates w         w without the symbols at these coordinates; in without_from the first symbol of w has coordinate i
+--   InPunctured C coordinates w   some word of C without these coordinates
+--   InShortened C coordinates w   some word of C that is 0 at these coordinates, without them
+--   InEvenWeight C w              a word of C of even weight; C is binary
+--   InDirectSum C D w             a word u of C followed by a word v of D
+--   InUuv C D w                   a word u of C followed by u + v, v a word of D
+--   tensor f u v                  the word with u_i v_j at coordinate i times the length of v, plus j
+--   InDirectProduct C D w         a sum of multiples of such words, u in C and v in D
+--   InIntersection C D w          a word of both
 use Rattle.std.specs.Prelude.{◌≡◌, ℕ, suc, ◌*◌, ◌%◌, ◌==◌, cond, List, [], ◌∷◌, ◌++◌, flat_map, slice_index, All}
 use Rattle.std.specs.List.{list_any}
 use Rattle.lc_algebra.specs.declared.FieldName.{FieldName}
@@ -31,19 +31,19 @@ symbol_sum f (a ∷ w) = add f a (symbol_sum f w)
 abbrev pub InExtended : Matrix → List ℕ → Type 0
 InExtended C w = (u : List ℕ) × InCode C u × (w ≡ u ++ neg C.field (symbol_sum C.field u) ∷ [])
 
--- the symbols of w, whose first stands at place i, that stand at none of the places
+-- the symbols of w at none of the coordinates; the first symbol of w has coordinate i
 unfoldable pub without_from : ℕ → List ℕ → List ℕ → List ℕ
-without_from i places [] = []
-without_from i places (a ∷ w) = cond (list_any (λ p. i == p) places) (without_from (suc i) places w) (a ∷ without_from (suc i) places w)
+without_from i coordinates [] = []
+without_from i coordinates (a ∷ w) = cond (list_any (λ p. i == p) coordinates) (without_from (suc i) coordinates w) (a ∷ without_from (suc i) coordinates w)
 
 unfoldable pub without : List ℕ → List ℕ → List ℕ
-without places w = without_from 0 places w
+without coordinates w = without_from 0 coordinates w
 
 abbrev pub InPunctured : Matrix → List ℕ → List ℕ → Type 0
-InPunctured C places w = (u : List ℕ) × InCode C u × (w ≡ without places u)
+InPunctured C coordinates w = (u : List ℕ) × InCode C u × (w ≡ without coordinates u)
 
 abbrev pub InShortened : Matrix → List ℕ → List ℕ → Type 0
-InShortened C places w = (u : List ℕ) × InCode C u × All (λ p. slice_index u p ≡ 0) places × (w ≡ without places u)
+InShortened C coordinates w = (u : List ℕ) × InCode C u × All (λ p. slice_index u p ≡ 0) coordinates × (w ≡ without coordinates u)
 
 abbrev pub InEvenWeight : Matrix → List ℕ → Type 0
 InEvenWeight C w = InCode C w × (weight w % 2 ≡ 0)

@@ -1,23 +1,24 @@
--- Which words the cyclic constructors put into their codes (MacWilliams and Sloane, chapter 7; GUAVA manual, "Cyclic codes").
+-- Which words the cyclic constructors put into their codes (MacWilliams and Sloane, chapter 7; GUAVA manual, "Generating Codes").
 -- The polynomial of a word has the word's symbols as its coefficients, from the constant upwards.
 --   IsResidue f n u c              c, of length n, is the polynomial u modulo x^n - 1
 --   IsMultipleOf f n x c           generator polynomial: c is x a modulo x^n - 1 for some a of degree below n
 --   IsCheckedBy f n x c            check polynomial: c times x is 0 modulo x^n - 1
 --   binary_golay_generator, ternary_golay_generator      the generator polynomials of the two Golay codes
 --   all_fields                     the eighteen fields, by rising size
---   locator_field f n              the least field that holds f and an element of order n; None where there is none
+--   IsLocatorField f n K           K is the least field that holds f and an element of order n
+--   locator_field f n              this field, and None if there is none: the first with a multiple of n nonzero elements
 --   root_of_unity locator n        its primitive element to the power (size - 1) / n: an element of order n
 --   value_in small large u x       the value at x of the polynomial u over the small field, in the large one
 --   exponents_from b n             the numbers from b on, n of them
 --   HasZeros f locator x w exponents      the polynomial of w is 0 at each of these powers of x
 --   IsBchWord f locator n b d w    zeros at the powers b to b + d - 2 of an element of order n
 --   IsReedSolomonWord f d w        zeros at the powers 1 to d - 1 of the primitive element; n is the size of the field less 1
-use Rattle.std.specs.Prelude.{◌≡◌, ℕ, zero, suc, ◌-◌, ◌/◌, ◌%◌, ◌==◌, ◌&&◌, List, [], ◌∷◌, map, find, Option, All}
+use Rattle.std.specs.Prelude.{◌≡◌, ℕ, zero, suc, ◌-◌, ◌/◌, ◌%◌, ◌≤◌, ◌==◌, ◌&&◌, List, [], ◌∷◌, map, find, Option, All}
 use Rattle.lc_algebra.specs.declared.FieldName.{FieldName}
 use Rattle.lc_algebra.specs.declared.FieldName.TheVariants.{Gf2, Gf3, Gf4, Gf5, Gf7, Gf8, Gf9, Gf11, Gf13, Gf16, Gf25, Gf27, Gf32, Gf64, Gf81, Gf128, Gf243, Gf256}
-use Rattle.lc_algebra.specs.Field.{shape_of, size, pow}
+use Rattle.lc_algebra.specs.Field.{shape_of, size, pow, HasOrder}
 use Rattle.lc_algebra.specs.Polynomial.{value_at, poly_sum, poly_product, SamePolynomial, IsPolynomial, x_power_minus_one}
-use Rattle.lc_algebra.specs.Embedding.{is_subfield, embed}
+use Rattle.lc_algebra.specs.Embedding.{IsSubfield, is_subfield, embed}
 unfoldable pub use Rattle.lc_algebra.specs.Polynomial.{put_on, trimmed}
 use Rattle.lc_algebra.specs.Word.{IsWord, zero_word}
 
@@ -41,6 +42,11 @@ ternary_golay_generator = 2 ∷ 0 ∷ 1 ∷ 2 ∷ 1 ∷ 1 ∷ []
 
 unfoldable pub all_fields : List FieldName
 all_fields = Gf2 ∷ Gf3 ∷ Gf4 ∷ Gf5 ∷ Gf7 ∷ Gf8 ∷ Gf9 ∷ Gf11 ∷ Gf13 ∷ Gf16 ∷ Gf25 ∷ Gf27 ∷ Gf32 ∷ Gf64 ∷ Gf81 ∷ Gf128 ∷ Gf243 ∷ Gf256 ∷ []
+
+pub record IsLocatorField (f : FieldName) (n : ℕ) (K : FieldName) : Type 0 where
+  pub subfield : IsSubfield f K
+  pub order : (b : ℕ) × HasOrder K b n
+  pub least : (L : FieldName) → IsSubfield f L → (b : ℕ) → HasOrder L b n → size K ≤ size L
 
 unfoldable pub locator_field : FieldName → ℕ → Option FieldName
 locator_field f n = find (λ K. is_subfield f K && ((size K - 1) % n == 0)) all_fields

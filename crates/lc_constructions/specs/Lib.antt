@@ -2,6 +2,7 @@ pub mod Code
 pub mod Basic
 pub mod Cyclic
 pub mod Alternant
+pub mod Goppa
 pub mod Combined
 pub mod Concatenated
 pub mod Nearest

@@ -5,8 +5,8 @@
 --   are_elements f entries        each entry is below the size of the field
 --   have_elements f rows          so is each entry of each row
 --   are_equally_long rows         each row has the length of the first one
---   is_rising places              each entry is below the next one
---   first_place points j          the first index of the point with index j
+--   is_rising numbers             each number is below the next one
+--   first_index points j          the first index of the point with index j
 --   degree_over q Q               the number s from 1 to 8 with q^s = Q
 --   is_size_of_symbol_field q     some field has q elements, and at most 16
 --   is_goppa_polynomial K g       coefficients of K, and a degree from 1 to 255
@@ -25,7 +25,7 @@
 --   form_refusals f K bad_r points multipliers      codes by an alternant form; bad_r says whether its number of checks is refused
 --   alternant_refusals f K r points multipliers     alternant codes: r is 1 to the number of points
 -- Combinators:
---   extended_refusals C, deleted_refusals C places (punctured and shortened codes), even_weight_refusals C,
+--   extended_refusals C, deleted_refusals C coordinates (punctured and shortened codes), even_weight_refusals C,
 --   direct_sum_refusals C D, uuv_refusals C D, direct_product_refusals C D, intersection_refusals C D, concatenated_refusals C D
 use Rattle.std.specs.Prelude.{ℕ, ◌+◌, ◌*◌, ◌^◌, ◌↔◌, Bool, true, not, nat_le, nat_lt, ◌==◌, ◌&&◌, ◌||◌, IsTrue, List, [], ◌∷◌, length, slice_index, find, Option, Some, None, is_some, option_map}
 use Rattle.std.specs.List.{list_any, list_all}
@@ -74,12 +74,12 @@ bad_argument test n = refuse_if test (BadArgument n)
 unfoldable pub not_subfield : FieldName → FieldName → Option CodeRefusal
 not_subfield f K = refuse_if (not (is_subfield f K)) NotASubfield
 
-unfoldable pub first_place : List ℕ → ℕ → ℕ
-first_place points j = first_that (λ i. slice_index points i == slice_index points j) (length points)
+unfoldable pub first_index : List ℕ → ℕ → ℕ
+first_index points j = first_that (λ i. slice_index points i == slice_index points j) (length points)
 
 -- the least index of a point that an earlier index has too, and the first of these
 unfoldable pub repeated_point : List ℕ → Option CodeRefusal
-repeated_point points = option_map (λ j. RepeatedPoint (first_place points j) j) (find (λ j. nat_lt (first_place points j) j) (below (length points)))
+repeated_point points = option_map (λ j. RepeatedPoint (first_index points j) j) (find (λ j. nat_lt (first_index points j) j) (below (length points)))
 
 unfoldable pub root_at : FieldName → List ℕ → List ℕ → Option CodeRefusal
 root_at K g points = option_map (λ i. RootAt i) (find (λ i. value_at K g (slice_index points i) == 0) (below (length points)))
@@ -140,7 +140,7 @@ unfoldable pub extended_refusals : Matrix → List (Option CodeRefusal)
 extended_refusals C = bad_length (C.columns + 1) ∷ []
 
 unfoldable pub deleted_refusals : Matrix → List ℕ → List (Option CodeRefusal)
-deleted_refusals C places = refuse_if (not (is_rising places) || (list_any (nat_le C.columns) places || (length places == C.columns))) BadPositions ∷ []
+deleted_refusals C coordinates = refuse_if (not (is_rising coordinates) || (list_any (nat_le C.columns) coordinates || (length coordinates == C.columns))) BadPositions ∷ []
 
 unfoldable pub even_weight_refusals : Matrix → List (Option CodeRefusal)
 even_weight_refusals C = bad_argument (not (size C.field == 2)) 1 ∷ []

@@ -1,5 +1,5 @@
 //! What `codes` means by each code that a script can construct or combine, when a constructor refuses its arguments, and what
-//! the word of a code nearest to a received one is. The definitions stand in `specs/`.
+//! the word of a code nearest to a received one is. The definitions are in `specs/`.
 #![tactic(auto)]
 
 pub mod laws;

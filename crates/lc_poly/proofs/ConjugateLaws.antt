@@ -7,19 +7,19 @@
 --   value_cons, value_none     a value by the constant and the rest
 --   cyclotomic_zeros           a zero a^i brings those of the cyclotomic set of i
 --   product_divides            a divisor times a minimal polynomial whose zero it lacks
-use Rattle.std.proofs.Common.{◌≡◌, ◌≢◌, ℕ, zero, suc, ◌+◌, ◌*◌, ◌/◌, ◌%◌, ◌^◌, ◌<◌, ⊎_elim, List, [], ◌∷◌, map, Contains, refl, sym, ap, ◌∙◌, arith}
-use Rattle.std.proofs.Math.Nat.{pow-suc, pow-zero, mod-add-div}
+use Rattle.std.proofs.Common.{◌≡◌, ◌≢◌, ℕ, zero, suc, ◌*◌, ◌^◌, ◌<◌, ⊎_elim, List, [], ◌∷◌, map, Contains, refl, sym, ap, ◌∙◌}
+use Rattle.std.proofs.Math.Nat.{pow-suc, pow-zero}
 use Rattle.lc_algebra.specs.declared.FieldName.{FieldName}
 use Rattle.lc_algebra.specs.Field.{shape_of, size, add, mul, pow}
 use Rattle.lc_algebra.specs.Word.{Fits}
 use Rattle.lc_algebra.specs.Polynomial.{value_at, poly_product, Divides}
 use Rattle.lc_algebra.specs.Embedding.{IsSubfield, embed, IsMinimal, IsCyclotomicSet}
-use Rattle.lc_algebra.proofs.FieldLaws.{zero_inside, add_inside, mul_inside, one_mul, no_zero_divisors}
-use Rattle.lc_algebra.proofs.PowerLaws.{pow_zero, pow_suc, pow_inside, pow_add, pow_one, one_pow, zero_pow, pow_mul, mul_pow, pow_size, frobenius}
+use Rattle.lc_algebra.proofs.FieldLaws.{zero_inside, add_inside, mul_inside, no_zero_divisors}
+use Rattle.lc_algebra.proofs.PowerLaws.{pow_zero, pow_suc, pow_inside, pow_one, zero_pow, pow_mul, mul_pow, pow_size, frobenius}
 use Rattle.lc_algebra.proofs.OrderLaws.{power_of_rest}
 use Rattle.lc_algebra.proofs.EmbeddingLaws.{embed_inside, embed_one, embed_mul}
 use Rattle.lc_algebra.proofs.WordLaws.{fits_head, fits_tail}
-use Rattle.lc_poly.proofs.PolynomialLaws.{product_commutes, product_associates, product_same, same_product, value_inside}
+use Rattle.lc_algebra.proofs.PolynomialLaws.{product_commutes, product_associates, product_same, same_product, value_inside}
 use Rattle.lc_poly.proofs.QuotientLaws.{value_embedded_same, value_embedded_product, minimal_divides}
 
 pub power_sum : (f : FieldName) (a b s : ℕ) → a < size f → b < size f → pow f (add f a b) ((shape_of f).characteristic ^ s) ≡ add f (pow f a ((shape_of f).characteristic ^ s)) (pow f b ((shape_of f).characteristic ^ s))

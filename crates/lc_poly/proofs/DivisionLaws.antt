@@ -1,23 +1,22 @@
 -- Division of polynomials: one quotient and one remainder, and what divides what.
 --   division_told              what is left in place of the dividend, without last zeros
 --   first_zero                 a polynomial whose constant and other coefficients are 0
---   low_product                where the coefficients of u b vanish from the degree of b on, u is 0
 --   division_unique            there is one pair of quotient and remainder
 --   divides_exactly            the remainder is 0 exactly where the divisor divides
 --   x_power_polynomial         x^n - 1 has no last zero
 --   x_power_ends, x_power_kept, x_power_fits, x_power_told      the list that x^n - 1 is made from
 --   parts_told, divides_told   the same, of what the code holds
-use Rattle.std.proofs.Common.{◌≡◌, ℕ, zero, suc, ◌+◌, ◌-◌, ◌<◌, ◌≤◌, ◌↔◌, ⊎_elim, List, [], ◌∷◌, ◌++◌, length, slice_index, take, drop, set, replicate, Bool, IsTrue, refl, sym, ap, ◌∙◌, arith}
+use Rattle.std.proofs.Common.{◌≡◌, ℕ, zero, suc, ◌+◌, ◌-◌, ◌<◌, ◌≤◌, ◌↔◌, List, [], ◌∷◌, ◌++◌, length, slice_index, take, drop, set, replicate, Bool, IsTrue, refl, sym, ap, ◌∙◌, arith}
 use Rattle.std.proofs.lemmas.List.{get_or_past, get_or_push, length-take, length-append, length-replicate, length-set}
 use Rattle.lc_algebra.specs.declared.FieldName.{FieldName}
-use Rattle.lc_algebra.specs.Field.{add, neg, mul}
+use Rattle.lc_algebra.specs.Field.{add, neg}
 use Rattle.lc_algebra.specs.Word.{Fits}
-use Rattle.lc_algebra.specs.Polynomial.{poly_sum, poly_scale, poly_product, x_power_minus_one, SamePolynomial, IsPolynomial, IsDivision, Divides}
-use Rattle.lc_algebra.proofs.FieldLaws.{zero_inside, one_inside, neg_inside, mul_inside, add_comm, add_neg, add_cancel, zero_add, add_zero, mul_zero, neg_one_mul, subtract_zero, no_zero_divisors}
-use Rattle.lc_algebra.proofs.WordLaws.{fits_tail, fits_cons, fits_symbol}
-use Rattle.lc_poly.specs.Poly.{IsTrimmed}
-use Rattle.lc_poly.proofs.PolynomialLaws.{index_sum, index_multiple, index_both, index_product_suc, fits_sum, fits_multiple, fits_product, product_inside, same_product, sum_product, multiple_product, zeros_product, no_longer, only_polynomial}
-use Rattle.lc_poly.proofs.ListLaws.{fits_take, written_back}
+use Rattle.lc_algebra.specs.Polynomial.{trimmed, poly_sum, poly_scale, poly_product, x_power_minus_one, SamePolynomial, IsPolynomial, IsDivision, Divides}
+use Rattle.lc_algebra.proofs.FieldLaws.{zero_inside, one_inside, neg_inside, add_comm, add_neg, add_cancel, add_zero, neg_one_mul, subtract_zero}
+use Rattle.lc_algebra.proofs.WordLaws.{fits_cons, fits_symbol}
+use Rattle.lc_poly.proofs.TrimLaws.{IsTrimmed, trimmed_is}
+use Rattle.lc_algebra.proofs.PolynomialLaws.{low_product, index_sum, index_multiple, fits_sum, fits_multiple, fits_product, product_inside, same_product, sum_product, multiple_product, no_longer, only_polynomial}
+use Rattle.lc_poly.proofs.ListLaws.{fits_take, fits_drop, written_back}
 
 pub division_told : (f : FieldName) (a by w q r : List ℕ) → Fits f w → 0 < length by → SamePolynomial a (poly_sum f (poly_product f (drop (length by - 1) w) by) (take (length by - 1) w)) → IsTrimmed f (drop (length by - 1) w) q → IsTrimmed f (take (length by - 1) w) r → IsDivision f a by q r
 division_told f a by w q r h l s tq tr =
@@ -28,22 +27,6 @@ division_told f a by w q r h l s tq tr =
       lower = omega (arith, length-take m w, no_longer f (take m w) r tr.polynomial tr.same);
       whole = λ k. s k ∙ index_sum f (poly_product f (drop m w) by) (take m w) k (fits_product f (drop m w) by) (fits_take f w m h) ∙ cc (same_product f (drop m w) q by k tq.same, tr.same k) ∙ sym (index_sum f (poly_product f q by) r k (fits_product f q by) tr.polynomial.fits);
     }
-
-zero_above : (u : List ℕ) → ((i : ℕ) → slice_index u i ≡ 0) → (i : ℕ) → slice_index (0 ∷ u) i ≡ 0
-zero_above u h zero = refl
-zero_above u h (suc i) = h i
-
-pub first_zero : (c : ℕ) (u : List ℕ) → c ≡ 0 → ((i : ℕ) → slice_index u i ≡ 0) → (i : ℕ) → slice_index (c ∷ u) i ≡ 0
-first_zero c u e h zero = e
-first_zero c u e h (suc i) = h i
-
-pub low_product : (f : FieldName) (u by : List ℕ) (m : ℕ) → Fits f u → Fits f by → length by ≡ suc m → 0 < slice_index by m → ((i : ℕ) → m ≤ i → slice_index (poly_product f u by) i ≡ 0) → (i : ℕ) → slice_index u i ≡ 0
-low_product f [] by m hu hb e l z i = refl
-low_product f (c ∷ u) by m hu hb e l z i =
-    let rest : (i : ℕ) → slice_index u i ≡ 0 = low_product f u by m (fits_tail f c u hu) hb e l (λ j k. sym (zero_add f _ (product_inside f u by j)) ∙ cc (index_product_suc f c u by j, z (suc j) (omega (arith, k)), get_or_past by (suc j) 0 (omega (arith, e, k)), mul_zero f c)) in
-    let up : slice_index (0 ∷ poly_product f u by) m ≡ 0 = zero_above (poly_product f u by) (λ j. zeros_product f u by j rest) m in
-    let t : mul f c (slice_index by m) ≡ 0 = sym (add_zero f _ (mul_inside f c (slice_index by m))) ∙ cc (index_both f c u by m, up, z m (omega arith)) in
-    ⊎_elim (λ d. first_zero c u d rest i) (λ d. absurd (omega (arith, l, d))) (no_zero_divisors f c (slice_index by m) (fits_symbol f (c ∷ u) hu 0) (fits_symbol f by hb m) t)
 
 same_above : (f : FieldName) (a b q r : List ℕ) → IsDivision f a b q r → (i : ℕ) → length b - 1 ≤ i → slice_index (poly_product f q b) i ≡ slice_index a i
 same_above f a b q r d i l =
@@ -121,14 +104,16 @@ x_power_polynomial f n = record {
   leads = λ k. rw (last_one (neg f 1 ∷ replicate (n - 1) 0)) (omega arith);
 }
 
-pub x_power_told : (f : FieldName) (n : ℕ) (p : List ℕ) → IsTrimmed f (x_power_minus_one f n) p → p ≡ x_power_minus_one f n
-x_power_told f n p t = sym (only_polynomial f (x_power_minus_one f n) p (x_power_polynomial f n) t.polynomial t.same)
+pub x_power_told : (f : FieldName) (n : ℕ) (p : List ℕ) → p ≡ trimmed (x_power_minus_one f n) → p ≡ x_power_minus_one f n
+x_power_told f n p e =
+    let t = trimmed_is f (x_power_minus_one f n) p (x_power_fits f n) e in
+    sym (only_polynomial f (x_power_minus_one f n) p (x_power_polynomial f n) t.polynomial t.same)
 
-pub parts_told : (f : FieldName) (a by w x y u v q r : List ℕ) (m : ℕ) → Fits f w → 0 < length by → SamePolynomial a (poly_sum f (poly_product f (drop (length by - 1) w) by) (take (length by - 1) w)) → x ≡ w → y ≡ w → m ≡ length by - 1 → u ≡ drop m x → v ≡ take m y → IsTrimmed f u q → IsTrimmed f v r → IsDivision f a by q r
+pub parts_told : (f : FieldName) (a by w x y u v q r : List ℕ) (m : ℕ) → Fits f w → 0 < length by → SamePolynomial a (poly_sum f (poly_product f (drop (length by - 1) w) by) (take (length by - 1) w)) → x ≡ w → y ≡ w → m ≡ length by - 1 → u ≡ drop m x → v ≡ take m y → q ≡ trimmed u → r ≡ trimmed v → IsDivision f a by q r
 parts_told f a by w x y u v q r m h l s ex ey em eu ev tq tr =
     let eq : u ≡ drop (length by - 1) w = cc in
     let er : v ≡ take (length by - 1) w = cc in
-    division_told f a by w q r h l s (rw eq at tq) (rw er at tr)
+    division_told f a by w q r h l s (trimmed_is f (drop (length by - 1) w) q (fits_drop f w (length by - 1) h) (tq ∙ ap trimmed eq)) (trimmed_is f (take (length by - 1) w) r (fits_take f w (length by - 1) h) (tr ∙ ap trimmed er))
 
 pub divides_told : (f g : FieldName) (a b q r : List ℕ) (is_zero : Bool) → f ≡ g → IsPolynomial f b → IsDivision g a b q r → (IsTrue is_zero ↔ (r ≡ [])) → IsTrue is_zero ↔ Divides f b a
 divides_told f g a b q r is_zero e hb d t =

@@ -8,25 +8,24 @@
 --   new_is_apart               the set of a number that stands in no set yet is apart from all of them
 --   one_more_product           the product with one more factor
 --   product_zeros, product_multiples, product_divides_x_power      the same of each list with the product's coefficients
-use Rattle.std.proofs.Common.{◌≡◌, ◌≢◌, ℕ, zero, suc, ◌+◌, ◌-◌, ◌*◌, ◌/◌, ◌%◌, ◌^◌, ◌<◌, ◌≤◌, ◌↔◌, ⊎_elim, List, [], ◌∷◌, map, slice_index, mul-zero, All, AllPairs, Contains, refl, sym, ap, subst, ◌∙◌, arith, mod-lt}
-use Rattle.std.proofs.Math.Nat.{pow-zero, mod-add-div, mod-eq_of_lt, mul_comm, add_comm, suc-mul, mul-suc, zero-mul, mul-pos, mul-lt-mul_of_pos_left}
+use Rattle.std.proofs.Common.{◌≡◌, ◌≢◌, ℕ, zero, suc, ◌+◌, ◌*◌, ◌%◌, ◌^◌, ◌<◌, ◌≤◌, ◌↔◌, ⊎_elim, List, [], ◌∷◌, map, slice_index, mul-zero, All, AllPairs, Contains, refl, sym, ap, subst, ◌∙◌, arith, mod-lt}
+use Rattle.std.proofs.Math.Nat.{pow-zero, mod-eq_of_lt, mul_comm, add_comm, suc-mul, mul-suc}
 use Rattle.std.proofs.lemmas.Nat.{pow-add}
-use Rattle.std.proofs.lemmas.Bool.{cases_lt, cases_eq}
 use Rattle.std.proofs.lemmas.List.Elements.{All-cons, All-contains}
 use Rattle.std.proofs.lemmas.List.Kept.{AllPairs-cons}
 use Rattle.lc_algebra.specs.declared.FieldName.{FieldName}
-use Rattle.lc_algebra.specs.Field.{shape_of, size, add, neg, mul, pow, HasOrder}
+use Rattle.lc_algebra.specs.Field.{size, add, neg, mul, pow, HasOrder}
 use Rattle.lc_algebra.specs.Word.{Fits}
 use Rattle.lc_algebra.specs.Polynomial.{value_at, poly_product, x_power_minus_one, SamePolynomial, IsPolynomial, Divides}
 use Rattle.lc_algebra.specs.Embedding.{IsSubfield, embed, IsCyclotomicSet}
-use Rattle.lc_algebra.proofs.FieldLaws.{zero_inside, one_inside, add_neg, add_zero, mul_zero, zero_mul, mul_one, one_mul, no_zero_divisors}
-use Rattle.lc_algebra.proofs.PowerLaws.{pow_one, pow_size, order_divides, power_order, power_order_least, pow_inside, pow_add, one_pow, zero_pow, pow_mul, pow_nonzero, mul_cancel}
+use Rattle.lc_algebra.proofs.FieldLaws.{zero_inside, one_inside, add_neg, add_zero, mul_zero, zero_mul, one_mul, no_zero_divisors}
+use Rattle.lc_algebra.proofs.PowerLaws.{pow_one, pow_size, pow_inside, one_pow, pow_mul}
 use Rattle.lc_algebra.proofs.OrderLaws.{power_of_rest, equal_powers}
 use Rattle.lc_algebra.proofs.EmbeddingLaws.{embed_one}
 use Rattle.lc_algebra.proofs.WordLaws.{fits_cons, fits_symbol}
 use Rattle.lc_algebra.proofs.SpanLaws.{contains_head, contains_tail, contains_cases}
 use Rattle.lc_poly.specs.Factors.{Factor, IsFactor, AreApart, AreFactors, StandsIn, product_of}
-use Rattle.lc_poly.proofs.PolynomialLaws.{index_both, fits_product, product_commutes, product_same, same_product, value_inside}
+use Rattle.lc_algebra.proofs.PolynomialLaws.{index_both, fits_product, product_commutes, product_same, same_product, value_inside}
 use Rattle.lc_poly.proofs.MinimalLaws.{value_x_power, embedded_x_power}
 use Rattle.lc_poly.proofs.DivisionLaws.{x_power_polynomial}
 use Rattle.lc_poly.proofs.QuotientLaws.{value_embedded_same, value_embedded_product}

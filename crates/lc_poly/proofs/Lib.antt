@@ -1,4 +1,4 @@
-pub mod PolynomialLaws
+pub mod TrimLaws
 pub mod ListLaws
 pub mod DivisionLaws
 pub mod MinimalLaws

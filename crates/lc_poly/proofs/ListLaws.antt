@@ -1,5 +1,5 @@
 -- What the loops over lists of coefficients keep, and what they end with.
---   trimmed                     the coefficients up to the last nonzero one
+--   taken_trimmed               the coefficients up to the last nonzero one
 --   value_none, value_step      Horner's rule, coefficient by coefficient from the last one down
 --   IsAdded                     some coefficients of a multiple are added
 --   added_step, added_whole     one more, and all of them
@@ -23,11 +23,11 @@ use Rattle.lc_algebra.specs.Word.{Fits}
 use Rattle.lc_algebra.specs.Polynomial.{value_at, poly_sum, poly_product, SamePolynomial}
 use Rattle.lc_algebra.proofs.FieldLaws.{zero_inside, mul_inside, add_comm, add_assoc, zero_add, add_zero, add_neg, mul_comm, mul_assoc, mul_one, neg_mul, mul_zero}
 use Rattle.lc_algebra.proofs.WordLaws.{fits_cons, fits_symbol}
-use Rattle.lc_poly.specs.Poly.{IsTrimmed}
-use Rattle.lc_poly.proofs.PolynomialLaws.{index_sum, index_both, index_product_zero, index_product_suc, fits_product, same_product}
+use Rattle.lc_poly.proofs.TrimLaws.{IsTrimmed}
+use Rattle.lc_algebra.proofs.PolynomialLaws.{index_sum, index_both, index_product_zero, index_product_suc, fits_product, same_product}
 
-pub trimmed : (f : FieldName) (u : List ℕ) (n : ℕ) → Fits f u → n ≤ length u → (0 < n → 0 < slice_index u (n - 1)) → ((i : ℕ) → n ≤ i → slice_index u i ≡ 0) → IsTrimmed f u (take n u)
-trimmed f u n h l leads zeros =
+pub taken_trimmed : (f : FieldName) (u : List ℕ) (n : ℕ) → Fits f u → n ≤ length u → (0 < n → 0 < slice_index u (n - 1)) → ((i : ℕ) → n ≤ i → slice_index u i ≡ 0) → IsTrimmed f u (take n u)
+taken_trimmed f u n h l leads zeros =
     let e : length (take n u) ≡ n = length-take-le n u l in
     record {
       same = λ i. ⊎_elim (λ k. sym (get_or-take n u i 0 k)) (λ k. zeros i k ∙ sym (get_or_past (take n u) i 0 (omega (arith, e, k)))) (cases_lt i n);

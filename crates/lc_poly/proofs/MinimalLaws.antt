@@ -17,15 +17,15 @@ use Rattle.std.proofs.lemmas.List.{drop_more, drop-set, get_or-set_same, get_or-
 use Rattle.lc_algebra.specs.declared.FieldName.{FieldName}
 use Rattle.lc_algebra.specs.Field.{size, add, neg, mul, pow}
 use Rattle.lc_algebra.specs.Word.{Fits}
-use Rattle.lc_algebra.specs.Polynomial.{value_at, poly_scale, x_power_minus_one, IsPolynomial}
+use Rattle.lc_algebra.specs.Polynomial.{value_at, poly_scale, x_power_minus_one, IsPolynomial, trimmed}
 use Rattle.lc_algebra.specs.Embedding.{IsSubfield, embed, IsMinimal}
 use Rattle.lc_algebra.proofs.FieldLaws.{zero_inside, one_inside, add_inside, mul_inside, add_comm, add_neg, zero_add, add_zero, mul_comm, mul_swap, mul_add, mul_zero, mul_one, mul_neg, inverse_of}
 use Rattle.lc_algebra.proofs.PowerLaws.{pow_zero, pow_suc, pow_size}
 use Rattle.lc_algebra.proofs.EmbeddingLaws.{embed_zero, embed_one, embed_mul, embed_neg}
 use Rattle.lc_algebra.proofs.WordLaws.{fits_head, fits_tail, fits_cons, fits_symbol}
-use Rattle.lc_poly.specs.Poly.{IsTrimmed}
+use Rattle.lc_poly.proofs.TrimLaws.{trimmed_is}
 use Rattle.lc_poly.specs.Minimal.{next_value, Reaches}
-use Rattle.lc_poly.proofs.PolynomialLaws.{index_multiple, fits_multiple, only_polynomial}
+use Rattle.lc_algebra.proofs.PolynomialLaws.{index_multiple, fits_multiple, only_polynomial}
 use Rattle.lc_poly.proofs.ListLaws.{fits_set, fits_zeros, dropped}
 use Rattle.lc_poly.proofs.DivisionLaws.{x_power_polynomial}
 
@@ -221,7 +221,8 @@ module _ (small large : FieldName) (a : ℕ) (s : IsSubfield small large) (insid
         least = λ v pv zv l. ⊎_elim (λ b. absurd (none (length v - 1) (omega (arith, l, h.long, b)) (polynomial_reached v pv b zv))) (λ b. nothing v b) (cases_lt 0 (length v));
       }
 
-pub minimal_trimmed : (small large : FieldName) (a : ℕ) (list p : List ℕ) → IsMinimal small large a list → IsTrimmed small list p → IsMinimal small large a p
-minimal_trimmed small large a list p h t =
+pub minimal_trimmed : (small large : FieldName) (a : ℕ) (list p : List ℕ) → IsMinimal small large a list → p ≡ trimmed list → IsMinimal small large a p
+minimal_trimmed small large a list p h e =
+    let t = trimmed_is small list p h.polynomial.fits e in
     let same : list ≡ p = only_polynomial small list p h.polynomial t.polynomial t.same in
     rw same at h

@@ -10,44 +10,19 @@ use Rattle.std.proofs.lemmas.List.{get_or_past, get_or-take, length-take}
 use Rattle.lc_algebra.specs.declared.FieldName.{FieldName}
 use Rattle.lc_algebra.specs.Field.{size, add, neg, mul}
 use Rattle.lc_algebra.specs.Word.{Fits}
-use Rattle.lc_algebra.specs.Polynomial.{value_at, poly_sum, poly_scale, poly_product, SamePolynomial, IsPolynomial, IsDivision, Divides}
+use Rattle.lc_algebra.specs.Polynomial.{value_at, poly_sum, poly_scale, poly_product, SamePolynomial, IsPolynomial, IsDivision, Divides, trimmed}
 use Rattle.lc_algebra.specs.Embedding.{IsSubfield, embed, IsMinimal}
 use Rattle.lc_algebra.proofs.FieldLaws.{zero_inside, mul_inside, zero_add, add_zero, mul_comm, mul_assoc, mul_add, add_mul, mul_zero, zero_mul, mul_one, neg_mul, inverse_of}
 use Rattle.lc_algebra.proofs.EmbeddingLaws.{embed_zero, embed_add}
 use Rattle.lc_algebra.proofs.WordLaws.{fits_head, fits_tail, fits_cons, fits_symbol, add_exchange}
-use Rattle.lc_poly.specs.Poly.{IsTrimmed}
-use Rattle.lc_poly.proofs.PolynomialLaws.{index_sum, index_multiple, fits_sum, fits_multiple, fits_product, same_product, value_inside, value_same, no_longer}
-use Rattle.lc_poly.proofs.ListLaws.{trimmed, fits_take, part_high, one_more, undone}
-use Rattle.lc_poly.proofs.DivisionLaws.{first_zero, divides_exactly}
+use Rattle.lc_algebra.proofs.PolynomialLaws.{index_sum, index_multiple, fits_sum, fits_multiple, fits_product, same_product, value_inside, value_same, no_longer}
+use Rattle.lc_poly.proofs.TrimLaws.{IsTrimmed, trimmed_is}
+use Rattle.lc_poly.proofs.ListLaws.{fits_take, part_high, one_more, undone}
+use Rattle.lc_poly.proofs.DivisionLaws.{divides_exactly}
 use Rattle.lc_poly.proofs.MinimalLaws.{value_scaled}
 
-later : (c : ℕ) (u : List ℕ) (n : ℕ) → ((i : ℕ) → n ≤ i → slice_index u i ≡ 0) → (i : ℕ) → suc n ≤ i → slice_index (c ∷ u) i ≡ 0
-later c u n z zero l = absurd (omega (arith, l))
-later c u n z (suc i) l = z i (omega (arith, l))
-
-record IsSignificant (u : List ℕ) (n : ℕ) : Type 0 where
-  within : n ≤ length u
-  leads : 0 < n → 0 < slice_index u (n - 1)
-  zeros : (i : ℕ) → n ≤ i → slice_index u i ≡ 0
-
-significant_cons : (c : ℕ) (u : List ℕ) (n : ℕ) → IsSignificant u n → (k : ℕ) × IsSignificant (c ∷ u) k
-significant_cons zero u zero h = (0, record { within = omega arith; leads = λ k. absurd (omega (arith, k)); zeros = λ i k. first_zero 0 u refl (λ j. h.zeros j (omega arith)) i })
-significant_cons (suc c) u zero h = (1, record { within = omega arith; leads = λ k. omega arith; zeros = later (suc c) u 0 h.zeros })
-significant_cons c u (suc n) h = (
-  suc (suc n),
-  record {
-    within = omega (arith, h.within);
-    leads = λ k. let e : suc (suc n) - 1 ≡ suc n = omega arith in let d : suc n - 1 ≡ n = omega arith in rw e (rw d at (h.leads (omega arith)));
-    zeros = later c u (suc n) h.zeros;
-  },
-)
-
-significant : (u : List ℕ) → (n : ℕ) × IsSignificant u n
-significant [] = (0, record { within = omega arith; leads = λ l. absurd (omega (arith, l)); zeros = λ i l. refl })
-significant (c ∷ u) = let t = significant u in significant_cons c u t.0 t.1
-
 pub trimmed_exists : (f : FieldName) (u : List ℕ) → Fits f u → (v : List ℕ) × IsTrimmed f u v
-trimmed_exists f u h = let t = significant u in (take t.0 u, trimmed f u t.0 h t.1.within t.1.leads t.1.zeros)
+trimmed_exists f u h = (trimmed u, trimmed_is f u (trimmed u) h refl)
 
 record AreParts (f : FieldName) (m : ℕ) (b a q r : List ℕ) : Type 0 where
   quotient : Fits f q

@@ -26,7 +26,7 @@ use Rattle.lc_algebra.proofs.EmbeddingLaws.{embed_inside, embed_injective}
 use Rattle.lc_algebra.proofs.WordLaws.{fits_cons}
 use Rattle.lc_algebra.proofs.SpanLaws.{contains_head, contains_tail, contains_cases, contains_map, contains_below, length_below}
 use Rattle.lc_algebra.proofs.DimensionLaws.{AreDistinct, distinct_map, distinct_below}
-use Rattle.lc_poly.proofs.PolynomialLaws.{index_product_zero, index_product_suc, product_inside, product_commutes, product_associates, product_same, same_product, value_inside, value_product}
+use Rattle.lc_algebra.proofs.PolynomialLaws.{index_product_zero, index_product_suc, product_inside, product_commutes, product_associates, product_same, same_product, value_inside, value_product}
 use Rattle.lc_poly.proofs.DivisionLaws.{x_power_polynomial}
 use Rattle.lc_poly.proofs.MinimalLaws.{value_x_power, length_x_power, last_up}
 use Rattle.lc_poly.proofs.ZeroLaws.{few_zeros}

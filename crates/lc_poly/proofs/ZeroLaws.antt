@@ -1,6 +1,5 @@
 -- The zeros of a polynomial.
---   lowered f a u            the quotient of u less its value at a, on division by x - a
---   length_lowered, fits_lowered, lowered_value, lowered_zeros      what that is
+--   lowered_value, lowered_zeros      the quotient of u less its value at a, on division by x - a
 --   few_zeros                a polynomial with as many distinct zeros as coefficients is 0
 --   zeros_at_most            so one of degree d, but 0, has at most d zeros
 use Rattle.std.proofs.Common.{◌≡◌, ◌≢◌, ℕ, zero, suc, ◌-◌, ◌<◌, ◌≤◌, ⊎_elim, List, [], ◌∷◌, length, slice_index, AllPairs, Contains, refl, sym, ap, subst, ◌∙◌, arith}
@@ -10,27 +9,10 @@ use Rattle.lc_algebra.specs.Field.{size, add, neg, mul}
 use Rattle.lc_algebra.specs.Word.{Fits}
 use Rattle.lc_algebra.specs.Polynomial.{value_at, IsPolynomial}
 use Rattle.lc_algebra.proofs.FieldLaws.{zero_inside, add_inside, mul_inside, add_comm, add_assoc, add_neg, zero_add, add_zero, mul_swap, mul_add, add_mul, mul_zero, subtract_zero, no_zero_divisors}
-use Rattle.lc_algebra.proofs.WordLaws.{fits_head, fits_tail, fits_cons}
+use Rattle.lc_algebra.proofs.WordLaws.{fits_head, fits_tail}
 use Rattle.lc_algebra.proofs.SpanLaws.{contains_head, contains_tail}
-use Rattle.lc_algebra.proofs.DimensionLaws.{AreDistinct}
-use Rattle.lc_poly.proofs.PolynomialLaws.{value_inside}
-
-unfoldable pub lowered : FieldName → ℕ → List ℕ → List ℕ
-lowered f a [] = []
-lowered f a (c ∷ []) = []
-lowered f a (c ∷ d ∷ u) = value_at f (d ∷ u) a ∷ lowered f a (d ∷ u)
-
-pub length_lowered : (f : FieldName) (a : ℕ) (u : List ℕ) → length (lowered f a u) ≡ length u - 1
-unfolding lowered
-length_lowered f a [] = omega arith
-length_lowered f a (c ∷ []) = omega arith
-length_lowered f a (c ∷ d ∷ u) = omega (arith, length_lowered f a (d ∷ u))
-
-pub fits_lowered : (f : FieldName) (a : ℕ) (u : List ℕ) → Fits f (lowered f a u)
-unfolding lowered
-fits_lowered f a [] = λ i l. zero_inside f
-fits_lowered f a (c ∷ []) = λ i l. zero_inside f
-fits_lowered f a (c ∷ d ∷ u) = fits_cons f (value_at f (d ∷ u) a) (lowered f a (d ∷ u)) (value_inside f (d ∷ u) a) (fits_lowered f a (d ∷ u))
+use Rattle.lc_algebra.proofs.DimensionLaws.{AreDistinct, distinct_from_pairs}
+use Rattle.lc_algebra.proofs.PolynomialLaws.{value_inside, lowered, length_lowered, fits_lowered}
 
 value_cons : (f : FieldName) (c : ℕ) (u : List ℕ) (x : ℕ) → value_at f (c ∷ u) x ≡ add f c (mul f x (value_at f u x))
 unfolding value_at
@@ -94,10 +76,6 @@ few_zeros f (c ∷ u) (a ∷ xs) h d z l i =
     let zx = z x (contains_tail a x xs m) in
     (zx.0, other_zero f a (c ∷ u) x za.0 zx.0 h za.1 zx.1 (λ e. d.0 (subst (Contains xs) e m))) in
     lowered_zeros f a (c ∷ u) h za.1 (few_zeros f (lowered f a (c ∷ u)) xs (fits_lowered f a (c ∷ u)) d.1 each (omega (arith, l, length_lowered f a (c ∷ u)))) i
-
-distinct_from_pairs : (xs : List ℕ) → AllPairs (λ x y. x ≢ y) xs → AreDistinct xs
-distinct_from_pairs [] h = tt
-distinct_from_pairs (x ∷ xs) h = ((λ c. h 0 (suc c.0) x (omega arith) (omega (arith, c.1)) (sym c.2)), distinct_from_pairs xs (λ i j d l m. h (suc i) (suc j) d (omega (arith, l)) (omega (arith, m))))
 
 pub zeros_at_most : (f : FieldName) (u xs : List ℕ) → IsPolynomial f u → u ≢ [] → AllPairs (λ x y. x ≢ y) xs → ((x : ℕ) → Contains xs x → (x < size f) × (value_at f u x ≡ 0)) → length xs < length u
 zeros_at_most f [] xs p n d z = absurd (n refl)

@@ -6,7 +6,7 @@
 --   AreFactors small large b n ts  each of ts is a factor, and any two are apart
 --   StandsIn ts k                  k stands in one of the sets
 --   product_of f ts                the product of the polynomials, the last one first; of none it is 1
-use Rattle.std.specs.Prelude.{◌≡◌, ◌≢◌, ℕ, ◌<◌, ◌≤◌, List, [], ◌∷◌, All, AllPairs, Contains}
+use Rattle.std.specs.Prelude.{ℕ, List, [], ◌∷◌, All, AllPairs, Contains}
 use Rattle.lc_algebra.specs.declared.FieldName.{FieldName}
 use Rattle.lc_algebra.specs.Field.{size, pow}
 use Rattle.lc_algebra.specs.Polynomial.{poly_product}

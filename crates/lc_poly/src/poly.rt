@@ -2,8 +2,7 @@
 ghost use Rattle.std.specs.Prelude.{◌≡◌, ◌≢◌, ◌<◌, ◌≤◌, ◌↔◌, IfOk, IsTrue, [], length};
 ghost use Rattle.lc_algebra.specs.Field.{size};
 ghost use Rattle.lc_algebra.specs.Word.{Fits};
-ghost use Rattle.lc_algebra.specs.Polynomial.{value_at, poly_product, x_power_minus_one, IsPolynomial, IsDivision, Divides};
-ghost use Rattle.lc_poly.specs.Poly.{IsTrimmed};
+ghost use Rattle.lc_algebra.specs.Polynomial.{trimmed, value_at, poly_product, x_power_minus_one, IsPolynomial, IsDivision, Divides};
 
 use crate::arithmetic::{copied, divided, lower, product, significant, upper, value, x_power_list};
 use lc_field::{Field, NoMemory};
@@ -34,11 +33,11 @@ impl Model for Poly {
 impl Poly {
     /// The polynomial with the coefficients of `list`, from the constant upwards: zeros at its end are dropped. Each
     /// coefficient is below the field's size.
-    #[tactic(auto, using(crate::proofs::ListLaws::trimmed))]
+    #[tactic(auto, using(crate::proofs::ListLaws::taken_trimmed))]
     pub fn from_list(alloc: Global, field: &Field, list: &[u8]) -> Result<Poly, NoMemory>
         requires list { Fits field.now list.now }
         ensures field { IfOk result (λ p. p.field ≡ field.now) }
-        ensures coefficients { IfOk result (λ p. IsTrimmed field.now list.now p.coefficients) }
+        ensures coefficients { IfOk result (λ p. p.coefficients ≡ trimmed list.now) }
     {
         let coefficients = copied(alloc, &list[..significant(list)])?;
         Ok(Poly {
@@ -75,7 +74,7 @@ impl Poly {
     pub fn mul(&self, alloc: Global, other: &Poly) -> Result<Poly, NoMemory>
         requires field { self.now.field ≡ other.now.field }
         ensures field { IfOk result (λ p. p.field ≡ self.now.field) }
-        ensures product { IfOk result (λ p. IsTrimmed self.now.field (poly_product self.now.field self.now.coefficients other.now.coefficients) p.coefficients) }
+        ensures product { IfOk result (λ p. p.coefficients ≡ trimmed (poly_product self.now.field self.now.coefficients other.now.coefficients)) }
     {
         let product = product(alloc, &self.field, &self.coefficients, &other.coefficients)?;
         Poly::from_list(alloc, &self.field, &product)

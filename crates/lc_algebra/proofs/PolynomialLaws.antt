@@ -17,14 +17,19 @@
 -- Without last zeros
 --   no_longer                            a polynomial without last zeros is no longer than any list with its coefficients
 --   only_polynomial                      there is one list without last zeros for a polynomial
-use Rattle.std.proofs.Common.{◌≡◌, ℕ, zero, suc, ◌-◌, ◌<◌, ◌≤◌, ⊎_elim, List, [], ◌∷◌, length, slice_index, refl, sym, ap, ◌∙◌, arith}
+-- Division
+--   zero_above, first_zero               lists of zeros
+--   low_product                          a multiple with no more coefficients than the degree is 0
+--   lowered f a u                        the quotient of u less its value at a, on division by x - a
+--   length_lowered, fits_lowered, value_from_lowered, index_lowered, step_lowered      its length, elements and coefficients
+use Rattle.std.proofs.Common.{◌≡◌, ℕ, zero, suc, ◌-◌, ◌<◌, ◌≤◌, ⊎_elim, List, [], ◌∷◌, length, drop, slice_index, refl, sym, ap, ◌∙◌, arith}
 use Rattle.std.proofs.lemmas.Bool.{cases_lt}
 use Rattle.std.proofs.lemmas.List.{get_or_past}
 use Rattle.lc_algebra.specs.declared.FieldName.{FieldName}
 use Rattle.lc_algebra.specs.Field.{size, add, mul}
 use Rattle.lc_algebra.specs.Word.{Fits}
 use Rattle.lc_algebra.specs.Polynomial.{value_at, poly_sum, poly_scale, poly_product, SamePolynomial, IsPolynomial}
-use Rattle.lc_algebra.proofs.FieldLaws.{zero_inside, add_inside, mul_inside, add_comm, add_assoc, zero_add, add_zero, mul_comm, mul_assoc, mul_swap, mul_add, add_mul, mul_zero, zero_mul}
+use Rattle.lc_algebra.proofs.FieldLaws.{no_zero_divisors, zero_inside, add_inside, mul_inside, add_comm, add_assoc, zero_add, add_zero, mul_comm, mul_assoc, mul_swap, mul_add, add_mul, mul_zero, zero_mul}
 use Rattle.lc_algebra.proofs.WordLaws.{fits_tail, fits_cons, fits_symbol, same_words, add_exchange}
 
 pub index_sum : (f : FieldName) (u v : List ℕ) (i : ℕ) → Fits f u → Fits f v → slice_index (poly_sum f u v) i ≡ add f (slice_index u i) (slice_index v i)
@@ -197,3 +202,59 @@ no_longer f u v p s =
 
 pub only_polynomial : (f : FieldName) (u v : List ℕ) → IsPolynomial f u → IsPolynomial f v → SamePolynomial u v → u ≡ v
 only_polynomial f u v p q s = same_words u v (omega (arith, no_longer f u v q s, no_longer f v u p (λ i. sym (s i)))) s
+
+-- ---- division
+
+zero_above : (u : List ℕ) → ((i : ℕ) → slice_index u i ≡ 0) → (i : ℕ) → slice_index (0 ∷ u) i ≡ 0
+zero_above u h zero = refl
+zero_above u h (suc i) = h i
+
+pub first_zero : (c : ℕ) (u : List ℕ) → c ≡ 0 → ((i : ℕ) → slice_index u i ≡ 0) → (i : ℕ) → slice_index (c ∷ u) i ≡ 0
+first_zero c u e h zero = e
+first_zero c u e h (suc i) = h i
+
+pub low_product : (f : FieldName) (u by : List ℕ) (m : ℕ) → Fits f u → Fits f by → length by ≡ suc m → 0 < slice_index by m → ((i : ℕ) → m ≤ i → slice_index (poly_product f u by) i ≡ 0) → (i : ℕ) → slice_index u i ≡ 0
+low_product f [] by m hu hb e l z i = refl
+low_product f (c ∷ u) by m hu hb e l z i =
+    let rest : (i : ℕ) → slice_index u i ≡ 0 = low_product f u by m (fits_tail f c u hu) hb e l (λ j k. sym (zero_add f _ (product_inside f u by j)) ∙ cc (index_product_suc f c u by j, z (suc j) (omega (arith, k)), get_or_past by (suc j) 0 (omega (arith, e, k)), mul_zero f c)) in
+    let up : slice_index (0 ∷ poly_product f u by) m ≡ 0 = zero_above (poly_product f u by) (λ j. zeros_product f u by j rest) m in
+    let t : mul f c (slice_index by m) ≡ 0 = sym (add_zero f _ (mul_inside f c (slice_index by m))) ∙ cc (index_both f c u by m, up, z m (omega arith)) in
+    ⊎_elim (λ d. first_zero c u d rest i) (λ d. absurd (omega (arith, l, d))) (no_zero_divisors f c (slice_index by m) (fits_symbol f (c ∷ u) hu 0) (fits_symbol f by hb m) t)
+
+unfoldable pub lowered : FieldName → ℕ → List ℕ → List ℕ
+lowered f a [] = []
+lowered f a (c ∷ []) = []
+lowered f a (c ∷ d ∷ u) = value_at f (d ∷ u) a ∷ lowered f a (d ∷ u)
+
+pub length_lowered : (f : FieldName) (a : ℕ) (u : List ℕ) → length (lowered f a u) ≡ length u - 1
+unfolding lowered
+length_lowered f a [] = omega arith
+length_lowered f a (c ∷ []) = omega arith
+length_lowered f a (c ∷ d ∷ u) = omega (arith, length_lowered f a (d ∷ u))
+
+pub fits_lowered : (f : FieldName) (a : ℕ) (u : List ℕ) → Fits f (lowered f a u)
+unfolding lowered
+fits_lowered f a [] = λ i l. zero_inside f
+fits_lowered f a (c ∷ []) = λ i l. zero_inside f
+fits_lowered f a (c ∷ d ∷ u) = fits_cons f (value_at f (d ∷ u) a) (lowered f a (d ∷ u)) (value_inside f (d ∷ u) a) (fits_lowered f a (d ∷ u))
+
+pub value_from_lowered : (f : FieldName) (a : ℕ) (u : List ℕ) → value_at f u a ≡ add f (slice_index u 0) (mul f a (slice_index (lowered f a u) 0))
+unfolding value_at lowered
+value_from_lowered f a [] = sym (cc (mul_zero f a, zero_add f 0 (zero_inside f)))
+value_from_lowered f a (c ∷ []) = refl
+value_from_lowered f a (c ∷ d ∷ u) = refl
+
+pub index_lowered : (f : FieldName) (a : ℕ) (u : List ℕ) (k : ℕ) → slice_index (lowered f a u) k ≡ value_at f (drop (suc k) u) a
+unfolding value_at lowered
+index_lowered f a [] k = refl
+index_lowered f a (c ∷ []) zero = refl
+index_lowered f a (c ∷ []) (suc k) = refl
+index_lowered f a (c ∷ d ∷ u) zero = refl
+index_lowered f a (c ∷ d ∷ u) (suc k) = index_lowered f a (d ∷ u) k
+
+pub step_lowered : (f : FieldName) (a : ℕ) (u : List ℕ) (k : ℕ) → slice_index (lowered f a u) k ≡ add f (slice_index u (suc k)) (mul f a (slice_index (lowered f a u) (suc k)))
+unfolding lowered
+step_lowered f a [] k = sym (cc (mul_zero f a, zero_add f 0 (zero_inside f)))
+step_lowered f a (c ∷ []) k = sym (cc (mul_zero f a, zero_add f 0 (zero_inside f)))
+step_lowered f a (c ∷ d ∷ u) zero = value_from_lowered f a (d ∷ u)
+step_lowered f a (c ∷ d ∷ u) (suc k) = step_lowered f a (d ∷ u) k
