@@ -13,3 +13,4 @@ pub mod BchExamples
 pub mod GolayExamples
 pub mod ExtendedGolayExamples
 pub mod GolaySessionExamples
+pub mod PlanLaws

@@ -4,27 +4,25 @@
 --   few_in_block                   a block has at most 4,096 words
 --   at_place                       the word at a place, from the word of its block
 --   found_is, found_has, found_between      what is found in some blocks is what the words at their places are
---   find_only                      a test that one element alone passes finds it
---   one_phase                      a block belongs to one phase
---   phase_is, words_in_phase       the phase of a block, and its words
+--   words_in_phase                 the words of a block, in its phase
 --   beats_is_less                  on the board the order is that of the values
 --   beats_itself, beats_through, beats_back, beaten_both      beating is a total order
 --   least_is, least_in_is, least_one      the least of some founds is the one that no other beats
-use Rattle.std.proofs.Common.{◌≡◌, ℕ, zero, suc, ◌+◌, ◌-◌, ◌*◌, ◌/◌, ◌%◌, ◌^◌, ◌<◌, ◌≤◌, ◌↔◌, ◌⊎◌, Bool, true, false, ◌&&◌, nat_lt, nat_le, List, [], ◌∷◌, length, map, take, drop, option_map, slice_index_or, slice_get, Some, None, Contains, find, unwrap_or, is_some, Option, refl, sym, ap, subst, ◌∙◌, inl, inr, ⊎_elim, arith}
-use Rattle.std.proofs.lemmas.Bool.{cases_lt, cases_Bool, and_from, and_parts, false≢true, leb-true, ltb-true, le-leb, lt-ltb}
+use Rattle.std.proofs.Common.{◌≡◌, ℕ, zero, suc, ◌+◌, ◌-◌, ◌*◌, ◌/◌, ◌%◌, ◌^◌, ◌<◌, ◌≤◌, ◌↔◌, ◌⊎◌, true, false, nat_lt, List, [], ◌∷◌, length, map, take, drop, option_map, slice_index_or, slice_get, Some, None, Contains, unwrap_or, is_some, Option, refl, sym, ap, subst, ◌∙◌, inl, inr, ⊎_elim, arith}
+use Rattle.std.proofs.lemmas.Bool.{cases_lt, cases_Bool, false≢true}
 use Rattle.std.proofs.lemmas.Bool.Decides.{nat_tests}
 use Rattle.std.proofs.lemmas.Nat.{div-mul-add, mod-mul-add}
 use Rattle.std.proofs.Math.Nat.{mod-add-div', mod-lt}
 use Rattle.std.proofs.lemmas.List.{length-map, length-take}
 use Rattle.lc_algebra.specs.Field.{size}
 use Rattle.lc_algebra.specs.Word.{weight}
-use Rattle.lc_algebra.specs.Span.{below}
 use Rattle.lc_algebra.specs.Matrix.{Matrix}
 use Rattle.lc_enumeration.specs.Message.{numbers_from, messages}
-use Rattle.lc_enumeration.specs.Plan.{cut, place_of, phase_of, phase_level, phase_at, blocks_before, block_messages, IsInPhase}
+use Rattle.lc_enumeration.specs.Plan.{place_of, phase_of, phase_level, blocks_before, block_messages, IsInPhase}
 use Rattle.lc_enumeration.specs.Search.{Found, word_of, block_words, word_at, beats, found_along, found_in_block, found_from, board_value, least_of, least_in}
 use Rattle.lc_enumeration.specs.Truth.{IsAtPlace, IsFoundBetween, IsLeastOf}
-use Rattle.lc_algebra.proofs.SpanLaws.{contains_head, contains_tail, contains_cases, contains_flat_map, flat_map_contains, contains_below, below_contains}
+use Rattle.lc_enumeration.proofs.PlanLaws.{phase_is}
+use Rattle.lc_algebra.proofs.SpanLaws.{contains_head, contains_tail, contains_cases, contains_flat_map, flat_map_contains}
 use Rattle.lc_algebra.proofs.DivisorLaws.{no_member}
 
 pub numbers_within : (i n b : ℕ) → Contains (numbers_from i n) b → (i ≤ b) × (b < i + n)
@@ -116,54 +114,6 @@ found_has C m first count x h =
 
 pub found_between : (C : Matrix) (m first count : ℕ) (x : Found) → Contains (found_from C m first count) x ↔ IsFoundBetween C m first count x
 found_between C m first count x = (found_is C m first count x, found_has C m first count x)
-
--- a test that one element of a list passes and no other one finds it
-pub find_only : {X : Type 0} (p : X → Bool) (xs : List X) (x : X) → Contains xs x → p x ≡ true → ((y : X) → Contains xs y → p y ≡ true → y ≡ x) → find p xs ≡ Some x
-find_only p [] x (k, l, s) t one = absurd (omega (arith, l))
-find_only p (y ∷ xs) x l t one =
-    ⊎_elim
-    (λ e. rw e (ap Some (one y (contains_head y xs) e)))
-    (λ e. rw e (find_only p xs x
-    (⊎_elim (λ s. absurd (false≢true (sym e ∙ ap p s ∙ t))) (λ r. r) (contains_cases y x xs l))
-    t (λ z r u. one z (contains_tail y z xs r) u)))
-    (cases_Bool (p y))
-
-blocks_rise : (k q m p j : ℕ) → blocks_before k q m p ≤ blocks_before k q m (p + j)
-unfolding blocks_before
-blocks_rise k q m p zero = let f : p + 0 ≡ p = omega arith in rw f (omega arith)
-blocks_rise k q m p (suc j) = let f : p + suc j ≡ suc (p + j) = omega arith in rw f (omega (arith, blocks_rise k q m p j))
-
--- the bounds of a phase below the cut are the numbers of blocks before it and after it
-within : (k q m p b : ℕ) → IsInPhase k q m p b → (blocks_before k q m p ≤ b) × (b < blocks_before k q m (suc p)) × (b < cut)
-unfolding phase_at
-within k q m p b h = let a = h.after in let l = h.before in (omega (arith, a, l), omega (arith, l), omega (arith, l))
-
-in_order : (k q m p r b : ℕ) → IsInPhase k q m p b → IsInPhase k q m r b → p < r → ⊥
-in_order k q m p r b h i l =
-    let j : suc p + (r - suc p) ≡ r = omega (arith, l) in
-    let rise : blocks_before k q m (suc p) ≤ blocks_before k q m r = rw j at (blocks_rise k q m (suc p) (r - suc p)) in
-    omega (arith, (within k q m p b h).1, (within k q m r b i).0, rise)
-
-pub one_phase : (k q m p r b : ℕ) → IsInPhase k q m p b → IsInPhase k q m r b → p ≡ r
-one_phase k q m p r b h i =
-    ⊎_elim
-    (λ l. absurd (in_order k q m p r b h i l))
-    (λ l. ⊎_elim (λ n. absurd (in_order k q m r p b i h n)) (λ n. omega (arith, l, n)) (cases_lt r p))
-    (cases_lt p r)
-
-pub phase_is : (k q m p b : ℕ) → IsInPhase k q m p b → phase_of k q m b ≡ Some p
-unfolding phase_of
-phase_is k q m p b h =
-    find_only (λ r. nat_le (phase_at k q m r).start b && nat_lt b (phase_at k q m r).end) (below (k * m)) p
-    (below_contains (k * m) p h.phase)
-    (and_from (nat_le (phase_at k q m p).start b) (nat_lt b (phase_at k q m p).end) (le-leb (phase_at k q m p).start b h.after) (lt-ltb b (phase_at k q m p).end h.before))
-    (λ r l t.
-    let a = and_parts (nat_le (phase_at k q m r).start b) (nat_lt b (phase_at k q m r).end) t in
-    one_phase k q m r p b (record {
-      phase = contains_below (k * m) r l;
-      after = leb-true (phase_at k q m r).start b a.0;
-      before = ltb-true b (phase_at k q m r).end a.1;
-    }) h)
 
 pub words_in_phase : (C : Matrix) (m p b : ℕ) → IsInPhase (length C.rows) (size C.field) m p b → block_words C m b ≡ map (word_of C m p) (block_messages (length C.rows) (size C.field) m p b)
 unfolding block_words

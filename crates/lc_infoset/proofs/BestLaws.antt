@@ -2,6 +2,8 @@
 --   first_message, first_listed      the first message of level 1
 --   product_positive           a product of positive numbers
 --   first_phase, first_at_zero       block 0 is in phase 0, and the word at place 0 is the one of that message
+--   first_weight, first_place  its weight and its place
+--   best_is                    the best is the least of what is found
 --   not_lighter                what doesn't beat another is no lighter
 --   found_at_most, first_at_most     the best is no heavier than what is found in the blocks, and than the word at place 0
 --   seen_at_most               nor than a word that is seen
@@ -30,11 +32,11 @@ use Rattle.lc_enumeration.specs.Plan.{phase_level, phase_set, phase_at, phase_of
 use Rattle.lc_enumeration.specs.Search.{Found, set_count, generator_at, word_of, block_words, word_at, beats, found_from, found_first, found_below, best, bound}
 use Rattle.lc_enumeration.specs.Truth.{IsAtPlace, IsSeenBelow, IsLeastOf, HasWord}
 use Rattle.lc_enumeration.proofs.SearchLaws.{found_is, found_has, least_is, words_in_phase, at_place}
-use Rattle.lc_place.proofs.Counting.{cut_is}
+use Rattle.lc_enumeration.proofs.PlanLaws.{cut_is, start_is, end_is}
 use Rattle.lc_place.proofs.Listing.{block_message}
 use Rattle.lc_place.proofs.Messages.{to_contains, length-messages}
 use Rattle.lc_infoset.specs.Bound.{AreGenerators, set_at}
-use Rattle.lc_infoset.proofs.SeenLaws.{phase_of_level, block_inside, phase_start, phase_end, blocks_next, blocks_of_level}
+use Rattle.lc_infoset.proofs.SeenLaws.{phase_of_level, block_inside, blocks_next, blocks_of_level}
 use Rattle.lc_infoset.proofs.SearchBound.{unseen_bound, message_is_leading, message_word, level_word}
 
 abbrev pub first_message : Message
@@ -51,7 +53,7 @@ first_of (suc k) q l = first_listed k q
 level_of_first : (m : ℕ) → 0 < m → phase_level m 0 ≡ 1
 level_of_first m l = let e : 0 * m + 0 ≡ 0 = omega arith in subst (λ p. phase_level m p ≡ 1) e (phase_of_level m 0 0 l)
 
-no_blocks : (k q m : ℕ) → blocks_before k q m 0 ≡ 0
+pub no_blocks : (k q m : ℕ) → blocks_before k q m 0 ≡ 0
 unfolding blocks_before
 no_blocks k q m = refl
 
@@ -68,8 +70,8 @@ first_phase k q m some sets =
     let next = blocks_next k q m 0 ∙ ap (λ n. n + level_blocks k q (phase_level m 0)) (no_blocks k q m) ∙ ap (λ w. 0 + level_blocks k q w) (level_of_first m sets) ∙ ap (λ n. 0 + n) (blocks_of_level k q 1) in
     record {
       phase = product_positive k m some sets;
-      after = omega (arith, phase_start k q m 0, no_blocks k q m);
-      before = omega (arith, phase_end k q m 0, next, block, zero_block, cut_is);
+      after = omega (arith, start_is k q m 0, no_blocks k q m);
+      before = omega (arith, end_is k q m 0, next, block, zero_block, cut_is);
     }
 
 pub first_at_zero : (C : Matrix) (m : ℕ) → 0 < length C.rows → 0 < m → IsAtPlace C m 0 (word_of C m 0 first_message)

@@ -4,8 +4,9 @@
 --   best_fits                    the best word fits its need
 --   settled_fits, underway_fits  so do a settled state and one under way
 --   misfit_from_none, true_start_fits      a true start has no misfit
---   one_settled                  a need without a divisor is settled as by 1
+--   by_one                       1 for the divisor of each code
 --   used_before, used_is_true    the used records of a true checkpoint of version 1 give a true start
+--   used_later                   those of version 2 are all
 use Rattle.std.proofs.Common.{◌≡◌, ℕ, suc, ◌*◌, ◌<◌, ◌≤◌, ◌⊎◌, Bool, true, false, ◌==◌, ◌&&◌, ◌||◌, nat_lt, nat_le, if◌then◌else◌, find, take, List, [], ◌∷◌, ◌++◌, length, Option, Some, None, option_map, unwrap_or, is_some, refl, sym, ap, subst, ◌∙◌, inl, inr, ⊎_elim, arith}
 use Rattle.std.proofs.lemmas.Bool.{cases_Bool, cases_lt, and_from, or_left, or_right, eq-eqb, lt-ltb, false≢true}
 use Rattle.std.proofs.lemmas.List.Elements.{All-head, All-tail}

@@ -11,3 +11,4 @@ pub mod SearchTruth
 pub mod RoundLaws
 pub mod SessionLaws
 pub mod FittingLaws
+pub mod PlanCount

@@ -27,8 +27,7 @@ use Rattle.lc_enumeration.specs.Search.{Found, Answer, exact, bracket, set_count
 use Rattle.lc_enumeration.specs.Records.{Progress, Rounds, found_of, progress_of, end_of_phase, within_slice, round_length, after_round, is_used_up, state_first, no_round, less_slice, rounds_within, last_state, IsBestAt}
 use Rattle.lc_enumeration.proofs.MemberLaws.{member_true, true_member}
 use Rattle.lc_enumeration.proofs.RecordsLaws.{round_is_best}
-use Rattle.lc_place.proofs.Counting.{cut_is}
-use Rattle.lc_infoset.proofs.SeenLaws.{blocks_least, phase_end}
+use Rattle.lc_enumeration.proofs.PlanLaws.{cut_is, blocks_least, end_is}
 use Rattle.lc_infoset.proofs.SetLaws.{filter_passes}
 use Rattle.lc_infoset.proofs.BestLaws.{find_passes, product_positive}
 use Rattle.lc_infoset.proofs.AnswerLaws.{find_none, filter_keeps, ends_to, ends_are, bound_whole, whole_is, level_of, levels_of}
@@ -159,7 +158,7 @@ first_done d C budget y m t =
     let f = find_some (is_done d C) (done_list C budget) y m t in
     (f.0, f.1, find_least (is_done d C) (done_list C budget) f.0 y (done_list_rises C budget) f.1 m t)
 
-in_list : (C : Matrix) (budget l : ℕ) → Contains (ends_of C) l → l ≤ budget → Contains (done_list C budget) l
+pub in_list : (C : Matrix) (budget l : ℕ) → Contains (ends_of C) l → l ≤ budget → Contains (done_list C budget) l
 in_list C budget l m few = contains_tail 0 l (ends_to C budget) (filter_keeps (λ e. nat_le e budget) (ends_of C) l m (le-leb l budget few))
 
 may_is : (C : Matrix) (l : ℕ) → may_end C l ≡ ((l == 0) || (is_member (ends_of C) l || (nat_lt (plan_end C) cut && nat_lt (total (length C.rows) (size C.field) (set_count C)) l)))
@@ -291,7 +290,7 @@ end_of_is C l = ap (λ es. unwrap_or (find (nat_lt l) es) l) (map-map (λ (p : P
 
 end_at_is : (C : Matrix) (p : ℕ) → phase_end_at C p ≡ min (end_at C p) cut
 unfolding phase_end_at
-end_at_is C p = phase_end (length C.rows) (size C.field) (set_count C) p
+end_at_is C p = end_is (length C.rows) (size C.field) (set_count C) p
 
 starts : (C : Matrix) (p : ℕ) → p < length C.rows * set_count C → blocks_before (length C.rows) (size C.field) (set_count C) p < cut → Contains (starting C) p
 unfolding starting

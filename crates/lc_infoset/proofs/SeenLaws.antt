@@ -1,13 +1,12 @@
 -- Each word of the levels that lie wholly below some blocks is at a place of these blocks.
 --   LastThat, last_that_is       the last number that passes a test
 --   phase_of_level, set_of_level      the level and the set of a phase
---   blocks_least, blocks_next, blocks_of_level      the blocks before a phase
+--   blocks_next, blocks_of_level      the blocks before a phase
 --   block_inside                 the block of an index below a count
---   phase_start, phase_end       where a phase starts and ends
 --   MessagePlace, message_place  the place of the word of a message, in a phase that isn't cut
 --   LevelPhase, level_phase      the phase of a level that lies wholly below some blocks
 --   SeenPlace, seen_place        the place of a word of such a level
-use Rattle.std.proofs.Common.{◌≡◌, ℕ, zero, suc, ◌+◌, ◌-◌, ◌*◌, ◌/◌, ◌%◌, ◌<◌, ◌≤◌, Bool, true, cond, nat_le, nat_lt, min, List, length, slice_get, Some, Contains, refl, sym, ap, subst, ◌∙◌, ⊎_elim, arith, option_map}
+use Rattle.std.proofs.Common.{◌≡◌, ℕ, zero, suc, ◌+◌, ◌-◌, ◌*◌, ◌/◌, ◌%◌, ◌<◌, ◌≤◌, Bool, true, cond, nat_le, nat_lt, List, length, slice_get, Some, Contains, refl, sym, ap, subst, ◌∙◌, ⊎_elim, arith, option_map}
 use Rattle.std.proofs.lemmas.Bool.{cases_Bool, and_parts, leb-true, ltb-true}
 use Rattle.std.proofs.lemmas.Nat.{div-mul-add, mod-mul-add, div_below, mul-add-lt}
 use Rattle.std.proofs.lemmas.Option.{slice_get-map, slice_get_within}
@@ -16,11 +15,11 @@ use Rattle.lc_algebra.specs.Field.{size}
 use Rattle.lc_algebra.specs.Span.{combine}
 use Rattle.lc_algebra.specs.Matrix.{Matrix}
 use Rattle.lc_enumeration.specs.Message.{Message, messages, message_count, vector_of}
-use Rattle.lc_enumeration.specs.Plan.{cut, phase_level, phase_set, phase_at, level_blocks, blocks_before, block_messages, IsInPhase}
+use Rattle.lc_enumeration.specs.Plan.{cut, phase_level, phase_set, level_blocks, blocks_before, block_messages, IsInPhase}
 use Rattle.lc_enumeration.specs.Search.{set_count, generator_at, word_of, block_words, last_that, is_whole_below, level_below}
 use Rattle.lc_enumeration.specs.Truth.{IsAtPlace}
 use Rattle.lc_enumeration.proofs.SearchLaws.{at_place, words_in_phase}
-use Rattle.lc_place.proofs.Counting.{blocks_rise}
+use Rattle.lc_enumeration.proofs.PlanLaws.{blocks_least, start_is, end_is}
 use Rattle.lc_place.proofs.Listing.{block_message}
 use Rattle.lc_place.proofs.Messages.{from_contains, length-messages}
 
@@ -46,9 +45,6 @@ pub set_of_level : (m e j : ℕ) → j < m → phase_set m (e * m + j) ≡ j
 unfolding phase_set
 set_of_level m e j l = mod-mul-add e m j l
 
-pub blocks_least : (k q m p r : ℕ) → p ≤ r → blocks_before k q m p ≤ blocks_before k q m r
-blocks_least k q m p r l = let e : p + (r - p) ≡ r = omega (arith, l) in rw e at (blocks_rise k q m p (r - p))
-
 pub blocks_next : (k q m p : ℕ) → blocks_before k q m (suc p) ≡ blocks_before k q m p + level_blocks k q (phase_level m p)
 unfolding blocks_before
 blocks_next k q m p = refl
@@ -68,14 +64,6 @@ pub record MessagePlace (C : Matrix) (m p : ℕ) (message : Message) : Type 0 wh
   pub before : place < blocks_before (length C.rows) (size C.field) m (suc p) * 4096
   pub word : IsAtPlace C m place (word_of C m p message)
 
-pub phase_start : (k q m p : ℕ) → (phase_at k q m p).start ≡ min (blocks_before k q m p) cut
-unfolding phase_at
-phase_start k q m p = refl
-
-pub phase_end : (k q m p : ℕ) → (phase_at k q m p).end ≡ min (blocks_before k q m (suc p)) cut
-unfolding phase_at
-phase_end k q m p = refl
-
 pub message_place : (C : Matrix) (m p : ℕ) (message : Message) → p < length C.rows * m → blocks_before (length C.rows) (size C.field) m (suc p) < cut → Contains (messages (length C.rows) (size C.field) (phase_level m p)) message → MessagePlace C m p message
 message_place C m p message inside uncut listed =
     let k = length C.rows in
@@ -88,8 +76,8 @@ message_place C m p message inside uncut listed =
     let block = before + i / 4096 in
     let in_block = block_inside i (message_count k q (phase_level m p)) few in
     let offset : i % 4096 < 4096 = mod-lt i (omega arith) in
-    let start = phase_start k q m p in
-    let end = phase_end k q m p in
+    let start = start_is k q m p in
+    let end = end_is k q m p in
     let phase : IsInPhase k q m p block = record { phase = inside; after = omega (arith, start); before = omega (arith, end, next, in_block, uncut) } in
     let whole : i % 4096 + i / 4096 * 4096 ≡ i = mod-add-div' i 4096 in
     let index : 4096 * (block - before) + i % 4096 ≡ i = omega (arith, whole) in

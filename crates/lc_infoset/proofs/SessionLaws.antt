@@ -3,7 +3,7 @@
 --   SearchEnds, search_ends      the rounds of a search end at its answer
 --   first_underway, state_underway      a search that begins, and one that goes on, is under way
 --   settled_one_more, settled_many      one more settled need; as many needs are settled as there are states
---   HaveRows                     each of some codes has rows
+--   HaveRows, rows_after         each of some codes has rows
 --   step_is_true                 a step of a search that is under way is true
 --   TrueSession, add_search      the steps of a session, with those of the search before them
 --   session_from_is_true, session_is_true      every step of a session from a true start is true
@@ -22,7 +22,7 @@ use Rattle.lc_enumeration.specs.Search.{no_word, is_done, answer_at, answer, fin
 use Rattle.lc_enumeration.specs.Records.{Progress, Rounds, Start, Step, SessionRounds, found_of, first_progress, progress_of, note_of, rounds, last_state, step_of, no_steps, steps_first, session_from, session_rounds, fresh_start}
 use Rattle.lc_enumeration.specs.Truth.{answer_blocks, IsSettled, AreSettled, IsUnderway, IsUnderwayNext, IsTrueStart, IsTrueStep, start_after}
 use Rattle.lc_enumeration.proofs.RecordsLaws.{first_is_best}
-use Rattle.lc_place.proofs.Counting.{cut_is}
+use Rattle.lc_enumeration.proofs.PlanLaws.{cut_is}
 use Rattle.lc_infoset.proofs.AnswerLaws.{some_set}
 use Rattle.lc_infoset.proofs.RoundLaws.{done_list, target, rounds_end}
 

@@ -3,14 +3,15 @@
 //! Each function proves what its clauses say, for every field, every code and every number of blocks, and
 //! does nothing when it is run. (Grassl, Searching for linear codes with large minimum distance.)
 
-ghost use Rattle.std.specs.Prelude.{◌≡◌, ◌≢◌, ℕ, ◌<◌, ◌≤◌, min, true, false, ◌^◌, List, length, map, Option, Some, None, All, AllPairs, Contains};
+ghost use Rattle.std.specs.Prelude.{◌≡◌, ◌≢◌, ℕ, ◌-◌, ◌*◌, ◌/◌, ◌<◌, ◌≤◌, min, true, false, ◌^◌, List, length, map, Option, Some, None, All, AllPairs, Contains};
+ghost use Rattle.lc_algebra.specs.Field.{size};
 ghost use Rattle.lc_algebra.specs.Word.{weight};
 ghost use Rattle.lc_algebra.specs.Span.{AreIndependent, InSpan, IsDistance};
 ghost use Rattle.lc_algebra.specs.Matrix.{Matrix, AreRows, IsSystematic};
 ghost use Rattle.lc_algebra.specs.SpanLaws.{restrict};
 ghost use Rattle.lc_algebra.specs.Divisor.{IsDivisible, divisor_of};
 ghost use Rattle.lc_enumeration.specs.InformationSet.{systematic};
-ghost use Rattle.lc_enumeration.specs.Search.{set_count, generator_at, best, levels_below, bound, is_done, answer, finished};
+ghost use Rattle.lc_enumeration.specs.Search.{Found, exact, set_count, generator_at, best, levels_below, bound, is_done, answer, finished};
 ghost use Rattle.lc_enumeration.specs.Records.{Progress, Start, Step, found_of, rounds, last_state, fresh_start, session_rounds, IsBestAt};
 ghost use Rattle.lc_enumeration.specs.Fitting.{used_start, misfit};
 ghost use Rattle.lc_enumeration.specs.Truth.{IsSeenBelow, HasWord, AnswerHolds, IsSettled, AreSettled, IsUnderway, IsTrueStart, IsTrueStep, start_after};
@@ -51,12 +52,14 @@ pub fn search_bounds_the_distance()
 {}
 
 /// Every answer of a search is true, whatever the budget: an exact one is the minimum distance, a bracket
-/// contains it, and in both the word at the place is a nonzero word of the code with the weight.
+/// contains it, and in both the word at the place is a nonzero word of the code with the weight. A budget
+/// of m (q^k - 1)/(q - 1) blocks gives an exact answer.
 pub fn answers_are_true()
     ensures best { (C : Matrix) (l : ℕ) → AreRows C.field C.columns C.rows → AreIndependent C.field C.columns C.rows → 0 < length C.rows → HasWord C (best C (set_count C) l) }
     ensures done { (d : ℕ) (C : Matrix) (l : ℕ) → AreRows C.field C.columns C.rows → AreIndependent C.field C.columns C.rows → 0 < d → IsDivisible C.field C.columns C.rows d → 0 < length C.rows → is_done d C l ≡ true → IsDistance C.field C.columns C.rows (best C (set_count C) l).weight }
     ensures holds { (d : ℕ) (C : Matrix) (budget : ℕ) → AreRows C.field C.columns C.rows → AreIndependent C.field C.columns C.rows → 0 < d → IsDivisible C.field C.columns C.rows d → AnswerHolds C (answer d C budget) }
     ensures own { (C : Matrix) (budget : ℕ) → AreRows C.field C.columns C.rows → AreIndependent C.field C.columns C.rows → AnswerHolds C (answer (divisor_of C) C budget) }
+    ensures whole { (d : ℕ) (C : Matrix) (budget : ℕ) → 0 < length C.rows → C.columns ≤ 255 → budget ≤ 2 ^ 40 → set_count C * ((size C.field ^ length C.rows - 1) / (size C.field - 1)) ≤ budget → (x : Found) × (l : ℕ) × (answer d C budget ≡ exact x l) }
     ensures by_one { (C : Matrix) (budget : ℕ) → AreRows C.field C.columns C.rows → AreIndependent C.field C.columns C.rows → AnswerHolds C (answer 1 C budget) }
 {}
 

@@ -6,21 +6,15 @@
 --   choose_sum, power_next, count_is, start_next      the entries of the tables, from those before
 --   blocks_in_level            the blocks before a phase, from those before its level
 --   blocks_of_level            the blocks before the next level
---   blocks_rise                the blocks before a phase are no fewer than those before an earlier one
---   one_phase                  a block belongs to one phase
---   cut_is, most_is            the values of the two bounds
 use Rattle.std.proofs.Common.{◌≡◌, ℕ, zero, suc, ◌+◌, ◌-◌, ◌*◌, ◌/◌, ◌%◌, ◌^◌, ◌<◌, ◌≤◌, ◌≢◌, min, List, [], ◌∷◌, ◌++◌, refl, ap, sym, ◌∙◌, arith, inl, inr}
 use Rattle.std.proofs.Math.Nat.{pow-suc, le-mul_of_pos_right}
 use Rattle.std.proofs.lemmas.Bool.{cases_lt}
 use Rattle.std.proofs.lemmas.List.{get_or_append_left, get_or_at, length_push}
 use Rattle.std.proofs.lemmas.Nat.{div-mul-add}
 use Rattle.lc_enumeration.specs.Message.{choose, message_count}
-use Rattle.lc_enumeration.specs.Plan.{cut, blocks_before, level_blocks, phase_level, phase_at, IsInPhase}
+use Rattle.lc_enumeration.specs.Plan.{cut, blocks_before, level_blocks, phase_level}
+use Rattle.lc_enumeration.proofs.PlanLaws.{cut_is}
 use Rattle.lc_place.specs.Tables.{IsTable, choose_entry, power_entry, count_entry, start_entry}
-
-pub cut_is : cut ≡ 2 ^ 40
-unfolding cut
-cut_is = refl
 
 choose_suc : (n j : ℕ) → choose (suc n) (suc j) ≡ choose n j + choose n (suc j)
 unfolding choose
@@ -82,48 +76,6 @@ pub blocks_of_level : (k q m e : ℕ) → blocks_before k q m ((e + 1) * m) ≡ 
 blocks_of_level k q m e =
     let f : (e + 1) * m ≡ e * m + m = omega arith in
     rw f (blocks_in_level k q m e m (omega arith))
-
-pub blocks_rise : (k q m p j : ℕ) → blocks_before k q m p ≤ blocks_before k q m (p + j)
-unfolding blocks_before
-blocks_rise k q m p zero = let f : p + 0 ≡ p = omega arith in rw f (omega arith)
-blocks_rise k q m p (suc j) = let f : p + suc j ≡ suc (p + j) = omega arith in rw f (omega (arith, blocks_rise k q m p j))
-
-start_is : (k q m p : ℕ) → (phase_at k q m p).start ≡ min (blocks_before k q m p) cut
-unfolding phase_at
-start_is k q m p = refl
-
-end_is : (k q m p : ℕ) → (phase_at k q m p).end ≡ min (blocks_before k q m (suc p)) cut
-unfolding phase_at
-end_is k q m p = refl
-
-pub record Within (k q m p b : ℕ) : Type 0 where
-  pub below_cut : b < 2 ^ 40
-  pub start : (phase_at k q m p).start ≡ blocks_before k q m p
-  pub after : blocks_before k q m p ≤ b
-  pub before : b < blocks_before k q m (suc p)
-
-pub within : (k q m p b : ℕ) → IsInPhase k q m p b → Within k q m p b
-within k q m p b h =
-    let c : cut ≡ 2 ^ 40 = cut_is in
-    record {
-      below_cut = omega (arith, h.before, end_is k q m p);
-      start = omega (arith, h.after, h.before, start_is k q m p, end_is k q m p);
-      after = omega (arith, h.after, h.before, start_is k q m p, end_is k q m p);
-      before = omega (arith, h.before, end_is k q m p);
-    }
-
-not_later : (k q m p r b : ℕ) → IsInPhase k q m p b → IsInPhase k q m r b → p < r → ⊥
-not_later k q m p r b h i l =
-    let j : suc p + (r - suc p) ≡ r = omega arith in
-    let rise : blocks_before k q m (suc p) ≤ blocks_before k q m r = rw j at (blocks_rise k q m (suc p) (r - suc p)) in
-    omega (arith, (within k q m p b h).before, (within k q m r b i).after, rise)
-
-pub one_phase : (k q m p r b : ℕ) → IsInPhase k q m p b → IsInPhase k q m r b → p ≡ r
-one_phase k q m p r b h i =
-    elim (cases_lt p r) [
-      | inl l ↦ absurd (not_later k q m p r b h i l)
-      | inr l ↦ elim (cases_lt r p) [ inl n ↦ absurd (not_later k q m r p b i h n) | inr n ↦ omega (arith, l, n) ]
-    ]
 
 pub table_more : (f : ℕ → ℕ) (n : ℕ) (t u : List ℕ) (v : ℕ) → IsTable f n t → u ≡ t ++ v ∷ [] → v ≡ f n → IsTable f (n + 1) u
 table_more f n t u v h e i = rw e (record {

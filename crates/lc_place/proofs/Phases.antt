@@ -18,7 +18,8 @@ use Rattle.lc_enumeration.specs.Plan.{cut, block_length, blocks_before, level_bl
 use Rattle.lc_place.specs.declared.phase.Phase.{Phase}
 use Rattle.lc_place.specs.Place.{PlanSize, plan_phase}
 use Rattle.lc_place.specs.Tables.{IsTable, start_entry, count_entry, power_entry}
-use Rattle.lc_place.proofs.Counting.{cut_is, blocks_in_level, blocks_of_level, within, one_phase}
+use Rattle.lc_enumeration.proofs.PlanLaws.{cut_is, within, one_phase}
+use Rattle.lc_place.proofs.Counting.{blocks_in_level, blocks_of_level}
 use Rattle.lc_place.proofs.Supports.{support_shape}
 use Rattle.lc_place.proofs.Messages.{message_of, leading_shape, to_contains}
 use Rattle.lc_place.proofs.Unranking.{divided, message_from_parts}

@@ -5,22 +5,21 @@
 --   places_listed, nonzeros_listed      these stand in the lists of supports and of nonzero elements
 --   vector_is_leading, leading_is_vector, leading_vectors      the two sides, and both
 --   vectors_apart               two messages of a level have two vectors
-use Rattle.std.proofs.Common.{◌≡◌, ◌≢◌, ◌↔◌, ℕ, zero, suc, ◌+◌, ◌-◌, ◌*◌, ◌<◌, ◌≤◌, Bool, true, false, cond, not, eqb, List, [], ◌∷◌, map, length, get_or, Option, Some, None, refl, ap, sym, ◌∙◌, arith, ◌⊎◌, inl, inr}
+use Rattle.std.proofs.Common.{◌≡◌, ◌≢◌, ◌↔◌, ℕ, zero, suc, ◌+◌, ◌-◌, ◌*◌, ◌<◌, ◌≤◌, true, false, not, eqb, List, [], ◌∷◌, map, length, get_or, Some, refl, ap, sym, ◌∙◌, arith, inl, inr}
 use Rattle.std.specs.Prelude.{slice_get, ◌==◌}
-use Rattle.std.specs.List.{Contains, filter, count_by, AllPairs}
+use Rattle.std.specs.List.{Contains, filter}
 use Rattle.std.specs.Option.{option_map}
 use Rattle.std.proofs.lemmas.Bool.{cases_lt}
 use Rattle.std.proofs.lemmas.Bool.Decides.{nat_tests}
-use Rattle.std.proofs.lemmas.List.{length-map}
 use Rattle.std.proofs.lemmas.List.Sums.{length-filter}
-use Rattle.std.proofs.lemmas.Option.{slice_get-map, slice_get_within, slice_get-get_or}
+use Rattle.std.proofs.lemmas.Option.{slice_get-map}
 use Rattle.lc_algebra.specs.Word.{weight}
-use Rattle.lc_enumeration.specs.Message.{Message, supports_from, supports, numbers_from, nonzero_lists, leading_lists, messages, vector_from, vector_of}
-use Rattle.lc_place.specs.Order.{IsLeadingVector, ListLess, MessageLess}
+use Rattle.lc_enumeration.specs.Message.{Message, supports_from, numbers_from, nonzero_lists, leading_lists, messages, vector_from, vector_of}
+use Rattle.lc_place.specs.Order.{IsLeadingVector, ListLess}
 use Rattle.lc_place.proofs.Listing.{InOrder, messages_in_order}
 use Rattle.lc_place.proofs.Products.{product_at, map_part}
 use Rattle.lc_place.proofs.Coefficients.{numbers_at}
-use Rattle.lc_place.proofs.Supports.{IsSupport, IsRising, rising_from, support_takes, support_leaves}
+use Rattle.lc_place.proofs.Supports.{IsRising, support_takes, support_leaves}
 use Rattle.lc_place.proofs.Messages.{message_of, IsMessage, message_shape, message_at, supports_are, from_contains, to_contains}
 
 abbrev pub places : ℕ → List ℕ → List ℕ

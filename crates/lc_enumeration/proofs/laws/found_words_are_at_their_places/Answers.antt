@@ -1,4 +1,5 @@
-use Rattle.lc_enumeration.proofs.SearchLaws.{found_between, phase_is, words_in_phase}
+use Rattle.lc_enumeration.proofs.SearchLaws.{found_between, words_in_phase}
+use Rattle.lc_enumeration.proofs.PlanLaws.{phase_is}
 use Rattle.lc_enumeration.proofs.laws.found_words_are_at_their_places.Goals as goal
 
 pub returns-clause-found : goal.returns-clause-found

@@ -1,5 +1,5 @@
 use Rattle.std.proofs.Common.{arith, ap, ◌∙◌}
-use Rattle.lc_place.proofs.Counting.{one_phase}
+use Rattle.lc_enumeration.proofs.PlanLaws.{one_phase}
 use Rattle.lc_place.proofs.Phases.{found_rank, counted}
 use Rattle.lc_enumeration.specs.Plan.{block_length}
 use Rattle.lc_place.proofs.plan.Plan.block_len.Goals as goal

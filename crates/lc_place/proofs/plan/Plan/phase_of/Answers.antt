@@ -1,7 +1,7 @@
 use Rattle.std.proofs.Common.{◌≡◌, ◌<◌, ℕ, sym, ap, ◌∙◌, subst}
 use Rattle.lc_enumeration.specs.Plan.{total, phase_at, IsInPhase}
 use Rattle.lc_place.specs.Place.{PlanSize, plan_phase}
-use Rattle.lc_place.proofs.Counting.{one_phase}
+use Rattle.lc_enumeration.proofs.PlanLaws.{one_phase}
 use Rattle.lc_place.proofs.Phases.{inside_is}
 use Rattle.lc_place.proofs.plan.Plan.phase_of.Goals as goal
 
