@@ -51,16 +51,16 @@ either_way : (b : Bool) (x y : CertificateRead) → (b ≡ true → IsShapedRead
 either_way true x y h k = h refl
 either_way false x y h k = k refl
 
-or_false : (a b : Bool) → (a || b) ≡ false → (a ≡ false) × (b ≡ false)
+pub or_false : (a b : Bool) → (a || b) ≡ false → (a ≡ false) × (b ≡ false)
 or_false true b e = absurd (false≢true (sym e))
 or_false false b e = (refl, e)
 
-is_below_limit : (n : ℕ) → above n ≡ false → n ≤ longest
+pub is_below_limit : (n : ℕ) → above n ≡ false → n ≤ longest
 unfolding above
 is_below_limit n e = ltb-false longest n e
 
 -- all but the rules of the sets
-record IsNearlyShaped (f : FieldName) (rows : List (List ℕ)) (word : List ℕ) (d : ℕ) : Type 0 where
+pub record IsNearlyShaped (f : FieldName) (rows : List (List ℕ)) (word : List ℕ) (d : ℕ) : Type 0 where
   pub symbol : is_symbol f ≡ true
   pub some_rows : 1 ≤ length rows
   pub some_columns : 1 ≤ length word
@@ -70,11 +70,11 @@ record IsNearlyShaped (f : FieldName) (rows : List (List ℕ)) (word : List ℕ)
   pub small : d < 2 ^ 64
 
 -- a certificate but for the limits
-abbrev AreSets : ℕ → Proof → Type 0
+abbrev pub AreSets : ℕ → Proof → Type 0
 AreSets n scan = ⊤
 AreSets n (levels claims) = (1 ≤ length claims) × All (IsShapedSet n) claims
 
-record HasRules (c : Certificate) : Type 0 where
+pub record HasRules (c : Certificate) : Type 0 where
   pub parts : IsNearlyShaped c.field c.rows c.word c.distance
   pub sets : AreSets (length c.word) c.proof
 
@@ -86,7 +86,7 @@ unfolding set_total
 limited_sets n scan h l = tt
 limited_sets n (levels claims) h l = (h.0, l, h.1)
 
-limited : (c : Certificate) → HasRules c → is_beyond_limit c ≡ false → IsShaped c
+pub limited : (c : Certificate) → HasRules c → is_beyond_limit c ≡ false → IsShaped c
 unfolding is_beyond_limit code_length
 limited c h e =
     let s = or_false (above (length c.word)) (above (length c.rows) || above (set_total c.proof)) e in
@@ -112,16 +112,20 @@ closed_shaped ms (reads_as c) h =
     (λ e. either_way (is_beyond_limit c) (refused_as limit) (reads_as c) (λ k. refused_shaped limit)
     (λ k d same. subst IsShaped (same_read c d same) (limited c (h c refl) k)))
 
-refused_ruled : (r : Reason) → HasRulesRead (refused_as r)
-refused_ruled r c e = absurd cc
+-- and it is over the field
+abbrev pub HasRulesOver : FieldName → CertificateRead → Type 0
+HasRulesOver f r = (c : Certificate) → r ≡ reads_as c → (c.field ≡ f) × HasRules c
 
-either_ruled : (b : Bool) (x y : CertificateRead) → (b ≡ true → HasRulesRead x) → (b ≡ false → HasRulesRead y) → HasRulesRead (if b then x else y)
-either_ruled true x y h k = h refl
-either_ruled false x y h k = k refl
+refused_ruled : (f : FieldName) (r : Reason) → HasRulesOver f (refused_as r)
+refused_ruled f r c e = absurd cc
 
-made_ruled : (f : FieldName) (rows : List (List ℕ)) (word : List ℕ) (d : ℕ) (p : Proof) → IsNearlyShaped f rows word d → AreSets (length word) p → HasRulesRead (reads_as (certificate_over f rows word d p))
+either_ruled : (f : FieldName) (b : Bool) (x y : CertificateRead) → (b ≡ true → HasRulesOver f x) → (b ≡ false → HasRulesOver f y) → HasRulesOver f (if b then x else y)
+either_ruled f true x y h k = h refl
+either_ruled f false x y h k = k refl
+
+made_ruled : (f : FieldName) (rows : List (List ℕ)) (word : List ℕ) (d : ℕ) (p : Proof) → IsNearlyShaped f rows word d → AreSets (length word) p → HasRulesOver f (reads_as (certificate_over f rows word d p))
 unfolding certificate_over
-made_ruled f rows word d p h s c e = subst HasRules {x = certificate_over f rows word d p} (same_read (certificate_over f rows word d p) c e) (record { parts = h; sets = s })
+made_ruled f rows word d p h s c e = subst (λ r. (r.field ≡ f) × HasRules r) {x = certificate_over f rows word d p} (same_read (certificate_over f rows word d p) c e) (refl, record { parts = h; sets = s })
 
 -- a set but for its places being in the basis
 record IsNearlySet (n : ℕ) (claim : SetClaim) : Type 0 where
@@ -157,38 +161,38 @@ both_all n claims a e =
     let parts = all_holds fresh_in_basis (λ claim. All (Contains claim.basis) claim.fresh) part_holds claims e in
     λ k d l. shaped_set n _ (a k d l) (parts k d l)
 
-levels_shaped : (f : FieldName) (rows : List (List ℕ)) (word : List ℕ) (d : ℕ) (sets : List Members) → IsNearlyShaped f rows word d → All MembersFit sets → 1 ≤ length sets → (o : Option (List SetClaim)) → each (map (claim_in (length word)) sets) ≡ o → HasRulesRead (levels_in (certificate_over f rows word d) o)
+levels_shaped : (f : FieldName) (rows : List (List ℕ)) (word : List ℕ) (d : ℕ) (sets : List Members) → IsNearlyShaped f rows word d → All MembersFit sets → 1 ≤ length sets → (o : Option (List SetClaim)) → each (map (claim_in (length word)) sets) ≡ o → HasRulesOver f (levels_in (certificate_over f rows word d) o)
 unfolding levels_in certificate_over
-levels_shaped f rows word d sets h fits some None e = refused_ruled (broken 9)
+levels_shaped f rows word d sets h fits some None e = refused_ruled f (broken 9)
 levels_shaped f rows word d sets h fits some (Some claims) e =
     let near = each_all (claim_in (length word)) MembersFit (IsNearlySet (length word)) (set_shaped (length word)) sets claims fits e in
     let long = each_length (claim_in (length word)) sets claims e in
-    either_ruled (list_all fresh_in_basis claims) (reads_as (certificate_over f rows word d (levels claims))) (refused_as (broken 10))
+    either_ruled f (list_all fresh_in_basis claims) (reads_as (certificate_over f rows word d (levels claims))) (refused_as (broken 10))
     (λ k. made_ruled f rows word d (levels claims) h (omega (arith, some, long), both_all (length word) claims near k))
-    (λ k. refused_ruled (broken 10))
+    (λ k. refused_ruled f (broken 10))
 
 objects_fit : (o : Option Items) (sets : List Members) → ((ds : Items) → o ≡ Some ds → All AreFit (listed ds)) → option_and_then (λ ds. each (map as_object (listed ds))) o ≡ Some sets → All MembersFit sets
 objects_fit None sets h e = absurd cc
 objects_fit (Some ds) sets h e = each_all as_object AreFit MembersFit (λ d ms fit found. object_fits d ms fit found) (listed ds) sets (h ds refl) e
 
-sets_shaped : (ms : Members) (f : FieldName) (rows : List (List ℕ)) (word : List ℕ) (d : ℕ) → IsNearlyShaped f rows word d → MembersFit ms → (o : Option (List Members)) → sets_at ms ≡ o → HasRulesRead (sets_in (length word) (certificate_over f rows word d) o)
+sets_shaped : (ms : Members) (f : FieldName) (rows : List (List ℕ)) (word : List ℕ) (d : ℕ) → IsNearlyShaped f rows word d → MembersFit ms → (o : Option (List Members)) → sets_at ms ≡ o → HasRulesOver f (sets_in (length word) (certificate_over f rows word d) o)
 unfolding sets_in sets_at
-sets_shaped ms f rows word d h fits None e = refused_ruled (broken 8)
+sets_shaped ms f rows word d h fits None e = refused_ruled f (broken 8)
 sets_shaped ms f rows word d h fits (Some sets) e =
     let some = provided_inside (λ ss. nat_le 1 (length ss)) (option_and_then (λ ds. each (map as_object (listed ds))) (option_and_then as_array (get_member (codes "sets") ms))) sets e in
     let all = objects_fit (option_and_then as_array (get_member (codes "sets") ms)) sets (λ ds k. listed_fit ds (array_fits_at (codes "sets") ms ds fits k)) some.there in
     levels_shaped f rows word d sets h all (leb-true 1 (length sets) some.passes) (each (map (claim_in (length word)) sets)) refl
 
-way_shaped : (ms : Members) (f : FieldName) (rows : List (List ℕ)) (word : List ℕ) (d : ℕ) → IsNearlyShaped f rows word d → MembersFit ms → (o : Option Bool) → HasRulesRead (way_in ms (length word) (certificate_over f rows word d) o)
+way_shaped : (ms : Members) (f : FieldName) (rows : List (List ℕ)) (word : List ℕ) (d : ℕ) → IsNearlyShaped f rows word d → MembersFit ms → (o : Option Bool) → HasRulesOver f (way_in ms (length word) (certificate_over f rows word d) o)
 unfolding way_in certificate_over
-way_shaped ms f rows word d h fits None = refused_ruled (broken 7)
+way_shaped ms f rows word d h fits None = refused_ruled f (broken 7)
 way_shaped ms f rows word d h fits (Some true) =
-    either_ruled (is_some (get_member (codes "sets") ms)) (refused_as (broken 8)) (reads_as (certificate_over f rows word d scan)) (λ k. refused_ruled (broken 8)) (λ k. made_ruled f rows word d scan h tt)
+    either_ruled f (is_some (get_member (codes "sets") ms)) (refused_as (broken 8)) (reads_as (certificate_over f rows word d scan)) (λ k. refused_ruled f (broken 8)) (λ k. made_ruled f rows word d scan h tt)
 way_shaped ms f rows word d h fits (Some false) = sets_shaped ms f rows word d h fits (sets_at ms) refl
 
-distance_shaped : (ms : Members) (f : FieldName) (rows : List (List ℕ)) (word : List ℕ) → is_symbol f ≡ true → MembersFit ms → 1 ≤ length rows → 1 ≤ length word → AreRows f (length word) rows → IsWord f (length word) word → (o : Option ℕ) → provided (nat_le 1) (number_at (codes "distance") ms) ≡ o → HasRulesRead (distance_in ms (length word) (certificate_over f rows word) o)
+distance_shaped : (ms : Members) (f : FieldName) (rows : List (List ℕ)) (word : List ℕ) → is_symbol f ≡ true → MembersFit ms → 1 ≤ length rows → 1 ≤ length word → AreRows f (length word) rows → IsWord f (length word) word → (o : Option ℕ) → provided (nat_le 1) (number_at (codes "distance") ms) ≡ o → HasRulesOver f (distance_in ms (length word) (certificate_over f rows word) o)
 unfolding distance_in
-distance_shaped ms f rows word s fits some columns r w None e = refused_ruled (broken 6)
+distance_shaped ms f rows word s fits some columns r w None e = refused_ruled f (broken 6)
 distance_shaped ms f rows word s fits some columns r w (Some d) e =
     let p = provided_inside (nat_le 1) (number_at (codes "distance") ms) d e in
     way_shaped ms f rows word d (record {
@@ -201,9 +205,9 @@ distance_shaped ms f rows word s fits some columns r w (Some d) e =
       small = number_fits (codes "distance") ms d fits p.there;
     }) fits (option_and_then is_scan (option_and_then as_str (get_member (codes "by") ms)))
 
-word_shaped : (ms : Members) (f : FieldName) (rows : List (List ℕ)) → is_symbol f ≡ true → MembersFit ms → 1 ≤ length rows → 1 ≤ columns_of rows → AreRows f (columns_of rows) rows → (o : Option (List ℕ)) → provided (fit f (columns_of rows)) (list_at (codes "word") ms) ≡ o → HasRulesRead (word_in ms f rows o)
+word_shaped : (ms : Members) (f : FieldName) (rows : List (List ℕ)) → is_symbol f ≡ true → MembersFit ms → 1 ≤ length rows → 1 ≤ columns_of rows → AreRows f (columns_of rows) rows → (o : Option (List ℕ)) → provided (fit f (columns_of rows)) (list_at (codes "word") ms) ≡ o → HasRulesOver f (word_in ms f rows o)
 unfolding word_in
-word_shaped ms f rows s fits some columns r None e = refused_ruled (broken 5)
+word_shaped ms f rows s fits some columns r None e = refused_ruled f (broken 5)
 word_shaped ms f rows s fits some columns r (Some word) e =
     let w = word_holds f (columns_of rows) word (provided_inside (fit f (columns_of rows)) (list_at (codes "word") ms) word e).passes in
     distance_shaped ms f rows word s fits some (omega (arith, columns, w.long)) (subst (λ n. AreRows f n rows) (sym w.long) r) (subst (λ n. IsWord f n word) (sym w.long) w) (provided (nat_le 1) (number_at (codes "distance") ms)) refl
@@ -213,22 +217,26 @@ unfolding columns_of
 some_row [] l = absurd (omega (arith, l))
 some_row (row ∷ rows) l = omega arith
 
-rows_shaped : (ms : Members) (f : FieldName) → is_symbol f ≡ true → MembersFit ms → (o : Option (List (List ℕ))) → provided (are_rows f) (rows_at ms) ≡ o → HasRulesRead (rows_in ms f o)
+rows_shaped : (ms : Members) (f : FieldName) → is_symbol f ≡ true → MembersFit ms → (o : Option (List (List ℕ))) → provided (are_rows f) (rows_at ms) ≡ o → HasRulesOver f (rows_in ms f o)
 unfolding rows_in are_rows
-rows_shaped ms f s fits None e = refused_ruled (broken 4)
+rows_shaped ms f s fits None e = refused_ruled f (broken 4)
 rows_shaped ms f s fits (Some rows) e =
     let p = and_parts (nat_le 1 (columns_of rows)) (list_all (fit f (columns_of rows)) rows) (provided_inside (are_rows f) (rows_at ms) rows e).passes in
     let columns = leb-true 1 (columns_of rows) p.0 in
     word_shaped ms f rows s fits (some_row rows columns) columns (all_holds (fit f (columns_of rows)) (IsWord f (columns_of rows)) (word_holds f (columns_of rows)) rows p.1) (provided (fit f (columns_of rows)) (list_at (codes "word") ms)) refl
 
-field_found : (o : Option ℕ) (f : FieldName) → option_and_then (λ q. find (λ g. (size g == q) && is_symbol g) all_fields) o ≡ Some f → is_symbol f ≡ true
+pub field_found : (o : Option ℕ) (f : FieldName) → option_and_then (λ q. find (λ g. (size g == q) && is_symbol g) all_fields) o ≡ Some f → is_symbol f ≡ true
 field_found None f e = absurd cc
 field_found (Some q) f e = (and_parts (size f == q) (is_symbol f) (find_passes (λ g. (size g == q) && is_symbol g) all_fields f e)).1
 
+pub parts_ruled : (ms : Members) (f : FieldName) → is_symbol f ≡ true → MembersFit ms → HasRulesOver f (parts_in ms f)
+unfolding parts_in
+parts_ruled ms f s fits = rows_shaped ms f s fits (provided (are_rows f) (rows_at ms)) refl
+
 field_shaped : (ms : Members) → MembersFit ms → (o : Option FieldName) → field_at ms ≡ o → HasRulesRead (field_in ms o)
-unfolding field_in field_at parts_in
-field_shaped ms fits None e = refused_ruled (broken 3)
-field_shaped ms fits (Some f) e = rows_shaped ms f (field_found (number_at (codes "field") ms) f e) fits (provided (are_rows f) (rows_at ms)) refl
+unfolding field_in field_at
+field_shaped ms fits None e = λ c same. absurd cc
+field_shaped ms fits (Some f) e = λ c same. (parts_ruled ms f (field_found (number_at (codes "field") ms) f e) fits c same).1
 
 object_shaped : (o : Option Members) → ((ms : Members) → o ≡ Some ms → MembersFit ms) → IsShapedRead (object_in o)
 unfolding object_in is_version
@@ -236,7 +244,7 @@ object_shaped None h = refused_shaped (broken 1)
 object_shaped (Some ms) h =
     either_way (is_some (provided (λ v. v == 1) (number_at (codes "version") ms))) (closed ms (field_in ms (field_at ms))) (refused_as (broken 2)) (λ e. closed_shaped ms (field_in ms (field_at ms)) (field_shaped ms (h ms refl) (field_at ms) refl)) (λ e. refused_shaped (broken 2))
 
-data_shaped : (o : Option Data) → ((d : Data) → o ≡ Some d → AreFit d) → IsShapedRead (data_in o)
+pub data_shaped : (o : Option Data) → ((d : Data) → o ≡ Some d → AreFit d) → IsShapedRead (data_in o)
 unfolding data_in
 data_shaped None h = refused_shaped not_json
 data_shaped (Some d) h = object_shaped (as_object d) (λ ms e. object_fits d ms (h d refl) e)

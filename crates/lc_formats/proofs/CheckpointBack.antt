@@ -111,7 +111,7 @@ body_back p h =
     ∙ ap (λ o. point_or_shape (option_and_then (state_in (body_members p) p.version) o)) (numbers_up_to 0 (2 ^ 40) p.budget (omega arith) h.small)
     ∙ ap point_or_shape (state_back p h)
 
-seal_length : (body : List ℕ) → length (encode_lower (sha256 body)) ≡ 64
+pub seal_length : (body : List ℕ) → length (encode_lower (sha256 body)) ≡ 64
 seal_length body = omega (arith, length-encode_with lower_digits (sha256 body), length-sha256 body)
 
 long : (body : List ℕ) → 65 ≤ length (sealed body)

@@ -7,11 +7,13 @@ pub mod CertificateShaped
 pub mod VerdictLaws
 pub mod CheckpointBack
 pub mod CheckpointRange
+pub mod CheckpointSize
 pub mod CertificateExamples
 pub mod CheckExamples
 pub mod Plainly
 pub mod CheckTextExamples
 pub mod DocumentBack
+pub mod DocumentShaped
 pub mod ClaimLaws
 pub mod CodeTests
 pub mod ClaimExamples

@@ -144,7 +144,7 @@ member_fits k (member l e ms) d h same = member_chosen (slice_cmp nat_cmp k l) k
 same_number : (m n : ℕ) → Some m ≡ Some n → m ≡ n
 same_number m n e = cc e
 
-whole_fits : (d : Data) (n : ℕ) → AreFit d → option_and_then as_u64 (as_number d) ≡ Some n → n < 2 ^ 64
+pub whole_fits : (d : Data) (n : ℕ) → AreFit d → option_and_then as_u64 (as_number d) ≡ Some n → n < 2 ^ 64
 whole_fits null n h e = absurd cc
 whole_fits (boolean b) n h e = absurd cc
 whole_fits (number (unsigned m)) n h e = omega (arith, h, same_number m n e)
@@ -175,7 +175,7 @@ unfolding listed
 listed_fit no_items h = λ k d l. absurd (omega (arith, l))
 listed_fit (item d ds) h = All-cons AreFit d (listed ds) h.0 (listed_fit ds h.1)
 
-array_of_fits : (o : Option Data) (ds : Items) → ((d : Data) → o ≡ Some d → AreFit d) → option_and_then as_array o ≡ Some ds → ItemsFit ds
+pub array_of_fits : (o : Option Data) (ds : Items) → ((d : Data) → o ≡ Some d → AreFit d) → option_and_then as_array o ≡ Some ds → ItemsFit ds
 array_of_fits None ds h e = absurd cc
 array_of_fits (Some null) ds h e = absurd cc
 array_of_fits (Some (boolean b)) ds h e = absurd cc
@@ -202,7 +202,7 @@ provided_inside test (Some y) x e =
     let k = kept (test y) y x e in
     record { there = ap Some k.1; passes = ap test (sym k.1) ∙ k.0 }
 
-same_some : {Y : Type 0} (x y : Y) → Some x ≡ Some y → x ≡ y
+pub same_some : {Y : Type 0} (x y : Y) → Some x ≡ Some y → x ≡ y
 same_some x y e = cc e
 
 some_first : {Y : Type 0} (first : Option Y) (rest : Option (List Y)) (ys : List Y) → option_and_then (λ y. option_map (λ more. y ∷ more) rest) first ≡ Some ys → (y : Y) × ((more : List Y) × (first ≡ Some y) × (rest ≡ Some more) × (ys ≡ y ∷ more))

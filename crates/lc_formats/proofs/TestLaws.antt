@@ -46,7 +46,7 @@ rising_passes [] h = refl
 rising_passes (a ∷ []) h = refl
 rising_passes (a ∷ b ∷ rest) h = and_from (nat_lt a b) (is_rising (b ∷ rest)) (lt-ltb a b (h 0 (omega arith))) (rising_passes (b ∷ rest) (λ k l. subst (λ j. slice_index (b ∷ rest) k < slice_index (a ∷ b ∷ rest) j) (sym (next k)) (h (suc k) (omega (arith, l)))))
 
-elements_hold : (f : FieldName) (w : List ℕ) → are_elements f w ≡ true → Fits f w
+pub elements_hold : (f : FieldName) (w : List ℕ) → are_elements f w ≡ true → Fits f w
 unfolding are_elements
 elements_hold f w e i l = all_holds (λ a. nat_lt a (size f)) (λ a. a < size f) (λ a h. ltb-true a (size f) h) w e i 0 l
 

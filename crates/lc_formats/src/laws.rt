@@ -2,13 +2,14 @@
 //!
 //! Each function proves what its clauses say and does nothing when it is run.
 
-ghost use Rattle.std.specs.Prelude.{◌≡◌, ◌≤◌, ◌↔◌, ℕ, List, length, take};
+ghost use Rattle.std.specs.Prelude.{◌≡◌, ◌<◌, ◌≤◌, ◌↔◌, ℕ, List, length, take};
 ghost use Rattle.lc_algebra.specs.declared.FieldName.{FieldName};
 ghost use Rattle.lc_formats.specs.Certificate.{Certificate, Reason, Verdict, verdict, accepted, rejected, IsValid};
 ghost use Rattle.lc_formats.specs.CertificateText.{certificate_text};
 ghost use Rattle.lc_formats.specs.Shape.{IsShaped};
 ghost use Rattle.lc_formats.specs.Check.{certificate_in, reads_as};
-ghost use Rattle.lc_formats.specs.Claim.{Claim, Built};
+ghost use Rattle.lc_formats.specs.Claim.{Claim, Built, plain, tree, built_text};
+ghost use Rattle.lc_formats.specs.Document.{document_in, document, IsShapedTree};
 ghost use Rattle.lc_formats.specs.ClaimMeaning.{Outcome, HasOutcome, IsValidTree, IsTreeVerdict};
 ghost use Rattle.lc_formats.specs.Checkpoint.{Checkpoint, IsInRange, checkpoint_text, checkpoint_in, point};
 
@@ -26,12 +27,21 @@ pub fn valid_certificates_are_accepted()
 {}
 
 /// A checkpoint that was read is in range, and each checkpoint in range is read back from its text if the
-/// text isn't too long. Bytes that are too long are damaged, and it is enough to read one more than are
-/// allowed.
+/// text isn't too long. With fewer than 70,000 settled needs it isn't. Bytes that are too long are damaged,
+/// and it is enough to read one more than are allowed.
 pub fn checkpoints_are_read_back()
     ensures ranged { (bytes : List ℕ) (p : Checkpoint) → checkpoint_in bytes ≡ point p → IsInRange p }
     ensures back { (p : Checkpoint) → IsInRange p → length (checkpoint_text p) ≤ 4194304 → checkpoint_in (checkpoint_text p) ≡ point p }
+    ensures short { (p : Checkpoint) → IsInRange p → length p.settled < 70000 → length (checkpoint_text p) ≤ 4194304 }
     ensures longer { (bytes : List ℕ) → checkpoint_in (take 4194305 bytes) ≡ checkpoint_in bytes }
+{}
+
+/// A certificate of either version that was read has the shape, and each one by construction that has it is
+/// read back from its text.
+pub fn documents_are_read_back()
+    ensures plain { (bytes : List ℕ) (c : Certificate) → document_in bytes ≡ document (plain c) → IsShaped c }
+    ensures tree { (bytes : List ℕ) (b : Built) → document_in bytes ≡ document (tree b) → IsShapedTree b }
+    ensures back { (b : Built) → IsShapedTree b → document_in (built_text b) ≡ document (tree b) }
 {}
 
 /// A claim has at most one outcome, and a certificate by construction at most one verdict. It is accepted
