@@ -30,7 +30,8 @@ use Rattle.lc_enumeration.specs.Records.{Progress, Start, Step, found_of, fresh_
 use Rattle.lc_enumeration.specs.Fitting.{first_divisible, start_before, used_start}
 use Rattle.lc_formats.specs.Checkpoint.{Checkpoint, ReadCheckpoint, point, refused, damaged, current_of, checkpoint_in}
 use Rattle.lc_formats.proofs.Evaluated.{checkpoint_computes}
-use Rattle.lc_formats.specs.Truth.{divisor_in, SettlesAs, blocks_in, turn_allowance, IsTrueFor}
+use Rattle.lc_enumeration.specs.Truth.{answer_blocks, IsSettled}
+use Rattle.lc_formats.specs.Truth.{divisor_in, turn_allowance, IsTrueFor}
 use Rattle.lc_io.specs.declared.vault.Slot.{Slot}
 use Rattle.lc_io.specs.declared.vault.Slot.TheVariants.{Zero, One}
 use Rattle.lc_io.specs.Vaults.{Slots, empty_slots, in_slot, put}
@@ -117,9 +118,9 @@ chosen_kept table bytes budget version slots p all is = taken_kept table bytes b
 abbrev AgreeOn : (Matrix → ℕ) → (Matrix → ℕ) → List Matrix → ℕ → Type 0
 AgreeOn divisor other needs n = (k : ℕ) (D : Matrix) → k < n → slice_get needs k ≡ Some D → divisor D ≡ other D
 
-settles_as : (divisor other : Matrix → ℕ) (budget : ℕ) (C D : Matrix) (s : Progress) → C ≡ D → divisor D ≡ other D → SettlesAs s (answer (divisor C) C budget) → SettlesAs s (answer (other D) D budget)
+settles_as : (divisor other : Matrix → ℕ) (budget : ℕ) (C D : Matrix) (s : Progress) → C ≡ D → divisor D ≡ other D → IsSettled (divisor C) C budget s → IsSettled (other D) D budget s
 settles_as divisor other budget C D s is same h =
-    subst (λ (n : ℕ). SettlesAs s (answer n D budget)) same (subst (λ (E : Matrix). SettlesAs s (answer (divisor E) E budget)) is h)
+    subst (λ (n : ℕ). IsSettled n D budget s) same (subst (λ (E : Matrix). IsSettled (divisor E) E budget s) is h)
 
 transferred : (divisor other : Matrix → ℕ) (budget : ℕ) (needs others : List Matrix) (settled : List Progress) → AreSettled divisor budget needs settled → AgreeAsFar needs others → AgreeOn divisor other others (length settled) → length settled ≤ length others → AreSettled other budget others settled
 transferred divisor other budget needs others [] all one same l = tt
@@ -152,7 +153,7 @@ at_most_one version D is = omega (arith, ltb-false 1 (divisor_in version D) is, 
 
 -- where no need is left the session does no round, so that nothing needs to be shown of its start
 true_from : (version : ℕ) (needs : List Matrix) (digest : List ℕ) (budget : ℕ)
-    → ((i : ℕ) (C : Matrix) → slice_get needs i ≡ Some C → (slice : Option ℕ) (s : Progress) → IsBestAt C s → s.blocks ≤ blocks_in (answer (divisor_in version C) C budget) → EndsAtAnswer (divisor_in version C) C budget slice s)
+    → ((i : ℕ) (C : Matrix) → slice_get needs i ≡ Some C → (slice : Option ℕ) (s : Progress) → IsBestAt C s → s.blocks ≤ answer_blocks (answer (divisor_in version C) C budget) → EndsAtAnswer (divisor_in version C) C budget slice s)
     → (slice : Option ℕ) (settled : List Progress) (current : Option Progress) (turn : ℕ) (left : List Matrix) → drop (length settled) needs ≡ left → ((C : Matrix) → slice_get needs (length settled) ≡ Some C → IsTrueStart version needs budget settled current turn)
     → AreTrueSteps version needs digest budget turn (session_from (divisor_in version) left budget slice settled current).steps
 unfolding session_from no_steps
@@ -172,8 +173,8 @@ start_all bytes budget version needs front p one holds agree allowed within = re
   done = transferred (divisor_in p.version) (divisor_in version) budget front needs p.settled (settled_from (divisor_in p.version) budget front p.settled holds.settled) one (λ k D m e. agree k D (omega (arith, m)) e) within;
   best = λ D is.
       let same : holds.current.0 ≡ D = one (length p.settled) holds.current.0 D holds.current.1 is in
-      let few : p.blocks ≤ blocks_in (answer (divisor_in p.version D) D budget) = subst (λ (E : Matrix). p.blocks ≤ blocks_in (answer (divisor_in p.version E) E budget)) same holds.current.3 in
-      (subst (λ (E : Matrix). IsBestAt E (current_of p)) same (sym holds.current.4), subst (λ (n : ℕ). p.blocks ≤ blocks_in (answer n D budget)) (agree (length p.settled) D (omega arith) is) few);
+      let few : p.blocks ≤ answer_blocks (answer (divisor_in p.version D) D budget) = subst (λ (E : Matrix). p.blocks ≤ answer_blocks (answer (divisor_in p.version E) E budget)) same holds.current.3 in
+      (subst (λ (E : Matrix). IsBestAt E (current_of p)) same (sym holds.current.4), subst (λ (n : ℕ). p.blocks ≤ answer_blocks (answer n D budget)) (agree (length p.settled) D (omega arith) is) few);
   early = λ D is. omega (arith, holds.turn, allowed);
 }
 

@@ -23,7 +23,7 @@ use Rattle.lc_infoset.proofs.BestLaws.{find_passes}
 use Rattle.lc_infoset.proofs.SetLaws.{filter_passes}
 use Rattle.lc_algebra.proofs.SpanLaws.{contains_cases}
 use Rattle.lc_infoset.proofs.SessionLaws.{answer_is, target_is, search_ends}
-use Rattle.lc_formats.specs.Truth.{divisor_in, turn_allowance, SettlesAs, blocks_in}
+use Rattle.lc_formats.specs.Truth.{divisor_in, turn_allowance}
 use Rattle.lc_formats.specs.Checkpoint.{Checkpoint}
 use Rattle.lc_language.specs.declared.Call.{Call}
 use Rattle.lc_sessions.specs.Needs.{MeetsFirst}
@@ -77,11 +77,11 @@ settles_so d C budget s a is =
     by_end false true e = (let same : bracket (bound d C s.blocks (found_of s).weight) (found_of s) s.blocks ≡ a = (let f = e in cc) in subst (SettlesAs s) same (refl, refl))
     by_end false false e = absurd (let f = e in cc)
 
-pub ends_at_answer : (d : ℕ) (C : Matrix) (budget : ℕ) (slice : Option ℕ) (s : Progress) → 0 < length C.rows → budget ≤ 2 ^ 40 → IsBestAt C s → s.blocks ≤ blocks_in (answer d C budget) → EndsAtAnswer d C budget slice s
+pub ends_at_answer : (d : ℕ) (C : Matrix) (budget : ℕ) (slice : Option ℕ) (s : Progress) → 0 < length C.rows → budget ≤ 2 ^ 40 → IsBestAt C s → s.blocks ≤ answer_blocks (answer d C budget) → EndsAtAnswer d C budget slice s
 unfolding rounds cut
 ends_at_answer d C budget slice s rows small h few =
     let o = find (is_done d C) (done_list C budget) in
-    let most : target o budget ≡ blocks_in (answer d C budget) = sym (target_is d C budget rows) ∙ sym (same_blocks (answer d C budget)) in
+    let most : target o budget ≡ answer_blocks (answer d C budget) = sym (target_is d C budget rows) ∙ sym (same_blocks (answer d C budget)) in
     let e = search_ends d C budget slice s rows small (record { best = h; few = omega (arith, few, same_blocks (answer d C budget)) }) in
     record {
       rises = subst (λ (n : ℕ). Rises C n s.blocks (rounds d C budget slice s).states) most (search_rises (suc (budget - s.blocks)) d C budget slice o s rows (some_set C) small refl h (omega (arith, few, most)));
@@ -93,7 +93,7 @@ unfolding answer_at
 settled_at d C budget None s h = (h.0, h.1 ∙ ap (best C (set_count C)) (sym h.0))
 settled_at d C budget (Some l) s h = (h.0, h.1 ∙ ap (best C (set_count C)) (sym h.0))
 
-pub answered_so : (d : ℕ) (C : Matrix) (budget : ℕ) (s : Progress) → 0 < length C.rows → SettlesAs s (answer d C budget) → finished d C budget s.blocks (found_of s) ≡ Some (answer d C budget)
+pub answered_so : (d : ℕ) (C : Matrix) (budget : ℕ) (s : Progress) → 0 < length C.rows → IsSettled d C budget s → finished d C budget s.blocks (found_of s) ≡ Some (answer d C budget)
 answered_so d C budget s rows settles =
     let o = find (is_done d C) (done_list C budget) in
     let is = answer_is d C budget rows in
@@ -108,17 +108,17 @@ target_within d C budget None f = omega arith
 target_within d C budget (Some e) f = listed_within C budget e (find_passes (is_done d C) (done_list C budget) e f).member
 
 -- an answer has no more blocks than the budget
-answer_within : (d : ℕ) (C : Matrix) (budget : ℕ) (s : Progress) → 0 < length C.rows → SettlesAs s (answer d C budget) → s.blocks ≤ budget
+answer_within : (d : ℕ) (C : Matrix) (budget : ℕ) (s : Progress) → 0 < length C.rows → IsSettled d C budget s → s.blocks ≤ budget
 answer_within d C budget s rows settles =
     let o = find (is_done d C) (done_list C budget) in
     let at = settled_at d C budget o s (subst (SettlesAs s) (answer_is d C budget rows) settles) in
     let t = target_within d C budget o refl in
     omega (arith, at.0, t)
 
-blocks_within : (d : ℕ) (C : Matrix) (budget : ℕ) → 0 < length C.rows → blocks_in (answer d C budget) ≤ budget
+blocks_within : (d : ℕ) (C : Matrix) (budget : ℕ) → 0 < length C.rows → answer_blocks (answer d C budget) ≤ budget
 blocks_within d C budget rows =
     let o = find (is_done d C) (done_list C budget) in
-    let most : blocks_in (answer d C budget) ≡ target o budget = same_blocks (answer d C budget) ∙ target_is d C budget rows in
+    let most : answer_blocks (answer d C budget) ≡ target o budget = same_blocks (answer d C budget) ∙ target_is d C budget rows in
     let t = target_within d C budget o refl in
     omega (arith, most, t)
 
@@ -145,6 +145,6 @@ early_enough table bytes budget p ground first (needs, met, holds) =
     omega (arith, holds.turn, sum_of, here, holds.current.3, none, inside, few, ground.small)
 
 -- what the searches of a script do, as chains need it
-pub searches_end : (table : List Call) (bytes : List ℕ) (budget : ℕ) → IsGround table bytes budget → (version : ℕ) (needs : List Matrix) → MeetsFirst table bytes needs → (i : ℕ) (C : Matrix) → slice_get needs i ≡ Some C → (slice : Option ℕ) (s : Progress) → IsBestAt C s → s.blocks ≤ blocks_in (answer (divisor_in version C) C budget)
+pub searches_end : (table : List Call) (bytes : List ℕ) (budget : ℕ) → IsGround table bytes budget → (version : ℕ) (needs : List Matrix) → MeetsFirst table bytes needs → (i : ℕ) (C : Matrix) → slice_get needs i ≡ Some C → (slice : Option ℕ) (s : Progress) → IsBestAt C s → s.blocks ≤ answer_blocks (answer (divisor_in version C) C budget)
     → EndsAtAnswer (divisor_in version C) C budget slice s
 searches_end table bytes budget ground version needs met i C at slice s h few = ends_at_answer (divisor_in version C) C budget slice s (ground.rows needs met i C at) ground.small h few

@@ -9,7 +9,8 @@ use Rattle.lc_algebra.specs.Matrix.{Matrix}
 use Rattle.lc_algebra.specs.Divisor.{divisor_of}
 use Rattle.lc_enumeration.specs.Search.{Answer, answer, finished}
 use Rattle.lc_enumeration.specs.Records.{Progress, found_of, first_progress, last_state, rounds, step_of, no_steps, steps_first, session_from, SessionRounds, IsBestAt}
-use Rattle.lc_formats.specs.Truth.{divisor_in, SettlesAs, blocks_in}
+use Rattle.lc_enumeration.specs.Truth.{answer_blocks, IsSettled}
+use Rattle.lc_formats.specs.Truth.{divisor_in}
 use Rattle.lc_sessions.specs.Answers.{Settle, answers_of}
 use Rattle.lc_sessions.specs.Slots.{turn_after}
 use Rattle.lc_sessions.specs.Chain.{EndsAtAnswer}
@@ -36,7 +37,7 @@ none_left (D ∷ needs) zero is = absurd (let e = is in cc)
 none_left (D ∷ needs) (suc k) is = (let l = none_left needs k is in omega (arith, l))
 
 pub session_settles : (version : ℕ) (needs : List Matrix) (digest : List ℕ) (budget : ℕ)
-    → ((i : ℕ) (C : Matrix) → slice_get needs i ≡ Some C → (slice : Option ℕ) (s : Progress) → IsBestAt C s → s.blocks ≤ blocks_in (answer (divisor_in version C) C budget) → EndsAtAnswer (divisor_in version C) C budget slice s)
+    → ((i : ℕ) (C : Matrix) → slice_get needs i ≡ Some C → (slice : Option ℕ) (s : Progress) → IsBestAt C s → s.blocks ≤ answer_blocks (answer (divisor_in version C) C budget) → EndsAtAnswer (divisor_in version C) C budget slice s)
     → (left : List Matrix) (slice : Option ℕ) (settled : List Progress) (current : Option Progress) (turn : ℕ) → drop (length settled) needs ≡ left → length settled ≤ length needs → IsTrueStart version needs budget settled current turn
     → (session_from (divisor_in version) left budget slice settled current).is_stopped ≡ false → AreAllSettled version budget needs (session_from (divisor_in version) left budget slice settled current).settled
 unfolding session_from steps_first no_steps
@@ -60,7 +61,7 @@ session_settles version needs digest budget ends (C ∷ left) slice settled curr
     subst (λ (x : SessionRounds). AreAllSettled version budget needs x.settled) (sym u.1) all
 
 pub settled_answers : (budget : ℕ) (needs : List Matrix) (states : List Progress) (answers : List Answer)
-    → ((i : ℕ) (C : Matrix) → slice_get needs i ≡ Some C → (s : Progress) → SettlesAs s (answer (divisor_of C) C budget) → finished (divisor_of C) C budget s.blocks (found_of s) ≡ Some (answer (divisor_of C) C budget))
+    → ((i : ℕ) (C : Matrix) → slice_get needs i ≡ Some C → (s : Progress) → IsSettled (divisor_of C) C budget s → finished (divisor_of C) C budget s.blocks (found_of s) ≡ Some (answer (divisor_of C) C budget))
     → AreSettled divisor_of budget needs states → length states ≡ length needs → Settle budget needs states answers → answers ≡ answers_of needs budget
 settled_answers budget [] [] answers answered all size settle = settle
 settled_answers budget [] (s ∷ states) answers answered all size settle = absurd settle

@@ -13,7 +13,8 @@ use Rattle.lc_enumeration.specs.Search.{answer}
 use Rattle.lc_enumeration.specs.Records.{Progress, Step, found_of, progress_of, first_progress, last_state, rounds, step_of, no_steps, steps_first, session_from, SessionRounds, IsBestAt}
 use Rattle.lc_enumeration.proofs.RecordsLaws.{first_is_best}
 use Rattle.lc_formats.specs.Checkpoint.{current_of}
-use Rattle.lc_formats.specs.Truth.{divisor_in, SettlesAs, blocks_in, turn_allowance, IsTrueFor}
+use Rattle.lc_enumeration.specs.Truth.{answer_blocks, IsSettled}
+use Rattle.lc_formats.specs.Truth.{divisor_in, turn_allowance, IsTrueFor}
 use Rattle.lc_sessions.specs.Slots.{next_turn, turn_after, point_of}
 use Rattle.lc_sessions.specs.Chain.{Rises, EndsAtAnswer}
 
@@ -21,16 +22,16 @@ use Rattle.lc_sessions.specs.Chain.{Rises, EndsAtAnswer}
 abbrev pub AreSettled : (Matrix → ℕ) → ℕ → List Matrix → List Progress → Type 0
 AreSettled divisor budget needs [] = Unit {0}
 AreSettled divisor budget [] (s ∷ settled) = ⊥
-AreSettled divisor budget (C ∷ needs) (s ∷ settled) = SettlesAs s (answer (divisor C) C budget) × AreSettled divisor budget needs settled
+AreSettled divisor budget (C ∷ needs) (s ∷ settled) = IsSettled (divisor C) C budget s × AreSettled divisor budget needs settled
 
 -- one of them settles its need
 abbrev pub IsSettledAt : (Matrix → ℕ) → ℕ → List Matrix → ℕ → Progress → Type 0
-IsSettledAt divisor budget needs i s = (C : Matrix) × (slice_get needs i ≡ Some C) × SettlesAs s (answer (divisor C) C budget)
+IsSettledAt divisor budget needs i s = (C : Matrix) × (slice_get needs i ≡ Some C) × IsSettled (divisor C) C budget s
 
 pub settled_reads : (divisor : Matrix → ℕ) (budget : ℕ) (needs : List Matrix) (settled : List Progress) → AreSettled divisor budget needs settled → (i : ℕ) (s : Progress) → slice_get settled i ≡ Some s → IsSettledAt divisor budget needs i s
 settled_reads divisor budget needs [] all i s is = absurd (let e = is in cc)
 settled_reads divisor budget [] (t ∷ settled) all i s is = absurd all
-settled_reads divisor budget (C ∷ needs) (t ∷ settled) all zero s is = (C, refl, subst (λ (x : Progress). SettlesAs x (answer (divisor C) C budget)) (let e = is in cc) all.0)
+settled_reads divisor budget (C ∷ needs) (t ∷ settled) all zero s is = (C, refl, subst (λ (x : Progress). IsSettled (divisor C) C budget x) (let e = is in cc) all.0)
 settled_reads divisor budget (C ∷ needs) (t ∷ settled) all (suc i) s is = settled_reads divisor budget needs settled all.1 i s is
 
 pub settled_from : (divisor : Matrix → ℕ) (budget : ℕ) (needs : List Matrix) (settled : List Progress) → ((i : ℕ) (s : Progress) → slice_get settled i ≡ Some s → IsSettledAt divisor budget needs i s) → AreSettled divisor budget needs settled
@@ -38,12 +39,12 @@ settled_from divisor budget needs [] each = tt
 settled_from divisor budget [] (t ∷ settled) each = absurd (let h = each zero t refl in let e = h.1 in cc)
 settled_from divisor budget (C ∷ needs) (t ∷ settled) each =
     let h = each zero t refl in
-    (subst (λ (D : Matrix). SettlesAs t (answer (divisor D) D budget)) (let e = h.1 in cc) h.2, settled_from divisor budget needs settled (λ i s is. each (suc i) s is))
+    (subst (λ (D : Matrix). IsSettled (divisor D) D budget t) (let e = h.1 in cc) h.2, settled_from divisor budget needs settled (λ i s is. each (suc i) s is))
 
-pub settled_one : (divisor : Matrix → ℕ) (budget : ℕ) (needs : List Matrix) (settled : List Progress) (C : Matrix) (rest : List Matrix) (s : Progress) → AreSettled divisor budget needs settled → drop (length settled) needs ≡ C ∷ rest → SettlesAs s (answer (divisor C) C budget)
+pub settled_one : (divisor : Matrix → ℕ) (budget : ℕ) (needs : List Matrix) (settled : List Progress) (C : Matrix) (rest : List Matrix) (s : Progress) → AreSettled divisor budget needs settled → drop (length settled) needs ≡ C ∷ rest → IsSettled (divisor C) C budget s
     → AreSettled divisor budget needs (settled ++ s ∷ []) × (drop (length (settled ++ s ∷ [])) needs ≡ rest)
 settled_one divisor budget [] [] C rest s all is h = absurd (let e = is in cc)
-settled_one divisor budget (D ∷ needs) [] C rest s all is h = ((subst (λ (E : Matrix). SettlesAs s (answer (divisor E) E budget)) (let e = is in cc) h, tt), let e = is in cc)
+settled_one divisor budget (D ∷ needs) [] C rest s all is h = ((subst (λ (E : Matrix). IsSettled (divisor E) E budget s) (let e = is in cc) h, tt), let e = is in cc)
 settled_one divisor budget [] (t ∷ settled) C rest s all is h = absurd all
 settled_one divisor budget (D ∷ needs) (t ∷ settled) C rest s all is h = (let r = settled_one divisor budget needs settled C rest s all.1 is h in ((all.0, r.0), r.1))
 
@@ -84,7 +85,7 @@ unfolding next_turn
 next_at_most turn = omega arith
 
 step_true : (version : ℕ) (needs : List Matrix) (digest : List ℕ) (budget : ℕ) (settled : List Progress) (C : Matrix) → AreSettled (divisor_in version) budget needs settled → slice_get needs (length settled) ≡ Some C
-    → (t : Progress) (turn : ℕ) → 1 ≤ t.blocks → t.blocks ≤ blocks_in (answer (divisor_in version C) C budget) → IsBestAt C t → turn < t.blocks + blocks_of settled + turn_allowance version
+    → (t : Progress) (turn : ℕ) → 1 ≤ t.blocks → t.blocks ≤ answer_blocks (answer (divisor_in version C) C budget) → IsBestAt C t → turn < t.blocks + blocks_of settled + turn_allowance version
     → IsTrueFor needs digest budget (point_of version digest budget turn (step_of (divisor_in version C) C settled t))
 unfolding point_of step_of current_of found_of
 step_true version needs digest budget settled C all at t turn some few is_best early = record {
@@ -96,7 +97,7 @@ step_true version needs digest budget settled C all at t turn some few is_best e
 }
 
 pub need_true : (version : ℕ) (needs : List Matrix) (digest : List ℕ) (budget : ℕ) (settled : List Progress) (C : Matrix) → AreSettled (divisor_in version) budget needs settled → slice_get needs (length settled) ≡ Some C
-    → (states : List Progress) (s : Progress) (turn : ℕ) → Rises C (blocks_in (answer (divisor_in version C) C budget)) s.blocks states → turn ≤ s.blocks + blocks_of settled + turn_allowance version
+    → (states : List Progress) (s : Progress) (turn : ℕ) → Rises C (answer_blocks (answer (divisor_in version C) C budget)) s.blocks states → turn ≤ s.blocks + blocks_of settled + turn_allowance version
     → AreTrueSteps version needs digest budget turn (map (step_of (divisor_in version C) C settled) states)
     × (turn_after turn (map (step_of (divisor_in version C) C settled) states) ≤ (last_state s states).blocks + blocks_of settled + turn_allowance version)
 unfolding last_state
@@ -109,7 +110,7 @@ need_true version needs digest budget settled C all at (t ∷ states) s turn ris
 -- where a session starts truly, at a turn that isn't too late
 pub record IsTrueStart (version : ℕ) (needs : List Matrix) (budget : ℕ) (settled : List Progress) (current : Option Progress) (turn : ℕ) : Type 0 where
   pub done : AreSettled (divisor_in version) budget needs settled
-  pub best : (C : Matrix) → slice_get needs (length settled) ≡ Some C → IsBestAt C (unwrap_or current (first_progress C)) × ((unwrap_or current (first_progress C)).blocks ≤ blocks_in (answer (divisor_in version C) C budget))
+  pub best : (C : Matrix) → slice_get needs (length settled) ≡ Some C → IsBestAt C (unwrap_or current (first_progress C)) × ((unwrap_or current (first_progress C)).blocks ≤ answer_blocks (answer (divisor_in version C) C budget))
   pub early : (C : Matrix) → slice_get needs (length settled) ≡ Some C → turn ≤ (unwrap_or current (first_progress C)).blocks + blocks_of settled + turn_allowance version
 
 -- after a search that the slice didn't stop, the next one starts afresh
@@ -128,7 +129,7 @@ starts_next version needs budget settled turn all l = record {
 }
 
 pub session_true : (version : ℕ) (needs : List Matrix) (digest : List ℕ) (budget : ℕ)
-    → ((i : ℕ) (C : Matrix) → slice_get needs i ≡ Some C → (slice : Option ℕ) (s : Progress) → IsBestAt C s → s.blocks ≤ blocks_in (answer (divisor_in version C) C budget) → EndsAtAnswer (divisor_in version C) C budget slice s)
+    → ((i : ℕ) (C : Matrix) → slice_get needs i ≡ Some C → (slice : Option ℕ) (s : Progress) → IsBestAt C s → s.blocks ≤ answer_blocks (answer (divisor_in version C) C budget) → EndsAtAnswer (divisor_in version C) C budget slice s)
     → (left : List Matrix) (slice : Option ℕ) (settled : List Progress) (current : Option Progress) (turn : ℕ) → drop (length settled) needs ≡ left → IsTrueStart version needs budget settled current turn
     → AreTrueSteps version needs digest budget turn (session_from (divisor_in version) left budget slice settled current).steps
 unfolding session_from steps_first no_steps

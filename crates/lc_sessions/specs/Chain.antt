@@ -19,7 +19,8 @@ use Rattle.lc_algebra.specs.Matrix.{Matrix}
 use Rattle.lc_enumeration.specs.Search.{answer}
 use Rattle.lc_enumeration.specs.Records.{Progress, Start, fresh_start, Step, rounds, last_state, session_rounds, IsBestAt}
 use Rattle.lc_formats.specs.Checkpoint.{Checkpoint, point, refused, damaged, checkpoint_text, checkpoint_in}
-use Rattle.lc_formats.specs.Truth.{divisor_in, SettlesAs, blocks_in}
+use Rattle.lc_enumeration.specs.Truth.{answer_blocks, IsSettled}
+use Rattle.lc_formats.specs.Truth.{divisor_in}
 use Rattle.lc_io.specs.Vaults.{Slots, empty_slots, in_slot, put}
 use Rattle.lc_language.specs.declared.Call.{Call}
 use Rattle.lc_sessions.specs.Options.{Settings}
@@ -82,8 +83,8 @@ Rises C most blocks (s ∷ states) = (blocks < s.blocks) × (s.blocks ≤ most) 
 
 -- and its last one is the answer, unless the slice stopped it
 pub record EndsAtAnswer (d : ℕ) (C : Matrix) (budget : ℕ) (slice : Option ℕ) (s : Progress) : Type 0 where
-  pub rises : Rises C (blocks_in (answer d C budget)) s.blocks (rounds d C budget slice s).states
-  pub ends : (rounds d C budget slice s).is_stopped ≡ false → SettlesAs (last_state s (rounds d C budget slice s).states) (answer d C budget)
+  pub rises : Rises C (answer_blocks (answer d C budget)) s.blocks (rounds d C budget slice s).states
+  pub ends : (rounds d C budget slice s).is_stopped ≡ false → IsSettled d C budget (last_state s (rounds d C budget slice s).states)
 
 -- what the law of chains rests on: facts of the language and of the format of checkpoints
 pub record IsGround (table : List Call) (bytes : List ℕ) (budget : ℕ) : Type 0 where
