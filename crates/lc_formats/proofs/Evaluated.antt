@@ -38,7 +38,7 @@ use Rattle.lc_enumeration.specs.Fitting.{first_divisible, start_before, used_sta
 use Rattle.lc_formats.specs.Document.{kind_text, all_kinds, kind_at, object_at, with_keys, bytes_at, symbol_field, search_of, claim_of_kind, claim_from, part_keys, all_of, are_closed, is_long, is_tree_beyond_limit, plain_read, tree_closed, tree_distance_in, built_over, tree_word_in, is_tree_word, tree_claim_in, tree_field_in, either_version, document_of}
 use Rattle.lc_formats.specs.Claim.{claim_total, claim_depth, pair_text, place_text, rows_json, claim_members_of, built_members, built_text, form_certificate}
 use Rattle.lc_formats.specs.ClaimMeaning.{capped, refusal_of_verdict, search_refusal, first_number, field_of_size, form_refusal_in, form_refusal, form_of, in_code, subcode_refusal, pair_refusals, pair_length, pair_bound, place_bound, extended_bound, tree_reasons, verdict_after, not_attained}
-use Rattle.lc_constructions.specs.Refusals.{too_large, bad_length, bad_argument, not_subfield, first_place, repeated_point, fields_differ, lengths_differ, form_refusals, extended_refusals, deleted_refusals, direct_sum_refusals, uuv_refusals, direct_product_refusals, degree_over, nested_refusals, concatenated_refusals, have_elements}
+use Rattle.lc_constructions.specs.Refusals.{too_large, bad_length, bad_argument, not_subfield, first_index, repeated_point, fields_differ, lengths_differ, form_refusals, extended_refusals, deleted_refusals, direct_sum_refusals, uuv_refusals, direct_product_refusals, degree_over, nested_refusals, concatenated_refusals, have_elements}
 use Rattle.lc_constructions.specs.Refusal.{refusal_number, refuse_if, first_refusal}
 use Rattle.lc_constructions.specs.Code.{is_length}
 use Rattle.lc_constructions.specs.Alternant.{check_row, syndrome_at}
@@ -81,5 +81,5 @@ unfolding search_computes found_of first_divisible start_before used_start misfi
 truth_computes = tt
 
 unfoldable pub claim_computes : ⊤
-unfolding certificate_computes reading_computes word_dot pow neg is_subfield first_from first_that root embed value_at all_lists check_row syndrome_at is_length refusal_number refuse_if first_refusal too_large bad_length bad_argument not_subfield first_place repeated_point fields_differ lengths_differ form_refusals extended_refusals deleted_refusals direct_sum_refusals uuv_refusals direct_product_refusals degree_over nested_refusals concatenated_refusals have_elements claim_total claim_depth pair_text place_text rows_json claim_members_of built_members built_text form_certificate capped refusal_of_verdict search_refusal first_number field_of_size form_refusal_in form_refusal form_of in_code subcode_refusal pair_refusals pair_length pair_bound place_bound extended_bound tree_reasons verdict_after not_attained kind_text all_kinds kind_at object_at with_keys bytes_at symbol_field search_of claim_of_kind claim_from part_keys all_of are_closed is_long is_tree_beyond_limit plain_read tree_closed tree_distance_in built_over tree_word_in is_tree_word tree_claim_in tree_field_in either_version document_of
+unfolding certificate_computes reading_computes word_dot pow neg is_subfield first_from first_that root embed value_at all_lists check_row syndrome_at is_length refusal_number refuse_if first_refusal too_large bad_length bad_argument not_subfield first_index repeated_point fields_differ lengths_differ form_refusals extended_refusals deleted_refusals direct_sum_refusals uuv_refusals direct_product_refusals degree_over nested_refusals concatenated_refusals have_elements claim_total claim_depth pair_text place_text rows_json claim_members_of built_members built_text form_certificate capped refusal_of_verdict search_refusal first_number field_of_size form_refusal_in form_refusal form_of in_code subcode_refusal pair_refusals pair_length pair_bound place_bound extended_bound tree_reasons verdict_after not_attained kind_text all_kinds kind_at object_at with_keys bytes_at symbol_field search_of claim_of_kind claim_from part_keys all_of are_closed is_long is_tree_beyond_limit plain_read tree_closed tree_distance_in built_over tree_word_in is_tree_word tree_claim_in tree_field_in either_version document_of
 claim_computes = tt
