@@ -3,7 +3,7 @@
 --   member_length              the length of an object's text, member by member
 --   settled_length, list_length      the text of a settled need has at most 36 bytes, and the list of them a comma more for each
 --   text_fits                  the whole text
-use Rattle.std.proofs.Common.{◌≡◌, ℕ, ◌+◌, ◌*◌, ◌^◌, ◌<◌, ◌≤◌, ◌⊎◌, Bool, true, false, cond, nat_lt, ◌==◌, ◌/◌, ◌%◌, List, [], ◌∷◌, ◌++◌, map, length, codes, All, decimal, inl, inr, refl, ap, ◌∙◌, arith}
+use Rattle.std.proofs.Common.{◌≡◌, ℕ, ◌+◌, ◌*◌, ◌^◌, ◌<◌, ◌≤◌, ◌⊎◌, Bool, true, false, cond, nat_lt, ◌/◌, ◌%◌, List, [], ◌∷◌, ◌++◌, map, length, codes, All, decimal, inl, inr, arith}
 use Rattle.std.proofs.lemmas.List.{length-append}
 use Rattle.std.proofs.lemmas.List.Elements.{All-head, All-tail}
 use Rattle.std.specs.Char.{digit_char}
@@ -12,7 +12,7 @@ use Rattle.sha2.specs.Sha256.{sha256}
 use Rattle.hex.specs.Hex.{encode_lower, lower_digits}
 use Rattle.hex.proofs.HexLemmas.{length-encode_with}
 use Rattle.json.specs.Print.{escape_letter, escape_byte, escape, quoted}
-use Rattle.serde_json.specs.Data.{Data, Items, Members, member, no_members, array, object, string}
+use Rattle.serde_json.specs.Data.{Data, Members, member, no_members, array, string}
 use Rattle.serde_json.specs.Written.{compact_text, items_text, members_text, comma_if}
 use Rattle.lc_enumeration.specs.Records.{Progress}
 use Rattle.lc_formats.specs.Json.{number_json, items, numbers_json}
@@ -60,17 +60,28 @@ settled_length budget s small h =
     let b = decimal s.blocks in
     let w = decimal s.weight in
     let p = decimal s.place in
-    omega (arith, length-append b (44 ∷ (w ++ 44 ∷ (p ++ 93 ∷ []))), length-append w (44 ∷ (p ++ 93 ∷ [])), length-append p (93 ∷ []),
-    length-decimal-le 13 s.blocks (omega arith) (omega (arith, small, h.done)) (omega (arith, small, h.done)),
-    length-decimal-le 3 s.weight (omega arith) (omega (arith, h.light)) (omega (arith, h.light)),
-    length-decimal-le 16 s.place (omega arith) (omega (arith, h.near)) (omega (arith, h.near)))
+    omega (
+      arith,
+      length-append b (44 ∷ (w ++ 44 ∷ (p ++ 93 ∷ []))),
+      length-append w (44 ∷ (p ++ 93 ∷ [])),
+      length-append p (93 ∷ []),
+      length-decimal-le 13 s.blocks (omega arith) (omega (arith, small, h.done)) (omega (arith, small, h.done)),
+      length-decimal-le 3 s.weight (omega arith) (omega (arith, h.light)) (omega (arith, h.light)),
+      length-decimal-le 16 s.place (omega arith) (omega (arith, h.near)) (omega (arith, h.near)),
+    )
 
 pub list_length : (later : Bool) (budget : ℕ) (settled : List Progress) → budget ≤ 2 ^ 40 → All (IsProgress budget) settled → length (items_text later (items (map settled_json settled))) ≤ 37 * length settled + 1
 unfolding items
 list_length later budget [] small a = omega arith
 list_length later budget (s ∷ settled) small a =
-    omega (arith, length-append (comma_if later) (compact_text (settled_json s) ++ items_text true (items (map settled_json settled))), comma_short later, length-append (compact_text (settled_json s)) (items_text true (items (map settled_json settled))),
-    settled_length budget s small (All-head (IsProgress budget) s settled a), list_length true budget settled small (All-tail (IsProgress budget) s settled a))
+    omega (
+      arith,
+      length-append (comma_if later) (compact_text (settled_json s) ++ items_text true (items (map settled_json settled))),
+      comma_short later,
+      length-append (compact_text (settled_json s)) (items_text true (items (map settled_json settled))),
+      settled_length budget s small (All-head (IsProgress budget) s settled a),
+      list_length true budget settled small (All-tail (IsProgress budget) s settled a),
+    )
 
 version_length : (v : ℕ) → (v ≡ 1) ⊎ (v ≡ 2) → length (decimal v) ≤ 1
 version_length v (inl e) = length-decimal-le 1 v (omega arith) (omega (arith, e)) (omega (arith, e))
@@ -86,15 +97,27 @@ body_length p h =
     let place = member (codes "place") (number_json p.place) script in
     let done = member (codes "done") (array (items (map settled_json p.settled))) place in
     let budget = member (codes "budget") (number_json p.budget) done in
-    omega (arith,
-    member_length false (codes "blocks") (number_json p.blocks) budget, length-decimal-le 13 p.blocks (omega arith) (omega (arith, h.small, h.current.done)) (omega (arith, h.small, h.current.done)),
-    member_length true (codes "budget") (number_json p.budget) done, length-decimal-le 13 p.budget (omega arith) (omega (arith, h.small)) (omega (arith, h.small)),
-    member_length true (codes "done") (array (items (map settled_json p.settled))) place, list_length false p.budget p.settled h.small h.records,
-    member_length true (codes "place") (number_json p.place) script, length-decimal-le 16 p.place (omega arith) (omega (arith, h.current.near)) (omega (arith, h.current.near)),
-    member_length true (codes "script") (string (encode_lower p.script)) turn, quoted_short (encode_lower p.script), length-encode_with lower_digits p.script, h.digest,
-    member_length true (codes "turn") (number_json p.turn) version, length-decimal-le 19 p.turn (omega arith) (omega (arith, h.early)) (omega (arith, h.early)),
-    member_length true (codes "version") (number_json p.version) weight, version_length p.version h.known,
-    member_length true (codes "weight") (number_json p.weight) no_members, length-decimal-le 3 p.weight (omega arith) (omega (arith, h.current.light)) (omega (arith, h.current.light)))
+    omega (
+      arith,
+      member_length false (codes "blocks") (number_json p.blocks) budget,
+      length-decimal-le 13 p.blocks (omega arith) (omega (arith, h.small, h.current.done)) (omega (arith, h.small, h.current.done)),
+      member_length true (codes "budget") (number_json p.budget) done,
+      length-decimal-le 13 p.budget (omega arith) (omega (arith, h.small)) (omega (arith, h.small)),
+      member_length true (codes "done") (array (items (map settled_json p.settled))) place,
+      list_length false p.budget p.settled h.small h.records,
+      member_length true (codes "place") (number_json p.place) script,
+      length-decimal-le 16 p.place (omega arith) (omega (arith, h.current.near)) (omega (arith, h.current.near)),
+      member_length true (codes "script") (string (encode_lower p.script)) turn,
+      quoted_short (encode_lower p.script),
+      length-encode_with lower_digits p.script,
+      h.digest,
+      member_length true (codes "turn") (number_json p.turn) version,
+      length-decimal-le 19 p.turn (omega arith) (omega (arith, h.early)) (omega (arith, h.early)),
+      member_length true (codes "version") (number_json p.version) weight,
+      version_length p.version h.known,
+      member_length true (codes "weight") (number_json p.weight) no_members,
+      length-decimal-le 3 p.weight (omega arith) (omega (arith, h.current.light)) (omega (arith, h.current.light)),
+    )
 
 pub text_fits : (p : Checkpoint) → IsInRange p → length p.settled < 70000 → length (checkpoint_text p) ≤ 4194304
 unfolding checkpoint_text sealed

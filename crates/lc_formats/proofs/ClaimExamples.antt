@@ -4,6 +4,7 @@
 --   accepted_form, accepted_short      it is accepted; so is a form without checks, of length 2
 --   other_multipliers, beyond_bound, equal_points, no_field      another code; a distance above the bound; refusals of the form
 --   attained, not_the_weight   a word of weight r + 1, and one that has another weight
+--   accepted_pair              (u|u+v) of the whole plane and a repetition code: 2, the lesser of twice 1 and 2
 --   pair_bounds, place_bounds, extended_bounds, caps      the bounds of combined codes
 --   numbering                  a refused part has its number in the tree
 use Rattle.std.proofs.Common.{◌≡◌, ℕ, refl, ◌∙◌}
@@ -12,12 +13,16 @@ use Rattle.lc_algebra.specs.declared.FieldName.TheVariants.{Gf2, Gf3, Gf5}
 use Rattle.lc_algebra.specs.Matrix.{Matrix}
 use Rattle.lc_constructions.specs.Code.{IsCode}
 use Rattle.lc_constructions.specs.Alternant.{AlternantForm, IsAlternantWord}
-use Rattle.lc_formats.specs.Certificate.{accepted, rejected, word_not_in_code, claim_short, part_refused}
-use Rattle.lc_formats.specs.Claim.{Claim, alternant, pair, uuv, direct_sum, product, puncture, shorten, Built, tree, built_text, form_certificate}
+use Rattle.lc_algebra.specs.Span.{InSpan}
+use Rattle.lc_constructions.specs.Combined.{InUuv}
+use Rattle.lc_enumeration.specs.InformationSet.{in_span}
+use Rattle.lc_enumeration.proofs.MemberLaws.{in_span_true, true_in_span}
+use Rattle.lc_formats.specs.Certificate.{Certificate, scan, accepted, rejected, word_not_in_code, claim_short, part_refused}
+use Rattle.lc_formats.specs.Claim.{Claim, search, alternant, pair, uuv, direct_sum, product, puncture, shorten, Built, tree, built_text, form_certificate}
 use Rattle.lc_formats.specs.ClaimMeaning.{code_with, refused_at, capped, form_of, pair_bound, place_bound, extended_bound, HasOutcome, IsTreeVerdict, not_attained}
 use Rattle.lc_formats.specs.Document.{document_in, document}
 use Rattle.lc_formats.proofs.Plainly.{document_plainly}
-use Rattle.lc_formats.proofs.CodeTests.{is_alternant, alternant_holds, alternant_passes, code_from_test}
+use Rattle.lc_formats.proofs.CodeTests.{is_uuv, uuv_holds, uuv_passes, is_alternant, alternant_holds, alternant_passes, code_from_test}
 use Rattle.lc_formats.proofs.Evaluated.{claim_computes}
 
 abbrev pub points : List ℕ
@@ -131,3 +136,31 @@ good = alternant 5 points points 2
 pub numbering : HasOutcome Gf5 0 (pair direct_sum good (pair uuv good bad)) (refused_at 4 1)
 unfolding claim_computes
 numbering = (code_with (code reed_solomon) 3, (code reed_solomon, words_of_form, refl), (refused_at 4 1, (code_with (code reed_solomon) 3, (code reed_solomon, words_of_form, refl), (refused_at 4 1, refl, refl)), refl))
+
+abbrev of_plane : Certificate
+of_plane = record { field = Gf2; rows = (1 ∷ 0 ∷ []) ∷ (0 ∷ 1 ∷ []) ∷ []; word = 1 ∷ 0 ∷ []; distance = 1; proof = scan }
+
+abbrev of_repetition : Certificate
+of_repetition = record { field = Gf2; rows = (1 ∷ 1 ∷ []) ∷ []; word = 1 ∷ 1 ∷ []; distance = 2; proof = scan }
+
+abbrev span_of : Certificate → Matrix
+span_of c = record { field = Gf2; columns = 2; rows = c.rows }
+
+plane_words : IsCode Gf2 2 (InSpan Gf2 2 of_plane.rows) (span_of of_plane)
+unfolding claim_computes
+plane_words = code_from_test Gf2 2 (0 ∷ 1 ∷ []) of_plane.rows (in_span Gf2 2 of_plane.rows) (InSpan Gf2 2 of_plane.rows) (in_span_true Gf2 2 of_plane.rows) (true_in_span Gf2 2 of_plane.rows) refl
+
+repetition_words : IsCode Gf2 2 (InSpan Gf2 2 of_repetition.rows) (span_of of_repetition)
+unfolding claim_computes
+repetition_words = code_from_test Gf2 2 (0 ∷ []) of_repetition.rows (in_span Gf2 2 of_repetition.rows) (InSpan Gf2 2 of_repetition.rows) (in_span_true Gf2 2 of_repetition.rows) (true_in_span Gf2 2 of_repetition.rows) refl
+
+abbrev paired : Matrix
+paired = record { field = Gf2; columns = 4; rows = (1 ∷ 0 ∷ 0 ∷ 1 ∷ []) ∷ (0 ∷ 1 ∷ 0 ∷ 1 ∷ []) ∷ (0 ∷ 0 ∷ 1 ∷ 1 ∷ []) ∷ [] }
+
+paired_words : IsCode Gf2 4 (InUuv (span_of of_plane) (span_of of_repetition)) paired
+unfolding claim_computes is_uuv
+paired_words = code_from_test Gf2 4 (0 ∷ 1 ∷ 2 ∷ []) paired.rows (is_uuv (span_of of_plane) (span_of of_repetition)) (InUuv (span_of of_plane) (span_of of_repetition)) (uuv_holds (span_of of_plane) (span_of of_repetition)) (uuv_passes (span_of of_plane) (span_of of_repetition)) refl
+
+pub accepted_pair : IsTreeVerdict (record { field = Gf2; claim = pair uuv (search of_plane) (search of_repetition); word = 1 ∷ 0 ∷ 1 ∷ 0 ∷ []; distance = 2 }) accepted
+unfolding claim_computes
+accepted_pair = (code_with paired 2, (code_with (span_of of_plane) 1, (span_of of_plane, plane_words, refl), (code_with (span_of of_repetition) 2, (span_of of_repetition, repetition_words, refl), (paired, paired_words, refl))), refl)

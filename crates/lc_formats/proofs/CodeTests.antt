@@ -3,16 +3,17 @@
 --   is_code_test f n ps rows test      the tests: the rows are words, reduced with their leading entries at ps, and a word of length n
 --                              is one of their words exactly if it passes the test
 --   code_from_test             then they are that of the words of which the test tests
+--   is_uuv C D, uuv_holds, uuv_passes      the test of a word (u|u+v)
 --   is_alternant f form, alternant_holds, alternant_passes      the test of an alternant word
-use Rattle.std.proofs.Common.{◌≡◌, ℕ, zero, suc, Bool, true, false, not, ◌==◌, ◌&&◌, ◌||◌, List, [], ◌∷◌, map, Contains, refl, arith}
-use Rattle.std.specs.List.{list_all}
+use Rattle.std.proofs.Common.{◌≡◌, ℕ, zero, suc, Bool, true, false, not, ◌==◌, ◌&&◌, ◌||◌, List, [], ◌∷◌, map, Contains, refl, arith, ◌++◌}
+use Rattle.std.specs.List.{list_all, list_any}
 use Rattle.std.proofs.lemmas.Bool.{and_parts, eqb-true, eq-eqb, false≢true}
 use Rattle.std.proofs.lemmas.List.Elements.{All-contains}
 use Rattle.lc_algebra.specs.declared.FieldName.{FieldName}
 use Rattle.lc_algebra.specs.Field.{size}
-use Rattle.lc_algebra.specs.Word.{IsWord}
-use Rattle.lc_algebra.specs.Span.{below}
-use Rattle.lc_algebra.specs.Matrix.{AreRows}
+use Rattle.lc_algebra.specs.Word.{IsWord, word_sum}
+use Rattle.lc_algebra.specs.Span.{below, words}
+use Rattle.lc_algebra.specs.Matrix.{Matrix, AreRows}
 use Rattle.lc_algebra.proofs.WordLaws.{word_head, word_tail}
 use Rattle.lc_algebra.proofs.SpanLaws.{span_word, flat_map_contains, map_contains, below_contains, contains_below, contains_head}
 use Rattle.lc_algebra.proofs.SpanSearch.{pivots_test, pivots_from_test}
@@ -21,6 +22,11 @@ use Rattle.lc_constructions.specs.Code.{IsCode}
 use Rattle.lc_constructions.specs.Alternant.{AlternantForm, syndrome_at, IsAlternantWord}
 use Rattle.lc_enumeration.specs.InformationSet.{in_span}
 use Rattle.lc_enumeration.proofs.MemberLaws.{in_span_true, true_in_span}
+use Rattle.lc_algebra.proofs.SpanLaws.{word_of_member, member_of_word}
+use Rattle.lc_algebra.proofs.SpanSearch.{any_contains}
+use Rattle.lc_constructions.specs.Combined.{InUuv}
+use Rattle.lc_enumeration.specs.InformationSet.{same_word}
+use Rattle.lc_enumeration.proofs.MemberLaws.{some_passes, same_from_test, test_from_same}
 use Rattle.lc_formats.specs.Check.{fit}
 use Rattle.lc_formats.proofs.TestLaws.{all_holds, all_passes, word_holds}
 use Rattle.lc_enumeration.proofs.GreedyLaws.{each_contained}
@@ -72,3 +78,21 @@ alternant_holds f form w e j l =
 pub alternant_passes : (f : FieldName) (form : AlternantForm) (w : List ℕ) → IsAlternantWord f form w → is_alternant f form w ≡ true
 unfolding is_alternant
 alternant_passes f form w h = all_passes (λ j. syndrome_at f form w j == 0) (λ j. syndrome_at f form w j ≡ 0) (λ j e. eq-eqb (syndrome_at f form w j) 0 e) (below form.r) (each_contained (λ j. syndrome_at f form w j ≡ 0) (below form.r) (λ j c. h j (contains_below form.r j c)))
+
+unfoldable pub is_uuv : Matrix → Matrix → List ℕ → Bool
+is_uuv C D w = list_any (λ u. list_any (λ v. same_word w (u ++ word_sum C.field u v)) (words D.field D.columns D.rows)) (words C.field C.columns C.rows)
+
+pub uuv_holds : (C D : Matrix) (w : List ℕ) → is_uuv C D w ≡ true → InUuv C D w
+unfolding is_uuv
+uuv_holds C D w e =
+    let s = any_contains (λ u. list_any (λ v. same_word w (u ++ word_sum C.field u v)) (words D.field D.columns D.rows)) (words C.field C.columns C.rows) e in
+    let t = any_contains (λ v. same_word w (s.0 ++ word_sum C.field s.0 v)) (words D.field D.columns D.rows) s.2 in
+    (s.0, (t.0, word_of_member C.field C.columns C.rows s.0 s.1, word_of_member D.field D.columns D.rows t.0 t.1, same_from_test w (s.0 ++ word_sum C.field s.0 t.0) t.2))
+
+pub uuv_passes : (C D : Matrix) (w : List ℕ) → InUuv C D w → is_uuv C D w ≡ true
+unfolding is_uuv
+uuv_passes C D w h =
+    let u = h.0 in
+    let v = h.1.0 in
+    some_passes (λ u. list_any (λ v. same_word w (u ++ word_sum C.field u v)) (words D.field D.columns D.rows)) (words C.field C.columns C.rows) u (member_of_word C.field C.columns C.rows u h.1.1)
+    (some_passes (λ v. same_word w (u ++ word_sum C.field u v)) (words D.field D.columns D.rows) v (member_of_word D.field D.columns D.rows v h.1.2) (test_from_same w (u ++ word_sum C.field u v) h.1.3))

@@ -5,18 +5,15 @@
 --   claim_closed               the sets of its searches have no other keys
 --   within_limits              a certificate of the shape is within the limits
 --   document_back              its text reads as the certificate
-use Rattle.std.proofs.Common.{◌≡◌, ℕ, zero, suc, ◌+◌, ◌-◌, ◌^◌, ◌<◌, ◌≤◌, max, Bool, true, false, not, nat_le, nat_lt, ◌==◌, ◌&&◌, ◌||◌, if◌then◌else◌, List, [], ◌∷◌, map, length, find, codes, All, Option, Some, None, option_map, option_and_then, unwrap_or, refl, sym, ap, ap₂, subst, ◌∙◌, arith}
-use Rattle.std.specs.Prelude.{⊤}
+use Rattle.std.proofs.Common.{◌≡◌, ℕ, zero, suc, ◌+◌, ◌^◌, ◌<◌, ◌≤◌, Bool, true, false, not, nat_le, nat_lt, ◌==◌, ◌&&◌, ◌||◌, if◌then◌else◌, List, [], ◌∷◌, map, length, find, codes, All, Some, option_map, option_and_then, unwrap_or, refl, sym, ap, ◌∙◌, arith}
 use Rattle.std.specs.List.{list_all, list_any}
 use Rattle.std.proofs.lemmas.Bool.{and_from, le-leb, le-ltb}
 use Rattle.std.proofs.lemmas.List.{length-map}
 use Rattle.std.proofs.lemmas.List.Elements.{All-head, All-tail}
-use Rattle.serde_json.specs.Data.{Data, Members, member, no_members, array, object, string, depth, items_depth, members_depth}
-use Rattle.serde_json.specs.Read.{max_depth}
-use Rattle.serde_json.specs.Find.{get_member, as_str, as_object}
+use Rattle.serde_json.specs.Data.{object, string, depth, members_depth}
 use Rattle.lc_algebra.specs.declared.FieldName.{FieldName}
 use Rattle.lc_algebra.specs.Field.{size, is_symbol}
-use Rattle.lc_algebra.specs.Word.{Fits, IsWord}
+use Rattle.lc_algebra.specs.Word.{Fits}
 use Rattle.lc_constructions.specs.Code.{longest}
 use Rattle.lc_constructions.specs.Cyclic.{all_fields}
 use Rattle.lc_constructions.specs.Refusals.{are_elements, have_elements}
@@ -24,11 +21,11 @@ use Rattle.lc_formats.specs.Text.{same_bytes}
 use Rattle.lc_formats.specs.Certificate.{Certificate, SetClaim, Proof, scan, levels, code_length, shape as broken, limit}
 use Rattle.lc_formats.specs.CertificateText.{claim_members, claim_json, way_text, with_sets}
 use Rattle.lc_formats.specs.Claim.{PairKind, uuv, direct_sum, product, PlaceKind, puncture, shorten, Claim, search, alternant, pair, concat, subcode, at_places, extend, Built, tree, claim_total, claim_depth, pair_text, place_text, rows_json, claim_members_of, built_members, built_text}
-use Rattle.lc_formats.specs.Json.{number_json, items, numbers_json, number_at, listed, each, numbers_of, list_at, provided, member_count, json_in}
-use Rattle.lc_formats.specs.Shape.{IsShapedSet, AreShapedSets, IsShaped}
-use Rattle.lc_formats.specs.Check.{reads_as, rows_at, field_at, parts_in, key_count, are_set_keys, sets_at, set_total, is_beyond_limit, above, is_version}
-use Rattle.lc_formats.specs.Document.{Kind, of_search, of_form, of_pair, of_concat, of_subcode, of_places, of_extend, kind_text, all_kinds, kind_at, object_at, with_keys, bytes_at, symbol_field, search_of, claim_of_kind, claim_from, part_keys, all_of, are_closed, is_long, is_tree_beyond_limit, DocumentRead, document, no_document, tree_closed, tree_distance_in, built_over, tree_word_in, is_tree_word, tree_claim_in, tree_field_in, either_version, document_of, document_in, AreBytes, IsShapedClaim, IsShapedTree}
-use Rattle.lc_formats.proofs.JsonLaws.{IsPlain, ArePlain, HavePlain, AreRising, plain_items, plain_numbers, items_shallow, numbers_shallow, numbers_back, json_back}
+use Rattle.lc_formats.specs.Json.{number_json, numbers_json, number_at, numbers_of, list_at, provided, member_count}
+use Rattle.lc_formats.specs.Shape.{AreShapedSets, IsShaped}
+use Rattle.lc_formats.specs.Check.{rows_at, field_at, parts_in, key_count, are_set_keys, sets_at, set_total, is_beyond_limit, above, is_version}
+use Rattle.lc_formats.specs.Document.{of_pair, of_places, kind_text, all_kinds, kind_at, object_at, with_keys, bytes_at, symbol_field, search_of, claim_of_kind, claim_from, part_keys, all_of, are_closed, is_long, is_tree_beyond_limit, document, no_document, tree_closed, tree_distance_in, built_over, tree_word_in, is_tree_word, tree_claim_in, tree_field_in, either_version, document_of, document_in, AreBytes, IsShapedClaim, IsShapedTree}
+use Rattle.lc_formats.proofs.JsonLaws.{IsPlain, plain_items, plain_numbers, items_shallow, numbers_shallow, numbers_back, json_back}
 use Rattle.lc_formats.proofs.TestLaws.{all_passes, elements_pass}
 use Rattle.lc_formats.proofs.CertificateBack.{mapped_all, provided_some, symbol_size, symbols_small, field_back, lists_back, not_above, few, by, rows_plain, word_plain, set_plain, set_shallow, objects_back, keys_of_sets, parts_back}
 

@@ -5,29 +5,27 @@
 --   claim_ruled                so does one that was read
 --   claim_limited              within the limits, it has the shape
 --   document_shaped            a document that bytes read as has the shape
-use Rattle.std.proofs.Common.{◌≡◌, ℕ, zero, suc, ◌-◌, ◌^◌, ◌<◌, ◌≤◌, Bool, true, false, not, nat_le, nat_lt, ◌==◌, ◌&&◌, ◌||◌, if◌then◌else◌, List, [], ◌∷◌, map, length, find, codes, All, Option, Some, None, option_map, option_and_then, refl, sym, ap, subst, ◌∙◌, arith}
-use Rattle.std.specs.Prelude.{⊤}
+use Rattle.std.proofs.Common.{◌≡◌, ℕ, zero, suc, ◌-◌, ◌^◌, ◌<◌, ◌≤◌, Bool, true, false, not, nat_le, nat_lt, ◌==◌, ◌&&◌, ◌||◌, if◌then◌else◌, List, [], ◌∷◌, length, codes, All, Option, Some, None, option_map, option_and_then, refl, subst, arith}
 use Rattle.std.specs.List.{list_all, list_any}
-use Rattle.std.proofs.lemmas.Bool.{and_parts, leb-true, ltb-false, eqb-true, false≢true}
+use Rattle.std.proofs.lemmas.Bool.{and_parts, leb-true, ltb-false}
 use Rattle.std.proofs.lemmas.Option.{option_and_then_some}
 use Rattle.std.proofs.lemmas.List.Elements.{All-cons, All-head, All-tail}
-use Rattle.serde_json.specs.Data.{Data, Items, Members, null, boolean, number, string, array, object, members_depth}
-use Rattle.serde_json.specs.Find.{get_member, as_array, as_object, as_str}
+use Rattle.serde_json.specs.Data.{Data, Members, null, boolean, number, string, array, object, members_depth}
+use Rattle.serde_json.specs.Find.{get_member, as_object}
 use Rattle.lc_algebra.specs.declared.FieldName.{FieldName}
 use Rattle.lc_algebra.specs.Field.{size, is_symbol}
 use Rattle.lc_algebra.specs.Word.{Fits}
 use Rattle.lc_constructions.specs.Code.{longest}
-use Rattle.lc_constructions.specs.Cyclic.{all_fields}
 use Rattle.lc_constructions.specs.Refusals.{are_elements, have_elements}
 use Rattle.lc_formats.specs.Certificate.{Certificate, Reason, limit, shape as broken}
-use Rattle.lc_formats.specs.Claim.{PairKind, PlaceKind, Claim, search, alternant, pair, concat, subcode, at_places, extend, Built, Document, plain, tree, claim_total, claim_depth}
-use Rattle.lc_formats.specs.Json.{number_at, listed, each, plain_number, numbers_of, list_at, provided, member_count, json_in}
+use Rattle.lc_formats.specs.Claim.{Claim, search, alternant, pair, concat, subcode, at_places, extend, Built, Document, plain, tree, claim_total, claim_depth}
+use Rattle.lc_formats.specs.Json.{number_at, listed, plain_number, numbers_of, list_at, provided, member_count, json_in}
 use Rattle.lc_formats.specs.Shape.{IsShaped}
-use Rattle.lc_formats.specs.Check.{CertificateRead, reads_as, refused_as, rows_at, field_at, parts_in, key_count, is_beyond_limit, above, is_version, data_in}
+use Rattle.lc_formats.specs.Check.{CertificateRead, reads_as, refused_as, rows_at, field_at, parts_in, key_count, above, is_version, data_in}
 use Rattle.lc_formats.specs.Document.{Kind, of_search, of_form, of_pair, of_concat, of_subcode, of_places, of_extend, kind_at, object_at, with_keys, bytes_at, symbol_field, search_of, claim_of_kind, claim_from, all_of, are_closed, is_long, is_tree_beyond_limit, DocumentRead, document, no_document, plain_read, tree_closed, tree_distance_in, built_over, tree_word_in, is_tree_word, tree_claim_in, tree_field_in, either_version, document_of, document_in, IsShapedClaim, IsShapedTree}
 use Rattle.lc_formats.proofs.TestLaws.{all_holds, elements_hold}
 use Rattle.lc_formats.proofs.ReadLaws.{AreFit, MembersFit, json_fits, number_fits, member_fits, object_fits, listed_fit, whole_fits, same_some, provided_inside, each_all}
-use Rattle.lc_formats.proofs.CertificateShaped.{HasRules, HasRulesOver, parts_ruled, limited, or_false, is_below_limit, field_found, find_passes, data_shaped}
+use Rattle.lc_formats.proofs.CertificateShaped.{HasRules, HasRulesOver, parts_ruled, limited, or_false, is_below_limit, field_found, data_shaped}
 
 pub map_some : {X Y : Type 0} (g : X → Y) (o : Option X) (y : Y) (P : Y → Type 0) → ((x : X) → o ≡ Some x → P (g x)) → option_map g o ≡ Some y → P y
 map_some g None y P h e = absurd cc
