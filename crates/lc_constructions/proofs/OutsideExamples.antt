@@ -8,25 +8,30 @@
 --   shortened_outside                     a word of the punctured code that no word with zeros gives
 --   even_outside                          a word of odd weight
 --   direct_sum_outside, uuv_inside, uuv_outside      (u | v) and (u | u + v)
+--   concatenated_outside                  two symbols that aren't replaced alike
 --   product_inside, no_single_product, product_outside       a sum of products that isn't one; a word that is no such sum
-use Rattle.std.proofs.Common.{◌≡◌, ℕ, zero, suc, ◌<◌, Bool, true, false, not, nat_lt, ◌==◌, ◌&&◌, List, [], ◌∷◌, ◌++◌, length, map, flat_map, slice_index, slice_index_or, All, Contains, refl, sym, subst, ◌∙◌, arith, true≢false}
+use Rattle.std.proofs.Common.{◌+◌, ap, Some, ◌≡◌, ℕ, zero, suc, ◌<◌, Bool, true, false, not, nat_lt, ◌==◌, ◌&&◌, List, [], ◌∷◌, ◌++◌, length, map, flat_map, slice_index, slice_index_or, All, Contains, refl, sym, subst, ◌∙◌, arith, true≢false}
 use Rattle.std.specs.List.{list_any, list_all}
 use Rattle.std.proofs.lemmas.List.Elements.{All-contains}
 use Rattle.std.proofs.lemmas.List.Sums.{AllPass-from_list_all}
+use Rattle.std.proofs.lemmas.List.{append-nil, length-append, get_or_append_left, get_or-append-add}
+use Rattle.lc_constructions.proofs.ExpansionLaws.{expansion_once}
 use Rattle.std.proofs.lemmas.Bool.{and_parts, eqb-true, eq-eqb, ltb-true}
-use Rattle.lc_algebra.specs.declared.FieldName.TheVariants.{Gf2, Gf3, Gf4, Gf5, Gf8, Gf16}
+use Rattle.lc_algebra.specs.declared.FieldName.TheVariants.{Gf2, Gf3, Gf4, Gf5, Gf8, Gf9, Gf16}
 use Rattle.lc_algebra.specs.Residue.{digits, number, plus, minus, times, top, up, times_x, product}
-use Rattle.lc_algebra.specs.Field.{shape, shape_of, size, coefficients, add, neg, mul, pow}
+use Rattle.lc_algebra.specs.Field.{is_symbol, shape, shape_of, size, coefficients, add, neg, mul, pow}
 use Rattle.lc_algebra.specs.Polynomial.{value_at}
 use Rattle.lc_algebra.specs.Embedding.{first_from, first_that, root, embed}
 use Rattle.lc_algebra.specs.Word.{IsWord, word_sum, scale, word_dot}
-use Rattle.lc_algebra.specs.Span.{below, words}
+use Rattle.lc_algebra.specs.Span.{combine, below, words}
 use Rattle.lc_algebra.specs.Matrix.{Matrix, AreRows, IsOrthogonal}
 use Rattle.lc_algebra.proofs.SpanLaws.{dot_span, word_of_member, member_of_word, map_contains, flat_map_contains}
 use Rattle.lc_algebra.proofs.SpanSearch.{contains_any}
 use Rattle.lc_constructions.specs.Code.{InCode}
 use Rattle.lc_constructions.specs.Cyclic.{root_of_unity, value_in, exponents_from, IsBchWord, IsReedSolomonWord}
 use Rattle.lc_constructions.specs.Alternant.{inverse, check_row, goppa_multipliers, goppa_sum, IsGoppaWord}
+use Rattle.lc_constructions.specs.Concatenated.{IsReplaced, IsReplacedWord, InConcatenated}
+use Rattle.lc_constructions.specs.Refusals.{degree_over}
 use Rattle.lc_constructions.specs.Combined.{InDual, symbol_sum, InExtended, without_from, without, InPunctured, InShortened, InEvenWeight, InDirectSum, InUuv, tensor, InDirectProduct, InIntersection}
 
 -- ---- a word that a list lacks
@@ -248,3 +253,52 @@ product_outside (rows, h, s) =
     let o : IsOrthogonal Gf2 rows x = λ k d l. eqb-true (word_dot Gf2 (slice_index_or rows k d) x) 0 (each_of (λ row. word_dot Gf2 row x == 0) (tensors twins square) (slice_index_or rows k d) checked_words (here k d l)) in
     let t : ◌≡◌ {A = ℕ} 1 0 = dot_span Gf2 4 rows x (1 ∷ 0 ∷ 0 ∷ 1 ∷ []) r o s in
     omega (arith, t)
+
+-- ---- concatenated codes
+
+abbrev nines : Matrix
+nines = record { field = Gf9; columns = 2; rows = (1 ∷ 1 ∷ []) ∷ [] }
+
+abbrev is_double : List ℕ → Bool
+is_double u = (length u == 2) && (slice_index u 0 == slice_index u 1)
+
+doubles : list_all is_double (listed nines) ≡ true
+unfolding digits number plus minus times top up times_x product shape shape_of size coefficients add mul word_sum scale below words
+doubles = refl
+
+degree_two : degree_over (size Gf3) (size Gf9) ≡ Some 2
+unfolding shape shape_of size degree_over
+degree_two = refl
+
+small_nine : is_symbol Gf9 ≡ true
+unfolding shape shape_of size is_symbol
+small_nine = refl
+
+replaced_once : (a : ℕ) (v z : List ℕ) → IsReplaced nines plane a v → IsReplaced nines plane a z → v ≡ z
+replaced_once a v z (cs, w, e, h) (ds, x, g, k) =
+    h ∙ ap (λ t. combine Gf3 3 t plane.rows) (expansion_once Gf3 Gf9 2 a cs ds small_nine degree_two w x e g) ∙ sym k
+
+halves : (u w : List ℕ) → is_double u ≡ true → IsReplacedWord nines plane u w → (v : List ℕ) × (w ≡ v ++ v)
+halves [] w d h = absurd (omega (arith, eqb-true (length {A = ℕ} []) 2 (and_parts (length {A = ℕ} [] == 2) (slice_index [] 0 == slice_index [] 1) d).0))
+halves (a ∷ []) w d h = absurd (omega (arith, eqb-true (length (a ∷ [])) 2 (and_parts (length (a ∷ []) == 2) (slice_index (a ∷ []) 0 == slice_index (a ∷ []) 1) d).0))
+halves (a ∷ b ∷ c ∷ u) w d h = absurd (omega (arith, eqb-true (length (a ∷ b ∷ c ∷ u)) 2 (and_parts (length (a ∷ b ∷ c ∷ u) == 2) (slice_index (a ∷ b ∷ c ∷ u) 0 == slice_index (a ∷ b ∷ c ∷ u) 1) d).0))
+halves (a ∷ b ∷ []) w d (v, (rest, i, (z, (more, j, k, l)), m)) =
+    let e : a ≡ b = eqb-true a b (and_parts (length (a ∷ b ∷ []) == 2) (a == b) d).1 in
+    let same : v ≡ z = replaced_once b v z (subst (λ x. IsReplaced nines plane x v) e i) j in
+    (v, m ∙ ap (λ t. v ++ t) (l ∙ ap (λ t. z ++ t) k ∙ append-nil z ∙ sym same))
+
+no_halves : (v : List ℕ) → 1 ∷ 2 ∷ 1 ∷ 0 ∷ 0 ∷ 0 ∷ [] ≡ v ++ v → ⊥
+no_halves v e =
+    let long : length v + length v ≡ 6 = sym (length-append v v) ∙ sym (ap (λ u. length u) e) in
+    let three : length v ≡ 3 = omega (arith, long) in
+    let first : slice_index (v ++ v) 0 ≡ slice_index v 0 = get_or_append_left v v 0 0 (omega (arith, three)) in
+    let fourth : slice_index (v ++ v) (length v + 0) ≡ slice_index v 0 = get_or-append-add v v 0 0 in
+    let one : ◌≡◌ {A = ℕ} 1 (slice_index v 0) = ap (λ u. slice_index u 0) e ∙ first in
+    let none : ◌≡◌ {A = ℕ} 0 (slice_index v 0) = ap (λ u. slice_index u 3) e ∙ ap (λ i. slice_index (v ++ v) i) (omega (arith, three)) ∙ fourth in
+    omega (arith, one, none)
+
+-- (1, 2, 1) replaces 7, and the two symbols of a word of the outer code are equal
+pub concatenated_outside : InConcatenated nines plane (1 ∷ 2 ∷ 1 ∷ 0 ∷ 0 ∷ 0 ∷ []) → ⊥
+concatenated_outside (u, c, r) =
+    let (v, e) = halves u (1 ∷ 2 ∷ 1 ∷ 0 ∷ 0 ∷ 0 ∷ []) (each_of is_double (listed nines) u doubles (in_list nines u c)) r in
+    no_halves v e
