@@ -12,13 +12,12 @@
 --   IsUsed               which records of a checkpoint a session of a version uses
 --   resumed_start        a session that resumes a true checkpoint does true steps
 --   chains_kept, chains_are_true      the law
-use Rattle.std.proofs.Common.{◌≡◌, ◌+◌, ◌≤◌, ◌<◌, ◌^◌, ⊎_elim, inl, inr, ℕ, suc, Bool, true, false, cond, List, [], ◌∷◌, length, take, drop, get_or, refl, sym, ap, subst, ◌∙◌, arith}
+use Rattle.std.proofs.Common.{zero, option_map, ◌≡◌, ◌+◌, ◌≤◌, ◌<◌, ◌^◌, ⊎_elim, inl, inr, ℕ, suc, Bool, true, false, cond, List, [], ◌∷◌, length, take, drop, get_or, refl, sym, ap, subst, ◌∙◌, arith}
 use Rattle.std.specs.Prelude.{Option, Some, None, slice_get, position, nat_lt, if◌then◌else◌, ◌==◌}
 use Rattle.std.specs.List.{position_or_len}
-use Rattle.std.proofs.lemmas.Bool.{ltb-false}
+use Rattle.std.proofs.lemmas.Bool.{cases_Bool, ltb-false}
 use Rattle.std.proofs.lemmas.List.{get_or-take, length-take, length-take-le}
 use Rattle.std.proofs.lemmas.List.Sums.{fails_before_first}
-use Rattle.std.proofs.lemmas.List.Quantifiers.{position-Some}
 use Rattle.std.proofs.lemmas.Option.{get_or_from_slice_get, slice_get_within}
 use Rattle.sha2.specs.Sha256.{sha256}
 use Rattle.lc_algebra.specs.declared.FieldName.TheVariants.{Gf2}
@@ -41,7 +40,7 @@ use Rattle.lc_sessions.proofs.NeedsLaws.{met_agree}
 use Rattle.lc_sessions.proofs.GroundLaws.{searches_end, early_enough}
 use Rattle.lc_sessions.specs.Slots.{slot_of, next_turn, turn_after, point_of, stored_bytes, slots_after, IsTrueCheckpoint, IsTornOr, later_of, chosen, start_in}
 use Rattle.lc_sessions.specs.Chain.{IsLeft, IsVersion, Leaves, Goes, Chain, EndsAtAnswer, IsGround, ChainsAreTrue}
-use Rattle.lc_sessions.proofs.TrueSteps.{AreSettled, settled_from, settled_take, need_at, AreTrueSteps, true_front, IsTrueStart, starts_next, session_true}
+use Rattle.lc_sessions.proofs.TrueSteps.{AreSettled, settled_take, need_at, AreTrueSteps, true_front, IsTrueStart, starts_next, session_true, parts_of}
 
 pub record IsKeptPoint (table : List Call) (bytes : List ℕ) (budget version : ℕ) (slot : Slot) (p : Checkpoint) : Type 0 where
   pub true_for : IsTrueCheckpoint table bytes budget p
@@ -152,14 +151,14 @@ unfolding divisor_in
 at_most_one version D is = omega (arith, ltb-false 1 (divisor_in version D) is, one_at_least version D)
 
 -- where no need is left the session does no round, so that nothing needs to be shown of its start
-true_from : (version : ℕ) (needs : List Matrix) (digest : List ℕ) (budget : ℕ)
+true_from : (version : ℕ) (needs : List Matrix) (digest : List ℕ) (budget : ℕ) → IsVersion version
     → ((i : ℕ) (C : Matrix) → slice_get needs i ≡ Some C → (slice : Option ℕ) (s : Progress) → IsBestAt C s → s.blocks ≤ answer_blocks (answer (divisor_in version C) C budget) → EndsAtAnswer (divisor_in version C) C budget slice s)
     → (slice : Option ℕ) (settled : List Progress) (current : Option Progress) (turn : ℕ) (left : List Matrix) → drop (length settled) needs ≡ left → ((C : Matrix) → slice_get needs (length settled) ≡ Some C → IsTrueStart version needs budget settled current turn)
     → AreTrueSteps version needs digest budget turn (session_from (divisor_in version) left budget slice settled current).steps
 unfolding session_from no_steps
-true_from version needs digest budget ends slice settled current turn [] is start = tt
-true_from version needs digest budget ends slice settled current turn (C ∷ left) is start =
-    session_true version needs digest budget ends (C ∷ left) slice settled current turn is (start C (need_at needs (length settled) C left is))
+true_from version needs digest budget known ends slice settled current turn [] is start = tt
+true_from version needs digest budget known ends slice settled current turn (C ∷ left) is start =
+    session_true version needs digest budget known ends (C ∷ left) slice settled current turn is (start C (need_at needs (length settled) C left is))
 
 -- where a session starts that uses all records of a true checkpoint, or those before a need
 pub record IsUsed (p : Checkpoint) (needs : List Matrix) (version : ℕ) (o : Option ℕ) : Type 0 where
@@ -170,11 +169,12 @@ pub start_all : (bytes : List ℕ) (budget version : ℕ) (needs front : List Ma
     → length p.settled ≤ length needs → IsTrueStart version needs budget p.settled (Some (current_of p)) (next_turn p.turn)
 unfolding current_of found_of next_turn
 start_all bytes budget version needs front p one holds agree allowed within = record {
-  done = transferred (divisor_in p.version) (divisor_in version) budget front needs p.settled (settled_from (divisor_in p.version) budget front p.settled holds.settled) one (λ k D m e. agree k D (omega (arith, m)) e) within;
+  done = transferred (divisor_in p.version) (divisor_in version) budget front needs p.settled (parts_of front (sha256 bytes) budget p holds).settled one (λ k D m e. agree k D (omega (arith, m)) e) within;
   best = λ D is.
-      let same : holds.current.0 ≡ D = one (length p.settled) holds.current.0 D holds.current.1 is in
-      let few : p.blocks ≤ answer_blocks (answer (divisor_in p.version D) D budget) = subst (λ (E : Matrix). p.blocks ≤ answer_blocks (answer (divisor_in p.version E) E budget)) same holds.current.3 in
-      (subst (λ (E : Matrix). IsBestAt E (current_of p)) same (sym holds.current.4), subst (λ (n : ℕ). p.blocks ≤ answer_blocks (answer n D budget)) (agree (length p.settled) D (omega arith) is) few);
+      let parts = parts_of front (sha256 bytes) budget p holds in
+      let same : parts.current.0 ≡ D = one (length p.settled) parts.current.0 D parts.current.1 is in
+      let few : p.blocks ≤ answer_blocks (answer (divisor_in p.version D) D budget) = subst (λ (E : Matrix). p.blocks ≤ answer_blocks (answer (divisor_in p.version E) E budget)) same parts.current.3 in
+      (subst (λ (E : Matrix). IsBestAt E (current_of p)) same parts.current.4, subst (λ (n : ℕ). p.blocks ≤ answer_blocks (answer n D budget)) (agree (length p.settled) D (omega arith) is) few);
   early = λ D is. omega (arith, holds.turn, allowed);
 }
 
@@ -184,7 +184,7 @@ unfolding next_turn
 start_some bytes budget version needs front p i one holds agree within allowed few =
     let size : length (take i p.settled) ≡ i = length-take-le i p.settled within in
     starts_next version needs budget (take i p.settled) (next_turn p.turn)
-    (transferred (divisor_in p.version) (divisor_in version) budget front needs (take i p.settled) (settled_take (divisor_in p.version) budget front p.settled i (settled_from (divisor_in p.version) budget front p.settled holds.settled)) one (λ k D m e. agree k D (omega (arith, m, size)) e) few)
+    (transferred (divisor_in p.version) (divisor_in version) budget front needs (take i p.settled) (settled_take (divisor_in p.version) budget front p.settled i (parts_of front (sha256 bytes) budget p holds).settled) one (λ k D m e. agree k D (omega (arith, m, size)) e) few)
     (omega (arith, allowed))
 
 -- a session that goes on from a true checkpoint does steps whose checkpoints are true
@@ -193,11 +193,11 @@ resumed_truly : (table : List Call) (bytes : List ℕ) (budget version : ℕ) (n
 unfolding session_rounds start_before
 resumed_truly table bytes budget version needs front p ground known met met_front holds slice None used =
     let u = used.all refl in
-    true_from version needs (sha256 bytes) budget (searches_end table bytes budget ground version needs met) slice p.settled (Some (current_of p)) (next_turn p.turn) (drop (length p.settled) needs) refl
+    true_from version needs (sha256 bytes) budget known (searches_end table bytes budget ground version needs met) slice p.settled (Some (current_of p)) (next_turn p.turn) (drop (length p.settled) needs) refl
     (λ C at. start_all bytes budget version needs front p (met_agree table bytes ground.script ground.step front needs met_front met) holds u.0 u.1 (let w = slice_get_within needs (length p.settled) C at in omega (arith, w)))
 resumed_truly table bytes budget version needs front p ground known met met_front holds slice (Some i) used =
     let u = used.some i refl in
-    true_from version needs (sha256 bytes) budget (searches_end table bytes budget ground version needs met) slice (take i p.settled) None (next_turn p.turn) (drop (length (take i p.settled)) needs) refl
+    true_from version needs (sha256 bytes) budget known (searches_end table bytes budget ground version needs met) slice (take i p.settled) None (next_turn p.turn) (drop (length (take i p.settled)) needs) refl
     (λ C at. start_some bytes budget version needs front p i (met_agree table bytes ground.script ground.step front needs met_front met) holds u.0 u.1 u.2 (let w = slice_get_within needs (length (take i p.settled)) C at in omega (arith, w)))
 
 -- a version that isn't 1 is used whole
@@ -233,21 +233,69 @@ late_enough version D turn known above early =
 abbrev any_need : Matrix
 any_need = record { field = Gf2; columns = 0; rows = [] }
 
+-- what the first need with a divisor above 1 is, and that there is none
+no_divisible : (divisor : Matrix → ℕ) (needs : List Matrix) → first_divisible divisor needs ≡ None → (k : ℕ) (d : Matrix) → k < length needs → nat_lt 1 (divisor (get_or needs k d)) ≡ false
+unfolding first_divisible
+no_divisible divisor [] is k d l = absurd (omega (arith, l))
+no_divisible divisor (C ∷ needs) is k d l =
+    ⊎_elim
+    (λ (t : nat_lt 1 (divisor C) ≡ true). absurd (let e : Some 0 ≡ None = subst (λ (b : Bool). (if b then Some 0 else option_map suc (first_divisible divisor needs)) ≡ None) t is in cc))
+    (λ (f : nat_lt 1 (divisor C) ≡ false). later k f (λ j m. no_divisible divisor needs (unless (first_divisible divisor needs) (subst (λ (b : Bool). (if b then Some 0 else option_map suc (first_divisible divisor needs)) ≡ None) f is)) j d m) l)
+    (cases_Bool (nat_lt 1 (divisor C)))
+  where
+    unless : (o : Option ℕ) → option_map suc o ≡ None → o ≡ None
+    unless None e = refl
+    unless (Some i) e = absurd (let f = e in cc)
+
+    later : (k : ℕ) → nat_lt 1 (divisor C) ≡ false → ((j : ℕ) → j < length needs → nat_lt 1 (divisor (get_or needs j d)) ≡ false) → k < suc (length needs) → nat_lt 1 (divisor (get_or (C ∷ needs) k d)) ≡ false
+    later zero f rest l = f
+    later (suc k) f rest l = rest k (omega (arith, l))
+
+-- the first one, at an index: it has such a divisor, and none before it has
+record IsFirstDivisible (divisor : Matrix → ℕ) (needs : List Matrix) (i : ℕ) (d : Matrix) : Type 0 where
+  within : i < length needs
+  is : nat_lt 1 (divisor (get_or needs i d)) ≡ true
+  before : (k : ℕ) → k < i → nat_lt 1 (divisor (get_or needs k d)) ≡ false
+
+the_divisible : (divisor : Matrix → ℕ) (needs : List Matrix) (i : ℕ) (d : Matrix) → first_divisible divisor needs ≡ Some i → IsFirstDivisible divisor needs i d
+unfolding first_divisible
+the_divisible divisor [] i d at = absurd (let e = at in cc)
+the_divisible divisor (C ∷ needs) i d at =
+    ⊎_elim
+    (λ (t : nat_lt 1 (divisor C) ≡ true). here i t (subst (λ (b : Bool). (if b then Some 0 else option_map suc (first_divisible divisor needs)) ≡ Some i) t at))
+    (λ (f : nat_lt 1 (divisor C) ≡ false). there i f (first_divisible divisor needs) refl (subst (λ (b : Bool). (if b then Some 0 else option_map suc (first_divisible divisor needs)) ≡ Some i) f at) (λ j e. the_divisible divisor needs j d e))
+    (cases_Bool (nat_lt 1 (divisor C)))
+  where
+    here : (i : ℕ) → nat_lt 1 (divisor C) ≡ true → Some 0 ≡ Some i → IsFirstDivisible divisor (C ∷ needs) i d
+    here zero t e = record { within = omega arith; is = t; before = λ k l. absurd (omega (arith, l)) }
+    here (suc i) t e = absurd (let f = e in cc)
+
+    first_ones : (k : ℕ) → nat_lt 1 (divisor C) ≡ false → {i : ℕ} → IsFirstDivisible divisor needs i d → k < suc i → nat_lt 1 (divisor (get_or (C ∷ needs) k d)) ≡ false
+    first_ones zero f r l = f
+    first_ones (suc k) f r l = r.before k (omega (arith, l))
+
+    there : (i : ℕ) → nat_lt 1 (divisor C) ≡ false → (o : Option ℕ) → first_divisible divisor needs ≡ o → option_map suc o ≡ Some i → ((j : ℕ) → first_divisible divisor needs ≡ Some j → IsFirstDivisible divisor needs j d) → IsFirstDivisible divisor (C ∷ needs) i d
+    there i f None e g rest = absurd (let h = g in cc)
+    there zero f (Some j) e g rest = absurd (let h = g in cc)
+    there (suc i) f (Some j) e g rest =
+        let same : j ≡ i = (let h = g in cc) in
+        let r = rest i (e ∙ ap (λ (n : ℕ). Some n) same) in
+        record { within = omega (arith, r.within); is = r.is; before = λ k l. first_ones k f r l }
+
 -- of version 1 the records before the first need with a divisor above 1 are used
 pub used_first : (p : Checkpoint) (needs : List Matrix) (version : ℕ) → p.version ≡ 1 → IsVersion version → p.turn < 2 ^ 57 → IsUsed p needs version (first_divisible (divisor_in version) (take (suc (length p.settled)) needs))
-unfolding first_divisible
 used_first p needs version first known early = record {
   all = λ none. (
-    (λ k D l is. ap (λ (v : ℕ). divisor_in v D) first ∙ below_first version needs (suc (length p.settled)) k D l is (λ d m. no_position (λ C. nat_lt 1 (divisor_in version C)) (take (suc (length p.settled)) needs) none k d m)),
+    (λ k D l is. ap (λ (v : ℕ). divisor_in v D) first ∙ below_first version needs (suc (length p.settled)) k D l is (λ d m. no_divisible (divisor_in version) (take (suc (length p.settled)) needs) none k d m)),
     rw first (allowed_first version),
   );
   some = λ i is. (
     (λ k D l e.
-        let f = position-Some (λ C. nat_lt 1 (divisor_in version C)) (take (suc (length p.settled)) needs) i D is in
+        let f = the_divisible (divisor_in version) (take (suc (length p.settled)) needs) i D is in
         let t = length-take (suc (length p.settled)) needs in
-        ap (λ (v : ℕ). divisor_in v D) first ∙ below_first version needs (suc (length p.settled)) k D (omega (arith, l, f.0, t)) e (λ d m. (position-Some (λ C. nat_lt 1 (divisor_in version C)) (take (suc (length p.settled)) needs) i d is).2 k l)),
-    (let f = position-Some (λ C. nat_lt 1 (divisor_in version C)) (take (suc (length p.settled)) needs) i any_need is in let t = length-take (suc (length p.settled)) needs in omega (arith, f.0, t)),
-    (let f = position-Some (λ C. nat_lt 1 (divisor_in version C)) (take (suc (length p.settled)) needs) i any_need is in late_enough version (get_or (take (suc (length p.settled)) needs) i any_need) p.turn known f.1 early),
+        ap (λ (v : ℕ). divisor_in v D) first ∙ below_first version needs (suc (length p.settled)) k D (omega (arith, l, f.within, t)) e (λ d m. (the_divisible (divisor_in version) (take (suc (length p.settled)) needs) i d is).before k l)),
+    (let f = the_divisible (divisor_in version) (take (suc (length p.settled)) needs) i any_need is in let t = length-take (suc (length p.settled)) needs in omega (arith, f.within, t)),
+    (let f = the_divisible (divisor_in version) (take (suc (length p.settled)) needs) i any_need is in late_enough version (get_or (take (suc (length p.settled)) needs) i any_need) p.turn known f.is early),
   );
 }
 
@@ -286,7 +334,7 @@ goes_truly version table bytes budget needs start told turn g all = true_front v
 begun_truly : (table : List Call) (bytes : List ℕ) (budget version : ℕ) (needs : List Matrix) → IsGround table bytes budget → IsVersion version → MeetsFirst table bytes needs → (slice : Option ℕ) → AreTrueSteps version needs (sha256 bytes) budget 0 (session_rounds (divisor_in version) needs budget slice fresh_start).steps
 unfolding session_rounds fresh_start
 begun_truly table bytes budget version needs ground known met slice =
-    true_from version needs (sha256 bytes) budget (searches_end table bytes budget ground version needs met) slice [] None 0 needs refl (λ C at. starts_next version needs budget [] 0 tt (omega arith))
+    true_from version needs (sha256 bytes) budget known (searches_end table bytes budget ground version needs met) slice [] None 0 needs refl (λ C at. starts_next version needs budget [] 0 tt (omega arith))
 
 pub chains_kept : (table : List Call) (bytes : List ℕ) (budget version : ℕ) (slots : Slots) → IsGround table bytes budget → Chain table bytes budget version slots → AreKept table bytes budget version slots
 chains_kept table bytes budget _ _ ground (Chain.begun version needs told slots g left) =

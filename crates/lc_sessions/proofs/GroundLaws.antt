@@ -2,7 +2,6 @@
 --   search_rises         its states rise
 --   settles_so           a search that is finished with an answer is settled by it
 --   ends_at_answer       so it ends at its answer, unless the slice stops it
---   answered_so          and where it is settled it is finished
 --   early_enough         the turn of a true checkpoint of version 1
 --   searches_end         the searches of a script
 use Rattle.std.proofs.Common.{◌≡◌, ◌+◌, ◌-◌, ◌≤◌, ◌<◌, ◌^◌, ⊎_elim, ℕ, zero, suc, Bool, true, false, List, [], ◌∷◌, find, length, refl, sym, ap, subst, ◌∙◌, arith}
@@ -10,11 +9,12 @@ use Rattle.std.specs.Prelude.{Option, Some, None, if◌then◌else◌, ◌==◌,
 use Rattle.std.proofs.lemmas.Bool.{cases_Bool, cases_lt, leb-true}
 use Rattle.std.proofs.lemmas.List.Sums.{sum_by-append}
 use Rattle.std.proofs.lemmas.Option.{slice_get_within}
+use Rattle.sha2.specs.Sha256.{sha256}
 use Rattle.lc_algebra.specs.Matrix.{Matrix}
 use Rattle.lc_enumeration.specs.Plan.{cut}
 use Rattle.lc_enumeration.specs.Search.{Answer, no_word, exact, bracket, set_count, best, bound, is_done, may_end, ends_of, answer_at, answer, finished}
-use Rattle.lc_enumeration.specs.Records.{Progress, Rounds, found_of, progress_of, round_length, after_round, is_used_up, state_first, no_round, less_slice, rounds_within, rounds, last_state, IsBestAt}
-use Rattle.lc_enumeration.specs.Truth.{answer_blocks}
+use Rattle.lc_enumeration.specs.Records.{Progress, Rounds, found_of, progress_of, round_length, after_round, is_used_up, state_first, no_round, less_slice, rounds_within, rounds, IsBestAt}
+use Rattle.lc_enumeration.specs.Truth.{answer_blocks, IsSettled}
 use Rattle.lc_enumeration.proofs.RecordsLaws.{round_is_best}
 use Rattle.lc_infoset.proofs.AnswerLaws.{some_set}
 use Rattle.lc_infoset.proofs.RoundLaws.{done_list, target, reached, round_within}
@@ -29,7 +29,7 @@ use Rattle.lc_language.specs.declared.Call.{Call}
 use Rattle.lc_sessions.specs.Needs.{MeetsFirst}
 use Rattle.lc_sessions.specs.Slots.{IsTrueCheckpoint}
 use Rattle.lc_sessions.specs.Chain.{Rises, EndsAtAnswer, IsGround}
-use Rattle.lc_sessions.proofs.TrueSteps.{AreSettled, settled_from, blocks_of}
+use Rattle.lc_sessions.proofs.TrueSteps.{AreSettled, blocks_of, parts_of}
 
 next_blocks : (C : Matrix) (s : Progress) (count : ℕ) → (after_round C s count).blocks ≡ s.blocks + count
 unfolding after_round progress_of
@@ -61,11 +61,11 @@ search_rises (suc most) d C budget slice o s rows sets small f h few =
     (λ least. subst (λ (a : Option Answer). goal (on a)) (sym (state.here (omega (arith, least, few)))) tt)
     (cases_lt s.blocks (target o budget))
 
-same_blocks : (a : Answer) → blocks_in a ≡ answer_blocks a
-unfolding blocks_in answer_blocks
-same_blocks no_word = refl
-same_blocks (exact found l) = refl
-same_blocks (bracket low found l) = refl
+-- what an answer says of the record that is settled by it
+abbrev SettlesAs : Progress → Answer → Type 0
+SettlesAs s no_word = ⊥
+SettlesAs s (exact found l) = (s.blocks ≡ l) × (found_of s ≡ found)
+SettlesAs s (bracket low found l) = (s.blocks ≡ l) × (found_of s ≡ found)
 
 settles_so : (d : ℕ) (C : Matrix) (budget : ℕ) (s : Progress) (a : Answer) → finished d C budget s.blocks (found_of s) ≡ Some a → SettlesAs s a
 unfolding finished
@@ -81,24 +81,17 @@ pub ends_at_answer : (d : ℕ) (C : Matrix) (budget : ℕ) (slice : Option ℕ) 
 unfolding rounds cut
 ends_at_answer d C budget slice s rows small h few =
     let o = find (is_done d C) (done_list C budget) in
-    let most : target o budget ≡ answer_blocks (answer d C budget) = sym (target_is d C budget rows) ∙ sym (same_blocks (answer d C budget)) in
-    let e = search_ends d C budget slice s rows small (record { best = h; few = omega (arith, few, same_blocks (answer d C budget)) }) in
+    let most : target o budget ≡ answer_blocks (answer d C budget) = sym (target_is d C budget rows) in
+    let e = search_ends d C budget slice s rows small (record { best = h; few = few }) in
     record {
       rises = subst (λ (n : ℕ). Rises C n s.blocks (rounds d C budget slice s).states) most (search_rises (suc (budget - s.blocks)) d C budget slice o s rows (some_set C) small refl h (omega (arith, few, most)));
-      ends = λ unstopped. settles_so d C budget (last_state s (rounds d C budget slice s).states) (answer d C budget) (e.settles unstopped);
+      ends = λ unstopped. e.settles unstopped;
     }
 
 settled_at : (d : ℕ) (C : Matrix) (budget : ℕ) (o : Option ℕ) (s : Progress) → SettlesAs s (answer_at d C budget o) → (s.blocks ≡ target o budget) × (found_of s ≡ best C (set_count C) s.blocks)
 unfolding answer_at
 settled_at d C budget None s h = (h.0, h.1 ∙ ap (best C (set_count C)) (sym h.0))
 settled_at d C budget (Some l) s h = (h.0, h.1 ∙ ap (best C (set_count C)) (sym h.0))
-
-pub answered_so : (d : ℕ) (C : Matrix) (budget : ℕ) (s : Progress) → 0 < length C.rows → IsSettled d C budget s → finished d C budget s.blocks (found_of s) ≡ Some (answer d C budget)
-answered_so d C budget s rows settles =
-    let o = find (is_done d C) (done_list C budget) in
-    let is = answer_is d C budget rows in
-    let at = settled_at d C budget o s (subst (SettlesAs s) is settles) in
-    (reached d C budget o s.blocks (found_of s) rows (some_set C) refl at.1 (omega (arith, at.0))).here at.0 ∙ ap Some (sym is)
 
 listed_within : (C : Matrix) (budget l : ℕ) → Contains (done_list C budget) l → l ≤ budget
 listed_within C budget l m = ⊎_elim (λ (e : 0 ≡ l). omega (arith, e)) (λ (r : Contains (ends_to C budget) l). leb-true l budget (filter_passes (λ e. nat_le e budget) (ends_of C) l r).passes) (contains_cases 0 l (ends_to C budget) m)
@@ -111,14 +104,14 @@ target_within d C budget (Some e) f = listed_within C budget e (find_passes (is_
 answer_within : (d : ℕ) (C : Matrix) (budget : ℕ) (s : Progress) → 0 < length C.rows → IsSettled d C budget s → s.blocks ≤ budget
 answer_within d C budget s rows settles =
     let o = find (is_done d C) (done_list C budget) in
-    let at = settled_at d C budget o s (subst (SettlesAs s) (answer_is d C budget rows) settles) in
+    let at = settled_at d C budget o s (subst (SettlesAs s) (answer_is d C budget rows) (settles_so d C budget s (answer d C budget) settles)) in
     let t = target_within d C budget o refl in
     omega (arith, at.0, t)
 
 blocks_within : (d : ℕ) (C : Matrix) (budget : ℕ) → 0 < length C.rows → answer_blocks (answer d C budget) ≤ budget
 blocks_within d C budget rows =
     let o = find (is_done d C) (done_list C budget) in
-    let most : answer_blocks (answer d C budget) ≡ target o budget = same_blocks (answer d C budget) ∙ target_is d C budget rows in
+    let most : answer_blocks (answer d C budget) ≡ target o budget = target_is d C budget rows in
     let t = target_within d C budget o refl in
     omega (arith, most, t)
 
@@ -136,13 +129,14 @@ pub early_enough : (table : List Call) (bytes : List ℕ) (budget : ℕ) (p : Ch
 unfolding turn_allowance
 early_enough table bytes budget p ground first (needs, met, holds) =
     let rows = ground.rows needs met in
-    let all = settled_from (divisor_in p.version) budget needs p.settled holds.settled in
+    let parts = parts_of needs (sha256 bytes) budget p holds in
+    let all = parts.settled in
     let sum_of = settled_within (divisor_in p.version) budget needs p.settled ground.small rows all in
-    let here = blocks_within (divisor_in p.version holds.current.0) holds.current.0 budget (rows (length p.settled) holds.current.0 holds.current.1) in
+    let here = blocks_within (divisor_in p.version parts.current.0) parts.current.0 budget (rows (length p.settled) parts.current.0 parts.current.1) in
     let none : turn_allowance p.version ≡ 0 = ap turn_allowance first in
-    let inside = slice_get_within needs (length p.settled) holds.current.0 holds.current.1 in
+    let inside = slice_get_within needs (length p.settled) parts.current.0 parts.current.1 in
     let few = ground.few needs met in
-    omega (arith, holds.turn, sum_of, here, holds.current.3, none, inside, few, ground.small)
+    omega (arith, holds.turn, sum_of, here, parts.current.3, none, inside, few, ground.small)
 
 -- what the searches of a script do, as chains need it
 pub searches_end : (table : List Call) (bytes : List ℕ) (budget : ℕ) → IsGround table bytes budget → (version : ℕ) (needs : List Matrix) → MeetsFirst table bytes needs → (i : ℕ) (C : Matrix) → slice_get needs i ≡ Some C → (slice : Option ℕ) (s : Progress) → IsBestAt C s → s.blocks ≤ answer_blocks (answer (divisor_in version C) C budget)

@@ -31,7 +31,7 @@ use Rattle.lc_sessions.specs.Session.{Course, rounds_of, Finds, IsResumed, IsFre
 use Rattle.lc_sessions.specs.Chain.{IsVersion, IsGround}
 use Rattle.lc_sessions.proofs.AnswerLaws.{answered_back, met_whole}
 use Rattle.lc_sessions.proofs.NeedsLaws.{met_agree}
-use Rattle.lc_sessions.proofs.GroundLaws.{searches_end, early_enough, answered_so}
+use Rattle.lc_sessions.proofs.GroundLaws.{searches_end, early_enough}
 use Rattle.lc_sessions.proofs.SessionChains.{chosen_is}
 use Rattle.lc_sessions.proofs.TrueSteps.{starts_next}
 use Rattle.lc_sessions.proofs.ChainLaws.{IsUsed, start_all, start_some, used_whole, used_first}
@@ -96,11 +96,11 @@ used_settles : (table : List Call) (bytes : List ℕ) (budget : ℕ) (needs fron
 unfolding session_rounds start_before
 used_settles table bytes budget needs front p ground met met_front holds slice None used within unstopped =
     let u = used.all refl in
-    session_settles 2 needs (sha256 bytes) budget (searches_end table bytes budget ground 2 needs met) (drop (length p.settled) needs) slice p.settled (Some (current_of p)) (next_turn p.turn) refl within
+    session_settles 2 needs (sha256 bytes) budget (inr refl) (searches_end table bytes budget ground 2 needs met) (drop (length p.settled) needs) slice p.settled (Some (current_of p)) (next_turn p.turn) refl within
     (start_all bytes budget 2 needs front p (met_agree table bytes ground.script ground.step front needs met_front met) holds u.0 u.1 within) unstopped
 used_settles table bytes budget needs front p ground met met_front holds slice (Some i) used within unstopped =
     let u = used.some i refl in
-    session_settles 2 needs (sha256 bytes) budget (searches_end table bytes budget ground 2 needs met) (drop (length (take i p.settled)) needs) slice (take i p.settled) None (next_turn p.turn) refl within
+    session_settles 2 needs (sha256 bytes) budget (inr refl) (searches_end table bytes budget ground 2 needs met) (drop (length (take i p.settled)) needs) slice (take i p.settled) None (next_turn p.turn) refl within
     (start_some bytes budget 2 needs front p i (met_agree table bytes ground.script ground.step front needs met_front met) holds u.0 u.1 u.2 within) unstopped
 
 first_test : (p : Checkpoint) → p.version ≡ 1 → (p.version == 1) ≡ true
@@ -120,12 +120,12 @@ resumed_settles table bytes budget needs front p ground met met_front holds (inr
 fresh_settles : (table : List Call) (bytes : List ℕ) (budget : ℕ) (needs : List Matrix) → IsGround table bytes budget → MeetsFirst table bytes needs → (slice : Option ℕ) → (session_rounds divisor_of needs budget slice fresh_start).is_stopped ≡ false → AreAllSettled 2 budget needs (session_rounds divisor_of needs budget slice fresh_start).settled
 unfolding session_rounds fresh_start divisor_in
 fresh_settles table bytes budget needs ground met slice unstopped =
-    session_settles 2 needs (sha256 bytes) budget (searches_end table bytes budget ground 2 needs met) needs slice [] None 0 refl (omega arith) (starts_next 2 needs budget [] 0 tt (omega arith)) unstopped
+    session_settles 2 needs (sha256 bytes) budget (inr refl) (searches_end table bytes budget ground 2 needs met) needs slice [] None 0 refl (omega arith) (starts_next 2 needs budget [] 0 tt (omega arith)) unstopped
 
 -- what settles each need gives the answers of the search
 by_search : (table : List Call) (bytes : List ℕ) (budget : ℕ) (needs : List Matrix) (states : List Progress) (answers : List Answer) → IsGround table bytes budget → MeetsFirst table bytes needs → AreAllSettled 2 budget needs states → Settle budget needs states answers → answers ≡ answers_of needs budget
 unfolding divisor_in
-by_search table bytes budget needs states answers ground met all settle = settled_answers budget needs states answers (λ i C at s h. answered_so (divisor_of C) C budget s (ground.rows needs met i C at) h) all.0 all.1 settle
+by_search table bytes budget needs states answers ground met all settle = settled_answers budget needs states answers (λ i C at s h. h) all.0 all.1 settle
 
 pub fresh_text : (table : List Call) (asked : Settings) (course : Course) → IsGround table course.bytes asked.budget → NoFault course.bytes → IsFresh course → IsNeeds table course.bytes course.needs → (rounds_of asked course).is_stopped ≡ false
     → (answers : List Answer) → Settle asked.budget course.needs (rounds_of asked course).settled answers → IsTextBy table asked.budget course.bytes answers course.text course.is_faulty → IsText table asked.budget course.bytes course.text course.is_faulty
