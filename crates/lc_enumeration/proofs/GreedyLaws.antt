@@ -99,9 +99,9 @@ independent_last f n xs g r h free out cs w e =
     let inside : InSpan f n xs u = word_of_combination f n xs s.front front in
     let word : IsWord f n u = combine_is_word f n s.front xs r in
     let sums : word_sum f u (scale f s.last g) ≡ zero_word n =
-        ap (word_sum f u) (sym (one_row f n s.last g h))
-        ∙ sym (combine_append f n s.front (s.last ∷ []) xs (g ∷ []) s.long (All-cons (IsWord f n) g [] h (λ k d l. absurd (omega (arith, l)))))
-        ∙ ap (λ x. combine f n x (xs ++ g ∷ [])) (sym s.whole) ∙ e in
+    ap (word_sum f u) (sym (one_row f n s.last g h))
+    ∙ sym (combine_append f n s.front (s.last ∷ []) xs (g ∷ []) s.long (All-cons (IsWord f n) g [] h (λ k d l. absurd (omega (arith, l)))))
+    ∙ ap (λ x. combine f n x (xs ++ g ∷ [])) (sym s.whole) ∙ e in
     ⊎_elim
     (λ positive.
     let b = inverse_of f s.last fits.1 positive in
@@ -118,18 +118,18 @@ independent_last f n xs g r h free out cs w e =
 pub independent_front : (f : FieldName) (n : ℕ) (xs ys : List (List ℕ)) (g : List ℕ) → AreRows f n (xs ++ g ∷ ys) → AreRows f n (xs ++ ys) → AreIndependent f n (xs ++ g ∷ ys) → InSpan f n xs g → ⊥
 independent_front f n xs ys g r s h i =
     let wide : (x : List ℕ) → Contains (xs ++ g ∷ ys) x → InSpan f n (xs ++ ys) x = λ x c.
-        ⊎_elim
-        (λ a. span_of_member f n (xs ++ ys) x s (Contains-append_left xs ys x a))
-        (λ b. ⊎_elim
-        (λ e. subst (InSpan f n (xs ++ ys)) e (span_wider f n xs (xs ++ ys) g s (λ y a. Contains-append_left xs ys y a) i))
-        (λ a. span_of_member f n (xs ++ ys) x s (Contains-append_right xs ys x a))
-        (contains_cases g x ys b))
-        (Contains-append_cases xs (g ∷ ys) x c) in
+    ⊎_elim
+    (λ a. span_of_member f n (xs ++ ys) x s (Contains-append_left xs ys x a))
+    (λ b. ⊎_elim
+    (λ e. subst (InSpan f n (xs ++ ys)) e (span_wider f n xs (xs ++ ys) g s (λ y a. Contains-append_left xs ys y a) i))
+    (λ a. span_of_member f n (xs ++ ys) x s (Contains-append_right xs ys x a))
+    (contains_cases g x ys b))
+    (Contains-append_cases xs (g ∷ ys) x c) in
     let back : (x : List ℕ) → Contains (xs ++ ys) x → InSpan f n (xs ++ g ∷ ys) x = λ x c.
-        span_of_member f n (xs ++ g ∷ ys) x r (⊎_elim
-        (λ a. Contains-append_left xs (g ∷ ys) x a)
-        (λ a. Contains-append_right xs (g ∷ ys) x (contains_tail g x ys a))
-        (Contains-append_cases xs ys x c)) in
+    span_of_member f n (xs ++ g ∷ ys) x r (⊎_elim
+    (λ a. Contains-append_left xs (g ∷ ys) x a)
+    (λ a. Contains-append_right xs (g ∷ ys) x (contains_tail g x ys a))
+    (Contains-append_cases xs ys x c)) in
     let same = same_span f n (xs ++ g ∷ ys) (xs ++ ys) r s (each_contained (InSpan f n (xs ++ ys)) (xs ++ g ∷ ys) wide) (each_contained (InSpan f n (xs ++ g ∷ ys)) (xs ++ ys) back) in
     omega (arith, independent_at_most f n (xs ++ g ∷ ys) (xs ++ ys) r h same, length-append xs (g ∷ ys), length-append xs ys)
 
