@@ -5,23 +5,34 @@
 --   wide_number, bad_byte      a number that is too wide; a byte that begins no token, after a comment
 --   not_a_field, short_hamming, large_field, long_repetition, too_large_entry      refusals of calls with their numbers
 use Rattle.std.proofs.Common.{◌≡◌, refl}
-use Rattle.std.specs.Prelude.{[], ◌∷◌, ◌++◌, map, codes, Some, None, true, false}
+use Rattle.std.specs.Prelude.{[], ◌∷◌, ◌++◌, map, codes, Some, None, true, false, List, Option, option_and_then}
 use Rattle.std.specs.Fmt.{digits}
 use Rattle.lc_algebra.specs.declared.FieldName.TheVariants.{Gf2, Gf4, Gf25}
 use Rattle.lc_algebra.specs.Field.{shape, shape_of, size, is_symbol}
 use Rattle.lc_algebra.specs.Span.{below}
 use Rattle.lc_constructions.specs.Basic.{hamming_length}
 use Rattle.lc_constructions.specs.Cyclic.{all_fields}
-use Rattle.lc_language.specs.declared.Call.TheVariants.{Gf, HammingCode, RepetitionCode, LeastWord}
+use Rattle.lc_language.specs.declared.ValueCall.{ValueCall}
+use Rattle.lc_language.specs.declared.ValueCall.TheVariants.{Gf, HammingCode, RepetitionCode}
+use Rattle.lc_language.specs.declared.QueryCall.{QueryCall}
+use Rattle.lc_language.specs.declared.QueryCall.TheVariants.{LeastWord}
+use Rattle.lc_language.specs.Bound.{bind, bind_query}
 use Rattle.lc_grammar.specs.declared.TokenKind.TheVariants.{Name, Assign, Open, Close, Number, End}
-use Rattle.lc_language.specs.Value.{number, field, numbers, lists, truth, nothing}
+use Rattle.lc_language.specs.Value.{Value, number, field, numbers, lists, truth, nothing}
 use Rattle.lc_formats.specs.Text.{bracketed, numbers_text, lists_text, line, spaced, with_values}
 use Rattle.lc_language.specs.Print.{field_text, code_text, value_text, value_line, fault_line}
 use Rattle.lc_grammar.specs.Token.{is_blank, is_letter, is_digit, is_name_byte, number_from, number_of, widest, cut_of, assign_at, sign_at, token_at, script_end, bad_token, too_wide, ended, token_first, is_number, comment_length, scan_within, scan}
 use Rattle.lc_constructions.specs.Code.{is_length}
 use Rattle.lc_constructions.specs.Refusal.{refusal_number, refusal_values, refuse_if}
 use Rattle.lc_constructions.specs.Refusals.{columns_of, are_elements, have_elements, are_equally_long, too_large, bad_length, bad_argument, matrix_refusals, length_refusals, hamming_refusals}
-use Rattle.lc_language.specs.Refusal.{refuse, when, first_of, refusal_from, from_codes, refusals_of, refusal_of}
+use Rattle.lc_language.specs.Refusal.{Refusal, refuse, when, first_of, refusal_from, from_codes, refusals_of, refusal_of, query_refusals_of, query_refusal_of}
+
+-- the refusal of a call with these arguments
+unfoldable pub call_refusal : ValueCall → List Value → Option Refusal
+call_refusal c arguments = option_and_then refusal_of (bind c arguments)
+
+unfoldable pub query_refusal : QueryCall → List Value → Option Refusal
+query_refusal c arguments = option_and_then query_refusal_of (bind_query c arguments)
 
 pub lines : map value_line (number 12 ∷ field Gf4 ∷ numbers (1 ∷ 0 ∷ 3 ∷ []) ∷ numbers [] ∷ lists ((1 ∷ 0 ∷ []) ∷ (0 ∷ 1 ∷ []) ∷ []) ∷ truth true ∷ truth false ∷ nothing ∷ []) ≡ (codes "12" ++ 10 ∷ []) ∷ (codes "GF(4)" ++ 10 ∷ []) ∷ (codes "[1,0,3]" ++ 10 ∷ []) ∷ (codes "[]" ++ 10 ∷ []) ∷ (codes "[[1,0],[0,1]]" ++ 10 ∷ []) ∷ (codes "true" ++ 10 ∷ []) ∷ (codes "false" ++ 10 ∷ []) ∷ (codes "none" ++ 10 ∷ []) ∷ []
 unfolding digits shape shape_of size bracketed numbers_text lists_text field_text code_text value_text line value_line
@@ -43,22 +54,22 @@ pub bad_byte : (scan (codes "# a comment $" ++ 10 ∷ 36 ∷ [])).ending ≡ bad
 unfolding is_blank is_letter is_digit is_name_byte number_from number_of widest cut_of assign_at sign_at token_at ended token_first is_number comment_length scan_within scan
 bad_byte = refl
 
-pub not_a_field : refusal_of Gf (number 6 ∷ []) ≡ Some (refuse 1 [])
-unfolding shape shape_of size is_symbol below refuse when first_of refusal_number refusal_values refuse_if refusal_from from_codes is_length too_large bad_length bad_argument are_elements have_elements are_equally_long columns_of matrix_refusals length_refusals hamming_refusals all_fields hamming_length refusals_of refusal_of
+pub not_a_field : call_refusal Gf (number 6 ∷ []) ≡ Some (refuse 1 [])
+unfolding shape shape_of size is_symbol below refuse when first_of refusal_number refusal_values refuse_if refusal_from from_codes is_length too_large bad_length bad_argument are_elements have_elements are_equally_long columns_of matrix_refusals length_refusals hamming_refusals all_fields hamming_length refusals_of refusal_of query_refusals_of query_refusal_of bind bind_query call_refusal query_refusal
 not_a_field = refl
 
-pub short_hamming : refusal_of HammingCode (number 1 ∷ field Gf2 ∷ []) ≡ Some (refuse 3 (1 ∷ []))
-unfolding shape shape_of size is_symbol below refuse when first_of refusal_number refusal_values refuse_if refusal_from from_codes is_length too_large bad_length bad_argument are_elements have_elements are_equally_long columns_of matrix_refusals length_refusals hamming_refusals all_fields hamming_length refusals_of refusal_of
+pub short_hamming : call_refusal HammingCode (number 1 ∷ field Gf2 ∷ []) ≡ Some (refuse 3 (1 ∷ []))
+unfolding shape shape_of size is_symbol below refuse when first_of refusal_number refusal_values refuse_if refusal_from from_codes is_length too_large bad_length bad_argument are_elements have_elements are_equally_long columns_of matrix_refusals length_refusals hamming_refusals all_fields hamming_length refusals_of refusal_of query_refusals_of query_refusal_of bind bind_query call_refusal query_refusal
 short_hamming = refl
 
-pub large_field : refusal_of HammingCode (number 2 ∷ field Gf25 ∷ []) ≡ Some (refuse 17 [])
-unfolding shape shape_of size is_symbol below refuse when first_of refusal_number refusal_values refuse_if refusal_from from_codes is_length too_large bad_length bad_argument are_elements have_elements are_equally_long columns_of matrix_refusals length_refusals hamming_refusals all_fields hamming_length refusals_of refusal_of
+pub large_field : call_refusal HammingCode (number 2 ∷ field Gf25 ∷ []) ≡ Some (refuse 17 [])
+unfolding shape shape_of size is_symbol below refuse when first_of refusal_number refusal_values refuse_if refusal_from from_codes is_length too_large bad_length bad_argument are_elements have_elements are_equally_long columns_of matrix_refusals length_refusals hamming_refusals all_fields hamming_length refusals_of refusal_of query_refusals_of query_refusal_of bind bind_query call_refusal query_refusal
 large_field = refl
 
-pub long_repetition : map (λ n. refusal_of RepetitionCode (number n ∷ field Gf2 ∷ [])) (0 ∷ 1 ∷ 255 ∷ 256 ∷ []) ≡ Some (refuse 2 []) ∷ None ∷ None ∷ Some (refuse 2 []) ∷ []
-unfolding shape shape_of size is_symbol below refuse when first_of refusal_number refusal_values refuse_if refusal_from from_codes is_length too_large bad_length bad_argument are_elements have_elements are_equally_long columns_of matrix_refusals length_refusals hamming_refusals all_fields hamming_length refusals_of refusal_of
+pub long_repetition : map (λ n. call_refusal RepetitionCode (number n ∷ field Gf2 ∷ [])) (0 ∷ 1 ∷ 255 ∷ 256 ∷ []) ≡ Some (refuse 2 []) ∷ None ∷ None ∷ Some (refuse 2 []) ∷ []
+unfolding shape shape_of size is_symbol below refuse when first_of refusal_number refusal_values refuse_if refusal_from from_codes is_length too_large bad_length bad_argument are_elements have_elements are_equally_long columns_of matrix_refusals length_refusals hamming_refusals all_fields hamming_length refusals_of refusal_of query_refusals_of query_refusal_of bind bind_query call_refusal query_refusal
 long_repetition = refl
 
-pub too_large_entry : refusal_of LeastWord (lists ((1 ∷ 2 ∷ []) ∷ []) ∷ field Gf2 ∷ []) ≡ Some (refuse 3 (1 ∷ []))
-unfolding shape shape_of size is_symbol below refuse when first_of refusal_number refusal_values refuse_if refusal_from from_codes is_length too_large bad_length bad_argument are_elements have_elements are_equally_long columns_of matrix_refusals length_refusals hamming_refusals all_fields hamming_length refusals_of refusal_of
+pub too_large_entry : query_refusal LeastWord (lists ((1 ∷ 2 ∷ []) ∷ []) ∷ field Gf2 ∷ []) ≡ Some (refuse 3 (1 ∷ []))
+unfolding shape shape_of size is_symbol below refuse when first_of refusal_number refusal_values refuse_if refusal_from from_codes is_length too_large bad_length bad_argument are_elements have_elements are_equally_long columns_of matrix_refusals length_refusals hamming_refusals all_fields hamming_length refusals_of refusal_of query_refusals_of query_refusal_of bind bind_query call_refusal query_refusal
 too_large_entry = refl

@@ -1,123 +1,131 @@
--- The table of calls: the name of each, what arguments it takes, and whether it stands only as a whole statement.
---   name_of c             the call's name (GUAVA manual; LeastWord, ConcatenatedCode and the certificates are this project's own)
---   signatures c          the kinds of its arguments; BCHCode has two forms
---   is_query c            whether it stands only as a whole statement without `:=`
---   all_calls             all calls, in the order of the table
---   call_named table x    the call of the table with this name; a call that the table lacks is an unknown name
---   signature_for c n     the kinds of its arguments, if it takes n of them
-use Rattle.std.specs.Prelude.{ℕ, Bool, true, false, ◌==◌, List, [], ◌∷◌, length, find, codes, Option}
+-- The table of calls: the name of each, and what arguments it takes. A call gives a value, or it is a query: a statement of its
+-- own, without `:=`, that prints a line of its own.
+--   value_name c, query_name c     its name (GUAVA manual; LeastWord, ConcatenatedCode, the certificates, WeightDistribution and
+--                                  NearestWord are this project's own)
+--   name_of c                      the name of a call
+--   value_signatures c, query_signatures c     the kinds of its arguments; BCHCode has two forms
+--   signatures c                   those of a call
+--   all_calls                      all calls, in the order of the table
+--   call_named table x             the call of the table with this name; a call that the table lacks is an unknown name
+--   signature_for c n              the kinds of its arguments, if it takes n of them
+use Rattle.std.specs.Prelude.{ℕ, ◌==◌, List, [], ◌∷◌, length, find, codes, Option}
 use Rattle.lc_language.specs.declared.Call.{Call}
-use Rattle.lc_language.specs.declared.Call.TheVariants.{Gf, GeneratorMatCode, CheckMatCode, RepetitionCode, WholeSpaceCode, NullCode, HammingCode, ReedMullerCode, GeneratorPolCode, CheckPolCode, BinaryGolayCode, TernaryGolayCode, ExtendedBinaryGolayCode, ExtendedTernaryGolayCode, BchCode, ReedSolomonCode, GoppaCode, AlternantCode, DualCode, ExtendedCode, PuncturedCode, ShortenedCode, EvenWeightSubcode, DirectSumCode, UuvCode, DirectProductCode, IntersectionCode, ConcatenatedCode, Dimension, WordLength, GeneratorMat, CheckMat, Weight, IsCodeword, Decode, AlgebraicDecode, LeastWord, MinimumDistance, Certificate, ScanCertificate, WeightDistribution, AlternantCertificate, NearestWord}
+use Rattle.lc_language.specs.declared.Call.TheVariants.{Value, Query}
+use Rattle.lc_language.specs.declared.ValueCall.{ValueCall}
+use Rattle.lc_language.specs.declared.ValueCall.TheVariants.{Gf, GeneratorMatCode, CheckMatCode, RepetitionCode, WholeSpaceCode, NullCode, HammingCode, ReedMullerCode, GeneratorPolCode, CheckPolCode, BinaryGolayCode, TernaryGolayCode, ExtendedBinaryGolayCode, ExtendedTernaryGolayCode, BchCode, ReedSolomonCode, GoppaCode, AlternantCode, DualCode, ExtendedCode, PuncturedCode, ShortenedCode, EvenWeightSubcode, DirectSumCode, UuvCode, DirectProductCode, IntersectionCode, ConcatenatedCode, Dimension, WordLength, GeneratorMat, CheckMat, Weight, IsCodeword, Decode}
+use Rattle.lc_language.specs.declared.QueryCall.{QueryCall}
+use Rattle.lc_language.specs.declared.QueryCall.TheVariants.{AlgebraicDecode, LeastWord, MinimumDistance, Certificate, ScanCertificate, WeightDistribution, AlternantCertificate, NearestWord}
 use Rattle.lc_language.specs.declared.Kind.{Kind}
 use Rattle.lc_language.specs.declared.Kind.TheVariants.{Number, Field, Numbers, Lists, Code}
 use Rattle.lc_formats.specs.Text.{same_bytes}
 
+unfoldable pub value_name : ValueCall → List ℕ
+value_name Gf = codes "GF"
+value_name GeneratorMatCode = codes "GeneratorMatCode"
+value_name CheckMatCode = codes "CheckMatCode"
+value_name RepetitionCode = codes "RepetitionCode"
+value_name WholeSpaceCode = codes "WholeSpaceCode"
+value_name NullCode = codes "NullCode"
+value_name HammingCode = codes "HammingCode"
+value_name ReedMullerCode = codes "ReedMullerCode"
+value_name GeneratorPolCode = codes "GeneratorPolCode"
+value_name CheckPolCode = codes "CheckPolCode"
+value_name BinaryGolayCode = codes "BinaryGolayCode"
+value_name TernaryGolayCode = codes "TernaryGolayCode"
+value_name ExtendedBinaryGolayCode = codes "ExtendedBinaryGolayCode"
+value_name ExtendedTernaryGolayCode = codes "ExtendedTernaryGolayCode"
+value_name BchCode = codes "BCHCode"
+value_name ReedSolomonCode = codes "ReedSolomonCode"
+value_name GoppaCode = codes "GoppaCode"
+value_name AlternantCode = codes "AlternantCode"
+value_name DualCode = codes "DualCode"
+value_name ExtendedCode = codes "ExtendedCode"
+value_name PuncturedCode = codes "PuncturedCode"
+value_name ShortenedCode = codes "ShortenedCode"
+value_name EvenWeightSubcode = codes "EvenWeightSubcode"
+value_name DirectSumCode = codes "DirectSumCode"
+value_name UuvCode = codes "UUVCode"
+value_name DirectProductCode = codes "DirectProductCode"
+value_name IntersectionCode = codes "IntersectionCode"
+value_name ConcatenatedCode = codes "ConcatenatedCode"
+value_name Dimension = codes "Dimension"
+value_name WordLength = codes "WordLength"
+value_name GeneratorMat = codes "GeneratorMat"
+value_name CheckMat = codes "CheckMat"
+value_name Weight = codes "Weight"
+value_name IsCodeword = codes "IsCodeword"
+value_name Decode = codes "Decode"
+
+unfoldable pub query_name : QueryCall → List ℕ
+query_name AlgebraicDecode = codes "AlgebraicDecode"
+query_name LeastWord = codes "LeastWord"
+query_name MinimumDistance = codes "MinimumDistance"
+query_name Certificate = codes "Certificate"
+query_name ScanCertificate = codes "ScanCertificate"
+query_name WeightDistribution = codes "WeightDistribution"
+query_name AlternantCertificate = codes "AlternantCertificate"
+query_name NearestWord = codes "NearestWord"
+
 unfoldable pub name_of : Call → List ℕ
-name_of Gf = codes "GF"
-name_of GeneratorMatCode = codes "GeneratorMatCode"
-name_of CheckMatCode = codes "CheckMatCode"
-name_of RepetitionCode = codes "RepetitionCode"
-name_of WholeSpaceCode = codes "WholeSpaceCode"
-name_of NullCode = codes "NullCode"
-name_of HammingCode = codes "HammingCode"
-name_of ReedMullerCode = codes "ReedMullerCode"
-name_of GeneratorPolCode = codes "GeneratorPolCode"
-name_of CheckPolCode = codes "CheckPolCode"
-name_of BinaryGolayCode = codes "BinaryGolayCode"
-name_of TernaryGolayCode = codes "TernaryGolayCode"
-name_of ExtendedBinaryGolayCode = codes "ExtendedBinaryGolayCode"
-name_of ExtendedTernaryGolayCode = codes "ExtendedTernaryGolayCode"
-name_of BchCode = codes "BCHCode"
-name_of ReedSolomonCode = codes "ReedSolomonCode"
-name_of GoppaCode = codes "GoppaCode"
-name_of AlternantCode = codes "AlternantCode"
-name_of DualCode = codes "DualCode"
-name_of ExtendedCode = codes "ExtendedCode"
-name_of PuncturedCode = codes "PuncturedCode"
-name_of ShortenedCode = codes "ShortenedCode"
-name_of EvenWeightSubcode = codes "EvenWeightSubcode"
-name_of DirectSumCode = codes "DirectSumCode"
-name_of UuvCode = codes "UUVCode"
-name_of DirectProductCode = codes "DirectProductCode"
-name_of IntersectionCode = codes "IntersectionCode"
-name_of ConcatenatedCode = codes "ConcatenatedCode"
-name_of Dimension = codes "Dimension"
-name_of WordLength = codes "WordLength"
-name_of GeneratorMat = codes "GeneratorMat"
-name_of CheckMat = codes "CheckMat"
-name_of Weight = codes "Weight"
-name_of IsCodeword = codes "IsCodeword"
-name_of Decode = codes "Decode"
-name_of AlgebraicDecode = codes "AlgebraicDecode"
-name_of LeastWord = codes "LeastWord"
-name_of MinimumDistance = codes "MinimumDistance"
-name_of Certificate = codes "Certificate"
-name_of ScanCertificate = codes "ScanCertificate"
-name_of WeightDistribution = codes "WeightDistribution"
-name_of AlternantCertificate = codes "AlternantCertificate"
-name_of NearestWord = codes "NearestWord"
+name_of (Value c) = value_name c
+name_of (Query c) = query_name c
 
 unfoldable pub one : List Kind → List (List Kind)
 one kinds = kinds ∷ []
 
-unfoldable pub signatures : Call → List (List Kind)
-signatures Gf = one (Number ∷ [])
-signatures GeneratorMatCode = one (Lists ∷ Field ∷ [])
-signatures CheckMatCode = one (Lists ∷ Field ∷ [])
-signatures RepetitionCode = one (Number ∷ Field ∷ [])
-signatures WholeSpaceCode = one (Number ∷ Field ∷ [])
-signatures NullCode = one (Number ∷ Field ∷ [])
-signatures HammingCode = one (Number ∷ Field ∷ [])
-signatures ReedMullerCode = one (Number ∷ Number ∷ [])
-signatures GeneratorPolCode = one (Numbers ∷ Number ∷ Field ∷ [])
-signatures CheckPolCode = one (Numbers ∷ Number ∷ Field ∷ [])
-signatures BinaryGolayCode = one []
-signatures TernaryGolayCode = one []
-signatures ExtendedBinaryGolayCode = one []
-signatures ExtendedTernaryGolayCode = one []
-signatures BchCode = (Number ∷ Number ∷ Field ∷ []) ∷ (Number ∷ Number ∷ Number ∷ Field ∷ []) ∷ []
-signatures ReedSolomonCode = one (Number ∷ Number ∷ [])
-signatures GoppaCode = one (Numbers ∷ Numbers ∷ Field ∷ Field ∷ [])
-signatures AlternantCode = one (Number ∷ Numbers ∷ Numbers ∷ Field ∷ Field ∷ [])
-signatures DualCode = one (Code ∷ [])
-signatures ExtendedCode = one (Code ∷ [])
-signatures PuncturedCode = one (Code ∷ Numbers ∷ [])
-signatures ShortenedCode = one (Code ∷ Numbers ∷ [])
-signatures EvenWeightSubcode = one (Code ∷ [])
-signatures DirectSumCode = one (Code ∷ Code ∷ [])
-signatures UuvCode = one (Code ∷ Code ∷ [])
-signatures DirectProductCode = one (Code ∷ Code ∷ [])
-signatures IntersectionCode = one (Code ∷ Code ∷ [])
-signatures ConcatenatedCode = one (Code ∷ Code ∷ [])
-signatures Dimension = one (Code ∷ [])
-signatures WordLength = one (Code ∷ [])
-signatures GeneratorMat = one (Code ∷ [])
-signatures CheckMat = one (Code ∷ [])
-signatures Weight = one (Numbers ∷ [])
-signatures IsCodeword = one (Code ∷ Numbers ∷ [])
-signatures Decode = one (Code ∷ Numbers ∷ [])
-signatures AlgebraicDecode = one (Code ∷ Numbers ∷ [])
-signatures LeastWord = one (Lists ∷ Field ∷ [])
-signatures MinimumDistance = one (Code ∷ [])
-signatures Certificate = one (Code ∷ [])
-signatures ScanCertificate = one (Code ∷ [])
-signatures WeightDistribution = one (Code ∷ [])
-signatures AlternantCertificate = one (Code ∷ Numbers ∷ [])
-signatures NearestWord = one (Code ∷ Numbers ∷ [])
+unfoldable pub value_signatures : ValueCall → List (List Kind)
+value_signatures Gf = one (Number ∷ [])
+value_signatures GeneratorMatCode = one (Lists ∷ Field ∷ [])
+value_signatures CheckMatCode = one (Lists ∷ Field ∷ [])
+value_signatures RepetitionCode = one (Number ∷ Field ∷ [])
+value_signatures WholeSpaceCode = one (Number ∷ Field ∷ [])
+value_signatures NullCode = one (Number ∷ Field ∷ [])
+value_signatures HammingCode = one (Number ∷ Field ∷ [])
+value_signatures ReedMullerCode = one (Number ∷ Number ∷ [])
+value_signatures GeneratorPolCode = one (Numbers ∷ Number ∷ Field ∷ [])
+value_signatures CheckPolCode = one (Numbers ∷ Number ∷ Field ∷ [])
+value_signatures BinaryGolayCode = one []
+value_signatures TernaryGolayCode = one []
+value_signatures ExtendedBinaryGolayCode = one []
+value_signatures ExtendedTernaryGolayCode = one []
+value_signatures BchCode = (Number ∷ Number ∷ Field ∷ []) ∷ (Number ∷ Number ∷ Number ∷ Field ∷ []) ∷ []
+value_signatures ReedSolomonCode = one (Number ∷ Number ∷ [])
+value_signatures GoppaCode = one (Numbers ∷ Numbers ∷ Field ∷ Field ∷ [])
+value_signatures AlternantCode = one (Number ∷ Numbers ∷ Numbers ∷ Field ∷ Field ∷ [])
+value_signatures DualCode = one (Code ∷ [])
+value_signatures ExtendedCode = one (Code ∷ [])
+value_signatures PuncturedCode = one (Code ∷ Numbers ∷ [])
+value_signatures ShortenedCode = one (Code ∷ Numbers ∷ [])
+value_signatures EvenWeightSubcode = one (Code ∷ [])
+value_signatures DirectSumCode = one (Code ∷ Code ∷ [])
+value_signatures UuvCode = one (Code ∷ Code ∷ [])
+value_signatures DirectProductCode = one (Code ∷ Code ∷ [])
+value_signatures IntersectionCode = one (Code ∷ Code ∷ [])
+value_signatures ConcatenatedCode = one (Code ∷ Code ∷ [])
+value_signatures Dimension = one (Code ∷ [])
+value_signatures WordLength = one (Code ∷ [])
+value_signatures GeneratorMat = one (Code ∷ [])
+value_signatures CheckMat = one (Code ∷ [])
+value_signatures Weight = one (Numbers ∷ [])
+value_signatures IsCodeword = one (Code ∷ Numbers ∷ [])
+value_signatures Decode = one (Code ∷ Numbers ∷ [])
 
-unfoldable pub is_query : Call → Bool
-is_query AlgebraicDecode = true
-is_query LeastWord = true
-is_query MinimumDistance = true
-is_query Certificate = true
-is_query ScanCertificate = true
-is_query WeightDistribution = true
-is_query AlternantCertificate = true
-is_query NearestWord = true
-is_query _ = false
+unfoldable pub query_signatures : QueryCall → List (List Kind)
+query_signatures AlgebraicDecode = one (Code ∷ Numbers ∷ [])
+query_signatures LeastWord = one (Lists ∷ Field ∷ [])
+query_signatures MinimumDistance = one (Code ∷ [])
+query_signatures Certificate = one (Code ∷ [])
+query_signatures ScanCertificate = one (Code ∷ [])
+query_signatures WeightDistribution = one (Code ∷ [])
+query_signatures AlternantCertificate = one (Code ∷ Numbers ∷ [])
+query_signatures NearestWord = one (Code ∷ Numbers ∷ [])
+
+unfoldable pub signatures : Call → List (List Kind)
+signatures (Value c) = value_signatures c
+signatures (Query c) = query_signatures c
 
 unfoldable pub all_calls : List Call
-all_calls = Gf ∷ GeneratorMatCode ∷ CheckMatCode ∷ RepetitionCode ∷ WholeSpaceCode ∷ NullCode ∷ HammingCode ∷ ReedMullerCode ∷ GeneratorPolCode ∷ CheckPolCode ∷ BinaryGolayCode ∷ TernaryGolayCode ∷ ExtendedBinaryGolayCode ∷ ExtendedTernaryGolayCode ∷ BchCode ∷ ReedSolomonCode ∷ GoppaCode ∷ AlternantCode ∷ DualCode ∷ ExtendedCode ∷ PuncturedCode ∷ ShortenedCode ∷ EvenWeightSubcode ∷ DirectSumCode ∷ UuvCode ∷ DirectProductCode ∷ IntersectionCode ∷ ConcatenatedCode ∷ Dimension ∷ WordLength ∷ GeneratorMat ∷ CheckMat ∷ Weight ∷ IsCodeword ∷ Decode ∷ AlgebraicDecode ∷ LeastWord ∷ MinimumDistance ∷ Certificate ∷ ScanCertificate ∷ WeightDistribution ∷ AlternantCertificate ∷ NearestWord ∷ []
+all_calls = Value Gf ∷ Value GeneratorMatCode ∷ Value CheckMatCode ∷ Value RepetitionCode ∷ Value WholeSpaceCode ∷ Value NullCode ∷ Value HammingCode ∷ Value ReedMullerCode ∷ Value GeneratorPolCode ∷ Value CheckPolCode ∷ Value BinaryGolayCode ∷ Value TernaryGolayCode ∷ Value ExtendedBinaryGolayCode ∷ Value ExtendedTernaryGolayCode ∷ Value BchCode ∷ Value ReedSolomonCode ∷ Value GoppaCode ∷ Value AlternantCode ∷ Value DualCode ∷ Value ExtendedCode ∷ Value PuncturedCode ∷ Value ShortenedCode ∷ Value EvenWeightSubcode ∷ Value DirectSumCode ∷ Value UuvCode ∷ Value DirectProductCode ∷ Value IntersectionCode ∷ Value ConcatenatedCode ∷ Value Dimension ∷ Value WordLength ∷ Value GeneratorMat ∷ Value CheckMat ∷ Value Weight ∷ Value IsCodeword ∷ Value Decode ∷ Query AlgebraicDecode ∷ Query LeastWord ∷ Query MinimumDistance ∷ Query Certificate ∷ Query ScanCertificate ∷ Query WeightDistribution ∷ Query AlternantCertificate ∷ Query NearestWord ∷ []
 
 unfoldable pub call_named : List Call → List ℕ → Option Call
 call_named table x = find (λ c. same_bytes x (name_of c)) table

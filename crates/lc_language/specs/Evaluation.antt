@@ -6,7 +6,9 @@
 --   Listed                       what the elements of a list so far make
 --   listed_with found v          the same with one element more, if it fits; the first says whether they are numbers or lists
 --   list_value found             the list
+--   AppliesTo place b o          what a bound call gives: its refusal, or its value
 --   Applies c es os o            what a call gives of its arguments' values
+--   QueriesTo place b step       what a bound query does as a statement: its refusal, or what it prints or asks
 --   Evaluates table env e o      what an expression evaluates to
 --   EvaluatesAll table env es os several expressions, from the left
 --   ListGoesOn e p found Later o      an element with the outcome p, after those found so far: its fault, or 45, or what Later says
@@ -22,16 +24,20 @@ use Rattle.lc_algebra.specs.Word.{weight}
 use Rattle.lc_algebra.specs.Span.{InSpan, IsLeast}
 use Rattle.lc_algebra.specs.Matrix.{Matrix}
 use Rattle.lc_language.specs.declared.Call.{Call}
-use Rattle.lc_language.specs.declared.Call.TheVariants.{AlgebraicDecode, LeastWord, MinimumDistance, Certificate, ScanCertificate, AlternantCertificate, WeightDistribution, NearestWord}
+use Rattle.lc_language.specs.declared.Call.TheVariants.{Value as Value_, Query}
+use Rattle.lc_language.specs.declared.ValueCall.{ValueCall}
+use Rattle.lc_language.specs.declared.QueryCall.{QueryCall}
 use Rattle.lc_language.specs.declared.Kind.{Kind}
 use Rattle.lc_grammar.specs.Tree.{Expr, Exprs, number, name, call, list, none, more, Statement, place_of, count_of}
 use Rattle.lc_grammar.specs.Grammar.{Reads, Fault, IsFault}
 use Rattle.lc_language.specs.Value as value
 use Rattle.lc_language.specs.Value.{Value, is_kind, as_kind, Binding, value_named}
-use Rattle.lc_language.specs.Calls.{call_named, signature_for, is_query}
-use Rattle.lc_language.specs.Refusal.{Refusal, refusal_of}
+use Rattle.lc_language.specs.Calls.{call_named, signature_for}
+use Rattle.lc_language.specs.Bound.{BoundCall, bind, BoundQuery, algebraic_decode, least_word, minimum_distance, certificate, scan_certificate, weight_distribution, alternant_certificate, nearest_word, bind_query}
+use Rattle.lc_language.specs.Refusal.{Refusal, refusal_of, query_refusal_of}
 use Rattle.lc_constructions.specs.Refusals.{columns_of}
-use Rattle.lc_language.specs.Meaning.{Gives, IsNotDivisor}
+use Rattle.lc_constructions.specs.Nearest.{IsDecoded}
+use Rattle.lc_language.specs.Meaning.{Gives, IsNotDivisor, decoded}
 use Rattle.lc_language.specs.Print.{value_line, fault_line, least_line, least_none_line}
 use Rattle.lc_language.specs.Query.{QueryKind, distance, by_levels, by_scan, query_line, form_line, distribution_line, near_line}
 
@@ -89,15 +95,16 @@ abbrev pub ListGoesOn : Expr → Outcome → Listed → (Listed → Type 0) → 
 ListGoesOn e (refused r) found Later o = o ≡ refused r
 ListGoesOn e (gives v) found Later o = MatchOption (listed_with found v) (o ≡ refuse_at 45 (place_of e)) Later
 
-abbrev pub AppliesTo : Call → ℕ → List Value → Outcome → Type 0
-AppliesTo c place arguments o =
-    MatchOption (refusal_of c arguments)
-    ((IsNotDivisor c arguments × (o ≡ refuse_at 4 place)) ⊎ (¬ IsNotDivisor c arguments × ((v : Value) × Gives c arguments v × (o ≡ gives v))))
+abbrev pub AppliesTo : ℕ → BoundCall → Outcome → Type 0
+AppliesTo place b o =
+    MatchOption (refusal_of b)
+    ((IsNotDivisor b × (o ≡ refuse_at 4 place)) ⊎ (¬ IsNotDivisor b × ((v : Value) × Gives b v × (o ≡ gives v))))
     (λ r. o ≡ refuse_call place r)
 
-abbrev pub Applies : Call → ℕ → List Kind → Exprs → Outcomes → Outcome → Type 0
+-- arguments of the call's kinds bind it
+abbrev pub Applies : ValueCall → ℕ → List Kind → Exprs → Outcomes → Outcome → Type 0
 Applies c place kinds es (one_refused r) o = o ≡ refused r
-Applies c place kinds es (all_give vs) o = MatchOption (first_misfit kinds es vs) (AppliesTo c place (as_kinds kinds vs) o) (λ p. o ≡ refuse_at 45 p)
+Applies c place kinds es (all_give vs) o = MatchOption (first_misfit kinds es vs) (MatchOption (bind c (as_kinds kinds vs)) ⊥ (λ b. AppliesTo place b o)) (λ p. o ≡ refuse_at 45 p)
 
 -- a value, and then those of the rest or its first fault
 abbrev pub Joins : Value → Outcomes → Outcomes → Type 0
@@ -109,6 +116,11 @@ abbrev pub GoesOn : Outcome → (Outcomes → Type 0) → Outcomes → Type 0
 GoesOn (refused r) Later os = os ≡ one_refused r
 GoesOn (gives v) Later os = (rest : Outcomes) × Later rest × Joins v rest os
 
+-- what a call of the table gives; its arguments' values are some of which Arguments holds. A query has no value
+abbrev pub CallGives : Call → ℕ → Exprs → (Outcomes → Type 0) → Outcome → Type 0
+CallGives (Query c) place es Arguments o = o ≡ refuse_at 45 place
+CallGives (Value_ c) place es Arguments o = MatchOption (signature_for (Value_ c) (count_of es)) (o ≡ refuse_at 46 place) (λ kinds. (os : Outcomes) × Arguments os × Applies c place kinds es os o)
+
 -- a call is looked at in this order: its name, its place (a query stands only as a whole statement), the count of its arguments,
 -- the arguments from the left, their kinds, and its own refusals
 abbrev mutual
@@ -116,11 +128,7 @@ abbrev mutual
   Evaluates table env (number place n) o = o ≡ gives (value.number n)
   Evaluates table env (name place x) o = MatchOption (value_named x env) (o ≡ refuse_at 44 place) (λ v. o ≡ gives v)
   Evaluates table env (list place es) o = EvaluatesList table env es nothing_yet o
-  Evaluates table env (call place x es) o =
-      MatchOption (call_named table x) (o ≡ refuse_at 44 place)
-      (λ c. (IsTrue (is_query c) × (o ≡ refuse_at 45 place))
-      ⊎ ((is_query c ≡ false) × MatchOption (signature_for c (count_of es)) (o ≡ refuse_at 46 place)
-      (λ kinds. (os : Outcomes) × EvaluatesAll table env es os × Applies c place kinds es os o)))
+  Evaluates table env (call place x es) o = MatchOption (call_named table x) (o ≡ refuse_at 44 place) (λ c. CallGives c place es (λ os. EvaluatesAll table env es os) o)
 
   pub EvaluatesAll : List Call → List Binding → Exprs → Outcomes → Type 0
   EvaluatesAll table env none os = os ≡ all_give []
@@ -152,41 +160,51 @@ AsksOf kind C step = ((length C.rows ≡ 0) × (step ≡ prints (query_line kind
 abbrev pub NearsOf : Matrix → List ℕ → Step → Type 0
 NearsOf C x step = ((length C.rows ≡ 0) × (step ≡ prints (near_line C x 0))) ⊎ ((0 < length C.rows) × (step ≡ nears C x))
 
--- what a query does as a statement, its arguments being of its kinds and not refused
-abbrev pub Queries : Call → List Value → Step → Type 0
-Queries LeastWord (value.lists rows ∷ value.field f ∷ []) step = PrintsLeast rows f step
-Queries MinimumDistance (value.code C _ ∷ []) step = AsksOf distance C step
-Queries Certificate (value.code C _ ∷ []) step = AsksOf by_levels C step
-Queries ScanCertificate (value.code C _ ∷ []) step = AsksOf by_scan C step
-Queries AlternantCertificate (value.code C (Some form) ∷ value.numbers x ∷ []) step = step ≡ prints (form_line C form x)
-Queries WeightDistribution (value.code C _ ∷ []) step = step ≡ counts C
-Queries NearestWord (value.code C _ ∷ value.numbers x ∷ []) step = NearsOf C x step
-Queries AlgebraicDecode arguments step = (v : Value) × Gives AlgebraicDecode arguments v × (step ≡ prints (value_line v))
-Queries _ _ step = ⊥
+-- what a query does as a statement that isn't refused. A code without an alternant form is refused before
+abbrev pub Queries : BoundQuery → Step → Type 0
+Queries (algebraic_decode C None x) step = ⊥
+Queries (algebraic_decode C (Some form) x) step = (o : Option (List ℕ)) × IsDecoded C form x o × (step ≡ prints (value_line (decoded o)))
+Queries (least_word rows f) step = PrintsLeast rows f step
+Queries (minimum_distance C) step = AsksOf distance C step
+Queries (certificate C) step = AsksOf by_levels C step
+Queries (scan_certificate C) step = AsksOf by_scan C step
+Queries (weight_distribution C) step = step ≡ counts C
+Queries (alternant_certificate C None x) step = ⊥
+Queries (alternant_certificate C (Some form) x) step = step ≡ prints (form_line C form x)
+Queries (nearest_word C x) step = NearsOf C x step
 
 unfoldable pub fail_with : Outcome → Step
 fail_with (gives v) = prints (value_line v)
 fail_with (refused r) = fails r
 
-abbrev pub QueriesAll : Call → ℕ → List Kind → Exprs → Outcomes → Step → Type 0
+abbrev pub QueriesTo : ℕ → BoundQuery → Step → Type 0
+QueriesTo place b step = MatchOption (query_refusal_of b) (Queries b step) (λ r. step ≡ fail_with (refuse_call place r))
+
+abbrev pub QueriesAll : QueryCall → ℕ → List Kind → Exprs → Outcomes → Step → Type 0
 QueriesAll c place kinds es (one_refused r) step = step ≡ fails r
 QueriesAll c place kinds es (all_give vs) step =
     MatchOption (first_misfit kinds es vs)
-    (MatchOption (refusal_of c (as_kinds kinds vs)) (Queries c (as_kinds kinds vs) step) (λ r. step ≡ fail_with (refuse_call place r)))
+    (MatchOption (bind_query c (as_kinds kinds vs)) ⊥ (λ b. QueriesTo place b step))
     (λ p. step ≡ fail_with (refuse_at 45 p))
 
+-- the query of a call, if it is one
+abbrev pub as_query : Option Call → Option QueryCall
+as_query None = None
+as_query (Some (Value_ c)) = None
+as_query (Some (Query c)) = Some c
+
 -- whether a statement without a name is a query of the table
-abbrev pub query_of : List Call → Expr → Option Call
-query_of table (call place x es) = elim (call_named table x) as (λ _. Option Call) [ None ↦ None | Some c ↦ elim (is_query c) as (λ _. Option Call) [ true ↦ Some c | false ↦ None ] ]
+abbrev pub query_of : List Call → Expr → Option QueryCall
+query_of table (call place x es) = as_query (call_named table x)
 query_of table _ = None
 
 abbrev pub Assigns : List ℕ → Outcome → Step → Type 0
 Assigns x (gives v) step = step ≡ binds (record { name = x; value = v })
 Assigns x (refused r) step = step ≡ fails r
 
-abbrev pub StepsAsQuery : List Call → List Binding → Call → Expr → Step → Type 0
+abbrev pub StepsAsQuery : List Call → List Binding → QueryCall → Expr → Step → Type 0
 StepsAsQuery table env c (call place x es) step =
-    MatchOption (signature_for c (count_of es)) (step ≡ fail_with (refuse_at 46 place))
+    MatchOption (signature_for (Query c) (count_of es)) (step ≡ fail_with (refuse_at 46 place))
     (λ kinds. (os : Outcomes) × EvaluatesAll table env es os × QueriesAll c place kinds es os step)
 StepsAsQuery table env c _ step = ⊥
 

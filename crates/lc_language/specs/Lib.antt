@@ -1,3 +1,4 @@
+pub mod Bound
 pub mod Calls
 pub mod Evaluation
 pub mod Meaning

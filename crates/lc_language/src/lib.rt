@@ -17,9 +17,9 @@ pub enum Kind {
     Code,
 }
 
-/// The calls of the script language, by the names of the GUAVA manual if it has one.
+/// The calls that give a value, by the names of the GUAVA manual if it has one.
 #[derive(Clone, Copy, Debug, PartialEq, Eq)]
-pub enum Call {
+pub enum ValueCall {
     Gf,
     GeneratorMatCode,
     CheckMatCode,
@@ -55,6 +55,11 @@ pub enum Call {
     Weight,
     IsCodeword,
     Decode,
+}
+
+/// The calls that are statements of their own: each prints a line of its own.
+#[derive(Clone, Copy, Debug, PartialEq, Eq)]
+pub enum QueryCall {
     AlgebraicDecode,
     LeastWord,
     MinimumDistance,
@@ -63,4 +68,13 @@ pub enum Call {
     WeightDistribution,
     AlternantCertificate,
     NearestWord,
+}
+
+/// The calls of the script language.
+#[derive(Clone, Copy, Debug, PartialEq, Eq)]
+pub enum Call {
+    /// It gives a value.
+    Value(ValueCall),
+    /// It is a statement of its own.
+    Query(QueryCall),
 }

@@ -38,8 +38,9 @@ use Rattle.lc_io.specs.Told.{Kept}
 use Rattle.lc_language.specs.declared.Call.{Call}
 use Rattle.lc_language.specs.Value as value
 use Rattle.lc_language.specs.Value.{Binding, value_named, is_kind, as_kind}
-use Rattle.lc_language.specs.Calls.{all_calls, call_named, name_of, one, signatures, is_query, signature_for}
-use Rattle.lc_language.specs.Refusal.{first_of, refusals_of, refusal_of}
+use Rattle.lc_language.specs.Calls.{all_calls, call_named, value_name, query_name, name_of, one, query_signatures, signatures, signature_for}
+use Rattle.lc_language.specs.Bound.{bind_query}
+use Rattle.lc_language.specs.Refusal.{first_of, query_refusals_of, query_refusal_of}
 use Rattle.lc_language.specs.Query.{distance}
 use Rattle.lc_language.specs.Evaluation.{asks, gives, all_give, first_misfit, as_kinds, Steps}
 use Rattle.lc_language.proofs.TextExamples.{text_of_nothing}
@@ -133,7 +134,7 @@ abbrev pub bound_to_hamming : List Binding
 bound_to_hamming = record { name = codes "C"; value = value.code hamming None } ∷ []
 
 asks_once : Steps all_calls bound_to_hamming ask (asks distance hamming)
-unfolding same_bytes name_of one signatures is_query all_calls call_named signature_for count_of is_kind as_kind first_misfit as_kinds value_named first_of refusals_of refusal_of
+unfolding same_bytes value_name query_name name_of one query_signatures signatures all_calls call_named signature_for count_of is_kind as_kind first_misfit as_kinds value_named bind_query first_of query_refusals_of query_refusal_of
 asks_once = (all_give (value.code hamming None ∷ []), (gives (value.code hamming None), refl, (all_give [], refl, refl)), inr (omega arith, refl))
 
 pub asks_twice : Needs all_calls bound_to_hamming (ask ∷ ask ∷ []) (hamming ∷ hamming ∷ [])
