@@ -3,6 +3,8 @@
 #![tactic(auto)]
 
 mod code;
+mod formed;
 
 pub use code::Code;
+pub use formed::{Alternant, FormedCode};
 pub use lc_constructions::CodeRefusal;

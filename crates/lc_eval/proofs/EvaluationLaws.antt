@@ -1,28 +1,38 @@
 -- The values of expressions, one after another, and of calls.
 --   evaluated_more, evaluated_fault      one more expression has a value, or a fault
---   counted_wrong, prepared_fault, prepared_fitted, prepared_fits      the arguments of a call
---   call_applied, query_asked            a call whose arguments are prepared, in an expression and as a statement
-use Rattle.std.proofs.Common.{◌≡◌, ℕ, zero, suc, ◌+◌, ◌<◌, false, List, [], ◌∷◌, ◌++◌, length, map, take, drop, get_or, Option, Some, None, MatchOption, Result, Ok, Err, IfOk, refl, sym, ap, subst, ◌∙◌, arith, inr}
+--   no_value_call                a query has no value
+--   wrong_count, arguments_fault, call_bound, call_misfit      a call that gives a value, in an expression
+--   query_count, query_fault, query_bound, query_misfit        a query, as a statement
+use Rattle.std.proofs.Common.{◌≡◌, ℕ, zero, suc, ◌+◌, ◌<◌, ◌==◌, List, [], ◌∷◌, ◌++◌, length, map, take, drop, get_or, find, Option, Some, None, Result, Ok, Err, refl, sym, ap, subst, ◌∙◌, arith}
 use Rattle.std.specs.Global.{Vec}
 use Rattle.std.proofs.lemmas.List.{map-append, map_more}
-use Rattle.lc_language.specs.declared.Call.{Call}
+use Rattle.lc_language.specs.declared.Call as declared
+use Rattle.lc_language.specs.declared.Call.TheVariants as language_call
 use Rattle.lc_language.specs.declared.Kind.{Kind}
 use Rattle.lc_grammar.specs.Tree as tree
 use Rattle.lc_grammar.specs.Tree.{count_of}
 use Rattle.lc_language.specs.Value as language
-use Rattle.lc_language.specs.Calls.{call_named, signature_for, is_query}
+use Rattle.lc_language.specs.Bound as bound
+use Rattle.lc_language.specs.Bound.{bind, bind_query}
+use Rattle.lc_language.specs.Calls.{signatures, signature_for}
 use Rattle.lc_language.specs.Evaluation as evaluation
-use Rattle.lc_language.specs.Evaluation.{Outcome, Outcomes, gives, refused, all_give, one_refused, refuse_at, first_misfit, as_kinds, Evaluates, EvaluatesAll, GoesOn, Joins, Applies, AppliesTo, Step, fails, fail_with, QueriesAll, StepsAsQuery}
+use Rattle.lc_language.specs.Evaluation.{Outcome, Outcomes, gives, refused, all_give, one_refused, refuse_at, misfit_place, Evaluates, EvaluatesAll, GoesOn, Joins, Applies, AppliesTo, CallGives, Step, fails, fail_with, QueriesAll, QueriesTo, StepsAsQuery}
 use Rattle.lc_parse.specs.declared.tree.Expr.{Expr}
 use Rattle.lc_parse.specs.Views.{all_of, tree_of, trees_of}
-use Rattle.lc_eval.specs.Built.{built_calls}
+use Rattle.lc_eval.specs.Built.{built_calls, value_call_of, query_call_of, call_of, forms_of, IsRowOf, IsAsked}
+use Rattle.lc_eval.specs.declared.calls.Call.{Call}
+use Rattle.lc_eval.specs.declared.calls.Call.TheVariants as call
+use Rattle.lc_eval.specs.declared.calls.ValueCall.{ValueCall}
+use Rattle.lc_eval.specs.declared.calls.QueryCall.{QueryCall}
+use Rattle.lc_eval.specs.declared.calls.Row.{Row}
 use Rattle.lc_eval.specs.declared.values.Value.{Value}
 use Rattle.lc_eval.specs.declared.refusals.Stop.{Stop}
 use Rattle.lc_eval.specs.declared.refusals.Stop.TheVariants as stop
+use Rattle.lc_eval.specs.declared.statement.Effect.{Effect}
 use Rattle.lc_eval.specs.Value.{value_of, values_of, refused_of}
-use Rattle.lc_eval.specs.Applied.{FitKinds, AreArguments, Answers, AnswersLine, QueriesTo}
-use Rattle.lc_eval.specs.Evaluated.{AnswersAll, IsFault, FitsAll, Prepares, Follows, FollowsAsked}
-use Rattle.lc_eval.proofs.KindLaws.{count_is, signature_counts, fit_count}
+use Rattle.lc_eval.specs.Applied.{Answers, IsStop}
+use Rattle.lc_eval.specs.Evaluated.{AnswersAll, AffectsOrFails}
+use Rattle.lc_eval.proofs.KindLaws.{count_is}
 
 record GaveAll (Later : Outcomes → Type 0) (o : Outcome) (vs : List language.Value) : Type 0 where
   first : language.Value
@@ -74,107 +84,74 @@ module _ (env : List language.Binding) where
       subst (λ (ts : List tree.Expr). EvaluatesAll built_calls env (all_of ts) (one_refused (refused_of r))) trees whole
   evaluated_fault es i e vs stop.NoMemory l is h k = tt
 
--- ---- the arguments of a call
+-- ---- calls that give a value
 
-match_map : {K : Type 0} (o : Option K) (P Q : Type 0) (R S : K → Type 0) → (P → Q) → ((k : K) → R k → S k) → MatchOption o P R → MatchOption o Q S
-match_map None P Q R S f g h = f h
-match_map (Some k) P Q R S f g h = g k h
+-- the kinds of the arguments of a call, if it takes as many as there are
+abbrev Takes : Row → List Expr → Option (List Kind) → Type 0
+Takes row es o = find (λ kinds. length kinds == length es) (forms_of row) ≡ o
 
-signature_at : (c : Call) (es : List Expr) (n : ℕ) (o : Option (List Kind)) → n ≡ length es → signature_for c n ≡ o → signature_for c (count_of (trees_of es)) ≡ o
-signature_at c es n o l s = ap (signature_for c) (count_is es ∙ sym l) ∙ s
+signature_is : (row : Row) (c : declared.Call) (es : List Expr) (o : Option (List Kind)) → signatures c ≡ forms_of row → Takes row es o → signature_for c (count_of (trees_of es)) ≡ o
+unfolding signature_for
+signature_is row c es o f t = ap (λ n. find (λ kinds. length kinds == n) (signatures c)) (count_is es) ∙ ap (λ forms. find (λ kinds. length kinds == length es) forms) f ∙ t
 
-module _ (env : List language.Binding) (c : Call) (place : ℕ) where
-  pub counted_wrong : (es : List Expr) (n : ℕ) (r : evaluation.Refused) → n ≡ length es → signature_for c n ≡ None → refused r ≡ refuse_at 46 place → Prepares env c place (trees_of es) (one_refused r)
-  counted_wrong es n r l s is =
-      let none = signature_at c es n None l s in
-      rw none (r, sym is, refl)
+module _ (env : List language.Binding) (place : ℕ) (x : List ℕ) (es : List Expr) (row : Row) where
+  call_is : (c : Call) (o : Outcome) → IsRowOf x row → row.call ≡ c → CallGives (call_of c) place (trees_of es) (λ os. EvaluatesAll built_calls env (trees_of es) os) o → Evaluates built_calls env (tree.call place x (trees_of es)) o
+  call_is c o r is h = let found = r.found ∙ ap (λ k. Some (call_of k)) is in rw found h
 
-  at_kinds : (es : List Expr) (n : ℕ) (kinds : List Kind) (before os : Outcomes) → n ≡ length es → signature_for c n ≡ Some kinds → EvaluatesAll built_calls env (trees_of es) before → FitsAll kinds (trees_of es) before os → Prepares env c place (trees_of es) os
-  at_kinds es n kinds before os l s h f =
-      let some = signature_at c es n (Some kinds) l s in
-      rw some (before, h, f)
+  pub no_value_call : (r : evaluation.Refused) → IsRowOf x row → ((c : ValueCall) → row.call ≡ call.Value c → ⊥) → refused r ≡ refuse_at 45 place → Evaluates built_calls env (tree.call place x (trees_of es)) (refused r)
+  no_value_call r f other h = by_call row.call refl
+    where
+      by_call : (c : Call) → row.call ≡ c → Evaluates built_calls env (tree.call place x (trees_of es)) (refused r)
+      by_call (call.Value c) is = absurd (other c is)
+      by_call (call.Query c) is = call_is (call.Query c) (refused r) f is h
 
-  pub prepared_fault : (es : List Expr) (n : ℕ) (kinds : List Kind) (s : Stop) → n ≡ length es → signature_for c n ≡ Some kinds → AnswersAll (Err s) (EvaluatesAll built_calls env (trees_of es)) → AnswersAll (Err s) (Prepares env c place (trees_of es))
-  prepared_fault es n kinds (stop.Refused r) l k h = at_kinds es n kinds (one_refused (refused_of r)) (one_refused (refused_of r)) l k h refl
-  prepared_fault es n kinds stop.NoMemory l k h = tt
+  module _ (c : ValueCall) (f : IsRowOf x row) (is : row.call ≡ call.Value c) where
+    signature_at : (o : Option (List Kind)) → Takes row es o → signature_for (language_call.Value (value_call_of c)) (count_of (trees_of es)) ≡ o
+    signature_at o t = signature_is row (call_of (call.Value c)) es o (ap (λ k. signatures (call_of k)) (sym is) ∙ f.forms) t
 
-  pub prepared_fitted : (es : List Expr) (n : ℕ) (kinds : List Kind) (vs : List language.Value) (r : Result (Vec Value) Stop) → n ≡ length es → signature_for c n ≡ Some kinds → EvaluatesAll built_calls env (trees_of es) (all_give vs) → AnswersAll r (FitsAll kinds (trees_of es) (all_give vs)) → AnswersAll r (Prepares env c place (trees_of es))
-  prepared_fitted es n kinds vs (Ok us) l k h f = at_kinds es n kinds (all_give vs) (all_give (values_of us.items)) l k h f
-  prepared_fitted es n kinds vs (Err (stop.Refused r)) l k h f = at_kinds es n kinds (all_give vs) (one_refused (refused_of r)) l k h f
-  prepared_fitted es n kinds vs (Err stop.NoMemory) l k h f = tt
+    pub wrong_count : (r : evaluation.Refused) → Takes row es None → refused r ≡ refuse_at 46 place → Evaluates built_calls env (tree.call place x (trees_of es)) (refused r)
+    wrong_count r t h = call_is (call.Value c) (refused r) f is (let s = signature_at None t in rw s h)
 
-pub prepared_fits : (c : Call) (n : ℕ) (kinds : List Kind) (r : Result (Vec Value) Stop) → signature_for c n ≡ Some kinds → IfOk r (λ vs. FitKinds kinds (values_of vs.items)) → IfOk r (λ vs. AreArguments c (values_of vs.items))
-prepared_fits c n kinds (Ok vs) s h =
-    let l : length (values_of vs.items) ≡ n = fit_count kinds (values_of vs.items) h ∙ signature_counts c n kinds s in
-    (kinds, ap (signature_for c) l ∙ s, h)
-prepared_fits c n kinds (Err e) s h = tt
+    counted : (kinds : List Kind) (os : Outcomes) (o : Outcome) → Takes row es (Some kinds) → EvaluatesAll built_calls env (trees_of es) os → Applies (value_call_of c) place kinds (trees_of es) os o → Evaluates built_calls env (tree.call place x (trees_of es)) o
+    counted kinds os o t e h = call_is (call.Value c) o f is (let s = signature_at (Some kinds) t in rw s (os, e, h))
 
--- ---- what a call answers
+    pub arguments_fault : (kinds : List Kind) (s : Stop) → Takes row es (Some kinds) → AnswersAll (Err s) (EvaluatesAll built_calls env (trees_of es)) → Answers (Err s) (Evaluates built_calls env (tree.call place x (trees_of es)))
+    arguments_fault kinds (stop.Refused r) t e = counted kinds (one_refused (refused_of r)) (refused (refused_of r)) t e refl
+    arguments_fault kinds stop.NoMemory t e = tt
 
-follows_fault : (c : Call) (place : ℕ) (p : Outcome) (os : Outcomes) (o : Outcome) → IsFault p os → Follows c place os o → o ≡ p
-follows_fault c place p os o f h =
-    let at : Follows c place (one_refused f.0) o = subst (λ x. Follows c place x o) f.2 h in
-    at ∙ sym f.1
+    applies_bound : (kinds : List Kind) (vs : List language.Value) (b : bound.BoundCall) (o : Outcome) → Takes row es (Some kinds) → EvaluatesAll built_calls env (trees_of es) (all_give vs) → bind (value_call_of c) vs ≡ Some b → AppliesTo place b o → Evaluates built_calls env (tree.call place x (trees_of es)) o
+    applies_bound kinds vs b o t e h a = counted kinds (all_give vs) o t e (rw h a)
 
-applies_kinds : (c : Call) (place : ℕ) (kinds : List Kind) (es : tree.Exprs) (before os : Outcomes) (o : Outcome) → FitsAll kinds es before os → Follows c place os o → Applies c place kinds es before o
-applies_kinds c place kinds es (one_refused r) os o f h = subst (λ x. Follows c place x o) f h
-applies_kinds c place kinds es (all_give vs) os o f h =
-    match_map (first_misfit kinds es vs) (os ≡ all_give (as_kinds kinds vs)) (AppliesTo c place (as_kinds kinds vs) o) (λ p. IsFault (refuse_at 45 p) os) (λ p. o ≡ refuse_at 45 p)
-    (λ e. subst (λ x. Follows c place x o) e h)
-    (λ p e. follows_fault c place (refuse_at 45 p) os o e h)
-    f
+    pub call_bound : (kinds : List Kind) (vs : List language.Value) (b : bound.BoundCall) (r : Result Value Stop) → Takes row es (Some kinds) → EvaluatesAll built_calls env (trees_of es) (all_give vs) → bind (value_call_of c) vs ≡ Some b → Answers r (AppliesTo place b) → Answers r (Evaluates built_calls env (tree.call place x (trees_of es)))
+    call_bound kinds vs b (Ok v) t e h a = applies_bound kinds vs b (gives (value_of v)) t e h a
+    call_bound kinds vs b (Err (stop.Refused r)) t e h a = applies_bound kinds vs b (refused (refused_of r)) t e h a
+    call_bound kinds vs b (Err stop.NoMemory) t e h a = tt
 
-call_prepared : (env : List language.Binding) (place : ℕ) (x : List ℕ) (es : tree.Exprs) (c : Call) (os : Outcomes) (o : Outcome) → Some c ≡ call_named built_calls x → is_query c ≡ false → Prepares env c place es os → Follows c place os o → Evaluates built_calls env (tree.call place x es) o
-call_prepared env place x es c os o n q p h =
-    rw (← n) (inr (
-      q,
-      match_map (signature_for c (count_of es)) (IsFault (refuse_at 46 place) os) (o ≡ refuse_at 46 place)
-          (λ kinds. (before : Outcomes) × EvaluatesAll built_calls env es before × FitsAll kinds es before os)
-          (λ kinds. (before : Outcomes) × EvaluatesAll built_calls env es before × Applies c place kinds es before o)
-          (λ e. follows_fault c place (refuse_at 46 place) os o e h)
-          (λ kinds t. (t.0, t.1, applies_kinds c place kinds es t.0 os o t.2 h))
-          p,
-    ))
+    pub call_misfit : (kinds : List Kind) (vs : List language.Value) (s : Stop) → Takes row es (Some kinds) → EvaluatesAll built_calls env (trees_of es) (all_give vs) → bind (value_call_of c) vs ≡ None → IsStop s (refuse_at 45 (misfit_place place kinds (trees_of es) vs)) → Answers (Err s) (Evaluates built_calls env (tree.call place x (trees_of es)))
+    call_misfit kinds vs (stop.Refused r) t e h a = counted kinds (all_give vs) (refused (refused_of r)) t e (rw h a)
+    call_misfit kinds vs stop.NoMemory t e h a = tt
 
-pub call_fault : (env : List language.Binding) (place : ℕ) (x : List ℕ) (es : tree.Exprs) (c : Call) (s : Stop) → Some c ≡ call_named built_calls x → is_query c ≡ false → AnswersAll (Err s) (Prepares env c place es) → Answers (Err s) (Evaluates built_calls env (tree.call place x es))
-call_fault env place x es c (stop.Refused r) n q p = call_prepared env place x es c (one_refused (refused_of r)) (refused (refused_of r)) n q p refl
-call_fault env place x es c stop.NoMemory n q p = tt
+-- ---- queries
 
-pub call_applied : (env : List language.Binding) (place : ℕ) (x : List ℕ) (es : tree.Exprs) (c : Call) (vs : List language.Value) (r : Result Value Stop) → Some c ≡ call_named built_calls x → is_query c ≡ false → Prepares env c place es (all_give vs) → Answers r (AppliesTo c place vs) → Answers r (Evaluates built_calls env (tree.call place x es))
-call_applied env place x es c vs (Ok v) n q p h = call_prepared env place x es c (all_give vs) (gives (value_of v)) n q p h
-call_applied env place x es c vs (Err (stop.Refused r)) n q p h = call_prepared env place x es c (all_give vs) (refused (refused_of r)) n q p h
-call_applied env place x es c vs (Err stop.NoMemory) n q p h = tt
+module _ (env : List language.Binding) (place : ℕ) (es : List Expr) (row : Row) (c : QueryCall) (a : IsAsked row c) where
+  asked_at : (o : Option (List Kind)) → Takes row es o → signature_for (language_call.Query (query_call_of c)) (count_of (trees_of es)) ≡ o
+  asked_at o t = signature_is row (language_call.Query (query_call_of c)) es o a.forms t
 
--- ---- what a query answers
+  asked : (kinds : List Kind) (os : Outcomes) (step : Step) → Takes row es (Some kinds) → EvaluatesAll built_calls env (trees_of es) os → QueriesAll (query_call_of c) place kinds (trees_of es) os step → (x : List ℕ) → StepsAsQuery built_calls env (query_call_of c) (tree.call place x (trees_of es)) step
+  asked kinds os step t e h = λ x. let s = asked_at (Some kinds) t in rw s (os, e, h)
 
-asks_fault : (c : Call) (place : ℕ) (p : Outcome) (os : Outcomes) (step : Step) → IsFault p os → FollowsAsked c place os step → step ≡ fail_with p
-unfolding fail_with
-asks_fault c place p os step f h =
-    let at : step ≡ fails f.0 = subst (λ x. FollowsAsked c place x step) f.2 h in
-    at ∙ ap fail_with (sym f.1)
+  pub query_count : (r : evaluation.Refused) → Takes row es None → refused r ≡ refuse_at 46 place → (x : List ℕ) → StepsAsQuery built_calls env (query_call_of c) (tree.call place x (trees_of es)) (fails r)
+  unfolding fail_with
+  query_count r t h = λ x. let s = asked_at None t in rw s (ap fail_with h)
 
-queries_kinds : (c : Call) (place : ℕ) (kinds : List Kind) (es : tree.Exprs) (before os : Outcomes) (step : Step) → FitsAll kinds es before os → FollowsAsked c place os step → QueriesAll c place kinds es before step
-queries_kinds c place kinds es (one_refused r) os step f h = subst (λ x. FollowsAsked c place x step) f h
-queries_kinds c place kinds es (all_give vs) os step f h =
-    match_map (first_misfit kinds es vs) (os ≡ all_give (as_kinds kinds vs)) (QueriesTo c place (as_kinds kinds vs) step) (λ p. IsFault (refuse_at 45 p) os) (λ p. step ≡ fail_with (refuse_at 45 p))
-    (λ e. subst (λ x. FollowsAsked c place x step) e h)
-    (λ p e. asks_fault c place (refuse_at 45 p) os step e h)
-    f
+  pub query_fault : (kinds : List Kind) (s : Stop) → Takes row es (Some kinds) → AnswersAll (Err s) (EvaluatesAll built_calls env (trees_of es)) → (x : List ℕ) → AffectsOrFails (Err s) (StepsAsQuery built_calls env (query_call_of c) (tree.call place x (trees_of es)))
+  query_fault kinds (stop.Refused r) t e = asked kinds (one_refused (refused_of r)) (fails (refused_of r)) t e refl
+  query_fault kinds stop.NoMemory t e = λ x. tt
 
-query_prepared : (env : List language.Binding) (place : ℕ) (x : List ℕ) (es : tree.Exprs) (c : Call) (os : Outcomes) (step : Step) → Prepares env c place es os → FollowsAsked c place os step → StepsAsQuery built_calls env c (tree.call place x es) step
-query_prepared env place x es c os step p h =
-    match_map (signature_for c (count_of es)) (IsFault (refuse_at 46 place) os) (step ≡ fail_with (refuse_at 46 place))
-    (λ kinds. (before : Outcomes) × EvaluatesAll built_calls env es before × FitsAll kinds es before os)
-    (λ kinds. (before : Outcomes) × EvaluatesAll built_calls env es before × QueriesAll c place kinds es before step)
-    (λ e. asks_fault c place (refuse_at 46 place) os step e h)
-    (λ kinds t. (t.0, t.1, queries_kinds c place kinds es t.0 os step t.2 h))
-    p
+  pub query_bound : (kinds : List Kind) (vs : List language.Value) (b : bound.BoundQuery) (step : Step) → Takes row es (Some kinds) → EvaluatesAll built_calls env (trees_of es) (all_give vs) → bind_query (query_call_of c) vs ≡ Some b → QueriesTo place b step → (x : List ℕ) → StepsAsQuery built_calls env (query_call_of c) (tree.call place x (trees_of es)) step
+  query_bound kinds vs b step t e h q = asked kinds (all_give vs) step t e (rw h q)
 
-pub query_fault : (env : List language.Binding) (place : ℕ) (x : List ℕ) (es : tree.Exprs) (c : Call) (s : Stop) → AnswersAll (Err s) (Prepares env c place es) → AnswersLine (Err s) (StepsAsQuery built_calls env c (tree.call place x es))
-query_fault env place x es c (stop.Refused r) p = query_prepared env place x es c (one_refused (refused_of r)) (fails (refused_of r)) p refl
-query_fault env place x es c stop.NoMemory p = tt
-
-pub query_asked : (env : List language.Binding) (place : ℕ) (x : List ℕ) (es : tree.Exprs) (c : Call) (vs : List language.Value) (r : Result (Vec ℕ) Stop) → Prepares env c place es (all_give vs) → AnswersLine r (QueriesTo c place vs) → AnswersLine r (StepsAsQuery built_calls env c (tree.call place x es))
-query_asked env place x es c vs (Ok l) p h = query_prepared env place x es c (all_give vs) (evaluation.prints l.items) p h
-query_asked env place x es c vs (Err (stop.Refused r)) p h = query_prepared env place x es c (all_give vs) (fails (refused_of r)) p h
-query_asked env place x es c vs (Err stop.NoMemory) p h = tt
+  pub query_misfit : (kinds : List Kind) (vs : List language.Value) (s : Stop) → Takes row es (Some kinds) → EvaluatesAll built_calls env (trees_of es) (all_give vs) → bind_query (query_call_of c) vs ≡ None → IsStop s (refuse_at 45 (misfit_place place kinds (trees_of es) vs)) → (x : List ℕ) → AffectsOrFails (Err s) (StepsAsQuery built_calls env (query_call_of c) (tree.call place x (trees_of es)))
+  unfolding fail_with
+  query_misfit kinds vs (stop.Refused r) t e h a = asked kinds (all_give vs) (fails (refused_of r)) t e (rw h (ap fail_with a))
+  query_misfit kinds vs stop.NoMemory t e h a = λ x. tt

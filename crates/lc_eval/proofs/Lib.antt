@@ -5,9 +5,7 @@ pub mod TableLaws
 pub mod EvaluationLaws
 pub mod StatementLaws
 pub mod ScanLaws
-pub mod ArgumentLaws
 pub mod AnswerLaws
 pub mod RowLaws
-pub mod ConstructorLaws
-pub mod PropertyLaws
+pub mod CallLaws
 pub mod QueryLaws

@@ -1,38 +1,27 @@
 -- The rows of lists, and the elements of a list.
 --   place_is                 the place of a tree is that of its expression
---   copied_more              one more row is copied
---   empty_fits               the empty list fits as one of numbers does
---   IsMisfit v, other_rows   a value that is no element of any list, and a list of lists that is one
---   misfit_refused           such a value is refused
+--   number_fits, list_fits   a number, and a list of numbers, fit as their values do
+--   misfit_refused           another value is refused
 --   misfit_element           the fault of a list whose elements fit up to one, and that one doesn't
-use Rattle.std.proofs.Common.{◌≡◌, ℕ, zero, suc, ◌+◌, ◌<◌, Bool, true, false, List, [], ◌∷◌, ◌++◌, length, vec_len, map, take, drop, get_or, Result, Ok, Err, None, ◌==◌, refl, sym, subst, ap, ◌∙◌, arith, true≢false}
-use Rattle.std.proofs.lemmas.Bool.{eqb-true, eq-eqb}
-use Rattle.std.specs.Global.{Vec}
-use Rattle.std.proofs.lemmas.List.{map-append, map_more}
+use Rattle.std.proofs.Common.{◌≡◌, ℕ, zero, suc, ◌<◌, List, [], ◌∷◌, length, drop, get_or, Result, Ok, Err, Some, None, refl, sym, subst, ap, ◌∙◌, arith}
 use Rattle.lc_grammar.specs.Tree as tree
 use Rattle.lc_grammar.specs.Tree.{place_of}
 use Rattle.lc_language.specs.Evaluation as evaluation
 use Rattle.lc_language.specs.Evaluation.{Outcome, gives, refused, refuse_at, nothing_yet, all_numbers, all_lists, listed_with, Evaluates, ListGoesOn, EvaluatesList}
 use Rattle.lc_language.specs.Value as language
+use Rattle.lc_language.specs.Value.{number_in, numbers_in}
 use Rattle.lc_parse.specs.declared.tree.Expr.{Expr, fold_out-Expr}
 use Rattle.lc_parse.specs.declared.tree.Node.{fold_out-Node}
 use Rattle.lc_parse.specs.declared.tree.Node.TheOpen.{Node-F}
 use Rattle.lc_parse.specs.Views.{tree_of, trees_of, node_step, expr_step}
 use Rattle.lc_eval.specs.Built.{built_calls}
 use Rattle.lc_eval.specs.declared.values.Value.{Value}
-use Rattle.lc_eval.specs.declared.values.Value.TheVariants as value
 use Rattle.lc_eval.specs.Value.{value_of, refused_of}
 use Rattle.lc_eval.specs.Applied.{Answers}
 use Rattle.lc_eval.specs.declared.lists.Listed.{Listed}
 use Rattle.lc_eval.specs.Listed.{listed_of, ListsOn}
 use Rattle.lc_eval.specs.declared.refusals.Stop.{Stop}
 use Rattle.lc_eval.specs.declared.refusals.Stop.TheVariants as stop
-
-abbrev rows_of : List (Vec ℕ) → List (List ℕ)
-rows_of rows = map (λ row. row.items) rows
-
-rows_end : (rows : List (Vec ℕ)) (row : Vec ℕ) → rows_of (rows ++ row ∷ []) ≡ rows_of rows ++ row.items ∷ []
-rows_end rows row = map-append (λ (r : Vec ℕ). r.items) rows (row ∷ [])
 
 place_step : (node : Node-F (ℕ → tree.Expr) tree.Expr) (place : ℕ) → place_of (node_step node place) ≡ place
 unfolding place_of
@@ -47,13 +36,6 @@ place_is e =
     ∙ ap (λ (f : ℕ → tree.Expr). place_of (f e.place)) (fold_out-Node (ℕ → tree.Expr) tree.Expr node_step expr_step e.node)
     ∙ place_step _ e.place
 
-pub copied_more : (copies now lists : List (Vec ℕ)) (i : ℕ) (item copy : Vec ℕ) → i < length lists → item ≡ get_or lists i item → copy.items ≡ item.items → now ≡ copies ++ copy ∷ [] → rows_of copies ≡ rows_of (take i lists) → rows_of now ≡ rows_of (take (i + 1) lists)
-copied_more copies now lists i item copy l is same e before =
-    ap (λ (rows : List (Vec ℕ)). rows_of rows) e ∙ rows_end copies copy
-    ∙ ap (λ (rows : List (List ℕ)). rows ++ copy.items ∷ []) before
-    ∙ ap (λ (row : List ℕ). rows_of (take i lists) ++ row ∷ []) (same ∙ ap (λ (row : Vec ℕ). row.items) is)
-    ∙ sym (map_more (λ (row : Vec ℕ). row.items) lists i item l)
-
 -- ---- one element
 
 lists_on_as : (r : Result Listed Stop) (found : evaluation.Listed) (v w : language.Value) (place : ℕ) → listed_with found v ≡ listed_with found w → ListsOn r found v place → ListsOn r found w place
@@ -61,65 +43,49 @@ lists_on_as (Ok next) found v w place e h = sym e ∙ h
 lists_on_as (Err (stop.Refused r)) found v w place e h = (sym e ∙ h.0, h.1)
 lists_on_as (Err stop.NoMemory) found v w place e h = tt
 
-empty_is_both : (found : evaluation.Listed) (rows : List (Vec ℕ)) → length rows ≡ 0 → listed_with found (language.numbers []) ≡ listed_with found (language.lists (rows_of rows))
-unfolding listed_with
-empty_is_both nothing_yet [] e = refl
-empty_is_both (all_numbers u) [] e = refl
-empty_is_both (all_lists us) [] e = refl
-empty_is_both found (row ∷ rows) e = absurd (omega (arith, e))
+as_number : (v : language.Value) (n : ℕ) → Some n ≡ number_in v → v ≡ language.number n
+unfolding number_in
+as_number (language.number m) n e = cc
+as_number (language.field f) n e = absurd (cc)
+as_number (language.numbers u) n e = absurd (cc)
+as_number (language.lists rows) n e = absurd (cc)
+as_number (language.code C form) n e = absurd (cc)
+as_number (language.truth b) n e = absurd (cc)
+as_number language.nothing n e = absurd (cc)
 
-none_left : (rows : Vec (Vec ℕ)) (b : Bool) → b ≡ (vec_len rows == 0) → b ≡ true → length rows.items ≡ 0
-none_left rows b e t =
-    let n : vec_len rows ≡ 0 = eqb-true (vec_len rows) 0 (sym e ∙ t) in
-    omega (arith, rows.ok.0)
+pub number_fits : (found : evaluation.Listed) (v : language.Value) (n : ℕ) (r : Result Listed Stop) (place : ℕ) → Some n ≡ number_in v → ListsOn r found (language.number n) place → ListsOn r found v place
+number_fits found v n r place e h = subst (λ w. ListsOn r found w place) (sym (as_number v n e)) h
 
-pub empty_fits : (found : evaluation.Listed) (v : Value) (rows : Vec (Vec ℕ)) (b : Bool) (none : List ℕ) (r : Result Listed Stop) (place : ℕ) → v ≡ value.Lists rows → b ≡ (vec_len rows == 0) → b ≡ true → none ≡ [] → ListsOn r found (language.numbers none) place → ListsOn r found (value_of v) place
-empty_fits found v rows b none r place is e t n h =
-    let at_none : ListsOn r found (language.numbers []) place = subst (λ (u : List ℕ). ListsOn r found (language.numbers u) place) n h in
-    let at_rows : ListsOn r found (value_of (value.Lists rows)) place = lists_on_as r found (language.numbers []) (language.lists (rows_of rows.items)) place (empty_is_both found rows.items (none_left rows b e t)) at_none in
-    subst (λ (x : Value). ListsOn r found (value_of x) place) (sym is) at_rows
+as_numbers : (found : evaluation.Listed) (v : language.Value) (u : List ℕ) → Some u ≡ numbers_in v → listed_with found (language.numbers u) ≡ listed_with found v
+unfolding numbers_in listed_with
+as_numbers found (language.number m) u e = absurd (cc)
+as_numbers found (language.field f) u e = absurd (cc)
+as_numbers found (language.numbers w) u e = let same : u ≡ w = cc in ap (λ (x : List ℕ). listed_with found (language.numbers x)) same
+as_numbers nothing_yet (language.lists []) u e = let same : u ≡ [] = cc in ap (λ (x : List ℕ). listed_with nothing_yet (language.numbers x)) same
+as_numbers (all_numbers w) (language.lists []) u e = refl
+as_numbers (all_lists rows) (language.lists []) u e = let same : u ≡ [] = cc in ap (λ (x : List ℕ). listed_with (all_lists rows) (language.numbers x)) same
+as_numbers found (language.lists (row ∷ rows)) u e = absurd (cc)
+as_numbers found (language.code C form) u e = absurd (cc)
+as_numbers found (language.truth b) u e = absurd (cc)
+as_numbers found language.nothing u e = absurd (cc)
 
--- neither a number, nor a list of numbers, nor the empty list
-pub record IsMisfit (v : Value) : Type 0 where
-  pub no_number : (n : ℕ) → v ≡ value.Number n → ⊥
-  pub no_numbers : (u : Vec ℕ) → v ≡ value.Numbers u → ⊥
-  pub not_empty : (rows : Vec (Vec ℕ)) → v ≡ value.Lists rows → length rows.items ≡ 0 → ⊥
+pub list_fits : (found : evaluation.Listed) (v : language.Value) (u w : List ℕ) (r : Result Listed Stop) (place : ℕ) → Some u ≡ numbers_in v → w ≡ u → ListsOn r found (language.numbers w) place → ListsOn r found v place
+list_fits found v u w r place e s h = lists_on_as r found (language.numbers u) v place (as_numbers found v u e) (subst (λ x. ListsOn r found (language.numbers x) place) s h)
 
-some_rows : (found : evaluation.Listed) (rows : List (Vec ℕ)) → (length rows ≡ 0 → ⊥) → listed_with found (language.lists (rows_of rows)) ≡ None
-unfolding listed_with
-some_rows found [] h = absurd (h refl)
-some_rows nothing_yet (row ∷ rows) h = refl
-some_rows (all_numbers u) (row ∷ rows) h = refl
-some_rows (all_lists us) (row ∷ rows) h = refl
+no_element : (found : evaluation.Listed) (v : language.Value) → None ≡ number_in v → None ≡ numbers_in v → listed_with found v ≡ None
+unfolding number_in numbers_in listed_with
+no_element found (language.number m) n e = absurd (cc)
+no_element found (language.numbers u) n e = absurd (cc)
+no_element found (language.lists []) n e = absurd (cc)
+no_element nothing_yet (language.lists (row ∷ rows)) n e = refl
+no_element (all_numbers u) (language.lists (row ∷ rows)) n e = refl
+no_element (all_lists us) (language.lists (row ∷ rows)) n e = refl
+no_element nothing_yet _ n e = refl
+no_element (all_numbers u) _ n e = refl
+no_element (all_lists us) _ n e = refl
 
-no_element : (found : evaluation.Listed) (v : Value) → IsMisfit v → listed_with found (value_of v) ≡ None
-unfolding listed_with
-no_element found (value.Number n) h = absurd (h.no_number n refl)
-no_element found (value.Numbers u) h = absurd (h.no_numbers u refl)
-no_element found (value.Lists rows) h = some_rows found rows.items (h.not_empty rows refl)
-no_element nothing_yet (value.Field f) h = refl
-no_element (all_numbers u) (value.Field f) h = refl
-no_element (all_lists us) (value.Field f) h = refl
-no_element nothing_yet (value.Code C) h = refl
-no_element (all_numbers u) (value.Code C) h = refl
-no_element (all_lists us) (value.Code C) h = refl
-no_element nothing_yet (value.Truth b) h = refl
-no_element (all_numbers u) (value.Truth b) h = refl
-no_element (all_lists us) (value.Truth b) h = refl
-
-pub misfit_refused : (found : evaluation.Listed) (v : Value) (o : Outcome) (place : ℕ) → IsMisfit v → o ≡ refuse_at 45 place → (listed_with found (value_of v) ≡ None) × (o ≡ refuse_at 45 place)
-misfit_refused found v o place h is = (no_element found v h, is)
-
-pub other_rows : (v : Value) (rows : Vec (Vec ℕ)) (b : Bool) → v ≡ value.Lists rows → b ≡ (vec_len rows == 0) → b ≡ false → IsMisfit v
-other_rows v rows b is e f = record {
-  no_number = λ n s. absurd (let both : value.Lists rows ≡ value.Number n = sym is ∙ s in cc);
-  no_numbers = λ u s. absurd (let both : value.Lists rows ≡ value.Numbers u = sym is ∙ s in cc);
-  not_empty = λ others s n.
-      let same : rows ≡ others = (let both : value.Lists rows ≡ value.Lists others = sym is ∙ s in cc) in
-      let m : length rows.items ≡ 0 = ap (λ (x : Vec (Vec ℕ)). length x.items) same ∙ n in
-      let z : vec_len rows ≡ 0 = omega (arith, rows.ok.0) in
-      absurd (true≢false (sym (e ∙ eq-eqb (vec_len rows) 0 z) ∙ f));
-}
+pub misfit_refused : (found : evaluation.Listed) (v : language.Value) (o : Outcome) (place : ℕ) → None ≡ number_in v → None ≡ numbers_in v → o ≡ refuse_at 45 place → (listed_with found v ≡ None) × (o ≡ refuse_at 45 place)
+misfit_refused found v o place n e is = (no_element found v n e, is)
 
 -- ---- the elements from one on
 

@@ -19,16 +19,14 @@ use Rattle.lc_constructions.specs.declared.refusal.CodeRefusal.{CodeRefusal}
 use Rattle.lc_constructions.specs.Refusal.{first_refusal, IsRefusedAs}
 use Rattle.lc_constructions.specs.Refusals.{columns_of, matrix_refusals}
 use Rattle.lc_basic.proofs.HammingLaws.{power_next}
-use Rattle.lc_language.specs.declared.Call.TheVariants as call
-use Rattle.lc_language.specs.Value as language
-use Rattle.lc_language.specs.Value.{field, lists}
-use Rattle.lc_language.specs.Refusal.{Refusal, refuse, when, first_of, refusal_from, from_codes, refusals_of, refusal_of}
-use Rattle.lc_language.specs.Evaluation.{refused, refuse_call, Step, prints, fails, fail_with, PrintsLeast}
+use Rattle.lc_language.specs.Bound.{least_word}
+use Rattle.lc_language.specs.Refusal.{Refusal, refuse, when, first_of, refusal_from, from_codes, query_refusals_of, query_refusal_of}
+use Rattle.lc_language.specs.Evaluation.{refused, refuse_at, refuse_call, Step, prints, fails, fail_with, PrintsLeast, QueriesTo}
 use Rattle.lc_eval.specs.declared.refusals.Refused.{Refused}
 use Rattle.lc_eval.specs.declared.refusals.Stop.{Stop}
 use Rattle.lc_eval.specs.declared.refusals.Stop.TheVariants as stop
-use Rattle.lc_eval.specs.Value.{refused_of}
-use Rattle.lc_eval.specs.Applied.{QueriesTo, AnswersLine}
+use Rattle.lc_eval.specs.Value.{rows_of, refused_of}
+use Rattle.lc_eval.specs.Evaluated.{AffectsOrFails}
 use Rattle.lc_eval.specs.Made.{IsMade}
 use Rattle.lc_eval.specs.Rows.{clamped, clamped_rows}
 use Rattle.lc_eval.specs.Scan.{IsLeastLine}
@@ -69,8 +67,8 @@ first_behind [] ys h = refl
 first_behind (None ∷ xs) ys h = first_behind xs ys h
 first_behind (Some x ∷ xs) ys h = absurd (true≢false (ap is_some h))
 
-matrix_first : (rows : List (List ℕ)) (f : FieldName) (r : Refusal) → first_of (from_codes (matrix_refusals f rows)) ≡ Some r → refusal_of call.LeastWord (lists rows ∷ field f ∷ []) ≡ Some r
-unfolding refusal_of refusals_of
+matrix_first : (rows : List (List ℕ)) (f : FieldName) (r : Refusal) → first_of (from_codes (matrix_refusals f rows)) ≡ Some r → query_refusal_of (least_word rows f) ≡ Some r
+unfolding query_refusal_of query_refusals_of
 matrix_first rows f r h = first_stays (from_codes (matrix_refusals f rows)) _ r h
 
 when_passes : (b : Bool) (r : Refusal) → b ≡ true → first_of (when b r ∷ []) ≡ Some r
@@ -81,12 +79,12 @@ when_fails : (b : Bool) (r : Refusal) → b ≡ false → first_of (when b r ∷
 unfolding first_of when
 when_fails b r e = rw e refl
 
-matrix_many : (rows : List (List ℕ)) (f : FieldName) → first_of (from_codes (matrix_refusals f rows)) ≡ None → nat_lt (2 ^ 16) (size f ^ length rows) ≡ true → refusal_of call.LeastWord (lists rows ∷ field f ∷ []) ≡ Some (refuse 16 [])
-unfolding refusal_of refusals_of
+matrix_many : (rows : List (List ℕ)) (f : FieldName) → first_of (from_codes (matrix_refusals f rows)) ≡ None → nat_lt (2 ^ 16) (size f ^ length rows) ≡ true → query_refusal_of (least_word rows f) ≡ Some (refuse 16 [])
+unfolding query_refusal_of query_refusals_of
 matrix_many rows f h t = first_behind (from_codes (matrix_refusals f rows)) _ h ∙ when_passes (nat_lt (2 ^ 16) (size f ^ length rows)) (refuse 16 []) t
 
-matrix_few : (rows : List (List ℕ)) (f : FieldName) → first_of (from_codes (matrix_refusals f rows)) ≡ None → nat_lt (2 ^ 16) (size f ^ length rows) ≡ false → refusal_of call.LeastWord (lists rows ∷ field f ∷ []) ≡ None
-unfolding refusal_of refusals_of
+matrix_few : (rows : List (List ℕ)) (f : FieldName) → first_of (from_codes (matrix_refusals f rows)) ≡ None → nat_lt (2 ^ 16) (size f ^ length rows) ≡ false → query_refusal_of (least_word rows f) ≡ None
+unfolding query_refusal_of query_refusals_of
 matrix_few rows f h t = first_behind (from_codes (matrix_refusals f rows)) _ h ∙ when_fails (nat_lt (2 ^ 16) (size f ^ length rows)) (refuse 16 []) t
 
 -- ---- the statement
@@ -94,40 +92,40 @@ matrix_few rows f h t = first_behind (from_codes (matrix_refusals f rows)) _ h �
 abbrev Querying : ℕ → List (List ℕ) → FieldName → Option Refusal → Step → Type 0
 Querying place rows f r step = MatchOption r (PrintsLeast rows f step) (λ r. step ≡ fail_with (refuse_call place r))
 
-querying : (place : ℕ) (rows : List (List ℕ)) (f : FieldName) (r : Option Refusal) (step : Step) → refusal_of call.LeastWord (lists rows ∷ field f ∷ []) ≡ r → Querying place rows f r step → QueriesTo call.LeastWord place (lists rows ∷ field f ∷ []) step
+querying : (place : ℕ) (rows : List (List ℕ)) (f : FieldName) (r : Option Refusal) (step : Step) → query_refusal_of (least_word rows f) ≡ r → Querying place rows f r step → QueriesTo place (least_word rows f) step
 querying place rows f r step e h = subst (λ t. Querying place rows f t step) (sym e) h
 
 fails_so : (place : ℕ) (r : Refused) (refusal : Refusal) → refused (refused_of r) ≡ refuse_call place refusal → fails (refused_of r) ≡ fail_with (refuse_call place refusal)
 unfolding fail_with
 fails_so place r refusal h = ap fail_with h
 
-pub least_refused : (place : ℕ) (rows : List (Vec ℕ Global)) (f : FieldName) (vs : List language.Value) (words : List (List ℕ)) (e : CodeRefusal) (s : Stop)
-    → vs ≡ lists (map (λ row. row.items) rows) ∷ field f ∷ [] → words ≡ map (λ row. clamped row.items) rows
-    → IsRefusedAs {T = Matrix} (Err e) (first_refusal (matrix_refusals f words)) → IsMade (Err e) place (Err s) → AnswersLine (Err s) (QueriesTo call.LeastWord place vs)
-least_refused place rows f vs words e (stop.Refused r) v w h m =
-    let given : List (List ℕ) = map (λ row. row.items) rows in
+pub least_refused : (place : ℕ) (rows : List (Vec ℕ Global)) (f : FieldName) (words : List (List ℕ)) (e : CodeRefusal) (s : Stop)
+    → words ≡ map (λ row. clamped row.items) rows
+    → IsRefusedAs {T = Matrix} (Err e) (first_refusal (matrix_refusals f words)) → IsMade (Err e) place (Err s) → AffectsOrFails (Err s) (QueriesTo place (least_word (rows_of rows) f))
+least_refused place rows f words e (stop.Refused r) w h m =
+    let given : List (List ℕ) = rows_of rows in
     let c : words ≡ clamped_rows given = w ∙ clamped_each rows in
     let o : first_refusal (matrix_refusals f (clamped_rows given)) ≡ Some e = subst (λ u. first_refusal (matrix_refusals f u) ≡ Some e) c (h m.0) in
-    let first : refusal_of call.LeastWord (lists given ∷ field f ∷ []) ≡ Some (refusal_from e) = matrix_first given f (refusal_from e) (first_from_codes (matrix_refusals f given) ∙ ap (option_map refusal_from) (sym (clamped_refusals f given) ∙ o)) in
-    rw v (querying place given f (Some (refusal_from e)) (fails (refused_of r)) first (fails_so place r (refusal_from e) m.1))
-least_refused place rows f vs words e stop.NoMemory v w h m = tt
+    let first : query_refusal_of (least_word given f) ≡ Some (refusal_from e) = matrix_first given f (refusal_from e) (first_from_codes (matrix_refusals f given) ∙ ap (option_map refusal_from) (sym (clamped_refusals f given) ∙ o)) in
+    (querying place given f (Some (refusal_from e)) (fails (refused_of r)) first (fails_so place r (refusal_from e) m.1))
+least_refused place rows f words e stop.NoMemory w h m = tt
 
 unrefused : (f : FieldName) (given words : List (List ℕ)) → words ≡ clamped_rows given → first_refusal (matrix_refusals f words) ≡ None → (first_refusal (matrix_refusals f (clamped_rows given)) ≡ None) × (first_of (from_codes (matrix_refusals f given)) ≡ None)
 unrefused f given words c h =
     let k : first_refusal (matrix_refusals f (clamped_rows given)) ≡ None = subst (λ u. first_refusal (matrix_refusals f u) ≡ None) c h in
     (k, first_from_codes (matrix_refusals f given) ∙ ap (option_map refusal_from) (sym (clamped_refusals f given) ∙ k))
 
-pub least_many : (place : ℕ) (rows : List (Vec ℕ Global)) (f : FieldName) (vs : List language.Value) (words : List (List ℕ)) (C : Matrix) (b : Bool) (none : List ℕ)
-    → vs ≡ lists (map (λ row. row.items) rows) ∷ field f ∷ [] → words ≡ map (λ row. clamped row.items) rows
-    → IsRefusedAs (Ok C) (first_refusal (matrix_refusals f words)) → b ≡ nat_lt (2 ^ 16) (size f ^ length rows) → b ≡ true → none ≡ []
-    → QueriesTo call.LeastWord place vs (fails (record { number = 16; place = place; values = none }))
-unfolding fail_with refuse_call refuse
-least_many place rows f vs words C b none v w h t e z =
-    let given : List (List ℕ) = map (λ row. row.items) rows in
+pub least_many : (place : ℕ) (rows : List (Vec ℕ Global)) (f : FieldName) (words : List (List ℕ)) (C : Matrix) (b : Bool) (r : Refused)
+    → words ≡ map (λ row. clamped row.items) rows
+    → IsRefusedAs (Ok C) (first_refusal (matrix_refusals f words)) → b ≡ nat_lt (2 ^ 16) (size f ^ length rows) → b ≡ true → refused (refused_of r) ≡ refuse_at 16 place
+    → QueriesTo place (least_word (rows_of rows) f) (fails (refused_of r))
+unfolding fail_with refuse_call refuse refuse_at
+least_many place rows f words C b r w h t e z =
+    let given : List (List ℕ) = rows_of rows in
     let c : words ≡ clamped_rows given = w ∙ clamped_each rows in
     let n = unrefused f given words c h in
     let many : nat_lt (2 ^ 16) (size f ^ length given) ≡ true = ap (λ m. nat_lt (2 ^ 16) (size f ^ m)) (length-map rows (λ row. row.items)) ∙ sym t ∙ e in
-    rw (v, z) (querying place given f (Some (refuse 16 [])) _ (matrix_many given f n.1 many) refl)
+    querying place given f (Some (refuse 16 [])) (fails (refused_of r)) (matrix_many given f n.1 many) (ap fail_with z)
 
 -- ---- the line
 
@@ -144,13 +142,13 @@ printed : (rows : List (List ℕ)) (f : FieldName) (text : List ℕ) → IsLeast
 printed rows f text (inl t) = inl (t.0, t.1, ap (λ (x : List ℕ). prints x) t.2)
 printed rows f text (inr t) = inr (t.0, ap (λ (x : List ℕ). prints x) t.1)
 
-pub least_told : (place : ℕ) (rows : List (Vec ℕ Global)) (f : FieldName) (vs : List language.Value) (words : List (List ℕ)) (C : Matrix) (b : Bool) (text : List ℕ)
-    → vs ≡ lists (map (λ row. row.items) rows) ∷ field f ∷ [] → words ≡ map (λ row. clamped row.items) rows
+pub least_told : (place : ℕ) (rows : List (Vec ℕ Global)) (f : FieldName) (words : List (List ℕ)) (C : Matrix) (b : Bool) (text : List ℕ)
+    → words ≡ map (λ row. clamped row.items) rows
     → IsRefusedAs (Ok C) (first_refusal (matrix_refusals f words)) → IsCode f (columns_of words) (GeneratedBy f (columns_of words) words) C
     → b ≡ nat_lt (2 ^ 16) (size f ^ length rows) → b ≡ false
-    → IsLeastLine C.field C.columns C.rows text → QueriesTo call.LeastWord place vs (prints text)
-least_told place rows f vs words C b text v w h i t e l =
-    let given : List (List ℕ) = map (λ row. row.items) rows in
+    → IsLeastLine C.field C.columns C.rows text → QueriesTo place (least_word (rows_of rows) f) (prints text)
+least_told place rows f words C b text w h i t e l =
+    let given : List (List ℕ) = rows_of rows in
     let c : words ≡ clamped_rows given = w ∙ clamped_each rows in
     let n = unrefused f given words c h in
     let few : nat_lt (2 ^ 16) (size f ^ length given) ≡ false = ap (λ m. nat_lt (2 ^ 16) (size f ^ m)) (length-map rows (λ row. row.items)) ∙ sym t ∙ e in
@@ -162,4 +160,4 @@ least_told place rows f vs words C b text v w h i t e l =
     let moved : IsLeastLine f (columns_of words) words text = line_moved f (columns_of words) C.rows words text (span_moved f (columns_of words) words C fit i) at in
     let here : IsLeastLine f (columns_of given) words text = subst (λ m. IsLeastLine f m words text) long moved in
     let line : IsLeastLine f (columns_of given) given text = subst (λ u. IsLeastLine f (columns_of given) u text) same here in
-    rw v (querying place given f None (prints text) (matrix_few given f n.1 few) (printed given f text line))
+    (querying place given f None (prints text) (matrix_few given f n.1 few) (printed given f text line))

@@ -1,11 +1,12 @@
 -- What a statement does, and what a step of the machine.
+--   affects_map                                what an effect is of a wider relation
 --   alone_fault, alone_given, query_alone      an expression that stands alone, and a query
---   first_left                                 the statement that is next, and those behind it
+--   first_left                                 the statement that is next, and those after it
 --   silent_step, line_step, fault_step         a step that binds a name, that prints a line, and that ends in a fault
 use Rattle.std.proofs.Common.{◌≡◌, ℕ, zero, suc, ◌+◌, ◌<◌, [], ◌∷◌, length, drop, get_or, arith, add-one, List, Some, None, Result, Ok, Err, refl, sym, ap, subst, ◌∙◌}
 use Rattle.std.specs.Global.{Vec}
 use Rattle.std.proofs.lemmas.List.{drop_all}
-use Rattle.lc_language.specs.declared.Call.{Call}
+use Rattle.lc_language.specs.declared.QueryCall.{QueryCall}
 use Rattle.lc_grammar.specs.Tree as tree
 use Rattle.lc_language.specs.Value as language
 use Rattle.lc_language.specs.Print.{value_line, fault_line}
@@ -14,15 +15,26 @@ use Rattle.lc_eval.specs.Built.{built_calls}
 use Rattle.lc_eval.specs.declared.values.Value.{Value}
 use Rattle.lc_eval.specs.declared.refusals.Stop.{Stop}
 use Rattle.lc_eval.specs.declared.refusals.Stop.TheVariants as stop
-use Rattle.lc_eval.specs.Value.{value_of, refused_of}
-use Rattle.lc_eval.specs.Applied.{Answers, AnswersLine}
+use Rattle.lc_eval.specs.declared.statement.Effect.{Effect}
+use Rattle.lc_eval.specs.declared.statement.Effect.TheVariants as effect
+use Rattle.lc_eval.specs.Value.{value_of, binding_of, refused_of}
+use Rattle.lc_eval.specs.Applied.{Answers}
+use Rattle.lc_eval.specs.Evaluated.{AffectsOrFails}
 use Rattle.lc_parse.specs.declared.tree.Statement.{Statement}
 use Rattle.lc_parse.specs.Views.{statement_of}
 use Rattle.lc_eval.specs.declared.machine.Step.TheVariants.{Line, Silent, Fault}
 use Rattle.lc_eval.specs.Machine.{State, Does}
 
+pub affects_map : (r : Result Effect Stop) (P Q : Step → Type 0) → ((step : Step) → P step → Q step) → AffectsOrFails r P → AffectsOrFails r Q
+affects_map (Ok (effect.Binds b)) P Q g h = g (binds (binding_of b)) h
+affects_map (Ok (effect.Prints l)) P Q g h = g (prints l.items) h
+affects_map (Ok (effect.Needs q)) P Q g h = elim q [ ]
+affects_map (Ok (effect.Fails l)) P Q g h = (h.0, g (fails h.0) h.1, h.2)
+affects_map (Err (stop.Refused r)) P Q g h = g (fails (refused_of r)) h
+affects_map (Err stop.NoMemory) P Q g h = tt
+
 module _ (env : List language.Binding) (e : tree.Expr) where
-  pub alone_fault : (s : Stop) → query_of built_calls e ≡ None → Answers (Err s) (Evaluates built_calls env e) → AnswersLine (Err s) (StepsOf built_calls env None e)
+  pub alone_fault : (s : Stop) → query_of built_calls e ≡ None → Answers (Err s) (Evaluates built_calls env e) → AffectsOrFails (Err s) (StepsOf built_calls env None e)
   unfolding fail_with
   alone_fault (stop.Refused r) n h = rw n (refused (refused_of r), h, refl)
   alone_fault stop.NoMemory n h = tt
@@ -31,15 +43,13 @@ module _ (env : List language.Binding) (e : tree.Expr) where
   unfolding fail_with
   alone_given v l n h is = rw n (gives (value_of v), h, ap prints is)
 
-  query_steps : (c : Call) (place : ℕ) (x : List ℕ) (es : tree.Exprs) (step : Step) → query_of built_calls e ≡ Some c → e ≡ tree.call place x es → StepsAsQuery built_calls env c (tree.call place x es) step → StepsOf built_calls env None e step
+  query_steps : (c : QueryCall) (place : ℕ) (x : List ℕ) (es : tree.Exprs) (step : Step) → query_of built_calls e ≡ Some c → e ≡ tree.call place x es → StepsAsQuery built_calls env c (tree.call place x es) step → StepsOf built_calls env None e step
   query_steps c place x es step q is h =
       let at : StepsAsQuery built_calls env c e step = subst (λ y. StepsAsQuery built_calls env c y step) (sym is) h in
       rw q at
 
-  pub query_alone : (c : Call) (place : ℕ) (x : List ℕ) (es : tree.Exprs) (r : Result (Vec ℕ) Stop) → query_of built_calls e ≡ Some c → e ≡ tree.call place x es → AnswersLine r (StepsAsQuery built_calls env c (tree.call place x es)) → AnswersLine r (StepsOf built_calls env None e)
-  query_alone c place x es (Ok l) q is h = query_steps c place x es (prints l.items) q is h
-  query_alone c place x es (Err (stop.Refused r)) q is h = query_steps c place x es (fails (refused_of r)) q is h
-  query_alone c place x es (Err stop.NoMemory) q is h = tt
+  pub query_alone : (c : QueryCall) (place : ℕ) (x : List ℕ) (es : tree.Exprs) (r : Result Effect Stop) → query_of built_calls e ≡ Some c → e ≡ tree.call place x es → AffectsOrFails r (StepsAsQuery built_calls env c (tree.call place x es)) → AffectsOrFails r (StepsOf built_calls env None e)
+  query_alone c place x es r q is h = affects_map r (StepsAsQuery built_calls env c (tree.call place x es)) (StepsOf built_calls env None e) (λ step. query_steps c place x es step q is) h
 
 -- ---- a step of the machine
 

@@ -1,22 +1,16 @@
 -- The table of calls, row by row, and the definition's.
---   named, unnamed, named_built      the row that is found by its name
---   kinds_at, passed                 the row that is found by its call
---   signature_fits, signature_misses      the kinds, where a call takes that many
---   kinds_fit                        the arguments of a call are of its kinds
---   IsNone c ds, absent              a built call is one of those
-use Rattle.std.proofs.Common.{◌≡◌, ◌≢◌, ℕ, zero, suc, ◌<◌, ◌≤◌, Bool, true, false, ◌==◌, nat_eq, cond, List, [], ◌∷◌, length, map, find, Contains, slice_index_or, Option, Some, None, is_some, refl, sym, ap, subst, ◌∙◌, arith, ⊎_elim, true≢false}
+--   row_found                    the row that is found by its name
+--   find_now                     a form that is found among those that are borrowed
+use Rattle.std.proofs.Common.{◌≡◌, ℕ, Bool, true, false, ◌==◌, nat_eq, cond, List, [], ◌∷◌, map, find, Option, Some, None, MatchOption, option_map, refl, sym, ap, subst, ◌∙◌, arith}
+use Rattle.std.specs.Borrow.{Bor}
 use Rattle.std.specs.Cmp.Lexicographic.{pointwise}
 use Rattle.std.proofs.lemmas.Bool.Decides.{nat_tests}
-use Rattle.std.proofs.lemmas.Bool.{cases_Bool}
-use Rattle.lc_algebra.proofs.SpanLaws.{contains_map}
 use Rattle.lc_language.specs.declared.Call.{Call}
 use Rattle.lc_language.specs.declared.Kind.{Kind}
 use Rattle.lc_formats.specs.Text.{same_bytes}
-use Rattle.lc_language.specs.Calls.{name_of, one, signatures, call_named, signature_for}
-use Rattle.lc_eval.specs.Built.{built_calls}
+use Rattle.lc_language.specs.Calls.{name_of, signatures, call_named}
+use Rattle.lc_eval.specs.Built.{built_calls, call_of, forms_of, IsRowOf}
 use Rattle.lc_eval.specs.declared.calls.Row.{Row}
-use Rattle.lc_language.specs.Value.{Value}
-use Rattle.lc_eval.specs.Applied.{FitKinds, AreArguments}
 
 same_swapped : (u v : List ℕ) → pointwise nat_eq u v ≡ same_bytes v u
 unfolding same_bytes
@@ -25,103 +19,51 @@ same_swapped [] (b ∷ v) = refl
 same_swapped (a ∷ u) [] = refl
 same_swapped (a ∷ u) (b ∷ v) = let e : (a == b) ≡ (b == a) = grind (arith, nat_tests) in rw (e, same_swapped u v) refl
 
-abbrev call_of : Option Row → Option Call
-call_of None = None
-call_of (Some row) = Some row.call
+-- the call that a name finds, and its row
+record IsFound (x : List ℕ) (cs : List Call) (row : Row) : Type 0 where
+  found : call_named cs x ≡ Some (call_of row.call)
+  forms : signatures (call_of row.call) ≡ forms_of row
 
-found_from : (b d : Bool) (row : Row) (c : Call) (o : Option Row) (p : Option Call) → b ≡ d → row.call ≡ c → call_of o ≡ p → call_of (cond b (Some row) o) ≡ cond d (Some c) p
-found_from true d row c o p e h k = rw (← e) (ap (λ (x : Call). Some x) h)
-found_from false d row c o p e h k = rw (← e) k
+abbrev Finds : List ℕ → List Call → Option Row → Type 0
+Finds x cs o = MatchOption o (call_named cs x ≡ None) (λ row. IsFound x cs row)
 
-found : (x : List ℕ) (rows : List Row) (cs : List Call) → map (λ row. row.call) rows ≡ cs → map (λ row. row.name.now) rows ≡ map name_of cs → call_of (find (λ row. pointwise nat_eq row.name.now x) rows) ≡ call_named cs x
+later : (x : List ℕ) (c : Call) (cs : List Call) (o : Option Row) → same_bytes x (name_of c) ≡ false → Finds x cs o → Finds x (c ∷ cs) o
 unfolding call_named
-found x [] [] e h = refl
-found x [] (c ∷ cs) e h = cc
-found x (row ∷ rows) [] e h = cc
-found x (row ∷ rows) (c ∷ cs) e h =
-    let k : row.call ≡ c = cc in
-    let ks : map (λ (r : Row). r.call) rows ≡ cs = cc in
-    let n : row.name.now ≡ name_of c = cc in
-    let ns : map (λ (r : Row). r.name.now) rows ≡ map name_of cs = cc in
-    let t : pointwise nat_eq row.name.now x ≡ same_bytes x (name_of c) = same_swapped row.name.now x ∙ ap (same_bytes x) n in
-    found_from (pointwise nat_eq row.name.now x) (same_bytes x (name_of c)) row c (find (λ r. pointwise nat_eq r.name.now x) rows) (call_named cs x) t k (found x rows cs ks ns)
+later x c cs None t h = rw t h
+later x c cs (Some row) t h = record { found = rw t h.found; forms = h.forms }
 
-pub named : (x : List ℕ) (rows : List Row) (r : Row) → map (λ row. row.call) rows ≡ built_calls → map (λ row. row.name.now) rows ≡ map name_of built_calls → Some r ≡ find (λ row. pointwise nat_eq row.name.now x) rows → Some r.call ≡ call_named built_calls x
-named x rows r e h s = ap call_of s ∙ found x rows built_calls e h
-
-pub unnamed : (x : List ℕ) (rows : List Row) → map (λ row. row.call) rows ≡ built_calls → map (λ row. row.name.now) rows ≡ map name_of built_calls → None ≡ find (λ row. pointwise nat_eq row.name.now x) rows → None ≡ call_named built_calls x
-unnamed x rows e h s = ap call_of s ∙ found x rows built_calls e h
-
-found_member : (test : Call → Bool) (cs : List Call) (c : Call) → Some c ≡ find test cs → Contains cs c
-found_member test [] c h = absurd (true≢false (ap is_some h))
-found_member test (b ∷ cs) c h =
-    ⊎_elim
-    (λ (t : test b ≡ true). let e : Some c ≡ Some b = rw t at h in (0, omega arith, let k : b ≡ c = cc in k))
-    (λ (t : test b ≡ false).
-    let e : Some c ≡ find test cs = rw t at h in
-    let m = found_member test cs c e in
-    (suc m.0, omega (arith, m.1), m.2))
-    (cases_Bool (test b))
-
-pub named_built : (x : List ℕ) (rows : List Row) (r : Row) → map (λ row. row.call) rows ≡ built_calls → map (λ row. row.name.now) rows ≡ map name_of built_calls → Some r ≡ find (λ row. pointwise nat_eq row.name.now x) rows → Contains built_calls r.call
+found_from : (x : List ℕ) (b : Bool) (row : Row) (c : Call) (cs : List Call) (o : Option Row) → b ≡ same_bytes x (name_of c) → call_of row.call ≡ c → forms_of row ≡ signatures c → Finds x cs o → Finds x (c ∷ cs) (cond b (Some row) o)
 unfolding call_named
-named_built x rows r e h s = found_member (λ c. same_bytes x (name_of c)) built_calls r.call (named x rows r e h s)
+found_from x true row c cs o e h f k = record { found = rw (← e, h) refl; forms = ap signatures h ∙ sym f }
+found_from x false row c cs o e h f k = later x c cs o (sym e) k
 
--- ---- the kinds
+finds : (x : List ℕ) (rows : List Row) (cs : List Call) → map (λ row. call_of row.call) rows ≡ cs → map (λ row. row.name.now) rows ≡ map name_of cs → map forms_of rows ≡ map signatures cs → Finds x cs (find (λ row. pointwise nat_eq row.name.now x) rows)
+unfolding call_named
+finds x [] [] e n f = refl
+finds x [] (c ∷ cs) e n f = cc
+finds x (row ∷ rows) [] e n f = cc
+finds x (row ∷ rows) (c ∷ cs) e n f =
+    let k : call_of row.call ≡ c = cc in
+    let ks : map (λ (r : Row). call_of r.call) rows ≡ cs = cc in
+    let m : row.name.now ≡ name_of c = cc in
+    let ms : map (λ (r : Row). r.name.now) rows ≡ map name_of cs = cc in
+    let g : forms_of row ≡ signatures c = cc in
+    let gs : map forms_of rows ≡ map signatures cs = cc in
+    let t : pointwise nat_eq row.name.now x ≡ same_bytes x (name_of c) = same_swapped row.name.now x ∙ ap (same_bytes x) m in
+    found_from x (pointwise nat_eq row.name.now x) row c cs (find (λ r. pointwise nat_eq r.name.now x) rows) t k g (finds x rows cs ks ms gs)
 
-kinds_of_rows : (rows : List Row) (cs : List Call) → map (λ row. row.call) rows ≡ cs → map (λ row. one row.kinds.now) rows ≡ map signatures cs → (k : ℕ) (d : Row) → k < length rows → signatures (slice_index_or rows k d).call ≡ one (slice_index_or rows k d).kinds.now
-kinds_of_rows [] cs e h k d l = absurd (omega (arith, l))
-kinds_of_rows (row ∷ rows) [] e h k d l = cc
-kinds_of_rows (row ∷ rows) (c ∷ cs) e h zero d l =
-    let a : row.call ≡ c = cc in
-    let b : one row.kinds.now ≡ signatures c = cc in
-    ap signatures a ∙ sym b
-kinds_of_rows (row ∷ rows) (c ∷ cs) e h (suc k) d l =
-    let es : map (λ (r : Row). r.call) rows ≡ cs = cc in
-    let hs : map (λ (r : Row). one r.kinds.now) rows ≡ map signatures cs = cc in
-    kinds_of_rows rows cs es hs k d (omega (arith, l))
+as_row : (x : List ℕ) (r : Option (Bor Row)) → Finds x built_calls (option_map (λ row. row.now) r) → MatchOption r (call_named built_calls x ≡ None) (λ row. IsRowOf x row.now)
+as_row x None h = h
+as_row x (Some row) h = record { found = h.found; forms = h.forms }
 
-pub kinds_at : (rows : List Row) (c : Call) (k : ℕ) (d : Row) → map (λ row. row.call) rows ≡ built_calls → map (λ row. one row.kinds.now) rows ≡ map signatures built_calls → k < length rows → (slice_index_or rows k d).call ≡ c → signatures c ≡ one (slice_index_or rows k d).kinds.now
-kinds_at rows c k d e h l s = ap signatures (sym s) ∙ kinds_of_rows rows built_calls e h k d l
+pub row_found : (x : List ℕ) (rows : List Row) (r : Option (Bor Row)) → map (λ row. call_of row.call) rows ≡ built_calls → map (λ row. row.name.now) rows ≡ map name_of built_calls → map forms_of rows ≡ map signatures built_calls
+    → option_map (λ row. row.now) r ≡ find (λ row. pointwise nat_eq row.name.now x) rows → MatchOption r (call_named built_calls x ≡ None) (λ row. IsRowOf x row.now)
+row_found x rows r e n f h = as_row x r (subst (Finds x built_calls) (sym h) (finds x rows built_calls e n f))
 
-pub passed : (rows : List Row) (c : Call) (n : ℕ) → map (λ row. row.call) rows ≡ built_calls → Contains built_calls c → length rows ≤ n → ((k : ℕ) (d : Row) → k < n → k < length rows → (slice_index_or rows k d).call ≡ c → ⊥) → ⊥
-passed rows c n e m l h =
-    let t : Contains (map (λ (row : Row). row.call) rows) c = subst (λ cs. Contains cs c) (sym e) m in
-    let x = contains_map (λ (row : Row). row.call) rows c t in
-    h x.1.0 x.0 (omega (arith, x.1.1, l)) x.1.1 (ap (λ (row : Row). row.call) x.1.2 ∙ sym x.2)
+find_next : (p : List Kind → Bool) (b : Bool) (k : Bor (List Kind)) (o : Option (Bor (List Kind))) (r : Option (List Kind)) → option_map (λ k. k.now) o ≡ r → option_map (λ k. k.now) (cond b (Some k) o) ≡ cond b (Some k.now) r
+find_next p true k o r e = refl
+find_next p false k o r e = e
 
--- ---- the count
-
-pub signature_fits : (c : Call) (kinds : List Kind) (n : ℕ) → signatures c ≡ one kinds → length kinds ≡ n → signature_for c n ≡ Some kinds
-unfolding signature_for one
-signature_fits c kinds n e l = rw e (let t : (length kinds == n) ≡ true = grind (arith, nat_tests) in rw t refl)
-
-pub signature_misses : (c : Call) (kinds : List Kind) (n : ℕ) → signatures c ≡ one kinds → length kinds ≢ n → signature_for c n ≡ None
-unfolding signature_for one
-signature_misses c kinds n e l = rw e (let t : (length kinds == n) ≡ false = grind (arith, nat_tests) in rw t refl)
-
--- ---- the arguments of each call
-
-pub kinds_fit : (c d : Call) (kinds : List Kind) (vs : List Value) → c ≡ d → signatures d ≡ one kinds → AreArguments c vs → FitKinds kinds vs
-unfolding signature_for one
-kinds_fit c d kinds vs e s a =
-    let h : signature_for c (length vs) ≡ cond (length kinds == length vs) (Some kinds) None = rw (e, s) refl in
-    ⊎_elim
-    (λ (t : (length kinds == length vs) ≡ true). let k : Some kinds ≡ Some a.0 = sym (rw t at h) ∙ a.1 in let n : a.0 ≡ kinds = cc in subst (λ u. FitKinds u vs) n a.2)
-    (λ (t : (length kinds == length vs) ≡ false). let k : None ≡ Some a.0 = sym (rw t at h) ∙ a.1 in absurd (true≢false (sym (ap is_some k))))
-    (cases_Bool (length kinds == length vs))
-
--- ---- the built calls are all
-
--- c is none of these
-abbrev pub IsNone : Call → List Call → Type 0
-IsNone c [] = Unit {0}
-IsNone c (d ∷ ds) = (c ≢ d) × IsNone c ds
-
-absent_from : (c : Call) (ds : List Call) → Contains ds c → IsNone c ds → ⊥
-absent_from c [] m n = absurd (omega (arith, m.1))
-absent_from c (d ∷ ds) (zero, l, e) n = n.0 (sym e)
-absent_from c (d ∷ ds) (suc k, l, e) n = absent_from c ds (k, omega (arith, l), e) n.1
-
-pub absent : (c : Call) → Contains built_calls c → IsNone c built_calls → ⊥
-absent c m n = absent_from c built_calls m n
+pub find_now : (p : List Kind → Bool) (forms : List (Bor (List Kind))) → option_map (λ kinds. kinds.now) (find (λ kinds. p kinds.now) forms) ≡ find p (map (λ kinds. kinds.now) forms)
+find_now p [] = refl
+find_now p (k ∷ forms) = find_next p (p k.now) k (find (λ kinds. p kinds.now) forms) (find p (map (λ kinds. kinds.now) forms)) (find_now p forms)

@@ -2,11 +2,11 @@
 --   listed_of found              the numbers or the lists
 --   ListsOn r found v place      r is these elements with the value v, or the fault 45 at the place where v doesn't fit, unless memory
 --                                ran out
-use Rattle.std.specs.Prelude.{◌≡◌, ℕ, map, Some, None, Result, Ok, Err}
+use Rattle.std.specs.Prelude.{◌≡◌, ℕ, Some, None, Result, Ok, Err}
 use Rattle.lc_language.specs.Value as language
 use Rattle.lc_language.specs.Evaluation as evaluation
 use Rattle.lc_language.specs.Evaluation.{refused, refuse_at, nothing_yet, all_numbers, all_lists, listed_with}
-use Rattle.lc_eval.specs.Value.{refused_of}
+use Rattle.lc_eval.specs.Value.{rows_of, refused_of}
 use Rattle.lc_eval.specs.declared.lists.Listed.{Listed}
 use Rattle.lc_eval.specs.declared.lists.Listed.TheVariants.{Nothing, Numbers, Lists}
 use Rattle.lc_eval.specs.declared.refusals.Stop.{Stop}
@@ -15,7 +15,7 @@ use Rattle.lc_eval.specs.declared.refusals.Stop.TheVariants as stop
 abbrev pub listed_of : Listed → evaluation.Listed
 listed_of Nothing = nothing_yet
 listed_of (Numbers u) = all_numbers u.items
-listed_of (Lists rows) = all_lists (map (λ row. row.items) rows.items)
+listed_of (Lists rows) = all_lists (rows_of rows.items)
 
 abbrev pub ListsOn : Result Listed Stop → evaluation.Listed → language.Value → ℕ → Type 0
 ListsOn (Ok next) found v place = listed_with found v ≡ Some (listed_of next)

@@ -1,248 +1,291 @@
-//! The table of calls: of each, its name, the kinds of its arguments, and why it is refused; and what it gives of its arguments.
+//! The calls that are built: the table of their names and of the kinds of their arguments, and calls with their arguments.
 //!
-//! A call is added by its row in the table, its arm in `apply` or `answer`, and a function that does it.
-ghost use Rattle.std.specs.Prelude.{◌≡◌, true, false, map, find, nat_eq, option_map, Contains, IfSome, None, Some, MatchOption};
+//! A call is added by its variant of `ValueCall` or `QueryCall`, its row in the table, and its variant of `BoundCall` or
+//! `BoundQuery` with its arm in `bind` or `bind_query`.
+ghost use Rattle.std.specs.Prelude.{◌≡◌, ◌==◌, map, find, nat_eq, option_map, length, None, Some, MatchOption};
 ghost use Rattle.std.specs.Cmp.Lexicographic.{pointwise};
-ghost use Rattle.lc_language.specs.Calls.{name_of, one, signatures, is_query, call_named, signature_for};
-ghost use Rattle.lc_language.specs.Evaluation.{AppliesTo};
-ghost use Rattle.lc_eval.specs.Built.{built_calls};
+ghost use Rattle.lc_language.specs.Calls.{name_of, one, signatures, call_named};
+ghost use Rattle.lc_language.specs.Bound as language;
+ghost use Rattle.lc_eval.specs.Built.{value_call_of, query_call_of, call_of, built_calls, bound_of, bound_query_of, forms_of, IsRowOf};
 ghost use Rattle.lc_eval.specs.Value.{values_of};
-ghost use Rattle.lc_eval.specs.Applied.{AreArguments, Answers, AnswersLine, QueriesTo};
 
-use crate::refusals::Stop;
 use crate::values::Value;
-use crate::{constructors, properties, queries};
-use lc_language::{Call, Kind};
-use std::alloc::Global;
+use lc_code::Code;
+use lc_field::Field;
+use lc_language::Kind;
 
-// A row of the table: a call, its name, and the kinds of its arguments.
+/// The calls that give a value.
 #[derive(Clone, Copy)]
-struct Row {
-    call: Call,
-    name: &'static str,
-    kinds: &'static [Kind],
+pub(crate) enum ValueCall {
+    Gf,
+    GeneratorMatCode,
+    CheckMatCode,
+    RepetitionCode,
+    WholeSpaceCode,
+    NullCode,
+    HammingCode,
+    ReedMullerCode,
+    DualCode,
+    Dimension,
+    WordLength,
+    GeneratorMat,
+    CheckMat,
+    Weight,
+    IsCodeword,
 }
 
-// The built calls, in the order of the table of all calls. Above each row stand the refusals of the call, in their order.
+/// The calls that are statements of their own.
+#[derive(Clone, Copy)]
+pub(crate) enum QueryCall {
+    LeastWord,
+}
+
+/// The calls.
+#[derive(Clone, Copy)]
+pub(crate) enum Call {
+    /// It gives a value.
+    Value(ValueCall),
+    /// It is a statement of its own.
+    Query(QueryCall),
+}
+
+/// A row of the table: a call, its name, and the kinds of its arguments in each of its forms.
+#[derive(Clone, Copy)]
+pub(crate) struct Row {
+    pub(crate) call: Call,
+    pub(crate) name: &'static str,
+    pub(crate) forms: &'static [&'static [Kind]],
+}
+
+// The built calls, in the order of the table of all calls.
 static TABLE: [Row; 16] = [
-    // NotAField
     Row {
-        call: Call::Gf,
+        call: Call::Value(ValueCall::Gf),
         name: "GF",
-        kinds: &[Kind::Number],
+        forms: &[&[Kind::Number]],
     },
-    // FieldTooLarge, BadLength, LengthsDiffer, BadArgument(1)
     Row {
-        call: Call::GeneratorMatCode,
+        call: Call::Value(ValueCall::GeneratorMatCode),
         name: "GeneratorMatCode",
-        kinds: &[Kind::Lists, Kind::Field],
+        forms: &[&[Kind::Lists, Kind::Field]],
     },
-    // FieldTooLarge, BadLength, LengthsDiffer, BadArgument(1)
     Row {
-        call: Call::CheckMatCode,
+        call: Call::Value(ValueCall::CheckMatCode),
         name: "CheckMatCode",
-        kinds: &[Kind::Lists, Kind::Field],
+        forms: &[&[Kind::Lists, Kind::Field]],
     },
-    // FieldTooLarge, BadLength
     Row {
-        call: Call::RepetitionCode,
+        call: Call::Value(ValueCall::RepetitionCode),
         name: "RepetitionCode",
-        kinds: &[Kind::Number, Kind::Field],
+        forms: &[&[Kind::Number, Kind::Field]],
     },
-    // FieldTooLarge, BadLength
     Row {
-        call: Call::WholeSpaceCode,
+        call: Call::Value(ValueCall::WholeSpaceCode),
         name: "WholeSpaceCode",
-        kinds: &[Kind::Number, Kind::Field],
+        forms: &[&[Kind::Number, Kind::Field]],
     },
-    // FieldTooLarge, BadLength
     Row {
-        call: Call::NullCode,
+        call: Call::Value(ValueCall::NullCode),
         name: "NullCode",
-        kinds: &[Kind::Number, Kind::Field],
+        forms: &[&[Kind::Number, Kind::Field]],
     },
-    // FieldTooLarge, BadArgument(1), BadLength
     Row {
-        call: Call::HammingCode,
+        call: Call::Value(ValueCall::HammingCode),
         name: "HammingCode",
-        kinds: &[Kind::Number, Kind::Field],
+        forms: &[&[Kind::Number, Kind::Field]],
     },
-    // BadLength, BadArgument(1)
     Row {
-        call: Call::ReedMullerCode,
+        call: Call::Value(ValueCall::ReedMullerCode),
         name: "ReedMullerCode",
-        kinds: &[Kind::Number, Kind::Number],
+        forms: &[&[Kind::Number, Kind::Number]],
     },
-    // never refused
     Row {
-        call: Call::DualCode,
+        call: Call::Value(ValueCall::DualCode),
         name: "DualCode",
-        kinds: &[Kind::Code],
+        forms: &[&[Kind::Code]],
     },
-    // never refused
     Row {
-        call: Call::Dimension,
+        call: Call::Value(ValueCall::Dimension),
         name: "Dimension",
-        kinds: &[Kind::Code],
+        forms: &[&[Kind::Code]],
     },
-    // never refused
     Row {
-        call: Call::WordLength,
+        call: Call::Value(ValueCall::WordLength),
         name: "WordLength",
-        kinds: &[Kind::Code],
+        forms: &[&[Kind::Code]],
     },
-    // never refused
     Row {
-        call: Call::GeneratorMat,
+        call: Call::Value(ValueCall::GeneratorMat),
         name: "GeneratorMat",
-        kinds: &[Kind::Code],
+        forms: &[&[Kind::Code]],
     },
-    // never refused
     Row {
-        call: Call::CheckMat,
+        call: Call::Value(ValueCall::CheckMat),
         name: "CheckMat",
-        kinds: &[Kind::Code],
+        forms: &[&[Kind::Code]],
     },
-    // never refused
     Row {
-        call: Call::Weight,
+        call: Call::Value(ValueCall::Weight),
         name: "Weight",
-        kinds: &[Kind::Numbers],
+        forms: &[&[Kind::Numbers]],
     },
-    // LengthsDiffer, BadArgument(2)
     Row {
-        call: Call::IsCodeword,
+        call: Call::Value(ValueCall::IsCodeword),
         name: "IsCodeword",
-        kinds: &[Kind::Code, Kind::Numbers],
+        forms: &[&[Kind::Code, Kind::Numbers]],
     },
-    // FieldTooLarge, BadLength, LengthsDiffer, BadArgument(1), TooManyWords
     Row {
-        call: Call::LeastWord,
+        call: Call::Query(QueryCall::LeastWord),
         name: "LeastWord",
-        kinds: &[Kind::Lists, Kind::Field],
+        forms: &[&[Kind::Lists, Kind::Field]],
     },
 ];
 
 // The rows of all built calls.
-#[tactic(auto, unfolding(crate::specs::Built::built_calls, lc_language::specs::Calls::name_of, lc_language::specs::Calls::one, lc_language::specs::Calls::signatures))]
+#[tactic(auto, unfolding(crate::specs::Built::built_calls, lc_language::specs::Calls::value_name, lc_language::specs::Calls::query_name, lc_language::specs::Calls::name_of, lc_language::specs::Calls::one, lc_language::specs::Calls::signatures, lc_language::specs::Calls::value_signatures, lc_language::specs::Calls::query_signatures))]
 fn table() -> &'static [Row]
-    ensures calls { map (λ row. row.call) result.now ≡ built_calls }
+    ensures calls { map (λ row. call_of row.call) result.now ≡ built_calls }
     ensures names { map (λ row. row.name.now) result.now ≡ map name_of built_calls }
-    ensures kinds { map (λ row. one row.kinds.now) result.now ≡ map signatures built_calls }
+    ensures forms { map forms_of result.now ≡ map signatures built_calls }
 {
     &TABLE
 }
 
 // The row with this name.
-fn row_named<'a>(rows: &'a [Row], name: &str) -> Option<&'a Row>
+fn row_with<'a>(rows: &'a [Row], name: &str) -> Option<&'a Row>
     ensures { option_map (λ row. row.now) result ≡ find (λ row. pointwise nat_eq row.name.now name.now) rows.now }
 {
     rows.iter().find(|row| row.name == name)
 }
 
-/// The call of this name; None exactly where no built call has it.
-pub(crate) fn call_named(name: &str) -> Option<Call>
-    ensures is { result ≡ call_named built_calls name.now }
-    ensures built { IfSome result (Contains built_calls) }
+// The form with this many arguments.
+fn form_with<'a>(forms: &'a [&'static [Kind]], count: usize) -> Option<&'a &'static [Kind]>
+    ensures { option_map (λ kinds. kinds.now) result ≡ find (λ kinds. length kinds.now == count) forms.now }
 {
-    match row_named(table(), name) {
-        Some(row) => Some(row.call),
-        None => None,
-    }
+    forms.iter().find(|kinds| kinds.len() == count)
 }
 
-// The kinds of the arguments of a built call.
-fn kinds_of(call: Call) -> &'static [Kind]
-    requires built { Contains built_calls call }
-    ensures are { signatures call ≡ one result.now }
+/// The row of the call of this name; None exactly if no built call has it.
+pub(crate) fn row_named(name: &str) -> Option<&'static Row>
+    ensures { MatchOption result (call_named built_calls name.now ≡ None) (λ row. IsRowOf name.now row.now) }
 {
-    let rows = table();
-    for row in rows {
-        if row.call == call {
-            return row.kinds;
+    row_with(table(), name)
+}
+
+impl Row {
+    /// The kinds of the arguments, if the call takes this many.
+    pub(crate) fn kinds(&self, count: usize) -> Option<&'static [Kind]>
+        ensures { option_map (λ kinds. kinds.now) result ≡ find (λ kinds. length kinds == count) (forms_of self.now) }
+    {
+        match form_with(self.forms, count) {
+            Some(kinds) => Some(*kinds),
+            None => None,
         }
     }
-    unreachable!()
 }
 
-/// The kinds of the arguments of a built call, where it takes this many.
-#[tactic(auto, using(crate::proofs::TableLaws::signature_fits, crate::proofs::TableLaws::signature_misses))]
-pub(crate) fn signature(call: Call, count: usize) -> Option<&'static [Kind]>
-    requires built { Contains built_calls call }
-    ensures is { MatchOption result (signature_for call count ≡ None) (λ kinds. signature_for call count ≡ Some kinds.now) }
+/// A call that gives a value, with its arguments.
+pub(crate) enum BoundCall<'a> {
+    Gf(u64),
+    GeneratorMatCode(&'a [Vec<u64>], &'a Field),
+    CheckMatCode(&'a [Vec<u64>], &'a Field),
+    RepetitionCode(u64, &'a Field),
+    WholeSpaceCode(u64, &'a Field),
+    NullCode(u64, &'a Field),
+    HammingCode(u64, &'a Field),
+    ReedMullerCode(u64, u64),
+    DualCode(&'a Code),
+    Dimension(&'a Code),
+    WordLength(&'a Code),
+    GeneratorMat(&'a Code),
+    CheckMat(&'a Code),
+    Weight(&'a [u64]),
+    IsCodeword(&'a Code, &'a [u64]),
+}
+
+/// A query with its arguments.
+pub(crate) enum BoundQuery<'a> {
+    LeastWord(&'a [Vec<u64>], &'a Field),
+}
+
+/// The call with these arguments; None if they are not of its kinds.
+#[tactic(auto, unfolding(lc_language::specs::Bound::bind))]
+pub(crate) fn bind(call: ValueCall, arguments: &[Value]) -> Option<BoundCall<'_>>
+    ensures { option_map bound_of result ≡ language.bind (value_call_of call) (values_of arguments.now) }
 {
-    let kinds = kinds_of(call);
-    if kinds.len() == count {
-        Some(kinds)
-    } else {
-        None
+    match call {
+        ValueCall::Gf => {
+            let [a] = arguments else { return None };
+            Some(BoundCall::Gf(a.number()?))
+        }
+        ValueCall::GeneratorMatCode => {
+            let [a, b] = arguments else { return None };
+            Some(BoundCall::GeneratorMatCode(a.lists()?, b.field()?))
+        }
+        ValueCall::CheckMatCode => {
+            let [a, b] = arguments else { return None };
+            Some(BoundCall::CheckMatCode(a.lists()?, b.field()?))
+        }
+        ValueCall::RepetitionCode => {
+            let [a, b] = arguments else { return None };
+            Some(BoundCall::RepetitionCode(a.number()?, b.field()?))
+        }
+        ValueCall::WholeSpaceCode => {
+            let [a, b] = arguments else { return None };
+            Some(BoundCall::WholeSpaceCode(a.number()?, b.field()?))
+        }
+        ValueCall::NullCode => {
+            let [a, b] = arguments else { return None };
+            Some(BoundCall::NullCode(a.number()?, b.field()?))
+        }
+        ValueCall::HammingCode => {
+            let [a, b] = arguments else { return None };
+            Some(BoundCall::HammingCode(a.number()?, b.field()?))
+        }
+        ValueCall::ReedMullerCode => {
+            let [a, b] = arguments else { return None };
+            Some(BoundCall::ReedMullerCode(a.number()?, b.number()?))
+        }
+        ValueCall::DualCode => {
+            let [a] = arguments else { return None };
+            Some(BoundCall::DualCode(&a.code()?.code))
+        }
+        ValueCall::Dimension => {
+            let [a] = arguments else { return None };
+            Some(BoundCall::Dimension(&a.code()?.code))
+        }
+        ValueCall::WordLength => {
+            let [a] = arguments else { return None };
+            Some(BoundCall::WordLength(&a.code()?.code))
+        }
+        ValueCall::GeneratorMat => {
+            let [a] = arguments else { return None };
+            Some(BoundCall::GeneratorMat(&a.code()?.code))
+        }
+        ValueCall::CheckMat => {
+            let [a] = arguments else { return None };
+            Some(BoundCall::CheckMat(&a.code()?.code))
+        }
+        ValueCall::Weight => {
+            let [a] = arguments else { return None };
+            Some(BoundCall::Weight(a.numbers()?))
+        }
+        ValueCall::IsCodeword => {
+            let [a, b] = arguments else { return None };
+            Some(BoundCall::IsCodeword(&a.code()?.code, b.numbers()?))
+        }
     }
 }
 
-/// Whether a call stands only as a whole statement.
-#[tactic(auto, unfolding(lc_language::specs::Calls::is_query))]
-pub(crate) fn is_query(call: Call) -> bool
-    ensures is { result ≡ is_query call }
-{
-    matches!(
-        call,
-        Call::AlgebraicDecode
-            | Call::LeastWord
-            | Call::MinimumDistance
-            | Call::Certificate
-            | Call::ScanCertificate
-            | Call::WeightDistribution
-            | Call::AlternantCertificate
-            | Call::NearestWord
-    )
-}
-
-/// What a call gives of its arguments, or its refusal, at this place.
-pub(crate) fn apply(
-    alloc: Global,
-    call: Call,
-    place: usize,
-    arguments: &[Value],
-) -> Result<Value, Stop>
-    requires built { Contains built_calls call }
-    requires value { is_query call ≡ false }
-    requires arguments { AreArguments call (values_of arguments.now) }
-    ensures applies { Answers result (AppliesTo call place (values_of arguments.now)) }
+/// The query with these arguments; None if they are not of its kinds.
+#[tactic(auto, unfolding(lc_language::specs::Bound::bind_query))]
+pub(crate) fn bind_query(call: QueryCall, arguments: &[Value]) -> Option<BoundQuery<'_>>
+    ensures { option_map bound_query_of result ≡ language.bind_query (query_call_of call) (values_of arguments.now) }
 {
     match call {
-        Call::Gf => constructors::gf(alloc, place, arguments),
-        Call::GeneratorMatCode => constructors::generator_mat_code(alloc, place, arguments),
-        Call::CheckMatCode => constructors::check_mat_code(alloc, place, arguments),
-        Call::RepetitionCode => constructors::repetition_code(alloc, place, arguments),
-        Call::WholeSpaceCode => constructors::whole_space_code(alloc, place, arguments),
-        Call::NullCode => constructors::null_code(alloc, place, arguments),
-        Call::HammingCode => constructors::hamming_code(alloc, place, arguments),
-        Call::ReedMullerCode => constructors::reed_muller_code(alloc, place, arguments),
-        Call::DualCode => constructors::dual_code(alloc, place, arguments),
-        Call::Dimension => Ok(properties::dimension(arguments)),
-        Call::WordLength => Ok(properties::word_length(arguments)),
-        Call::GeneratorMat => properties::generator_mat(alloc, arguments),
-        Call::CheckMat => properties::check_mat(alloc, arguments),
-        Call::Weight => Ok(properties::weight(arguments)),
-        Call::IsCodeword => properties::is_codeword(alloc, place, arguments),
-        _ => unreachable!(),
-    }
-}
-
-/// The line that a query prints, or its refusal, at this place.
-pub(crate) fn answer(
-    alloc: Global,
-    call: Call,
-    place: usize,
-    arguments: &[Value],
-) -> Result<Vec<u8>, Stop>
-    requires built { Contains built_calls call }
-    requires query { is_query call ≡ true }
-    requires arguments { AreArguments call (values_of arguments.now) }
-    ensures answers { AnswersLine result (QueriesTo call place (values_of arguments.now)) }
-{
-    match call {
-        Call::LeastWord => queries::least_word(alloc, place, arguments),
-        _ => unreachable!(),
+        QueryCall::LeastWord => {
+            let [a, b] = arguments else { return None };
+            Some(BoundQuery::LeastWord(a.lists()?, b.field()?))
+        }
     }
 }

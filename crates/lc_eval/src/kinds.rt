@@ -1,14 +1,13 @@
 //! The kinds of arguments.
-ghost use Rattle.std.specs.Prelude.{◌≡◌, length, IfOk};
+ghost use Rattle.std.specs.Prelude.{◌≡◌};
 ghost use Rattle.lc_language.specs.Value as language;
 ghost use Rattle.lc_language.specs.Evaluation as evaluation;
+ghost use Rattle.lc_language.specs.Evaluation.{refuse_at};
 ghost use Rattle.lc_parse.specs.Views.{trees_of};
 ghost use Rattle.lc_eval.specs.Value.{value_of, values_of};
-ghost use Rattle.lc_eval.specs.Applied.{FitKinds};
-ghost use Rattle.lc_eval.specs.Evaluated.{AnswersAll, FitsAll};
-ghost use Rattle.lc_language.specs.Evaluation.{all_give};
+ghost use Rattle.lc_eval.specs.Applied.{IsStop};
 
-use crate::refusals::{Stop, fault};
+use crate::refusals::{MISFIT, Stop, fault};
 use crate::values::Value;
 use lc_language::Kind;
 use lc_parse::Expr;
@@ -19,41 +18,12 @@ use std::alloc::Global;
 fn is_kind(kind: Kind, value: &Value) -> bool
     ensures { result ≡ language.is_kind kind (value_of value.now) }
 {
-    match (kind, value) {
-        (Kind::Number, Value::Number(_))
-        | (Kind::Field, Value::Field(_))
-        | (Kind::Numbers, Value::Numbers(_))
-        | (Kind::Lists, Value::Lists(_))
-        | (Kind::Code, Value::Code(_)) => true,
-        (Kind::Numbers, Value::Lists(lists)) => lists.is_empty(),
-        (Kind::Lists, Value::Numbers(numbers)) => numbers.is_empty(),
-        _ => false,
-    }
-}
-
-// Makes an empty list the list that the kind asks for.
-#[tactic(auto, unfolding(lc_language::specs::Value::as_kind))]
-fn fit(alloc: Global, kind: Kind, value: &mut Value)
-    ensures { value_of value.new ≡ language.as_kind kind (value_of value.old) }
-{
-    match (kind, &*value) {
-        (Kind::Numbers, Value::Lists(lists)) if lists.is_empty() => {
-            *value = Value::Numbers(Vec::new(alloc));
-        }
-        (Kind::Lists, Value::Numbers(numbers)) if numbers.is_empty() => {
-            *value = Value::Lists(Vec::new(alloc));
-        }
-        _ => {}
-    }
-}
-
-// Makes each empty list the list that its kind asks for.
-fn fit_all(alloc: Global, kinds: &[Kind], values: &mut [Value])
-    requires { length values.old ≡ length kinds.now }
-    ensures { values_of values.new ≡ evaluation.as_kinds kinds.now (values_of values.old) }
-{
-    for i in 0..kinds.len() {
-        fit(alloc, kinds[i], &mut values[i]);
+    match kind {
+        Kind::Number => value.number().is_some(),
+        Kind::Field => value.field().is_some(),
+        Kind::Numbers => value.numbers().is_some(),
+        Kind::Lists => value.lists().is_some(),
+        Kind::Code => value.code().is_some(),
     }
 }
 
@@ -71,21 +41,17 @@ fn first_misfit(kinds: &[Kind], arguments: &[Expr], values: &[Value]) -> Option<
     }
 }
 
-// The values of arguments as their kinds ask for them, or the fault of the first that is not of its kind.
-pub(crate) fn fitted(
+/// The fault of arguments that are not of their kinds: it is at the first that isn't.
+#[tactic(auto, unfolding(lc_language::specs::Evaluation::misfit_place))]
+pub(crate) fn misfit(
     alloc: Global,
+    place: usize,
     kinds: &[Kind],
     arguments: &[Expr],
-    mut values: Vec<Value>,
-) -> Result<Vec<Value>, Stop>
-    requires kinds { length values.items ≡ length kinds.now }
-    requires arguments { length values.items ≡ length arguments.now }
-    ensures fitted { AnswersAll result (FitsAll kinds.now (trees_of arguments.now) (all_give (values_of values.items))) }
-    ensures fit { IfOk result (λ vs. FitKinds kinds.now (values_of vs.items)) }
+    values: &[Value],
+) -> Stop
+    ensures { IsStop result (refuse_at 45 (evaluation.misfit_place place kinds.now (trees_of arguments.now) (values_of values.now))) }
 {
-    if let Some(place) = first_misfit(kinds, arguments, &values) {
-        return Err(Stop::Refused(fault(alloc, 45, place)));
-    }
-    fit_all(alloc, kinds, &mut values);
-    Ok(values)
+    let first = first_misfit(kinds, arguments, values).unwrap_or(place);
+    Stop::Refused(fault(alloc, MISFIT, first))
 }

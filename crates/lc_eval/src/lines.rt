@@ -19,6 +19,7 @@ pub(crate) fn value_line(alloc: Global, value: &Value) -> Result<Vec<u8>, NoMemo
         Value::Numbers(numbers) => Ok(list_line(alloc, numbers)?),
         Value::Lists(lists) => Ok(rows_line(alloc, lists)?),
         Value::Code(code) => {
+            let code = &code.code;
             let size = u64::from(code.field().size());
             Ok(code_line(alloc, code.length(), code.dimension(), size)?)
         }

@@ -1,13 +1,15 @@
 //! The values of lists.
-ghost use Rattle.std.specs.Prelude.{◌≡◌};
+ghost use Rattle.std.specs.Prelude.{◌≡◌, IfOk};
 ghost use Rattle.lc_language.specs.Value as language;
 ghost use Rattle.lc_language.specs.Evaluation as evaluation;
 ghost use Rattle.lc_eval.specs.Value.{value_of};
 ghost use Rattle.lc_eval.specs.Listed.{listed_of, ListsOn};
 
-use crate::refusals::{Stop, fault};
+use crate::refusals::{MISFIT, Stop, fault};
 use crate::values::Value;
+use lc_field::NoMemory;
 use std::alloc::Global;
+use std::rc::Rc;
 
 /// What the elements of a list so far make.
 #[derive(Drop)]
@@ -22,21 +24,16 @@ pub(crate) enum Listed {
 
 impl Listed {
     // The same with one value more, which is that of the element at the place; a value that doesn't fit is refused there.
-    pub(crate) fn with(self, alloc: Global, place: usize, value: Value) -> Result<Listed, Stop>
-        ensures { ListsOn result (listed_of self) (value_of value) place }
+    pub(crate) fn with(self, alloc: Global, place: usize, value: &Value) -> Result<Listed, Stop>
+        ensures { ListsOn result (listed_of self) (value_of value.now) place }
     {
-        match value {
-            Value::Number(number) => self.with_number(alloc, place, number),
-            Value::Numbers(numbers) => self.with_list(alloc, place, numbers),
-            Value::Lists(lists) => {
-                if lists.is_empty() {
-                    self.with_list(alloc, place, Vec::new(alloc))
-                } else {
-                    Err(Stop::Refused(fault(alloc, 45, place)))
-                }
-            }
-            _other => Err(Stop::Refused(fault(alloc, 45, place))),
+        if let Some(number) = value.number() {
+            return self.with_number(alloc, place, number);
         }
+        if let Some(list) = value.numbers() {
+            return self.with_list(alloc, place, list.to_vec(alloc)?);
+        }
+        Err(Stop::Refused(fault(alloc, MISFIT, place)))
     }
 
     // The same with one number more.
@@ -47,7 +44,7 @@ impl Listed {
         let mut found = match self {
             Listed::Nothing => Vec::new(alloc),
             Listed::Numbers(numbers) => numbers,
-            Listed::Lists(_) => return Err(Stop::Refused(fault(alloc, 45, place))),
+            Listed::Lists(_) => return Err(Stop::Refused(fault(alloc, MISFIT, place))),
         };
         found.push(number)?;
         Ok(Listed::Numbers(found))
@@ -61,7 +58,7 @@ impl Listed {
         let mut found = match self {
             Listed::Nothing => Vec::new(alloc),
             Listed::Lists(lists) => lists,
-            Listed::Numbers(_) => return Err(Stop::Refused(fault(alloc, 45, place))),
+            Listed::Numbers(_) => return Err(Stop::Refused(fault(alloc, MISFIT, place))),
         };
         found.push(list)?;
         Ok(Listed::Lists(found))
@@ -69,13 +66,13 @@ impl Listed {
 
     // The list of these elements.
     #[tactic(auto, unfolding(lc_language::specs::Evaluation::list_value))]
-    pub(crate) fn value(self, alloc: Global) -> Value
-        ensures { value_of result ≡ evaluation.list_value (listed_of self) }
+    pub(crate) fn value(self, alloc: Global) -> Result<Value, NoMemory>
+        ensures { IfOk result (λ v. value_of v ≡ evaluation.list_value (listed_of self)) }
     {
         match self {
-            Listed::Nothing => Value::Numbers(Vec::new(alloc)),
-            Listed::Numbers(numbers) => Value::Numbers(numbers),
-            Listed::Lists(lists) => Value::Lists(lists),
+            Listed::Nothing => Ok(Value::Numbers(Rc::new(alloc, Vec::new(alloc))?)),
+            Listed::Numbers(numbers) => Ok(Value::Numbers(Rc::new(alloc, numbers)?)),
+            Listed::Lists(lists) => Ok(Value::Lists(Rc::new(alloc, lists)?)),
         }
     }
 }

@@ -3,6 +3,7 @@ ghost use Rattle.std.specs.Prelude.{◌≡◌, [], IfOk, IfErr};
 ghost use Rattle.lc_parse.specs.Views.{script_of};
 ghost use Rattle.lc_eval.specs.Machine.{State, Does};
 
+use crate::fields::Fields;
 use crate::names::Names;
 use crate::statement::{Effect, effect_of};
 use crate::values::Binding;
@@ -11,6 +12,10 @@ use lc_parse::Script;
 use std::alloc::Global;
 use std::marker::Model;
 
+/// A query that the machine leaves to its caller to answer. No built call asks one.
+#[derive(Drop)]
+pub enum Query {}
+
 /// What a step of the machine answers.
 #[derive(Drop)]
 pub enum Step {
@@ -18,7 +23,9 @@ pub enum Step {
     Line(Vec<u8>),
     /// the statement assigned a value to a name, and prints nothing
     Silent,
-    /// the fault line, with its newline; no statement is done behind it
+    /// the statement needs the answer of a query, whose line it prints
+    Need(Query),
+    /// the fault line, with its newline; no statement is done after it
     Fault(Vec<u8>),
     /// no statement is left
     End,
@@ -30,6 +37,7 @@ pub struct Machine {
     script: Script,
     next: usize,
     names: Names,
+    fields: Fields,
 }
 
 impl Model for Machine {
@@ -48,7 +56,7 @@ impl Model for Machine {
 }
 
 impl Machine {
-    /// The machine at the first statement of the script, with no name bound. The script is dropped where memory is refused.
+    /// The machine at the first statement of the script, with no name bound. The script is dropped if no memory is left.
     pub fn start(alloc: Global, script: Script) -> Result<Machine, NoMemory>
         ensures start { IfOk result (λ m. m ≡ record { bindings = []; left = script.statements.items }) }
     {
@@ -56,11 +64,13 @@ impl Machine {
             script,
             next: 0,
             names: Names::new(alloc),
+            fields: Fields::new(alloc),
         })
     }
 
     /// Does one statement: evaluates its expression, and binds the value to the statement's name or answers the line that it
-    /// prints. A fault is the last answer but `End`. Where memory is refused the machine is as before.
+    /// prints, or the query whose line it prints. After a fault, every further step answers `End`. If no memory is left the
+    /// machine is as before.
     pub fn step(&mut self, alloc: Global) -> Result<Step, NoMemory>
         ensures does { IfOk result (λ step. Does self.old step self.new) }
         ensures kept { IfErr result (λ _. self.new ≡ self.old) }
@@ -68,7 +78,7 @@ impl Machine {
         let Some(statement) = self.script.statements.get(self.next) else {
             return Ok(Step::End);
         };
-        match effect_of(alloc, &self.names, statement)? {
+        match effect_of(alloc, &self.names, &mut self.fields, statement)? {
             Effect::Binds(Binding { name, value }) => {
                 self.names.bind(name, value)?;
                 self.next += 1;
@@ -77,6 +87,10 @@ impl Machine {
             Effect::Prints(line) => {
                 self.next += 1;
                 Ok(Step::Line(line))
+            }
+            Effect::Needs(query) => {
+                self.next += 1;
+                Ok(Step::Need(query))
             }
             Effect::Fails(line) => {
                 self.next = self.script.statements.len();

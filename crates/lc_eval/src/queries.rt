@@ -1,18 +1,18 @@
 //! The calls that stand only as whole statements.
-ghost use Rattle.std.specs.Prelude.{◌≡◌, ◌^◌, nat_lt, ◌∷◌, [], IfOk, length};
+ghost use Rattle.std.specs.Prelude.{◌≡◌, ◌^◌, nat_lt, IfOk};
 ghost use Rattle.lc_algebra.specs.Field.{size};
-ghost use Rattle.lc_language.specs.declared.Kind.TheVariants as kind;
-ghost use Rattle.lc_language.specs.declared.Call.TheVariants as call;
-ghost use Rattle.lc_eval.specs.Value.{values_of};
-ghost use Rattle.lc_eval.specs.Applied.{FitKinds, AnswersLine, QueriesTo};
+ghost use Rattle.lc_language.specs.Bound as bound;
+ghost use Rattle.lc_language.specs.Evaluation.{QueriesTo};
+ghost use Rattle.lc_eval.specs.Built.{bound_query_of};
+ghost use Rattle.lc_eval.specs.Value.{rows_of};
+ghost use Rattle.lc_eval.specs.Evaluated.{AffectsOrFails};
 ghost use Rattle.lc_eval.specs.Scan.{IsLeastLine};
 
-use crate::arguments::lists_and_field;
-use crate::constructors::refused_as;
+use crate::calls::BoundQuery;
 use crate::least;
-use crate::refusals::{Refused, Stop};
+use crate::refusals::{Stop, TOO_MANY_WORDS, fault, refused_as};
 use crate::rows::{rows_of, words_of};
-use crate::values::Value;
+use crate::statement::Effect;
 use lc_basic::generator_mat;
 use lc_code::Code;
 use lc_field::{Field, NoMemory};
@@ -51,26 +51,29 @@ fn line_of(alloc: Global, code: &Code) -> Result<Vec<u8>, NoMemory>
     }
 }
 
-/// The line of the first nonzero word, by weight and then lexicographically, among the sums of multiples of rows over a field.
-///
-/// Refused as a generator matrix is; then where the rows have more than 2^16 words. The words are those of the code of the rows,
-/// whose own rows are at most as many, so these are scanned.
-pub(crate) fn least_word(alloc: Global, place: usize, arguments: &[Value]) -> Result<Vec<u8>, Stop>
-    requires { FitKinds (kind.Lists ∷ kind.Field ∷ []) (values_of arguments.now) }
-    ensures { AnswersLine result (QueriesTo call.LeastWord place (values_of arguments.now)) }
+/// What a query does of its arguments, or its refusal, at this place.
+pub(crate) fn answer(alloc: Global, place: usize, query: BoundQuery<'_>) -> Result<Effect, Stop>
+    ensures { AffectsOrFails result (QueriesTo place (bound_query_of query.entry)) }
 {
-    let (rows, field) = lists_and_field(arguments);
+    match query {
+        BoundQuery::LeastWord(rows, field) => least_word(alloc, place, rows, field),
+    }
+}
+
+// The line of the first nonzero word, by weight and then lexicographically, among the sums of multiples of rows over a field.
+//
+// Refused as a generator matrix is; then if the rows have more than 2^16 words. The words are those of the code of the rows,
+// whose own rows are at most as many, so these are scanned.
+fn least_word(alloc: Global, place: usize, rows: &[Vec<u64>], field: &Field) -> Result<Effect, Stop>
+    ensures { AffectsOrFails result (QueriesTo place (bound.least_word (rows_of rows.now) field.now)) }
+{
     let words = words_of(alloc, rows)?;
     let code = match generator_mat(alloc, &words, field) {
         Ok(code) => code,
         Err(refusal) => return Err(refused_as(alloc, place, refusal)),
     };
     if has_too_many_words(field, rows.len()) {
-        return Err(Stop::Refused(Refused {
-            number: 16,
-            place,
-            values: Vec::new(alloc),
-        }));
+        return Err(Stop::Refused(fault(alloc, TOO_MANY_WORDS, place)));
     }
-    Ok(line_of(alloc, &code)?)
+    Ok(Effect::Prints(line_of(alloc, &code)?))
 }

@@ -1,13 +1,26 @@
 //! Why an expression has no value.
-ghost use Rattle.std.specs.Prelude.{◌≡◌};
+ghost use Rattle.std.specs.Prelude.{◌≡◌, Err};
 ghost use Rattle.lc_language.specs.Evaluation.{refused, refuse_at};
 ghost use Rattle.lc_eval.specs.Value.{refused_of};
+ghost use Rattle.lc_eval.specs.Made.{IsMade};
 ghost use Rattle.lc_eval.specs.declared.refusals.Stop.TheVariants as stop;
 
+use lc_code::CodeRefusal;
 use lc_field::NoMemory;
 use std::alloc::{AllocError, AllocFailed, Global};
 
-/// A fault: its number, its place in the script, and the numbers that are printed behind it.
+/// No field has this number of elements.
+pub(crate) const NOT_A_FIELD: u8 = 1;
+/// There are more words than a query looks at.
+pub(crate) const TOO_MANY_WORDS: u8 = 16;
+/// A name that no value and no call has.
+pub(crate) const UNKNOWN_NAME: u8 = 44;
+/// A value that is not of the kind that is asked for, or a query inside an expression.
+pub(crate) const MISFIT: u8 = 45;
+/// A call with a number of arguments that it doesn't take.
+pub(crate) const WRONG_COUNT: u8 = 46;
+
+/// A fault: its number, its place in the script, and the numbers that are printed after it.
 #[derive(Drop)]
 pub(crate) struct Refused {
     pub(crate) number: u8,
@@ -20,11 +33,11 @@ pub(crate) struct Refused {
 pub(crate) enum Stop {
     /// The script has a fault there.
     Refused(Refused),
-    /// Memory was refused.
+    /// No memory is left.
     NoMemory,
 }
 
-// The fault with this number at this place, with no numbers behind it.
+/// The fault with this number at this place, with no numbers after it.
 #[tactic(auto, unfolding(lc_language::specs::Evaluation::refuse_at))]
 pub(crate) fn fault(alloc: Global, number: u8, place: usize) -> Refused
     ensures { refused (refused_of result) ≡ refuse_at number place }
@@ -33,6 +46,24 @@ pub(crate) fn fault(alloc: Global, number: u8, place: usize) -> Refused
         number,
         place,
         values: Vec::new(alloc),
+    }
+}
+
+/// The refusal of a constructor of codes, at this place.
+#[tactic(auto, unfolding(lc_language::specs::Refusal::refusal_from, lc_language::specs::Refusal::refuse, lc_language::specs::Evaluation::refuse_call))]
+pub(crate) fn refused_as(alloc: Global, place: usize, refusal: CodeRefusal) -> Stop
+    ensures { IsMade (Err refusal) place (Err result) }
+{
+    if refusal == CodeRefusal::NoMemory {
+        return Stop::NoMemory;
+    }
+    match refusal.values(alloc) {
+        Ok(values) => Stop::Refused(Refused {
+            number: refusal.number(),
+            place,
+            values,
+        }),
+        Err(_) => Stop::NoMemory,
     }
 }
 

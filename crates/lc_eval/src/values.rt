@@ -1,20 +1,25 @@
 //! The values of a script.
-use lc_code::Code;
-use lc_field::Field;
+ghost use Rattle.std.specs.Prelude.{◌≡◌, map, option_map, IfOk};
+ghost use Rattle.lc_language.specs.Value.{number_in, field_in, numbers_in, lists_in, code_in};
+ghost use Rattle.lc_eval.specs.Value.{value_of, formed_of};
 
-/// The value of an expression.
+use lc_code::FormedCode;
+use lc_field::{Field, NoMemory};
+use std::rc::Rc;
+
+/// The value of an expression. What is large is shared by all that have the value.
 #[derive(Drop)]
 pub(crate) enum Value {
     /// a number
     Number(u64),
     /// a field
-    Field(Field),
+    Field(Rc<Field>),
     /// a list of numbers; the empty list is a list of lists too
-    Numbers(Vec<u64>),
+    Numbers(Rc<Vec<u64>>),
     /// a list of lists of numbers
-    Lists(Vec<Vec<u64>>),
+    Lists(Rc<Vec<Vec<u64>>>),
     /// a code
-    Code(Code),
+    Code(Rc<FormedCode>),
     /// a truth value
     Truth(bool),
 }
@@ -24,4 +29,77 @@ pub(crate) enum Value {
 pub(crate) struct Binding {
     pub(crate) name: String,
     pub(crate) value: Value,
+}
+
+impl Value {
+    /// The number that the value is.
+    #[tactic(auto, unfolding(lc_language::specs::Value::number_in))]
+    pub(crate) fn number(&self) -> Option<u64>
+        ensures { result ≡ number_in (value_of self.now) }
+    {
+        match self {
+            Value::Number(n) => Some(*n),
+            _ => None,
+        }
+    }
+
+    /// The field that the value is.
+    #[tactic(auto, unfolding(lc_language::specs::Value::field_in))]
+    pub(crate) fn field(&self) -> Option<&Field>
+        ensures { option_map (λ f. f.now) result ≡ field_in (value_of self.now) }
+    {
+        match self {
+            Value::Field(field) => Some(field),
+            _ => None,
+        }
+    }
+
+    /// The list of numbers that the value is.
+    #[tactic(auto, unfolding(lc_language::specs::Value::numbers_in))]
+    pub(crate) fn numbers(&self) -> Option<&[u64]>
+        ensures { option_map (λ u. u.now) result ≡ numbers_in (value_of self.now) }
+    {
+        match self {
+            Value::Numbers(numbers) => Some(numbers.as_slice()),
+            Value::Lists(lists) if lists.is_empty() => Some(&[]),
+            _ => None,
+        }
+    }
+
+    /// The list of lists of numbers that the value is.
+    #[tactic(auto, unfolding(lc_language::specs::Value::lists_in))]
+    pub(crate) fn lists(&self) -> Option<&[Vec<u64>]>
+        ensures { option_map (λ rows. map (λ row. row.items) rows.now) result ≡ lists_in (value_of self.now) }
+    {
+        match self {
+            Value::Lists(lists) => Some(lists.as_slice()),
+            Value::Numbers(numbers) if numbers.is_empty() => Some(&[]),
+            _ => None,
+        }
+    }
+
+    /// The code that the value is.
+    #[tactic(auto, unfolding(lc_language::specs::Value::code_in))]
+    pub(crate) fn code(&self) -> Option<&FormedCode>
+        ensures { option_map (λ c. formed_of c.now) result ≡ code_in (value_of self.now) }
+    {
+        match self {
+            Value::Code(code) => Some(code),
+            _ => None,
+        }
+    }
+
+    /// The same value, which shares what is large.
+    pub(crate) fn share(&self) -> Result<Value, NoMemory>
+        ensures { IfOk result (λ v. value_of v ≡ value_of self.now) }
+    {
+        match self {
+            Value::Number(n) => Ok(Value::Number(*n)),
+            Value::Field(field) => Ok(Value::Field(field.clone()?)),
+            Value::Numbers(numbers) => Ok(Value::Numbers(numbers.clone()?)),
+            Value::Lists(lists) => Ok(Value::Lists(lists.clone()?)),
+            Value::Code(code) => Ok(Value::Code(code.clone()?)),
+            Value::Truth(holds) => Ok(Value::Truth(*holds)),
+        }
+    }
 }

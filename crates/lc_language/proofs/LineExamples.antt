@@ -18,7 +18,7 @@ use Rattle.lc_language.specs.declared.QueryCall.{QueryCall}
 use Rattle.lc_language.specs.declared.QueryCall.TheVariants.{LeastWord}
 use Rattle.lc_language.specs.Bound.{bind, bind_query}
 use Rattle.lc_grammar.specs.declared.TokenKind.TheVariants.{Name, Assign, Open, Close, Number, End}
-use Rattle.lc_language.specs.Value.{Value, number, field, numbers, lists, truth, nothing}
+use Rattle.lc_language.specs.Value.{Value, number, field, numbers, lists, truth, nothing, number_in, field_in, numbers_in, lists_in, code_in}
 use Rattle.lc_formats.specs.Text.{bracketed, numbers_text, lists_text, line, spaced, with_values}
 use Rattle.lc_language.specs.Print.{field_text, code_text, value_text, value_line, fault_line}
 use Rattle.lc_grammar.specs.Token.{is_blank, is_letter, is_digit, is_name_byte, number_from, number_of, widest, cut_of, assign_at, sign_at, token_at, script_end, bad_token, too_wide, ended, token_first, is_number, comment_length, scan_within, scan}
@@ -55,21 +55,21 @@ unfolding is_blank is_letter is_digit is_name_byte number_from number_of widest 
 bad_byte = refl
 
 pub not_a_field : call_refusal Gf (number 6 ∷ []) ≡ Some (refuse 1 [])
-unfolding shape shape_of size is_symbol below refuse when first_of refusal_number refusal_values refuse_if refusal_from from_codes is_length too_large bad_length bad_argument are_elements have_elements are_equally_long columns_of matrix_refusals length_refusals hamming_refusals all_fields hamming_length refusals_of refusal_of query_refusals_of query_refusal_of bind bind_query call_refusal query_refusal
+unfolding shape shape_of size is_symbol below refuse when first_of refusal_number refusal_values refuse_if refusal_from from_codes is_length too_large bad_length bad_argument are_elements have_elements are_equally_long columns_of matrix_refusals length_refusals hamming_refusals all_fields hamming_length refusals_of refusal_of query_refusals_of query_refusal_of bind bind_query call_refusal query_refusal number_in field_in numbers_in lists_in code_in
 not_a_field = refl
 
 pub short_hamming : call_refusal HammingCode (number 1 ∷ field Gf2 ∷ []) ≡ Some (refuse 3 (1 ∷ []))
-unfolding shape shape_of size is_symbol below refuse when first_of refusal_number refusal_values refuse_if refusal_from from_codes is_length too_large bad_length bad_argument are_elements have_elements are_equally_long columns_of matrix_refusals length_refusals hamming_refusals all_fields hamming_length refusals_of refusal_of query_refusals_of query_refusal_of bind bind_query call_refusal query_refusal
+unfolding shape shape_of size is_symbol below refuse when first_of refusal_number refusal_values refuse_if refusal_from from_codes is_length too_large bad_length bad_argument are_elements have_elements are_equally_long columns_of matrix_refusals length_refusals hamming_refusals all_fields hamming_length refusals_of refusal_of query_refusals_of query_refusal_of bind bind_query call_refusal query_refusal number_in field_in numbers_in lists_in code_in
 short_hamming = refl
 
 pub large_field : call_refusal HammingCode (number 2 ∷ field Gf25 ∷ []) ≡ Some (refuse 17 [])
-unfolding shape shape_of size is_symbol below refuse when first_of refusal_number refusal_values refuse_if refusal_from from_codes is_length too_large bad_length bad_argument are_elements have_elements are_equally_long columns_of matrix_refusals length_refusals hamming_refusals all_fields hamming_length refusals_of refusal_of query_refusals_of query_refusal_of bind bind_query call_refusal query_refusal
+unfolding shape shape_of size is_symbol below refuse when first_of refusal_number refusal_values refuse_if refusal_from from_codes is_length too_large bad_length bad_argument are_elements have_elements are_equally_long columns_of matrix_refusals length_refusals hamming_refusals all_fields hamming_length refusals_of refusal_of query_refusals_of query_refusal_of bind bind_query call_refusal query_refusal number_in field_in numbers_in lists_in code_in
 large_field = refl
 
 pub long_repetition : map (λ n. call_refusal RepetitionCode (number n ∷ field Gf2 ∷ [])) (0 ∷ 1 ∷ 255 ∷ 256 ∷ []) ≡ Some (refuse 2 []) ∷ None ∷ None ∷ Some (refuse 2 []) ∷ []
-unfolding shape shape_of size is_symbol below refuse when first_of refusal_number refusal_values refuse_if refusal_from from_codes is_length too_large bad_length bad_argument are_elements have_elements are_equally_long columns_of matrix_refusals length_refusals hamming_refusals all_fields hamming_length refusals_of refusal_of query_refusals_of query_refusal_of bind bind_query call_refusal query_refusal
+unfolding shape shape_of size is_symbol below refuse when first_of refusal_number refusal_values refuse_if refusal_from from_codes is_length too_large bad_length bad_argument are_elements have_elements are_equally_long columns_of matrix_refusals length_refusals hamming_refusals all_fields hamming_length refusals_of refusal_of query_refusals_of query_refusal_of bind bind_query call_refusal query_refusal number_in field_in numbers_in lists_in code_in
 long_repetition = refl
 
 pub too_large_entry : query_refusal LeastWord (lists ((1 ∷ 2 ∷ []) ∷ []) ∷ field Gf2 ∷ []) ≡ Some (refuse 3 (1 ∷ []))
-unfolding shape shape_of size is_symbol below refuse when first_of refusal_number refusal_values refuse_if refusal_from from_codes is_length too_large bad_length bad_argument are_elements have_elements are_equally_long columns_of matrix_refusals length_refusals hamming_refusals all_fields hamming_length refusals_of refusal_of query_refusals_of query_refusal_of bind bind_query call_refusal query_refusal
+unfolding shape shape_of size is_symbol below refuse when first_of refusal_number refusal_values refuse_if refusal_from from_codes is_length too_large bad_length bad_argument are_elements have_elements are_equally_long columns_of matrix_refusals length_refusals hamming_refusals all_fields hamming_length refusals_of refusal_of query_refusals_of query_refusal_of bind bind_query call_refusal query_refusal number_in field_in numbers_in lists_in code_in
 too_large_entry = refl

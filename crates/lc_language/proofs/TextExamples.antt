@@ -12,13 +12,13 @@ use Rattle.lc_algebra.specs.declared.FieldName.TheVariants.{Gf2}
 use Rattle.lc_grammar.specs.Token.{ended, scan_within, scan}
 use Rattle.lc_grammar.specs.Tree.{Exprs, number, name, call, list, none, more, Statement, place_of as place_of_expr, count_of}
 use Rattle.lc_language.specs.Value as value
-use Rattle.lc_language.specs.Value.{is_kind, as_kind, value_named}
+use Rattle.lc_language.specs.Value.{number_in, field_in, numbers_in, lists_in, code_in, is_kind, value_named}
 use Rattle.lc_formats.specs.Text.{same_bytes, line}
 use Rattle.lc_language.specs.Calls.{value_name, query_name, name_of, one, value_signatures, query_signatures, signatures, all_calls, call_named, signature_for}
 use Rattle.lc_language.specs.Bound.{bind}
 use Rattle.lc_language.specs.Refusal.{first_of, refusals_of, refusal_of}
 use Rattle.lc_language.specs.Print.{value_text, value_line}
-use Rattle.lc_language.specs.Evaluation.{gives, all_give, one_refused, refuse_at, first_misfit, as_kinds, listed_with, list_value, Evaluates, EvaluatesAll, prints, fails, fail_with, Steps, IsText}
+use Rattle.lc_language.specs.Evaluation.{gives, all_give, one_refused, refuse_at, first_misfit, listed_with, list_value, Evaluates, EvaluatesAll, prints, fails, fail_with, Steps, IsText}
 
 pub text_of_nothing : (budget : ℕ) → IsText all_calls budget [] [] false
 unfolding scan scan_within ended
@@ -51,7 +51,7 @@ weight_of elements = record { target = None; expr = call 0 (codes "Weight") (mor
 
 -- Weight([0,5]);
 pub printed_weight : Steps all_calls [] (weight_of (more (number 8 0) (more (number 10 5) none))) (prints (codes "1" ++ 10 ∷ []))
-unfolding decimal_digits same_bytes value_name query_name name_of one value_signatures query_signatures signatures all_calls call_named signature_for count_of is_kind as_kind first_misfit as_kinds listed_with list_value refuse_at first_of refusals_of refusal_of bind value_text line value_line fail_with
+unfolding decimal_digits same_bytes value_name query_name name_of one value_signatures query_signatures signatures all_calls call_named signature_for count_of is_kind first_misfit listed_with list_value refuse_at first_of refusals_of refusal_of bind value_text line value_line fail_with number_in field_in numbers_in lists_in code_in
 printed_weight =
     let list_gives : Evaluates all_calls [] (list 7 (more (number 8 0) (more (number 10 5) none))) (gives (value.numbers (0 ∷ 5 ∷ []))) =
     (gives (value.number 0), refl, (gives (value.number 5), refl, refl)) in

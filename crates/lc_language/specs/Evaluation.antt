@@ -3,6 +3,7 @@
 --   Refused                      a fault: its number, its place and the numbers after it
 --   Outcome, Outcomes            the value of an expression, or the fault; the values of several, or the first fault
 --   first_misfit kinds es vs     the place of the first argument whose value is not of its kind
+--   misfit_place place kinds es vs      that place, if there is one
 --   Listed                       what the elements of a list so far make
 --   listed_with found v          the same with one element more, if it fits; the first says whether they are numbers or lists
 --   list_value found             the list
@@ -31,7 +32,7 @@ use Rattle.lc_language.specs.declared.Kind.{Kind}
 use Rattle.lc_grammar.specs.Tree.{Expr, Exprs, number, name, call, list, none, more, Statement, place_of, count_of}
 use Rattle.lc_grammar.specs.Grammar.{Reads, Fault, IsFault}
 use Rattle.lc_language.specs.Value as value
-use Rattle.lc_language.specs.Value.{Value, is_kind, as_kind, Binding, value_named}
+use Rattle.lc_language.specs.Value.{Value, is_kind, Binding, value_named}
 use Rattle.lc_language.specs.Calls.{call_named, signature_for}
 use Rattle.lc_language.specs.Bound.{BoundCall, bind, BoundQuery, algebraic_decode, least_word, minimum_distance, certificate, scan_certificate, weight_distribution, alternant_certificate, nearest_word, bind_query}
 use Rattle.lc_language.specs.Refusal.{Refusal, refusal_of, query_refusal_of}
@@ -64,9 +65,9 @@ unfoldable pub first_misfit : List Kind → Exprs → List Value → Option ℕ
 first_misfit (kind ∷ kinds) (more e es) (v ∷ vs) = elim (is_kind kind v) as (λ _. Option ℕ) [ true ↦ first_misfit kinds es vs | false ↦ Some (place_of e) ]
 first_misfit _ _ _ = None
 
-unfoldable pub as_kinds : List Kind → List Value → List Value
-as_kinds (kind ∷ kinds) (v ∷ vs) = as_kind kind v ∷ as_kinds kinds vs
-as_kinds _ _ = []
+-- the place of the first argument that is not of its kind; the place of the call if all are, which is never asked for
+unfoldable pub misfit_place : ℕ → List Kind → Exprs → List Value → ℕ
+misfit_place place kinds es vs = elim (first_misfit kinds es vs) as (λ _. ℕ) [ Some p ↦ p | None ↦ place ]
 
 -- what the elements so far make: nothing yet, numbers, or lists of numbers
 pub data Listed : Type 0 where
@@ -101,10 +102,10 @@ AppliesTo place b o =
     ((IsNotDivisor b × (o ≡ refuse_at 4 place)) ⊎ (¬ IsNotDivisor b × ((v : Value) × Gives b v × (o ≡ gives v))))
     (λ r. o ≡ refuse_call place r)
 
--- arguments of the call's kinds bind it
+-- arguments of the call's kinds bind it; else the first that is not of its kind is the fault
 abbrev pub Applies : ValueCall → ℕ → List Kind → Exprs → Outcomes → Outcome → Type 0
 Applies c place kinds es (one_refused r) o = o ≡ refused r
-Applies c place kinds es (all_give vs) o = MatchOption (first_misfit kinds es vs) (MatchOption (bind c (as_kinds kinds vs)) ⊥ (λ b. AppliesTo place b o)) (λ p. o ≡ refuse_at 45 p)
+Applies c place kinds es (all_give vs) o = MatchOption (bind c vs) (o ≡ refuse_at 45 (misfit_place place kinds es vs)) (λ b. AppliesTo place b o)
 
 -- a value, and then those of the rest or its first fault
 abbrev pub Joins : Value → Outcomes → Outcomes → Type 0
@@ -183,9 +184,7 @@ QueriesTo place b step = MatchOption (query_refusal_of b) (Queries b step) (λ r
 abbrev pub QueriesAll : QueryCall → ℕ → List Kind → Exprs → Outcomes → Step → Type 0
 QueriesAll c place kinds es (one_refused r) step = step ≡ fails r
 QueriesAll c place kinds es (all_give vs) step =
-    MatchOption (first_misfit kinds es vs)
-    (MatchOption (bind_query c (as_kinds kinds vs)) ⊥ (λ b. QueriesTo place b step))
-    (λ p. step ≡ fail_with (refuse_at 45 p))
+    MatchOption (bind_query c vs) (step ≡ fail_with (refuse_at 45 (misfit_place place kinds es vs))) (λ b. QueriesTo place b step)
 
 -- the query of a call, if it is one
 abbrev pub as_query : Option Call → Option QueryCall

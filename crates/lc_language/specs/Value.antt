@@ -1,11 +1,14 @@
 -- The values of a script.
 --   Value             a number, a field, a list of numbers, a list of lists of numbers, a code with its alternant form if it
 --                     has one, a truth value, or the nothing that a decoder answers if no word is near enough
---   is_kind kind v    whether the value is of the kind; the empty list is both a list of numbers and a list of lists
---   as_kind kind v    the value, with the empty list as the list that the kind asks for
+--   number_in v, field_in v, numbers_in v, lists_in v     the number, field or list that the value is, if it is one; the empty
+--                     list is both a list of numbers and a list of lists
+--   FormedCode        a code with its alternant form, if it has one
+--   code_in v         the code that the value is
+--   is_kind kind v    whether the value is of the kind
 --   Binding           a name and the value that it was assigned
 --   value_named x env     the value that a name was assigned last
-use Rattle.std.specs.Prelude.{ℕ, Bool, true, false, List, [], ◌∷◌, Option, Some, None, if◌then◌else◌}
+use Rattle.std.specs.Prelude.{ℕ, Bool, true, false, List, [], ◌∷◌, Option, Some, None, is_some, if◌then◌else◌}
 use Rattle.lc_algebra.specs.declared.FieldName.{FieldName}
 use Rattle.lc_algebra.specs.Matrix.{Matrix}
 use Rattle.lc_constructions.specs.Alternant.{AlternantForm}
@@ -22,20 +25,38 @@ pub data Value : Type 0 where
   truth : Bool → Value
   nothing : Value
 
-unfoldable pub is_kind : Kind → Value → Bool
-is_kind Number (number _) = true
-is_kind Field (field _) = true
-is_kind Numbers (numbers _) = true
-is_kind Numbers (lists []) = true
-is_kind Lists (lists _) = true
-is_kind Lists (numbers []) = true
-is_kind Code (code _ _) = true
-is_kind _ _ = false
+unfoldable pub number_in : Value → Option ℕ
+number_in (number n) = Some n
+number_in _ = None
 
-unfoldable pub as_kind : Kind → Value → Value
-as_kind Numbers (lists []) = numbers []
-as_kind Lists (numbers []) = lists []
-as_kind _ v = v
+unfoldable pub field_in : Value → Option FieldName
+field_in (field f) = Some f
+field_in _ = None
+
+unfoldable pub numbers_in : Value → Option (List ℕ)
+numbers_in (numbers u) = Some u
+numbers_in (lists []) = Some []
+numbers_in _ = None
+
+unfoldable pub lists_in : Value → Option (List (List ℕ))
+lists_in (lists rows) = Some rows
+lists_in (numbers []) = Some []
+lists_in _ = None
+
+pub record FormedCode : Type 0 where
+  pub code : Matrix
+  pub form : Option AlternantForm
+
+unfoldable pub code_in : Value → Option FormedCode
+code_in (code C form) = Some (record { code = C; form = form })
+code_in _ = None
+
+unfoldable pub is_kind : Kind → Value → Bool
+is_kind Number v = is_some (number_in v)
+is_kind Field v = is_some (field_in v)
+is_kind Numbers v = is_some (numbers_in v)
+is_kind Lists v = is_some (lists_in v)
+is_kind Code v = is_some (code_in v)
 
 pub record Binding : Type 0 where
   pub name : List ℕ

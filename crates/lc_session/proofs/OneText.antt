@@ -7,24 +7,28 @@
 --   text_one                     and so have bytes
 --   one_text                     by the calls that are built
 use Rattle.std.proofs.Common.{◌≡◌, ℕ, ◌⊎◌, Bool, true, false, cond, List, [], ◌∷◌, ◌++◌, Option, Some, None, refl, sym, ap, subst, ◌∙◌, ⊎_elim}
-use Rattle.std.specs.Prelude.{IsTrue, MatchOption, find}
+use Rattle.std.specs.Prelude.{MatchOption, find}
 use Rattle.std.specs.List.{AllByRecursion}
 use Rattle.lc_parse.proofs.Outcomes.{one_script, one_fault, no_both}
 use Rattle.lc_language.specs.declared.Call.{Call}
+use Rattle.lc_language.specs.declared.Call.TheVariants.{Value as Value_, Query}
+use Rattle.lc_language.specs.declared.ValueCall.{ValueCall}
+use Rattle.lc_language.specs.declared.QueryCall.{QueryCall}
 use Rattle.lc_language.specs.declared.Kind.{Kind}
 use Rattle.lc_grammar.specs.Tree.{Expr, Exprs, number, name, call, list, none, more, Statement, place_of, count_of}
 use Rattle.lc_grammar.specs.Grammar.{Reads, Fault, IsFault}
 use Rattle.lc_language.specs.Value as value
 use Rattle.lc_language.specs.Value.{Value, Binding, value_named}
-use Rattle.lc_language.specs.Calls.{call_named, signature_for, is_query}
-use Rattle.lc_language.specs.Refusal.{refusal_of}
+use Rattle.lc_language.specs.Calls.{call_named, signature_for}
+use Rattle.lc_language.specs.Bound.{BoundCall, bind, BoundQuery, bind_query}
+use Rattle.lc_language.specs.Refusal.{refusal_of, query_refusal_of}
 use Rattle.lc_language.specs.Meaning.{Gives, IsNotDivisor}
 use Rattle.lc_language.specs.Print.{fault_line}
 use Rattle.lc_language.specs.Query.{query_line, distribution_line, near_line}
-use Rattle.lc_language.specs.Evaluation.{Outcome, gives, refused, Outcomes, all_give, one_refused, refuse_at, refuse_call, first_misfit, as_kinds, Listed, nothing_yet, listed_with, list_value, ListGoesOn, AppliesTo, Applies, Joins, GoesOn, Evaluates, EvaluatesAll, EvaluatesList, Step, binds, prints, asks, counts, nears, fails, Queries, fail_with, QueriesAll, query_of, Assigns, StepsAsQuery, StepsOf, Steps, Prints, Runs, IsText}
+use Rattle.lc_language.specs.Evaluation.{Outcome, gives, refused, Outcomes, all_give, one_refused, refuse_at, refuse_call, misfit_place, Listed, nothing_yet, listed_with, list_value, ListGoesOn, AppliesTo, Applies, CallGives, Joins, GoesOn, Evaluates, EvaluatesAll, EvaluatesList, Step, binds, prints, asks, counts, nears, fails, Queries, fail_with, QueriesTo, QueriesAll, as_query, query_of, Assigns, StepsAsQuery, StepsOf, Steps, Prints, Runs, IsText}
 use Rattle.lc_eval.specs.Built.{built_calls}
 use Rattle.lc_session.proofs.AtMostOne.{One, Both, one_value, one_option, one_either, one_some}
-use Rattle.lc_session.proofs.OneValue.{IsDeterminate, built_one}
+use Rattle.lc_session.proofs.OneValue.{IsOneValued, IsOneAnswered, IsDeterminate, built_one}
 
 -- ---- the calls of a table
 
@@ -54,41 +58,31 @@ list_goes_on_one : (e : Expr) (found : Listed) (Later : Listed → Outcome → T
 list_goes_on_one e found Later h (refused r) = one_value (refused r)
 list_goes_on_one e found Later h (gives v) = one_option (listed_with found v) (λ o. o ≡ refuse_at 45 (place_of e)) Later (one_value (refuse_at 45 (place_of e))) (λ next k. h next)
 
-applies_to_one : (c : Call) (place : ℕ) (arguments : List Value) → IsDeterminate c → One (AppliesTo c place arguments)
-applies_to_one c place arguments d =
-    one_option (refusal_of c arguments)
-    (λ o. (IsNotDivisor c arguments × (o ≡ refuse_at 4 place)) ⊎ (¬ IsNotDivisor c arguments × ((v : Value) × Gives c arguments v × (o ≡ gives v))))
+applies_to_one : (place : ℕ) (b : BoundCall) → One (Gives b) → One (AppliesTo place b)
+applies_to_one place b d =
+    one_option (refusal_of b)
+    (λ o. (IsNotDivisor b × (o ≡ refuse_at 4 place)) ⊎ (¬ IsNotDivisor b × ((v : Value) × Gives b v × (o ≡ gives v))))
     (λ r o. o ≡ refuse_call place r)
-    (one_either (IsNotDivisor c arguments) (¬ IsNotDivisor c arguments)
-    (λ o. o ≡ refuse_at 4 place) (λ o. (v : Value) × Gives c arguments v × (o ≡ gives v))
+    (one_either (IsNotDivisor b) (¬ IsNotDivisor b)
+    (λ o. o ≡ refuse_at 4 place) (λ o. (v : Value) × Gives b v × (o ≡ gives v))
     (λ a b. b a)
     (one_value (refuse_at 4 place))
-    (one_some (Gives c arguments) (λ v o. o ≡ gives v) (d.gives_one arguments) (λ v. one_value (gives v))))
+    (one_some (Gives b) (λ v o. o ≡ gives v) d (λ v. one_value (gives v))))
     (λ r e. one_value (refuse_call place r))
 
-applies_one : (c : Call) (place : ℕ) (kinds : List Kind) (es : Exprs) → IsDeterminate c → (os : Outcomes) → One (Applies c place kinds es os)
+applies_one : (c : ValueCall) (place : ℕ) (kinds : List Kind) (es : Exprs) → IsOneValued c → (os : Outcomes) → One (Applies c place kinds es os)
 applies_one c place kinds es d (one_refused r) = one_value (refused r)
 applies_one c place kinds es d (all_give vs) =
-    one_option (first_misfit kinds es vs) (AppliesTo c place (as_kinds kinds vs)) (λ p o. o ≡ refuse_at 45 p)
-    (applies_to_one c place (as_kinds kinds vs) d)
-    (λ p e. one_value (refuse_at 45 p))
+    one_option (bind c vs) (λ o. o ≡ refuse_at 45 (misfit_place place kinds es vs)) (λ b o. AppliesTo place b o)
+    (one_value (refuse_at 45 (misfit_place place kinds es vs)))
+    (λ b e. applies_to_one place b (d vs b e))
 
--- what a call that the table has gives, by the outcomes of its arguments
-abbrev Counted : ℕ → Exprs → (Outcomes → Type 0) → Call → Outcome → Type 0
-Counted place es Arguments c o = MatchOption (signature_for c (count_of es)) (o ≡ refuse_at 46 place) (λ kinds. (os : Outcomes) × Arguments os × Applies c place kinds es os o)
-
-abbrev Called : ℕ → Exprs → (Outcomes → Type 0) → Call → Outcome → Type 0
-Called place es Arguments c o = (IsTrue (is_query c) × (o ≡ refuse_at 45 place)) ⊎ ((is_query c ≡ false) × Counted place es Arguments c o)
-
-called_one : (place : ℕ) (es : Exprs) (Arguments : Outcomes → Type 0) (c : Call) → IsDeterminate c → One Arguments → One (Called place es Arguments c)
-called_one place es Arguments c d h =
-    one_either (IsTrue (is_query c)) (is_query c ≡ false)
-    (λ o. o ≡ refuse_at 45 place) (Counted place es Arguments c)
-    (λ a b. let e : true ≡ false = sym a ∙ b in absurd (cc))
-    (one_value (refuse_at 45 place))
-    (one_option (signature_for c (count_of es)) (λ o. o ≡ refuse_at 46 place) (λ kinds o. (os : Outcomes) × Arguments os × Applies c place kinds es os o)
+called_one : (place : ℕ) (es : Exprs) (Arguments : Outcomes → Type 0) (c : Call) → IsDeterminate c → One Arguments → One (CallGives c place es Arguments)
+called_one place es Arguments (Query c) d h = one_value (refuse_at 45 place)
+called_one place es Arguments (Value_ c) d h =
+    one_option (signature_for (Value_ c) (count_of es)) (λ o. o ≡ refuse_at 46 place) (λ kinds o. (os : Outcomes) × Arguments os × Applies c place kinds es os o)
     (one_value (refuse_at 46 place))
-    (λ kinds e. one_some Arguments (Applies c place kinds es) h (applies_one c place kinds es d)))
+    (λ kinds e. one_some Arguments (Applies c place kinds es) h (applies_one c place kinds es d))
 
 mutual
   pub evaluates_one : (table : List Call) (env : List Binding) → AllByRecursion IsDeterminate table → (e : Expr) → One (Evaluates table env e)
@@ -96,7 +90,7 @@ mutual
   evaluates_one table env h (name place x) = one_option (value_named x env) (λ o. o ≡ refuse_at 44 place) (λ v o. o ≡ gives v) (one_value (refuse_at 44 place)) (λ v e. one_value (gives v))
   evaluates_one table env h (list place es) = evaluates_list_one table env h es nothing_yet
   evaluates_one table env h (call place x es) =
-      one_option (call_named table x) (λ o. o ≡ refuse_at 44 place) (Called place es (EvaluatesAll table env es))
+      one_option (call_named table x) (λ o. o ≡ refuse_at 44 place) (λ c. CallGives c place es (EvaluatesAll table env es))
       (one_value (refuse_at 44 place))
       (λ c e. called_one place es (EvaluatesAll table env es) c (named_one IsDeterminate table x c h e) (evaluates_all_one table env h es))
 
@@ -116,20 +110,16 @@ mutual
 
 -- ---- statements
 
-queries_all_one : (c : Call) (place : ℕ) (kinds : List Kind) (es : Exprs) → IsDeterminate c → (os : Outcomes) → One (QueriesAll c place kinds es os)
+queries_all_one : (c : QueryCall) (place : ℕ) (kinds : List Kind) (es : Exprs) → IsOneAnswered c → (os : Outcomes) → One (QueriesAll c place kinds es os)
 queries_all_one c place kinds es d (one_refused r) = one_value (fails r)
 queries_all_one c place kinds es d (all_give vs) =
-    one_option (first_misfit kinds es vs)
-    (λ step. MatchOption (refusal_of c (as_kinds kinds vs)) (Queries c (as_kinds kinds vs) step) (λ r. step ≡ fail_with (refuse_call place r)))
-    (λ p step. step ≡ fail_with (refuse_at 45 p))
-    (one_option (refusal_of c (as_kinds kinds vs)) (Queries c (as_kinds kinds vs)) (λ r step. step ≡ fail_with (refuse_call place r))
-    (d.answers_one (as_kinds kinds vs))
-    (λ r e. one_value (fail_with (refuse_call place r))))
-    (λ p e. one_value (fail_with (refuse_at 45 p)))
+    one_option (bind_query c vs) (λ step. step ≡ fail_with (refuse_at 45 (misfit_place place kinds es vs))) (λ b step. QueriesTo place b step)
+    (one_value (fail_with (refuse_at 45 (misfit_place place kinds es vs))))
+    (λ b e. one_option (query_refusal_of b) (Queries b) (λ r step. step ≡ fail_with (refuse_call place r)) (d vs b e) (λ r e. one_value (fail_with (refuse_call place r))))
 
-steps_as_query_one : (table : List Call) (env : List Binding) → AllByRecursion IsDeterminate table → (c : Call) → IsDeterminate c → (e : Expr) → One (StepsAsQuery table env c e)
+steps_as_query_one : (table : List Call) (env : List Binding) → AllByRecursion IsDeterminate table → (c : QueryCall) → IsOneAnswered c → (e : Expr) → One (StepsAsQuery table env c e)
 steps_as_query_one table env h c d (call place x es) =
-    one_option (signature_for c (count_of es)) (λ step. step ≡ fail_with (refuse_at 46 place)) (λ kinds step. (os : Outcomes) × EvaluatesAll table env es os × QueriesAll c place kinds es os step)
+    one_option (signature_for (Query c) (count_of es)) (λ step. step ≡ fail_with (refuse_at 46 place)) (λ kinds step. (os : Outcomes) × EvaluatesAll table env es os × QueriesAll c place kinds es os step)
     (one_value (fail_with (refuse_at 46 place)))
     (λ kinds e. one_some (EvaluatesAll table env es) (QueriesAll c place kinds es) (evaluates_all_one table env h es) (queries_all_one c place kinds es d))
 steps_as_query_one table env h c d _ = λ s t a b. absurd a
@@ -138,16 +128,13 @@ assigns_one : (x : List ℕ) (o : Outcome) → One (Assigns x o)
 assigns_one x (gives v) = one_value (binds (record { name = x; value = v }))
 assigns_one x (refused r) = one_value (fails r)
 
-asked : (P : Call → Type 0) (b : Bool) (d c : Call) → P d → elim b as (λ _. Option Call) [ true ↦ Some d | false ↦ None ] ≡ Some c → P c
-asked P true d c p e = let same : d ≡ c = cc in subst P same p
-asked P false d c p e = absurd (cc)
+asked_one : (r : Option Call) (c : QueryCall) → ((d : Call) → r ≡ Some d → IsDeterminate d) → as_query r ≡ Some c → IsOneAnswered c
+asked_one None c h e = absurd (cc)
+asked_one (Some (Value_ d)) c h e = absurd (cc)
+asked_one (Some (Query d)) c h e = let same : d ≡ c = cc in subst IsOneAnswered same (h (Query d) refl)
 
-asked_of : (P : Call → Type 0) (r : Option Call) (c : Call) → ((d : Call) → r ≡ Some d → P d) → elim r as (λ _. Option Call) [ None ↦ None | Some d ↦ elim (is_query d) as (λ _. Option Call) [ true ↦ Some d | false ↦ None ] ] ≡ Some c → P c
-asked_of P None c h e = absurd (cc)
-asked_of P (Some d) c h e = asked P (is_query d) d c (h d refl) e
-
-query_one : (table : List Call) → AllByRecursion IsDeterminate table → (e : Expr) (c : Call) → query_of table e ≡ Some c → IsDeterminate c
-query_one table h (call place x es) c e = asked_of IsDeterminate (call_named table x) c (λ d k. named_one IsDeterminate table x d h k) e
+query_one : (table : List Call) → AllByRecursion IsDeterminate table → (e : Expr) (c : QueryCall) → query_of table e ≡ Some c → IsOneAnswered c
+query_one table h (call place x es) c e = asked_one (call_named table x) c (λ d k. named_one IsDeterminate table x d h k) e
 query_one table h (number place n) c e = absurd (cc)
 query_one table h (name place x) c e = absurd (cc)
 query_one table h (list place es) c e = absurd (cc)

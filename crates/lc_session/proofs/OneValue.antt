@@ -3,9 +3,10 @@
 --   span_lengths             the words of some rows are of one length
 --   least_one                the first nonzero word of some rows is one
 --   prints_least_one         what is printed of it
---   IsDeterminate c          the call gives one value, and has one answer
+--   of_one, of_two           what holds of a call of one argument or two, whatever they are, holds if it is bound
+--   IsDeterminate c          whatever its arguments, the call gives one value, or does one thing
 --   built_one                the calls that are built are such
-use Rattle.std.proofs.Common.{◌≡◌, ℕ, ◌^◌, ◌↔◌, Bool, true, false, List, [], ◌∷◌, length, None, Option, refl, sym, ap, ap₂, ◌∙◌, ⊎_elim, arith}
+use Rattle.std.proofs.Common.{◌≡◌, ℕ, ◌^◌, ◌↔◌, Bool, true, false, List, [], ◌∷◌, length, None, Some, Option, refl, sym, ap, ap₂, subst, ◌∙◌, ⊎_elim, arith}
 use Rattle.std.specs.Prelude.{IsTrue}
 use Rattle.std.specs.List.{AllByRecursion}
 use Rattle.lc_algebra.specs.declared.FieldName.{FieldName}
@@ -22,9 +23,14 @@ use Rattle.lc_constructions.specs.Basic.{GeneratedBy, IsConstant, IsAny, IsZero,
 use Rattle.lc_constructions.specs.Combined.{InDual}
 use Rattle.lc_constructions.specs.Alternant.{AlternantForm}
 use Rattle.lc_language.specs.declared.Call.{Call}
-use Rattle.lc_language.specs.declared.Call.TheVariants.{Gf, GeneratorMatCode, CheckMatCode, RepetitionCode, WholeSpaceCode, NullCode, HammingCode, ReedMullerCode, DualCode, Dimension, WordLength, GeneratorMat, CheckMat, Weight, IsCodeword, LeastWord}
-use Rattle.lc_language.specs.Value.{Value, number, field, numbers, lists, code, truth}
-use Rattle.lc_formats.specs.Entries.{columns_of}
+use Rattle.lc_language.specs.declared.Call.TheVariants.{Value as Value_, Query}
+use Rattle.lc_language.specs.declared.ValueCall.{ValueCall}
+use Rattle.lc_language.specs.declared.ValueCall.TheVariants.{Gf, GeneratorMatCode, CheckMatCode, RepetitionCode, WholeSpaceCode, NullCode, HammingCode, ReedMullerCode, DualCode, Dimension, WordLength, GeneratorMat, CheckMat, Weight, IsCodeword}
+use Rattle.lc_language.specs.declared.QueryCall.{QueryCall}
+use Rattle.lc_language.specs.declared.QueryCall.TheVariants.{LeastWord}
+use Rattle.lc_language.specs.Value.{Value, number, field, lists, code, truth, number_in, field_in, numbers_in, lists_in, code_in}
+use Rattle.lc_language.specs.Bound.{BoundCall, gf, generator_mat_code, check_mat_code, repetition_code, whole_space_code, null_code, hamming_code, reed_muller_code, dual_code, dimension, word_length, generator_mat, check_mat, weight_of, is_codeword, BoundQuery, least_word, given, with_one, with_two, bind, bind_query}
+use Rattle.lc_constructions.specs.Refusals.{columns_of}
 use Rattle.lc_language.specs.Meaning.{IsCodeValue, Gives}
 use Rattle.lc_language.specs.Print.{least_line, least_none_line}
 use Rattle.lc_language.specs.Evaluation.{Step, prints, PrintsLeast, Queries}
@@ -86,125 +92,115 @@ prints_least_one rows f = λ s t h k.
 
 -- ---- the calls
 
-pub record IsDeterminate (c : Call) : Type 0 where
-  pub gives_one : (arguments : List Value) → One (Gives c arguments)
-  pub answers_one : (arguments : List Value) → One (Queries c arguments)
-
 same_truth : (a b : Bool) (P : Type 0) → IsTrue a ↔ P → IsTrue b ↔ P → a ≡ b
 same_truth true true P h k = refl
 same_truth true false P h k = sym (k.1 (h.0 refl))
 same_truth false true P h k = h.1 (k.0 refl)
 same_truth false false P h k = refl
 
-one_gf : (arguments : List Value) → One (Gives Gf arguments)
-one_gf (number q ∷ []) = one_some (λ f. size f ≡ q) (λ f v. v ≡ field f) (λ f g a b. told_by_size f g (a ∙ sym b)) (λ f. one_value (field f))
-one_gf _ = λ v w a b. absurd a
+-- whatever its arguments, a call that is bound gives one value; a query does one thing
+abbrev pub IsOneValued : ValueCall → Type 0
+IsOneValued c = (vs : List Value) (b : BoundCall) → bind c vs ≡ Some b → One (Gives b)
 
-one_generator : (arguments : List Value) → One (Gives GeneratorMatCode arguments)
-one_generator (lists rows ∷ field f ∷ []) = made_one f (columns_of rows) (GeneratedBy f (columns_of rows) rows) None
-one_generator _ = λ v w a b. absurd a
+abbrev pub IsOneAnswered : QueryCall → Type 0
+IsOneAnswered c = (vs : List Value) (b : BoundQuery) → bind_query c vs ≡ Some b → One (Queries b)
 
-one_check : (arguments : List Value) → One (Gives CheckMatCode arguments)
-one_check (lists rows ∷ field f ∷ []) = made_one f (columns_of rows) (CheckedBy f rows) None
-one_check _ = λ v w a b. absurd a
+abbrev pub IsDeterminate : Call → Type 0
+IsDeterminate (Value_ c) = IsOneValued c
+IsDeterminate (Query c) = IsOneAnswered c
 
-one_repetition : (arguments : List Value) → One (Gives RepetitionCode arguments)
-one_repetition (number n ∷ field f ∷ []) = made_one f n IsConstant None
-one_repetition _ = λ v w a b. absurd a
+-- one argument, or two
+one_given : {A R : Type 0} (P : R → Type 0) (o : Option A) (make : A → Option R) → ((a : A) (r : R) → make a ≡ Some r → P r) → (r : R) → given o make ≡ Some r → P r
+one_given P None make h r e = absurd cc
+one_given P (Some a) make h r e = h a r e
 
-one_whole_space : (arguments : List Value) → One (Gives WholeSpaceCode arguments)
-one_whole_space (number n ∷ field f ∷ []) = made_one f n IsAny None
-one_whole_space _ = λ v w a b. absurd a
+from_some : {R : Type 0} (P : R → Type 0) (made r : R) → P made → Some made ≡ Some r → P r
+from_some P made r h e = let same : made ≡ r = cc in subst P same h
 
-one_null : (arguments : List Value) → One (Gives NullCode arguments)
-one_null (number n ∷ field f ∷ []) = made_one f n IsZero None
-one_null _ = λ v w a b. absurd a
+of_one : {A R : Type 0} (P : R → Type 0) (make : A → R) (in_a : Value → Option A) → ((a : A) → P (make a)) → (vs : List Value) (r : R) → with_one make in_a vs ≡ Some r → P r
+of_one P make in_a h [] r e = absurd cc
+of_one P make in_a h (v ∷ []) r e = one_given P (in_a v) (λ a. Some (make a)) (λ a r e. from_some P (make a) r (h a) e) r e
+of_one P make in_a h (v ∷ w ∷ vs) r e = absurd cc
 
-one_hamming : (arguments : List Value) → One (Gives HammingCode arguments)
-one_hamming (number r ∷ field f ∷ []) = made_one f (hamming_length (size f) r) (CheckedBy f (hamming_checks (size f) r)) None
-one_hamming _ = λ v w a b. absurd a
+of_two : {A B R : Type 0} (P : R → Type 0) (make : A → B → R) (in_a : Value → Option A) (in_b : Value → Option B) → ((a : A) (b : B) → P (make a b)) → (vs : List Value) (r : R) → with_two make in_a in_b vs ≡ Some r → P r
+of_two P make in_a in_b h [] r e = absurd cc
+of_two P make in_a in_b h (v ∷ []) r e = absurd cc
+of_two P make in_a in_b h (v ∷ w ∷ []) r e =
+    one_given P (in_a v) (λ a. given (in_b w) (λ b. Some (make a b)))
+    (λ a r e. one_given P (in_b w) (λ b. Some (make a b)) (λ b r e. from_some P (make a b) r (h a b) e) r e)
+    r e
+of_two P make in_a in_b h (v ∷ w ∷ x ∷ vs) r e = absurd cc
 
-one_reed_muller : (arguments : List Value) → One (Gives ReedMullerCode arguments)
-one_reed_muller (number r ∷ number m ∷ []) = made_one Gf2 (2 ^ m) (GeneratedBy Gf2 (2 ^ m) (reed_muller_rows r m)) None
-one_reed_muller _ = λ v w a b. absurd a
+abbrev Gives_one : BoundCall → Type 0
+Gives_one b = One (Gives b)
 
-one_dual : (arguments : List Value) → One (Gives DualCode arguments)
-one_dual (code C _ ∷ []) = made_one C.field C.columns (InDual C) None
-one_dual _ = λ v w a b. absurd a
+abbrev Queries_one : BoundQuery → Type 0
+Queries_one b = One (Queries b)
 
-one_dimension : (arguments : List Value) → One (Gives Dimension arguments)
-one_dimension (code C _ ∷ []) = one_value (number (length C.rows))
-one_dimension _ = λ v w a b. absurd a
+one_gf : IsOneValued Gf
+unfolding bind
+one_gf = of_one Gives_one gf number_in (λ q. one_some (λ f. size f ≡ q) (λ f v. v ≡ field f) (λ f g a b. told_by_size f g (a ∙ sym b)) (λ f. one_value (field f)))
 
-one_word_length : (arguments : List Value) → One (Gives WordLength arguments)
-one_word_length (code C _ ∷ []) = one_value (number C.columns)
-one_word_length _ = λ v w a b. absurd a
+one_generator : IsOneValued GeneratorMatCode
+unfolding bind
+one_generator = of_two Gives_one generator_mat_code lists_in field_in (λ rows f. made_one f (columns_of rows) (GeneratedBy f (columns_of rows) rows) None)
 
-one_generator_mat : (arguments : List Value) → One (Gives GeneratorMat arguments)
-one_generator_mat (code C _ ∷ []) = one_value (lists C.rows)
-one_generator_mat _ = λ v w a b. absurd a
+one_check : IsOneValued CheckMatCode
+unfolding bind
+one_check = of_two Gives_one check_mat_code lists_in field_in (λ rows f. made_one f (columns_of rows) (CheckedBy f rows) None)
 
-one_check_mat : (arguments : List Value) → One (Gives CheckMat arguments)
-one_check_mat (code C _ ∷ []) = one_some (IsCode C.field C.columns (InDual C)) (λ D v. v ≡ lists D.rows) (code_one C.field C.columns (InDual C)) (λ D. one_value (lists D.rows))
-one_check_mat _ = λ v w a b. absurd a
+one_repetition : IsOneValued RepetitionCode
+unfolding bind
+one_repetition = of_two Gives_one repetition_code number_in field_in (λ n f. made_one f n IsConstant None)
 
-one_weight : (arguments : List Value) → One (Gives Weight arguments)
-one_weight (numbers x ∷ []) = one_value (number (weight x))
-one_weight _ = λ v w a b. absurd a
+one_whole_space : IsOneValued WholeSpaceCode
+unfolding bind
+one_whole_space = of_two Gives_one whole_space_code number_in field_in (λ n f. made_one f n IsAny None)
 
-one_codeword : (arguments : List Value) → One (Gives IsCodeword arguments)
-one_codeword (code C _ ∷ numbers x ∷ []) = λ v w a b. a.1 ∙ ap (λ (t : Bool). truth t) (same_truth a.0 b.0 (InCode C x) a.2 b.2) ∙ sym b.1
-one_codeword _ = λ v w a b. absurd a
+one_null : IsOneValued NullCode
+unfolding bind
+one_null = of_two Gives_one null_code number_in field_in (λ n f. made_one f n IsZero None)
 
-one_least : (arguments : List Value) → One (Queries LeastWord arguments)
-one_least (lists rows ∷ field f ∷ []) = prints_least_one rows f
-one_least _ = λ v w a b. absurd a
+one_hamming : IsOneValued HammingCode
+unfolding bind
+one_hamming = of_two Gives_one hamming_code number_in field_in (λ r f. made_one f (hamming_length (size f) r) (CheckedBy f (hamming_checks (size f) r)) None)
+
+one_reed_muller : IsOneValued ReedMullerCode
+unfolding bind
+one_reed_muller = of_two Gives_one reed_muller_code number_in number_in (λ r m. made_one Gf2 (2 ^ m) (GeneratedBy Gf2 (2 ^ m) (reed_muller_rows r m)) None)
+
+one_dual : IsOneValued DualCode
+unfolding bind
+one_dual = of_one Gives_one (λ C. dual_code C.code) code_in (λ C. made_one C.code.field C.code.columns (InDual C.code) None)
+
+one_dimension : IsOneValued Dimension
+unfolding bind
+one_dimension = of_one Gives_one (λ C. dimension C.code) code_in (λ C. one_value (number (length C.code.rows)))
+
+one_word_length : IsOneValued WordLength
+unfolding bind
+one_word_length = of_one Gives_one (λ C. word_length C.code) code_in (λ C. one_value (number C.code.columns))
+
+one_generator_mat : IsOneValued GeneratorMat
+unfolding bind
+one_generator_mat = of_one Gives_one (λ C. generator_mat C.code) code_in (λ C. one_value (lists C.code.rows))
+
+one_check_mat : IsOneValued CheckMat
+unfolding bind
+one_check_mat = of_one Gives_one (λ C. check_mat C.code) code_in (λ C. one_some (IsCode C.code.field C.code.columns (InDual C.code)) (λ D v. v ≡ lists D.rows) (code_one C.code.field C.code.columns (InDual C.code)) (λ D. one_value (lists D.rows)))
+
+one_weight : IsOneValued Weight
+unfolding bind
+one_weight = of_one Gives_one weight_of numbers_in (λ x. one_value (number (weight x)))
+
+one_codeword : IsOneValued IsCodeword
+unfolding bind
+one_codeword = of_two Gives_one (λ C x. is_codeword C.code x) code_in numbers_in (λ C x v w a b. a.1 ∙ ap (λ (t : Bool). truth t) (same_truth a.0 b.0 (InCode C.code x) a.2 b.2) ∙ sym b.1)
+
+one_least : IsOneAnswered LeastWord
+unfolding bind_query
+one_least = of_two Queries_one least_word lists_in field_in (λ rows f. prints_least_one rows f)
 
 pub built_one : AllByRecursion IsDeterminate built_calls
 unfolding built_calls
-built_one = (
-  record { gives_one = one_gf; answers_one = λ u s t a b. absurd a },
-  (
-    record { gives_one = one_generator; answers_one = λ u s t a b. absurd a },
-    (
-      record { gives_one = one_check; answers_one = λ u s t a b. absurd a },
-      (
-        record { gives_one = one_repetition; answers_one = λ u s t a b. absurd a },
-        (
-          record { gives_one = one_whole_space; answers_one = λ u s t a b. absurd a },
-          (
-            record { gives_one = one_null; answers_one = λ u s t a b. absurd a },
-            (
-              record { gives_one = one_hamming; answers_one = λ u s t a b. absurd a },
-              (
-                record { gives_one = one_reed_muller; answers_one = λ u s t a b. absurd a },
-                (
-                  record { gives_one = one_dual; answers_one = λ u s t a b. absurd a },
-                  (
-                    record { gives_one = one_dimension; answers_one = λ u s t a b. absurd a },
-                    (
-                      record { gives_one = one_word_length; answers_one = λ u s t a b. absurd a },
-                      (
-                        record { gives_one = one_generator_mat; answers_one = λ u s t a b. absurd a },
-                        (
-                          record { gives_one = one_check_mat; answers_one = λ u s t a b. absurd a },
-                          (
-                            record { gives_one = one_weight; answers_one = λ u s t a b. absurd a },
-                            (
-                              record { gives_one = one_codeword; answers_one = λ u s t a b. absurd a },
-                              (record { gives_one = λ u v w a b. absurd a; answers_one = one_least }, tt),
-                            ),
-                          ),
-                        ),
-                      ),
-                    ),
-                  ),
-                ),
-              ),
-            ),
-          ),
-        ),
-      ),
-    ),
-  ),
-)
+built_one = (one_gf, (one_generator, (one_check, (one_repetition, (one_whole_space, (one_null, (one_hamming, (one_reed_muller, (one_dual, (one_dimension, (one_word_length, (one_generator_mat, (one_check_mat, (one_weight, (one_codeword, (one_least, tt))))))))))))))))

@@ -1,4 +1,4 @@
-// The text of a script: its bytes to the lines that it prints.
+//! The text of a script: its bytes to the lines that it prints.
 ghost use Rattle.std.specs.Prelude.{◌≡◌, ℕ, [], map, IfOk};
 ghost use Rattle.lc_language.specs.Evaluation.{Runs, IsText};
 ghost use Rattle.lc_parse.specs.Views.{statement_of, script_of};
@@ -14,7 +14,7 @@ use std::alloc::Global;
 /// The text that a script prints.
 #[derive(Drop)]
 pub(crate) struct Text {
-    /// its lines, one behind another
+    /// its lines, one after another
     pub(crate) bytes: Vec<u8>,
     /// whether a fault ends it
     pub(crate) ends: bool,
@@ -38,6 +38,7 @@ fn run(alloc: Global, mut machine: Machine) -> Result<Text, NoMemory>
         match machine.step(alloc)? {
             Step::Line(line) => bytes.extend_from_slice(&line)?,
             Step::Silent => {}
+            Step::Need(query) => match query {},
             Step::Fault(line) => {
                 bytes.extend_from_slice(&line)?;
                 return Ok(Text { bytes, ends: true });
@@ -55,7 +56,7 @@ fn script_text(alloc: Global, script: Script) -> Result<Text, NoMemory>
     run(alloc, machine)
 }
 
-/// The text that the bytes print as a script. Where they are no script it is one fault line, and a
+/// The text that the bytes print as a script. If they are no script it is one fault line, and a
 /// statement that is refused ends it with a fault line. Refused only for want of memory.
 pub(crate) fn text_of(alloc: Global, bytes: &[u8]) -> Result<Text, NoMemory>
     ensures { IfOk result (λ t. (budget : ℕ) → IsText built_calls budget bytes.now t.bytes.items t.ends) }

@@ -1,12 +1,16 @@
+use Rattle.std.proofs.Common.{◌≡◌, rules}
+use Rattle.lc_eval.specs.Value.{value_of}
 use Rattle.lc_eval.specs.Listed.{listed_of}
-use Rattle.lc_eval.proofs.ListLaws.{empty_fits, other_rows, misfit_refused}
+use Rattle.lc_eval.proofs.ListLaws.{number_fits, list_fits, misfit_refused}
 use Rattle.lc_eval.proofs.lists.Listed.with.Goals as goal
 
-pub returns-then-is_empty : goal.returns-then-is_empty
-returns-then-is_empty c = empty_fits (listed_of c.args.self) c.args.value c.in-Lists.lists c.is_empty.result c.new.result.items c.with_list-then-is_empty.result c.args.place c.in-Lists.is c.is_empty.ensures c.if-is_empty.true c.new.ensures.items c.with_list-then-is_empty.ensures
+pub returns-in-Some : goal.returns-in-Some
+returns-in-Some c = number_fits (listed_of c.args.self) (value_of c.args.value.now) c.in-Some.number c.with_number.result c.args.place c.in-Some.ensures c.with_number.ensures
 
-pub returns-else-is_empty : goal.returns-else-is_empty
-returns-else-is_empty c = misfit_refused (listed_of c.args.self) c.args.value _ c.args.place (other_rows c.args.value c.in-Lists.lists c.is_empty.result c.in-Lists.is c.is_empty.ensures c.if-is_empty.false) c.fault.ensures
+pub returns-in-Some-numbers : goal.returns-in-Some-numbers
+returns-in-Some-numbers c =
+    let same : c.in_ok-to_vec.field-0.items ≡ c.in-Some-numbers.list.now = search rules in
+    list_fits (listed_of c.args.self) (value_of c.args.value.now) c.in-Some-numbers.list.now c.in_ok-to_vec.field-0.items c.with_list.result c.args.place c.in-Some-numbers.ensures same c.with_list.ensures
 
-pub returns-in_default : goal.returns-in_default
-returns-in_default c = misfit_refused (listed_of c.args.self) c.args.value _ c.args.place (record { no_number = c.in_default.not-Number; no_numbers = c.in_default.not-Numbers; not_empty = λ rows is _. c.in_default.not-Lists rows is }) c.fault-in_default.ensures
+pub returns : goal.returns
+returns c = misfit_refused (listed_of c.args.self) (value_of c.args.value.now) _ c.args.place c.in_default.ensures c.in_default-numbers.ensures c.fault.ensures

@@ -26,3 +26,6 @@ returns-in-Fails-clause-does c =
     let found = rw c.deref.ensures.value at c.in-Some.ensures.lookup in
     let h = rw c.in-Fails.is at c.in_ok-name.ensures in
     fault_step c.args.self.now m.names m.script.statements.items m.next s c.in-Fails.line h.0 c.len-self-inside.result c.self.view_is found.3.0 found.1 h.1 h.2 (let l = c.len-self-inside.ensures in omega (arith, m.script.statements.ok.0))
+
+pub returns-in-Needs-clause-does : goal.returns-in-Needs-clause-does
+returns-in-Needs-clause-does c = elim c.in-Needs.query [ ]

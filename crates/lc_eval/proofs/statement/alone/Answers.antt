@@ -1,7 +1,8 @@
 use Rattle.std.proofs.lemmas.Result.{err_from_is_err_and}
 use Rattle.lc_parse.specs.Views.{tree_of, trees_of}
+use Rattle.lc_eval.specs.Built.{query_call_of}
 use Rattle.lc_eval.proofs.StatementLaws.{alone_fault, alone_given, query_alone}
-use Rattle.lc_eval.proofs.statement.printed.Goals as goal
+use Rattle.lc_eval.proofs.statement.alone.Goals as goal
 
 pub returns-in_err-value-in-None : goal.returns-in_err-value-in-None
 returns-in_err-value-in-None c =
@@ -14,4 +15,4 @@ returns-in_ok-value_line-in-None c = alone_given c.args.names.now (tree_of c.arg
 pub returns-in-Some : goal.returns-in-Some
 returns-in-Some c =
     let q = c.in-Some.ensures in
-    query_alone c.args.names.now (tree_of c.args.expr.now) c.in-Some.call c.args.expr.now.place q.name (trees_of c.in-Some.arguments.now) c.ask.result q.found q.seen (c.ask.ensures q.name)
+    query_alone c.args.names.now (tree_of c.args.expr.now) (query_call_of c.in-Some.call) c.args.expr.now.place q.name (trees_of c.in-Some.arguments.now) c.ask.result q.found q.seen (c.ask.ensures q.name)
