@@ -1,8 +1,8 @@
 #!/usr/bin/env python3
-"""Lists what must be believed: the definitions behind each public clause of the top call and of the laws.
+"""Lists what must be believed: the definitions that each public clause of the top call and of the laws rests on.
 
     tools/definitions.py                 the page docs/BELIEVED.md, on standard output
-    tools/definitions.py NAME [CLAUSE]   everything behind the clauses of one public function, or behind one of them
+    tools/definitions.py NAME [CLAUSE]   everything that the clauses of one public function, or one of them, rest on
 
 It reads the sources alone: crates.txt, the specs of each crate, and the contracts in its src. A definition is listed with
 the line that the head of its file has for it. Equations for calls that are not built yet are left out, so that the list is
@@ -52,7 +52,7 @@ class Module:
         while i < len(lines) and lines[i].startswith("--"):
             head.append(lines[i])
             i += 1
-        order, current, comment = 0, None, ""
+        order, current, comment, is_mutual = 0, None, "", False
         for line in lines[i:]:
             if line.startswith("use "):
                 add_import(line, self.imports, self.aliases)
@@ -60,6 +60,7 @@ class Module:
                 comment = line[3:]
             elif line.startswith(("pub ", "unfoldable ", "abbrev ")):
                 name = STARTS.match(line).group(2) if STARTS.match(line) else ""
+                is_mutual = name == "mutual"
                 if name and name != "mutual":
                     current = self.definitions.setdefault(name, Definition(self.crate, self.name, name, order))
                     current.meaning = current.meaning or comment
@@ -69,7 +70,7 @@ class Module:
             elif line.strip():
                 signed = re.match(r"  pub ([A-Za-z_]\w*) : .*Type 0$", line)
                 own = re.match(r"(?:  )?([A-Za-z_]\w*)\b", line)
-                if signed and current is None or signed and current.text and "mutual" in "".join(current.text):
+                if signed and is_mutual:
                     current = self.definitions.setdefault(signed.group(1), Definition(self.crate, self.name, signed.group(1), order))
                     order += 1
                 elif own and own.group(1) in self.definitions and not line.startswith("    "):
@@ -131,19 +132,34 @@ def built_calls():
 
 
 def every_call(crates):
+    found = set()
     for crate in crates:
         path = os.path.join(ROOT, "crates", crate, "src", "lib.rt")
-        found = os.path.isfile(path) and re.search(r"pub enum Call \{(.*?)\n\}", read(path), re.S)
-        if found:
-            return set(re.findall(r"^\s+(\w+),", found.group(1), re.M))
-    return set()
+        if os.path.isfile(path):
+            for group in re.finditer(r"pub enum (?:Value|Query)Call \{(.*?)\n\}", read(path), re.S):
+                found |= set(re.findall(r"^\s+(\w+),", group.group(1), re.M))
+    return found
+
+
+def bound_of(calls, modules):
+    """The bound calls that these calls are bound to: `bind Name vs = ..` names them."""
+    bound = modules[("lc_language", "Bound")]
+    made = {name for name, whole in bound.makes.items() if whole in ("BoundCall", "BoundQuery")}
+    lines = bound.definitions["bind"].text + bound.definitions["bind_query"].text
+    found = set()
+    for line in lines:
+        case = re.match(r"bind(?:_query)? (\w+) vs = (.*)$", line)
+        if case and case.group(1) in calls:
+            found |= made & set(NAME.findall(case.group(2)))
+    return found
 
 
 class Sources:
     def __init__(self):
         self.crates = crates_in_order()
         self.modules = all_modules(self.crates)
-        self.unbuilt = every_call(self.crates) - built_calls()
+        calls = every_call(self.crates) - built_calls()
+        self.unbuilt = calls | bound_of(calls, self.modules)
 
     def resolve(self, name, imports, aliases, here=None):
         if here and name in here.definitions:
@@ -185,13 +201,13 @@ class Sources:
         for line in own.text:
             if line.strip().startswith("--"):
                 continue
-            case = re.match(r"\s*" + re.escape(own.name) + r"\s+\(?([A-Z]\w*)", line)
+            case = re.match(r"\s*" + re.escape(own.name) + r"\s+\(?([A-Za-z]\w*)", line)
             if case and case.group(1) in self.unbuilt:
                 continue
             kept.append(line)
         return self.words_of("\n".join(kept), module.imports, module.aliases, module) - {key}
 
-    def behind(self, first):
+    def rests_on(self, first):
         seen, todo = set(), list(first)
         while todo:
             key = todo.pop()
@@ -253,8 +269,8 @@ def table(sources, keys):
 def page(sources):
     lines = ["# What must be believed, clause by clause", "",
              "Made by `tools/definitions.py` from the sources; the repository's own checks compare it. For each public clause of the",
-             "top call and of the laws it lists the definitions behind it, in reading order, each once: what an earlier clause of this",
-             "page lists is not listed again. `tools/definitions.py NAME CLAUSE` lists all that is behind one clause.",
+             "top call and of the laws it lists the definitions that it rests on, in reading order, each once: what an earlier clause",
+             "lists is not listed again. `tools/definitions.py NAME CLAUSE` lists all that one clause rests on.",
              "[DEFINITIONS.md](DEFINITIONS.md) says how to read a definition, where each comes from and what evaluates it."]
     clauses = sources.clauses()
     chosen = [c for c in clauses if (c[0], c[1]) in TOP] + [c for c in clauses if c[2] and (c[0], c[1]) not in TOP]
@@ -263,7 +279,7 @@ def page(sources):
         if (crate, function) != last:
             last = (crate, function)
             lines += ["", "## `%s` of `%s`" % (function, crate)]
-        all_keys = sources.behind(first)
+        all_keys = sources.rests_on(first)
         new = [key for key in all_keys if key not in seen]
         seen.update(new)
         lines += ["", "**%s**: `%s`" % (name, body), ""]
@@ -283,7 +299,7 @@ def main():
         return 1
     for crate, function, _law, name, body, first in chosen:
         print("%s of %s, %s: %s" % (function, crate, name, body))
-        print("\n".join(table(sources, sources.behind(first))))
+        print("\n".join(table(sources, sources.rests_on(first))))
         print()
     return 0
 
