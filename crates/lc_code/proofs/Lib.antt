@@ -1,2 +1,5 @@
 pub mod CodeLaws
 pub mod TriedLaws
+pub mod CoordinateTests
+pub mod CoordinateLaws
+pub mod CoordinateSteps

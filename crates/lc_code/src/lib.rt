@@ -2,9 +2,10 @@
 //! generator matrix.
 #![tactic(auto)]
 
+mod alternant;
 mod code;
-mod formed;
+mod expansion;
 
+pub use alternant::{Alternant, FormedCode, alternant_code};
 pub use code::Code;
-pub use formed::{Alternant, FormedCode};
 pub use lc_constructions::CodeRefusal;

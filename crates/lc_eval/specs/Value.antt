@@ -1,6 +1,6 @@
 -- The values and bindings of `lc_language` that those of the machine stand for.
 --   rows_of rows                  the rows of a list of lists
---   formed_of c                   a code with its alternant form
+--   code_value_of c                   a code with its alternant form
 --   value_of v, values_of vs      the value; the values of a list
 --   binding_of b                  the binding
 --   env_of bs                     the bindings, the last one first
@@ -9,7 +9,7 @@ use Rattle.std.specs.Prelude.{ℕ, List, map, reverse, string_bytes}
 use Rattle.std.specs.Global.{Vec}
 use Rattle.lc_language.specs.Value as language
 use Rattle.lc_language.specs.Evaluation as evaluation
-use Rattle.lc_code.specs.declared.formed.FormedCode.{FormedCode}
+use Rattle.lc_eval.specs.declared.values.CodeValue.{CodeValue}
 use Rattle.lc_eval.specs.declared.values.Value.{Value}
 use Rattle.lc_eval.specs.declared.values.Value.TheVariants.{Number, Field, Numbers, Lists, Code, Truth}
 use Rattle.lc_eval.specs.declared.values.Binding.{Binding}
@@ -18,8 +18,8 @@ use Rattle.lc_eval.specs.declared.refusals.Refused.{Refused}
 abbrev pub rows_of : List (Vec ℕ) → List (List ℕ)
 rows_of rows = map (λ row. row.items) rows
 
-abbrev pub formed_of : FormedCode → language.FormedCode
-formed_of c = record { code = c.code; form = c.form }
+abbrev pub code_value_of : CodeValue → language.CodeValue
+code_value_of c = record { code = c.code; form = c.form }
 
 abbrev pub value_of : Value → language.Value
 value_of (Number n) = language.number n

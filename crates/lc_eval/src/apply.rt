@@ -13,8 +13,8 @@ use crate::calls::BoundCall;
 use crate::fields::Fields;
 use crate::refusals::{NOT_A_FIELD, Stop, fault, refused_as};
 use crate::rows::{lists_of, word_of, words_of};
-use crate::values::Value;
-use lc_code::{Code, CodeRefusal, FormedCode};
+use crate::values::{CodeValue, Value};
+use lc_code::{Code, CodeRefusal};
 use lc_field::{Field, FieldRefusal, NoMemory};
 use lc_vec::fits;
 use std::alloc::Global;
@@ -56,7 +56,7 @@ pub(crate) fn apply(
 fn code_value(alloc: Global, code: Code) -> Result<Value, NoMemory>
     ensures { IfOk result (λ v. value_of v ≡ language.code code None) }
 {
-    Ok(Value::Code(Rc::new(alloc, FormedCode { code, form: None })?))
+    Ok(Value::Code(Rc::new(alloc, CodeValue { code, form: None })?))
 }
 
 // The rows of the reduced generator matrix of a code, as a value.

@@ -1,9 +1,9 @@
 //! The values of a script.
 ghost use Rattle.std.specs.Prelude.{◌≡◌, map, option_map, IfOk};
 ghost use Rattle.lc_language.specs.Value.{number_in, field_in, numbers_in, lists_in, code_in};
-ghost use Rattle.lc_eval.specs.Value.{value_of, formed_of};
+ghost use Rattle.lc_eval.specs.Value.{value_of, code_value_of};
 
-use lc_code::FormedCode;
+use lc_code::{Alternant, Code};
 use lc_field::{Field, NoMemory};
 use std::rc::Rc;
 
@@ -19,9 +19,16 @@ pub(crate) enum Value {
     /// a list of lists of numbers
     Lists(Rc<Vec<Vec<u64>>>),
     /// a code
-    Code(Rc<FormedCode>),
+    Code(Rc<CodeValue>),
     /// a truth value
     Truth(bool),
+}
+
+/// A code as a value, with its alternant form if it was made with one.
+#[derive(Drop)]
+pub(crate) struct CodeValue {
+    pub(crate) code: Code,
+    pub(crate) form: Option<Alternant>,
 }
 
 /// A name, and the value that it was assigned.
@@ -80,8 +87,8 @@ impl Value {
 
     /// The code that the value is.
     #[tactic(auto, unfolding(lc_language::specs::Value::code_in))]
-    pub(crate) fn code(&self) -> Option<&FormedCode>
-        ensures { option_map (λ c. formed_of c.now) result ≡ code_in (value_of self.now) }
+    pub(crate) fn code(&self) -> Option<&CodeValue>
+        ensures { option_map (λ c. code_value_of c.now) result ≡ code_in (value_of self.now) }
     {
         match self {
             Value::Code(code) => Some(code),

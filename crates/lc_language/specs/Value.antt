@@ -3,7 +3,7 @@
 --                     has one, a truth value, or the nothing that a decoder answers if no word is near enough
 --   number_in v, field_in v, numbers_in v, lists_in v     the number, field or list that the value is, if it is one; the empty
 --                     list is both a list of numbers and a list of lists
---   FormedCode        a code with its alternant form, if it has one
+--   CodeValue        a code with its alternant form, if it has one
 --   code_in v         the code that the value is
 --   is_kind kind v    whether the value is of the kind
 --   Binding           a name and the value that it was assigned
@@ -43,11 +43,11 @@ lists_in (lists rows) = Some rows
 lists_in (numbers []) = Some []
 lists_in _ = None
 
-pub record FormedCode : Type 0 where
+pub record CodeValue : Type 0 where
   pub code : Matrix
   pub form : Option AlternantForm
 
-unfoldable pub code_in : Value → Option FormedCode
+unfoldable pub code_in : Value → Option CodeValue
 code_in (code C form) = Some (record { code = C; form = form })
 code_in _ = None
 

@@ -1,0 +1,5 @@
+use Rattle.lc_goppa.proofs.RefusalLaws.{elements_told}
+use Rattle.lc_goppa.proofs.refusal.are_elements.Goals as goal
+
+pub returns-clause-is : goal.returns-clause-is
+returns-clause-is c = elements_told c.args.field.now c.args.entries.now c.fits.result c.fits.ensures.is
