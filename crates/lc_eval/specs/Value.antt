@@ -1,6 +1,6 @@
 -- The values and bindings of `lc_language` that those of the machine stand for.
 --   rows_of rows                  the rows of a list of lists
---   code_value_of c                   a code with its alternant form
+--   code_value_of c               a code with its alternant form
 --   value_of v, values_of vs      the value; the values of a list
 --   binding_of b                  the binding
 --   env_of bs                     the bindings, the last one first
