@@ -1,0 +1,25 @@
+-- Rows that generate the combined codes, from the rows of the parts (MacWilliams and Sloane, chapters 1, 2 and 18). n and m are
+-- the lengths of the parts.
+--   left_rows n us         each word, followed by n zeros
+--   right_rows m vs        each word, after m zeros
+--   twice_rows us          each word, followed by itself
+--   direct_sum_rows C D    rows of the direct sum
+--   uuv_rows C D           rows of the words u followed by u + v
+use Rattle.std.specs.Prelude.{ℕ, List, ◌++◌, map}
+use Rattle.lc_algebra.specs.Word.{zero_word}
+use Rattle.lc_algebra.specs.Matrix.{Matrix}
+
+abbrev pub left_rows : ℕ → List (List ℕ) → List (List ℕ)
+left_rows n us = map (λ u. u ++ zero_word n) us
+
+abbrev pub right_rows : ℕ → List (List ℕ) → List (List ℕ)
+right_rows m vs = map (λ v. zero_word m ++ v) vs
+
+abbrev pub twice_rows : List (List ℕ) → List (List ℕ)
+twice_rows us = map (λ u. u ++ u) us
+
+abbrev pub direct_sum_rows : Matrix → Matrix → List (List ℕ)
+direct_sum_rows C D = left_rows D.columns C.rows ++ right_rows C.columns D.rows
+
+abbrev pub uuv_rows : Matrix → Matrix → List (List ℕ)
+uuv_rows C D = twice_rows C.rows ++ right_rows C.columns D.rows
