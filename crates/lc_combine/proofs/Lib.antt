@@ -1,3 +1,6 @@
 pub mod GeneratedLaws
 pub mod RefusalLaws
 pub mod SumLaws
+pub mod DualLaws
+pub mod ExtendedLaws
+pub mod DeletedLaws

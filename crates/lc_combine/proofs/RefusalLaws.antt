@@ -1,17 +1,24 @@
 -- The first refusal of each combinator.
 --   same_field                     fields of one size are one field
+--   extended_too_long, extended_fine                          extended codes
+--   deleted_bad, deleted_good, deleted_count, rising_all, rising_not      punctured and shortened codes
 --   sum_of_fields, sum_too_long, sum_fine                     direct sums
 --   uuv_of_fields, uuv_of_lengths, uuv_too_long, uuv_fine     the words u followed by u + v
-use Rattle.std.proofs.Common.{◌≡◌, ◌≢◌, ℕ, ◌+◌, ◌<◌, ◌≤◌, true, false, Bool, ◌==◌, nat_le, ◌&&◌, Some, None, refl, arith}
-use Rattle.std.proofs.lemmas.Bool.{eq-eqb, ne_eqb, le-leb}
+use Rattle.std.proofs.Common.{◌≡◌, ◌≢◌, ℕ, zero, suc, ◌+◌, ◌-◌, ◌<◌, ◌≤◌, true, false, Bool, not, ◌==◌, nat_le, nat_lt, ◌&&◌, ◌||◌, List, [], ◌∷◌, length, slice_index, Contains, Some, None, refl, sym, subst, ◌∙◌, ⊎_elim, arith, true≢false}
+use Rattle.std.specs.List.{list_any}
+use Rattle.std.proofs.lemmas.Bool.{cases_Bool, cases_eq, cases_lt, and_parts, and_from, or_parts, eq-eqb, ne_eqb, le-leb, lt-ltb, ltb-true}
 use Rattle.lc_algebra.specs.declared.FieldName.{FieldName}
 use Rattle.lc_algebra.specs.Field.{size}
 use Rattle.lc_algebra.specs.Matrix.{Matrix}
+use Rattle.lc_algebra.specs.Word.{zero_word}
+use Rattle.lc_algebra.proofs.WordLaws.{length_zero_word}
+use Rattle.lc_algebra.proofs.SpanSearch.{contains_any}
+use Rattle.lc_constructions.proofs.WithoutLaws.{length_without_from, deleted_fine}
 use Rattle.lc_algebra.proofs.EmbeddingLaws.{told_by_size}
-use Rattle.lc_constructions.specs.declared.refusal.CodeRefusal.TheVariants.{BadLength, FieldsDiffer, LengthsDiffer}
+use Rattle.lc_constructions.specs.declared.refusal.CodeRefusal.TheVariants.{BadLength, FieldsDiffer, LengthsDiffer, BadPositions}
 use Rattle.lc_constructions.specs.Code.{is_length}
 use Rattle.lc_constructions.specs.Refusal.{refuse_if, first_refusal}
-use Rattle.lc_constructions.specs.Refusals.{bad_length, fields_differ, lengths_differ, direct_sum_refusals, uuv_refusals}
+use Rattle.lc_constructions.specs.Refusals.{bad_length, fields_differ, lengths_differ, is_rising, extended_refusals, deleted_refusals, direct_sum_refusals, uuv_refusals}
 
 pub same_field : (f g : FieldName) → size f ≡ size g → f ≡ g
 same_field f g e = told_by_size f g e
@@ -23,6 +30,60 @@ long_length n l = grind (arith, l)
 short_length : (n : ℕ) → 1 ≤ n → n ≤ 255 → is_length n ≡ true
 unfolding is_length
 short_length n a b = rw (le-leb 1 n a, le-leb n 255 b) refl
+
+pub extended_too_long : (C : Matrix) → C.columns ≡ 255 → first_refusal (extended_refusals C) ≡ Some BadLength
+unfolding first_refusal refuse_if bad_length extended_refusals
+extended_too_long C e = rw (long_length (C.columns + 1) (omega (arith, e))) refl
+
+pub extended_fine : (C : Matrix) → C.columns ≢ 255 → C.columns ≤ 255 → first_refusal (extended_refusals C) ≡ None
+unfolding first_refusal refuse_if bad_length extended_refusals
+extended_fine C o l = rw (short_length (C.columns + 1) (omega arith) (omega (arith, o, l))) refl
+
+pub deleted_bad : (C : Matrix) (coordinates : List ℕ) → (not (is_rising coordinates) || (list_any (nat_le C.columns) coordinates || (length coordinates == C.columns))) ≡ true → first_refusal (deleted_refusals C coordinates) ≡ Some BadPositions
+unfolding first_refusal refuse_if deleted_refusals
+deleted_bad C coordinates e = rw e refl
+
+pub deleted_good : (C : Matrix) (coordinates : List ℕ) → (not (is_rising coordinates) || (list_any (nat_le C.columns) coordinates || (length coordinates == C.columns))) ≡ false → first_refusal (deleted_refusals C coordinates) ≡ None
+unfolding first_refusal refuse_if deleted_refusals
+deleted_good C coordinates e = rw e refl
+
+pub deleted_count : (C : Matrix) (coordinates : List ℕ) → (not (is_rising coordinates) || (list_any (nat_le C.columns) coordinates || (length coordinates == C.columns))) ≡ false → length coordinates < C.columns
+deleted_count C coordinates e =
+    let n = C.columns in
+    let t = deleted_fine C coordinates (deleted_good C coordinates e) in
+    let o : (length coordinates == n) ≡ false = (or_parts (list_any (nat_le n) coordinates) (length coordinates == n) (or_parts (not (is_rising coordinates)) (list_any (nat_le n) coordinates || (length coordinates == n)) e).1).1 in
+    let high : (q : ℕ) → Contains coordinates q → q < 0 + length (zero_word n) = λ q c. ⊎_elim (λ l. omega (arith, l, length_zero_word n)) (λ l. absurd (true≢false (sym (contains_any (nat_le n) coordinates q c (le-leb n q l)) ∙ t.1))) (cases_lt q n) in
+    let most = length_without_from 0 coordinates (zero_word n) t.0 (λ q c. omega arith) high in
+    ⊎_elim (λ k. absurd (true≢false (sym (eq-eqb (length coordinates) n k) ∙ o))) (λ k. omega (arith, k, most, length_zero_word n)) (cases_eq (length coordinates) n)
+
+later : (a : ℕ) (xs : List ℕ) (j : ℕ) → 0 < j → slice_index (a ∷ xs) j < slice_index (a ∷ xs) (suc j) → slice_index xs (j - 1) < slice_index xs j
+later a xs zero l h = absurd (omega (arith, l))
+later a xs (suc j) l h = let e : suc j - 1 ≡ j = omega arith in rw e h
+
+rising_at : (xs : List ℕ) → is_rising xs ≡ true → (j : ℕ) → 0 < j → j < length xs → slice_index xs (j - 1) < slice_index xs j
+unfolding is_rising
+rising_at [] r j l m = absurd (omega (arith, m))
+rising_at (a ∷ []) r j l m = absurd (omega (arith, l, m))
+rising_at (a ∷ b ∷ xs) r zero l m = absurd (omega (arith, l))
+rising_at (a ∷ b ∷ xs) r (suc zero) l m = ltb-true a b (and_parts (nat_lt a b) (is_rising (b ∷ xs)) r).0
+rising_at (a ∷ b ∷ xs) r (suc (suc j)) l m =
+    let t = rising_at (b ∷ xs) (and_parts (nat_lt a b) (is_rising (b ∷ xs)) r).1 (suc j) (omega arith) (omega (arith, m)) in
+    let e : suc j - 1 ≡ j = omega arith in
+    let d : suc (suc j) - 1 ≡ suc j = omega arith in
+    rw d (subst (λ k. slice_index (b ∷ xs) k < slice_index (b ∷ xs) (suc j)) e t)
+
+pub rising_all : (xs : List ℕ) → ((j : ℕ) → 0 < j → j < length xs → slice_index xs (j - 1) < slice_index xs j) → is_rising xs ≡ true
+unfolding is_rising
+rising_all [] h = refl
+rising_all (a ∷ []) h = refl
+rising_all (a ∷ b ∷ xs) h = and_from (nat_lt a b) (is_rising (b ∷ xs)) (lt-ltb a b (h 1 (omega arith) (omega arith))) (rising_all (b ∷ xs) (λ j l m. later a (b ∷ xs) j l (let e : suc j - 1 ≡ j = omega arith in subst (λ k. slice_index (a ∷ b ∷ xs) k < slice_index (a ∷ b ∷ xs) (suc j)) e (h (suc j) (omega arith) (omega (arith, m))))))
+
+pub rising_not : (xs : List ℕ) (i : ℕ) → 0 < i → i < length xs → slice_index xs i ≤ slice_index xs (i - 1) → is_rising xs ≡ false
+rising_not xs i l m k =
+    ⊎_elim
+    (λ t. absurd (omega (arith, k, rising_at xs t i l m)))
+    (λ t. t)
+    (cases_Bool (is_rising xs))
 
 pub sum_of_fields : (C D : Matrix) → size C.field ≢ size D.field → first_refusal (direct_sum_refusals C D) ≡ Some FieldsDiffer
 unfolding first_refusal refuse_if bad_length fields_differ direct_sum_refusals

@@ -53,7 +53,7 @@ twice_linear f n = record {
 over : (f g : FieldName) (n : ℕ) (rows : List (List ℕ)) → f ≡ g → AreRows g n rows → AreRows f n rows
 over f g n rows k r = subst (λ x. AreRows x n rows) (sym k) r
 
-shaped : (f g : FieldName) (n m : ℕ) (rows made : List (List ℕ)) → g ≡ f → m ≡ n → made ≡ rows → AreRows f n rows → AreRows g m made
+pub shaped : (f g : FieldName) (n m : ℕ) (rows made : List (List ℕ)) → g ≡ f → m ≡ n → made ≡ rows → AreRows f n rows → AreRows g m made
 shaped f g n m rows made a b e r = subst (λ x. AreRows x m made) (sym a) (subst (λ k. AreRows f k made) (sym b) (subst (AreRows f n) (sym e) r))
 
 -- ---- direct sums

@@ -5,9 +5,14 @@
 --   twice_rows us          each word, followed by itself
 --   direct_sum_rows C D    rows of the direct sum
 --   uuv_rows C D           rows of the words u followed by u + v
-use Rattle.std.specs.Prelude.{ℕ, List, ◌++◌, map}
+--   extended_rows f us     each word, with minus the sum of its symbols after it
+--   punctured_rows coordinates us      each word, without these coordinates
+use Rattle.std.specs.Prelude.{ℕ, List, [], ◌∷◌, ◌++◌, map}
+use Rattle.lc_algebra.specs.declared.FieldName.{FieldName}
+use Rattle.lc_algebra.specs.Field.{neg}
 use Rattle.lc_algebra.specs.Word.{zero_word}
 use Rattle.lc_algebra.specs.Matrix.{Matrix}
+use Rattle.lc_constructions.specs.Combined.{symbol_sum, without}
 
 abbrev pub left_rows : ℕ → List (List ℕ) → List (List ℕ)
 left_rows n us = map (λ u. u ++ zero_word n) us
@@ -23,3 +28,9 @@ direct_sum_rows C D = left_rows D.columns C.rows ++ right_rows C.columns D.rows
 
 abbrev pub uuv_rows : Matrix → Matrix → List (List ℕ)
 uuv_rows C D = twice_rows C.rows ++ right_rows C.columns D.rows
+
+abbrev pub extended_rows : FieldName → List (List ℕ) → List (List ℕ)
+extended_rows f us = map (λ u. u ++ neg f (symbol_sum f u) ∷ []) us
+
+abbrev pub punctured_rows : List ℕ → List (List ℕ) → List (List ℕ)
+punctured_rows coordinates us = map (without coordinates) us

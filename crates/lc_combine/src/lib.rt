@@ -2,7 +2,11 @@
 //! intersections and concatenated codes.
 #![tactic(auto)]
 
+mod deleted;
+mod extended_codes;
 mod refusal;
 mod sums;
 
+pub use deleted::{punctured, shortened};
+pub use extended_codes::extended;
 pub use sums::{direct_sum, uuv};

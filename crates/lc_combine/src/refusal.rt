@@ -1,11 +1,65 @@
 //! When the combinators refuse their arguments.
-ghost use Rattle.std.specs.Prelude.{◌≡◌, ◌+◌, ◌*◌, ◌≤◌, IfOk};
+ghost use Rattle.std.specs.Prelude.{◌≡◌, ◌+◌, ◌<◌, ◌≤◌, ◌==◌, ◌||◌, not, nat_le, length, IfOk};
+ghost use Rattle.std.specs.List.{list_any};
 ghost use Rattle.lc_constructions.specs.Code.{longest};
 ghost use Rattle.lc_constructions.specs.Refusal.{first_refusal};
-ghost use Rattle.lc_constructions.specs.Refusals.{direct_sum_refusals, uuv_refusals};
+ghost use Rattle.lc_constructions.specs.Refusals.{is_rising, extended_refusals, deleted_refusals, direct_sum_refusals, uuv_refusals};
 ghost use Rattle.lc_combine.specs.Checked.{IsChecked};
 
 use lc_code::{Code, CodeRefusal};
+
+// Checks a code that gets a further symbol.
+#[tactic(auto, using(crate::proofs::RefusalLaws::extended_too_long, crate::proofs::RefusalLaws::extended_fine))]
+pub(crate) fn check_extended(code: &Code) -> Result<(), CodeRefusal>
+    ensures is { IsChecked result (first_refusal (extended_refusals code.now)) }
+    ensures most { IfOk result (λ _. code.now.columns < longest) }
+{
+    if code.length() == 255 {
+        return Err(CodeRefusal::BadLength);
+    }
+    Ok(())
+}
+
+// Checks the coordinates to be deleted from the words of a code.
+#[tactic(auto, using(crate::proofs::RefusalLaws::deleted_bad, crate::proofs::RefusalLaws::deleted_good, crate::proofs::RefusalLaws::deleted_count))]
+pub(crate) fn check_deleted(code: &Code, places: &[u64]) -> Result<(), CodeRefusal>
+    ensures is { IsChecked result (first_refusal (deleted_refusals code.now places.now)) }
+    ensures count { IfOk result (λ _. length places.now < code.now.columns) }
+{
+    if are_bad(places, code.length()) {
+        return Err(CodeRefusal::BadPositions);
+    }
+    Ok(())
+}
+
+// Whether the coordinates don't rise, one is n or more, or there are n of them.
+fn are_bad(places: &[u64], n: usize) -> bool
+    ensures is { result ≡ (not (is_rising places.now) || (list_any (nat_le n) places.now || (length places.now == n))) }
+{
+    let rising = is_rising(places);
+    let outside = leave(places, n);
+    !rising || (outside || places.len() == n)
+}
+
+// Whether a coordinate is n or more.
+fn leave(places: &[u64], n: usize) -> bool
+    ensures is { result ≡ list_any (nat_le n) places.now }
+{
+    places.iter().any(|p| n as u64 <= *p)
+}
+
+// Whether each coordinate is below the next one.
+#[tactic(auto, using(crate::proofs::RefusalLaws::rising_all, crate::proofs::RefusalLaws::rising_not))]
+fn is_rising(places: &[u64]) -> bool
+    ensures is { result ≡ is_rising places.now }
+{
+    for i in 1..places.len() {
+        if places[i] <= places[i - 1] {
+            return false;
+        }
+    }
+    true
+}
 
 // Checks two codes that follow each other.
 #[tactic(auto, using(crate::proofs::RefusalLaws::same_field, crate::proofs::RefusalLaws::sum_of_fields, crate::proofs::RefusalLaws::sum_too_long, crate::proofs::RefusalLaws::sum_fine))]
