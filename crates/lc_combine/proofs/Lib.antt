@@ -4,3 +4,4 @@ pub mod SumLaws
 pub mod DualLaws
 pub mod ExtendedLaws
 pub mod DeletedLaws
+pub mod SubcodeLaws

@@ -2,23 +2,26 @@
 --   same_field                     fields of one size are one field
 --   extended_too_long, extended_fine                          extended codes
 --   deleted_bad, deleted_good, deleted_count, rising_all, rising_not      punctured and shortened codes
+--   two_elements, even_not_binary, even_binary      words of even weight
+--   common_of_fields, common_of_lengths, common_fine      words of both codes
 --   sum_of_fields, sum_too_long, sum_fine                     direct sums
 --   uuv_of_fields, uuv_of_lengths, uuv_too_long, uuv_fine     the words u followed by u + v
 use Rattle.std.proofs.Common.{◌≡◌, ◌≢◌, ℕ, zero, suc, ◌+◌, ◌-◌, ◌<◌, ◌≤◌, true, false, Bool, not, ◌==◌, nat_le, nat_lt, ◌&&◌, ◌||◌, List, [], ◌∷◌, length, slice_index, Contains, Some, None, refl, sym, subst, ◌∙◌, ⊎_elim, arith, true≢false}
 use Rattle.std.specs.List.{list_any}
 use Rattle.std.proofs.lemmas.Bool.{cases_Bool, cases_eq, cases_lt, and_parts, and_from, or_parts, eq-eqb, ne_eqb, le-leb, lt-ltb, ltb-true}
 use Rattle.lc_algebra.specs.declared.FieldName.{FieldName}
-use Rattle.lc_algebra.specs.Field.{size}
+use Rattle.lc_algebra.specs.declared.FieldName.TheVariants.{Gf2}
+use Rattle.lc_algebra.specs.Field.{shape, shape_of, size}
 use Rattle.lc_algebra.specs.Matrix.{Matrix}
 use Rattle.lc_algebra.specs.Word.{zero_word}
 use Rattle.lc_algebra.proofs.WordLaws.{length_zero_word}
 use Rattle.lc_algebra.proofs.SpanSearch.{contains_any}
 use Rattle.lc_constructions.proofs.WithoutLaws.{length_without_from, deleted_fine}
 use Rattle.lc_algebra.proofs.EmbeddingLaws.{told_by_size}
-use Rattle.lc_constructions.specs.declared.refusal.CodeRefusal.TheVariants.{BadLength, FieldsDiffer, LengthsDiffer, BadPositions}
+use Rattle.lc_constructions.specs.declared.refusal.CodeRefusal.TheVariants.{BadLength, BadArgument, FieldsDiffer, LengthsDiffer, BadPositions}
 use Rattle.lc_constructions.specs.Code.{is_length}
 use Rattle.lc_constructions.specs.Refusal.{refuse_if, first_refusal}
-use Rattle.lc_constructions.specs.Refusals.{bad_length, fields_differ, lengths_differ, is_rising, extended_refusals, deleted_refusals, direct_sum_refusals, uuv_refusals}
+use Rattle.lc_constructions.specs.Refusals.{bad_length, bad_argument, fields_differ, lengths_differ, is_rising, extended_refusals, deleted_refusals, even_weight_refusals, direct_sum_refusals, uuv_refusals, intersection_refusals}
 
 pub same_field : (f g : FieldName) → size f ≡ size g → f ≡ g
 same_field f g e = told_by_size f g e
@@ -84,6 +87,33 @@ rising_not xs i l m k =
     (λ t. absurd (omega (arith, k, rising_at xs t i l m)))
     (λ t. t)
     (cases_Bool (is_rising xs))
+
+two : size Gf2 ≡ 2
+unfolding shape shape_of size
+two = refl
+
+pub two_elements : (f : FieldName) → size f ≡ 2 → f ≡ Gf2
+two_elements f e = told_by_size f Gf2 (e ∙ sym two)
+
+pub even_not_binary : (C : Matrix) → size C.field ≢ 2 → first_refusal (even_weight_refusals C) ≡ Some (BadArgument 1)
+unfolding first_refusal refuse_if bad_argument even_weight_refusals
+even_not_binary C e = rw (ne_eqb (size C.field) 2 e) refl
+
+pub even_binary : (C : Matrix) → size C.field ≡ 2 → first_refusal (even_weight_refusals C) ≡ None
+unfolding first_refusal refuse_if bad_argument even_weight_refusals
+even_binary C e = rw (eq-eqb (size C.field) 2 e) refl
+
+pub common_of_fields : (C D : Matrix) → size C.field ≢ size D.field → first_refusal (intersection_refusals C D) ≡ Some FieldsDiffer
+unfolding first_refusal refuse_if fields_differ lengths_differ intersection_refusals
+common_of_fields C D a = rw (ne_eqb (size C.field) (size D.field) a) refl
+
+pub common_of_lengths : (C D : Matrix) → size C.field ≡ size D.field → C.columns ≢ D.columns → first_refusal (intersection_refusals C D) ≡ Some LengthsDiffer
+unfolding first_refusal refuse_if fields_differ lengths_differ intersection_refusals
+common_of_lengths C D a e = rw (eq-eqb (size C.field) (size D.field) a, ne_eqb C.columns D.columns e) refl
+
+pub common_fine : (C D : Matrix) → size C.field ≡ size D.field → C.columns ≡ D.columns → first_refusal (intersection_refusals C D) ≡ None
+unfolding first_refusal refuse_if fields_differ lengths_differ intersection_refusals
+common_fine C D a e = rw (eq-eqb (size C.field) (size D.field) a, eq-eqb C.columns D.columns e) refl
 
 pub sum_of_fields : (C D : Matrix) → size C.field ≢ size D.field → first_refusal (direct_sum_refusals C D) ≡ Some FieldsDiffer
 unfolding first_refusal refuse_if bad_length fields_differ direct_sum_refusals

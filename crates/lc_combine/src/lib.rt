@@ -5,8 +5,10 @@
 mod deleted;
 mod extended_codes;
 mod refusal;
+mod subcodes;
 mod sums;
 
 pub use deleted::{punctured, shortened};
 pub use extended_codes::extended;
+pub use subcodes::{even_weight, intersection};
 pub use sums::{direct_sum, uuv};

@@ -1,9 +1,10 @@
 //! When the combinators refuse their arguments.
 ghost use Rattle.std.specs.Prelude.{◌≡◌, ◌+◌, ◌<◌, ◌≤◌, ◌==◌, ◌||◌, not, nat_le, length, IfOk};
 ghost use Rattle.std.specs.List.{list_any};
+ghost use Rattle.lc_algebra.specs.declared.FieldName.TheVariants.{Gf2};
 ghost use Rattle.lc_constructions.specs.Code.{longest};
 ghost use Rattle.lc_constructions.specs.Refusal.{first_refusal};
-ghost use Rattle.lc_constructions.specs.Refusals.{is_rising, extended_refusals, deleted_refusals, direct_sum_refusals, uuv_refusals};
+ghost use Rattle.lc_constructions.specs.Refusals.{is_rising, extended_refusals, deleted_refusals, even_weight_refusals, direct_sum_refusals, uuv_refusals, intersection_refusals};
 ghost use Rattle.lc_combine.specs.Checked.{IsChecked};
 
 use lc_code::{Code, CodeRefusal};
@@ -16,6 +17,34 @@ pub(crate) fn check_extended(code: &Code) -> Result<(), CodeRefusal>
 {
     if code.length() == 255 {
         return Err(CodeRefusal::BadLength);
+    }
+    Ok(())
+}
+
+// Checks a code whose words of even weight are asked for.
+#[tactic(auto, using(crate::proofs::RefusalLaws::two_elements, crate::proofs::RefusalLaws::even_not_binary, crate::proofs::RefusalLaws::even_binary))]
+pub(crate) fn check_even_weight(code: &Code) -> Result<(), CodeRefusal>
+    ensures is { IsChecked result (first_refusal (even_weight_refusals code.now)) }
+    ensures binary { IfOk result (λ _. code.now.field ≡ Gf2) }
+{
+    if code.field().size() != 2 {
+        return Err(CodeRefusal::BadArgument(1));
+    }
+    Ok(())
+}
+
+// Checks two codes for their common words.
+#[tactic(auto, using(crate::proofs::RefusalLaws::same_field, crate::proofs::RefusalLaws::common_of_fields, crate::proofs::RefusalLaws::common_of_lengths, crate::proofs::RefusalLaws::common_fine))]
+pub(crate) fn check_intersection(a: &Code, b: &Code) -> Result<(), CodeRefusal>
+    ensures is { IsChecked result (first_refusal (intersection_refusals a.now b.now)) }
+    ensures field { IfOk result (λ _. a.now.field ≡ b.now.field) }
+    ensures columns { IfOk result (λ _. a.now.columns ≡ b.now.columns) }
+{
+    if a.field().size() != b.field().size() {
+        return Err(CodeRefusal::FieldsDiffer);
+    }
+    if a.length() != b.length() {
+        return Err(CodeRefusal::LengthsDiffer);
     }
     Ok(())
 }
