@@ -5,3 +5,4 @@ pub mod DualLaws
 pub mod ExtendedLaws
 pub mod DeletedLaws
 pub mod SubcodeLaws
+pub mod ProductLaws

@@ -4,10 +4,12 @@
 --   deleted_bad, deleted_good, deleted_count, rising_all, rising_not      punctured and shortened codes
 --   two_elements, even_not_binary, even_binary      words of even weight
 --   common_of_fields, common_of_lengths, common_fine      words of both codes
+--   product_least, product_most, product_of_fields, product_too_long, product_fine      direct products
 --   sum_of_fields, sum_too_long, sum_fine                     direct sums
 --   uuv_of_fields, uuv_of_lengths, uuv_too_long, uuv_fine     the words u followed by u + v
-use Rattle.std.proofs.Common.{◌≡◌, ◌≢◌, ℕ, zero, suc, ◌+◌, ◌-◌, ◌<◌, ◌≤◌, true, false, Bool, not, ◌==◌, nat_le, nat_lt, ◌&&◌, ◌||◌, List, [], ◌∷◌, length, slice_index, Contains, Some, None, refl, sym, subst, ◌∙◌, ⊎_elim, arith, true≢false}
+use Rattle.std.proofs.Common.{◌≡◌, ◌≢◌, ℕ, zero, suc, ◌+◌, ◌*◌, ◌-◌, ◌<◌, ◌≤◌, true, false, Bool, not, ◌==◌, nat_le, nat_lt, ◌&&◌, ◌||◌, List, [], ◌∷◌, length, slice_index, Contains, Some, None, refl, sym, subst, ◌∙◌, ⊎_elim, arith, true≢false}
 use Rattle.std.specs.List.{list_any}
+use Rattle.std.proofs.Math.Nat.{suc-mul, mul-le-mul}
 use Rattle.std.proofs.lemmas.Bool.{cases_Bool, cases_eq, cases_lt, and_parts, and_from, or_parts, eq-eqb, ne_eqb, le-leb, lt-ltb, ltb-true}
 use Rattle.lc_algebra.specs.declared.FieldName.{FieldName}
 use Rattle.lc_algebra.specs.declared.FieldName.TheVariants.{Gf2}
@@ -21,7 +23,7 @@ use Rattle.lc_algebra.proofs.EmbeddingLaws.{told_by_size}
 use Rattle.lc_constructions.specs.declared.refusal.CodeRefusal.TheVariants.{BadLength, BadArgument, FieldsDiffer, LengthsDiffer, BadPositions}
 use Rattle.lc_constructions.specs.Code.{is_length}
 use Rattle.lc_constructions.specs.Refusal.{refuse_if, first_refusal}
-use Rattle.lc_constructions.specs.Refusals.{bad_length, bad_argument, fields_differ, lengths_differ, is_rising, extended_refusals, deleted_refusals, even_weight_refusals, direct_sum_refusals, uuv_refusals, intersection_refusals}
+use Rattle.lc_constructions.specs.Refusals.{bad_length, bad_argument, fields_differ, lengths_differ, is_rising, extended_refusals, deleted_refusals, even_weight_refusals, direct_sum_refusals, uuv_refusals, direct_product_refusals, intersection_refusals}
 
 pub same_field : (f g : FieldName) → size f ≡ size g → f ≡ g
 same_field f g e = told_by_size f g e
@@ -114,6 +116,25 @@ common_of_lengths C D a e = rw (eq-eqb (size C.field) (size D.field) a, ne_eqb C
 pub common_fine : (C D : Matrix) → size C.field ≡ size D.field → C.columns ≡ D.columns → first_refusal (intersection_refusals C D) ≡ None
 unfolding first_refusal refuse_if fields_differ lengths_differ intersection_refusals
 common_fine C D a e = rw (eq-eqb (size C.field) (size D.field) a, eq-eqb C.columns D.columns e) refl
+
+pub product_least : (n m : ℕ) → 1 ≤ n → 1 ≤ m → 1 ≤ n * m
+product_least (suc n) m a b = omega (arith, suc-mul n m, b)
+product_least zero m a b = absurd (omega (arith, a))
+
+pub product_most : (n m : ℕ) → n ≤ 255 → m ≤ 255 → n * m ≤ 65025
+product_most n m a b = mul-le-mul a b
+
+pub product_of_fields : (C D : Matrix) → size C.field ≢ size D.field → first_refusal (direct_product_refusals C D) ≡ Some FieldsDiffer
+unfolding first_refusal refuse_if bad_length fields_differ direct_product_refusals
+product_of_fields C D a = rw (ne_eqb (size C.field) (size D.field) a) refl
+
+pub product_too_long : (C D : Matrix) → size C.field ≡ size D.field → 255 < C.columns * D.columns → first_refusal (direct_product_refusals C D) ≡ Some BadLength
+unfolding first_refusal refuse_if bad_length fields_differ direct_product_refusals
+product_too_long C D a b = rw (eq-eqb (size C.field) (size D.field) a, long_length (C.columns * D.columns) b) refl
+
+pub product_fine : (C D : Matrix) → size C.field ≡ size D.field → 1 ≤ C.columns * D.columns → C.columns * D.columns ≤ 255 → first_refusal (direct_product_refusals C D) ≡ None
+unfolding first_refusal refuse_if bad_length fields_differ direct_product_refusals
+product_fine C D a l b = rw (eq-eqb (size C.field) (size D.field) a, short_length (C.columns * D.columns) l b) refl
 
 pub sum_of_fields : (C D : Matrix) → size C.field ≢ size D.field → first_refusal (direct_sum_refusals C D) ≡ Some FieldsDiffer
 unfolding first_refusal refuse_if bad_length fields_differ direct_sum_refusals

@@ -7,12 +7,13 @@
 --   uuv_rows C D           rows of the words u followed by u + v
 --   extended_rows f us     each word, with minus the sum of its symbols after it
 --   punctured_rows coordinates us      each word, without these coordinates
-use Rattle.std.specs.Prelude.{ℕ, List, [], ◌∷◌, ◌++◌, map}
+--   product_rows C D       the products of each row of C with each row of D
+use Rattle.std.specs.Prelude.{ℕ, List, [], ◌∷◌, ◌++◌, map, flat_map}
 use Rattle.lc_algebra.specs.declared.FieldName.{FieldName}
 use Rattle.lc_algebra.specs.Field.{neg}
 use Rattle.lc_algebra.specs.Word.{zero_word}
 use Rattle.lc_algebra.specs.Matrix.{Matrix}
-use Rattle.lc_constructions.specs.Combined.{symbol_sum, without}
+use Rattle.lc_constructions.specs.Combined.{symbol_sum, without, tensor}
 
 abbrev pub left_rows : ℕ → List (List ℕ) → List (List ℕ)
 left_rows n us = map (λ u. u ++ zero_word n) us
@@ -34,3 +35,6 @@ extended_rows f us = map (λ u. u ++ neg f (symbol_sum f u) ∷ []) us
 
 abbrev pub punctured_rows : List ℕ → List (List ℕ) → List (List ℕ)
 punctured_rows coordinates us = map (without coordinates) us
+
+abbrev pub product_rows : Matrix → Matrix → List (List ℕ)
+product_rows C D = flat_map (λ u. map (tensor C.field u) D.rows) C.rows

@@ -4,11 +4,13 @@
 
 mod deleted;
 mod extended_codes;
+mod products;
 mod refusal;
 mod subcodes;
 mod sums;
 
 pub use deleted::{punctured, shortened};
 pub use extended_codes::extended;
+pub use products::direct_product;
 pub use subcodes::{even_weight, intersection};
 pub use sums::{direct_sum, uuv};

@@ -1,10 +1,10 @@
 //! When the combinators refuse their arguments.
-ghost use Rattle.std.specs.Prelude.{◌≡◌, ◌+◌, ◌<◌, ◌≤◌, ◌==◌, ◌||◌, not, nat_le, length, IfOk};
+ghost use Rattle.std.specs.Prelude.{◌≡◌, ◌+◌, ◌*◌, ◌<◌, ◌≤◌, ◌==◌, ◌||◌, not, nat_le, length, IfOk};
 ghost use Rattle.std.specs.List.{list_any};
 ghost use Rattle.lc_algebra.specs.declared.FieldName.TheVariants.{Gf2};
 ghost use Rattle.lc_constructions.specs.Code.{longest};
 ghost use Rattle.lc_constructions.specs.Refusal.{first_refusal};
-ghost use Rattle.lc_constructions.specs.Refusals.{is_rising, extended_refusals, deleted_refusals, even_weight_refusals, direct_sum_refusals, uuv_refusals, intersection_refusals};
+ghost use Rattle.lc_constructions.specs.Refusals.{is_rising, extended_refusals, deleted_refusals, even_weight_refusals, direct_sum_refusals, uuv_refusals, direct_product_refusals, intersection_refusals};
 ghost use Rattle.lc_combine.specs.Checked.{IsChecked};
 
 use lc_code::{Code, CodeRefusal};
@@ -31,6 +31,36 @@ pub(crate) fn check_even_weight(code: &Code) -> Result<(), CodeRefusal>
         return Err(CodeRefusal::BadArgument(1));
     }
     Ok(())
+}
+
+// Checks two codes that are multiplied.
+#[tactic(auto, using(crate::proofs::RefusalLaws::same_field, crate::proofs::RefusalLaws::product_of_fields, crate::proofs::RefusalLaws::product_too_long, crate::proofs::RefusalLaws::product_fine, crate::proofs::RefusalLaws::product_least))]
+pub(crate) fn check_direct_product(a: &Code, b: &Code) -> Result<(), CodeRefusal>
+    ensures is { IsChecked result (first_refusal (direct_product_refusals a.now b.now)) }
+    ensures field { IfOk result (λ _. a.now.field ≡ b.now.field) }
+    ensures least { IfOk result (λ _. 1 ≤ a.now.columns * b.now.columns) }
+    ensures most { IfOk result (λ _. a.now.columns * b.now.columns ≤ longest) }
+{
+    if a.field().size() != b.field().size() {
+        return Err(CodeRefusal::FieldsDiffer);
+    }
+    if product(a.length(), b.length()) > 255 {
+        return Err(CodeRefusal::BadLength);
+    }
+    Ok(())
+}
+
+// The product of two lengths.
+#[tactic(auto, using(crate::proofs::RefusalLaws::product_least, crate::proofs::RefusalLaws::product_most))]
+fn product(n: usize, m: usize) -> usize
+    requires first_least { 1 ≤ n }
+    requires first { n ≤ longest }
+    requires second_least { 1 ≤ m }
+    requires second { m ≤ longest }
+    ensures is { result ≡ n * m }
+    ensures least { 1 ≤ result }
+{
+    n * m
 }
 
 // Checks two codes for their common words.
