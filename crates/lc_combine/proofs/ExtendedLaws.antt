@@ -1,0 +1,95 @@
+-- Extended codes.
+--   sum_none, sum_more, sum_all      a sum of symbols from the left: at the first symbol, at one symbol more, at the end
+--   extended_linear        extending is linear
+--   extended_words         extended rows are words
+--   extended_members, extended_code      their words are the extended words
+use Rattle.std.proofs.Common.{◌≡◌, ℕ, zero, suc, ◌+◌, ◌<◌, ◌↔◌, List, [], ◌∷◌, ◌++◌, length, drop, slice_index, refl, sym, ap, subst, ◌∙◌, arith, add-one}
+use Rattle.std.proofs.lemmas.List.{drop_all}
+use Rattle.std.proofs.Math.Seq.{drop-cons}
+use Rattle.lc_algebra.specs.declared.FieldName.{FieldName}
+use Rattle.lc_algebra.specs.Field.{size, add, neg, mul}
+use Rattle.lc_algebra.specs.Word.{IsWord, zero_word, word_sum, scale}
+use Rattle.lc_algebra.specs.Span.{InSpan}
+use Rattle.lc_algebra.specs.Matrix.{Matrix, AreRows}
+use Rattle.lc_algebra.proofs.FieldLaws.{zero_inside, neg_inside, add_inside, zero_add, add_zero, add_assoc, neg_zero, mul_neg, mul_zero}
+use Rattle.lc_algebra.proofs.WordLaws.{fits_cons, IsWord_zero, length_zero_word}
+use Rattle.lc_constructions.specs.Code.{IsCode, InCode}
+use Rattle.lc_constructions.specs.Basic.{GeneratedBy}
+use Rattle.lc_constructions.specs.Combined.{symbol_sum, InExtended}
+use Rattle.lc_constructions.proofs.ClosedLaws.{sum_parts, scale_parts, zero_parts, symbol_sum_of_sum, symbol_sum_of_multiple, neg_of_sum}
+use Rattle.lc_combine.specs.Rows.{extended_rows}
+use Rattle.lc_combine.proofs.GeneratedLaws.{IsLinear, image_rows, image_span, span_image, generated_by}
+use Rattle.lc_combine.proofs.SumLaws.{word_append, shaped}
+
+symbol_sum_inside : (f : FieldName) (u : List ℕ) → symbol_sum f u < size f
+unfolding symbol_sum
+symbol_sum_inside f [] = zero_inside f
+symbol_sum_inside f (a ∷ u) = add_inside f a (symbol_sum f u)
+
+pub sum_none : (f : FieldName) (u : List ℕ) → add f 0 (symbol_sum f (drop 0 u)) ≡ symbol_sum f u
+sum_none f u = zero_add f (symbol_sum f u) (symbol_sum_inside f u)
+
+sum_step : (f : FieldName) (s a : ℕ) (u : List ℕ) → add f (add f s a) (symbol_sum f u) ≡ add f s (symbol_sum f (a ∷ u))
+unfolding symbol_sum
+sum_step f s a u = add_assoc f s a (symbol_sum f u)
+
+pub sum_more : (f : FieldName) (u : List ℕ) (s i : ℕ) → i < length u → add f (add f s (slice_index u i)) (symbol_sum f (drop (i + 1) u)) ≡ add f s (symbol_sum f (drop i u))
+sum_more f u s i l = rw (drop-cons u i 0, add-one) (sum_step f s (slice_index u i) _)
+
+sum_end : (f : FieldName) (s : ℕ) → s < size f → add f s (symbol_sum f []) ≡ s
+unfolding symbol_sum
+sum_end f s l = add_zero f s l
+
+pub sum_all : (f : FieldName) (u : List ℕ) (s i : ℕ) → s < size f → i ≡ length u → add f s (symbol_sum f (drop i u)) ≡ s
+sum_all f u s i l e = rw (drop_all i u (omega (arith, e))) (sum_end f s l)
+
+abbrev last : FieldName → List ℕ → List ℕ
+last f u = neg f (symbol_sum f u) ∷ []
+
+one_symbol : (f : FieldName) (a : ℕ) → a < size f → IsWord f 1 (a ∷ [])
+one_symbol f a l = record { long = refl; fits = fits_cons f a [] l (λ i m. absurd (omega (arith, m))) }
+
+one_sum : (f : FieldName) (a b : ℕ) → word_sum f (a ∷ []) (b ∷ []) ≡ add f a b ∷ []
+unfolding word_sum
+one_sum f a b = refl
+
+one_multiple : (f : FieldName) (c a : ℕ) → scale f c (a ∷ []) ≡ mul f c a ∷ []
+unfolding scale
+one_multiple f c a = refl
+
+sum_of_zeros : (f : FieldName) (n : ℕ) → symbol_sum f (zero_word n) ≡ 0
+unfolding symbol_sum
+sum_of_zeros f zero = refl
+sum_of_zeros f (suc n) = ap (add f 0) (sum_of_zeros f n) ∙ zero_add f 0 (zero_inside f)
+
+last_sum : (f : FieldName) (u v : List ℕ) → length u ≡ length v → word_sum f (last f u) (last f v) ≡ last f (word_sum f u v)
+last_sum f u v e = one_sum f (neg f (symbol_sum f u)) (neg f (symbol_sum f v)) ∙ ap (λ x. x ∷ []) (sym (ap (neg f) (symbol_sum_of_sum f u v e) ∙ neg_of_sum f (symbol_sum f u) (symbol_sum f v)))
+
+last_multiple : (f : FieldName) (c : ℕ) (u : List ℕ) → scale f c (last f u) ≡ last f (scale f c u)
+last_multiple f c u = one_multiple f c (neg f (symbol_sum f u)) ∙ ap (λ x. x ∷ []) (mul_neg f c (symbol_sum f u) ∙ sym (ap (neg f) (symbol_sum_of_multiple f c u)))
+
+pub extended_linear : (f : FieldName) (n : ℕ) → IsLinear f n (n + 1) (λ u. u ++ neg f (symbol_sum f u) ∷ [])
+extended_linear f n = record {
+  word = λ u a. word_append f n 1 u (last f u) a (one_symbol f (neg f (symbol_sum f u)) (neg_inside f (symbol_sum f u)));
+  zero = ap (λ x. zero_word n ++ x ∷ []) (ap (neg f) (sum_of_zeros f n) ∙ neg_zero f) ∙ zero_parts n 1;
+  sums = λ u v a b. sym (sum_parts f u v (last f u) (last f v) (a.long ∙ sym b.long) ∙ ap (λ t. word_sum f u v ++ t) (last_sum f u v (a.long ∙ sym b.long)));
+  multiples = λ c u a. sym (scale_parts f c u (last f u) ∙ ap (λ t. scale f c u ++ t) (last_multiple f c u));
+}
+
+pub extended_words : (C : Matrix) (g : FieldName) (k : ℕ) (rows : List (List ℕ)) → g ≡ C.field → k ≡ C.columns + 1 → AreRows C.field C.columns C.rows → rows ≡ extended_rows C.field C.rows → AreRows g k rows
+extended_words C g k rows a b r e =
+    let f = C.field in
+    let n = C.columns in
+    shaped f g (n + 1) k (extended_rows f C.rows) rows a b e (image_rows f n (n + 1) (λ u. u ++ last f u) C.rows (extended_linear f n) r)
+
+extended_members : (C : Matrix) (w : List ℕ) → AreRows C.field C.columns C.rows → InSpan C.field (C.columns + 1) (extended_rows C.field C.rows) w ↔ InExtended C w
+extended_members C w r =
+    let f = C.field in
+    let n = C.columns in
+    let h : List ℕ → List ℕ = λ u. u ++ last f u in (
+      (λ p. span_image f n (n + 1) h C.rows w (extended_linear f n) r p),
+      (λ p. subst (InSpan f (n + 1) (extended_rows f C.rows)) (sym p.2) (image_span f n (n + 1) h C.rows p.0 (extended_linear f n) r p.1)),
+    )
+
+pub extended_code : (C E : Matrix) (g : FieldName) (k : ℕ) (rows : List (List ℕ)) → AreRows C.field C.columns C.rows → g ≡ C.field → k ≡ C.columns + 1 → rows ≡ extended_rows C.field C.rows → IsCode g k (GeneratedBy g k rows) E → IsCode C.field (C.columns + 1) (InExtended C) E
+extended_code C E g k rows r a b e c = generated_by C.field g (C.columns + 1) k (extended_rows C.field C.rows) rows (InExtended C) E a b e (λ w _. extended_members C w r) c

@@ -1,0 +1,165 @@
+-- The first refusal of each combinator.
+--   same_field                     fields of one size are one field
+--   extended_too_long, extended_fine                          extended codes
+--   deleted_bad, deleted_good, deleted_count, rising_all, rising_not      punctured and shortened codes
+--   two_elements, even_not_binary, even_binary      words of even weight
+--   common_of_fields, common_of_lengths, common_fine      words of both codes
+--   product_least, product_most, product_of_fields, product_too_long, product_fine      direct products
+--   sum_of_fields, sum_too_long, sum_fine                     direct sums
+--   uuv_of_fields, uuv_of_lengths, uuv_too_long, uuv_fine     the words u followed by u + v
+use Rattle.std.proofs.Common.{◌≡◌, ◌≢◌, ℕ, zero, suc, ◌+◌, ◌*◌, ◌-◌, ◌<◌, ◌≤◌, true, false, Bool, not, ◌==◌, nat_le, nat_lt, ◌&&◌, ◌||◌, List, [], ◌∷◌, length, slice_index, Contains, Some, None, refl, sym, subst, ◌∙◌, ⊎_elim, arith, true≢false}
+use Rattle.std.specs.List.{list_any}
+use Rattle.std.proofs.Math.Nat.{suc-mul, mul-le-mul}
+use Rattle.std.proofs.lemmas.Bool.{cases_Bool, cases_eq, cases_lt, and_parts, and_from, or_parts, eq-eqb, ne_eqb, le-leb, lt-ltb, ltb-true}
+use Rattle.lc_algebra.specs.declared.FieldName.{FieldName}
+use Rattle.lc_algebra.specs.declared.FieldName.TheVariants.{Gf2}
+use Rattle.lc_algebra.specs.Field.{shape, shape_of, size}
+use Rattle.lc_algebra.specs.Matrix.{Matrix}
+use Rattle.lc_algebra.specs.Word.{zero_word}
+use Rattle.lc_algebra.proofs.WordLaws.{length_zero_word}
+use Rattle.lc_algebra.proofs.SpanSearch.{contains_any}
+use Rattle.lc_constructions.proofs.WithoutLaws.{length_without_from, deleted_fine}
+use Rattle.lc_algebra.proofs.EmbeddingLaws.{told_by_size}
+use Rattle.lc_constructions.specs.declared.refusal.CodeRefusal.TheVariants.{BadLength, BadArgument, FieldsDiffer, LengthsDiffer, BadPositions}
+use Rattle.lc_constructions.specs.Code.{is_length}
+use Rattle.lc_constructions.specs.Refusal.{refuse_if, first_refusal}
+use Rattle.lc_constructions.specs.Refusals.{bad_length, bad_argument, fields_differ, lengths_differ, is_rising, extended_refusals, deleted_refusals, even_weight_refusals, direct_sum_refusals, uuv_refusals, direct_product_refusals, intersection_refusals}
+
+pub same_field : (f g : FieldName) → size f ≡ size g → f ≡ g
+same_field f g e = told_by_size f g e
+
+long_length : (n : ℕ) → 255 < n → is_length n ≡ false
+unfolding is_length
+long_length n l = grind (arith, l)
+
+short_length : (n : ℕ) → 1 ≤ n → n ≤ 255 → is_length n ≡ true
+unfolding is_length
+short_length n a b = rw (le-leb 1 n a, le-leb n 255 b) refl
+
+pub extended_too_long : (C : Matrix) → C.columns ≡ 255 → first_refusal (extended_refusals C) ≡ Some BadLength
+unfolding first_refusal refuse_if bad_length extended_refusals
+extended_too_long C e = rw (long_length (C.columns + 1) (omega (arith, e))) refl
+
+pub extended_fine : (C : Matrix) → C.columns ≢ 255 → C.columns ≤ 255 → first_refusal (extended_refusals C) ≡ None
+unfolding first_refusal refuse_if bad_length extended_refusals
+extended_fine C o l = rw (short_length (C.columns + 1) (omega arith) (omega (arith, o, l))) refl
+
+pub deleted_bad : (C : Matrix) (coordinates : List ℕ) → (not (is_rising coordinates) || (list_any (nat_le C.columns) coordinates || (length coordinates == C.columns))) ≡ true → first_refusal (deleted_refusals C coordinates) ≡ Some BadPositions
+unfolding first_refusal refuse_if deleted_refusals
+deleted_bad C coordinates e = rw e refl
+
+pub deleted_good : (C : Matrix) (coordinates : List ℕ) → (not (is_rising coordinates) || (list_any (nat_le C.columns) coordinates || (length coordinates == C.columns))) ≡ false → first_refusal (deleted_refusals C coordinates) ≡ None
+unfolding first_refusal refuse_if deleted_refusals
+deleted_good C coordinates e = rw e refl
+
+pub deleted_count : (C : Matrix) (coordinates : List ℕ) → (not (is_rising coordinates) || (list_any (nat_le C.columns) coordinates || (length coordinates == C.columns))) ≡ false → length coordinates < C.columns
+deleted_count C coordinates e =
+    let n = C.columns in
+    let t = deleted_fine C coordinates (deleted_good C coordinates e) in
+    let o : (length coordinates == n) ≡ false = (or_parts (list_any (nat_le n) coordinates) (length coordinates == n) (or_parts (not (is_rising coordinates)) (list_any (nat_le n) coordinates || (length coordinates == n)) e).1).1 in
+    let high : (q : ℕ) → Contains coordinates q → q < 0 + length (zero_word n) = λ q c. ⊎_elim (λ l. omega (arith, l, length_zero_word n)) (λ l. absurd (true≢false (sym (contains_any (nat_le n) coordinates q c (le-leb n q l)) ∙ t.1))) (cases_lt q n) in
+    let most = length_without_from 0 coordinates (zero_word n) t.0 (λ q c. omega arith) high in
+    ⊎_elim (λ k. absurd (true≢false (sym (eq-eqb (length coordinates) n k) ∙ o))) (λ k. omega (arith, k, most, length_zero_word n)) (cases_eq (length coordinates) n)
+
+later : (a : ℕ) (xs : List ℕ) (j : ℕ) → 0 < j → slice_index (a ∷ xs) j < slice_index (a ∷ xs) (suc j) → slice_index xs (j - 1) < slice_index xs j
+later a xs zero l h = absurd (omega (arith, l))
+later a xs (suc j) l h = let e : suc j - 1 ≡ j = omega arith in rw e h
+
+rising_at : (xs : List ℕ) → is_rising xs ≡ true → (j : ℕ) → 0 < j → j < length xs → slice_index xs (j - 1) < slice_index xs j
+unfolding is_rising
+rising_at [] r j l m = absurd (omega (arith, m))
+rising_at (a ∷ []) r j l m = absurd (omega (arith, l, m))
+rising_at (a ∷ b ∷ xs) r zero l m = absurd (omega (arith, l))
+rising_at (a ∷ b ∷ xs) r (suc zero) l m = ltb-true a b (and_parts (nat_lt a b) (is_rising (b ∷ xs)) r).0
+rising_at (a ∷ b ∷ xs) r (suc (suc j)) l m =
+    let t = rising_at (b ∷ xs) (and_parts (nat_lt a b) (is_rising (b ∷ xs)) r).1 (suc j) (omega arith) (omega (arith, m)) in
+    let e : suc j - 1 ≡ j = omega arith in
+    let d : suc (suc j) - 1 ≡ suc j = omega arith in
+    rw d (subst (λ k. slice_index (b ∷ xs) k < slice_index (b ∷ xs) (suc j)) e t)
+
+pub rising_all : (xs : List ℕ) → ((j : ℕ) → 0 < j → j < length xs → slice_index xs (j - 1) < slice_index xs j) → is_rising xs ≡ true
+unfolding is_rising
+rising_all [] h = refl
+rising_all (a ∷ []) h = refl
+rising_all (a ∷ b ∷ xs) h = and_from (nat_lt a b) (is_rising (b ∷ xs)) (lt-ltb a b (h 1 (omega arith) (omega arith))) (rising_all (b ∷ xs) (λ j l m. later a (b ∷ xs) j l (let e : suc j - 1 ≡ j = omega arith in subst (λ k. slice_index (a ∷ b ∷ xs) k < slice_index (a ∷ b ∷ xs) (suc j)) e (h (suc j) (omega arith) (omega (arith, m))))))
+
+pub rising_not : (xs : List ℕ) (i : ℕ) → 0 < i → i < length xs → slice_index xs i ≤ slice_index xs (i - 1) → is_rising xs ≡ false
+rising_not xs i l m k =
+    ⊎_elim
+    (λ t. absurd (omega (arith, k, rising_at xs t i l m)))
+    (λ t. t)
+    (cases_Bool (is_rising xs))
+
+two : size Gf2 ≡ 2
+unfolding shape shape_of size
+two = refl
+
+pub two_elements : (f : FieldName) → size f ≡ 2 → f ≡ Gf2
+two_elements f e = told_by_size f Gf2 (e ∙ sym two)
+
+pub even_not_binary : (C : Matrix) → size C.field ≢ 2 → first_refusal (even_weight_refusals C) ≡ Some (BadArgument 1)
+unfolding first_refusal refuse_if bad_argument even_weight_refusals
+even_not_binary C e = rw (ne_eqb (size C.field) 2 e) refl
+
+pub even_binary : (C : Matrix) → size C.field ≡ 2 → first_refusal (even_weight_refusals C) ≡ None
+unfolding first_refusal refuse_if bad_argument even_weight_refusals
+even_binary C e = rw (eq-eqb (size C.field) 2 e) refl
+
+pub common_of_fields : (C D : Matrix) → size C.field ≢ size D.field → first_refusal (intersection_refusals C D) ≡ Some FieldsDiffer
+unfolding first_refusal refuse_if fields_differ lengths_differ intersection_refusals
+common_of_fields C D a = rw (ne_eqb (size C.field) (size D.field) a) refl
+
+pub common_of_lengths : (C D : Matrix) → size C.field ≡ size D.field → C.columns ≢ D.columns → first_refusal (intersection_refusals C D) ≡ Some LengthsDiffer
+unfolding first_refusal refuse_if fields_differ lengths_differ intersection_refusals
+common_of_lengths C D a e = rw (eq-eqb (size C.field) (size D.field) a, ne_eqb C.columns D.columns e) refl
+
+pub common_fine : (C D : Matrix) → size C.field ≡ size D.field → C.columns ≡ D.columns → first_refusal (intersection_refusals C D) ≡ None
+unfolding first_refusal refuse_if fields_differ lengths_differ intersection_refusals
+common_fine C D a e = rw (eq-eqb (size C.field) (size D.field) a, eq-eqb C.columns D.columns e) refl
+
+pub product_least : (n m : ℕ) → 1 ≤ n → 1 ≤ m → 1 ≤ n * m
+product_least (suc n) m a b = omega (arith, suc-mul n m, b)
+product_least zero m a b = absurd (omega (arith, a))
+
+pub product_most : (n m : ℕ) → n ≤ 255 → m ≤ 255 → n * m ≤ 65025
+product_most n m a b = mul-le-mul a b
+
+pub product_of_fields : (C D : Matrix) → size C.field ≢ size D.field → first_refusal (direct_product_refusals C D) ≡ Some FieldsDiffer
+unfolding first_refusal refuse_if bad_length fields_differ direct_product_refusals
+product_of_fields C D a = rw (ne_eqb (size C.field) (size D.field) a) refl
+
+pub product_too_long : (C D : Matrix) → size C.field ≡ size D.field → 255 < C.columns * D.columns → first_refusal (direct_product_refusals C D) ≡ Some BadLength
+unfolding first_refusal refuse_if bad_length fields_differ direct_product_refusals
+product_too_long C D a b = rw (eq-eqb (size C.field) (size D.field) a, long_length (C.columns * D.columns) b) refl
+
+pub product_fine : (C D : Matrix) → size C.field ≡ size D.field → 1 ≤ C.columns * D.columns → C.columns * D.columns ≤ 255 → first_refusal (direct_product_refusals C D) ≡ None
+unfolding first_refusal refuse_if bad_length fields_differ direct_product_refusals
+product_fine C D a l b = rw (eq-eqb (size C.field) (size D.field) a, short_length (C.columns * D.columns) l b) refl
+
+pub sum_of_fields : (C D : Matrix) → size C.field ≢ size D.field → first_refusal (direct_sum_refusals C D) ≡ Some FieldsDiffer
+unfolding first_refusal refuse_if bad_length fields_differ direct_sum_refusals
+sum_of_fields C D a = rw (ne_eqb (size C.field) (size D.field) a) refl
+
+pub sum_too_long : (C D : Matrix) → size C.field ≡ size D.field → 255 < C.columns + D.columns → first_refusal (direct_sum_refusals C D) ≡ Some BadLength
+unfolding first_refusal refuse_if bad_length fields_differ direct_sum_refusals
+sum_too_long C D a b = rw (eq-eqb (size C.field) (size D.field) a, long_length (C.columns + D.columns) b) refl
+
+pub sum_fine : (C D : Matrix) → size C.field ≡ size D.field → 1 ≤ C.columns → C.columns + D.columns ≤ 255 → first_refusal (direct_sum_refusals C D) ≡ None
+unfolding first_refusal refuse_if bad_length fields_differ direct_sum_refusals
+sum_fine C D a l b = rw (eq-eqb (size C.field) (size D.field) a, short_length (C.columns + D.columns) (omega (arith, l)) b) refl
+
+pub uuv_of_fields : (C D : Matrix) → size C.field ≢ size D.field → first_refusal (uuv_refusals C D) ≡ Some FieldsDiffer
+unfolding first_refusal refuse_if bad_length fields_differ lengths_differ uuv_refusals
+uuv_of_fields C D a = rw (ne_eqb (size C.field) (size D.field) a) refl
+
+pub uuv_of_lengths : (C D : Matrix) → size C.field ≡ size D.field → C.columns ≢ D.columns → first_refusal (uuv_refusals C D) ≡ Some LengthsDiffer
+unfolding first_refusal refuse_if bad_length fields_differ lengths_differ uuv_refusals
+uuv_of_lengths C D a e = rw (eq-eqb (size C.field) (size D.field) a, ne_eqb C.columns D.columns e) refl
+
+pub uuv_too_long : (C D : Matrix) → size C.field ≡ size D.field → C.columns ≡ D.columns → 255 < C.columns + D.columns → first_refusal (uuv_refusals C D) ≡ Some BadLength
+unfolding first_refusal refuse_if bad_length fields_differ lengths_differ uuv_refusals
+uuv_too_long C D a e b = rw (eq-eqb (size C.field) (size D.field) a, eq-eqb C.columns D.columns e, long_length (C.columns + D.columns) b) refl
+
+pub uuv_fine : (C D : Matrix) → size C.field ≡ size D.field → C.columns ≡ D.columns → 1 ≤ C.columns → C.columns + D.columns ≤ 255 → first_refusal (uuv_refusals C D) ≡ None
+unfolding first_refusal refuse_if bad_length fields_differ lengths_differ uuv_refusals
+uuv_fine C D a e l b = rw (eq-eqb (size C.field) (size D.field) a, eq-eqb C.columns D.columns e, short_length (C.columns + D.columns) (omega (arith, l)) b) refl

@@ -1,0 +1,16 @@
+//! Codes made from codes: extended, punctured and shortened codes, words of even weight, direct sums, (u | u + v), direct products,
+//! intersections and concatenated codes.
+#![tactic(auto)]
+
+mod deleted;
+mod extended_codes;
+mod products;
+mod refusal;
+mod subcodes;
+mod sums;
+
+pub use deleted::{punctured, shortened};
+pub use extended_codes::extended;
+pub use products::direct_product;
+pub use subcodes::{even_weight, intersection};
+pub use sums::{direct_sum, uuv};

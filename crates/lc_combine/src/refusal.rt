@@ -1,0 +1,157 @@
+//! When the combinators refuse their arguments.
+ghost use Rattle.std.specs.Prelude.{◌≡◌, ◌+◌, ◌*◌, ◌<◌, ◌≤◌, ◌==◌, ◌||◌, not, nat_le, length, IfOk};
+ghost use Rattle.std.specs.List.{list_any};
+ghost use Rattle.lc_algebra.specs.declared.FieldName.TheVariants.{Gf2};
+ghost use Rattle.lc_constructions.specs.Code.{longest};
+ghost use Rattle.lc_constructions.specs.Refusal.{first_refusal};
+ghost use Rattle.lc_constructions.specs.Refusals.{is_rising, extended_refusals, deleted_refusals, even_weight_refusals, direct_sum_refusals, uuv_refusals, direct_product_refusals, intersection_refusals};
+ghost use Rattle.lc_combine.specs.Checked.{IsChecked};
+
+use lc_code::{Code, CodeRefusal};
+
+// Checks a code that gets a further symbol.
+#[tactic(auto, using(crate::proofs::RefusalLaws::extended_too_long, crate::proofs::RefusalLaws::extended_fine))]
+pub(crate) fn check_extended(code: &Code) -> Result<(), CodeRefusal>
+    ensures is { IsChecked result (first_refusal (extended_refusals code.now)) }
+    ensures most { IfOk result (λ _. code.now.columns < longest) }
+{
+    if code.length() == 255 {
+        return Err(CodeRefusal::BadLength);
+    }
+    Ok(())
+}
+
+// Checks a code whose words of even weight are asked for.
+#[tactic(auto, using(crate::proofs::RefusalLaws::two_elements, crate::proofs::RefusalLaws::even_not_binary, crate::proofs::RefusalLaws::even_binary))]
+pub(crate) fn check_even_weight(code: &Code) -> Result<(), CodeRefusal>
+    ensures is { IsChecked result (first_refusal (even_weight_refusals code.now)) }
+    ensures binary { IfOk result (λ _. code.now.field ≡ Gf2) }
+{
+    if code.field().size() != 2 {
+        return Err(CodeRefusal::BadArgument(1));
+    }
+    Ok(())
+}
+
+// Checks two codes that are multiplied.
+#[tactic(auto, using(crate::proofs::RefusalLaws::same_field, crate::proofs::RefusalLaws::product_of_fields, crate::proofs::RefusalLaws::product_too_long, crate::proofs::RefusalLaws::product_fine, crate::proofs::RefusalLaws::product_least))]
+pub(crate) fn check_direct_product(a: &Code, b: &Code) -> Result<(), CodeRefusal>
+    ensures is { IsChecked result (first_refusal (direct_product_refusals a.now b.now)) }
+    ensures field { IfOk result (λ _. a.now.field ≡ b.now.field) }
+    ensures least { IfOk result (λ _. 1 ≤ a.now.columns * b.now.columns) }
+    ensures most { IfOk result (λ _. a.now.columns * b.now.columns ≤ longest) }
+{
+    if a.field().size() != b.field().size() {
+        return Err(CodeRefusal::FieldsDiffer);
+    }
+    if product(a.length(), b.length()) > 255 {
+        return Err(CodeRefusal::BadLength);
+    }
+    Ok(())
+}
+
+// The product of two lengths.
+#[tactic(auto, using(crate::proofs::RefusalLaws::product_least, crate::proofs::RefusalLaws::product_most))]
+fn product(n: usize, m: usize) -> usize
+    requires first_least { 1 ≤ n }
+    requires first { n ≤ longest }
+    requires second_least { 1 ≤ m }
+    requires second { m ≤ longest }
+    ensures is { result ≡ n * m }
+    ensures least { 1 ≤ result }
+{
+    n * m
+}
+
+// Checks two codes for their common words.
+#[tactic(auto, using(crate::proofs::RefusalLaws::same_field, crate::proofs::RefusalLaws::common_of_fields, crate::proofs::RefusalLaws::common_of_lengths, crate::proofs::RefusalLaws::common_fine))]
+pub(crate) fn check_intersection(a: &Code, b: &Code) -> Result<(), CodeRefusal>
+    ensures is { IsChecked result (first_refusal (intersection_refusals a.now b.now)) }
+    ensures field { IfOk result (λ _. a.now.field ≡ b.now.field) }
+    ensures columns { IfOk result (λ _. a.now.columns ≡ b.now.columns) }
+{
+    if a.field().size() != b.field().size() {
+        return Err(CodeRefusal::FieldsDiffer);
+    }
+    if a.length() != b.length() {
+        return Err(CodeRefusal::LengthsDiffer);
+    }
+    Ok(())
+}
+
+// Checks the coordinates to be deleted from the words of a code.
+#[tactic(auto, using(crate::proofs::RefusalLaws::deleted_bad, crate::proofs::RefusalLaws::deleted_good, crate::proofs::RefusalLaws::deleted_count))]
+pub(crate) fn check_deleted(code: &Code, places: &[u64]) -> Result<(), CodeRefusal>
+    ensures is { IsChecked result (first_refusal (deleted_refusals code.now places.now)) }
+    ensures count { IfOk result (λ _. length places.now < code.now.columns) }
+{
+    if are_bad(places, code.length()) {
+        return Err(CodeRefusal::BadPositions);
+    }
+    Ok(())
+}
+
+// Whether the coordinates don't rise, one is n or more, or there are n of them.
+fn are_bad(places: &[u64], n: usize) -> bool
+    ensures is { result ≡ (not (is_rising places.now) || (list_any (nat_le n) places.now || (length places.now == n))) }
+{
+    let rising = is_rising(places);
+    let outside = leave(places, n);
+    !rising || (outside || places.len() == n)
+}
+
+// Whether a coordinate is n or more.
+fn leave(places: &[u64], n: usize) -> bool
+    ensures is { result ≡ list_any (nat_le n) places.now }
+{
+    places.iter().any(|p| n as u64 <= *p)
+}
+
+// Whether each coordinate is below the next one.
+#[tactic(auto, using(crate::proofs::RefusalLaws::rising_all, crate::proofs::RefusalLaws::rising_not))]
+fn is_rising(places: &[u64]) -> bool
+    ensures is { result ≡ is_rising places.now }
+{
+    for i in 1..places.len() {
+        if places[i] <= places[i - 1] {
+            return false;
+        }
+    }
+    true
+}
+
+// Checks two codes that follow each other.
+#[tactic(auto, using(crate::proofs::RefusalLaws::same_field, crate::proofs::RefusalLaws::sum_of_fields, crate::proofs::RefusalLaws::sum_too_long, crate::proofs::RefusalLaws::sum_fine))]
+pub(crate) fn check_direct_sum(a: &Code, b: &Code) -> Result<(), CodeRefusal>
+    ensures is { IsChecked result (first_refusal (direct_sum_refusals a.now b.now)) }
+    ensures field { IfOk result (λ _. a.now.field ≡ b.now.field) }
+    ensures most { IfOk result (λ _. a.now.columns + b.now.columns ≤ longest) }
+{
+    if a.field().size() != b.field().size() {
+        return Err(CodeRefusal::FieldsDiffer);
+    }
+    if a.length() + b.length() > 255 {
+        return Err(CodeRefusal::BadLength);
+    }
+    Ok(())
+}
+
+// Checks two codes for the words u followed by u + v.
+#[tactic(auto, using(crate::proofs::RefusalLaws::same_field, crate::proofs::RefusalLaws::uuv_of_fields, crate::proofs::RefusalLaws::uuv_of_lengths, crate::proofs::RefusalLaws::uuv_too_long, crate::proofs::RefusalLaws::uuv_fine))]
+pub(crate) fn check_uuv(a: &Code, b: &Code) -> Result<(), CodeRefusal>
+    ensures is { IsChecked result (first_refusal (uuv_refusals a.now b.now)) }
+    ensures field { IfOk result (λ _. a.now.field ≡ b.now.field) }
+    ensures columns { IfOk result (λ _. a.now.columns ≡ b.now.columns) }
+    ensures most { IfOk result (λ _. a.now.columns + b.now.columns ≤ longest) }
+{
+    if a.field().size() != b.field().size() {
+        return Err(CodeRefusal::FieldsDiffer);
+    }
+    if a.length() != b.length() {
+        return Err(CodeRefusal::LengthsDiffer);
+    }
+    if a.length() + b.length() > 255 {
+        return Err(CodeRefusal::BadLength);
+    }
+    Ok(())
+}
