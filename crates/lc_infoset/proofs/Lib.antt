@@ -13,3 +13,4 @@ pub mod SessionLaws
 pub mod FittingLaws
 pub mod PlanCount
 pub mod ClaimLaws
+pub mod KeptLaws

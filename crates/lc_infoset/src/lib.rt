@@ -4,3 +4,7 @@
 #![tactic(auto)]
 
 pub mod laws;
+mod sets;
+
+pub use lc_field::NoMemory;
+pub use sets::Sets;
