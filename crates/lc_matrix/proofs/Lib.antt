@@ -6,3 +6,4 @@ pub mod PlaceLaws
 pub mod RankLaws
 pub mod SolveLaws
 pub mod SolutionLaws
+pub mod DivisorLaws
