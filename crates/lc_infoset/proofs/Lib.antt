@@ -14,3 +14,4 @@ pub mod FittingLaws
 pub mod PlanCount
 pub mod ClaimLaws
 pub mod KeptLaws
+pub mod ChoiceLaws
