@@ -5,8 +5,7 @@
 --   pivot_outside                the column of a pivot is no sum of multiples of those of the earlier pivots
 --   dot_front, symbol_of_row, front_symbol, passed_inside      any other column is
 --   greedy_rest, greedy_picked   so the greedy choice is that of the pivots
---   AreTurned                    rows in the order of the set's columns
---   distinct_indexes, turned_unit, turned_generator      they are the generator matrix on the set
+--   distinct_indexes, turned_unit, turned_generator      the rows in the order of the set's columns are the generator matrix on it
 use Rattle.std.proofs.Common.{◌≡◌, ◌≢◌, ℕ, zero, suc, ◌+◌, ◌<◌, ◌≤◌, Bool, false, cond, ◌==◌, if◌then◌else◌, filter, List, [], ◌∷◌, ◌++◌, length, map, take, slice_index, slice_index_or, Contains, refl, sym, ap, subst, ◌∙◌, ⊎_elim, arith}
 use Rattle.std.proofs.lemmas.Bool.{cases_Bool, cases_eq, cases_lt, eq-eqb, ne_eqb}
 use Rattle.std.proofs.lemmas.List.{ext_get_or, length-map, get_or-map, get_or_default, get_or-take, get_or_past, length-take, length-take-le, take_all, take_more, map-append}
@@ -25,6 +24,7 @@ use Rattle.lc_algebra.proofs.DimensionLaws.{pairs_from_distinct, distinct_below}
 use Rattle.lc_enumeration.specs.InformationSet.{in_span, greedy, unit_word, systematic}
 use Rattle.lc_enumeration.proofs.MemberLaws.{in_span_true, true_in_span}
 use Rattle.lc_matrix.specs.Elimination.{IsReducedTo}
+use Rattle.lc_infoset.specs.Choice.{AreTurned}
 use Rattle.lc_infoset.proofs.BoundLaws.{all_from_members}
 use Rattle.lc_infoset.proofs.ExistLaws.{told_on_set, row_looked, length_systematic, length_unit, index_unit}
 use Rattle.lc_infoset.proofs.GreedyLaws.{vectors_are, columns_are, IsBasis}
@@ -200,11 +200,6 @@ greedy_picked f n order at rows e h = greedy_rest f n 0 0 order at order rows e 
   past = λ j l. absurd (omega (arith, l));
   ahead = λ j l m. omega arith;
 })
-
-pub record AreTurned (set cols turn : List ℕ) : Type 0 where
-  pub count : length turn ≡ length set
-  pub inside : (i : ℕ) → i < length turn → slice_index turn i < length cols
-  pub places : (i : ℕ) → i < length turn → slice_index cols (slice_index turn i) ≡ slice_index set i
 
 distinct_indexes : (p : ℕ → Bool) (n i j : ℕ) → i < length (filter p (below n)) → j < length (filter p (below n)) → i ≢ j → slice_index (filter p (below n)) i ≢ slice_index (filter p (below n)) j
 distinct_indexes p n i j l m o q =

@@ -15,3 +15,4 @@ pub mod PlanCount
 pub mod ClaimLaws
 pub mod KeptLaws
 pub mod ChoiceLaws
+pub mod NextLaws

@@ -3,6 +3,8 @@
 //! functions of `laws`.
 #![tactic(auto)]
 
+mod choose;
+mod kept;
 pub mod laws;
 mod sets;
 

@@ -9,25 +9,10 @@ ghost use Rattle.lc_algebra.specs.Divisor.{divisor_of};
 ghost use Rattle.lc_enumeration.specs.Search.{set_count, generator_at};
 ghost use Rattle.lc_infoset.specs.Bound.{set_at};
 
+use crate::kept::KeptSet;
 use lc_field::Field;
 use lc_matrix::Matrix;
 use std::marker::Model;
-
-// An information set, its fresh columns, and the generator matrix that is the identity on it.
-#[derive(Drop)]
-pub(crate) struct KeptSet {
-    pub(crate) basis: Vec<usize>,
-    pub(crate) fresh: Vec<usize>,
-    pub(crate) generator: Matrix,
-}
-
-impl Model for KeptSet {
-    ghost use Rattle.lc_infoset.specs.Kept.{SetState};
-
-    ghost Value = { SetState };
-
-    ghost view = { λ s. record { set = record { basis = s.basis.items; fresh = s.fresh.items }; generator = s.generator } };
-}
 
 /// The information sets of a code, each with the columns that it brings first and with the rows of the code that are the
 /// identity on it (Grassl, Searching for linear codes with large minimum distance).
