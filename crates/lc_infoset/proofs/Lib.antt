@@ -16,3 +16,4 @@ pub mod ClaimLaws
 pub mod KeptLaws
 pub mod ChoiceLaws
 pub mod NextLaws
+pub mod BuildLaws

@@ -1,6 +1,7 @@
 //! The information sets of a code.
 
-ghost use Rattle.std.specs.Prelude.{◌≡◌, ℕ, ◌<◌, ◌≤◌, List, [], length, slice_index_or, All, IsTrue};
+ghost use Rattle.std.specs.Prelude.{◌≡◌, ℕ, ◌+◌, ◌<◌, ◌≤◌, ◌++◌, List, [], length, slice_index_or, All, IsTrue, IfOk};
+ghost use Rattle.std.specs.Bool.{OnTrue, OnFalse};
 ghost use Rattle.lc_algebra.specs.Field.{is_symbol};
 ghost use Rattle.lc_algebra.specs.Word.{IsWord};
 ghost use Rattle.lc_algebra.specs.Span.{AreIndependent};
@@ -8,10 +9,13 @@ ghost use Rattle.lc_algebra.specs.Matrix.{AreRows};
 ghost use Rattle.lc_algebra.specs.Divisor.{divisor_of};
 ghost use Rattle.lc_enumeration.specs.Search.{set_count, generator_at};
 ghost use Rattle.lc_infoset.specs.Bound.{set_at};
+ghost use Rattle.lc_infoset.specs.Kept.{states_after};
 
+use crate::choose::next_set;
 use crate::kept::KeptSet;
-use lc_field::Field;
+use lc_field::{Field, NoMemory};
 use lc_matrix::Matrix;
+use std::alloc::Global;
 use std::marker::Model;
 
 /// The information sets of a code, each with the columns that it brings first and with the rows of the code that are the
@@ -38,6 +42,34 @@ impl Model for Sets {
 }
 
 impl Sets {
+    /// The information sets of the code of the rows, each with its fresh columns and its generator matrix: the first one, and
+    /// each next one as long as its fresh columns are at least half of k.
+    ///
+    /// The field has at most 16 elements, there are 1 to 255 columns, and at least one row, and the rows are independent, as
+    /// those of a code's matrix are.
+    #[tactic(auto, using(crate::proofs::BuildLaws::all_states))]
+    pub fn build(alloc: Global, rows: &Matrix) -> Result<Sets, NoMemory>
+        requires symbol { IsTrue (is_symbol rows.now.field) }
+        requires least { 1 ≤ rows.now.columns }
+        requires most { rows.now.columns ≤ 255 }
+        requires some { 0 < length rows.now.rows }
+        requires independent { AreIndependent rows.now.field rows.now.columns rows.now.rows }
+        ensures code { IfOk result (λ s. s ≡ rows.now) }
+    {
+        let _height = rows.rows();
+        let mut used = Vec::new(alloc);
+        let mut sets = Vec::new(alloc);
+        let first = next_set(alloc, rows, &used)?;
+        used.extend_from_slice(&first.fresh)?;
+        sets.push(first)?;
+        push_sets(alloc, rows, &mut used, &mut sets)?;
+        Ok(Sets {
+            code: rows.copy(alloc)?,
+            divisor: rows.divisor(),
+            sets,
+        })
+    }
+
     /// The field of the symbols; it has at most 16 elements.
     pub fn field(&self) -> &Field
         ensures is { result.now ≡ self.now.field }
@@ -133,6 +165,46 @@ impl Sets {
     {
         self.divisor
     }
+}
+
+// Pushes the sets after those whose fresh columns are used. No more than n of them have a fresh column.
+#[tactic(auto, using(crate::proofs::BuildLaws::none_after))]
+fn push_sets(
+    alloc: Global,
+    code: &Matrix,
+    used: &mut Vec<usize>,
+    sets: &mut Vec<KeptSet>,
+) -> Result<(), NoMemory>
+    requires independent { AreIndependent code.now.field code.now.columns code.now.rows }
+    ensures are { IfOk result (λ _. sets.new.items ≡ sets.old.items ++ states_after code.now used.old.items code.now.columns) }
+{
+    for _i in 0..code.cols() {
+        if !push_next(alloc, code, used, sets)? {
+            return Ok(());
+        }
+    }
+    Ok(())
+}
+
+// Pushes the next set if its fresh columns are at least half of k, and uses them. Returns whether it did.
+#[tactic(auto, using(crate::proofs::BuildLaws::one_after, crate::proofs::BuildLaws::short_after))]
+fn push_next(
+    alloc: Global,
+    code: &Matrix,
+    used: &mut Vec<usize>,
+    sets: &mut Vec<KeptSet>,
+) -> Result<bool, NoMemory>
+    requires independent { AreIndependent code.now.field code.now.columns code.now.rows }
+    ensures more { IfOk result (λ more. OnTrue more ((m : ℕ) → sets.old.items ++ states_after code.now used.old.items (m + 1) ≡ sets.new.items ++ states_after code.now used.new.items m)) }
+    ensures done { IfOk result (λ more. OnFalse more ((m : ℕ) → sets.old.items ++ states_after code.now used.old.items (m + 1) ≡ sets.new.items)) }
+{
+    let set = next_set(alloc, code, used)?;
+    if 2 * set.fresh.len() < code.rows() {
+        return Ok(false);
+    }
+    used.extend_from_slice(&set.fresh)?;
+    sets.push(set)?;
+    Ok(true)
 }
 
 // Proved only where its argument may go to another thread and be shared with it.
