@@ -1,6 +1,6 @@
 -- What is kept of the information sets of a code is what the definitions say.
 --   dimension_few                    the dimension is at most the length
---   divisor_some                     the divisor is at least 1
+--   divisor_some, divisor_small      the divisor is 1 to 4
 --   sets_few, first_fresh, count_few, count_some, count_kept, count_least, count_most, set_inside      there are 1 to n sets, and
 --                                    as many are kept
 --   state_kept, basis_kept, fresh_kept, rows_kept, field_kept, columns_kept      what is kept of set j is that of set j of the
@@ -13,12 +13,13 @@ use Rattle.std.proofs.lemmas.Bool.{cases_Bool, leb-true}
 use Rattle.std.proofs.lemmas.List.{length-map, get_or-map, length-append}
 use Rattle.std.proofs.lemmas.List.Elements.{All-contains, Contains-get_or, Contains-append_cases}
 use Rattle.lc_algebra.specs.declared.FieldName.{FieldName}
+use Rattle.lc_algebra.specs.declared.FieldName.TheVariants.{Gf2, Gf3}
 use Rattle.lc_algebra.specs.Span.{below, AreIndependent}
 use Rattle.lc_algebra.specs.Matrix.{Matrix, AreRows, column}
-use Rattle.lc_algebra.specs.Divisor.{weight_divisor, divisor_of}
-use Rattle.lc_algebra.proofs.SpanLaws.{length_below}
+use Rattle.lc_algebra.specs.Divisor.{possible_divisors, weight_divisor, divisor_of}
+use Rattle.lc_algebra.proofs.SpanLaws.{contains_cases, length_below}
 use Rattle.lc_algebra.proofs.DimensionLaws.{AreDistinct, distinct_append, distinct_from_pairs, distinct_at_most}
-use Rattle.lc_algebra.proofs.DivisorLaws.{divisor_positive}
+use Rattle.lc_algebra.proofs.DivisorLaws.{divisor_is as greatest_divisor, divisor_positive, no_member}
 use Rattle.lc_enumeration.specs.InformationSet.{is_member, greedy, first_basis, columns_in_order, with_fresh, next_set, sets_after, information_sets, systematic}
 use Rattle.lc_enumeration.specs.Search.{sets_of, set_count, generator_at}
 use Rattle.lc_infoset.specs.Bound.{set_at}
@@ -38,6 +39,18 @@ divisor_is C = refl
 
 pub divisor_some : (C : Matrix) (d : ℕ) (states : List SetState) → IsKept C d states → 1 ≤ d
 divisor_some C d states h = omega (arith, h.divisor, divisor_is C, divisor_positive C.field C.columns C.rows)
+
+each_small : (f : FieldName) (d : ℕ) → Contains (possible_divisors f) d → d ≤ 4
+unfolding possible_divisors
+each_small Gf2 d l = ⊎_elim (λ e. omega (arith, e)) (λ m. ⊎_elim (λ e. omega (arith, e)) (λ o. absurd (no_member d o)) (contains_cases 2 d [] m)) (contains_cases 4 d (2 ∷ []) l)
+each_small Gf3 d l = ⊎_elim (λ e. omega (arith, e)) (λ o. absurd (no_member d o)) (contains_cases 3 d [] l)
+each_small _ d l = absurd (no_member d l)
+
+pub divisor_small : (C : Matrix) (d : ℕ) (states : List SetState) → IsKept C d states → d ≤ 4
+divisor_small C d states h =
+    let w = weight_divisor C.field C.columns C.rows in
+    let small : w ≤ 4 = ⊎_elim (λ l. each_small C.field w l) (λ l. ⊎_elim (λ e. omega (arith, e)) (λ o. absurd (no_member w o)) (contains_cases 1 w [] l)) (Contains-append_cases (possible_divisors C.field) (1 ∷ []) w (greatest_divisor C.field C.columns C.rows).possible) in
+    omega (arith, h.divisor, divisor_is C, small)
 
 next_inside : (f : FieldName) (n : ℕ) (rows : List (List ℕ)) (used : List ℕ) (c : ℕ) → Contains (next_set f n rows used).fresh c → Contains (below n) c
 unfolding next_set with_fresh first_basis

@@ -17,3 +17,4 @@ pub mod KeptLaws
 pub mod ChoiceLaws
 pub mod NextLaws
 pub mod BuildLaws
+pub mod LevelLaws

@@ -3,6 +3,7 @@
 //! functions of `laws`.
 #![tactic(auto)]
 
+mod bound;
 mod choose;
 mod kept;
 pub mod laws;

@@ -158,10 +158,11 @@ impl Sets {
 
     /// The number that divides the weights of the code: over 2 elements 4 if all are divisible by 4, else 2 if all are even;
     /// over 3 elements 3 if all are divisible by 3; else 1.
-    #[tactic(auto, using(crate::proofs::KeptLaws::divisor_some))]
+    #[tactic(auto, using(crate::proofs::KeptLaws::divisor_some, crate::proofs::KeptLaws::divisor_small))]
     pub fn divisor(&self) -> u64
         ensures is { result ≡ divisor_of self.now }
         ensures least { 1 ≤ result }
+        ensures most { result ≤ 4 }
     {
         self.divisor
     }
