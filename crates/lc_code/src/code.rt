@@ -3,6 +3,7 @@ ghost use Rattle.std.specs.Prelude.{◌≡◌, ℕ, ◌<◌, ◌≤◌, ◌↔�
 ghost use Rattle.lc_algebra.specs.Field.{is_symbol};
 ghost use Rattle.lc_algebra.specs.Word.{IsWord};
 ghost use Rattle.lc_algebra.specs.Matrix.{AreRows, IsReduced};
+ghost use Rattle.lc_algebra.specs.Divisor.{divisor_of};
 ghost use Rattle.lc_constructions.specs.Code.{longest, InCode, IsCode, CheckedBy};
 ghost use Rattle.lc_constructions.specs.Basic.{GeneratedBy};
 ghost use Rattle.lc_constructions.specs.Combined.{InDual};
@@ -134,6 +135,14 @@ impl Code {
         ensures reduced { IsReduced self.now.columns self.now.rows }
     {
         &self.matrix
+    }
+
+    /// The number that divides the weights of the code: over 2 elements 4 if all are divisible by 4, else 2 if all are even;
+    /// over 3 elements 3 if all are divisible by 3; else 1. No memory is taken.
+    pub fn divisor(&self) -> u64
+        ensures is { result ≡ divisor_of self.now }
+    {
+        self.matrix.divisor()
     }
 
     /// Whether the word is in the code.

@@ -13,3 +13,8 @@ pub mod SessionLaws
 pub mod FittingLaws
 pub mod PlanCount
 pub mod ClaimLaws
+pub mod KeptLaws
+pub mod ChoiceLaws
+pub mod NextLaws
+pub mod BuildLaws
+pub mod LevelLaws

@@ -3,4 +3,11 @@
 //! functions of `laws`.
 #![tactic(auto)]
 
+mod bound;
+mod choose;
+mod kept;
 pub mod laws;
+mod sets;
+
+pub use lc_field::NoMemory;
+pub use sets::Sets;

@@ -6,3 +6,5 @@ pub mod PlaceLaws
 pub mod RankLaws
 pub mod SolveLaws
 pub mod SolutionLaws
+pub mod DivisibleLaws
+pub mod DivisorLaws

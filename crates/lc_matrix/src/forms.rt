@@ -1,10 +1,10 @@
 //! Reduced forms, ranks, systematic matrices and spans.
-ghost use Rattle.std.specs.Prelude.{◌≡◌, ℕ, ◌+◌, ◌<◌, ◌↔◌, List, [], length, slice_index, slice_index_or, All, IfOk, IfSome, IsSome, IsTrue};
+ghost use Rattle.std.specs.Prelude.{◌≡◌, ℕ, ◌+◌, ◌<◌, ◌↔◌, List, [], length, map, slice_index, slice_index_or, All, IfOk, IfSome, IsSome, IsTrue};
 ghost use Rattle.lc_algebra.specs.Field.{neg};
 ghost use Rattle.lc_algebra.specs.Word.{IsWord, word_sum, scale};
-ghost use Rattle.lc_algebra.specs.Span.{InSpan};
+ghost use Rattle.lc_algebra.specs.Span.{InSpan, SameSpan};
 ghost use Rattle.lc_algebra.specs.Matrix.{AreRows, HasPivots, IsEchelon, IsSystematic, AreIndependentColumns};
-ghost use Rattle.lc_matrix.specs.Elimination.{IsInOrder, IsRest};
+ghost use Rattle.lc_matrix.specs.Elimination.{IsReducedTo, IsInOrder, IsRest};
 
 use crate::matrix::Matrix;
 use lc_field::NoMemory;
@@ -48,6 +48,40 @@ impl Matrix {
             return Ok(None);
         }
         Ok(Some(matrix))
+    }
+
+    /// Row-reduces the rows, trying the columns in `order`. Returns the reduced matrix with its zero rows, and for each row that
+    /// isn't zero on the order the index in `order` of its pivot column.
+    pub fn reduced_in(
+        &self,
+        alloc: Global,
+        order: &[usize],
+    ) -> Result<(Matrix, Vec<usize>), NoMemory>
+        requires inside { All (λ c. c < self.now.columns) order.now }
+        ensures field { IfOk result (λ p. p.0.field ≡ self.now.field) }
+        ensures columns { IfOk result (λ p. p.0.columns ≡ self.now.columns) }
+        ensures count { IfOk result (λ p. length p.0.rows ≡ length self.now.rows) }
+        ensures words { IfOk result (λ p. AreRows self.now.field self.now.columns p.0.rows) }
+        ensures same { IfOk result (λ p. SameSpan self.now.field self.now.columns self.now.rows p.0.rows) }
+        ensures reduced { IfOk result (λ p. IsReducedTo order.now (length order.now) p.1.items p.0.rows) }
+    {
+        let mut matrix = self.copy(alloc)?;
+        let at = matrix.reduce(alloc, order)?;
+        Ok((matrix, at))
+    }
+
+    /// The matrix of the rows at these indexes, in their order.
+    pub fn rows_at(&self, alloc: Global, indexes: &[usize]) -> Result<Matrix, NoMemory>
+        requires inside { All (λ i. i < length self.now.rows) indexes.now }
+        ensures field { IfOk result (λ m. m.field ≡ self.now.field) }
+        ensures columns { IfOk result (λ m. m.columns ≡ self.now.columns) }
+        ensures rows { IfOk result (λ m. m.rows ≡ map (λ i. slice_index_or self.now.rows i []) indexes.now) }
+    {
+        let mut matrix = Matrix::empty(alloc, self.field(), self.cols())?;
+        for i in indexes {
+            matrix.push(self.row(*i))?;
+        }
+        Ok(matrix)
     }
 
     /// Whether the word is a sum of multiples of the rows. It has one symbol for each column, an element of the field.

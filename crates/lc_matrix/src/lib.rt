@@ -1,6 +1,7 @@
-//! Matrices over a field: reduced forms, kernels, linear systems and spans.
+//! Matrices over a field: reduced forms, kernels, linear systems, spans, and what divides all weights.
 #![tactic(auto)]
 
+mod divisor;
 mod forms;
 mod kernel;
 mod laws;

@@ -168,8 +168,8 @@ impl Matrix {
         self.height = k;
     }
 
-    // The same matrix, with a field and rows of its own.
-    pub(crate) fn copy(&self, alloc: Global) -> Result<Matrix, NoMemory>
+    /// The same matrix, with a field and rows of its own.
+    pub fn copy(&self, alloc: Global) -> Result<Matrix, NoMemory>
         ensures same { IfOk result (λ m. m ≡ self.now) }
     {
         Ok(Matrix {
