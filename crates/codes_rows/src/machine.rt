@@ -18,6 +18,7 @@ fn text_of(alloc: Global, script: &str) -> Result<Vec<u8>, AllocError> {
             Ok(Step::Line(line)) => text.extend_from_slice(&line)?,
             Ok(Step::Fault(line)) => text.extend_from_slice(&line)?,
             Ok(Step::Silent) => {}
+            Ok(Step::Need(query)) => match query {},
             Ok(Step::End) => return Ok(text),
             Err(_) => return Err(AllocError),
         }

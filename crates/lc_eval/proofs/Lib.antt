@@ -1,4 +1,4 @@
-pub mod Bindings
+pub mod NameLaws
 pub mod ListLaws
 pub mod KindLaws
 pub mod TableLaws

@@ -12,6 +12,7 @@ use Rattle.lc_language.specs.Value as language
 use Rattle.lc_language.specs.Print.{value_line, fault_line}
 use Rattle.lc_language.specs.Evaluation.{gives, refused, prints, fails, fail_with, Step, Evaluates, StepsOf, StepsAsQuery, query_of, Refused, Steps, binds}
 use Rattle.lc_eval.specs.Built.{built_calls}
+use Rattle.lc_eval.specs.Names.{IsBound}
 use Rattle.lc_eval.specs.declared.values.Value.{Value}
 use Rattle.lc_eval.specs.declared.refusals.Stop.{Stop}
 use Rattle.lc_eval.specs.declared.refusals.Stop.TheVariants as stop
@@ -65,10 +66,8 @@ abbrev state_at : List language.Binding → List Statement → ℕ → State
 state_at env ss next = record { bindings = env; left = drop next ss }
 
 module _ (old : State) (env : List language.Binding) (ss : List Statement) (next : ℕ) (s : Statement) where
-  pub silent_step : (now : List language.Binding) (b : language.Binding) → state_at env ss next ≡ old → next < length ss → s ≡ get_or ss next s → now ≡ b ∷ env → Steps built_calls env (statement_of s) (binds b) → Does old Silent (state_at now ss (next + 1))
-  silent_step now b view l is n h =
-      let bound : state_at now ss (next + 1) ≡ record { bindings = b ∷ env; left = drop (next + 1) ss } = ap (λ (bs : List language.Binding). record { bindings = bs; left = drop (next + 1) ss }) n in
-      subst (λ o. Does o Silent (state_at now ss (next + 1))) view (s, (drop (next + 1) ss, first_left ss next s l is, (b, h, bound)))
+  pub silent_step : (now : List language.Binding) (b : language.Binding) → state_at env ss next ≡ old → next < length ss → s ≡ get_or ss next s → IsBound b env now → Steps built_calls env (statement_of s) (binds b) → Does old Silent (state_at now ss (next + 1))
+  silent_step now b view l is n h = subst (λ o. Does o Silent (state_at now ss (next + 1))) view (s, (drop (next + 1) ss, first_left ss next s l is, (b, h, n, refl)))
 
   pub line_step : (text : Vec ℕ) → state_at env ss next ≡ old → next < length ss → s ≡ get_or ss next s → Steps built_calls env (statement_of s) (prints text.items) → Does old (Line text) (state_at env ss (next + 1))
   line_step text view l is h = subst (λ o. Does o (Line text) (state_at env ss (next + 1))) view (s, (drop (next + 1) ss, first_left ss next s l is, (h, refl)))

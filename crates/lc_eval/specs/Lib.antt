@@ -1,7 +1,7 @@
 pub mod Built
 pub mod Value
 pub mod Listed
-pub mod Places
+pub mod Names
 pub mod Machine
 pub mod Applied
 pub mod Evaluated

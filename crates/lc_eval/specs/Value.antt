@@ -3,9 +3,8 @@
 --   code_value_of c               a code with its alternant form
 --   value_of v, values_of vs      the value; the values of a list
 --   binding_of b                  the binding
---   env_of bs                     the bindings, the last one first
 --   refused_of r                  the fault
-use Rattle.std.specs.Prelude.{ℕ, List, map, reverse, string_bytes}
+use Rattle.std.specs.Prelude.{ℕ, List, map, string_bytes}
 use Rattle.std.specs.Global.{Vec}
 use Rattle.lc_language.specs.Value as language
 use Rattle.lc_language.specs.Evaluation as evaluation
@@ -34,9 +33,6 @@ values_of vs = map value_of vs
 
 abbrev pub binding_of : Binding → language.Binding
 binding_of b = record { name = string_bytes b.name; value = value_of b.value }
-
-abbrev pub env_of : List Binding → List language.Binding
-env_of bs = reverse (map binding_of bs)
 
 abbrev pub refused_of : Refused → evaluation.Refused
 refused_of r = record { number = r.number; place = r.place; values = r.values.items }

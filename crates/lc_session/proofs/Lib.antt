@@ -3,3 +3,4 @@ pub mod OneText
 pub mod OneValue
 pub mod RunLaws
 pub mod SessionLaws
+pub mod SameNames

@@ -1,14 +1,16 @@
 -- The text so far, as the machine goes from statement to statement.
 --   RunsFrom budget now text ends     the text of the statements that are left
---   GoesTo start text now             the text of the statements of start is this one, and behind it that of those left now
---   stops_at_end                      where no statement is left, it is the whole text
-use Rattle.std.proofs.Common.{ℕ, Bool, false, List, [], ◌++◌, map, refl, sym, subst}
+--   GoesTo start text now             the text of the statements of start is this one, and after it that of those left now
+--   stops_at_end                      if no statement is left, it is the whole text
+--   goes_silently                     a statement that binds a name prints nothing
+use Rattle.std.proofs.Common.{◌≡◌, ℕ, Bool, false, List, [], ◌∷◌, ◌++◌, map, refl, sym, ap, subst}
 use Rattle.std.proofs.lemmas.List.{append-nil}
 use Rattle.lc_parse.specs.Views.{statement_of}
-use Rattle.lc_language.specs.Evaluation.{Runs}
+use Rattle.lc_language.specs.Evaluation.{Runs, binds}
 use Rattle.lc_eval.specs.Built.{built_calls}
 use Rattle.lc_eval.specs.Machine.{State, Does}
 use Rattle.lc_eval.specs.declared.machine.Step.TheVariants as step
+use Rattle.lc_session.proofs.SameNames.{runs_same}
 
 abbrev pub RunsFrom : ℕ → State → List ℕ → Bool → Type 0
 RunsFrom budget now text ends = Runs built_calls budget now.bindings (map statement_of now.left) text ends
@@ -21,3 +23,15 @@ runs_out budget old new d = subst (λ left. Runs built_calls budget old.bindings
 
 pub stops_at_end : (start old new : State) (text : List ℕ) → Does old step.End new → GoesTo start text old → (budget : ℕ) → RunsFrom budget start text false
 stops_at_end start old new text d g budget = subst (λ t. RunsFrom budget start t false) (append-nil text) (g budget [] false (runs_out budget old new d))
+
+silent_from : (budget : ℕ) (old new : State) (rest : List ℕ) (ends : Bool) → Does old step.Silent new → RunsFrom budget new rest ends → RunsFrom budget old rest ends
+silent_from budget old new rest ends d h =
+    let b = d.1.2.0 in
+    let left : map statement_of new.left ≡ map statement_of d.1.0 = ap (map statement_of) d.1.2.3 in
+    let at : Runs built_calls budget new.bindings (map statement_of d.1.0) rest ends = subst (λ ss. Runs built_calls budget new.bindings ss rest ends) left h in
+    let bound : Runs built_calls budget (b ∷ old.bindings) (map statement_of d.1.0) rest ends = runs_same built_calls budget (map statement_of d.1.0) new.bindings (b ∷ old.bindings) d.1.2.2 rest ends at in
+    subst (λ ss. Runs built_calls budget old.bindings (map statement_of ss) rest ends) (sym d.1.1) (binds b, d.1.2.1, bound)
+
+-- a statement that binds a name prints nothing
+pub goes_silently : (start old new : State) (text : List ℕ) → Does old step.Silent new → GoesTo start text old → GoesTo start text new
+goes_silently start old new text d g budget rest ends h = g budget rest ends (silent_from budget old new rest ends d h)
