@@ -6,3 +6,6 @@ pub mod ExtendedLaws
 pub mod DeletedLaws
 pub mod SubcodeLaws
 pub mod ProductLaws
+pub mod NestedLaws
+pub mod ReplacedLaws
+pub mod ConcatenatedLaws

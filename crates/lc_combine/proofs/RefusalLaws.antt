@@ -28,11 +28,11 @@ use Rattle.lc_constructions.specs.Refusals.{bad_length, bad_argument, fields_dif
 pub same_field : (f g : FieldName) → size f ≡ size g → f ≡ g
 same_field f g e = told_by_size f g e
 
-long_length : (n : ℕ) → 255 < n → is_length n ≡ false
+pub long_length : (n : ℕ) → 255 < n → is_length n ≡ false
 unfolding is_length
 long_length n l = grind (arith, l)
 
-short_length : (n : ℕ) → 1 ≤ n → n ≤ 255 → is_length n ≡ true
+pub short_length : (n : ℕ) → 1 ≤ n → n ≤ 255 → is_length n ≡ true
 unfolding is_length
 short_length n a b = rw (le-leb 1 n a, le-leb n 255 b) refl
 

@@ -2,6 +2,7 @@
 //! intersections and concatenated codes.
 #![tactic(auto)]
 
+mod concatenation;
 mod deleted;
 mod extended_codes;
 mod products;
@@ -9,6 +10,7 @@ mod refusal;
 mod subcodes;
 mod sums;
 
+pub use concatenation::concatenated;
 pub use deleted::{punctured, shortened};
 pub use extended_codes::extended;
 pub use products::direct_product;

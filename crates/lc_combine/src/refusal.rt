@@ -1,10 +1,11 @@
 //! When the combinators refuse their arguments.
-ghost use Rattle.std.specs.Prelude.{◌≡◌, ◌+◌, ◌*◌, ◌<◌, ◌≤◌, ◌==◌, ◌||◌, not, nat_le, length, IfOk};
+ghost use Rattle.std.specs.Prelude.{◌≡◌, ◌+◌, ◌*◌, ◌<◌, ◌≤◌, ◌==◌, ◌||◌, not, nat_le, length, Some, IfOk};
 ghost use Rattle.std.specs.List.{list_any};
+ghost use Rattle.lc_algebra.specs.Field.{size};
 ghost use Rattle.lc_algebra.specs.declared.FieldName.TheVariants.{Gf2};
 ghost use Rattle.lc_constructions.specs.Code.{longest};
 ghost use Rattle.lc_constructions.specs.Refusal.{first_refusal};
-ghost use Rattle.lc_constructions.specs.Refusals.{is_rising, extended_refusals, deleted_refusals, even_weight_refusals, direct_sum_refusals, uuv_refusals, direct_product_refusals, intersection_refusals};
+ghost use Rattle.lc_constructions.specs.Refusals.{is_rising, extended_refusals, deleted_refusals, even_weight_refusals, direct_sum_refusals, uuv_refusals, direct_product_refusals, intersection_refusals, degree_over, concatenated_refusals};
 ghost use Rattle.lc_combine.specs.Checked.{IsChecked};
 
 use lc_code::{Code, CodeRefusal};
@@ -154,4 +155,52 @@ pub(crate) fn check_uuv(a: &Code, b: &Code) -> Result<(), CodeRefusal>
         return Err(CodeRefusal::BadLength);
     }
     Ok(())
+}
+
+// Checks an outer and an inner code.
+#[tactic(auto, using(crate::proofs::NestedLaws::no_power, crate::proofs::NestedLaws::small_field))]
+pub(crate) fn check_concatenated(outer: &Code, inner: &Code) -> Result<(), CodeRefusal>
+    ensures is { IsChecked result (first_refusal (concatenated_refusals outer.now inner.now)) }
+    ensures degree { IfOk result (λ _. degree_over (size inner.now.field) (size outer.now.field) ≡ Some (length inner.now.rows)) }
+    ensures least { IfOk result (λ _. 1 ≤ outer.now.columns * inner.now.columns) }
+    ensures most { IfOk result (λ _. outer.now.columns * inner.now.columns ≤ longest) }
+{
+    match degree_over(inner.field().size() as u64, outer.field().size() as u64) {
+        None => Err(CodeRefusal::FieldsDiffer),
+        Some(s) => check_nested(outer, inner, s),
+    }
+}
+
+// Checks an outer and an inner code whose fields have q^s and q elements.
+#[tactic(auto, using(crate::proofs::NestedLaws::other_dimension, crate::proofs::NestedLaws::nested_too_long, crate::proofs::NestedLaws::nested_fine))]
+fn check_nested(outer: &Code, inner: &Code, s: usize) -> Result<(), CodeRefusal>
+    requires degree { degree_over (size inner.now.field) (size outer.now.field) ≡ Some s }
+    ensures is { IsChecked result (first_refusal (concatenated_refusals outer.now inner.now)) }
+    ensures degree { IfOk result (λ _. degree_over (size inner.now.field) (size outer.now.field) ≡ Some (length inner.now.rows)) }
+    ensures least { IfOk result (λ _. 1 ≤ outer.now.columns * inner.now.columns) }
+    ensures most { IfOk result (λ _. outer.now.columns * inner.now.columns ≤ longest) }
+{
+    if inner.dimension() != s {
+        return Err(CodeRefusal::InnerDimension(inner.dimension(), s));
+    }
+    if product(outer.length(), inner.length()) > 255 {
+        return Err(CodeRefusal::BadLength);
+    }
+    Ok(())
+}
+
+// The exponent s from 1 to 8 for which q^s is the size.
+#[tactic(auto, using(crate::proofs::NestedLaws::power_first, crate::proofs::NestedLaws::power_next, crate::proofs::NestedLaws::power_most, crate::proofs::NestedLaws::none_more, crate::proofs::NestedLaws::degree_at, crate::proofs::NestedLaws::degree_none))]
+fn degree_over(q: u64, size: u64) -> Option<usize>
+    requires most { q ≤ 16 }
+    ensures is { result ≡ degree_over q size }
+{
+    let mut power = 1;
+    for s in 1..9 {
+        power *= q;
+        if power == size {
+            return Some(s);
+        }
+    }
+    None
 }

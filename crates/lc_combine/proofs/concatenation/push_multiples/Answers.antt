@@ -1,0 +1,16 @@
+use Rattle.std.proofs.Common.{ap, sym, subst, ◌≡◌, ◌∙◌, length, slice_index_or, [], arith}
+use Rattle.lc_algebra.specs.Word.{IsWord, scale}
+use Rattle.lc_combine.proofs.ReplacedLaws.{written, power_made, power_word, multiples_more}
+use Rattle.lc_combine.proofs.concatenation.push_multiples.Goals as goal
+
+pub loop-t-preserved : goal.loop-t-preserved
+loop-t-preserved c =
+    let K = c.args.outer.now.field in
+    let u = slice_index_or c.args.outer.now.rows c.args.i [] in
+    let now = written c.loop-t.word.len c.scale.new.to c.loop-t.word.items (omega (arith, c.deref_mut.ensures.len, ap length c.deref_mut.ensures.value)) (omega (arith, c.scale.auto.to, ap length c.deref_mut.ensures.value)) in
+    let made = c.scale.ensures.is ∙ ap (scale c.field-field.result.now c.primitive.result) c.deref_mut.ensures.value in
+    record {
+      fits = subst (IsWord K c.args.outer.now.columns) (sym now) (power_word K c.field-field.result.now c.args.outer.now.columns c.primitive.result c.loop-t.word.items c.scale.new.to c.field-field.ensures.is c.loop-t.invariant.fits made);
+      word = now ∙ power_made K c.field-field.result.now c.loop-t._t c.primitive.result u c.loop-t.word.items c.scale.new.to c.field-field.ensures.is c.primitive.ensures.is c.loop-t.invariant.word made;
+      rows = λ us p. multiples_more c.args.outer.now c.args.inner.now c.loop-t._t u c.deref.result.now c.in_ok-replaced_word.field-0 us c.loop-t.rows.items c.push.new.self.items (c.loop-t.invariant.rows us p) (c.deref.ensures.value ∙ c.loop-t.invariant.word) c.in_ok-replaced_word.ensures.is c.in_ok-push.ensures.items;
+    }

@@ -1,0 +1,6 @@
+use Rattle.std.proofs.Common.{length, take}
+use Rattle.lc_combine.specs.Replaced.{outer_rows, AreReplaced}
+use Rattle.lc_combine.proofs.concatenation.replaced_rows.Given as goal
+
+abbrev pub invariant-loop-i : goal.invariant-loop-i
+invariant-loop-i l = AreReplaced l.outer l.inner (outer_rows l.outer.field (length l.inner.rows) (take l.i l.outer.rows)) l.rows.items
