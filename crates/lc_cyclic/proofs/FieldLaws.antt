@@ -1,11 +1,12 @@
 -- Fields found in the list of all of them.
 --   find_at, find_nowhere, any_at, any_nowhere      what is found in a list, by indices
 --   locator_found, locator_missing     the locator field
---   size_found, size_missing           the symbol field with q elements
+--   size_found, size_here, size_missing      the symbol field with q elements
+--   other_characteristic, other_degree, by_order      the three parts of the test
 --   size_positive          a field has elements
-use Rattle.std.proofs.Common.{◌≡◌, ℕ, zero, suc, ◌-◌, ◌%◌, ◌<◌, ◌≤◌, Bool, true, false, nat_le, ◌==◌, ◌&&◌, ◌||◌, List, [], ◌∷◌, find, length, slice_index_or, Option, Some, None, option_map, refl, sym, ap, ap₂, subst, ◌∙◌, ⊎_elim, arith}
+use Rattle.std.proofs.Common.{◌≡◌, ◌≢◌, ℕ, zero, suc, ◌-◌, ◌%◌, ◌<◌, ◌≤◌, Bool, true, false, nat_le, ◌==◌, ◌&&◌, List, [], ◌∷◌, find, length, slice_index_or, Some, None, option_map, refl, sym, ap, ◌∙◌, ⊎_elim, arith}
 use Rattle.std.specs.List.{list_any}
-use Rattle.std.proofs.lemmas.Bool.{cases_Bool}
+use Rattle.std.proofs.lemmas.Bool.{cases_Bool, eq-eqb, ne_eqb, le-leb}
 use Rattle.lc_algebra.specs.declared.FieldName.{FieldName}
 use Rattle.lc_algebra.specs.declared.FieldName.TheVariants.{Gf2}
 use Rattle.lc_algebra.specs.Field.{shape_of, size, is_symbol}
@@ -88,3 +89,27 @@ size_missing q i l h = sym (any_nowhere (λ f. (size f == q) && is_symbol f) all
 
 pub size_positive : (f : FieldName) → 1 ≤ size f
 size_positive f = zero_inside f
+
+pub size_here : (q i s : ℕ) → i < 18 → s ≡ size (field_number i) → s ≡ q → s ≤ 16 → true ≡ is_size_of_symbol_field q
+size_here q i s l e h m =
+    let a : (size (field_number i) == q) ≡ true = eq-eqb (size (field_number i)) q (sym e ∙ h) in
+    let b : nat_le (size (field_number i)) 16 ≡ true = le-leb (size (field_number i)) 16 (omega (arith, e, m)) in
+    size_found q i l (rw (a, b) refl)
+
+pub other_characteristic : (p d n r e Q : ℕ) → r ≢ p → false ≡ holds_root p d n r e Q
+unfolding holds_root
+other_characteristic p d n r e Q h = let a : (r == p) ≡ false = ne_eqb r p h in rw a refl
+
+pub other_degree : (p d n r e Q : ℕ) → r ≡ p → e % d ≢ 0 → false ≡ holds_root p d n r e Q
+unfolding holds_root
+other_degree p d n r e Q h k =
+    let a : (r == p) ≡ true = eq-eqb r p h in
+    let b : (e % d == 0) ≡ false = ne_eqb (e % d) 0 k in
+    rw (a, b) refl
+
+pub by_order : (p d n r e Q : ℕ) → r ≡ p → e % d ≡ 0 → ((Q - 1) % n == 0) ≡ holds_root p d n r e Q
+unfolding holds_root
+by_order p d n r e Q h k =
+    let a : (r == p) ≡ true = eq-eqb r p h in
+    let b : (e % d == 0) ≡ true = eq-eqb (e % d) 0 k in
+    rw (a, b) refl

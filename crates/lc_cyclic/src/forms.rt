@@ -12,7 +12,13 @@ use std::alloc::Global;
 
 // The form with the points β^i, the multipliers β^(i b) and d - 1 checks, where β is an element of order n of the locator field.
 #[tactic(auto, using(crate::proofs::BchLaws::form_told))]
-pub(crate) fn form_of(alloc: Global, locator: Field, n: u64, b: u64, d: u64) -> Result<Alternant, NoMemory>
+pub(crate) fn form_of(
+    alloc: Global,
+    locator: Field,
+    n: u64,
+    b: u64,
+    d: u64,
+) -> Result<Alternant, NoMemory>
     requires least { 1 ≤ n }
     requires most { n ≤ 255 }
     requires first { b < 256 }
@@ -22,12 +28,22 @@ pub(crate) fn form_of(alloc: Global, locator: Field, n: u64, b: u64, d: u64) -> 
     let root = root_of_unity(&locator, n);
     let points = powers(alloc, &locator, root, 1, n)?;
     let multipliers = powers(alloc, &locator, root, b, n)?;
-    Ok(Alternant {
+    Ok(form_from(locator, points, multipliers, (d - 1) as usize))
+}
+
+// The form with these parts.
+fn form_from(locator: Field, points: Vec<u8>, multipliers: Vec<u8>, r: usize) -> Alternant
+    ensures locator { result.locator ≡ locator }
+    ensures points { result.points ≡ points.items }
+    ensures multipliers { result.multipliers ≡ multipliers.items }
+    ensures r { result.r ≡ r }
+{
+    Alternant {
         locator,
         points,
         multipliers,
-        r: (d - 1) as usize,
-    })
+        r,
+    }
 }
 
 // The power of the primitive element that has order n, if n divides the number of nonzero elements.
