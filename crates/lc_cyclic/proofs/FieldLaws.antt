@@ -38,7 +38,7 @@ any_at p (x ∷ xs) (suc i) d l t =
     let r : list_any p xs ≡ true = any_at p xs i d (omega (arith, l)) t in
     ⊎_elim (λ e. rw e refl) (λ e. rw e r) (cases_Bool (p x))
 
-any_nowhere : (p : FieldName → Bool) (xs : List FieldName) (d : FieldName) → ((k : ℕ) → k < length xs → p (slice_index_or xs k d) ≡ false) → list_any p xs ≡ false
+pub any_nowhere : (p : FieldName → Bool) (xs : List FieldName) (d : FieldName) → ((k : ℕ) → k < length xs → p (slice_index_or xs k d) ≡ false) → list_any p xs ≡ false
 any_nowhere p [] d h = refl
 any_nowhere p (x ∷ xs) d h = let e : p x ≡ false = h 0 (omega arith) in rw e (any_nowhere p xs d (λ k q. h (suc k) (omega (arith, q))))
 
