@@ -1,2 +1,4 @@
 pub mod PointLaws
 pub mod RefusalLaws
+pub mod GoppaLaws
+pub mod GoppaRefusals

@@ -40,7 +40,7 @@ pub fn alternant(
 }
 
 // The form with these parts, copied.
-fn form_of(
+pub(crate) fn form_of(
     alloc: Global,
     locator: &Field,
     points: &[u8],

@@ -2,7 +2,10 @@
 #![tactic(auto)]
 
 mod alternant_codes;
+mod goppa_codes;
 mod points;
+mod polynomials;
 mod refusal;
 
 pub use alternant_codes::alternant;
+pub use goppa_codes::goppa;

@@ -1,0 +1,7 @@
+use Rattle.lc_goppa.proofs.GoppaLaws.{length_trimmed}
+use Rattle.lc_goppa.proofs.polynomials.coefficient_count.Goals as goal
+
+pub returns : goal.returns
+returns c = record {
+  is = length_trimmed c.args.list.now c.significant.result c.significant.ensures.within c.significant.ensures.leads c.significant.ensures.zeros;
+}

@@ -1,0 +1,74 @@
+//! Goppa polynomials, given by any list of their coefficients, and their values at points.
+ghost use Rattle.std.specs.Prelude.{◌≡◌, ℕ, ◌-◌, ◌<◌, ◌≤◌, length, slice_index, IsNone, IsTrue};
+ghost use Rattle.lc_algebra.specs.Field.{size};
+ghost use Rattle.lc_algebra.specs.Word.{Fits};
+ghost use Rattle.lc_algebra.specs.Polynomial.{value_at, trimmed};
+ghost use Rattle.lc_constructions.specs.Refusals.{is_goppa_polynomial, root_at};
+
+use crate::refusal::are_elements;
+use lc_code::CodeRefusal;
+use lc_field::Field;
+
+// Whether the list gives a polynomial over the locator field of degree 1 to 255.
+#[tactic(auto, unfolding(lc_constructions::specs::Refusals::is_goppa_polynomial))]
+pub(crate) fn is_goppa_polynomial(locator: &Field, list: &[u8]) -> bool
+    ensures is { result ≡ is_goppa_polynomial locator.now list.now }
+    ensures fits { IsTrue result → Fits locator.now list.now }
+{
+    let count = coefficient_count(list);
+    are_elements(locator, list) && (2 <= count && count <= 256)
+}
+
+// The number of coefficients without the last zeros.
+#[tactic(auto, using(crate::proofs::GoppaLaws::length_trimmed))]
+pub(crate) fn coefficient_count(list: &[u8]) -> usize
+    ensures is { result ≡ length (trimmed list.now) }
+{
+    significant(list)
+}
+
+// The length without the zeros at the end.
+fn significant(list: &[u8]) -> usize
+    ensures within { result ≤ length list.now }
+    ensures leads { 0 < result → 0 < slice_index list.now (result - 1) }
+    ensures zeros { (i : ℕ) → result ≤ i → slice_index list.now i ≡ 0 }
+{
+    let mut count = list.len();
+    while count > 0 && list[count - 1] == 0 {
+        count -= 1;
+    }
+    count
+}
+
+// The value at an element, by Horner's rule.
+#[tactic(auto, using(lc_poly::proofs::ListLaws::value_none, lc_poly::proofs::ListLaws::value_step, lc_algebra::proofs::FieldLaws::zero_inside))]
+pub(crate) fn value(field: &Field, list: &[u8], at: u8) -> u8
+    requires list { Fits field.now list.now }
+    requires element { at < size field.now }
+    ensures is { result ≡ value_at field.now list.now at }
+    ensures below { result < size field.now }
+{
+    let mut value = 0;
+    let mut place = list.len();
+    while place > 0 {
+        place -= 1;
+        value = field.add(list[place], field.mul(at, value));
+    }
+    value
+}
+
+// The refusal of the first point where the polynomial is 0, if there is one.
+#[tactic(auto, using(crate::proofs::GoppaLaws::root_told, crate::proofs::GoppaLaws::root_none))]
+pub(crate) fn root_at(locator: &Field, list: &[u8], points: &[u8]) -> Option<CodeRefusal>
+    requires list { Fits locator.now list.now }
+    requires points { Fits locator.now points.now }
+    ensures is { result ≡ root_at locator.now list.now points.now }
+    ensures nonzero { IsNone result → (i : ℕ) → i < length points.now → 0 < value_at locator.now list.now (slice_index points.now i) }
+{
+    for i in 0..points.len() {
+        if value(locator, list, points[i]) == 0 {
+            return Some(CodeRefusal::RootAt(i));
+        }
+    }
+    None
+}
