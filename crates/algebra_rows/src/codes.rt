@@ -29,7 +29,7 @@ fn numbers_of_refusals(rt: HostRuntime) -> Result<(), Fail> {
 }
 
 // The code of rows that are seen to be words of n symbols.
-fn generated(
+pub(crate) fn generated(
     rt: &impl Abort,
     alloc: Global,
     q: u64,

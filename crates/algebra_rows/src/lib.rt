@@ -1,4 +1,4 @@
-//! Tests of the crates of fields, words, matrices, polynomials, codes and plans, by values from outside. They stand here so
+//! Tests of the crates of fields, words, matrices, polynomials, codes, information sets and plans, by values from outside. They stand here so
 //! that no crate is proved twice, once with its tests.
 #![tactic(auto)]
 
@@ -8,6 +8,8 @@ mod codes;
 mod families;
 #[cfg(test)]
 mod fields;
+#[cfg(test)]
+mod infosets;
 #[cfg(test)]
 mod matrices;
 #[cfg(test)]

@@ -8,7 +8,7 @@ use std::process::Abort;
 use std::test::Fail;
 
 // The matrix of rows that are seen to be words of n symbols.
-fn matrix_of(
+pub(crate) fn matrix_of(
     rt: &impl Abort,
     alloc: Global,
     q: u64,

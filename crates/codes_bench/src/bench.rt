@@ -7,6 +7,8 @@ pub enum Bench {
     AddScaled(u64),
     /// reduced echelon forms of a matrix of 128 rows of 255 symbols over the field of this size
     Echelon(u64),
+    /// the information sets of a code of length 255 and dimension 128 over the field of this size
+    Infosets(u64),
     /// the messages of weight 5 and length 45 over 2 elements
     StepBinary,
     /// the messages of weight 4 and length 20 over 4 elements
@@ -18,7 +20,7 @@ pub enum Bench {
 }
 
 /// The benches with their names.
-pub const BENCHES: [(&str, Bench); 12] = [
+pub const BENCHES: [(&str, Bench); 14] = [
     ("add_scaled_2", Bench::AddScaled(2)),
     ("add_scaled_3", Bench::AddScaled(3)),
     ("add_scaled_4", Bench::AddScaled(4)),
@@ -27,6 +29,8 @@ pub const BENCHES: [(&str, Bench); 12] = [
     ("echelon_3", Bench::Echelon(3)),
     ("echelon_4", Bench::Echelon(4)),
     ("echelon_16", Bench::Echelon(16)),
+    ("infosets_2", Bench::Infosets(2)),
+    ("infosets_16", Bench::Infosets(16)),
     ("step_2", Bench::StepBinary),
     ("step_4", Bench::StepQuaternary),
     ("parse_weights", Bench::ParseWeights),

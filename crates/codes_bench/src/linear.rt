@@ -1,4 +1,4 @@
-//! Sums of words, and reduced echelon forms.
+//! Sums of words, reduced echelon forms and information sets.
 
 ghost use Rattle.std.specs.Prelude.{◌≡◌, ◌<◌, ◌≤◌, length, IfOk};
 ghost use Rattle.lc_algebra.specs.Field.{size};
@@ -7,6 +7,7 @@ ghost use Rattle.lc_algebra.specs.Matrix.{AreRows};
 
 use crate::rate::{Failure, Rate};
 use lc_field::Field;
+use lc_infoset::Sets;
 use lc_matrix::Matrix;
 use lc_vec::{Word, add_scaled};
 use std::alloc::{AllocError, AllocGlobal, Global};
@@ -24,6 +25,9 @@ const SUMS: u64 = 400_000;
 
 /// How many echelon forms are made.
 const FORMS: u64 = 40;
+
+/// How often the information sets are built.
+const BUILDS: u64 = 40;
 
 // Pseudo-random symbols of the field, from a generator that goes on from `state`.
 fn symbols(alloc: Global, field: &Field, state: &mut u64) -> Result<Vec<u8>, AllocError>
@@ -91,6 +95,27 @@ pub fn echelon_rate<R: Clock + AllocGlobal>(rt: &R, q: u64) -> Result<Rate, Fail
     Ok(Rate {
         count: FORMS * ROWS as u64,
         what: "rows",
+        elapsed: start.elapsed(rt)?,
+    })
+}
+
+/// The rate of `Sets::build` over the field of `q` elements, in codes.
+#[tactic(auto, using(lc_algebra::proofs::ReducedLaws::reduced_independent))]
+pub fn infosets_rate<R: Clock + AllocGlobal>(rt: &R, q: u64) -> Result<Rate, Failure> {
+    let field = Field::of(rt.alloc(), q)?;
+    let matrix = Matrix::from_rows(rt.alloc(), &field, LENGTH, &rows(rt.alloc(), &field)?)?;
+    let form = matrix.echelon(rt.alloc())?;
+    let height = form.rows();
+    if !field.is_symbol() || height == 0 {
+        return Err(Failure::Refused);
+    }
+    let start = Instant::now(rt)?;
+    for _ in 0..BUILDS {
+        let _sets = Sets::build(rt.alloc(), &form)?;
+    }
+    Ok(Rate {
+        count: BUILDS,
+        what: "codes",
         elapsed: start.elapsed(rt)?,
     })
 }

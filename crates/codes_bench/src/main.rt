@@ -25,6 +25,7 @@ fn measure<R: Clock + AllocGlobal>(rt: &R, bench: Bench) -> Result<Rate, Failure
     match bench {
         Bench::AddScaled(q) => linear::add_scaled_rate(rt, q),
         Bench::Echelon(q) => linear::echelon_rate(rt, q),
+        Bench::Infosets(q) => linear::infosets_rate(rt, q),
         Bench::StepBinary => messages::step_rate(rt, 45, 5, 2),
         Bench::StepQuaternary => messages::step_rate(rt, 20, 4, 4),
         Bench::ParseWeights => scripts::weights_rate(rt),

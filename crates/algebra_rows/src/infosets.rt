@@ -1,0 +1,389 @@
+//! Tests of information sets, divisors and bounds, by values that `tools/information_sets.py` prints from lists of all words.
+ghost use Rattle.std.specs.Prelude.{◌<◌, length, All, IsTrue};
+ghost use Rattle.lc_enumeration.specs.Search.{set_count};
+
+use crate::codes::generated;
+use crate::matrices::matrix_of;
+use lc_infoset::Sets;
+use std::alloc::Global;
+use std::process::Abort;
+use std::test::Fail;
+
+// The information sets of the code of rows that are seen to be words, not all of them zero.
+#[tactic(auto, using(lc_algebra::proofs::ReducedLaws::reduced_independent))]
+fn sets_of(rt: &impl Abort, alloc: Global, q: u64, n: usize, rows: &[&[u8]]) -> Result<Sets, Fail> {
+    let code = generated(rt, alloc, q, n, rows)?;
+    assert!(rt; 1 <= code.dimension() && code.field().is_symbol());
+    Ok(Sets::build(alloc, code.matrix())?)
+}
+
+// Whether row i of set j is 1 at column i of the basis and 0 at its others. There is a set j and a row i.
+fn is_unit(sets: &Sets, j: usize, i: usize) -> bool
+    requires set { j < set_count sets.now }
+    requires row { i < length sets.now.rows }
+{
+    let row = sets.row(j, i);
+    let basis = sets.basis(j);
+    for c in 0..basis.len() {
+        if row[basis[c]] != u8::from(c == i) {
+            return false;
+        }
+    }
+    true
+}
+
+// Whether the rows of set j are the identity on its basis. There is a set j.
+fn is_identity(sets: &Sets, j: usize) -> bool
+    requires set { j < set_count sets.now }
+{
+    for i in 0..sets.dimension() {
+        if !is_unit(sets, j, i) {
+            return false;
+        }
+    }
+    true
+}
+
+// Whether these are the sets and their fresh columns, in order, and whether the rows of each are the identity on it.
+fn has_sets(sets: &Sets, expected: &[(&[usize], &[usize])]) -> bool {
+    if sets.count() != expected.len() {
+        return false;
+    }
+    for j in 0..sets.count() {
+        let (basis, fresh) = expected[j];
+        if sets.basis(j) != basis || sets.fresh(j) != fresh || !is_identity(sets, j) {
+            return false;
+        }
+    }
+    true
+}
+
+// The size of the field, the length, rows of a code, its information sets with their fresh columns, and its divisor.
+const CODES: [(u64, usize, &[&[u8]], &[(&[usize], &[usize])], u64); 14] = [
+    // Hamming
+    (
+        2,
+        7,
+        &[
+            &[1, 0, 0, 0, 0, 1, 1],
+            &[0, 1, 0, 0, 1, 0, 1],
+            &[0, 0, 1, 0, 1, 1, 0],
+            &[0, 0, 0, 1, 1, 1, 1],
+        ],
+        &[(&[0, 1, 2, 3], &[0, 1, 2, 3]), (&[0, 4, 5, 6], &[4, 5, 6])],
+        1,
+    ),
+    // half
+    (
+        2,
+        6,
+        &[
+            &[1, 0, 0, 0, 1, 0],
+            &[0, 1, 0, 0, 0, 1],
+            &[0, 0, 1, 0, 1, 1],
+            &[0, 0, 0, 1, 1, 1],
+        ],
+        &[(&[0, 1, 2, 3], &[0, 1, 2, 3]), (&[0, 2, 4, 5], &[4, 5])],
+        1,
+    ),
+    // one fewer than half
+    (
+        2,
+        5,
+        &[
+            &[1, 0, 0, 0, 1],
+            &[0, 1, 0, 0, 1],
+            &[0, 0, 1, 0, 1],
+            &[0, 0, 0, 1, 1],
+        ],
+        &[(&[0, 1, 2, 3], &[0, 1, 2, 3])],
+        2,
+    ),
+    // repetition
+    (
+        2,
+        5,
+        &[&[1, 1, 1, 1, 1]],
+        &[
+            (&[0], &[0]),
+            (&[1], &[1]),
+            (&[2], &[2]),
+            (&[3], &[3]),
+            (&[4], &[4]),
+        ],
+        1,
+    ),
+    // repetition
+    (
+        3,
+        4,
+        &[&[1, 1, 1, 1]],
+        &[(&[0], &[0]), (&[1], &[1]), (&[2], &[2]), (&[3], &[3])],
+        1,
+    ),
+    // repetition
+    (
+        16,
+        3,
+        &[&[1, 1, 1]],
+        &[(&[0], &[0]), (&[1], &[1]), (&[2], &[2])],
+        1,
+    ),
+    // dimension 1
+    (
+        2,
+        5,
+        &[&[0, 1, 0, 1, 1]],
+        &[(&[1], &[1]), (&[3], &[3]), (&[4], &[4])],
+        1,
+    ),
+    // dimension n
+    (
+        4,
+        3,
+        &[&[1, 0, 0], &[0, 1, 0], &[0, 0, 1]],
+        &[(&[0, 1, 2], &[0, 1, 2])],
+        1,
+    ),
+    // extended Hamming
+    (
+        2,
+        8,
+        &[
+            &[1, 0, 0, 0, 0, 1, 1, 1],
+            &[0, 1, 0, 0, 1, 0, 1, 1],
+            &[0, 0, 1, 0, 1, 1, 0, 1],
+            &[0, 0, 0, 1, 1, 1, 1, 0],
+        ],
+        &[
+            (&[0, 1, 2, 3], &[0, 1, 2, 3]),
+            (&[4, 5, 6, 7], &[4, 5, 6, 7]),
+        ],
+        4,
+    ),
+    // even weights
+    (
+        2,
+        4,
+        &[&[1, 0, 0, 1], &[0, 1, 0, 1], &[0, 0, 1, 1]],
+        &[(&[0, 1, 2], &[0, 1, 2])],
+        2,
+    ),
+    // Golay, extended
+    (
+        2,
+        24,
+        &[
+            &[
+                1, 0, 0, 0, 0, 0, 0, 0, 0, 0, 0, 0, 1, 0, 1, 0, 1, 1, 1, 0, 0, 0, 1, 1,
+            ],
+            &[
+                0, 1, 0, 0, 0, 0, 0, 0, 0, 0, 0, 0, 1, 1, 1, 1, 1, 0, 0, 1, 0, 0, 1, 0,
+            ],
+            &[
+                0, 0, 1, 0, 0, 0, 0, 0, 0, 0, 0, 0, 1, 1, 0, 1, 0, 0, 1, 0, 1, 0, 1, 1,
+            ],
+            &[
+                0, 0, 0, 1, 0, 0, 0, 0, 0, 0, 0, 0, 1, 1, 0, 0, 0, 1, 1, 1, 0, 1, 1, 0,
+            ],
+            &[
+                0, 0, 0, 0, 1, 0, 0, 0, 0, 0, 0, 0, 1, 1, 0, 0, 1, 1, 0, 1, 1, 0, 0, 1,
+            ],
+            &[
+                0, 0, 0, 0, 0, 1, 0, 0, 0, 0, 0, 0, 0, 1, 1, 0, 0, 1, 1, 0, 1, 1, 0, 1,
+            ],
+            &[
+                0, 0, 0, 0, 0, 0, 1, 0, 0, 0, 0, 0, 0, 0, 1, 1, 0, 0, 1, 1, 0, 1, 1, 1,
+            ],
+            &[
+                0, 0, 0, 0, 0, 0, 0, 1, 0, 0, 0, 0, 1, 0, 1, 1, 0, 1, 1, 1, 1, 0, 0, 0,
+            ],
+            &[
+                0, 0, 0, 0, 0, 0, 0, 0, 1, 0, 0, 0, 0, 1, 0, 1, 1, 0, 1, 1, 1, 1, 0, 0,
+            ],
+            &[
+                0, 0, 0, 0, 0, 0, 0, 0, 0, 1, 0, 0, 0, 0, 1, 0, 1, 1, 0, 1, 1, 1, 1, 0,
+            ],
+            &[
+                0, 0, 0, 0, 0, 0, 0, 0, 0, 0, 1, 0, 1, 0, 1, 1, 1, 0, 0, 0, 1, 1, 0, 1,
+            ],
+            &[
+                0, 0, 0, 0, 0, 0, 0, 0, 0, 0, 0, 1, 0, 1, 0, 1, 1, 1, 0, 0, 0, 1, 1, 1,
+            ],
+        ],
+        &[
+            (
+                &[0, 1, 2, 3, 4, 5, 6, 7, 8, 9, 10, 11],
+                &[0, 1, 2, 3, 4, 5, 6, 7, 8, 9, 10, 11],
+            ),
+            (
+                &[12, 13, 14, 15, 16, 17, 18, 19, 20, 21, 22, 23],
+                &[12, 13, 14, 15, 16, 17, 18, 19, 20, 21, 22, 23],
+            ),
+        ],
+        4,
+    ),
+    // ternary Golay
+    (
+        3,
+        11,
+        &[
+            &[1, 0, 0, 0, 0, 0, 2, 0, 1, 2, 1],
+            &[0, 1, 0, 0, 0, 0, 1, 2, 2, 2, 1],
+            &[0, 0, 1, 0, 0, 0, 1, 1, 1, 0, 1],
+            &[0, 0, 0, 1, 0, 0, 1, 1, 0, 2, 2],
+            &[0, 0, 0, 0, 1, 0, 2, 1, 2, 2, 0],
+            &[0, 0, 0, 0, 0, 1, 0, 2, 1, 2, 2],
+        ],
+        &[
+            (&[0, 1, 2, 3, 4, 5], &[0, 1, 2, 3, 4, 5]),
+            (&[0, 6, 7, 8, 9, 10], &[6, 7, 8, 9, 10]),
+        ],
+        1,
+    ),
+    // ternary Golay, extended
+    (
+        3,
+        12,
+        &[
+            &[1, 0, 0, 0, 0, 0, 2, 0, 1, 2, 1, 2],
+            &[0, 1, 0, 0, 0, 0, 1, 2, 2, 2, 1, 0],
+            &[0, 0, 1, 0, 0, 0, 1, 1, 1, 0, 1, 1],
+            &[0, 0, 0, 1, 0, 0, 1, 1, 0, 2, 2, 2],
+            &[0, 0, 0, 0, 1, 0, 2, 1, 2, 2, 0, 1],
+            &[0, 0, 0, 0, 0, 1, 0, 2, 1, 2, 2, 1],
+        ],
+        &[
+            (&[0, 1, 2, 3, 4, 5], &[0, 1, 2, 3, 4, 5]),
+            (&[6, 7, 8, 9, 10, 11], &[6, 7, 8, 9, 10, 11]),
+        ],
+        3,
+    ),
+    // hexacode
+    (
+        4,
+        6,
+        &[
+            &[1, 0, 0, 1, 2, 2],
+            &[0, 1, 0, 2, 1, 2],
+            &[0, 0, 1, 2, 2, 1],
+        ],
+        &[(&[0, 1, 2], &[0, 1, 2]), (&[3, 4, 5], &[3, 4, 5])],
+        1,
+    ),
+];
+
+#[test]
+fn sets_with_their_fresh_columns(rt: HostRuntime) -> Result<(), Fail> {
+    for (q, n, rows, expected, divisor) in &CODES {
+        let sets = sets_of(&rt, rt.alloc(), *q, *n, rows)?;
+        assert!(&rt;
+            has_sets(&sets, expected) && sets.divisor() == *divisor,
+            "{q} {n}"
+        );
+    }
+    Ok(())
+}
+
+// The bounds of levels, by the index of a code above.
+const BOUNDS: [(usize, &[u64], u64); 30] = [
+    (0, &[1, 1], 3),
+    (0, &[2, 1], 4),
+    (0, &[2, 2], 5),
+    (1, &[1, 1], 2),
+    (1, &[2, 1], 3),
+    (1, &[2, 2], 4),
+    (2, &[1], 2),
+    (2, &[2], 4),
+    (2, &[2], 4),
+    (7, &[1], 2),
+    (7, &[2], 3),
+    (7, &[2], 3),
+    (8, &[1, 1], 4),
+    (8, &[2, 1], 8),
+    (8, &[2, 2], 8),
+    (9, &[1], 2),
+    (9, &[2], 4),
+    (9, &[2], 4),
+    (10, &[1, 1], 4),
+    (10, &[2, 1], 8),
+    (10, &[2, 2], 8),
+    (11, &[1, 1], 3),
+    (11, &[2, 1], 4),
+    (11, &[2, 2], 5),
+    (12, &[1, 1], 6),
+    (12, &[2, 1], 6),
+    (12, &[2, 2], 6),
+    (13, &[1, 1], 4),
+    (13, &[2, 1], 5),
+    (13, &[2, 2], 6),
+];
+
+// Whether all levels are below k.
+fn are_below(levels: &[u64], k: u64) -> bool
+    ensures is { IsTrue result → All (λ w. w < k) levels.now }
+{
+    for w in levels {
+        if *w >= k {
+            return false;
+        }
+    }
+    true
+}
+
+#[test]
+fn bounds_are_rounded_up(rt: HostRuntime) -> Result<(), Fail> {
+    for (i, levels, expected) in &BOUNDS {
+        let (q, n, rows, _, _) = CODES[*i];
+        let sets = sets_of(&rt, rt.alloc(), q, n, rows)?;
+        assert!(&rt; levels.len() == sets.count() && are_below(levels, sets.dimension() as u64));
+        let bound = sets.bound(levels);
+        assert!(&rt; bound == *expected, "{i}");
+    }
+    Ok(())
+}
+
+// The size of the field, the length, some rows, and the number that divides the weights of their words.
+const ROWS: [(u64, usize, &[&[u8]], u64); 9] = [
+    (
+        2,
+        8,
+        &[&[1, 1, 1, 1, 0, 0, 0, 0], &[1, 1, 1, 0, 1, 0, 0, 0]],
+        2,
+    ),
+    (
+        2,
+        8,
+        &[
+            &[1, 1, 1, 1, 0, 0, 0, 0],
+            &[1, 1, 0, 0, 1, 1, 0, 0],
+            &[1, 0, 1, 0, 1, 0, 1, 0],
+        ],
+        4,
+    ),
+    (2, 4, &[&[1, 1, 0, 0], &[0, 1, 1, 0]], 2),
+    (2, 4, &[&[1, 1, 1, 0], &[0, 1, 1, 1]], 1),
+    (3, 4, &[&[1, 1, 1, 0], &[0, 1, 1, 1]], 1),
+    (3, 4, &[&[1, 1, 1, 0], &[0, 1, 2, 1]], 3),
+    (3, 4, &[&[1, 2, 0, 0]], 1),
+    (4, 4, &[&[1, 1, 0, 0]], 1),
+    (2, 4, &[&[0, 0, 0, 0]], 4),
+];
+
+#[test]
+fn divisors_of_rows(rt: HostRuntime) -> Result<(), Fail> {
+    for (q, n, rows, divisor) in &ROWS {
+        let matrix = matrix_of(&rt, rt.alloc(), *q, *n, rows)?;
+        assert!(&rt; matrix.divisor() == *divisor, "{q} {n}");
+    }
+    Ok(())
+}
+
+#[test]
+fn divisors_of_codes(rt: HostRuntime) -> Result<(), Fail> {
+    for (q, n, rows, _, divisor) in &CODES {
+        let code = generated(&rt, rt.alloc(), *q, *n, rows)?;
+        assert!(&rt; code.divisor() == *divisor, "{q} {n}");
+    }
+    Ok(())
+}
