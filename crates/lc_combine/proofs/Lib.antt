@@ -9,3 +9,4 @@ pub mod ProductLaws
 pub mod NestedLaws
 pub mod ReplacedLaws
 pub mod ConcatenatedLaws
+pub mod BoundLaws
