@@ -10,3 +10,4 @@ pub mod NestedLaws
 pub mod ReplacedLaws
 pub mod ConcatenatedLaws
 pub mod BoundLaws
+pub mod DimensionLaws

@@ -23,3 +23,10 @@ pub fn shortening_is_dual_to_puncturing()
     ensures dual { (C H P S : Matrix) (coordinates : List ℕ) → AreRows C.field C.columns C.rows → IsReduced C.columns C.rows → first_refusal (deleted_refusals C coordinates) ≡ None → IsCode C.field C.columns (InDual C) H → IsCode C.field (C.columns - length coordinates) (InPunctured H coordinates) P → IsCode C.field (C.columns - length coordinates) (InShortened C coordinates) S →
         IsCode C.field (C.columns - length coordinates) (InDual P) S }
 {}
+
+/// The dimension of a direct sum, and of the words u followed by u + v, is the sum of the dimensions of the parts (MacWilliams and
+/// Sloane, chapter 2).
+pub fn dimensions_of_sums()
+    ensures direct_sum { (C D E : Matrix) → C.field ≡ D.field → AreRows C.field C.columns C.rows → IsReduced C.columns C.rows → AreRows D.field D.columns D.rows → IsReduced D.columns D.rows → IsCode C.field (C.columns + D.columns) (InDirectSum C D) E → length E.rows ≡ length C.rows + length D.rows }
+    ensures uuv { (C D E : Matrix) → C.field ≡ D.field → C.columns ≡ D.columns → AreRows C.field C.columns C.rows → IsReduced C.columns C.rows → AreRows D.field D.columns D.rows → IsReduced D.columns D.rows → IsCode C.field (C.columns + D.columns) (InUuv C D) E → length E.rows ≡ length C.rows + length D.rows }
+{}
