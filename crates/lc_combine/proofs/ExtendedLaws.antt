@@ -57,7 +57,7 @@ one_multiple : (f : FieldName) (c a : ℕ) → scale f c (a ∷ []) ≡ mul f c 
 unfolding scale
 one_multiple f c a = refl
 
-sum_of_zeros : (f : FieldName) (n : ℕ) → symbol_sum f (zero_word n) ≡ 0
+pub sum_of_zeros : (f : FieldName) (n : ℕ) → symbol_sum f (zero_word n) ≡ 0
 unfolding symbol_sum
 sum_of_zeros f zero = refl
 sum_of_zeros f (suc n) = ap (add f 0) (sum_of_zeros f n) ∙ zero_add f 0 (zero_inside f)

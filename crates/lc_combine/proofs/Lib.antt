@@ -9,3 +9,5 @@ pub mod ProductLaws
 pub mod NestedLaws
 pub mod ReplacedLaws
 pub mod ConcatenatedLaws
+pub mod BoundLaws
+pub mod DimensionLaws

@@ -90,7 +90,7 @@ expansion_found f K s a e t l n =
 
 -- ---- the sum of the multiples of the rows
 
-combine_word : (f : FieldName) (n : ℕ) (cs : List ℕ) (rows : List (List ℕ)) → AreRows f n rows → IsWord f n (combine f n cs rows)
+pub combine_word : (f : FieldName) (n : ℕ) (cs : List ℕ) (rows : List (List ℕ)) → AreRows f n rows → IsWord f n (combine f n cs rows)
 unfolding combine
 combine_word f n [] rows r = IsWord_zero f n
 combine_word f n (c ∷ cs) [] r = IsWord_zero f n

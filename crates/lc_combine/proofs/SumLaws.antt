@@ -50,7 +50,7 @@ twice_linear f n = record {
   multiples = λ c u a. sym (scale_parts f c u u);
 }
 
-over : (f g : FieldName) (n : ℕ) (rows : List (List ℕ)) → f ≡ g → AreRows g n rows → AreRows f n rows
+pub over : (f g : FieldName) (n : ℕ) (rows : List (List ℕ)) → f ≡ g → AreRows g n rows → AreRows f n rows
 over f g n rows k r = subst (λ x. AreRows x n rows) (sym k) r
 
 pub shaped : (f g : FieldName) (n m : ℕ) (rows made : List (List ℕ)) → g ≡ f → m ≡ n → made ≡ rows → AreRows f n rows → AreRows g m made
@@ -58,7 +58,7 @@ shaped f g n m rows made a b e r = subst (λ x. AreRows x m made) (sym a) (subst
 
 -- ---- direct sums
 
-both : (f : FieldName) (n m : ℕ) (u v : List ℕ) → IsWord f n u → IsWord f m v → word_sum f (u ++ zero_word m) (zero_word n ++ v) ≡ u ++ v
+pub both : (f : FieldName) (n m : ℕ) (u v : List ℕ) → IsWord f n u → IsWord f m v → word_sum f (u ++ zero_word m) (zero_word n ++ v) ≡ u ++ v
 both f n m u v a b =
     sum_parts f u (zero_word n) (zero_word m) v (a.long ∙ sym (length_zero_word n)) ∙ ap₂ (λ x y. x ++ y) (sum_zero f n u a) (zero_sum f m v b)
 
@@ -69,7 +69,7 @@ direct_sum_words C D g x rows gf xl k r s e =
     let m = D.columns in
     shaped f g (n + m) x (direct_sum_rows C D) rows gf xl e (rows_append f (n + m) (left_rows m C.rows) (right_rows n D.rows) (image_rows f n (n + m) (λ u. u ++ zero_word m) C.rows (left_linear f n m) r) (image_rows f m (n + m) (λ v. zero_word n ++ v) D.rows (right_linear f n m) (over f D.field m D.rows k s)))
 
-direct_sum_members : (C D : Matrix) (w : List ℕ) → C.field ≡ D.field → AreRows C.field C.columns C.rows → AreRows D.field D.columns D.rows → InSpan C.field (C.columns + D.columns) (direct_sum_rows C D) w ↔ InDirectSum C D w
+pub direct_sum_members : (C D : Matrix) (w : List ℕ) → C.field ≡ D.field → AreRows C.field C.columns C.rows → AreRows D.field D.columns D.rows → InSpan C.field (C.columns + D.columns) (direct_sum_rows C D) w ↔ InDirectSum C D w
 direct_sum_members C D w k r s =
     let f = C.field in
     let n = C.columns in
@@ -97,7 +97,7 @@ direct_sum_code C D E g n rows k r s a b e c = generated_by C.field g (C.columns
 
 -- ---- u followed by u + v
 
-added : (f : FieldName) (n : ℕ) (u v : List ℕ) → IsWord f n u → IsWord f n v → word_sum f (u ++ u) (zero_word n ++ v) ≡ u ++ word_sum f u v
+pub added : (f : FieldName) (n : ℕ) (u v : List ℕ) → IsWord f n u → IsWord f n v → word_sum f (u ++ u) (zero_word n ++ v) ≡ u ++ word_sum f u v
 added f n u v a b = sum_parts f u (zero_word n) u v (a.long ∙ sym (length_zero_word n)) ∙ ap (λ t. t ++ word_sum f u v) (sum_zero f n u a)
 
 pub uuv_words : (C D : Matrix) (g : FieldName) (k : ℕ) (rows : List (List ℕ)) → g ≡ C.field → k ≡ C.columns + D.columns → C.field ≡ D.field → C.columns ≡ D.columns → AreRows C.field C.columns C.rows → AreRows D.field D.columns D.rows → rows ≡ uuv_rows C D → AreRows g k rows
@@ -108,7 +108,7 @@ uuv_words C D g x rows gf xl k h r s e =
     shaped f g (n + n) x (uuv_rows C D) rows gf (omega (arith, h, xl)) e
     (rows_append f (n + n) (twice_rows C.rows) (right_rows n D.rows) (image_rows f n (n + n) (λ u. u ++ u) C.rows (twice_linear f n) r) (image_rows f n (n + n) (λ v. zero_word n ++ v) D.rows (right_linear f n n) t))
 
-uuv_members : (C D : Matrix) (w : List ℕ) → C.field ≡ D.field → C.columns ≡ D.columns → AreRows C.field C.columns C.rows → AreRows D.field D.columns D.rows → InSpan C.field (C.columns + C.columns) (uuv_rows C D) w ↔ InUuv C D w
+pub uuv_members : (C D : Matrix) (w : List ℕ) → C.field ≡ D.field → C.columns ≡ D.columns → AreRows C.field C.columns C.rows → AreRows D.field D.columns D.rows → InSpan C.field (C.columns + C.columns) (uuv_rows C D) w ↔ InUuv C D w
 uuv_members C D w k h r s =
     let f = C.field in
     let n = C.columns in

@@ -5,6 +5,7 @@
 mod concatenation;
 mod deleted;
 mod extended_codes;
+mod laws;
 mod products;
 mod refusal;
 mod subcodes;
@@ -13,6 +14,7 @@ mod sums;
 pub use concatenation::concatenated;
 pub use deleted::{punctured, shortened};
 pub use extended_codes::extended;
+pub use laws::{combined_codes_are_heavy, dimensions_of_sums, shortening_is_dual_to_puncturing};
 pub use products::direct_product;
 pub use subcodes::{even_weight, intersection};
 pub use sums::{direct_sum, uuv};

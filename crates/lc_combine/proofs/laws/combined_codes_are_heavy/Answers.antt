@@ -1,0 +1,5 @@
+use Rattle.lc_combine.proofs.BoundLaws.{sum_bound, uuv_bound, shortened_bound, extended_bound}
+use Rattle.lc_combine.proofs.laws.combined_codes_are_heavy.Goals as goal
+
+pub returns : goal.returns
+returns c = record { direct_sum = sum_bound; uuv = uuv_bound; shortened = shortened_bound; extended = extended_bound }

@@ -1,0 +1,32 @@
+//! What the parts of a combined code tell of it, as the contracts of functions that do nothing.
+ghost use Rattle.std.specs.Prelude.{◌≡◌, ℕ, ◌+◌, ◌-◌, ◌*◌, ◌≤◌, List, None, length};
+ghost use Rattle.lc_algebra.specs.Span.{IsWeightBound};
+ghost use Rattle.lc_algebra.specs.Matrix.{Matrix, AreRows, IsReduced};
+ghost use Rattle.lc_constructions.specs.Code.{IsCode};
+ghost use Rattle.lc_constructions.specs.Combined.{InDual, InExtended, InPunctured, InShortened, InDirectSum, InUuv};
+ghost use Rattle.lc_constructions.specs.Refusal.{first_refusal};
+ghost use Rattle.lc_constructions.specs.Refusals.{deleted_refusals};
+
+/// The least weights of combined codes. If all nonzero words of C have weight at least d, and those of D at least e, then those of
+/// the direct sum have weight at least the smaller of d and e, those of (u | u + v) at least the smaller of 2d and e, and those of
+/// a shortened or an extended code of C at least d (MacWilliams and Sloane, chapters 1 and 2).
+pub fn combined_codes_are_heavy()
+    ensures direct_sum { (C D E : Matrix) (n d e b : ℕ) → IsCode C.field n (InDirectSum C D) E → IsWeightBound C.field C.columns C.rows d → IsWeightBound D.field D.columns D.rows e → b ≤ d → b ≤ e → IsWeightBound E.field E.columns E.rows b }
+    ensures uuv { (C D E : Matrix) (n d e b : ℕ) → C.field ≡ D.field → C.columns ≡ D.columns → AreRows C.field C.columns C.rows → AreRows D.field D.columns D.rows → IsCode C.field n (InUuv C D) E → IsWeightBound C.field C.columns C.rows d → IsWeightBound D.field D.columns D.rows e → b ≤ 2 * d → b ≤ e → IsWeightBound E.field E.columns E.rows b }
+    ensures shortened { (C E : Matrix) (coordinates : List ℕ) (n d : ℕ) → IsCode C.field n (InShortened C coordinates) E → IsWeightBound C.field C.columns C.rows d → IsWeightBound E.field E.columns E.rows d }
+    ensures extended { (C E : Matrix) (n d : ℕ) → AreRows C.field C.columns C.rows → IsCode C.field n (InExtended C) E → IsWeightBound C.field C.columns C.rows d → IsWeightBound E.field E.columns E.rows d }
+{}
+
+/// Shortening a code is the dual of puncturing its dual: H is the dual code of C, P is H without these coordinates and S is C
+/// shortened at them (MacWilliams and Sloane, chapter 1).
+pub fn shortening_is_dual_to_puncturing()
+    ensures dual { (C H P S : Matrix) (coordinates : List ℕ) → AreRows C.field C.columns C.rows → IsReduced C.columns C.rows → first_refusal (deleted_refusals C coordinates) ≡ None → IsCode C.field C.columns (InDual C) H → IsCode C.field (C.columns - length coordinates) (InPunctured H coordinates) P → IsCode C.field (C.columns - length coordinates) (InShortened C coordinates) S →
+        IsCode C.field (C.columns - length coordinates) (InDual P) S }
+{}
+
+/// The dimension of a direct sum, and of the words u followed by u + v, is the sum of the dimensions of the parts (MacWilliams and
+/// Sloane, chapter 2).
+pub fn dimensions_of_sums()
+    ensures direct_sum { (C D E : Matrix) → C.field ≡ D.field → AreRows C.field C.columns C.rows → IsReduced C.columns C.rows → AreRows D.field D.columns D.rows → IsReduced D.columns D.rows → IsCode C.field (C.columns + D.columns) (InDirectSum C D) E → length E.rows ≡ length C.rows + length D.rows }
+    ensures uuv { (C D E : Matrix) → C.field ≡ D.field → C.columns ≡ D.columns → AreRows C.field C.columns C.rows → IsReduced C.columns C.rows → AreRows D.field D.columns D.rows → IsReduced D.columns D.rows → IsCode C.field (C.columns + D.columns) (InUuv C D) E → length E.rows ≡ length C.rows + length D.rows }
+{}
