@@ -6,26 +6,30 @@
 --   root_in_locator        n divides the number of its nonzero elements
 --   bch_fine               the form is one
 --   bch_code               the code of the form is the BCH code
+--   turned_power, zeros_modulo, whole_code      zeros at the powers from b on are those from b modulo n on
 --   kept_code, kept_locator, kept_form      the same of the form that is kept
 --   bch_refused_large, bch_refused_length, bch_refused_root, bch_refused_delta, bch_accepted      the first refusal
-use Rattle.std.proofs.Common.{◌≡◌, ℕ, suc, ◌+◌, ◌-◌, ◌*◌, ◌%◌, ◌≤◌, true, false, nat_lt, ◌||◌, List, [], ◌∷◌, ◌++◌, map, length, Option, Some, None, is_some, option_map, refl, sym, ap, ap₂, subst, ◌∙◌, arith, true≢false}
+use Rattle.std.proofs.Common.{◌≡◌, ◌↔◌, ℕ, suc, ◌+◌, ◌-◌, ◌*◌, ◌/◌, ◌%◌, ◌≤◌, true, false, nat_lt, ◌||◌, List, [], ◌∷◌, ◌++◌, map, length, Option, Some, None, is_some, option_map, refl, sym, ap, ap₂, subst, ◌∙◌, arith, true≢false}
 use Rattle.std.specs.Prelude.{IsTrue}
+use Rattle.std.proofs.Math.Nat.{mod-add-div}
 use Rattle.std.proofs.lemmas.List.{map-append, length-map}
 use Rattle.lc_algebra.specs.declared.FieldName.{FieldName}
-use Rattle.lc_algebra.specs.Field.{size, is_symbol, pow}
+use Rattle.lc_algebra.specs.Field.{size, is_symbol, mul, pow}
 use Rattle.lc_algebra.specs.Span.{below}
 use Rattle.lc_algebra.specs.Matrix.{Matrix}
 use Rattle.lc_algebra.proofs.EmbeddingLaws.{told_by_size}
-use Rattle.lc_algebra.proofs.OrderLaws.{order_of_element}
+use Rattle.lc_algebra.proofs.OrderLaws.{order_of_element, primitive_power}
+use Rattle.lc_algebra.proofs.FieldLaws.{one_mul, pow_add, pow_inside}
+use Rattle.lc_algebra.proofs.PowerLaws.{one_pow, pow_mul}
 use Rattle.lc_algebra.proofs.SpanLaws.{length_below}
 use Rattle.lc_constructions.specs.declared.refusal.CodeRefusal.TheVariants.{BadLength, NoRoot, BadDelta, FieldTooLarge}
 use Rattle.lc_constructions.specs.Code.{is_length, IsCode}
-use Rattle.lc_constructions.specs.Cyclic.{IsLocatorField, locator_field, root_of_unity, IsBchWord}
-use Rattle.lc_constructions.specs.Alternant.{AlternantForm, IsForm, IsAlternantWord, bch_form}
+use Rattle.lc_constructions.specs.Cyclic.{IsLocatorField, locator_field, root_of_unity, value_in, IsBchWord}
+use Rattle.lc_constructions.specs.Alternant.{AlternantForm, IsForm, syndrome_at, IsAlternantWord, bch_form}
 use Rattle.lc_constructions.specs.Refusal.{refuse_if, first_refusal}
 use Rattle.lc_constructions.specs.Refusals.{too_large, bad_length, bch_refusals}
 use Rattle.lc_constructions.proofs.LocatorLaws.{locator_is}
-use Rattle.lc_constructions.proofs.FormLaws.{bch_is_form, bch_is_alternant}
+use Rattle.lc_constructions.proofs.FormLaws.{bch_is_form, bch_syndrome, bch_is_alternant}
 use Rattle.lc_code.proofs.CodeLaws.{same_code}
 use Rattle.lc_cyclic.specs.Powers.{powers}
 
@@ -134,3 +138,34 @@ kept_locator f K n b d form kept e k h = subst (IsLocatorField f n) (same_locato
 
 pub kept_form : (K : FieldName) (n b d : ℕ) (form kept : AlternantForm) → form ≡ bch_form K n b d → kept ≡ form → kept ≡ bch_form kept.locator n b d
 kept_form K n b d form kept e k = k ∙ e ∙ ap (λ L. bch_form L n b d) (same_locator K n b d form kept e k)
+
+turned_power : (K : FieldName) (x n b j : ℕ) → pow K x n ≡ 1 → pow K x (b + j) ≡ pow K x (b % n + j)
+turned_power K x n b j h =
+    let e : b + j ≡ n * (b / n) + (b % n + j) = omega (arith, mod-add-div b n) in
+    ap (pow K x) e ∙ pow_add K x (n * (b / n)) (b % n + j)
+    ∙ ap (λ y. mul K y (pow K x (b % n + j))) (pow_mul K x n (b / n) ∙ ap (λ y. pow K y (b / n)) h ∙ one_pow K (b / n))
+    ∙ one_mul K (pow K x (b % n + j)) (pow_inside K x (b % n + j))
+
+root_power : (K : FieldName) (n : ℕ) → 1 ≤ n → (size K - 1) % n ≡ 0 → pow K (root_of_unity K n) n ≡ 1
+unfolding root_of_unity
+root_power K n l e = (primitive_power K n l e).one
+
+same_syndrome : (f K : FieldName) (n b d : ℕ) (w : List ℕ) (j : ℕ) → 1 ≤ n → (size K - 1) % n ≡ 0 → length w ≡ n → syndrome_at f (bch_form K n b d) w j ≡ syndrome_at f (bch_form K n (b % n) d) w j
+same_syndrome f K n b d w j l e m =
+    bch_syndrome f K n b d w j m ∙ ap (value_in f K w) (turned_power K (root_of_unity K n) n b j (root_power K n l e)) ∙ sym (bch_syndrome f K n (b % n) d w j m)
+
+same_words : (f K : FieldName) (n b d : ℕ) (w : List ℕ) → 1 ≤ n → (size K - 1) % n ≡ 0 → length w ≡ n → IsAlternantWord f (bch_form K n (b % n) d) w ↔ IsAlternantWord f (bch_form K n b d) w
+unfolding bch_form
+same_words f K n b d w l e m =
+    ((λ h j k. same_syndrome f K n b d w j l e m ∙ h j k), (λ h j k. sym (same_syndrome f K n b d w j l e m) ∙ h j k))
+
+pub zeros_modulo : (f K : FieldName) (n b d : ℕ) (w : List ℕ) → 1 ≤ n → (size K - 1) % n ≡ 0 → length w ≡ n → IsBchWord f K n (b % n) d w ↔ IsBchWord f K n b d w
+zeros_modulo f K n b d w l e m =
+    let p = bch_is_alternant f K n (b % n) d w m in
+    let q = bch_is_alternant f K n b d w m in
+    let r = same_words f K n b d w l e m in
+    ((λ h. q.1 (r.0 (p.0 h))), (λ h. p.1 (r.1 (q.0 h))))
+
+pub whole_code : (f K : FieldName) (n b d : ℕ) (C : Matrix) → 1 ≤ n → IsLocatorField f n K → IsCode f n (IsBchWord f K n (b % n) d) C → IsCode f n (IsBchWord f K n b d) C
+whole_code f K n b d C l h c =
+    same_code f n (IsBchWord f K n (b % n) d) (IsBchWord f K n b d) C (λ w k. zeros_modulo f K n b d w l (root_in_locator f K n h) k.long) c

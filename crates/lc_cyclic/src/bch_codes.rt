@@ -23,7 +23,7 @@ use std::alloc::Global;
 /// field, NoRoot; `d` is below 2 or above n, BadDelta. `b` may be any number.
 #[tactic(auto, using(lc_constructions::proofs::RefusalLaws::refuses_first, lc_constructions::proofs::RefusalLaws::refuses_nothing))]
 pub fn bch(alloc: Global, n: u64, b: u64, d: u64, field: &Field) -> Result<FormedCode, CodeRefusal>
-    ensures code { IfOk result (λ c. IsCode field.now n (IsBchWord field.now c.form.locator n (b % n) d) c.code) }
+    ensures code { IfOk result (λ c. IsCode field.now n (IsBchWord field.now c.form.locator n b d) c.code) }
     ensures locator { IfOk result (λ c. IsLocatorField field.now n c.form.locator) }
     ensures form { IfOk result (λ c. c.form ≡ bch_form c.form.locator n (b % n) d) }
     ensures formed { IfOk result (λ c. IsFormOf c.code c.form) }
