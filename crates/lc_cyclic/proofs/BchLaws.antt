@@ -3,13 +3,14 @@
 --   first_powers           the points are powers by the numbers below n
 --   form_told              the form with these powers is that of the BCH code
 --   locator_told           the field with the size that was found is the locator field
+--   locator_there          and there is one
 --   root_in_locator        n divides the number of its nonzero elements
 --   bch_fine               the form is one
 --   bch_code               the code of the form is the BCH code
 --   turned_power, zeros_modulo, whole_code      zeros at the powers from b on are those from b modulo n on
 --   kept_code, kept_locator, kept_form      the same of the form that is kept
 --   bch_refused_large, bch_refused_length, bch_refused_root, bch_refused_delta, bch_accepted      the first refusal
-use Rattle.std.proofs.Common.{◌≡◌, ◌↔◌, ℕ, suc, ◌+◌, ◌-◌, ◌*◌, ◌/◌, ◌%◌, ◌≤◌, true, false, nat_lt, ◌||◌, List, [], ◌∷◌, ◌++◌, map, length, Option, Some, None, is_some, option_map, refl, sym, ap, ap₂, subst, ◌∙◌, arith, true≢false}
+use Rattle.std.proofs.Common.{◌≡◌, ◌≢◌, ◌↔◌, ℕ, suc, ◌+◌, ◌-◌, ◌*◌, ◌/◌, ◌%◌, ◌≤◌, true, false, nat_lt, ◌||◌, List, [], ◌∷◌, ◌++◌, map, length, Option, Some, None, is_some, option_map, refl, sym, ap, ap₂, subst, ◌∙◌, arith, true≢false}
 use Rattle.std.specs.Prelude.{IsTrue}
 use Rattle.std.proofs.Math.Nat.{mod-add-div}
 use Rattle.std.proofs.lemmas.List.{map-append, length-map}
@@ -79,6 +80,9 @@ locator_told f K n q l h e = (locator_is f n K l).0 (sized (locator_field f n) q
 there : (o : Option FieldName) (q : ℕ) → option_map size o ≡ Some q → ((K : FieldName) → size K ≡ q → ⊥) → ⊥
 there None q h k = none_is_some q h
 there (Some L) q h k = k L (some_same (size L) q h)
+
+pub locator_there : (f : FieldName) (n q : ℕ) → option_map size (locator_field f n) ≡ Some q → ((K : FieldName) → size K ≢ q) → ⊥
+locator_there f n q h k = there (locator_field f n) q h k
 
 root_in_locator : (f K : FieldName) (n : ℕ) → IsLocatorField f n K → (size K - 1) % n ≡ 0
 root_in_locator f K n h = let (b, o) = h.order in order_of_element K b n o

@@ -1,10 +1,11 @@
 -- Reed-Solomon codes by their forms.
 --   too_short, too_long    no symbol field has 1 element, or more than 16
+--   size_there             some field has the size of a symbol field
 --   no_field, bad_delta, accepted      the first refusal
 --   reed_solomon_fine      the form is one
 --   reed_solomon_code      the code of the form is the Reed-Solomon code
 --   own_size, own_code, own_form       the same, over the field that the code has
-use Rattle.std.proofs.Common.{◌≡◌, ℕ, ◌+◌, ◌-◌, ◌%◌, ◌<◌, ◌≤◌, true, false, nat_le, nat_lt, ◌||◌, ◌&&◌, ◌==◌, List, length, slice_index_or, Some, None, refl, sym, ap, subst, ◌∙◌, ⊎_elim, arith}
+use Rattle.std.proofs.Common.{◌≡◌, ◌≢◌, ℕ, ◌+◌, ◌-◌, ◌%◌, ◌<◌, ◌≤◌, true, false, nat_le, nat_lt, ◌||◌, ◌&&◌, ◌==◌, List, length, slice_index_or, Some, None, refl, sym, ap, subst, ◌∙◌, ⊎_elim, arith}
 use Rattle.std.specs.Prelude.{IsTrue}
 use Rattle.std.proofs.Math.Nat.{mod_self}
 use Rattle.std.proofs.lemmas.Bool.{cases_Bool, and_parts, eqb-true, leb-true}
@@ -13,6 +14,7 @@ use Rattle.lc_algebra.specs.declared.FieldName.TheVariants.{Gf2}
 use Rattle.lc_algebra.specs.Field.{shape, shape_of, size, is_symbol}
 use Rattle.lc_algebra.specs.Embedding.{IsSubfield}
 use Rattle.lc_algebra.specs.Matrix.{Matrix}
+use Rattle.lc_algebra.proofs.SpanSearch.{any_contains}
 use Rattle.lc_constructions.specs.declared.refusal.CodeRefusal.TheVariants.{BadDelta, NoFieldOfLength}
 use Rattle.lc_constructions.specs.Code.{is_length, IsCode}
 use Rattle.lc_constructions.specs.Cyclic.{all_fields, IsBchWord, IsReedSolomonWord}
@@ -38,6 +40,13 @@ not_both s q l =
 pub too_long : (n : ℕ) → 15 < n → false ≡ is_size_of_symbol_field (n + 1)
 unfolding is_size_of_symbol_field is_symbol
 too_long n l = sym (any_nowhere (λ f. (size f == n + 1) && is_symbol f) all_fields Gf2 (λ k m. not_both (size (slice_index_or all_fields k Gf2)) (n + 1) (omega (arith, l))))
+
+pub size_there : (q : ℕ) → IsTrue (is_size_of_symbol_field q) → ((f : FieldName) → size f ≢ q) → ⊥
+unfolding is_size_of_symbol_field
+size_there q t none =
+    let (f, found) = any_contains (λ f. (size f == q) && is_symbol f) all_fields t in
+    let p = and_parts (size f == q) (is_symbol f) found.1 in
+    none f (eqb-true (size f) q p.0)
 
 pub no_field : (n d : ℕ) → is_size_of_symbol_field (n + 1) ≡ false → first_refusal (reed_solomon_refusals n d) ≡ Some NoFieldOfLength
 unfolding first_refusal refuse_if reed_solomon_refusals

@@ -11,7 +11,7 @@ ghost use Rattle.lc_cyclic.specs.Checked.{IsChecked};
 use crate::fields::locator_size;
 use crate::forms::{form_of, formed};
 use lc_code::{CodeRefusal, FormedCode};
-use lc_field::{Field, NoMemory};
+use lc_field::{Field, FieldRefusal, NoMemory};
 use std::alloc::Global;
 
 /// The BCH code of length `n` with design distance `d` over the field: the words whose polynomials are 0 at the powers `b` to
@@ -76,7 +76,7 @@ fn is_length(n: u64) -> bool
 }
 
 // The locator field, whose size is known.
-#[tactic(auto, using(crate::proofs::BchLaws::locator_told))]
+#[tactic(auto, using(crate::proofs::BchLaws::locator_told, crate::proofs::BchLaws::locator_there))]
 fn locator_of(alloc: Global, field: &Field, n: u64, elements: u64) -> Result<Field, NoMemory>
     requires least { 1 ≤ n }
     requires found { option_map size (locator_field field.now n) ≡ Some elements }
@@ -84,6 +84,7 @@ fn locator_of(alloc: Global, field: &Field, n: u64, elements: u64) -> Result<Fie
 {
     match Field::of(alloc, elements) {
         Ok(locator) => Ok(locator),
-        Err(_refusal) => Err(NoMemory),
+        Err(FieldRefusal::NoMemory) => Err(NoMemory),
+        Err(FieldRefusal::NotAField) => unreachable!(),
     }
 }

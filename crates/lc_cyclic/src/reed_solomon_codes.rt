@@ -11,7 +11,7 @@ ghost use Rattle.lc_cyclic.specs.Checked.{IsChecked};
 use crate::fields::is_symbol_size;
 use crate::forms::{form_of, formed};
 use lc_code::{CodeRefusal, FormedCode};
-use lc_field::{Field, NoMemory};
+use lc_field::{Field, FieldRefusal, NoMemory};
 use std::alloc::Global;
 
 /// The Reed-Solomon code of length `n` with design distance `d`, over the field of n + 1 elements: the words whose polynomials are 0
@@ -69,11 +69,14 @@ fn is_length(n: u64) -> bool
 }
 
 // The field with that many elements.
+#[tactic(auto, using(crate::proofs::ReedSolomonLaws::size_there))]
 fn field_of(alloc: Global, elements: u64) -> Result<Field, NoMemory>
+    requires there { IsTrue (is_size_of_symbol_field elements) }
     ensures size { IfOk result (λ f. size f ≡ elements) }
 {
     match Field::of(alloc, elements) {
         Ok(field) => Ok(field),
-        Err(_refusal) => Err(NoMemory),
+        Err(FieldRefusal::NoMemory) => Err(NoMemory),
+        Err(FieldRefusal::NotAField) => unreachable!(),
     }
 }

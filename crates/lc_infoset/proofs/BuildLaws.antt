@@ -1,22 +1,16 @@
 -- The information sets, one after another.
 --   none_after                   at most no further set: there is none
---   one_after, short_after, few_after      a next set with enough fresh columns, with too few, or with too few unused ones
+--   one_after, short_after       a next set with enough fresh columns, or with too few
 --   sets_short, sets_whole       the sets after some, if one has too few fresh columns, and after n
 --   all_states                   the first set, and those after it
-use Rattle.std.proofs.Common.{◌≡◌, ℕ, suc, ◌+◌, ◌-◌, ◌*◌, ◌<◌, ◌≤◌, Bool, true, false, not, cond, nat_le, filter, Contains, List, [], ◌∷◌, ◌++◌, length, map, sym, ap, ◌∙◌, ⊎_elim, arith}
+use Rattle.std.proofs.Common.{◌≡◌, ℕ, suc, ◌+◌, ◌-◌, ◌*◌, ◌<◌, ◌≤◌, Bool, true, false, cond, nat_le, List, [], ◌∷◌, ◌++◌, length, map, sym, ap, ◌∙◌, ⊎_elim, arith}
 use Rattle.std.specs.Bool.{OnFalse}
 use Rattle.std.proofs.lemmas.Bool.{cases_Bool, le-leb, leb-true, true≢false}
 use Rattle.std.proofs.lemmas.List.{append-nil, append_assoc}
-use Rattle.lc_algebra.specs.declared.FieldName.{FieldName}
-use Rattle.lc_algebra.specs.Span.{below}
 use Rattle.lc_algebra.specs.Matrix.{Matrix}
-use Rattle.lc_algebra.proofs.DimensionLaws.{distinct_from_pairs, distinct_at_most}
-use Rattle.lc_enumeration.specs.InformationSet.{is_member, first_basis, columns_in_order, with_fresh, next_set, sets_after, information_sets}
+use Rattle.lc_enumeration.specs.InformationSet.{next_set, sets_after, information_sets}
 use Rattle.lc_enumeration.specs.Search.{sets_of}
 use Rattle.lc_infoset.specs.Kept.{SetState, set_state, set_states, states_after}
-use Rattle.lc_infoset.proofs.SetLaws.{filter_passes, next_is}
-use Rattle.lc_infoset.proofs.AnswerLaws.{filter_keeps}
-use Rattle.lc_infoset.proofs.KeptLaws.{next_inside}
 
 pub none_after : (C : Matrix) (used : List ℕ) (now : List SetState) → now ++ states_after C used 0 ≡ now
 unfolding sets_after
@@ -41,26 +35,13 @@ one_after C used fresh more s old new m e l ef em en =
     ∙ ap (λ xs. xs ++ map (set_state C) rest) (sym en)
     ∙ ap (λ xs. new ++ states_after C xs m) used_now
 
-no_more : (C : Matrix) (used : List ℕ) (old : List SetState) (m : ℕ) → 2 * length (next_set C.field C.columns C.rows used).fresh < length C.rows → old ++ states_after C used (m + 1) ≡ old
-no_more C used old m l =
+pub short_after : (C : Matrix) (used : List ℕ) (s : SetState) (old : List SetState) (m : ℕ) → s ≡ set_state C (next_set C.field C.columns C.rows used) → 2 * length s.set.fresh < length C.rows → old ++ states_after C used (m + 1) ≡ old
+short_after C used s old m e l =
     let t = next_set C.field C.columns C.rows used in
-    let short : nat_le (length C.rows) (2 * length t.fresh) ≡ false = ⊎_elim (λ b. absurd (omega (arith, leb-true (length C.rows) (2 * length t.fresh) b, l))) (λ b. b) (cases_Bool (nat_le (length C.rows) (2 * length t.fresh))) in
+    let same : s.set.fresh ≡ t.fresh = ap (λ (x : SetState). x.set.fresh) e in
+    let short : nat_le (length C.rows) (2 * length t.fresh) ≡ false = ⊎_elim (λ b. absurd (omega (arith, leb-true (length C.rows) (2 * length t.fresh) b, l, ap length same))) (λ b. b) (cases_Bool (nat_le (length C.rows) (2 * length t.fresh))) in
     let rest = sets_after C.field C.columns C.rows (used ++ t.fresh) m in
     ap (λ xs. old ++ map (set_state C) xs) (one_more C used m ∙ ap (λ b. cond b (t ∷ rest) []) short) ∙ append-nil old
-
-pub short_after : (C : Matrix) (used : List ℕ) (s : SetState) (old : List SetState) (m : ℕ) → s ≡ set_state C (next_set C.field C.columns C.rows used) → 2 * length s.set.fresh < length C.rows → old ++ states_after C used (m + 1) ≡ old
-short_after C used s old m e l = no_more C used old m (omega (arith, l, ap (λ (x : SetState). length x.set.fresh) e))
-
-fresh_passes : (f : FieldName) (n : ℕ) (rows : List (List ℕ)) (used : List ℕ) (c : ℕ) → Contains (next_set f n rows used).fresh c → not (is_member used c) ≡ true
-unfolding next_set with_fresh
-fresh_passes f n rows used c l = (filter_passes (λ d. not (is_member used d)) (first_basis f n rows (columns_in_order n used)) c l).passes
-
-pub few_after : (C : Matrix) (used : List ℕ) (old : List SetState) (m count : ℕ) → count ≡ length (filter (λ c. not (is_member used c)) (below C.columns)) → 2 * count < length C.rows → old ++ states_after C used (m + 1) ≡ old
-few_after C used old m count e l =
-    let t = next_set C.field C.columns C.rows used in
-    let left = filter (λ c. not (is_member used c)) (below C.columns) in
-    let few : length t.fresh ≤ length left = distinct_at_most t.fresh left (distinct_from_pairs t.fresh (next_is C.field C.columns C.rows used).once) (λ c k. filter_keeps (λ d. not (is_member used d)) (below C.columns) c (next_inside C.field C.columns C.rows used c k) (fresh_passes C.field C.columns C.rows used c k)) in
-    no_more C used old m (omega (arith, few, e, l))
 
 pub all_states : (C : Matrix) (used : List ℕ) (s : SetState) (sets : List SetState) → s ≡ set_state C (next_set C.field C.columns C.rows []) → used ≡ s.set.fresh → sets ≡ (s ∷ []) ++ states_after C used C.columns → sets ≡ set_states C
 unfolding sets_of information_sets

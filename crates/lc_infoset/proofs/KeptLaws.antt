@@ -52,7 +52,7 @@ divisor_small C d states h =
     let small : w ≤ 4 = ⊎_elim (λ l. each_small C.field w l) (λ l. ⊎_elim (λ e. omega (arith, e)) (λ o. absurd (no_member w o)) (contains_cases 1 w [] l)) (Contains-append_cases (possible_divisors C.field) (1 ∷ []) w (greatest_divisor C.field C.columns C.rows).possible) in
     omega (arith, h.divisor, divisor_is C, small)
 
-pub next_inside : (f : FieldName) (n : ℕ) (rows : List (List ℕ)) (used : List ℕ) (c : ℕ) → Contains (next_set f n rows used).fresh c → Contains (below n) c
+next_inside : (f : FieldName) (n : ℕ) (rows : List (List ℕ)) (used : List ℕ) (c : ℕ) → Contains (next_set f n rows used).fresh c → Contains (below n) c
 unfolding next_set with_fresh first_basis
 next_inside f n rows used c l =
     (filter_passes (is_member (greedy f (length rows) (column rows) [] (columns_in_order n used))) (below n) c

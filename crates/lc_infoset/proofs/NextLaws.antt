@@ -1,7 +1,6 @@
 -- The next information set, in the shape of the calls.
 --   told_member                    the test that a slice has a number
 --   filter_none, filter_kept, filter_left, filter_more, filter_same      a filter of the numbers below c, one number more
---   count_none, count_more, count_same      how many numbers below c pass
 --   member_at, not_member          what is one of some columns
 --   turned_none, turned_more       one column more, with its index
 --   order_inside, turn_inside      columns and rows that there are
@@ -56,16 +55,6 @@ filter_more p c now t e = filter_kept p c [] now t e
 
 pub filter_same : (p : ℕ → Bool) (c : ℕ) (now : List ℕ) → p c ≡ false → now ≡ filter p (below c) → now ≡ filter p (below (c + 1))
 filter_same p c now t e = filter_left p c [] now t e
-
-pub count_none : (p : ℕ → Bool) → 0 ≡ length (filter p (below 0))
-unfolding below
-count_none p = refl
-
-pub count_more : (p : ℕ → Bool) (c m : ℕ) → p c ≡ true → m ≡ length (filter p (below c)) → m + 1 ≡ length (filter p (below (c + 1)))
-count_more p c m t e = omega (arith, e, ap length (filter_more p c (filter p (below c)) t refl), length_push (filter p (below c)) c)
-
-pub count_same : (p : ℕ → Bool) (c m : ℕ) → p c ≡ false → m ≡ length (filter p (below c)) → m ≡ length (filter p (below (c + 1)))
-count_same p c m t e = e ∙ ap length (filter_same p c (filter p (below c)) t refl)
 
 pub member_at : (columns : List ℕ) (r c : ℕ) → r < length columns → slice_index columns r ≡ c → is_member columns c ≡ true
 member_at columns r c l e = member_true columns c (subst (Contains columns) e (Contains-get_or columns r 0 l))

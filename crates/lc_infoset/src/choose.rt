@@ -68,21 +68,6 @@ fn push_used(n: usize, used: &[usize], order: &mut Vec<usize>) -> Result<(), NoM
     Ok(())
 }
 
-// How many columns below n aren't used.
-#[tactic(auto, using(crate::proofs::NextLaws::count_none, crate::proofs::NextLaws::count_more, crate::proofs::NextLaws::count_same))]
-pub(crate) fn unused_count(n: usize, used: &[usize]) -> usize
-    ensures is { result ≡ length (filter (λ c. not (is_member used.now c)) (below n)) }
-    ensures few { result ≤ n }
-{
-    let mut count = 0;
-    for c in 0..n {
-        if !holds(used, c) {
-            count += 1;
-        }
-    }
-    count
-}
-
 // Whether c is one of the columns.
 #[tactic(auto, using(crate::proofs::NextLaws::told_member))]
 fn holds(columns: &[usize], c: usize) -> bool

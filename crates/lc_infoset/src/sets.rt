@@ -11,7 +11,7 @@ ghost use Rattle.lc_enumeration.specs.Search.{set_count, generator_at};
 ghost use Rattle.lc_infoset.specs.Bound.{set_at};
 ghost use Rattle.lc_infoset.specs.Kept.{states_after};
 
-use crate::choose::{next_set, unused_count};
+use crate::choose::next_set;
 use crate::kept::KeptSet;
 use lc_field::{Field, NoMemory};
 use lc_matrix::Matrix;
@@ -176,7 +176,6 @@ fn push_sets(
     used: &mut Vec<usize>,
     sets: &mut Vec<KeptSet>,
 ) -> Result<(), NoMemory>
-    requires most { code.now.columns ≤ 255 }
     requires independent { AreIndependent code.now.field code.now.columns code.now.rows }
     ensures are { IfOk result (λ _. sets.new.items ≡ sets.old.items ++ states_after code.now used.old.items code.now.columns) }
 {
@@ -188,23 +187,18 @@ fn push_sets(
     Ok(())
 }
 
-// Pushes the next set if its fresh columns are at least half of k, and uses them. Returns whether it did. If fewer columns
-// than that are unused, it looks for no set.
-#[tactic(auto, using(crate::proofs::BuildLaws::one_after, crate::proofs::BuildLaws::short_after, crate::proofs::BuildLaws::few_after))]
+// Pushes the next set if its fresh columns are at least half of k, and uses them. Returns whether it did.
+#[tactic(auto, using(crate::proofs::BuildLaws::one_after, crate::proofs::BuildLaws::short_after))]
 fn push_next(
     alloc: Global,
     code: &Matrix,
     used: &mut Vec<usize>,
     sets: &mut Vec<KeptSet>,
 ) -> Result<bool, NoMemory>
-    requires most { code.now.columns ≤ 255 }
     requires independent { AreIndependent code.now.field code.now.columns code.now.rows }
     ensures more { IfOk result (λ more. OnTrue more ((m : ℕ) → sets.old.items ++ states_after code.now used.old.items (m + 1) ≡ sets.new.items ++ states_after code.now used.new.items m)) }
     ensures done { IfOk result (λ more. OnFalse more ((m : ℕ) → sets.old.items ++ states_after code.now used.old.items (m + 1) ≡ sets.new.items)) }
 {
-    if 2 * unused_count(code.cols(), used) < code.rows() {
-        return Ok(false);
-    }
     let set = next_set(alloc, code, used)?;
     if 2 * set.fresh.len() < code.rows() {
         return Ok(false);
