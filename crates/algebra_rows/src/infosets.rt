@@ -1,5 +1,5 @@
 //! Tests of information sets, divisors and bounds, by values that `tools/information_sets.py` prints from lists of all words.
-ghost use Rattle.std.specs.Prelude.{◌<◌, length, All, IsTrue};
+ghost use Rattle.std.specs.Prelude.{◌<◌, ◌↔◌, length, All, IsTrue};
 ghost use Rattle.lc_enumeration.specs.Search.{set_count};
 
 use crate::codes::generated;
@@ -321,7 +321,7 @@ const BOUNDS: [(usize, &[u64], u64); 30] = [
 
 // Whether all levels are below k.
 fn are_below(levels: &[u64], k: u64) -> bool
-    ensures is { IsTrue result → All (λ w. w < k) levels.now }
+    ensures is { IsTrue result ↔ All (λ w. w < k) levels.now }
 {
     for w in levels {
         if *w >= k {

@@ -44,8 +44,8 @@ too_long n l = sym (any_nowhere (λ f. (size f == n + 1) && is_symbol f) all_fie
 pub size_there : (q : ℕ) → IsTrue (is_size_of_symbol_field q) → ((f : FieldName) → size f ≢ q) → ⊥
 unfolding is_size_of_symbol_field
 size_there q t none =
-    let (f, found) = any_contains (λ f. (size f == q) && is_symbol f) all_fields t in
-    let p = and_parts (size f == q) (is_symbol f) found.1 in
+    let (f, here, found) = any_contains (λ f. (size f == q) && is_symbol f) all_fields t in
+    let p = and_parts (size f == q) (is_symbol f) found in
     none f (eqb-true (size f) q p.0)
 
 pub no_field : (n d : ℕ) → is_size_of_symbol_field (n + 1) ≡ false → first_refusal (reed_solomon_refusals n d) ≡ Some NoFieldOfLength
