@@ -1,5 +1,5 @@
-//! Tests of information sets, divisors and bounds, by values that `tools/information_sets.py` prints from lists of all words.
-ghost use Rattle.std.specs.Prelude.{◌<◌, ◌↔◌, length, All, IsTrue};
+//! Tests of information sets and divisors, by values that `tools/information_sets.py` prints from lists of all words.
+ghost use Rattle.std.specs.Prelude.{◌<◌, length};
 ghost use Rattle.lc_enumeration.specs.Search.{set_count};
 
 use crate::codes::generated;
@@ -281,64 +281,6 @@ fn sets_with_their_fresh_columns(rt: HostRuntime) -> Result<(), Fail> {
             has_sets(&sets, expected) && sets.divisor() == *divisor,
             "{q} {n}"
         );
-    }
-    Ok(())
-}
-
-// The bounds of levels, by the index of a code above.
-const BOUNDS: [(usize, &[u64], u64); 30] = [
-    (0, &[1, 1], 3),
-    (0, &[2, 1], 4),
-    (0, &[2, 2], 5),
-    (1, &[1, 1], 2),
-    (1, &[2, 1], 3),
-    (1, &[2, 2], 4),
-    (2, &[1], 2),
-    (2, &[2], 4),
-    (2, &[2], 4),
-    (7, &[1], 2),
-    (7, &[2], 3),
-    (7, &[2], 3),
-    (8, &[1, 1], 4),
-    (8, &[2, 1], 8),
-    (8, &[2, 2], 8),
-    (9, &[1], 2),
-    (9, &[2], 4),
-    (9, &[2], 4),
-    (10, &[1, 1], 4),
-    (10, &[2, 1], 8),
-    (10, &[2, 2], 8),
-    (11, &[1, 1], 3),
-    (11, &[2, 1], 4),
-    (11, &[2, 2], 5),
-    (12, &[1, 1], 6),
-    (12, &[2, 1], 6),
-    (12, &[2, 2], 6),
-    (13, &[1, 1], 4),
-    (13, &[2, 1], 5),
-    (13, &[2, 2], 6),
-];
-
-// Whether all levels are below k.
-fn are_below(levels: &[u64], k: u64) -> bool
-    ensures is { IsTrue result ↔ All (λ w. w < k) levels.now }
-{
-    for w in levels {
-        if *w >= k {
-            return false;
-        }
-    }
-    true
-}
-
-#[test]
-fn bounds_are_rounded_up(rt: HostRuntime) -> Result<(), Fail> {
-    for (i, levels, expected) in &BOUNDS {
-        let (q, n, rows, _, _) = CODES[*i];
-        let sets = sets_of(&rt, rt.alloc(), q, n, rows)?;
-        assert!(&rt; levels.len() == sets.count() && are_below(levels, sets.dimension() as u64));
-        let bound = sets.bound(levels);
-        assert!(&rt; bound == *expected, "{i}");
     }
     Ok(())
 }
