@@ -89,10 +89,9 @@ def main():
         rows = [list(w) for w in reduced(words)]
         sets = sets_of(field, n, rows)
         d, k = divisor(q, words), len(rows)
-        print(f"// {name}\n({q}, {n}, &{rows}, &{[(s, f) for s, f in sets]}, {d}),")
-        if k > 2:
-            for levels in ([1] * len(sets), [2] + [1] * (len(sets) - 1), [2] * len(sets)):
-                print("// bound", levels, bound(d, k, sets, levels))
+        levels = [[1] * len(sets), [2] + [1] * (len(sets) - 1), [2] * len(sets)] if k > 2 else [[0] * len(sets)]
+        bounds = [(seen, bound(d, k, sets, seen)) for seen in levels]
+        print(f"// {name}\n({q}, {n}, &{rows}, &{[(s, f) for s, f in sets]}, {d}, &{bounds}),")
     for q, rows in ROWS:
         print(q, rows, divisor(q, span(Field(q), len(rows[0]), rows)))
 

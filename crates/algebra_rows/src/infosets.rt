@@ -1,5 +1,6 @@
 //! Tests of information sets and divisors, by values that `tools/information_sets.py` prints from lists of all words.
-ghost use Rattle.std.specs.Prelude.{◌<◌, length};
+ghost use Rattle.std.specs.Prelude.{◌≡◌, ◌<◌, length, All};
+ghost use Rattle.std.specs.Bool.{OnTrue};
 ghost use Rattle.lc_enumeration.specs.Search.{set_count};
 
 use crate::codes::generated;
@@ -58,8 +59,18 @@ fn has_sets(sets: &Sets, expected: &[(&[usize], &[usize])]) -> bool {
     true
 }
 
-// The size of the field, the length, rows of a code, its information sets with their fresh columns, and its divisor.
-const CODES: [(u64, usize, &[&[u8]], &[(&[usize], &[usize])], u64); 14] = [
+// The size of the field, the length, rows of a code, its information sets with their fresh columns, its divisor, and levels of the
+// sets with the bound that they give.
+type Row = (
+    u64,
+    usize,
+    &'static [&'static [u8]],
+    &'static [(&'static [usize], &'static [usize])],
+    u64,
+    &'static [(&'static [u64], u64)],
+);
+
+const CODES: [Row; 14] = [
     // Hamming
     (
         2,
@@ -72,6 +83,7 @@ const CODES: [(u64, usize, &[&[u8]], &[(&[usize], &[usize])], u64); 14] = [
         ],
         &[(&[0, 1, 2, 3], &[0, 1, 2, 3]), (&[0, 4, 5, 6], &[4, 5, 6])],
         1,
+        &[(&[1, 1], 3), (&[2, 1], 4), (&[2, 2], 5)],
     ),
     // half
     (
@@ -85,6 +97,7 @@ const CODES: [(u64, usize, &[&[u8]], &[(&[usize], &[usize])], u64); 14] = [
         ],
         &[(&[0, 1, 2, 3], &[0, 1, 2, 3]), (&[0, 2, 4, 5], &[4, 5])],
         1,
+        &[(&[1, 1], 2), (&[2, 1], 3), (&[2, 2], 4)],
     ),
     // one fewer than half
     (
@@ -98,6 +111,7 @@ const CODES: [(u64, usize, &[&[u8]], &[(&[usize], &[usize])], u64); 14] = [
         ],
         &[(&[0, 1, 2, 3], &[0, 1, 2, 3])],
         2,
+        &[(&[1], 2), (&[2], 4), (&[2], 4)],
     ),
     // repetition
     (
@@ -112,6 +126,7 @@ const CODES: [(u64, usize, &[&[u8]], &[(&[usize], &[usize])], u64); 14] = [
             (&[4], &[4]),
         ],
         1,
+        &[(&[0, 0, 0, 0, 0], 5)],
     ),
     // repetition
     (
@@ -120,6 +135,7 @@ const CODES: [(u64, usize, &[&[u8]], &[(&[usize], &[usize])], u64); 14] = [
         &[&[1, 1, 1, 1]],
         &[(&[0], &[0]), (&[1], &[1]), (&[2], &[2]), (&[3], &[3])],
         1,
+        &[(&[0, 0, 0, 0], 4)],
     ),
     // repetition
     (
@@ -128,6 +144,7 @@ const CODES: [(u64, usize, &[&[u8]], &[(&[usize], &[usize])], u64); 14] = [
         &[&[1, 1, 1]],
         &[(&[0], &[0]), (&[1], &[1]), (&[2], &[2])],
         1,
+        &[(&[0, 0, 0], 3)],
     ),
     // dimension 1
     (
@@ -136,6 +153,7 @@ const CODES: [(u64, usize, &[&[u8]], &[(&[usize], &[usize])], u64); 14] = [
         &[&[0, 1, 0, 1, 1]],
         &[(&[1], &[1]), (&[3], &[3]), (&[4], &[4])],
         1,
+        &[(&[0, 0, 0], 3)],
     ),
     // dimension n
     (
@@ -144,6 +162,7 @@ const CODES: [(u64, usize, &[&[u8]], &[(&[usize], &[usize])], u64); 14] = [
         &[&[1, 0, 0], &[0, 1, 0], &[0, 0, 1]],
         &[(&[0, 1, 2], &[0, 1, 2])],
         1,
+        &[(&[1], 2), (&[2], 3), (&[2], 3)],
     ),
     // extended Hamming
     (
@@ -160,6 +179,7 @@ const CODES: [(u64, usize, &[&[u8]], &[(&[usize], &[usize])], u64); 14] = [
             (&[4, 5, 6, 7], &[4, 5, 6, 7]),
         ],
         4,
+        &[(&[1, 1], 4), (&[2, 1], 8), (&[2, 2], 8)],
     ),
     // even weights
     (
@@ -168,6 +188,7 @@ const CODES: [(u64, usize, &[&[u8]], &[(&[usize], &[usize])], u64); 14] = [
         &[&[1, 0, 0, 1], &[0, 1, 0, 1], &[0, 0, 1, 1]],
         &[(&[0, 1, 2], &[0, 1, 2])],
         2,
+        &[(&[1], 2), (&[2], 4), (&[2], 4)],
     ),
     // Golay, extended
     (
@@ -222,6 +243,7 @@ const CODES: [(u64, usize, &[&[u8]], &[(&[usize], &[usize])], u64); 14] = [
             ),
         ],
         4,
+        &[(&[1, 1], 4), (&[2, 1], 8), (&[2, 2], 8)],
     ),
     // ternary Golay
     (
@@ -240,6 +262,7 @@ const CODES: [(u64, usize, &[&[u8]], &[(&[usize], &[usize])], u64); 14] = [
             (&[0, 6, 7, 8, 9, 10], &[6, 7, 8, 9, 10]),
         ],
         1,
+        &[(&[1, 1], 3), (&[2, 1], 4), (&[2, 2], 5)],
     ),
     // ternary Golay, extended
     (
@@ -258,6 +281,7 @@ const CODES: [(u64, usize, &[&[u8]], &[(&[usize], &[usize])], u64); 14] = [
             (&[6, 7, 8, 9, 10, 11], &[6, 7, 8, 9, 10, 11]),
         ],
         3,
+        &[(&[1, 1], 6), (&[2, 1], 6), (&[2, 2], 6)],
     ),
     // hexacode
     (
@@ -270,17 +294,46 @@ const CODES: [(u64, usize, &[&[u8]], &[(&[usize], &[usize])], u64); 14] = [
         ],
         &[(&[0, 1, 2], &[0, 1, 2]), (&[3, 4, 5], &[3, 4, 5])],
         1,
+        &[(&[1, 1], 4), (&[2, 1], 5), (&[2, 2], 6)],
     ),
 ];
 
 #[test]
 fn sets_with_their_fresh_columns(rt: HostRuntime) -> Result<(), Fail> {
-    for (q, n, rows, expected, divisor) in &CODES {
+    for (q, n, rows, expected, divisor, _) in &CODES {
         let sets = sets_of(&rt, rt.alloc(), *q, *n, rows)?;
         assert!(&rt;
             has_sets(&sets, expected) && sets.divisor() == *divisor,
             "{q} {n}"
         );
+    }
+    Ok(())
+}
+
+// Whether there is one level for each set, each below k.
+fn are_levels(sets: &Sets, levels: &[u64]) -> bool
+    ensures count { OnTrue result (length levels.now ≡ set_count sets.now) }
+    ensures below { OnTrue result (All (λ w. w < length sets.now.rows) levels.now) }
+{
+    let k = sets.dimension() as u64;
+    levels.len() == sets.count() && levels.iter().all(|level| *level < k)
+}
+
+// Whether each of these levels gives the bound beside it.
+fn has_bounds(sets: &Sets, expected: &[(&[u64], u64)]) -> bool {
+    for (levels, bound) in expected {
+        if !are_levels(sets, levels) || sets.bound(levels) != *bound {
+            return false;
+        }
+    }
+    true
+}
+
+#[test]
+fn bounds_are_rounded_up(rt: HostRuntime) -> Result<(), Fail> {
+    for (q, n, rows, _, _, bounds) in &CODES {
+        let sets = sets_of(&rt, rt.alloc(), *q, *n, rows)?;
+        assert!(&rt; has_bounds(&sets, bounds), "{q} {n}");
     }
     Ok(())
 }
@@ -323,7 +376,7 @@ fn divisors_of_rows(rt: HostRuntime) -> Result<(), Fail> {
 
 #[test]
 fn divisors_of_codes(rt: HostRuntime) -> Result<(), Fail> {
-    for (q, n, rows, _, divisor) in &CODES {
+    for (q, n, rows, _, divisor, _) in &CODES {
         let code = generated(&rt, rt.alloc(), *q, *n, rows)?;
         assert!(&rt; code.divisor() == *divisor, "{q} {n}");
     }

@@ -38,10 +38,22 @@ pub(crate) fn next_set(alloc: Global, code: &Matrix, used: &[usize]) -> Result<K
 fn columns_in_order(alloc: Global, n: usize, used: &[usize]) -> Result<Vec<usize>, NoMemory>
     ensures are { IfOk result (λ order. order.items ≡ columns_in_order n used.now) }
 {
-    let mut order = Vec::new(alloc);
-    push_unused(n, used, &mut order)?;
+    let mut order = unused_columns(alloc, n, used)?;
     push_used(n, used, &mut order)?;
     Ok(order)
+}
+
+// The columns below n that aren't used, rising.
+pub(crate) fn unused_columns(
+    alloc: Global,
+    n: usize,
+    used: &[usize],
+) -> Result<Vec<usize>, NoMemory>
+    ensures are { IfOk result (λ columns. columns.items ≡ filter (λ c. not (is_member used.now c)) (below n)) }
+{
+    let mut columns = Vec::new(alloc);
+    push_unused(n, used, &mut columns)?;
+    Ok(columns)
 }
 
 #[tactic(auto, using(crate::proofs::NextLaws::filter_none, crate::proofs::NextLaws::filter_kept, crate::proofs::NextLaws::filter_left))]

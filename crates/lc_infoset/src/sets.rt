@@ -9,9 +9,9 @@ ghost use Rattle.lc_algebra.specs.Matrix.{AreRows};
 ghost use Rattle.lc_algebra.specs.Divisor.{divisor_of};
 ghost use Rattle.lc_enumeration.specs.Search.{set_count, generator_at};
 ghost use Rattle.lc_infoset.specs.Bound.{set_at};
-ghost use Rattle.lc_infoset.specs.Kept.{states_after};
+ghost use Rattle.lc_infoset.specs.Kept.{SetState, states_after};
 
-use crate::choose::next_set;
+use crate::choose::{next_set, unused_columns};
 use crate::kept::KeptSet;
 use lc_field::{Field, NoMemory};
 use lc_matrix::Matrix;
@@ -187,7 +187,8 @@ fn push_sets(
     Ok(())
 }
 
-// Pushes the next set if its fresh columns are at least half of k, and uses them. Returns whether it did.
+// Pushes the next set if its fresh columns are at least half of k, and uses them. Returns whether it did. The set isn't looked for
+// if the columns that aren't used are fewer than half of k.
 #[tactic(auto, using(crate::proofs::BuildLaws::one_after, crate::proofs::BuildLaws::short_after))]
 fn push_next(
     alloc: Global,
@@ -199,6 +200,9 @@ fn push_next(
     ensures more { IfOk result (λ more. OnTrue more ((m : ℕ) → sets.old.items ++ states_after code.now used.old.items (m + 1) ≡ sets.new.items ++ states_after code.now used.new.items m)) }
     ensures done { IfOk result (λ more. OnFalse more ((m : ℕ) → sets.old.items ++ states_after code.now used.old.items (m + 1) ≡ sets.new.items)) }
 {
+    if has_too_few(alloc, code, used)? {
+        return Ok(false);
+    }
     let set = next_set(alloc, code, used)?;
     if 2 * set.fresh.len() < code.rows() {
         return Ok(false);
@@ -206,6 +210,15 @@ fn push_next(
     used.extend_from_slice(&set.fresh)?;
     sets.push(set)?;
     Ok(true)
+}
+
+// Whether the columns that aren't used are fewer than half of k.
+fn has_too_few(alloc: Global, code: &Matrix, used: &[usize]) -> Result<bool, NoMemory>
+    ensures few { IfOk result (λ few. OnTrue few ((old : List SetState) (m : ℕ) → old ++ states_after code.now used.now (m + 1) ≡ old)) }
+{
+    let n = code.cols();
+    let unused = unused_columns(alloc, n, used)?;
+    Ok(2 * unused.len() < code.rows())
 }
 
 // Proved only where its argument may go to another thread and be shared with it.
