@@ -35,7 +35,7 @@ pub fn powers_of_primitive(field: FieldName)
         pow field (add field a b) (shape_of field).characteristic ≡ add field (pow field a (shape_of field).characteristic) (pow field b (shape_of field).characteristic) }
 {}
 
-/// Where a field lies in a larger one, the embedding takes its elements to distinct elements of the
+/// If a field lies in a larger one, the embedding takes its elements to distinct elements of the
 /// larger one and keeps sums and products. (MacWilliams and Sloane, chapter 4.)
 #[tactic(auto, using(crate::proofs::EmbeddingLaws::embed_self, crate::proofs::EmbeddingLaws::embed_prime))]
 pub fn embedding_keeps_arithmetic(small: FieldName, large: FieldName)

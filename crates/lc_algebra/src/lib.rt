@@ -1,6 +1,6 @@
 //! What `codes` means by a field, a word, the words of some rows, a minimum distance and a reduced
-//! generator matrix. The definitions stand in `specs/`; the laws that every crate above cites stand in
-//! `proofs/`, and on the contracts of the functions of `laws`.
+//! generator matrix. The definitions are in `specs/`. The laws that every crate above cites are in
+//! `proofs/`, and are the contracts of the functions of `laws`.
 #![tactic(auto)]
 
 pub mod divisor_laws;
@@ -11,8 +11,7 @@ pub mod span_laws;
 ///
 /// An element of a field of p^s elements is a polynomial of degree below s over the field of p
 /// elements, and is written as the number whose digits in base p are its coefficients, the constant
-/// lowest. Which polynomial is divided by, and which element is the chosen primitive one, stands in
-/// `specs/Field.antt`. (MacWilliams and Sloane, The Theory of Error-Correcting Codes, chapter 4.)
+/// lowest. `specs/Field.antt` has the polynomial of each field and its chosen primitive element. (MacWilliams and Sloane, The Theory of Error-Correcting Codes, chapter 4.)
 #[derive(Clone, Copy, Debug, PartialEq, Eq)]
 pub enum FieldName {
     Gf2,

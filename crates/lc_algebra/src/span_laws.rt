@@ -75,7 +75,7 @@ pub fn span_is_closed(field: FieldName)
 
 /// The list of words of some rows has exactly their words, q^k entries for k rows over a field of q
 /// elements; and the words are the combinations by the lists of k elements, each by one list exactly
-/// where the rows are independent.
+/// if the rows are independent.
 pub fn words_are_the_span(field: FieldName)
     ensures members { (n : ℕ) (rows : List (List ℕ)) (w : List ℕ) → Contains (words field n rows) w ↔ InSpan field n rows w }
     ensures count { (n : ℕ) (rows : List (List ℕ)) → length (words field n rows) ≡ size field ^ length rows }
@@ -120,7 +120,7 @@ pub fn reduced_matrix_is_unique(field: FieldName)
 {}
 
 /// Some rows have at most one systematic matrix on a set of columns; its rows are independent, and a
-/// word of the rows is told by its symbols on the set.
+/// word of the rows is determined by its symbols on the set.
 pub fn systematic_matrix_is_unique(field: FieldName)
     ensures one { (n : ℕ) (rows : List (List ℕ)) (set : List ℕ) (d e : List (List ℕ)) → IsSystematic field n rows set d → IsSystematic field n rows set e → d ≡ e }
     ensures independent { (n : ℕ) (rows : List (List ℕ)) (set : List ℕ) (e : List (List ℕ)) → IsSystematic field n rows set e → AreIndependent field n e }
@@ -155,8 +155,8 @@ pub fn dimension_is_unique(field: FieldName)
     ensures equally_many { (n : ℕ) (rows others : List (List ℕ)) → AreRows field n rows → AreRows field n others → AreIndependent field n rows → AreIndependent field n others → SameSpan field n rows others → length rows ≡ length others }
 {}
 
-/// The columns of a set are independent exactly where only zero coefficients make every row's symbols
-/// on the set sum to 0. Whether they are depends on the words of the rows alone, and they are where the
+/// The columns of a set are independent exactly if only zero coefficients make every row's symbols
+/// on the set sum to 0. Whether they are depends on the words of the rows alone, and they are if the
 /// rows have a systematic matrix on the set.
 pub fn columns_are_told_by_words(field: FieldName)
     ensures independent { (n : ℕ) (rows : List (List ℕ)) (set : List ℕ) → AreRows field n rows → AreIndependentColumns field rows set ↔ ((xs : List ℕ) → IsWord field (length set) xs → All (λ row. word_dot field xs (restrict set row) ≡ 0) rows → xs ≡ zero_word (length set)) }

@@ -1,7 +1,7 @@
-//! What the seats of a board know. No value of these types but `Terms` is made: they stand in proofs alone.
+//! What the seats of a board know. No value of these types but `Terms` is made: they are in proofs alone.
 use std::collections::LinkedList;
 
-/// What a board is told once, when it is opened.
+/// What a board is opened with.
 #[derive(Clone, Copy)]
 pub struct Terms {
     /// The best value before any report.

@@ -16,7 +16,7 @@ use Rattle.lc_enumeration.specs.Message.{supports, supports_from, numbers_from, 
 use Rattle.lc_enumeration.specs.Plan.{cut, phase_level, phase_set, level_blocks, blocks_before, total, phase_at, phase_ends, block_messages, place_of, phase_of, plan_phases}
 use Rattle.lc_enumeration.specs.InformationSet.{same_word, in_span, greedy, is_member, first_basis, columns_in_order, with_fresh, next_set, sets_after, information_sets, unit_word, systematic}
 use Rattle.lc_enumeration.specs.Search.{sets_of, set_count, ranks_of, generator_at, word_of, block_words, word_at, beats, found_along, found_in_block, found_from, least_of, found_first, found_below, best, last_that, is_whole_below, level_below, levels_below, bound_sum, bound_of, bound, is_done, ends_of, may_end, finished}
-use Rattle.lc_enumeration.specs.Records.{Note, Progress, Start, Step, found_of, progress_of, first_progress, end_of_phase, within_slice, round_length, after_round, note_of, is_used_up, state_first, no_round, less_slice, rounds_within, rounds, last_state, fresh_start, step_of, no_steps, steps_first, session_from, session_rounds, records}
+use Rattle.lc_enumeration.specs.Records.{Note, Progress, Start, SessionStep, found_of, progress_of, first_progress, end_of_phase, within_slice, round_length, after_round, note_of, is_used_up, state_first, no_round, less_slice, rounds_within, rounds, last_state, fresh_start, step_of, no_steps, steps_first, session_from, session_rounds, records}
 use Rattle.lc_enumeration.specs.Fitting.{first_divisible, start_before, used_start}
 use Rattle.lc_enumeration.proofs.GolayExamples.{binary_code}
 use Rattle.lc_enumeration.proofs.ExtendedGolayExamples.{extended_code}
@@ -30,7 +30,7 @@ heard blocks bound best = record { need = 0; blocks = blocks; bound = bound; bes
 abbrev pub at : ℕ → ℕ → Progress
 at blocks weight = record { blocks = blocks; weight = weight; place = 0 }
 
-abbrev pub step : ℕ → ℕ → Step
+abbrev pub step : ℕ → ℕ → SessionStep
 step blocks bound = record { note = heard blocks bound 7; settled = []; state = at blocks 7 }
 
 abbrev pub from : Progress → Start

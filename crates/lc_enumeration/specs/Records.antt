@@ -15,7 +15,7 @@
 --   Start                             where a session starts: the needs that are settled, and the progress of the one after
 --                                     them; None if its search begins
 --   fresh_start                       nothing is settled, and nothing is begun
---   Step                              a record, and what the checkpoint after it keeps: the settled needs and the progress
+--   SessionStep                       a record, and what the checkpoint after it keeps: the settled needs and the progress
 --   SessionRounds                     the steps of a session, what is settled at its end, what is left of the slice, and whether
 --                                     the slice stopped it
 --   session_rounds divisor needs budget slice start      the session from a start on; divisor is what divides the weights of
@@ -114,24 +114,24 @@ pub record Start : Type 0 where
 unfoldable pub fresh_start : Start
 fresh_start = record { settled = []; current = None }
 
-pub record Step : Type 0 where
+pub record SessionStep : Type 0 where
   pub note : Note
   pub settled : List Progress
   pub state : Progress
 
 pub record SessionRounds : Type 0 where
-  pub steps : List Step
+  pub steps : List SessionStep
   pub settled : List Progress
   pub left : Option ℕ
   pub is_stopped : Bool
 
-unfoldable pub step_of : ℕ → Matrix → List Progress → Progress → Step
+unfoldable pub step_of : ℕ → Matrix → List Progress → Progress → SessionStep
 step_of d C settled s = record { note = note_of d C (length settled) s; settled = settled; state = s }
 
 unfoldable pub no_steps : List Progress → Option ℕ → Bool → SessionRounds
 no_steps settled slice stopped = record { steps = []; settled = settled; left = slice; is_stopped = stopped }
 
-unfoldable pub steps_first : List Step → SessionRounds → SessionRounds
+unfoldable pub steps_first : List SessionStep → SessionRounds → SessionRounds
 steps_first steps r = record { steps = steps ++ r.steps; settled = r.settled; left = r.left; is_stopped = r.is_stopped }
 
 -- the needs after those that are settled; the search of the first of them begins at a state, if one is given
@@ -148,7 +148,7 @@ unfoldable pub session_rounds : (Matrix → ℕ) → List Matrix → ℕ → Opt
 session_rounds divisor needs budget slice start = session_from divisor (drop (length start.settled) needs) budget slice start.settled start.current
 
 unfoldable pub records : (Matrix → ℕ) → List Matrix → ℕ → Option ℕ → Start → List Note
-records divisor needs budget slice start = map (λ (s : Step). s.note) (session_rounds divisor needs budget slice start).steps
+records divisor needs budget slice start = map (λ (s : SessionStep). s.note) (session_rounds divisor needs budget slice start).steps
 
 abbrev pub IsBestAt : Matrix → Progress → Type 0
 IsBestAt C s = found_of s ≡ best C (set_count C) s.blocks

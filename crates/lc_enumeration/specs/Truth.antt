@@ -21,7 +21,7 @@ use Rattle.lc_algebra.specs.Word.{weight, scale}
 use Rattle.lc_algebra.specs.Span.{InSpan, IsDistance}
 use Rattle.lc_algebra.specs.Matrix.{Matrix}
 use Rattle.lc_enumeration.specs.Search.{Found, Answer, no_word, exact, bracket, set_count, word_at, beats, answer, finished}
-use Rattle.lc_enumeration.specs.Records.{Progress, Start, Step, found_of, note_of, IsBestAt}
+use Rattle.lc_enumeration.specs.Records.{Progress, Start, SessionStep, found_of, note_of, IsBestAt}
 
 abbrev pub IsAtPlace : Matrix → ℕ → ℕ → List ℕ → Type 0
 IsAtPlace C m place w = word_at C m place ≡ Some w
@@ -77,10 +77,10 @@ pub record IsTrueStart (divisor : Matrix → ℕ) (needs : List Matrix) (budget 
   pub settled : AreSettled divisor budget before start.settled
   pub current : IsUnderwayNext divisor budget after start.current
 
-unfoldable pub start_after : Step → Start
+unfoldable pub start_after : SessionStep → Start
 start_after step = record { settled = step.settled; current = Some step.state }
 
-pub record IsTrueStep (divisor : Matrix → ℕ) (needs : List Matrix) (budget : ℕ) (step : Step) : Type 0 where
+pub record IsTrueStep (divisor : Matrix → ℕ) (needs : List Matrix) (budget : ℕ) (step : SessionStep) : Type 0 where
   pub before : List Matrix
   pub code : Matrix
   pub after : List Matrix

@@ -222,7 +222,7 @@ impl Field {
             && self.row.degree % small.row.degree == 0
     }
 
-    /// The element of this field that stands for the element `a` of the subfield `small`: the value of the polynomial of `a` at the
+    /// The element of this field that is the element `a` of the subfield `small`: the value of the polynomial of `a` at the
     /// least-numbered zero that the polynomial of `small` has here.
     #[tactic(auto, using(crate::proofs::RootLaws::embed_is))]
     pub fn embed(&self, small: &Field, a: u8) -> u8

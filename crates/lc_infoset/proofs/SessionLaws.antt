@@ -19,7 +19,7 @@ use Rattle.lc_algebra.proofs.SpanLaws.{contains_map}
 use Rattle.lc_algebra.proofs.DivisorLaws.{no_member}
 use Rattle.lc_enumeration.specs.Plan.{cut}
 use Rattle.lc_enumeration.specs.Search.{no_word, is_done, answer_at, answer, finished}
-use Rattle.lc_enumeration.specs.Records.{Progress, Rounds, Start, Step, SessionRounds, found_of, first_progress, progress_of, note_of, rounds, last_state, step_of, no_steps, steps_first, session_from, session_rounds, fresh_start}
+use Rattle.lc_enumeration.specs.Records.{Progress, Rounds, Start, SessionStep, SessionRounds, found_of, first_progress, progress_of, note_of, rounds, last_state, step_of, no_steps, steps_first, session_from, session_rounds, fresh_start}
 use Rattle.lc_enumeration.specs.Truth.{answer_blocks, IsSettled, AreSettled, IsUnderway, IsUnderwayNext, IsTrueStart, IsTrueStep, start_after}
 use Rattle.lc_enumeration.proofs.RecordsLaws.{first_is_best}
 use Rattle.lc_enumeration.proofs.PlanLaws.{cut_is}
@@ -84,7 +84,7 @@ settled_many divisor budget (D ∷ needs) [] h = absurd h
 settled_many divisor budget (D ∷ needs) (t ∷ states) h = ap suc (settled_many divisor budget needs states h.1)
 
 pub record TrueSession (divisor : Matrix → ℕ) (needs : List Matrix) (budget : ℕ) (r : SessionRounds) : Type 0 where
-  pub steps : (step : Step) → Contains r.steps step → IsTrueStep divisor needs budget step
+  pub steps : (step : SessionStep) → Contains r.steps step → IsTrueStep divisor needs budget step
   pub settled : r.is_stopped ≡ false → AreSettled divisor budget needs r.settled
   pub stops : r.is_stopped ≡ true → r.left ≡ Some 0
 
@@ -179,7 +179,7 @@ fresh_is_true divisor needs budget = record {
   current = tt;
 }
 
-pub resumed_is_true : (divisor : Matrix → ℕ) (needs : List Matrix) (budget : ℕ) (step : Step) → IsTrueStep divisor needs budget step → IsTrueStart divisor needs budget (start_after step)
+pub resumed_is_true : (divisor : Matrix → ℕ) (needs : List Matrix) (budget : ℕ) (step : SessionStep) → IsTrueStep divisor needs budget step → IsTrueStart divisor needs budget (start_after step)
 unfolding start_after
 resumed_is_true divisor needs budget step h = record {
   before = h.before;
@@ -201,7 +201,7 @@ rounds_settle d C budget slice s rows small h e = (search_ends d C budget slice 
 pub rounds_stop : (d : ℕ) (C : Matrix) (budget : ℕ) (slice : Option ℕ) (s : Progress) → 0 < length C.rows → budget ≤ 2 ^ 40 → IsUnderway d C budget s → (rounds d C budget slice s).is_stopped ≡ true → (finished d C budget (last_state s (rounds d C budget slice s).states).blocks (found_of (last_state s (rounds d C budget slice s).states)) ≡ None) × ((rounds d C budget slice s).left ≡ Some 0)
 rounds_stop d C budget slice s rows small h e = (search_ends d C budget slice s rows (at_most_cut budget small) h).stops e
 
-pub session_steps : (divisor : Matrix → ℕ) (needs : List Matrix) (budget : ℕ) (slice : Option ℕ) (start : Start) (step : Step) → HaveRows needs → budget ≤ 2 ^ 40 → IsTrueStart divisor needs budget start → Contains (session_rounds divisor needs budget slice start).steps step → IsTrueStep divisor needs budget step
+pub session_steps : (divisor : Matrix → ℕ) (needs : List Matrix) (budget : ℕ) (slice : Option ℕ) (start : Start) (step : SessionStep) → HaveRows needs → budget ≤ 2 ^ 40 → IsTrueStart divisor needs budget start → Contains (session_rounds divisor needs budget slice start).steps step → IsTrueStep divisor needs budget step
 session_steps divisor needs budget slice start step rows small h l = (session_is_true divisor needs budget slice start rows (at_most_cut budget small) h).steps step l
 
 pub session_settles : (divisor : Matrix → ℕ) (needs : List Matrix) (budget : ℕ) (slice : Option ℕ) (start : Start) → HaveRows needs → budget ≤ 2 ^ 40 → IsTrueStart divisor needs budget start → (session_rounds divisor needs budget slice start).is_stopped ≡ false → AreSettled divisor budget needs (session_rounds divisor needs budget slice start).settled

@@ -12,7 +12,7 @@ ghost use Rattle.lc_algebra.specs.SpanLaws.{restrict};
 ghost use Rattle.lc_algebra.specs.Divisor.{IsDivisible, divisor_of, rounded};
 ghost use Rattle.lc_enumeration.specs.InformationSet.{systematic};
 ghost use Rattle.lc_enumeration.specs.Search.{Found, exact, set_count, generator_at, best, levels_below, bound, is_done, answer, finished};
-ghost use Rattle.lc_enumeration.specs.Records.{Progress, Start, Step, found_of, rounds, last_state, fresh_start, session_rounds, IsBestAt};
+ghost use Rattle.lc_enumeration.specs.Records.{Progress, Start, SessionStep, found_of, rounds, last_state, fresh_start, session_rounds, IsBestAt};
 ghost use Rattle.lc_enumeration.specs.Fitting.{used_start, misfit};
 ghost use Rattle.lc_enumeration.specs.Truth.{IsSeenBelow, HasWord, AnswerHolds, IsSettled, AreSettled, IsUnderway, IsTrueStart, IsTrueStep, start_after};
 ghost use Rattle.lc_infoset.specs.Bound.{LevelSet, AreLevelSets, IsUnseen, IsNoMultiple, SeenAtLeast, set_bound, set_at};
@@ -86,11 +86,11 @@ pub fn rounds_end_at_the_answer()
 /// answer, if the slice doesn't stop it. A fresh start is true, and so is one after a true step; so over
 /// any sessions, stops and resumptions every need is settled with its answer.
 pub fn true_starts_have_true_steps()
-    ensures steps { (divisor : Matrix → ℕ) (needs : List Matrix) (budget : ℕ) (slice : Option ℕ) (start : Start) (step : Step) → All (λ (C : Matrix). 0 < length C.rows) needs → budget ≤ 2 ^ 40 → IsTrueStart divisor needs budget start → Contains (session_rounds divisor needs budget slice start).steps step → IsTrueStep divisor needs budget step }
+    ensures steps { (divisor : Matrix → ℕ) (needs : List Matrix) (budget : ℕ) (slice : Option ℕ) (start : Start) (step : SessionStep) → All (λ (C : Matrix). 0 < length C.rows) needs → budget ≤ 2 ^ 40 → IsTrueStart divisor needs budget start → Contains (session_rounds divisor needs budget slice start).steps step → IsTrueStep divisor needs budget step }
     ensures settled { (divisor : Matrix → ℕ) (needs : List Matrix) (budget : ℕ) (slice : Option ℕ) (start : Start) → All (λ (C : Matrix). 0 < length C.rows) needs → budget ≤ 2 ^ 40 → IsTrueStart divisor needs budget start → (session_rounds divisor needs budget slice start).is_stopped ≡ false → AreSettled divisor budget needs (session_rounds divisor needs budget slice start).settled }
     ensures stopped { (divisor : Matrix → ℕ) (needs : List Matrix) (budget : ℕ) (slice : Option ℕ) (start : Start) → All (λ (C : Matrix). 0 < length C.rows) needs → budget ≤ 2 ^ 40 → IsTrueStart divisor needs budget start → (session_rounds divisor needs budget slice start).is_stopped ≡ true → (session_rounds divisor needs budget slice start).left ≡ Some 0 }
     ensures fresh { (divisor : Matrix → ℕ) (needs : List Matrix) (budget : ℕ) → IsTrueStart divisor needs budget fresh_start }
-    ensures resumed { (divisor : Matrix → ℕ) (needs : List Matrix) (budget : ℕ) (step : Step) → IsTrueStep divisor needs budget step → IsTrueStart divisor needs budget (start_after step) }
+    ensures resumed { (divisor : Matrix → ℕ) (needs : List Matrix) (budget : ℕ) (step : SessionStep) → IsTrueStep divisor needs budget step → IsTrueStart divisor needs budget (start_after step) }
 {}
 
 /// The records of a true checkpoint fit the needs of the script: there is no misfit. A settled need has the

@@ -39,7 +39,7 @@ impl<R: Read> Source for ReaderSource<R> {
     ghost faults = { λ s. s.faults };
 
     /// Asks the reader once, unless `buf` is empty. A reader that fails may leave anything in the
-    /// bytes that it was lent, so it is lent others than those of `buf`.
+    /// bytes that it borrows, so it borrows others than those of `buf`.
     fn read(&mut self, buf: &mut [u8]) -> Result<usize, Failed>
         ensures bound { IfOk result (λ n. n ≤ length buf.old) }
         ensures gave { IfOk result

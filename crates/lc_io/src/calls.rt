@@ -35,7 +35,7 @@ impl Schedule {
         })
     }
 
-    /// Counts a call, which fails where its number says so or where it can't be answered.
+    /// Counts a call, which fails if its number says so or if it can't be answered.
     pub(crate) fn count(&mut self, can: bool) -> Result<(), Failed>
         ensures fails { IsErr result ↔ (IsFailing self.old ⊎ (can ≡ false)) }
         ensures after { MatchResult result (λ _. self.new ≡ answered self.old)

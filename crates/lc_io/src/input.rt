@@ -9,7 +9,7 @@ use crate::{Failed, NoMemory, Source};
 use std::alloc::Global;
 use std::marker::Model;
 
-/// A source that gives the bytes that it was made of, piece by piece, and fails where it is told to.
+/// A source that gives the bytes that it was made of, piece by piece, and fails at the calls that it was made to fail at.
 #[derive(Drop)]
 pub struct MemorySource {
     bytes: Vec<u8>,
@@ -60,7 +60,7 @@ impl Source for MemorySource {
 
     ghost faults = { λ s. s.calls.faults };
 
-    /// Fails exactly where the number of the call is one that fails. Takes no memory.
+    /// Fails exactly if the number of the call is one that fails. Takes no memory.
     fn read(&mut self, buf: &mut [u8]) -> Result<usize, Failed>
         ensures bound { IfOk result (λ n. n ≤ length buf.old) }
         ensures gave { IfOk result

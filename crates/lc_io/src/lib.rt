@@ -2,7 +2,8 @@
 //! kept, who hears the records of a search, and what a worker passes before it reports.
 //!
 //! `Source`, `Sink`, `Vault` and `Watcher` say what a call may do. `MemorySource`, `MemorySink`,
-//! `MemoryVault` and `MemoryWatcher` are forms in memory that do what they are told to.
+//! `MemoryVault` and `MemoryWatcher` are forms in memory, for tests: what they give, keep and refuse is
+//! said when they are made.
 //! `ReaderSource` and `WriterSink` are made of any reader and any writer, `FolderVault` of two
 //! files. `read_to_limit` and `write_whole` are the two loops over a source and a sink. `Gate` has
 //! no contract; `OpenGate` does nothing.

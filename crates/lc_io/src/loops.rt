@@ -19,7 +19,7 @@ pub enum ReadRefusal {
 pub(crate) const CHUNK: usize = 4096;
 
 /// Reads a source until it ends or has given `limit` bytes, and answers what it gave. Each turn
-/// takes at least one byte or ends. Refused where a read fails, and for want of memory: then some
+/// takes at least one byte or ends. Refused if a read fails, and for want of memory: then some
 /// bytes may have been taken from the source.
 pub fn read_to_limit<S: Source>(
     alloc: Global,
@@ -56,7 +56,7 @@ pub fn read_to_limit<S: Source>(
     Ok(bytes)
 }
 
-/// Writes all of `bytes` to a sink. Each turn writes at least one byte or fails. Where a write
+/// Writes all of `bytes` to a sink. Each turn writes at least one byte or fails. If a write
 /// fails, a front of the bytes was taken. Takes no memory.
 pub fn write_whole<K: Sink>(sink: &mut K, bytes: &[u8]) -> Result<(), Failed>
     ensures whole { OnOk result (Appends (K.written sink.old) (K.written sink.new) bytes.now) }

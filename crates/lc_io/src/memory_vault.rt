@@ -9,7 +9,7 @@ use crate::{Failed, NoMemory, Slot, Vault};
 use std::alloc::Global;
 use std::marker::Model;
 
-/// A vault that keeps its slots in memory, and fails if it is told to or has no room.
+/// A vault that keeps its slots in memory, and fails at the calls that it was made to fail at, or without room.
 #[derive(Drop)]
 pub struct MemoryVault {
     zero: Vec<u8>,

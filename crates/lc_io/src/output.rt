@@ -9,7 +9,7 @@ use crate::{Failed, NoMemory, Sink};
 use std::alloc::Global;
 use std::marker::Model;
 
-/// A sink that keeps what it takes, piece by piece, and fails where it is told to or has no room.
+/// A sink that keeps what it takes, piece by piece, and fails at the calls that it was made to fail at, or without room.
 #[derive(Drop)]
 pub struct MemorySink {
     taken: Vec<u8>,
@@ -69,7 +69,7 @@ impl Sink for MemorySink {
 
     ghost faults = { λ s. s.calls.faults };
 
-    /// Fails exactly where the number of the call is one that fails or no room is left. Takes no
+    /// Fails exactly if the number of the call is one that fails or no room is left. Takes no
     /// memory.
     fn write(&mut self, buf: &[u8]) -> Result<usize, Failed>
         ensures bound { IfOk result (λ n. n ≤ length buf.now) }

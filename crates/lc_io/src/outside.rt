@@ -9,7 +9,7 @@ use std::alloc::{AllocError, AllocFailed};
 #[derive(Clone, Copy, Debug, PartialEq, Eq, Drop)]
 pub struct Failed;
 
-/// The answer where memory was refused.
+/// The answer if memory was refused.
 #[derive(Clone, Copy, Debug, PartialEq, Eq, Drop)]
 pub struct NoMemory;
 
@@ -27,14 +27,14 @@ impl<T: Drop> From<AllocFailed<T>> for NoMemory {
 
 /// Where bytes come from.
 pub trait Source {
-    /// The bytes still to come, where the source tells them. One that tells them goes on telling.
+    /// The bytes still to come, if the source tells them. One that tells them goes on telling.
     ghost rest: { Self → Option (List ℕ) };
 
     /// How often the source has failed. It never falls.
     ghost faults: { Self → ℕ };
 
     /// Writes the next bytes to the front of `buf`, and answers how many: at most its length, and
-    /// for a nonempty `buf` 0 only at the end of the input. What stands behind them in `buf` may
+    /// for a nonempty `buf` 0 only at the end of the input. What is after them in `buf` may
     /// be anything. A call that fails takes no byte and leaves `buf` as it was.
     fn read(&mut self, buf: &mut [u8]) -> Result<usize, Failed>
         ensures bound { IfOk result (λ n. n ≤ length buf.old) }
@@ -49,7 +49,7 @@ pub trait Source {
 
 /// Where bytes go.
 pub trait Sink {
-    /// The bytes taken, where the sink tells them. One that tells them goes on telling.
+    /// The bytes taken, if the sink tells them. One that tells them goes on telling.
     ghost written: { Self → Option (List ℕ) };
 
     /// How often the sink has failed. It never falls.

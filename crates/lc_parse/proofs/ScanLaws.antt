@@ -15,8 +15,8 @@ use Rattle.lc_parse.specs.Reading.{IsStep, IsWithin, AreWithin, ending_of}
 use Rattle.lc_parse.specs.Spans.{AreApart}
 use Rattle.lc_parse.specs.declared.scan.Ending.{Ending}
 use Rattle.lc_parse.specs.declared.scan.Ending.TheVariants.{ScriptEnd, BadToken, TooWide}
-use Rattle.lc_parse.specs.declared.scan.Step.{Step}
-use Rattle.lc_parse.specs.declared.scan.Step.TheVariants as step
+use Rattle.lc_parse.specs.declared.scan.Lexeme.{Lexeme}
+use Rattle.lc_parse.specs.declared.scan.Lexeme.TheVariants as step
 use Rattle.lc_parse.proofs.Scanning.{cut_cases, cut_within, step_end, step_blank, step_comment, step_bad, step_wide, step_token}
 
 -- bytes of names are ASCII
@@ -44,7 +44,7 @@ cases_bool true = inl refl
 cases_bool false = inr refl
 
 -- what the step at a place says besides
-abbrev IsGood : List ℕ → ℕ → Step → Type 0
+abbrev IsGood : List ℕ → ℕ → Lexeme → Type 0
 IsGood bytes at (step.Skip n) = Unit {0}
 IsGood bytes at (step.Token t) = IsWithin bytes t × (t.start ≡ at)
 IsGood bytes at (step.End (ScriptEnd p)) = p ≡ length bytes
@@ -52,7 +52,7 @@ IsGood bytes at (step.End (BadToken p)) = Unit {0}
 IsGood bytes at (step.End (TooWide p)) = Unit {0}
 
 record StepAt (bytes : List ℕ) (at : ℕ) : Type 0 where
-  step_is : Step
+  step_is : Lexeme
   is : IsStep bytes at step_is
   good : IsGood bytes at step_is
 
@@ -142,7 +142,7 @@ tokens_from (suc most) bytes at le l =
     by_end (BadToken p) good = record { within = tt; place = λ q e. absurd (cc); apart = tt }
     by_end (TooWide p) good = record { within = tt; place = λ q e. absurd (cc); apart = tt }
 
-    by_step : (st : Step) → IsStep bytes at st → IsGood bytes at st → ((place : ℕ) → place ≤ length bytes → length bytes - place < most → Tokens bytes place (scan_within most place (drop place bytes))) → Tokens bytes at (scan_within (suc most) at (drop at bytes))
+    by_step : (st : Lexeme) → IsStep bytes at st → IsGood bytes at st → ((place : ℕ) → place ≤ length bytes → length bytes - place < most → Tokens bytes place (scan_within most place (drop place bytes))) → Tokens bytes at (scan_within (suc most) at (drop at bytes))
     by_step (step.Skip n) is good again =
         let rest = again (at + n) is.1 (omega (arith, is.0, is.1)) in
         rw is.2 (record { within = rest.within; place = rest.place; apart = lower at (at + n) _ (omega arith) rest.apart })

@@ -17,7 +17,7 @@ use Rattle.lc_grammar.specs.Token.{is_blank, is_letter, is_digit, is_name_byte, 
 use Rattle.lc_parse.specs.Reading.{IsStep, ending_of}
 use Rattle.lc_parse.specs.declared.scan.Ending.{Ending}
 use Rattle.lc_parse.specs.declared.scan.Ending.TheVariants.{ScriptEnd, BadToken, TooWide}
-use Rattle.lc_parse.specs.declared.scan.Step.TheVariants as step
+use Rattle.lc_parse.specs.declared.scan.Lexeme.TheVariants as step
 
 pub number_from-grows : (n : ℕ) (text : List ℕ) → n ≤ number_from n text
 unfolding number_from

@@ -24,8 +24,8 @@ use Rattle.lc_grammar.proofs.Course.{State, start, Outcome, fault, course, next}
 use Rattle.lc_parse.specs.declared.scan.Cut.{Cut}
 use Rattle.lc_parse.specs.declared.scan.Ending.{Ending}
 use Rattle.lc_parse.specs.declared.scan.Ending.TheVariants.{ScriptEnd, BadToken, TooWide}
-use Rattle.lc_parse.specs.declared.scan.Step.{Step}
-use Rattle.lc_parse.specs.declared.scan.Step.TheVariants as step
+use Rattle.lc_parse.specs.declared.scan.Lexeme.{Lexeme}
+use Rattle.lc_parse.specs.declared.scan.Lexeme.TheVariants as step
 use Rattle.lc_parse.specs.declared.refusal.ParseRefusal.{ParseRefusal}
 use Rattle.lc_parse.specs.declared.refusal.ParseRefusal.TheVariants as refusal
 
@@ -65,7 +65,7 @@ IsTooDeepFirst ts depth e = (t : Token) × ((rest : List Token) × (ts ≡ t ∷
 abbrev pub IsTargetFirst : List Token → Token → List Token → Type 0
 IsTargetFirst ts t rest = (u : Token) × (ts ≡ t ∷ u ∷ rest) × (t.kind ≡ Name) × (u.kind ≡ Assign)
 
-abbrev pub IsStep : List ℕ → ℕ → Step → Type 0
+abbrev pub IsStep : List ℕ → ℕ → Lexeme → Type 0
 IsStep bytes at (step.Skip n) =
     (0 < n) × (at + n ≤ length bytes)
     × ((most : ℕ) → scan_within (suc most) at (drop at bytes) ≡ scan_within most (at + n) (drop (at + n) bytes))

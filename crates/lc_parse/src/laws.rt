@@ -21,7 +21,7 @@ pub fn script_or_fault()
     ensures one { (bytes : List ℕ) → ((ss : List Statement) × Reads bytes ss) ⊎ ((f : Fault) × IsFault bytes f) }
 {}
 
-/// Spans of tokens rise and don't overlap, and they stand within the bytes.
+/// Spans of tokens rise and don't overlap, and they are within the bytes.
 pub fn spans_rise()
     ensures apart { (bytes : List ℕ) → AreApart 0 (scan bytes).tokens }
     ensures within { (bytes : List ℕ) → All (λ t. t.end ≤ length bytes) (scan bytes).tokens }

@@ -34,7 +34,7 @@ fn opens(kind: TokenKind) -> bool
     }
 }
 
-// The rest after a token of this kind, if one stands first.
+// The rest after a token of this kind, if one comes first.
 fn behind<'a>(kind: TokenKind, tokens: &'a [Token]) -> Option<&'a [Token]>
     ensures { MatchOption result (IsNotFirst kind tokens.now) (λ rest. IsBehind kind tokens.now rest.now) }
 {
@@ -42,7 +42,7 @@ fn behind<'a>(kind: TokenKind, tokens: &'a [Token]) -> Option<&'a [Token]>
     if first.kind == kind { Some(rest) } else { None }
 }
 
-// The number of the fault of a token that the grammar doesn't let stand there.
+// The number of the fault of a token that the grammar doesn't allow there.
 fn refused_number(kind: TokenKind, depth: usize) -> u8
     ensures { move_by (opens kind && nat_le deepest depth) None ≡ stops result }
 {
@@ -53,7 +53,7 @@ fn refused_number(kind: TokenKind, depth: usize) -> u8
     }
 }
 
-// The refusal if the grammar doesn't let the first token stand, or the script end.
+// The refusal if the grammar doesn't allow the first token, or the end of the script.
 fn refusal(source: &Source<'_>, tokens: &[Token], depth: usize) -> ParseRefusal
     ensures { (s : State) → level_of s ≡ depth → IsStuck source.now.bytes.now s tokens.now
         → Refuses source.now.bytes.now source.now.ending s tokens.now result }
@@ -100,7 +100,7 @@ fn number_of(source: &Source<'_>, token: &Token) -> u64
     value_of(&source.bytes[token.start..token.end]).unwrap_or(0)
 }
 
-// The expression that stands first, and the rest after it.
+// The expression that comes first, and the rest after it.
 #[cycle(expression)]
 fn expression<'a>(
     source: &Source<'_>,
@@ -150,7 +150,7 @@ fn expression<'a>(
     }
 }
 
-// The rest after a parenthesis that opens, if one stands first.
+// The rest after a parenthesis that opens, if one comes first.
 fn opening(tokens: &[Token], depth: usize) -> Result<Option<&[Token]>, ParseRefusal>
     ensures read { IfOk result (λ o. MatchOption o (IsNotFirst Open tokens.now) (λ rest. IsBehind Open tokens.now rest.now × (depth < deepest))) }
     ensures refused { IfErr result (λ e. IsTooDeepFirst tokens.now depth e) }
@@ -244,7 +244,7 @@ fn expressions<'a>(
     }
 }
 
-// The name and the rest after `:=`, if they stand first.
+// The name and the rest after `:=`, if they come first.
 fn assigned(tokens: &[Token]) -> Option<(&Token, &[Token])>
     ensures { MatchOption result (IsNoTarget tokens.now) (λ r. IsTargetFirst tokens.now r.0.now r.1.now) }
 {
@@ -276,7 +276,7 @@ fn target<'a>(
     }
 }
 
-// The statement that stands first, and the rest after it.
+// The statement that comes first, and the rest after it.
 fn statement_first<'a>(
     source: &Source<'_>,
     tokens: &'a [Token],
@@ -329,14 +329,14 @@ fn statements(source: &Source<'_>, tokens: &[Token]) -> Result<Vec<Statement>, P
     }
 }
 
-/// The tokens of a script, in order: the kind of each, the place of its first byte and the place after its
+/// The tokens of a script, in order: the kind of each, the offset of its first byte and the offset after its
 /// last one, so that its text is `bytes[start..end]`. Spaces, tabs, carriage returns, newlines and comments
-/// from `#` to before the next newline stand between tokens. It refuses with the number 40 a byte that begins
-/// no token, and with 43 a number above 2^64 - 1, whichever comes first, and if memory runs out.
+/// from `#` to before the next newline separate tokens. Refuses with the number 40 a byte that begins
+/// no token, with 43 a number above 2^64 - 1, whichever comes first, and if memory runs out.
 pub fn tokens(alloc: Global, bytes: &[u8]) -> Result<Vec<Token>, ParseRefusal>
-    // What is answered are the script's tokens, up to its end.
+    // What it returns are the script's tokens, up to its end.
     ensures read { IfOk result (λ v. ((scan bytes.now).ending ≡ script_end (length bytes.now)) × (v.items ≡ (scan bytes.now).tokens)) }
-    // They are answered if the tokens go up to the end, unless memory runs out.
+    // It returns them if the tokens go up to the end, unless memory runs out.
     ensures readable { (scan bytes.now).ending ≡ script_end (length bytes.now) → IsReadAs result (λ v. v.items ≡ (scan bytes.now).tokens) }
 
     ensures fault { IfErr result (λ e. IsRefusedAs e (TokenFault (scan bytes.now).ending)) }
@@ -349,20 +349,20 @@ pub fn tokens(alloc: Global, bytes: &[u8]) -> Result<Vec<Token>, ParseRefusal>
     }
 }
 
-/// The script that the bytes are: its statements with their trees, and the place of each expression. The bytes
-/// may be any. Where they are no script it refuses with the number of the fault and the first place at which
+/// The script that the bytes are: its statements with their trees, and the offset of each expression. The bytes
+/// may be any. If they are no script it refuses with the number of the fault and the first offset at which
 /// they can't go on: 40 at a byte that begins no token, 43 at a number above 2^64 - 1, 42 at the parenthesis or
 /// bracket that would be the 33rd open one, 41 at a token that the grammar doesn't allow there, or at the
-/// script's length where its end isn't allowed. It refuses where memory runs out.
+/// script's length if its end isn't allowed. It refuses if memory runs out.
 pub fn parse(alloc: Global, bytes: &[u8]) -> Result<Script, ParseRefusal>
-    // What is answered is a script that the bytes are.
+    // What it returns is a script that the bytes are.
     ensures read { IfOk result (λ s. Reads bytes.now (script_of s)) }
-    // The script that the bytes are is answered, unless memory runs out.
+    // It returns the script that the bytes are, unless memory runs out.
     ensures readable { (ss : List trees.Statement) → Reads bytes.now ss → IsReadAs result (λ s. script_of s ≡ ss) }
 
-    // A fault that is answered is that of the bytes.
+    // A fault that it returns is that of the bytes.
     ensures fault { IfErr result (λ e. IsRefusedAs e (IsFault bytes.now)) }
-    // The fault of the bytes is answered, unless memory runs out.
+    // It returns the fault of the bytes, unless memory runs out.
     ensures faulty { (f : Fault) → IsFault bytes.now f → IsFaultAs result f }
 {
     let (tokens, ending) = scan(alloc, bytes)?;

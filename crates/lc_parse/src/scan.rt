@@ -6,7 +6,7 @@ ghost use Rattle.lc_parse.specs.Reading.{cuts_of, ending_of, IsStep};
 use lc_grammar::{Token, TokenKind};
 use std::alloc::{AllocError, Global};
 
-// How the tokens of a script end, each with its place.
+// How the tokens of a script end, each with its offset.
 #[derive(Clone, Copy, Debug)]
 pub(crate) enum Ending {
     ScriptEnd(usize),
@@ -21,9 +21,9 @@ pub(crate) struct Cut {
     pub len: usize,
 }
 
-// What stands at a place: bytes that are passed over, a token, or the end of the tokens.
+// What is at an offset: bytes that are passed over, a token, or the end of the tokens.
 #[derive(Clone, Copy, Debug)]
-pub(crate) enum Step {
+pub(crate) enum Lexeme {
     Skip(usize),
     Token(Token),
     End(Ending),
@@ -176,28 +176,28 @@ fn is_wide(cut: Cut, here: &[u8]) -> bool
     }
 }
 
-// What stands at a place.
-fn step_at(bytes: &[u8], at: usize) -> Step
+// What is at an offset.
+fn lexeme_at(bytes: &[u8], at: usize) -> Lexeme
     requires { at ≤ length bytes.now }
     ensures { IsStep bytes.now at result }
 {
     let here = &bytes[at..];
     let Some((first, rest)) = here.split_first() else {
-        return Step::End(Ending::ScriptEnd(at));
+        return Lexeme::End(Ending::ScriptEnd(at));
     };
     if is_blank(*first) {
-        return Step::Skip(1);
+        return Lexeme::Skip(1);
     }
     if *first == b'#' {
-        return Step::Skip(line_len(here));
+        return Lexeme::Skip(line_len(here));
     }
     let Some(cut) = token_at(here, *first, rest) else {
-        return Step::End(Ending::BadToken(at));
+        return Lexeme::End(Ending::BadToken(at));
     };
     if is_wide(cut, here) {
-        return Step::End(Ending::TooWide(at));
+        return Lexeme::End(Ending::TooWide(at));
     }
-    Step::Token(Token {
+    Lexeme::Token(Token {
         kind: cut.kind,
         start: at,
         end: at + cut.len,
@@ -212,13 +212,13 @@ pub(crate) fn scan(alloc: Global, bytes: &[u8]) -> Result<(Vec<Token>, Ending), 
     let mut tokens = Vec::new(alloc);
     let mut at = 0;
     loop {
-        match step_at(bytes, at) {
-            Step::Skip(n) => at += n,
-            Step::Token(token) => {
+        match lexeme_at(bytes, at) {
+            Lexeme::Skip(n) => at += n,
+            Lexeme::Token(token) => {
                 tokens.push(token)?;
                 at = token.end;
             }
-            Step::End(ending) => return Ok((tokens, ending)),
+            Lexeme::End(ending) => return Ok((tokens, ending)),
         }
     }
 }

@@ -1,4 +1,4 @@
-/// An expression, with the place of its first byte in the script.
+/// An expression, with the offset of its first byte in the script.
 #[derive(Debug, Drop)]
 #[cycle(tree)]
 pub struct Expr {

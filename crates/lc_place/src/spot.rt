@@ -1,4 +1,4 @@
-//! A spot: the message at which a search stands, and its information set.
+//! A spot: the message that a search has come to, and its information set.
 
 ghost use Rattle.std.specs.Prelude.{◌≡◌, ℕ, ◌≤◌, List, [], length, IfOk};
 

@@ -7,7 +7,7 @@ use itoa::{Buffer, Integer};
 use lc_field::NoMemory;
 use lc_vec::Word;
 
-/// A text that stands in a line.
+/// A text that is part of a line.
 pub fn push_text(text: &mut Vec<u8>, piece: &[u8]) -> Result<(), NoMemory>
     ensures { OnOk result (text.new.items ≡ text.old.items ++ piece.now) }
 {

@@ -12,7 +12,7 @@ use Rattle.std.specs.Prelude.{Some, None, ◌^◌, ⊤}
 use Rattle.sha2.specs.Sha256.{sha256}
 use Rattle.lc_algebra.specs.Divisor.{divisor_of}
 use Rattle.lc_enumeration.specs.Search.{exact}
-use Rattle.lc_enumeration.specs.Records.{Progress, Step, progress_of, first_progress, end_of_phase, within_slice, round_length, after_round, note_of, is_used_up, state_first, no_round, less_slice, rounds_within, rounds, last_state, fresh_start, step_of, no_steps, steps_first, session_from, session_rounds}
+use Rattle.lc_enumeration.specs.Records.{Progress, SessionStep, progress_of, first_progress, end_of_phase, within_slice, round_length, after_round, note_of, is_used_up, state_first, no_round, less_slice, rounds_within, rounds, last_state, fresh_start, step_of, no_steps, steps_first, session_from, session_rounds}
 use Rattle.lc_enumeration.proofs.SearchExamples.{hamming}
 use Rattle.lc_formats.specs.Truth.{divisor_in}
 use Rattle.lc_formats.proofs.Evaluated.{truth_computes}
@@ -28,13 +28,13 @@ use Rattle.lc_sessions.specs.Chain.{Chain, Goes}
 abbrev pub reached : ℕ → Progress
 reached blocks = record { blocks = blocks; weight = 3; place = 0 }
 
-abbrev pub told_at : ℕ → ℕ → Step
+abbrev pub told_at : ℕ → ℕ → SessionStep
 told_at blocks bound = record { note = record { need = 0; blocks = blocks; bound = bound; best = 3 }; settled = []; state = reached blocks }
 
-abbrev pub first_step : Step
+abbrev pub first_step : SessionStep
 first_step = told_at 1 2
 
-abbrev pub second_step : Step
+abbrev pub second_step : SessionStep
 second_step = told_at 2 3
 
 unfoldable rounds_compute : ⊤

@@ -25,7 +25,7 @@ use Rattle.lc_algebra.specs.Matrix.{Matrix}
 use Rattle.lc_algebra.specs.Divisor.{divisor_of, weight_divisor}
 use Rattle.lc_algebra.proofs.DivisorLaws.{divisor_positive}
 use Rattle.lc_enumeration.specs.Search.{answer}
-use Rattle.lc_enumeration.specs.Records.{Progress, Start, Step, found_of, fresh_start, no_steps, session_from, session_rounds, IsBestAt}
+use Rattle.lc_enumeration.specs.Records.{Progress, Start, SessionStep, found_of, fresh_start, no_steps, session_from, session_rounds, IsBestAt}
 use Rattle.lc_enumeration.specs.Fitting.{first_divisible, start_before, used_start}
 use Rattle.lc_formats.specs.Checkpoint.{Checkpoint, ReadCheckpoint, point, refused, damaged, current_of, checkpoint_in}
 use Rattle.lc_formats.proofs.Evaluated.{checkpoint_computes}
@@ -61,14 +61,14 @@ kept_put table bytes budget version Zero held slots all one One = all One
 kept_put table bytes budget version One held slots all one Zero = all Zero
 kept_put table bytes budget version One held slots all one One = one
 
-kept_step : (table : List Call) (bytes : List ℕ) (budget version : ℕ) (needs : List Matrix) (turn : ℕ) (s : Step) → IsGround table bytes budget → IsVersion version → MeetsFirst table bytes needs → IsTrueFor needs (sha256 bytes) budget (point_of version (sha256 bytes) budget turn s)
+kept_step : (table : List Call) (bytes : List ℕ) (budget version : ℕ) (needs : List Matrix) (turn : ℕ) (s : SessionStep) → IsGround table bytes budget → IsVersion version → MeetsFirst table bytes needs → IsTrueFor needs (sha256 bytes) budget (point_of version (sha256 bytes) budget turn s)
     → IsKept table bytes budget version (slot_of turn) (checkpoint_in (stored_bytes version (sha256 bytes) budget turn s))
 unfolding point_of stored_bytes
 kept_step table bytes budget version needs turn s ground known met true_for =
     rw (ground.reads_back (point_of version (sha256 bytes) budget turn s) known (needs, met, true_for))
     (record { true_for = (needs, met, true_for); placed = refl; known = known; old = omega arith })
 
-kept_steps : (table : List Call) (bytes : List ℕ) (budget version : ℕ) (needs : List Matrix) → IsGround table bytes budget → IsVersion version → MeetsFirst table bytes needs → (steps : List Step) (turn : ℕ) (slots : Slots) → AreKept table bytes budget version slots
+kept_steps : (table : List Call) (bytes : List ℕ) (budget version : ℕ) (needs : List Matrix) → IsGround table bytes budget → IsVersion version → MeetsFirst table bytes needs → (steps : List SessionStep) (turn : ℕ) (slots : Slots) → AreKept table bytes budget version slots
     → AreTrueSteps version needs (sha256 bytes) budget turn steps → AreKept table bytes budget version (slots_after version (sha256 bytes) budget turn steps slots)
 kept_steps table bytes budget version needs ground known met [] turn slots all steps = all
 kept_steps table bytes budget version needs ground known met (s ∷ rest) turn slots all steps =
@@ -80,7 +80,7 @@ kept_left table bytes budget version at held slots all left =
     kept_put table bytes budget version at held slots all
     (⊎_elim (λ (e : held ≡ in_slot at slots). subst (λ (b : List ℕ). IsKept table bytes budget version at (checkpoint_in b)) (sym e) (all at)) (λ (e : checkpoint_in held ≡ refused damaged). rw e tt) left)
 
-kept_leaves : (table : List Call) (bytes : List ℕ) (budget version : ℕ) (needs : List Matrix) → IsGround table bytes budget → IsVersion version → MeetsFirst table bytes needs → (told : List Step) (turn : ℕ) (before after : Slots) → AreKept table bytes budget version before
+kept_leaves : (table : List Call) (bytes : List ℕ) (budget version : ℕ) (needs : List Matrix) → IsGround table bytes budget → IsVersion version → MeetsFirst table bytes needs → (told : List SessionStep) (turn : ℕ) (before after : Slots) → AreKept table bytes budget version before
     → AreTrueSteps version needs (sha256 bytes) budget turn told → Leaves version (sha256 bytes) budget turn told before after → AreKept table bytes budget version after
 kept_leaves table bytes budget version needs ground known met told turn before after all steps left =
     let mid = kept_steps table bytes budget version needs ground known met told turn before all steps in
@@ -327,7 +327,7 @@ kept_empty : (table : List Call) (bytes : List ℕ) (budget version : ℕ) → A
 kept_empty table bytes budget version Zero = rw empty_is_none tt
 kept_empty table bytes budget version One = rw empty_is_none tt
 
-goes_truly : (version : ℕ) (table : List Call) (bytes : List ℕ) (budget : ℕ) (needs : List Matrix) (start : Start) (told : List Step) (turn : ℕ) (g : Goes version table bytes budget needs start told)
+goes_truly : (version : ℕ) (table : List Call) (bytes : List ℕ) (budget : ℕ) (needs : List Matrix) (start : Start) (told : List SessionStep) (turn : ℕ) (g : Goes version table bytes budget needs start told)
     → AreTrueSteps version needs (sha256 bytes) budget turn (session_rounds (divisor_in version) needs budget g.slice start).steps → AreTrueSteps version needs (sha256 bytes) budget turn told
 goes_truly version table bytes budget needs start told turn g all = true_front version needs (sha256 bytes) budget turn told g.left (subst (AreTrueSteps version needs (sha256 bytes) budget turn) g.rounds all)
 

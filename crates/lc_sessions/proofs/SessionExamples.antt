@@ -22,7 +22,7 @@ use Rattle.serde_json.specs.Read.{read}
 use Rattle.sha2.specs.Sha256.{sha256}
 use Rattle.lc_algebra.specs.Matrix.{Matrix}
 use Rattle.lc_algebra.proofs.EmbeddingTests.{both_true}
-use Rattle.lc_enumeration.specs.Records.{Step, fresh_start, no_steps, session_from, session_rounds}
+use Rattle.lc_enumeration.specs.Records.{SessionStep, fresh_start, no_steps, session_from, session_rounds}
 use Rattle.lc_enumeration.proofs.SearchExamples.{hamming}
 use Rattle.lc_formats.specs.Checkpoint.{Checkpoint, ReadCheckpoint, point, refused as unread, damaged, checkpoint_text, checkpoint_in, is_whole, body_in}
 use Rattle.lc_formats.specs.Json.{json_in}
@@ -57,7 +57,7 @@ turns = refl
 pub slots : map slot_of (0 ∷ 1 ∷ 4 ∷ 1152921504606846975 ∷ []) ≡ Zero ∷ One ∷ Zero ∷ One ∷ []
 slots = refl
 
-pub stored : (digest : List ℕ) (budget : ℕ) (s t u : Step) → slots_after 2 digest budget 5 (s ∷ t ∷ u ∷ []) empty_slots ≡ record { zero_slot = stored_bytes 2 digest budget 6 t; one_slot = stored_bytes 2 digest budget 7 u }
+pub stored : (digest : List ℕ) (budget : ℕ) (s t u : SessionStep) → slots_after 2 digest budget 5 (s ∷ t ∷ u ∷ []) empty_slots ≡ record { zero_slot = stored_bytes 2 digest budget 6 t; one_slot = stored_bytes 2 digest budget 7 u }
 unfolding next_turn
 stored digest budget s t u = refl
 

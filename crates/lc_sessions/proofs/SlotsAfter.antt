@@ -13,14 +13,14 @@ use Rattle.std.proofs.lemmas.Bool.Decides.{nat_tests}
 use Rattle.lc_io.specs.declared.vault.Slot.{Slot}
 use Rattle.lc_io.specs.Vaults.{Slots, in_slot, other, put}
 use Rattle.lc_io.proofs.SlotLaws.{in_slot-put, in_other-put}
-use Rattle.lc_enumeration.specs.Records.{Step}
+use Rattle.lc_enumeration.specs.Records.{SessionStep}
 use Rattle.lc_sessions.specs.Slots.{by_parity, slot_of, next_turn, turn_after, stored_bytes, slots_after}
 
-pub turn_after-append : (turn : ℕ) (steps others : List Step) → turn_after turn (steps ++ others) ≡ turn_after (turn_after turn steps) others
+pub turn_after-append : (turn : ℕ) (steps others : List SessionStep) → turn_after turn (steps ++ others) ≡ turn_after (turn_after turn steps) others
 turn_after-append turn [] others = refl
 turn_after-append turn (s ∷ steps) others = turn_after-append (next_turn turn) steps others
 
-pub slots_after-append : (version : ℕ) (digest : List ℕ) (budget turn : ℕ) (steps others : List Step) (slots : Slots)
+pub slots_after-append : (version : ℕ) (digest : List ℕ) (budget turn : ℕ) (steps others : List SessionStep) (slots : Slots)
     → slots_after version digest budget turn (steps ++ others) slots ≡ slots_after version digest budget (turn_after turn steps) others (slots_after version digest budget turn steps slots)
 slots_after-append version digest budget turn [] others slots = refl
 slots_after-append version digest budget turn (s ∷ steps) others slots = slots_after-append version digest budget (next_turn turn) steps others (put (slot_of turn) (stored_bytes version digest budget turn s) slots)
@@ -29,7 +29,7 @@ next_is : (turn : ℕ) → turn + 1 ≤ 2 ^ 60 → next_turn turn ≡ turn + 1
 unfolding next_turn
 next_is turn l = omega (arith, l)
 
-pub turn_is : (turn : ℕ) (steps : List Step) → turn + length steps ≤ 2 ^ 60 → turn_after turn steps ≡ turn + length steps
+pub turn_is : (turn : ℕ) (steps : List SessionStep) → turn + length steps ≤ 2 ^ 60 → turn_after turn steps ≡ turn + length steps
 turn_is turn [] l = omega arith
 turn_is turn (s ∷ steps) l =
     let n : next_turn turn ≡ turn + 1 = next_is turn (omega (arith, l)) in
@@ -45,20 +45,20 @@ parity-next turn = grind (arith, nat_tests)
 pub slot_of-next : (turn : ℕ) → slot_of (turn + 1) ≡ other (slot_of turn)
 slot_of-next turn = ap by_parity (parity-next turn) ∙ flips (turn % 2 == 0)
 
-pub stored_last : (version : ℕ) (digest : List ℕ) (budget turn : ℕ) (before : List Step) (s : Step) (slots : Slots) → turn + length before ≤ 2 ^ 60
+pub stored_last : (version : ℕ) (digest : List ℕ) (budget turn : ℕ) (before : List SessionStep) (s : SessionStep) (slots : Slots) → turn + length before ≤ 2 ^ 60
     → in_slot (slot_of (turn + length before)) (slots_after version digest budget turn (before ++ s ∷ []) slots) ≡ stored_bytes version digest budget (turn + length before) s
 stored_last version digest budget turn before s slots l =
     rw (slots_after-append version digest budget turn before (s ∷ []) slots, turn_is turn before l)
     (in_slot-put (slot_of (turn + length before)) (stored_bytes version digest budget (turn + length before) s) (slots_after version digest budget turn before slots))
 
 -- a step that is stored leaves what the other slot holds
-pub stored_beside : (version : ℕ) (digest : List ℕ) (budget turn : ℕ) (before : List Step) (s : Step) (slots : Slots) → turn + length before ≤ 2 ^ 60
+pub stored_beside : (version : ℕ) (digest : List ℕ) (budget turn : ℕ) (before : List SessionStep) (s : SessionStep) (slots : Slots) → turn + length before ≤ 2 ^ 60
     → in_slot (other (slot_of (turn + length before))) (slots_after version digest budget turn (before ++ s ∷ []) slots) ≡ in_slot (other (slot_of (turn + length before))) (slots_after version digest budget turn before slots)
 stored_beside version digest budget turn before s slots l =
     rw (slots_after-append version digest budget turn before (s ∷ []) slots, turn_is turn before l)
     (in_other-put (slot_of (turn + length before)) (stored_bytes version digest budget (turn + length before) s) (slots_after version digest budget turn before slots))
 
-pub stored_alone : (version : ℕ) (digest : List ℕ) (budget turn : ℕ) (s : Step) (slots : Slots) → in_slot (other (slot_of turn)) (slots_after version digest budget turn (s ∷ []) slots) ≡ in_slot (other (slot_of turn)) slots
+pub stored_alone : (version : ℕ) (digest : List ℕ) (budget turn : ℕ) (s : SessionStep) (slots : Slots) → in_slot (other (slot_of turn)) (slots_after version digest budget turn (s ∷ []) slots) ≡ in_slot (other (slot_of turn)) slots
 stored_alone version digest budget turn s slots = in_other-put (slot_of turn) (stored_bytes version digest budget turn s) slots
 
 pub torn_other : (slot : Slot) (held : List ℕ) (slots : Slots) → in_slot (other slot) (put slot held slots) ≡ in_slot (other slot) slots

@@ -10,7 +10,7 @@ use Rattle.std.proofs.Common.{◌≡◌, ◌+◌, ◌≤◌, ◌^◌, ◌++◌, 
 use Rattle.std.specs.Prelude.{Option}
 use Rattle.std.proofs.lemmas.List.{length-append}
 use Rattle.sha2.specs.Sha256.{sha256}
-use Rattle.lc_enumeration.specs.Records.{Step}
+use Rattle.lc_enumeration.specs.Records.{SessionStep}
 use Rattle.lc_io.specs.declared.vault.Slot.{Slot}
 use Rattle.lc_io.specs.Vaults.{Slots, in_slot, other, WhereTold, IsTorn}
 use Rattle.lc_io.proofs.SlotLaws.{WhereTold-map, other_other}
@@ -23,33 +23,33 @@ use Rattle.lc_sessions.proofs.SlotsAfter.{turn_is, slot_of-next, stored_last, st
 pub other_slot : (turn : ℕ) → other (slot_of (turn + 1)) ≡ slot_of turn
 other_slot turn = ap other (slot_of-next turn) ∙ other_other (slot_of turn)
 
-pub last_stands : (asked : Settings) (course : Course) (old new : Option Slots) (before : List Step) (s : Step) → course.told ≡ before ++ s ∷ [] → course.turn + length before ≤ 2 ^ 60 → Keeps asked course old new
+pub last_stands : (asked : Settings) (course : Course) (old new : Option Slots) (before : List SessionStep) (s : SessionStep) → course.told ≡ before ++ s ∷ [] → course.turn + length before ≤ 2 ^ 60 → Keeps asked course old new
     → Holds old new (slot_of (course.turn + length before)) (checkpoint_of asked course (course.turn + length before) s)
 last_stands asked course old new before s told l keeps =
     WhereTold-map old new _ _ (λ (o n : Slots) (is : n ≡ told_slots asked course o).
-    ap (in_slot (slot_of (course.turn + length before))) (is ∙ ap (λ (t : List Step). slots_after 2 (sha256 course.bytes) asked.budget course.turn t (begin_with asked.command o)) told)
+    ap (in_slot (slot_of (course.turn + length before))) (is ∙ ap (λ (t : List SessionStep). slots_after 2 (sha256 course.bytes) asked.budget course.turn t (begin_with asked.command o)) told)
     ∙ stored_last 2 (sha256 course.bytes) asked.budget course.turn before s (begin_with asked.command o) l) keeps
 
-pub one_before_stands : (asked : Settings) (course : Course) (old new : Option Slots) (before : List Step) (r s : Step) → course.told ≡ (before ++ r ∷ []) ++ s ∷ [] → course.turn + length before + 1 ≤ 2 ^ 60 → Keeps asked course old new
+pub one_before_stands : (asked : Settings) (course : Course) (old new : Option Slots) (before : List SessionStep) (r s : SessionStep) → course.told ≡ (before ++ r ∷ []) ++ s ∷ [] → course.turn + length before + 1 ≤ 2 ^ 60 → Keeps asked course old new
     → Holds old new (slot_of (course.turn + length before)) (checkpoint_of asked course (course.turn + length before) r)
 one_before_stands asked course old new before r s told l keeps =
     let d = sha256 course.bytes in
     let size : course.turn + length (before ++ r ∷ []) ≡ course.turn + length before + 1 = omega (arith, length-append before (r ∷ [])) in
     let slot : other (slot_of (course.turn + length (before ++ r ∷ []))) ≡ slot_of (course.turn + length before) = ap (λ (t : ℕ). other (slot_of t)) size ∙ other_slot (course.turn + length before) in
     WhereTold-map old new _ _ (λ (o n : Slots) (is : n ≡ told_slots asked course o).
-    ap (in_slot (slot_of (course.turn + length before))) (is ∙ ap (λ (t : List Step). slots_after 2 d asked.budget course.turn t (begin_with asked.command o)) told)
+    ap (in_slot (slot_of (course.turn + length before))) (is ∙ ap (λ (t : List SessionStep). slots_after 2 d asked.budget course.turn t (begin_with asked.command o)) told)
     ∙ subst (λ (at : Slot). in_slot at (slots_after 2 d asked.budget course.turn ((before ++ r ∷ []) ++ s ∷ []) (begin_with asked.command o)) ≡ in_slot at (slots_after 2 d asked.budget course.turn (before ++ r ∷ []) (begin_with asked.command o))) slot (stored_beside 2 d asked.budget course.turn (before ++ r ∷ []) s (begin_with asked.command o) (omega (arith, l, size)))
     ∙ stored_last 2 d asked.budget course.turn before r (begin_with asked.command o) (omega (arith, l))) keeps
 
 pub none_stored : (asked : Settings) (course : Course) (old new : Option Slots) → course.told ≡ [] → Keeps asked course old new → WhereTold old new (λ before after. after ≡ begin_with asked.command before)
 none_stored asked course old new told keeps =
-    WhereTold-map old new _ _ (λ (o n : Slots) (is : n ≡ told_slots asked course o). is ∙ ap (λ (t : List Step). slots_after 2 (sha256 course.bytes) asked.budget course.turn t (begin_with asked.command o)) told) keeps
+    WhereTold-map old new _ _ (λ (o n : Slots) (is : n ≡ told_slots asked course o). is ∙ ap (λ (t : List SessionStep). slots_after 2 (sha256 course.bytes) asked.budget course.turn t (begin_with asked.command o)) told) keeps
 
-pub alone_stands : (asked : Settings) (course : Course) (old new : Option Slots) (s : Step) → course.told ≡ s ∷ [] → Keeps asked course old new
+pub alone_stands : (asked : Settings) (course : Course) (old new : Option Slots) (s : SessionStep) → course.told ≡ s ∷ [] → Keeps asked course old new
     → WhereTold old new (λ before after. in_slot (other (slot_of course.turn)) after ≡ in_slot (other (slot_of course.turn)) (begin_with asked.command before))
 alone_stands asked course old new s told keeps =
     WhereTold-map old new _ _ (λ (o n : Slots) (is : n ≡ told_slots asked course o).
-    ap (in_slot (other (slot_of course.turn))) (is ∙ ap (λ (t : List Step). slots_after 2 (sha256 course.bytes) asked.budget course.turn t (begin_with asked.command o)) told)
+    ap (in_slot (other (slot_of course.turn))) (is ∙ ap (λ (t : List SessionStep). slots_after 2 (sha256 course.bytes) asked.budget course.turn t (begin_with asked.command o)) told)
     ∙ stored_alone 2 (sha256 course.bytes) asked.budget course.turn s (begin_with asked.command o)) keeps
 
 -- a store that failed leaves the other slot
@@ -59,7 +59,7 @@ beside_torn asked course old new tears =
     WhereTold-map old new _ _ (λ (o n : Slots) (is : IsTorn (slot_of (turn_after course.turn course.told)) (told_slots asked course o) n).
     ap (in_slot (other (slot_of (turn_after course.turn course.told)))) is.1 ∙ torn_other (slot_of (turn_after course.turn course.told)) is.0 (told_slots asked course o)) tears
 
-pub last_stands_torn : (asked : Settings) (course : Course) (old new : Option Slots) (before : List Step) (s : Step) → course.told ≡ before ++ s ∷ [] → course.turn + length before + 1 ≤ 2 ^ 60 → Tears asked course old new
+pub last_stands_torn : (asked : Settings) (course : Course) (old new : Option Slots) (before : List SessionStep) (s : SessionStep) → course.told ≡ before ++ s ∷ [] → course.turn + length before + 1 ≤ 2 ^ 60 → Tears asked course old new
     → Holds old new (slot_of (course.turn + length before)) (checkpoint_of asked course (course.turn + length before) s)
 last_stands_torn asked course old new before s told l tears =
     let d = sha256 course.bytes in
@@ -68,7 +68,7 @@ last_stands_torn asked course old new before s told l tears =
     let slot : other (slot_of (turn_after course.turn course.told)) ≡ slot_of (course.turn + length before) = ap (λ (t : ℕ). other (slot_of t)) turn ∙ other_slot (course.turn + length before) in
     WhereTold-map old new _ _ (λ (o n : Slots) (is : in_slot (other (slot_of (turn_after course.turn course.told))) n ≡ in_slot (other (slot_of (turn_after course.turn course.told))) (told_slots asked course o)).
     subst (λ (at : Slot). in_slot at n ≡ in_slot at (told_slots asked course o)) slot is
-    ∙ ap (λ (t : List Step). in_slot (slot_of (course.turn + length before)) (slots_after 2 d asked.budget course.turn t (begin_with asked.command o))) told
+    ∙ ap (λ (t : List SessionStep). in_slot (slot_of (course.turn + length before)) (slots_after 2 d asked.budget course.turn t (begin_with asked.command o))) told
     ∙ stored_last 2 d asked.budget course.turn before s (begin_with asked.command o) (omega (arith, l))) (beside_torn asked course old new tears)
 
 pub none_stored_torn : (asked : Settings) (course : Course) (old new : Option Slots) → course.told ≡ [] → Tears asked course old new
@@ -77,4 +77,4 @@ none_stored_torn asked course old new told tears =
     let turn : turn_after course.turn course.told ≡ course.turn = ap (turn_after course.turn) told in
     WhereTold-map old new _ _ (λ (o n : Slots) (is : in_slot (other (slot_of (turn_after course.turn course.told))) n ≡ in_slot (other (slot_of (turn_after course.turn course.told))) (told_slots asked course o)).
     subst (λ (t : ℕ). in_slot (other (slot_of t)) n ≡ in_slot (other (slot_of t)) (told_slots asked course o)) turn is
-    ∙ ap (λ (t : List Step). in_slot (other (slot_of course.turn)) (slots_after 2 (sha256 course.bytes) asked.budget course.turn t (begin_with asked.command o))) told) (beside_torn asked course old new tears)
+    ∙ ap (λ (t : List SessionStep). in_slot (other (slot_of course.turn)) (slots_after 2 (sha256 course.bytes) asked.budget course.turn t (begin_with asked.command o))) told) (beside_torn asked course old new tears)

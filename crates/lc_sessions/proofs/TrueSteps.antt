@@ -10,7 +10,7 @@ use Rattle.std.proofs.lemmas.List.Sums.{sum_by-append}
 use Rattle.std.proofs.lemmas.List.{map-append, take-append-drop}
 use Rattle.lc_algebra.specs.Matrix.{Matrix}
 use Rattle.lc_enumeration.specs.Search.{answer}
-use Rattle.lc_enumeration.specs.Records.{Progress, Step, progress_of, first_progress, last_state, rounds, step_of, no_steps, steps_first, session_from, SessionRounds, IsBestAt}
+use Rattle.lc_enumeration.specs.Records.{Progress, SessionStep, progress_of, first_progress, last_state, rounds, step_of, no_steps, steps_first, session_from, SessionRounds, IsBestAt}
 use Rattle.lc_enumeration.proofs.RecordsLaws.{first_is_best}
 use Rattle.lc_formats.specs.Checkpoint.{Checkpoint, current_of}
 use Rattle.lc_enumeration.specs.Truth as truth
@@ -98,15 +98,15 @@ pub blocks_more : (settled : List Progress) (s : Progress) → blocks_of (settle
 blocks_more settled s = ap sum (map-append (λ (t : Progress). t.blocks) settled (s ∷ [])) ∙ sum_by-append (λ x. x) (map (λ t. t.blocks) settled) (s.blocks ∷ []) ∙ omega arith
 
 -- steps whose checkpoints are true, the first one with this turn
-abbrev pub AreTrueSteps : ℕ → List Matrix → List ℕ → ℕ → ℕ → List Step → Type 0
+abbrev pub AreTrueSteps : ℕ → List Matrix → List ℕ → ℕ → ℕ → List SessionStep → Type 0
 AreTrueSteps version needs digest budget turn [] = Unit {0}
 AreTrueSteps version needs digest budget turn (s ∷ steps) = IsTrueFor needs digest budget (point_of version digest budget turn s) × AreTrueSteps version needs digest budget (next_turn turn) steps
 
-pub true_append : (version : ℕ) (needs : List Matrix) (digest : List ℕ) (budget turn : ℕ) (steps others : List Step) → AreTrueSteps version needs digest budget turn steps → AreTrueSteps version needs digest budget (turn_after turn steps) others → AreTrueSteps version needs digest budget turn (steps ++ others)
+pub true_append : (version : ℕ) (needs : List Matrix) (digest : List ℕ) (budget turn : ℕ) (steps others : List SessionStep) → AreTrueSteps version needs digest budget turn steps → AreTrueSteps version needs digest budget (turn_after turn steps) others → AreTrueSteps version needs digest budget turn (steps ++ others)
 true_append version needs digest budget turn [] others h k = k
 true_append version needs digest budget turn (s ∷ steps) others h k = (h.0, true_append version needs digest budget (next_turn turn) steps others h.1 k)
 
-pub true_front : (version : ℕ) (needs : List Matrix) (digest : List ℕ) (budget turn : ℕ) (steps others : List Step) → AreTrueSteps version needs digest budget turn (steps ++ others) → AreTrueSteps version needs digest budget turn steps
+pub true_front : (version : ℕ) (needs : List Matrix) (digest : List ℕ) (budget turn : ℕ) (steps others : List SessionStep) → AreTrueSteps version needs digest budget turn (steps ++ others) → AreTrueSteps version needs digest budget turn steps
 true_front version needs digest budget turn [] others h = tt
 true_front version needs digest budget turn (s ∷ steps) others h = (h.0, true_front version needs digest budget (next_turn turn) steps others h.1)
 

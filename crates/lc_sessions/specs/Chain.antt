@@ -17,7 +17,7 @@ use Rattle.std.specs.Prelude.{◌≡◌, ℕ, ◌⊎◌, ◌≤◌, List, ◌++�
 use Rattle.sha2.specs.Sha256.{sha256}
 use Rattle.lc_algebra.specs.Matrix.{Matrix}
 use Rattle.lc_enumeration.specs.Search.{answer}
-use Rattle.lc_enumeration.specs.Records.{Progress, Start, fresh_start, Step, rounds, last_state, session_rounds, IsBestAt}
+use Rattle.lc_enumeration.specs.Records.{Progress, Start, fresh_start, SessionStep, rounds, last_state, session_rounds, IsBestAt}
 use Rattle.lc_formats.specs.Checkpoint.{Checkpoint, point, refused, damaged, checkpoint_text, checkpoint_in}
 use Rattle.lc_enumeration.specs.Truth.{answer_blocks, IsSettled}
 use Rattle.lc_formats.specs.Truth.{divisor_in}
@@ -35,7 +35,7 @@ IsLeft before after = (after ≡ before) ⊎ (checkpoint_in after ≡ refused da
 abbrev pub IsVersion : ℕ → Type 0
 IsVersion version = (version ≡ 1) ⊎ (version ≡ 2)
 
-abbrev pub Leaves : ℕ → List ℕ → ℕ → ℕ → List Step → Slots → Slots → Type 0
+abbrev pub Leaves : ℕ → List ℕ → ℕ → ℕ → List SessionStep → Slots → Slots → Type 0
 Leaves version digest budget turn told slots after =
     (after ≡ slots_after version digest budget turn told slots)
     ⊎ ((held : List ℕ)
@@ -43,16 +43,16 @@ Leaves version digest budget turn told slots after =
     × (after ≡ put (slot_of (turn_after turn told)) held (slots_after version digest budget turn told slots)))
 
 -- the steps told are the first of those from the start on; the needs are those of the first statements
-pub record Goes (version : ℕ) (table : List Call) (bytes : List ℕ) (budget : ℕ) (needs : List Matrix) (start : Start) (told : List Step) : Type 0 where
+pub record Goes (version : ℕ) (table : List Call) (bytes : List ℕ) (budget : ℕ) (needs : List Matrix) (start : Start) (told : List SessionStep) : Type 0 where
   pub version_is : IsVersion version
   pub met : MeetsFirst table bytes needs
   pub slice : Option ℕ
-  pub left : List Step
+  pub left : List SessionStep
   pub rounds : (session_rounds (divisor_in version) needs budget slice start).steps ≡ told ++ left
 
 pub data Chain (table : List Call) (bytes : List ℕ) (budget : ℕ) : ℕ → Slots → Type 0 where
-  begun : (version : ℕ) (needs : List Matrix) (told : List Step) (slots : Slots) → Goes version table bytes budget needs fresh_start told → Leaves version (sha256 bytes) budget 0 told empty_slots slots → Chain table bytes budget version slots
-  resumed : (version later : ℕ) (needs : List Matrix) (p : Checkpoint) (told : List Step) (before slots : Slots) → Chain table bytes budget version before → version ≤ later → chosen before ≡ Some p → Goes later table bytes budget needs (start_in (divisor_in later) needs p) told
+  begun : (version : ℕ) (needs : List Matrix) (told : List SessionStep) (slots : Slots) → Goes version table bytes budget needs fresh_start told → Leaves version (sha256 bytes) budget 0 told empty_slots slots → Chain table bytes budget version slots
+  resumed : (version later : ℕ) (needs : List Matrix) (p : Checkpoint) (told : List SessionStep) (before slots : Slots) → Chain table bytes budget version before → version ≤ later → chosen before ≡ Some p → Goes later table bytes budget needs (start_in (divisor_in later) needs p) told
       → Leaves later (sha256 bytes) budget (next_turn p.turn) told before slots → Chain table bytes budget later slots
 
 -- a store of a session that failed left in its slot what such a store may leave

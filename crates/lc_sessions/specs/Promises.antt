@@ -11,7 +11,7 @@ use Rattle.std.specs.Io.KnownBytes.{Appends}
 use Rattle.sha2.specs.Sha256.{sha256}
 use Rattle.lc_algebra.specs.Matrix.{Matrix}
 use Rattle.lc_algebra.specs.Divisor.{divisor_of}
-use Rattle.lc_enumeration.specs.Records.{Step}
+use Rattle.lc_enumeration.specs.Records.{SessionStep}
 use Rattle.lc_enumeration.specs.Fitting.{Misfit, misfit}
 use Rattle.lc_formats.specs.Checkpoint.{Checkpoint}
 use Rattle.lc_formats.specs.Truth.{start_of}
@@ -65,7 +65,7 @@ pub record IsAmple (table : List Call) (args : List (List ℕ)) (old new : Outsi
   pub vault_works : ¬ HasRisen old.vault_faults new.vault_faults
 
 -- the bytes of the checkpoint of a step in this session
-abbrev pub checkpoint_of : Settings → Course → ℕ → Step → List ℕ
+abbrev pub checkpoint_of : Settings → Course → ℕ → SessionStep → List ℕ
 checkpoint_of asked course turn step = stored_bytes 2 (sha256 course.bytes) asked.budget turn step
 
 -- the vault, if it tells its slots, holds these bytes in this slot

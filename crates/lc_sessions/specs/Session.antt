@@ -28,7 +28,7 @@ use Rattle.sha2.specs.Sha256.{sha256}
 use Rattle.lc_algebra.specs.Span.{IsDistance}
 use Rattle.lc_algebra.specs.Matrix.{Matrix}
 use Rattle.lc_enumeration.specs.Search.{Answer, answer}
-use Rattle.lc_enumeration.specs.Records.{Note, Start, fresh_start, Step, SessionRounds, session_rounds}
+use Rattle.lc_enumeration.specs.Records.{Note, Start, fresh_start, SessionStep, SessionRounds, session_rounds}
 use Rattle.lc_enumeration.specs.Fitting.{Misfit, misfit}
 use Rattle.lc_enumeration.specs.Truth.{AnswerHolds}
 use Rattle.lc_formats.specs.Certificate.{Certificate, accepted, rejected as rejects}
@@ -65,8 +65,8 @@ pub record Course : Type 0 where
   pub needs : List Matrix
   pub start : Start
   pub turn : ℕ
-  pub told : List Step
-  pub left : List Step
+  pub told : List SessionStep
+  pub left : List SessionStep
   pub is_paused : Bool
   pub text : List ℕ
   pub is_faulty : Bool
@@ -81,7 +81,7 @@ rounds_of asked course = session_rounds divisor_of course.needs asked.budget ask
 abbrev pub record_of : Note → Record
 record_of note = record { query = note.need; blocks = note.blocks; bound = note.bound; best = note.best }
 
-abbrev pub records_of : List Step → List Record
+abbrev pub records_of : List SessionStep → List Record
 records_of steps = map (λ s. record_of s.note) steps
 
 abbrev pub keeps : Command → Bool
@@ -228,8 +228,8 @@ Meets table asked check course = course.needs ≡ []
 Meets table asked summary course = (course.needs ≡ []) ⊎ (course.needs ≡ summary_code asked.number ∷ [])
 
 -- these steps end with one whose record has this query and these blocks
-abbrev pub EndsAt : List Step → ℕ → ℕ → Type 0
-EndsAt told query blocks = (before : List Step) × (last : Step) × (told ≡ before ++ last ∷ []) × (last.note.need ≡ query) × (last.note.blocks ≡ blocks)
+abbrev pub EndsAt : List SessionStep → ℕ → ℕ → Type 0
+EndsAt told query blocks = (before : List SessionStep) × (last : SessionStep) × (told ≡ before ++ last ∷ []) × (last.note.need ≡ query) × (last.note.blocks ≡ blocks)
 
 -- all rounds were done, the slice stopped none, and if checkpoints are kept no watcher did
 pub record IsWhole (asked : Settings) (course : Course) : Type 0 where

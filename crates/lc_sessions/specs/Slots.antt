@@ -20,7 +20,7 @@
 use Rattle.std.specs.Prelude.{◌≡◌, ℕ, ◌%◌, ◌⊎◌, ◌+◌, ◌^◌, min, Bool, true, false, nat_lt, ◌==◌, ◌&&◌, if◌then◌else◌, List, [], ◌∷◌, length, Option, Some, None}
 use Rattle.sha2.specs.Sha256.{sha256}
 use Rattle.lc_algebra.specs.Matrix.{Matrix}
-use Rattle.lc_enumeration.specs.Records.{Note, Start, Step}
+use Rattle.lc_enumeration.specs.Records.{Note, Start, SessionStep}
 use Rattle.lc_enumeration.specs.Fitting.{used_start}
 use Rattle.lc_formats.specs.Text.{same_bytes}
 use Rattle.lc_formats.specs.Checkpoint.{Checkpoint, current_of, ReadCheckpoint, point, refused, checkpoint_text, checkpoint_in}
@@ -42,11 +42,11 @@ slot_of turn = by_parity (turn % 2 == 0)
 unfoldable pub next_turn : ℕ → ℕ
 next_turn turn = min (turn + 1) (2 ^ 60)
 
-abbrev pub turn_after : ℕ → List Step → ℕ
+abbrev pub turn_after : ℕ → List SessionStep → ℕ
 turn_after turn [] = turn
 turn_after turn (s ∷ steps) = turn_after (next_turn turn) steps
 
-unfoldable pub point_of : ℕ → List ℕ → ℕ → ℕ → Step → Checkpoint
+unfoldable pub point_of : ℕ → List ℕ → ℕ → ℕ → SessionStep → Checkpoint
 point_of version digest budget turn step = record {
   version = version;
   script = digest;
@@ -58,11 +58,11 @@ point_of version digest budget turn step = record {
   place = step.state.place;
 }
 
-unfoldable pub stored_bytes : ℕ → List ℕ → ℕ → ℕ → Step → List ℕ
+unfoldable pub stored_bytes : ℕ → List ℕ → ℕ → ℕ → SessionStep → List ℕ
 stored_bytes version digest budget turn step = checkpoint_text (point_of version digest budget turn step)
 
 -- a checkpoint goes into the slot of its turn
-abbrev pub slots_after : ℕ → List ℕ → ℕ → ℕ → List Step → Slots → Slots
+abbrev pub slots_after : ℕ → List ℕ → ℕ → ℕ → List SessionStep → Slots → Slots
 slots_after version digest budget turn [] slots = slots
 slots_after version digest budget turn (s ∷ steps) slots = slots_after version digest budget (next_turn turn) steps (put (slot_of turn) (stored_bytes version digest budget turn s) slots)
 

@@ -5,7 +5,7 @@
 ghost use Rattle.std.specs.Prelude.{◌≡◌, ◌⊎◌, ◌+◌, ◌<◌, ◌≤◌, ◌^◌, ◌++◌, ℕ, Bool, true, false, List, [], ◌∷◌, length, Option, Some, Contains};
 ghost use Rattle.lc_algebra.specs.Matrix.{Matrix};
 ghost use Rattle.lc_enumeration.specs.Search.{Answer};
-ghost use Rattle.lc_enumeration.specs.Records.{Step};
+ghost use Rattle.lc_enumeration.specs.Records.{SessionStep};
 ghost use Rattle.lc_io.specs.declared.watcher.Record.{Record};
 ghost use Rattle.lc_io.specs.Vaults.{Slots, in_slot, other, WhereTold};
 ghost use Rattle.lc_io.specs.Watchers.{Hearing};
@@ -38,14 +38,14 @@ pub fn sessions_answer_what_was_asked()
 /// record alone the other slot is as the session found it, and without a record both are. If a store
 /// failed, the checkpoint of the last record told is in the other slot.
 pub fn slots_hold_the_last_checkpoints()
-    ensures last { (asked : Settings) (course : Course) (old new : Option Slots) (before : List Step) (s : Step) → course.told ≡ before ++ s ∷ [] → course.turn + length before ≤ 2 ^ 60 → Keeps asked course old new
+    ensures last { (asked : Settings) (course : Course) (old new : Option Slots) (before : List SessionStep) (s : SessionStep) → course.told ≡ before ++ s ∷ [] → course.turn + length before ≤ 2 ^ 60 → Keeps asked course old new
         → Holds old new (slot_of (course.turn + length before)) (checkpoint_of asked course (course.turn + length before) s) }
-    ensures one_before { (asked : Settings) (course : Course) (old new : Option Slots) (before : List Step) (r s : Step) → course.told ≡ (before ++ r ∷ []) ++ s ∷ [] → course.turn + length before + 1 ≤ 2 ^ 60 → Keeps asked course old new
+    ensures one_before { (asked : Settings) (course : Course) (old new : Option Slots) (before : List SessionStep) (r s : SessionStep) → course.told ≡ (before ++ r ∷ []) ++ s ∷ [] → course.turn + length before + 1 ≤ 2 ^ 60 → Keeps asked course old new
         → Holds old new (slot_of (course.turn + length before)) (checkpoint_of asked course (course.turn + length before) r) }
-    ensures alone { (asked : Settings) (course : Course) (old new : Option Slots) (s : Step) → course.told ≡ s ∷ [] → Keeps asked course old new
+    ensures alone { (asked : Settings) (course : Course) (old new : Option Slots) (s : SessionStep) → course.told ≡ s ∷ [] → Keeps asked course old new
         → WhereTold old new (λ before after. in_slot (other (slot_of course.turn)) after ≡ in_slot (other (slot_of course.turn)) (begin_with asked.command before)) }
     ensures none { (asked : Settings) (course : Course) (old new : Option Slots) → course.told ≡ [] → Keeps asked course old new → WhereTold old new (λ before after. after ≡ begin_with asked.command before) }
-    ensures last_torn { (asked : Settings) (course : Course) (old new : Option Slots) (before : List Step) (s : Step) → course.told ≡ before ++ s ∷ [] → course.turn + length before + 1 ≤ 2 ^ 60 → Tears asked course old new
+    ensures last_torn { (asked : Settings) (course : Course) (old new : Option Slots) (before : List SessionStep) (s : SessionStep) → course.told ≡ before ++ s ∷ [] → course.turn + length before + 1 ≤ 2 ^ 60 → Tears asked course old new
         → Holds old new (slot_of (course.turn + length before)) (checkpoint_of asked course (course.turn + length before) s) }
     ensures none_torn { (asked : Settings) (course : Course) (old new : Option Slots) → course.told ≡ [] → Tears asked course old new
         → WhereTold old new (λ before after. in_slot (other (slot_of course.turn)) after ≡ in_slot (other (slot_of course.turn)) (begin_with asked.command before)) }

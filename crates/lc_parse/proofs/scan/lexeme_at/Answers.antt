@@ -3,8 +3,8 @@ use Rattle.std.proofs.lemmas.List.{take_rest, nil_from_length}
 use Rattle.lc_grammar.specs.Token.{is_blank, token_at}
 use Rattle.lc_parse.specs.Reading.{cuts_of, cut_of}
 use Rattle.lc_parse.proofs.Scanning.{cut_within, step_end, step_blank, step_comment, step_bad, step_wide, step_token, not_35}
-use Rattle.lc_parse.proofs.scan.step_at.Goals as goal
-use Rattle.lc_parse.proofs.scan.step_at.Goals.{In-Some}
+use Rattle.lc_parse.proofs.scan.lexeme_at.Goals as goal
+use Rattle.lc_parse.proofs.scan.lexeme_at.Goals.{In-Some}
 
 here : (c : In-Some) → drop c.args.at c.args.bytes.now ≡ c.in-Some.first.now ∷ c.in-Some.rest.now
 here c = sym (take_rest c.args.bytes.now c.args.at) ∙ c.in-Some.ensures.cases.0
