@@ -4,6 +4,7 @@
 --   least_refused                a matrix that is refused
 --   least_many                   too many words
 --   least_told                   the line
+--   distance_none, distance_asked      the distance of a code of dimension 0, and of another
 use Rattle.std.proofs.Common.{◌≡◌, ℕ, ◌+◌, ◌*◌, ◌^◌, ◌<◌, ◌≤◌, ◌↔◌, inl, inr, Bool, true, false, nat_lt, List, [], ◌∷◌, ◌++◌, length, map, Vec, Global, Option, Some, None, is_ok, is_some, Ok, Err, MatchOption, option_map, refl, sym, ap, subst, ◌∙◌, true≢false, arith}
 use Rattle.std.proofs.Math.Nat.{pow-le-pow_right}
 use Rattle.std.proofs.lemmas.List.{length-map}
@@ -13,15 +14,18 @@ use Rattle.lc_algebra.specs.Field.{size}
 use Rattle.lc_algebra.specs.Span.{InSpan}
 use Rattle.lc_algebra.specs.Matrix.{Matrix, AreRows}
 use Rattle.lc_algebra.proofs.SpanLaws.{span_word}
+use Rattle.lc_enumeration.specs.Search.{answer}
 use Rattle.lc_constructions.specs.Code.{IsCode}
 use Rattle.lc_constructions.specs.Basic.{GeneratedBy}
 use Rattle.lc_constructions.specs.declared.refusal.CodeRefusal.{CodeRefusal}
 use Rattle.lc_constructions.specs.Refusal.{first_refusal, IsRefusedAs}
 use Rattle.lc_constructions.specs.Refusals.{columns_of, matrix_refusals}
 use Rattle.lc_basic.proofs.HammingLaws.{power_next}
-use Rattle.lc_language.specs.Bound.{least_word}
+use Rattle.lc_language.specs.Bound.{least_word, minimum_distance}
 use Rattle.lc_language.specs.Refusal.{Refusal, refuse, when, first_of, refusal_from, from_codes, query_refusals_of, query_refusal_of}
-use Rattle.lc_language.specs.Evaluation.{refused, refuse_at, refuse_call, Step, prints, fails, fail_with, PrintsLeast, QueriesTo}
+use Rattle.lc_language.specs.Print.{distance_none_line}
+use Rattle.lc_language.specs.Query.{distance, query_line, distance_answer_line}
+use Rattle.lc_language.specs.Evaluation.{refused, refuse_at, refuse_call, Step, prints, asks, fails, fail_with, PrintsLeast, QueriesTo}
 use Rattle.lc_eval.specs.declared.refusals.Refused.{Refused}
 use Rattle.lc_eval.specs.declared.refusals.Stop.{Stop}
 use Rattle.lc_eval.specs.declared.refusals.Stop.TheVariants as stop
@@ -161,3 +165,16 @@ least_told place rows f words C b text w h i t e l =
     let here : IsLeastLine f (columns_of given) words text = subst (λ m. IsLeastLine f m words text) long moved in
     let line : IsLeastLine f (columns_of given) given text = subst (λ u. IsLeastLine f (columns_of given) u text) same here in
     (querying place given f None (prints text) (matrix_few given f n.1 few) (printed given f text line))
+
+-- ---- the minimum distance
+
+pub distance_none : (place : ℕ) (C : Matrix) (text : List ℕ) → length C.rows ≡ 0 → text ≡ distance_none_line → QueriesTo place (minimum_distance C) (prints text)
+unfolding query_refusal_of query_refusals_of first_of query_line distance_answer_line answer
+distance_none place C text e t = inl (e, ap (λ (x : List ℕ). prints x) (t ∙ sym line))
+  where
+    line : query_line distance C 0 ≡ distance_none_line
+    line = rw e refl
+
+pub distance_asked : (place : ℕ) (C D : Matrix) → 0 < length C.rows → D ≡ C → QueriesTo place (minimum_distance C) (asks distance D)
+unfolding query_refusal_of query_refusals_of first_of
+distance_asked place C D l e = inr (l, ap (asks distance) e)

@@ -11,7 +11,7 @@ use Rattle.lc_language.specs.declared.Call.TheVariants.{Value, Query}
 use Rattle.lc_language.specs.declared.ValueCall as language_value
 use Rattle.lc_language.specs.declared.ValueCall.TheVariants.{Gf, GeneratorMatCode, CheckMatCode, RepetitionCode, WholeSpaceCode, NullCode, HammingCode, ReedMullerCode, DualCode, Dimension, WordLength, GeneratorMat, CheckMat, Weight, IsCodeword}
 use Rattle.lc_language.specs.declared.QueryCall as language_query
-use Rattle.lc_language.specs.declared.QueryCall.TheVariants.{LeastWord}
+use Rattle.lc_language.specs.declared.QueryCall.TheVariants.{LeastWord, MinimumDistance}
 use Rattle.lc_language.specs.declared.Kind.{Kind}
 use Rattle.lc_language.specs.Calls.{call_named, signatures}
 use Rattle.lc_language.specs.Bound as bound
@@ -47,13 +47,14 @@ value_call_of v.IsCodeword = IsCodeword
 
 abbrev pub query_call_of : QueryCall → language_query.QueryCall
 query_call_of q.LeastWord = LeastWord
+query_call_of q.MinimumDistance = MinimumDistance
 
 abbrev pub call_of : Call → language.Call
 call_of (call.Value x) = Value (value_call_of x)
 call_of (call.Query x) = Query (query_call_of x)
 
 unfoldable pub built_calls : List language.Call
-built_calls = Value Gf ∷ Value GeneratorMatCode ∷ Value CheckMatCode ∷ Value RepetitionCode ∷ Value WholeSpaceCode ∷ Value NullCode ∷ Value HammingCode ∷ Value ReedMullerCode ∷ Value DualCode ∷ Value Dimension ∷ Value WordLength ∷ Value GeneratorMat ∷ Value CheckMat ∷ Value Weight ∷ Value IsCodeword ∷ Query LeastWord ∷ []
+built_calls = Value Gf ∷ Value GeneratorMatCode ∷ Value CheckMatCode ∷ Value RepetitionCode ∷ Value WholeSpaceCode ∷ Value NullCode ∷ Value HammingCode ∷ Value ReedMullerCode ∷ Value DualCode ∷ Value Dimension ∷ Value WordLength ∷ Value GeneratorMat ∷ Value CheckMat ∷ Value Weight ∷ Value IsCodeword ∷ Query LeastWord ∷ Query MinimumDistance ∷ []
 
 abbrev pub bound_of : BoundCall → bound.BoundCall
 bound_of (b.Gf q) = bound.gf q
@@ -74,6 +75,7 @@ bound_of (b.IsCodeword C x) = bound.is_codeword C.now x.now
 
 abbrev pub bound_query_of : BoundQuery → bound.BoundQuery
 bound_query_of (bq.LeastWord rows f) = bound.least_word (rows_of rows.now) f.now
+bound_query_of (bq.MinimumDistance C) = bound.minimum_distance C.now
 
 abbrev pub forms_of : Row → List (List Kind)
 forms_of row = map (λ kinds. kinds.now) row.forms.now

@@ -12,13 +12,15 @@ use Rattle.lc_grammar.specs.Tree as tree
 use Rattle.lc_parse.specs.declared.tree.Expr.{Expr}
 use Rattle.lc_parse.specs.Views.{tree_of, trees_of}
 use Rattle.lc_language.specs.Print.{fault_line}
+use Rattle.lc_language.specs.Query.{distance}
 use Rattle.lc_language.specs.Evaluation as evaluation
-use Rattle.lc_language.specs.Evaluation.{Outcomes, all_give, one_refused, Step, prints, binds, fails, query_of}
+use Rattle.lc_language.specs.Evaluation.{Outcomes, all_give, one_refused, Step, prints, binds, asks, fails, query_of}
 use Rattle.lc_eval.specs.Built.{built_calls, query_call_of, IsAsked}
 use Rattle.lc_eval.specs.Value.{values_of, binding_of, refused_of}
 use Rattle.lc_eval.specs.declared.calls.QueryCall.{QueryCall}
 use Rattle.lc_eval.specs.declared.calls.Row.{Row}
 use Rattle.lc_eval.specs.declared.machine.Query.{Query}
+use Rattle.lc_eval.specs.declared.machine.Query.TheVariants as query
 use Rattle.lc_eval.specs.declared.values.Value.{Value}
 use Rattle.lc_eval.specs.declared.refusals.Stop.{Stop}
 use Rattle.lc_eval.specs.declared.refusals.Stop.TheVariants as stop
@@ -30,9 +32,8 @@ AnswersAll (Ok vs) P = P (all_give (values_of vs.items))
 AnswersAll (Err (stop.Refused r)) P = P (one_refused (refused_of r))
 AnswersAll (Err stop.NoMemory) P = Unit {0}
 
--- no built call asks a query
 abbrev pub need_of : Query → Step
-need_of q = elim q as (λ _. Step) [ ]
+need_of (query.MinimumDistance C) = asks distance C
 
 abbrev pub Affects : Effect → (Step → Type 0) → Type 0
 Affects (effect.Binds b) P = P (binds (binding_of b))

@@ -38,6 +38,7 @@ pub(crate) enum ValueCall {
 #[derive(Clone, Copy)]
 pub(crate) enum QueryCall {
     LeastWord,
+    MinimumDistance,
 }
 
 /// The calls.
@@ -58,7 +59,7 @@ pub(crate) struct Row {
 }
 
 // The built calls, in the order of the table of all calls.
-static TABLE: [Row; 16] = [
+static TABLE: [Row; 17] = [
     Row {
         call: Call::Value(ValueCall::Gf),
         name: "GF",
@@ -139,6 +140,11 @@ static TABLE: [Row; 16] = [
         name: "LeastWord",
         forms: &[&[Kind::Lists, Kind::Field]],
     },
+    Row {
+        call: Call::Query(QueryCall::MinimumDistance),
+        name: "MinimumDistance",
+        forms: &[&[Kind::Code]],
+    },
 ];
 
 // The rows of all built calls.
@@ -206,6 +212,7 @@ pub(crate) enum BoundCall<'a> {
 /// A query with its arguments.
 pub(crate) enum BoundQuery<'a> {
     LeastWord(&'a [Vec<u64>], &'a Field),
+    MinimumDistance(&'a Code),
 }
 
 /// The call with these arguments; None if they are not of its kinds.
@@ -286,6 +293,10 @@ pub(crate) fn bind_query(call: QueryCall, arguments: &[Value]) -> Option<BoundQu
         QueryCall::LeastWord => {
             let [a, b] = arguments else { return None };
             Some(BoundQuery::LeastWord(a.lists()?, b.field()?))
+        }
+        QueryCall::MinimumDistance => {
+            let [a] = arguments else { return None };
+            Some(BoundQuery::MinimumDistance(&a.code()?.code))
         }
     }
 }

@@ -7,14 +7,18 @@ use crate::fields::Fields;
 use crate::names::Names;
 use crate::statement::{Effect, effect_of};
 use crate::values::Binding;
+use lc_code::Code;
 use lc_field::NoMemory;
 use lc_parse::Script;
 use std::alloc::Global;
 use std::marker::Model;
 
-/// A query that the machine leaves to its caller to answer. No built call asks one.
+/// A query that the machine leaves to its caller to answer, by a search.
 #[derive(Drop)]
-pub enum Query {}
+pub enum Query {
+    /// the minimum distance of a code of dimension at least 1
+    MinimumDistance(Code),
+}
 
 /// What a step of the machine answers.
 #[derive(Drop)]

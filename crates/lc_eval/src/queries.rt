@@ -10,13 +10,14 @@ ghost use Rattle.lc_eval.specs.Scan.{IsLeastLine};
 
 use crate::calls::BoundQuery;
 use crate::least;
+use crate::machine::Query;
 use crate::refusals::{Stop, TOO_MANY_WORDS, fault, refused_as};
 use crate::rows::{rows_of, words_of};
 use crate::statement::Effect;
 use lc_basic::generator_mat;
 use lc_code::Code;
 use lc_field::{Field, NoMemory};
-use lc_print::{least_line, least_none_line};
+use lc_print::{distance_none_line, least_line, least_none_line};
 use lc_vec::weight;
 use std::alloc::Global;
 
@@ -57,7 +58,19 @@ pub(crate) fn answer(alloc: Global, place: usize, query: BoundQuery<'_>) -> Resu
 {
     match query {
         BoundQuery::LeastWord(rows, field) => least_word(alloc, place, rows, field),
+        BoundQuery::MinimumDistance(code) => minimum_distance(alloc, place, code),
     }
+}
+
+// The minimum distance of a code, which a search finds; a code of dimension 0 has none.
+#[tactic(auto, using(crate::proofs::QueryLaws::distance_none, crate::proofs::QueryLaws::distance_asked))]
+fn minimum_distance(alloc: Global, _place: usize, code: &Code) -> Result<Effect, Stop>
+    ensures { AffectsOrFails result (QueriesTo _place (bound.minimum_distance code.now)) }
+{
+    if code.dimension() == 0 {
+        return Ok(Effect::Prints(distance_none_line(alloc)?));
+    }
+    Ok(Effect::Needs(Query::MinimumDistance(code.copy(alloc)?)))
 }
 
 // The line of the first nonzero word, by weight and then lexicographically, among the sums of multiples of rows over a field.
