@@ -6,7 +6,7 @@
 --   of_one, of_two           what holds of a call of one argument or two, whatever they are, holds if it is bound
 --   IsDeterminate c          whatever its arguments, the call gives one value, or does one thing
 --   built_one                the calls that are built are such
-use Rattle.std.proofs.Common.{◌≡◌, ℕ, ◌^◌, ◌↔◌, Bool, true, false, List, [], ◌∷◌, length, None, Some, Option, refl, sym, ap, ap₂, subst, ◌∙◌, ⊎_elim, arith}
+use Rattle.std.proofs.Common.{◌≡◌, ℕ, ◌^◌, ◌↔◌, Bool, true, false, List, [], ◌∷◌, length, None, Some, Option, refl, sym, ap, ap₂, subst, ◌∙◌, ⊎_elim, inl, inr, arith}
 use Rattle.std.specs.Prelude.{IsTrue}
 use Rattle.std.specs.List.{AllByRecursion}
 use Rattle.lc_algebra.specs.declared.FieldName.{FieldName}
@@ -27,13 +27,14 @@ use Rattle.lc_language.specs.declared.Call.TheVariants.{Value as Value_, Query}
 use Rattle.lc_language.specs.declared.ValueCall.{ValueCall}
 use Rattle.lc_language.specs.declared.ValueCall.TheVariants.{Gf, GeneratorMatCode, CheckMatCode, RepetitionCode, WholeSpaceCode, NullCode, HammingCode, ReedMullerCode, DualCode, Dimension, WordLength, GeneratorMat, CheckMat, Weight, IsCodeword}
 use Rattle.lc_language.specs.declared.QueryCall.{QueryCall}
-use Rattle.lc_language.specs.declared.QueryCall.TheVariants.{LeastWord}
-use Rattle.lc_language.specs.Value.{Value, number, field, lists, code, truth, number_in, field_in, numbers_in, lists_in, code_in}
-use Rattle.lc_language.specs.Bound.{BoundCall, gf, generator_mat_code, check_mat_code, repetition_code, whole_space_code, null_code, hamming_code, reed_muller_code, dual_code, dimension, word_length, generator_mat, check_mat, weight_of, is_codeword, BoundQuery, least_word, given, with_one, with_two, bind, bind_query}
+use Rattle.lc_language.specs.declared.QueryCall.TheVariants.{LeastWord, MinimumDistance}
+use Rattle.lc_language.specs.Value.{Value, CodeValue, number, field, lists, code, truth, number_in, field_in, numbers_in, lists_in, code_in}
+use Rattle.lc_language.specs.Bound.{BoundCall, gf, generator_mat_code, check_mat_code, repetition_code, whole_space_code, null_code, hamming_code, reed_muller_code, dual_code, dimension, word_length, generator_mat, check_mat, weight_of, is_codeword, BoundQuery, least_word, minimum_distance, given, with_one, with_two, bind, bind_query}
 use Rattle.lc_constructions.specs.Refusals.{columns_of}
 use Rattle.lc_language.specs.Meaning.{IsCodeValue, Gives}
 use Rattle.lc_language.specs.Print.{least_line, least_none_line}
-use Rattle.lc_language.specs.Evaluation.{Step, prints, PrintsLeast, Queries}
+use Rattle.lc_language.specs.Query.{QueryKind, distance}
+use Rattle.lc_language.specs.Evaluation.{Step, prints, PrintsLeast, AsksOf, Queries}
 use Rattle.lc_eval.specs.Built.{built_calls}
 use Rattle.lc_session.proofs.AtMostOne.{One, one_value, one_some}
 
@@ -201,6 +202,16 @@ one_least : IsOneAnswered LeastWord
 unfolding bind_query
 one_least = of_two Queries_one least_word lists_in field_in (λ rows f. prints_least_one rows f)
 
+asks_one : (kind : QueryKind) (C : Matrix) → One (AsksOf kind C)
+asks_one kind C s t (inl a) (inl b) = a.1 ∙ sym b.1
+asks_one kind C s t (inl a) (inr b) = absurd (omega (arith, a.0, b.0))
+asks_one kind C s t (inr a) (inl b) = absurd (omega (arith, a.0, b.0))
+asks_one kind C s t (inr a) (inr b) = a.1 ∙ sym b.1
+
+one_distance : IsOneAnswered MinimumDistance
+unfolding bind_query
+one_distance = of_one Queries_one (λ (C : CodeValue). minimum_distance C.code) code_in (λ C. asks_one distance C.code)
+
 pub built_one : AllByRecursion IsDeterminate built_calls
 unfolding built_calls
-built_one = (one_gf, (one_generator, (one_check, (one_repetition, (one_whole_space, (one_null, (one_hamming, (one_reed_muller, (one_dual, (one_dimension, (one_word_length, (one_generator_mat, (one_check_mat, (one_weight, (one_codeword, (one_least, tt))))))))))))))))
+built_one = (one_gf, (one_generator, (one_check, (one_repetition, (one_whole_space, (one_null, (one_hamming, (one_reed_muller, (one_dual, (one_dimension, (one_word_length, (one_generator_mat, (one_check_mat, (one_weight, (one_codeword, (one_least, (one_distance, tt)))))))))))))))))

@@ -4,7 +4,7 @@
 --   given_whole                  a source that tells its bytes and was read to its end gave all of them
 --   not_too_much, too_much       where it tells them, it gave too much exactly where they are too many
 --   reply                        what was read and the text that it prints
-use Rattle.std.proofs.Common.{◌≡◌, ℕ, ◌<◌, ◌≤◌, Bool, true, false, ◌==◌, nat_eq, List, [], ◌∷◌, ◌++◌, length, Option, Some, None, refl, sym, ap, subst, ◌∙◌, arith}
+use Rattle.std.proofs.Common.{◌≡◌, ℕ, ◌^◌, ◌<◌, ◌≤◌, Bool, true, false, ◌==◌, nat_eq, List, [], ◌∷◌, ◌++◌, length, Option, Some, None, refl, sym, ap, subst, ◌∙◌, arith}
 use Rattle.std.specs.Prelude.{codes, String, string_bytes}
 use Rattle.std.specs.Cmp.Lexicographic.{pointwise}
 use Rattle.std.specs.Io.KnownBytes.{Consumes, IsAtEnd}
@@ -83,13 +83,14 @@ too_much old script new e g =
     let t : Consumes (Some script) new g.0 = subst (λ x. Consumes x new g.0) e g.2 in
     omega (arith, consumed_length script new g.0 t, g.1)
 
-pub reply : (words : List (List ℕ)) (old new : Option (List ℕ)) (bytes text : List ℕ) (ends : Bool) → (s : Settings) × (options run_alone words ≡ settings s) → Consumes old new bytes → IsAtEnd new → length bytes ≤ most_bytes → ((budget : ℕ) → IsText built_calls budget bytes text ends) → IsReply words old new text ends
-reply words old new bytes text ends s given ended within printed = record {
-  asked = s.0;
-  accepted = s.1;
+pub reply : (words : List (List ℕ)) (old new : Option (List ℕ)) (bytes text : List ℕ) (ends : Bool) → options run_alone words ≡ settings (settings_of run) → Consumes old new bytes → IsAtEnd new → length bytes ≤ most_bytes → IsText built_calls (2 ^ 20) bytes text ends → IsReply words old new text ends
+unfolding settings_of
+reply words old new bytes text ends accepted given ended within printed = record {
+  asked = settings_of run;
+  accepted = accepted;
   bytes = bytes;
   given = given;
   ended = ended;
   within = within;
-  printed = printed s.0.budget;
+  printed = printed;
 }

@@ -2,7 +2,7 @@
 ghost use Rattle.std.specs.Prelude.{◌≡◌, ◌⊎◌, ◌↔◌, ◌+◌, ◌<◌, ◌≤◌, ℕ, Bool, List, [], ◌∷◌, length, Some, codes, MatchOption};
 ghost use Rattle.std.specs.Io.KnownBytes.{Appends};
 ghost use Rattle.lc_io.specs.Outside.{HasRisen, GaveFront, GaveLess, AppendsPart};
-ghost use Rattle.lc_sessions.specs.Options.{Settings, options, settings, usage, run_alone};
+ghost use Rattle.lc_sessions.specs.Options.{options, settings, settings_of, usage, run_alone, run};
 ghost use Rattle.lc_formats.specs.Text.{same_bytes};
 ghost use Rattle.lc_session.specs.Outcome.{most_bytes, words_of, end_number, IsReply, GaveTooMuch, IsReached};
 
@@ -11,6 +11,10 @@ use crate::status::Status;
 use crate::text::text_of;
 use lc_io::{Sink, Source, write_whole};
 use std::alloc::Global;
+use std::thread::Threads;
+
+// How many blocks a search may take.
+const BUDGET: u64 = 1 << 20;
 
 #[tactic(auto, using(crate::proofs::SessionLaws::run_told))]
 fn is_run(word: &str) -> bool
@@ -22,7 +26,7 @@ fn is_run(word: &str) -> bool
 // The index of the word that is refused.
 #[tactic(auto, using(crate::proofs::SessionLaws::none_refused, crate::proofs::SessionLaws::first_refused, crate::proofs::SessionLaws::second_refused))]
 fn refused(words: &[String]) -> Option<usize>
-    ensures { MatchOption result ((s : Settings) × (options run_alone (words_of words.now) ≡ settings s))
+    ensures { MatchOption result (options run_alone (words_of words.now) ≡ settings (settings_of run))
         (λ i. options run_alone (words_of words.now) ≡ usage i) }
 {
     let Some((first, others)) = words.split_first() else {
@@ -34,17 +38,19 @@ fn refused(words: &[String]) -> Option<usize>
     if others.is_empty() { None } else { Some(1) }
 }
 
-/// Runs a session: `words` are those of the command line after the program's name. The one word
-/// `run` reads a script of at most 1,048,576 bytes from the source, and writes the text that it
-/// prints to the sink: a line for each value and each answer, and a fault line where the script or
-/// a statement is refused, which ends the text. Nothing is written unless the whole text is ready.
+/// Runs a session: `words` are the arguments of the command line after the program's name. The one
+/// argument `run` reads a script of at most 1,048,576 bytes from the source, and writes the text
+/// that it prints to the sink: a line for each value and each answer, and a fault line if the script
+/// or a statement is refused, which ends the text. A search for a minimum distance goes through at
+/// most 2^20 blocks of 4,096 words. Nothing is written unless the whole text is ready.
 ///
-/// Answers `Usage` where the words aren't the one word `run`, and then nothing is read;
-/// `SourceFault` where a read failed; `TooLong` where the source gave more than 1,048,576 bytes;
-/// `NoMemory` where memory was refused; `SinkFault` where a write failed, a front of the text being
+/// Returns `Usage` if the arguments aren't the one argument `run`, and then nothing is read;
+/// `SourceFault` if a read failed; `TooLong` if the source gave more than 1,048,576 bytes;
+/// `NoMemory` if memory was refused; `SinkFault` if a write failed, after a front of the text was
 /// written; else `Done`. Under all but the last two the sink is as it was. At most 1,048,577 bytes
 /// are taken from the source.
-pub fn run_session<S: Source, K: Sink>(
+pub fn run_session<R: Threads + Sync, S: Source, K: Sink>(
+    rt: &R,
     alloc: Global,
     words: &[String],
     source: &mut S,
@@ -81,7 +87,7 @@ pub fn run_session<S: Source, K: Sink>(
         Err(InputRefusal::TooLong) => return Status::TooLong,
         Err(InputRefusal::NoMemory) => return Status::NoMemory,
     };
-    let Ok(text) = text_of(alloc, &bytes) else {
+    let Ok(text) = text_of(rt, alloc, BUDGET, &bytes) else {
         return Status::NoMemory;
     };
     match write_whole(sink, &text.bytes) {

@@ -1,15 +1,18 @@
 //! The text of a script: its bytes to the lines that it prints.
-ghost use Rattle.std.specs.Prelude.{◌≡◌, ℕ, [], map, IfOk};
+ghost use Rattle.std.specs.Prelude.{◌≡◌, ◌^◌, ◌≤◌, [], map, IfOk};
 ghost use Rattle.lc_language.specs.Evaluation.{Runs, IsText};
 ghost use Rattle.lc_parse.specs.Views.{statement_of, script_of};
 ghost use Rattle.lc_eval.specs.Built.{built_calls};
 ghost use Rattle.lc_session.specs.Outcome.{end_number};
+ghost use Rattle.lc_session.specs.Searched.{searched_line};
 
-use lc_eval::{Machine, Step};
+use crate::distance::distance_line_of;
+use lc_eval::{Machine, Query, Step};
 use lc_field::NoMemory;
 use lc_parse::{ParseRefusal, Script, parse};
 use lc_print::fault_line;
 use std::alloc::Global;
+use std::thread::Threads;
 
 /// The text that a script prints.
 #[derive(Drop)]
@@ -21,7 +24,7 @@ pub(crate) struct Text {
 }
 
 impl Text {
-    /// 1 where a fault ends it, else 0.
+    /// 1 if a fault ends it, else 0.
     pub(crate) fn number(&self) -> u8
         ensures { result ≡ end_number self.now.ends }
     {
@@ -29,16 +32,37 @@ impl Text {
     }
 }
 
-// The text of the statements that are left.
-fn run(alloc: Global, mut machine: Machine) -> Result<Text, NoMemory>
-    ensures { IfOk result (λ t. (budget : ℕ) → Runs built_calls budget machine.bindings (map statement_of machine.left) t.bytes.items t.ends) }
+// The line of a query that a search answers.
+fn line_of<R: Threads + Sync>(
+    rt: &R,
+    alloc: Global,
+    budget: u64,
+    query: &Query,
+) -> Result<Vec<u8>, NoMemory>
+    requires budget { budget ≤ 2 ^ 40 }
+    ensures { IfOk result (λ line. line.items ≡ searched_line budget query.now) }
+{
+    match query {
+        Query::MinimumDistance(code) => distance_line_of(rt, alloc, budget, code),
+    }
+}
+
+// The text of the statements that are left, with so many blocks for each search.
+fn run<R: Threads + Sync>(
+    rt: &R,
+    alloc: Global,
+    budget: u64,
+    mut machine: Machine,
+) -> Result<Text, NoMemory>
+    requires budget { budget ≤ 2 ^ 40 }
+    ensures { IfOk result (λ t. Runs built_calls budget machine.bindings (map statement_of machine.left) t.bytes.items t.ends) }
 {
     let mut bytes = Vec::new(alloc);
     'statements: loop {
         match machine.step(alloc)? {
             Step::Line(line) => bytes.extend_from_slice(&line)?,
             Step::Silent => {}
-            Step::Need(query) => match query {},
+            Step::Need(query) => bytes.extend_from_slice(&line_of(rt, alloc, budget, &query)?)?,
             Step::Fault(line) => {
                 bytes.extend_from_slice(&line)?;
                 return Ok(Text { bytes, ends: true });
@@ -49,20 +73,33 @@ fn run(alloc: Global, mut machine: Machine) -> Result<Text, NoMemory>
 }
 
 // The text of a script that was read.
-fn script_text(alloc: Global, script: Script) -> Result<Text, NoMemory>
-    ensures { IfOk result (λ t. (budget : ℕ) → Runs built_calls budget [] (script_of script) t.bytes.items t.ends) }
+fn script_text<R: Threads + Sync>(
+    rt: &R,
+    alloc: Global,
+    budget: u64,
+    script: Script,
+) -> Result<Text, NoMemory>
+    requires budget { budget ≤ 2 ^ 40 }
+    ensures { IfOk result (λ t. Runs built_calls budget [] (script_of script) t.bytes.items t.ends) }
 {
     let machine = Machine::start(alloc, script)?;
-    run(alloc, machine)
+    run(rt, alloc, budget, machine)
 }
 
-/// The text that the bytes print as a script. If they are no script it is one fault line, and a
-/// statement that is refused ends it with a fault line. Refused only for want of memory.
-pub(crate) fn text_of(alloc: Global, bytes: &[u8]) -> Result<Text, NoMemory>
-    ensures { IfOk result (λ t. (budget : ℕ) → IsText built_calls budget bytes.now t.bytes.items t.ends) }
+/// The text that the bytes print as a script, with at most `budget` blocks for each search. If they
+/// are no script it is one fault line, and a statement that is refused ends it with a fault line.
+/// Refused only for want of memory.
+pub(crate) fn text_of<R: Threads + Sync>(
+    rt: &R,
+    alloc: Global,
+    budget: u64,
+    bytes: &[u8],
+) -> Result<Text, NoMemory>
+    requires budget { budget ≤ 2 ^ 40 }
+    ensures { IfOk result (λ t. IsText built_calls budget bytes.now t.bytes.items t.ends) }
 {
     match parse(alloc, bytes) {
-        Ok(script) => script_text(alloc, script),
+        Ok(script) => script_text(rt, alloc, budget, script),
         Err(ParseRefusal::Fault { number, place }) => {
             let bytes = fault_line(alloc, number, place, &[])?;
             Ok(Text { bytes, ends: true })
