@@ -19,7 +19,7 @@ from dataclasses import dataclass, replace
 SIZES = (2, 3, 4, 5, 7, 8, 9, 11, 13, 16)
 LARGE_SIZES = (25, 27, 32, 64, 81, 128, 243, 256)
 NAMES = ("C", "D", "x", "rows", "F", "a_1")
-UNKNOWN = ("MinimumDistance", "BCHCode", "ExtendedCode", "Foo", "hammingCode", "GF_", "Decode", "z")
+UNKNOWN = ("Certificate", "BCHCode", "ExtendedCode", "Foo", "hammingCode", "GF_", "Decode", "z")
 CALLS = ("GF", "Weight", "Dimension", "DualCode", "IsCodeword", "HammingCode", "ReedMullerCode", "CheckMat")
 SIGNS = "()[],;:=#_ \n\tab19GF"
 KINDS = ("valid", "refused", "unfit", "cut", "altered", "noise")
@@ -171,6 +171,12 @@ class Maker:
             return f"{call}({','.join(self.expr(self.pick(kinds), depth - 1) for _ in range(self.below(4)))})"
         return self.expr(self.pick(kinds), depth - 1)
 
+    def query(self):
+        code = self.code()
+        if self.chance(0.5) and code.length <= (9 if code.size <= 4 else 5):
+            return f"MinimumDistance({code.text})"
+        return self.least()
+
     def least(self):
         size = self.size()
         most = {2: 8, 3: 5, 4: 4}.get(size, 3 if size < 9 else 2)
@@ -197,7 +203,7 @@ class Maker:
             self.names[name] = kind
             return f"{name}{sign}{text};"
         if way == 5:
-            return f"{f'{name}{sign}' if self.chance(self.misfits) else ''}{self.least()};"
+            return f"{f'{name}{sign}' if self.chance(self.misfits) else ''}{self.query()};"
         if way < 8:
             return f"{self.expr('truth')};"
         return f"{self.expr(self.pick(('code', 'code', 'number', 'number', 'lists', 'lists', 'numbers', 'field')))};"

@@ -13,6 +13,7 @@ from dataclasses import dataclass
 from functools import lru_cache
 from itertools import combinations, product as tuples
 
+import search
 from linear_algebra import Field, span
 
 INPUT_LIMIT = 1048576
@@ -22,6 +23,7 @@ SYMBOL_SIZES = (2, 3, 4, 5, 7, 8, 9, 11, 13, 16)
 FIELD_SIZES = SYMBOL_SIZES + (25, 27, 32, 64, 81, 128, 243, 256)
 LONGEST = 255
 MOST_WORDS = 2**16
+BUDGET = 2**20  # blocks of a search
 
 
 class Fault(Exception):
@@ -392,6 +394,14 @@ def least_word_line(rows, field):
     return f"least {weight_of(word)} word {text_of(list(word))}"
 
 
+def minimum_distance_line(code):
+    if not code.rows:
+        return "distance none"
+    is_exact, low, weight, word, blocks = search.answer(code.size, code.length, code.rows, BUDGET)
+    distance = f"{weight}" if is_exact else f"between {low} and {weight}"
+    return f"distance {distance} word {text_of(list(word))} blocks {blocks}"
+
+
 # name: the kinds of the arguments, and the function
 CALLS = {
     "GF": (("number",), gf),
@@ -411,7 +421,10 @@ CALLS = {
     "IsCodeword": (("code", "numbers"), is_codeword),
 }
 # these print a line of their own, and stand only as a whole statement
-QUERIES = {"LeastWord": (("lists", "field"), least_word_line)}
+QUERIES = {
+    "LeastWord": (("lists", "field"), least_word_line),
+    "MinimumDistance": (("code",), minimum_distance_line),
+}
 
 
 # ---- values and lines ---------------------------------------------------------------------------------------------

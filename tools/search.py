@@ -1,0 +1,126 @@
+#!/usr/bin/env python3
+"""The answer of a search for the minimum distance under a budget of blocks, read from the definitions.
+
+Stands beside the product and shares nothing with it: it lists the messages of each phase from the start, keeps the least pair of
+weight and place, and computes the bound anew at each end of a phase. Prints answers of some codes as a check by hand;
+`tools/reference.py` uses it for `MinimumDistance`.
+"""
+from itertools import combinations, islice, product
+from math import comb
+
+from linear_algebra import Field
+
+BLOCK = 4096
+CUT = 2**40
+
+
+def inverse(field, a):
+    return next(b for b in range(1, field.q) if field.products[a][b] == 1)
+
+
+def negative(field, a):
+    return next(b for b in range(field.q) if field.sums[a][b] == 0)
+
+
+def systematic_in(field, rows, order):
+    """The greedy first basis of the columns in this order, and the rows that are the identity on it, by its rising columns."""
+    rows, pivots = [list(row) for row in rows], []
+    for c in order:
+        done = len(pivots)
+        i = next((i for i in range(done, len(rows)) if rows[i][c]), None)
+        if i is None:
+            continue
+        rows[done], rows[i] = rows[i], rows[done]
+        scale = inverse(field, rows[done][c])
+        rows[done] = [field.products[scale][a] for a in rows[done]]
+        for j, row in enumerate(rows):
+            if j != done and row[c]:
+                rows[j] = field.add_scaled(row, negative(field, row[c]), rows[done])
+        pivots.append(c)
+    turn = sorted(range(len(pivots)), key=lambda i: pivots[i])
+    return sorted(pivots), [rows[i] for i in turn]
+
+
+def sets_of(field, n, rows):
+    """The information sets: for each the number of fresh columns, and its systematic rows."""
+    sets, used = [], []
+    while True:
+        order = [c for c in range(n) if c not in used] + [c for c in range(n) if c in used]
+        basis, systematic = systematic_in(field, rows, order)
+        fresh = [c for c in basis if c not in used]
+        if sets and 2 * len(fresh) < len(rows):
+            return sets
+        sets.append((len(fresh), systematic))
+        used += fresh
+
+
+def weights_divisor(field, sets):
+    """What divides all weights: 4 or 2 over 2 elements, 3 over 3, else 1, by the weights and dots of some rows."""
+    rows = sets[0][1]
+    weights = [sum(1 for a in row if a) for row in rows]
+    if field.q == 2:
+        if any(w % 2 for w in weights):
+            return 1
+        even = all(field.dot(u, v) == 0 for u in rows for v in rows)
+        return 4 if even and all(w % 4 == 0 for w in weights) else 2
+    if field.q == 3 and all(w % 3 == 0 for w in weights):
+        return 3 if all(field.dot(u, v) == 0 for u in rows for v in rows) else 1
+    return 1
+
+
+def words_of_level(field, n, rows, level):
+    for support in combinations(range(len(rows)), level):
+        for coefficients in product(range(1, field.q), repeat=level - 1):
+            word = rows[support[0]]
+            for i, c in zip(support[1:], coefficients):
+                word = field.add_scaled(word, c, rows[i])
+            yield word
+
+
+def bound(divisor, k, sets, levels, weight):
+    if k in levels:
+        return weight
+    least = max(1, sum(max(0, w + 1 - (k - fresh)) for (fresh, _), w in zip(sets, levels)))
+    return -(-least // divisor) * divisor
+
+
+def answer(q, n, rows, budget):
+    """Of independent rows, at least one: whether the distance is exact, the lower end, the weight, the word and the blocks."""
+    field, k = Field(q), len(rows)
+    sets = sets_of(field, n, rows)
+    divisor = weights_divisor(field, sets)
+    first = sets[0][1][0]
+    best = (sum(1 for a in first if a), 0, first)
+    levels, blocks = [0] * len(sets), 0
+    for level in range(1, k + 1):
+        for j, (_, systematic) in enumerate(sets):
+            low = bound(divisor, k, sets, levels, best[0])
+            if low >= best[0]:
+                return True, low, best[0], best[2], blocks
+            end = blocks + -(-comb(k, level) * (q - 1) ** (level - 1) // BLOCK)
+            last = min(end, budget, CUT)
+            listed = islice(words_of_level(field, n, systematic, level), (last - blocks) * BLOCK)
+            for place, word in enumerate(listed, blocks * BLOCK):
+                weight = sum(1 for a in word if a)
+                if weight < best[0]:
+                    best = (weight, place, word)
+            if last < end:
+                return False, low, best[0], best[2], last
+            blocks = end
+            if end < CUT:
+                levels[j] = level
+    low = bound(divisor, k, sets, levels, best[0])
+    return low >= best[0], low, best[0], best[2], min(blocks, budget)
+
+
+def main():
+    hamming = [[1, 0, 0, 0, 0, 1, 1], [0, 1, 0, 0, 1, 0, 1], [0, 0, 1, 0, 1, 1, 0], [0, 0, 0, 1, 1, 1, 1]]
+    for budget in (0, 1, 2, 100):
+        print(2, 7, budget, *answer(2, 7, hamming, budget))
+    golay = [[0] * i + [1, 0, 1, 0, 1, 1, 1, 0, 0, 0, 1, 1] + [0] * (11 - i) for i in range(12)]
+    print(2, 23, *answer(2, 23, golay, 2**20))
+    print(2, 24, *answer(2, 24, [row + [sum(row) % 2] for row in golay], 2**20))
+
+
+if __name__ == "__main__":
+    main()
