@@ -18,7 +18,7 @@ fn text_of(alloc: Global, script: &str) -> Result<Vec<u8>, AllocError> {
             Ok(Step::Line(line)) => text.extend_from_slice(&line)?,
             Ok(Step::Fault(line)) => text.extend_from_slice(&line)?,
             Ok(Step::Silent) => {}
-            Ok(Step::Need(query)) => match query {},
+            Ok(Step::Need(_query)) => text.extend_from_slice(b"a query\n")?,
             Ok(Step::End) => return Ok(text),
             Err(_) => return Err(AllocError),
         }

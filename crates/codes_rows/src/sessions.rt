@@ -31,18 +31,23 @@ fn scripts_are_answered(rt: HostRuntime) -> Result<(), Fail> {
     for (input, text, wanted) in rows {
         let mut source = MemorySource::new(alloc, input, 7, &[])?;
         let mut sink = MemorySink::new(alloc, 64, 5, &[])?;
-        assert_eq!(rt; run_session(alloc, &words, &mut source, &mut sink), wanted);
+        assert_eq!(rt; run_session(&rt, alloc, &words, &mut source, &mut sink), wanted);
         assert_eq!(rt; sink.bytes(), text);
     }
     Ok(())
 }
 
 // How a session on so many spaces ends.
-fn status_of_spaces(alloc: Global, words: &[String], count: usize) -> Result<Status, Fail> {
+fn status_of_spaces(
+    rt: &HostRuntime,
+    alloc: Global,
+    words: &[String],
+    count: usize,
+) -> Result<Status, Fail> {
     let spaces = vec![in alloc; b' '; count]?;
     let mut source = MemorySource::new(alloc, &spaces, 65_536, &[])?;
     let mut sink = MemorySink::new(alloc, 0, 1, &[])?;
-    Ok(run_session(alloc, words, &mut source, &mut sink))
+    Ok(run_session(rt, alloc, words, &mut source, &mut sink))
 }
 
 #[test]
@@ -50,11 +55,11 @@ fn the_longest_script_is_read(rt: HostRuntime) -> Result<(), Fail> {
     let alloc = rt.alloc();
     let words = words_of(alloc, &["run"])?;
     assert_eq!(rt;
-        status_of_spaces(alloc, &words, 1_048_577)?,
+        status_of_spaces(&rt, alloc, &words, 1_048_577)?,
         Status::TooLong
     );
     assert_eq!(rt;
-        status_of_spaces(alloc, &words, 1_048_576)?,
+        status_of_spaces(&rt, alloc, &words, 1_048_576)?,
         Status::Done(0)
     );
     Ok(())
@@ -67,13 +72,13 @@ fn faults_and_words_are_told(rt: HostRuntime) -> Result<(), Fail> {
     let mut failing = MemorySource::new(alloc, QUERY, 64, &[1])?;
     let mut sink = MemorySink::new(alloc, 64, 4, &[2])?;
     assert_eq!(rt;
-        run_session(alloc, &run, &mut failing, &mut sink),
+        run_session(&rt, alloc, &run, &mut failing, &mut sink),
         Status::SourceFault
     );
     assert_eq!(rt; sink.bytes(), b"".as_slice());
     let mut source = MemorySource::new(alloc, QUERY, 64, &[])?;
     assert_eq!(rt;
-        run_session(alloc, &run, &mut source, &mut sink),
+        run_session(&rt, alloc, &run, &mut source, &mut sink),
         Status::SinkFault
     );
     assert_eq!(rt; sink.bytes(), b"leas".as_slice());
@@ -81,7 +86,7 @@ fn faults_and_words_are_told(rt: HostRuntime) -> Result<(), Fail> {
     for (texts, index) in rows {
         let words = words_of(alloc, texts)?;
         assert_eq!(rt;
-            run_session(alloc, &words, &mut source, &mut sink),
+            run_session(&rt, alloc, &words, &mut source, &mut sink),
             Status::Usage(index)
         );
     }
