@@ -1,4 +1,5 @@
 pub mod AtMostOne
+pub mod DistanceLaws
 pub mod OneText
 pub mod OneValue
 pub mod RunLaws
