@@ -1,0 +1,1 @@
+-- How contracts see a search and its rounds.

@@ -1,0 +1,7 @@
+//! The search for the minimum distance of a code, in rounds of workers (Grassl, Searching for linear codes with large minimum
+//! distance).
+#![tactic(auto)]
+
+mod watching;
+
+pub use watching::tell;
