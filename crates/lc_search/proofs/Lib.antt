@@ -1,1 +1,3 @@
 pub mod TellingLaws
+pub mod WorkLaws
+pub mod CrewLaws

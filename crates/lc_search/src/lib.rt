@@ -3,5 +3,7 @@
 #![tactic(auto)]
 
 mod watching;
+mod worker;
 
 pub use watching::tell;
+pub use worker::work;

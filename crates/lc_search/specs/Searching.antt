@@ -1,1 +1,0 @@
--- How contracts see a search and its rounds.
