@@ -1,3 +1,4 @@
 pub mod TellingLaws
 pub mod WorkLaws
+pub mod GatherLaws
 pub mod CrewLaws

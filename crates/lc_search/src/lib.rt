@@ -2,6 +2,7 @@
 //! distance).
 #![tactic(auto)]
 
+mod round;
 mod watching;
 mod worker;
 
