@@ -1,6 +1,7 @@
 -- The workers of a round.
 --   both_done         two halves that have done their work are a whole that has
 --   written_back      what a slice of a whole list writes back is the list
+--   grown             what holds of each holds after one more
 --   codes_kept        scratches are for the same code after the work
 --   is_root_last, last_is_root, root_stays_last      the root's seat is the last worker's
 --   tables_of         the tables of the last seat and of the others
@@ -8,7 +9,7 @@
 use Rattle.std.proofs.Common.{◌≡◌, ℕ, ◌+◌, ◌≤◌, ◌<◌, min, Bool, true, Some, List, [], ◌∷◌, ◌++◌, map, length, get_or, take, drop, refl, sym, ap, ap₂, ◌∙◌, subst, arith, length-append}
 use Rattle.std.specs.Prelude.{All}
 use Rattle.std.proofs.lemmas.List.{map-append, take_at, length-map, get_or_push}
-use Rattle.std.proofs.lemmas.List.Elements.{All-nil, All-cons, All-head, All-tail, All-append, All-map, All-weaker, All-pop}
+use Rattle.std.proofs.lemmas.List.Elements.{All-nil, All-cons, All-head, All-tail, All-append, All-map, All-weaker, All-pop, All-push}
 use Rattle.lc_algebra.specs.Matrix.{Matrix}
 use Rattle.lc_board.specs.Counting.{StandOnce, least}
 use Rattle.lc_board.specs.Board.{drawn_numbers, reported_values}
@@ -30,6 +31,9 @@ module _ (value : ℕ → ℕ) (b : Opened) where
       let long : length now ≡ length before = ap (λ (l : List Worker). length l) same in
       let is : take n (after ++ drop (length after) before) ≡ after = take_at after (drop (length after) before) n (omega arith) in
       subst (λ l. HaveDone value b l (take n (after ++ drop (length after) before))) same (subst (HaveDone value b now) (sym is) h)
+
+pub grown : {X : Type 0} (P : X → Type 0) (xs ys : List X) (x : X) → ys ≡ xs ++ x ∷ [] → All P xs → P x → All P ys
+grown P xs ys x e all p = subst (All P) (sym e) (All-push P xs x all p)
 
 -- the scratches of workers that are ready are for the code, also after the work
 pub codes_kept : (value : ℕ → ℕ) (C : Matrix) (b : Opened) (before after : List Worker) → All (IsReady C b) before → HaveDone value b before after → All (λ w. w.scratch ≡ C) after

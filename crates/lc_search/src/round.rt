@@ -103,7 +103,9 @@ fn put_back(_sets: &Sets, spare: &mut Vec<Scratch>, scratch: Scratch)
     requires spare { All (λ s. s ≡ _sets.now) spare.old.items }
     ensures spare { All (λ s. s ≡ _sets.now) spare.new.items }
 {
-    if spare.push(scratch).is_err() {}
+    let Ok(()) = spare.push(scratch) else {
+        return;
+    };
 }
 
 // The seats of the workers, in a list that has room for them. Their scratches, for these sets, go back to the spare ones.
