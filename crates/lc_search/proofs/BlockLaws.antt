@@ -7,17 +7,17 @@
 --   block_after         the value of the least word of a block
 --   blocks_after        the values of blocks, and the best of what is found in them
 --   pair_of             the pair that a value stands for
-use Rattle.std.proofs.Common.{◌≡◌, ℕ, zero, suc, ◌+◌, ◌-◌, ◌*◌, ◌/◌, ◌%◌, ◌^◌, ◌<◌, ◌≤◌, min, Bool, true, false, cond, List, [], ◌∷◌, ◌++◌, map, length, drop, take, Option, Some, None, option_map, flat_map, refl, sym, ap, ap₂, ◌∙◌, subst, ⊎_elim, arith}
+use Rattle.std.proofs.Common.{◌≡◌, ℕ, zero, suc, ◌+◌, ◌-◌, ◌*◌, ◌/◌, ◌%◌, ◌^◌, ◌<◌, ◌≤◌, min, Bool, true, false, cond, List, [], ◌∷◌, map, length, drop, option_map, flat_map, refl, sym, ap, ◌∙◌, subst, ⊎_elim, arith}
 use Rattle.std.specs.Prelude.{All, Contains, unwrap_or}
 use Rattle.std.proofs.lemmas.Bool.{cases_lt}
 use Rattle.std.proofs.lemmas.Bool.Decides.{nat_tests}
 use Rattle.std.proofs.lemmas.List.{length-take, length-drop, length-map}
-use Rattle.std.proofs.lemmas.List.Elements.{All-nil, All-cons, All-head, All-tail, All-append, Contains-append_left}
+use Rattle.std.proofs.lemmas.List.Elements.{All-nil, All-cons, All-head, All-tail, Contains-append_left}
 use Rattle.lc_algebra.specs.Field.{size}
 use Rattle.lc_algebra.specs.Matrix.{Matrix}
 use Rattle.lc_algebra.proofs.SpanLaws.{contains_head, contains_tail}
-use Rattle.lc_enumeration.specs.Message.{Message, messages, message_count, numbers_from}
-use Rattle.lc_enumeration.specs.Plan.{cut, total, phase_level, level_blocks, blocks_before, block_messages, place_of, IsInPhase}
+use Rattle.lc_enumeration.specs.Message.{messages, numbers_from}
+use Rattle.lc_enumeration.specs.Plan.{cut, total, phase_level, blocks_before, block_messages, place_of, IsInPhase}
 use Rattle.lc_enumeration.specs.Search.{Found, word_of, block_words, beats, found_along, found_in_block, found_from, least_of, least_in, block_least, board_value}
 use Rattle.lc_enumeration.proofs.PlanLaws.{cut_is, start_is, end_is, within}
 use Rattle.lc_enumeration.proofs.SearchLaws.{found_is, words_in_phase}
@@ -27,7 +27,7 @@ use Rattle.lc_infoset.proofs.SeenLaws.{blocks_next, blocks_of_level}
 use Rattle.lc_board.specs.Counting.{least}
 use Rattle.lc_search.specs.Work.{block_value}
 use Rattle.lc_search.specs.Crew.{least_over}
-use Rattle.lc_search.proofs.GatherLaws.{under_least, least_under, same_least}
+use Rattle.lc_search.proofs.GatherLaws.{under_least}
 
 pub crossing : (f : ℕ → ℕ) (n x : ℕ) → f 0 ≤ x → x < f n → (p : ℕ) × (p < n) × (f p ≤ x) × (x < f (suc p))
 crossing f zero x low high = absurd (omega (arith, low, high))

@@ -4,3 +4,4 @@ pub mod GatherLaws
 pub mod CrewLaws
 pub mod BlockLaws
 pub mod LevelLaws
+pub mod EndLaws

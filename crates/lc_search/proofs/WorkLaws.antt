@@ -12,7 +12,7 @@ use Rattle.std.proofs.lemmas.List.{map-append, append-nil}
 use Rattle.std.proofs.lemmas.List.Elements.{All-nil, All-push, All-head, All-tail}
 use Rattle.std.proofs.lemmas.List.Sums.{fold_push}
 use Rattle.lc_algebra.specs.Matrix.{Matrix}
-use Rattle.lc_enumeration.specs.Plan.{cut, total}
+use Rattle.lc_enumeration.specs.Plan.{total}
 use Rattle.lc_enumeration.specs.Search.{block_least, board_value}
 use Rattle.lc_enumeration.proofs.PlanLaws.{cut_is}
 use Rattle.lc_board.specs.Board.{drew, told, HasDrawn}

@@ -2,9 +2,12 @@
 //! distance).
 #![tactic(auto)]
 
+mod answer;
+mod level;
 mod round;
 mod watching;
 mod worker;
 
+pub use answer::{Answer, RoundRecord};
 pub use watching::tell;
 pub use worker::work;

@@ -1,4 +1,4 @@
-use Rattle.std.proofs.Common.{◌+◌, ap, ◌∙◌, rules}
+use Rattle.std.proofs.Common.{◌+◌, ap, ◌∙◌}
 use Rattle.lc_search.specs.Work.{block_value}
 use Rattle.lc_search.specs.Crew.{least_over}
 use Rattle.lc_search.proofs.CrewLaws.{codes_kept}
