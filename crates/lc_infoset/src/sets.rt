@@ -70,6 +70,13 @@ impl Sets {
         })
     }
 
+    /// The code that the sets are of: the matrix that they were built from.
+    pub fn code(&self) -> &Matrix
+        ensures is { result.now ≡ self.now }
+    {
+        &self.code
+    }
+
     /// The field of the symbols; it has at most 16 elements.
     pub fn field(&self) -> &Field
         ensures is { result.now ≡ self.now.field }

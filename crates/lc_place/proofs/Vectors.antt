@@ -1,5 +1,8 @@
 -- The vectors of the messages of a level are those with that many nonzero entries, the first one 1.
 --   places i v, nonzeros v      where v has nonzero entries, counted from i, and these entries
+--   vector_here, vector_later, vector_nil, vector_none, vector_is      the vector of a message, entry by entry
+--   Fitting i k q s u           a list of places from i to i + k - 1, rising, and as many elements from 1 to q - 1
+--   fitting_later, fitting_rest, fitting_of      it fits from the next place on; a message's entries fit
 --   vector_back                 the vector of a message gives the message back
 --   vector_again                a vector is that of its places and nonzero entries
 --   places_listed, nonzeros_listed      these stand in the lists of supports and of nonzero elements
@@ -45,19 +48,19 @@ length-places i [] = refl
 length-places i (zero ∷ v) = length-places (suc i) v
 length-places i (suc a ∷ v) = ap suc (length-places (suc i) v)
 
-vector_here : (i k p c : ℕ) (s u : List ℕ) → p ≡ i → vector_from i (suc k) (p ∷ s) (c ∷ u) ≡ c ∷ vector_from (suc i) k s u
+pub vector_here : (i k p c : ℕ) (s u : List ℕ) → p ≡ i → vector_from i (suc k) (p ∷ s) (c ∷ u) ≡ c ∷ vector_from (suc i) k s u
 unfolding vector_from
 vector_here i k p c s u e = let t : eqb i p ≡ true = grind (arith, nat_tests) in rw t refl
 
-vector_later : (i k p c : ℕ) (s u : List ℕ) → i < p → vector_from i (suc k) (p ∷ s) (c ∷ u) ≡ 0 ∷ vector_from (suc i) k (p ∷ s) (c ∷ u)
+pub vector_later : (i k p c : ℕ) (s u : List ℕ) → i < p → vector_from i (suc k) (p ∷ s) (c ∷ u) ≡ 0 ∷ vector_from (suc i) k (p ∷ s) (c ∷ u)
 unfolding vector_from
 vector_later i k p c s u l = let t : eqb i p ≡ false = grind (arith, nat_tests) in rw t refl
 
-vector_nil : (i k : ℕ) → vector_from i (suc k) [] [] ≡ 0 ∷ vector_from (suc i) k [] []
+pub vector_nil : (i k : ℕ) → vector_from i (suc k) [] [] ≡ 0 ∷ vector_from (suc i) k [] []
 unfolding vector_from
 vector_nil i k = refl
 
-vector_none : (i : ℕ) (s u : List ℕ) → vector_from i 0 s u ≡ []
+pub vector_none : (i : ℕ) (s u : List ℕ) → vector_from i 0 s u ≡ []
 unfolding vector_from
 vector_none i s u = refl
 
@@ -90,10 +93,10 @@ pub record Fitting (i k q : ℕ) (s u : List ℕ) : Type 0 where
   pub some : (j : ℕ) → j < length u → 1 ≤ get_or u j 0
   pub small : (j : ℕ) → j < length u → get_or u j 0 < q
 
-fitting_later : (i k q : ℕ) (s u : List ℕ) → Fitting i (suc k) q s u → (0 < length s → i < get_or s 0 0) → Fitting (suc i) k q s u
+pub fitting_later : (i k q : ℕ) (s u : List ℕ) → Fitting i (suc k) q s u → (0 < length s → i < get_or s 0 0) → Fitting (suc i) k q s u
 fitting_later i k q s u h l = record { rises = h.rises; low = λ m. omega (arith, l m); high = λ j m. omega (arith, h.high j m); many = h.many; some = h.some; small = h.small }
 
-fitting_rest : (i k q p c : ℕ) (s u : List ℕ) → p ≡ i → Fitting i (suc k) q (p ∷ s) (c ∷ u) → Fitting (suc i) k q s u
+pub fitting_rest : (i k q p c : ℕ) (s u : List ℕ) → p ≡ i → Fitting i (suc k) q (p ∷ s) (c ∷ u) → Fitting (suc i) k q s u
 fitting_rest i k q p c s u e h = record {
   rises = λ j l. h.rises (suc j) (omega (arith, l));
   low = λ l. omega (arith, h.rises 0 (omega (arith, l)), e);
@@ -216,7 +219,7 @@ nonzeros_lead (zero ∷ v) h l = nonzeros_lead v (λ i n z. h (suc i) n (shift z
     shift z (suc j) m = z j (omega (arith, m))
 nonzeros_lead (suc a ∷ v) h l = h 0 (λ e. absurd (cc e)) (λ j m. absurd (omega (arith, m)))
 
-fitting_of : (k q w : ℕ) (m : Message) → 1 < q → IsMessage k q w m → Fitting 0 k q m.support m.coefficients
+pub fitting_of : (k q w : ℕ) (m : Message) → 1 < q → IsMessage k q w m → Fitting 0 k q m.support m.coefficients
 fitting_of k q w m size h = record {
   rises = h.support.rises;
   low = λ _. omega arith;
@@ -226,7 +229,7 @@ fitting_of k q w m size h = record {
   small = λ j l. h.high size j (omega (arith, l, h.many));
 }
 
-vector_is : (k : ℕ) (m : Message) → vector_of k m ≡ vector_from 0 k m.support m.coefficients
+pub vector_is : (k : ℕ) (m : Message) → vector_of k m ≡ vector_from 0 k m.support m.coefficients
 unfolding vector_of
 vector_is k m = refl
 

@@ -36,6 +36,25 @@ pub fn add_scaled(field: &Field, to: &mut [u8], from: &[u8], c: u8)
     }
 }
 
+/// Makes `to` the sum of the word `word` and `c` times the word `from`, symbol by symbol.
+///
+/// The three words have the same length, and the symbols of the last two and `c` are elements of the field.
+#[inline]
+#[tactic(auto, using(crate::proofs::SymbolLaws::word_sum_made))]
+pub fn put_sum(field: &Field, to: &mut [u8], word: &[u8], from: &[u8], c: u8)
+    requires to { length to.old ≡ length word.now }
+    requires lengths { length word.now ≡ length from.now }
+    requires word { Fits field.now word.now }
+    requires from { Fits field.now from.now }
+    requires element { c < size field.now }
+    ensures is { to.new ≡ word_sum field.now word.now (scale_of field.now c from.now) }
+    ensures fits { Fits field.now to.new }
+{
+    for i in 0..to.len() {
+        to[i] = field.add(word[i], field.mul(c, from[i]));
+    }
+}
+
 /// Multiplies each symbol of the word by `c`.
 ///
 /// The symbols and `c` are elements of the field.

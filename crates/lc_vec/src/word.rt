@@ -1,8 +1,10 @@
 //! Words that own their symbols.
-ghost use Rattle.std.specs.Prelude.{◌≡◌, ℕ, List, length, IfOk};
-ghost use Rattle.lc_algebra.specs.Word.{zero_word};
+ghost use Rattle.std.specs.Prelude.{◌≡◌, ℕ, ◌<◌, List, length, IfOk};
+ghost use Rattle.lc_algebra.specs.Field.{size};
+ghost use Rattle.lc_algebra.specs.Word.{Fits, zero_word, word_sum, scale as scale_of};
 
-use lc_field::NoMemory;
+use crate::slices::put_sum;
+use lc_field::{Field, NoMemory};
 use std::alloc::Global;
 use std::marker::Model;
 
@@ -58,6 +60,21 @@ impl Word {
         ensures are { result.now ≡ self.now }
     {
         &self.symbols
+    }
+
+    /// Makes it the sum of the word `word` and `c` times the word `from`.
+    ///
+    /// All have the same length, and the symbols of `word` and `from` and `c` are elements of the field.
+    pub fn put_sum(&mut self, field: &Field, word: &[u8], from: &[u8], c: u8)
+        requires to { length self.old ≡ length word.now }
+        requires lengths { length word.now ≡ length from.now }
+        requires word { Fits field.now word.now }
+        requires from { Fits field.now from.now }
+        requires element { c < size field.now }
+        ensures is { self.new ≡ word_sum field.now word.now (scale_of field.now c from.now) }
+        ensures fits { Fits field.now self.new }
+    {
+        put_sum(field, &mut self.symbols, word, from, c);
     }
 
     /// The number of symbols.

@@ -1,0 +1,23 @@
+use Rattle.std.proofs.Common.{◌<◌, length, arith}
+use Rattle.lc_kernel.proofs.FrontLaws.{entries_are}
+use Rattle.lc_kernel.proofs.SumLaws.{front_put}
+use Rattle.lc_kernel.proofs.stack.refresh.Goals as goal
+
+pub extend-requires-clause-entries : goal.extend-requires-clause-entries
+extend-requires-clause-entries c = (entries_are c.args.sets.now c.args.spot.now c.requires.message).many
+
+pub extend-requires-clause-row : goal.extend-requires-clause-row
+extend-requires-clause-row c =
+    let inside : c.loop-i.i < length c.args.spot.now.support = rw (← c.support-i-end.ensures.places) c.loop-i-test.true in
+    (entries_are c.args.sets.now c.args.spot.now c.requires.message).row c.loop-i.i inside
+
+pub extend-requires-clause-element : goal.extend-requires-clause-element
+extend-requires-clause-element c =
+    let inside : c.loop-i.i < length c.args.spot.now.support = rw (← c.support-i-end.ensures.places) c.loop-i-test.true in
+    (entries_are c.args.sets.now c.args.spot.now c.requires.message).element c.loop-i.i inside
+
+pub loop-i-preserved : goal.loop-i-preserved
+loop-i-preserved c =
+    let inside : c.loop-i.i < length c.args.spot.now.support = rw (← c.support-i-end.ensures.places) c.loop-i-test.true in
+    let t = front_put c.args.sets.now c.args.spot.now c.loop-i.i c.loop-i.words c.extend.new.words c.dimension-k.ensures.rows c.dimension-k.ensures.independent c.requires.set c.requires.message inside c.loop-i.invariant.room c.loop-i.invariant.fronts c.extend.ensures.is in
+    record { room = t.0; fronts = t.1 }

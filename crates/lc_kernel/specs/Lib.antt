@@ -1,0 +1,3 @@
+pub mod Kernel
+pub mod Sums
+pub mod Values

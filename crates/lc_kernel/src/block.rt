@@ -1,0 +1,58 @@
+//! The least word of a block.
+
+ghost use Rattle.std.specs.Prelude.{◌≡◌, ◌+◌, ◌*◌, ◌^◌, ◌<◌, ◌≤◌, Some, length, option_map};
+ghost use Rattle.lc_algebra.specs.Word.{weight};
+ghost use Rattle.lc_enumeration.specs.Plan.{total};
+ghost use Rattle.lc_enumeration.specs.Search.{block_least, board_value};
+ghost use Rattle.lc_kernel.specs.Kernel.{IsPlanOf, top_sum};
+
+use crate::scratch::Scratch;
+use crate::stack::Stack;
+use lc_infoset::Sets;
+use lc_place::Plan;
+
+/// The least value of a block on the board: the weight times 2^52 plus the place of the lightest word of the
+/// block, the first of these.
+///
+/// The plan is one of these sets, the block is below its total, and the scratch was made for these sets.
+/// It takes no memory.
+pub fn least(sets: &Sets, plan: &Plan, block: u64, scratch: &mut Scratch) -> u64
+    requires plan { IsPlanOf plan.now sets.now }
+    requires block { block < total plan.now.k plan.now.q plan.now.m }
+    requires scratch { scratch.old ≡ sets.now }
+    ensures scratch { scratch.new ≡ scratch.old }
+    ensures is { option_map board_value (block_least sets.now plan.now.m block) ≡ Some result }
+{
+    scan(sets, plan, block, &mut scratch.stack)
+}
+
+// The same by a step for each message.
+fn scan(sets: &Sets, plan: &Plan, block: u64, stack: &mut Stack) -> u64
+    requires plan { IsPlanOf plan.now sets.now }
+    requires block { block < total plan.now.k plan.now.q plan.now.m }
+    requires stack { stack.old.code ≡ sets.now }
+    ensures code { stack.new.code ≡ stack.old.code }
+    ensures is { option_map board_value (block_least sets.now plan.now.m block) ≡ Some result }
+{
+    let _few = plan.total();
+    let _phase = plan.phase_of(block);
+    let _long = sets.length();
+    stack.start_block(sets, plan, block);
+    let first = block * 4096;
+    let mut best = value_of(stack, first);
+    for offset in 1..plan.block_len(block) {
+        stack.step_in_block(sets, plan, block, offset);
+        best = best.min(value_of(stack, first + offset));
+    }
+    best
+}
+
+// The value of the word of a stack at a place.
+fn value_of(stack: &Stack, place: u64) -> u64
+    requires at { 0 < length stack.now.spot.support }
+    requires few { stack.now.code.columns ≤ 255 }
+    requires place { place < 2 ^ 52 }
+    ensures is { result ≡ weight (top_sum stack.now) * 2 ^ 52 + place }
+{
+    stack.weight() as u64 * 4_503_599_627_370_496 + place
+}

@@ -1,0 +1,13 @@
+//! The kernel of a search: the least word of a block, and the word at a place. (The method is that of
+//! Brouwer and Zimmermann, as Grassl describes it.)
+#![tactic(auto)]
+
+mod block;
+mod place;
+mod scratch;
+mod stack;
+
+pub use block::least;
+pub use place::word_at;
+pub use scratch::Scratch;
+pub use stack::Stack;

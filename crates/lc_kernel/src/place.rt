@@ -1,0 +1,39 @@
+//! The word at a place.
+
+ghost use Rattle.std.specs.Prelude.{◌≡◌, IfOk};
+ghost use Rattle.lc_enumeration.specs.Search.{word_at as word_at_place};
+ghost use Rattle.lc_kernel.specs.Kernel.{IsPlanOf};
+
+use crate::stack::Stack;
+use lc_field::NoMemory;
+use lc_infoset::Sets;
+use lc_place::Plan;
+use lc_vec::Word;
+use std::alloc::Global;
+
+/// The word at a place: its block times 4,096 plus its offset in the block. None exactly if the plan has no
+/// such block, or the block no such word.
+///
+/// The plan is one of these sets.
+pub fn word_at(
+    alloc: Global,
+    sets: &Sets,
+    plan: &Plan,
+    place: u64,
+) -> Result<Option<Word>, NoMemory>
+    requires plan { IsPlanOf plan.now sets.now }
+    ensures at { IfOk result (λ w. w ≡ word_at_place sets.now plan.now.m place) }
+{
+    let block = place / 4096;
+    let offset = place % 4096;
+    if block >= plan.total() {
+        return Ok(None);
+    }
+    let _phase = plan.phase_of(block);
+    if offset >= plan.block_len(block) {
+        return Ok(None);
+    }
+    let mut stack = Stack::new(alloc, sets)?;
+    stack.go_to(sets, plan, block, offset);
+    Ok(Some(stack.top().copy(alloc)?))
+}

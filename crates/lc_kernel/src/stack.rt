@@ -1,0 +1,227 @@
+//! A stack of sums: the words of the fronts of a message.
+
+ghost use Rattle.std.specs.Prelude.{◌≡◌, ℕ, ◌+◌, ◌-◌, ◌*◌, ◌<◌, ◌≤◌, List, [], Some, None, length, set, slice_get, slice_index, slice_index_or, is_some, if◌then◌else◌, IfOk, IfSome, MatchOption};
+ghost use Rattle.std.specs.List.{Contains};
+ghost use Rattle.lc_algebra.specs.Field.{size};
+ghost use Rattle.lc_algebra.specs.Word.{IsWord, word_sum, zero_word, scale, weight as weight_of};
+ghost use Rattle.lc_enumeration.specs.Message.{messages};
+ghost use Rattle.lc_enumeration.specs.Plan.{total, phase_set, phase_level, blocks_before, block_length, IsInPhase};
+ghost use Rattle.lc_enumeration.specs.Search.{set_count, generator_at};
+ghost use Rattle.lc_place.specs.Place.{spot_message, IsFirstChange};
+ghost use Rattle.lc_kernel.specs.Kernel.{IsPlanOf, IsStackAt, top_sum};
+ghost use Rattle.lc_kernel.specs.Sums.{AreFronts, IsRoom};
+ghost use Rattle.lc_kernel.specs.Values.{IsAtOffset};
+
+use lc_field::NoMemory;
+use lc_infoset::Sets;
+use lc_matrix::Matrix;
+use lc_place::{Plan, Spot};
+use lc_vec::{Word, weight};
+use std::alloc::Global;
+use std::marker::Model;
+
+/// A message, and the words of its fronts: of its first entry, of its first two, and so on. A step to the
+/// next message makes only the words again from the first changed entry on.
+///
+/// Contracts see it as the code of the sets that it was made for, its spot, and the list of these words,
+/// its sums.
+#[derive(Drop)]
+pub struct Stack {
+    code: Matrix,
+    spot: Spot,
+    // the zero word, and then the sums
+    words: Vec<Word>,
+}
+
+impl Model for Stack {
+    ghost use Rattle.std.specs.Prelude.{length};
+    ghost use Rattle.lc_kernel.specs.Kernel.{StackState};
+    ghost use Rattle.lc_kernel.specs.Sums.{IsRoom, sums_of};
+
+    ghost Value = { StackState };
+
+    ghost view = { λ s. record { code = s.code; spot = s.spot; sums = sums_of (length s.spot.support) s.words.items } };
+
+    ghost invariant = { λ s. IsRoom s.code s.spot s.words.items };
+}
+
+impl Stack {
+    /// A stack for messages of these sets, at none.
+    pub fn new(alloc: Global, sets: &Sets) -> Result<Stack, NoMemory>
+        ensures code { IfOk result (λ s. s.code ≡ sets.now) }
+        ensures none { IfOk result (λ s. s.sums ≡ []) }
+    {
+        Stack::of(alloc, sets.code())
+    }
+
+    /// A stack for messages of the same sets, at none.
+    pub fn another(&self, alloc: Global) -> Result<Stack, NoMemory>
+        ensures code { IfOk result (λ s. s.code ≡ self.now.code) }
+        ensures none { IfOk result (λ s. s.sums ≡ []) }
+    {
+        Stack::of(alloc, &self.code)
+    }
+
+    // A stack for messages of the sets of a code, at none.
+    fn of(alloc: Global, code: &Matrix) -> Result<Stack, NoMemory>
+        ensures code { IfOk result (λ s. s.code ≡ code.now) }
+        ensures none { IfOk result (λ s. s.sums ≡ []) }
+    {
+        let Ok(spot) = Spot::new(alloc, code.rows()) else {
+            return Err(NoMemory);
+        };
+        Ok(Stack {
+            code: code.copy(alloc)?,
+            spot,
+            words: zeros(alloc, code.rows() + 1, code.cols())?,
+        })
+    }
+
+    /// Goes to the first message of a block, and makes all its sums.
+    ///
+    /// The stack was made for these sets, the plan is one of them, and the block is below its total.
+    pub fn start(&mut self, sets: &Sets, plan: &Plan, block: u64)
+        requires plan { IsPlanOf plan.now sets.now }
+        requires block { block < total plan.now.k plan.now.q plan.now.m }
+        requires stack { self.old.code ≡ sets.now }
+        ensures at { IsStackAt sets.now plan.now.m self.new }
+        ensures first { (p : ℕ) → IsInPhase plan.now.k plan.now.q plan.now.m p block → slice_get (messages plan.now.k plan.now.q (phase_level plan.now.m p)) (4096 * (block - blocks_before plan.now.k plan.now.q plan.now.m p)) ≡ Some (spot_message self.new.spot) }
+        ensures level { (p : ℕ) → IsInPhase plan.now.k plan.now.q plan.now.m p block → length self.new.spot.support ≡ phase_level plan.now.m p }
+        ensures set { (p : ℕ) → IsInPhase plan.now.k plan.now.q plan.now.m p block → self.new.spot.set ≡ phase_set plan.now.m p }
+    {
+        let _phase = plan.phase_of(block);
+        let _k = sets.dimension();
+        plan.start_of(block, &mut self.spot);
+        refresh(sets, &self.spot, &mut self.words, 0);
+    }
+
+    /// Goes to the next message of the level. Returns how many sums it made again: those from the first
+    /// changed entry on. None exactly if there is no next message; then the stack is as before.
+    ///
+    /// The stack is at a message of these sets and of this plan.
+    pub fn advance(&mut self, sets: &Sets, plan: &Plan) -> Option<usize>
+        requires plan { IsPlanOf plan.now sets.now }
+        requires at { IsStackAt sets.now plan.now.m self.old }
+        ensures at { IsStackAt sets.now plan.now.m self.new }
+        ensures next { (n : ℕ) → slice_get (messages plan.now.k plan.now.q (length self.old.spot.support)) n ≡ Some (spot_message self.old.spot) → slice_get (messages plan.now.k plan.now.q (length self.old.spot.support)) (n + 1) ≡ (if is_some result then Some (spot_message self.new.spot) else None) }
+        ensures again { IfSome result (λ made. (i : ℕ) × IsFirstChange self.old.spot self.new.spot i × (made + i ≡ length self.new.spot.support)) }
+        ensures last { result ≡ None → self.new ≡ self.old }
+        ensures level { length self.new.spot.support ≡ length self.old.spot.support }
+        ensures set { self.new.spot.set ≡ self.old.spot.set }
+    {
+        let _k = sets.dimension();
+        let Some(first) = plan.step(&mut self.spot) else {
+            return None;
+        };
+        refresh(sets, &self.spot, &mut self.words, first);
+        Some(self.spot.support().len() - first)
+    }
+
+    /// The weight of the word of the message. The stack is at a message of its sets.
+    pub fn weight(&self) -> usize
+        requires at { 0 < length self.now.spot.support }
+        ensures is { result ≡ weight_of (top_sum self.now) }
+        ensures few { result ≤ self.now.code.columns }
+    {
+        weight(self.top().symbols())
+    }
+
+    /// Symbol `i` of the word of the message, from 0. The stack is at a message of its sets, and `i` is below
+    /// their length.
+    pub fn symbol(&self, i: usize) -> u8
+        requires at { 0 < length self.now.spot.support }
+        requires inside { i < self.now.code.columns }
+        ensures is { result ≡ slice_index (top_sum self.now) i }
+    {
+        self.top().symbols()[i]
+    }
+
+    // Goes to the first message of a block.
+    pub(crate) fn start_block(&mut self, sets: &Sets, plan: &Plan, block: u64)
+        requires plan { IsPlanOf plan.now sets.now }
+        requires block { block < total plan.now.k plan.now.q plan.now.m }
+        requires stack { self.old.code ≡ sets.now }
+        ensures at { IsAtOffset sets.now plan.now.m block 0 self.new }
+    {
+        self.start(sets, plan, block);
+    }
+
+    // Goes from the message before it to the message at an offset of a block.
+    pub(crate) fn step_in_block(&mut self, sets: &Sets, plan: &Plan, block: u64, offset: u64)
+        requires plan { IsPlanOf plan.now sets.now }
+        requires block { block < total plan.now.k plan.now.q plan.now.m }
+        requires some { 0 < offset }
+        requires inside { (p : ℕ) → IsInPhase plan.now.k plan.now.q plan.now.m p block → offset < block_length plan.now.k plan.now.q plan.now.m p block }
+        requires at { IsAtOffset sets.now plan.now.m block (offset - 1) self.old }
+        ensures at { IsAtOffset sets.now plan.now.m block offset self.new }
+    {
+        let _made = self.advance(sets, plan);
+    }
+
+    // Goes to the message at an offset of a block.
+    pub(crate) fn go_to(&mut self, sets: &Sets, plan: &Plan, block: u64, offset: u64)
+        requires plan { IsPlanOf plan.now sets.now }
+        requires block { block < total plan.now.k plan.now.q plan.now.m }
+        requires inside { (p : ℕ) → IsInPhase plan.now.k plan.now.q plan.now.m p block → offset < block_length plan.now.k plan.now.q plan.now.m p block }
+        requires stack { self.old.code ≡ sets.now }
+        ensures at { IsAtOffset sets.now plan.now.m block offset self.new }
+    {
+        self.start_block(sets, plan, block);
+        for done in 0..offset {
+            self.step_in_block(sets, plan, block, done + 1);
+        }
+    }
+
+    // The word of the message.
+    pub(crate) fn top(&self) -> &Word
+        requires at { 0 < length self.now.spot.support }
+        ensures is { result.now ≡ top_sum self.now }
+        ensures word { IsWord self.now.code.field self.now.code.columns result.now }
+    {
+        &self.words[self.spot.support().len()]
+    }
+}
+
+// So many zero words of n symbols.
+fn zeros(alloc: Global, many: usize, n: usize) -> Result<Vec<Word>, NoMemory>
+    ensures many { IfOk result (λ ws. length ws.items ≡ many) }
+    ensures zero { IfOk result (λ ws. (i : ℕ) → i < many → slice_index_or ws.items i [] ≡ zero_word n) }
+{
+    let mut words = Vec::with_capacity(alloc, many)?;
+    for _i in 0..many {
+        words.push(Word::zero(alloc, n)?)?;
+    }
+    Ok(words)
+}
+
+// Makes the sums from the one at `from` on again.
+fn refresh(sets: &Sets, spot: &Spot, words: &mut [Word], from: usize)
+    requires set { spot.now.set < set_count sets.now }
+    requires message { Contains (messages (length sets.now.rows) (size sets.now.field) (length spot.now.support)) (spot_message spot.now) }
+    requires room { IsRoom sets.now spot.now words.old }
+    requires fronts { AreFronts sets.now spot.now from words.old }
+    ensures room { IsRoom sets.now spot.now words.new }
+    ensures fronts { AreFronts sets.now spot.now (length spot.now.support) words.new }
+{
+    let _k = sets.dimension();
+    for i in from..spot.support().len() {
+        extend(sets, spot, words, i);
+    }
+}
+
+// Makes the sum of entry i from the one before it.
+fn extend(sets: &Sets, spot: &Spot, words: &mut [Word], i: usize)
+    requires set { spot.now.set < set_count sets.now }
+    requires entry { i < length spot.now.support }
+    requires entries { length spot.now.coefficients ≡ length spot.now.support }
+    requires row { slice_index spot.now.support i < length sets.now.rows }
+    requires element { slice_index spot.now.coefficients i < size sets.now.field }
+    requires many { i + 1 < length words.old }
+    requires words { (t : ℕ) → t < length words.old → IsWord sets.now.field sets.now.columns (slice_index_or words.old t []) }
+    ensures is { words.new ≡ set words.old (i + 1) (word_sum sets.now.field (slice_index_or words.old i []) (scale sets.now.field (slice_index spot.now.coefficients i) (slice_index_or (generator_at sets.now spot.now.set) (slice_index spot.now.support i) []))) }
+{
+    let row = sets.row(spot.set(), spot.support()[i]);
+    let c = spot.coefficients()[i];
+    let (before, rest) = words.split_at_mut(i + 1);
+    rest[0].put_sum(sets.field(), before[i].symbols(), row, c);
+}

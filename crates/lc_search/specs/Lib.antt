@@ -1,0 +1,4 @@
+pub mod Work
+pub mod Crew
+pub mod State
+pub mod Levels

@@ -1,0 +1,43 @@
+//! What a search answers, and what a round tells.
+
+use lc_board::RoundResult;
+
+/// What a search answers.
+#[derive(Clone, Copy, Debug, PartialEq, Eq)]
+pub enum Answer {
+    /// The minimum distance.
+    Exact {
+        /// The minimum distance: the weight of the word at the place.
+        weight: u64,
+        /// The place of a word of this weight, the first one found.
+        place: u64,
+        /// How many blocks were done.
+        blocks: u64,
+    },
+    /// Two numbers between which the minimum distance lies.
+    Bracket {
+        /// The lower end.
+        low: u64,
+        /// The upper end: the weight of the word at the place.
+        weight: u64,
+        /// The place of a word of this weight, the first one found.
+        place: u64,
+        /// How many blocks were done: the budget.
+        blocks: u64,
+    },
+}
+
+/// What a round tells.
+#[derive(Drop)]
+pub struct RoundRecord {
+    /// The blocks that are done after the round.
+    pub blocks: u64,
+    /// The lower bound on the minimum distance after these blocks.
+    pub bound: u64,
+    /// The least weight found so far.
+    pub best: u64,
+    /// How many blocks this round did.
+    pub done: u64,
+    /// What the board of the round showed when it was closed.
+    pub closed: RoundResult,
+}

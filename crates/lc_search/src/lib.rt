@@ -1,0 +1,13 @@
+//! The search for the minimum distance of a code, in rounds of workers (Grassl, Searching for linear codes with large minimum
+//! distance).
+#![tactic(auto)]
+
+mod answer;
+mod level;
+mod round;
+mod watching;
+mod worker;
+
+pub use answer::{Answer, RoundRecord};
+pub use watching::tell;
+pub use worker::work;
