@@ -141,7 +141,7 @@ exact_inside C plan l ph e some f =
     (λ f. f ∙ sym (ends_between C l g.0 some g.1 (λ h. false≢true (sym f ∙ eq-eqb ph.start l (start ∙ h)))))
     (cases_Bool (nat_eq ph.start l))
 
-finished_is : (d : ℕ) (C : Matrix) (budget l : ℕ) (x : Found) → finished d C budget l x ≡ (if may_end C l && nat_le x.weight (bound d C l x.weight) then Some (exact x l) else (if l == budget then Some (bracket (bound d C l x.weight) x l) else None))
+pub finished_is : (d : ℕ) (C : Matrix) (budget l : ℕ) (x : Found) → finished d C budget l x ≡ (if may_end C l && nat_le x.weight (bound d C l x.weight) then Some (exact x l) else (if l == budget then Some (bracket (bound d C l x.weight) x l) else None))
 unfolding finished
 finished_is d C budget l x = refl
 

@@ -5,3 +5,5 @@ pub mod CrewLaws
 pub mod BlockLaws
 pub mod LevelLaws
 pub mod EndLaws
+pub mod StateLaws
+pub mod StepLaws

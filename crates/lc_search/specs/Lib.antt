@@ -2,3 +2,4 @@ pub mod Work
 pub mod Crew
 pub mod State
 pub mod Levels
+pub mod Found

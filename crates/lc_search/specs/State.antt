@@ -3,17 +3,18 @@
 --                            the best word
 --   first_state C budget     a search that has done no block
 --   answer_in s              what is answered in this state; None if the search goes on
+--   after_search_round s limit   the state after a round of at most so many blocks
 --   whole_plan C             the plan that goes through all information sets of the code
 --   answer_of a              an answer of the program, as the definitions write it
 --   IsKept C plan budget s levels      what is true of what a search keeps
 --   IsRecordOf s done r      the record of a round of so many blocks that ends in this state
-use Rattle.std.specs.Prelude.{◌≡◌, ℕ, ◌^◌, ◌≤◌, ◌<◌, List, length, Option}
+use Rattle.std.specs.Prelude.{◌≡◌, ℕ, ◌^◌, ◌≤◌, ◌<◌, List, length, Option, Some}
 use Rattle.lc_algebra.specs.Field.{size}
 use Rattle.lc_algebra.specs.Matrix.{Matrix}
 use Rattle.lc_algebra.specs.Divisor.{divisor_of}
 use Rattle.lc_enumeration.specs.Search.{Found, exact, bracket, set_count, levels_below, bound, finished, board_value}
 use Rattle.lc_enumeration.specs.Search as search
-use Rattle.lc_enumeration.specs.Records.{Progress, found_of, first_progress}
+use Rattle.lc_enumeration.specs.Records.{Progress, found_of, first_progress, round_length, after_round}
 use Rattle.lc_place.specs.Place.{PlanSize}
 use Rattle.lc_search.specs.declared.answer.Answer.{Answer}
 use Rattle.lc_search.specs.declared.answer.Answer.TheVariants.{Exact, Bracket}
@@ -29,6 +30,9 @@ first_state C budget = record { code = C; budget = budget; progress = first_prog
 
 abbrev pub answer_in : SearchState → Option search.Answer
 answer_in s = finished (divisor_of s.code) s.code s.budget s.progress.blocks (found_of s.progress)
+
+unfoldable pub after_search_round : SearchState → ℕ → SearchState
+after_search_round s limit = record { code = s.code; budget = s.budget; progress = after_round s.code s.progress (round_length s.code s.budget (Some limit) s.progress.blocks) }
 
 abbrev pub whole_plan : Matrix → PlanSize
 whole_plan C = record { k = length C.rows; q = size C.field; m = set_count C }

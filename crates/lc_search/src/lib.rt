@@ -4,10 +4,13 @@
 
 mod answer;
 mod level;
+mod parts;
 mod round;
+mod search;
 mod watching;
 mod worker;
 
 pub use answer::{Answer, RoundRecord};
+pub use search::Search;
 pub use watching::tell;
 pub use worker::work;

@@ -3,6 +3,8 @@ ghost use Rattle.std.specs.Prelude.{◌≡◌, ℕ, ◌+◌, ◌^◌, ◌≤◌,
 ghost use Rattle.lc_enumeration.specs.Plan.{total};
 ghost use Rattle.lc_kernel.specs.Kernel.{IsPlanOf};
 ghost use Rattle.lc_search.specs.Work.{block_value};
+ghost use Rattle.lc_search.specs.State.{whole_plan};
+ghost use Rattle.lc_search.specs.Found.{IsFoundIn};
 ghost use Rattle.lc_search.specs.Crew.{IsReady, IsDone, IsRootLast, least_over};
 
 use crate::worker::{Worker, run_list};
@@ -200,4 +202,51 @@ pub(crate) fn run_round<R: Threads + Sync, G: Gate + Sync>(
     let mut list = hire(alloc, sets, &board, root, workers, spare)?;
     run_list(rt, sets, plan, start, &board, gate, &mut list);
     Ok(close_all(sets, board, list, seats, spare))
+}
+
+// The best word after a round, and what the board showed.
+#[derive(Drop)]
+pub(crate) struct RoundFound {
+    pub(crate) weight: u64,
+    pub(crate) place: u64,
+    pub(crate) closed: RoundResult,
+}
+
+// The value of a word on a board is its weight times this, plus its place.
+const PLACES: u64 = 1 << 52;
+
+/// Does the `count` blocks from `start` on, after which the best word is the least of them and of the one before, whose weight
+/// is at most 255 and whose place is below 2^52. The plan goes through all sets.
+pub(crate) fn find_in_round<R: Threads + Sync, G: Gate + Sync>(
+    rt: &R,
+    alloc: Global,
+    sets: &Sets,
+    plan: &Plan,
+    start: u64,
+    count: u64,
+    weight: u64,
+    place: u64,
+    workers: u32,
+    spare: &mut Vec<Scratch>,
+    gate: &G,
+) -> Result<RoundFound, NoMemory>
+    requires workers { (1 ≤ workers) × (workers ≤ 256) }
+    requires plan { plan.now ≡ whole_plan sets.now }
+    requires blocks { start + count ≤ total plan.now.k plan.now.q plan.now.m }
+    requires word { (weight ≤ 255) × (place < 2 ^ 52) }
+    requires spare { All (λ s. s ≡ sets.now) spare.old.items }
+    ensures spare { All (λ s. s ≡ sets.now) spare.new.items }
+    ensures found { IfOk result (λ r. IsFoundIn sets.now start count weight place r) }
+{
+    let _some = sets.count();
+    let _few = plan.total();
+    let first = weight * PLACES + place;
+    let closed = run_round(
+        rt, alloc, sets, plan, start, count, first, workers, spare, gate,
+    )?;
+    Ok(RoundFound {
+        weight: closed.best() / PLACES,
+        place: closed.best() % PLACES,
+        closed,
+    })
 }
