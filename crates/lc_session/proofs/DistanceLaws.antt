@@ -1,13 +1,29 @@
 -- The search for a minimum distance, round by round.
 --   next_underway            a round of a search that isn't finished goes on to its answer, by a block at least
 --   finished_answer          a search that is finished has its answer
-use Rattle.std.proofs.Common.{◌≡◌, ℕ, zero, suc, ◌-◌, ◌^◌, ◌<◌, ◌≤◌, false, List, [], ◌∷◌, length, Option, Some, None, Contains, refl, sym, ap, subst, ◌∙◌, arith}
+--   IsOnWay first now        a search of the same code and budget, under way to the answer; blocks_left what is left of it
+--   on_way_next, on_way_answer      a round goes on, and the end is the answer
+--   answer_has_word          at the place of an answer there is a word
+--   underway_begun           a search from the start is under way
+--   EndsWith, ends_with      what a search answers, with the word
+--   none_line, exact_line, between_line      the lines
+use Rattle.std.proofs.Common.{◌≡◌, ℕ, zero, suc, ◌-◌, ◌^◌, ◌<◌, ◌≤◌, true, false, is_some, unwrap_or, Result, Ok, Err, IfOk, List, [], ◌∷◌, length, Option, Some, None, Contains, refl, sym, ap, subst, ◌∙◌, arith}
 use Rattle.std.proofs.lemmas.Bool.{true≢false}
-use Rattle.lc_algebra.specs.Matrix.{Matrix}
-use Rattle.lc_enumeration.specs.Search.{Answer, answer, finished}
+use Rattle.std.specs.Global.{Vec}
+use Rattle.lc_algebra.specs.Divisor.{divisor_of}
+use Rattle.lc_algebra.specs.Span.{AreIndependent}
+use Rattle.lc_algebra.specs.Matrix.{Matrix, AreRows}
+use Rattle.lc_enumeration.specs.Search.{Answer, answer, finished, set_count, word_at}
 use Rattle.lc_enumeration.specs.Records.{Progress, Rounds, found_of, round_length, after_round, rounds, rounds_within, state_first, no_round, is_used_up, last_state, less_slice}
-use Rattle.lc_enumeration.specs.Truth.{IsUnderway}
-use Rattle.lc_infoset.proofs.SessionLaws.{rounds_underway, rounds_settle}
+use Rattle.lc_enumeration.specs.Truth.{IsUnderway, AnswerHolds, answer_blocks}
+use Rattle.lc_infoset.proofs.SearchTruth.{own_answer}
+use Rattle.lc_infoset.proofs.SessionLaws.{rounds_underway, rounds_settle, first_underway}
+use Rattle.lc_language.specs.Print.{distance_line, bracket_line, distance_none_line}
+use Rattle.lc_language.specs.Query.{distance, query_line, distance_answer_line, word_at_place}
+use Rattle.lc_search.specs.State.{SearchState, first_state, after_search_round, answer_in, answer_of}
+use Rattle.lc_search.specs.declared.answer.Answer.{Answer as Answered}
+use Rattle.lc_search.specs.declared.answer.Answer.TheVariants.{Exact, Bracket}
+use Rattle.lc_session.specs.Searched.{place_in}
 
 abbrev next_of : Matrix → ℕ → ℕ → Progress → Progress
 next_of C budget limit s = after_round C s (round_length C budget (Some limit) s.blocks)
@@ -57,3 +73,90 @@ finished_answer d C budget s a rows small h e = some_same (sym e ∙ settled)
 
     settled : finished d C budget s.blocks (found_of s) ≡ Some (answer d C budget)
     settled = at_end d C budget s rows small h a e
+
+-- ---- a search on the way from a state to its answer
+
+pub record IsOnWay (first now : SearchState) : Type 0 where
+  pub same_code : now.code ≡ first.code
+  pub same_budget : now.budget ≡ first.budget
+  pub underway : IsUnderway (divisor_of first.code) first.code first.budget now.progress
+
+abbrev pub blocks_left : SearchState → SearchState → ℕ
+blocks_left first now = answer_blocks (answer (divisor_of first.code) first.code first.budget) - now.progress.blocks
+
+-- in the state's own words
+at_first : (first now : SearchState) → IsOnWay first now → (a : Option Answer) → answer_in now ≡ a → finished (divisor_of first.code) first.code first.budget now.progress.blocks (found_of now.progress) ≡ a
+at_first first now h a e =
+    let code = ap (λ C. finished (divisor_of C) C now.budget now.progress.blocks (found_of now.progress)) (sym h.same_code) in
+    let budget = ap (λ b. finished (divisor_of first.code) first.code b now.progress.blocks (found_of now.progress)) (sym h.same_budget) in
+    budget ∙ code ∙ e
+
+pub on_way_next : (first old new : SearchState) (limit : ℕ) → 0 < length first.code.rows → first.budget ≤ 2 ^ 40 → 0 < limit → IsOnWay first old → answer_in old ≡ None → new ≡ after_search_round old limit → IsOnWay first new × (blocks_left first new < blocks_left first old)
+unfolding after_search_round
+on_way_next first old new limit rows small some h e n =
+    let C = first.code in
+    let next = next_underway (divisor_of C) C first.budget limit old.progress rows small some h.underway (at_first first old h None e) in
+    let code = ap (λ D. after_round D old.progress (round_length D old.budget (Some limit) old.progress.blocks)) h.same_code in
+    let budget = ap (λ b. after_round C old.progress (round_length C b (Some limit) old.progress.blocks)) h.same_budget in
+    let moved : new.progress ≡ next_of C first.budget limit old.progress = ap (λ (s : SearchState). s.progress) n ∙ code ∙ budget in
+    let under = subst (λ (s : Progress). IsUnderway (divisor_of C) C first.budget s × (old.progress.blocks < s.blocks)) (sym moved) next in
+    (record { same_code = ap (λ (s : SearchState). s.code) n ∙ h.same_code; same_budget = ap (λ (s : SearchState). s.budget) n ∙ h.same_budget; underway = under.0 }, omega (arith, under.1, under.0.few))
+
+pub on_way_answer : (first now : SearchState) (a : Answered) → 0 < length first.code.rows → first.budget ≤ 2 ^ 40 → IsOnWay first now → Some (answer_of a) ≡ answer_in now → answer_of a ≡ answer (divisor_of first.code) first.code first.budget
+on_way_answer first now a rows small h e = finished_answer (divisor_of first.code) first.code first.budget now.progress (answer_of a) rows small h.underway (at_first first now h (Some (answer_of a)) (sym e))
+
+has_some : {X : Type 0} (o : Option X) (x : X) → o ≡ Some x → is_some o ≡ true
+has_some o x e = ap is_some e
+
+pub answer_has_word : (C : Matrix) (budget : ℕ) (a : Answered) → AreRows C.field C.columns C.rows → AreIndependent C.field C.columns C.rows → answer_of a ≡ answer (divisor_of C) C budget → is_some (word_at C (set_count C) (place_in a)) ≡ true
+answer_has_word C budget a rows free e = placed a (subst (AnswerHolds C) (sym e) (own_answer C budget rows free))
+  where
+    placed : (a : Answered) → AnswerHolds C (answer_of a) → is_some (word_at C (set_count C) (place_in a)) ≡ true
+    placed (Exact weight place blocks) h = has_some (word_at C (set_count C) place) h.1.word.0 h.1.word.1
+    placed (Bracket low weight place blocks) h = has_some (word_at C (set_count C) place) h.1.word.0 h.1.word.1
+
+-- ---- the lines
+
+line_map : {A E : Type 0} (r : Result A E) (P Q : A → Type 0) → ((a : A) → P a → Q a) → IfOk r P → IfOk r Q
+line_map (Ok a) P Q f h = f a h
+line_map (Err e) P Q f h = tt
+
+none_is : (C : Matrix) (budget : ℕ) → length C.rows ≡ 0 → query_line distance C budget ≡ distance_none_line
+unfolding query_line distance_answer_line answer
+none_is C budget e = rw e refl
+
+pub none_line : {E : Type 0} (C : Matrix) (budget : ℕ) (r : Result (Vec ℕ) E) → length C.rows ≡ 0 → IfOk r (λ line. line.items ≡ distance_none_line) → IfOk r (λ line. line.items ≡ query_line distance C budget)
+none_line C budget r e h = line_map r (λ line. line.items ≡ distance_none_line) (λ line. line.items ≡ query_line distance C budget) (λ line l. l ∙ sym (none_is C budget e)) h
+
+start_underway : (C : Matrix) (budget : ℕ) (s : SearchState) → s ≡ first_state C budget → IsUnderway (divisor_of s.code) s.code s.budget s.progress
+unfolding first_state
+start_underway C budget s e = subst (λ (x : SearchState). IsUnderway (divisor_of x.code) x.code x.budget x.progress) (sym e) (first_underway (divisor_of C) C budget)
+
+pub underway_begun : {E : Type 0} (C : Matrix) (budget : ℕ) (r : Result SearchState E) → IfOk r (λ s. s ≡ first_state C budget) → IfOk r (λ s. IsUnderway (divisor_of s.code) s.code s.budget s.progress)
+underway_begun C budget r h = line_map r (λ (s : SearchState). s ≡ first_state C budget) (λ (s : SearchState). IsUnderway (divisor_of s.code) s.code s.budget s.progress) (start_underway C budget) h
+
+-- a search from the start, its state at the end, and what it answers there
+pub record EndsWith (C : Matrix) (budget : ℕ) (a : Answered) (w : List ℕ) : Type 0 where
+  pub answer_is : answer_of a ≡ answer (divisor_of C) C budget
+  pub word_is : word_at C (set_count C) (place_in a) ≡ Some w
+
+pub ends_with : (C : Matrix) (budget : ℕ) (s t : SearchState) (a : Answered) (w : List ℕ) → s ≡ first_state C budget → t.code ≡ s.code → answer_of a ≡ answer (divisor_of s.code) s.code s.budget → word_at t.code (set_count t.code) (place_in a) ≡ Some w → EndsWith C budget a w
+unfolding first_state
+ends_with C budget s t a w first same e at =
+    let code : t.code ≡ C = same ∙ ap (λ (x : SearchState). x.code) first in
+    record {
+      answer_is = e ∙ ap (λ (x : SearchState). answer (divisor_of x.code) x.code x.budget) first;
+      word_is = ap (λ D. word_at D (set_count D) (place_in a)) (sym code) ∙ at;
+    }
+
+pub exact_line : {E : Type 0} (C : Matrix) (budget weight place blocks : ℕ) (w : List ℕ) (r : Result (Vec ℕ) E) → EndsWith C budget (Exact weight place blocks) w → IfOk r (λ line. line.items ≡ distance_line weight w blocks) → IfOk r (λ line. line.items ≡ query_line distance C budget)
+unfolding query_line distance_answer_line word_at_place
+exact_line C budget weight place blocks w r e h =
+    let word = ap (λ o. distance_line weight (unwrap_or o []) blocks) (sym e.word_is) in
+    line_map r (λ line. line.items ≡ distance_line weight w blocks) (λ line. line.items ≡ query_line distance C budget) (λ line l. l ∙ word ∙ ap (distance_answer_line C) e.answer_is) h
+
+pub between_line : {E : Type 0} (C : Matrix) (budget low weight place blocks : ℕ) (w : List ℕ) (r : Result (Vec ℕ) E) → EndsWith C budget (Bracket low weight place blocks) w → IfOk r (λ line. line.items ≡ bracket_line low weight w blocks) → IfOk r (λ line. line.items ≡ query_line distance C budget)
+unfolding query_line distance_answer_line word_at_place
+between_line C budget low weight place blocks w r e h =
+    let word = ap (λ o. bracket_line low weight (unwrap_or o []) blocks) (sym e.word_is) in
+    line_map r (λ line. line.items ≡ bracket_line low weight w blocks) (λ line. line.items ≡ query_line distance C budget) (λ line l. l ∙ word ∙ ap (distance_answer_line C) e.answer_is) h
