@@ -1,3 +1,3 @@
-pub mod Checked
 pub mod Fields
 pub mod Powers
+pub mod Shifts

@@ -4,13 +4,12 @@ ghost use Rattle.lc_algebra.specs.Field.{size, is_symbol};
 ghost use Rattle.lc_constructions.specs.Code.{longest, is_length, IsCode};
 ghost use Rattle.lc_constructions.specs.Cyclic.{IsLocatorField, locator_field, IsBchWord};
 ghost use Rattle.lc_constructions.specs.Alternant.{IsFormOf, bch_form};
-ghost use Rattle.lc_constructions.specs.Refusal.{first_refusal, IsRefusedAs, RefusesFirst};
+ghost use Rattle.lc_constructions.specs.Refusal.{first_refusal, IsChecked, IsRefusedAs, RefusesFirst};
 ghost use Rattle.lc_constructions.specs.Refusals.{bch_refusals};
-ghost use Rattle.lc_cyclic.specs.Checked.{IsChecked};
 
 use crate::fields::locator_size;
-use crate::forms::{form_of, formed};
-use lc_code::{CodeRefusal, FormedCode};
+use crate::forms::form_of;
+use lc_code::{CodeRefusal, FormedCode, formed};
 use lc_field::{Field, FieldRefusal, NoMemory};
 use std::alloc::Global;
 
@@ -67,7 +66,7 @@ fn check_bch(field: &Field, n: u64, d: u64) -> Result<u64, CodeRefusal>
 
 // Whether n is the length of a code.
 #[tactic(auto, unfolding(lc_constructions::specs::Code::is_length))]
-fn is_length(n: u64) -> bool
+pub(crate) fn is_length(n: u64) -> bool
     ensures is { result ≡ is_length n }
     ensures least { IsTrue result → 1 ≤ n }
     ensures most { IsTrue result → n ≤ longest }
