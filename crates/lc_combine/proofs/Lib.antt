@@ -11,3 +11,5 @@ pub mod ReplacedLaws
 pub mod ConcatenatedLaws
 pub mod BoundLaws
 pub mod DimensionLaws
+pub mod NestedBounds
+pub mod ProductBounds
