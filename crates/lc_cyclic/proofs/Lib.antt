@@ -4,3 +4,4 @@ pub mod ReedSolomonLaws
 pub mod CyclicLaws
 pub mod CyclicRefusals
 pub mod GolayLaws
+pub mod BchDimension

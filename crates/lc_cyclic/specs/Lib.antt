@@ -1,3 +1,4 @@
+pub mod Exponents
 pub mod Fields
 pub mod Powers
 pub mod Shifts

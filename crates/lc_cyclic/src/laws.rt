@@ -1,10 +1,12 @@
 //! The dimensions of cyclic codes, as the contracts of functions that do nothing.
-ghost use Rattle.std.specs.Prelude.{◌≡◌, ◌↔◌, ℕ, ◌-◌, ◌≤◌, List, length};
+ghost use Rattle.std.specs.Prelude.{◌≡◌, ◌≢◌, ◌↔◌, ℕ, ◌+◌, ◌-◌, ◌≤◌, List, length, AllPairs, Contains};
 ghost use Rattle.lc_algebra.specs.declared.FieldName.TheVariants.{Gf2, Gf3};
+ghost use Rattle.lc_algebra.specs.Field.{size};
 ghost use Rattle.lc_algebra.specs.Polynomial.{poly_product, x_power_minus_one, SamePolynomial, IsPolynomial, Divides};
 ghost use Rattle.lc_algebra.specs.Matrix.{Matrix};
 ghost use Rattle.lc_constructions.specs.Code.{IsCode};
-ghost use Rattle.lc_constructions.specs.Cyclic.{IsMultipleOf, IsCheckedBy, binary_golay_generator, ternary_golay_generator};
+ghost use Rattle.lc_constructions.specs.Cyclic.{IsMultipleOf, IsCheckedBy, binary_golay_generator, ternary_golay_generator, IsLocatorField, exponents_from, IsBchWord, IsReedSolomonWord};
+ghost use Rattle.lc_cyclic.specs.Exponents.{IsZeroExponent};
 
 use lc_algebra::FieldName;
 
@@ -22,4 +24,11 @@ pub fn dimensions_of_cyclic_codes(field: FieldName)
 pub fn dimensions_of_golay_codes()
     ensures binary { (C : Matrix) → IsCode Gf2 23 (IsMultipleOf Gf2 23 binary_golay_generator) C → length C.rows ≡ 12 }
     ensures ternary { (C : Matrix) → IsCode Gf3 11 (IsMultipleOf Gf3 11 ternary_golay_generator) C → length C.rows ≡ 6 }
+{}
+
+/// The dimension of a BCH code is its length less the number of exponents in the cyclotomic sets of `b` to `b + d - 2` modulo n, each
+/// counted once. That of a Reed-Solomon code with design distance d is n - d + 1 (MacWilliams and Sloane, chapters 7 and 10).
+pub fn dimensions_of_bch_codes(small: FieldName, large: FieldName)
+    ensures bch { (n b d : ℕ) (xs : List ℕ) (C : Matrix) → 1 ≤ n → IsLocatorField small n large → AllPairs (λ x y. x ≢ y) xs → ((k : ℕ) → Contains xs k ↔ IsZeroExponent (size small) n (exponents_from b (d - 1)) k) → IsCode small n (IsBchWord small large n b d) C → length C.rows ≡ n - length xs }
+    ensures reed_solomon { (n d : ℕ) (C : Matrix) → size small ≡ n + 1 → 1 ≤ d → d ≤ n → IsCode small n (IsReedSolomonWord small d) C → length C.rows ≡ n - d + 1 }
 {}

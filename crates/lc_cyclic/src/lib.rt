@@ -12,5 +12,5 @@ mod reed_solomon_codes;
 pub use bch_codes::bch;
 pub use cyclic_codes::{check_pol, generator_pol};
 pub use golay_codes::{binary_golay, ternary_golay};
-pub use laws::{dimensions_of_cyclic_codes, dimensions_of_golay_codes};
+pub use laws::{dimensions_of_bch_codes, dimensions_of_cyclic_codes, dimensions_of_golay_codes};
 pub use reed_solomon_codes::reed_solomon;

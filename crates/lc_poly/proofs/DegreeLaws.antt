@@ -11,12 +11,12 @@ use Rattle.std.proofs.Common.{◌≡◌, ℕ, zero, suc, ◌+◌, ◌-◌, ◌<�
 use Rattle.std.proofs.lemmas.Bool.{cases_lt}
 use Rattle.std.proofs.lemmas.List.{get_or_past, get_or-drop, drop_more}
 use Rattle.lc_algebra.specs.declared.FieldName.{FieldName}
-use Rattle.lc_algebra.specs.Field.{size, add, neg, mul}
+use Rattle.lc_algebra.specs.Field.{add, neg, mul}
 use Rattle.lc_algebra.specs.Word.{Fits, IsWord}
 use Rattle.lc_algebra.specs.Polynomial.{poly_sum, poly_scale, poly_product, x_power_minus_one, SamePolynomial, IsPolynomial}
 use Rattle.lc_algebra.proofs.FieldLaws.{zero_inside, mul_inside, add_zero, zero_add, add_neg, mul_zero, neg_one_mul, subtract_zero, no_zero_divisors}
 use Rattle.lc_algebra.proofs.WordLaws.{fits_head, fits_tail, fits_cons, fits_symbol}
-use Rattle.lc_algebra.proofs.PolynomialLaws.{index_sum, index_multiple, index_both, index_product_suc, fits_sum, fits_multiple, fits_product, product_inside, sum_product, multiple_product, product_nothing, low_product}
+use Rattle.lc_algebra.proofs.PolynomialLaws.{index_sum, index_multiple, index_both, index_product_suc, fits_sum, fits_multiple, product_inside, sum_product, multiple_product, product_nothing, low_product}
 use Rattle.lc_poly.proofs.ListLaws.{dropped, fits_drop}
 use Rattle.lc_poly.proofs.DivisionLaws.{x_power_polynomial}
 use Rattle.lc_poly.proofs.MinimalLaws.{length_x_power}

@@ -10,3 +10,4 @@ pub mod QuotientLaws
 pub mod ConjugateLaws
 pub mod RootLaws
 pub mod FactorLaws
+pub mod ZeroSetLaws
