@@ -1,0 +1,191 @@
+//! Tests of cyclic, BCH, Reed-Solomon, Goppa and alternant codes, by dimensions from the literature; each refusal is seen.
+use lc_code::{Code, CodeRefusal, FormedCode};
+use lc_cyclic::{bch, binary_golay, check_pol, generator_pol, reed_solomon, ternary_golay};
+use lc_field::Field;
+use lc_goppa::{alternant, goppa};
+use std::test::Fail;
+
+// The dimension of the code, or why there is none.
+fn dimension(code: Result<Code, CodeRefusal>) -> Result<usize, CodeRefusal> {
+    let code = code?;
+    Ok(code.dimension())
+}
+
+// The dimension of the code of a form, or why there is none.
+fn formed_dimension(formed: Result<FormedCode, CodeRefusal>) -> Result<usize, CodeRefusal> {
+    let formed = formed?;
+    Ok(formed.code.dimension())
+}
+
+// The length, the design distance and the dimension of binary primitive BCH codes (MacWilliams and Sloane, chapter 9, figure 9.1).
+const PRIMITIVE: [(u64, u64, usize); 24] = [
+    (7, 3, 4),
+    (7, 5, 1),
+    (7, 7, 1),
+    (15, 3, 11),
+    (15, 5, 7),
+    (15, 7, 5),
+    (15, 9, 1),
+    (15, 15, 1),
+    (31, 3, 26),
+    (31, 5, 21),
+    (31, 7, 16),
+    (31, 11, 11),
+    (31, 15, 6),
+    (31, 31, 1),
+    (63, 3, 57),
+    (63, 5, 51),
+    (63, 7, 45),
+    (63, 9, 39),
+    (63, 11, 36),
+    (63, 13, 30),
+    (63, 15, 24),
+    (63, 21, 18),
+    (63, 23, 16),
+    (63, 31, 7),
+];
+
+#[test]
+fn dimensions_of_primitive_codes(rt: HostRuntime) -> Result<(), Fail> {
+    let field = Field::of(rt.alloc(), 2)?;
+    for row in &PRIMITIVE {
+        let k = formed_dimension(bch(rt.alloc(), row.0, 1, row.1, &field));
+        assert!(rt; k == Ok(row.2), "{} {}", row.0, row.1);
+    }
+    Ok(())
+}
+
+// The size of the field, the length, the first exponent, the design distance, and the dimension of the BCH code or why there is
+// none. The dimensions are those of the cyclotomic sets.
+const BCH: [(u64, u64, u64, u64, Result<usize, CodeRefusal>); 12] = [
+    (2, 15, 0, 4, Ok(10)),
+    (2, 15, 16, 5, Ok(7)),
+    (2, 17, 1, 3, Ok(9)),
+    (3, 8, 1, 3, Ok(4)),
+    (4, 15, 1, 3, Ok(11)),
+    (4, 5, 1, 3, Ok(1)),
+    (16, 15, 2, 5, Ok(11)),
+    (25, 0, 1, 3, Err(CodeRefusal::FieldTooLarge)),
+    (2, 256, 1, 3, Err(CodeRefusal::BadLength)),
+    (2, 23, 1, 5, Err(CodeRefusal::NoRoot)),
+    (2, 15, 1, 16, Err(CodeRefusal::BadDelta)),
+    (2, 15, 1, 1, Err(CodeRefusal::BadDelta)),
+];
+
+#[test]
+fn dimensions_of_bch_codes(rt: HostRuntime) -> Result<(), Fail> {
+    for row in &BCH {
+        let field = Field::of(rt.alloc(), row.0)?;
+        let k = formed_dimension(bch(rt.alloc(), row.1, row.2, row.3, &field));
+        assert!(rt; k == row.4, "{} over {}", row.1, row.0);
+    }
+    Ok(())
+}
+
+// The length, the design distance, and the dimension of the Reed-Solomon code or why there is none.
+const REED_SOLOMON: [(u64, u64, Result<usize, CodeRefusal>); 13] = [
+    (1, 1, Ok(1)),
+    (2, 2, Ok(1)),
+    (3, 2, Ok(2)),
+    (4, 3, Ok(2)),
+    (6, 3, Ok(4)),
+    (7, 5, Ok(3)),
+    (8, 4, Ok(5)),
+    (10, 6, Ok(5)),
+    (12, 5, Ok(8)),
+    (15, 5, Ok(11)),
+    (5, 3, Err(CodeRefusal::NoFieldOfLength)),
+    (24, 3, Err(CodeRefusal::NoFieldOfLength)),
+    (15, 16, Err(CodeRefusal::BadDelta)),
+];
+
+#[test]
+fn dimensions_of_reed_solomon_codes(rt: HostRuntime) -> Result<(), Fail> {
+    for row in &REED_SOLOMON {
+        let k = formed_dimension(reed_solomon(rt.alloc(), row.0, row.1));
+        assert!(rt; k == row.2, "{} {}", row.0, row.1);
+    }
+    Ok(())
+}
+
+// The size of the field, the length, the coefficients of a polynomial, and the dimension of the code that it generates or why there is
+// none.
+const CYCLIC: [(u64, u64, &[u8], Result<usize, CodeRefusal>); 13] = [
+    (2, 4, &[1, 1], Ok(3)),
+    (2, 4, &[1, 1, 0, 0, 0, 0], Ok(3)),
+    (2, 7, &[1, 1, 0, 1], Ok(4)),
+    (3, 4, &[2, 1], Ok(3)),
+    (2, 4, &[1, 0, 0, 0, 1], Ok(0)),
+    (2, 4, &[1], Ok(4)),
+    (2, 4, &[1, 1, 1], Err(CodeRefusal::NotADivisor)),
+    (2, 4, &[1, 0, 0, 0, 0, 1], Err(CodeRefusal::NotADivisor)),
+    (2, 4, &[0, 0], Err(CodeRefusal::BadArgument(1))),
+    (2, 4, &[1, 2], Err(CodeRefusal::BadArgument(1))),
+    (2, 0, &[2], Err(CodeRefusal::BadLength)),
+    (2, 256, &[1, 1], Err(CodeRefusal::BadLength)),
+    (25, 0, &[0], Err(CodeRefusal::FieldTooLarge)),
+];
+
+// The dimension of the code that the polynomial checks, if that of the code that it generates is known.
+fn checked(n: u64, k: Result<usize, CodeRefusal>) -> Result<usize, CodeRefusal> {
+    let k = k?;
+    Ok((n as usize).saturating_sub(k))
+}
+
+#[test]
+fn dimensions_of_cyclic_codes(rt: HostRuntime) -> Result<(), Fail> {
+    for row in &CYCLIC {
+        let field = Field::of(rt.alloc(), row.0)?;
+        let k = dimension(generator_pol(rt.alloc(), row.2, row.1, &field));
+        let l = dimension(check_pol(rt.alloc(), row.2, row.1, &field));
+        assert!(rt;
+            k == row.3 && l == checked(row.1, row.3),
+            "{} over {}",
+            row.1,
+            row.0
+        );
+    }
+    Ok(())
+}
+
+#[test]
+fn dimensions_of_golay_codes(rt: HostRuntime) -> Result<(), Fail> {
+    let binary = binary_golay(rt.alloc())?.dimension();
+    let ternary = ternary_golay(rt.alloc())?.dimension();
+    assert!(rt; binary == 12 && ternary == 6);
+    Ok(())
+}
+
+// A Goppa polynomial, points in the field of 8 elements, and the dimension of the binary Goppa code or why there is none. The first is
+// the code of length 8 of MacWilliams and Sloane, chapter 12.
+const GOPPA: [(&[u8], &[u8], Result<usize, CodeRefusal>); 5] = [
+    (&[1, 1, 1], &[0, 1, 2, 3, 4, 5, 6, 7], Ok(2)),
+    (
+        &[1, 1, 1],
+        &[0, 1, 1],
+        Err(CodeRefusal::RepeatedPoint(1, 2)),
+    ),
+    (&[0, 1], &[1, 0], Err(CodeRefusal::RootAt(1))),
+    (&[1, 0], &[1], Err(CodeRefusal::BadArgument(1))),
+    (&[1, 1], &[8], Err(CodeRefusal::BadArgument(2))),
+];
+
+#[test]
+fn dimensions_of_goppa_codes(rt: HostRuntime) -> Result<(), Fail> {
+    let locator = Field::of(rt.alloc(), 8)?;
+    let field = Field::of(rt.alloc(), 2)?;
+    for row in &GOPPA {
+        let k = formed_dimension(goppa(rt.alloc(), row.0, row.1, &locator, &field));
+        assert!(rt; k == row.2, "{} points", row.1.len());
+    }
+    Ok(())
+}
+
+#[test]
+fn the_dimension_of_an_alternant_code(rt: HostRuntime) -> Result<(), Fail> {
+    let field = Field::of(rt.alloc(), 5)?;
+    let points = [0, 1, 2, 3, 4];
+    let k = formed_dimension(alternant(rt.alloc(), 2, &points, &[1; 5], &field, &field));
+    assert!(rt; k == Ok(3));
+    Ok(())
+}
