@@ -84,7 +84,7 @@ there (Some L) q h k = k L (some_same (size L) q h)
 pub locator_there : (f : FieldName) (n q : ℕ) → option_map size (locator_field f n) ≡ Some q → ((K : FieldName) → size K ≢ q) → ⊥
 locator_there f n q h k = there (locator_field f n) q h k
 
-root_in_locator : (f K : FieldName) (n : ℕ) → IsLocatorField f n K → (size K - 1) % n ≡ 0
+pub root_in_locator : (f K : FieldName) (n : ℕ) → IsLocatorField f n K → (size K - 1) % n ≡ 0
 root_in_locator f K n h = let (b, o) = h.order in order_of_element K b n o
 
 pub bch_fine : (f K : FieldName) (n b d : ℕ) (form : AlternantForm) → IsTrue (is_symbol f) → IsTrue (is_length n) → IsLocatorField f n K → form ≡ bch_form K n b d → IsForm f form
@@ -150,7 +150,7 @@ turned_power K x n b j h =
     ∙ ap (λ y. mul K y (pow K x (b % n + j))) (pow_mul K x n (b / n) ∙ ap (λ y. pow K y (b / n)) h ∙ one_pow K (b / n))
     ∙ one_mul K (pow K x (b % n + j)) (pow_inside K x (b % n + j))
 
-root_power : (K : FieldName) (n : ℕ) → 1 ≤ n → (size K - 1) % n ≡ 0 → pow K (root_of_unity K n) n ≡ 1
+pub root_power : (K : FieldName) (n : ℕ) → 1 ≤ n → (size K - 1) % n ≡ 0 → pow K (root_of_unity K n) n ≡ 1
 unfolding root_of_unity
 root_power K n l e = (primitive_power K n l e).one
 

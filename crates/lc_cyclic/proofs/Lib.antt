@@ -5,3 +5,4 @@ pub mod CyclicLaws
 pub mod CyclicRefusals
 pub mod GolayLaws
 pub mod BchDimension
+pub mod GeneratorLaws

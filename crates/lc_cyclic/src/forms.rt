@@ -47,7 +47,7 @@ fn form_from(locator: Field, points: Vec<u8>, multipliers: Vec<u8>, r: usize) ->
 
 // The power of the primitive element that has order n, if n divides the number of nonzero elements.
 #[tactic(auto, unfolding(lc_constructions::specs::Cyclic::root_of_unity))]
-fn root_of_unity(locator: &Field, n: u64) -> u8
+pub(crate) fn root_of_unity(locator: &Field, n: u64) -> u8
     requires least { 1 ≤ n }
     ensures is { result ≡ root_of_unity locator.now n }
     ensures below { result < size locator.now }

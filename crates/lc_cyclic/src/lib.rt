@@ -5,6 +5,7 @@ mod bch_codes;
 mod cyclic_codes;
 mod fields;
 mod forms;
+mod generators;
 mod golay_codes;
 mod laws;
 mod reed_solomon_codes;

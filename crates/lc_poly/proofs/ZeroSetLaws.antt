@@ -38,7 +38,7 @@ nothing_times : (f : FieldName) (v : List ℕ) → poly_product f [] v ≡ []
 unfolding poly_product
 nothing_times f v = refl
 
-one_times : (f : FieldName) (v : List ℕ) (i : ℕ) → Fits f v → slice_index (poly_product f (1 ∷ []) v) i ≡ slice_index v i
+pub one_times : (f : FieldName) (v : List ℕ) (i : ℕ) → Fits f v → slice_index (poly_product f (1 ∷ []) v) i ≡ slice_index v i
 one_times f v i h =
     index_both f 1 [] v i ∙ ap (λ w. add f (mul f 1 (slice_index v i)) (slice_index (0 ∷ w) i)) (nothing_times f v) ∙ ap (add f (mul f 1 (slice_index v i))) (no_more i)
     ∙ add_zero f (mul f 1 (slice_index v i)) (mul_inside f 1 (slice_index v i)) ∙ one_mul f (slice_index v i) (fits_symbol f v h i)
