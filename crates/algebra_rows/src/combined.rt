@@ -74,3 +74,128 @@ fn extended_golay_codes(rt: HostRuntime) -> Result<(), Fail> {
     assert!(rt; binary == Ok((24, 12, 4)) && ternary == Ok((12, 6, 3)));
     Ok(())
 }
+
+// A code that others are made from.
+#[derive(Clone, Copy)]
+enum Part {
+    // The binary repetition code of this length.
+    Repetition(u64),
+    // The words of even weight of this length.
+    Even(u64),
+    // The binary Reed-Muller code of this order in two variables.
+    ReedMuller(u64),
+    // The Reed-Solomon code of length 3 and dimension 2 over 4 elements.
+    Quaternary,
+}
+
+fn binary_repetition(alloc: Global, n: u64) -> Result<Code, CodeRefusal> {
+    match Field::of(alloc, 2) {
+        Ok(field) => repetition(alloc, n, &field),
+        Err(_) => Err(CodeRefusal::NoMemory),
+    }
+}
+
+fn dual(alloc: Global, code: Result<Code, CodeRefusal>) -> Result<Code, CodeRefusal> {
+    let code = code?;
+    Ok(code.dual(alloc)?)
+}
+
+fn quaternary(alloc: Global) -> Result<Code, CodeRefusal> {
+    let formed = reed_solomon(alloc, 3, 2)?;
+    Ok(formed.code)
+}
+
+fn part(alloc: Global, part: Part) -> Result<Code, CodeRefusal> {
+    match part {
+        Part::Repetition(n) => binary_repetition(alloc, n),
+        Part::Even(n) => dual(alloc, binary_repetition(alloc, n)),
+        Part::ReedMuller(r) => reed_muller(alloc, r, 2),
+        Part::Quaternary => quaternary(alloc),
+    }
+}
+
+// A way to make a code of two.
+#[derive(Clone, Copy)]
+enum Way {
+    Sum,
+    Product,
+    Uuv,
+    Intersection,
+    Concatenated,
+}
+
+fn combined(alloc: Global, a: &Code, b: &Code, way: Way) -> Result<Code, CodeRefusal> {
+    match way {
+        Way::Sum => direct_sum(alloc, a, b),
+        Way::Product => direct_product(alloc, a, b),
+        Way::Uuv => uuv(alloc, a, b),
+        Way::Intersection => intersection(alloc, a, b),
+        Way::Concatenated => concatenated(alloc, a, b),
+    }
+}
+
+// The length and the dimension of a code of two.
+fn with_second(alloc: Global, a: &Code, b: Part, way: Way) -> Shape {
+    let b = part(alloc, b)?;
+    shape(combined(alloc, a, &b, way))
+}
+
+fn of_two(alloc: Global, a: Part, b: Part, way: Way) -> Shape {
+    let a = part(alloc, a)?;
+    with_second(alloc, &a, b, way)
+}
+
+// Two codes and what is made of them. The third is a Reed-Muller code made from two others (MacWilliams and Sloane, chapter 13).
+const PAIRS: [(Part, Part, Way, Shape); 7] = [
+    (
+        Part::Repetition(2),
+        Part::Repetition(3),
+        Way::Sum,
+        Ok((5, 2)),
+    ),
+    (
+        Part::Repetition(2),
+        Part::Repetition(3),
+        Way::Product,
+        Ok((6, 1)),
+    ),
+    (
+        Part::ReedMuller(1),
+        Part::ReedMuller(0),
+        Way::Uuv,
+        Ok((8, 4)),
+    ),
+    (
+        Part::Even(4),
+        Part::Repetition(4),
+        Way::Intersection,
+        Ok((4, 1)),
+    ),
+    (
+        Part::Quaternary,
+        Part::Even(3),
+        Way::Concatenated,
+        Ok((9, 4)),
+    ),
+    (
+        Part::Repetition(2),
+        Part::Repetition(3),
+        Way::Uuv,
+        Err(CodeRefusal::LengthsDiffer),
+    ),
+    (
+        Part::Quaternary,
+        Part::Repetition(3),
+        Way::Concatenated,
+        Err(CodeRefusal::InnerDimension(1, 2)),
+    ),
+];
+
+#[test]
+fn codes_from_two_codes(rt: HostRuntime) -> Result<(), Fail> {
+    for row in &PAIRS {
+        let made = of_two(rt.alloc(), row.0, row.1, row.2);
+        assert!(rt; made == row.3);
+    }
+    Ok(())
+}

@@ -5,12 +5,12 @@
 --   generator_more         a zero that it lacks: times the minimal polynomial
 --   generator_divides      it divides x^n - 1
 --   generator_code         its multiples are the words of the BCH code
-use Rattle.std.proofs.Common.{◌≡◌, ◌≢◌, ℕ, zero, suc, ◌+◌, ◌-◌, ◌*◌, ◌%◌, ◌<◌, ◌≤◌, ⊎_elim, List, [], ◌∷◌, map, length, slice_index, drop, refl, sym, ap, subst, ◌∙◌, arith}
+use Rattle.std.proofs.Common.{◌≡◌, ◌≢◌, ℕ, zero, suc, ◌+◌, ◌-◌, ◌*◌, ◌<◌, ◌≤◌, ⊎_elim, List, [], ◌∷◌, map, length, slice_index, drop, refl, sym, ap, subst, ◌∙◌, arith}
 use Rattle.std.proofs.lemmas.Bool.{cases_eq}
-use Rattle.std.proofs.lemmas.List.{drop_more, get_or-map}
+use Rattle.std.proofs.lemmas.List.{drop_more}
 use Rattle.std.proofs.lemmas.List.Elements.{All-contains}
 use Rattle.lc_algebra.specs.declared.FieldName.{FieldName}
-use Rattle.lc_algebra.specs.Field.{size, add, neg, mul, pow}
+use Rattle.lc_algebra.specs.Field.{add, neg, mul, pow}
 use Rattle.lc_algebra.specs.Word.{Fits}
 use Rattle.lc_algebra.specs.Polynomial.{value_at, trimmed, put_on, poly_product, x_power_minus_one, IsPolynomial, Divides}
 use Rattle.lc_algebra.specs.Embedding.{IsSubfield, embed, IsMinimal}
@@ -28,7 +28,7 @@ use Rattle.lc_poly.proofs.ConjugateLaws.{product_divides}
 use Rattle.lc_poly.proofs.QuotientLaws.{trimmed_exists, value_embedded_same, value_embedded_product}
 use Rattle.lc_poly.proofs.ZeroSetLaws.{one_times}
 use Rattle.lc_code.proofs.CodeLaws.{same_code}
-use Rattle.lc_cyclic.specs.Generator.{HasPowers, IsGenerator}
+use Rattle.lc_cyclic.specs.Generator.{IsGenerator}
 use Rattle.lc_cyclic.proofs.BchLaws.{root_in_locator, root_power}
 use Rattle.lc_cyclic.proofs.CyclicLaws.{divisor_length, multiples_of_divisor}
 
