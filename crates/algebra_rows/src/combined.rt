@@ -105,7 +105,7 @@ fn quaternary(alloc: Global) -> Result<Code, CodeRefusal> {
     Ok(formed.code)
 }
 
-fn part(alloc: Global, part: Part) -> Result<Code, CodeRefusal> {
+fn code_of(alloc: Global, part: Part) -> Result<Code, CodeRefusal> {
     match part {
         Part::Repetition(n) => binary_repetition(alloc, n),
         Part::Even(n) => dual(alloc, binary_repetition(alloc, n)),
@@ -136,12 +136,12 @@ fn combined(alloc: Global, a: &Code, b: &Code, way: Way) -> Result<Code, CodeRef
 
 // The length and the dimension of a code of two.
 fn with_second(alloc: Global, a: &Code, b: Part, way: Way) -> Shape {
-    let b = part(alloc, b)?;
+    let b = code_of(alloc, b)?;
     shape(combined(alloc, a, &b, way))
 }
 
 fn of_two(alloc: Global, a: Part, b: Part, way: Way) -> Shape {
-    let a = part(alloc, a)?;
+    let a = code_of(alloc, a)?;
     with_second(alloc, &a, b, way)
 }
 
