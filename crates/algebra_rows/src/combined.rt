@@ -46,12 +46,22 @@ const CHANGES: [(Change, Shape); 5] = [
     (Change::Punctured(&[1, 1]), Err(CodeRefusal::BadPositions)),
 ];
 
+fn binary_hamming(alloc: Global) -> Result<Code, CodeRefusal> {
+    match Field::of(alloc, 2) {
+        Ok(field) => hamming(alloc, 3, &field),
+        Err(_) => Err(CodeRefusal::NoMemory),
+    }
+}
+
+fn changed_hamming(alloc: Global, change: Change) -> Shape {
+    let code = binary_hamming(alloc)?;
+    shape(changed(alloc, &code, change))
+}
+
 #[test]
 fn codes_from_a_hamming_code(rt: HostRuntime) -> Result<(), Fail> {
-    let field = Field::of(rt.alloc(), 2)?;
-    let code = hamming(rt.alloc(), 3, &field)?;
     for row in &CHANGES {
-        let made = shape(changed(rt.alloc(), &code, row.0));
+        let made = changed_hamming(rt.alloc(), row.0);
         assert!(rt; made == row.1);
     }
     Ok(())

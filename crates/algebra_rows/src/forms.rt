@@ -1,8 +1,9 @@
 //! Tests of cyclic, BCH, Reed-Solomon, Goppa and alternant codes, by dimensions from the literature; each refusal is seen.
 use lc_code::{Code, CodeRefusal, FormedCode};
 use lc_cyclic::{bch, binary_golay, check_pol, generator_pol, reed_solomon, ternary_golay};
-use lc_field::Field;
+use lc_field::{Field, NoMemory};
 use lc_goppa::{alternant, goppa};
+use std::alloc::Global;
 use std::test::Fail;
 
 // The dimension of the code, or why there is none.
@@ -15,6 +16,14 @@ fn dimension(code: Result<Code, CodeRefusal>) -> Result<usize, CodeRefusal> {
 fn formed_dimension(formed: Result<FormedCode, CodeRefusal>) -> Result<usize, CodeRefusal> {
     let formed = formed?;
     Ok(formed.code.dimension())
+}
+
+// The dimension of the BCH code over q elements, or why there is none.
+fn bch_dimension(alloc: Global, q: u64, n: u64, b: u64, d: u64) -> Result<usize, CodeRefusal> {
+    match Field::of(alloc, q) {
+        Ok(field) => formed_dimension(bch(alloc, n, b, d, &field)),
+        Err(_) => Err(CodeRefusal::NoMemory),
+    }
 }
 
 // The length, the design distance and the dimension of binary primitive BCH codes (MacWilliams and Sloane, chapter 9, figure 9.1).
@@ -47,9 +56,8 @@ const PRIMITIVE: [(u64, u64, usize); 24] = [
 
 #[test]
 fn dimensions_of_primitive_codes(rt: HostRuntime) -> Result<(), Fail> {
-    let field = Field::of(rt.alloc(), 2)?;
     for row in &PRIMITIVE {
-        let k = formed_dimension(bch(rt.alloc(), row.0, 1, row.1, &field));
+        let k = bch_dimension(rt.alloc(), 2, row.0, 1, row.1);
         assert!(rt; k == Ok(row.2), "{} {}", row.0, row.1);
     }
     Ok(())
@@ -75,8 +83,7 @@ const BCH: [(u64, u64, u64, u64, Result<usize, CodeRefusal>); 12] = [
 #[test]
 fn dimensions_of_bch_codes(rt: HostRuntime) -> Result<(), Fail> {
     for row in &BCH {
-        let field = Field::of(rt.alloc(), row.0)?;
-        let k = formed_dimension(bch(rt.alloc(), row.1, row.2, row.3, &field));
+        let k = bch_dimension(rt.alloc(), row.0, row.1, row.2, row.3);
         assert!(rt; k == row.4, "{} over {}", row.1, row.0);
     }
     Ok(())
@@ -126,33 +133,59 @@ const CYCLIC: [(u64, u64, &[u8], Result<usize, CodeRefusal>); 13] = [
     (25, 0, &[0], Err(CodeRefusal::FieldTooLarge)),
 ];
 
-// The dimension of the code that the polynomial checks, if that of the code that it generates is known.
+// The dimension of the code that the polynomial generates over q elements, or why there is none.
+fn generator_dimension(alloc: Global, q: u64, n: u64, list: &[u8]) -> Result<usize, CodeRefusal> {
+    match Field::of(alloc, q) {
+        Ok(field) => dimension(generator_pol(alloc, list, n, &field)),
+        Err(_) => Err(CodeRefusal::NoMemory),
+    }
+}
+
+// The dimension of the code that the polynomial checks over q elements, or why there is none.
+fn check_dimension(alloc: Global, q: u64, n: u64, list: &[u8]) -> Result<usize, CodeRefusal> {
+    match Field::of(alloc, q) {
+        Ok(field) => dimension(check_pol(alloc, list, n, &field)),
+        Err(_) => Err(CodeRefusal::NoMemory),
+    }
+}
+
+#[test]
+fn dimensions_by_generator_polynomials(rt: HostRuntime) -> Result<(), Fail> {
+    for row in &CYCLIC {
+        let k = generator_dimension(rt.alloc(), row.0, row.1, row.2);
+        assert!(rt; k == row.3, "{} over {}", row.1, row.0);
+    }
+    Ok(())
+}
+
+// The dimension of the code that a polynomial checks, if that of the code that it generates is known.
 fn checked(n: u64, k: Result<usize, CodeRefusal>) -> Result<usize, CodeRefusal> {
     let k = k?;
     Ok((n as usize).saturating_sub(k))
 }
 
 #[test]
-fn dimensions_of_cyclic_codes(rt: HostRuntime) -> Result<(), Fail> {
+fn dimensions_by_check_polynomials(rt: HostRuntime) -> Result<(), Fail> {
     for row in &CYCLIC {
-        let field = Field::of(rt.alloc(), row.0)?;
-        let k = dimension(generator_pol(rt.alloc(), row.2, row.1, &field));
-        let l = dimension(check_pol(rt.alloc(), row.2, row.1, &field));
-        assert!(rt;
-            k == row.3 && l == checked(row.1, row.3),
-            "{} over {}",
-            row.1,
-            row.0
-        );
+        let k = check_dimension(rt.alloc(), row.0, row.1, row.2);
+        assert!(rt; k == checked(row.1, row.3), "{} over {}", row.1, row.0);
     }
     Ok(())
 }
 
+// The dimension of a code that only memory can fail.
+fn made_dimension(code: Result<Code, NoMemory>) -> Option<usize> {
+    match code {
+        Ok(code) => Some(code.dimension()),
+        Err(NoMemory) => None,
+    }
+}
+
 #[test]
 fn dimensions_of_golay_codes(rt: HostRuntime) -> Result<(), Fail> {
-    let binary = binary_golay(rt.alloc())?.dimension();
-    let ternary = ternary_golay(rt.alloc())?.dimension();
-    assert!(rt; binary == 12 && ternary == 6);
+    let binary = made_dimension(binary_golay(rt.alloc()));
+    let ternary = made_dimension(ternary_golay(rt.alloc()));
+    assert!(rt; binary == Some(12) && ternary == Some(6));
     Ok(())
 }
 
@@ -170,22 +203,47 @@ const GOPPA: [(&[u8], &[u8], Result<usize, CodeRefusal>); 5] = [
     (&[1, 1], &[8], Err(CodeRefusal::BadArgument(2))),
 ];
 
+// The dimension of the binary Goppa code with points in the locator field, or why there is none.
+fn binary_goppa(
+    alloc: Global,
+    list: &[u8],
+    points: &[u8],
+    locator: &Field,
+) -> Result<usize, CodeRefusal> {
+    match Field::of(alloc, 2) {
+        Ok(field) => formed_dimension(goppa(alloc, list, points, locator, &field)),
+        Err(_) => Err(CodeRefusal::NoMemory),
+    }
+}
+
+// The dimension of the binary Goppa code with points in the field of 8 elements, or why there is none.
+fn goppa_dimension(alloc: Global, list: &[u8], points: &[u8]) -> Result<usize, CodeRefusal> {
+    match Field::of(alloc, 8) {
+        Ok(locator) => binary_goppa(alloc, list, points, &locator),
+        Err(_) => Err(CodeRefusal::NoMemory),
+    }
+}
+
 #[test]
 fn dimensions_of_goppa_codes(rt: HostRuntime) -> Result<(), Fail> {
-    let locator = Field::of(rt.alloc(), 8)?;
-    let field = Field::of(rt.alloc(), 2)?;
     for row in &GOPPA {
-        let k = formed_dimension(goppa(rt.alloc(), row.0, row.1, &locator, &field));
+        let k = goppa_dimension(rt.alloc(), row.0, row.1);
         assert!(rt; k == row.2, "{} points", row.1.len());
     }
     Ok(())
 }
 
+// The dimension of the alternant code over 5 elements with multipliers 1, or why there is none.
+fn alternant_dimension(alloc: Global, r: u64, points: &[u8]) -> Result<usize, CodeRefusal> {
+    match Field::of(alloc, 5) {
+        Ok(field) => { formed_dimension(alternant(alloc, r, points, &[1; 5], &field, &field)) }
+        Err(_) => Err(CodeRefusal::NoMemory),
+    }
+}
+
 #[test]
 fn the_dimension_of_an_alternant_code(rt: HostRuntime) -> Result<(), Fail> {
-    let field = Field::of(rt.alloc(), 5)?;
-    let points = [0, 1, 2, 3, 4];
-    let k = formed_dimension(alternant(rt.alloc(), 2, &points, &[1; 5], &field, &field));
+    let k = alternant_dimension(rt.alloc(), 2, &[0, 1, 2, 3, 4]);
     assert!(rt; k == Ok(3));
     Ok(())
 }
