@@ -115,7 +115,7 @@ punctured_words C coordinates g k rows h a b r e =
     let m = C.columns - length coordinates in
     shaped C.field g m k (punctured_rows coordinates C.rows) rows a b e (image_rows C.field C.columns m (without coordinates) C.rows (deleted_linear C coordinates h) r)
 
-punctured_members : (C : Matrix) (coordinates w : List ℕ) → first_refusal (deleted_refusals C coordinates) ≡ None → AreRows C.field C.columns C.rows → InSpan C.field (C.columns - length coordinates) (punctured_rows coordinates C.rows) w ↔ InPunctured C coordinates w
+pub punctured_members : (C : Matrix) (coordinates w : List ℕ) → first_refusal (deleted_refusals C coordinates) ≡ None → AreRows C.field C.columns C.rows → InSpan C.field (C.columns - length coordinates) (punctured_rows coordinates C.rows) w ↔ InPunctured C coordinates w
 punctured_members C coordinates w h r =
     let f = C.field in
     let m = C.columns - length coordinates in

@@ -42,7 +42,7 @@ combine_image f n m h (a ∷ cs) (g ∷ rows) s r =
     let t = All-tail (IsWord f n) g rows r in
     ap₂ (word_sum f) (sym (s.multiples a g w)) (combine_image f n m h cs rows s t) ∙ sym (s.sums (scale f a g) (combine f n cs rows) (IsWord_scale f n a g w.long) (combine_word f n cs rows t))
 
-zero_parted : (n m : ℕ) (u v : List ℕ) → length u ≡ n → length v ≡ m → u ++ v ≡ zero_word (n + m) → (u ≡ zero_word n) × (v ≡ zero_word m)
+pub zero_parted : (n m : ℕ) (u v : List ℕ) → length u ≡ n → length v ≡ m → u ++ v ≡ zero_word (n + m) → (u ≡ zero_word n) × (v ≡ zero_word m)
 zero_parted n m u v a b e =
     let w : weight u + weight v ≡ 0 = sym (weight_append u v) ∙ ap (λ x. weight x) e ∙ weight_zero_word (n + m) in
     (zero_from_weight n u a (omega (arith, w)), zero_from_weight m v b (omega (arith, w)))

@@ -82,7 +82,7 @@ extended_words C g k rows a b r e =
     let n = C.columns in
     shaped f g (n + 1) k (extended_rows f C.rows) rows a b e (image_rows f n (n + 1) (λ u. u ++ last f u) C.rows (extended_linear f n) r)
 
-extended_members : (C : Matrix) (w : List ℕ) → AreRows C.field C.columns C.rows → InSpan C.field (C.columns + 1) (extended_rows C.field C.rows) w ↔ InExtended C w
+pub extended_members : (C : Matrix) (w : List ℕ) → AreRows C.field C.columns C.rows → InSpan C.field (C.columns + 1) (extended_rows C.field C.rows) w ↔ InExtended C w
 extended_members C w r =
     let f = C.field in
     let n = C.columns in

@@ -13,3 +13,4 @@ pub mod BoundLaws
 pub mod DimensionLaws
 pub mod NestedBounds
 pub mod ProductBounds
+pub mod ImageDimension

@@ -1,5 +1,5 @@
 //! What the parts of a combined code tell of it, as the contracts of functions that do nothing.
-ghost use Rattle.std.specs.Prelude.{◌≡◌, ℕ, ◌+◌, ◌-◌, ◌*◌, ◌≤◌, List, None, IsTrue, length};
+ghost use Rattle.std.specs.Prelude.{◌≡◌, ℕ, ◌+◌, ◌-◌, ◌*◌, ◌<◌, ◌≤◌, List, None, IsTrue, length};
 ghost use Rattle.lc_algebra.specs.Field.{is_symbol};
 ghost use Rattle.lc_algebra.specs.Span.{IsWeightBound};
 ghost use Rattle.lc_algebra.specs.Matrix.{Matrix, AreRows, IsReduced};
@@ -42,4 +42,11 @@ pub fn dimensions_of_sums()
 pub fn dimensions_of_products()
     ensures direct_product { (C D E : Matrix) → C.field ≡ D.field → AreRows C.field C.columns C.rows → IsReduced C.columns C.rows → AreRows D.field D.columns D.rows → IsReduced D.columns D.rows → IsCode C.field (C.columns * D.columns) (InDirectProduct C D) E → length E.rows ≡ length C.rows * length D.rows }
     ensures concatenated { (C D E : Matrix) → IsTrue (is_symbol C.field) → AreRows C.field C.columns C.rows → IsReduced C.columns C.rows → AreRows D.field D.columns D.rows → IsReduced D.columns D.rows → first_refusal (concatenated_refusals C D) ≡ None → IsCode D.field (C.columns * D.columns) (InConcatenated C D) E → length E.rows ≡ length C.rows * length D.rows }
+{}
+
+/// An extended code has the dimension of its code, and so has a code that is punctured at fewer coordinates than its least weight
+/// (MacWilliams and Sloane, chapter 1).
+pub fn dimensions_of_changed_codes()
+    ensures punctured { (C P : Matrix) (coordinates : List ℕ) (d : ℕ) → AreRows C.field C.columns C.rows → IsReduced C.columns C.rows → first_refusal (deleted_refusals C coordinates) ≡ None → IsWeightBound C.field C.columns C.rows d → length coordinates < d → IsCode C.field (C.columns - length coordinates) (InPunctured C coordinates) P → length P.rows ≡ length C.rows }
+    ensures extended { (C E : Matrix) → AreRows C.field C.columns C.rows → IsReduced C.columns C.rows → IsCode C.field (C.columns + 1) (InExtended C) E → length E.rows ≡ length C.rows }
 {}
