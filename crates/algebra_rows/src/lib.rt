@@ -5,9 +5,13 @@
 #[cfg(test)]
 mod codes;
 #[cfg(test)]
+mod combined;
+#[cfg(test)]
 mod families;
 #[cfg(test)]
 mod fields;
+#[cfg(test)]
+mod forms;
 #[cfg(test)]
 mod infosets;
 #[cfg(test)]

@@ -9,6 +9,12 @@ pub enum Bench {
     Echelon(u64),
     /// the information sets of a code of length 255 and dimension 128 over the field of this size
     Infosets(u64),
+    /// the BCH code of length 255 over the field of this size, with this design distance
+    Bch(u64, u64),
+    /// the direct product of a code of length 15 with itself
+    Product,
+    /// a concatenated code of length 255
+    Concatenated,
     /// the messages of weight 5 and length 45 over 2 elements
     StepBinary,
     /// the messages of weight 4 and length 20 over 4 elements
@@ -20,7 +26,7 @@ pub enum Bench {
 }
 
 /// The benches with their names.
-pub const BENCHES: [(&str, Bench); 14] = [
+pub const BENCHES: [(&str, Bench); 19] = [
     ("add_scaled_2", Bench::AddScaled(2)),
     ("add_scaled_3", Bench::AddScaled(3)),
     ("add_scaled_4", Bench::AddScaled(4)),
@@ -31,6 +37,11 @@ pub const BENCHES: [(&str, Bench); 14] = [
     ("echelon_16", Bench::Echelon(16)),
     ("infosets_2", Bench::Infosets(2)),
     ("infosets_16", Bench::Infosets(16)),
+    ("bch_2_31", Bench::Bch(2, 31)),
+    ("bch_2_127", Bench::Bch(2, 127)),
+    ("bch_16_127", Bench::Bch(16, 127)),
+    ("product_15", Bench::Product),
+    ("concatenated_255", Bench::Concatenated),
     ("step_2", Bench::StepBinary),
     ("step_4", Bench::StepQuaternary),
     ("parse_weights", Bench::ParseWeights),

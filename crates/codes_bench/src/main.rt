@@ -3,6 +3,7 @@
 #![tactic(auto)]
 
 mod bench;
+mod codes;
 mod linear;
 mod messages;
 mod rate;
@@ -26,6 +27,9 @@ fn measure<R: Clock + AllocGlobal>(rt: &R, bench: Bench) -> Result<Rate, Failure
         Bench::AddScaled(q) => linear::add_scaled_rate(rt, q),
         Bench::Echelon(q) => linear::echelon_rate(rt, q),
         Bench::Infosets(q) => linear::infosets_rate(rt, q),
+        Bench::Bch(q, d) => codes::bch_rate(rt, q, d),
+        Bench::Product => codes::product_rate(rt),
+        Bench::Concatenated => codes::concatenated_rate(rt),
         Bench::StepBinary => messages::step_rate(rt, 45, 5, 2),
         Bench::StepQuaternary => messages::step_rate(rt, 20, 4, 4),
         Bench::ParseWeights => scripts::weights_rate(rt),

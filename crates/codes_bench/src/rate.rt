@@ -1,5 +1,6 @@
 //! What a bench answers: a rate, or why there is none.
 
+use lc_code::CodeRefusal;
 use lc_field::{FieldRefusal, NoMemory};
 use lc_parse::ParseRefusal;
 use std::alloc::AllocError;
@@ -56,6 +57,12 @@ impl From<lc_place::NoMemory> for Failure {
 
 impl From<FieldRefusal> for Failure {
     fn from(_error: FieldRefusal) -> Failure {
+        Failure::Refused
+    }
+}
+
+impl From<CodeRefusal> for Failure {
+    fn from(_error: CodeRefusal) -> Failure {
         Failure::Refused
     }
 }

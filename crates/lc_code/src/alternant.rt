@@ -59,6 +59,17 @@ pub fn alternant_code(alloc: Global, field: &Field, form: &Alternant) -> Result<
     Ok(Code::from_checks(alloc, field, n, &checks)?)
 }
 
+/// The code over `field` of the words of an alternant form, beside the form, which is as `alternant_code` asks.
+pub fn formed(alloc: Global, field: &Field, form: Alternant) -> Result<FormedCode, NoMemory>
+    requires form { IsForm field.now form }
+    ensures code { IfOk result (λ c. IsCode field.now (length form.points) (IsAlternantWord field.now form) c.code) }
+    ensures form { IfOk result (λ c. c.form ≡ form) }
+    ensures formed { IfOk result (λ c. IsFormOf c.code c.form) }
+{
+    let code = alternant_code(alloc, field, &form)?;
+    Ok(FormedCode { code, form })
+}
+
 // The number of points: the length of the code.
 fn length_of(form: &Alternant) -> usize
     ensures is { result ≡ length form.now.points }

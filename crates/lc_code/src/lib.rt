@@ -6,6 +6,6 @@ mod alternant;
 mod code;
 mod expansion;
 
-pub use alternant::{Alternant, FormedCode, alternant_code};
+pub use alternant::{Alternant, FormedCode, alternant_code, formed};
 pub use code::Code;
 pub use lc_constructions::CodeRefusal;

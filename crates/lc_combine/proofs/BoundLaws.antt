@@ -3,17 +3,17 @@
 --   bound_of_words         a bound for the words that meet P bounds the code
 --   sum_bound, uuv_bound, shortened_bound, extended_bound
 --   shortened_dual         a shortened code is the dual of the punctured dual
-use Rattle.std.proofs.Common.{◌≡◌, ℕ, zero, suc, ◌+◌, ◌-◌, ◌*◌, ◌<◌, ◌≤◌, ◌↔◌, Bool, true, false, cond, not, ◌==◌, List, [], ◌∷◌, ◌++◌, length, slice_index, slice_index_or, None, All, refl, sym, ap, ap₂, subst, ◌∙◌, ⊎_elim, arith}
+use Rattle.std.proofs.Common.{◌≡◌, ℕ, suc, ◌+◌, ◌-◌, ◌*◌, ◌<◌, ◌≤◌, Bool, true, false, cond, ◌==◌, List, [], ◌∷◌, ◌++◌, length, slice_index, slice_index_or, None, All, refl, sym, ap, subst, ◌∙◌, ⊎_elim, arith}
 use Rattle.std.specs.List.{list_any}
 use Rattle.std.proofs.lemmas.Bool.{cases_lt, eqb-true}
 use Rattle.std.proofs.lemmas.List.Elements.{All-contains}
 use Rattle.lc_algebra.specs.declared.FieldName.{FieldName}
-use Rattle.lc_algebra.specs.Field.{size, neg}
-use Rattle.lc_algebra.specs.Word.{IsWord, zero_word, word_sum, scale, weight, difference, word_dot}
+use Rattle.lc_algebra.specs.Field.{neg}
+use Rattle.lc_algebra.specs.Word.{IsWord, zero_word, word_sum, scale, weight, word_dot}
 use Rattle.lc_algebra.specs.Span.{InSpan, IsWeightBound}
-use Rattle.lc_algebra.specs.Matrix.{Matrix, AreRows, IsReduced, IsOrthogonal}
+use Rattle.lc_algebra.specs.Matrix.{Matrix, AreRows, IsReduced}
 use Rattle.lc_algebra.proofs.FieldLaws.{neg_inside, neg_zero}
-use Rattle.lc_algebra.proofs.WordLaws.{weight_cons, weight_zero_head, weight_zero_word, zero_from_weight, weight_sum_at_most, weight_scale, neg_one_nonzero, sum_comm, sum_zero, multiple_undone, one_scale}
+use Rattle.lc_algebra.proofs.WordLaws.{weight_cons, weight_zero_head, zero_from_weight, weight_sum_at_most, weight_scale, neg_one_nonzero, sum_comm, sum_zero, multiple_undone, one_scale}
 use Rattle.lc_algebra.proofs.SpanLaws.{span_word, span_row, dot_span}
 use Rattle.lc_algebra.proofs.SpanSearch.{any_contains}
 use Rattle.lc_constructions.specs.Code.{IsCode, InCode}
@@ -30,7 +30,7 @@ pub weight_append : (u v : List ℕ) → weight (u ++ v) ≡ weight u + weight v
 weight_append [] v = let e : weight [] ≡ 0 = refl in omega (arith, e)
 weight_append (a ∷ u) v = omega (arith, weight_cons a (u ++ v), weight_cons a u, weight_append u v)
 
-bound_of_words : (E : Matrix) (f : FieldName) (n b : ℕ) (P : List ℕ → Type 0) → IsCode f n P E → ((w : List ℕ) → P w → 0 < weight w → b ≤ weight w) → IsWeightBound E.field E.columns E.rows b
+pub bound_of_words : (E : Matrix) (f : FieldName) (n b : ℕ) (P : List ℕ → Type 0) → IsCode f n P E → ((w : List ℕ) → P w → 0 < weight w → b ≤ weight w) → IsWeightBound E.field E.columns E.rows b
 bound_of_words E f n b P c h w s l =
     let t : InSpan f n E.rows w = subst (λ m. InSpan f m E.rows w) c.length_is (subst (λ g. InSpan g E.columns E.rows w) c.over s) in
     h w ((c.generator.members w).0 t).1 l

@@ -7,7 +7,7 @@
 --   filled                 a word, with 0 put in at the coordinates that were deleted
 --   without_filled, filled_zero, filled_word
 --   shortened_words, shortened_members, shortened_code
-use Rattle.std.proofs.Common.{◌≡◌, ℕ, zero, suc, ◌+◌, ◌-◌, ◌<◌, ◌≤◌, ◌↔◌, Bool, true, false, cond, nat_le, ◌==◌, List, [], ◌∷◌, ◌++◌, map, length, take, slice_index, slice_index_or, None, Contains, All, refl, sym, ap, subst, ◌∙◌, ⊎_elim, arith, true≢false, add-one}
+use Rattle.std.proofs.Common.{◌≡◌, ℕ, zero, suc, ◌+◌, ◌-◌, ◌<◌, ◌↔◌, Bool, true, false, cond, ◌==◌, List, [], ◌∷◌, ◌++◌, map, length, take, slice_index, slice_index_or, None, Contains, All, refl, sym, ap, subst, ◌∙◌, ⊎_elim, arith, add-one}
 use Rattle.std.specs.List.{list_any}
 use Rattle.std.proofs.Math.Seq.{take-suc}
 use Rattle.std.proofs.lemmas.List.{length-take-le, get_or_default}
@@ -22,11 +22,11 @@ use Rattle.lc_algebra.proofs.FieldLaws.{zero_inside, zero_add, mul_zero}
 use Rattle.lc_algebra.proofs.WordLaws.{fits_head, fits_tail, fits_cons, word_cons, IsWord_zero, dot_inside}
 use Rattle.lc_algebra.proofs.SpanLaws.{span_word}
 use Rattle.lc_algebra.proofs.SpanSearch.{any_contains, contains_any}
-use Rattle.lc_constructions.specs.Code.{IsCode, InCode, CheckedBy}
+use Rattle.lc_constructions.specs.Code.{IsCode, CheckedBy}
 use Rattle.lc_constructions.specs.Basic.{GeneratedBy}
 use Rattle.lc_constructions.specs.Combined.{InDual, without_from, without, InPunctured, InShortened}
 use Rattle.lc_constructions.specs.Refusal.{first_refusal}
-use Rattle.lc_constructions.specs.Refusals.{is_rising, deleted_refusals}
+use Rattle.lc_constructions.specs.Refusals.{deleted_refusals}
 use Rattle.lc_constructions.proofs.ClosedLaws.{without_sum, without_scale, without_zero}
 use Rattle.lc_constructions.proofs.WithoutLaws.{length_without, deleted_fine, deleted_length}
 use Rattle.lc_matrix.proofs.PlaceLaws.{at_place}
@@ -115,7 +115,7 @@ punctured_words C coordinates g k rows h a b r e =
     let m = C.columns - length coordinates in
     shaped C.field g m k (punctured_rows coordinates C.rows) rows a b e (image_rows C.field C.columns m (without coordinates) C.rows (deleted_linear C coordinates h) r)
 
-punctured_members : (C : Matrix) (coordinates w : List ℕ) → first_refusal (deleted_refusals C coordinates) ≡ None → AreRows C.field C.columns C.rows → InSpan C.field (C.columns - length coordinates) (punctured_rows coordinates C.rows) w ↔ InPunctured C coordinates w
+pub punctured_members : (C : Matrix) (coordinates w : List ℕ) → first_refusal (deleted_refusals C coordinates) ≡ None → AreRows C.field C.columns C.rows → InSpan C.field (C.columns - length coordinates) (punctured_rows coordinates C.rows) w ↔ InPunctured C coordinates w
 punctured_members C coordinates w h r =
     let f = C.field in
     let m = C.columns - length coordinates in

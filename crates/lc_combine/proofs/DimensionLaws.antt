@@ -24,7 +24,7 @@ use Rattle.lc_combine.proofs.ReplacedLaws.{combine_word}
 use Rattle.lc_combine.proofs.DualLaws.{all_right}
 use Rattle.lc_combine.proofs.BoundLaws.{weight_append}
 
-combine_append : (f : FieldName) (n : ℕ) (cs bs : List ℕ) (xs ys : List (List ℕ)) → length cs ≡ length xs → AreRows f n ys → combine f n (cs ++ bs) (xs ++ ys) ≡ word_sum f (combine f n cs xs) (combine f n bs ys)
+pub combine_append : (f : FieldName) (n : ℕ) (cs bs : List ℕ) (xs ys : List (List ℕ)) → length cs ≡ length xs → AreRows f n ys → combine f n (cs ++ bs) (xs ++ ys) ≡ word_sum f (combine f n cs xs) (combine f n bs ys)
 unfolding combine
 combine_append f n [] bs [] ys e r = sym (zero_sum f n (combine f n bs ys) (combine_word f n bs ys r))
 combine_append f n [] bs (x ∷ xs) ys e r = absurd (omega (arith, e))
@@ -32,7 +32,7 @@ combine_append f n (a ∷ cs) bs [] ys e r = absurd (omega (arith, e))
 combine_append f n (a ∷ cs) bs (x ∷ xs) ys e r =
     ap (word_sum f (scale f a x)) (combine_append f n cs bs xs ys (omega (arith, e)) r) ∙ sym (sum_assoc f (scale f a x) (combine f n cs xs) (combine f n bs ys))
 
-combine_image : (f : FieldName) (n m : ℕ) (h : List ℕ → List ℕ) (cs : List ℕ) (rows : List (List ℕ)) → IsLinear f n m h → AreRows f n rows → combine f m cs (map h rows) ≡ h (combine f n cs rows)
+pub combine_image : (f : FieldName) (n m : ℕ) (h : List ℕ → List ℕ) (cs : List ℕ) (rows : List (List ℕ)) → IsLinear f n m h → AreRows f n rows → combine f m cs (map h rows) ≡ h (combine f n cs rows)
 unfolding combine
 combine_image f n m h [] [] s r = sym s.zero
 combine_image f n m h [] (g ∷ rows) s r = sym s.zero
@@ -42,22 +42,22 @@ combine_image f n m h (a ∷ cs) (g ∷ rows) s r =
     let t = All-tail (IsWord f n) g rows r in
     ap₂ (word_sum f) (sym (s.multiples a g w)) (combine_image f n m h cs rows s t) ∙ sym (s.sums (scale f a g) (combine f n cs rows) (IsWord_scale f n a g w.long) (combine_word f n cs rows t))
 
-zero_parted : (n m : ℕ) (u v : List ℕ) → length u ≡ n → length v ≡ m → u ++ v ≡ zero_word (n + m) → (u ≡ zero_word n) × (v ≡ zero_word m)
+pub zero_parted : (n m : ℕ) (u v : List ℕ) → length u ≡ n → length v ≡ m → u ++ v ≡ zero_word (n + m) → (u ≡ zero_word n) × (v ≡ zero_word m)
 zero_parted n m u v a b e =
     let w : weight u + weight v ≡ 0 = sym (weight_append u v) ∙ ap (λ x. weight x) e ∙ weight_zero_word (n + m) in
     (zero_from_weight n u a (omega (arith, w)), zero_from_weight m v b (omega (arith, w)))
 
-fits_take : (f : FieldName) (k : ℕ) (u : List ℕ) → Fits f u → Fits f (take k u)
+pub fits_take : (f : FieldName) (k : ℕ) (u : List ℕ) → Fits f u → Fits f (take k u)
 fits_take f zero u h = λ i l. absurd (omega (arith, l))
 fits_take f (suc k) [] h = h
 fits_take f (suc k) (a ∷ u) h = fits_cons f a (take k u) (fits_head f a u h) (fits_take f k u (fits_tail f a u h))
 
-fits_drop : (f : FieldName) (k : ℕ) (u : List ℕ) → Fits f u → Fits f (drop k u)
+pub fits_drop : (f : FieldName) (k : ℕ) (u : List ℕ) → Fits f u → Fits f (drop k u)
 fits_drop f zero u h = h
 fits_drop f (suc k) [] h = h
 fits_drop f (suc k) (a ∷ u) h = fits_drop f k u (fits_tail f a u h)
 
-length_taken : (k l : ℕ) (u : List ℕ) → length u ≡ k + l → (length (take k u) ≡ k) × (length (drop k u) ≡ l)
+pub length_taken : (k l : ℕ) (u : List ℕ) → length u ≡ k + l → (length (take k u) ≡ k) × (length (drop k u) ≡ l)
 length_taken zero l u e = (refl, omega (arith, e))
 length_taken (suc k) l [] e = absurd (omega (arith, e))
 length_taken (suc k) l (a ∷ u) e = let t = length_taken k l u (omega (arith, e)) in (omega (arith, t.0), t.1)
@@ -75,7 +75,7 @@ independent_parts f n xs ys r h es w z =
     let zeros = h cs bs (record { long = t.0; fits = fits_take f k es w.fits }) (record { long = t.1; fits = fits_drop f k es w.fits }) sum in
     sym whole ∙ ap₂ (λ a b. a ++ b) zeros.0 zeros.1 ∙ zero_parts k l ∙ ap (λ m. zero_word m) (sym e)
 
-same_rows : (f : FieldName) (n : ℕ) (P : List ℕ → Type 0) (rows : List (List ℕ)) (E : Matrix) → IsCode f n P E → AreRows f n rows → ((w : List ℕ) → InSpan f n rows w ↔ P w) → SameSpan f n rows E.rows
+pub same_rows : (f : FieldName) (n : ℕ) (P : List ℕ → Type 0) (rows : List (List ℕ)) (E : Matrix) → IsCode f n P E → AreRows f n rows → ((w : List ℕ) → InSpan f n rows w ↔ P w) → SameSpan f n rows E.rows
 same_rows f n P rows E c r h w = (
   (λ s. (c.generator.members w).1 (span_word f n rows w r s, (h w).0 s)),
   (λ s. (h w).1 ((c.generator.members w).0 s).1),

@@ -4,16 +4,15 @@
 --   dual_orthogonal        the words that have dot 0 with the rows of the dual code are those of the code
 --   all_left, all_right    what holds of the rows of two lists
 use Rattle.std.proofs.Common.{◌≡◌, ◌≢◌, ℕ, zero, suc, ◌+◌, ◌<◌, ◌≤◌, ◌↔◌, inl, inr, List, [], ◌∷◌, ◌++◌, length, set, slice_index, slice_index_or, All, refl, sym, ap, subst, ◌∙◌, ⊎_elim, arith}
-use Rattle.std.proofs.lemmas.Bool.{cases_lt, cases_eq}
+use Rattle.std.proofs.lemmas.Bool.{cases_lt}
 use Rattle.std.proofs.lemmas.List.Elements.{All-head, All-tail, All-cons, All-from_get_or}
 use Rattle.lc_algebra.specs.declared.FieldName.{FieldName}
 use Rattle.lc_algebra.specs.Field.{neg}
 use Rattle.lc_algebra.specs.Word.{IsWord, zero_word, word_dot}
-use Rattle.lc_algebra.specs.Span.{InSpan}
 use Rattle.lc_algebra.specs.Matrix.{Matrix, entry, AreRows, HasPivots, IsReduced, IsOrthogonal}
 use Rattle.lc_algebra.proofs.FieldLaws.{neg_neg}
 use Rattle.lc_algebra.proofs.WordLaws.{dot_comm, word_symbol}
-use Rattle.lc_algebra.proofs.SpanLaws.{span_word, span_row, dot_span}
+use Rattle.lc_algebra.proofs.SpanLaws.{span_row, dot_span}
 use Rattle.lc_algebra.proofs.ReducedLaws.{reduced_at_most}
 use Rattle.lc_constructions.specs.Code.{IsCode, InCode}
 use Rattle.lc_constructions.specs.Combined.{InDual}

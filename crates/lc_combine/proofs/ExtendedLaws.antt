@@ -11,9 +11,9 @@ use Rattle.lc_algebra.specs.Field.{size, add, neg, mul}
 use Rattle.lc_algebra.specs.Word.{IsWord, zero_word, word_sum, scale}
 use Rattle.lc_algebra.specs.Span.{InSpan}
 use Rattle.lc_algebra.specs.Matrix.{Matrix, AreRows}
-use Rattle.lc_algebra.proofs.FieldLaws.{zero_inside, neg_inside, add_inside, zero_add, add_zero, add_assoc, neg_zero, mul_neg, mul_zero}
-use Rattle.lc_algebra.proofs.WordLaws.{fits_cons, IsWord_zero, length_zero_word}
-use Rattle.lc_constructions.specs.Code.{IsCode, InCode}
+use Rattle.lc_algebra.proofs.FieldLaws.{zero_inside, neg_inside, add_inside, zero_add, add_zero, add_assoc, neg_zero, mul_neg}
+use Rattle.lc_algebra.proofs.WordLaws.{fits_cons}
+use Rattle.lc_constructions.specs.Code.{IsCode}
 use Rattle.lc_constructions.specs.Basic.{GeneratedBy}
 use Rattle.lc_constructions.specs.Combined.{symbol_sum, InExtended}
 use Rattle.lc_constructions.proofs.ClosedLaws.{sum_parts, scale_parts, zero_parts, symbol_sum_of_sum, symbol_sum_of_multiple, neg_of_sum}
@@ -82,7 +82,7 @@ extended_words C g k rows a b r e =
     let n = C.columns in
     shaped f g (n + 1) k (extended_rows f C.rows) rows a b e (image_rows f n (n + 1) (λ u. u ++ last f u) C.rows (extended_linear f n) r)
 
-extended_members : (C : Matrix) (w : List ℕ) → AreRows C.field C.columns C.rows → InSpan C.field (C.columns + 1) (extended_rows C.field C.rows) w ↔ InExtended C w
+pub extended_members : (C : Matrix) (w : List ℕ) → AreRows C.field C.columns C.rows → InSpan C.field (C.columns + 1) (extended_rows C.field C.rows) w ↔ InExtended C w
 extended_members C w r =
     let f = C.field in
     let n = C.columns in

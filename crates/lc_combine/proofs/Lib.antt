@@ -11,3 +11,6 @@ pub mod ReplacedLaws
 pub mod ConcatenatedLaws
 pub mod BoundLaws
 pub mod DimensionLaws
+pub mod NestedBounds
+pub mod ProductBounds
+pub mod ImageDimension

@@ -3,7 +3,7 @@
 --   power_first, power_next, power_most, none_more      its powers up to the eighth, one by one
 --   degree_found, degree_at, degree_none      the exponent that the loop finds
 --   no_power, other_dimension, nested_too_long, nested_fine      the first refusal
-use Rattle.std.proofs.Common.{◌≡◌, ◌≢◌, ℕ, zero, suc, ◌+◌, ◌-◌, ◌*◌, ◌^◌, ◌<◌, ◌≤◌, Bool, true, false, ◌==◌, List, [], ◌∷◌, length, Some, None, refl, sym, ap, subst, ◌∙◌, ⊎_elim, arith}
+use Rattle.std.proofs.Common.{◌≡◌, ◌≢◌, ℕ, zero, suc, ◌+◌, ◌-◌, ◌*◌, ◌^◌, ◌<◌, ◌≤◌, Bool, true, false, ◌==◌, List, [], ◌∷◌, length, Some, None, refl, sym, ap, ◌∙◌, ⊎_elim, arith}
 use Rattle.std.specs.Prelude.{IsTrue, find}
 use Rattle.std.proofs.Math.Nat.{pow-suc, pow-zero, mul-le-mul, pow-le-pow_left, pow-le-pow_right}
 use Rattle.std.proofs.lemmas.Bool.{cases_eq, eq-eqb, ne_eqb, leb-true}

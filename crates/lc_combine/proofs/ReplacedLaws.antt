@@ -7,7 +7,7 @@
 --   word_none, word_more, word_whole      a word with each symbol replaced, from the left
 --   power_none, power_more      the multiples by the powers of the primitive element
 --   multiples_none, multiples_more, rows_none, rows_more, rows_whole      the words that are replaced, one by one
-use Rattle.std.proofs.Common.{◌≡◌, ◌≢◌, ℕ, zero, suc, ◌+◌, ◌-◌, ◌*◌, ◌/◌, ◌%◌, ◌^◌, ◌<◌, ◌≤◌, Bool, true, false, not, ◌==◌, ◌||◌, List, [], ◌∷◌, ◌++◌, map, flat_map, length, take, drop, slice_index, slice_index_or, Option, Some, None, is_some, refl, sym, ap, subst, ◌∙◌, ⊎_elim, arith, add-one, true≢false}
+use Rattle.std.proofs.Common.{◌≡◌, ◌≢◌, ℕ, suc, ◌+◌, ◌-◌, ◌/◌, ◌%◌, ◌^◌, ◌<◌, ◌≤◌, Bool, true, false, not, ◌==◌, ◌||◌, List, [], ◌∷◌, ◌++◌, map, length, take, drop, slice_index, slice_index_or, Option, Some, None, is_some, refl, sym, ap, subst, ◌∙◌, ⊎_elim, arith, add-one, true≢false}
 use Rattle.std.specs.Prelude.{IsTrue, find}
 use Rattle.std.specs.List.{list_all}
 use Rattle.std.proofs.Math.Seq.{take-suc, drop-cons}
@@ -17,7 +17,7 @@ use Rattle.std.proofs.lemmas.Grind.{flat_map-append}
 use Rattle.std.proofs.lemmas.List.Elements.{All-head, All-tail}
 use Rattle.lc_algebra.specs.declared.FieldName.{FieldName}
 use Rattle.lc_algebra.specs.Residue.{digits, number}
-use Rattle.lc_algebra.specs.Field.{shape, shape_of, size, is_symbol, pow, mul}
+use Rattle.lc_algebra.specs.Field.{shape, shape_of, size, is_symbol, pow}
 use Rattle.lc_algebra.specs.Polynomial.{value_at}
 use Rattle.lc_algebra.specs.Embedding.{IsSubfield, is_subfield, embed}
 use Rattle.lc_algebra.specs.Word.{Fits, IsWord, zero_word, word_sum, scale}
@@ -25,7 +25,6 @@ use Rattle.lc_algebra.specs.Span.{below, combine}
 use Rattle.lc_algebra.specs.Matrix.{Matrix, AreRows}
 use Rattle.lc_algebra.proofs.FieldLaws.{zero_inside, pow_zero, pow_suc}
 use Rattle.lc_algebra.proofs.WordLaws.{fits_head, fits_tail, fits_cons, IsWord_zero, IsWord_scale, IsWord_sum, one_scale, scale_scale, zero_sum, sum_zero, sum_assoc}
-use Rattle.lc_algebra.proofs.SpanLaws.{length_combine}
 use Rattle.lc_algebra.proofs.ResidueLaws.{Residues, length-digits, residues_digits, digits-number, number_below}
 use Rattle.lc_algebra.proofs.EmbeddingLaws.{decides_subfield}
 use Rattle.lc_constructions.specs.Cyclic.{all_fields}

@@ -3,17 +3,17 @@
 --   even_checks, even_members, even_code
 --   common_checks, common_members, common_code
 use Rattle.std.proofs.Common.{◌≡◌, ℕ, zero, suc, ◌+◌, ◌%◌, ◌<◌, ◌↔◌, List, [], ◌∷◌, ◌++◌, length, replicate, refl, sym, ap, subst, ◌∙◌, arith}
-use Rattle.std.proofs.lemmas.List.{length-replicate, get_or-replicate}
+use Rattle.std.proofs.lemmas.List.{length-replicate}
 use Rattle.std.proofs.lemmas.List.Elements.{All-append, All-head, All-cons}
 use Rattle.lc_algebra.specs.declared.FieldName.{FieldName}
 use Rattle.lc_algebra.specs.declared.FieldName.TheVariants.{Gf2}
-use Rattle.lc_algebra.specs.Residue.{digits, number, plus, times, top, up, minus, times_x, product}
-use Rattle.lc_algebra.specs.Field.{shape, shape_of, size, coefficients, add, mul}
+use Rattle.lc_algebra.specs.Residue.{digits, number, plus}
+use Rattle.lc_algebra.specs.Field.{shape, shape_of, size, coefficients, add}
 use Rattle.lc_algebra.specs.Word.{Fits, IsWord, weight, word_dot}
 use Rattle.lc_algebra.specs.Matrix.{Matrix, AreRows, IsReduced, IsOrthogonal}
 use Rattle.lc_algebra.proofs.FieldLaws.{one_inside, one_mul}
 use Rattle.lc_algebra.proofs.WordLaws.{fits_head, fits_tail, fits_cons, weight_zero_head, weight_other_head}
-use Rattle.lc_constructions.specs.Code.{IsCode, InCode, CheckedBy}
+use Rattle.lc_constructions.specs.Code.{IsCode, CheckedBy}
 use Rattle.lc_constructions.specs.Combined.{InDual, InEvenWeight, InIntersection}
 use Rattle.lc_combine.proofs.GeneratedLaws.{rows_append, checked_by}
 use Rattle.lc_combine.proofs.SumLaws.{shaped}

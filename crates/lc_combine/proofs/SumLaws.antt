@@ -2,8 +2,8 @@
 --   left_linear, right_linear, twice_linear      a word followed by zeros, after zeros, and followed by itself
 --   direct_sum_rows_words, direct_sum_words, direct_sum_members, direct_sum_code
 --   uuv_rows_words, uuv_words, uuv_members, uuv_code
-use Rattle.std.proofs.Common.{◌≡◌, ℕ, ◌+◌, ◌↔◌, List, [], ◌∷◌, ◌++◌, map, length, refl, sym, ap, ap₂, subst, ◌∙◌, arith}
-use Rattle.std.proofs.lemmas.List.{length-append, append_assoc}
+use Rattle.std.proofs.Common.{◌≡◌, ℕ, ◌+◌, ◌↔◌, List, [], ◌∷◌, ◌++◌, refl, sym, ap, ap₂, subst, ◌∙◌, arith}
+use Rattle.std.proofs.lemmas.List.{length-append}
 use Rattle.lc_algebra.specs.declared.FieldName.{FieldName}
 use Rattle.lc_algebra.specs.Word.{Fits, IsWord, zero_word, word_sum, scale}
 use Rattle.lc_algebra.specs.Span.{InSpan}

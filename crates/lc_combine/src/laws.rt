@@ -1,19 +1,24 @@
 //! What the parts of a combined code tell of it, as the contracts of functions that do nothing.
-ghost use Rattle.std.specs.Prelude.{◌≡◌, ℕ, ◌+◌, ◌-◌, ◌*◌, ◌≤◌, List, None, length};
+ghost use Rattle.std.specs.Prelude.{◌≡◌, ℕ, ◌+◌, ◌-◌, ◌*◌, ◌<◌, ◌≤◌, List, None, IsTrue, length};
+ghost use Rattle.lc_algebra.specs.Field.{is_symbol};
 ghost use Rattle.lc_algebra.specs.Span.{IsWeightBound};
 ghost use Rattle.lc_algebra.specs.Matrix.{Matrix, AreRows, IsReduced};
 ghost use Rattle.lc_constructions.specs.Code.{IsCode};
-ghost use Rattle.lc_constructions.specs.Combined.{InDual, InExtended, InPunctured, InShortened, InDirectSum, InUuv};
+ghost use Rattle.lc_constructions.specs.Combined.{InDual, InExtended, InPunctured, InShortened, InDirectSum, InUuv, InDirectProduct};
+ghost use Rattle.lc_constructions.specs.Concatenated.{InConcatenated};
 ghost use Rattle.lc_constructions.specs.Refusal.{first_refusal};
-ghost use Rattle.lc_constructions.specs.Refusals.{deleted_refusals};
+ghost use Rattle.lc_constructions.specs.Refusals.{deleted_refusals, concatenated_refusals};
 
 /// The least weights of combined codes. If all nonzero words of C have weight at least d, and those of D at least e, then those of
 /// the direct sum have weight at least the smaller of d and e, those of (u | u + v) at least the smaller of 2d and e, and those of
-/// a shortened or an extended code of C at least d (MacWilliams and Sloane, chapters 1 and 2).
+/// a shortened or an extended code of C at least d. Those of a direct product and of a concatenated code have weight at least the
+/// product of d and e (MacWilliams and Sloane, chapters 1, 2, 10 and 18).
 pub fn combined_codes_are_heavy()
     ensures direct_sum { (C D E : Matrix) (n d e b : ℕ) → IsCode C.field n (InDirectSum C D) E → IsWeightBound C.field C.columns C.rows d → IsWeightBound D.field D.columns D.rows e → b ≤ d → b ≤ e → IsWeightBound E.field E.columns E.rows b }
     ensures uuv { (C D E : Matrix) (n d e b : ℕ) → C.field ≡ D.field → C.columns ≡ D.columns → AreRows C.field C.columns C.rows → AreRows D.field D.columns D.rows → IsCode C.field n (InUuv C D) E → IsWeightBound C.field C.columns C.rows d → IsWeightBound D.field D.columns D.rows e → b ≤ 2 * d → b ≤ e → IsWeightBound E.field E.columns E.rows b }
     ensures shortened { (C E : Matrix) (coordinates : List ℕ) (n d : ℕ) → IsCode C.field n (InShortened C coordinates) E → IsWeightBound C.field C.columns C.rows d → IsWeightBound E.field E.columns E.rows d }
+    ensures direct_product { (C D E : Matrix) (n d e : ℕ) → C.field ≡ D.field → AreRows C.field C.columns C.rows → AreRows D.field D.columns D.rows → IsCode C.field n (InDirectProduct C D) E → IsWeightBound C.field C.columns C.rows d → IsWeightBound D.field D.columns D.rows e → IsWeightBound E.field E.columns E.rows (d * e) }
+    ensures concatenated { (C D E : Matrix) (n d e : ℕ) → IsTrue (is_symbol C.field) → AreRows C.field C.columns C.rows → AreRows D.field D.columns D.rows → IsReduced D.columns D.rows → first_refusal (concatenated_refusals C D) ≡ None → IsCode D.field n (InConcatenated C D) E → IsWeightBound C.field C.columns C.rows d → IsWeightBound D.field D.columns D.rows e → IsWeightBound E.field E.columns E.rows (d * e) }
     ensures extended { (C E : Matrix) (n d : ℕ) → AreRows C.field C.columns C.rows → IsCode C.field n (InExtended C) E → IsWeightBound C.field C.columns C.rows d → IsWeightBound E.field E.columns E.rows d }
 {}
 
@@ -29,4 +34,19 @@ pub fn shortening_is_dual_to_puncturing()
 pub fn dimensions_of_sums()
     ensures direct_sum { (C D E : Matrix) → C.field ≡ D.field → AreRows C.field C.columns C.rows → IsReduced C.columns C.rows → AreRows D.field D.columns D.rows → IsReduced D.columns D.rows → IsCode C.field (C.columns + D.columns) (InDirectSum C D) E → length E.rows ≡ length C.rows + length D.rows }
     ensures uuv { (C D E : Matrix) → C.field ≡ D.field → C.columns ≡ D.columns → AreRows C.field C.columns C.rows → IsReduced C.columns C.rows → AreRows D.field D.columns D.rows → IsReduced D.columns D.rows → IsCode C.field (C.columns + D.columns) (InUuv C D) E → length E.rows ≡ length C.rows + length D.rows }
+{}
+
+/// The dimension of a direct product is the product of the dimensions of the parts. That of a concatenated code is the dimension of
+/// the outer code times the one of the inner code, which is the degree of the outer field over the inner one (MacWilliams and Sloane,
+/// chapters 10 and 18).
+pub fn dimensions_of_products()
+    ensures direct_product { (C D E : Matrix) → C.field ≡ D.field → AreRows C.field C.columns C.rows → IsReduced C.columns C.rows → AreRows D.field D.columns D.rows → IsReduced D.columns D.rows → IsCode C.field (C.columns * D.columns) (InDirectProduct C D) E → length E.rows ≡ length C.rows * length D.rows }
+    ensures concatenated { (C D E : Matrix) → IsTrue (is_symbol C.field) → AreRows C.field C.columns C.rows → IsReduced C.columns C.rows → AreRows D.field D.columns D.rows → IsReduced D.columns D.rows → first_refusal (concatenated_refusals C D) ≡ None → IsCode D.field (C.columns * D.columns) (InConcatenated C D) E → length E.rows ≡ length C.rows * length D.rows }
+{}
+
+/// An extended code has the dimension of its code, and so has a code that is punctured at fewer coordinates than its least weight
+/// (MacWilliams and Sloane, chapter 1).
+pub fn dimensions_of_changed_codes()
+    ensures punctured { (C P : Matrix) (coordinates : List ℕ) (d : ℕ) → AreRows C.field C.columns C.rows → IsReduced C.columns C.rows → first_refusal (deleted_refusals C coordinates) ≡ None → IsWeightBound C.field C.columns C.rows d → length coordinates < d → IsCode C.field (C.columns - length coordinates) (InPunctured C coordinates) P → length P.rows ≡ length C.rows }
+    ensures extended { (C E : Matrix) → AreRows C.field C.columns C.rows → IsReduced C.columns C.rows → IsCode C.field (C.columns + 1) (InExtended C) E → length E.rows ≡ length C.rows }
 {}

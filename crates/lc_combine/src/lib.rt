@@ -14,7 +14,10 @@ mod sums;
 pub use concatenation::concatenated;
 pub use deleted::{punctured, shortened};
 pub use extended_codes::extended;
-pub use laws::{combined_codes_are_heavy, dimensions_of_sums, shortening_is_dual_to_puncturing};
+pub use laws::{
+    combined_codes_are_heavy, dimensions_of_changed_codes, dimensions_of_products,
+    dimensions_of_sums, shortening_is_dual_to_puncturing,
+};
 pub use products::direct_product;
 pub use subcodes::{even_weight, intersection};
 pub use sums::{direct_sum, uuv};

@@ -4,9 +4,8 @@ ghost use Rattle.std.specs.List.{list_any};
 ghost use Rattle.lc_algebra.specs.Field.{size};
 ghost use Rattle.lc_algebra.specs.declared.FieldName.TheVariants.{Gf2};
 ghost use Rattle.lc_constructions.specs.Code.{longest};
-ghost use Rattle.lc_constructions.specs.Refusal.{first_refusal};
+ghost use Rattle.lc_constructions.specs.Refusal.{first_refusal, IsChecked};
 ghost use Rattle.lc_constructions.specs.Refusals.{is_rising, extended_refusals, deleted_refusals, even_weight_refusals, direct_sum_refusals, uuv_refusals, direct_product_refusals, intersection_refusals, degree_over, concatenated_refusals};
-ghost use Rattle.lc_combine.specs.Checked.{IsChecked};
 
 use lc_code::{Code, CodeRefusal};
 

@@ -34,7 +34,7 @@ use Rattle.lc_constructions.proofs.NearestLaws.{goppa_form_is_the_code}
 use Rattle.lc_constructions.proofs.InverseLaws.{inverse_is}
 use Rattle.lc_constructions.proofs.AlternantLaws.{form_of_code}
 
-exponents_last : (m n : ℕ) → exponents_from m (suc n) ≡ exponents_from m n ++ (m + n) ∷ []
+pub exponents_last : (m n : ℕ) → exponents_from m (suc n) ≡ exponents_from m n ++ (m + n) ∷ []
 unfolding exponents_from
 exponents_last m zero = ap (λ k. k ∷ []) (omega arith)
 exponents_last m (suc n) = ap (λ t. m ∷ t) (exponents_last (suc m) n ∙ ap (λ k. exponents_from (suc m) n ++ k ∷ []) (omega arith))
@@ -77,12 +77,12 @@ bch_syndrome f K n b d w j e =
     ∙ ap (λ p. mul K p (value_at K z (pow K x (b + j)))) (ap (pow K x) (omega arith) ∙ pow_zero K x)
     ∙ mul_comm K 1 (value_at K z (pow K x (b + j))) ∙ mul_one K (value_at K z (pow K x (b + j))) (value_inside K z (pow K x (b + j)))
 
-all_exponents : (P : ℕ → Type 0) (b m : ℕ) → ((j : ℕ) → j < m → P (b + j)) → All P (exponents_from b m)
+pub all_exponents : (P : ℕ → Type 0) (b m : ℕ) → ((j : ℕ) → j < m → P (b + j)) → All P (exponents_from b m)
 unfolding exponents_from
 all_exponents P b zero h = All-nil P
 all_exponents P b (suc m) h = All-cons P b (exponents_from (suc b) m) (subst P (omega arith) (h 0 (omega arith))) (all_exponents P (suc b) m (λ j l. subst P (omega arith) (h (suc j) (omega (arith, l)))))
 
-contains_exponents : (b m j : ℕ) → j < m → Contains (exponents_from b m) (b + j)
+pub contains_exponents : (b m j : ℕ) → j < m → Contains (exponents_from b m) (b + j)
 unfolding exponents_from
 contains_exponents b zero j l = absurd (omega (arith, l))
 contains_exponents b (suc m) zero l = subst (Contains (b ∷ exponents_from (suc b) m)) (omega arith) (contains_head b (exponents_from (suc b) m))

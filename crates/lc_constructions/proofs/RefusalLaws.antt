@@ -2,11 +2,20 @@
 --   refused_here, refused_later      the first refusal of a list whose first entry is a test
 --   refuses_first, refuses_nothing   the result is the refusal; there is no refusal
 --   refused_exactly                  an error other than NoMemory is the result exactly if it is the refusal
-use Rattle.std.proofs.Common.{◌≡◌, Bool, true, false, List, ◌∷◌, Option, Some, None, is_none, Result, Ok, Err, is_ok, ◌≢◌, ◌↔◌, subst, refl, sym, ap, ◌∙◌, true≢false}
+--   decided                          a test is another one that decides the same
+--   elements_fit, fits_elements, elements_told      the test for elements of a field decides whether a word fits it
+use Rattle.std.proofs.Common.{◌≡◌, ℕ, ◌<◌, nat_lt, Bool, true, false, List, ◌∷◌, slice_index, slice_index_or, Option, Some, None, is_none, Result, Ok, Err, is_ok, ◌≢◌, ◌↔◌, IsTrue, subst, refl, sym, ap, ◌∙◌, true≢false}
+use Rattle.std.proofs.lemmas.List.Sums.{AllPass-from_list_all, list_all-from_AllPass}
+use Rattle.std.proofs.lemmas.List.{get_or_default}
+use Rattle.std.proofs.lemmas.Bool.Decides.{Decides-ltb}
+use Rattle.lc_algebra.specs.declared.FieldName.{FieldName}
+use Rattle.lc_algebra.specs.Field.{size}
+use Rattle.lc_algebra.specs.Word.{Fits}
 use Rattle.std.specs.Result.{IsErrOf}
 use Rattle.lc_constructions.specs.declared.refusal.CodeRefusal.{CodeRefusal}
 use Rattle.lc_constructions.specs.declared.refusal.CodeRefusal.TheVariants.{NoMemory}
 use Rattle.lc_constructions.specs.Refusal.{refuse_if, first_refusal, IsRefusedAs, RefusesFirst}
+use Rattle.lc_constructions.specs.Refusals.{are_elements}
 
 pub refused_here : (b : Bool) (r : CodeRefusal) (rs : List (Option CodeRefusal)) → b ≡ true → first_refusal (refuse_if b r ∷ rs) ≡ Some r
 unfolding first_refusal refuse_if
@@ -25,3 +34,21 @@ refuses_nothing result r s e h = absurd (true≢false (ap is_none (sym s ∙ h))
 pub refused_exactly : {T : Type 0} (result : Result T CodeRefusal) (r : Option CodeRefusal) (e : CodeRefusal) → IsRefusedAs result r → RefusesFirst result r → e ≢ NoMemory → IsErrOf result e ↔ (r ≡ Some e)
 refused_exactly (Ok x) r e h k n = ((λ q. absurd (true≢false (ap is_ok q))), k e)
 refused_exactly (Err x) r e h k n = ((λ q. let t : x ≡ e = cc q in subst (λ y. r ≡ Some y) t (h (λ m. n (sym t ∙ m)))), k e)
+
+pub decided : (b t : Bool) (X : Type 0) → (IsTrue b ↔ X) → (t ≡ true → X) → (X → t ≡ true) → b ≡ t
+decided true t X h p q = sym (q (h.0 refl))
+decided false true X h p q = absurd (true≢false (sym (h.1 (p refl))))
+decided false false X h p q = refl
+
+pub elements_fit : (f : FieldName) (xs : List ℕ) → are_elements f xs ≡ true → Fits f xs
+unfolding are_elements
+elements_fit f xs h i l = (Decides-ltb (slice_index xs i) (size f)).0 (AllPass-from_list_all (λ a. nat_lt a (size f)) xs h i 0 l)
+
+pub fits_elements : (f : FieldName) (xs : List ℕ) → Fits f xs → are_elements f xs ≡ true
+unfolding are_elements
+fits_elements f xs h =
+    list_all-from_AllPass (λ a. nat_lt a (size f)) xs (λ i e m.
+    (Decides-ltb (slice_index_or xs i e) (size f)).1 (subst (λ a. a < size f) (get_or_default xs i 0 e m) (h i m)))
+
+pub elements_told : (f : FieldName) (xs : List ℕ) (b : Bool) → IsTrue b ↔ Fits f xs → b ≡ are_elements f xs
+elements_told f xs b h = decided b (are_elements f xs) (Fits f xs) h (elements_fit f xs) (fits_elements f xs)

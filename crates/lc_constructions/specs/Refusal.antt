@@ -3,6 +3,7 @@
 --   refusal_values r          the numbers that it carries, in the order in which they are printed
 --   refuse_if test r          the refusal r if the test passes, else None
 --   first_refusal rs          the first refusal in the list; None if no entry is a refusal
+--   IsChecked result r        what a check of arguments answers: the result is the error r, and Ok exactly if r is None
 --   IsRefusedAs result r      the result is a value only if r is None, and an error other than NoMemory only if r is this error.
 --                             NoMemory may come at any point
 --   RefusesFirst result r     if r is a refusal, the result is this error: it comes before any memory is taken
@@ -42,6 +43,9 @@ unfoldable pub first_refusal : List (Option CodeRefusal) → Option CodeRefusal
 first_refusal [] = None
 first_refusal (None ∷ rs) = first_refusal rs
 first_refusal (Some r ∷ rs) = Some r
+
+abbrev pub IsChecked : {T : Type 0} → Result T CodeRefusal → Option CodeRefusal → Type 0
+IsChecked result r = MatchResult result (λ _. r ≡ None) (λ e. r ≡ Some e)
 
 abbrev pub IsRefusedAs : {T : Type 0} → Result T CodeRefusal → Option CodeRefusal → Type 0
 IsRefusedAs result r = MatchResult result (λ _. r ≡ None) (λ e. e ≢ NoMemory → r ≡ Some e)

@@ -5,13 +5,11 @@
 --   locator_told           the field with the size that was found is the locator field
 --   locator_there          and there is one
 --   root_in_locator        n divides the number of its nonzero elements
---   bch_fine               the form is one
 --   bch_code               the code of the form is the BCH code
 --   turned_power, zeros_modulo, whole_code      zeros at the powers from b on are those from b modulo n on
---   kept_code, kept_locator, kept_form      the same of the form that is kept
+--   same_locator, kept_locator, kept_form      the locator field of the form that is kept
 --   bch_refused_large, bch_refused_length, bch_refused_root, bch_refused_delta, bch_accepted      the first refusal
 use Rattle.std.proofs.Common.{◌≡◌, ◌≢◌, ◌↔◌, ℕ, suc, ◌+◌, ◌-◌, ◌*◌, ◌/◌, ◌%◌, ◌≤◌, true, false, nat_lt, ◌||◌, List, [], ◌∷◌, ◌++◌, map, length, Option, Some, None, is_some, option_map, refl, sym, ap, ap₂, subst, ◌∙◌, arith, true≢false}
-use Rattle.std.specs.Prelude.{IsTrue}
 use Rattle.std.proofs.Math.Nat.{mod-add-div}
 use Rattle.std.proofs.lemmas.List.{map-append, length-map}
 use Rattle.lc_algebra.specs.declared.FieldName.{FieldName}
@@ -26,11 +24,11 @@ use Rattle.lc_algebra.proofs.SpanLaws.{length_below}
 use Rattle.lc_constructions.specs.declared.refusal.CodeRefusal.TheVariants.{BadLength, NoRoot, BadDelta, FieldTooLarge}
 use Rattle.lc_constructions.specs.Code.{is_length, IsCode}
 use Rattle.lc_constructions.specs.Cyclic.{IsLocatorField, locator_field, root_of_unity, value_in, IsBchWord}
-use Rattle.lc_constructions.specs.Alternant.{AlternantForm, IsForm, syndrome_at, IsAlternantWord, bch_form}
+use Rattle.lc_constructions.specs.Alternant.{AlternantForm, syndrome_at, IsAlternantWord, bch_form}
 use Rattle.lc_constructions.specs.Refusal.{refuse_if, first_refusal}
 use Rattle.lc_constructions.specs.Refusals.{too_large, bad_length, bch_refusals}
 use Rattle.lc_constructions.proofs.LocatorLaws.{locator_is}
-use Rattle.lc_constructions.proofs.FormLaws.{bch_is_form, bch_syndrome, bch_is_alternant}
+use Rattle.lc_constructions.proofs.FormLaws.{bch_syndrome, bch_is_alternant}
 use Rattle.lc_code.proofs.CodeLaws.{same_code}
 use Rattle.lc_cyclic.specs.Powers.{powers}
 
@@ -84,11 +82,8 @@ there (Some L) q h k = k L (some_same (size L) q h)
 pub locator_there : (f : FieldName) (n q : ℕ) → option_map size (locator_field f n) ≡ Some q → ((K : FieldName) → size K ≢ q) → ⊥
 locator_there f n q h k = there (locator_field f n) q h k
 
-root_in_locator : (f K : FieldName) (n : ℕ) → IsLocatorField f n K → (size K - 1) % n ≡ 0
+pub root_in_locator : (f K : FieldName) (n : ℕ) → IsLocatorField f n K → (size K - 1) % n ≡ 0
 root_in_locator f K n h = let (b, o) = h.order in order_of_element K b n o
-
-pub bch_fine : (f K : FieldName) (n b d : ℕ) (form : AlternantForm) → IsTrue (is_symbol f) → IsTrue (is_length n) → IsLocatorField f n K → form ≡ bch_form K n b d → IsForm f form
-bch_fine f K n b d form s l h e = subst (IsForm f) (sym e) (bch_is_form f K n b d s h.subfield l (root_in_locator f K n h))
 
 bch_parts : (K : FieldName) (n b d : ℕ) → ((bch_form K n b d).locator ≡ K) × (length (bch_form K n b d).points ≡ n)
 unfolding bch_form
@@ -134,9 +129,6 @@ pub bch_accepted : (f : FieldName) (n d q : ℕ) → is_symbol f ≡ true → is
 unfolding first_refusal refuse_if too_large bad_length bch_refusals
 bch_accepted f n d q a b h e = let t : is_some (locator_field f n) ≡ true = found (locator_field f n) q h in rw (a, b, t, e) refl
 
-pub kept_code : (f K : FieldName) (n b d : ℕ) (form kept : AlternantForm) (C : Matrix) → form ≡ bch_form K n b d → kept ≡ form → IsCode f (length form.points) (IsAlternantWord f form) C → IsCode f n (IsBchWord f kept.locator n b d) C
-kept_code f K n b d form kept C e k c = subst (λ L. IsCode f n (IsBchWord f L n b d) C) (same_locator K n b d form kept e k) (bch_code f K n b d form C e c)
-
 pub kept_locator : (f K : FieldName) (n b d : ℕ) (form kept : AlternantForm) → form ≡ bch_form K n b d → kept ≡ form → IsLocatorField f n K → IsLocatorField f n kept.locator
 kept_locator f K n b d form kept e k h = subst (IsLocatorField f n) (same_locator K n b d form kept e k) h
 
@@ -150,7 +142,7 @@ turned_power K x n b j h =
     ∙ ap (λ y. mul K y (pow K x (b % n + j))) (pow_mul K x n (b / n) ∙ ap (λ y. pow K y (b / n)) h ∙ one_pow K (b / n))
     ∙ one_mul K (pow K x (b % n + j)) (pow_inside K x (b % n + j))
 
-root_power : (K : FieldName) (n : ℕ) → 1 ≤ n → (size K - 1) % n ≡ 0 → pow K (root_of_unity K n) n ≡ 1
+pub root_power : (K : FieldName) (n : ℕ) → 1 ≤ n → (size K - 1) % n ≡ 0 → pow K (root_of_unity K n) n ≡ 1
 unfolding root_of_unity
 root_power K n l e = (primitive_power K n l e).one
 

@@ -1,3 +1,5 @@
-pub mod Checked
+pub mod Exponents
 pub mod Fields
+pub mod Generator
 pub mod Powers
+pub mod Shifts

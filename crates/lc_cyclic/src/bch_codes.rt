@@ -4,12 +4,12 @@ ghost use Rattle.lc_algebra.specs.Field.{size, is_symbol};
 ghost use Rattle.lc_constructions.specs.Code.{longest, is_length, IsCode};
 ghost use Rattle.lc_constructions.specs.Cyclic.{IsLocatorField, locator_field, IsBchWord};
 ghost use Rattle.lc_constructions.specs.Alternant.{IsFormOf, bch_form};
-ghost use Rattle.lc_constructions.specs.Refusal.{first_refusal, IsRefusedAs, RefusesFirst};
+ghost use Rattle.lc_constructions.specs.Refusal.{first_refusal, IsChecked, IsRefusedAs, RefusesFirst};
 ghost use Rattle.lc_constructions.specs.Refusals.{bch_refusals};
-ghost use Rattle.lc_cyclic.specs.Checked.{IsChecked};
 
 use crate::fields::locator_size;
-use crate::forms::{form_of, formed};
+use crate::forms::form_of;
+use crate::generators::bch_code;
 use lc_code::{CodeRefusal, FormedCode};
 use lc_field::{Field, FieldRefusal, NoMemory};
 use std::alloc::Global;
@@ -32,8 +32,34 @@ pub fn bch(alloc: Global, n: u64, b: u64, d: u64, field: &Field) -> Result<Forme
 {
     let size = check_bch(field, n, d)?;
     let locator = locator_of(alloc, field, n, size)?;
-    let form = form_of(alloc, locator, n, b % n, d)?;
-    Ok(formed(alloc, field, form)?)
+    Ok(formed_bch(alloc, field, locator, n, b % n, d)?)
+}
+
+// The BCH code, beside its form.
+fn formed_bch(
+    alloc: Global,
+    field: &Field,
+    locator: Field,
+    n: u64,
+    b: u64,
+    d: u64,
+) -> Result<FormedCode, NoMemory>
+    requires symbol { IsTrue (is_symbol field.now) }
+    requires length { IsTrue (is_length n) }
+    requires least { 1 ≤ n }
+    requires most { n ≤ longest }
+    requires locator { IsLocatorField field.now n locator }
+    requires first { b < 256 }
+    requires least_delta { 1 ≤ d }
+    requires most_delta { d ≤ n }
+    ensures code { IfOk result (λ c. IsCode field.now n (IsBchWord field.now c.form.locator n b d) c.code) }
+    ensures locator { IfOk result (λ c. IsLocatorField field.now n c.form.locator) }
+    ensures form { IfOk result (λ c. c.form ≡ bch_form c.form.locator n b d) }
+    ensures formed { IfOk result (λ c. IsFormOf c.code c.form) }
+{
+    let code = bch_code(alloc, field, &locator, n, b, d)?;
+    let form = form_of(alloc, locator, n, b, d)?;
+    Ok(FormedCode { code, form })
 }
 
 // Checks the arguments of a BCH code. Gives the size of its locator field.
@@ -67,7 +93,7 @@ fn check_bch(field: &Field, n: u64, d: u64) -> Result<u64, CodeRefusal>
 
 // Whether n is the length of a code.
 #[tactic(auto, unfolding(lc_constructions::specs::Code::is_length))]
-fn is_length(n: u64) -> bool
+pub(crate) fn is_length(n: u64) -> bool
     ensures is { result ≡ is_length n }
     ensures least { IsTrue result → 1 ≤ n }
     ensures most { IsTrue result → n ≤ longest }

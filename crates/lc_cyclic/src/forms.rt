@@ -1,12 +1,11 @@
 //! The alternant forms of BCH codes.
-ghost use Rattle.std.specs.Prelude.{◌≡◌, ◌-◌, ◌<◌, ◌≤◌, ◌%◌, length, IfOk, IsTrue};
+ghost use Rattle.std.specs.Prelude.{◌≡◌, ◌-◌, ◌<◌, ◌≤◌, IfOk};
 ghost use Rattle.lc_algebra.specs.Field.{size};
-ghost use Rattle.lc_constructions.specs.Code.{IsCode};
-ghost use Rattle.lc_constructions.specs.Alternant.{IsForm, IsFormOf, IsAlternantWord, bch_form};
+ghost use Rattle.lc_constructions.specs.Alternant.{bch_form};
 ghost use Rattle.lc_constructions.specs.Cyclic.{root_of_unity};
 ghost use Rattle.lc_cyclic.specs.Powers.{powers};
 
-use lc_code::{Alternant, FormedCode, alternant_code};
+use lc_code::Alternant;
 use lc_field::{Field, NoMemory};
 use std::alloc::Global;
 
@@ -48,7 +47,7 @@ fn form_from(locator: Field, points: Vec<u8>, multipliers: Vec<u8>, r: usize) ->
 
 // The power of the primitive element that has order n, if n divides the number of nonzero elements.
 #[tactic(auto, unfolding(lc_constructions::specs::Cyclic::root_of_unity))]
-fn root_of_unity(locator: &Field, n: u64) -> u8
+pub(crate) fn root_of_unity(locator: &Field, n: u64) -> u8
     requires least { 1 ≤ n }
     ensures is { result ≡ root_of_unity locator.now n }
     ensures below { result < size locator.now }
@@ -69,15 +68,4 @@ fn powers(alloc: Global, field: &Field, x: u8, s: u64, n: u64) -> Result<Vec<u8>
         powers.push(field.pow(x, i * s))?;
     }
     Ok(powers)
-}
-
-// The code of a form, beside it.
-pub(crate) fn formed(alloc: Global, field: &Field, form: Alternant) -> Result<FormedCode, NoMemory>
-    requires form { IsForm field.now form }
-    ensures code { IfOk result (λ c. IsCode field.now (length form.points) (IsAlternantWord field.now form) c.code) }
-    ensures form { IfOk result (λ c. c.form ≡ form) }
-    ensures formed { IfOk result (λ c. IsFormOf c.code c.form) }
-{
-    let code = alternant_code(alloc, field, &form)?;
-    Ok(FormedCode { code, form })
 }

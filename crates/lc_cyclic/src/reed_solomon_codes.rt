@@ -4,13 +4,12 @@ ghost use Rattle.lc_algebra.specs.Field.{size};
 ghost use Rattle.lc_constructions.specs.Code.{IsCode};
 ghost use Rattle.lc_constructions.specs.Cyclic.{IsReedSolomonWord};
 ghost use Rattle.lc_constructions.specs.Alternant.{IsFormOf, bch_form};
-ghost use Rattle.lc_constructions.specs.Refusal.{first_refusal, IsRefusedAs, RefusesFirst};
+ghost use Rattle.lc_constructions.specs.Refusal.{first_refusal, IsChecked, IsRefusedAs, RefusesFirst};
 ghost use Rattle.lc_constructions.specs.Refusals.{is_size_of_symbol_field, reed_solomon_refusals};
-ghost use Rattle.lc_cyclic.specs.Checked.{IsChecked};
 
 use crate::fields::is_symbol_size;
-use crate::forms::{form_of, formed};
-use lc_code::{CodeRefusal, FormedCode};
+use crate::forms::form_of;
+use lc_code::{CodeRefusal, FormedCode, formed};
 use lc_field::{Field, FieldRefusal, NoMemory};
 use std::alloc::Global;
 
@@ -70,7 +69,7 @@ fn is_length(n: u64) -> bool
 
 // The field with that many elements.
 #[tactic(auto, using(crate::proofs::ReedSolomonLaws::size_there))]
-fn field_of(alloc: Global, elements: u64) -> Result<Field, NoMemory>
+pub(crate) fn field_of(alloc: Global, elements: u64) -> Result<Field, NoMemory>
     requires there { IsTrue (is_size_of_symbol_field elements) }
     ensures size { IfOk result (λ f. size f ≡ elements) }
 {

@@ -1,6 +1,4 @@
 -- Goppa polynomials, points where they are 0, and the code of a Goppa form.
---   put_some, put_none, put_one       the length with one coefficient more in front
---   length_trimmed         the number of coefficients without the last zeros
 --   value_trimmed          they have the same values
 --   root_told, root_none   the first point where a polynomial is 0
 --   inverted_value         the inverse of a value is the multiplier
@@ -9,7 +7,7 @@
 --   goppa_fine             what isn't refused has a form
 --   goppa_form_told        the form of given multipliers is that of the Goppa code
 --   goppa_code             the code of a Goppa form is the Goppa code
-use Rattle.std.proofs.Common.{◌≡◌, ◌≢◌, ℕ, zero, suc, ◌+◌, ◌-◌, ◌<◌, ◌≤◌, Bool, true, false, ◌==◌, List, [], ◌∷◌, ◌++◌, length, map, take, find, slice_index, Contains, AllPairs, Some, None, option_map, refl, sym, ap, ap₂, subst, ◌∙◌, arith}
+use Rattle.std.proofs.Common.{◌≡◌, ◌≢◌, ℕ, zero, suc, ◌+◌, ◌-◌, ◌<◌, Bool, true, false, ◌==◌, List, [], ◌∷◌, ◌++◌, length, map, take, find, slice_index, Contains, AllPairs, Some, None, option_map, refl, sym, ap, ap₂, subst, ◌∙◌, arith}
 use Rattle.std.specs.Prelude.{IsTrue}
 use Rattle.std.proofs.Math.Seq.{take-suc}
 use Rattle.std.proofs.lemmas.Bool.{eq-eqb, ne_eqb}
@@ -33,37 +31,6 @@ use Rattle.lc_constructions.proofs.NearestLaws.{goppa_form_is_the_code}
 use Rattle.lc_code.proofs.CodeLaws.{same_code}
 use Rattle.lc_goppa.specs.Form.{alternant_form}
 use Rattle.lc_goppa.proofs.PointLaws.{find_none, find_told}
-
-put_some : (a : ℕ) (v : List ℕ) → 0 < length v → length (put_on a v) ≡ suc (length v)
-unfolding put_on
-put_some a [] l = absurd (omega (arith, l))
-put_some zero (b ∷ v) l = refl
-put_some (suc a) (b ∷ v) l = refl
-
-put_none : (a : ℕ) (v : List ℕ) → a ≡ 0 → length v ≡ 0 → length (put_on a v) ≡ 0
-unfolding put_on
-put_none zero [] e l = refl
-put_none (suc a) v e l = absurd (omega (arith, e))
-put_none zero (b ∷ v) e l = absurd (omega (arith, l))
-
-put_one : (a : ℕ) (v : List ℕ) → 0 < a → length v ≡ 0 → length (put_on a v) ≡ 1
-unfolding put_on
-put_one zero v p l = absurd (omega (arith, p))
-put_one (suc a) [] p l = refl
-put_one (suc a) (b ∷ v) p l = absurd (omega (arith, l))
-
-pub length_trimmed : (u : List ℕ) (n : ℕ) → n ≤ length u → (0 < n → 0 < slice_index u (n - 1)) → ((i : ℕ) → n ≤ i → slice_index u i ≡ 0) → n ≡ length (trimmed u)
-unfolding trimmed
-length_trimmed [] n l h z = omega (arith, l)
-length_trimmed (a ∷ u) zero l h z =
-    sym (put_none a (trimmed u) (z 0 (omega arith)) (sym (length_trimmed u 0 (omega arith) (λ p. absurd (omega (arith, p))) (λ i k. z (suc i) (omega arith)))))
-length_trimmed (a ∷ u) (suc zero) l h z =
-    sym (put_one a (trimmed u) (h (omega arith)) (sym (length_trimmed u 0 (omega arith) (λ p. absurd (omega (arith, p))) (λ i k. z (suc i) (omega arith)))))
-length_trimmed (a ∷ u) (suc (suc n)) l h z =
-    let e : suc (suc n) - 1 ≡ suc n = omega arith in
-    let d : suc n - 1 ≡ n = omega arith in
-    let t : suc n ≡ length (trimmed u) = length_trimmed u (suc n) (omega (arith, l)) (λ p. subst (λ k. 0 < slice_index u k) (sym d) (subst (λ k. 0 < slice_index (a ∷ u) k) e (h (omega arith)))) (λ i k. z (suc i) (omega (arith, k))) in
-    ap suc t ∙ sym (put_some a (trimmed u) (omega (arith, t)))
 
 value_put_on : (K : FieldName) (a : ℕ) (v : List ℕ) (x : ℕ) → value_at K (put_on a v) x ≡ value_at K (a ∷ v) x
 unfolding put_on value_at

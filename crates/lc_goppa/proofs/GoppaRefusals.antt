@@ -14,9 +14,9 @@ use Rattle.lc_algebra.specs.Word.{Fits}
 use Rattle.lc_constructions.specs.declared.refusal.CodeRefusal.{CodeRefusal}
 use Rattle.lc_constructions.specs.declared.refusal.CodeRefusal.TheVariants.{BadLength, BadArgument, NotASubfield, FieldTooLarge}
 use Rattle.lc_constructions.specs.Code.{is_length}
-use Rattle.lc_constructions.specs.Refusal.{refuse_if, first_refusal}
+use Rattle.lc_constructions.specs.Refusal.{refuse_if, first_refusal, IsChecked}
 use Rattle.lc_constructions.specs.Refusals.{are_elements, too_large, bad_length, bad_argument, not_subfield, is_goppa_polynomial, repeated_point, root_at, goppa_refusals}
-use Rattle.lc_goppa.specs.Checked.{IsChecked, IsGoppaInput}
+use Rattle.lc_goppa.specs.Checked.{IsGoppaInput}
 use Rattle.lc_goppa.proofs.GoppaLaws.{goppa_fine}
 
 pub goppa_too_large : (f K : FieldName) (g xs : List ℕ) → is_symbol f ≡ false → first_refusal (goppa_refusals f K g xs) ≡ Some FieldTooLarge

@@ -1,16 +1,14 @@
 -- The refusals of alternant codes.
---   subfield_told, elements_told      tests, by what they decide
+--   subfield_told          the test for a subfield, by what it decides
 --   form_too_large, form_outside, form_bad_length, form_uneven, form_bad_count, form_bad_points, form_bad_multipliers, form_repeated
 --                          the first refusal of the parts of a form
 --   form_fine              parts that aren't refused are a form
-use Rattle.std.proofs.Common.{◌≡◌, ◌≢◌, ℕ, ◌<◌, ◌↔◌, true, false, Bool, not, ◌==◌, ◌||◌, IsTrue, Option, Some, None, nat_lt, List, [], ◌∷◌, length, slice_index, slice_index_or, AllPairs, EachIndex, refl, sym, subst, ◌∙◌, ⊎_elim, true≢false, arith}
+use Rattle.std.proofs.Common.{◌≡◌, ◌≢◌, ℕ, ◌<◌, ◌↔◌, true, false, Bool, not, ◌==◌, ◌||◌, IsTrue, Option, Some, None, List, [], ◌∷◌, length, slice_index, AllPairs, EachIndex, refl, sym, ◌∙◌, ⊎_elim, true≢false, arith}
 use Rattle.std.specs.List.{list_any}
-use Rattle.std.proofs.lemmas.List.Sums.{AllPass-from_list_all, list_all-from_AllPass}
 use Rattle.std.proofs.lemmas.List.{get_or_default}
 use Rattle.std.proofs.lemmas.Bool.{cases_lt, eq-eqb, ne_eqb}
-use Rattle.std.proofs.lemmas.Bool.Decides.{Decides-ltb}
 use Rattle.lc_algebra.specs.declared.FieldName.{FieldName}
-use Rattle.lc_algebra.specs.Field.{size, is_symbol}
+use Rattle.lc_algebra.specs.Field.{is_symbol}
 use Rattle.lc_algebra.specs.Embedding.{IsSubfield, is_subfield}
 use Rattle.lc_algebra.specs.Word.{Fits}
 use Rattle.lc_algebra.proofs.EmbeddingLaws.{decides_subfield}
@@ -21,28 +19,11 @@ use Rattle.lc_constructions.specs.Code.{is_length}
 use Rattle.lc_constructions.specs.Alternant.{IsForm}
 use Rattle.lc_constructions.specs.Refusal.{refuse_if, first_refusal}
 use Rattle.lc_constructions.specs.Refusals.{are_elements, too_large, bad_length, bad_argument, not_subfield, repeated_point, form_refusals}
+use Rattle.lc_constructions.proofs.RefusalLaws.{decided}
 use Rattle.lc_goppa.specs.Form.{alternant_form}
-
-decided : (b t : Bool) (X : Type 0) → (IsTrue b ↔ X) → (t ≡ true → X) → (X → t ≡ true) → b ≡ t
-decided true t X h p q = sym (q (h.0 refl))
-decided false true X h p q = absurd (true≢false (sym (h.1 (p refl))))
-decided false false X h p q = refl
 
 pub subfield_told : (f K : FieldName) (b : Bool) → IsTrue b ↔ IsSubfield f K → b ≡ is_subfield f K
 subfield_told f K b h = decided b (is_subfield f K) (IsSubfield f K) h (decides_subfield f K).0 (decides_subfield f K).1
-
-elements_fit : (f : FieldName) (xs : List ℕ) → are_elements f xs ≡ true → Fits f xs
-unfolding are_elements
-elements_fit f xs h i l = (Decides-ltb (slice_index xs i) (size f)).0 (AllPass-from_list_all (λ a. nat_lt a (size f)) xs h i 0 l)
-
-fits_elements : (f : FieldName) (xs : List ℕ) → Fits f xs → are_elements f xs ≡ true
-unfolding are_elements
-fits_elements f xs h =
-    list_all-from_AllPass (λ a. nat_lt a (size f)) xs (λ i e m.
-    (Decides-ltb (slice_index_or xs i e) (size f)).1 (subst (λ a. a < size f) (get_or_default xs i 0 e m) (h i m)))
-
-pub elements_told : (f : FieldName) (xs : List ℕ) (b : Bool) → IsTrue b ↔ Fits f xs → b ≡ are_elements f xs
-elements_told f xs b h = decided b (are_elements f xs) (Fits f xs) h (elements_fit f xs) (fits_elements f xs)
 
 pub form_too_large : (f K : FieldName) (b : Bool) (xs ys : List ℕ) → is_symbol f ≡ false → first_refusal (form_refusals f K b xs ys) ≡ Some FieldTooLarge
 unfolding first_refusal refuse_if too_large form_refusals

@@ -1,16 +1,11 @@
--- What a check of a constructor's arguments answers.
---   IsChecked result r             the result is the error r, and Ok exactly if r is None
+-- What a Goppa code is made from.
 --   IsGoppaInput f K g points      the polynomial g and the points give a Goppa code: coefficients and points are elements of K, the
 --                                  degree is at least 1, g is 0 at no point, and the form of the code is one
-use Rattle.std.specs.Prelude.{◌≡◌, ℕ, ◌<◌, ◌≤◌, List, length, slice_index, Option, Some, None, Result, MatchResult}
+use Rattle.std.specs.Prelude.{ℕ, ◌<◌, ◌≤◌, List, length, slice_index}
 use Rattle.lc_algebra.specs.declared.FieldName.{FieldName}
 use Rattle.lc_algebra.specs.Polynomial.{value_at, trimmed}
 use Rattle.lc_algebra.specs.Word.{Fits}
-use Rattle.lc_constructions.specs.declared.refusal.CodeRefusal.{CodeRefusal}
 use Rattle.lc_constructions.specs.Alternant.{IsForm, goppa_form}
-
-abbrev pub IsChecked : {T : Type 0} → Result T CodeRefusal → Option CodeRefusal → Type 0
-IsChecked result r = MatchResult result (λ _. r ≡ None) (λ e. r ≡ Some e)
 
 pub record IsGoppaInput (f K : FieldName) (g points : List ℕ) : Type 0 where
   pub coefficients : Fits K g

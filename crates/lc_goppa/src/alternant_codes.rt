@@ -2,13 +2,12 @@
 ghost use Rattle.std.specs.Prelude.{◌≡◌, ℕ, length, IfOk};
 ghost use Rattle.lc_constructions.specs.Code.{IsCode};
 ghost use Rattle.lc_constructions.specs.Alternant.{IsForm, IsFormOf, IsAlternantWord};
-ghost use Rattle.lc_constructions.specs.Refusal.{first_refusal, IsRefusedAs, RefusesFirst};
+ghost use Rattle.lc_constructions.specs.Refusal.{first_refusal, IsChecked, IsRefusedAs, RefusesFirst};
 ghost use Rattle.lc_constructions.specs.Refusals.{alternant_refusals};
-ghost use Rattle.lc_goppa.specs.Checked.{IsChecked};
 ghost use Rattle.lc_goppa.specs.Form.{alternant_form};
 
 use crate::refusal::check_form;
-use lc_code::{Alternant, CodeRefusal, FormedCode, alternant_code};
+use lc_code::{Alternant, CodeRefusal, FormedCode, formed};
 use lc_field::{Field, NoMemory};
 use std::alloc::Global;
 
@@ -71,15 +70,4 @@ fn check_alternant(
 {
     let bad_count = r == 0 || (points.len() as u64) < r;
     check_form(field, locator, bad_count, points, multipliers)
-}
-
-// The code of a form, beside it.
-pub(crate) fn formed(alloc: Global, field: &Field, form: Alternant) -> Result<FormedCode, NoMemory>
-    requires form { IsForm field.now form }
-    ensures code { IfOk result (λ c. IsCode field.now (length form.points) (IsAlternantWord field.now form) c.code) }
-    ensures form { IfOk result (λ c. c.form ≡ form) }
-    ensures formed { IfOk result (λ c. IsFormOf c.code c.form) }
-{
-    let code = alternant_code(alloc, field, &form)?;
-    Ok(FormedCode { code, form })
 }

@@ -4,16 +4,17 @@ ghost use Rattle.lc_algebra.specs.Polynomial.{value_at, trimmed};
 ghost use Rattle.lc_algebra.specs.Word.{Fits};
 ghost use Rattle.lc_constructions.specs.Code.{IsCode};
 ghost use Rattle.lc_constructions.specs.Alternant.{IsForm, IsFormOf, goppa_multipliers, goppa_form, IsGoppaWord};
-ghost use Rattle.lc_constructions.specs.Refusal.{first_refusal, IsRefusedAs, RefusesFirst};
+ghost use Rattle.lc_constructions.specs.Refusal.{first_refusal, IsChecked, IsRefusedAs, RefusesFirst};
 ghost use Rattle.lc_constructions.specs.Refusals.{goppa_refusals, root_at};
-ghost use Rattle.lc_goppa.specs.Checked.{IsChecked, IsGoppaInput};
+ghost use Rattle.lc_goppa.specs.Checked.{IsGoppaInput};
 
-use crate::alternant_codes::{form_of, formed};
+use crate::alternant_codes::form_of;
 use crate::points::repeated_point;
-use crate::polynomials::{coefficient_count, is_goppa_polynomial, root_at, value};
+use crate::polynomials::{is_goppa_polynomial, root_at, value};
 use crate::refusal::{are_elements, is_length, is_subfield};
-use lc_code::{Alternant, CodeRefusal, FormedCode};
+use lc_code::{Alternant, CodeRefusal, FormedCode, formed};
 use lc_field::{Field, NoMemory};
+use lc_poly::coefficient_count;
 use std::alloc::Global;
 
 /// The Goppa code of the polynomial G with these coefficients, from the constant upwards, and these points: the words over `field`

@@ -1,5 +1,5 @@
 //! Goppa polynomials, given by any list of their coefficients, and their values at points.
-ghost use Rattle.std.specs.Prelude.{◌≡◌, ℕ, ◌-◌, ◌<◌, ◌≤◌, length, slice_index, IsNone, IsTrue};
+ghost use Rattle.std.specs.Prelude.{◌≡◌, ℕ, ◌<◌, length, slice_index, IsNone, IsTrue};
 ghost use Rattle.lc_algebra.specs.Field.{size};
 ghost use Rattle.lc_algebra.specs.Word.{Fits};
 ghost use Rattle.lc_algebra.specs.Polynomial.{value_at, trimmed};
@@ -8,6 +8,7 @@ ghost use Rattle.lc_constructions.specs.Refusals.{is_goppa_polynomial, root_at};
 use crate::refusal::are_elements;
 use lc_code::CodeRefusal;
 use lc_field::Field;
+use lc_poly::coefficient_count;
 
 // Whether the list gives a polynomial over the locator field of degree 1 to 255.
 #[tactic(auto, unfolding(lc_constructions::specs::Refusals::is_goppa_polynomial))]
@@ -17,27 +18,6 @@ pub(crate) fn is_goppa_polynomial(locator: &Field, list: &[u8]) -> bool
 {
     let count = coefficient_count(list);
     are_elements(locator, list) && (2 <= count && count <= 256)
-}
-
-// The number of coefficients without the last zeros.
-#[tactic(auto, using(crate::proofs::GoppaLaws::length_trimmed))]
-pub(crate) fn coefficient_count(list: &[u8]) -> usize
-    ensures is { result ≡ length (trimmed list.now) }
-{
-    significant(list)
-}
-
-// The length without the zeros at the end.
-fn significant(list: &[u8]) -> usize
-    ensures within { result ≤ length list.now }
-    ensures leads { 0 < result → 0 < slice_index list.now (result - 1) }
-    ensures zeros { (i : ℕ) → result ≤ i → slice_index list.now i ≡ 0 }
-{
-    let mut count = list.len();
-    while count > 0 && list[count - 1] == 0 {
-        count -= 1;
-    }
-    count
 }
 
 // The value at an element, by Horner's rule.

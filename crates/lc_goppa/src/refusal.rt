@@ -6,9 +6,8 @@ ghost use Rattle.lc_algebra.specs.Embedding.{IsSubfield, is_subfield};
 ghost use Rattle.lc_algebra.specs.Word.{Fits};
 ghost use Rattle.lc_constructions.specs.Code.{longest, is_length};
 ghost use Rattle.lc_constructions.specs.Alternant.{IsForm};
-ghost use Rattle.lc_constructions.specs.Refusal.{first_refusal};
+ghost use Rattle.lc_constructions.specs.Refusal.{first_refusal, IsChecked};
 ghost use Rattle.lc_constructions.specs.Refusals.{are_elements, form_refusals};
-ghost use Rattle.lc_goppa.specs.Checked.{IsChecked};
 ghost use Rattle.lc_goppa.specs.Form.{alternant_form};
 
 use crate::points::repeated_point;

@@ -1,6 +1,8 @@
 pub mod TrimLaws
 pub mod ListLaws
 pub mod DivisionLaws
+pub mod DivisorLaws
+pub mod DegreeLaws
 pub mod MinimalLaws
 pub mod CyclotomicLaws
 pub mod ZeroLaws
@@ -8,3 +10,4 @@ pub mod QuotientLaws
 pub mod ConjugateLaws
 pub mod RootLaws
 pub mod FactorLaws
+pub mod ZeroSetLaws

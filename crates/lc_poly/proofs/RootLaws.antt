@@ -36,7 +36,7 @@ use Rattle.lc_poly.proofs.ConjugateLaws.{value_cons, value_none, small_power_sum
 linear : FieldName → ℕ → List ℕ
 linear f r = neg f r ∷ 1 ∷ []
 
-pub roots_product : FieldName → List ℕ → List ℕ
+unfoldable pub roots_product : FieldName → List ℕ → List ℕ
 roots_product f [] = 1 ∷ []
 roots_product f (r ∷ rs) = poly_product f (neg f r ∷ 1 ∷ []) (roots_product f rs)
 

@@ -3,7 +3,9 @@
 --   trimmed_is             the trimmed list of elements is such
 --   is_trimmed             and the only one
 --   trimmed_same, product_trimmed      lists with equal coefficients have one trimmed list
-use Rattle.std.proofs.Common.{◌≡◌, ℕ, zero, suc, ◌-◌, ◌<◌, List, [], ◌∷◌, length, slice_index, Result, Ok, Err, IfOk, refl, sym, ap, ap₂, ◌∙◌, arith}
+--   put_some, put_none, put_one        the length with one coefficient more in front
+--   length_trimmed         the number of coefficients without the last zeros
+use Rattle.std.proofs.Common.{◌≡◌, ℕ, zero, suc, ◌-◌, ◌<◌, ◌≤◌, List, [], ◌∷◌, length, slice_index, Result, Ok, Err, IfOk, refl, sym, ap, ap₂, subst, ◌∙◌, arith}
 use Rattle.lc_algebra.specs.declared.FieldName.{FieldName}
 use Rattle.lc_algebra.specs.Field.{size}
 use Rattle.lc_algebra.specs.Word.{Fits}
@@ -58,3 +60,34 @@ pub product_trimmed : {T E : Type 0} (f : FieldName) (coefficients : T → List 
 product_trimmed f coefficients (Ok t) given list u v x y e h s p q i =
     trimmed_same f list (poly_product f u v) (coefficients t) h (fits_product f u v) (λ j. s j ∙ ap₂ (λ a b. slice_index (poly_product f a b) j) p q) (i ∙ ap trimmed e)
 product_trimmed f coefficients (Err z) given list u v x y e h s p q i = tt
+
+put_some : (a : ℕ) (v : List ℕ) → 0 < length v → length (put_on a v) ≡ suc (length v)
+unfolding put_on
+put_some a [] l = absurd (omega (arith, l))
+put_some zero (b ∷ v) l = refl
+put_some (suc a) (b ∷ v) l = refl
+
+put_none : (a : ℕ) (v : List ℕ) → a ≡ 0 → length v ≡ 0 → length (put_on a v) ≡ 0
+unfolding put_on
+put_none zero [] e l = refl
+put_none (suc a) v e l = absurd (omega (arith, e))
+put_none zero (b ∷ v) e l = absurd (omega (arith, l))
+
+put_one : (a : ℕ) (v : List ℕ) → 0 < a → length v ≡ 0 → length (put_on a v) ≡ 1
+unfolding put_on
+put_one zero v p l = absurd (omega (arith, p))
+put_one (suc a) [] p l = refl
+put_one (suc a) (b ∷ v) p l = absurd (omega (arith, l))
+
+pub length_trimmed : (u : List ℕ) (n : ℕ) → n ≤ length u → (0 < n → 0 < slice_index u (n - 1)) → ((i : ℕ) → n ≤ i → slice_index u i ≡ 0) → n ≡ length (trimmed u)
+unfolding trimmed
+length_trimmed [] n l h z = omega (arith, l)
+length_trimmed (a ∷ u) zero l h z =
+    sym (put_none a (trimmed u) (z 0 (omega arith)) (sym (length_trimmed u 0 (omega arith) (λ p. absurd (omega (arith, p))) (λ i k. z (suc i) (omega arith)))))
+length_trimmed (a ∷ u) (suc zero) l h z =
+    sym (put_one a (trimmed u) (h (omega arith)) (sym (length_trimmed u 0 (omega arith) (λ p. absurd (omega (arith, p))) (λ i k. z (suc i) (omega arith)))))
+length_trimmed (a ∷ u) (suc (suc n)) l h z =
+    let e : suc (suc n) - 1 ≡ suc n = omega arith in
+    let d : suc n - 1 ≡ n = omega arith in
+    let t : suc n ≡ length (trimmed u) = length_trimmed u (suc n) (omega (arith, l)) (λ p. subst (λ k. 0 < slice_index u k) (sym d) (subst (λ k. 0 < slice_index (a ∷ u) k) e (h (omega arith)))) (λ i k. z (suc i) (omega (arith, k))) in
+    ap suc t ∙ sym (put_some a (trimmed u) (omega (arith, t)))

@@ -1,4 +1,4 @@
-use Rattle.std.proofs.Common.{ap, sym, subst, ◌≡◌, ◌∙◌, length, slice_index_or, [], arith}
+use Rattle.std.proofs.Common.{ap, sym, subst, ◌∙◌, length, slice_index_or, [], arith}
 use Rattle.lc_algebra.specs.Word.{IsWord, scale}
 use Rattle.lc_combine.proofs.ReplacedLaws.{written, power_made, power_word, multiples_more}
 use Rattle.lc_combine.proofs.concatenation.push_multiples.Goals as goal

@@ -1,4 +1,4 @@
-use Rattle.lc_goppa.proofs.RefusalLaws.{elements_told}
+use Rattle.lc_constructions.proofs.RefusalLaws.{elements_told}
 use Rattle.lc_goppa.proofs.refusal.are_elements.Goals as goal
 
 pub returns-clause-is : goal.returns-clause-is

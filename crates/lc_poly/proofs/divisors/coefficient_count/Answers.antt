@@ -1,5 +1,5 @@
-use Rattle.lc_goppa.proofs.GoppaLaws.{length_trimmed}
-use Rattle.lc_goppa.proofs.polynomials.coefficient_count.Goals as goal
+use Rattle.lc_poly.proofs.TrimLaws.{length_trimmed}
+use Rattle.lc_poly.proofs.divisors.coefficient_count.Goals as goal
 
 pub returns : goal.returns
 returns c = record {
