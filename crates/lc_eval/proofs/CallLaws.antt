@@ -32,7 +32,7 @@ use Rattle.lc_eval.specs.declared.refusals.Refused.{Refused}
 use Rattle.lc_eval.specs.declared.refusals.Stop.{Stop}
 use Rattle.lc_eval.specs.Value.{rows_of, refused_of}
 use Rattle.lc_eval.specs.Applied.{Answers}
-use Rattle.lc_eval.specs.Made.{IsMade}
+use Rattle.lc_eval.specs.Made.{IsMade, plain_value}
 use Rattle.lc_eval.specs.Rows.{clamped, clamped_rows}
 use Rattle.lc_eval.proofs.AnswerLaws.{applied, given_by, refused_by}
 use Rattle.lc_eval.proofs.RowLaws.{clamped_each, columns_same, clamped_refusals, fine_same, elements_same, row_kept}
@@ -108,7 +108,7 @@ matrix_applies : (place : ℕ) (b : BoundCall) (f : FieldName) (P : List (List �
     → IsRefusedAs made (first_refusal (matrix_refusals f words)) → IsMade made place result → Answers result (AppliesTo place b)
 matrix_applies place b f P rows words made result e fine g w c h s =
     let t = same_rows f rows words made w h in
-    applied place b (matrix_refusals f (rows_of rows)) made result e fine
+    applied place b (matrix_refusals f (rows_of rows)) plain_value made result e fine
     (λ C m o.
     let x : IsCode f (columns_of words) (P words (columns_of words)) C = rw m at c in
     let y : IsCode f (columns_of (rows_of rows)) (P words (columns_of (rows_of rows))) C = subst (λ n. IsCode f n (P words n) C) t.long x in
