@@ -2,7 +2,7 @@
 --   gf_field, gf_refused          fields
 --   generator_applies, check_applies      codes by a matrix
 --   codeword_long, codeword_no_symbol, codeword_told      whether a list is a word of a code
-use Rattle.std.proofs.Common.{◌≡◌, ◌≢◌, ℕ, ◌<◌, ◌↔◌, Bool, true, false, not, nat_lt, slice_index, slice_index_or, ◌==◌, List, [], ◌∷◌, map, length, Vec, Global, Some, None, Result, Err, IfOk, IsTrue, refl, sym, ap, subst, ◌∙◌, inr, ⊎_elim, true≢false, arith}
+use Rattle.std.proofs.Common.{◌≡◌, ◌≢◌, ℕ, ◌<◌, ◌↔◌, Bool, true, false, nat_lt, slice_index, slice_index_or, ◌==◌, List, [], ◌∷◌, map, length, Vec, Global, Some, None, Result, Err, IfOk, IsTrue, refl, sym, ap, subst, ◌∙◌, ⊎_elim, true≢false, arith}
 use Rattle.std.specs.List.{list_any, list_all}
 use Rattle.std.proofs.lemmas.List.{get_or_default}
 use Rattle.std.proofs.lemmas.List.Sums.{AllPass-from_list_all, list_all-from_AllPass}
@@ -22,7 +22,6 @@ use Rattle.lc_constructions.specs.Refusals.{columns_of, are_elements, matrix_ref
 use Rattle.lc_constructions.specs.Cyclic.{all_fields}
 use Rattle.lc_basic.proofs.HammingLaws.{small_field}
 use Rattle.lc_language.specs.Bound.{BoundCall, gf, generator_mat_code, check_mat_code, is_codeword}
-use Rattle.lc_language.specs.Value as language
 use Rattle.lc_language.specs.Value.{field, code, truth}
 use Rattle.lc_language.specs.Refusal.{refuse, when, first_of, refusal_from, from_codes, word_refusals, refusals_of, refusal_of}
 use Rattle.lc_language.specs.Meaning.{Gives, IsNotDivisor}

@@ -3,8 +3,7 @@
 --   cyclic_fine_same         a list that isn't refused before the division holds elements alone
 --   generator_pol_applies, check_pol_applies      a cyclic code, or its refusal
 --   extended_binary_applies, extended_ternary_applies      an extended Golay code: it isn't refused
-use Rattle.std.proofs.Common.{◌≡◌, ◌≢◌, ℕ, ◌+◌, ◌≤◌, ◌↔◌, ◌⊎◌, inl, inr, Bool, true, false, not, nat_lt, ◌==◌, ◌&&◌, ◌||◌, List, [], ◌∷◌, length, map, min, Option, Some, None, is_none, is_some, option_map, Result, Ok, Err, IfOk, IsTrue, refl, sym, ap, ap₂, subst, ◌∙◌, ⊎_elim, true≢false, arith}
-use Rattle.std.proofs.lemmas.List.{length-map}
+use Rattle.std.proofs.Common.{◌≡◌, ◌≢◌, ℕ, ◌+◌, ◌↔◌, ◌⊎◌, inl, inr, Bool, true, false, not, ◌==◌, ◌||◌, List, [], ◌∷◌, length, Option, Some, None, is_none, option_map, Result, Ok, Err, IfOk, IsTrue, refl, sym, ap, ap₂, subst, ◌∙◌, ⊎_elim, true≢false, arith}
 use Rattle.std.proofs.lemmas.Bool.{cases_Bool, cases_eq}
 use Rattle.lc_algebra.specs.declared.FieldName.{FieldName}
 use Rattle.lc_algebra.specs.declared.FieldName.TheVariants.{Gf2, Gf3}

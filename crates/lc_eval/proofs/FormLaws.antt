@@ -2,12 +2,11 @@
 --   bch_applies, reed_solomon_applies      BCH and Reed-Solomon codes
 --   goppa_wide, alternant_wide             lists with a number that is an element of no field
 --   goppa_applies, alternant_applies       Goppa and alternant codes by other lists
-use Rattle.std.proofs.Common.{◌≡◌, ℕ, ◌+◌, ◌-◌, ◌%◌, ◌≤◌, ◌||◌, ◌&&◌, true, false, nat_le, List, [], ◌∷◌, length, Option, Some, None, Result, Ok, Err, IfOk, IsTrue, refl, sym, ap, subst, ◌∙◌}
+use Rattle.std.proofs.Common.{◌≡◌, ℕ, ◌+◌, ◌-◌, ◌%◌, ◌≤◌, false, nat_le, List, length, Option, Some, None, Result, Err, IfOk, refl, sym, ap, ◌∙◌}
 use Rattle.std.proofs.lemmas.Bool.{and_parts, leb-true}
 use Rattle.lc_algebra.specs.declared.FieldName.{FieldName}
 use Rattle.lc_algebra.specs.Field.{size, is_symbol}
 use Rattle.lc_algebra.specs.Polynomial.{trimmed}
-use Rattle.lc_algebra.specs.Matrix.{Matrix}
 use Rattle.lc_algebra.proofs.OrderLaws.{order_of_element}
 use Rattle.lc_constructions.specs.Code.{longest, is_length, IsCode}
 use Rattle.lc_constructions.specs.Cyclic.{IsLocatorField, IsBchWord, IsReedSolomonWord}
@@ -24,7 +23,7 @@ use Rattle.lc_goppa.specs.Form.{alternant_form}
 use Rattle.lc_language.specs.Bound.{BoundCall, bch_code, reed_solomon_code, goppa_code, alternant_code}
 use Rattle.lc_language.specs.Value.{code}
 use Rattle.lc_language.specs.Refusal.{from_codes, refusals_of}
-use Rattle.lc_language.specs.Meaning.{Gives, IsNotDivisor}
+use Rattle.lc_language.specs.Meaning.{Gives}
 use Rattle.lc_language.specs.Evaluation.{AppliesTo}
 use Rattle.lc_eval.specs.declared.values.Value.{Value}
 use Rattle.lc_eval.specs.declared.refusals.Stop.{Stop}

@@ -5,7 +5,7 @@
 --   elements_same, row_kept          the entries of a row
 --   none_here                        the first refusal does not apply
 --   fine_same, fine_rows             a matrix that isn't refused holds elements alone
-use Rattle.std.proofs.Common.{◌≡◌, ℕ, ◌<◌, ◌≤◌, min, Bool, true, false, not, nat_lt, nat_le, ◌==◌, ◌&&◌, ◌||◌, if◌then◌else◌, List, [], ◌∷◌, length, map, Vec, Global, Option, Some, None, is_none, slice_index_or, slice_index, refl, sym, ap, ◌∙◌, ⊎_elim, true≢false, arith}
+use Rattle.std.proofs.Common.{◌≡◌, ℕ, ◌<◌, ◌≤◌, min, Bool, true, false, not, nat_lt, ◌==◌, ◌&&◌, List, [], ◌∷◌, length, map, Vec, Global, Option, None, is_none, slice_index_or, slice_index, refl, sym, ap, ⊎_elim, true≢false, arith}
 use Rattle.std.specs.List.{list_all}
 use Rattle.std.proofs.lemmas.List.{length-map}
 use Rattle.std.proofs.lemmas.List.Sums.{AllPass-from_list_all}

@@ -1,14 +1,13 @@
-use Rattle.std.proofs.Common.{◌≡◌, ◌+◌, ◌-◌, ◌*◌, ◌^◌, length, List, [], refl, sym, ap, ◌∙◌}
+use Rattle.std.proofs.Common.{◌+◌, ◌-◌, ◌*◌, ◌^◌, length, refl, ap}
 use Rattle.lc_algebra.specs.declared.FieldName.TheVariants.{Gf2}
 use Rattle.lc_algebra.specs.Field.{size}
-use Rattle.lc_algebra.specs.Word.{weight}
 use Rattle.lc_constructions.specs.Code.{CheckedBy}
 use Rattle.lc_constructions.specs.Basic.{GeneratedBy, IsConstant, IsAny, IsZero, hamming_checks, hamming_length, reed_muller_rows}
 use Rattle.lc_constructions.specs.Combined.{InExtended, InPunctured, InShortened, InEvenWeight, InDirectSum, InUuv, InDirectProduct, InIntersection}
 use Rattle.lc_constructions.specs.Concatenated.{InConcatenated}
 use Rattle.lc_constructions.specs.Refusals.{length_refusals, hamming_refusals, reed_muller_refusals, extended_refusals, deleted_refusals, even_weight_refusals, direct_sum_refusals, uuv_refusals, direct_product_refusals, intersection_refusals, concatenated_refusals}
 use Rattle.lc_language.specs.Bound as bound
-use Rattle.lc_language.specs.Value.{number, lists}
+use Rattle.lc_language.specs.Value.{number}
 use Rattle.lc_language.specs.Refusal.{refusals_of}
 use Rattle.lc_eval.specs.Value.{value_of}
 use Rattle.lc_eval.proofs.AnswerLaws.{made_applies, never_refused}
