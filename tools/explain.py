@@ -21,7 +21,17 @@ MEANINGS = {
     1: "there is no field of this size",
     2: "a code can't have this length",
     3: "an argument has a value that it can't have",
+    4: "the polynomial doesn't divide x^n - 1",
+    5: "no field has an element of this order and contains the field of the code",
+    6: "the design distance is out of range",
+    7: "no field for codes has one element more than this length",
+    8: "two points are equal",
+    9: "the polynomial is 0 at a point",
+    10: "the field of the code doesn't lie in the field of the points",
+    11: "the fields of the codes don't fit each other",
     12: "lengths differ",
+    13: "the coordinates can't be taken away",
+    14: "the inner code has the wrong dimension",
     16: "these rows have too many words to look at each",
     17: "the field is too large: codes are over fields of at most 16 elements",
     40: "no name, number or sign begins with this byte",
@@ -100,6 +110,73 @@ def too_large(rows, size):
     return f"entry {column + 1} of row {row + 1} is {rows[row][column]}; the elements of GF({size}) are 0 to {size - 1}"
 
 
+def counted(count, thing):
+    return f"{count} {thing}{'s' * (count != 1)}"
+
+
+def list_refusal(name, values, fault):
+    """Why a polynomial, a list of points or a list of multipliers is refused."""
+    argument = fault.values[0] if fault.values else 0
+    if fault.number == 8:
+        first, second = fault.values
+        return f"points {first + 1} and {second + 1} are both {values[1][first]}"
+    if fault.number == 9:
+        return f"the polynomial is 0 at point {fault.values[0] + 1}, which is {values[1][fault.values[0]]}"
+    if fault.number == 12:
+        return f"here are {counted(len(values[1]), 'point')} and {counted(len(values[2]), 'multiplier')}"
+    if name == "AlternantCode" and argument == 1:
+        return f"here are {counted(len(values[1]), 'point')} and r is {values[0]}; r is 1 to the number of points"
+    size = values[-1].size if name in ("GeneratorPolCode", "CheckPolCode") else values[-2].size
+    entries = values[0] if argument == 1 else values[argument - 1]
+    if any(a >= size for a in entries):
+        return too_large([entries], size).replace("of row 1 ", "of the list ")
+    if argument == 3:
+        return f"multiplier {entries.index(0) + 1} is 0"
+    return "the polynomial is 0" if not any(entries) else "the polynomial has degree 0, or one above 255"
+
+
+def coordinates_refusal(code, places):
+    for i, p in enumerate(places):
+        if p >= code.length:
+            return f"coordinate {p} isn't below the length {code.length}"
+        if i and p <= places[i - 1]:
+            return f"coordinate {p} doesn't rise after {places[i - 1]}"
+    return "no coordinate would be left"
+
+
+def combined_refusal(name, values, fault):
+    a, b = values[0], values[-1]
+    if fault.number == 2 and name == "ExtendedCode":
+        return f"the code has length {a.length} already, the longest is {LONGEST}"
+    if fault.number == 2:
+        joined = name in ("DirectSumCode", "UUVCode")
+        return f"the length {a.length} {'+' if joined else 'times'} {b.length} is above {LONGEST}"
+    if fault.number == 3:
+        return f"the code is over GF({a.size}), not over GF(2)"
+    if fault.number == 11 and name == "ConcatenatedCode":
+        return f"{a.size} is no power of {b.size}"
+    if fault.number == 11:
+        return f"the first code is over GF({a.size}), the second over GF({b.size})"
+    if fault.number == 12:
+        return f"the first code has length {a.length}, the second {b.length}"
+    if fault.number == 13:
+        return coordinates_refusal(a, b)
+    dimension, degree = fault.values
+    return f"the inner code has dimension {dimension}; {a.size} is {b.size}^{degree}, so it needs {degree}"
+
+
+def length_refusal(name, values):
+    if name in ("GoppaCode", "AlternantCode"):
+        return f"here are {counted(len(values[1]), 'point')}; a code has 1 to {LONGEST}"
+    length = values[1] if name in ("GeneratorPolCode", "CheckPolCode") else values[0]
+    return f"the length {length} is not one of 1 to {LONGEST}"
+
+
+COMBINED = ("ExtendedCode", "PuncturedCode", "ShortenedCode", "EvenWeightSubcode", "DirectSumCode", "UUVCode",
+            "DirectProductCode", "IntersectionCode", "ConcatenatedCode")
+BY_LISTS = ("GeneratorPolCode", "CheckPolCode", "GoppaCode", "AlternantCode")
+
+
 def refusal(expr, fault, names):
     """Why a call with arguments of its kinds is refused."""
     name = expr.value.decode()
@@ -110,6 +187,25 @@ def refusal(expr, fault, names):
         return f"{values[0]} is not the size of a field here; the sizes are {sizes}"
     if number == 17:
         return f"GF({values[-1].size}) has more than 16 elements; the sizes for codes are {', '.join(str(q) for q in SYMBOL_SIZES)}"
+    if name in COMBINED:
+        return combined_refusal(name, values, fault)
+    if number == 2 and name in BY_LISTS:
+        return length_refusal(name, values)
+    if number == 10:
+        return f"{values[-2].size} is no power of {values[-1].size}"
+    if number == 4:
+        return f"the length is {values[1]}"
+    if name in BY_LISTS:
+        return list_refusal(name, values, fault)
+    if number == 5:
+        return f"no field of at most 256 elements that contains GF({values[-1].size}) has an element of order {values[0]}"
+    if number == 6:
+        distance, least = (values[1], 1) if name == "ReedSolomonCode" else (values[-2], 2)
+        if values[0] < least:
+            return f"a code of length {values[0]} has none"
+        return f"it is {distance}; with the length {values[0]} it is {least} to {values[0]}"
+    if number == 7:
+        return f"it would have {values[0] + 1}; the sizes for codes are {', '.join(str(q) for q in SYMBOL_SIZES)}"
     if number == 2 and isinstance(values[0], list):
         return f"the first row has {len(values[0][0])} entries; a row has 1 to {LONGEST}" if values[0] else "the matrix has no rows"
     if number == 2 and name == "HammingCode":
@@ -135,6 +231,10 @@ def refusal(expr, fault, names):
     return ""
 
 
+def told_kinds(kinds):
+    return f"{len(kinds)} argument{'s' * (len(kinds) != 1)} ({', '.join(KINDS[k] for k in kinds) or 'none'})"
+
+
 def of_call(expr, fault, names):
     """An explanation of a fault at or within a call, or None if it is elsewhere."""
     name = expr.value.decode()
@@ -142,19 +242,21 @@ def of_call(expr, fault, names):
     if fault.place == expr.place:
         if fault.number == 44:
             return unknown(expr, names)
+        if fault.number == 45 and name not in QUERIES:
+            return None  # it is the value of the call that does not fit
         if fault.number == 45:
             return f"`{name}` stands only as a statement of its own: not after `:=`, not in a call, not in a list"
-        kinds = table[name][0]
         if fault.number == 46:
-            wanted = ", ".join(KINDS[k] for k in kinds) or "none"
-            return f"`{name}` takes {len(kinds)} argument{'s' * (len(kinds) != 1)} ({wanted}); here {'are' if len(expr.parts) != 1 else 'is'} {len(expr.parts)}"
+            wanted = " or ".join(told_kinds(kinds) for kinds in table[name][0])
+            return f"`{name}` takes {wanted}; here {'are' if len(expr.parts) != 1 else 'is'} {len(expr.parts)}"
         return refusal(expr, fault, names)
     for i, part in enumerate(expr.parts):
         inner = of_expr(part, fault, names)
         if inner is not None:
             return inner
         if part.place == fault.place and fault.number == 45 and name in table:
-            return f"argument {i + 1} of `{name}` is {KINDS[table[name][0][i]]}; here is {told(evaluated(part, names))}"
+            kinds = next(kinds for kinds in table[name][0] if len(kinds) == len(expr.parts))
+            return f"argument {i + 1} of `{name}` is {KINDS[kinds[i]]}; here is {told(evaluated(part, names))}"
     return None
 
 

@@ -19,8 +19,9 @@ from dataclasses import dataclass, replace
 SIZES = (2, 3, 4, 5, 7, 8, 9, 11, 13, 16)
 LARGE_SIZES = (25, 27, 32, 64, 81, 128, 243, 256)
 NAMES = ("C", "D", "x", "rows", "F", "a_1")
-UNKNOWN = ("Certificate", "BCHCode", "ExtendedCode", "Foo", "hammingCode", "GF_", "Decode", "z")
-CALLS = ("GF", "Weight", "Dimension", "DualCode", "IsCodeword", "HammingCode", "ReedMullerCode", "CheckMat")
+UNKNOWN = ("Distance", "Certificate", "BchCode", "Extended", "Foo", "hammingCode", "GF_", "Golay", "z")
+CALLS = ("GF", "Weight", "Dimension", "DualCode", "IsCodeword", "HammingCode", "ReedMullerCode", "CheckMat", "BCHCode", "GoppaCode",
+         "ExtendedCode", "UUVCode", "PuncturedCode", "BinaryGolayCode")
 SIGNS = "()[],;:=#_ \n\tab19GF"
 KINDS = ("valid", "refused", "unfit", "cut", "altered", "noise")
 
@@ -97,7 +98,96 @@ class Maker:
         if depth and self.chance(0.25):
             inner = self.code(depth - 1)
             return Made(f"DualCode({inner.text})", inner.length, inner.size, [0] * min(inner.length, 300))
-        return self.constructed()
+        if depth and self.chance(0.4):
+            return self.combined(depth)
+        return self.cyclic_or_formed() if self.chance(0.3) else self.constructed()
+
+    def zeros(self, text, length, size):
+        return Made(text, length, size, [0] * min(length, 300))
+
+    def over(self, size, length):
+        """A code of this length over this field, or sometimes another one."""
+        if self.chance(self.faults / 2):
+            return self.constructed()
+        call = self.pick(("RepetitionCode", "WholeSpaceCode", "NullCode", "GeneratorMatCode", "GeneratorMatCode"))
+        if call == "GeneratorMatCode" and length < 10:
+            return self.zeros(f"{call}({self.text([self.row(size, length) for _ in range(1 + self.below(3))])},GF({size}))", length, size)
+        return self.zeros(f"{'WholeSpaceCode' if call == 'GeneratorMatCode' else call}({length},GF({size}))", length, size)
+
+    def coordinates(self, length):
+        places = [p for p in range(min(length, 12)) if self.chance(0.3)][:max(0, length - 1)]
+        if self.chance(self.faults):
+            return self.pick((places + places[-1:], places[::-1], places + [length], list(range(min(length, 300))), [2**64 - 1]))
+        return places
+
+    def combined(self, depth):
+        call = self.pick(("ExtendedCode", "PuncturedCode", "ShortenedCode", "EvenWeightSubcode", "DirectSumCode", "UUVCode",
+                          "DirectProductCode", "IntersectionCode", "ConcatenatedCode"))
+        if call == "ConcatenatedCode":
+            size, degree = self.pick(((2, 1), (2, 2), (2, 3), (2, 4), (3, 1), (3, 2), (4, 1), (4, 2), (5, 1)))
+            outer = self.over(size**degree, 1 + self.below(5))
+            degree = self.below(4) + 1 if self.chance(self.faults) else degree
+            inner = self.pick((f"WholeSpaceCode({degree},GF({size}))", f"DualCode(RepetitionCode({degree + 1},GF({size})))"))
+            return self.zeros(f"{call}({outer.text},{inner})", outer.length * degree, size)
+        a = self.code(depth - 1)
+        if call in ("PuncturedCode", "ShortenedCode"):
+            places = self.coordinates(a.length)
+            return self.zeros(f"{call}({a.text},{self.text(places)})", max(1, a.length - len(places)), a.size)
+        if call == "ExtendedCode" or (call == "EvenWeightSubcode" and (a.size == 2 or self.chance(self.faults))):
+            return self.zeros(f"{call}({a.text})", a.length + (call == "ExtendedCode"), a.size)
+        if call == "EvenWeightSubcode":
+            return a
+        same = call in ("UUVCode", "IntersectionCode") and not self.chance(self.faults)
+        b = self.over(a.size, a.length if same else 1 + self.below(6))
+        length = {"DirectProductCode": a.length * b.length, "IntersectionCode": a.length}.get(call, a.length + b.length)
+        return self.zeros(f"{call}({a.text},{b.text})", length, a.size)
+
+    def cyclic_or_formed(self):
+        way = self.below(6)
+        if way == 0:
+            call, length, size = self.pick((("BinaryGolayCode", 23, 2), ("TernaryGolayCode", 11, 3), ("ExtendedBinaryGolayCode", 24, 2),
+                                            ("ExtendedTernaryGolayCode", 12, 3)))
+            return self.zeros(f"{call}()", length, size)
+        if way == 1:
+            call = self.pick(("GeneratorPolCode", "CheckPolCode"))
+            size, length, x = self.pick(((2, 7, [1, 1, 0, 1]), (2, 15, [1, 1, 0, 0, 1]), (3, 8, [2, 1]), (4, 5, [1, 2, 1]), (2, 6, [1, 1, 1]),
+                                         (3, 4, [1, 0, 1]), (5, 4, [3, 1]), (9, 8, [6, 1]), (2, 9, [1] * 9)))
+            x = self.row(size, self.below(4)) if self.chance(self.faults) else x + [0] * self.below(2)
+            length = self.pick((0, 4, 256)) if self.chance(self.faults) else length * (1 + self.below(2))
+            return self.zeros(f"{call}({self.text(x)},{length},{self.field(size)})", max(1, length), size)
+        if way == 2:
+            length = self.pick((0, 5, 6, 14, 24, 255)) if self.chance(self.faults) else self.pick((1, 2, 3, 4, 6, 7, 8, 10, 12, 15))
+            distance = self.pick((0, length + 1, 2**64 - 1)) if self.chance(self.faults) else 1 + self.below(max(1, length))
+            return self.zeros(f"ReedSolomonCode({length},{distance})", max(1, length), length + 1)
+        if way == 3:
+            size = self.pick((2, 2, 2, 3, 4, 5, 8, 9, 16))
+            fine = {2: (1, 3, 5, 7, 9, 15, 21, 31, 63), 3: (1, 2, 4, 8, 13, 20, 26, 40), 4: (1, 3, 5, 15, 7, 9, 21), 5: (1, 2, 3, 4, 6, 8, 12, 24),
+                    8: (1, 7, 9, 21), 9: (1, 2, 4, 5, 8, 10, 16), 16: (3, 5, 15)}[size]
+            length = self.pick((0, 4, 10, 14, 256)) if self.chance(self.faults) else self.pick(fine)
+            distance = self.pick((0, 1, length + 1)) if self.chance(self.faults) else min(max(1, length), 2 + self.below(6))
+            first = "" if self.chance(0.5) else f"{self.pick((0, 1, 2, 3, length, length + 1, 2**64 - 1))},"
+            return self.zeros(f"BCHCode({length},{first}{distance},{self.field(size)})", max(1, length), size)
+        return self.by_points(way == 4)
+
+    def by_points(self, goppa):
+        small, large = self.pick(((2, 8), (2, 16), (2, 4), (3, 9), (4, 16), (5, 5), (3, 27), (5, 25), (2, 32), (2, 64), (7, 7)))
+        if self.chance(self.faults / 3):
+            small = self.pick((2, 3, 4, 25))
+        points = sorted(range(large), key=lambda _: self.source.random())[:min(large, 1 + self.below(9))]
+        if self.chance(self.faults / 2):
+            points = self.pick(([], points + points[:1], points + [large], points + [256], [2**32] + points))
+        if goppa:
+            x = [self.below(large) for _ in range(1 + self.below(4))] + ([0] if self.chance(0.1) else [1])
+            if self.chance(self.faults / 2):
+                x = self.pick(([], [0], [1], [1, 256], [1, large], x + [0] * 300))
+            return self.zeros(f"GoppaCode({self.text(x)},{self.text(points)},GF({large}),GF({small}))", max(1, len(points)), small)
+        multipliers = [1 + self.below(large - 1) for _ in points]
+        if points and self.chance(self.faults / 2):
+            multipliers[self.below(len(points))] = self.pick((0, large, 256, 2**64 - 1))
+        if self.chance(self.faults / 3):
+            multipliers = multipliers + [1]
+        r = self.pick((0, len(points) + 1, 2**64 - 1)) if self.chance(self.faults) else 1 + self.below(max(1, len(points)))
+        return self.zeros(f"AlternantCode({r},{self.text(points)},{self.text(multipliers)},GF({large}),GF({small}))", max(1, len(points)), small)
 
     def constructed(self):
         size, length, way = self.size(), self.length(), self.below(8)

@@ -13,8 +13,12 @@ from dataclasses import dataclass
 from functools import lru_cache
 from itertools import combinations, product as tuples
 
+import field_tables
+import linear_algebra
 import search
 from linear_algebra import Field, span
+
+linear_algebra.FIELDS = field_tables.FIELDS
 
 INPUT_LIMIT = 1048576
 DEEPEST = 32
@@ -203,10 +207,20 @@ class FieldValue:
 
 
 @dataclass
+class Form:
+    """An alternant form: the locator field's size, the points, a multiplier for each, and the number of checks."""
+    locator: int
+    points: list
+    multipliers: list
+    r: int
+
+
+@dataclass
 class Code:
     size: int  # of the field
     length: int
     rows: list  # the reduced generator matrix
+    form: object = None  # the alternant form, if the code was made with one
 
 
 @lru_cache(maxsize=None)
@@ -283,6 +297,72 @@ def is_in(code, word):
 
 def weight_of(word):
     return sum(1 for a in word if a)
+
+
+# ---- larger fields ------------------------------------------------------------------------------------------------
+
+def power(field, a, exponent):
+    result = 1
+    for _ in range(exponent % (field.q - 1) if a and exponent else exponent and 1):
+        result = field.products[result][a]
+    return result
+
+
+@lru_cache(maxsize=None)
+def primitive(size):
+    """The least element whose powers are all nonzero elements."""
+    field = arithmetic(size)
+    return next(a for a in range(1, size) if len({power(field, a, e) for e in range(size - 1)}) == size - 1)
+
+
+def value_at(field, polynomial, x):
+    total = 0
+    for a in reversed(polynomial):
+        total = field.sums[a][field.products[x][total]]
+    return total
+
+
+def is_subfield(small, large):
+    return any(small**s == large for s in range(1, 9))
+
+
+def embed(small, large, a):
+    """The image of an element: the value of its polynomial at the least zero of the small field's polynomial."""
+    field, large_field = arithmetic(small), arithmetic(large)
+    zero = next(x for x in range(large) if value_at(large_field, field.lower + [1], x) == 0)
+    return value_at(large_field, field.polynomial(a), zero)
+
+
+@lru_cache(maxsize=None)
+def expansions(small, large):
+    """For each element of the large field its coefficients c_i, elements of the small one: the element is the sum of c_i times
+    the i-th power of the primitive element."""
+    field, gamma = arithmetic(large), primitive(large)
+    degree = next(s for s in range(1, 9) if small**s == large)
+    powers, images = [power(field, gamma, i) for i in range(degree)], [embed(small, large, c) for c in range(small)]
+    found = {}
+    for c in tuples(range(small), repeat=degree):
+        total = 0
+        for a, b in zip(c, powers):
+            total = field.sums[total][field.products[images[a]][b]]
+        found[total] = c
+    return found
+
+
+def code_of_large_checks(small, large, length, checks):
+    """The words over the small field whose sums of w_i h_i are 0 for each check h over the large one: so is each coefficient."""
+    told = expansions(small, large)
+    rows = [[told[a][i] for a in check] for check in checks for i in range(len(told[0]))]
+    return code_of_checks(small, length, rows)
+
+
+def code_of_form(size, form):
+    field = arithmetic(form.locator)
+    checks = [[field.products[y][power(field, a, j)] for a, y in zip(form.points, form.multipliers)]
+              for j in range(min(form.r, len(form.points)))]
+    code = code_of_large_checks(size, form.locator, len(form.points), checks)
+    code.form = form
+    return code
 
 
 # ---- calls --------------------------------------------------------------------------------------------------------
@@ -376,6 +456,234 @@ def reed_muller_code(r, m):
     return code_of_rows(2, length, rows)
 
 
+def trimmed(polynomial):
+    last = max((i for i, a in enumerate(polynomial) if a), default=-1)
+    return polynomial[:last + 1]
+
+
+def divides(field, divisor, polynomial):
+    """Long division from the highest coefficient down: nothing is left."""
+    left, scale = list(polynomial), inverse(field, divisor[-1])
+    for top in range(len(left) - 1, len(divisor) - 2, -1):
+        factor = negative(field, field.products[scale][left[top]])
+        for i, a in enumerate(divisor):
+            at = top - len(divisor) + 1 + i
+            left[at] = field.sums[left[at]][field.products[factor][a]]
+    return not any(left)
+
+
+def need_divisor(polynomial, length, field):
+    """The polynomial modulo x^n - 1, as n coefficients."""
+    need_symbol_field(field)
+    need_length(length)
+    need_entries(polynomial, field.size, 1)
+    divisor, numbers = trimmed(polynomial), arithmetic(field.size)
+    if not divisor:
+        raise Refused(3, 1)
+    if not divides(numbers, divisor, [negative(numbers, 1)] + [0] * (length - 1) + [1]):
+        raise Refused(4)
+    folded = [0] * length
+    for i, a in enumerate(divisor):
+        folded[i % length] = numbers.sums[folded[i % length]][a]
+    return folded
+
+
+def generator_pol_code(polynomial, length, field):
+    g = need_divisor(polynomial, length, field)
+    return code_of_rows(field.size, length, [[g[(i - j) % length] for i in range(length)] for j in range(length)])
+
+
+def check_pol_code(polynomial, length, field):
+    h = need_divisor(polynomial, length, field)
+    return code_of_checks(field.size, length, [[h[(i - j) % length] for j in range(length)] for i in range(length)])
+
+
+def binary_golay_code():
+    return generator_pol_code([1, 0, 1, 0, 1, 1, 1, 0, 0, 0, 1, 1], 23, FieldValue(2))
+
+
+def ternary_golay_code():
+    return generator_pol_code([2, 0, 1, 2, 1, 1], 11, FieldValue(3))
+
+
+def locator_size(size, length):
+    """The least field that holds this one and has an element of that order."""
+    return next((q for q in FIELD_SIZES if is_subfield(size, q) and (q - 1) % length == 0), None)
+
+
+def bch_code(length, *rest):
+    first, distance, field = (1,) + rest if len(rest) == 2 else rest
+    need_symbol_field(field)
+    need_length(length)
+    large = locator_size(field.size, length)
+    if large is None:
+        raise Refused(5)
+    if not 2 <= distance <= length:
+        raise Refused(6)
+    numbers = arithmetic(large)
+    beta = power(numbers, primitive(large), (large - 1) // length)
+    checks = [[power(numbers, beta, e * i) for i in range(length)] for e in range(first, first + distance - 1)]
+    code = code_of_large_checks(field.size, large, length, checks)
+    points = [power(numbers, beta, i) for i in range(length)]
+    code.form = Form(large, points, [power(numbers, a, first % length) for a in points], distance - 1)
+    return code
+
+
+def reed_solomon_code(length, distance):
+    if length + 1 not in SYMBOL_SIZES:
+        raise Refused(7)
+    if not 1 <= distance <= length:
+        raise Refused(6)
+    numbers, size = arithmetic(length + 1), length + 1
+    points = [power(numbers, primitive(size), i) for i in range(length)]
+    code = code_of_checks(size, length, [[power(numbers, a, e) for a in points] for e in range(1, distance)])
+    code.form = Form(size, points, list(points), distance - 1)
+    return code
+
+
+def need_subfield(field, locator, points):
+    need_symbol_field(field)
+    if not is_subfield(field.size, locator.size):
+        raise Refused(10)
+    need_length(len(points))
+
+
+def need_distinct(points):
+    for second, a in enumerate(points):
+        if points.index(a) < second:
+            raise Refused(8, points.index(a), second)
+
+
+def goppa_code(polynomial, points, locator, field):
+    need_subfield(field, locator, points)
+    need_entries(polynomial, locator.size, 1)
+    g = trimmed(polynomial)
+    if not 2 <= len(g) <= 256:
+        raise Refused(3, 1)
+    need_entries(points, locator.size, 2)
+    need_distinct(points)
+    numbers = arithmetic(locator.size)
+    values = [value_at(numbers, g, a) for a in points]
+    if 0 in values:
+        raise Refused(9, values.index(0))
+    return code_of_form(field.size, Form(locator.size, points, [inverse(numbers, v) for v in values], len(g) - 1))
+
+
+def alternant_code(r, points, multipliers, locator, field):
+    need_subfield(field, locator, points)
+    if len(points) != len(multipliers):
+        raise Refused(12)
+    if not 1 <= r <= len(points):
+        raise Refused(3, 1)
+    need_entries(points, locator.size, 2)
+    need_entries(multipliers, locator.size, 3)
+    if 0 in multipliers:
+        raise Refused(3, 3)
+    need_distinct(points)
+    return code_of_form(field.size, Form(locator.size, points, multipliers, r))
+
+
+def extended_code(code):
+    need_length(code.length + 1)
+    field, rows = arithmetic(code.size), []
+    for row in code.rows:
+        total = 0
+        for a in row:
+            total = field.sums[total][a]
+        rows.append(row + [negative(field, total)])
+    return code_of_rows(code.size, code.length + 1, rows)
+
+
+def without(word, places):
+    return [a for i, a in enumerate(word) if i not in places]
+
+
+def need_places(places, length):
+    if places != sorted(set(places)) or any(p >= length for p in places) or len(places) == length:
+        raise Refused(13)
+
+
+def punctured_code(code, places):
+    need_places(places, code.length)
+    return code_of_rows(code.size, code.length - len(places), [without(row, places) for row in code.rows])
+
+
+def with_checks(code, checks):
+    """The words of a code whose dot product with each check is 0 besides."""
+    return code_of_checks(code.size, code.length, dual_of(code).rows + checks)
+
+
+def shortened_code(code, places):
+    need_places(places, code.length)
+    zeros = with_checks(code, [[int(i == p) for i in range(code.length)] for p in places])
+    return code_of_rows(code.size, code.length - len(places), [without(row, places) for row in zeros.rows])
+
+
+def even_weight_subcode(code):
+    if code.size != 2:
+        raise Refused(3, 1)
+    return with_checks(code, [[1] * code.length])
+
+
+def need_same_field(a, b):
+    if a.size != b.size:
+        raise Refused(11)
+
+
+def need_same_length(a, b):
+    if a.length != b.length:
+        raise Refused(12)
+
+
+def direct_sum_code(a, b):
+    need_same_field(a, b)
+    need_length(a.length + b.length)
+    rows = [u + [0] * b.length for u in a.rows] + [[0] * a.length + v for v in b.rows]
+    return code_of_rows(a.size, a.length + b.length, rows)
+
+
+def uuv_code(a, b):
+    need_same_field(a, b)
+    need_same_length(a, b)
+    need_length(2 * a.length)
+    return code_of_rows(a.size, 2 * a.length, [u + u for u in a.rows] + [[0] * a.length + v for v in b.rows])
+
+
+def direct_product_code(a, b):
+    need_same_field(a, b)
+    need_length(a.length * b.length)
+    field = arithmetic(a.size)
+    rows = [[field.products[x][y] for x in u for y in v] for u in a.rows for v in b.rows]
+    return code_of_rows(a.size, a.length * b.length, rows)
+
+
+def intersection_code(a, b):
+    need_same_field(a, b)
+    need_same_length(a, b)
+    return with_checks(a, dual_of(b).rows)
+
+
+def concatenated_code(outer, inner):
+    if not is_subfield(inner.size, outer.size):
+        raise Refused(11)
+    degree = next(s for s in range(1, 9) if inner.size**s == outer.size)
+    if len(inner.rows) != degree:
+        raise Refused(14, len(inner.rows), degree)
+    need_length(outer.length * inner.length)
+    small, large, told = arithmetic(inner.size), arithmetic(outer.size), expansions(inner.size, outer.size)
+    rows = []
+    for row in outer.rows:
+        for c in range(1, outer.size):  # all multiples, so that no basis of the large field is needed
+            word = []
+            for a in row:
+                image = [0] * inner.length
+                for factor, inner_row in zip(told[large.products[c][a]], inner.rows):
+                    image = small.add_scaled(image, factor, inner_row)
+                word += image
+            rows.append(word)
+    return code_of_rows(inner.size, outer.length * inner.length, rows)
+
+
 def is_codeword(code, word):
     if len(word) != code.length:
         raise Refused(12)
@@ -402,28 +710,47 @@ def minimum_distance_line(code):
     return f"distance {distance} word {text_of(list(word))} blocks {blocks}"
 
 
-# name: the kinds of the arguments, and the function
+# name: the kinds of the arguments in each form of the call, and the function
 CALLS = {
-    "GF": (("number",), gf),
-    "GeneratorMatCode": (("lists", "field"), generator_mat_code),
-    "CheckMatCode": (("lists", "field"), check_mat_code),
-    "RepetitionCode": (("number", "field"), repetition_code),
-    "WholeSpaceCode": (("number", "field"), whole_space_code),
-    "NullCode": (("number", "field"), null_code),
-    "HammingCode": (("number", "field"), hamming_code),
-    "ReedMullerCode": (("number", "number"), reed_muller_code),
-    "DualCode": (("code",), dual_of),
-    "Dimension": (("code",), lambda code: len(code.rows)),
-    "WordLength": (("code",), lambda code: code.length),
-    "GeneratorMat": (("code",), lambda code: code.rows),
-    "CheckMat": (("code",), lambda code: dual_of(code).rows),
-    "Weight": (("numbers",), weight_of),
-    "IsCodeword": (("code", "numbers"), is_codeword),
+    "GF": ([("number",)], gf),
+    "GeneratorMatCode": ([("lists", "field")], generator_mat_code),
+    "CheckMatCode": ([("lists", "field")], check_mat_code),
+    "RepetitionCode": ([("number", "field")], repetition_code),
+    "WholeSpaceCode": ([("number", "field")], whole_space_code),
+    "NullCode": ([("number", "field")], null_code),
+    "HammingCode": ([("number", "field")], hamming_code),
+    "ReedMullerCode": ([("number", "number")], reed_muller_code),
+    "GeneratorPolCode": ([("numbers", "number", "field")], generator_pol_code),
+    "CheckPolCode": ([("numbers", "number", "field")], check_pol_code),
+    "BinaryGolayCode": ([()], binary_golay_code),
+    "TernaryGolayCode": ([()], ternary_golay_code),
+    "ExtendedBinaryGolayCode": ([()], lambda: extended_code(binary_golay_code())),
+    "ExtendedTernaryGolayCode": ([()], lambda: extended_code(ternary_golay_code())),
+    "BCHCode": ([("number", "number", "field"), ("number", "number", "number", "field")], bch_code),
+    "ReedSolomonCode": ([("number", "number")], reed_solomon_code),
+    "GoppaCode": ([("numbers", "numbers", "field", "field")], goppa_code),
+    "AlternantCode": ([("number", "numbers", "numbers", "field", "field")], alternant_code),
+    "DualCode": ([("code",)], dual_of),
+    "ExtendedCode": ([("code",)], extended_code),
+    "PuncturedCode": ([("code", "numbers")], punctured_code),
+    "ShortenedCode": ([("code", "numbers")], shortened_code),
+    "EvenWeightSubcode": ([("code",)], even_weight_subcode),
+    "DirectSumCode": ([("code", "code")], direct_sum_code),
+    "UUVCode": ([("code", "code")], uuv_code),
+    "DirectProductCode": ([("code", "code")], direct_product_code),
+    "IntersectionCode": ([("code", "code")], intersection_code),
+    "ConcatenatedCode": ([("code", "code")], concatenated_code),
+    "Dimension": ([("code",)], lambda code: len(code.rows)),
+    "WordLength": ([("code",)], lambda code: code.length),
+    "GeneratorMat": ([("code",)], lambda code: code.rows),
+    "CheckMat": ([("code",)], lambda code: dual_of(code).rows),
+    "Weight": ([("numbers",)], weight_of),
+    "IsCodeword": ([("code", "numbers")], is_codeword),
 }
 # these print a line of their own, and stand only as a whole statement
 QUERIES = {
-    "LeastWord": (("lists", "field"), least_word_line),
-    "MinimumDistance": (("code",), minimum_distance_line),
+    "LeastWord": ([("lists", "field")], least_word_line),
+    "MinimumDistance": ([("code",)], minimum_distance_line),
 }
 
 
@@ -477,8 +804,9 @@ def list_value(parts, names):
 
 def call_value(expr, table, names):
     """What a call of this table gives; its name stands in the table."""
-    kinds, function = table[expr.value.decode()]
-    if len(expr.parts) != len(kinds):
+    forms, function = table[expr.value.decode()]
+    kinds = next((form for form in forms if len(form) == len(expr.parts)), None)
+    if kinds is None:
         raise Fault(46, expr.place)
     values = [value_of(part, names) for part in expr.parts]
     for kind, part, value in zip(kinds, expr.parts, values):

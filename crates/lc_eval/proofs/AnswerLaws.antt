@@ -1,11 +1,14 @@
 -- The answer of a call at its place.
 --   first_from_codes              the first refusal of a constructor is that of the call
+--   Applying                      what a call with a known refusal, or without one, answers
+--   given                         a value is no refusal
 --   always                        a call that isn't refused
 --   given_by, refused_by          a value, and the refusal of a constructor of codes
---   applied                       a code that was made, or its refusal
+--   first_as                      so is the first refusal of a call
+--   applied                       what was made, or its refusal
 --   made_applies                  a code of the words that meet P
 --   never_refused                 a call without refusals
-use Rattle.std.proofs.Common.{◌≡◌, ◌≢◌, ℕ, ◌⊎◌, Bool, true, false, not, if◌then◌else◌, List, [], ◌∷◌, Option, Some, None, option_map, MatchOption, Result, Ok, Err, is_ok, IfOk, refl, sym, ap, subst, ◌∙◌, inr, true≢false}
+use Rattle.std.proofs.Common.{◌≡◌, ℕ, ◌⊎◌, List, [], ◌∷◌, Option, Some, None, option_map, MatchOption, Result, Ok, Err, IfOk, refl, sym, ap, subst, ◌∙◌, inr}
 use Rattle.lc_algebra.specs.Matrix.{Matrix}
 use Rattle.lc_algebra.specs.declared.FieldName.{FieldName}
 use Rattle.lc_constructions.specs.Code.{IsCode}
@@ -22,9 +25,9 @@ use Rattle.lc_eval.specs.declared.refusals.Stop.{Stop}
 use Rattle.lc_eval.specs.declared.refusals.Stop.TheVariants as stop
 use Rattle.lc_eval.specs.Value.{value_of, refused_of}
 use Rattle.lc_eval.specs.Applied.{Answers}
-use Rattle.lc_eval.specs.Made.{IsMade}
+use Rattle.lc_eval.specs.Made.{IsMade, IsMadeAs, plain_value}
 
-abbrev Applying : ℕ → BoundCall → Option Refusal → Outcome → Type 0
+abbrev pub Applying : ℕ → BoundCall → Option Refusal → Outcome → Type 0
 Applying place b r o =
     MatchOption r
     ((IsNotDivisor b × (o ≡ refuse_at 4 place)) ⊎ (¬ IsNotDivisor b × ((v : language.Value) × Gives b v × (o ≡ gives v))))
@@ -40,7 +43,7 @@ first_from_codes [] = refl
 first_from_codes (None ∷ rs) = first_from_codes rs
 first_from_codes (Some r ∷ rs) = refl
 
-given : (v : language.Value) (place : ℕ) (r : Refusal) → gives v ≡ refuse_call place r → ⊥
+pub given : (v : language.Value) (place : ℕ) (r : Refusal) → gives v ≡ refuse_call place r → ⊥
 unfolding refuse_call
 given v place r e = cc
 
@@ -57,24 +60,24 @@ pub refused_by : (place : ℕ) (b : BoundCall) (e : CodeRefusal) (s : Stop) → 
 refused_by place b e (stop.Refused r) h m = applying place b (Some (refusal_from e)) (Err (stop.Refused r)) h m.1
 refused_by place b e stop.NoMemory h m = tt
 
-first_as : (b : BoundCall) (rs : List (Option CodeRefusal)) (r : Option CodeRefusal) → refusals_of b ≡ from_codes rs → first_refusal rs ≡ r → refusal_of b ≡ option_map refusal_from r
+pub first_as : (b : BoundCall) (rs : List (Option CodeRefusal)) (r : Option CodeRefusal) → refusals_of b ≡ from_codes rs → first_refusal rs ≡ r → refusal_of b ≡ option_map refusal_from r
 unfolding refusal_of
 first_as b rs r e h = ap first_of e ∙ first_from_codes rs ∙ ap (option_map refusal_from) h
 
-pub applied : (place : ℕ) (b : BoundCall) (rs : List (Option CodeRefusal)) (made : Result Matrix CodeRefusal) (result : Result Value Stop)
+pub applied : {T : Type 0} (place : ℕ) (b : BoundCall) (rs : List (Option CodeRefusal)) (value : T → language.Value) (made : Result T CodeRefusal) (result : Result Value Stop)
     → refusals_of b ≡ from_codes rs → ¬ IsNotDivisor b
-    → ((C : Matrix) → made ≡ Ok C → first_refusal rs ≡ None → Gives b (code C None))
-    → IsRefusedAs made (first_refusal rs) → IsMade made place result → Answers result (AppliesTo place b)
-applied place b rs (Ok C) result e n g h s = always place b result (code C None) (first_as b rs None e h) n (g C refl h) s
-applied place b rs (Err x) (Ok v) e n g h s = absurd (given (value_of v) place (refusal_from x) s.1)
-applied place b rs (Err x) (Err (stop.Refused r)) e n g h s = applying place b (Some (refusal_from x)) (Err (stop.Refused r)) (first_as b rs (Some x) e (h s.0)) s.1
-applied place b rs (Err x) (Err stop.NoMemory) e n g h s = tt
+    → ((x : T) → made ≡ Ok x → first_refusal rs ≡ None → Gives b (value x))
+    → IsRefusedAs made (first_refusal rs) → IsMadeAs value made place result → Answers result (AppliesTo place b)
+applied place b rs value (Ok x) result e n g h s = always place b result (value x) (first_as b rs None e h) n (g x refl h) s
+applied place b rs value (Err x) (Ok v) e n g h s = absurd (given (value_of v) place (refusal_from x) s.1)
+applied place b rs value (Err x) (Err (stop.Refused r)) e n g h s = applying place b (Some (refusal_from x)) (Err (stop.Refused r)) (first_as b rs (Some x) e (h s.0)) s.1
+applied place b rs value (Err x) (Err stop.NoMemory) e n g h s = tt
 
 pub made_applies : (place : ℕ) (b : BoundCall) (rs : List (Option CodeRefusal)) (f : FieldName) (n : ℕ) (P : List ℕ → Type 0) (made : Result Matrix CodeRefusal) (result : Result Value Stop)
     → refusals_of b ≡ from_codes rs → ¬ IsNotDivisor b → ((v : language.Value) → Made f n P v → Gives b v)
     → IfOk made (λ C. IsCode f n P C) → IsRefusedAs made (first_refusal rs) → IsMade made place result → Answers result (AppliesTo place b)
 made_applies place b rs f n P made result e fine g c h s =
-    applied place b rs made result e fine
+    applied place b rs plain_value made result e fine
     (λ C m o. let is : IsCode f n P C = rw m at c in g (code C None) (record { code_is = (C, is, refl) }))
     h s
 

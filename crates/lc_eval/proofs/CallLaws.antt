@@ -2,7 +2,7 @@
 --   gf_field, gf_refused          fields
 --   generator_applies, check_applies      codes by a matrix
 --   codeword_long, codeword_no_symbol, codeword_told      whether a list is a word of a code
-use Rattle.std.proofs.Common.{◌≡◌, ◌≢◌, ℕ, ◌<◌, ◌↔◌, Bool, true, false, not, nat_lt, slice_index, slice_index_or, ◌==◌, List, [], ◌∷◌, map, length, Vec, Global, Some, None, Result, Err, IfOk, IsTrue, refl, sym, ap, subst, ◌∙◌, inr, ⊎_elim, true≢false, arith}
+use Rattle.std.proofs.Common.{◌≡◌, ◌≢◌, ℕ, ◌<◌, ◌↔◌, Bool, true, false, nat_lt, slice_index, slice_index_or, ◌==◌, List, [], ◌∷◌, map, length, Vec, Global, Some, None, Result, Err, IfOk, IsTrue, refl, sym, ap, subst, ◌∙◌, ⊎_elim, true≢false, arith}
 use Rattle.std.specs.List.{list_any, list_all}
 use Rattle.std.proofs.lemmas.List.{get_or_default}
 use Rattle.std.proofs.lemmas.List.Sums.{AllPass-from_list_all, list_all-from_AllPass}
@@ -22,7 +22,6 @@ use Rattle.lc_constructions.specs.Refusals.{columns_of, are_elements, matrix_ref
 use Rattle.lc_constructions.specs.Cyclic.{all_fields}
 use Rattle.lc_basic.proofs.HammingLaws.{small_field}
 use Rattle.lc_language.specs.Bound.{BoundCall, gf, generator_mat_code, check_mat_code, is_codeword}
-use Rattle.lc_language.specs.Value as language
 use Rattle.lc_language.specs.Value.{field, code, truth}
 use Rattle.lc_language.specs.Refusal.{refuse, when, first_of, refusal_from, from_codes, word_refusals, refusals_of, refusal_of}
 use Rattle.lc_language.specs.Meaning.{Gives, IsNotDivisor}
@@ -32,7 +31,7 @@ use Rattle.lc_eval.specs.declared.refusals.Refused.{Refused}
 use Rattle.lc_eval.specs.declared.refusals.Stop.{Stop}
 use Rattle.lc_eval.specs.Value.{rows_of, refused_of}
 use Rattle.lc_eval.specs.Applied.{Answers}
-use Rattle.lc_eval.specs.Made.{IsMade}
+use Rattle.lc_eval.specs.Made.{IsMade, plain_value}
 use Rattle.lc_eval.specs.Rows.{clamped, clamped_rows}
 use Rattle.lc_eval.proofs.AnswerLaws.{applied, given_by, refused_by}
 use Rattle.lc_eval.proofs.RowLaws.{clamped_each, columns_same, clamped_refusals, fine_same, elements_same, row_kept}
@@ -108,7 +107,7 @@ matrix_applies : (place : ℕ) (b : BoundCall) (f : FieldName) (P : List (List �
     → IsRefusedAs made (first_refusal (matrix_refusals f words)) → IsMade made place result → Answers result (AppliesTo place b)
 matrix_applies place b f P rows words made result e fine g w c h s =
     let t = same_rows f rows words made w h in
-    applied place b (matrix_refusals f (rows_of rows)) made result e fine
+    applied place b (matrix_refusals f (rows_of rows)) plain_value made result e fine
     (λ C m o.
     let x : IsCode f (columns_of words) (P words (columns_of words)) C = rw m at c in
     let y : IsCode f (columns_of (rows_of rows)) (P words (columns_of (rows_of rows))) C = subst (λ n. IsCode f n (P words n) C) t.long x in

@@ -4,7 +4,6 @@
 --   wrong_count, arguments_fault, call_bound, call_misfit      a call that gives a value, in an expression
 --   query_count, query_fault, query_bound, query_misfit        a query, as a statement
 use Rattle.std.proofs.Common.{◌≡◌, ℕ, zero, suc, ◌+◌, ◌<◌, ◌==◌, List, [], ◌∷◌, ◌++◌, length, map, take, drop, get_or, find, Option, Some, None, Result, Ok, Err, refl, sym, ap, subst, ◌∙◌, arith}
-use Rattle.std.specs.Global.{Vec}
 use Rattle.std.proofs.lemmas.List.{map-append, map_more}
 use Rattle.lc_language.specs.declared.Call as declared
 use Rattle.lc_language.specs.declared.Call.TheVariants as language_call
@@ -28,7 +27,6 @@ use Rattle.lc_eval.specs.declared.calls.Row.{Row}
 use Rattle.lc_eval.specs.declared.values.Value.{Value}
 use Rattle.lc_eval.specs.declared.refusals.Stop.{Stop}
 use Rattle.lc_eval.specs.declared.refusals.Stop.TheVariants as stop
-use Rattle.lc_eval.specs.declared.statement.Effect.{Effect}
 use Rattle.lc_eval.specs.Value.{value_of, values_of, refused_of}
 use Rattle.lc_eval.specs.Applied.{Answers, IsStop}
 use Rattle.lc_eval.specs.Evaluated.{AnswersAll, AffectsOrFails}

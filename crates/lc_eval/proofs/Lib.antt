@@ -9,3 +9,6 @@ pub mod AnswerLaws
 pub mod RowLaws
 pub mod CallLaws
 pub mod QueryLaws
+pub mod WideLaws
+pub mod FormLaws
+pub mod CyclicCalls

@@ -3,8 +3,9 @@
 --   columns_same                     the length of a matrix
 --   clamped_refusals                 a matrix is refused by its numbers as by its symbols
 --   elements_same, row_kept          the entries of a row
+--   none_here                        the first refusal does not apply
 --   fine_same, fine_rows             a matrix that isn't refused holds elements alone
-use Rattle.std.proofs.Common.{◌≡◌, ℕ, ◌<◌, ◌≤◌, min, Bool, true, false, not, nat_lt, nat_le, ◌==◌, ◌&&◌, ◌||◌, if◌then◌else◌, List, [], ◌∷◌, length, map, Vec, Global, Option, Some, None, is_none, slice_index_or, slice_index, refl, sym, ap, ◌∙◌, ⊎_elim, true≢false, arith}
+use Rattle.std.proofs.Common.{◌≡◌, ℕ, ◌<◌, ◌≤◌, min, Bool, true, false, not, nat_lt, ◌==◌, ◌&&◌, List, [], ◌∷◌, length, map, Vec, Global, Option, None, is_none, slice_index_or, slice_index, refl, sym, ap, ⊎_elim, true≢false, arith}
 use Rattle.std.specs.List.{list_all}
 use Rattle.std.proofs.lemmas.List.{length-map}
 use Rattle.std.proofs.lemmas.List.Sums.{AllPass-from_list_all}
@@ -74,7 +75,7 @@ refused_later f rows h = rw (columns_same rows, even_same rows, entries_same f r
 pub clamped_refusals : (f : FieldName) (rows : List (List ℕ)) → first_refusal (matrix_refusals f (clamped_rows rows)) ≡ first_refusal (matrix_refusals f rows)
 clamped_refusals f rows = ⊎_elim (λ t. refused_later f rows t) (λ t. refused_first f (clamped_rows rows) rows t) (cases_Bool (is_symbol f))
 
-none_here : (b : Bool) (r : CodeRefusal) (rs : List (Option CodeRefusal)) → first_refusal (refuse_if (not b) r ∷ rs) ≡ None → (b ≡ true) × (first_refusal rs ≡ None)
+pub none_here : (b : Bool) (r : CodeRefusal) (rs : List (Option CodeRefusal)) → first_refusal (refuse_if (not b) r ∷ rs) ≡ None → (b ≡ true) × (first_refusal rs ≡ None)
 unfolding first_refusal refuse_if
 none_here true r rs h = (refl, h)
 none_here false r rs h = absurd (true≢false (ap is_none (sym h)))

@@ -1,7 +1,7 @@
 -- What a call answers of its arguments; the clauses of private functions alone speak of these.
 --   Answers r P                  r is an answer, a value or a fault, of which P holds, unless memory ran out
 --   IsStop s o                   s is the fault o
-use Rattle.std.specs.Prelude.{◌≡◌, ℕ, Result, Ok, Err}
+use Rattle.std.specs.Prelude.{◌≡◌, Result, Ok, Err}
 use Rattle.lc_language.specs.Evaluation.{Outcome, gives, refused}
 use Rattle.lc_eval.specs.Value.{value_of, refused_of}
 use Rattle.lc_eval.specs.declared.values.Value.{Value}

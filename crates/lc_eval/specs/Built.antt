@@ -9,7 +9,7 @@ use Rattle.std.specs.Prelude.{◌≡◌, ℕ, List, [], ◌∷◌, map, Some}
 use Rattle.lc_language.specs.declared.Call as language
 use Rattle.lc_language.specs.declared.Call.TheVariants.{Value, Query}
 use Rattle.lc_language.specs.declared.ValueCall as language_value
-use Rattle.lc_language.specs.declared.ValueCall.TheVariants.{Gf, GeneratorMatCode, CheckMatCode, RepetitionCode, WholeSpaceCode, NullCode, HammingCode, ReedMullerCode, DualCode, Dimension, WordLength, GeneratorMat, CheckMat, Weight, IsCodeword}
+use Rattle.lc_language.specs.declared.ValueCall.TheVariants.{Gf, GeneratorMatCode, CheckMatCode, RepetitionCode, WholeSpaceCode, NullCode, HammingCode, ReedMullerCode, GeneratorPolCode, CheckPolCode, BinaryGolayCode, TernaryGolayCode, ExtendedBinaryGolayCode, ExtendedTernaryGolayCode, BchCode, ReedSolomonCode, GoppaCode, AlternantCode, DualCode, ExtendedCode, PuncturedCode, ShortenedCode, EvenWeightSubcode, DirectSumCode, UuvCode, DirectProductCode, IntersectionCode, ConcatenatedCode, Dimension, WordLength, GeneratorMat, CheckMat, Weight, IsCodeword}
 use Rattle.lc_language.specs.declared.QueryCall as language_query
 use Rattle.lc_language.specs.declared.QueryCall.TheVariants.{LeastWord, MinimumDistance}
 use Rattle.lc_language.specs.declared.Kind.{Kind}
@@ -37,7 +37,26 @@ value_call_of v.WholeSpaceCode = WholeSpaceCode
 value_call_of v.NullCode = NullCode
 value_call_of v.HammingCode = HammingCode
 value_call_of v.ReedMullerCode = ReedMullerCode
+value_call_of v.GeneratorPolCode = GeneratorPolCode
+value_call_of v.CheckPolCode = CheckPolCode
+value_call_of v.BinaryGolayCode = BinaryGolayCode
+value_call_of v.TernaryGolayCode = TernaryGolayCode
+value_call_of v.ExtendedBinaryGolayCode = ExtendedBinaryGolayCode
+value_call_of v.ExtendedTernaryGolayCode = ExtendedTernaryGolayCode
+value_call_of v.BchCode = BchCode
+value_call_of v.ReedSolomonCode = ReedSolomonCode
+value_call_of v.GoppaCode = GoppaCode
+value_call_of v.AlternantCode = AlternantCode
 value_call_of v.DualCode = DualCode
+value_call_of v.ExtendedCode = ExtendedCode
+value_call_of v.PuncturedCode = PuncturedCode
+value_call_of v.ShortenedCode = ShortenedCode
+value_call_of v.EvenWeightSubcode = EvenWeightSubcode
+value_call_of v.DirectSumCode = DirectSumCode
+value_call_of v.UuvCode = UuvCode
+value_call_of v.DirectProductCode = DirectProductCode
+value_call_of v.IntersectionCode = IntersectionCode
+value_call_of v.ConcatenatedCode = ConcatenatedCode
 value_call_of v.Dimension = Dimension
 value_call_of v.WordLength = WordLength
 value_call_of v.GeneratorMat = GeneratorMat
@@ -54,7 +73,7 @@ call_of (call.Value x) = Value (value_call_of x)
 call_of (call.Query x) = Query (query_call_of x)
 
 unfoldable pub built_calls : List language.Call
-built_calls = Value Gf ∷ Value GeneratorMatCode ∷ Value CheckMatCode ∷ Value RepetitionCode ∷ Value WholeSpaceCode ∷ Value NullCode ∷ Value HammingCode ∷ Value ReedMullerCode ∷ Value DualCode ∷ Value Dimension ∷ Value WordLength ∷ Value GeneratorMat ∷ Value CheckMat ∷ Value Weight ∷ Value IsCodeword ∷ Query LeastWord ∷ Query MinimumDistance ∷ []
+built_calls = Value Gf ∷ Value GeneratorMatCode ∷ Value CheckMatCode ∷ Value RepetitionCode ∷ Value WholeSpaceCode ∷ Value NullCode ∷ Value HammingCode ∷ Value ReedMullerCode ∷ Value GeneratorPolCode ∷ Value CheckPolCode ∷ Value BinaryGolayCode ∷ Value TernaryGolayCode ∷ Value ExtendedBinaryGolayCode ∷ Value ExtendedTernaryGolayCode ∷ Value BchCode ∷ Value ReedSolomonCode ∷ Value GoppaCode ∷ Value AlternantCode ∷ Value DualCode ∷ Value ExtendedCode ∷ Value PuncturedCode ∷ Value ShortenedCode ∷ Value EvenWeightSubcode ∷ Value DirectSumCode ∷ Value UuvCode ∷ Value DirectProductCode ∷ Value IntersectionCode ∷ Value ConcatenatedCode ∷ Value Dimension ∷ Value WordLength ∷ Value GeneratorMat ∷ Value CheckMat ∷ Value Weight ∷ Value IsCodeword ∷ Query LeastWord ∷ Query MinimumDistance ∷ []
 
 abbrev pub bound_of : BoundCall → bound.BoundCall
 bound_of (b.Gf q) = bound.gf q
@@ -65,7 +84,26 @@ bound_of (b.WholeSpaceCode n f) = bound.whole_space_code n f.now
 bound_of (b.NullCode n f) = bound.null_code n f.now
 bound_of (b.HammingCode r f) = bound.hamming_code r f.now
 bound_of (b.ReedMullerCode r m) = bound.reed_muller_code r m
+bound_of (b.GeneratorPolCode x n f) = bound.generator_pol_code x.now n f.now
+bound_of (b.CheckPolCode x n f) = bound.check_pol_code x.now n f.now
+bound_of b.BinaryGolayCode = bound.binary_golay_code
+bound_of b.TernaryGolayCode = bound.ternary_golay_code
+bound_of b.ExtendedBinaryGolayCode = bound.extended_binary_golay_code
+bound_of b.ExtendedTernaryGolayCode = bound.extended_ternary_golay_code
+bound_of (b.BchCode n c d f) = bound.bch_code n c d f.now
+bound_of (b.ReedSolomonCode n d) = bound.reed_solomon_code n d
+bound_of (b.GoppaCode g x K f) = bound.goppa_code g.now x.now K.now f.now
+bound_of (b.AlternantCode r x y K f) = bound.alternant_code r x.now y.now K.now f.now
 bound_of (b.DualCode C) = bound.dual_code C.now
+bound_of (b.ExtendedCode C) = bound.extended_code C.now
+bound_of (b.PuncturedCode C x) = bound.punctured_code C.now x.now
+bound_of (b.ShortenedCode C x) = bound.shortened_code C.now x.now
+bound_of (b.EvenWeightSubcode C) = bound.even_weight_subcode C.now
+bound_of (b.DirectSumCode C D) = bound.direct_sum_code C.now D.now
+bound_of (b.UuvCode C D) = bound.uuv_code C.now D.now
+bound_of (b.DirectProductCode C D) = bound.direct_product_code C.now D.now
+bound_of (b.IntersectionCode C D) = bound.intersection_code C.now D.now
+bound_of (b.ConcatenatedCode C D) = bound.concatenated_code C.now D.now
 bound_of (b.Dimension C) = bound.dimension C.now
 bound_of (b.WordLength C) = bound.word_length C.now
 bound_of (b.GeneratorMat C) = bound.generator_mat C.now

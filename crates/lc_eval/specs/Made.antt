@@ -1,9 +1,12 @@
 -- What a constructor of codes answers, as the answer of a call at a place.
---   IsMade made place r       r is that answer, a value or a fault, unless memory ran out
-use Rattle.std.specs.Prelude.{◌≡◌, ◌≢◌, ℕ, None, Result, Ok, Err}
+--   IsMade made place r       of a code: r is that answer, a value without an alternant form or a fault, unless memory ran out
+--   IsFormed made place r     of a code beside its alternant form: the value has this form
+use Rattle.std.specs.Prelude.{◌≡◌, ◌≢◌, ℕ, Some, None, Result, Ok, Err}
 use Rattle.lc_algebra.specs.Matrix.{Matrix}
+use Rattle.lc_code.specs.declared.alternant.FormedCode.{FormedCode}
 use Rattle.lc_constructions.specs.declared.refusal.CodeRefusal.{CodeRefusal}
 use Rattle.lc_constructions.specs.declared.refusal.CodeRefusal.TheVariants.{NoMemory}
+use Rattle.lc_language.specs.Value as language
 use Rattle.lc_language.specs.Value.{code}
 use Rattle.lc_language.specs.Refusal.{refusal_from}
 use Rattle.lc_language.specs.Evaluation.{gives, refuse_call}
@@ -11,6 +14,19 @@ use Rattle.lc_eval.specs.declared.values.Value.{Value}
 use Rattle.lc_eval.specs.declared.refusals.Stop.{Stop}
 use Rattle.lc_eval.specs.Applied.{Answers}
 
+-- with the value of what was made
+abbrev pub IsMadeAs : {T : Type 0} → (T → language.Value) → Result T CodeRefusal → ℕ → Result Value Stop → Type 0
+IsMadeAs {T = T} value (Ok x) place r = Answers r (λ o. o ≡ gives (value x))
+IsMadeAs {T = T} value (Err e) place r = Answers r (λ o. (e ≢ NoMemory) × (o ≡ refuse_call place (refusal_from e)))
+
+abbrev pub plain_value : Matrix → language.Value
+plain_value C = code C None
+
+abbrev pub formed_value : FormedCode → language.Value
+formed_value c = code c.code (Some c.form)
+
 abbrev pub IsMade : Result Matrix CodeRefusal → ℕ → Result Value Stop → Type 0
-IsMade (Ok C) place r = Answers r (λ o. o ≡ gives (code C None))
-IsMade (Err e) place r = Answers r (λ o. (e ≢ NoMemory) × (o ≡ refuse_call place (refusal_from e)))
+IsMade made place r = IsMadeAs plain_value made place r
+
+abbrev pub IsFormed : Result FormedCode CodeRefusal → ℕ → Result Value Stop → Type 0
+IsFormed made place r = IsMadeAs formed_value made place r

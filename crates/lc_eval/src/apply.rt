@@ -10,7 +10,11 @@ ghost use Rattle.lc_eval.specs.Applied.{Answers};
 ghost use Rattle.lc_eval.specs.Made.{IsMade};
 
 use crate::calls::BoundCall;
+use crate::cyclic::{
+    check_pol_code, extended_binary_golay_code, extended_ternary_golay_code, generator_pol_code,
+};
 use crate::fields::Fields;
+use crate::forms::{alternant_code, formed, goppa_code};
 use crate::refusals::{NOT_A_FIELD, Stop, fault, refused_as};
 use crate::rows::{lists_of, word_of, words_of};
 use crate::values::{CodeValue, Value};
@@ -42,7 +46,48 @@ pub(crate) fn apply(
         BoundCall::NullCode(n, field) => made(alloc, place, lc_basic::null_code(alloc, n, field)),
         BoundCall::HammingCode(r, field) => made(alloc, place, lc_basic::hamming(alloc, r, field)),
         BoundCall::ReedMullerCode(r, m) => made(alloc, place, lc_basic::reed_muller(alloc, r, m)),
+        BoundCall::GeneratorPolCode(list, n, field) => {
+            generator_pol_code(alloc, place, list, n, field)
+        }
+        BoundCall::CheckPolCode(list, n, field) => check_pol_code(alloc, place, list, n, field),
+        BoundCall::BinaryGolayCode => Ok(code_value(alloc, lc_cyclic::binary_golay(alloc)?)?),
+        BoundCall::TernaryGolayCode => Ok(code_value(alloc, lc_cyclic::ternary_golay(alloc)?)?),
+        BoundCall::ExtendedBinaryGolayCode => extended_binary_golay_code(alloc, place),
+        BoundCall::ExtendedTernaryGolayCode => extended_ternary_golay_code(alloc, place),
+        BoundCall::BchCode(n, b, d, field) => {
+            formed(alloc, place, lc_cyclic::bch(alloc, n, b, d, field))
+        }
+        BoundCall::ReedSolomonCode(n, d) => {
+            formed(alloc, place, lc_cyclic::reed_solomon(alloc, n, d))
+        }
+        BoundCall::GoppaCode(list, points, locator, field) => {
+            goppa_code(alloc, place, list, points, locator, field)
+        }
+        BoundCall::AlternantCode(r, points, multipliers, locator, field) => {
+            alternant_code(alloc, place, r, points, multipliers, locator, field)
+        }
         BoundCall::DualCode(code) => Ok(code_value(alloc, code.dual(alloc)?)?),
+        BoundCall::ExtendedCode(code) => made(alloc, place, lc_combine::extended(alloc, code)),
+        BoundCall::PuncturedCode(code, places) => {
+            made(alloc, place, lc_combine::punctured(alloc, code, places))
+        }
+        BoundCall::ShortenedCode(code, places) => {
+            made(alloc, place, lc_combine::shortened(alloc, code, places))
+        }
+        BoundCall::EvenWeightSubcode(code) => {
+            made(alloc, place, lc_combine::even_weight(alloc, code))
+        }
+        BoundCall::DirectSumCode(a, b) => made(alloc, place, lc_combine::direct_sum(alloc, a, b)),
+        BoundCall::UuvCode(a, b) => made(alloc, place, lc_combine::uuv(alloc, a, b)),
+        BoundCall::DirectProductCode(a, b) => {
+            made(alloc, place, lc_combine::direct_product(alloc, a, b))
+        }
+        BoundCall::IntersectionCode(a, b) => {
+            made(alloc, place, lc_combine::intersection(alloc, a, b))
+        }
+        BoundCall::ConcatenatedCode(outer, inner) => {
+            made(alloc, place, lc_combine::concatenated(alloc, outer, inner))
+        }
         BoundCall::Dimension(code) => Ok(Value::Number(code.dimension() as u64)),
         BoundCall::WordLength(code) => Ok(Value::Number(code.length() as u64)),
         BoundCall::GeneratorMat(code) => Ok(rows_value(alloc, code)?),
@@ -67,8 +112,12 @@ fn rows_value(alloc: Global, code: &Code) -> Result<Value, NoMemory>
     Ok(Value::Lists(Rc::new(alloc, rows)?))
 }
 
-// A code, or its refusal at this place.
-fn made(alloc: Global, place: usize, code: Result<Code, CodeRefusal>) -> Result<Value, Stop>
+/// A code, or its refusal at this place.
+pub(crate) fn made(
+    alloc: Global,
+    place: usize,
+    code: Result<Code, CodeRefusal>,
+) -> Result<Value, Stop>
     ensures { IsMade code place result }
 {
     match code {

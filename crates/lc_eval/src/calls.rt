@@ -25,7 +25,26 @@ pub(crate) enum ValueCall {
     NullCode,
     HammingCode,
     ReedMullerCode,
+    GeneratorPolCode,
+    CheckPolCode,
+    BinaryGolayCode,
+    TernaryGolayCode,
+    ExtendedBinaryGolayCode,
+    ExtendedTernaryGolayCode,
+    BchCode,
+    ReedSolomonCode,
+    GoppaCode,
+    AlternantCode,
     DualCode,
+    ExtendedCode,
+    PuncturedCode,
+    ShortenedCode,
+    EvenWeightSubcode,
+    DirectSumCode,
+    UuvCode,
+    DirectProductCode,
+    IntersectionCode,
+    ConcatenatedCode,
     Dimension,
     WordLength,
     GeneratorMat,
@@ -59,7 +78,7 @@ pub(crate) struct Row {
 }
 
 // The built calls, in the order of the table of all calls.
-static TABLE: [Row; 17] = [
+static TABLE: [Row; 36] = [
     Row {
         call: Call::Value(ValueCall::Gf),
         name: "GF",
@@ -101,9 +120,113 @@ static TABLE: [Row; 17] = [
         forms: &[&[Kind::Number, Kind::Number]],
     },
     Row {
+        call: Call::Value(ValueCall::GeneratorPolCode),
+        name: "GeneratorPolCode",
+        forms: &[&[Kind::Numbers, Kind::Number, Kind::Field]],
+    },
+    Row {
+        call: Call::Value(ValueCall::CheckPolCode),
+        name: "CheckPolCode",
+        forms: &[&[Kind::Numbers, Kind::Number, Kind::Field]],
+    },
+    Row {
+        call: Call::Value(ValueCall::BinaryGolayCode),
+        name: "BinaryGolayCode",
+        forms: &[&[]],
+    },
+    Row {
+        call: Call::Value(ValueCall::TernaryGolayCode),
+        name: "TernaryGolayCode",
+        forms: &[&[]],
+    },
+    Row {
+        call: Call::Value(ValueCall::ExtendedBinaryGolayCode),
+        name: "ExtendedBinaryGolayCode",
+        forms: &[&[]],
+    },
+    Row {
+        call: Call::Value(ValueCall::ExtendedTernaryGolayCode),
+        name: "ExtendedTernaryGolayCode",
+        forms: &[&[]],
+    },
+    Row {
+        call: Call::Value(ValueCall::BchCode),
+        name: "BCHCode",
+        forms: &[
+            &[Kind::Number, Kind::Number, Kind::Field],
+            &[Kind::Number, Kind::Number, Kind::Number, Kind::Field],
+        ],
+    },
+    Row {
+        call: Call::Value(ValueCall::ReedSolomonCode),
+        name: "ReedSolomonCode",
+        forms: &[&[Kind::Number, Kind::Number]],
+    },
+    Row {
+        call: Call::Value(ValueCall::GoppaCode),
+        name: "GoppaCode",
+        forms: &[&[Kind::Numbers, Kind::Numbers, Kind::Field, Kind::Field]],
+    },
+    Row {
+        call: Call::Value(ValueCall::AlternantCode),
+        name: "AlternantCode",
+        forms: &[&[
+            Kind::Number,
+            Kind::Numbers,
+            Kind::Numbers,
+            Kind::Field,
+            Kind::Field,
+        ]],
+    },
+    Row {
         call: Call::Value(ValueCall::DualCode),
         name: "DualCode",
         forms: &[&[Kind::Code]],
+    },
+    Row {
+        call: Call::Value(ValueCall::ExtendedCode),
+        name: "ExtendedCode",
+        forms: &[&[Kind::Code]],
+    },
+    Row {
+        call: Call::Value(ValueCall::PuncturedCode),
+        name: "PuncturedCode",
+        forms: &[&[Kind::Code, Kind::Numbers]],
+    },
+    Row {
+        call: Call::Value(ValueCall::ShortenedCode),
+        name: "ShortenedCode",
+        forms: &[&[Kind::Code, Kind::Numbers]],
+    },
+    Row {
+        call: Call::Value(ValueCall::EvenWeightSubcode),
+        name: "EvenWeightSubcode",
+        forms: &[&[Kind::Code]],
+    },
+    Row {
+        call: Call::Value(ValueCall::DirectSumCode),
+        name: "DirectSumCode",
+        forms: &[&[Kind::Code, Kind::Code]],
+    },
+    Row {
+        call: Call::Value(ValueCall::UuvCode),
+        name: "UUVCode",
+        forms: &[&[Kind::Code, Kind::Code]],
+    },
+    Row {
+        call: Call::Value(ValueCall::DirectProductCode),
+        name: "DirectProductCode",
+        forms: &[&[Kind::Code, Kind::Code]],
+    },
+    Row {
+        call: Call::Value(ValueCall::IntersectionCode),
+        name: "IntersectionCode",
+        forms: &[&[Kind::Code, Kind::Code]],
+    },
+    Row {
+        call: Call::Value(ValueCall::ConcatenatedCode),
+        name: "ConcatenatedCode",
+        forms: &[&[Kind::Code, Kind::Code]],
     },
     Row {
         call: Call::Value(ValueCall::Dimension),
@@ -200,7 +323,26 @@ pub(crate) enum BoundCall<'a> {
     NullCode(u64, &'a Field),
     HammingCode(u64, &'a Field),
     ReedMullerCode(u64, u64),
+    GeneratorPolCode(&'a [u64], u64, &'a Field),
+    CheckPolCode(&'a [u64], u64, &'a Field),
+    BinaryGolayCode,
+    TernaryGolayCode,
+    ExtendedBinaryGolayCode,
+    ExtendedTernaryGolayCode,
+    BchCode(u64, u64, u64, &'a Field),
+    ReedSolomonCode(u64, u64),
+    GoppaCode(&'a [u64], &'a [u64], &'a Field, &'a Field),
+    AlternantCode(u64, &'a [u64], &'a [u64], &'a Field, &'a Field),
     DualCode(&'a Code),
+    ExtendedCode(&'a Code),
+    PuncturedCode(&'a Code, &'a [u64]),
+    ShortenedCode(&'a Code, &'a [u64]),
+    EvenWeightSubcode(&'a Code),
+    DirectSumCode(&'a Code, &'a Code),
+    UuvCode(&'a Code, &'a Code),
+    DirectProductCode(&'a Code, &'a Code),
+    IntersectionCode(&'a Code, &'a Code),
+    ConcatenatedCode(&'a Code, &'a Code),
     Dimension(&'a Code),
     WordLength(&'a Code),
     GeneratorMat(&'a Code),
@@ -253,9 +395,99 @@ pub(crate) fn bind(call: ValueCall, arguments: &[Value]) -> Option<BoundCall<'_>
             let [a, b] = arguments else { return None };
             Some(BoundCall::ReedMullerCode(a.number()?, b.number()?))
         }
+        ValueCall::GeneratorPolCode => {
+            let [a, b, c] = arguments else { return None };
+            Some(BoundCall::GeneratorPolCode(a.numbers()?, b.number()?, c.field()?))
+        }
+        ValueCall::CheckPolCode => {
+            let [a, b, c] = arguments else { return None };
+            Some(BoundCall::CheckPolCode(a.numbers()?, b.number()?, c.field()?))
+        }
+        ValueCall::BinaryGolayCode => {
+            let [] = arguments else { return None };
+            Some(BoundCall::BinaryGolayCode)
+        }
+        ValueCall::TernaryGolayCode => {
+            let [] = arguments else { return None };
+            Some(BoundCall::TernaryGolayCode)
+        }
+        ValueCall::ExtendedBinaryGolayCode => {
+            let [] = arguments else { return None };
+            Some(BoundCall::ExtendedBinaryGolayCode)
+        }
+        ValueCall::ExtendedTernaryGolayCode => {
+            let [] = arguments else { return None };
+            Some(BoundCall::ExtendedTernaryGolayCode)
+        }
+        ValueCall::BchCode => match arguments {
+            [a, b, c] => Some(BoundCall::BchCode(a.number()?, 1, b.number()?, c.field()?)),
+            [a, b, c, d] => Some(BoundCall::BchCode(
+                a.number()?,
+                b.number()?,
+                c.number()?,
+                d.field()?,
+            )),
+            _ => None,
+        },
+        ValueCall::ReedSolomonCode => {
+            let [a, b] = arguments else { return None };
+            Some(BoundCall::ReedSolomonCode(a.number()?, b.number()?))
+        }
+        ValueCall::GoppaCode => {
+            let [a, b, c, d] = arguments else { return None };
+            Some(BoundCall::GoppaCode(a.numbers()?, b.numbers()?, c.field()?, d.field()?))
+        }
+        ValueCall::AlternantCode => {
+            let [a, b, c, d, e] = arguments else {
+                return None
+            };
+            Some(BoundCall::AlternantCode(
+                a.number()?,
+                b.numbers()?,
+                c.numbers()?,
+                d.field()?,
+                e.field()?,
+            ))
+        }
         ValueCall::DualCode => {
             let [a] = arguments else { return None };
             Some(BoundCall::DualCode(&a.code()?.code))
+        }
+        ValueCall::ExtendedCode => {
+            let [a] = arguments else { return None };
+            Some(BoundCall::ExtendedCode(&a.code()?.code))
+        }
+        ValueCall::PuncturedCode => {
+            let [a, b] = arguments else { return None };
+            Some(BoundCall::PuncturedCode(&a.code()?.code, b.numbers()?))
+        }
+        ValueCall::ShortenedCode => {
+            let [a, b] = arguments else { return None };
+            Some(BoundCall::ShortenedCode(&a.code()?.code, b.numbers()?))
+        }
+        ValueCall::EvenWeightSubcode => {
+            let [a] = arguments else { return None };
+            Some(BoundCall::EvenWeightSubcode(&a.code()?.code))
+        }
+        ValueCall::DirectSumCode => {
+            let [a, b] = arguments else { return None };
+            Some(BoundCall::DirectSumCode(&a.code()?.code, &b.code()?.code))
+        }
+        ValueCall::UuvCode => {
+            let [a, b] = arguments else { return None };
+            Some(BoundCall::UuvCode(&a.code()?.code, &b.code()?.code))
+        }
+        ValueCall::DirectProductCode => {
+            let [a, b] = arguments else { return None };
+            Some(BoundCall::DirectProductCode(&a.code()?.code, &b.code()?.code))
+        }
+        ValueCall::IntersectionCode => {
+            let [a, b] = arguments else { return None };
+            Some(BoundCall::IntersectionCode(&a.code()?.code, &b.code()?.code))
+        }
+        ValueCall::ConcatenatedCode => {
+            let [a, b] = arguments else { return None };
+            Some(BoundCall::ConcatenatedCode(&a.code()?.code, &b.code()?.code))
         }
         ValueCall::Dimension => {
             let [a] = arguments else { return None };

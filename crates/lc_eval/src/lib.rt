@@ -3,8 +3,10 @@
 
 mod apply;
 mod calls;
+mod cyclic;
 mod evaluate;
 mod fields;
+mod forms;
 mod kinds;
 mod least;
 mod lines;
@@ -16,5 +18,6 @@ mod refusals;
 mod rows;
 mod statement;
 mod values;
+mod wide;
 
 pub use machine::{Machine, Query, Step};

@@ -7,7 +7,7 @@
 --   text_one                     and so have bytes
 --   one_text                     by the calls that are built
 use Rattle.std.proofs.Common.{◌≡◌, ℕ, ◌⊎◌, Bool, true, false, cond, List, [], ◌∷◌, ◌++◌, Option, Some, None, refl, sym, ap, subst, ◌∙◌, ⊎_elim}
-use Rattle.std.specs.Prelude.{MatchOption, find}
+use Rattle.std.specs.Prelude.{find}
 use Rattle.std.specs.List.{AllByRecursion}
 use Rattle.lc_parse.proofs.Outcomes.{one_script, one_fault, no_both}
 use Rattle.lc_language.specs.declared.Call.{Call}
@@ -20,7 +20,7 @@ use Rattle.lc_grammar.specs.Grammar.{Reads, Fault, IsFault}
 use Rattle.lc_language.specs.Value as value
 use Rattle.lc_language.specs.Value.{Value, Binding, value_named}
 use Rattle.lc_language.specs.Calls.{call_named, signature_for}
-use Rattle.lc_language.specs.Bound.{BoundCall, bind, BoundQuery, bind_query}
+use Rattle.lc_language.specs.Bound.{BoundCall, bind, bind_query}
 use Rattle.lc_language.specs.Refusal.{refusal_of, query_refusal_of}
 use Rattle.lc_language.specs.Meaning.{Gives, IsNotDivisor}
 use Rattle.lc_language.specs.Print.{fault_line}

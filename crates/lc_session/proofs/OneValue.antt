@@ -3,14 +3,14 @@
 --   span_lengths             the words of some rows are of one length
 --   least_one                the first nonzero word of some rows is one
 --   prints_least_one         what is printed of it
---   of_one, of_two           what holds of a call of one argument or two, whatever they are, holds if it is bound
+--   of_none, of_one, ..      what holds of a call without arguments, of one, .., whatever they are, holds if it is bound
 --   IsDeterminate c          whatever its arguments, the call gives one value, or does one thing
 --   built_one                the calls that are built are such
-use Rattle.std.proofs.Common.{◌≡◌, ℕ, ◌^◌, ◌↔◌, Bool, true, false, List, [], ◌∷◌, length, None, Some, Option, refl, sym, ap, ap₂, subst, ◌∙◌, ⊎_elim, inl, inr, arith}
+use Rattle.std.proofs.Common.{◌≡◌, ℕ, ◌+◌, ◌-◌, ◌*◌, ◌%◌, ◌^◌, ◌↔◌, Bool, true, false, List, [], ◌∷◌, length, None, Some, Option, refl, sym, ap, ap₂, subst, ◌∙◌, ⊎_elim, inl, inr, arith}
 use Rattle.std.specs.Prelude.{IsTrue}
 use Rattle.std.specs.List.{AllByRecursion}
 use Rattle.lc_algebra.specs.declared.FieldName.{FieldName}
-use Rattle.lc_algebra.specs.declared.FieldName.TheVariants.{Gf2}
+use Rattle.lc_algebra.specs.declared.FieldName.TheVariants.{Gf2, Gf3}
 use Rattle.lc_algebra.specs.Field.{size}
 use Rattle.lc_algebra.specs.Word.{word_sum, scale, weight}
 use Rattle.lc_algebra.specs.Span.{InSpan, IsLeast}
@@ -20,18 +20,20 @@ use Rattle.lc_algebra.proofs.WordLaws.{length_scale, no_later_antisymmetric}
 use Rattle.lc_algebra.proofs.ReducedLaws.{generator_unique}
 use Rattle.lc_constructions.specs.Code.{InCode, IsCode, CheckedBy}
 use Rattle.lc_constructions.specs.Basic.{GeneratedBy, IsConstant, IsAny, IsZero, hamming_checks, hamming_length, reed_muller_rows}
-use Rattle.lc_constructions.specs.Combined.{InDual}
-use Rattle.lc_constructions.specs.Alternant.{AlternantForm}
+use Rattle.lc_constructions.specs.Cyclic.{trimmed, IsMultipleOf, IsCheckedBy, binary_golay_generator, ternary_golay_generator, locator_field, IsBchWord, IsReedSolomonWord}
+use Rattle.lc_constructions.specs.Alternant.{AlternantForm, IsAlternantWord, IsGoppaWord, goppa_form, bch_form}
+use Rattle.lc_constructions.specs.Combined.{InDual, InExtended, InPunctured, InShortened, InEvenWeight, InDirectSum, InUuv, InDirectProduct, InIntersection}
+use Rattle.lc_constructions.specs.Concatenated.{InConcatenated}
 use Rattle.lc_language.specs.declared.Call.{Call}
 use Rattle.lc_language.specs.declared.Call.TheVariants.{Value as Value_, Query}
 use Rattle.lc_language.specs.declared.ValueCall.{ValueCall}
-use Rattle.lc_language.specs.declared.ValueCall.TheVariants.{Gf, GeneratorMatCode, CheckMatCode, RepetitionCode, WholeSpaceCode, NullCode, HammingCode, ReedMullerCode, DualCode, Dimension, WordLength, GeneratorMat, CheckMat, Weight, IsCodeword}
+use Rattle.lc_language.specs.declared.ValueCall.TheVariants.{Gf, GeneratorMatCode, CheckMatCode, RepetitionCode, WholeSpaceCode, NullCode, HammingCode, ReedMullerCode, GeneratorPolCode, CheckPolCode, BinaryGolayCode, TernaryGolayCode, ExtendedBinaryGolayCode, ExtendedTernaryGolayCode, BchCode, ReedSolomonCode, GoppaCode, AlternantCode, DualCode, ExtendedCode, PuncturedCode, ShortenedCode, EvenWeightSubcode, DirectSumCode, UuvCode, DirectProductCode, IntersectionCode, ConcatenatedCode, Dimension, WordLength, GeneratorMat, CheckMat, Weight, IsCodeword}
 use Rattle.lc_language.specs.declared.QueryCall.{QueryCall}
 use Rattle.lc_language.specs.declared.QueryCall.TheVariants.{LeastWord, MinimumDistance}
 use Rattle.lc_language.specs.Value.{Value, CodeValue, number, field, lists, code, truth, number_in, field_in, numbers_in, lists_in, code_in}
-use Rattle.lc_language.specs.Bound.{BoundCall, gf, generator_mat_code, check_mat_code, repetition_code, whole_space_code, null_code, hamming_code, reed_muller_code, dual_code, dimension, word_length, generator_mat, check_mat, weight_of, is_codeword, BoundQuery, least_word, minimum_distance, given, with_one, with_two, bind, bind_query}
+use Rattle.lc_language.specs.Bound.{BoundCall, gf, generator_mat_code, check_mat_code, repetition_code, whole_space_code, null_code, hamming_code, reed_muller_code, generator_pol_code, check_pol_code, binary_golay_code, ternary_golay_code, extended_binary_golay_code, extended_ternary_golay_code, bch_code, reed_solomon_code, goppa_code, alternant_code, dual_code, extended_code, punctured_code, shortened_code, even_weight_subcode, direct_sum_code, uuv_code, direct_product_code, intersection_code, concatenated_code, dimension, word_length, generator_mat, check_mat, weight_of, is_codeword, BoundQuery, least_word, minimum_distance, given, with_none, with_one, with_two, with_three, with_four, with_five, or_else, bind, bind_query}
 use Rattle.lc_constructions.specs.Refusals.{columns_of}
-use Rattle.lc_language.specs.Meaning.{IsCodeValue, Gives}
+use Rattle.lc_language.specs.Meaning.{IsCodeValue, Made, MadeWith, IsExtendedGolay, Gives}
 use Rattle.lc_language.specs.Print.{least_line, least_none_line}
 use Rattle.lc_language.specs.Query.{QueryKind, distance}
 use Rattle.lc_language.specs.Evaluation.{Step, prints, PrintsLeast, AsksOf, Queries}
@@ -118,6 +120,10 @@ one_given P (Some a) make h r e = h a r e
 from_some : {R : Type 0} (P : R → Type 0) (made r : R) → P made → Some made ≡ Some r → P r
 from_some P made r h e = let same : made ≡ r = cc in subst P same h
 
+of_none : {R : Type 0} (P : R → Type 0) (made : R) → P made → (vs : List Value) (r : R) → with_none made vs ≡ Some r → P r
+of_none P made h [] r e = from_some P made r h e
+of_none P made h (v ∷ vs) r e = absurd cc
+
 of_one : {A R : Type 0} (P : R → Type 0) (make : A → R) (in_a : Value → Option A) → ((a : A) → P (make a)) → (vs : List Value) (r : R) → with_one make in_a vs ≡ Some r → P r
 of_one P make in_a h [] r e = absurd cc
 of_one P make in_a h (v ∷ []) r e = one_given P (in_a v) (λ a. Some (make a)) (λ a r e. from_some P (make a) r (h a) e) r e
@@ -131,6 +137,38 @@ of_two P make in_a in_b h (v ∷ w ∷ []) r e =
     (λ a r e. one_given P (in_b w) (λ b. Some (make a b)) (λ b r e. from_some P (make a b) r (h a b) e) r e)
     r e
 of_two P make in_a in_b h (v ∷ w ∷ x ∷ vs) r e = absurd cc
+
+of_three : {A B C R : Type 0} (P : R → Type 0) (make : A → B → C → R) (in_a : Value → Option A) (in_b : Value → Option B) (in_c : Value → Option C) → ((a : A) (b : B) (c : C) → P (make a b c)) → (vs : List Value) (r : R) → with_three make in_a in_b in_c vs ≡ Some r → P r
+of_three P make in_a in_b in_c h [] r e = absurd cc
+of_three P make in_a in_b in_c h (v ∷ []) r e = absurd cc
+of_three P make in_a in_b in_c h (v ∷ w ∷ []) r e = absurd cc
+of_three P make in_a in_b in_c h (v ∷ w ∷ x ∷ []) r e = one_given P (in_a v) (λ a. with_two (make a) in_b in_c (w ∷ x ∷ [])) (λ a r e. of_two P (make a) in_b in_c (h a) (w ∷ x ∷ []) r e) r e
+of_three P make in_a in_b in_c h (v ∷ w ∷ x ∷ y ∷ vs) r e = absurd cc
+
+of_four : {A B C D R : Type 0} (P : R → Type 0) (make : A → B → C → D → R) (in_a : Value → Option A) (in_b : Value → Option B) (in_c : Value → Option C) (in_d : Value → Option D) → ((a : A) (b : B) (c : C) (d : D) → P (make a b c d)) → (vs : List Value) (r : R) → with_four make in_a in_b in_c in_d vs ≡ Some r → P r
+of_four P make in_a in_b in_c in_d h [] r e = absurd cc
+of_four P make in_a in_b in_c in_d h (v ∷ []) r e = absurd cc
+of_four P make in_a in_b in_c in_d h (v ∷ w ∷ []) r e = absurd cc
+of_four P make in_a in_b in_c in_d h (v ∷ w ∷ x ∷ []) r e = absurd cc
+of_four P make in_a in_b in_c in_d h (v ∷ w ∷ x ∷ y ∷ []) r e = one_given P (in_a v) (λ a. with_three (make a) in_b in_c in_d (w ∷ x ∷ y ∷ [])) (λ a r e. of_three P (make a) in_b in_c in_d (h a) (w ∷ x ∷ y ∷ []) r e) r e
+of_four P make in_a in_b in_c in_d h (v ∷ w ∷ x ∷ y ∷ z ∷ vs) r e = absurd cc
+
+of_five : {A B C D E R : Type 0} (P : R → Type 0) (make : A → B → C → D → E → R) (in_a : Value → Option A) (in_b : Value → Option B) (in_c : Value → Option C) (in_d : Value → Option D) (in_e : Value → Option E) → ((a : A) (b : B) (c : C) (d : D) (e : E) → P (make a b c d e)) → (vs : List Value) (r : R) → with_five make in_a in_b in_c in_d in_e vs ≡ Some r → P r
+of_five P make in_a in_b in_c in_d in_e h [] r p = absurd cc
+of_five P make in_a in_b in_c in_d in_e h (v ∷ []) r p = absurd cc
+of_five P make in_a in_b in_c in_d in_e h (v ∷ w ∷ []) r p = absurd cc
+of_five P make in_a in_b in_c in_d in_e h (v ∷ w ∷ x ∷ []) r p = absurd cc
+of_five P make in_a in_b in_c in_d in_e h (v ∷ w ∷ x ∷ y ∷ []) r p = absurd cc
+of_five P make in_a in_b in_c in_d in_e h (v ∷ w ∷ x ∷ y ∷ z ∷ []) r p = one_given P (in_a v) (λ a. with_four (make a) in_b in_c in_d in_e (w ∷ x ∷ y ∷ z ∷ [])) (λ a r p. of_four P (make a) in_b in_c in_d in_e (h a) (w ∷ x ∷ y ∷ z ∷ []) r p) r p
+of_five P make in_a in_b in_c in_d in_e h (v ∷ w ∷ x ∷ y ∷ z ∷ u ∷ vs) r p = absurd cc
+
+-- of two forms that a call has, the first one or nothing
+or_none : {R : Type 0} (o : Option R) (r : R) → or_else o None ≡ Some r → o ≡ Some r
+or_none None r e = e
+or_none (Some b) r e = e
+
+same_some : {A : Type 0} {a b : A} → Some a ≡ Some b → a ≡ b
+same_some e = cc e
 
 abbrev Gives_one : BoundCall → Type 0
 Gives_one b = One (Gives b)
@@ -170,9 +208,103 @@ one_reed_muller : IsOneValued ReedMullerCode
 unfolding bind
 one_reed_muller = of_two Gives_one reed_muller_code number_in number_in (λ r m. made_one Gf2 (2 ^ m) (GeneratedBy Gf2 (2 ^ m) (reed_muller_rows r m)) None)
 
+one_generator_pol : IsOneValued GeneratorPolCode
+unfolding bind
+one_generator_pol = of_three Gives_one generator_pol_code numbers_in number_in field_in (λ x n f. made_one f n (IsMultipleOf f n (trimmed x)) None)
+
+one_check_pol : IsOneValued CheckPolCode
+unfolding bind
+one_check_pol = of_three Gives_one check_pol_code numbers_in number_in field_in (λ x n f. made_one f n (IsCheckedBy f n (trimmed x)) None)
+
+one_binary_golay : IsOneValued BinaryGolayCode
+unfolding bind
+one_binary_golay = of_none Gives_one binary_golay_code (made_one Gf2 23 (IsMultipleOf Gf2 23 binary_golay_generator) None)
+
+one_ternary_golay : IsOneValued TernaryGolayCode
+unfolding bind
+one_ternary_golay = of_none Gives_one ternary_golay_code (made_one Gf3 11 (IsMultipleOf Gf3 11 ternary_golay_generator) None)
+
+extended_golay_one : (f : FieldName) (n : ℕ) (g : List ℕ) → One (IsExtendedGolay f n g)
+extended_golay_one f n g = one_some (IsCode f n (IsMultipleOf f n g)) (λ C v. Made f (n + 1) (InExtended C) v) (code_one f n (IsMultipleOf f n g)) (λ C. made_one f (n + 1) (InExtended C) None)
+
+one_extended_binary_golay : IsOneValued ExtendedBinaryGolayCode
+unfolding bind
+one_extended_binary_golay = of_none Gives_one extended_binary_golay_code (extended_golay_one Gf2 23 binary_golay_generator)
+
+one_extended_ternary_golay : IsOneValued ExtendedTernaryGolayCode
+unfolding bind
+one_extended_ternary_golay = of_none Gives_one extended_ternary_golay_code (extended_golay_one Gf3 11 ternary_golay_generator)
+
+bch_one : (n b d : ℕ) (f : FieldName) → Gives_one (bch_code n b d f)
+bch_one n b d f = one_some (λ K. locator_field f n ≡ Some K) (λ K v. MadeWith f n (IsBchWord f K n (b % n) d) (bch_form K n (b % n) d) v) (λ K L h k. same_some (sym h ∙ k)) (λ K. made_one f n (IsBchWord f K n (b % n) d) (Some (bch_form K n (b % n) d)))
+
+one_bch : IsOneValued BchCode
+unfolding bind
+one_bch [] r e = absurd cc
+one_bch (v ∷ []) r e = absurd cc
+one_bch (v ∷ w ∷ []) r e = absurd cc
+one_bch (v ∷ w ∷ x ∷ []) r e = of_three Gives_one (λ n d f. bch_code n 1 d f) number_in number_in field_in (λ n d f. bch_one n 1 d f) (v ∷ w ∷ x ∷ []) r (or_none (with_three (λ n d f. bch_code n 1 d f) number_in number_in field_in (v ∷ w ∷ x ∷ [])) r e)
+one_bch (v ∷ w ∷ x ∷ y ∷ []) r e = of_four Gives_one bch_code number_in number_in number_in field_in bch_one (v ∷ w ∷ x ∷ y ∷ []) r e
+one_bch (v ∷ w ∷ x ∷ y ∷ z ∷ vs) r e = absurd cc
+
+one_reed_solomon : IsOneValued ReedSolomonCode
+unfolding bind
+one_reed_solomon = of_two Gives_one reed_solomon_code number_in number_in (λ n d v w a b.
+    let same : a.0 ≡ b.0 = told_by_size a.0 b.0 (a.1 ∙ sym b.1) in
+    made_one b.0 n (IsReedSolomonWord b.0 d) (Some (bch_form b.0 n 1 d)) v w (subst (λ f. MadeWith f n (IsReedSolomonWord f d) (bch_form f n 1 d) v) same a.3) b.3)
+
+one_goppa : IsOneValued GoppaCode
+unfolding bind
+one_goppa = of_four Gives_one goppa_code numbers_in numbers_in field_in field_in (λ g points K f. made_one f (length points) (IsGoppaWord f K (trimmed g) points) (Some (goppa_form K (trimmed g) points)))
+
+alternant_form : ℕ → List ℕ → List ℕ → FieldName → AlternantForm
+alternant_form r points multipliers K = record { locator = K; points = points; multipliers = multipliers; r = r }
+
+one_alternant : IsOneValued AlternantCode
+unfolding bind alternant_form
+one_alternant = of_five Gives_one alternant_code number_in numbers_in numbers_in field_in field_in (λ r points multipliers K f.
+    let form = alternant_form r points multipliers K in
+    made_one f (length points) (IsAlternantWord f form) (Some form))
+
 one_dual : IsOneValued DualCode
 unfolding bind
 one_dual = of_one Gives_one (λ C. dual_code C.code) code_in (λ C. made_one C.code.field C.code.columns (InDual C.code) None)
+
+one_extended : IsOneValued ExtendedCode
+unfolding bind
+one_extended = of_one Gives_one (λ C. extended_code C.code) code_in (λ C. made_one C.code.field (C.code.columns + 1) (InExtended C.code) None)
+
+one_punctured : IsOneValued PuncturedCode
+unfolding bind
+one_punctured = of_two Gives_one (λ C places. punctured_code C.code places) code_in numbers_in (λ C places. made_one C.code.field (C.code.columns - length places) (InPunctured C.code places) None)
+
+one_shortened : IsOneValued ShortenedCode
+unfolding bind
+one_shortened = of_two Gives_one (λ C places. shortened_code C.code places) code_in numbers_in (λ C places. made_one C.code.field (C.code.columns - length places) (InShortened C.code places) None)
+
+one_even_weight : IsOneValued EvenWeightSubcode
+unfolding bind
+one_even_weight = of_one Gives_one (λ C. even_weight_subcode C.code) code_in (λ C. made_one C.code.field C.code.columns (InEvenWeight C.code) None)
+
+one_direct_sum : IsOneValued DirectSumCode
+unfolding bind
+one_direct_sum = of_two Gives_one (λ C D. direct_sum_code C.code D.code) code_in code_in (λ C D. made_one C.code.field (C.code.columns + D.code.columns) (InDirectSum C.code D.code) None)
+
+one_uuv : IsOneValued UuvCode
+unfolding bind
+one_uuv = of_two Gives_one (λ C D. uuv_code C.code D.code) code_in code_in (λ C D. made_one C.code.field (C.code.columns + D.code.columns) (InUuv C.code D.code) None)
+
+one_direct_product : IsOneValued DirectProductCode
+unfolding bind
+one_direct_product = of_two Gives_one (λ C D. direct_product_code C.code D.code) code_in code_in (λ C D. made_one C.code.field (C.code.columns * D.code.columns) (InDirectProduct C.code D.code) None)
+
+one_intersection : IsOneValued IntersectionCode
+unfolding bind
+one_intersection = of_two Gives_one (λ C D. intersection_code C.code D.code) code_in code_in (λ C D. made_one C.code.field C.code.columns (InIntersection C.code D.code) None)
+
+one_concatenated : IsOneValued ConcatenatedCode
+unfolding bind
+one_concatenated = of_two Gives_one (λ C D. concatenated_code C.code D.code) code_in code_in (λ C D. made_one D.code.field (C.code.columns * D.code.columns) (InConcatenated C.code D.code) None)
 
 one_dimension : IsOneValued Dimension
 unfolding bind
@@ -214,4 +346,4 @@ one_distance = of_one Queries_one (λ (C : CodeValue). minimum_distance C.code) 
 
 pub built_one : AllByRecursion IsDeterminate built_calls
 unfolding built_calls
-built_one = (one_gf, (one_generator, (one_check, (one_repetition, (one_whole_space, (one_null, (one_hamming, (one_reed_muller, (one_dual, (one_dimension, (one_word_length, (one_generator_mat, (one_check_mat, (one_weight, (one_codeword, (one_least, (one_distance, tt)))))))))))))))))
+built_one = (one_gf, (one_generator, (one_check, (one_repetition, (one_whole_space, (one_null, (one_hamming, (one_reed_muller, (one_generator_pol, (one_check_pol, (one_binary_golay, (one_ternary_golay, (one_extended_binary_golay, (one_extended_ternary_golay, (one_bch, (one_reed_solomon, (one_goppa, (one_alternant, (one_dual, (one_extended, (one_punctured, (one_shortened, (one_even_weight, (one_direct_sum, (one_uuv, (one_direct_product, (one_intersection, (one_concatenated, (one_dimension, (one_word_length, (one_generator_mat, (one_check_mat, (one_weight, (one_codeword, (one_least, (one_distance, tt))))))))))))))))))))))))))))))))))))

@@ -2,17 +2,16 @@
 --   AreSame env other            each name has the same value by two lists of bindings
 --   evaluates_same, steps_same   so an expression has the same outcome, and a statement does the same
 --   runs_same                    and statements print the same
-use Rattle.std.proofs.Common.{◌≡◌, ℕ, Bool, true, false, if◌then◌else◌, List, [], ◌∷◌, Option, Some, None, refl, sym, ap, subst, ◌∙◌}
+use Rattle.std.proofs.Common.{◌≡◌, ℕ, Bool, if◌then◌else◌, List, [], ◌∷◌, Option, Some, None, ap, subst}
 use Rattle.std.specs.Prelude.{MatchOption}
 use Rattle.lc_formats.specs.Text.{same_bytes}
 use Rattle.lc_language.specs.declared.Call.{Call}
 use Rattle.lc_language.specs.declared.Call.TheVariants.{Value as Value_, Query}
 use Rattle.lc_language.specs.declared.QueryCall.{QueryCall}
 use Rattle.lc_grammar.specs.Tree.{Expr, Exprs, number, name, call, list, none, more, Statement, place_of, count_of}
-use Rattle.lc_language.specs.Value as value
 use Rattle.lc_language.specs.Value.{Value, Binding, value_named}
 use Rattle.lc_language.specs.Calls.{call_named, signature_for}
-use Rattle.lc_language.specs.Evaluation.{Outcome, gives, refused, Outcomes, refuse_at, Listed, nothing_yet, listed_with, ListGoesOn, Applies, GoesOn, CallGives, Evaluates, EvaluatesAll, EvaluatesList, Step, binds, prints, asks, counts, nears, fails, fail_with, QueriesAll, query_of, Assigns, StepsAsQuery, StepsOf, Steps, Prints, Runs}
+use Rattle.lc_language.specs.Evaluation.{Outcome, gives, refused, Outcomes, refuse_at, Listed, nothing_yet, listed_with, ListGoesOn, Applies, GoesOn, CallGives, Evaluates, EvaluatesAll, EvaluatesList, Step, binds, prints, asks, counts, nears, fails, fail_with, QueriesAll, query_of, StepsAsQuery, StepsOf, Steps, Prints, Runs}
 
 abbrev pub AreSame : List Binding → List Binding → Type 0
 AreSame env other = (x : List ℕ) → value_named x env ≡ value_named x other

@@ -1,15 +1,17 @@
-use Rattle.std.proofs.Common.{◌≡◌, ◌^◌, length, List, [], refl, sym, ap, ◌∙◌}
+use Rattle.std.proofs.Common.{◌+◌, ◌-◌, ◌*◌, ◌^◌, length, refl, ap}
 use Rattle.lc_algebra.specs.declared.FieldName.TheVariants.{Gf2}
 use Rattle.lc_algebra.specs.Field.{size}
-use Rattle.lc_algebra.specs.Word.{weight}
 use Rattle.lc_constructions.specs.Code.{CheckedBy}
 use Rattle.lc_constructions.specs.Basic.{GeneratedBy, IsConstant, IsAny, IsZero, hamming_checks, hamming_length, reed_muller_rows}
-use Rattle.lc_constructions.specs.Refusals.{length_refusals, hamming_refusals, reed_muller_refusals}
+use Rattle.lc_constructions.specs.Combined.{InExtended, InPunctured, InShortened, InEvenWeight, InDirectSum, InUuv, InDirectProduct, InIntersection}
+use Rattle.lc_constructions.specs.Concatenated.{InConcatenated}
+use Rattle.lc_constructions.specs.Refusals.{length_refusals, hamming_refusals, reed_muller_refusals, extended_refusals, deleted_refusals, even_weight_refusals, direct_sum_refusals, uuv_refusals, direct_product_refusals, intersection_refusals, concatenated_refusals}
 use Rattle.lc_language.specs.Bound as bound
-use Rattle.lc_language.specs.Value.{number, lists}
+use Rattle.lc_language.specs.Value.{number}
 use Rattle.lc_language.specs.Refusal.{refusals_of}
 use Rattle.lc_eval.specs.Value.{value_of}
 use Rattle.lc_eval.proofs.AnswerLaws.{made_applies, never_refused}
+use Rattle.lc_eval.proofs.FormLaws.{bch_applies, reed_solomon_applies}
 use Rattle.lc_eval.proofs.apply.apply.Goals as goal
 
 pub returns-in-RepetitionCode : goal.returns-in-RepetitionCode
@@ -32,9 +34,84 @@ pub returns-in-ReedMullerCode : goal.returns-in-ReedMullerCode
 unfolding refusals_of
 returns-in-ReedMullerCode c = rw c.in-ReedMullerCode.is (made_applies c.args.place (bound.reed_muller_code c.in-ReedMullerCode.r c.in-ReedMullerCode.m) (reed_muller_refusals c.in-ReedMullerCode.r c.in-ReedMullerCode.m) Gf2 (2 ^ c.in-ReedMullerCode.m) (GeneratedBy Gf2 (2 ^ c.in-ReedMullerCode.m) (reed_muller_rows c.in-ReedMullerCode.r c.in-ReedMullerCode.m)) c.reed_muller.result c.made-in-ReedMullerCode.result refl (λ n. n) (λ v h. h) c.reed_muller.ensures.code c.reed_muller.ensures.refused c.made-in-ReedMullerCode.ensures)
 
+pub returns-in_ok-code_value-in-BinaryGolayCode : goal.returns-in_ok-code_value-in-BinaryGolayCode
+unfolding refusals_of
+returns-in_ok-code_value-in-BinaryGolayCode c = rw c.in-BinaryGolayCode.is (never_refused c.args.place bound.binary_golay_code (value_of c.in_ok-code_value-in-BinaryGolayCode.field-0) refl (λ n. n) (record { code_is = (c.in_ok-binary_golay-in-BinaryGolayCode.field-0, c.in_ok-binary_golay-in-BinaryGolayCode.ensures.code, c.in_ok-code_value-in-BinaryGolayCode.ensures) }))
+
+pub returns-in_ok-code_value-in-TernaryGolayCode : goal.returns-in_ok-code_value-in-TernaryGolayCode
+unfolding refusals_of
+returns-in_ok-code_value-in-TernaryGolayCode c = rw c.in-TernaryGolayCode.is (never_refused c.args.place bound.ternary_golay_code (value_of c.in_ok-code_value-in-TernaryGolayCode.field-0) refl (λ n. n) (record { code_is = (c.in_ok-ternary_golay-in-TernaryGolayCode.field-0, c.in_ok-ternary_golay-in-TernaryGolayCode.ensures.code, c.in_ok-code_value-in-TernaryGolayCode.ensures) }))
+
+pub returns-in-BchCode : goal.returns-in-BchCode
+returns-in-BchCode c = rw c.in-BchCode.is (bch_applies c.args.place c.in-BchCode.n c.in-BchCode.b c.in-BchCode.d c.in-BchCode.field.now c.bch.result c.formed.result c.bch.ensures.code c.bch.ensures.locator c.bch.ensures.form c.bch.ensures.refused c.formed.ensures)
+
+pub returns-in-ReedSolomonCode : goal.returns-in-ReedSolomonCode
+returns-in-ReedSolomonCode c = rw c.in-ReedSolomonCode.is (reed_solomon_applies c.args.place c.in-ReedSolomonCode.n c.in-ReedSolomonCode.d c.reed_solomon.result c.formed-in-ReedSolomonCode.result c.reed_solomon.ensures.size c.reed_solomon.ensures.code c.reed_solomon.ensures.form c.reed_solomon.ensures.formed c.reed_solomon.ensures.refused c.formed-in-ReedSolomonCode.ensures)
+
 pub returns-in_ok-code_value-in-DualCode : goal.returns-in_ok-code_value-in-DualCode
 unfolding refusals_of
 returns-in_ok-code_value-in-DualCode c = rw c.in-DualCode.is (never_refused c.args.place (bound.dual_code c.in-DualCode.code.now) (value_of c.in_ok-code_value-in-DualCode.field-0) refl (λ n. n) (record { code_is = (c.in_ok-dual-in-DualCode.field-0, c.in_ok-dual-in-DualCode.ensures.code, c.in_ok-code_value-in-DualCode.ensures) }))
+
+pub returns-in-ExtendedCode : goal.returns-in-ExtendedCode
+unfolding refusals_of
+returns-in-ExtendedCode c =
+    let C = c.in-ExtendedCode.code.now in
+    rw c.in-ExtendedCode.is (made_applies c.args.place (bound.extended_code C) (extended_refusals C) C.field (C.columns + 1) (InExtended C) c.extended.result c.made-in-ExtendedCode.result refl (λ n. n) (λ v h. h) c.extended.ensures.code c.extended.ensures.refused c.made-in-ExtendedCode.ensures)
+
+pub returns-in-PuncturedCode : goal.returns-in-PuncturedCode
+unfolding refusals_of
+returns-in-PuncturedCode c =
+    let C = c.in-PuncturedCode.code.now in
+    let places = c.in-PuncturedCode.places.now in
+    rw c.in-PuncturedCode.is (made_applies c.args.place (bound.punctured_code C places) (deleted_refusals C places) C.field (C.columns - length places) (InPunctured C places) c.punctured.result c.made-in-PuncturedCode.result refl (λ n. n) (λ v h. h) c.punctured.ensures.code c.punctured.ensures.refused c.made-in-PuncturedCode.ensures)
+
+pub returns-in-ShortenedCode : goal.returns-in-ShortenedCode
+unfolding refusals_of
+returns-in-ShortenedCode c =
+    let C = c.in-ShortenedCode.code.now in
+    let places = c.in-ShortenedCode.places.now in
+    rw c.in-ShortenedCode.is (made_applies c.args.place (bound.shortened_code C places) (deleted_refusals C places) C.field (C.columns - length places) (InShortened C places) c.shortened.result c.made-in-ShortenedCode.result refl (λ n. n) (λ v h. h) c.shortened.ensures.code c.shortened.ensures.refused c.made-in-ShortenedCode.ensures)
+
+pub returns-in-EvenWeightSubcode : goal.returns-in-EvenWeightSubcode
+unfolding refusals_of
+returns-in-EvenWeightSubcode c =
+    let C = c.in-EvenWeightSubcode.code.now in
+    rw c.in-EvenWeightSubcode.is (made_applies c.args.place (bound.even_weight_subcode C) (even_weight_refusals C) C.field (C.columns) (InEvenWeight C) c.even_weight.result c.made-in-EvenWeightSubcode.result refl (λ n. n) (λ v h. h) c.even_weight.ensures.code c.even_weight.ensures.refused c.made-in-EvenWeightSubcode.ensures)
+
+pub returns-in-DirectSumCode : goal.returns-in-DirectSumCode
+unfolding refusals_of
+returns-in-DirectSumCode c =
+    let C = c.in-DirectSumCode.a.now in
+    let D = c.in-DirectSumCode.b.now in
+    rw c.in-DirectSumCode.is (made_applies c.args.place (bound.direct_sum_code C D) (direct_sum_refusals C D) C.field (C.columns + D.columns) (InDirectSum C D) c.direct_sum.result c.made-in-DirectSumCode.result refl (λ n. n) (λ v h. h) c.direct_sum.ensures.code c.direct_sum.ensures.refused c.made-in-DirectSumCode.ensures)
+
+pub returns-in-UuvCode : goal.returns-in-UuvCode
+unfolding refusals_of
+returns-in-UuvCode c =
+    let C = c.in-UuvCode.a.now in
+    let D = c.in-UuvCode.b.now in
+    rw c.in-UuvCode.is (made_applies c.args.place (bound.uuv_code C D) (uuv_refusals C D) C.field (C.columns + D.columns) (InUuv C D) c.uuv.result c.made-in-UuvCode.result refl (λ n. n) (λ v h. h) c.uuv.ensures.code c.uuv.ensures.refused c.made-in-UuvCode.ensures)
+
+pub returns-in-DirectProductCode : goal.returns-in-DirectProductCode
+unfolding refusals_of
+returns-in-DirectProductCode c =
+    let C = c.in-DirectProductCode.a.now in
+    let D = c.in-DirectProductCode.b.now in
+    rw c.in-DirectProductCode.is (made_applies c.args.place (bound.direct_product_code C D) (direct_product_refusals C D) C.field (C.columns * D.columns) (InDirectProduct C D) c.direct_product.result c.made-in-DirectProductCode.result refl (λ n. n) (λ v h. h) c.direct_product.ensures.code c.direct_product.ensures.refused c.made-in-DirectProductCode.ensures)
+
+pub returns-in-IntersectionCode : goal.returns-in-IntersectionCode
+unfolding refusals_of
+returns-in-IntersectionCode c =
+    let C = c.in-IntersectionCode.a.now in
+    let D = c.in-IntersectionCode.b.now in
+    rw c.in-IntersectionCode.is (made_applies c.args.place (bound.intersection_code C D) (intersection_refusals C D) C.field (C.columns) (InIntersection C D) c.intersection.result c.made-in-IntersectionCode.result refl (λ n. n) (λ v h. h) c.intersection.ensures.code c.intersection.ensures.refused c.made-in-IntersectionCode.ensures)
+
+pub returns-in-ConcatenatedCode : goal.returns-in-ConcatenatedCode
+unfolding refusals_of
+returns-in-ConcatenatedCode c =
+    let C = c.in-ConcatenatedCode.outer.now in
+    let D = c.in-ConcatenatedCode.inner.now in
+    rw c.in-ConcatenatedCode.is (made_applies c.args.place (bound.concatenated_code C D) (concatenated_refusals C D) D.field (C.columns * D.columns) (InConcatenated C D) c.concatenated.result c.made-in-ConcatenatedCode.result refl (λ n. n) (λ v h. h) c.concatenated.ensures.code c.concatenated.ensures.refused c.made-in-ConcatenatedCode.ensures)
 
 pub returns-in-Dimension : goal.returns-in-Dimension
 unfolding refusals_of

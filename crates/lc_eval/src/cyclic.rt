@@ -1,0 +1,67 @@
+//! What the calls give that make a cyclic code by its polynomial, or an extended Golay code.
+ghost use Rattle.lc_language.specs.Bound as bound;
+ghost use Rattle.lc_language.specs.Evaluation.{AppliesTo};
+ghost use Rattle.lc_eval.specs.Applied.{Answers};
+
+use crate::apply::made;
+use crate::refusals::Stop;
+use crate::rows::word_of;
+use crate::values::Value;
+use lc_field::Field;
+use std::alloc::Global;
+
+/// The cyclic code with a generator polynomial.
+#[tactic(auto, using(crate::proofs::CyclicCalls::generator_pol_applies))]
+pub(crate) fn generator_pol_code(
+    alloc: Global,
+    place: usize,
+    list: &[u64],
+    n: u64,
+    field: &Field,
+) -> Result<Value, Stop>
+    ensures { Answers result (AppliesTo place (bound.generator_pol_code list.now n field.now)) }
+{
+    let x = word_of(alloc, list)?;
+    made(
+        alloc,
+        place,
+        lc_cyclic::generator_pol(alloc, x.symbols(), n, field),
+    )
+}
+
+/// The cyclic code with a check polynomial.
+#[tactic(auto, using(crate::proofs::CyclicCalls::check_pol_applies))]
+pub(crate) fn check_pol_code(
+    alloc: Global,
+    place: usize,
+    list: &[u64],
+    n: u64,
+    field: &Field,
+) -> Result<Value, Stop>
+    ensures { Answers result (AppliesTo place (bound.check_pol_code list.now n field.now)) }
+{
+    let x = word_of(alloc, list)?;
+    made(
+        alloc,
+        place,
+        lc_cyclic::check_pol(alloc, x.symbols(), n, field),
+    )
+}
+
+/// The extended binary Golay code.
+#[tactic(auto, using(crate::proofs::CyclicCalls::extended_binary_applies))]
+pub(crate) fn extended_binary_golay_code(alloc: Global, place: usize) -> Result<Value, Stop>
+    ensures { Answers result (AppliesTo place bound.extended_binary_golay_code) }
+{
+    let code = lc_cyclic::binary_golay(alloc)?;
+    made(alloc, place, lc_combine::extended(alloc, &code))
+}
+
+/// The extended ternary Golay code.
+#[tactic(auto, using(crate::proofs::CyclicCalls::extended_ternary_applies))]
+pub(crate) fn extended_ternary_golay_code(alloc: Global, place: usize) -> Result<Value, Stop>
+    ensures { Answers result (AppliesTo place bound.extended_ternary_golay_code) }
+{
+    let code = lc_cyclic::ternary_golay(alloc)?;
+    made(alloc, place, lc_combine::extended(alloc, &code))
+}

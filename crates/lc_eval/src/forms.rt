@@ -1,0 +1,77 @@
+//! What the calls give that make a code with its alternant form.
+ghost use Rattle.std.specs.Prelude.{◌≡◌};
+ghost use Rattle.lc_language.specs.Bound as bound;
+ghost use Rattle.lc_language.specs.Evaluation.{AppliesTo};
+ghost use Rattle.lc_eval.specs.Applied.{Answers};
+ghost use Rattle.lc_eval.specs.Made.{IsFormed};
+
+use crate::refusals::{Stop, refused_as};
+use crate::rows::word_of;
+use crate::values::{CodeValue, Value};
+use crate::wide::{is_wide, refuse_alternant, refuse_goppa};
+use lc_code::{CodeRefusal, FormedCode};
+use lc_field::Field;
+use std::alloc::Global;
+use std::rc::Rc;
+
+/// A code with its alternant form, or its refusal at this place.
+pub(crate) fn formed(
+    alloc: Global,
+    place: usize,
+    code: Result<FormedCode, CodeRefusal>,
+) -> Result<Value, Stop>
+    ensures { IsFormed code place result }
+{
+    match code {
+        Ok(FormedCode { code, form }) => {
+            let form = Some(form);
+            Ok(Value::Code(Rc::new(alloc, CodeValue { code, form })?))
+        }
+        Err(refusal) => Err(refused_as(alloc, place, refusal)),
+    }
+}
+
+/// The Goppa code of a polynomial and points of a locator field, with its form.
+#[tactic(auto, using(crate::proofs::FormLaws::goppa_wide))]
+pub(crate) fn goppa_code(
+    alloc: Global,
+    place: usize,
+    list: &[u64],
+    points: &[u64],
+    locator: &Field,
+    field: &Field,
+) -> Result<Value, Stop>
+    ensures { Answers result (AppliesTo place (bound.goppa_code list.now points.now locator.now field.now)) }
+{
+    if is_wide(list) || is_wide(points) {
+        let refusal = refuse_goppa(field, locator, list, points);
+        return Err(refused_as(alloc, place, refusal));
+    }
+    let g = word_of(alloc, list)?;
+    let points = word_of(alloc, points)?;
+    let code = lc_goppa::goppa(alloc, g.symbols(), points.symbols(), locator, field);
+    formed(alloc, place, code)
+}
+
+/// The alternant code of points and multipliers of a locator field, with its form.
+#[tactic(auto, using(crate::proofs::FormLaws::alternant_wide))]
+pub(crate) fn alternant_code(
+    alloc: Global,
+    place: usize,
+    r: u64,
+    points: &[u64],
+    multipliers: &[u64],
+    locator: &Field,
+    field: &Field,
+) -> Result<Value, Stop>
+    ensures { Answers result (AppliesTo place (bound.alternant_code r points.now multipliers.now locator.now field.now)) }
+{
+    if is_wide(points) || is_wide(multipliers) {
+        let refusal = refuse_alternant(field, locator, r, points, multipliers);
+        return Err(refused_as(alloc, place, refusal));
+    }
+    let x = word_of(alloc, points)?;
+    let y = word_of(alloc, multipliers)?;
+    let code = lc_goppa::alternant(alloc, r, x.symbols(), y.symbols(), locator, field);
+    formed(alloc, place, code)
+}
