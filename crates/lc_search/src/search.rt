@@ -54,8 +54,8 @@ impl Model for Search {
     ghost invariant = { λ s. IsKept s.sets s.plan s.budget (record { blocks = s.blocks; weight = s.weight; place = s.place }) s.levels.items × All (λ c. c ≡ s.sets) s.spare.items };
 }
 
-// A search at these blocks with this word.
-fn search_at(
+/// A search at these blocks with this word.
+pub(crate) fn search_at(
     alloc: Global,
     sets: Sets,
     plan: Plan,
