@@ -7,3 +7,5 @@ pub mod LevelLaws
 pub mod EndLaws
 pub mod StateLaws
 pub mod StepLaws
+pub mod FitLaws
+pub mod CourseLaws

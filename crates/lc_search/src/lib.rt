@@ -3,14 +3,17 @@
 #![tactic(auto)]
 
 mod answer;
+pub mod laws;
 mod level;
 mod parts;
+mod resume;
 mod round;
 mod search;
 mod watching;
 mod worker;
 
 pub use answer::{Answer, RoundRecord};
+pub use resume::ResumeRefusal;
 pub use search::Search;
 pub use watching::tell;
 pub use worker::work;

@@ -54,8 +54,8 @@ impl Model for Search {
     ghost invariant = { λ s. IsKept s.sets s.plan s.budget (record { blocks = s.blocks; weight = s.weight; place = s.place }) s.levels.items × All (λ c. c ≡ s.sets) s.spare.items };
 }
 
-// A search at these blocks with this word.
-fn search_at(
+/// A search at these blocks with this word.
+pub(crate) fn search_at(
     alloc: Global,
     sets: Sets,
     plan: Plan,
@@ -172,6 +172,7 @@ impl Search {
         ensures is { result ≡ round_length self.now.code self.now.budget (Some limit) self.now.progress.blocks }
         ensures some { 1 ≤ result }
         ensures few { result ≤ 256 }
+        ensures limited { result ≤ limit }
         ensures inside { self.now.progress.blocks + result ≤ total (length self.now.code.rows) (size self.now.code.field) (set_count self.now.code) }
         ensures within { self.now.progress.blocks + result ≤ self.now.budget }
     {
@@ -211,6 +212,8 @@ impl Search {
         requires limit { 1 ≤ limit }
         ensures state { IfOk result (λ _. self.new ≡ after_search_round self.old limit) }
         ensures record { IfOk result (λ r. IsRecordOf self.new (round_length self.old.code self.old.budget (Some limit) self.old.progress.blocks) r) }
+        ensures kept { (self.new.code ≡ self.old.code) × (self.new.budget ≡ self.old.budget) }
+        ensures more { IfOk result (λ r. (1 ≤ r.done) × (r.done ≤ limit) × (self.new.progress.blocks ≡ self.old.progress.blocks + r.done) × (self.new.progress.blocks ≤ self.new.budget)) }
         ensures no_memory { OnErr result (self.new ≡ self.old) }
     {
         let done = self.length_of_round(limit);
