@@ -1,3 +1,4 @@
 pub mod FrontLaws
 pub mod SumLaws
 pub mod ScanLaws
+pub mod PackLaws

@@ -1,3 +1,4 @@
 pub mod Kernel
 pub mod Sums
 pub mod Values
+pub mod Packed
