@@ -2,3 +2,5 @@ pub mod FrontLaws
 pub mod SumLaws
 pub mod ScanLaws
 pub mod PackLaws
+pub mod PairLaws
+pub mod LeastLaws

@@ -42,7 +42,7 @@ use Rattle.lc_algebra.proofs.SpanLaws.{length_combine}
 use Rattle.std.proofs.lemmas.List.Elements.{All-get_or}
 use Rattle.lc_kernel.specs.Sums.{front_word}
 use Rattle.lc_kernel.proofs.FrontLaws.{Entries, entries_are, Generates, generates, front_first, front_next, front_whole, front_word_fits}
-use Rattle.lc_kernel.specs.Packed.{packed, outside, tail_bits, AreRowBits}
+use Rattle.lc_kernel.specs.Packed.{packed, outside, others, bits_at, AreRowBits}
 
 two : size Gf2 ≡ 2
 unfolding size shape_of shape
@@ -133,10 +133,6 @@ symbols_of f n set rows cs r e h w =
     let m : i < length set = omega (arith, l, length_restrict set (combine f n cs rows)) in
     index_restrict set (combine f n cs rows) i m ∙ symbol_of_combination f n set rows cs i r e h w m)
 
--- the columns outside the basis of a set
-abbrev pub others : Matrix → ℕ → List ℕ
-others C j = outside C.columns (set_at C j).basis
-
 pub weight_of_word : (C : Matrix) (s : SpotState) → AreRows C.field C.columns C.rows → AreIndependent C.field C.columns C.rows → s.set < set_count C → Contains (messages (length C.rows) (size C.field) (length s.support)) (spot_message s) → 0 < length s.support → weight (front_word C s (length s.support)) ≡ length s.support + weight (restrict (others C s.set) (front_word C s (length s.support)))
 unfolding front_word
 weight_of_word C s rows free l message some =
@@ -166,27 +162,26 @@ sum_of_bits f u v e = rw e (packed_sum u v)
 ones_of_bits : (f : FieldName) (u : List ℕ) → f ≡ Gf2 → Fits f u → count_ones (packed u) ≡ weight u
 ones_of_bits f u e = rw e (packed_ones u)
 
-tail_sum : (C : Matrix) (j : ℕ) (u v : List ℕ) → C.field ≡ Gf2 → IsWord C.field C.columns u → IsWord C.field C.columns v → tail_bits C j (word_sum C.field u v) ≡ bit_xor (tail_bits C j u) (tail_bits C j v)
-unfolding tail_bits
-tail_sum C j u v e h i =
-    let cols = others C j in
+tail_sum : (C : Matrix) (cols u v : List ℕ) → C.field ≡ Gf2 → IsWord C.field C.columns u → IsWord C.field C.columns v → bits_at cols (word_sum C.field u v) ≡ bit_xor (bits_at cols u) (bits_at cols v)
+unfolding bits_at
+tail_sum C cols u v e h i =
     ap packed (restrict_sum C.field cols u v (h.long ∙ sym i.long)) ∙ sum_of_bits C.field (restrict cols u) (restrict cols v) e (length_restrict cols u ∙ sym (length_restrict cols v)) (restrict_fits C.field C.columns cols u h) (restrict_fits C.field C.columns cols v i)
 
-pub tail_ones : (C : Matrix) (j : ℕ) (u : List ℕ) → C.field ≡ Gf2 → IsWord C.field C.columns u → count_ones (tail_bits C j u) ≡ weight (restrict (others C j) u)
-unfolding tail_bits
-tail_ones C j u e h = ones_of_bits C.field (restrict (others C j) u) e (restrict_fits C.field C.columns (others C j) u h)
+pub tail_ones : (C : Matrix) (cols u : List ℕ) → C.field ≡ Gf2 → IsWord C.field C.columns u → count_ones (bits_at cols u) ≡ weight (restrict cols u)
+unfolding bits_at
+tail_ones C cols u e h = ones_of_bits C.field (restrict cols u) e (restrict_fits C.field C.columns cols u h)
 
 zeros_packed : (n : ℕ) → packed (zero_word n) ≡ 0
 unfolding packed
 zeros_packed zero = refl
 zeros_packed (suc n) = omega (arith, zeros_packed n)
 
-pub bits_none : (C : Matrix) (s : SpotState) → AreRows C.field C.columns C.rows → AreIndependent C.field C.columns C.rows → s.set < set_count C → tail_bits C s.set (front_word C s 0) ≡ 0
-unfolding tail_bits
-bits_none C s rows free l = ap (λ w. packed (restrict (others C s.set) w)) (front_first C s (generates C s.set rows free l)) ∙ ap packed (restrict_zero (others C s.set) C.columns) ∙ zeros_packed (length (others C s.set))
+pub bits_none : (C : Matrix) (cols : List ℕ) (s : SpotState) → AreRows C.field C.columns C.rows → AreIndependent C.field C.columns C.rows → s.set < set_count C → bits_at cols (front_word C s 0) ≡ 0
+unfolding bits_at
+bits_none C cols s rows free l = ap (λ w. packed (restrict cols w)) (front_first C s (generates C s.set rows free l)) ∙ ap packed (restrict_zero cols C.columns) ∙ zeros_packed (length cols)
 
-pub bits_more : (C : Matrix) (s : SpotState) (bits : List ℕ) (i : ℕ) → C.field ≡ Gf2 → AreRows C.field C.columns C.rows → AreIndependent C.field C.columns C.rows → s.set < set_count C → Contains (messages (length C.rows) (size C.field) (length s.support)) (spot_message s) → AreRowBits C s.set bits → i < length s.support → tail_bits C s.set (front_word C s (suc i)) ≡ bit_xor (tail_bits C s.set (front_word C s i)) (slice_index bits (slice_index s.support i))
-bits_more C s bits i e rows free l message b m =
+pub bits_more : (C : Matrix) (cols : List ℕ) (s : SpotState) (bits : List ℕ) (i : ℕ) → C.field ≡ Gf2 → AreRows C.field C.columns C.rows → AreIndependent C.field C.columns C.rows → s.set < set_count C → Contains (messages (length C.rows) (size C.field) (length s.support)) (spot_message s) → AreRowBits C s.set cols bits → i < length s.support → bits_at cols (front_word C s (suc i)) ≡ bit_xor (bits_at cols (front_word C s i)) (slice_index bits (slice_index s.support i))
+bits_more C cols s bits i e rows free l message b m =
     let g = generates C s.set rows free l in
     let t = entries_are C s message in
     let r = slice_index s.support i in
@@ -196,9 +191,9 @@ bits_more C s bits i e rows free l message b m =
     let size_is : size C.field ≡ 2 = ap size e ∙ two in
     let one : slice_index s.coefficients i ≡ 1 = omega (arith, low, t.element i m, size_is) in
     let next : front_word C s (suc i) ≡ word_sum C.field (front_word C s i) row = front_next C s i g t m ∙ ap (word_sum C.field (front_word C s i)) (ap (λ c. scale C.field c row) one ∙ one_scale C.field row word.fits) in
-    ap (tail_bits C s.set) next ∙ tail_sum C s.set (front_word C s i) row e (front_word_fits C s i g) word ∙ ap (bit_xor (tail_bits C s.set (front_word C s i))) (sym (b.bits r (t.row i m)))
+    ap (bits_at cols) next ∙ tail_sum C cols (front_word C s i) row e (front_word_fits C s i g) word ∙ ap (bit_xor (bits_at cols (front_word C s i))) (sym (b.bits r (t.row i m)))
 
-pub weight_by_bits : (C : Matrix) (s : SpotState) → C.field ≡ Gf2 → AreRows C.field C.columns C.rows → AreIndependent C.field C.columns C.rows → s.set < set_count C → Contains (messages (length C.rows) (size C.field) (length s.support)) (spot_message s) → 0 < length s.support → weight (front_word C s (length s.support)) ≡ length s.support + count_ones (tail_bits C s.set (front_word C s (length s.support)))
+pub weight_by_bits : (C : Matrix) (s : SpotState) → C.field ≡ Gf2 → AreRows C.field C.columns C.rows → AreIndependent C.field C.columns C.rows → s.set < set_count C → Contains (messages (length C.rows) (size C.field) (length s.support)) (spot_message s) → 0 < length s.support → weight (front_word C s (length s.support)) ≡ length s.support + count_ones (bits_at (others C s.set) (front_word C s (length s.support)))
 weight_by_bits C s e rows free l message some =
     let g = generates C s.set rows free l in
-    weight_of_word C s rows free l message some ∙ ap (λ x. length s.support + x) (sym (tail_ones C s.set (front_word C s (length s.support)) e (front_word_fits C s (length s.support) g)))
+    weight_of_word C s rows free l message some ∙ ap (λ x. length s.support + x) (sym (tail_ones C (others C s.set) (front_word C s (length s.support)) e (front_word_fits C s (length s.support) g)))

@@ -31,6 +31,7 @@ use Rattle.lc_kernel.specs.Values.{value_at, IsLeastValue, IsMessageOf, IsAtOffs
 use Rattle.lc_kernel.proofs.FrontLaws.{Entries, entries_are, front_word_is, front_whole}
 use Rattle.lc_kernel.proofs.SumLaws.{length_partial, partial_at}
 use Rattle.lc_kernel.proofs.PackLaws.{weight_by_bits}
+use Rattle.lc_kernel.proofs.PairLaws.{pairs_made}
 
 pub one_value : (place : ℕ) (ws : List (List ℕ)) (v : ℕ) → v ≡ value_at place ws 0 → IsLeastValue place ws 1 v
 one_value place ws v e = record {

@@ -2,3 +2,4 @@ pub mod Kernel
 pub mod Sums
 pub mod Values
 pub mod Packed
+pub mod Least

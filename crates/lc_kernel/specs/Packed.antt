@@ -1,11 +1,13 @@
 -- Words over 2 elements as numbers, and the sums of two rows of an information set.
 --   packed w                the number whose bits are the symbols of w, the first one the lowest
 --   outside n set           the columns below n that aren't in the set
---   tail_bits C j w         the packed symbols of a word at the columns outside the basis of set j
+--   others C j              the columns outside the basis of set j
+--   bits_at cols w          the packed symbols of a word at some columns
 --   ArePairs k rows sums starts      the sums of two of k rows of bits, in the order of the pairs, and for each row the index
 --                           of its first pair
---   AreRowBits C j rows     the bits of the rows of the generator of set j
-use Rattle.std.specs.Prelude.{◌≡◌, ℕ, suc, ◌+◌, ◌*◌, ◌<◌, not, List, [], ◌∷◌, length, Some, filter, bit_xor, slice_get, slice_index, slice_index_or}
+--   AreRowBits C j cols rows      the bits of the rows of the generator of set j at some columns
+--   AreHeads C cols s n heads      those of the words of the fronts of a message, up to the first n entries
+use Rattle.std.specs.Prelude.{◌≡◌, ℕ, suc, ◌+◌, ◌*◌, ◌<◌, ◌≤◌, not, List, [], ◌∷◌, length, Some, filter, bit_xor, slice_get, slice_index, slice_index_or}
 use Rattle.lc_algebra.specs.Span.{below}
 use Rattle.lc_algebra.specs.Matrix.{Matrix}
 use Rattle.lc_algebra.specs.SpanLaws.{restrict}
@@ -13,6 +15,8 @@ use Rattle.lc_enumeration.specs.Message.{supports_from}
 use Rattle.lc_enumeration.specs.InformationSet.{is_member}
 use Rattle.lc_enumeration.specs.Search.{generator_at}
 use Rattle.lc_infoset.specs.Bound.{set_at}
+use Rattle.lc_place.specs.Place.{SpotState}
+use Rattle.lc_kernel.specs.Sums.{front_word}
 
 unfoldable pub packed : List ℕ → ℕ
 packed [] = 0
@@ -21,15 +25,22 @@ packed (a ∷ w) = packed w * 2 + a
 unfoldable pub outside : ℕ → List ℕ → List ℕ
 outside n set = filter (λ c. not (is_member set c)) (below n)
 
-unfoldable pub tail_bits : Matrix → ℕ → List ℕ → ℕ
-tail_bits C j w = packed (restrict (outside C.columns (set_at C j).basis) w)
+abbrev pub others : Matrix → ℕ → List ℕ
+others C j = outside C.columns (set_at C j).basis
+
+unfoldable pub bits_at : List ℕ → List ℕ → ℕ
+bits_at cols w = packed (restrict cols w)
 
 pub record ArePairs (k : ℕ) (rows sums starts : List ℕ) : Type 0 where
   pub count : length rows ≡ k
   pub long : length sums ≡ length (supports_from 0 k 2)
   pub sum : (r a b : ℕ) → slice_get (supports_from 0 k 2) r ≡ Some (a ∷ b ∷ []) → slice_index sums r ≡ bit_xor (slice_index rows a) (slice_index rows b)
   pub firsts : length starts ≡ k
-  pub first : (a : ℕ) → a + 1 < k → slice_get (supports_from 0 k 2) (slice_index starts a) ≡ Some (a ∷ suc a ∷ [])
+  pub first : (a d : ℕ) → a + 1 + d < k → slice_get (supports_from 0 k 2) (slice_index starts a + d) ≡ Some (a ∷ (a + 1 + d) ∷ [])
 
-pub record AreRowBits (C : Matrix) (j : ℕ) (rows : List ℕ) : Type 0 where
-  pub bits : (i : ℕ) → i < length C.rows → slice_index rows i ≡ tail_bits C j (slice_index_or (generator_at C j) i [])
+pub record AreRowBits (C : Matrix) (j : ℕ) (cols rows : List ℕ) : Type 0 where
+  pub count : length rows ≡ length C.rows
+  pub bits : (i : ℕ) → i < length C.rows → slice_index rows i ≡ bits_at cols (slice_index_or (generator_at C j) i [])
+
+abbrev pub AreHeads : Matrix → List ℕ → SpotState → ℕ → List ℕ → Type 0
+AreHeads C cols s n heads = (i : ℕ) → i ≤ n → slice_index heads i ≡ bits_at cols (front_word C s i)

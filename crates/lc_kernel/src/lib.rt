@@ -4,6 +4,7 @@
 
 mod block;
 mod place;
+mod run;
 mod scratch;
 mod stack;
 
