@@ -4,3 +4,4 @@ pub mod ScanLaws
 pub mod PackLaws
 pub mod PairLaws
 pub mod LeastLaws
+pub mod RunLaws

@@ -4,11 +4,14 @@
 --   weight_split                 the weight of a word, by its symbols in a set and outside it
 --   message_symbols              a word has its message on the basis of its set
 --   weight_of_word               the weight of a message's word: its level, and the ones outside the basis
+--   outside_inside               the columns outside a set are columns
+--   pack_none, pack_step, pack_room, bit_small      the bits of a word, from its last column on
 --   bits_none, bits_more         the bits of the word of an entry more
-use Rattle.std.proofs.Common.{◌≡◌, ◌≢◌, ◌⊎◌, ℕ, zero, suc, ◌+◌, ◌-◌, ◌*◌, ◌^◌, ◌<◌, ◌≤◌, Bool, true, false, not, cond, ◌==◌, if◌then◌else◌, List, [], ◌∷◌, length, filter, map, bit_xor, count_ones, count_by, slice_index, slice_index_or, AllPairs, Contains, refl, sym, ap, subst, ◌∙◌, inl, inr, ⊎_elim, arith}
-use Rattle.std.proofs.Math.Nat.{pow-suc}
+use Rattle.std.proofs.Common.{◌≡◌, ◌≢◌, ◌⊎◌, ℕ, zero, suc, ◌+◌, ◌-◌, ◌*◌, ◌^◌, ◌<◌, ◌≤◌, Bool, true, false, not, cond, ◌==◌, if◌then◌else◌, List, [], ◌∷◌, length, drop, filter, map, bit_xor, count_ones, count_by, slice_index, slice_index_or, AllPairs, Contains, refl, sym, ap, subst, ◌∙◌, inl, inr, ⊎_elim, arith}
+use Rattle.std.proofs.Math.Nat.{pow-suc, pow-zero, one-le-pow}
+use Rattle.std.proofs.Math.Seq.{drop-cons}
 use Rattle.std.proofs.lemmas.Bool.{cases_Bool, eq-eqb, ne_eqb}
-use Rattle.std.proofs.lemmas.List.{get_or_default, ext_get_or}
+use Rattle.std.proofs.lemmas.List.{get_or_default, ext_get_or, drop_all, length-drop, get_or-drop}
 use Rattle.std.proofs.lemmas.Nat.{xor_block, ones_cat}
 use lib.Count.{ones}
 use Rattle.lc_algebra.specs.declared.FieldName.{FieldName}
@@ -39,12 +42,12 @@ use Rattle.lc_place.proofs.Messages.{message_shape, from_contains}
 use Rattle.lc_place.proofs.Vectors.{vector_is_leading}
 use Rattle.lc_algebra.proofs.FieldLaws.{one_inside}
 use Rattle.lc_algebra.proofs.SpanLaws.{length_combine}
-use Rattle.std.proofs.lemmas.List.Elements.{All-get_or}
+use Rattle.std.proofs.lemmas.List.Elements.{All-get_or, Contains-get_or}
 use Rattle.lc_kernel.specs.Sums.{front_word}
 use Rattle.lc_kernel.proofs.FrontLaws.{Entries, entries_are, Generates, generates, front_first, front_next, front_whole, front_word_fits}
 use Rattle.lc_kernel.specs.Packed.{packed, outside, others, bits_at, AreRowBits}
 
-two : size Gf2 ≡ 2
+pub two : size Gf2 ≡ 2
 unfolding size shape_of shape
 two = refl
 
@@ -96,6 +99,11 @@ unfolding packed
 packed_small [] h = omega arith
 packed_small (a ∷ u) h = omega (arith, packed_small u (fits_tail Gf2 a u h), bit_of u a h, pow-suc 2 (length u))
 
+pow_more : (m n : ℕ) → m ≤ n → 2 ^ m ≤ 2 ^ n
+pow_more zero n l = omega (arith, pow-zero 2, one-le-pow n 2 (omega arith))
+pow_more (suc m) zero l = absurd (omega (arith, l))
+pow_more (suc m) (suc n) l = omega (arith, pow_more m n (omega (arith, l)), pow-suc 2 m, pow-suc 2 n)
+
 count_split : {X : Type 0} (h p : X → Bool) (xs : List X) → count_by h xs ≡ count_by h (filter p xs) + count_by h (filter (λ x. not (p x)) xs)
 count_split h p [] = refl
 count_split h p (x ∷ xs) =
@@ -118,7 +126,6 @@ identity_distinct n set rows e h = distinct_from_pairs set (λ i j d l m same.
     omega (arith, one, none, ap (entry rows i) at))
 
 pub weight_split : (f : FieldName) (n : ℕ) (set : List ℕ) (rows : List (List ℕ)) (w : List ℕ) → AreRows f n rows → length rows ≡ length set → IsIdentityOn set rows → length w ≡ n → weight w ≡ weight (restrict set w) + weight (restrict (outside n set) w)
-unfolding outside
 weight_split f n set rows w r e h long =
     let inside = filter (is_member set) (below n) in
     let all = count_split (has_symbol w) (is_member set) (below n) in
@@ -197,3 +204,27 @@ pub weight_by_bits : (C : Matrix) (s : SpotState) → C.field ≡ Gf2 → AreRow
 weight_by_bits C s e rows free l message some =
     let g = generates C s.set rows free l in
     weight_of_word C s rows free l message some ∙ ap (λ x. length s.support + x) (sym (tail_ones C (others C s.set) (front_word C s (length s.support)) e (front_word_fits C s (length s.support) g)))
+
+pub outside_inside : (n t : ℕ) (set : List ℕ) → t < length (outside n set) → slice_index (outside n set) t < n
+outside_inside n t set l = contains_below n (slice_index (outside n set) t) (filter_passes (λ c. not (is_member set c)) (below n) (slice_index (outside n set) t) (Contains-get_or (outside n set) t 0 l)).member
+
+pub pack_none : (cols word : List ℕ) → 0 ≡ packed (drop (length cols) (restrict cols word))
+unfolding packed
+pack_none cols word = sym (ap packed (drop_all (length cols) (restrict cols word) (omega (arith, length_restrict cols word))))
+
+pub pack_step : (cols word : List ℕ) (t : ℕ) → t < length cols → packed (drop t (restrict cols word)) ≡ packed (drop (suc t) (restrict cols word)) * 2 + slice_index word (slice_index cols t)
+unfolding packed
+pack_step cols word t l =
+    ap packed (drop-cons (restrict cols word) t 0 (omega (arith, l, length_restrict cols word))) ∙ ap (λ x. packed (drop (suc t) (restrict cols word)) * 2 + x) (index_restrict cols word t l)
+
+pub pack_room : (cols word : List ℕ) (t : ℕ) → Fits Gf2 word → length cols ≤ 64 → t < length cols → packed (drop (suc t) (restrict cols word)) < 2 ^ 63
+pack_room cols word t h few l =
+    let R = restrict cols word in
+    let long : length (drop (suc t) R) ≡ length cols - suc t = length-drop (suc t) R ∙ ap (λ n. n - suc t) (length_restrict cols word) in
+    let fits : Fits Gf2 (drop (suc t) R) = λ i m. rw (get_or-drop (suc t) R i 0) (rw (index_restrict cols word (suc t + i) (omega (arith, m, long, l))) (fits_symbol Gf2 word h (slice_index cols (suc t + i)))) in
+    let small = packed_small (drop (suc t) R) fits in
+    let power = pow_more (length (drop (suc t) R)) 63 (omega (arith, long, few, l)) in
+    omega (arith, small, power)
+
+pub bit_small : (word : List ℕ) (i : ℕ) → Fits Gf2 word → slice_index word i < 2
+bit_small word i h = omega (arith, fits_symbol Gf2 word h i, two)

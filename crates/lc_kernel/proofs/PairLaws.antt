@@ -1,11 +1,10 @@
 -- The pairs of k rows in their order.
---   EndsAt k a s               from index s on, the pairs are those of the rows from a on
 --   ends_first, ends_next, ends_all      at the first row, at the next one, after the last one
 --   pair_at                    the pair at an index
 --   last_pair                  the last one
 --   pair_shape                 each support of two places is a pair
---   ArePairsSoFar              the sums of the pairs up to an index
---   sums_none, sums_more, pairs_made      none, one more, and all
+--   sums_none, sums_more, sums_next, pairs_made      the sums of no pair, of one more, and of all
+--   ends_row                   after the pairs of a row come those of the next
 use Rattle.std.proofs.Common.{◌≡◌, ℕ, zero, suc, ◌+◌, ◌-◌, ◌<◌, ◌≤◌, List, [], ◌∷◌, ◌++◌, length, bit_xor, get_or, slice_index, Some, None, refl, ap, sym, ◌∙◌, arith, inl, inr, ⊎_elim, length-append}
 use Rattle.std.specs.Prelude.{slice_get}
 use Rattle.std.proofs.Math.ListN.{get_or-append}
@@ -14,11 +13,7 @@ use Rattle.std.proofs.lemmas.Bool.{cases_lt}
 use Rattle.std.proofs.lemmas.Option.{slice_get_within, none-some}
 use Rattle.lc_enumeration.specs.Message.{supports_from, choose}
 use Rattle.lc_place.proofs.Supports.{IsSupport, support_shape, support_takes, support_leaves, length-supports, choose_nothing}
-use Rattle.lc_kernel.specs.Packed.{ArePairs}
-
-pub record EndsAt (k a s : ℕ) : Type 0 where
-  pub at : (x : ℕ) → slice_get (supports_from 0 k 2) (s + x) ≡ slice_get (supports_from a (k - a) 2) x
-  pub long : s + length (supports_from a (k - a) 2) ≡ length (supports_from 0 k 2)
+use Rattle.lc_kernel.specs.Packed.{EndsAt, ArePairsSoFar, ArePairs}
 
 pub ends_first : (k : ℕ) → EndsAt k 0 0
 ends_first k = let z : k - 0 ≡ k = omega arith in record { at = λ x. let y : 0 + x ≡ x = omega arith in rw (z, y) refl; long = rw z (omega arith) }
@@ -108,9 +103,6 @@ pair_shape (a ∷ []) e = absurd (omega (arith, e))
 pair_shape (a ∷ b ∷ []) e = refl
 pair_shape (a ∷ b ∷ c ∷ u) e = absurd (omega (arith, e))
 
-pub record ArePairsSoFar (k : ℕ) (rows sums : List ℕ) : Type 0 where
-  pub sum : (r a b : ℕ) → r < length sums → slice_get (supports_from 0 k 2) r ≡ Some (a ∷ b ∷ []) → slice_index sums r ≡ bit_xor (slice_index rows a) (slice_index rows b)
-
 pub sums_none : (k : ℕ) (rows sums : List ℕ) → sums ≡ [] → ArePairsSoFar k rows sums
 sums_none k rows sums e = record { sum = λ r a b l at. absurd (omega (arith, l, ap length e)) }
 
@@ -139,3 +131,12 @@ pairs_made k rows sums starts count ends so_far many first =
       firsts = many;
       first = λ a d l. pair_at k a (slice_index starts a) d (first a (omega (arith, l))) l;
     }
+
+pub sums_next : (k a b s x : ℕ) (rows sums more : List ℕ) → EndsAt k a s → a + 1 ≤ b → b < k → length sums ≡ s + (b - (a + 1)) → x ≡ bit_xor (slice_index rows a) (slice_index rows b) → more ≡ sums ++ x ∷ [] → ArePairsSoFar k rows sums → ArePairsSoFar k rows more
+sums_next k a b s x rows sums more h from l e is made so_far =
+    let d = b - (a + 1) in
+    let at : a + 1 + d ≡ b = omega (arith, from) in
+    sums_more k a d s x rows sums more h (omega (arith, at, l)) e (is ∙ ap (λ z. bit_xor (slice_index rows a) (slice_index rows z)) (sym at)) made so_far
+
+pub ends_row : (k a s b n : ℕ) → a < k → EndsAt k a s → b ≡ k → n ≡ s + (b - (a + 1)) → EndsAt k (a + 1) n
+ends_row k a s b n l h e is = let same : s + (k - a - 1) ≡ n = omega (arith, e, is, l) in rw (sym same) (ends_next k a s l h)

@@ -30,8 +30,6 @@ use Rattle.lc_kernel.specs.Kernel.{StackState, IsPlanOf, IsStackAt, top_sum}
 use Rattle.lc_kernel.specs.Values.{value_at, IsLeastValue, IsMessageOf, IsAtOffset}
 use Rattle.lc_kernel.proofs.FrontLaws.{Entries, entries_are, front_word_is, front_whole}
 use Rattle.lc_kernel.proofs.SumLaws.{length_partial, partial_at}
-use Rattle.lc_kernel.proofs.PackLaws.{weight_by_bits}
-use Rattle.lc_kernel.proofs.PairLaws.{pairs_made}
 
 pub one_value : (place : ℕ) (ws : List (List ℕ)) (v : ℕ) → v ≡ value_at place ws 0 → IsLeastValue place ws 1 v
 one_value place ws v e = record {
@@ -140,7 +138,7 @@ offset_first C plan b s h at first level set_is = record {
       };
 }
 
-next_is : (o : Bool) (xs : List Message) (n : ℕ) (a : Message) → n < length xs → slice_get xs n ≡ (if o then Some a else None) → slice_get xs n ≡ Some a
+pub next_is : (o : Bool) (xs : List Message) (n : ℕ) (a : Message) → n < length xs → slice_get xs n ≡ (if o then Some a else None) → slice_get xs n ≡ Some a
 next_is true xs n a l e = e
 next_is false xs n a l e = absurd (none-some _ (sym e ∙ slice_get-get_or xs n a l))
 
