@@ -129,7 +129,7 @@ pairs_made k rows sums starts count ends so_far many first =
       long = long;
       sum = λ r a b at. so_far.sum r a b (omega (arith, long, slice_get_within (supports_from 0 k 2) r (a ∷ b ∷ []) at)) at;
       firsts = many;
-      first = λ a d l. pair_at k a (slice_index starts a) d (first a (omega (arith, l))) l;
+      first = first;
     }
 
 pub sums_next : (k a b s x : ℕ) (rows sums more : List ℕ) → EndsAt k a s → a + 1 ≤ b → b < k → length sums ≡ s + (b - (a + 1)) → x ≡ bit_xor (slice_index rows a) (slice_index rows b) → more ≡ sums ++ x ∷ [] → ArePairsSoFar k rows sums → ArePairsSoFar k rows more

@@ -7,8 +7,8 @@
 --   run_value_is               the values of the words of a run are those of the block
 --   first_seen                 the value of the first word
 --   last_message, next_offset      the last message of a head, and the one after it
---   pair_of                    the index of a pair
-use Rattle.std.proofs.Common.{◌≡◌, ℕ, zero, suc, ◌+◌, ◌-◌, ◌*◌, ◌^◌, ◌<◌, ◌≤◌, min, Bool, if◌then◌else◌, List, [], ◌∷◌, ◌++◌, length, take, drop, set, replicate, get_or, bit_xor, count_ones, slice_get, slice_index, slice_index_or, Some, None, Contains, refl, sym, ap, subst, ◌∙◌, inl, inr, ⊎_elim, arith, length-append}
+--   index_of_pair              the index of a spot's pair
+use Rattle.std.proofs.Common.{◌≡◌, ℕ, zero, suc, ◌+◌, ◌-◌, ◌*◌, ◌%◌, ◌^◌, ◌<◌, ◌≤◌, min, Bool, if◌then◌else◌, List, [], ◌∷◌, ◌++◌, length, take, drop, set, replicate, get_or, bit_xor, count_ones, slice_get, slice_index, slice_index_or, Some, None, Contains, refl, sym, ap, subst, ◌∙◌, inl, inr, ⊎_elim, arith, length-append}
 use Rattle.std.specs.Int.Bits.{xor_assoc}
 use Rattle.std.proofs.Math.ListN.{get_or-append}
 use Rattle.std.proofs.Math.Seq.{get_or-append_seam, take-append_seam}
@@ -31,18 +31,12 @@ use Rattle.lc_place.proofs.Runs.{support_of, message_of_support, message_along}
 use Rattle.lc_kernel.specs.Kernel.{IsPlanOf}
 use Rattle.lc_kernel.specs.Sums.{front_word}
 use Rattle.lc_kernel.specs.Values.{value_at, IsMessageOf, IsSpotAt, IsLeastSeen}
-use Rattle.lc_kernel.specs.Packed.{others, bits_at, ArePairs, AreRowBits, AreHeads, IsTable}
+use Rattle.lc_kernel.specs.Packed.{others, bits_at, head_of, pair_of, ArePairs, AreRowBits, AreHeads, IsTable}
 use Rattle.lc_kernel.specs.Least.{run_value}
 use Rattle.lc_kernel.proofs.FrontLaws.{Entries, entries_are, front_word_is, front_whole, front_same}
 use Rattle.lc_kernel.proofs.PackLaws.{two, weight_by_bits, bits_more, bits_none}
-use Rattle.lc_kernel.proofs.PairLaws.{pair_shape}
+use Rattle.lc_kernel.proofs.PairLaws.{pair_shape, pair_at, last_pair}
 use Rattle.lc_kernel.proofs.ScanLaws.{block_word, block_long, next_is, same_phase, length_of_code}
-
-abbrev pub head : SpotState → List ℕ
-head s = take (length s.support - 2) s.support
-
-abbrev pub pair : SpotState → List ℕ
-pair s = slice_index s.support (length s.support - 2) ∷ slice_index s.support (length s.support - 1) ∷ []
 
 pub support_parts : (s : List ℕ) → 2 ≤ length s → s ≡ take (length s - 2) s ++ slice_index s (length s - 2) ∷ slice_index s (length s - 1) ∷ []
 support_parts s l =
@@ -84,7 +78,7 @@ heads_more C cols s rows i x heads more e r free l message bits inside room is m
 
 -- the spot of another pair with the same head
 abbrev with_pair : SpotState → ℕ → ℕ → SpotState
-with_pair s a b = record { set = s.set; support = head s ++ a ∷ b ∷ []; coefficients = replicate (length s.support) 1; room = 0 }
+with_pair s a b = record { set = s.set; support = head_of s ++ a ∷ b ∷ []; coefficients = replicate (length s.support) 1; room = 0 }
 
 long_pair : (h : List ℕ) (a b : ℕ) → length (h ++ a ∷ b ∷ []) ≡ length h + 2
 long_pair h a b = length-append h (a ∷ b ∷ [])
@@ -107,16 +101,16 @@ pub record IsRunAt (C : Matrix) (s : SpotState) (rows sums starts : List ℕ) (p
   pub level : 2 ≤ length s.support
   pub table : IsTable C s.set rows sums starts
   pub prefix_is : prefix ≡ bits_at (others C s.set) (front_word C s (length s.support - 2))
-  pub pair_is : slice_get (supports_from 0 (length C.rows) 2) r ≡ Some (pair s)
+  pub pair_is : slice_get (supports_from 0 (length C.rows) 2) r ≡ Some (pair_of s)
 
 ones_of : (C : Matrix) (s : SpotState) → C.field ≡ Gf2 → Contains (messages (length C.rows) (size C.field) (length s.support)) (spot_message s) → s.coefficients ≡ replicate (length s.support) 1
 ones_of C s e h = let n = from_contains _ _ h in all_ones (length C.rows) (length s.support) n.0 (spot_message s) (binary C n.0 (length s.support) (spot_message s) e n.1)
 
-along : (C : Matrix) (s : SpotState) (n r j : ℕ) (u : List ℕ) → C.field ≡ Gf2 → 2 ≤ length s.support → slice_get (messages (length C.rows) (size C.field) (length s.support)) n ≡ Some (spot_message s) → slice_get (supports_from 0 (length C.rows) 2) r ≡ Some (pair s) → slice_get (supports_from 0 (length C.rows) 2) (r + j) ≡ Some u → slice_get (messages (length C.rows) (size C.field) (length s.support)) (n + j) ≡ Some (message_of (head s ++ u) (replicate (length s.support) 1))
+along : (C : Matrix) (s : SpotState) (n r j : ℕ) (u : List ℕ) → C.field ≡ Gf2 → 2 ≤ length s.support → slice_get (messages (length C.rows) (size C.field) (length s.support)) n ≡ Some (spot_message s) → slice_get (supports_from 0 (length C.rows) 2) r ≡ Some (pair_of s) → slice_get (supports_from 0 (length C.rows) 2) (r + j) ≡ Some u → slice_get (messages (length C.rows) (size C.field) (length s.support)) (n + j) ≡ Some (message_of (head_of s ++ u) (replicate (length s.support) 1))
 along C s n r j u e l at a b =
-    unbinary C (n + j) (length s.support) (message_of (head s ++ u) (replicate (length s.support) 1)) e (message_along (length C.rows) (length s.support) 2 n r j (head s) (pair s) u (spot_message s) (omega arith) (binary C n (length s.support) (spot_message s) e at) (support_parts s.support l) a b)
+    unbinary C (n + j) (length s.support) (message_of (head_of s ++ u) (replicate (length s.support) 1)) e (message_along (length C.rows) (length s.support) 2 n r j (head_of s) (pair_of s) u (spot_message s) (omega arith) (binary C n (length s.support) (spot_message s) e at) (support_parts s.support l) a b)
 
-head_long : (s : SpotState) → length (head s) ≡ length s.support - 2
+head_long : (s : SpotState) → length (head_of s) ≡ length s.support - 2
 head_long s = length-take-le (length s.support - 2) s.support (omega arith)
 
 pub run_word : (C : Matrix) (s : SpotState) (rows sums starts : List ℕ) (prefix r n j a b : ℕ) → IsRunAt C s rows sums starts prefix r → slice_get (messages (length C.rows) (size C.field) (length s.support)) n ≡ Some (spot_message s) → slice_get (supports_from 0 (length C.rows) 2) (r + j) ≡ Some (a ∷ b ∷ []) → weight (front_word C (with_pair s a b) (length s.support)) ≡ length s.support + count_ones (bit_xor (slice_index sums (r + j)) prefix)
@@ -124,18 +118,18 @@ run_word C s rows sums starts prefix r n j a b h at there =
     let e = h.table.field in
     let t = with_pair s a b in
     let w = length s.support in
-    let w_is : length t.support ≡ w = long_pair (head s) a b ∙ omega (arith, head_long s, h.level) in
+    let w_is : length t.support ≡ w = long_pair (head_of s) a b ∙ omega (arith, head_long s, h.level) in
     let message : Contains (messages (length C.rows) (size C.field) (length t.support)) (spot_message t) = rw w_is (to_contains (messages (length C.rows) (size C.field) w) (spot_message t) (n + j) (along C s n r j (a ∷ b ∷ []) e h.level at h.pair_is there)) in
     let cols = others C s.set in
-    let i = length (head s) in
-    let one : bits_at cols (front_word C t (suc i)) ≡ bit_xor (bits_at cols (front_word C t i)) (slice_index rows (slice_index t.support i)) = bits_more C cols t rows i e h.rows_are h.free h.set message h.table.bits (omega (arith, long_pair (head s) a b)) in
-    let other : bits_at cols (front_word C t (suc (suc i))) ≡ bit_xor (bits_at cols (front_word C t (suc i))) (slice_index rows (slice_index t.support (suc i))) = bits_more C cols t rows (suc i) e h.rows_are h.free h.set message h.table.bits (omega (arith, long_pair (head s) a b)) in
-    let front : front_word C t i ≡ front_word C s i = front_same C s t i i (omega arith) refl (take-append_seam (head s) (a ∷ b ∷ []) ∙ ap (λ z. take z s.support) (sym (head_long s))) (ap (take i) (sym (ones_of C s e h.message))) in
+    let i = length (head_of s) in
+    let one : bits_at cols (front_word C t (suc i)) ≡ bit_xor (bits_at cols (front_word C t i)) (slice_index rows (slice_index t.support i)) = bits_more C cols t rows i e h.rows_are h.free h.set message h.table.bits (omega (arith, long_pair (head_of s) a b)) in
+    let other : bits_at cols (front_word C t (suc (suc i))) ≡ bit_xor (bits_at cols (front_word C t (suc i))) (slice_index rows (slice_index t.support (suc i))) = bits_more C cols t rows (suc i) e h.rows_are h.free h.set message h.table.bits (omega (arith, long_pair (head_of s) a b)) in
+    let front : front_word C t i ≡ front_word C s i = front_same C s t i i (omega arith) refl (take-append_seam (head_of s) (a ∷ b ∷ []) ∙ ap (λ z. take z s.support) (sym (head_long s))) (ap (take i) (sym (ones_of C s e h.message))) in
     let whole : suc (suc i) ≡ w = omega (arith, head_long s, h.level) in
     let prefix_here : bits_at cols (front_word C t i) ≡ prefix = ap (bits_at cols) (front ∙ ap (front_word C s) (head_long s)) ∙ sym h.prefix_is in
     let bits : bits_at cols (front_word C t w) ≡ bit_xor (slice_index sums (r + j)) prefix =
     ap (λ z. bits_at cols (front_word C t z)) (sym whole) ∙ other ∙ ap (λ z. bit_xor z (slice_index rows (slice_index t.support (suc i)))) (one ∙ ap (λ z. bit_xor z (slice_index rows (slice_index t.support i))) prefix_here)
-    ∙ ap (λ z. bit_xor (bit_xor prefix (slice_index rows z)) (slice_index rows (slice_index t.support (suc i)))) (first_of_pair (head s) a b) ∙ ap (λ z. bit_xor (bit_xor prefix (slice_index rows a)) (slice_index rows z)) (second_of_pair (head s) a b)
+    ∙ ap (λ z. bit_xor (bit_xor prefix (slice_index rows z)) (slice_index rows (slice_index t.support (suc i)))) (first_of_pair (head_of s) a b) ∙ ap (λ z. bit_xor (bit_xor prefix (slice_index rows a)) (slice_index rows z)) (second_of_pair (head_of s) a b)
     ∙ xor_turned prefix (slice_index rows a) (slice_index rows b) ∙ ap (λ z. bit_xor z prefix) (sym (h.table.pairs.sum (r + j) a b there)) in
     let weighs : weight (front_word C t (length t.support)) ≡ length t.support + count_ones (bits_at cols (front_word C t (length t.support))) = weight_by_bits C t e h.rows_are h.free h.set message (omega (arith, w_is, h.level)) in
     ap (λ z. weight (front_word C t z)) (sym w_is) ∙ weighs ∙ ap (λ z. z + count_ones (bits_at cols (front_word C t z))) w_is ∙ ap (λ z. w + count_ones z) bits
@@ -160,8 +154,109 @@ run_value_is C m p b n r j s rows sums starts prefix first phase here h inside f
     let place : from + n + j ≡ from + (n + j) = omega arith in
     let next_here : slice_get (messages k (size C.field) (phase_level m p)) (from + (n + j)) ≡ Some (spot_message t) = subst (λ z. slice_get (messages k (size C.field) z) (from + (n + j)) ≡ Some (spot_message t)) here.level (subst (λ z. slice_get (messages k (size C.field) w) z ≡ Some (spot_message t)) place next) in
     let word = block_word C m p b (n + j) (spot_message t) phase few next_here in
-    let long : w ≡ length t.support = sym (long_pair (head s) x y ∙ omega (arith, head_long s, h.level)) in
+    let long : w ≡ length t.support = sym (long_pair (head_of s) x y ∙ omega (arith, head_long s, h.level)) in
     let whole = front_whole (spot_message t) w long (sym (length-replicate w 1)) in
     let word_is : word_of C m p (spot_message t) ≡ front_word C t w = ap (word_of C m p) (sym whole) ∙ front_word_is C m p t w here.set in
     let read : slice_index_or (block_words C m b) (n + j) [] ≡ front_word C t w = get_or_from_slice_get (block_words C m b) (n + j) (word_of C m p (spot_message t)) [] word ∙ word_is in
     rw read (rw weighs (omega (arith, f)))
+
+-- the last two places of a spot, as the code reads them
+pub record PairRead (C : Matrix) (s : SpotState) (starts : List ℕ) : Type 0 where
+  pub rises : slice_index s.support (length s.support - 2) < slice_index s.support (length s.support - 1)
+  pub inside : slice_index s.support (length s.support - 1) < length C.rows
+  pub started : slice_index s.support (length s.support - 2) < length starts
+
+pub pair_read : (C : Matrix) (s : SpotState) (rows sums starts : List ℕ) → ArePairs (length C.rows) rows sums starts → Contains (messages (length C.rows) (size C.field) (length s.support)) (spot_message s) → 2 ≤ length s.support → PairRead C s starts
+pair_read C s rows sums starts h message l =
+    let t = entries_are C s message in
+    let a = slice_index s.support (length s.support - 2) in
+    let next : suc (length s.support - 2) ≡ length s.support - 1 = omega (arith, l) in
+    let rises : a < slice_index s.support (length s.support - 1) = subst (λ z. a < slice_index s.support z) next (t.fitting.rises (length s.support - 2) (omega (arith, l))) in
+    let inside = t.row (length s.support - 1) (omega (arith, l)) in
+    record { rises = rises; inside = inside; started = omega (arith, rises, inside, h.firsts) }
+
+pub index_of_pair : (C : Matrix) (s : SpotState) (rows sums starts : List ℕ) → ArePairs (length C.rows) rows sums starts → Contains (messages (length C.rows) (size C.field) (length s.support)) (spot_message s) → 2 ≤ length s.support → slice_get (supports_from 0 (length C.rows) 2) (slice_index starts (slice_index s.support (length s.support - 2)) + (slice_index s.support (length s.support - 1) - slice_index s.support (length s.support - 2) - 1)) ≡ Some (pair_of s)
+index_of_pair C s rows sums starts h message l =
+    let t = entries_are C s message in
+    let a = slice_index s.support (length s.support - 2) in
+    let b = slice_index s.support (length s.support - 1) in
+    let next : suc (length s.support - 2) ≡ length s.support - 1 = omega (arith, l) in
+    let rises : a < b = subst (λ z. a < slice_index s.support z) next (t.fitting.rises (length s.support - 2) (omega (arith, l))) in
+    let inside : b < length C.rows = t.row (length s.support - 1) (omega (arith, l)) in
+    let d = b - a - 1 in
+    let at = pair_at (length C.rows) a (slice_index starts a) d (h.first a (omega (arith, rises, inside))) (omega (arith, rises, inside)) in
+    let e : a + 1 + d ≡ b = omega (arith, rises) in
+    at ∙ ap (λ z. Some (a ∷ z ∷ [])) e
+
+pub pair_inside : (C : Matrix) (s : SpotState) (rows sums starts : List ℕ) (r : ℕ) → ArePairs (length C.rows) rows sums starts → slice_get (supports_from 0 (length C.rows) 2) r ≡ Some (pair_of s) → r < length sums
+pair_inside C s rows sums starts r h e = omega (arith, h.long, slice_get_within (supports_from 0 (length C.rows) 2) r (pair_of s) e)
+
+pub seen_place : (b done best n : ℕ) (ws : List (List ℕ)) → IsLeastSeen (place_of b 0) ws done best → length ws ≤ 4096 → b < 2 ^ 40 → best % 2 ^ 52 ≤ b * 4096 + done
+unfolding place_of
+seen_place b done best n ws h few small = let t = h.attained in omega (arith, t.1, t.2, t.3, few, small)
+
+pub last_message : (C : Matrix) (s last : SpotState) (rows sums starts : List ℕ) (n r j : ℕ) → C.field ≡ Gf2 → 2 ≤ length s.support → ArePairs (length C.rows) rows sums starts → Contains (messages (length C.rows) (size C.field) (length s.support)) (spot_message s) → slice_get (messages (length C.rows) (size C.field) (length s.support)) n ≡ Some (spot_message s) → slice_get (supports_from 0 (length C.rows) 2) r ≡ Some (pair_of s) → r + j ≡ length (supports_from 0 (length C.rows) 2) - 1
+    → last.support ≡ head_of s ++ (length C.rows - 2) ∷ (length C.rows - 1) ∷ [] → last.coefficients ≡ s.coefficients
+    → slice_get (messages (length C.rows) (size C.field) (length s.support)) (n + j) ≡ Some (spot_message last)
+last_message C s last rows sums starts n r j e l h message at pair end support coefficients =
+    let k = length C.rows in
+    let few = (entries_are C s message).few in
+    let there = last_pair k (slice_index starts (k - 2)) (h.first (k - 2) (omega (arith, l, few))) (omega (arith, l, few)) in
+    along C s n r j ((k - 2) ∷ (k - 1) ∷ []) e l at pair (ap (slice_get (supports_from 0 k 2)) end ∙ there) ∙ ap Some (cc (support, coefficients, ones_of C s e message))
+
+pub last_is_message : (C : Matrix) (plan : PlanSize) (s last : SpotState) (rows sums starts : List ℕ) → IsPlanOf plan C → C.field ≡ Gf2 → 2 ≤ length s.support → ArePairs (length C.rows) rows sums starts → Contains (messages (length C.rows) (size C.field) (length s.support)) (spot_message s) → last.support ≡ head_of s ++ (length C.rows - 2) ∷ (length C.rows - 1) ∷ [] → last.coefficients ≡ s.coefficients → Contains (messages plan.k plan.q (length last.support)) (spot_message last)
+last_is_message C plan s last rows sums starts p e l h message support coefficients =
+    let n = from_contains _ _ message in
+    let pair = index_of_pair C s rows sums starts h message l in
+    let r = slice_index starts (slice_index s.support (length s.support - 2)) + (slice_index s.support (length s.support - 1) - slice_index s.support (length s.support - 2) - 1) in
+    let pairs = supports_from 0 (length C.rows) 2 in
+    let j = length pairs - 1 - r in
+    let end : r + j ≡ length pairs - 1 = omega (arith, slice_get_within pairs r (pair_of s) pair) in
+    let at = last_message C s last rows sums starts n.0 r j e l h message n.1 pair end support coefficients in
+    let long : length last.support ≡ length s.support = ap length support ∙ long_pair (head_of s) (length C.rows - 2) (length C.rows - 1) ∙ omega (arith, head_long s, l) in
+    rw (p.dimension, p.field, long) (to_contains (messages (length C.rows) (size C.field) (length s.support)) (spot_message last) (n.0 + j) at)
+
+inside_level : (C : Matrix) (m p b n : ℕ) → IsInPhase (length C.rows) (size C.field) m p b → n < length (block_words C m b) → 4096 * (b - blocks_before (length C.rows) (size C.field) m p) + n < length (messages (length C.rows) (size C.field) (phase_level m p))
+unfolding block_length
+inside_level C m p b n h l = omega (arith, l, block_long C m p b h, length-messages (length C.rows) (size C.field) (phase_level m p))
+
+pub next_offset : (C : Matrix) (plan : PlanSize) (b from done : ℕ) (s last new : SpotState) (rows sums starts : List ℕ) (o : Bool) → IsPlanOf plan C → C.field ≡ Gf2 → 2 ≤ length s.support → ArePairs (length C.rows) rows sums starts → IsSpotAt C plan.m b from s
+    → ((r : ℕ) → slice_get (supports_from 0 (length C.rows) 2) r ≡ Some (pair_of s) → r + (done - from) ≡ length sums)
+    → from < done
+    → done < length (block_words C plan.m b)
+    → last.support ≡ head_of s ++ (length C.rows - 2) ∷ (length C.rows - 1) ∷ []
+    → last.coefficients ≡ s.coefficients
+    → last.set ≡ s.set
+    → ((n : ℕ) → slice_get (messages plan.k plan.q (length last.support)) n ≡ Some (spot_message last) → slice_get (messages plan.k plan.q (length last.support)) (n + 1) ≡ (if o then Some (spot_message new) else None))
+    → Contains (messages plan.k plan.q (length new.support)) (spot_message new)
+    → length new.support ≡ length last.support
+    → new.set ≡ last.set
+    → IsSpotAt C plan.m b done new
+next_offset C plan b from done s last new rows sums starts o p e l h at end later inside support coefficients same_set next message level set_is =
+    let long : length last.support ≡ length s.support = ap length support ∙ long_pair (head_of s) (length C.rows - 2) (length C.rows - 1) ∙ omega (arith, head_long s, l) in
+    let next_here : (n : ℕ) → slice_get (messages (length C.rows) (size C.field) (length last.support)) n ≡ Some (spot_message last) → slice_get (messages (length C.rows) (size C.field) (length last.support)) (n + 1) ≡ (if o then Some (spot_message new) else None) = rw (← p.dimension, ← p.field) next in
+    let pair = index_of_pair C s rows sums starts h at.message l in
+    let r = slice_index starts (slice_index s.support (length s.support - 2)) + (slice_index s.support (length s.support - 1) - slice_index s.support (length s.support - 2) - 1) in
+    let pairs = supports_from 0 (length C.rows) 2 in
+    let j = done - from - 1 in
+    let last_index : r + j ≡ length pairs - 1 = omega (arith, end r pair, h.long, later) in
+    record {
+      set = omega (arith, set_is, same_set, at.set);
+      level = omega (arith, level, long, l);
+      message = rw (← p.dimension, ← p.field) message;
+      of_block = λ phase i.
+          let now = at.of_block phase i in
+          let start = 4096 * (b - blocks_before (length C.rows) (size C.field) plan.m phase) in
+          let w = length s.support in
+          let here : slice_get (messages (length C.rows) (size C.field) w) (start + from) ≡ Some (spot_message s) = rw now.level now.message in
+          let before : slice_get (messages (length C.rows) (size C.field) w) (start + from + j) ≡ Some (spot_message last) = last_message C s last rows sums starts (start + from) r j e l h at.message here pair last_index support coefficients in
+          let step : slice_get (messages (length C.rows) (size C.field) (length last.support)) (start + from + j + 1) ≡ (if o then Some (spot_message new) else None) = next_here (start + from + j) (rw long before) in
+          let place : start + from + j + 1 ≡ start + done = omega (arith, later) in
+          let all = messages (length C.rows) (size C.field) (phase_level plan.m phase) in
+          let there : slice_get all (start + done) ≡ (if o then Some (spot_message new) else None) = subst (λ z. slice_get (messages (length C.rows) (size C.field) z) (start + done) ≡ (if o then Some (spot_message new) else None)) (long ∙ now.level) (subst (λ z. slice_get (messages (length C.rows) (size C.field) (length last.support)) z ≡ (if o then Some (spot_message new) else None)) place step) in
+          record {
+            message = next_is o all (start + done) (spot_message new) (inside_level C plan.m phase b done i inside) there;
+            level = level ∙ long ∙ now.level;
+            set = set_is ∙ same_set ∙ now.set;
+          };
+    }

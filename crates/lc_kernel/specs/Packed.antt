@@ -5,12 +5,13 @@
 --   bits_at cols w          the packed symbols of a word at some columns
 --   EndsAt k a s           from index s on, the pairs of k rows are those of the rows from a on
 --   ArePairsSoFar k rows sums      the sums of the pairs below an index
+--   head_of s, pair_of s   the support of a message but its last two places, and these
 --   IsTable C j rows sums starts      the pairs of the rows of set j over 2 elements, at the columns outside its basis
 --   ArePairs k rows sums starts      the sums of two of k rows of bits, in the order of the pairs, and for each row the index
 --                           of its first pair
 --   AreRowBits C j cols rows      the bits of the rows of the generator of set j at some columns
 --   AreHeads C cols s n heads      those of the words of the fronts of a message, up to the first n entries
-use Rattle.std.specs.Prelude.{◌≡◌, ℕ, ◌+◌, ◌-◌, ◌*◌, ◌<◌, ◌≤◌, not, List, [], ◌∷◌, length, Some, filter, bit_xor, slice_get, slice_index, slice_index_or}
+use Rattle.std.specs.Prelude.{◌≡◌, ℕ, ◌+◌, ◌-◌, ◌*◌, ◌<◌, ◌≤◌, not, List, [], ◌∷◌, length, take, Some, filter, bit_xor, slice_get, slice_index, slice_index_or}
 use Rattle.lc_algebra.specs.declared.FieldName.TheVariants.{Gf2}
 use Rattle.lc_algebra.specs.Span.{below}
 use Rattle.lc_algebra.specs.Matrix.{Matrix}
@@ -47,7 +48,7 @@ pub record ArePairs (k : ℕ) (rows sums starts : List ℕ) : Type 0 where
   pub long : length sums ≡ length (supports_from 0 k 2)
   pub sum : (r a b : ℕ) → slice_get (supports_from 0 k 2) r ≡ Some (a ∷ b ∷ []) → slice_index sums r ≡ bit_xor (slice_index rows a) (slice_index rows b)
   pub firsts : length starts ≡ k
-  pub first : (a d : ℕ) → a + 1 + d < k → slice_get (supports_from 0 k 2) (slice_index starts a + d) ≡ Some (a ∷ (a + 1 + d) ∷ [])
+  pub first : (a : ℕ) → a < k → EndsAt k a (slice_index starts a)
 
 pub record AreRowBits (C : Matrix) (j : ℕ) (cols rows : List ℕ) : Type 0 where
   pub count : length rows ≡ length C.rows
@@ -60,3 +61,9 @@ pub record IsTable (C : Matrix) (j : ℕ) (rows sums starts : List ℕ) : Type 0
   pub field : C.field ≡ Gf2
   pub bits : AreRowBits C j (others C j) rows
   pub pairs : ArePairs (length C.rows) rows sums starts
+
+abbrev pub head_of : SpotState → List ℕ
+head_of s = take (length s.support - 2) s.support
+
+abbrev pub pair_of : SpotState → List ℕ
+pair_of s = slice_index s.support (length s.support - 2) ∷ slice_index s.support (length s.support - 1) ∷ []

@@ -6,6 +6,7 @@ mod block;
 mod pairs;
 mod place;
 mod run;
+mod runs;
 mod scratch;
 mod stack;
 
