@@ -49,11 +49,11 @@ seen_run first done ws sums prefix level best v h room values r = record {
   low = λ i l. ⊎_elim
       (λ a. omega (arith, h.low i a, r.most))
       (λ a.
-          let j = i - done in
-          let e : done + j ≡ i = omega (arith, a) in
-          let low = r.low j (omega (arith, l, a)) in
-          let is = values j (omega (arith, l, a)) in
-          rw (sym e) (omega (arith, low, is)))
+      let j = i - done in
+      let e : done + j ≡ i = omega (arith, a) in
+      let low = r.low j (omega (arith, l, a)) in
+      let is = values j (omega (arith, l, a)) in
+      rw (sym e) (omega (arith, low, is)))
       (cases_lt i done);
   attained = ⊎_elim
       (λ e. let t = h.attained in (t.0, omega (arith, t.1), t.2, e ∙ t.3))

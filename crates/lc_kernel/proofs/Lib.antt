@@ -5,3 +5,4 @@ pub mod PackLaws
 pub mod PairLaws
 pub mod LeastLaws
 pub mod RunLaws
+pub mod TableLaws

@@ -130,8 +130,8 @@ weight_split f n set rows w r e h long =
     let inside = filter (is_member set) (below n) in
     let all = count_split (has_symbol w) (is_member set) (below n) in
     let same : count_by (has_symbol w) inside ≡ count_by (has_symbol w) set = count_same (has_symbol w) inside set (distinct_filter (is_member set) (below n) (distinct_below n)) (identity_distinct n set rows e h)
-        (λ c l. true_member set c (filter_passes (is_member set) (below n) c l).passes)
-        (λ c l. filter_keeps (is_member set) (below n) c (below_contains n c (place_inside f n set rows c r e h l)) (member_true set c l)) in
+    (λ c l. true_member set c (filter_passes (is_member set) (below n) c l).passes)
+    (λ c l. filter_keeps (is_member set) (below n) c (below_contains n c (place_inside f n set rows c r e h l)) (member_true set c l)) in
     weight_by_places n w long ∙ all ∙ omega (arith, same, weight_restrict set w, weight_restrict (filter (λ c. not (is_member set c)) (below n)) w)
 
 symbols_of : (f : FieldName) (n : ℕ) (set : List ℕ) (rows : List (List ℕ)) (cs : List ℕ) → AreRows f n rows → length rows ≡ length set → IsIdentityOn set rows → IsWord f (length rows) cs → restrict set (combine f n cs rows) ≡ cs

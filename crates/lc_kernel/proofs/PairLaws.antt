@@ -114,10 +114,10 @@ sums_more k a d s x rows sums more h l e is made so_far = record {
   sum = λ r c b m at. ⊎_elim
       (λ i. ap (λ z. slice_index z r) made ∙ get_or-append sums (x ∷ []) 0 r i ∙ so_far.sum r c b i at)
       (λ i.
-          let last : r ≡ length sums = omega (arith, i, m, ap length made, length-append sums (x ∷ [])) in
-          let here : Some (a ∷ (a + 1 + d) ∷ []) ≡ Some (c ∷ b ∷ []) = sym (pair_at k a s d h l) ∙ ap (slice_get (supports_from 0 k 2)) (sym (last ∙ e)) ∙ at in
-          let t = same_pair a (a + 1 + d) c b here in
-          ap (λ z. slice_index z r) made ∙ ap (slice_index (sums ++ x ∷ [])) last ∙ get_or-append_seam sums x [] 0 ∙ is ∙ ap (λ z. bit_xor (slice_index rows z) (slice_index rows (a + 1 + d))) t.0 ∙ ap (λ z. bit_xor (slice_index rows c) (slice_index rows z)) t.1)
+      let last : r ≡ length sums = omega (arith, i, m, ap length made, length-append sums (x ∷ [])) in
+      let here : Some (a ∷ (a + 1 + d) ∷ []) ≡ Some (c ∷ b ∷ []) = sym (pair_at k a s d h l) ∙ ap (slice_get (supports_from 0 k 2)) (sym (last ∙ e)) ∙ at in
+      let t = same_pair a (a + 1 + d) c b here in
+      ap (λ z. slice_index z r) made ∙ ap (slice_index (sums ++ x ∷ [])) last ∙ get_or-append_seam sums x [] 0 ∙ is ∙ ap (λ z. bit_xor (slice_index rows z) (slice_index rows (a + 1 + d))) t.0 ∙ ap (λ z. bit_xor (slice_index rows c) (slice_index rows z)) t.1)
       (cases_lt r (length sums));
 }
 

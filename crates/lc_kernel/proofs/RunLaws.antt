@@ -5,6 +5,7 @@
 --   heads_none, heads_more     the bits of the fronts, one entry more
 --   run_word                   the bits of a word of a run: those of its head and of its pair
 --   run_value_is               the values of the words of a run are those of the block
+--   run_at, part_values, part_seen      what is seen after a part of a run
 --   first_seen                 the value of the first word
 --   last_message, next_offset      the last message of a head, and the one after it
 --   index_of_pair              the index of a spot's pair
@@ -14,7 +15,7 @@ use Rattle.std.proofs.Math.ListN.{get_or-append}
 use Rattle.std.proofs.Math.Seq.{get_or-append_seam, take-append_seam}
 use Rattle.std.proofs.lemmas.Bool.{cases_lt}
 use Rattle.std.proofs.lemmas.Nat.{xor_comm}
-use Rattle.std.proofs.lemmas.List.{take-append-drop, length-drop, length-take-le, length-replicate, get_or-drop, get_or-append-add, get_or-set_same, get_or-set_other}
+use Rattle.std.proofs.lemmas.List.{take-append-drop, length-drop, get_or-take, length-take-le, length-replicate, get_or-drop, get_or-append-add, get_or-set_same, get_or-set_other}
 use Rattle.std.proofs.lemmas.Option.{slice_get_within, slice_get-get_or, get_or_from_slice_get}
 use Rattle.lc_algebra.specs.declared.FieldName.TheVariants.{Gf2}
 use Rattle.lc_algebra.specs.Field.{size}
@@ -32,9 +33,11 @@ use Rattle.lc_kernel.specs.Kernel.{IsPlanOf}
 use Rattle.lc_kernel.specs.Sums.{front_word}
 use Rattle.lc_kernel.specs.Values.{value_at, IsMessageOf, IsSpotAt, IsLeastSeen}
 use Rattle.lc_kernel.specs.Packed.{others, bits_at, head_of, pair_of, ArePairs, AreRowBits, AreHeads, IsTable}
-use Rattle.lc_kernel.specs.Least.{run_value}
+use Rattle.lc_kernel.specs.Least.{run_value, IsRunBest}
 use Rattle.lc_kernel.proofs.FrontLaws.{Entries, entries_are, front_word_is, front_whole, front_same}
 use Rattle.lc_kernel.proofs.PackLaws.{two, weight_by_bits, bits_more, bits_none}
+use Rattle.lc_enumeration.proofs.SearchLaws.{few_in_block}
+use Rattle.lc_kernel.proofs.LeastLaws.{seen_run}
 use Rattle.lc_kernel.proofs.PairLaws.{pair_shape, pair_at, last_pair}
 use Rattle.lc_kernel.proofs.ScanLaws.{block_word, block_long, next_is, same_phase, length_of_code}
 
@@ -70,10 +73,10 @@ heads_more C cols s rows i x heads more e r free l message bits inside room is m
     ⊎_elim
     (λ a. ap (λ z. slice_index z n) made ∙ get_or-set_other heads (i + 1) n x 0 (λ q. omega (arith, a, q)) ∙ h n (omega (arith, a)))
     (λ a.
-        let last : n ≡ i + 1 = omega (arith, a, m) in
-        let step : i + 1 ≡ suc i = omega arith in
-        ap (λ z. slice_index z n) made ∙ ap (slice_index (set heads (i + 1) x)) last ∙ get_or-set_same heads (i + 1) x 0 room ∙ is ∙ ap (λ z. bit_xor z (slice_index rows (slice_index s.support i))) (h i (omega arith))
-        ∙ sym (bits_more C cols s rows i e r free l message bits inside) ∙ ap (λ z. bits_at cols (front_word C s z)) (sym (last ∙ step)))
+    let last : n ≡ i + 1 = omega (arith, a, m) in
+    let step : i + 1 ≡ suc i = omega arith in
+    ap (λ z. slice_index z n) made ∙ ap (slice_index (set heads (i + 1) x)) last ∙ get_or-set_same heads (i + 1) x 0 room ∙ is ∙ ap (λ z. bit_xor z (slice_index rows (slice_index s.support i))) (h i (omega arith))
+    ∙ sym (bits_more C cols s rows i e r free l message bits inside) ∙ ap (λ z. bits_at cols (front_word C s z)) (sym (last ∙ step)))
     (cases_lt n (i + 1))
 
 -- the spot of another pair with the same head
@@ -221,7 +224,7 @@ unfolding block_length
 inside_level C m p b n h l = omega (arith, l, block_long C m p b h, length-messages (length C.rows) (size C.field) (phase_level m p))
 
 pub next_offset : (C : Matrix) (plan : PlanSize) (b from done : ℕ) (s last new : SpotState) (rows sums starts : List ℕ) (o : Bool) → IsPlanOf plan C → C.field ≡ Gf2 → 2 ≤ length s.support → ArePairs (length C.rows) rows sums starts → IsSpotAt C plan.m b from s
-    → ((r : ℕ) → slice_get (supports_from 0 (length C.rows) 2) r ≡ Some (pair_of s) → r + (done - from) ≡ length sums)
+    → ((r : ℕ) × (slice_get (supports_from 0 (length C.rows) 2) r ≡ Some (pair_of s)) × (r + (done - from) ≡ length sums))
     → from < done
     → done < length (block_words C plan.m b)
     → last.support ≡ head_of s ++ (length C.rows - 2) ∷ (length C.rows - 1) ∷ []
@@ -235,11 +238,11 @@ pub next_offset : (C : Matrix) (plan : PlanSize) (b from done : ℕ) (s last new
 next_offset C plan b from done s last new rows sums starts o p e l h at end later inside support coefficients same_set next message level set_is =
     let long : length last.support ≡ length s.support = ap length support ∙ long_pair (head_of s) (length C.rows - 2) (length C.rows - 1) ∙ omega (arith, head_long s, l) in
     let next_here : (n : ℕ) → slice_get (messages (length C.rows) (size C.field) (length last.support)) n ≡ Some (spot_message last) → slice_get (messages (length C.rows) (size C.field) (length last.support)) (n + 1) ≡ (if o then Some (spot_message new) else None) = rw (← p.dimension, ← p.field) next in
-    let pair = index_of_pair C s rows sums starts h at.message l in
-    let r = slice_index starts (slice_index s.support (length s.support - 2)) + (slice_index s.support (length s.support - 1) - slice_index s.support (length s.support - 2) - 1) in
+    let r = end.0 in
+    let pair = end.1 in
     let pairs = supports_from 0 (length C.rows) 2 in
     let j = done - from - 1 in
-    let last_index : r + j ≡ length pairs - 1 = omega (arith, end r pair, h.long, later) in
+    let last_index : r + j ≡ length pairs - 1 = omega (arith, end.2, h.long, later) in
     record {
       set = omega (arith, set_is, same_set, at.set);
       level = omega (arith, level, long, l);
@@ -259,4 +262,48 @@ next_offset C plan b from done s last new rows sums starts o p e l h at end late
             level = level ∙ long ∙ now.level;
             set = set_is ∙ same_set ∙ now.set;
           };
+    }
+
+pub run_at : (C : Matrix) (m b n : ℕ) (s : SpotState) (rows sums starts : List ℕ) (prefix r : ℕ) → AreRows C.field C.columns C.rows → AreIndependent C.field C.columns C.rows → s.set < set_count C → IsSpotAt C m b n s → 2 ≤ length s.support → IsTable C s.set rows sums starts → prefix ≡ bits_at (others C s.set) (front_word C s (length s.support - 2)) → slice_get (supports_from 0 (length C.rows) 2) r ≡ Some (pair_of s) → IsRunAt C s rows sums starts prefix r
+run_at C m b n s rows sums starts prefix r a f l at level table prefix_is pair_is = record {
+  rows_are = a;
+  free = f;
+  set = l;
+  message = at.message;
+  level = level;
+  table = table;
+  prefix_is = prefix_is;
+  pair_is = pair_is;
+}
+
+at_place : (b n : ℕ) → b * 4096 + n ≡ place_of b 0 + n
+unfolding place_of
+at_place b n = omega arith
+
+pub part_values : (C : Matrix) (m p b done r count : ℕ) (s : SpotState) (rows sums starts part : List ℕ) (prefix : ℕ) → IsInPhase (length C.rows) (size C.field) m p b → IsSpotAt C m b done s → IsRunAt C s rows sums starts prefix r → part ≡ take count (drop r sums) → r + count ≤ length sums → done + count ≤ length (block_words C m b) → (i : ℕ) → i < length part → value_at (place_of b 0) (block_words C m b) (done + i) ≡ run_value part prefix (length s.support) (place_of b 0 + done) i
+unfolding place_of
+part_values C m p b done r count s rows sums starts part prefix phase at h is inside within i l =
+    let long : length part ≡ count = ap length is ∙ length-take-le count (drop r sums) (omega (arith, length-drop r sums, inside)) in
+    let few = few_in_block C m b in
+    let read : slice_index part i ≡ slice_index sums (r + i) = ap (λ z. slice_index z i) is ∙ get_or-take count (drop r sums) i 0 (omega (arith, l, long)) ∙ get_or-drop r sums i 0 in
+    let zero_place : b * 4096 + 0 ≡ b * 4096 = omega arith in
+    let t = run_value_is C m p b done r i s rows sums starts prefix (b * 4096 + 0) phase (at.of_block p phase) h (omega (arith, l, long, inside)) (omega (arith, l, long, within, few)) zero_place in
+    rw read t
+
+pub part_seen : (C : Matrix) (m p b done r count : ℕ) (s : SpotState) (rows sums starts part : List ℕ) (prefix level place best v : ℕ) → IsInPhase (length C.rows) (size C.field) m p b → IsSpotAt C m b done s → IsRunAt C s rows sums starts prefix r → part ≡ take count (drop r sums) → r + count ≤ length sums → done + count ≤ length (block_words C m b) → level ≡ length s.support → place ≡ b * 4096 + done → IsLeastSeen (place_of b 0) (block_words C m b) done best → IsRunBest part prefix level place best v → IsLeastSeen (place_of b 0) (block_words C m b) (done + count) v
+part_seen C m p b done r count s rows sums starts part prefix level place best v phase at h is inside within e d seen run =
+    let long : length part ≡ count = ap length is ∙ length-take-le count (drop r sums) (omega (arith, length-drop r sums, inside)) in
+    let values = part_values C m p b done r count s rows sums starts part prefix phase at h is inside within in
+    let place_is : place ≡ place_of b 0 + done = d ∙ at_place b done in
+    let here : IsRunBest part prefix (length s.support) (place_of b 0 + done) best v = subst (λ x. IsRunBest part prefix (length s.support) x best v) place_is (subst (λ x. IsRunBest part prefix x place best v) e run) in
+    subst (λ x. IsLeastSeen (place_of b 0) (block_words C m b) (done + x) v) long (seen_run (place_of b 0) done (block_words C m b) part prefix (length s.support) best v seen (omega (arith, long, within)) values here)
+
+pub first_seen : (C : Matrix) (m p b r v level : ℕ) (s : SpotState) (rows sums starts : List ℕ) (prefix x : ℕ) → IsInPhase (length C.rows) (size C.field) m p b → IsSpotAt C m b 0 s → IsRunAt C s rows sums starts prefix r → r < length sums → 0 < length (block_words C m b) → x ≡ slice_index sums r → level ≡ length s.support → v ≡ (level + count_ones (bit_xor x prefix)) * 2 ^ 52 + b * 4096 → IsLeastSeen (place_of b 0) (block_words C m b) 0 v
+first_seen C m p b r v level s rows sums starts prefix x phase at h inside some read e is =
+    let first : r + 0 ≡ r = omega arith in
+    let t = run_value_is C m p b 0 r 0 s rows sums starts prefix (b * 4096) phase (at.of_block p phase) h (omega (arith, inside)) (omega arith) refl in
+    let same : v ≡ (length s.support + count_ones (bit_xor (slice_index sums (r + 0)) prefix)) * 2 ^ 52 + (b * 4096 + 0 + 0) = is ∙ rw (first, ← read, e) (omega arith) in
+    record {
+      low = λ i l. absurd (omega (arith, l));
+      attained = (0, omega arith, some, same ∙ sym t);
     }

@@ -3,3 +3,4 @@ pub mod Sums
 pub mod Values
 pub mod Packed
 pub mod Least
+pub mod Tables
