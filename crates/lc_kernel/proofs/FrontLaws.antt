@@ -4,6 +4,7 @@
 --   entries_are                 each message of a level has such entries
 --   front_first, front_next     the words of the fronts of a spot's message, from its entries
 --   front_word_is, front_whole      the word of a front, by the words of messages; that of all entries is the message's
+--   front_word_fits             it is a word of the code's length
 --   front_same                  equal fronts have equal words
 use Rattle.std.proofs.Common.{◌≡◌, ℕ, zero, suc, ◌+◌, ◌-◌, ◌%◌, ◌<◌, ◌≤◌, List, [], ◌∷◌, length, get_or, slice_index, slice_index_or, take, Contains, refl, sym, ap, ◌∙◌, inl, inr, arith}
 use Rattle.std.proofs.Math.Nat.{mod-eq_of_lt}
@@ -11,12 +12,13 @@ use Rattle.std.proofs.lemmas.Bool.{cases_lt}
 use Rattle.std.proofs.lemmas.List.{take_all}
 use Rattle.std.proofs.lemmas.List.Elements.{All-head, All-tail}
 use Rattle.lc_algebra.specs.declared.FieldName.{FieldName}
-use Rattle.lc_algebra.specs.Field.{size}
-use Rattle.lc_algebra.specs.Word.{IsWord, zero_word, word_sum, scale}
+use Rattle.lc_algebra.specs.Field.{size, add}
+use Rattle.lc_algebra.specs.Word.{IsWord, Fits, zero_word, word_sum, scale}
 use Rattle.lc_algebra.specs.Span.{combine, AreIndependent}
 use Rattle.lc_algebra.specs.Matrix.{Matrix, AreRows}
-use Rattle.lc_algebra.proofs.FieldLaws.{one_inside}
-use Rattle.lc_algebra.proofs.WordLaws.{sum_assoc, zero_sum, sum_zero, zero_scale, IsWord_zero, IsWord_scale}
+use Rattle.lc_algebra.proofs.FieldLaws.{one_inside, add_inside}
+use Rattle.lc_algebra.proofs.WordLaws.{fits_cons, sum_assoc, zero_sum, sum_zero, zero_scale, IsWord_zero, IsWord_scale}
+use Rattle.lc_algebra.proofs.SpanLaws.{length_combine}
 use Rattle.lc_enumeration.specs.Message.{Message, messages, vector_from, vector_of}
 use Rattle.lc_enumeration.specs.Plan.{phase_set}
 use Rattle.lc_enumeration.specs.Search.{set_count, generator_at, front_of, word_of}
@@ -27,9 +29,21 @@ use Rattle.lc_place.proofs.Messages.{message_shape, from_contains}
 use Rattle.lc_place.proofs.Vectors.{vector_here, vector_later, vector_nil, vector_none, vector_is, Fitting, fitting_later, fitting_rest, fitting_of}
 use Rattle.lc_kernel.specs.Sums.{front_word}
 
+sum_fits : (f : FieldName) (u v : List ℕ) → Fits f (word_sum f u v)
+unfolding word_sum
+sum_fits f [] v = λ i l. absurd (omega (arith, l))
+sum_fits f (a ∷ u) [] = λ i l. absurd (omega (arith, l))
+sum_fits f (a ∷ u) (b ∷ v) = fits_cons f (add f a b) (word_sum f u v) (add_inside f a b) (sum_fits f u v)
+
 combine_entry : (f : FieldName) (n c : ℕ) (cs g : List ℕ) (rows : List (List ℕ)) → combine f n (c ∷ cs) (g ∷ rows) ≡ word_sum f (scale f c g) (combine f n cs rows)
 unfolding combine
 combine_entry f n c cs g rows = refl
+
+combine_fits : (f : FieldName) (n : ℕ) (cs : List ℕ) (rows : List (List ℕ)) → Fits f (combine f n cs rows)
+unfolding combine
+combine_fits f n [] rows = (IsWord_zero f n).fits
+combine_fits f n (c ∷ cs) [] = (IsWord_zero f n).fits
+combine_fits f n (c ∷ cs) (g ∷ rows) = sum_fits f (scale f c g) (combine f n cs rows)
 
 combine_none : (f : FieldName) (n : ℕ) (rows : List (List ℕ)) → combine f n [] rows ≡ zero_word n
 unfolding combine
@@ -135,6 +149,12 @@ generates C j r h l = let g = generators_are C r h j l in record { rows = g.1.wo
 front_is : (C : Matrix) (s : SpotState) (n : ℕ) → front_word C s n ≡ combine C.field C.columns (vector_from 0 (length C.rows) (take n s.support) (take n s.coefficients)) (generator_at C s.set)
 unfolding front_word front_of vector_of
 front_is C s n = refl
+
+pub front_word_fits : (C : Matrix) (s : SpotState) (n : ℕ) → Generates C s.set → IsWord C.field C.columns (front_word C s n)
+unfolding front_word
+front_word_fits C s n g =
+    let v = vector_of (length C.rows) (front_of (spot_message s) n) in
+    record { long = length_combine C.field C.columns v (generator_at C s.set) g.rows; fits = combine_fits C.field C.columns v (generator_at C s.set) }
 
 pub front_first : (C : Matrix) (s : SpotState) → Generates C s.set → front_word C s 0 ≡ zero_word C.columns
 front_first C s g = front_is C s 0 ∙ zeros C.field C.columns 0 (length C.rows) (generator_at C s.set) g.count g.rows

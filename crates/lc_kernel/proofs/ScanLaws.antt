@@ -5,6 +5,8 @@
 --   offset_first, offset_next    the first message of a block, and the next one
 --   same_phase, phase_same, length_of_code      a phase and a length of a plan are those of its code
 --   block_value                  the least value of all words is that of the block
+--   words_of_block, block_value_of_words      the same by the words of the block
+--   spot_at                      a spot at the first message of a block
 --   past_plan, past_block, at_word      the word at a place
 use Rattle.std.proofs.Common.{◌≡◌, ℕ, zero, suc, ◌+◌, ◌-◌, ◌*◌, ◌/◌, ◌%◌, ◌^◌, ◌<◌, ◌≤◌, min, Bool, true, false, cond, nat_lt, nat_le, ◌&&◌, if◌then◌else◌, List, [], ◌∷◌, map, length, take, drop, get_or, find, slice_get, slice_index_or, Option, Some, None, is_some, unwrap_or, option_map, Contains, refl, sym, ap, subst, ◌∙◌, inl, inr, ⊎_elim, arith}
 use Rattle.std.proofs.Math.Nat.{mod-lt, mod-eq_of_lt}
@@ -27,9 +29,9 @@ use Rattle.lc_place.specs.Place.{PlanSize, SpotState, spot_message, plan_phase}
 use Rattle.lc_place.proofs.Messages.{length-messages}
 use Rattle.lc_place.proofs.Listing.{block_message}
 use Rattle.lc_kernel.specs.Kernel.{StackState, IsPlanOf, IsStackAt, top_sum}
-use Rattle.lc_kernel.specs.Values.{value_at, IsLeastValue, IsMessageOf, IsAtOffset}
+use Rattle.lc_kernel.specs.Values.{value_at, IsLeastValue, IsMessageOf, IsSpotAt, IsAtOffset}
 use Rattle.lc_kernel.proofs.FrontLaws.{Entries, entries_are, front_word_is, front_whole}
-use Rattle.lc_kernel.proofs.SumLaws.{length_partial, partial_at}
+use Rattle.lc_kernel.proofs.SumLaws.{length_partial, partial_at, set_below, level_some, code_message}
 
 pub one_value : (place : ℕ) (ws : List (List ℕ)) (v : ℕ) → v ≡ value_at place ws 0 → IsLeastValue place ws 1 v
 one_value place ws v e = record {
@@ -138,7 +140,7 @@ offset_first C plan b s h at first level set_is = record {
       };
 }
 
-next_is : (o : Bool) (xs : List Message) (n : ℕ) (a : Message) → n < length xs → slice_get xs n ≡ (if o then Some a else None) → slice_get xs n ≡ Some a
+pub next_is : (o : Bool) (xs : List Message) (n : ℕ) (a : Message) → n < length xs → slice_get xs n ≡ (if o then Some a else None) → slice_get xs n ≡ Some a
 next_is true xs n a l e = e
 next_is false xs n a l e = absurd (none-some _ (sym e ∙ slice_get-get_or xs n a l))
 
@@ -207,3 +209,35 @@ at_word C plan place p s h i o =
 
 pub length_of_code : (C : Matrix) (plan : PlanSize) (p b : ℕ) → IsPlanOf plan C → block_length plan.k plan.q plan.m p b ≡ block_length (length C.rows) (size C.field) plan.m p b
 length_of_code C plan p b h = rw (h.dimension, h.field) refl
+
+pub words_of_block : (C : Matrix) (plan : PlanSize) (p b len : ℕ) → IsPlanOf plan C → IsInPhase plan.k plan.q plan.m p b → len ≡ block_length plan.k plan.q plan.m p b → length (block_words C plan.m b) ≡ len
+words_of_block C plan p b len h i e = block_long C plan.m p b (phase_same C plan p b h i) ∙ sym (e ∙ length_of_code C plan p b h)
+
+pub block_value_of_words : (C : Matrix) (m p b v : ℕ) → IsInPhase (length C.rows) (size C.field) m p b → b < 2 ^ 40 → IsLeastValue (place_of b 0) (block_words C m b) (length (block_words C m b)) v → option_map board_value (block_least C m b) ≡ Some v
+block_value_of_words C m p b v h small l = block_value C m p b v h small (rw (← block_long C m p b h) l)
+
+-- a stack at an offset has its spot there
+pub spot_at : (C : Matrix) (plan : PlanSize) (b : ℕ) (s : SpotState) → IsPlanOf plan C
+    → ((p : ℕ) → IsInPhase plan.k plan.q plan.m p b → slice_get (messages plan.k plan.q (phase_level plan.m p)) (4096 * (b - blocks_before plan.k plan.q plan.m p)) ≡ Some (spot_message s))
+    → ((p : ℕ) → IsInPhase plan.k plan.q plan.m p b → length s.support ≡ phase_level plan.m p)
+    → ((p : ℕ) → IsInPhase plan.k plan.q plan.m p b → s.set ≡ phase_set plan.m p)
+    → Contains (messages plan.k plan.q (length s.support)) (spot_message s)
+    → ((p : ℕ) × IsInPhase plan.k plan.q plan.m p b)
+    → IsSpotAt C plan.m b 0 s × (s.set < set_count C)
+spot_at C plan b s h first level set_is message found =
+    let below = set_below C plan found.0 s.set h (set_is found.0 found.1) in (
+      record {
+        set = below.0;
+        level = level_some plan.m found.0 (length s.support) (level found.0 found.1);
+        message = code_message C plan s h message;
+        of_block = λ p i.
+            let e = first p (same_phase C plan p b h i) in
+            let z : 4096 * (b - blocks_before (length C.rows) (size C.field) plan.m p) + 0 ≡ 4096 * (b - blocks_before (length C.rows) (size C.field) plan.m p) = omega arith in
+            record {
+              message = rw (z, ← h.dimension, ← h.field) e;
+              level = level p (same_phase C plan p b h i);
+              set = set_is p (same_phase C plan p b h i);
+            };
+      },
+      below.1,
+    )

@@ -1,3 +1,6 @@
 pub mod Kernel
 pub mod Sums
 pub mod Values
+pub mod Packed
+pub mod Least
+pub mod Tables

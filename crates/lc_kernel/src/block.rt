@@ -5,11 +5,14 @@ ghost use Rattle.lc_algebra.specs.Word.{weight};
 ghost use Rattle.lc_enumeration.specs.Plan.{total};
 ghost use Rattle.lc_enumeration.specs.Search.{block_least, board_value};
 ghost use Rattle.lc_kernel.specs.Kernel.{IsPlanOf, top_sum};
+ghost use Rattle.lc_kernel.specs.Tables.{AreTables};
 
+use crate::pairs::Pairs;
+use crate::runs::by_runs;
 use crate::scratch::Scratch;
 use crate::stack::Stack;
 use lc_infoset::Sets;
-use lc_place::Plan;
+use lc_place::{Plan, Spot};
 
 /// The least value of a block on the board: the weight times 2^52 plus the place of the lightest word of the
 /// block, the first of these.
@@ -23,7 +26,45 @@ pub fn least(sets: &Sets, plan: &Plan, block: u64, scratch: &mut Scratch) -> u64
     ensures scratch { scratch.new ≡ scratch.old }
     ensures is { option_map board_value (block_least sets.now plan.now.m block) ≡ Some result }
 {
-    scan(sets, plan, block, &mut scratch.stack)
+    least_in(
+        sets,
+        plan,
+        block,
+        &scratch.tables,
+        &mut scratch.spot,
+        &mut scratch.heads,
+        &mut scratch.stack,
+    )
+}
+
+// The same in parts: by runs if its set has a table and its level is at least 2, and else message by message.
+fn least_in(
+    sets: &Sets,
+    plan: &Plan,
+    block: u64,
+    tables: &[Pairs],
+    spot: &mut Spot,
+    heads: &mut [u64],
+    stack: &mut Stack,
+) -> u64
+    requires plan { IsPlanOf plan.now sets.now }
+    requires block { block < total plan.now.k plan.now.q plan.now.m }
+    requires tables { AreTables sets.now tables.now }
+    requires spot { length sets.now.rows ≤ spot.old.room }
+    requires heads { length sets.now.rows < length heads.old }
+    requires stack { stack.old.code ≡ sets.now }
+    ensures spot { spot.new.room ≡ spot.old.room }
+    ensures heads { length heads.new ≡ length heads.old }
+    ensures stack { stack.new.code ≡ stack.old.code }
+    ensures is { option_map board_value (block_least sets.now plan.now.m block) ≡ Some result }
+{
+    let _phase = plan.phase_of(block);
+    plan.start_of(block, spot);
+    let set = spot.set();
+    if spot.support().len() >= 2 && set < tables.len() {
+        return by_runs(sets, plan, block, &tables[set], spot, heads);
+    }
+    scan(sets, plan, block, stack)
 }
 
 // The same by a step for each message.

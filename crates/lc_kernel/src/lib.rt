@@ -3,7 +3,10 @@
 #![tactic(auto)]
 
 mod block;
+mod pairs;
 mod place;
+mod run;
+mod runs;
 mod scratch;
 mod stack;
 

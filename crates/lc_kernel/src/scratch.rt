@@ -1,28 +1,43 @@
 //! The memory that the kernel works in.
 
-ghost use Rattle.std.specs.Prelude.{◌≡◌, IfOk};
+ghost use Rattle.std.specs.Prelude.{◌≡◌, ◌<◌, ℕ, [], length, IfOk};
+ghost use Rattle.std.specs.Arc.{arc_value};
+ghost use Rattle.lc_algebra.specs.declared.FieldName.TheVariants.{Gf2};
+ghost use Rattle.lc_kernel.specs.Tables.{AreTables};
 
+use crate::pairs::{Pairs, pairs_of};
 use crate::stack::Stack;
 use lc_field::NoMemory;
 use lc_infoset::Sets;
+use lc_place::Spot;
 use std::alloc::Global;
 use std::marker::Model;
+use std::sync::Arc;
 
 /// What `least` works in: made once for the sets of a code, and used for block after block. Each worker
-/// has its own.
+/// has its own; they share the tables.
 ///
 /// Contracts see it as the code of the sets.
 #[derive(Drop)]
 pub struct Scratch {
     pub(crate) stack: Stack,
+    // over 2 elements the tables of the first sets, of all as a rule; none over other fields
+    pub(crate) tables: Arc<Vec<Pairs>>,
+    pub(crate) spot: Spot,
+    pub(crate) heads: Vec<u64>,
 }
 
 impl Model for Scratch {
+    ghost use Rattle.std.specs.Prelude.{◌≡◌, ◌<◌, length};
+    ghost use Rattle.std.specs.Arc.{arc_value};
     ghost use Rattle.lc_algebra.specs.Matrix.{Matrix};
+    ghost use Rattle.lc_kernel.specs.Tables.{AreTables};
 
     ghost Value = { Matrix };
 
     ghost view = { λ s. s.stack.code };
+
+    ghost invariant = { λ s. AreTables s.stack.code (arc_value s.tables).items × (s.spot.room ≡ length s.stack.code.rows) × (length s.stack.code.rows < length s.heads.items) };
 }
 
 impl Scratch {
@@ -30,19 +45,67 @@ impl Scratch {
     pub fn new(alloc: Global, sets: &Sets) -> Result<Scratch, NoMemory>
         ensures code { IfOk result (λ s. s ≡ sets.now) }
     {
-        Ok(Scratch {
-            stack: Stack::new(alloc, sets)?,
-        })
+        let Ok(tables) = Arc::new(alloc, tables_of(alloc, sets)?) else {
+            return Err(NoMemory);
+        };
+        Scratch::of(alloc, Stack::new(alloc, sets)?, tables)
     }
 
-    /// Memory for blocks of the same sets, for another worker.
+    /// Memory for blocks of the same sets, for another worker. It shares the tables.
     pub fn another(&self, alloc: Global) -> Result<Scratch, NoMemory>
         ensures code { IfOk result (λ s. s ≡ self.now) }
     {
+        let Ok(tables) = Arc::try_clone(&self.tables) else {
+            return Err(NoMemory);
+        };
+        Scratch::of(alloc, self.stack.another(alloc)?, tables)
+    }
+
+    // The memory with a stack and tables for its sets.
+    fn of(alloc: Global, stack: Stack, tables: Arc<Vec<Pairs>>) -> Result<Scratch, NoMemory>
+        requires tables { AreTables stack.code (arc_value tables).items }
+        ensures code { IfOk result (λ s. s ≡ stack.code) }
+    {
+        let k = stack.dimension();
+        let Ok(spot) = Spot::new(alloc, k) else {
+            return Err(NoMemory);
+        };
+        let heads = vec![in alloc; 0u64; k + 1]?;
         Ok(Scratch {
-            stack: self.stack.another(alloc)?,
+            stack,
+            tables,
+            spot,
+            heads,
         })
     }
+}
+
+// The tables of the sets, over 2 elements.
+#[tactic(auto, using(crate::proofs::TableLaws::no_tables, crate::proofs::TableLaws::two_elements))]
+fn tables_of(alloc: Global, sets: &Sets) -> Result<Vec<Pairs>, NoMemory>
+    ensures are { IfOk result (λ ts. AreTables sets.now ts.items) }
+{
+    let mut tables = Vec::new(alloc);
+    if sets.field().size() == 2 {
+        push_tables(alloc, sets, &mut tables)?;
+    }
+    Ok(tables)
+}
+
+// Pushes the tables of the sets up to the first that has none.
+#[tactic(auto, using(crate::proofs::TableLaws::no_tables, crate::proofs::TableLaws::table_pushed))]
+fn push_tables(alloc: Global, sets: &Sets, tables: &mut Vec<Pairs>) -> Result<(), NoMemory>
+    requires field { sets.now.field ≡ Gf2 }
+    requires none { tables.old.items ≡ [] }
+    ensures are { IfOk result (λ _. AreTables sets.now tables.new.items) }
+{
+    for j in 0..sets.count() {
+        let Some(table) = pairs_of(alloc, sets, j)? else {
+            return Ok(());
+        };
+        tables.push(table)?;
+    }
+    Ok(())
 }
 
 // Proved only where its argument may go to another thread.

@@ -172,6 +172,13 @@ impl Stack {
         }
     }
 
+    // The dimension of the code.
+    pub(crate) fn dimension(&self) -> usize
+        ensures is { result ≡ length self.now.code.rows }
+    {
+        self.code.rows()
+    }
+
     // The word of the message.
     pub(crate) fn top(&self) -> &Word
         requires at { 0 < length self.now.spot.support }

@@ -8,3 +8,4 @@ pub mod Phases
 pub mod Steps
 pub mod Listing
 pub mod Vectors
+pub mod Runs

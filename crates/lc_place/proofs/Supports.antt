@@ -1,6 +1,8 @@
 -- The supports of a weight in lexicographic order: the next one, and the one at a place.
 --   next_support i k s         the support after s among the places i to i + k - 1; None after the last
+--   next_at, next_past, moved_tail      the next support, by its first place
 --   IsRising s                 each place is above the one before it
+--   rising_tail, head_above    its tail rises too, above its head
 --   rising_from                the entries of a rising list grow at least by 1
 --   support_last, support_moved     the next support, from the last place that can move
 --   IsSupport i k w s          s has w places, rising, from i to i + k - 1
@@ -41,16 +43,16 @@ move_here i k s o e l = rw e (grind (arith, nat_tests))
 move_not : (i k : ℕ) (s : List ℕ) (o : Option (List ℕ)) → o ≡ None → k ≤ length s → moved i k s o ≡ None
 move_not i k s o e l = rw e (grind (arith, nat_tests))
 
-next_at : (i k p : ℕ) (s : List ℕ) → p ≡ i → next_support i (suc k) (p ∷ s) ≡ moved i k s (next_support (suc i) k s)
+pub next_at : (i k p : ℕ) (s : List ℕ) → p ≡ i → next_support i (suc k) (p ∷ s) ≡ moved i k s (next_support (suc i) k s)
 next_at i k p s e = let t : eqb p i ≡ true = grind (arith, nat_tests) in rw t refl
 
-next_past : (i k p : ℕ) (s : List ℕ) → i < p → next_support i (suc k) (p ∷ s) ≡ next_support (suc i) k (p ∷ s)
+pub next_past : (i k p : ℕ) (s : List ℕ) → i < p → next_support i (suc k) (p ∷ s) ≡ next_support (suc i) k (p ∷ s)
 next_past i k p s l = let t : eqb p i ≡ false = grind (arith, nat_tests) in rw t refl
 
-rising_tail : (p : ℕ) (s : List ℕ) → IsRising (p ∷ s) → IsRising s
+pub rising_tail : (p : ℕ) (s : List ℕ) → IsRising (p ∷ s) → IsRising s
 rising_tail p s r u l = r (suc u) (omega arith)
 
-head_above : (i p : ℕ) (s : List ℕ) → IsRising (p ∷ s) → p ≡ i → 0 < length s → suc i ≤ get_or s 0 0
+pub head_above : (i p : ℕ) (s : List ℕ) → IsRising (p ∷ s) → p ≡ i → 0 < length s → suc i ≤ get_or s 0 0
 head_above i p s r e l = omega (arith, r 0 (omega arith))
 
 pub support_last : (i k : ℕ) (s : List ℕ) → IsRising s → (0 < length s → i ≤ get_or s 0 0) → ((u : ℕ) → u < length s → i + k ≤ get_or s u 0 + (length s - u)) → next_support i k s ≡ None
@@ -85,7 +87,7 @@ moved_head i k p s t r e many room new full =
     let is : t ≡ numbers_from (suc i) (suc (length s)) = row_of_numbers (suc i) (suc (length s)) t many (λ u l. omega (arith, new u l, e)) in
     move_here i k s (next_support (suc i) k s) later (omega arith) ∙ ap Some (sym is)
 
-moved_tail : (i k : ℕ) (s t : List ℕ) → next_support (suc i) k s ≡ Some t → moved i k s (next_support (suc i) k s) ≡ Some (i ∷ t)
+pub moved_tail : (i k : ℕ) (s t : List ℕ) → next_support (suc i) k s ≡ Some t → moved i k s (next_support (suc i) k s) ≡ Some (i ∷ t)
 moved_tail i k s t e = rw e refl
 
 pub support_moved : (i k : ℕ) (s t : List ℕ) (j : ℕ) → IsRising s → (0 < length s → i ≤ get_or s 0 0) → length t ≡ length s → j < length s → get_or s j 0 + (length s - j) < i + k → ((u : ℕ) → u < j → get_or t u 0 ≡ get_or s u 0) → ((u : ℕ) → j ≤ u → u < length s → get_or t u 0 ≡ get_or s j 0 + 1 + (u - j)) → ((u : ℕ) → j < u → u < length s → i + k ≤ get_or s u 0 + (length s - u)) → next_support i k s ≡ Some t

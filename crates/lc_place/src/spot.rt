@@ -1,6 +1,6 @@
 //! A spot: the message that a search has come to, and its information set.
 
-ghost use Rattle.std.specs.Prelude.{◌≡◌, ℕ, ◌≤◌, List, [], length, IfOk};
+ghost use Rattle.std.specs.Prelude.{◌≡◌, ℕ, ◌-◌, ◌≤◌, ◌++◌, ◌∷◌, List, [], length, take, IfOk};
 
 use crate::NoMemory;
 use std::alloc::Global;
@@ -44,6 +44,21 @@ impl Spot {
             coefficients,
             room: k,
         })
+    }
+
+    /// Moves the last two places to the last two of `k`, `k - 2` and `k - 1`, and leaves all else. There are at
+    /// least two places.
+    pub fn to_last_pair(&mut self, k: usize)
+        requires two { 2 ≤ length self.old.support }
+        requires places { 2 ≤ k }
+        ensures support { self.new.support ≡ take (length self.old.support - 2) self.old.support ++ (k - 2) ∷ (k - 1) ∷ [] }
+        ensures coefficients { self.new.coefficients ≡ self.old.coefficients }
+        ensures set { self.new.set ≡ self.old.set }
+        ensures room { self.new.room ≡ self.old.room }
+    {
+        let level = self.support.len();
+        self.support[level - 2] = k - 2;
+        self.support[level - 1] = k - 1;
     }
 
     /// The index of the information set, from 0.

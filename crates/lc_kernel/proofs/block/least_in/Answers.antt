@@ -1,0 +1,21 @@
+use Rattle.std.proofs.Common.{◌≡◌, ◌<◌, length, subst, arith}
+use Rattle.lc_kernel.specs.Packed.{IsTable}
+use Rattle.lc_kernel.proofs.ScanLaws.{spot_at}
+use Rattle.lc_kernel.proofs.TableLaws.{table_of}
+use Rattle.lc_kernel.proofs.block.least_in.Goals as goal
+
+pub by_runs-requires-clause-set : goal.by_runs-requires-clause-set
+by_runs-requires-clause-set c =
+    let e = c.start_of.ensures in
+    (spot_at c.args.sets.now c.args.plan.now c.args.block c.start_of.new.spot c.requires.plan e.first e.level e.set e.message (c.phase_of-phase.ensures.found.0, c.phase_of-phase.ensures.found.1)).1
+
+pub by_runs-requires-clause-at : goal.by_runs-requires-clause-at
+by_runs-requires-clause-at c =
+    let e = c.start_of.ensures in
+    (spot_at c.args.sets.now c.args.plan.now c.args.block c.start_of.new.spot c.requires.plan e.first e.level e.set e.message (c.phase_of-phase.ensures.found.0, c.phase_of-phase.ensures.found.1)).0
+
+pub by_runs-requires-clause-table : goal.by_runs-requires-clause-table
+by_runs-requires-clause-table c =
+    let t = c.index-tables-set.result in
+    let table = table_of c.args.sets.now c.args.tables.now c.set-set.result t c.requires.tables (omega (arith, c.if-set-tables.true)) c.index-tables-set.is in
+    subst (λ j. IsTable c.args.sets.now j t.rows.items t.sums.items t.starts.items) c.set-set.ensures table
