@@ -21,4 +21,5 @@ pub use laws::{one_fault, one_script, script_or_fault, spans_rise};
 pub use lc_grammar::{Token, TokenKind};
 pub use reading::{parse, tokens};
 pub use refusal::ParseRefusal;
+pub use scan::value_of;
 pub use tree::{Expr, Node, Script, Statement};

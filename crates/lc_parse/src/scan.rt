@@ -75,9 +75,10 @@ fn line_len(rest: &[u8]) -> usize
     rest.iter().take_while(|b| **b != b'\n').count()
 }
 
-// The value of decimal digits, if it has 64 bits.
+/// The number that decimal digits write, or None if it has more than 64 bits. `text` is the digits as ASCII bytes, the highest one
+/// first; leading zeros are allowed, and no digit at all is 0.
 #[tactic(auto, using(crate::proofs::Scanning::value_none, crate::proofs::Scanning::value_grows, crate::proofs::Scanning::value_more, crate::proofs::Scanning::value_all))]
-pub(crate) fn value_of(text: &[u8]) -> Option<u64>
+pub fn value_of(text: &[u8]) -> Option<u64>
     ensures { MatchOption result (2 ^ 64 ≤ number_of text.now) (λ n. number_of text.now ≡ n) }
 {
     let mut n: u64 = 0;
