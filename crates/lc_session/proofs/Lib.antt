@@ -1,3 +1,4 @@
+pub mod ArgumentLaws
 pub mod AtMostOne
 pub mod DistanceLaws
 pub mod OneText

@@ -1,14 +1,13 @@
 -- What a call of the session says of the source and the sink.
 --   most_bytes                   the most bytes of a script: 2^20
---   words_of words               the words of the command line, as their bytes
 --   end_number ends              the number of a text that was written: 1 where a fault ends it, else 0
 --   IsReply words old new text ends      the source was read to its end, and the text is that of the script that it gave, under the
 --                                budget that the words ask for; ends tells whether a fault ends it
 --   GaveTooMuch old new          the source gave one byte more than a script may have
 --   IsReached status             the words were accepted, the source was read and memory was not refused
-use Rattle.std.specs.Prelude.{◌≡◌, ℕ, ◌+◌, ◌≤◌, ◌^◌, Bool, true, false, List, length, map, Option, String, string_bytes}
+use Rattle.std.specs.Prelude.{◌≡◌, ℕ, ◌+◌, ◌≤◌, ◌^◌, Bool, true, false, List, length, Option}
 use Rattle.std.specs.Io.KnownBytes.{Consumes, IsAtEnd}
-use Rattle.lc_sessions.specs.Options.{Settings, settings, options, run_alone}
+use Rattle.lc_sessions.specs.Options.{Settings, settings, options, run_searching}
 use Rattle.lc_language.specs.Evaluation.{IsText}
 use Rattle.lc_eval.specs.Built.{built_calls}
 use Rattle.lc_session.specs.declared.status.Status.{Status}
@@ -17,16 +16,13 @@ use Rattle.lc_session.specs.declared.status.Status.TheVariants.{Done, Usage, Sou
 abbrev pub most_bytes : ℕ
 most_bytes = 2 ^ 20
 
-abbrev pub words_of : {A : Type 0} → List (String A) → List (List ℕ)
-words_of words = map string_bytes words
-
 abbrev pub end_number : Bool → ℕ
 end_number true = 1
 end_number false = 0
 
 pub record IsReply (words : List (List ℕ)) (old new : Option (List ℕ)) (text : List ℕ) (ends : Bool) : Type 0 where
   pub asked : Settings
-  pub accepted : options run_alone words ≡ settings asked
+  pub accepted : options run_searching words ≡ settings asked
   pub bytes : List ℕ
   pub given : Consumes old new bytes
   pub ended : IsAtEnd new

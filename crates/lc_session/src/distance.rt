@@ -15,18 +15,19 @@ use lc_search::{Answer, Search};
 use std::alloc::Global;
 use std::thread::Threads;
 
-/// How many workers a round has, and how many blocks it does at most.
-const WORKERS: u32 = 1;
-
+/// How many blocks a round does at most.
 const ROUND: u64 = 256;
 
-/// The line that `MinimumDistance` prints of a code, by a search of at most `budget` blocks. Refused only for want of memory.
+/// The line that `MinimumDistance` prints of a code, by a search of at most `budget` blocks, with `workers`
+/// workers in each round, 1 to 256. Refused only for want of memory.
 pub(crate) fn distance_line_of<R: Threads + Sync>(
     rt: &R,
     alloc: Global,
+    workers: u32,
     budget: u64,
     code: &Code,
 ) -> Result<Vec<u8>, NoMemory>
+    requires workers { (1 ≤ workers) × (workers ≤ 256) }
     requires budget { budget ≤ 2 ^ 40 }
     ensures { IfOk result (λ line. line.items ≡ language.query_line language.distance code.now budget) }
 {
@@ -34,7 +35,7 @@ pub(crate) fn distance_line_of<R: Threads + Sync>(
         return distance_none_line(alloc);
     }
     let mut search = begun(alloc, code, budget)?;
-    match answered(rt, alloc, &mut search)? {
+    match answered(rt, alloc, workers, &mut search)? {
         Answer::Exact {
             weight,
             place,
@@ -64,8 +65,10 @@ fn begun(alloc: Global, code: &Code, budget: u64) -> Result<Search, NoMemory>
 fn answered<R: Threads + Sync>(
     rt: &R,
     alloc: Global,
+    workers: u32,
     search: &mut Search,
 ) -> Result<Answer, NoMemory>
+    requires workers { (1 ≤ workers) × (workers ≤ 256) }
     requires rows { 0 < length search.old.code.rows }
     requires budget { search.old.budget ≤ 2 ^ 40 }
     requires underway { IsUnderway (divisor_of search.old.code) search.old.code search.old.budget search.old.progress }
@@ -78,6 +81,6 @@ fn answered<R: Threads + Sync>(
         if let Some(answer) = search.finished() {
             return Ok(answer);
         }
-        search.round(rt, alloc, WORKERS, ROUND, &OpenGate)?;
+        search.round(rt, alloc, workers, ROUND, &OpenGate)?;
     }
 }

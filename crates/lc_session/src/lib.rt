@@ -1,6 +1,7 @@
 //! A session: the words of the command line, the bytes in and the bytes out.
 #![tactic(auto)]
 
+mod arguments;
 mod distance;
 mod input;
 mod laws;

@@ -1,11 +1,12 @@
 // A session from the words and the bytes in to the bytes out.
-ghost use Rattle.std.specs.Prelude.{◌≡◌, ◌⊎◌, ◌↔◌, ◌+◌, ◌<◌, ◌≤◌, ℕ, Bool, List, [], ◌∷◌, length, Some, codes, MatchOption};
+ghost use Rattle.std.specs.Prelude.{◌≡◌, ◌⊎◌, ◌↔◌, ◌+◌, ◌<◌, ◌≤◌, ℕ, Bool, List, length, Some};
 ghost use Rattle.std.specs.Io.KnownBytes.{Appends};
 ghost use Rattle.lc_io.specs.Outside.{HasRisen, GaveFront, GaveLess, AppendsPart};
-ghost use Rattle.lc_sessions.specs.Options.{options, settings, settings_of, usage, run_alone, run};
-ghost use Rattle.lc_formats.specs.Text.{same_bytes};
-ghost use Rattle.lc_session.specs.Outcome.{most_bytes, words_of, end_number, IsReply, GaveTooMuch, IsReached};
+ghost use Rattle.lc_sessions.specs.Options.{options, Settings, settings, usage, run_searching};
+ghost use Rattle.lc_session.specs.Asked.{words_of};
+ghost use Rattle.lc_session.specs.Outcome.{most_bytes, end_number, IsReply, GaveTooMuch, IsReached};
 
+use crate::arguments::asked_by;
 use crate::input::{InputRefusal, input};
 use crate::status::Status;
 use crate::text::text_of;
@@ -13,38 +14,15 @@ use lc_io::{Sink, Source, write_whole};
 use std::alloc::Global;
 use std::thread::Threads;
 
-// How many blocks a search may take.
-const BUDGET: u64 = 1 << 20;
-
-#[tactic(auto, using(crate::proofs::SessionLaws::run_told))]
-fn is_run(word: &str) -> bool
-    ensures { result ≡ same_bytes (codes "run") word.now }
-{
-    word == "run"
-}
-
-// The index of the word that is refused.
-#[tactic(auto, using(crate::proofs::SessionLaws::none_refused, crate::proofs::SessionLaws::first_refused, crate::proofs::SessionLaws::second_refused))]
-fn refused(words: &[String]) -> Option<usize>
-    ensures { MatchOption result (options run_alone (words_of words.now) ≡ settings (settings_of run))
-        (λ i. options run_alone (words_of words.now) ≡ usage i) }
-{
-    let Some((first, others)) = words.split_first() else {
-        return Some(0);
-    };
-    if !is_run(first.as_str()) {
-        return Some(0);
-    }
-    if others.is_empty() { None } else { Some(1) }
-}
-
-/// Runs a session: `words` are the arguments of the command line after the program's name. The one
-/// argument `run` reads a script of at most 1,048,576 bytes from the source, and writes the text
-/// that it prints to the sink: a line for each value and each answer, and a fault line if the script
-/// or a statement is refused, which ends the text. A search for a minimum distance goes through at
-/// most 2^20 blocks of 4,096 words. Nothing is written unless the whole text is ready.
+/// Runs a session: `words` are the arguments of the command line after the program's name. The first
+/// is `run`; after it there may be `budget=N`, N at most 2^40, and `workers=N`, N from 1 to 256, in
+/// either order and each at most once. It reads a script of at most 1,048,576 bytes from the source,
+/// and writes the text that it prints to the sink: a line for each value and each answer, and a fault
+/// line if the script or a statement is refused, which ends the text. A search for a minimum distance
+/// goes through at most as many blocks of 4,096 words as the budget, 2^20 without one, by as many
+/// workers as are asked for, else one. Nothing is written unless the whole text is ready.
 ///
-/// Returns `Usage` if the arguments aren't the one argument `run`, and then nothing is read;
+/// Returns `Usage` with the index of the argument that is refused, and then nothing is read;
 /// `SourceFault` if a read failed; `TooLong` if the source gave more than 1,048,576 bytes;
 /// `NoMemory` if memory was refused; `SinkFault` if a write failed, after a front of the text was
 /// written; else `Done`. Under all but the last two the sink is as it was. At most 1,048,577 bytes
@@ -57,7 +35,7 @@ pub fn run_session<R: Threads + Sync, S: Source, K: Sink>(
     sink: &mut K,
 ) -> Status
     // The words.
-    ensures usage { (i : ℕ) → (result ≡ Status.Usage i) ↔ (options run_alone (words_of words.now) ≡ usage i) }
+    ensures usage { (i : ℕ) → (result ≡ Status.Usage i) ↔ (options run_searching (words_of words.now) ≡ usage i) }
     ensures unread { (i : ℕ) → result ≡ Status.Usage i → source.new ≡ source.old }
 
     // The text.
@@ -76,18 +54,19 @@ pub fn run_session<R: Threads + Sync, S: Source, K: Sink>(
     ensures sink_count { (result ≡ Status.SinkFault → ⊥) → K.faults sink.new ≡ K.faults sink.old }
 
     // Every script is answered, unless memory is refused.
-    ensures complete { (script : List ℕ) → words_of words.now ≡ codes "run" ∷ [] → S.rest source.old ≡ Some script → length script ≤ most_bytes → (HasRisen (S.faults source.old) (S.faults source.new) → ⊥) → (HasRisen (K.faults sink.old) (K.faults sink.new) → ⊥) → (result ≡ Status.Done 0) ⊎ ((result ≡ Status.Done 1) ⊎ (result ≡ Status.NoMemory)) }
+    ensures complete { (script : List ℕ) (asked : Settings) → options run_searching (words_of words.now) ≡ settings asked → S.rest source.old ≡ Some script → length script ≤ most_bytes → (HasRisen (S.faults source.old) (S.faults source.new) → ⊥) → (HasRisen (K.faults sink.old) (K.faults sink.new) → ⊥) → (result ≡ Status.Done 0) ⊎ ((result ≡ Status.Done 1) ⊎ (result ≡ Status.NoMemory)) }
 {
-    if let Some(index) = refused(words) {
-        return Status::Usage(index);
-    }
+    let asked = match asked_by(words) {
+        Ok(asked) => asked,
+        Err(index) => return Status::Usage(index),
+    };
     let bytes = match input(alloc, source) {
         Ok(bytes) => bytes,
         Err(InputRefusal::Failed) => return Status::SourceFault,
         Err(InputRefusal::TooLong) => return Status::TooLong,
         Err(InputRefusal::NoMemory) => return Status::NoMemory,
     };
-    let Ok(text) = text_of(rt, alloc, BUDGET, &bytes) else {
+    let Ok(text) = text_of(rt, alloc, asked.workers as u32, asked.budget, &bytes) else {
         return Status::NoMemory;
     };
     match write_whole(sink, &text.bytes) {

@@ -36,24 +36,28 @@ impl Text {
 fn line_of<R: Threads + Sync>(
     rt: &R,
     alloc: Global,
+    workers: u32,
     budget: u64,
     query: &Query,
 ) -> Result<Vec<u8>, NoMemory>
+    requires workers { (1 ≤ workers) × (workers ≤ 256) }
     requires budget { budget ≤ 2 ^ 40 }
     ensures { IfOk result (λ line. line.items ≡ searched_line budget query.now) }
 {
     match query {
-        Query::MinimumDistance(code) => distance_line_of(rt, alloc, budget, code),
+        Query::MinimumDistance(code) => distance_line_of(rt, alloc, workers, budget, code),
     }
 }
 
-// The text of the statements that are left, with so many blocks for each search.
+// The text of the statements that are left, with so many workers and blocks for each search.
 fn run<R: Threads + Sync>(
     rt: &R,
     alloc: Global,
+    workers: u32,
     budget: u64,
     mut machine: Machine,
 ) -> Result<Text, NoMemory>
+    requires workers { (1 ≤ workers) × (workers ≤ 256) }
     requires budget { budget ≤ 2 ^ 40 }
     ensures { IfOk result (λ t. Runs built_calls budget machine.bindings (map statement_of machine.left) t.bytes.items t.ends) }
 {
@@ -62,7 +66,7 @@ fn run<R: Threads + Sync>(
         match machine.step(alloc)? {
             Step::Line(line) => bytes.extend_from_slice(&line)?,
             Step::Silent => {}
-            Step::Need(query) => bytes.extend_from_slice(&line_of(rt, alloc, budget, &query)?)?,
+            Step::Need(query) => bytes.extend_from_slice(&line_of(rt, alloc, workers, budget, &query)?)?,
             Step::Fault(line) => {
                 bytes.extend_from_slice(&line)?;
                 return Ok(Text { bytes, ends: true });
@@ -76,30 +80,34 @@ fn run<R: Threads + Sync>(
 fn script_text<R: Threads + Sync>(
     rt: &R,
     alloc: Global,
+    workers: u32,
     budget: u64,
     script: Script,
 ) -> Result<Text, NoMemory>
+    requires workers { (1 ≤ workers) × (workers ≤ 256) }
     requires budget { budget ≤ 2 ^ 40 }
     ensures { IfOk result (λ t. Runs built_calls budget [] (script_of script) t.bytes.items t.ends) }
 {
     let machine = Machine::start(alloc, script)?;
-    run(rt, alloc, budget, machine)
+    run(rt, alloc, workers, budget, machine)
 }
 
-/// The text that the bytes print as a script, with at most `budget` blocks for each search. If they
+/// The text that the bytes print as a script, with at most `budget` blocks and `workers` workers for each search, 1 to 256. If they
 /// are no script it is one fault line, and a statement that is refused ends it with a fault line.
 /// Refused only for want of memory.
 pub(crate) fn text_of<R: Threads + Sync>(
     rt: &R,
     alloc: Global,
+    workers: u32,
     budget: u64,
     bytes: &[u8],
 ) -> Result<Text, NoMemory>
+    requires workers { (1 ≤ workers) × (workers ≤ 256) }
     requires budget { budget ≤ 2 ^ 40 }
     ensures { IfOk result (λ t. IsText built_calls budget bytes.now t.bytes.items t.ends) }
 {
     match parse(alloc, bytes) {
-        Ok(script) => script_text(rt, alloc, budget, script),
+        Ok(script) => script_text(rt, alloc, workers, budget, script),
         Err(ParseRefusal::Fault { number, place }) => {
             let bytes = fault_line(alloc, number, place, &[])?;
             Ok(Text { bytes, ends: true })
