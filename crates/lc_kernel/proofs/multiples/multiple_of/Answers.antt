@@ -1,8 +1,8 @@
-use Rattle.std.proofs.Common.{◌≡◌, ◌+◌, ◌-◌, ◌*◌, ◌<◌, ◌≤◌, [], length, slice_index_or, refl, ap, ◌∙◌, arith}
+use Rattle.std.proofs.Common.{◌≡◌, ◌+◌, ◌-◌, ◌*◌, ◌<◌, [], slice_index_or, refl, ap, ◌∙◌, arith}
 use Rattle.std.proofs.lemmas.List.{get_or_default}
 use Rattle.lc_algebra.specs.Field.{size}
-use Rattle.lc_algebra.specs.Word.{IsWord, scale}
-use Rattle.lc_enumeration.specs.Search.{set_count, generator_at}
+use Rattle.lc_algebra.specs.Word.{scale}
+use Rattle.lc_enumeration.specs.Search.{generator_at}
 use Rattle.lc_kernel.specs.Sums.{multiple_index}
 use Rattle.lc_kernel.proofs.MultipleLaws.{index_small, symbol_size}
 use Rattle.lc_kernel.proofs.multiples.multiple_of.Goals as goal

@@ -1,5 +1,4 @@
-use Rattle.std.proofs.Common.{◌≡◌, ℕ, ◌+◌, ◌<◌, length, slice_index, slice_index_or, [], refl, sym, ap, ◌∙◌, arith}
-use Rattle.lc_algebra.specs.Word.{IsWord}
+use Rattle.std.proofs.Common.{◌+◌, ◌<◌, length, refl, sym, ap, ◌∙◌, arith}
 use Rattle.lc_kernel.proofs.SumLaws.{part_before, part_after, part_put}
 use Rattle.lc_kernel.proofs.stack.extend.Goals as goal
 

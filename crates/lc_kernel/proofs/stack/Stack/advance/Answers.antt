@@ -1,8 +1,7 @@
-use Rattle.std.proofs.Common.{◌≡◌, ◌<◌, ap, sym, ◌∙◌, [], length, slice_index_or, arith}
+use Rattle.std.proofs.Common.{◌≡◌, ◌<◌, ap, ◌∙◌, [], length, slice_index_or, arith}
 use Rattle.lc_algebra.specs.Matrix.{Matrix}
 use Rattle.lc_algebra.specs.Word.{zero_word}
 use Rattle.lc_enumeration.specs.Search.{set_count}
-use Rattle.lc_kernel.specs.Kernel.{StackState}
 use Rattle.lc_kernel.proofs.SumLaws.{code_message, fronts_are, step_fronts, stack_at, written_whole}
 use Rattle.lc_kernel.proofs.stack.Stack.advance.Goals as goal
 

@@ -1,5 +1,4 @@
-use Rattle.std.proofs.Common.{◌≡◌, ℕ, ◌+◌, ◌<◌, [], length, slice_index_or, ap, sym, ◌∙◌, arith}
-use Rattle.lc_algebra.specs.Matrix.{Matrix}
+use Rattle.std.proofs.Common.{◌≡◌, ℕ, ◌+◌, ◌<◌, [], length, slice_index_or, ap, ◌∙◌, arith}
 use Rattle.lc_algebra.specs.Word.{zero_word}
 use Rattle.lc_place.specs.Place.{SpotState}
 use Rattle.lc_kernel.proofs.SumLaws.{front_room, no_sums}

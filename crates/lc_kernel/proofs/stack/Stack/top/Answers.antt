@@ -1,4 +1,4 @@
-use Rattle.std.proofs.Common.{◌<◌, ◌≤◌, length, ap, sym, ◌∙◌, arith}
+use Rattle.std.proofs.Common.{◌<◌, ◌≤◌, length, ap, sym, arith}
 use Rattle.lc_kernel.specs.Kernel.{StackState}
 use Rattle.lc_kernel.proofs.SumLaws.{last_sum}
 use Rattle.lc_kernel.proofs.stack.Stack.top.Goals as goal
