@@ -11,6 +11,8 @@ mod fields;
 #[cfg(test)]
 mod infosets;
 #[cfg(test)]
+mod kernel;
+#[cfg(test)]
 mod matrices;
 #[cfg(test)]
 mod plan;
