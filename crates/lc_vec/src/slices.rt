@@ -1,4 +1,4 @@
-//! Functions on words that are lent as slices of symbols. None of them takes memory.
+//! Functions on words that are borrowed as slices of symbols. None of them takes memory.
 ghost use Rattle.std.specs.Prelude.{◌≡◌, ◌<◌, ◌↔◌, IsTrue, length};
 ghost use Rattle.lc_algebra.specs.Field.{size, shape_of, add};
 ghost use Rattle.lc_algebra.specs.Word.{Fits, word_sum, scale as scale_of, weight as weight_of, word_dot, first_nonzero as first_nonzero_of};
