@@ -31,7 +31,10 @@ fn scripts_are_answered(rt: HostRuntime) -> Result<(), Fail> {
     for (input, text, wanted) in rows {
         let mut source = MemorySource::new(alloc, input, 7, &[])?;
         let mut sink = MemorySink::new(alloc, 64, 5, &[])?;
-        assert_eq!(rt; run_session(&rt, alloc, &words, &mut source, &mut sink), wanted);
+        assert_eq!(rt;
+            run_session(&rt, alloc, &words, &mut source, &mut sink),
+            wanted
+        );
         assert_eq!(rt; sink.bytes(), text);
     }
     Ok(())
