@@ -26,7 +26,7 @@ fn bch_dimension(alloc: Global, q: u64, n: u64, b: u64, d: u64) -> Result<usize,
     }
 }
 
-// The length, the design distance and the dimension of binary primitive BCH codes (MacWilliams and Sloane, chapter 9, figure 9.1).
+// The length, the design distance and the dimension of binary primitive BCH codes (MacWilliams and Sloane, chapter 9).
 const PRIMITIVE: [(u64, u64, usize); 24] = [
     (7, 3, 4),
     (7, 5, 1),

@@ -15,6 +15,8 @@ mod forms;
 #[cfg(test)]
 mod infosets;
 #[cfg(test)]
+mod kernel;
+#[cfg(test)]
 mod matrices;
 #[cfg(test)]
 mod plan;

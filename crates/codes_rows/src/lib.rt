@@ -13,4 +13,6 @@ mod outside;
 #[cfg(test)]
 mod scripts;
 #[cfg(test)]
+mod search;
+#[cfg(test)]
 mod sessions;

@@ -3,6 +3,7 @@ use lc_io::{MemorySink, MemorySource};
 use lc_session::{Status, run_session, status_line};
 use std::alloc::{AllocError, Global};
 use std::test::Fail;
+use std::thread::Threads;
 
 const QUERY: &[u8] = b"LeastWord([[1,1,0],[0,1,1]],GF(2));";
 
@@ -31,15 +32,18 @@ fn scripts_are_answered(rt: HostRuntime) -> Result<(), Fail> {
     for (input, text, wanted) in rows {
         let mut source = MemorySource::new(alloc, input, 7, &[])?;
         let mut sink = MemorySink::new(alloc, 64, 5, &[])?;
-        assert_eq!(rt; run_session(&rt, alloc, &words, &mut source, &mut sink), wanted);
+        assert_eq!(rt;
+            run_session(&rt, alloc, &words, &mut source, &mut sink),
+            wanted
+        );
         assert_eq!(rt; sink.bytes(), text);
     }
     Ok(())
 }
 
 // How a session on so many spaces ends.
-fn status_of_spaces(
-    rt: &HostRuntime,
+fn status_of_spaces<R: Threads + Sync>(
+    rt: &R,
     alloc: Global,
     words: &[String],
     count: usize,

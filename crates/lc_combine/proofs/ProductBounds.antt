@@ -10,7 +10,7 @@
 --   product_bound          the product of the bounds of the two codes
 --   product_independent, product_dimension      the products of independent rows are independent
 use Rattle.std.proofs.Common.{◌≡◌, ℕ, zero, suc, ◌+◌, ◌*◌, ◌/◌, ◌%◌, ◌<◌, ◌≤◌, List, [], ◌∷◌, ◌++◌, map, flat_map, length, take, drop, slice_index, All, refl, sym, ap, ap₂, subst, ◌∙◌, ⊎_elim, arith, mod-lt, mul-le-mul_right, suc-mul}
-use Rattle.std.proofs.Math.Nat.{mod-add-div}
+use Rattle.std.proofs.Math.Nat.{mul_comm, mod-add-div}
 use Rattle.std.proofs.lemmas.Bool.{cases_lt, cases_eq}
 use Rattle.std.proofs.lemmas.List.{length-map, take-append-drop, get_or_past, get_or_append_left, get_or-append-add, get_or-take, get_or-drop}
 use Rattle.std.proofs.lemmas.List.Elements.{All-head, All-tail, All-cons}
@@ -197,7 +197,7 @@ product_bound C D E k d e x r s c y z =
     let (i, inner, nonzero) = nonzero_place w l in
     let q = i % m in
     let below : q < m = mod-lt i (positive n m i (omega (arith, inner, whole))) in
-    let at : i ≡ i / m * m + q = omega (arith, mod-add-div i m, turned m (i / m)) in
+    let at : i ≡ i / m * m + q = omega (arith, mod-add-div i m, mul_comm m (i / m)) in
     let cs : IsWord f (length gs) (column vs q) = subst (λ j. IsWord f j (column vs q)) long (column_word f m vs q words) in
     let u = combine f n (column vs q) gs in
     let word : IsWord f n u = combine_word f n (column vs q) gs r in
@@ -219,9 +219,6 @@ product_bound C D E k d e x r s c y z =
     positive : (n m i : ℕ) → i < n * m → 0 < m
     positive n zero i l = absurd (omega (arith, l))
     positive n (suc m) i l = omega arith
-
-    turned : (a b : ℕ) → a * b ≡ b * a
-    turned a b = grind arith
 
 -- ---- the dimension
 

@@ -7,7 +7,7 @@
 --   own_exponents          so each exponent below n is alone in its set
 --   reed_solomon_dimension
 use Rattle.std.proofs.Common.{◌≡◌, ◌≢◌, ℕ, zero, suc, ◌+◌, ◌-◌, ◌*◌, ◌%◌, ◌^◌, ◌<◌, ◌≤◌, ◌↔◌, ⊎_elim, List, [], ◌∷◌, map, length, Contains, All, AllPairs, refl, sym, ap, subst, ◌∙◌, arith, mod-lt, pow-suc}
-use Rattle.std.proofs.Math.Nat.{pow-zero, mod_self, mod-eq_of_lt, add-mul-mod_self_right}
+use Rattle.std.proofs.Math.Nat.{mul_comm, pow-zero, mod_self, mod-eq_of_lt, add-mul-mod_self_right}
 use Rattle.std.proofs.lemmas.Nat.{mul-mod_first}
 use Rattle.std.proofs.lemmas.List.{length-map}
 use Rattle.std.proofs.lemmas.List.Elements.{All-contains}
@@ -38,9 +38,6 @@ all_of_contains : (P : ℕ → Type 0) (xs : List ℕ) → ((x : ℕ) → Contai
 all_of_contains P [] h k d l = absurd (omega (arith, l))
 all_of_contains P (x ∷ xs) h zero d l = h x (contains_head x xs)
 all_of_contains P (x ∷ xs) h (suc k) d l = all_of_contains P xs (λ y c. h y (contains_tail x y xs c)) k d (omega (arith, l))
-
-turned : (a b : ℕ) → a * b ≡ b * a
-turned a b = grind arith
 
 module _ (small large : FieldName) (n root : ℕ) (es xs : List ℕ) (sub : IsSubfield small large) (order : HasOrder large root n) (apart : AreDistinct xs) (told : (k : ℕ) → Contains xs k ↔ IsZeroExponent (size small) n es k) where
   abbrev zeros : List ℕ
@@ -76,7 +73,7 @@ module _ (small large : FieldName) (n root : ℕ) (es xs : List ℕ) (sub : IsSu
   zero_of_power : (r : ℕ) → Contains zeros r → values (x_power_minus_one small n) r ≡ 0
   zero_of_power r c =
       let (k, a, e) = contains_map (pow large root) xs r c in
-      let one : pow large r n ≡ 1 = ap (λ y. pow large y n) e ∙ sym (pow_mul large root k n) ∙ ap (pow large root) (turned k n) ∙ pow_mul large root n k ∙ ap (λ y. pow large y k) order.one ∙ one_pow large k in
+      let one : pow large r n ≡ 1 = ap (λ y. pow large y n) e ∙ sym (pow_mul large root k n) ∙ ap (pow large root) (mul_comm k n) ∙ pow_mul large root n k ∙ ap (λ y. pow large y k) order.one ∙ one_pow large k in
       ap (λ u. value_at large u r) (embedded_x_power small large n sub order.positive) ∙ value_x_power large n r order.positive ∙ ap (λ y. add large y (neg large 1)) one ∙ add_neg large 1
 
   exponent_there : (i : ℕ) → Contains es i → (k : ℕ) × Contains zeros k × (pow large root i ≡ k)

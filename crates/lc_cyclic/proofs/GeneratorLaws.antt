@@ -5,7 +5,8 @@
 --   generator_more         a zero that it lacks: times the minimal polynomial
 --   generator_divides      it divides x^n - 1
 --   generator_code         its multiples are the words of the BCH code
-use Rattle.std.proofs.Common.{◌≡◌, ◌≢◌, ℕ, zero, suc, ◌+◌, ◌-◌, ◌*◌, ◌<◌, ◌≤◌, ⊎_elim, List, [], ◌∷◌, map, length, slice_index, drop, refl, sym, ap, subst, ◌∙◌, arith}
+use Rattle.std.proofs.Common.{◌≡◌, ◌≢◌, ℕ, zero, suc, ◌+◌, ◌-◌, ◌<◌, ◌≤◌, ⊎_elim, List, [], ◌∷◌, map, length, slice_index, drop, refl, sym, ap, subst, ◌∙◌, arith}
+use Rattle.std.proofs.Math.Nat.{mul_comm}
 use Rattle.std.proofs.lemmas.Bool.{cases_eq}
 use Rattle.std.proofs.lemmas.List.{drop_more}
 use Rattle.std.proofs.lemmas.List.Elements.{All-contains}
@@ -95,13 +96,10 @@ generator_more f K x b m r g h u sub G e n minimal t =
           (q, qp, λ i. s i ∙ product_same f q (poly_product f g u) h i k.same);
     }
 
-turned : (a b : ℕ) → a * b ≡ b * a
-turned a b = grind arith
-
 power_zero : (f K : FieldName) (n x e : ℕ) → IsSubfield f K → 1 ≤ n → pow K x n ≡ 1 → value_in f K (x_power_minus_one f n) (pow K x e) ≡ 0
 unfolding value_in
 power_zero f K n x e sub l o =
-    let one : pow K (pow K x e) n ≡ 1 = sym (pow_mul K x e n) ∙ ap (pow K x) (turned e n) ∙ pow_mul K x n e ∙ ap (λ y. pow K y e) o ∙ one_pow K e in
+    let one : pow K (pow K x e) n ≡ 1 = sym (pow_mul K x e n) ∙ ap (pow K x) (mul_comm e n) ∙ pow_mul K x n e ∙ ap (λ y. pow K y e) o ∙ one_pow K e in
     ap (λ u. value_at K u (pow K x e)) (embedded_x_power f K n sub l) ∙ value_x_power K n (pow K x e) l ∙ ap (λ y. add K y (neg K 1)) one ∙ add_neg K 1
 
 pub generator_divides : (f K : FieldName) (n b m x : ℕ) (g : List ℕ) → 1 ≤ n → IsLocatorField f n K → x ≡ root_of_unity K n → IsGenerator f K x b m g → Divides f g (x_power_minus_one f n)

@@ -12,3 +12,4 @@ pub mod QueryLaws
 pub mod WideLaws
 pub mod FormLaws
 pub mod CyclicCalls
+pub mod MisfitLaws

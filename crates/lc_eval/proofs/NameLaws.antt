@@ -1,7 +1,10 @@
 -- The values of names, as the map of them has them.
 --   named_value                  the value of a name
 --   bound_anew                   a name that is bound
-use Rattle.std.proofs.Common.{◌≡◌, ℕ, Bool, true, false, cond, if◌then◌else◌, List, [], ◌∷◌, map, Option, Some, None, option_map, option_copied, MatchOption, String, string_bytes, nat_eq, refl, sym, ap, ◌∙◌}
+--   bound_means                  it has the new value, and every other name the one that it had
+use Rattle.std.proofs.Common.{◌≡◌, ◌≢◌, ◌↔◌, ℕ, ◌==◌, Bool, true, false, cond, if◌then◌else◌, List, [], ◌∷◌, map, Option, Some, None, option_map, option_copied, MatchOption, String, string_bytes, nat_eq, refl, sym, ap, ap₂, subst, ◌∙◌, ⊎_elim, true≢false}
+use Rattle.std.proofs.lemmas.Bool.{cases_Bool, and_parts}
+use Rattle.std.proofs.lemmas.Bool.Decides.{Decides-eqb}
 use Rattle.std.specs.Borrow.{Bor}
 use Rattle.std.specs.BTreeMap.{BTreeMap, UpdatesBy, get_by_text, is_at}
 use Rattle.std.specs.Map.{lookup}
@@ -10,8 +13,9 @@ use Rattle.std.specs.String.{string_cmp}
 use Rattle.std.specs.Cmp.Lexicographic.{slice_cmp, pointwise, nat_list_eq_equiv}
 use Rattle.std.proofs.lemmas.Map.Text.{btree_map_updates_text, is_eq-slice_cmp}
 use Rattle.lc_formats.specs.Text.{same_bytes}
+use Rattle.lc_formats.proofs.CheckpointBack.{same_itself}
 use Rattle.lc_language.specs.Value as language
-use Rattle.lc_language.specs.Value.{value_named}
+use Rattle.lc_language.specs.Value.{Binding, value_named}
 use Rattle.lc_eval.specs.declared.values.Value.{Value}
 use Rattle.lc_eval.specs.Value.{value_of}
 use Rattle.lc_eval.specs.Names.{bindings_of, IsBound}
@@ -50,3 +54,39 @@ unfolding value_named
 bound_anew old new key v u x =
     sym (value_in x new) ∙ ap (option_map value_of) (btree_map_updates_text (string_bytes key) old new (Some v) u x)
     ∙ (rw (same_turned (string_bytes key) x) (pick (same_bytes x (string_bytes key)) v (get_by_text old x) (value_named x (bindings_of old)) (value_in x old)))
+
+-- ---- names after an assignment
+
+bytes_told : (u v : List ℕ) → same_bytes u v ≡ true → u ≡ v
+unfolding same_bytes
+bytes_told [] [] h = refl
+bytes_told [] (b ∷ v) h = absurd (true≢false (sym h))
+bytes_told (a ∷ u) [] h = absurd (true≢false (sym h))
+bytes_told (a ∷ u) (b ∷ v) h =
+    let p = and_parts (a == b) (same_bytes u v) h in
+    ap₂ (λ (c : ℕ) (w : List ℕ). c ∷ w) ((Decides-eqb a b).0 p.0) (bytes_told u v p.1)
+
+named_first : (b : Binding) (old : List Binding) → value_named b.name (b ∷ old) ≡ Some b.value
+unfolding value_named
+named_first b old = rw (same_itself b.name) refl
+
+named_later : (b : Binding) (old : List Binding) (x : List ℕ) → x ≢ b.name → value_named x (b ∷ old) ≡ value_named x old
+unfolding value_named
+named_later b old x n =
+    ⊎_elim
+    (λ (t : same_bytes x b.name ≡ true). absurd (n (bytes_told x b.name t)))
+    (λ (t : same_bytes x b.name ≡ false). rw t refl)
+    (cases_Bool (same_bytes x b.name))
+
+differs : (u v : List ℕ) → same_bytes u v ≡ false → u ≢ v
+differs u v h e = true≢false (sym (same_itself v) ∙ subst (λ (w : List ℕ). same_bytes w v ≡ false) e h)
+
+pub bound_means : (b : Binding) (old new : List Binding) → IsBound b old new ↔ ((value_named b.name new ≡ Some b.value) × ((x : List ℕ) → x ≢ b.name → value_named x new ≡ value_named x old))
+bound_means b old new = (
+  (λ h. (h b.name ∙ named_first b old, λ x n. h x ∙ named_later b old x n)),
+  (λ h x.
+      ⊎_elim
+      (λ (t : same_bytes x b.name ≡ true). let e : x ≡ b.name = bytes_told x b.name t in rw e (h.0 ∙ sym (named_first b old)))
+      (λ (t : same_bytes x b.name ≡ false). let n = differs x b.name t in h.1 x n ∙ sym (named_later b old x n))
+      (cases_Bool (same_bytes x b.name))),
+)

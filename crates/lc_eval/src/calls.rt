@@ -1,13 +1,13 @@
 //! The calls that are built: the table of their names and of the kinds of their arguments, and calls with their arguments.
 //!
 //! A call is added by its variant of `ValueCall` or `QueryCall`, its row in the table, and its variant of `BoundCall` or
-//! `BoundQuery` with its arm in `bind` or `bind_query`.
-ghost use Rattle.std.specs.Prelude.{◌≡◌, ◌==◌, map, find, nat_eq, option_map, length, None, Some, MatchOption};
+//! `BoundQuery` with its arm in the function for the number of its arguments, as `with_two`, or in `bind_query`.
+ghost use Rattle.std.specs.Prelude.{◌≡◌, ◌==◌, map, find, nat_eq, [], ◌∷◌, option_map, length, None, Some, MatchOption};
 ghost use Rattle.std.specs.Cmp.Lexicographic.{pointwise};
 ghost use Rattle.lc_language.specs.Calls.{name_of, one, signatures, call_named};
 ghost use Rattle.lc_language.specs.Bound as language;
 ghost use Rattle.lc_eval.specs.Built.{value_call_of, query_call_of, call_of, built_calls, bound_of, bound_query_of, forms_of, IsRowOf};
-ghost use Rattle.lc_eval.specs.Value.{values_of};
+ghost use Rattle.lc_eval.specs.Value.{value_of, values_of};
 
 use crate::values::Value;
 use lc_code::Code;
@@ -271,7 +271,6 @@ static TABLE: [Row; 36] = [
 ];
 
 // The rows of all built calls.
-#[tactic(auto, unfolding(crate::specs::Built::built_calls, lc_language::specs::Calls::value_name, lc_language::specs::Calls::query_name, lc_language::specs::Calls::name_of, lc_language::specs::Calls::one, lc_language::specs::Calls::signatures, lc_language::specs::Calls::value_signatures, lc_language::specs::Calls::query_signatures))]
 fn table() -> &'static [Row]
     ensures calls { map (λ row. call_of row.call) result.now ≡ built_calls }
     ensures names { map (λ row. row.name.now) result.now ≡ map name_of built_calls }
@@ -362,157 +361,163 @@ pub(crate) enum BoundQuery<'a> {
 pub(crate) fn bind(call: ValueCall, arguments: &[Value]) -> Option<BoundCall<'_>>
     ensures { option_map bound_of result ≡ language.bind (value_call_of call) (values_of arguments.now) }
 {
+    match arguments {
+        [] => with_none(call),
+        [a] => with_one(call, a),
+        [a, b] => with_two(call, a, b),
+        [a, b, c] => with_three(call, a, b, c),
+        [a, b, c, d] => with_four(call, a, b, c, d),
+        [a, b, c, d, e] => with_five(call, a, b, c, d, e),
+        _ => None,
+    }
+}
+
+// The call without arguments.
+#[tactic(auto, unfolding(lc_language::specs::Bound::bind))]
+fn with_none(call: ValueCall) -> Option<BoundCall<'static>>
+    ensures { option_map bound_of result ≡ language.bind (value_call_of call) ([]) }
+{
     match call {
-        ValueCall::Gf => {
-            let [a] = arguments else { return None };
-            Some(BoundCall::Gf(a.number()?))
-        }
-        ValueCall::GeneratorMatCode => {
-            let [a, b] = arguments else { return None };
-            Some(BoundCall::GeneratorMatCode(a.lists()?, b.field()?))
-        }
-        ValueCall::CheckMatCode => {
-            let [a, b] = arguments else { return None };
-            Some(BoundCall::CheckMatCode(a.lists()?, b.field()?))
-        }
-        ValueCall::RepetitionCode => {
-            let [a, b] = arguments else { return None };
-            Some(BoundCall::RepetitionCode(a.number()?, b.field()?))
-        }
-        ValueCall::WholeSpaceCode => {
-            let [a, b] = arguments else { return None };
-            Some(BoundCall::WholeSpaceCode(a.number()?, b.field()?))
-        }
-        ValueCall::NullCode => {
-            let [a, b] = arguments else { return None };
-            Some(BoundCall::NullCode(a.number()?, b.field()?))
-        }
-        ValueCall::HammingCode => {
-            let [a, b] = arguments else { return None };
-            Some(BoundCall::HammingCode(a.number()?, b.field()?))
-        }
-        ValueCall::ReedMullerCode => {
-            let [a, b] = arguments else { return None };
-            Some(BoundCall::ReedMullerCode(a.number()?, b.number()?))
-        }
-        ValueCall::GeneratorPolCode => {
-            let [a, b, c] = arguments else { return None };
-            Some(BoundCall::GeneratorPolCode(a.numbers()?, b.number()?, c.field()?))
-        }
-        ValueCall::CheckPolCode => {
-            let [a, b, c] = arguments else { return None };
-            Some(BoundCall::CheckPolCode(a.numbers()?, b.number()?, c.field()?))
-        }
-        ValueCall::BinaryGolayCode => {
-            let [] = arguments else { return None };
-            Some(BoundCall::BinaryGolayCode)
-        }
-        ValueCall::TernaryGolayCode => {
-            let [] = arguments else { return None };
-            Some(BoundCall::TernaryGolayCode)
-        }
-        ValueCall::ExtendedBinaryGolayCode => {
-            let [] = arguments else { return None };
-            Some(BoundCall::ExtendedBinaryGolayCode)
-        }
-        ValueCall::ExtendedTernaryGolayCode => {
-            let [] = arguments else { return None };
-            Some(BoundCall::ExtendedTernaryGolayCode)
-        }
-        ValueCall::BchCode => match arguments {
-            [a, b, c] => Some(BoundCall::BchCode(a.number()?, 1, b.number()?, c.field()?)),
-            [a, b, c, d] => Some(BoundCall::BchCode(
-                a.number()?,
-                b.number()?,
-                c.number()?,
-                d.field()?,
-            )),
-            _ => None,
-        },
-        ValueCall::ReedSolomonCode => {
-            let [a, b] = arguments else { return None };
-            Some(BoundCall::ReedSolomonCode(a.number()?, b.number()?))
-        }
-        ValueCall::GoppaCode => {
-            let [a, b, c, d] = arguments else { return None };
-            Some(BoundCall::GoppaCode(a.numbers()?, b.numbers()?, c.field()?, d.field()?))
-        }
-        ValueCall::AlternantCode => {
-            let [a, b, c, d, e] = arguments else {
-                return None
-            };
-            Some(BoundCall::AlternantCode(
-                a.number()?,
-                b.numbers()?,
-                c.numbers()?,
-                d.field()?,
-                e.field()?,
-            ))
-        }
-        ValueCall::DualCode => {
-            let [a] = arguments else { return None };
-            Some(BoundCall::DualCode(&a.code()?.code))
-        }
-        ValueCall::ExtendedCode => {
-            let [a] = arguments else { return None };
-            Some(BoundCall::ExtendedCode(&a.code()?.code))
-        }
-        ValueCall::PuncturedCode => {
-            let [a, b] = arguments else { return None };
-            Some(BoundCall::PuncturedCode(&a.code()?.code, b.numbers()?))
-        }
-        ValueCall::ShortenedCode => {
-            let [a, b] = arguments else { return None };
-            Some(BoundCall::ShortenedCode(&a.code()?.code, b.numbers()?))
-        }
-        ValueCall::EvenWeightSubcode => {
-            let [a] = arguments else { return None };
-            Some(BoundCall::EvenWeightSubcode(&a.code()?.code))
-        }
-        ValueCall::DirectSumCode => {
-            let [a, b] = arguments else { return None };
-            Some(BoundCall::DirectSumCode(&a.code()?.code, &b.code()?.code))
-        }
-        ValueCall::UuvCode => {
-            let [a, b] = arguments else { return None };
-            Some(BoundCall::UuvCode(&a.code()?.code, &b.code()?.code))
-        }
-        ValueCall::DirectProductCode => {
-            let [a, b] = arguments else { return None };
-            Some(BoundCall::DirectProductCode(&a.code()?.code, &b.code()?.code))
-        }
-        ValueCall::IntersectionCode => {
-            let [a, b] = arguments else { return None };
-            Some(BoundCall::IntersectionCode(&a.code()?.code, &b.code()?.code))
-        }
-        ValueCall::ConcatenatedCode => {
-            let [a, b] = arguments else { return None };
-            Some(BoundCall::ConcatenatedCode(&a.code()?.code, &b.code()?.code))
-        }
-        ValueCall::Dimension => {
-            let [a] = arguments else { return None };
-            Some(BoundCall::Dimension(&a.code()?.code))
-        }
-        ValueCall::WordLength => {
-            let [a] = arguments else { return None };
-            Some(BoundCall::WordLength(&a.code()?.code))
-        }
-        ValueCall::GeneratorMat => {
-            let [a] = arguments else { return None };
-            Some(BoundCall::GeneratorMat(&a.code()?.code))
-        }
-        ValueCall::CheckMat => {
-            let [a] = arguments else { return None };
-            Some(BoundCall::CheckMat(&a.code()?.code))
-        }
-        ValueCall::Weight => {
-            let [a] = arguments else { return None };
-            Some(BoundCall::Weight(a.numbers()?))
-        }
-        ValueCall::IsCodeword => {
-            let [a, b] = arguments else { return None };
-            Some(BoundCall::IsCodeword(&a.code()?.code, b.numbers()?))
-        }
+        ValueCall::BinaryGolayCode => Some(BoundCall::BinaryGolayCode),
+        ValueCall::TernaryGolayCode => Some(BoundCall::TernaryGolayCode),
+        ValueCall::ExtendedBinaryGolayCode => Some(BoundCall::ExtendedBinaryGolayCode),
+        ValueCall::ExtendedTernaryGolayCode => Some(BoundCall::ExtendedTernaryGolayCode),
+        _ => None,
+    }
+}
+
+// The call with one argument.
+#[tactic(auto, unfolding(lc_language::specs::Bound::bind))]
+fn with_one<'a>(call: ValueCall, a: &'a Value) -> Option<BoundCall<'a>>
+    ensures { option_map bound_of result ≡ language.bind (value_call_of call) (value_of a.now ∷ []) }
+{
+    match call {
+        ValueCall::Gf => Some(BoundCall::Gf(a.number()?)),
+        ValueCall::DualCode => Some(BoundCall::DualCode(&a.code()?.code)),
+        ValueCall::ExtendedCode => Some(BoundCall::ExtendedCode(&a.code()?.code)),
+        ValueCall::EvenWeightSubcode => Some(BoundCall::EvenWeightSubcode(&a.code()?.code)),
+        ValueCall::Dimension => Some(BoundCall::Dimension(&a.code()?.code)),
+        ValueCall::WordLength => Some(BoundCall::WordLength(&a.code()?.code)),
+        ValueCall::GeneratorMat => Some(BoundCall::GeneratorMat(&a.code()?.code)),
+        ValueCall::CheckMat => Some(BoundCall::CheckMat(&a.code()?.code)),
+        ValueCall::Weight => Some(BoundCall::Weight(a.numbers()?)),
+        _ => None,
+    }
+}
+
+// The call with two arguments.
+#[tactic(auto, unfolding(lc_language::specs::Bound::bind))]
+fn with_two<'a>(call: ValueCall, a: &'a Value, b: &'a Value) -> Option<BoundCall<'a>>
+    ensures { option_map bound_of result ≡ language.bind (value_call_of call) (value_of a.now ∷ value_of b.now ∷ []) }
+{
+    match call {
+        ValueCall::GeneratorMatCode => Some(BoundCall::GeneratorMatCode(a.lists()?, b.field()?)),
+        ValueCall::CheckMatCode => Some(BoundCall::CheckMatCode(a.lists()?, b.field()?)),
+        ValueCall::RepetitionCode => Some(BoundCall::RepetitionCode(a.number()?, b.field()?)),
+        ValueCall::WholeSpaceCode => Some(BoundCall::WholeSpaceCode(a.number()?, b.field()?)),
+        ValueCall::NullCode => Some(BoundCall::NullCode(a.number()?, b.field()?)),
+        ValueCall::HammingCode => Some(BoundCall::HammingCode(a.number()?, b.field()?)),
+        ValueCall::ReedMullerCode => Some(BoundCall::ReedMullerCode(a.number()?, b.number()?)),
+        ValueCall::ReedSolomonCode => Some(BoundCall::ReedSolomonCode(a.number()?, b.number()?)),
+        ValueCall::PuncturedCode => Some(BoundCall::PuncturedCode(&a.code()?.code, b.numbers()?)),
+        ValueCall::ShortenedCode => Some(BoundCall::ShortenedCode(&a.code()?.code, b.numbers()?)),
+        ValueCall::DirectSumCode => Some(BoundCall::DirectSumCode(
+            &a.code()?.code,
+            &b.code()?.code,
+        )),
+        ValueCall::UuvCode => Some(BoundCall::UuvCode(&a.code()?.code, &b.code()?.code)),
+        ValueCall::DirectProductCode => Some(BoundCall::DirectProductCode(
+            &a.code()?.code,
+            &b.code()?.code,
+        )),
+        ValueCall::IntersectionCode => Some(BoundCall::IntersectionCode(
+            &a.code()?.code,
+            &b.code()?.code,
+        )),
+        ValueCall::ConcatenatedCode => Some(BoundCall::ConcatenatedCode(
+            &a.code()?.code,
+            &b.code()?.code,
+        )),
+        ValueCall::IsCodeword => Some(BoundCall::IsCodeword(&a.code()?.code, b.numbers()?)),
+        _ => None,
+    }
+}
+
+// The call with three arguments.
+#[tactic(auto, unfolding(lc_language::specs::Bound::bind))]
+fn with_three<'a>(
+    call: ValueCall,
+    a: &'a Value,
+    b: &'a Value,
+    c: &'a Value,
+) -> Option<BoundCall<'a>>
+    ensures { option_map bound_of result ≡ language.bind (value_call_of call) (value_of a.now ∷ value_of b.now ∷ value_of c.now ∷ []) }
+{
+    match call {
+        ValueCall::GeneratorPolCode => Some(BoundCall::GeneratorPolCode(
+            a.numbers()?,
+            b.number()?,
+            c.field()?,
+        )),
+        ValueCall::CheckPolCode => Some(BoundCall::CheckPolCode(
+            a.numbers()?,
+            b.number()?,
+            c.field()?,
+        )),
+        ValueCall::BchCode => Some(BoundCall::BchCode(a.number()?, 1, b.number()?, c.field()?)),
+        _ => None,
+    }
+}
+
+// The call with four arguments.
+#[tactic(auto, unfolding(lc_language::specs::Bound::bind))]
+fn with_four<'a>(
+    call: ValueCall,
+    a: &'a Value,
+    b: &'a Value,
+    c: &'a Value,
+    d: &'a Value,
+) -> Option<BoundCall<'a>>
+    ensures { option_map bound_of result ≡ language.bind (value_call_of call) (value_of a.now ∷ value_of b.now ∷ value_of c.now ∷ value_of d.now ∷ []) }
+{
+    match call {
+        ValueCall::GoppaCode => Some(BoundCall::GoppaCode(
+            a.numbers()?,
+            b.numbers()?,
+            c.field()?,
+            d.field()?,
+        )),
+        ValueCall::BchCode => Some(BoundCall::BchCode(
+            a.number()?,
+            b.number()?,
+            c.number()?,
+            d.field()?,
+        )),
+        _ => None,
+    }
+}
+
+// The call with five arguments.
+#[tactic(auto, unfolding(lc_language::specs::Bound::bind))]
+fn with_five<'a>(
+    call: ValueCall,
+    a: &'a Value,
+    b: &'a Value,
+    c: &'a Value,
+    d: &'a Value,
+    e: &'a Value,
+) -> Option<BoundCall<'a>>
+    ensures { option_map bound_of result ≡ language.bind (value_call_of call) (value_of a.now ∷ value_of b.now ∷ value_of c.now ∷ value_of d.now ∷ value_of e.now ∷ []) }
+{
+    match call {
+        ValueCall::AlternantCode => Some(BoundCall::AlternantCode(
+            a.number()?,
+            b.numbers()?,
+            c.numbers()?,
+            d.field()?,
+            e.field()?,
+        )),
+        _ => None,
     }
 }
 

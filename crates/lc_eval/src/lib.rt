@@ -8,6 +8,7 @@ mod evaluate;
 mod fields;
 mod forms;
 mod kinds;
+mod laws;
 mod least;
 mod lines;
 mod lists;
@@ -20,4 +21,5 @@ mod statement;
 mod values;
 mod wide;
 
+pub use laws::{misfits_are_arguments, names_after_an_assignment};
 pub use machine::{Machine, Query, Step};

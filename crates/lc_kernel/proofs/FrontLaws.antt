@@ -6,8 +6,7 @@
 --   front_word_is, front_whole      the word of a front, by the words of messages; that of all entries is the message's
 --   front_word_fits             it is a word of the code's length
 --   front_same                  equal fronts have equal words
-use Rattle.std.proofs.Common.{◌≡◌, ℕ, zero, suc, ◌+◌, ◌-◌, ◌%◌, ◌<◌, ◌≤◌, List, [], ◌∷◌, length, get_or, slice_index, slice_index_or, take, Contains, refl, sym, ap, ◌∙◌, inl, inr, arith}
-use Rattle.std.proofs.Math.Nat.{mod-eq_of_lt}
+use Rattle.std.proofs.Common.{◌≡◌, ℕ, zero, suc, ◌+◌, ◌-◌, ◌<◌, ◌≤◌, List, [], ◌∷◌, length, get_or, slice_index, slice_index_or, take, Contains, refl, sym, ap, ◌∙◌, inl, inr, arith}
 use Rattle.std.proofs.lemmas.Bool.{cases_lt}
 use Rattle.std.proofs.lemmas.List.{take_all}
 use Rattle.std.proofs.lemmas.List.Elements.{All-head, All-tail}
@@ -26,7 +25,7 @@ use Rattle.lc_infoset.proofs.GreedyLaws.{generators_are}
 use Rattle.lc_place.specs.Place.{SpotState, spot_message}
 use Rattle.lc_place.proofs.Supports.{rising_from}
 use Rattle.lc_place.proofs.Messages.{message_shape, from_contains}
-use Rattle.lc_place.proofs.Vectors.{vector_here, vector_later, vector_nil, vector_none, vector_is, Fitting, fitting_later, fitting_rest, fitting_of}
+use Rattle.lc_place.proofs.Vectors.{vector_here, vector_later, vector_nil, vector_none, Fitting, fitting_later, fitting_rest, fitting_of}
 use Rattle.lc_kernel.specs.Sums.{front_word}
 
 sum_fits : (f : FieldName) (u v : List ℕ) → Fits f (word_sum f u v)

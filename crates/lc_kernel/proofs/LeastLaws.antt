@@ -3,7 +3,7 @@
 --   run_least                    the least value of a run, from the first of its least numbers of ones
 --   run_none                     if none is below the bound, the value stays
 --   seen_run                     what is seen after a run
-use Rattle.std.proofs.Common.{◌≡◌, ◌⊎◌, ℕ, suc, ◌+◌, ◌-◌, ◌*◌, ◌/◌, ◌%◌, ◌^◌, ◌<◌, ◌≤◌, List, length, slice_index, bit_xor, count_ones, refl, sym, ap, ◌∙◌, inl, inr, ⊎_elim, arith}
+use Rattle.std.proofs.Common.{◌≡◌, ◌⊎◌, ℕ, ◌+◌, ◌-◌, ◌*◌, ◌/◌, ◌%◌, ◌^◌, ◌<◌, ◌≤◌, List, length, slice_index, bit_xor, count_ones, refl, sym, ap, ◌∙◌, inl, inr, ⊎_elim, arith}
 use Rattle.std.proofs.lemmas.Bool.{cases_lt}
 use Rattle.lc_kernel.specs.Values.{value_at, IsLeastValue, IsLeastSeen}
 use Rattle.lc_kernel.specs.Least.{IsLeastOr, IsFirstLeast, run_value, IsRunBest}

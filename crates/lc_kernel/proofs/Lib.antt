@@ -6,3 +6,4 @@ pub mod PairLaws
 pub mod LeastLaws
 pub mod RunLaws
 pub mod TableLaws
+pub mod MultipleLaws

@@ -7,7 +7,7 @@
 --   outside_inside               the columns outside a set are columns
 --   pack_none, pack_step, pack_room, bit_small      the bits of a word, from its last column on
 --   bits_none, bits_more         the bits of the word of an entry more
-use Rattle.std.proofs.Common.{◌≡◌, ◌≢◌, ◌⊎◌, ℕ, zero, suc, ◌+◌, ◌-◌, ◌*◌, ◌^◌, ◌<◌, ◌≤◌, Bool, true, false, not, cond, ◌==◌, if◌then◌else◌, List, [], ◌∷◌, length, drop, filter, map, bit_xor, count_ones, count_by, slice_index, slice_index_or, AllPairs, Contains, refl, sym, ap, subst, ◌∙◌, inl, inr, ⊎_elim, arith}
+use Rattle.std.proofs.Common.{◌≡◌, ◌⊎◌, ℕ, zero, suc, ◌+◌, ◌-◌, ◌*◌, ◌^◌, ◌<◌, ◌≤◌, Bool, not, cond, ◌==◌, if◌then◌else◌, List, [], ◌∷◌, length, drop, filter, bit_xor, count_ones, count_by, slice_index, slice_index_or, Contains, refl, sym, ap, ◌∙◌, inl, inr, ⊎_elim, arith}
 use Rattle.std.proofs.Math.Nat.{pow-suc, pow-zero, one-le-pow}
 use Rattle.std.proofs.Math.Seq.{drop-cons}
 use Rattle.std.proofs.lemmas.Bool.{cases_Bool, eq-eqb, ne_eqb}
@@ -20,14 +20,14 @@ use Rattle.lc_algebra.specs.Field.{size, add, coefficients, shape_of, shape}
 use Rattle.lc_algebra.specs.Residue.{digits, number, plus}
 use Rattle.lc_algebra.specs.Word.{IsWord, Fits, zero_word, word_sum, scale, weight}
 use Rattle.lc_algebra.specs.Span.{below, combine, AreIndependent}
-use Rattle.lc_algebra.specs.Matrix.{Matrix, AreRows, IsIdentityOn, IsSystematic, entry}
+use Rattle.lc_algebra.specs.Matrix.{Matrix, AreRows, IsIdentityOn, entry}
 use Rattle.lc_algebra.specs.SpanLaws.{restrict}
-use Rattle.lc_algebra.proofs.WordLaws.{weight_cons, fits_head, fits_tail, fits_symbol, same_words, one_scale, length_scale, IsWord_scale}
+use Rattle.lc_algebra.proofs.WordLaws.{weight_cons, fits_head, fits_tail, fits_symbol, one_scale}
 use Rattle.lc_algebra.proofs.SpanLaws.{contains_below, below_contains}
 use Rattle.lc_algebra.proofs.ColumnLaws.{index_restrict, length_restrict, restrict_sum, restrict_zero}
 use Rattle.lc_algebra.proofs.ReducedLaws.{symbol_of_combination}
 use Rattle.lc_algebra.proofs.DimensionLaws.{AreDistinct, distinct_below}
-use Rattle.lc_enumeration.specs.Message.{Message, messages, vector_of}
+use Rattle.lc_enumeration.specs.Message.{messages, vector_of}
 use Rattle.lc_enumeration.specs.InformationSet.{is_member}
 use Rattle.lc_enumeration.specs.Search.{set_count, generator_at, front_of}
 use Rattle.lc_enumeration.proofs.MemberLaws.{member_true, true_member}
@@ -44,7 +44,7 @@ use Rattle.lc_algebra.proofs.FieldLaws.{one_inside}
 use Rattle.lc_algebra.proofs.SpanLaws.{length_combine}
 use Rattle.std.proofs.lemmas.List.Elements.{All-get_or, Contains-get_or}
 use Rattle.lc_kernel.specs.Sums.{front_word}
-use Rattle.lc_kernel.proofs.FrontLaws.{Entries, entries_are, Generates, generates, front_first, front_next, front_whole, front_word_fits}
+use Rattle.lc_kernel.proofs.FrontLaws.{entries_are, generates, front_first, front_next, front_whole, front_word_fits}
 use Rattle.lc_kernel.specs.Packed.{packed, outside, others, bits_at, AreRowBits}
 
 pub two : size Gf2 ≡ 2

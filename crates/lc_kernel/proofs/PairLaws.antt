@@ -5,14 +5,14 @@
 --   pair_shape                 each support of two places is a pair
 --   sums_none, sums_more, sums_next, pairs_made      the sums of no pair, of one more, and of all
 --   ends_row                   after the pairs of a row come those of the next
-use Rattle.std.proofs.Common.{◌≡◌, ℕ, zero, suc, ◌+◌, ◌-◌, ◌<◌, ◌≤◌, List, [], ◌∷◌, ◌++◌, length, bit_xor, get_or, slice_index, Some, None, refl, ap, sym, ◌∙◌, arith, inl, inr, ⊎_elim, length-append}
+use Rattle.std.proofs.Common.{◌≡◌, ℕ, zero, suc, ◌+◌, ◌-◌, ◌<◌, ◌≤◌, List, [], ◌∷◌, ◌++◌, length, bit_xor, get_or, slice_index, Some, refl, ap, sym, ◌∙◌, arith, ⊎_elim, length-append}
 use Rattle.std.specs.Prelude.{slice_get}
 use Rattle.std.proofs.Math.ListN.{get_or-append}
 use Rattle.std.proofs.Math.Seq.{get_or-append_seam}
 use Rattle.std.proofs.lemmas.Bool.{cases_lt}
-use Rattle.std.proofs.lemmas.Option.{slice_get_within, none-some}
+use Rattle.std.proofs.lemmas.Option.{slice_get_within}
 use Rattle.lc_enumeration.specs.Message.{supports_from, choose}
-use Rattle.lc_place.proofs.Supports.{IsSupport, support_shape, support_takes, support_leaves, length-supports, choose_nothing}
+use Rattle.lc_place.proofs.Supports.{support_takes, support_leaves, length-supports, choose_nothing}
 use Rattle.lc_kernel.specs.Packed.{EndsAt, ArePairsSoFar, ArePairs}
 
 pub ends_first : (k : ℕ) → EndsAt k 0 0

@@ -9,9 +9,8 @@
 --   first_seen                 the value of the first word
 --   last_message, next_offset      the last message of a head, and the one after it
 --   index_of_pair              the index of a spot's pair
-use Rattle.std.proofs.Common.{◌≡◌, ℕ, zero, suc, ◌+◌, ◌-◌, ◌*◌, ◌%◌, ◌^◌, ◌<◌, ◌≤◌, min, Bool, if◌then◌else◌, List, [], ◌∷◌, ◌++◌, length, take, drop, set, replicate, get_or, bit_xor, count_ones, slice_get, slice_index, slice_index_or, Some, None, Contains, refl, sym, ap, subst, ◌∙◌, inl, inr, ⊎_elim, arith, length-append}
+use Rattle.std.proofs.Common.{◌≡◌, ℕ, suc, ◌+◌, ◌-◌, ◌*◌, ◌%◌, ◌^◌, ◌<◌, ◌≤◌, Bool, if◌then◌else◌, List, [], ◌∷◌, ◌++◌, length, take, drop, set, replicate, get_or, bit_xor, count_ones, slice_get, slice_index, slice_index_or, Some, None, Contains, refl, sym, ap, subst, ◌∙◌, ⊎_elim, arith, length-append}
 use Rattle.std.specs.Int.Bits.{xor_assoc}
-use Rattle.std.proofs.Math.ListN.{get_or-append}
 use Rattle.std.proofs.Math.Seq.{get_or-append_seam, take-append_seam}
 use Rattle.std.proofs.lemmas.Bool.{cases_lt}
 use Rattle.std.proofs.lemmas.Nat.{xor_comm}
@@ -22,11 +21,11 @@ use Rattle.lc_algebra.specs.Field.{size}
 use Rattle.lc_algebra.specs.Word.{weight}
 use Rattle.lc_algebra.specs.Span.{AreIndependent}
 use Rattle.lc_algebra.specs.Matrix.{Matrix, AreRows}
-use Rattle.lc_enumeration.specs.Message.{Message, messages, message_count, supports_from}
-use Rattle.lc_enumeration.specs.Plan.{phase_level, phase_set, blocks_before, block_length, place_of, IsInPhase}
+use Rattle.lc_enumeration.specs.Message.{Message, messages, supports_from}
+use Rattle.lc_enumeration.specs.Plan.{phase_level, blocks_before, block_length, place_of, IsInPhase}
 use Rattle.lc_enumeration.specs.Search.{set_count, word_of, block_words}
 use Rattle.lc_place.specs.Place.{PlanSize, SpotState, spot_message}
-use Rattle.lc_place.proofs.Supports.{IsSupport, support_shape}
+use Rattle.lc_place.proofs.Supports.{support_shape}
 use Rattle.lc_place.proofs.Messages.{message_of, to_contains, from_contains, length-messages}
 use Rattle.lc_place.proofs.Runs.{support_of, message_of_support, message_along}
 use Rattle.lc_kernel.specs.Kernel.{IsPlanOf}
@@ -34,12 +33,12 @@ use Rattle.lc_kernel.specs.Sums.{front_word}
 use Rattle.lc_kernel.specs.Values.{value_at, IsMessageOf, IsSpotAt, IsLeastSeen}
 use Rattle.lc_kernel.specs.Packed.{others, bits_at, head_of, pair_of, ArePairs, AreRowBits, AreHeads, IsTable}
 use Rattle.lc_kernel.specs.Least.{run_value, IsRunBest}
-use Rattle.lc_kernel.proofs.FrontLaws.{Entries, entries_are, front_word_is, front_whole, front_same}
+use Rattle.lc_kernel.proofs.FrontLaws.{entries_are, front_word_is, front_whole, front_same}
 use Rattle.lc_kernel.proofs.PackLaws.{two, weight_by_bits, bits_more, bits_none}
 use Rattle.lc_enumeration.proofs.SearchLaws.{few_in_block}
 use Rattle.lc_kernel.proofs.LeastLaws.{seen_run}
 use Rattle.lc_kernel.proofs.PairLaws.{pair_shape, pair_at, last_pair}
-use Rattle.lc_kernel.proofs.ScanLaws.{block_word, block_long, next_is, same_phase, length_of_code}
+use Rattle.lc_kernel.proofs.ScanLaws.{block_word, block_long, next_is}
 
 pub support_parts : (s : List ℕ) → 2 ≤ length s → s ≡ take (length s - 2) s ++ slice_index s (length s - 2) ∷ slice_index s (length s - 1) ∷ []
 support_parts s l =

@@ -8,29 +8,29 @@
 --   words_of_block, block_value_of_words      the same by the words of the block
 --   spot_at                      a spot at the first message of a block
 --   past_plan, past_block, at_word      the word at a place
-use Rattle.std.proofs.Common.{◌≡◌, ℕ, zero, suc, ◌+◌, ◌-◌, ◌*◌, ◌/◌, ◌%◌, ◌^◌, ◌<◌, ◌≤◌, min, Bool, true, false, cond, nat_lt, nat_le, ◌&&◌, if◌then◌else◌, List, [], ◌∷◌, map, length, take, drop, get_or, find, slice_get, slice_index_or, Option, Some, None, is_some, unwrap_or, option_map, Contains, refl, sym, ap, subst, ◌∙◌, inl, inr, ⊎_elim, arith}
+use Rattle.std.proofs.Common.{◌≡◌, ℕ, suc, ◌+◌, ◌-◌, ◌*◌, ◌/◌, ◌%◌, ◌^◌, ◌<◌, ◌≤◌, min, Bool, true, false, nat_lt, nat_le, ◌&&◌, if◌then◌else◌, List, [], ◌∷◌, length, take, drop, find, slice_get, slice_index_or, Some, None, option_map, Contains, refl, sym, ap, ◌∙◌, ⊎_elim, arith}
 use Rattle.std.proofs.Math.Nat.{mod-lt, mod-eq_of_lt}
-use Rattle.std.proofs.lemmas.Bool.{cases_lt, cases_Bool, false≢true}
+use Rattle.std.proofs.lemmas.Bool.{cases_lt}
 use Rattle.std.proofs.lemmas.Bool.Decides.{nat_tests}
 use Rattle.std.proofs.lemmas.List.{length-map, length-take, length-drop}
-use Rattle.std.proofs.lemmas.Option.{slice_get_past, slice_get_within, slice_get-get_or, slice_get-map, get_or_from_slice_get, none-some}
+use Rattle.std.proofs.lemmas.Option.{slice_get_past, slice_get-get_or, slice_get-map, get_or_from_slice_get, none-some}
 use Rattle.lc_algebra.specs.Field.{size}
 use Rattle.lc_algebra.specs.Word.{weight}
 use Rattle.lc_algebra.specs.Span.{below}
 use Rattle.lc_algebra.specs.Matrix.{Matrix}
 use Rattle.lc_algebra.proofs.SpanLaws.{contains_below, contains_head, contains_tail}
 use Rattle.lc_enumeration.specs.Message.{Message, messages, message_count}
-use Rattle.lc_enumeration.specs.Plan.{cut, total, phase_at, phase_level, phase_set, blocks_before, block_length, block_messages, place_of, phase_of, IsInPhase}
-use Rattle.lc_enumeration.specs.Search.{Found, set_count, word_of, word_at, block_words, found_along, found_in_block, least_of, least_in, block_least, beats, board_value, partial_words}
+use Rattle.lc_enumeration.specs.Plan.{total, phase_at, phase_level, phase_set, blocks_before, block_length, block_messages, place_of, phase_of, IsInPhase}
+use Rattle.lc_enumeration.specs.Search.{Found, set_count, word_of, word_at, block_words, found_along, found_in_block, least_of, least_in, block_least, beats, board_value}
 use Rattle.lc_enumeration.specs.Truth.{IsLeastOf}
-use Rattle.lc_enumeration.proofs.PlanLaws.{blocks_least, end_is, cut_is}
+use Rattle.lc_enumeration.proofs.PlanLaws.{blocks_least, end_is}
 use Rattle.lc_enumeration.proofs.SearchLaws.{words_in_phase, along_holds, along_has, least_is, beats_is_less}
-use Rattle.lc_place.specs.Place.{PlanSize, SpotState, spot_message, plan_phase}
+use Rattle.lc_place.specs.Place.{PlanSize, SpotState, spot_message}
 use Rattle.lc_place.proofs.Messages.{length-messages}
 use Rattle.lc_place.proofs.Listing.{block_message}
 use Rattle.lc_kernel.specs.Kernel.{StackState, IsPlanOf, IsStackAt, top_sum}
-use Rattle.lc_kernel.specs.Values.{value_at, IsLeastValue, IsMessageOf, IsSpotAt, IsAtOffset}
-use Rattle.lc_kernel.proofs.FrontLaws.{Entries, entries_are, front_word_is, front_whole}
+use Rattle.lc_kernel.specs.Values.{value_at, IsLeastValue, IsSpotAt, IsAtOffset}
+use Rattle.lc_kernel.proofs.FrontLaws.{entries_are, front_word_is, front_whole}
 use Rattle.lc_kernel.proofs.SumLaws.{length_partial, partial_at, set_below, level_some, code_message}
 
 pub one_value : (place : ℕ) (ws : List (List ℕ)) (v : ℕ) → v ≡ value_at place ws 0 → IsLeastValue place ws 1 v

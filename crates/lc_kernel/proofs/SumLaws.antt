@@ -9,13 +9,13 @@
 --   set_below, level_some, code_message      the set, the level and the message of a spot of a plan
 --   written_whole                a list written whole over another
 --   stack_at                     a stack with the fronts of its message is at it
-use Rattle.std.proofs.Common.{◌≡◌, ℕ, zero, suc, ◌+◌, ◌-◌, ◌%◌, ◌<◌, ◌≤◌, List, [], ◌∷◌, ◌++◌, map, set, length, get_or, slice_index, slice_index_or, take, drop, Contains, refl, sym, ap, ◌∙◌, inl, inr, ⊎_elim, arith, add-one}
+use Rattle.std.proofs.Common.{◌≡◌, ℕ, zero, suc, ◌+◌, ◌-◌, ◌%◌, ◌<◌, ◌≤◌, List, [], ◌∷◌, ◌++◌, set, length, slice_index, slice_index_or, take, drop, Contains, refl, sym, ap, ◌∙◌, ⊎_elim, arith}
 use Rattle.std.proofs.lemmas.Bool.{cases_lt}
 use Rattle.std.proofs.Math.ListN.{get_or-append}
 use Rattle.std.proofs.Math.Seq.{take-append_seam}
 use Rattle.std.proofs.Math.Nat.{mod-eq_of_lt, mod-lt}
 use Rattle.std.proofs.lemmas.List.Elements.{All-get_or}
-use Rattle.std.proofs.lemmas.List.{get_or-append-add, get_or_default, get_or-set_same, get_or-set_other, length-set, length-map, length-drop, length-take-le, get_or-take, get_or-drop, get_or-map, ext_get_or, append-nil}
+use Rattle.std.proofs.lemmas.List.{get_or-append-add, get_or_default, get_or-set_same, get_or-set_other, length-set, length-map, length-drop, length-take-le, get_or-take, get_or-drop, get_or-map, ext_get_or}
 use Rattle.lc_algebra.specs.Field.{size}
 use Rattle.lc_algebra.specs.Word.{IsWord, zero_word, word_sum, scale}
 use Rattle.lc_algebra.specs.Span.{below, AreIndependent}
@@ -28,8 +28,8 @@ use Rattle.lc_enumeration.specs.Plan.{phase_set, phase_level}
 use Rattle.lc_enumeration.specs.Search.{set_count, generator_at, front_of, word_of, partial_words}
 use Rattle.lc_place.specs.Place.{PlanSize, SpotState, spot_message, IsFirstChange}
 use Rattle.lc_kernel.specs.Kernel.{StackState, IsPlanOf, IsStackAt, top_sum}
-use Rattle.lc_kernel.specs.Sums.{front_word, AreFronts, IsRoom, sums_of}
-use Rattle.lc_kernel.proofs.FrontLaws.{Entries, entries_are, Generates, generates, front_first, front_next, front_word_is, front_same}
+use Rattle.lc_kernel.specs.Sums.{AreFronts, IsRoom, sums_of}
+use Rattle.lc_kernel.proofs.FrontLaws.{entries_are, Generates, generates, front_first, front_next, front_word_is, front_same}
 
 pub part_before : (ws a b : List (List ℕ)) (i : ℕ) (d : List ℕ) → ws ≡ a ++ b → i < length a → slice_index_or a i d ≡ slice_index_or ws i []
 part_before ws a b i d e l = get_or_default a i d [] l ∙ sym (get_or-append a b [] i l) ∙ ap (λ z. slice_index_or z i []) (sym e)

@@ -10,8 +10,7 @@ use Rattle.lc_algebra.specs.Field.{size}
 use Rattle.lc_algebra.specs.Word.{weight}
 use Rattle.lc_algebra.specs.Matrix.{Matrix}
 use Rattle.lc_enumeration.specs.Message.{messages}
-use Rattle.lc_enumeration.specs.Plan.{phase_level, phase_set, blocks_before, place_of, IsInPhase}
-use Rattle.lc_enumeration.specs.Search.{block_words}
+use Rattle.lc_enumeration.specs.Plan.{phase_level, phase_set, blocks_before, IsInPhase}
 use Rattle.lc_place.specs.Place.{SpotState, spot_message}
 use Rattle.lc_kernel.specs.Kernel.{StackState, IsStackAt}
 

@@ -3,6 +3,7 @@
 #![tactic(auto)]
 
 mod block;
+mod multiples;
 mod pairs;
 mod place;
 mod run;

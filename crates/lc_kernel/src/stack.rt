@@ -9,9 +9,11 @@ ghost use Rattle.lc_enumeration.specs.Plan.{total, phase_set, phase_level, block
 ghost use Rattle.lc_enumeration.specs.Search.{set_count, generator_at};
 ghost use Rattle.lc_place.specs.Place.{spot_message, IsFirstChange};
 ghost use Rattle.lc_kernel.specs.Kernel.{IsPlanOf, IsStackAt, top_sum};
-ghost use Rattle.lc_kernel.specs.Sums.{AreFronts, IsRoom};
+ghost use Rattle.lc_kernel.specs.Sums.{AreFronts, AreMultiples, IsRoom};
+ghost use Rattle.std.specs.Arc.{arc_value};
 ghost use Rattle.lc_kernel.specs.Values.{IsAtOffset};
 
+use crate::multiples::{multiple_of, multiples_of};
 use lc_field::NoMemory;
 use lc_infoset::Sets;
 use lc_matrix::Matrix;
@@ -19,6 +21,7 @@ use lc_place::{Plan, Spot};
 use lc_vec::{Word, weight};
 use std::alloc::Global;
 use std::marker::Model;
+use std::sync::Arc;
 
 /// A message, and the words of its fronts: of its first entry, of its first two, and so on. A step to the
 /// next message makes only the words again from the first changed entry on.
@@ -31,18 +34,21 @@ pub struct Stack {
     spot: Spot,
     // the zero word, and then the sums
     words: Vec<Word>,
+    // the multiples of the rows of all sets, shared by the stacks for them
+    multiples: Arc<Vec<Word>>,
 }
 
 impl Model for Stack {
     ghost use Rattle.std.specs.Prelude.{length};
     ghost use Rattle.lc_kernel.specs.Kernel.{StackState};
-    ghost use Rattle.lc_kernel.specs.Sums.{IsRoom, sums_of};
+    ghost use Rattle.lc_kernel.specs.Sums.{IsRoom, AreMultiples, sums_of};
+    ghost use Rattle.std.specs.Arc.{arc_value};
 
     ghost Value = { StackState };
 
     ghost view = { λ s. record { code = s.code; spot = s.spot; sums = sums_of (length s.spot.support) s.words.items } };
 
-    ghost invariant = { λ s. IsRoom s.code s.spot s.words.items };
+    ghost invariant = { λ s. IsRoom s.code s.spot s.words.items × AreMultiples s.code (arc_value s.multiples).items };
 }
 
 impl Stack {
@@ -51,19 +57,26 @@ impl Stack {
         ensures code { IfOk result (λ s. s.code ≡ sets.now) }
         ensures none { IfOk result (λ s. s.sums ≡ []) }
     {
-        Stack::of(alloc, sets.code())
+        let Ok(multiples) = Arc::new(alloc, multiples_of(alloc, sets)?) else {
+            return Err(NoMemory);
+        };
+        Stack::of(alloc, sets.code(), multiples)
     }
 
-    /// A stack for messages of the same sets, at none.
+    /// A stack for messages of the same sets, at none. It shares the multiples of their rows.
     pub fn another(&self, alloc: Global) -> Result<Stack, NoMemory>
         ensures code { IfOk result (λ s. s.code ≡ self.now.code) }
         ensures none { IfOk result (λ s. s.sums ≡ []) }
     {
-        Stack::of(alloc, &self.code)
+        let Ok(multiples) = Arc::try_clone(&self.multiples) else {
+            return Err(NoMemory);
+        };
+        Stack::of(alloc, &self.code, multiples)
     }
 
     // A stack for messages of the sets of a code, at none.
-    fn of(alloc: Global, code: &Matrix) -> Result<Stack, NoMemory>
+    fn of(alloc: Global, code: &Matrix, multiples: Arc<Vec<Word>>) -> Result<Stack, NoMemory>
+        requires multiples { AreMultiples code.now (arc_value multiples).items }
         ensures code { IfOk result (λ s. s.code ≡ code.now) }
         ensures none { IfOk result (λ s. s.sums ≡ []) }
     {
@@ -74,6 +87,7 @@ impl Stack {
             code: code.copy(alloc)?,
             spot,
             words: zeros(alloc, code.rows() + 1, code.cols())?,
+            multiples,
         })
     }
 
@@ -92,7 +106,7 @@ impl Stack {
         let _phase = plan.phase_of(block);
         let _k = sets.dimension();
         plan.start_of(block, &mut self.spot);
-        refresh(sets, &self.spot, &mut self.words, 0);
+        refresh(sets, &self.multiples, &self.spot, &mut self.words, 0);
     }
 
     /// Goes to the next message of the level. Returns how many sums it made again: those from the first
@@ -113,7 +127,7 @@ impl Stack {
         let Some(first) = plan.step(&mut self.spot) else {
             return None;
         };
-        refresh(sets, &self.spot, &mut self.words, first);
+        refresh(sets, &self.multiples, &self.spot, &mut self.words, first);
         Some(self.spot.support().len() - first)
     }
 
@@ -202,7 +216,8 @@ fn zeros(alloc: Global, many: usize, n: usize) -> Result<Vec<Word>, NoMemory>
 }
 
 // Makes the sums from the one at `from` on again.
-fn refresh(sets: &Sets, spot: &Spot, words: &mut [Word], from: usize)
+fn refresh(sets: &Sets, multiples: &[Word], spot: &Spot, words: &mut [Word], from: usize)
+    requires multiples { AreMultiples sets.now multiples.now }
     requires set { spot.now.set < set_count sets.now }
     requires message { Contains (messages (length sets.now.rows) (size sets.now.field) (length spot.now.support)) (spot_message spot.now) }
     requires room { IsRoom sets.now spot.now words.old }
@@ -212,23 +227,29 @@ fn refresh(sets: &Sets, spot: &Spot, words: &mut [Word], from: usize)
 {
     let _k = sets.dimension();
     for i in from..spot.support().len() {
-        extend(sets, spot, words, i);
+        extend(sets, multiples, spot, words, i);
     }
 }
 
 // Makes the sum of entry i from the one before it.
-fn extend(sets: &Sets, spot: &Spot, words: &mut [Word], i: usize)
+fn extend(sets: &Sets, multiples: &[Word], spot: &Spot, words: &mut [Word], i: usize)
+    requires multiples { AreMultiples sets.now multiples.now }
     requires set { spot.now.set < set_count sets.now }
     requires entry { i < length spot.now.support }
     requires entries { length spot.now.coefficients ≡ length spot.now.support }
     requires row { slice_index spot.now.support i < length sets.now.rows }
-    requires element { slice_index spot.now.coefficients i < size sets.now.field }
+    requires element { (1 ≤ slice_index spot.now.coefficients i) × (slice_index spot.now.coefficients i < size sets.now.field) }
     requires many { i + 1 < length words.old }
     requires words { (t : ℕ) → t < length words.old → IsWord sets.now.field sets.now.columns (slice_index_or words.old t []) }
     ensures is { words.new ≡ set words.old (i + 1) (word_sum sets.now.field (slice_index_or words.old i []) (scale sets.now.field (slice_index spot.now.coefficients i) (slice_index_or (generator_at sets.now spot.now.set) (slice_index spot.now.support i) []))) }
 {
-    let row = sets.row(spot.set(), spot.support()[i]);
-    let c = spot.coefficients()[i];
+    let other = multiple_of(
+        sets,
+        multiples,
+        spot.set(),
+        spot.support()[i],
+        spot.coefficients()[i],
+    );
     let (before, rest) = words.split_at_mut(i + 1);
-    rest[0].put_sum(sets.field(), before[i].symbols(), row, c);
+    rest[0].put_added(sets.field(), before[i].symbols(), other.symbols());
 }

@@ -1,6 +1,7 @@
 -- Degrees of products, and lists of a given length.
 --   product_drop           coefficients of a product that the first factor's lower ones don't reach
 --   product_high           no coefficients above the sum of the degrees
+--   no_more                a list of one 0
 --   product_top            the coefficient at the sum of the degrees
 --   low_factor             the first factor of a product of low degree
 --   same_factor            products with an equal second factor have equal first factors
@@ -17,13 +18,9 @@ use Rattle.lc_algebra.specs.Polynomial.{poly_sum, poly_scale, poly_product, x_po
 use Rattle.lc_algebra.proofs.FieldLaws.{zero_inside, mul_inside, add_zero, zero_add, add_neg, mul_zero, neg_one_mul, subtract_zero, no_zero_divisors}
 use Rattle.lc_algebra.proofs.WordLaws.{fits_head, fits_tail, fits_cons, fits_symbol}
 use Rattle.lc_algebra.proofs.PolynomialLaws.{index_sum, index_multiple, index_both, index_product_suc, fits_sum, fits_multiple, product_inside, sum_product, multiple_product, product_nothing, low_product}
-use Rattle.lc_poly.proofs.ListLaws.{dropped, fits_drop}
+use Rattle.lc_poly.proofs.ListLaws.{nothing_times, dropped, fits_drop}
 use Rattle.lc_poly.proofs.DivisionLaws.{x_power_polynomial}
 use Rattle.lc_poly.proofs.MinimalLaws.{length_x_power}
-
-nothing_times : (f : FieldName) (v : List ℕ) → poly_product f [] v ≡ []
-unfolding poly_product
-nothing_times f v = refl
 
 past : (i : ℕ) → slice_index [] i ≡ 0
 past i = get_or_past {X = ℕ} [] i 0 (omega arith)
@@ -61,7 +58,7 @@ product_high f u v k l =
     ∙ ap (λ w. slice_index (poly_product f w v) (k - m)) (dropped u m (omega arith)) ∙ ap (λ w. slice_index w (k - m)) (nothing_times f v) ∙ past (k - m))
     (cases_lt k (length u))
 
-no_more : (i : ℕ) → slice_index (0 ∷ []) i ≡ 0
+pub no_more : (i : ℕ) → slice_index (0 ∷ []) i ≡ 0
 no_more zero = refl
 no_more (suc i) = refl
 

@@ -12,6 +12,7 @@
 --   fits_set, fits_take, fits_drop, fits_zeros   lists whose entries are elements
 --   zeros_everywhere            a list of zeros, past its end too
 --   dropped                     nothing is left past the end
+--   nothing_times               the product with the zero polynomial
 --   written_back                a list that a slice of a vector was written as
 use Rattle.std.proofs.Common.{◌≡◌, ℕ, zero, suc, ◌+◌, ◌-◌, ◌<◌, ◌≤◌, ⊎_elim, List, [], ◌∷◌, ◌++◌, length, slice_index, take, drop, set, replicate, refl, sym, ap, ◌∙◌, arith, add-zero}
 use Rattle.std.proofs.lemmas.Bool.{cases_lt, cases_eq}
@@ -96,7 +97,7 @@ dropped [] (suc n) l = refl
 dropped (a ∷ u) zero l = absurd (omega (arith, l))
 dropped (a ∷ u) (suc n) l = dropped u n (omega (arith, l))
 
-nothing_times : (f : FieldName) (v : List ℕ) → poly_product f [] v ≡ []
+pub nothing_times : (f : FieldName) (v : List ℕ) → poly_product f [] v ≡ []
 unfolding poly_product
 nothing_times f v = refl
 

@@ -1,5 +1,6 @@
 -- The polynomial over a small field that has exactly some elements of a large one as its zeros: the product of x - r has coefficients
 -- in the small field if the elements come with their powers by its size (MacWilliams and Sloane, chapters 4 and 7).
+--   one_times, linear_times      products with 1 and with c + x
 --   roots_top, roots_high      the product of x - r has last coefficient 1
 --   roots_zero             and is 0 at each r
 --   raise_once             elements are told by their powers
@@ -24,19 +25,12 @@ use Rattle.lc_algebra.proofs.WordLaws.{fits_symbol}
 use Rattle.lc_algebra.proofs.SpanLaws.{contains_cases, contains_map}
 use Rattle.lc_algebra.proofs.DimensionLaws.{AreDistinct, distinct_map}
 use Rattle.lc_algebra.proofs.PolynomialLaws.{index_sum, index_multiple, index_both, index_product_suc, fits_sum, fits_multiple, fits_product, value_inside, value_same, value_sum, value_multiple, value_product}
+use Rattle.lc_poly.proofs.ListLaws.{nothing_times}
 use Rattle.lc_poly.proofs.DivisionLaws.{divides_exactly}
 use Rattle.lc_poly.proofs.ZeroLaws.{few_zeros}
 use Rattle.lc_poly.proofs.QuotientLaws.{trimmed_exists, division_exists, index_embedded, value_embedded_same, value_embedded_sum, value_embedded_product}
 use Rattle.lc_poly.proofs.RootLaws.{roots_product, product_has_root, raised_roots, preimages, size_power}
-use Rattle.lc_poly.proofs.DegreeLaws.{listed, length_listed, listed_word, listed_same}
-
-no_more : (i : ℕ) → slice_index (0 ∷ []) i ≡ 0
-no_more zero = refl
-no_more (suc i) = refl
-
-nothing_times : (f : FieldName) (v : List ℕ) → poly_product f [] v ≡ []
-unfolding poly_product
-nothing_times f v = refl
+use Rattle.lc_poly.proofs.DegreeLaws.{no_more, listed, length_listed, listed_word, listed_same}
 
 pub one_times : (f : FieldName) (v : List ℕ) (i : ℕ) → Fits f v → slice_index (poly_product f (1 ∷ []) v) i ≡ slice_index v i
 one_times f v i h =

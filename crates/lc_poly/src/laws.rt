@@ -87,7 +87,7 @@ pub fn products_of_minimal_polynomials(small: FieldName, large: FieldName)
 {}
 
 /// How such a product is made, one number after another. A polynomial that has one power of b as a zero has all those of its
-/// cyclotomic set; a number that stands in no set yet has a set that is apart from all of them, since two sets with a common
+/// cyclotomic set; a number that is in no set yet has a set that is apart from all of them, since two sets with a common
 /// number are equal. (MacWilliams and Sloane, chapter 7.)
 pub fn factors_of_x_power_minus_one(small: FieldName, large: FieldName)
     ensures spread { IsSubfield small large → (u : List ℕ) (b n i : ℕ) (xs : List ℕ) → Fits small u → HasOrder large b n → IsCyclotomicSet n (size small) i xs →
@@ -98,7 +98,7 @@ pub fn factors_of_x_power_minus_one(small: FieldName, large: FieldName)
         (StandsIn ts (t.number % n) → ⊥) → AreFactors small large b n (t ∷ ts) }
 {}
 
-/// The power of the primitive element by (size - 1) / n has order n, where n divides size - 1; and the order of each element
+/// The power of the primitive element by (size - 1) / n has order n, if n divides size - 1; and the order of each element
 /// divides size - 1. So a field has an element of order n exactly if n divides its size less 1. (MacWilliams and Sloane,
 /// chapter 4.)
 pub fn powers_of_order(field: FieldName)

@@ -2,12 +2,13 @@
 //!
 //! Each function proves what its clauses say, for every code and every list of rounds, and does nothing when it is run.
 
-ghost use Rattle.std.specs.Prelude.{◌≡◌, ℕ, ◌-◌, ◌*◌, ◌/◌, ◌^◌, ◌≤◌, ◌<◌, length, Some, None};
+ghost use Rattle.std.specs.Prelude.{◌≡◌, ℕ, ◌-◌, ◌*◌, ◌/◌, ◌^◌, ◌≤◌, ◌<◌, length, true, Some, None};
 ghost use Rattle.lc_algebra.specs.Field.{size};
 ghost use Rattle.lc_algebra.specs.Span.{AreIndependent, IsDistance};
 ghost use Rattle.lc_algebra.specs.Matrix.{Matrix, AreRows};
 ghost use Rattle.lc_algebra.specs.Divisor.{divisor_of};
-ghost use Rattle.lc_enumeration.specs.Search.{Found, Answer, exact, set_count, answer};
+ghost use Rattle.lc_enumeration.specs.Search.{Found, Answer, exact, set_count, answer, fits};
+ghost use Rattle.lc_enumeration.specs.Records.{found_of};
 ghost use Rattle.lc_enumeration.specs.Truth.{HasWord, AnswerHolds};
 ghost use Rattle.lc_search.specs.State.{SearchState, first_state, answer_in, after_search_round};
 ghost use Rattle.lc_search.specs.Course.{IsTrueState, IsReached};
@@ -28,4 +29,12 @@ pub fn rounds_reach_the_answer()
     ensures holds { (s : SearchState) (a : Answer) → AreRows s.code.field s.code.columns s.code.rows → AreIndependent s.code.field s.code.columns s.code.rows → 0 < length s.code.rows → s.budget ≤ 2 ^ 40 → IsTrueState s → answer_in s ≡ Some a → AnswerHolds s.code a }
     ensures distance { (s : SearchState) (x : Found) (l : ℕ) → AreRows s.code.field s.code.columns s.code.rows → AreIndependent s.code.field s.code.columns s.code.rows → 0 < length s.code.rows → s.budget ≤ 2 ^ 40 → IsTrueState s → answer_in s ≡ Some (exact x l) → IsDistance s.code.field s.code.columns s.code.rows x.weight × HasWord s.code x }
     ensures whole { (s : SearchState) (a : Answer) → 0 < length s.code.rows → s.code.columns ≤ 255 → s.budget ≤ 2 ^ 40 → set_count s.code * ((size s.code.field ^ length s.code.rows - 1) / (size s.code.field - 1)) ≤ s.budget → IsTrueState s → answer_in s ≡ Some a → (x : Found) × (l : ℕ) × (a ≡ exact x l) }
+{}
+
+/// What a search has for its best word is a word: a record that fits the code has a nonzero word of the code at its place with
+/// its weight, and the state after a round of a search whose record fits fits too. So the weight that an answer tells is that
+/// of a word of the code, also after a search was resumed from a record that wasn't written by one.
+pub fn records_that_fit_have_words()
+    ensures word { (C : Matrix) (blocks : ℕ) (x : Found) → AreRows C.field C.columns C.rows → AreIndependent C.field C.columns C.rows → fits C blocks x ≡ true → HasWord C x }
+    ensures after { (s : SearchState) (limit : ℕ) → fits s.code s.progress.blocks (found_of s.progress) ≡ true → fits s.code (after_search_round s limit).progress.blocks (found_of (after_search_round s limit).progress) ≡ true }
 {}

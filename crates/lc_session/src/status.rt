@@ -9,7 +9,7 @@ use std::alloc::Global;
 /// How a session ends.
 #[derive(Clone, Copy, Debug, PartialEq, Eq)]
 pub enum Status {
-    /// The whole text was written. The number is 1 where a fault line ends it, else 0.
+    /// The whole text was written. The number is 1 if a fault line ends it, else 0.
     Done(u8),
     /// The words of the command line are refused; the index of the first one that is, from 0.
     Usage(usize),
@@ -58,8 +58,8 @@ fn usage_line(alloc: Global, index: usize) -> Result<Vec<u8>, NoMemory>
     Ok(line)
 }
 
-/// The line that tells a status, for standard error: nothing for `Done`; else, with a newline
-/// behind it, `codes: word N refused`, N being the index of the word from 0, `codes: source fault`,
+/// The line of a status, for standard error: nothing for `Done`; else, with a newline after it,
+/// `codes: word N refused`, N being the index of the argument from 0, `codes: source fault`,
 /// `codes: sink fault`, `codes: no memory` or `codes: input too long`. Refused only for want of
 /// memory.
 pub fn status_line(alloc: Global, status: &Status) -> Result<Vec<u8>, NoMemory>

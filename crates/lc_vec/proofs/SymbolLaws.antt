@@ -1,5 +1,6 @@
 -- Words that a loop makes symbol by symbol.
 --   word_sum_made      what has the symbols of a sum of a word and a multiple is that sum
+--   sum_made           what has the symbols of a sum of two words is that sum
 --   scale_made         what has the symbols of a multiple is that multiple
 --   dot_none, dot_more, dot_all      a dot that is summed from the left: at the first place, at one place more, at the end
 use Rattle.std.proofs.Common.{◌≡◌, ℕ, ◌+◌, ◌<◌, List, [], ◌∷◌, length, drop, slice_index, sym, ap, ◌∙◌, arith, add-one}
@@ -16,6 +17,9 @@ word_sum_made f c u v w e l h =
     let long : length u ≡ length (scale f c v) = e ∙ sym (length_scale f c v) in
     ext_get_or 0 w (word_sum f u (scale f c v)) (l ∙ long ∙ sym (length_word_sum f u (scale f c v) long)) (λ k m.
     h k m ∙ ap (add f (slice_index u k)) (sym (index_scale f c v k)) ∙ sym (index_word_sum f u (scale f c v) k long))
+
+pub sum_made : (f : FieldName) (u v w : List ℕ) → length u ≡ length v → length w ≡ length u → ((k : ℕ) → k < length w → slice_index w k ≡ add f (slice_index u k) (slice_index v k)) → w ≡ word_sum f u v
+sum_made f u v w e l h = ext_get_or 0 w (word_sum f u v) (l ∙ e ∙ sym (length_word_sum f u v e)) (λ k m. h k m ∙ sym (index_word_sum f u v k e))
 
 pub scale_made : (f : FieldName) (c : ℕ) (u w : List ℕ) → length w ≡ length u → ((k : ℕ) → k < length w → slice_index w k ≡ mul f c (slice_index u k)) → w ≡ scale f c u
 scale_made f c u w l h =

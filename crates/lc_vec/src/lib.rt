@@ -4,5 +4,5 @@
 mod slices;
 mod word;
 
-pub use slices::{add_scaled, dot, first_nonzero, fits, put_sum, scale, weight};
+pub use slices::{add_scaled, dot, first_nonzero, fits, put_added, put_sum, scale, weight};
 pub use word::Word;

@@ -1,6 +1,6 @@
-//! Functions on words that are lent as slices of symbols. None of them takes memory.
+//! Functions on words that are borrowed as slices of symbols. None of them takes memory.
 ghost use Rattle.std.specs.Prelude.{◌≡◌, ◌<◌, ◌↔◌, IsTrue, length};
-ghost use Rattle.lc_algebra.specs.Field.{size};
+ghost use Rattle.lc_algebra.specs.Field.{size, shape_of, add};
 ghost use Rattle.lc_algebra.specs.Word.{Fits, word_sum, scale as scale_of, weight as weight_of, word_dot, first_nonzero as first_nonzero_of};
 
 use lc_field::Field;
@@ -53,6 +53,57 @@ pub fn put_sum(field: &Field, to: &mut [u8], word: &[u8], from: &[u8], c: u8)
     for i in 0..to.len() {
         to[i] = field.add(word[i], field.mul(c, from[i]));
     }
+}
+
+/// Makes `to` the sum of two words, symbol by symbol.
+///
+/// The three words have the same length, and the symbols of the last two are elements of the field.
+#[inline]
+#[tactic(auto, using(crate::proofs::SymbolLaws::sum_made))]
+pub fn put_added(field: &Field, to: &mut [u8], word: &[u8], other: &[u8])
+    requires to { length to.old ≡ length word.now }
+    requires lengths { length word.now ≡ length other.now }
+    requires word { Fits field.now word.now }
+    requires other { Fits field.now other.now }
+    ensures is { to.new ≡ word_sum field.now word.now other.now }
+    ensures fits { Fits field.now to.new }
+{
+    if field.characteristic() == 2 {
+        put_exclusive(field, to, word, other);
+        return;
+    }
+    for i in 0..to.len() {
+        to[i] = field.add(word[i], other[i]);
+    }
+}
+
+// The same in characteristic 2, by exclusive or: a loop that the compiler does on many symbols at once.
+#[tactic(auto, using(crate::proofs::SymbolLaws::sum_made))]
+fn put_exclusive(field: &Field, to: &mut [u8], word: &[u8], other: &[u8])
+    requires even { (shape_of field.now).characteristic ≡ 2 }
+    requires to { length to.old ≡ length word.now }
+    requires lengths { length word.now ≡ length other.now }
+    requires word { Fits field.now word.now }
+    requires other { Fits field.now other.now }
+    ensures is { to.new ≡ word_sum field.now word.now other.now }
+    ensures fits { Fits field.now to.new }
+{
+    for i in 0..to.len() {
+        to[i] = exclusive(field, word[i], other[i]);
+    }
+}
+
+// The sum of two elements in characteristic 2.
+#[inline]
+#[tactic(auto, using(lc_field::proofs::SumLaws::xor_add, lc_field::proofs::SumLaws::xor_below))]
+fn exclusive(_field: &Field, a: u8, b: u8) -> u8
+    requires even { (shape_of _field.now).characteristic ≡ 2 }
+    requires first { a < size _field.now }
+    requires second { b < size _field.now }
+    ensures is { result ≡ add _field.now a b }
+    ensures below { result < size _field.now }
+{
+    a ^ b
 }
 
 /// Multiplies each symbol of the word by `c`.

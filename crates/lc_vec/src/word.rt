@@ -3,7 +3,7 @@ ghost use Rattle.std.specs.Prelude.{◌≡◌, ℕ, ◌<◌, List, length, IfOk}
 ghost use Rattle.lc_algebra.specs.Field.{size};
 ghost use Rattle.lc_algebra.specs.Word.{Fits, zero_word, word_sum, scale as scale_of};
 
-use crate::slices::put_sum;
+use crate::slices::{put_added, put_sum};
 use lc_field::{Field, NoMemory};
 use std::alloc::Global;
 use std::marker::Model;
@@ -75,6 +75,20 @@ impl Word {
         ensures fits { Fits field.now self.new }
     {
         put_sum(field, &mut self.symbols, word, from, c);
+    }
+
+    /// Makes it the sum of two words.
+    ///
+    /// All have the same length, and the symbols of the two are elements of the field.
+    pub fn put_added(&mut self, field: &Field, word: &[u8], other: &[u8])
+        requires to { length self.old ≡ length word.now }
+        requires lengths { length word.now ≡ length other.now }
+        requires word { Fits field.now word.now }
+        requires other { Fits field.now other.now }
+        ensures is { self.new ≡ word_sum field.now word.now other.now }
+        ensures fits { Fits field.now self.new }
+    {
+        put_added(field, &mut self.symbols, word, other);
     }
 
     /// The number of symbols.

@@ -1,4 +1,4 @@
-use Rattle.std.proofs.Common.{◌≡◌, ◌<◌, length, subst, arith}
+use Rattle.std.proofs.Common.{subst, arith}
 use Rattle.lc_kernel.specs.Packed.{IsTable}
 use Rattle.lc_kernel.proofs.ScanLaws.{spot_at}
 use Rattle.lc_kernel.proofs.TableLaws.{table_of}

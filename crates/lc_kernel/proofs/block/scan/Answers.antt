@@ -1,5 +1,4 @@
-use Rattle.std.proofs.Common.{◌≡◌, ◌+◌, ◌-◌, ◌*◌, ◌<◌, ◌≤◌, ◌^◌, ap, sym, ◌∙◌, arith}
-use Rattle.lc_algebra.specs.Field.{size}
+use Rattle.std.proofs.Common.{◌≡◌, ◌+◌, ◌-◌, ◌*◌, ◌<◌, ◌^◌, sym, ◌∙◌, arith}
 use Rattle.lc_enumeration.specs.Plan.{place_of, block_length}
 use Rattle.lc_enumeration.specs.Search.{block_words}
 use Rattle.lc_kernel.proofs.ScanLaws.{one_value, more_values, value_here, phase_same, block_value, length_of_code}

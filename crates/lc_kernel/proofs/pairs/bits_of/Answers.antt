@@ -1,4 +1,4 @@
-use Rattle.std.proofs.Common.{◌≡◌, suc, ◌+◌, ◌-◌, ◌*◌, ◌<◌, ◌^◌, length, drop, slice_index, refl, sym, ap, ◌∙◌, arith}
+use Rattle.std.proofs.Common.{◌≡◌, suc, ◌+◌, ◌-◌, ◌*◌, drop, slice_index, sym, ap, ◌∙◌, arith}
 use Rattle.lc_algebra.specs.SpanLaws.{restrict}
 use Rattle.lc_kernel.specs.Packed.{packed, bits_at}
 use Rattle.lc_kernel.proofs.PackLaws.{pack_none, pack_step, pack_room, bit_small}

@@ -1,4 +1,4 @@
-use Rattle.std.proofs.Common.{◌≡◌, ◌<◌, length, refl, subst, ◌∙◌, arith}
+use Rattle.std.proofs.Common.{◌≡◌, length, refl, subst, ◌∙◌, arith}
 use Rattle.lc_kernel.specs.Packed.{EndsAt}
 use Rattle.lc_kernel.proofs.PairLaws.{pairs_made}
 use Rattle.lc_kernel.proofs.pairs.pair_sums.Goals as goal

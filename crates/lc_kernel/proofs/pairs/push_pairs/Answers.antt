@@ -1,4 +1,4 @@
-use Rattle.std.proofs.Common.{◌≡◌, ◌+◌, ◌-◌, ◌∷◌, [], length, bit_xor, slice_index, refl, ap, arith, length-append}
+use Rattle.std.proofs.Common.{◌≡◌, ◌∷◌, [], length, bit_xor, slice_index, refl, ap, arith, length-append}
 use Rattle.lc_kernel.proofs.PairLaws.{sums_next, ends_row}
 use Rattle.lc_kernel.proofs.pairs.push_pairs.Goals as goal
 

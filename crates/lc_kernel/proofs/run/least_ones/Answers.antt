@@ -1,4 +1,3 @@
-use Rattle.std.proofs.Common.{bit_xor, count_ones, slice_index}
 use Rattle.lc_kernel.proofs.LeastLaws.{least_taken, least_kept}
 use Rattle.lc_kernel.proofs.run.least_ones.Goals as goal
 use Rattle.lc_kernel.proofs.run.least_ones.Goals.{then-ones-least, else-ones-least}

@@ -1,8 +1,7 @@
-use Rattle.std.proofs.Common.{◌≡◌, ◌+◌, ◌-◌, ◌<◌, ◌≤◌, ◌^◌, length, refl, ap, sym, subst, ◌∙◌, arith}
-use Rattle.lc_algebra.specs.Field.{size}
+use Rattle.std.proofs.Common.{◌≡◌, ◌+◌, ◌<◌, ◌^◌, length, refl, ap, subst, arith}
 use Rattle.lc_enumeration.specs.Plan.{place_of}
 use Rattle.lc_enumeration.specs.Search.{block_words}
-use Rattle.lc_kernel.specs.Values.{IsLeastValue, IsLeastSeen}
+use Rattle.lc_kernel.specs.Values.{IsLeastSeen}
 use Rattle.lc_kernel.proofs.FrontLaws.{entries_are}
 use Rattle.lc_kernel.proofs.ScanLaws.{phase_same, block_value_of_words, words_of_block}
 use Rattle.lc_kernel.proofs.LeastLaws.{seen_all}

@@ -1,8 +1,8 @@
-use Rattle.std.proofs.Common.{◌≡◌, ◌-◌, ◌<◌, ◌≤◌, length}
+use Rattle.std.proofs.Common.{◌≡◌, ◌-◌, ◌<◌, length}
 use Rattle.lc_enumeration.specs.Plan.{place_of}
-use Rattle.lc_enumeration.specs.Search.{set_count, block_words}
+use Rattle.lc_enumeration.specs.Search.{block_words}
 use Rattle.lc_kernel.specs.Values.{IsSpotAt, IsLeastSeen}
-use Rattle.lc_kernel.specs.Packed.{others, AreHeads, IsTable}
+use Rattle.lc_kernel.specs.Packed.{others, AreHeads}
 use Rattle.lc_kernel.proofs.runs.by_runs.Given as goal
 
 abbrev pub decreases-loop-done : goal.decreases-loop-done

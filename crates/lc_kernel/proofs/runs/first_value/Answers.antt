@@ -1,4 +1,4 @@
-use Rattle.std.proofs.Common.{◌≡◌, ◌<◌, ◌≤◌, ◌^◌, length, bit_xor, count_ones, slice_index, ap, sym, ◌∙◌, refl, arith}
+use Rattle.std.proofs.Common.{◌≤◌, length, bit_xor, count_ones, ap, ◌∙◌, refl, arith}
 use Rattle.std.proofs.lemmas.Nat.{ones-le, xor_lt}
 use Rattle.std.proofs.lemmas.List.{get_or_default}
 use Rattle.lc_kernel.proofs.FrontLaws.{entries_are}

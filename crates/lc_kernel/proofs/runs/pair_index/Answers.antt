@@ -1,4 +1,4 @@
-use Rattle.std.proofs.Common.{◌≡◌, ◌+◌, ◌-◌, ◌<◌, [], length, slice_index, slice_index_or, ap, sym, ◌∙◌, arith}
+use Rattle.std.proofs.Common.{◌-◌, length, slice_index, slice_index_or, ap, ◌∙◌, arith}
 use Rattle.std.proofs.lemmas.List.{get_or_default}
 use Rattle.lc_kernel.proofs.RunLaws.{pair_read, index_of_pair, pair_inside}
 use Rattle.lc_kernel.proofs.runs.pair_index.Goals as goal

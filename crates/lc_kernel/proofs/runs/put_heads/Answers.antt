@@ -1,4 +1,4 @@
-use Rattle.std.proofs.Common.{◌≡◌, ◌+◌, ◌-◌, ◌<◌, [], length, set, slice_index, slice_index_or, bit_xor, refl, ap, sym, ◌∙◌, arith}
+use Rattle.std.proofs.Common.{◌≡◌, ◌+◌, ◌<◌, length, set, slice_index, slice_index_or, bit_xor, refl, ap, ◌∙◌, arith}
 use Rattle.std.proofs.lemmas.List.{get_or_default, get_or-set_same, length-set}
 use Rattle.lc_kernel.specs.Packed.{others}
 use Rattle.lc_kernel.proofs.FrontLaws.{entries_are}

@@ -1,4 +1,4 @@
-use Rattle.std.proofs.Common.{◌≡◌, ◌+◌, ◌∷◌, [], length, sym, ap, ◌∙◌, arith, length-append}
+use Rattle.std.proofs.Common.{◌∷◌, [], length, sym, ap, arith, length-append}
 use Rattle.lc_kernel.proofs.TableLaws.{table_pushed}
 use Rattle.lc_kernel.proofs.scratch.push_tables.Goals as goal
 

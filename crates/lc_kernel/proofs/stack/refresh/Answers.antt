@@ -14,7 +14,8 @@ extend-requires-clause-row c =
 pub extend-requires-clause-element : goal.extend-requires-clause-element
 extend-requires-clause-element c =
     let inside : c.loop-i.i < length c.args.spot.now.support = rw (← c.support-i-end.ensures.places) c.loop-i-test.true in
-    (entries_are c.args.sets.now c.args.spot.now c.requires.message).element c.loop-i.i inside
+    let t = entries_are c.args.sets.now c.args.spot.now c.requires.message in
+    (t.fitting.some c.loop-i.i (omega (arith, inside, t.many)), t.element c.loop-i.i inside)
 
 pub loop-i-preserved : goal.loop-i-preserved
 loop-i-preserved c =

@@ -1,5 +1,4 @@
-use Rattle.std.proofs.Common.{◌≡◌, ℕ, ◌+◌, ◌<◌, [], length, slice_index_or, ap, sym, ◌∙◌, arith}
-use Rattle.lc_algebra.specs.Matrix.{Matrix}
+use Rattle.std.proofs.Common.{◌≡◌, ℕ, ◌+◌, ◌<◌, [], length, slice_index_or, ap, ◌∙◌, arith}
 use Rattle.lc_algebra.specs.Word.{zero_word}
 use Rattle.lc_place.specs.Place.{SpotState}
 use Rattle.lc_kernel.proofs.SumLaws.{front_room, no_sums}
@@ -13,7 +12,7 @@ invariant_of-result-2 c =
     let many : length ws ≡ length code.rows + 1 = omega (arith, c.in_ok-zeros.ensures.many, c.rows-2.ensures.is) in
     let none : (i : ℕ) → i < length code.rows + 1 → slice_index_or ws i [] ≡ zero_word code.columns = λ i l. c.in_ok-zeros.ensures.zero i (omega (arith, l, c.rows-2.ensures.is)) ∙ ap zero_word c.cols.ensures.is in
     let spot = ap (λ (s : SpotState). s.room) (c.spot.view_is ∙ c.in-Ok.ensures) ∙ c.rows.ensures.is in
-    rw copy (front_room code _ ws many none spot)
+    rw copy (front_room code _ ws many none spot, c.requires.multiples)
 
 pub returns-clause-none : goal.returns-clause-none
 returns-clause-none c =

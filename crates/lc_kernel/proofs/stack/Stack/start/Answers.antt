@@ -15,7 +15,7 @@ refresh-requires-clause-fronts c =
     let found = c.phase_of-phase.ensures.found in
     let code : c.self.inside.code ≡ c.args.sets.now = ap (λ (s : StackState). s.code) c.self.view_is ∙ c.requires.stack in
     let same : c.deref_mut.result.now ≡ c.self.inside.words.items = cc (c.deref_mut.ensures.value) in
-    let first : slice_index_or c.deref_mut.result.now 0 [] ≡ zero_word c.args.sets.now.columns = rw same (c.self.invariant.first ∙ ap (λ (C : Matrix). zero_word C.columns) code) in
+    let first : slice_index_or c.deref_mut.result.now 0 [] ≡ zero_word c.args.sets.now.columns = rw same (c.self.invariant.0.first ∙ ap (λ (C : Matrix). zero_word C.columns) code) in
     front_start c.args.sets.now c.start_of.new.spot c.deref_mut.result.now c.dimension-k.ensures.rows c.dimension-k.ensures.independent
     (set_below c.args.sets.now c.args.plan.now found.0 c.start_of.new.spot.set c.requires.plan (c.start_of.ensures.set found.0 found.1)).1 first
 
@@ -29,4 +29,4 @@ returns-clause-at c =
     (code_message c.args.sets.now c.args.plan.now spot c.requires.plan c.start_of.ensures.message)
     (level_some c.args.plan.now.m found.0 _ (c.start_of.ensures.level found.0 found.1))
     c.refresh.ensures.room c.refresh.ensures.fronts
-    (written_whole c.self.inside.words.len c.refresh.new.words c.self.inside.words.items (omega (arith, c.self.inside.words.ok.0, c.self.invariant.many, c.refresh.ensures.room.many, ap (λ (C : Matrix). length C.rows) code)))
+    (written_whole c.self.inside.words.len c.refresh.new.words c.self.inside.words.items (omega (arith, c.self.inside.words.ok.0, c.self.invariant.0.many, c.refresh.ensures.room.many, ap (λ (C : Matrix). length C.rows) code)))

@@ -1,0 +1,70 @@
+-- The multiples of rows, by their indexes.
+--   index_inside, index_parts      the index of a multiple, and the set, the row and the element that it is of
+--   index_small, symbol_size       indexes are small
+--   multiple_is                    a multiple, as the code makes it
+--   multiples_made                 the list of all of them
+use Rattle.std.proofs.Common.{◌≡◌, ℕ, ◌+◌, ◌-◌, ◌*◌, ◌/◌, ◌%◌, ◌^◌, ◌<◌, ◌≤◌, List, [], length, slice_index_or, refl, ap, ◌∙◌, arith}
+use Rattle.std.proofs.lemmas.Nat.{div-mul-add, mod-mul-add}
+use Rattle.std.proofs.Math.Nat.{mul-le-mul_right, suc-mul}
+use Rattle.std.specs.Prelude.{IsTrue}
+use Rattle.std.proofs.lemmas.Bool.Decides.{nat_tests}
+use Rattle.lc_algebra.specs.declared.FieldName.{FieldName}
+use Rattle.lc_algebra.specs.Field.{size, is_symbol}
+use Rattle.lc_algebra.specs.Word.{IsWord, zero_word, word_sum, scale}
+use Rattle.lc_algebra.proofs.WordLaws.{zero_sum, IsWord_scale}
+use Rattle.lc_algebra.specs.Matrix.{Matrix}
+use Rattle.lc_enumeration.specs.Search.{set_count, generator_at}
+use Rattle.lc_kernel.specs.Sums.{multiple_at, multiple_index, AreMultiples}
+
+below_product : (a b i j : ℕ) → i < a → j < b → i * b + j < a * b
+below_product a b i j l m = omega (arith, m, mul-le-mul_right b l, suc-mul i b)
+
+pub index_inside : (C : Matrix) (j i c : ℕ) → j < set_count C → i < length C.rows → c + 1 < size C.field → multiple_index C j i c < set_count C * length C.rows * (size C.field - 1)
+index_inside C j i c l m n = below_product (set_count C * length C.rows) (size C.field - 1) (j * length C.rows + i) c (below_product (set_count C) (length C.rows) j i l m) (omega (arith, n))
+
+pub index_parts : (C : Matrix) (j i c : ℕ) → i < length C.rows → c + 1 < size C.field → multiple_at C (multiple_index C j i c) ≡ scale C.field (c + 1) (slice_index_or (generator_at C j) i [])
+index_parts C j i c m n =
+    let q = size C.field - 1 in
+    let k = length C.rows in
+    let few : c < q = omega (arith, n) in
+    let row : ((j * k + i) * q + c) / q ≡ j * k + i = div-mul-add (j * k + i) q c few in
+    let element : ((j * k + i) * q + c) % q ≡ c = mod-mul-add (j * k + i) q c few in
+    let of_set : (j * k + i) / k ≡ j = div-mul-add j k i m in
+    let of_row : (j * k + i) % k ≡ i = mod-mul-add j k i m in
+    ap (λ x. scale C.field (x + 1) (slice_index_or (generator_at C (((j * k + i) * q + c) / q / k)) (((j * k + i) * q + c) / q % k) [])) element
+    ∙ ap (λ x. scale C.field (c + 1) (slice_index_or (generator_at C (x / k)) (x % k) [])) row
+    ∙ ap (λ x. scale C.field (c + 1) (slice_index_or (generator_at C x) ((j * k + i) % k) [])) of_set
+    ∙ ap (λ x. scale C.field (c + 1) (slice_index_or (generator_at C j) x [])) of_row
+
+pub multiples_made : (C : Matrix) (ws : List (List ℕ)) (n : ℕ) → n ≡ set_count C * length C.rows * (size C.field - 1) → length ws ≡ n → ((t : ℕ) → t < n → slice_index_or ws t [] ≡ multiple_at C t) → ((t : ℕ) → t < n → IsWord C.field C.columns (slice_index_or ws t [])) → AreMultiples C ws
+multiples_made C ws n e long is words = record {
+  inside = λ j i c l m o. omega (arith, index_inside C j i c l m o, e, long);
+  is = λ j i c l m o. is (multiple_index C j i c) (omega (arith, index_inside C j i c l m o, e)) ∙ index_parts C j i c m o;
+  words = λ t l. words t (omega (arith, l, long));
+}
+
+-- indexes are small
+pub record IsSmall (C : Matrix) (j i c : ℕ) : Type 0 where
+  pub rows : j * length C.rows < 2 ^ 16
+  pub index : (j * length C.rows + i) * (size C.field - 1) < 2 ^ 20
+
+pub times_most : (a b n : ℕ) → a ≤ b → a * n ≤ b * n
+times_most a b n l = mul-le-mul_right n l
+
+pub index_small : (C : Matrix) (j i c : ℕ) → j < set_count C → i < length C.rows → set_count C ≤ 255 → length C.rows ≤ 255 → size C.field ≤ 16 → IsSmall C j i c
+index_small C j i c l m a b d =
+    let one = times_most j 254 (length C.rows) (omega (arith, l, a)) in
+    let two = times_most (j * length C.rows + i) 65279 (size C.field - 1) (omega (arith, one, m, b)) in
+    record { rows = omega (arith, one, b); index = omega (arith, two, d) }
+
+pub symbol_size : (C : Matrix) → IsTrue (is_symbol C.field) → size C.field ≤ 16
+unfolding is_symbol
+symbol_size C h = grind (arith, nat_tests, h)
+
+zero_plus : (f : FieldName) (n c : ℕ) (row : List ℕ) → IsWord f n row → word_sum f (zero_word n) (scale f c row) ≡ scale f c row
+zero_plus f n c row h = zero_sum f n (scale f c row) (IsWord_scale f n c row h.long)
+
+pub multiple_is : (C : Matrix) (index c k q : ℕ) (none row word : List ℕ) → word ≡ word_sum C.field none (scale C.field c row) → none ≡ zero_word C.columns → c ≡ index % q + 1 → q ≡ size C.field - 1 → k ≡ length C.rows → row ≡ slice_index_or (generator_at C (index / q / k)) (index / q % k) [] → IsWord C.field C.columns row → (word ≡ multiple_at C index) × IsWord C.field C.columns word
+multiple_is C index c k q none row word made z ce qe ke re w =
+    let is : word ≡ scale C.field c row = made ∙ ap (λ x. word_sum C.field x (scale C.field c row)) z ∙ zero_plus C.field C.columns c row w in
+    (is ∙ ap (λ x. scale C.field x row) ce ∙ ap (scale C.field (index % q + 1)) re ∙ rw (qe, ke) refl, rw is (IsWord_scale C.field C.columns c row w.long))
