@@ -5,7 +5,7 @@
 --   course_first, course_workers, course_budget, course_refused, course_repeated_workers, course_repeated_budget, course_end
 --                                the arguments so far
 --   none_given, no_command, command_then     the first argument
-use Rattle.std.proofs.Common.{◌≡◌, ℕ, suc, ◌+◌, ◌^◌, ◌<◌, ◌≤◌, Bool, true, false, not, ◌&&◌, ◌||◌, ◌==◌, nat_eq, List, [], ◌∷◌, ◌++◌, length, drop, get_or, map, Option, Some, None, refl, sym, ap, subst, ◌∙◌, arith}
+use Rattle.std.proofs.Common.{◌≡◌, ℕ, suc, ◌+◌, ◌^◌, ◌<◌, ◌≤◌, Bool, true, false, not, ◌&&◌, ◌||◌, ◌==◌, nat_eq, List, [], ◌∷◌, ◌++◌, length, drop, get_or, Option, Some, None, refl, sym, ap, subst, ◌∙◌, arith}
 use Rattle.std.specs.Prelude.{codes, cond, Result, MatchResult, nat_le, if◌then◌else◌, slice_index, MatchOption, String, string_bytes}
 use Rattle.std.specs.Borrow.{Bor}
 use Rattle.lc_grammar.specs.Token.{is_digit, number_of, widest}

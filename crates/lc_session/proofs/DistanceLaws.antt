@@ -7,8 +7,7 @@
 --   underway_begun           a search from the start is under way
 --   EndsWith, ends_with      what a search answers, with the word
 --   none_line, exact_line, between_line      the lines
-use Rattle.std.proofs.Common.{◌≡◌, ℕ, zero, suc, ◌-◌, ◌^◌, ◌<◌, ◌≤◌, true, false, is_some, unwrap_or, Result, Ok, Err, IfOk, List, [], ◌∷◌, length, Option, Some, None, Contains, refl, sym, ap, subst, ◌∙◌, arith}
-use Rattle.std.proofs.lemmas.Bool.{true≢false}
+use Rattle.std.proofs.Common.{◌≡◌, ℕ, zero, suc, ◌-◌, ◌^◌, ◌<◌, ◌≤◌, true, false, is_some, unwrap_or, Result, Ok, Err, IfOk, List, [], length, Option, Some, None, Contains, refl, sym, ap, subst, ◌∙◌, arith}
 use Rattle.std.specs.Global.{Vec}
 use Rattle.lc_algebra.specs.Divisor.{divisor_of}
 use Rattle.lc_algebra.specs.Span.{AreIndependent}

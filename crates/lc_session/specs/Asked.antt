@@ -8,9 +8,9 @@
 --   IsCourse all i a        the first i of these arguments are not refused, and a is what they set
 --   LeadsTo word a next     after arguments that set a, this one isn't refused, and together they set next
 --   IsRefusedAfter word a   after arguments that set a, this one is refused
-use Rattle.std.specs.Prelude.{◌≡◌, ℕ, suc, ◌+◌, ◌^◌, ◌<◌, ◌≤◌, Bool, true, ◌==◌, List, [], ◌∷◌, length, drop, get_or, map, Option, Some, None, String, string_bytes}
+use Rattle.std.specs.Prelude.{◌≡◌, ℕ, suc, ◌+◌, ◌^◌, ◌<◌, ◌≤◌, Bool, true, ◌==◌, List, [], ◌∷◌, length, drop, get_or, map, Some, None, String, string_bytes}
 use Rattle.std.specs.List.{list_any, before_first, after_first}
-use Rattle.lc_sessions.specs.Options.{Key, workers, budget, slice, Settings, run, settings_of, Options, usage, options_from, key_named, same_key, place_of_key, put_key}
+use Rattle.lc_sessions.specs.Options.{Key, workers, budget, slice, Settings, run, settings_of, usage, options_from, key_named, same_key, place_of_key, put_key}
 use Rattle.lc_session.specs.declared.arguments.Setting.{Setting}
 use Rattle.lc_session.specs.declared.arguments.Setting.TheVariants as setting
 use Rattle.lc_session.specs.declared.arguments.Asked.{Asked}

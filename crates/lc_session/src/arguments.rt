@@ -125,13 +125,21 @@ fn with_argument(asked: Asked, word: &str) -> Option<Asked>
             if asked.has_workers {
                 return None;
             }
-            Some(Asked { workers, has_workers: true, ..asked })
+            Some(Asked {
+                workers,
+                has_workers: true,
+                ..asked
+            })
         }
         Setting::Budget(budget) => {
             if asked.has_budget {
                 return None;
             }
-            Some(Asked { budget, has_budget: true, ..asked })
+            Some(Asked {
+                budget,
+                has_budget: true,
+                ..asked
+            })
         }
     }
 }

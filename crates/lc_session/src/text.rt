@@ -66,7 +66,9 @@ fn run<R: Threads + Sync>(
         match machine.step(alloc)? {
             Step::Line(line) => bytes.extend_from_slice(&line)?,
             Step::Silent => {}
-            Step::Need(query) => bytes.extend_from_slice(&line_of(rt, alloc, workers, budget, &query)?)?,
+            Step::Need(query) => bytes.extend_from_slice(&line_of(
+                rt, alloc, workers, budget, &query,
+            )?)?,
             Step::Fault(line) => {
                 bytes.extend_from_slice(&line)?;
                 return Ok(Text { bytes, ends: true });

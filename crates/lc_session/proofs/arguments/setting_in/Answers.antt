@@ -1,4 +1,4 @@
-use Rattle.std.proofs.Common.{sym, ◌∙◌, arith}
+use Rattle.std.proofs.Common.{sym, ◌∙◌}
 use Rattle.lc_session.proofs.ArgumentLaws.{is_workers, is_budget}
 use Rattle.lc_session.proofs.arguments.setting_in.Goals as goal
 

@@ -1,4 +1,4 @@
-use Rattle.std.proofs.Common.{sym, ◌∙◌, arith}
+use Rattle.std.proofs.Common.{arith}
 use Rattle.lc_session.proofs.DistanceLaws.{ends_with, none_line, exact_line, between_line}
 use Rattle.lc_search.specs.declared.answer.Answer.TheVariants.{Exact, Bracket}
 use Rattle.lc_session.proofs.distance.distance_line_of.Goals as goal
