@@ -4,23 +4,48 @@ use lc_parse::parse;
 use std::alloc::{AllocError, Global};
 use std::test::Fail;
 
-// The text of a script of at most twenty statements.
-fn text_of(alloc: Global, script: &str) -> Result<Vec<u8>, AllocError> {
+// Appends what a step printed. Returns whether another step may follow.
+fn append(step: Step, text: &mut Vec<u8>) -> Result<bool, AllocError> {
+    match step {
+        Step::Line(line) => text.extend_from_slice(&line)?,
+        Step::Fault(line) => text.extend_from_slice(&line)?,
+        Step::Need(_query) => text.extend_from_slice(b"a query\n")?,
+        Step::Silent => {}
+        Step::End => return Ok(false),
+    }
+    Ok(true)
+}
+
+// The machine at the first statement of a script.
+fn started(alloc: Global, script: &str) -> Result<Machine, AllocError> {
     let Ok(script) = parse(alloc, script.as_bytes()) else {
         return Err(AllocError);
     };
-    let Ok(mut machine) = Machine::start(alloc, script) else {
+    let Ok(machine) = Machine::start(alloc, script) else {
         return Err(AllocError);
     };
+    Ok(machine)
+}
+
+// Appends what the next step prints. Returns whether another step may follow.
+fn append_next(
+    alloc: Global,
+    machine: &mut Machine,
+    text: &mut Vec<u8>,
+) -> Result<bool, AllocError> {
+    let Ok(step) = machine.step(alloc) else {
+        return Err(AllocError);
+    };
+    append(step, text)
+}
+
+// The text of a script of at most twenty statements.
+fn text_of(alloc: Global, script: &str) -> Result<Vec<u8>, AllocError> {
+    let mut machine = started(alloc, script)?;
     let mut text = Vec::new(alloc);
     for _ in 0..20 {
-        match machine.step(alloc) {
-            Ok(Step::Line(line)) => text.extend_from_slice(&line)?,
-            Ok(Step::Fault(line)) => text.extend_from_slice(&line)?,
-            Ok(Step::Silent) => {}
-            Ok(Step::Need(_query)) => text.extend_from_slice(b"a query\n")?,
-            Ok(Step::End) => return Ok(text),
-            Err(_) => return Err(AllocError),
+        if !append_next(alloc, &mut machine, &mut text)? {
+            return Ok(text);
         }
     }
     Ok(text)
