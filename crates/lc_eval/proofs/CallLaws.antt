@@ -1,28 +1,23 @@
 -- What the calls give is what the definitions say of them.
 --   gf_field, gf_refused          fields
 --   generator_applies, check_applies      codes by a matrix
-use Rattle.std.proofs.Common.{◌≡◌, ◌≢◌, ℕ, ◌<◌, ◌↔◌, Bool, true, false, nat_lt, slice_index, slice_index_or, ◌==◌, List, [], ◌∷◌, map, length, Vec, Global, Some, None, Result, Err, IfOk, IsTrue, refl, sym, ap, subst, ◌∙◌, ⊎_elim, true≢false, arith}
-use Rattle.std.specs.List.{list_any, list_all}
-use Rattle.std.proofs.lemmas.List.{get_or_default}
-use Rattle.std.proofs.lemmas.List.Sums.{AllPass-from_list_all, list_all-from_AllPass}
+use Rattle.std.proofs.Common.{◌≡◌, ◌≢◌, ℕ, true, false, ◌==◌, List, [], ◌∷◌, map, Vec, Global, Some, None, Result, IfOk, refl, ap, subst, ◌∙◌, ⊎_elim}
+use Rattle.std.specs.List.{list_any}
 use Rattle.std.proofs.lemmas.Bool.{cases_Bool}
-use Rattle.std.proofs.lemmas.Bool.Decides.{nat_tests, Decides-eqb, Decides-ltb}
+use Rattle.std.proofs.lemmas.Bool.Decides.{Decides-eqb}
 use Rattle.lc_algebra.specs.declared.FieldName.{FieldName}
 use Rattle.lc_algebra.specs.declared.FieldName.TheVariants.{Gf2, Gf3, Gf4, Gf5, Gf7, Gf8, Gf9, Gf11, Gf13, Gf16, Gf25, Gf27, Gf32, Gf64, Gf81, Gf128, Gf243, Gf256}
-use Rattle.lc_algebra.specs.Field.{shape, shape_of, size, is_symbol}
-use Rattle.lc_algebra.specs.Word.{Fits}
+use Rattle.lc_algebra.specs.Field.{shape, shape_of, size}
 use Rattle.lc_algebra.specs.Matrix.{Matrix}
-use Rattle.lc_constructions.specs.Code.{InCode, IsCode, CheckedBy}
+use Rattle.lc_constructions.specs.Code.{IsCode, CheckedBy}
 use Rattle.lc_constructions.specs.Basic.{GeneratedBy}
 use Rattle.lc_constructions.specs.declared.refusal.CodeRefusal.{CodeRefusal}
-use Rattle.lc_constructions.specs.declared.refusal.CodeRefusal.TheVariants.{LengthsDiffer, BadArgument}
-use Rattle.lc_constructions.specs.Refusal.{refuse_if, first_refusal, IsRefusedAs}
-use Rattle.lc_constructions.specs.Refusals.{columns_of, are_elements, matrix_refusals}
+use Rattle.lc_constructions.specs.Refusal.{first_refusal, IsRefusedAs}
+use Rattle.lc_constructions.specs.Refusals.{columns_of, matrix_refusals}
 use Rattle.lc_constructions.specs.Cyclic.{all_fields}
-use Rattle.lc_basic.proofs.HammingLaws.{small_field}
-use Rattle.lc_language.specs.Bound.{BoundCall, gf, generator_mat_code, check_mat_code, is_codeword}
-use Rattle.lc_language.specs.Value.{field, code, truth}
-use Rattle.lc_language.specs.Refusal.{refuse, when, first_of, refusal_from, from_codes, word_refusals, refusals_of, refusal_of}
+use Rattle.lc_language.specs.Bound.{BoundCall, gf, generator_mat_code, check_mat_code}
+use Rattle.lc_language.specs.Value.{field, code}
+use Rattle.lc_language.specs.Refusal.{refuse, when, first_of, from_codes, refusals_of, refusal_of}
 use Rattle.lc_language.specs.Meaning.{Gives, IsNotDivisor}
 use Rattle.lc_language.specs.Evaluation.{gives, refused, refuse_at, refuse_call, AppliesTo}
 use Rattle.lc_eval.specs.declared.values.Value.{Value}
@@ -32,8 +27,8 @@ use Rattle.lc_eval.specs.Value.{rows_of, refused_of}
 use Rattle.lc_eval.specs.Applied.{Answers}
 use Rattle.lc_eval.specs.Made.{IsMade, plain_value}
 use Rattle.lc_eval.specs.Rows.{clamped, clamped_rows}
-use Rattle.lc_eval.proofs.AnswerLaws.{applied, given_by, refused_by}
-use Rattle.lc_eval.proofs.RowLaws.{clamped_each, columns_same, clamped_refusals, fine_same, elements_same, row_kept}
+use Rattle.lc_eval.proofs.AnswerLaws.{applied, given_by}
+use Rattle.lc_eval.proofs.RowLaws.{clamped_each, columns_same, clamped_refusals, fine_same}
 
 -- ---- fields
 

@@ -3,7 +3,7 @@
 --   codeword_fault, codeword_told         whether a list is a word of a code
 --   decode_fault, decode_many, decode_told      the nearest word
 --   form_none, form_fault, form_told      the word that the alternant form determines
-use Rattle.std.proofs.Common.{◌≡◌, ◌≢◌, ℕ, ◌<◌, ◌↔◌, Bool, true, false, nat_lt, slice_index, slice_index_or, ◌==◌, List, [], ◌∷◌, ◌++◌, length, Option, Some, None, MatchOption, Ok, Err, IsTrue, refl, sym, ap, subst, ◌∙◌, ⊎_elim, true≢false, option_map, is_some, inr, arith}
+use Rattle.std.proofs.Common.{◌≡◌, ◌≢◌, ℕ, ◌<◌, ◌↔◌, Bool, true, false, nat_lt, slice_index, slice_index_or, ◌==◌, List, [], ◌∷◌, length, Option, Some, None, Err, IsTrue, refl, sym, ap, subst, ◌∙◌, ⊎_elim, true≢false, option_map, inr, arith}
 use Rattle.std.specs.List.{list_all}
 use Rattle.std.proofs.lemmas.List.{get_or_default}
 use Rattle.std.proofs.lemmas.List.Sums.{AllPass-from_list_all, list_all-from_AllPass}
@@ -11,7 +11,7 @@ use Rattle.std.proofs.lemmas.Bool.{cases_Bool}
 use Rattle.std.proofs.lemmas.Bool.Decides.{nat_tests, Decides-ltb}
 use Rattle.lc_algebra.specs.declared.FieldName.{FieldName}
 use Rattle.lc_algebra.specs.Field.{size, is_symbol}
-use Rattle.lc_algebra.specs.Word.{Fits, IsWord}
+use Rattle.lc_algebra.specs.Word.{Fits}
 use Rattle.lc_algebra.specs.Matrix.{Matrix}
 use Rattle.lc_constructions.specs.Code.{InCode}
 use Rattle.lc_constructions.specs.Coset.{too_many_cosets}
@@ -21,12 +21,12 @@ use Rattle.lc_constructions.specs.declared.refusal.CodeRefusal.TheVariants.{Leng
 use Rattle.lc_constructions.specs.Refusal.{refuse_if}
 use Rattle.lc_constructions.specs.Refusals.{are_elements}
 use Rattle.lc_basic.proofs.HammingLaws.{small_field}
-use Rattle.lc_language.specs.Bound.{BoundCall, is_codeword, decode, BoundQuery, algebraic_decode}
+use Rattle.lc_language.specs.Bound.{is_codeword, decode, algebraic_decode}
 use Rattle.lc_language.specs.Value.{Value, CodeValue, numbers, truth}
 use Rattle.lc_language.specs.Print.{value_line}
-use Rattle.lc_language.specs.Refusal.{Refusal, refuse, when, first_of, refusal_from, from_codes, word_refusals, coset_refusal, no_form, refusals_of, refusal_of, query_refusals_of, query_refusal_of}
-use Rattle.lc_language.specs.Meaning.{IsNotDivisor, decoded}
-use Rattle.lc_language.specs.Evaluation.{Outcome, gives, refused, refuse_at, refuse_call, AppliesTo, Step, prints, fails, fail_with, QueriesTo}
+use Rattle.lc_language.specs.Refusal.{refuse, when, first_of, refusal_from, from_codes, word_refusals, coset_refusal, no_form, refusals_of, refusal_of, query_refusals_of, query_refusal_of}
+use Rattle.lc_language.specs.Meaning.{decoded}
+use Rattle.lc_language.specs.Evaluation.{gives, refused, refuse_at, refuse_call, AppliesTo, prints, fails, fail_with, QueriesTo}
 use Rattle.lc_eval.specs.declared.refusals.Refused.{Refused}
 use Rattle.lc_eval.specs.declared.refusals.Stop.{Stop}
 use Rattle.lc_eval.specs.declared.refusals.Stop.TheVariants as stop

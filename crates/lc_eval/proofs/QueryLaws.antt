@@ -30,7 +30,7 @@ use Rattle.lc_language.specs.Print.{distance_none_line}
 use Rattle.lc_algebra.specs.Divisor.{divisor_of}
 use Rattle.lc_formats.specs.Text.{line}
 use Rattle.lc_language.specs.Query.{QueryKind, distance, by_levels, by_scan, query_line, distance_answer_line, certificate_answer_line}
-use Rattle.lc_language.specs.Evaluation.{refused, refuse_at, refuse_call, Step, prints, asks, fails, fail_with, PrintsLeast, AsksOf, QueriesTo}
+use Rattle.lc_language.specs.Evaluation.{refused, refuse_at, refuse_call, Step, prints, fails, fail_with, PrintsLeast, AsksOf, QueriesTo}
 use Rattle.lc_eval.specs.declared.statement.Effect.{Effect}
 use Rattle.lc_eval.specs.declared.refusals.Refused.{Refused}
 use Rattle.lc_eval.specs.declared.refusals.Stop.{Stop}

@@ -1,6 +1,6 @@
-use Rattle.std.proofs.Common.{◌≡◌, sym, ap, ◌∙◌, arith}
+use Rattle.std.proofs.Common.{sym, ap, ◌∙◌, arith}
 use Rattle.lc_algebra.specs.Field.{size}
-use Rattle.lc_eval.proofs.StockLaws.{AgreeBelow, codes_are_one}
+use Rattle.lc_eval.proofs.StockLaws.{codes_are_one}
 use Rattle.lc_eval.proofs.stock.is_same.Goals as goal
 
 pub returns : goal.returns

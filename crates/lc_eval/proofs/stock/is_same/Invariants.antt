@@ -1,4 +1,3 @@
-use Rattle.std.proofs.Common.{◌≡◌}
 use Rattle.lc_eval.proofs.StockLaws.{AgreeBelow}
 use Rattle.lc_eval.proofs.stock.is_same.Given as goal
 
