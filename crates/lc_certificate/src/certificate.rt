@@ -1,5 +1,5 @@
 //! What a certificate holds.
-ghost use Rattle.std.specs.Prelude.{◌≡◌};
+ghost use Rattle.std.specs.Prelude.{◌≡◌, ◌≤◌};
 ghost use Rattle.lc_algebra.specs.Field.{size};
 
 use lc_algebra::FieldName;
@@ -48,29 +48,37 @@ pub struct Certificate {
 
 impl Certificate {
     /// The number of elements of its field.
-    #[tactic(auto, unfolding(lc_algebra::specs::Field::size, lc_algebra::specs::Field::shape_of, lc_algebra::specs::Field::shape))]
     pub fn field_size(&self) -> u64
         ensures is { result ≡ size self.now.field }
     {
-        match self.field {
-            FieldName::Gf2 => 2,
-            FieldName::Gf3 => 3,
-            FieldName::Gf4 => 4,
-            FieldName::Gf5 => 5,
-            FieldName::Gf7 => 7,
-            FieldName::Gf8 => 8,
-            FieldName::Gf9 => 9,
-            FieldName::Gf11 => 11,
-            FieldName::Gf13 => 13,
-            FieldName::Gf16 => 16,
-            FieldName::Gf25 => 25,
-            FieldName::Gf27 => 27,
-            FieldName::Gf32 => 32,
-            FieldName::Gf64 => 64,
-            FieldName::Gf81 => 81,
-            FieldName::Gf128 => 128,
-            FieldName::Gf243 => 243,
-            FieldName::Gf256 => 256,
-        }
+        size_of(self.field)
+    }
+}
+
+// The number of elements of a field.
+#[tactic(auto, unfolding(lc_algebra::specs::Field::size, lc_algebra::specs::Field::shape_of, lc_algebra::specs::Field::shape))]
+pub(crate) fn size_of(field: FieldName) -> u64
+    ensures is { result ≡ size field }
+    ensures most { result ≤ 256 }
+{
+    match field {
+        FieldName::Gf2 => 2,
+        FieldName::Gf3 => 3,
+        FieldName::Gf4 => 4,
+        FieldName::Gf5 => 5,
+        FieldName::Gf7 => 7,
+        FieldName::Gf8 => 8,
+        FieldName::Gf9 => 9,
+        FieldName::Gf11 => 11,
+        FieldName::Gf13 => 13,
+        FieldName::Gf16 => 16,
+        FieldName::Gf25 => 25,
+        FieldName::Gf27 => 27,
+        FieldName::Gf32 => 32,
+        FieldName::Gf64 => 64,
+        FieldName::Gf81 => 81,
+        FieldName::Gf128 => 128,
+        FieldName::Gf243 => 243,
+        FieldName::Gf256 => 256,
     }
 }

@@ -4,6 +4,7 @@
 mod certificate;
 mod reading;
 mod refusal;
+mod rows;
 mod writing;
 
 pub use certificate::{Certificate, Proof, SetClaim};

@@ -1,7 +1,10 @@
 -- All of a list of things, if each is there.
 --   each_none                one that isn't there is enough for none
---   each_next                one more
+--   some_of                  the first and the others
+--   each_next, each_more     one more
 --   each_whole               all of a whole list
+--   each_start               nothing, to begin with
+--   provided_same, provided_none      what passes the same test, and what fails it
 --   each_provided            a test of each is a test of all
 use Rattle.std.proofs.Common.{◌≡◌, ℕ, zero, suc, ◌+◌, ◌<◌, ◌≤◌, Bool, true, false, if◌then◌else◌, ◌&&◌, List, [], ◌∷◌, ◌++◌, length, get_or, take, map, Option, Some, None, option_map, option_and_then, refl, ap, sym, ◌∙◌, arith}
 use Rattle.std.specs.List.{list_all}
@@ -26,7 +29,7 @@ each_cons : {X : Type 0} (x : X) (o : Option X) (rest : List (Option X)) (ys : L
 unfolding each
 each_cons x o rest ys e k = ap (λ p. each (p ∷ rest)) e ∙ ap (option_map (λ more. x ∷ more)) k
 
-some_of : {X : Type 0} (o : Option X) (rest : List (Option X)) (ys : List X) → each (o ∷ rest) ≡ Some ys → (x : X) × ((more : List X) × (o ≡ Some x) × (each rest ≡ Some more) × (ys ≡ x ∷ more))
+pub some_of : {X : Type 0} (o : Option X) (rest : List (Option X)) (ys : List X) → each (o ∷ rest) ≡ Some ys → (x : X) × ((more : List X) × (o ≡ Some x) × (each rest ≡ Some more) × (ys ≡ x ∷ more))
 unfolding each
 some_of {X = X} None rest ys e = absurd cc
 some_of {X = X} (Some x) rest ys e = more_of (each rest) refl ys e
@@ -50,3 +53,42 @@ each_start ys e = ap Some (sym e)
 
 pub each_whole : {A X : Type 0} (f : A → Option X) (xs : List A) (i : ℕ) (ys : List X) → length xs ≤ i → each (map f (take i xs)) ≡ Some ys → each (map f xs) ≡ Some ys
 each_whole f xs i ys l e = ap (λ zs. each (map f zs)) (sym (take_all i xs l)) ∙ e
+
+pub provided_same : {X : Type 0} (p q : X → Bool) (o : Option X) → ((x : X) → o ≡ Some x → p x ≡ q x) → provided p o ≡ provided q o
+unfolding provided
+provided_same p q None h = refl
+provided_same p q (Some x) h = ap (λ b. if b then Some x else None) (h x refl)
+
+pub provided_none : {X : Type 0} (p : X → Bool) (o : Option X) → ((x : X) → o ≡ Some x → p x ≡ false) → provided p o ≡ None
+unfolding provided
+provided_none p None h = refl
+provided_none p (Some x) h = ap (λ b. if b then Some x else None) (h x refl)
+
+first_tested : {X : Type 0} (test : X → Bool) (b : Bool) (y : X) (rest : List (Option X)) (o : Option (List X)) → each rest ≡ provided (list_all test) o → each ((if b then Some y else None) ∷ rest) ≡ (option_and_then (λ ys. if b && list_all test ys then Some (y ∷ ys) else None) o)
+unfolding each provided
+first_tested test true y rest None e = ap (option_map (λ more. y ∷ more)) e
+first_tested test false y rest None e = refl
+first_tested test true y rest (Some ys) e = ap (option_map (λ more. y ∷ more)) e ∙ mapped (list_all test ys)
+  where
+    mapped : (b : Bool) → option_map (λ more. y ∷ more) (if b then Some ys else None) ≡ (if b then Some (y ∷ ys) else None)
+    mapped true = refl
+    mapped false = refl
+first_tested test false y rest (Some ys) e = refl
+
+all_of_first : {X : Type 0} (test : X → Bool) (y : X) (o : Option (List X)) → option_and_then (λ ys. if test y && list_all test ys then Some (y ∷ ys) else None) o ≡ provided (list_all test) (option_map (λ more. y ∷ more) o)
+unfolding provided
+all_of_first test y None = refl
+all_of_first test y (Some ys) = refl
+
+both_tested : {X : Type 0} (test : X → Bool) (first : Option X) (rest tested : List (Option X)) → each tested ≡ provided (list_all test) (each rest) → each (provided test first ∷ tested) ≡ provided (list_all test) (each (first ∷ rest))
+unfolding each provided
+both_tested test None rest tested e = refl
+both_tested test (Some y) rest tested e = first_tested test (test y) y tested (each rest) e ∙ all_of_first test y (each rest)
+
+pub each_provided : {A X : Type 0} (test : X → Bool) (g : A → Option X) (xs : List A) → each (map (λ x. provided test (g x)) xs) ≡ provided (list_all test) (each (map g xs))
+unfolding each provided
+each_provided test g [] = refl
+each_provided test g (x ∷ xs) = both_tested test (g x) (map g xs) (map (λ y. provided test (g y)) xs) (each_provided test g xs)
+
+pub each_more : {A X : Type 0} (f : A → Option X) (xs : List A) (i j : ℕ) (d : A) (ys zs : List X) (y : X) → i < length xs → each (map f (take i xs)) ≡ Some ys → f (get_or xs i d) ≡ Some y → j ≡ suc i → zs ≡ ys ++ y ∷ [] → each (map f (take j xs)) ≡ Some zs
+each_more f xs i j d ys zs y l e k same made = rw (same, made) (each_next f xs i d ys y l e k)
