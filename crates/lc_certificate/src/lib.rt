@@ -1,0 +1,13 @@
+//! Certificates of a minimum distance: their types, how bytes are read as one, and how one is written.
+#![tactic(auto)]
+
+mod certificate;
+mod reading;
+mod refusal;
+mod rows;
+mod writing;
+
+pub use certificate::{Certificate, Proof, SetClaim};
+pub use reading::parse;
+pub use refusal::CertRefusal;
+pub use writing::write;

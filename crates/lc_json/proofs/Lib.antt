@@ -1,0 +1,3 @@
+pub mod EachLaws
+pub mod InsideLaws
+pub mod ListTexts

@@ -1,0 +1,13 @@
+use Rattle.std.proofs.Common.{refl, sym, rules, arith, ◌∙◌}
+use Rattle.lc_json.proofs.EachLaws.{each_start}
+use Rattle.lc_json.proofs.InsideLaws.{numbers_missing, numbers_done}
+use Rattle.lc_json.proofs.reading.numbers_of.Goals as goal
+
+pub loop-item-init : goal.loop-item-init
+loop-item-init c = each_start c.in_ok-numbers.numbers.items (search rules)
+
+pub returns-in-None : goal.returns-in-None
+returns-in-None c = record { is = sym (numbers_missing c.in-Some.items.now.items _ c.loop-item.item-index c.item-item.result (search rules) (search rules) (search rules)) }
+
+pub returns : goal.returns
+returns c = record { is = sym (numbers_done c.in-Some.items.now.items _ c.loop-item.item-index c.loop-item.numbers.items (search rules) (search rules) (search rules)) }
