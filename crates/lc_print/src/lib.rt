@@ -6,7 +6,7 @@
 ghost use Rattle.std.specs.Prelude.{◌≡◌, ◌++◌, map, codes, IfOk, OnOk, decimal};
 ghost use Rattle.lc_language.specs.Query.{no_certificate_line};
 ghost use Rattle.lc_language.specs.Value.{truth, nothing};
-ghost use Rattle.lc_formats.specs.Text.{line, numbers_text, lists_text};
+ghost use Rattle.lc_formats.specs.Text.{line, numbers_text, lists_text, with_values};
 ghost use Rattle.lc_language.specs.Print.{value_line, field_text, code_text, least_line as least_text, least_none_line as least_none_text, distance_line as distance_text, distance_none_line as distance_none_text, bracket_line as bracket_text, fault_line as fault_text};
 
 mod pieces;
@@ -226,6 +226,30 @@ pub fn certificate_length_line(alloc: Global, length: u64) -> Result<Vec<u8>, No
     let mut text = Vec::new(alloc);
     push_text(&mut text, b"certificate none length ")?;
     push_number(&mut text, length)?;
+    push_newline(&mut text)?;
+    Ok(text)
+}
+
+/// What `check` prints of a certificate that proves the distance `d`: `accepted distance 3`.
+pub fn accepted_line(alloc: Global, d: u64) -> Result<Vec<u8>, NoMemory>
+    ensures { IfOk result (λ v. v.items ≡ line (codes "accepted distance " ++ decimal d)) }
+{
+    let mut text = Vec::new(alloc);
+    push_text(&mut text, b"accepted distance ")?;
+    push_number(&mut text, d)?;
+    push_newline(&mut text)?;
+    Ok(text)
+}
+
+/// What `check` prints of a certificate that it rejects: the number of the reason, and the numbers that it carries:
+/// `rejected 33`, `rejected 38 with 2`.
+pub fn rejected_line(alloc: Global, number: u8, values: &[u64]) -> Result<Vec<u8>, NoMemory>
+    ensures { IfOk result (λ v. v.items ≡ line (codes "rejected " ++ decimal number ++ with_values values.now)) }
+{
+    let mut text = Vec::new(alloc);
+    push_text(&mut text, b"rejected ")?;
+    push_number(&mut text, u64::from(number))?;
+    push_values(&mut text, values)?;
     push_newline(&mut text)?;
     Ok(text)
 }

@@ -4,7 +4,7 @@
 --   is_workers, is_budget        arguments that set something
 --   course_first, course_workers, course_budget, course_refused, course_repeated_workers, course_repeated_budget, course_end
 --                                the arguments so far
---   none_given, no_command, command_then     the first argument
+--   none_given, no_command, command_then, check_alone, check_with_more     the first argument
 use Rattle.std.proofs.Common.{◌≡◌, ℕ, suc, ◌+◌, ◌^◌, ◌<◌, ◌≤◌, Bool, true, false, not, ◌&&◌, ◌||◌, ◌==◌, nat_eq, List, [], ◌∷◌, ◌++◌, length, drop, get_or, Option, Some, None, refl, sym, ap, subst, ◌∙◌, arith}
 use Rattle.std.specs.Prelude.{codes, cond, Result, MatchResult, nat_le, if◌then◌else◌, slice_index, MatchOption, String, string_bytes}
 use Rattle.std.specs.Borrow.{Bor}
@@ -16,7 +16,7 @@ use Rattle.std.proofs.lemmas.List.{drop_all, at_drop_more, length-append, length
 use Rattle.std.proofs.lemmas.Bool.Decides.{nat_tests}
 use Rattle.std.proofs.lemmas.List.Folds.{list_any-append}
 use Rattle.lc_formats.specs.Text.{same_bytes}
-use Rattle.lc_sessions.specs.Options.{Key, workers, budget, slice, Settings, run, settings_of, Options, settings, usage, options, options_from, checked, key_named, key_text, same_key, place_of_key, put_key, number_in, number_within, row, row_named, run_searching, command_text}
+use Rattle.lc_sessions.specs.Options.{Key, workers, budget, slice, Settings, run, check, settings_of, Options, settings, usage, options, options_from, checked, key_named, key_text, same_key, place_of_key, put_key, number_in, number_within, row, row_named, run_and_check, command_text}
 use Rattle.lc_session.specs.declared.arguments.Asked.{Asked}
 use Rattle.lc_session.specs.declared.arguments.Setting.TheVariants as setting
 use Rattle.lc_session.specs.Asked.{words_of, is_equals, searching_keys, settings_with, asked_settings, IsNoSetting, IsKeyed, IsSetBy, IsCourse, LeadsTo, IsRefusedAfter}
@@ -284,24 +284,44 @@ course_end all i a c l = c.rest ∙ ap (λ r. options_from searching_keys r c.fo
 
 -- ---- the first argument
 
-pub none_given : {A : Type 0} (words : List (String A)) → length words ≡ 0 → options run_searching (words_of words) ≡ usage 0
+pub none_given : {A : Type 0} (words : List (String A)) → length words ≡ 0 → options run_and_check (words_of words) ≡ usage 0
 unfolding options
 none_given [] e = refl
 none_given (w ∷ ws) e = absurd (omega (arith, e))
 
-no_command_bytes : (w : List ℕ) (ws : List (List ℕ)) → same_bytes (codes "run") w ≡ false → options run_searching (w ∷ ws) ≡ usage 0
-unfolding options run_searching row row_named command_text same_bytes
-no_command_bytes w ws e = rw e refl
+no_command_bytes : (w : List ℕ) (ws : List (List ℕ)) → same_bytes (codes "run") w ≡ false → same_bytes (codes "check") w ≡ false → options run_and_check (w ∷ ws) ≡ usage 0
+unfolding options run_and_check row row_named command_text same_bytes
+no_command_bytes w ws e f = rw (e, f) refl
 
-command_bytes : (w : List ℕ) (ws : List (List ℕ)) → same_bytes (codes "run") w ≡ true → options run_searching (w ∷ ws) ≡ options_from searching_keys ws [] (settings_of run)
-unfolding options run_searching row row_named command_text same_bytes options_from
+command_bytes : (w : List ℕ) (ws : List (List ℕ)) → same_bytes (codes "run") w ≡ true → options run_and_check (w ∷ ws) ≡ options_from searching_keys ws [] (settings_of run)
+unfolding options run_and_check row row_named command_text same_bytes options_from
 command_bytes w ws e = rw e refl
 
-pub no_command : {A : Type 0} (words : List (String A)) (w : String A) (ws : List (String A)) → words ≡ w ∷ ws → same_bytes (codes "run") (string_bytes w) ≡ false → options run_searching (words_of words) ≡ usage 0
-no_command words w ws e h = rw e (no_command_bytes (string_bytes w) (words_of ws) h)
+check_bytes : (w : List ℕ) (ws : List (List ℕ)) → same_bytes (codes "run") w ≡ false → same_bytes (codes "check") w ≡ true → options run_and_check (w ∷ ws) ≡ options_from [] ws [] (settings_of check)
+unfolding options run_and_check row row_named command_text same_bytes options_from
+check_bytes w ws e f = rw (e, f) refl
 
-pub command_then : {A : Type 0} (words : List (String A)) (w : String A) (ws : List (String A)) → words ≡ w ∷ ws → same_bytes (codes "run") (string_bytes w) ≡ true → options run_searching (words_of words) ≡ options_from searching_keys (words_of ws) [] (settings_of run)
+nothing_more : options_from [] [] [] (settings_of check) ≡ settings (settings_of check)
+unfolding options_from checked place_of_key settings_of
+nothing_more = refl
+
+something_more : (w : List ℕ) (ws : List (List ℕ)) → options_from [] (w ∷ ws) [] (settings_of check) ≡ usage 1
+unfolding options_from key_named
+something_more w ws = refl
+
+pub no_command : {A : Type 0} (words : List (String A)) (w : String A) (ws : List (String A)) → words ≡ w ∷ ws → same_bytes (codes "run") (string_bytes w) ≡ false → same_bytes (codes "check") (string_bytes w) ≡ false → options run_and_check (words_of words) ≡ usage 0
+no_command words w ws e h k = rw e (no_command_bytes (string_bytes w) (words_of ws) h k)
+
+pub command_then : {A : Type 0} (words : List (String A)) (w : String A) (ws : List (String A)) → words ≡ w ∷ ws → same_bytes (codes "run") (string_bytes w) ≡ true → options run_and_check (words_of words) ≡ options_from searching_keys (words_of ws) [] (settings_of run)
 command_then words w ws e h = rw e (command_bytes (string_bytes w) (words_of ws) h)
+
+pub check_alone : {A : Type 0} (words : List (String A)) (w : String A) (ws : List (String A)) → words ≡ w ∷ ws → same_bytes (codes "run") (string_bytes w) ≡ false → same_bytes (codes "check") (string_bytes w) ≡ true → length ws ≡ 0 → options run_and_check (words_of words) ≡ settings (settings_of check)
+check_alone words w [] e h k l = rw e (check_bytes (string_bytes w) [] h k ∙ nothing_more)
+check_alone words w (x ∷ ws) e h k l = absurd (omega (arith, l))
+
+pub check_with_more : {A : Type 0} (words : List (String A)) (w : String A) (ws : List (String A)) → words ≡ w ∷ ws → same_bytes (codes "run") (string_bytes w) ≡ false → same_bytes (codes "check") (string_bytes w) ≡ true → 0 < length ws → options run_and_check (words_of words) ≡ usage 1
+check_with_more words w [] e h k l = absurd (omega (arith, l))
+check_with_more words w (x ∷ ws) e h k l = rw e (check_bytes (string_bytes w) (words_of (x ∷ ws)) h k ∙ something_more (string_bytes x) (words_of ws))
 
 pub at_word : {A : Type 0} (words : List (String A)) (i : ℕ) (d : String A) (word : List ℕ) → i < length words → word ≡ string_bytes (get_or words i d) → word ≡ get_or (words_of words) i []
 at_word words i d word l e = e ∙ sym (get_or-map string_bytes words i d [] l)
@@ -320,9 +340,6 @@ led_at words i a next word d leads c l e = leads (words_of words) i c (inside wo
 
 pub ended_at : {A : Type 0} (words : List (String A)) (i : ℕ) (a : Asked) → IsCourse (words_of words) i a → length words ≤ i → (options_from searching_keys (words_of words) [] (settings_of run) ≡ settings (asked_settings a)) × ((1 ≤ a.workers) × (a.workers ≤ 256)) × (a.budget ≤ 2 ^ 40)
 ended_at words i a c l = (course_end (words_of words) i a c (subst (λ n. n ≤ i) (sym (length-map words string_bytes)) l), c.some_workers, c.few_blocks)
-
-pub answer_then : {A : Type 0} (words : List (String A)) (w : String A) (ws : List (String A)) (r : Result Asked ℕ) → words ≡ w ∷ ws → same_bytes (codes "run") (string_bytes w) ≡ true → MatchResult r (λ a. (options_from searching_keys (words_of ws) [] (settings_of run) ≡ settings (asked_settings a)) × ((1 ≤ a.workers) × (a.workers ≤ 256)) × (a.budget ≤ 2 ^ 40)) (λ i. options_from searching_keys (words_of ws) [] (settings_of run) ≡ usage i) → MatchResult r (λ a. (options run_searching (words_of words) ≡ settings (asked_settings a)) × ((1 ≤ a.workers) × (a.workers ≤ 256)) × (a.budget ≤ 2 ^ 40)) (λ i. options run_searching (words_of words) ≡ usage i)
-answer_then words w ws r e h m = subst (λ o. MatchResult r (λ a. (o ≡ settings (asked_settings a)) × ((1 ≤ a.workers) × (a.workers ≤ 256)) × (a.budget ≤ 2 ^ 40)) (λ i. o ≡ usage i)) (sym (command_then words w ws e h)) m
 
 -- ---- numbers
 

@@ -7,3 +7,4 @@ pub mod OneValue
 pub mod RunLaws
 pub mod SessionLaws
 pub mod SameNames
+pub mod CheckLaws

@@ -3,6 +3,8 @@
 --   is_equals               the sign between a key and its value
 --   searching_keys          the keys of the command run
 --   asked_settings a        the settings that the program keeps as a
+--   settings_for r          those of a request
+--   IsWithin r              they are within the limits of a search
 --   IsNoSetting word        whatever came before it, this argument is the one that is refused
 --   IsSetBy word x          the argument is a key with a value in its range
 --   IsCourse all i a        the first i of these arguments are not refused, and a is what they set
@@ -10,10 +12,12 @@
 --   IsRefusedAfter word a   after arguments that set a, this one is refused
 use Rattle.std.specs.Prelude.{◌≡◌, ℕ, suc, ◌+◌, ◌^◌, ◌<◌, ◌≤◌, Bool, true, ◌==◌, List, [], ◌∷◌, length, drop, get_or, map, Some, None, String, string_bytes}
 use Rattle.std.specs.List.{list_any, before_first, after_first}
-use Rattle.lc_sessions.specs.Options.{Key, workers, budget, slice, Settings, run, settings_of, usage, options_from, key_named, same_key, place_of_key, put_key}
+use Rattle.lc_sessions.specs.Options.{Key, workers, budget, slice, Settings, run, check, settings_of, usage, options_from, key_named, same_key, place_of_key, put_key}
 use Rattle.lc_session.specs.declared.arguments.Setting.{Setting}
 use Rattle.lc_session.specs.declared.arguments.Setting.TheVariants as setting
 use Rattle.lc_session.specs.declared.arguments.Asked.{Asked}
+use Rattle.lc_session.specs.declared.arguments.Request.{Request}
+use Rattle.lc_session.specs.declared.arguments.Request.TheVariants as request
 
 abbrev pub words_of : {A : Type 0} → List (String A) → List (List ℕ)
 words_of words = map string_bytes words
@@ -29,6 +33,14 @@ settings_with w b = record (settings_of run) { workers = w; budget = b }
 
 abbrev pub asked_settings : Asked → Settings
 asked_settings a = settings_with a.workers a.budget
+
+abbrev pub settings_for : Request → Settings
+settings_for (request.Run a) = asked_settings a
+settings_for request.Check = settings_of check
+
+abbrev pub IsWithin : Request → Type 0
+IsWithin (request.Run a) = ((1 ≤ a.workers) × (a.workers ≤ 256)) × (a.budget ≤ 2 ^ 40)
+IsWithin request.Check = Unit {0}
 
 abbrev pub IsNoSetting : List ℕ → Type 0
 IsNoSetting word = (words : List (List ℕ)) (found : List Key) (w b : ℕ) → options_from searching_keys (word ∷ words) found (settings_with w b) ≡ usage (suc (length found))

@@ -3,8 +3,8 @@ ghost use Rattle.std.specs.List.{list_all, list_any, before_first, after_first};
 ghost use Rattle.std.specs.Prelude.{◌≡◌, ◌<◌, ◌==◌, ◌||◌, not, length, slice_index, None, Some, true, false, ◌^◌, ◌≤◌, [], MatchOption, MatchResult};
 ghost use Rattle.lc_grammar.specs.Token.{is_digit};
 ghost use Rattle.lc_formats.specs.Text.{same_bytes};
-ghost use Rattle.lc_sessions.specs.Options.{options, options_from, settings, settings_of, run, usage, run_searching, number_in, number_within};
-ghost use Rattle.lc_session.specs.Asked.{words_of, asked_settings, searching_keys, is_equals, IsNoSetting, IsSetBy, LeadsTo, IsRefusedAfter};
+ghost use Rattle.lc_sessions.specs.Options.{options, options_from, settings, settings_of, run, usage, run_and_check, number_in, number_within};
+ghost use Rattle.lc_session.specs.Asked.{words_of, asked_settings, settings_for, IsWithin, searching_keys, is_equals, IsNoSetting, IsSetBy, LeadsTo, IsRefusedAfter};
 
 use lc_parse::value_of;
 
@@ -17,6 +17,15 @@ pub(crate) struct Asked {
     pub(crate) budget: u64,
     pub(crate) has_workers: bool,
     pub(crate) has_budget: bool,
+}
+
+/// What the arguments ask for.
+#[derive(Clone, Copy)]
+pub(crate) enum Request {
+    /// the text of a script
+    Run(Asked),
+    /// whether a certificate is accepted
+    Check,
 }
 
 /// What one argument sets.
@@ -165,18 +174,27 @@ fn settings_in(words: &[String]) -> Result<Asked, usize>
     Ok(asked)
 }
 
-/// What the arguments ask for, or the index of the first one that is refused. The first is the command `run`, and the others are
-/// `workers=N` and `budget=N`, each at most once.
-#[tactic(auto, using(crate::proofs::ArgumentLaws::none_given, crate::proofs::ArgumentLaws::no_command, crate::proofs::ArgumentLaws::answer_then))]
-pub(crate) fn asked_by(words: &[String]) -> Result<Asked, usize>
-    ensures { MatchResult result (λ a. (options run_searching (words_of words.now) ≡ settings (asked_settings a)) × ((1 ≤ a.workers) × (a.workers ≤ 256)) × (a.budget ≤ 2 ^ 40))
-        (λ i. options run_searching (words_of words.now) ≡ usage i) }
+/// What the arguments ask for, or the index of the first one that is refused. The first is the command: `run`, after which there
+/// may be `workers=N` and `budget=N`, each at most once; or `check` alone.
+#[tactic(auto, using(crate::proofs::ArgumentLaws::none_given, crate::proofs::ArgumentLaws::no_command))]
+pub(crate) fn asked_by(words: &[String]) -> Result<Request, usize>
+    ensures { MatchResult result (λ r. (options run_and_check (words_of words.now) ≡ settings (settings_for r)) × IsWithin r)
+        (λ i. options run_and_check (words_of words.now) ≡ usage i) }
 {
     let Some((command, others)) = words.split_first() else {
         return Err(0);
     };
-    if !is_text(command.as_str(), "run") {
+    if is_text(command.as_str(), "run") {
+        return match settings_in(others) {
+            Ok(asked) => Ok(Request::Run(asked)),
+            Err(index) => Err(index),
+        };
+    }
+    if !is_text(command.as_str(), "check") {
         return Err(0);
     }
-    settings_in(others)
+    if !others.is_empty() {
+        return Err(1);
+    }
+    Ok(Request::Check)
 }

@@ -3,9 +3,11 @@
 
 mod arguments;
 mod certificate;
+mod check;
 mod distance;
 mod input;
 mod laws;
+mod reply;
 mod session;
 mod status;
 mod text;

@@ -4,7 +4,7 @@
 --   Settings                  what the words ask for; a number is the value of seed, 0 where there is none
 --   CommandRow                a command with its keys; of a table of such rows, a command or key that it lacks is an unknown one
 --   all_options               the table with all of them
---   run_searching             the table of a program that knows the command `run` with the keys workers and budget
+--   run_and_check             the table of a program that knows `run` with the keys workers and budget, and `check`
 --   number_in text            the number that the text writes: one to twenty digits with no leading zero, save 0 itself
 --   put_key key text s        the settings after a word; None where the value is bad
 --   options table words       the settings, or the index of the word that is refused
@@ -49,8 +49,8 @@ row c keys = record { command = c; keys = keys }
 unfoldable pub all_options : List CommandRow
 all_options = row run (workers ∷ budget ∷ slice ∷ keep ∷ []) ∷ row resume (workers ∷ budget ∷ slice ∷ keep ∷ []) ∷ row check [] ∷ row summary (seed ∷ workers ∷ budget ∷ []) ∷ []
 
-unfoldable pub run_searching : List CommandRow
-run_searching = row run (workers ∷ budget ∷ []) ∷ []
+unfoldable pub run_and_check : List CommandRow
+run_and_check = row run (workers ∷ budget ∷ []) ∷ row check [] ∷ []
 
 pub record Settings : Type 0 where
   pub command : Command

@@ -1,0 +1,60 @@
+//! What is said of bytes as a certificate.
+ghost use Rattle.std.specs.Prelude.{◌≡◌, IfOk};
+ghost use Rattle.lc_formats.specs.Shape.{IsShaped};
+ghost use Rattle.lc_formats.specs.Check.{certificate_in, reads_as, reason_line};
+ghost use Rattle.lc_certificate.specs.Seen.{certificate_of};
+ghost use Rattle.lc_checker.specs.Verdict.{reason_of};
+ghost use Rattle.lc_session.specs.Outcome.{IsSaidOf};
+ghost use Rattle.lc_session.specs.Reply.{status_of};
+ghost use Rattle.lc_session.specs.declared.reply.End.TheVariants as end;
+
+use crate::reply::{End, Reply};
+use lc_certificate::{CertRefusal, Certificate, parse};
+use lc_checker::{Reason, Verdict, check};
+use lc_field::NoMemory;
+use lc_print::{accepted_line, rejected_line};
+use std::alloc::Global;
+
+// The reply to a certificate that is rejected for this reason.
+#[tactic(auto, unfolding(lc_formats::specs::Check::reason_line))]
+fn rejected(alloc: Global, reason: Reason) -> Result<Reply, NoMemory>
+    ensures text { IfOk result (λ r. r.text.items ≡ reason_line (reason_of reason)) }
+    ensures end { IfOk result (λ r. r.end ≡ end.Rejected reason) }
+{
+    let values = reason.values(alloc)?;
+    let text = rejected_line(alloc, reason.number(), &values)?;
+    let end = End::Rejected(reason);
+    Ok(Reply { text, end })
+}
+
+// The reply to a certificate that the bytes are.
+#[tactic(auto, using(crate::proofs::CheckLaws::accepted_reply, crate::proofs::CheckLaws::rejected_reply))]
+fn judged(alloc: Global, _bytes: &[u8], certificate: &Certificate) -> Result<Reply, NoMemory>
+    requires read { certificate_in _bytes.now ≡ reads_as (certificate_of certificate.now) }
+    requires shaped { IsShaped (certificate_of certificate.now) }
+    ensures { IfOk result (λ r. IsSaidOf _bytes.now r.text.items (status_of r.end)) }
+{
+    match check(alloc, certificate)? {
+        Verdict::Accepted => {
+            let text = accepted_line(alloc, certificate.distance)?;
+            let end = End::Done(0);
+            Ok(Reply { text, end })
+        }
+        Verdict::Rejected(reason) => Ok(rejected(alloc, reason)?),
+    }
+}
+
+/// What is said of the bytes as a certificate: that it proves its distance, or the first reason for which it is rejected. Refused
+/// only for want of memory.
+#[tactic(auto, using(crate::proofs::CheckLaws::refused_reply))]
+pub(crate) fn checked(alloc: Global, bytes: &[u8]) -> Result<Reply, NoMemory>
+    ensures { IfOk result (λ r. IsSaidOf bytes.now r.text.items (status_of r.end)) }
+{
+    match parse(alloc, bytes) {
+        Ok(certificate) => judged(alloc, bytes, &certificate),
+        Err(CertRefusal::NotJson) => Ok(rejected(alloc, Reason::NotJson)?),
+        Err(CertRefusal::Shape(rule)) => Ok(rejected(alloc, Reason::Shape(rule))?),
+        Err(CertRefusal::Limit) => Ok(rejected(alloc, Reason::Limit)?),
+        Err(CertRefusal::NoMemory) => Err(NoMemory),
+    }
+}
