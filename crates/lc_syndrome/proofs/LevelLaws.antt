@@ -4,6 +4,7 @@
 --   level_started            before the first coordinate, with an empty list
 --   level_ended, table_ended after the last one, the list is the level
 --   level_of_zero, first_table      what is there to begin with: the zero word
+--   level_whole, table_found if each syndrome has a leader, there is nothing more to try
 --   table_whole              after as many levels as a word has symbols, each leader is there
 use Rattle.std.proofs.Common.{◌≡◌, ◌≢◌, ℕ, zero, suc, ◌+◌, ◌<◌, ◌≤◌, inl, inr, ⊎_elim, List, [], ◌∷◌, length, replicate, set, slice_index, refl, sym, ap, subst, ◌∙◌, arith}
 use Rattle.std.proofs.lemmas.List.{length-set, length-replicate, get_or-set_same, get_or-set_other, get_or-replicate}
@@ -201,4 +202,33 @@ table_whole H w coordinates symbols b table = record {
       let s = syndrome_number H e in
       let (d, hd, sd, step, place) = table.sound s (syndrome_below H e) (table.lower e h (omega (arith, weight_at_most_length e, h.word.long, b))) in
       subst (IsStep H (slice_index coordinates s) (slice_index symbols s)) (leads_once H d e hd h sd) step;
+}
+
+abbrev pub AreKnown : List ℕ → Type 0
+AreKnown symbols = (s : ℕ) → s < length symbols → slice_index symbols s ≢ unknown
+
+pub table_found : (H : Matrix) (w : ℕ) (coordinates symbols : List ℕ) → AreKnown symbols → IsTable H w coordinates symbols [] → IsSteps H coordinates symbols
+table_found H w coordinates symbols known table = record {
+  coordinate_count = table.coordinate_count;
+  symbol_count = table.symbol_count;
+  steps = λ e h.
+      let s = syndrome_number H e in
+      let (d, hd, sd, step, place) = table.sound s (syndrome_below H e) (known s (omega (arith, syndrome_below H e, table.symbol_count))) in
+      subst (IsStep H (slice_index coordinates s) (slice_index symbols s)) (leads_once H d e hd h sd) step;
+}
+
+pub level_whole : (H : Matrix) (w i j c : ℕ) (frontier coordinates symbols next next_firsts : List ℕ) → AreKnown symbols → IsAt H w j c 0 frontier coordinates symbols next next_firsts → IsAt H w i c 0 frontier coordinates symbols next next_firsts
+level_whole H w i j c frontier coordinates symbols next next_firsts known state = record {
+  table = state.table;
+  level = state.level;
+  tried = record {
+    before = λ l h wl st m.
+        let s = syndrome_number H l in
+        let (d, hd, sd, step, place) = state.table.sound s (syndrome_below H l) (known s (omega (arith, syndrome_below H l, state.table.symbol_count))) in
+        ⊎_elim
+        (λ (y : weight d < w). absurd (omega (arith, y, ap weight (leads_once H d l hd h sd), wl)))
+        (λ (y : Holds next s). y)
+        place;
+    here = λ l r h wl st q m f. absurd (omega (arith, m));
+  };
 }

@@ -71,7 +71,7 @@ impl Level {
         Ok(next)
     }
 
-    // Offers each nonzero symbol at a coordinate.
+    // Offers each nonzero symbol at a coordinate, unless each syndrome has its leader.
     #[tactic(auto, using(crate::proofs::LevelLaws::symbols_tried), unfolding(lc_algebra::specs::Field::is_symbol))]
     fn offer_at(
         &self,
@@ -87,6 +87,9 @@ impl Level {
         ensures weight { next.new.weight ≡ next.old.weight }
         ensures state { IfOk result (λ _. Grows syndromes.now coordinate (size syndromes.now.field) 0 self.now steps.new next.new) }
     {
+        if steps.is_whole() {
+            return Ok(());
+        }
         let q = syndromes.field().size() as u8;
         for symbol in 1..q {
             let mark = Mark {

@@ -1,9 +1,9 @@
 //! The table of coset leaders.
-ghost use Rattle.std.specs.Prelude.{◌≡◌, ℕ, ◌+◌, ◌<◌, List, [], length, replicate, IfOk};
+ghost use Rattle.std.specs.Prelude.{◌≡◌, ◌≢◌, ℕ, ◌+◌, ◌<◌, List, [], length, replicate, slice_index, IfOk, IsTrue};
 ghost use Rattle.lc_algebra.specs.Word.{IsWord, difference};
 ghost use Rattle.lc_syndrome.specs.Syndrome.{syndrome_number, coset_count};
 ghost use Rattle.lc_syndrome.specs.Leading.{Leads, HasLeaders};
-ghost use Rattle.lc_syndrome.specs.Growth.{IsTable, IsSteps};
+ghost use Rattle.lc_syndrome.specs.Growth.{unknown, IsTable, IsSteps};
 
 use crate::level::Level;
 use crate::syndromes::Syndromes;
@@ -32,10 +32,25 @@ impl Steps {
         let mut steps = Steps::first(alloc, syndromes)?;
         let mut level = Level::first(alloc, syndromes)?;
         for _weight in 0..syndromes.length() {
+            if steps.is_whole() {
+                return Ok(steps);
+            }
             let next = level.next(alloc, syndromes, &mut steps)?;
             level = next;
         }
         Ok(steps)
+    }
+
+    /// Whether each syndrome has its leader.
+    pub(crate) fn is_whole(&self) -> bool
+        ensures whole { IsTrue result → (s : ℕ) → s < length self.now.symbols.items → slice_index self.now.symbols.items s ≢ unknown }
+    {
+        for symbol in self.symbols.iter() {
+            if *symbol == UNKNOWN {
+                return false;
+            }
+        }
+        true
     }
 
     /// Takes from the word the leader whose syndrome has this number: from the first nonzero symbol on, what is left of the leader
