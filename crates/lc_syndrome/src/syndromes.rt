@@ -99,13 +99,16 @@ impl Syndromes {
         digit_sum(self.checks.field(), self.checks.rows(), a, b)
     }
 
-    /// The number of the syndrome of a word.
+    /// The number of the syndrome of a word: in characteristic 2, where sums are quick, symbol by symbol, else check by check.
     #[tactic(auto, using(crate::proofs::NumberLaws::begun_none, crate::proofs::NumberLaws::begun_more, crate::proofs::NumberLaws::begun_whole, crate::proofs::SyndromeLaws::syndrome_below))]
     pub(crate) fn of(&self, word: &[u8]) -> u32
         requires word { IsWord self.now.field self.now.columns word.now }
         ensures is { result ≡ syndrome_number self.now word.now }
         ensures below { result < coset_count self.now }
     {
+        if self.checks.field().characteristic() != 2 {
+            return number_of(&self.checks, word);
+        }
         let mut number = 0;
         for i in 0..word.len() {
             number = self.sum(number, self.of_symbol(i, word[i]));
