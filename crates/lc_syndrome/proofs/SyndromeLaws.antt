@@ -3,7 +3,7 @@
 --   syndrome_word            the syndrome is a word, with a symbol for each check
 --   syndrome_below           its number is below the number of cosets
 --   syndrome_of_sum          the syndrome of a sum is the sum of the syndromes
---   number_of_sum            and so its number is told by theirs
+--   number_of_sum            and so its number is determined by theirs
 --   same_syndrome            syndromes with one number are the same
 --   zero_syndrome            the syndrome of the zero word has the number 0
 --   sum_below                the number of a sum is below the number of cosets

@@ -1,4 +1,4 @@
--- Coset leaders, told by the numbers of their syndromes, and their first nonzero symbols.
+-- Coset leaders, by the numbers of their syndromes, and their first nonzero symbols.
 --   Leads H e               e is the first word with its syndrome, by weight and then lexicographically
 --   HasLeaders H            each syndrome of a word is that of such a leader
 --   Starts i e              e has zeros before coordinate i

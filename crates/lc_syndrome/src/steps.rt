@@ -16,7 +16,7 @@ pub(crate) const UNKNOWN: u8 = 255;
 /// For each syndrome, the coordinate of the first nonzero symbol of its leader, and this symbol; for the zero word its length
 /// and 0.
 ///
-/// A leader without one of its symbols is the leader of another coset, so these first symbols tell the whole leader.
+/// A leader without one of its symbols is the leader of another coset, so these first symbols determine the whole leader.
 #[derive(Drop)]
 pub(crate) struct Steps {
     pub(crate) coordinates: Vec<u8>,

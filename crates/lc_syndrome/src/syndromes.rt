@@ -99,7 +99,7 @@ impl Syndromes {
         digit_sum(self.checks.field(), self.checks.rows(), a, b)
     }
 
-    /// The number of the syndrome of a word: in characteristic 2, where sums are quick, symbol by symbol, else check by check.
+    /// The number of the syndrome of a word: symbol by symbol in characteristic 2, in which sums are fast, else check by check.
     #[tactic(auto, using(crate::proofs::NumberLaws::begun_none, crate::proofs::NumberLaws::begun_more, crate::proofs::NumberLaws::begun_whole, crate::proofs::SyndromeLaws::syndrome_below))]
     pub(crate) fn of(&self, word: &[u8]) -> u32
         requires word { IsWord self.now.field self.now.columns word.now }
