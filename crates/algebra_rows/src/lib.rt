@@ -17,6 +17,8 @@ mod infosets;
 #[cfg(test)]
 mod kernel;
 #[cfg(test)]
+mod leaders;
+#[cfg(test)]
 mod matrices;
 #[cfg(test)]
 mod plan;

@@ -1,0 +1,5 @@
+pub mod Checks
+pub mod Growth
+pub mod Leading
+pub mod Refusal
+pub mod Syndrome
