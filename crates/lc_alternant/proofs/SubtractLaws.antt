@@ -9,7 +9,7 @@ use Rattle.lc_algebra.specs.declared.FieldName.{FieldName}
 use Rattle.lc_algebra.specs.Field.{size, add, neg}
 use Rattle.lc_algebra.specs.Embedding.{IsSubfield, embed}
 use Rattle.lc_algebra.specs.Word.{Fits, IsWord, difference}
-use Rattle.lc_algebra.proofs.FieldLaws.{add_inside, add_comm, add_assoc, add_neg, neg_add, add_zero, add_cancel}
+use Rattle.lc_algebra.proofs.FieldLaws.{add_inside, add_comm, add_assoc, add_neg, neg_add, add_cancel}
 use Rattle.lc_algebra.proofs.EmbeddingLaws.{embed_injective}
 use Rattle.lc_algebra.proofs.WordLaws.{fits_symbol, index_difference, IsWord_difference}
 

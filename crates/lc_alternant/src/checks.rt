@@ -1,9 +1,9 @@
 //! Check rows of an alternant form, and the syndromes of a word.
-ghost use Rattle.std.specs.Prelude.{◌≡◌, ℕ, ◌<◌, List, length, map, slice_index, slice_index_or, IfOk};
+ghost use Rattle.std.specs.Prelude.{◌≡◌, ◌<◌, length, map, IfOk};
 ghost use Rattle.lc_algebra.specs.Embedding.{IsSubfield, embed};
 ghost use Rattle.lc_algebra.specs.Field.{size};
 ghost use Rattle.lc_algebra.specs.Word.{Fits, IsWord, word_dot};
-ghost use Rattle.lc_constructions.specs.Alternant.{IsForm, check_row, syndrome_at};
+ghost use Rattle.lc_constructions.specs.Alternant.{IsForm, check_row};
 ghost use Rattle.lc_alternant.specs.Checks.{AreCheckRows, AreSyndromes};
 
 use lc_code::Alternant;

@@ -1,6 +1,6 @@
 //! Decoding within half of the number of checks.
-ghost use Rattle.std.specs.Prelude.{◌≡◌, ℕ, ◌*◌, ◌/◌, ◌<◌, ◌≤◌, ◌↔◌, List, length, map, Some, IfOk, IfSome, IsTrue};
-ghost use Rattle.lc_algebra.specs.Field.{size};
+ghost use Rattle.std.specs.Prelude.{◌≡◌, ℕ, ◌*◌, ◌<◌, ◌↔◌, List, length, map, Some, IfOk, IfSome, IsTrue};
+ghost use Rattle.lc_algebra.specs.Field.{size, add, neg};
 ghost use Rattle.lc_algebra.specs.Embedding.{IsSubfield, embed};
 ghost use Rattle.lc_algebra.specs.Word.{Fits, IsWord, difference, distance};
 ghost use Rattle.lc_constructions.specs.Alternant.{IsFormOf};
@@ -152,9 +152,19 @@ fn subtracted(
     let mut symbols = Vec::with_capacity(alloc, word.len())?;
     for i in 0..word.len() {
         match locator.unembed(field, errors[i]) {
-            Some(error) => symbols.push(field.add(word[i], field.neg(error)))?,
+            Some(error) => symbols.push(subtract(field, word[i], error))?,
             None => return Ok(None),
         }
     }
     Ok(Some(Word::from_vec(symbols)))
+}
+
+// The difference of two elements.
+fn subtract(field: &Field, a: u8, b: u8) -> u8
+    requires first { a < size field.now }
+    requires second { b < size field.now }
+    ensures is { result ≡ add field.now a (neg field.now b) }
+    ensures below { result < size field.now }
+{
+    field.add(a, field.neg(b))
 }

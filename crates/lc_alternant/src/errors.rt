@@ -1,6 +1,5 @@
 //! The errors at given coordinates: the one solution of the check equations there.
-ghost use Rattle.std.specs.Prelude.{◌≡◌, ℕ, ◌+◌, ◌<◌, ◌≤◌, List, length, slice_index, AllPairs, ◌≢◌, EachIndex, Some, IfOk, IfSome};
-ghost use Rattle.lc_algebra.specs.Field.{size};
+ghost use Rattle.std.specs.Prelude.{◌≡◌, ℕ, ◌≤◌, List, length, Some, IfOk, IfSome};
 ghost use Rattle.lc_algebra.specs.Word.{Fits, IsWord};
 ghost use Rattle.lc_alternant.specs.Checks.{IsPointed};
 ghost use Rattle.lc_alternant.specs.Chosen.{chosen, spread, HasSums, IsZeroBut};

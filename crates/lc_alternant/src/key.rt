@@ -1,6 +1,5 @@
 //! The key polynomial of a received word's syndromes: it is 0 at the point of each error, if there are few.
-ghost use Rattle.std.specs.Prelude.{◌≡◌, ℕ, ◌+◌, ◌*◌, ◌<◌, ◌≤◌, List, length, map, slice_index, IfOk};
-ghost use Rattle.lc_algebra.specs.Field.{size};
+ghost use Rattle.std.specs.Prelude.{◌≡◌, ◌*◌, ◌≤◌, length, map, IfOk};
 ghost use Rattle.lc_algebra.specs.Polynomial.{value_at};
 ghost use Rattle.lc_algebra.specs.Word.{Fits};
 ghost use Rattle.lc_alternant.specs.Key.{AreKeyRows, IsKey, AreKeyValues};

@@ -1,6 +1,6 @@
 use Rattle.std.proofs.Common.{◌≡◌, ◌<◌, [], ◌∷◌, length, slice_index, refl, sym, ap, ◌∙◌, arith, Some}
 use Rattle.std.proofs.lemmas.List.{length-append}
-use Rattle.lc_algebra.specs.Field.{size, add}
+use Rattle.lc_algebra.specs.Field.{size}
 use Rattle.lc_alternant.proofs.StepLaws.{symbol_pushed}
 use Rattle.lc_alternant.proofs.SubtractLaws.{no_error, symbol_back, word_back}
 use Rattle.lc_alternant.proofs.decoder.subtracted.Goals as goal
@@ -17,11 +17,11 @@ loop-i-preserved c =
     let old = c.loop-i.invariant in
     let pushed = c.in_ok-push-in-Some.ensures.items in
     record {
-      count = omega (arith, ap length pushed, length-append c.loop-i.symbols.items (c.add.result ∷ []), old.count);
-      fits = λ k l. symbol_pushed (λ j a. a < size f) c.loop-i.symbols.items c.push.new.self.items c.add.result i old.count (λ j m. old.fits j (omega (arith, m, old.count))) c.add.ensures.below pushed k (omega (arith, l, ap length pushed, length-append c.loop-i.symbols.items (c.add.result ∷ []), old.count));
+      count = omega (arith, ap length pushed, length-append c.loop-i.symbols.items (c.subtract.result ∷ []), old.count);
+      fits = λ k l. symbol_pushed (λ j a. a < size f) c.loop-i.symbols.items c.push.new.self.items c.subtract.result i old.count (λ j m. old.fits j (omega (arith, m, old.count))) c.subtract.ensures.below pushed k (omega (arith, l, ap length pushed, length-append c.loop-i.symbols.items (c.subtract.result ∷ []), old.count));
       one = λ u w e.
-          symbol_pushed (λ j a. a ≡ slice_index u j) c.loop-i.symbols.items c.push.new.self.items c.add.result i old.count (old.one u w e)
-          (c.add.ensures.is ∙ ap (λ b. add f (slice_index c.args.word.now i) b) c.neg.ensures.is ∙ symbol_back f c.args.locator.now c.args.word.now u c.args.errors.now i c.in-Some.error c.requires.subfield c.requires.word w e n c.in-Some.ensures.some.0 c.in-Some.ensures.some.1)
+          symbol_pushed (λ j a. a ≡ slice_index u j) c.loop-i.symbols.items c.push.new.self.items c.subtract.result i old.count (old.one u w e)
+          (c.subtract.ensures.is ∙ symbol_back f c.args.locator.now c.args.word.now u c.args.errors.now i c.in-Some.error c.requires.subfield c.requires.word w e n c.in-Some.ensures.some.0 c.in-Some.ensures.some.1)
           pushed;
     }
 
