@@ -103,7 +103,13 @@ fn words_of_a_bch_code(rt: HostRuntime) -> Result<(), Fail> {
 fn goppa_row(alloc: Global, locator: &Field, row: Row) -> Result<bool, CodeRefusal> {
     match Field::of(alloc, 2) {
         Ok(field) => {
-            let formed = goppa(alloc, &[1, 1, 1], &[0, 1, 2, 3, 4, 5, 6, 7], locator, &field)?;
+            let formed = goppa(
+                alloc,
+                &[1, 1, 1],
+                &[0, 1, 2, 3, 4, 5, 6, 7],
+                locator,
+                &field,
+            )?;
             is_decoded(alloc, &formed, row)
         }
         Err(_) => Err(CodeRefusal::NoMemory),
