@@ -1,4 +1,5 @@
 -- Entries at the coordinates at which a list of values is 0, and the list that has them there.
+--   chosen_taken, chosen_left  the first entry is chosen, or left out
 --   chosen_none, chosen_more, chosen_over, chosen_whole      the chosen entries, coordinate by coordinate
 --   length_chosen              there are as many of each list
 --   chosen_within              each is an entry of the list
@@ -7,8 +8,6 @@
 --   spread_none, spread_more, spread_over, spread_taken_on, spread_left_on, spread_whole      the spread list, coordinate by coordinate
 --   length_spread, fits_spread      its length and elements
 --   spread_chosen              such a list is spread from its chosen entries
---   chosen_zero                at chosen elements a polynomial with these values is 0
---   few_chosen                 so there are at most as many as its degree
 use Rattle.std.proofs.Common.{append_assoc, ◌≡◌, ◌≢◌, ℕ, zero, suc, ◌+◌, ◌<◌, ◌≤◌, ◌⊎◌, inl, inr, List, [], ◌∷◌, ◌++◌, length, drop, slice_index, Contains, refl, sym, ap, ap₂, subst, ◌∙◌, ⊎_elim, arith}
 use Rattle.std.proofs.Math.Seq.{drop-cons}
 use Rattle.std.proofs.lemmas.List.{drop_all, append-nil}

@@ -1,5 +1,6 @@
 -- What a candidate says about decoding.
---   reach_half, reach_few      as many errors as are corrected, twice, are no more than the checks, and at most 255
+--   reach_half           twice the number of errors that are corrected is at most the number of checks
+--   reach_few            and that number is at most 255
 --   reach_whole, reach_within      a word of the code is within half of the checks if and only if it is within the reach
 --   pointed_form         a form has points and multipliers
 --   few_zeros, few_told  the values of a key polynomial are 0 at few points

@@ -1,9 +1,9 @@
 -- The errors of a received word: its difference from a word of the code, in the locator field.
---   error_sums           their sums are the syndromes of the received word
---   near_errors          if they are few, they are 0 where a key polynomial isn't, and have the first syndromes as their sums
---   sums_once            no more symbols than sums: at most one list has these sums
---   chosen_once          so at most one word that is 0 where the values aren't has these sums
---   subtracted           the received word less the errors is the word of the code
+--   errors f K x u       these errors
+--   error_sum            their sums are the syndromes of the received word
+--   near_zero            if they are few, they are 0 at each point at which a key polynomial isn't
+--   near_sums            and their sums are the first syndromes
+--   sums_once            if there are no more symbols than sums, at most one word has these sums
 use Rattle.std.proofs.Common.{◌≡◌, ℕ, ◌*◌, ◌<◌, ◌≤◌, List, length, map, take, slice_index, sym, ap, ap₂, ◌∙◌, ⊎_elim, arith}
 use Rattle.std.proofs.lemmas.Bool.{cases_eq}
 use Rattle.std.proofs.lemmas.List.{get_or-map, get_or-take, length-take, length-map}

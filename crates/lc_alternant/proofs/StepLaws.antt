@@ -6,6 +6,8 @@
 --   check_word, rows_of_checks            they are words
 --   syndromes_none, syndromes_more        syndromes
 --   key_rows_none, key_rows_more          key rows
+--   symbol_pushed                what holds of each symbol and of one more, symbol by symbol
+--   key_row_taken                a part of the syndromes is a key row
 use Rattle.std.proofs.Common.{◌≡◌, ℕ, suc, ◌+◌, ◌-◌, ◌<◌, ◌≤◌, List, [], ◌∷◌, ◌++◌, length, map, take, drop, slice_index, get_or, refl, sym, ap, ap₂, subst, ◌∙◌, ⊎_elim, arith}
 use Rattle.std.proofs.Math.Seq.{take-suc}
 use Rattle.std.proofs.lemmas.Bool.{cases_lt}
