@@ -7,6 +7,8 @@ mod codes;
 #[cfg(test)]
 mod combined;
 #[cfg(test)]
+mod decoding;
+#[cfg(test)]
 mod families;
 #[cfg(test)]
 mod fields;

@@ -7,11 +7,11 @@ use lc_field::{Field, NoMemory};
 use lc_vec::{Word, fits};
 use std::alloc::Global;
 
-// Whether the word has n symbols of the field.
-fn is_word(field: &Field, n: usize, word: &Word) -> bool
+/// Whether the word has n symbols of the field.
+pub(crate) fn is_word(field: &Field, n: usize, word: &[u8]) -> bool
     ensures is { IsTrue result → IsWord field.now n word.now }
 {
-    word.len() == n && fits(field, word.symbols())
+    word.len() == n && fits(field, word)
 }
 
 /// Whether the words have n symbols of the field.
@@ -19,7 +19,7 @@ pub(crate) fn are_words(field: &Field, n: usize, words: &[Word]) -> bool
     ensures is { IsTrue result → AreRows field.now n words.now }
 {
     for word in words {
-        if !is_word(field, n, word) {
+        if !is_word(field, n, word.symbols()) {
             return false;
         }
     }

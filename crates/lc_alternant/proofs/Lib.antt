@@ -1,0 +1,9 @@
+pub mod KeyLaws
+pub mod ChosenLaws
+pub mod StepLaws
+pub mod KernelFound
+pub mod KeyPolynomials
+pub mod ErrorLaws
+pub mod SolutionLaws
+pub mod SubtractLaws
+pub mod DecodedLaws
