@@ -1,0 +1,2 @@
+pub mod SealLaws
+pub mod TextLaws
