@@ -229,13 +229,6 @@ parts_fail see cs i d l e = all_mapped fresh_in_basis see cs ∙ all_fails (λ c
 pub parts_whole : {C : Type 0} (see : C → SetClaim) (cs : List C) (i : ℕ) → length cs ≤ i → list_all (λ c. fresh_in_basis (see c)) (take i cs) ≡ true → list_all fresh_in_basis (map see cs) ≡ true
 parts_whole see cs i l e = all_mapped fresh_in_basis see cs ∙ all_whole (λ c. fresh_in_basis (see c)) cs i l e
 
-pub same_pointwise : (u v : List ℕ) → pointwise nat_eq u v ≡ same_bytes u v
-unfolding same_bytes
-same_pointwise [] [] = refl
-same_pointwise [] (b ∷ v) = refl
-same_pointwise (a ∷ u) [] = refl
-same_pointwise (a ∷ u) (b ∷ v) = rw (same_pointwise u v) refl
-
 pub way_found : (ms : Members) (text : List ℕ) → Some text ≡ option_and_then as_str (get_member (codes "by") ms) → way_at ms ≡ is_scan text
 unfolding way_at
 way_found ms text h = ap (option_and_then is_scan) (sym h)

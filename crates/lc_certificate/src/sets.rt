@@ -7,7 +7,6 @@ ghost use Rattle.serde_json.specs.View.{view};
 ghost use Rattle.lc_constructions.specs.Refusals.{is_rising};
 ghost use Rattle.lc_enumeration.specs.InformationSet.{is_member};
 ghost use Rattle.lc_formats.specs.Certificate as formats;
-ghost use Rattle.lc_formats.specs.Text.{same_bytes};
 ghost use Rattle.lc_formats.specs.Json.{list_at, each, provided, member_count};
 ghost use Rattle.lc_formats.specs.Check.{reads_as, is_scan, are_places, claim_in, sets_at, fresh_in_basis, sets_in, way_in, are_set_keys};
 ghost use Rattle.lc_json.specs.Inside.{members_in};
@@ -17,7 +16,7 @@ ghost use Rattle.lc_certificate.specs.Reading.{IsRefusedAs, way_at};
 use crate::certificate::{Proof, SetClaim};
 use crate::refusal::CertRefusal;
 use lc_field::NoMemory;
-use lc_json::{array_at, has_keys, list_at, number_at, text_at};
+use lc_json::{array_at, has_keys, is_same, list_at, number_at, text_at};
 use serde_json::Value;
 use std::alloc::Global;
 
@@ -175,23 +174,15 @@ fn are_fresh_in_bases(claims: &[SetClaim]) -> bool
     true
 }
 
-// Whether two texts are the same.
-#[tactic(auto, using(crate::proofs::SetLaws::same_pointwise))]
-fn is_same(text: &str, other: &str) -> bool
-    ensures is { result ≡ same_bytes text.now other.now }
-{
-    text == other
-}
-
 // Whether the text at `by` says that the proof is a scan; none if it is neither of the two words.
 #[tactic(auto, unfolding(lc_formats::specs::Check::is_scan))]
-fn is_scan(text: &str) -> Option<bool>
+fn is_scan(text: &[u8]) -> Option<bool>
     ensures is { result ≡ is_scan text.now }
 {
-    if is_same(text, "scan") {
+    if is_same(text, b"scan") {
         return Some(true);
     }
-    if is_same(text, "levels") {
+    if is_same(text, b"levels") {
         return Some(false);
     }
     None
@@ -203,7 +194,7 @@ fn way_at(object: &Value) -> Option<bool>
     ensures is { result ≡ way_at (members_in (view object.now)) }
 {
     match text_at(object, "by") {
-        Some(text) => is_scan(text),
+        Some(text) => is_scan(text.as_bytes()),
         None => None,
     }
 }

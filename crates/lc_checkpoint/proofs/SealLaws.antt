@@ -1,5 +1,4 @@
 -- Seals and digests.
---   same_pointwise           texts that are equal, byte by byte
 --   digest_refused, digest_other, digest_read      digits that are none, that have another length or capital letters, and a digest
 use Rattle.std.proofs.Common.{◌≡◌, ◌≢◌, ℕ, suc, zero, ◌+◌, ◌*◌, ◌<◌, ◌≤◌, ◌==◌, ◌&&◌, Bool, true, false, nat_eq, List, [], ◌∷◌, ◌++◌, length, get_or, take, drop, Option, Some, None, Result, Ok, Err, is_err, refl, sym, ap, subst, ◌∙◌, ⊎_elim, arith}
 use Rattle.std.specs.Prelude.{if◌then◌else◌, MatchResult}
@@ -13,13 +12,6 @@ use Rattle.lc_formats.specs.Text.{same_bytes}
 use Rattle.lc_formats.specs.Json.{provided}
 use Rattle.lc_formats.specs.Checkpoint.{digest_in}
 use Rattle.lc_json.proofs.EachLaws.{provided_same, provided_none}
-
-pub same_pointwise : (u v : List ℕ) → pointwise nat_eq u v ≡ same_bytes u v
-unfolding same_bytes
-same_pointwise [] [] = refl
-same_pointwise [] (b ∷ v) = refl
-same_pointwise (a ∷ u) [] = refl
-same_pointwise (a ∷ u) (b ∷ v) = rw (same_pointwise u v) refl
 
 ok_is : (r : Result (List ℕ) FromHexError) (bytes : List ℕ) → result_ok r ≡ Some bytes → r ≡ Ok bytes
 ok_is (Ok x) bytes e = ap Ok (cc e)

@@ -9,9 +9,9 @@ ghost use Rattle.lc_checkpoint.specs.Reading.{IsRefusedAs, current_in};
 
 use crate::checkpoint::{Checkpoint, Settled};
 use crate::refusal::CheckpointRefusal;
-use crate::seal::{digest_of, is_same, seal_of};
+use crate::seal::{digest_of, seal_of};
 use lc_field::NoMemory;
-use lc_json::{array_at, has_keys, number_at, read, text_at};
+use lc_json::{array_at, has_keys, is_same, number_at, read, text_at};
 use serde_json::Value;
 use std::alloc::Global;
 

@@ -6,6 +6,7 @@ ghost use Rattle.lc_formats.specs.Text.{same_bytes};
 ghost use Rattle.lc_formats.specs.Checkpoint.{digest_in};
 
 use hex::{decode_to_slice, encode_to_slice};
+use lc_json::is_same;
 use sha2::{Digest, Sha256};
 
 // The 64 hexadecimal digits of 32 bytes, with lower-case letters.
@@ -24,14 +25,6 @@ pub(crate) fn seal_of(body: &[u8]) -> [u8; 64]
     let mut hasher = Sha256::new();
     hasher.update(body);
     digits_of(&hasher.finalize())
-}
-
-// Whether two texts are the same.
-#[tactic(auto, using(crate::proofs::SealLaws::same_pointwise))]
-pub(crate) fn is_same(text: &[u8], other: &[u8]) -> bool
-    ensures is { result ≡ same_bytes text.now other.now }
-{
-    text == other
 }
 
 // The 32 bytes that 64 hexadecimal digits with lower-case letters write.
