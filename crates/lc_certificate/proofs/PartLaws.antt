@@ -11,20 +11,19 @@
 --   still_refused, then_refused      a refusal by the parts, and one by the last rule or the limits
 --   read_shaped                      what was read has the shape
 --   no_json, json_is                 bytes that are no JSON value, and the value that they are
-use Rattle.std.proofs.Common.{◌≡◌, ◌≢◌, ℕ, suc, zero, ◌<◌, ◌≤◌, ◌==◌, ◌&&◌, ◌||◌, Bool, true, false, not, nat_lt, nat_le, nat_eq, List, [], ◌∷◌, length, get_or, map, codes, Option, Some, None, option_map, option_and_then, is_some, refl, sym, ap, subst, ◌∙◌, arith}
+use Rattle.std.proofs.Common.{◌≡◌, ◌≢◌, ℕ, ◌==◌, ◌&&◌, Bool, true, false, not, nat_le, List, length, codes, Option, Some, None, option_and_then, is_some, refl, sym, ap, subst, ◌∙◌, arith}
 use Rattle.std.specs.Prelude.{if◌then◌else◌, Result, Ok, Err, IfOk}
-use Rattle.std.proofs.lemmas.Bool.{le-leb, false≢true, eqb-true, eq-eqb}
+use Rattle.std.proofs.lemmas.Bool.{le-leb, false≢true, eqb-true}
 use Rattle.serde_json.specs.Data.{Data, null, boolean, number, string, array, object, Members}
 use Rattle.serde_json.specs.Find.{as_object}
 use Rattle.lc_algebra.specs.declared.FieldName.{FieldName}
-use Rattle.lc_algebra.specs.Field.{size, is_symbol}
 use Rattle.lc_constructions.specs.Refusals.{columns_of}
-use Rattle.lc_formats.specs.Certificate.{Certificate, Proof, scan, levels, shape, limit, not_json}
+use Rattle.lc_formats.specs.Certificate.{Certificate, Proof, shape, limit, not_json}
 use Rattle.lc_formats.specs.Json.{number_at, list_at, provided, member_count, json_in}
 use Rattle.lc_formats.specs.Document.{symbol_field}
 use Rattle.lc_formats.specs.Shape.{IsShaped}
 use Rattle.lc_formats.proofs.CertificateShaped.{certificate_shaped}
-use Rattle.lc_formats.specs.Check.{CertificateRead, reads_as, refused_as, rows_at, field_at, fit, are_rows, above, certificate_over, way_in, distance_in, word_in, rows_in, parts_in, key_count, are_set_keys, set_total, is_beyond_limit, closed, field_in, is_version, object_in, data_in, certificate_in}
+use Rattle.lc_formats.specs.Check.{reads_as, refused_as, rows_at, field_at, fit, are_rows, certificate_over, way_in, distance_in, word_in, rows_in, parts_in, key_count, are_set_keys, is_beyond_limit, closed, field_in, is_version, object_in, data_in, certificate_in}
 use Rattle.lc_json.specs.Inside.{members_in}
 use Rattle.lc_certificate.specs.Reading.{IsRefusedAs, way_at, distance_at}
 use Rattle.lc_certificate.specs.Seen.{certificate_of}

@@ -8,32 +8,29 @@
 --   fresh_more, fresh_not        one more set whose fresh places are in its basis, and one whose aren't
 --   no_way, scan_has_sets, scan_is, levels_are      how the distance is proved
 --   no_sets, bad_sets, outside_basis, sets_read      the rules of sets
-use Rattle.std.proofs.Common.{◌≡◌, ◌≢◌, ⊎_elim, unwrap_or, nat_eq, ℕ, suc, zero, ◌+◌, ◌-◌, ◌<◌, ◌≤◌, ◌==◌, ◌&&◌, Bool, true, false, not, nat_lt, nat_le, List, [], ◌∷◌, ◌++◌, length, slice_index, get_or, take, map, codes, All, Contains, Option, Some, None, option_map, option_and_then, is_some, refl, sym, ap, subst, ◌∙◌, arith}
+use Rattle.std.proofs.Common.{◌≡◌, ◌≢◌, ⊎_elim, unwrap_or, ℕ, suc, zero, ◌+◌, ◌-◌, ◌<◌, ◌≤◌, ◌==◌, ◌&&◌, Bool, true, false, nat_le, List, [], ◌∷◌, ◌++◌, length, slice_index, get_or, take, map, codes, All, Contains, Option, Some, None, option_map, option_and_then, is_some, refl, sym, ap, subst, ◌∙◌, arith}
 use Rattle.std.specs.Prelude.{⊤, if◌then◌else◌, is_ok, Result, Ok, Err, MatchResult}
 use Rattle.std.specs.Ordering.{nat_cmp}
-use Rattle.std.specs.Cmp.Lexicographic.{pointwise}
-use Rattle.std.specs.List.{list_all, list_any}
+use Rattle.std.specs.List.{list_all}
 use Rattle.std.specs.List.Sorted.{IsStrictlyIncreasing, IsBinarySearchResult}
-use Rattle.std.proofs.lemmas.Bool.{and_parts, and_from, cases_lt, le-leb, false≢true}
+use Rattle.std.proofs.lemmas.Bool.{and_parts, cases_lt, le-leb, false≢true}
 use Rattle.std.proofs.lemmas.List.{length-map, map-append, get_or_default}
 use Rattle.std.proofs.lemmas.List.Elements.{Contains-from_at, at_from_Contains, at_read, All-cons, All-head, All-tail}
 use Rattle.std.proofs.lemmas.List.Sorted.{searched}
 use Rattle.serde_json.specs.declared.value.Value.{Value}
 use Rattle.serde_json.specs.Data.{Data, null, boolean, number, string, array, object, Items, Members}
-use Rattle.serde_json.specs.Find.{get, get_member, as_array, as_object, as_str}
-use Rattle.serde_json.specs.View.{view, items_view}
+use Rattle.serde_json.specs.Find.{get_member, as_array, as_object, as_str}
+use Rattle.serde_json.specs.View.{view}
 use Rattle.lc_constructions.specs.Refusals.{is_rising}
 use Rattle.lc_enumeration.specs.InformationSet.{is_member}
 use Rattle.lc_enumeration.proofs.MemberLaws.{member_true, true_member}
 use Rattle.lc_formats.specs.Certificate.{Certificate, SetClaim, Proof, scan, levels, shape}
 use Rattle.lc_formats.specs.Json.{number_at, list_at, listed, each, provided, member_count}
-use Rattle.lc_formats.specs.Text.{same_bytes}
-use Rattle.lc_formats.specs.Check.{CertificateRead, reads_as, refused_as, is_scan, are_places, claim_in, sets_at, fresh_in_basis, levels_in, sets_in, way_in, are_set_keys}
+use Rattle.lc_formats.specs.Check.{reads_as, refused_as, is_scan, are_places, claim_in, sets_at, fresh_in_basis, levels_in, sets_in, way_in, are_set_keys}
 use Rattle.lc_formats.proofs.TestLaws.{rising_holds, rising_passes, places_hold}
 use Rattle.lc_formats.proofs.ReadLaws.{provided_inside, each_all, same_some}
 use Rattle.lc_json.specs.Inside.{members_in}
 use Rattle.lc_json.proofs.EachLaws.{none_first, each_none, each_more, each_whole}
-use Rattle.lc_json.proofs.InsideLaws.{get_inside}
 use Rattle.lc_certificate.specs.Reading.{way_at}
 use Rattle.lc_certificate.proofs.ListLaws.{all_whole, all_fails, all_mapped}
 

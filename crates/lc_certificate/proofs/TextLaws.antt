@@ -3,12 +3,12 @@
 --   rows_none, rows_more          the same of rows
 --   claim_pieces                  the text of a set
 --   certificate_halves            the text of a certificate
-use Rattle.std.proofs.Common.{◌≡◌, refl, ℕ, ◌<◌, ◌≤◌, ◌-◌, List, [], ◌∷◌, ◌++◌, length, get_or, drop, take, map, flat_map, codes, decimal, arith, rules, ◌∙◌, ap, append_assoc, sym}
+use Rattle.std.proofs.Common.{◌≡◌, refl, ℕ, ◌<◌, ◌≤◌, ◌-◌, List, [], ◌∷◌, ◌++◌, length, get_or, drop, take, map, flat_map, codes, decimal, rules, ◌∙◌, ap, append_assoc}
 use Rattle.std.proofs.lemmas.List.{length-map}
 use Rattle.std.specs.Fmt.{digits}
 use Rattle.json.specs.Print.{escape_byte}
-use Rattle.serde_json.specs.Data.{array, object}
-use Rattle.serde_json.specs.Written.{compact_text, members_text}
+use Rattle.serde_json.specs.Data.{array}
+use Rattle.serde_json.specs.Written.{compact_text}
 use Rattle.lc_algebra.specs.Field.{size}
 use Rattle.lc_formats.specs.Certificate.{Certificate, SetClaim, Proof, scan, levels}
 use Rattle.lc_formats.specs.Json.{number_json, items, numbers_json}

@@ -1,5 +1,5 @@
 //! Reads the sets of a certificate, and how its distance is proved.
-ghost use Rattle.std.specs.Prelude.{◌≡◌, nat_lt, is_some, ◌<◌, ◌==◌, List, map, All, length, codes, Option, option_map, option_and_then, IfOk, IfErr, IsTrue, IfSome};
+ghost use Rattle.std.specs.Prelude.{◌≡◌, nat_lt, is_some, ◌<◌, ◌==◌, map, All, Option, option_map, IfOk, IfErr};
 ghost use Rattle.std.specs.List.{list_all};
 ghost use Rattle.std.specs.List.Sorted.{IsStrictlyIncreasing};
 ghost use Rattle.serde_json.specs.Find.{as_object};

@@ -5,17 +5,16 @@
 --   body_halves              the text of a body
 --   text_is                  the text of a checkpoint
 --   three, five, six         a text that grows by several pieces
-use Rattle.std.proofs.Common.{◌≡◌, refl, ℕ, zero, suc, ◌/◌, ◌%◌, ◌<◌, ◌≤◌, ◌-◌, List, [], ◌∷◌, ◌++◌, length, get_or, slice_index, drop, take, map, flat_map, codes, decimal, arith, rules, ◌∙◌, ap, append_assoc, sym}
+use Rattle.std.proofs.Common.{◌≡◌, refl, ℕ, zero, suc, ◌/◌, ◌%◌, ◌<◌, ◌≤◌, ◌-◌, List, [], ◌∷◌, ◌++◌, length, get_or, slice_index, drop, take, map, flat_map, codes, decimal, arith, rules, ◌∙◌, ap, append_assoc}
 use Rattle.std.proofs.lemmas.List.{length-map}
-use Rattle.std.specs.Fmt.{digits}
 use Rattle.sha2.specs.Sha256.{sha256}
 use Rattle.hex.specs.Hex.{encode_lower, encode_with, lower_digits, IsBytes}
-use Rattle.json.specs.Print.{escape_byte, escape, quoted}
-use Rattle.serde_json.specs.Data.{Data, array, object}
+use Rattle.json.specs.Print.{escape_byte, escape}
+use Rattle.serde_json.specs.Data.{array}
 use Rattle.serde_json.specs.Written.{compact_text}
 use Rattle.lc_enumeration.specs.Records.{Progress}
-use Rattle.lc_formats.specs.Json.{number_json, items, numbers_json}
-use Rattle.lc_formats.specs.Text.{bracketed, numbers_text}
+use Rattle.lc_formats.specs.Json.{number_json, items}
+use Rattle.lc_formats.specs.Text.{bracketed}
 use Rattle.lc_formats.specs.Checkpoint.{Checkpoint, settled_json, body_members, body_of, sealed, checkpoint_text}
 use Rattle.lc_json.proofs.ListTexts.{bracketed_none, bracketed_more, compact_items, compact_numbers}
 use Rattle.lc_checkpoint.specs.Pieces.{settled_text, settled_list_text, front_text, back_text}

@@ -1,8 +1,7 @@
 //! Hexadecimal digits, and the seal of a body: the digits of its SHA-256.
-ghost use Rattle.std.specs.Prelude.{◌≡◌, length, Option};
+ghost use Rattle.std.specs.Prelude.{◌≡◌, Option};
 ghost use Rattle.sha2.specs.Sha256.{sha256};
 ghost use Rattle.hex.specs.Hex.{encode_lower};
-ghost use Rattle.lc_formats.specs.Text.{same_bytes};
 ghost use Rattle.lc_formats.specs.Checkpoint.{digest_in};
 
 use hex::{decode_to_slice, encode_to_slice};

@@ -1,7 +1,5 @@
 //! How a checkpoint is written.
-ghost use Rattle.std.specs.Prelude.{◌≡◌, ◌∷◌, ◌++◌, codes, decimal, map, flat_map, OnOk, IfOk};
-ghost use Rattle.hex.specs.Hex.{encode_lower};
-ghost use Rattle.lc_formats.specs.Text.{numbers_text};
+ghost use Rattle.std.specs.Prelude.{◌≡◌, ◌∷◌, ◌++◌, decimal, map, flat_map, OnOk, IfOk};
 ghost use Rattle.lc_formats.specs.Checkpoint.{body_of, checkpoint_text, IsWritable};
 ghost use Rattle.lc_checkpoint.specs.Seen.{settled_of, point_of};
 ghost use Rattle.lc_checkpoint.specs.Pieces.{settled_text, settled_list_text, front_text, back_text};

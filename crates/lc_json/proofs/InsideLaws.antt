@@ -7,7 +7,7 @@
 --   numbers_are, no_numbers            the numbers that a value lists, and that it lists none
 --   same_pointwise                     two texts that are the same
 --   members_counted, no_members_counted      how many members a value has
-use Rattle.std.proofs.Common.{◌≡◌, ℕ, suc, ◌==◌, ◌<◌, ◌≤◌, Bool, true, false, if◌then◌else◌, List, [], ◌∷◌, length, get_or, take, map, nat_eq, Option, Some, None, option_map, option_and_then, refl, sym, ap, ◌∙◌}
+use Rattle.std.proofs.Common.{◌≡◌, ℕ, suc, ◌<◌, ◌≤◌, Bool, true, false, if◌then◌else◌, List, [], ◌∷◌, length, get_or, take, map, nat_eq, Option, Some, None, option_map, option_and_then, refl, sym, ap, ◌∙◌}
 use Rattle.std.specs.Prelude.{String}
 use Rattle.std.specs.declared.alloc.Global.{Global}
 use Rattle.std.specs.Str.{IsUtf8, is_utf8}
@@ -15,10 +15,10 @@ use Rattle.std.proofs.lemmas.List.{length-map}
 use Rattle.std.proofs.lemmas.Str.{IsUtf8-from_is_utf8, is_utf8-from_IsUtf8}
 use Rattle.std.specs.Cmp.Lexicographic.{pointwise}
 use Rattle.serde_json.specs.declared.value.Value.{Value}
-use Rattle.serde_json.specs.Data.{Data, null, boolean, number, string, array, object, Items, no_items, item, Members, no_members, member}
+use Rattle.serde_json.specs.Data.{Data, null, boolean, number, string, array, object, Members}
 use Rattle.serde_json.specs.Find.{get, get_member, as_number, as_u64, as_array, as_object}
 use Rattle.serde_json.specs.Read.{read}
-use Rattle.serde_json.specs.View.{view, items_of, items_view, members_of, members_view}
+use Rattle.serde_json.specs.View.{view, items_view, members_of, members_view}
 use Rattle.lc_formats.specs.Text.{same_bytes}
 use Rattle.lc_formats.specs.Json.{json_in, number_at, numbers_of, list_at, listed, member_count, each, plain_number}
 use Rattle.lc_json.specs.Inside.{members_in}

@@ -1,5 +1,5 @@
 //! Reads the parts of a JSON value.
-ghost use Rattle.std.specs.Prelude.{◌≡◌, ℕ, ◌==◌, map, Option, option_map, option_and_then, IfOk};
+ghost use Rattle.std.specs.Prelude.{◌≡◌, ◌==◌, map, Option, option_map, option_and_then, IfOk};
 ghost use Rattle.serde_json.specs.Find.{get_member, as_str, as_array};
 ghost use Rattle.serde_json.specs.View.{view};
 ghost use Rattle.lc_formats.specs.Text.{same_bytes};

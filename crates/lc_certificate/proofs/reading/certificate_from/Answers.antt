@@ -1,10 +1,6 @@
-use Rattle.std.proofs.Common.{◌≡◌, codes, rules, Some, true, is_some}
+use Rattle.std.proofs.Common.{rules}
 use Rattle.std.proofs.lemmas.Result.{err_from_is_err_and}
-use Rattle.serde_json.specs.Find.{as_object}
 use Rattle.serde_json.specs.View.{view}
-use Rattle.lc_formats.specs.Json.{number_at}
-use Rattle.lc_formats.specs.Check.{field_at}
-use Rattle.lc_json.specs.Inside.{members_in}
 use Rattle.lc_certificate.specs.Seen.{certificate_of}
 use Rattle.lc_certificate.proofs.PartLaws.{still_refused, then_refused}
 use Rattle.lc_certificate.proofs.reading.certificate_from.Goals as goal

@@ -1,4 +1,4 @@
-use Rattle.std.proofs.Common.{◌≡◌, sym, ap, codes, rules, Some, option_map, ◌∙◌}
+use Rattle.std.proofs.Common.{◌≡◌, codes, rules, Some}
 use Rattle.std.proofs.lemmas.Result.{err_from_is_err_and}
 use Rattle.serde_json.specs.View.{view}
 use Rattle.lc_constructions.specs.Refusals.{columns_of}

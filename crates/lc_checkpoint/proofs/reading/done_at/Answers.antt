@@ -1,4 +1,4 @@
-use Rattle.std.proofs.Common.{◌≡◌, ◌≤◌, ◌<◌, sym, ap, rules, arith, map, length, ◌∙◌}
+use Rattle.std.proofs.Common.{sym, arith, map}
 use Rattle.std.proofs.lemmas.List.{length-map}
 use Rattle.serde_json.specs.View.{view}
 use Rattle.lc_json.specs.Inside.{members_in}

@@ -1,4 +1,4 @@
-use Rattle.std.proofs.Common.{◌≡◌, sym, ap, rules, arith, option_map, ◌∙◌, ◌+◌}
+use Rattle.std.proofs.Common.{sym, ap, rules, arith, option_map, ◌∙◌, ◌+◌}
 use Rattle.serde_json.specs.View.{view}
 use Rattle.lc_formats.specs.Checkpoint.{settled_in}
 use Rattle.lc_checkpoint.specs.Seen.{settled_of}

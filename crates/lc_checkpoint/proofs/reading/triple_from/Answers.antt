@@ -1,5 +1,4 @@
-use Rattle.std.proofs.Common.{◌≡◌, sym, rules, Some}
-use Rattle.serde_json.specs.View.{view}
+use Rattle.std.proofs.Common.{sym, rules}
 use Rattle.lc_formats.specs.Json.{plain_number}
 use Rattle.lc_checkpoint.specs.Seen.{settled_of}
 use Rattle.lc_checkpoint.proofs.SettledLaws.{from_read}

@@ -1,4 +1,4 @@
-use Rattle.std.proofs.Common.{◌≡◌, sym, ap, rules, true, false, ◌∙◌}
+use Rattle.std.proofs.Common.{◌≡◌, sym, rules, true, false}
 use Rattle.hex.specs.Hex.{encode_lower}
 use Rattle.lc_formats.specs.Text.{same_bytes}
 use Rattle.lc_checkpoint.proofs.SealLaws.{digest_refused, digest_other, digest_read}

@@ -1,4 +1,4 @@
-use Rattle.std.proofs.Common.{◌≡◌, ◌∷◌, ◌++◌, sym, ap, rules, append_assoc, ◌∙◌}
+use Rattle.std.proofs.Common.{◌≡◌, ◌∷◌, ◌++◌, rules, append_assoc}
 use Rattle.lc_checkpoint.specs.Seen.{point_of}
 use Rattle.lc_checkpoint.proofs.TextLaws.{text_is}
 use Rattle.lc_checkpoint.proofs.writing.encode.Goals as goal
