@@ -1,11 +1,14 @@
 -- Sets, as a reader takes them.
 --   rising_all, rising_not       numbers that rise, and one that doesn't
---   places_found, places_nowhere   the places at a key pass the test or don't
+--   places_pass, places_fail, places_nowhere      the places at a key pass the test or don't
 --   no_basis, no_fresh, no_level, set_read      what lacks a part is no set, and what has all three is one
---   set_basis, bases_rise        the basis of a set rises, and so do those of several
+--   bases_rise, seen_rise, read_rise      the bases of sets that were read rise
+--   claims_none, claims_more, claims_whole      several sets
 --   sets_none, sets_empty, sets_others, sets_are      there is no list; it is empty; one item is no object; all are
 --   search_member                a binary search tells whether a number is in a list that rises
---   fresh_more, fresh_not        one more set whose fresh places are in its basis, and one whose aren't
+--   keys_of_sets, keys_of_none   whether each set has three keys
+--   part_fails, part_whole, parts_fail, parts_whole      whether fresh places are in the basis, of a set and of several
+--   way_found, way_nowhere       the word at `by`
 --   no_way, scan_has_sets, scan_is, levels_are      how the distance is proved
 --   no_sets, bad_sets, outside_basis, sets_read      the rules of sets
 use Rattle.std.proofs.Common.{◌≡◌, ◌≢◌, ⊎_elim, unwrap_or, ℕ, suc, zero, ◌+◌, ◌-◌, ◌<◌, ◌≤◌, ◌==◌, ◌&&◌, Bool, true, false, nat_le, List, [], ◌∷◌, ◌++◌, length, slice_index, get_or, take, map, codes, All, Contains, Option, Some, None, option_map, option_and_then, is_some, refl, sym, ap, subst, ◌∙◌, arith}

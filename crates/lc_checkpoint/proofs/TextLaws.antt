@@ -4,7 +4,7 @@
 --   hex_stands               hexadecimal digits stand for themselves in a string
 --   body_halves              the text of a body
 --   text_is                  the text of a checkpoint
---   three, five, six         a text that grows by several pieces
+--   five, six                a text that grows by several pieces
 use Rattle.std.proofs.Common.{◌≡◌, refl, ℕ, zero, suc, ◌/◌, ◌%◌, ◌<◌, ◌≤◌, ◌-◌, List, [], ◌∷◌, ◌++◌, length, get_or, slice_index, drop, take, map, flat_map, codes, decimal, arith, rules, ◌∙◌, ap, append_assoc}
 use Rattle.std.proofs.lemmas.List.{length-map}
 use Rattle.sha2.specs.Sha256.{sha256}
@@ -42,9 +42,6 @@ map_compact (s ∷ ss) = cc (one_compact s, map_compact ss)
 pub settled_compact : (ss : List Progress) → compact_text (array (items (map settled_json ss))) ≡ settled_list_text ss
 unfolding settled_list_text
 settled_compact ss = compact_items settled_json ss ∙ ap bracketed (map_compact ss)
-
-pub three : (t0 t1 t2 t3 a b c : List ℕ) → t1 ≡ t0 ++ a → t2 ≡ t1 ++ b → t3 ≡ t2 ++ c → t3 ≡ t0 ++ (a ++ (b ++ c))
-three t0 t1 t2 t3 a b c p q r = search (rules, append_assoc)
 
 pub five : (t0 t1 t2 t3 t4 t5 a b c d e : List ℕ) → t1 ≡ t0 ++ a → t2 ≡ t1 ++ b → t3 ≡ t2 ++ c → t4 ≡ t3 ++ d → t5 ≡ t4 ++ e → t5 ≡ t0 ++ (a ++ (b ++ (c ++ (d ++ e))))
 five t0 t1 t2 t3 t4 t5 a b c d e p q r s t = search (rules, append_assoc)

@@ -1,5 +1,6 @@
 -- What the answers of a reader of checkpoints mean.
 --   number_of_refusal e      the number of a refusal; 0 for want of memory, which has none
+--   current_from blocks weight place      how far a search is, if the three numbers are there
 --   current_in budget ms     how far the search of the current need is, by the members of a body
 --   IsRefusedAs e read       the bytes are refused for this reason; nothing is said for want of memory
 use Rattle.std.specs.Prelude.{◌≡◌, ℕ, ◌-◌, ◌^◌, ⊤, Option, option_map, option_and_then, codes}

@@ -1,4 +1,5 @@
 -- All of a list of things, if each is there.
+--   none_first               none stands first
 --   each_none                one that isn't there is enough for none
 --   some_of                  the first and the others
 --   each_next, each_more     one more

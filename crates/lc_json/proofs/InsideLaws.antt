@@ -2,9 +2,9 @@
 --   json_found, json_missing           the JSON value that bytes are, and that they are none
 --   get_inside                         what is looked up is looked up in the members
 --   number_found, number_missing       the number at a key
---   array_found, array_missing         the items of the array at a key
+--   listed_view, array_found           the items of an array, and of the one at a key
 --   list_found, list_missing           the numbers listed at a key
---   numbers_are, no_numbers            the numbers that a value lists, and that it lists none
+--   numbers_are, no_numbers, numbers_missing, numbers_done      the numbers that a value lists, and that it lists none
 --   same_pointwise                     two texts that are the same
 --   members_counted, no_members_counted      how many members a value has
 use Rattle.std.proofs.Common.{◌≡◌, ℕ, suc, ◌<◌, ◌≤◌, Bool, true, false, if◌then◌else◌, List, [], ◌∷◌, length, get_or, take, map, nat_eq, Option, Some, None, option_map, option_and_then, refl, sym, ap, ◌∙◌}
