@@ -1,2 +1,5 @@
+pub mod ListLaws
+pub mod PartLaws
 pub mod RowLaws
+pub mod SetLaws
 pub mod TextLaws

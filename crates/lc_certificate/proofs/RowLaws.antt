@@ -5,19 +5,18 @@
 --   rows_none, rows_no_array, rows_empty      what begins with no row is no rows
 --   rows_missing, rows_done      rows one of which doesn't fit are none, and those that all fit are some
 --   rows_found, rows_nowhere     the rows of an object
-use Rattle.std.proofs.Common.{◌≡◌, ◌≢◌, ℕ, suc, zero, ◌<◌, ◌≤◌, ◌==◌, ◌&&◌, Bool, true, false, nat_lt, nat_le, List, [], ◌∷◌, length, get_or, take, map, codes, Option, Some, None, option_map, option_and_then, refl, sym, ap, ◌∙◌, arith}
+use Rattle.std.proofs.Common.{◌≡◌, ◌≢◌, ℕ, ◌<◌, ◌≤◌, ◌==◌, ◌&&◌, false, nat_lt, nat_le, List, [], ◌∷◌, length, get_or, take, map, Option, Some, None, option_map, option_and_then, refl, sym, ap, ◌∙◌, arith}
 use Rattle.std.specs.List.{list_all}
 use Rattle.std.proofs.lemmas.Bool.{eq-eqb, le-leb}
-use Rattle.std.proofs.lemmas.List.{length-map}
 use Rattle.serde_json.specs.declared.value.Value.{Value}
 use Rattle.serde_json.specs.Data.{Data, Items}
-use Rattle.serde_json.specs.Find.{get, get_member, as_array}
+use Rattle.serde_json.specs.Find.{get, as_array}
 use Rattle.serde_json.specs.View.{view, items_view}
 use Rattle.lc_algebra.specs.declared.FieldName.{FieldName}
 use Rattle.lc_algebra.specs.Field.{size}
 use Rattle.lc_constructions.specs.Refusals.{columns_of, are_elements}
 use Rattle.lc_formats.specs.Json.{plain_number, numbers_of, list_at, listed, each, provided}
-use Rattle.lc_formats.specs.Check.{fit, are_rows, rows_at}
+use Rattle.lc_formats.specs.Check.{fit, are_rows}
 use Rattle.lc_formats.proofs.ReadLaws.{each_length}
 use Rattle.lc_json.specs.Inside.{members_in}
 use Rattle.lc_json.proofs.EachLaws.{some_of, each_none, each_whole, each_provided, provided_same, provided_none}

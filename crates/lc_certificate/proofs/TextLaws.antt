@@ -2,13 +2,15 @@
 --   claims_none, claims_more      no sets, and sets with a first one
 --   rows_none, rows_more          the same of rows
 --   claim_pieces                  the text of a set
+--   compact_lists, compact_claims      the JSON text of rows and of sets
 --   certificate_halves            the text of a certificate
-use Rattle.std.proofs.Common.{◌≡◌, refl, ℕ, ◌<◌, ◌≤◌, ◌-◌, List, [], ◌∷◌, ◌++◌, length, get_or, drop, take, map, flat_map, codes, decimal, arith, rules, ◌∙◌, ap, append_assoc, sym}
+--   five, six                     a text that grows by several pieces
+use Rattle.std.proofs.Common.{◌≡◌, refl, ℕ, ◌<◌, ◌≤◌, ◌-◌, List, [], ◌∷◌, ◌++◌, length, get_or, drop, take, map, flat_map, codes, decimal, rules, ◌∙◌, ap, append_assoc}
 use Rattle.std.proofs.lemmas.List.{length-map}
 use Rattle.std.specs.Fmt.{digits}
 use Rattle.json.specs.Print.{escape_byte}
-use Rattle.serde_json.specs.Data.{array, object}
-use Rattle.serde_json.specs.Written.{compact_text, members_text}
+use Rattle.serde_json.specs.Data.{array}
+use Rattle.serde_json.specs.Written.{compact_text}
 use Rattle.lc_algebra.specs.Field.{size}
 use Rattle.lc_formats.specs.Certificate.{Certificate, SetClaim, Proof, scan, levels}
 use Rattle.lc_formats.specs.Json.{number_json, items, numbers_json}
@@ -76,14 +78,6 @@ in_halves a b c d e t = search (rules, append_assoc)
 pub certificate_halves : (c : Certificate) → certificate_text c ≡ head_text c ++ tail_text c
 unfolding joined head_text tail_text
 certificate_halves c = pieces_by c c.proof ∙ in_halves (front_text c.proof) (codes ",\"distance\":") (decimal c.distance) (codes ",\"field\":") (decimal (size c.field)) (tail_text c)
-
-pub head_pieces : (c : Certificate) → head_text c ≡ front_text c.proof ++ (codes ",\"distance\":" ++ (decimal c.distance ++ (codes ",\"field\":" ++ decimal (size c.field))))
-unfolding head_text
-head_pieces c = refl
-
-pub tail_pieces : (c : Certificate) → tail_text c ≡ codes ",\"rows\":" ++ (lists_text c.rows ++ (sets_text c.proof ++ (codes ",\"version\":1,\"word\":" ++ (numbers_text c.word ++ codes "}"))))
-unfolding tail_text
-tail_pieces c = refl
 
 pub five : (t0 t1 t2 t3 t4 t5 : List ℕ) (a b c d e : List ℕ) → t1 ≡ t0 ++ a → t2 ≡ t1 ++ b → t3 ≡ t2 ++ c → t4 ≡ t3 ++ d → t5 ≡ t4 ++ e → t5 ≡ t0 ++ (a ++ (b ++ (c ++ (d ++ e))))
 five t0 t1 t2 t3 t4 t5 a b c d e p q r s t = search (rules, append_assoc)

@@ -5,6 +5,7 @@ mod certificate;
 mod reading;
 mod refusal;
 mod rows;
+mod sets;
 mod writing;
 
 pub use certificate::{Certificate, Proof, SetClaim};

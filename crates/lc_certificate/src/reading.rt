@@ -1,21 +1,184 @@
 //! How bytes are read as a certificate.
 ghost use Rattle.std.specs.Prelude.{◌≡◌, IfOk, IfErr};
+ghost use Rattle.serde_json.specs.Find.{as_object};
+ghost use Rattle.serde_json.specs.View.{view};
+ghost use Rattle.lc_constructions.specs.Refusals.{columns_of};
+ghost use Rattle.lc_formats.specs.Certificate as formats;
+ghost use Rattle.lc_formats.specs.Json.{number_at};
 ghost use Rattle.lc_formats.specs.Shape.{IsShaped};
-ghost use Rattle.lc_formats.specs.Check.{certificate_in, reads_as};
-ghost use Rattle.lc_certificate.specs.Seen.{certificate_of};
-ghost use Rattle.lc_certificate.specs.Reading.{IsRefusedAs};
+ghost use Rattle.lc_formats.specs.Document.{symbol_field};
+ghost use Rattle.lc_formats.specs.Check.{certificate_in, reads_as, field_at, parts_in, key_count, set_total, is_beyond_limit, closed, object_in};
+ghost use Rattle.lc_json.specs.Inside.{members_in};
+ghost use Rattle.lc_certificate.specs.Seen.{proof_of, certificate_of};
+ghost use Rattle.lc_certificate.specs.Reading.{IsRefusedAs, distance_at};
 
-use crate::certificate::Certificate;
+use crate::certificate::{Certificate, Proof};
 use crate::refusal::CertRefusal;
+use crate::rows::{rows_at, word_at};
+use crate::sets::{are_set_keys, proof_at};
+use lc_algebra::FieldName;
+use lc_json::{has_keys, number_at, read};
+use lc_vec::Word;
+use serde_json::Value;
 use std::alloc::Global;
+
+// The symbol field of q elements.
+#[tactic(auto, unfolding(lc_formats::specs::Document::symbol_field, lc_constructions::specs::Cyclic::all_fields, lc_algebra::specs::Field::size, lc_algebra::specs::Field::is_symbol, lc_algebra::specs::Field::shape_of, lc_algebra::specs::Field::shape))]
+fn symbol_field(q: u64) -> Option<FieldName>
+    ensures is { result ≡ symbol_field q }
+{
+    match q {
+        2 => Some(FieldName::Gf2),
+        3 => Some(FieldName::Gf3),
+        4 => Some(FieldName::Gf4),
+        5 => Some(FieldName::Gf5),
+        7 => Some(FieldName::Gf7),
+        8 => Some(FieldName::Gf8),
+        9 => Some(FieldName::Gf9),
+        11 => Some(FieldName::Gf11),
+        13 => Some(FieldName::Gf13),
+        16 => Some(FieldName::Gf16),
+        _ => None,
+    }
+}
+
+// The field of an object.
+#[tactic(auto, using(crate::proofs::PartLaws::field_found, crate::proofs::PartLaws::field_nowhere))]
+fn field_at(object: &Value) -> Option<FieldName>
+    ensures is { result ≡ field_at (members_in (view object.now)) }
+{
+    match number_at(object, "field") {
+        Some(q) => symbol_field(q),
+        None => None,
+    }
+}
+
+// The distance of an object.
+#[tactic(auto, using(crate::proofs::PartLaws::distance_found, crate::proofs::PartLaws::distance_zero, crate::proofs::PartLaws::distance_nowhere))]
+fn distance_at(object: &Value) -> Option<u64>
+    ensures is { result ≡ distance_at (members_in (view object.now)) }
+{
+    match number_at(object, "distance") {
+        Some(distance) => {
+            if distance == 0 {
+                return None;
+            }
+            Some(distance)
+        }
+        None => None,
+    }
+}
+
+// The length of the first row; without rows 0.
+#[tactic(auto, unfolding(lc_constructions::specs::Refusals::columns_of))]
+fn columns_of(rows: &[Word]) -> usize
+    ensures is { result ≡ columns_of rows.now }
+{
+    if rows.is_empty() { 0 } else { rows[0].len() }
+}
+
+// The certificate over the field that the parts of an object make.
+#[tactic(auto, using(crate::proofs::PartLaws::no_rows, crate::proofs::PartLaws::no_word, crate::proofs::PartLaws::no_distance, crate::proofs::PartLaws::parts_way))]
+fn parts_of(alloc: Global, object: &Value, field: FieldName) -> Result<Certificate, CertRefusal>
+    ensures is { IfOk result (λ c. parts_in (members_in (view object.now)) field ≡ reads_as (certificate_of c)) }
+    ensures refused { IfErr result (λ e. IsRefusedAs e (parts_in (members_in (view object.now)) field)) }
+{
+    let Some(rows) = rows_at(alloc, object, field)? else {
+        return Err(CertRefusal::Shape(4));
+    };
+    let columns = columns_of(&rows);
+    let Some(word) = word_at(alloc, object, "word", field, columns)? else {
+        return Err(CertRefusal::Shape(5));
+    };
+    let Some(distance) = distance_at(object) else {
+        return Err(CertRefusal::Shape(6));
+    };
+    let basis_of = proof_at(alloc, object, word.len() as u64)?;
+    Ok(Certificate {
+        field,
+        rows,
+        word,
+        distance,
+        basis_of,
+    })
+}
+
+// How many keys a certificate that is proved so has.
+#[tactic(auto, unfolding(lc_formats::specs::Check::key_count, crate::specs::Seen::proof_of))]
+fn key_count(proof: &Proof) -> usize
+    ensures is { result ≡ key_count (proof_of proof.now) }
+{
+    match proof {
+        Proof::Scan => 6,
+        Proof::Levels(_) => 7,
+    }
+}
+
+// The number of sets; a scan has none.
+#[tactic(auto, unfolding(lc_formats::specs::Check::set_total, crate::specs::Seen::proof_of))]
+fn set_total(proof: &Proof) -> usize
+    ensures is { result ≡ set_total (proof_of proof.now) }
+{
+    match proof {
+        Proof::Scan => 0,
+        Proof::Levels(claims) => claims.len(),
+    }
+}
+
+// Whether the length, the number of rows or the number of sets is above 255.
+#[tactic(auto, unfolding(lc_formats::specs::Check::is_beyond_limit, lc_formats::specs::Check::above, crate::specs::Seen::certificate_of))]
+fn is_beyond_limit(cert: &Certificate) -> bool
+    ensures is { result ≡ is_beyond_limit (certificate_of cert.now) }
+{
+    cert.word.len() > 255 || cert.rows.len() > 255 || set_total(&cert.basis_of) > 255
+}
+
+// Checks that the object of a certificate has no other keys, and that the certificate is within the limits.
+#[tactic(auto, using(crate::proofs::PartLaws::not_closed, crate::proofs::PartLaws::beyond, crate::proofs::PartLaws::is_closed), unfolding(crate::specs::Seen::certificate_of))]
+fn check_closed(object: &Value, cert: &Certificate) -> Result<(), CertRefusal>
+    ensures is { IfOk result (λ _. closed (members_in (view object.now)) (reads_as (certificate_of cert.now)) ≡ reads_as (certificate_of cert.now)) }
+    ensures refused { IfErr result (λ e. IsRefusedAs e (closed (members_in (view object.now)) (reads_as (certificate_of cert.now)))) }
+{
+    if !has_keys(object, key_count(&cert.basis_of)) || !are_set_keys(object) {
+        return Err(CertRefusal::Shape(11));
+    }
+    if is_beyond_limit(cert) {
+        return Err(CertRefusal::Limit);
+    }
+    Ok(())
+}
+
+// The certificate that a value is.
+#[tactic(auto, using(crate::proofs::PartLaws::no_object, crate::proofs::PartLaws::other_version, crate::proofs::PartLaws::no_field, crate::proofs::PartLaws::field_known))]
+fn certificate_from(alloc: Global, value: &Value) -> Result<Certificate, CertRefusal>
+    ensures is { IfOk result (λ c. object_in (as_object (view value.now)) ≡ reads_as (certificate_of c)) }
+    ensures refused { IfErr result (λ e. IsRefusedAs e (object_in (as_object (view value.now)))) }
+{
+    if !value.is_object() {
+        return Err(CertRefusal::Shape(1));
+    }
+    if number_at(value, "version") != Some(1) {
+        return Err(CertRefusal::Shape(2));
+    }
+    let Some(field) = field_at(value) else {
+        return Err(CertRefusal::Shape(3));
+    };
+    let cert = parts_of(alloc, value, field)?;
+    check_closed(value, &cert)?;
+    Ok(cert)
+}
 
 /// The certificate that the bytes are. Refused with `NotJson` exactly if they are no JSON value in UTF-8, else with `Shape` and
 /// the number of the first rule of shape that is broken, else with `Limit` if the length, the number of rows or the number of
 /// sets is above 255.
-pub fn parse(_alloc: Global, _bytes: &[u8]) -> Result<Certificate, CertRefusal>
-    ensures is { IfOk result (λ c. certificate_in _bytes.now ≡ reads_as (certificate_of c)) }
-    ensures refused { IfErr result (λ e. IsRefusedAs e (certificate_in _bytes.now)) }
+#[tactic(auto, using(crate::proofs::PartLaws::no_json, crate::proofs::PartLaws::json_is))]
+pub fn parse(alloc: Global, bytes: &[u8]) -> Result<Certificate, CertRefusal>
+    ensures is { IfOk result (λ c. certificate_in bytes.now ≡ reads_as (certificate_of c)) }
+    ensures refused { IfErr result (λ e. IsRefusedAs e (certificate_in bytes.now)) }
     ensures shaped { IfOk result (λ c. IsShaped (certificate_of c)) }
 {
-    Err(CertRefusal::NoMemory)
+    match read(alloc, bytes)? {
+        Some(value) => certificate_from(alloc, &value),
+        None => Err(CertRefusal::NotJson),
+    }
 }

@@ -1,5 +1,5 @@
 //! Reads the rows and the word of a certificate.
-ghost use Rattle.std.specs.Prelude.{◌≡◌, ◌<◌, nat_lt, map, option_map, IfOk, IfSome};
+ghost use Rattle.std.specs.Prelude.{◌≡◌, ◌<◌, nat_lt, map, option_map, IfOk};
 ghost use Rattle.serde_json.specs.View.{view};
 ghost use Rattle.lc_algebra.specs.Field.{size};
 ghost use Rattle.lc_formats.specs.Json.{plain_number, numbers_of, list_at, each, provided};

@@ -1,5 +1,5 @@
 //! How a certificate is written.
-ghost use Rattle.std.specs.Prelude.{◌≡◌, ◌∷◌, ◌++◌, codes, decimal, map, flat_map, OnOk, IfOk};
+ghost use Rattle.std.specs.Prelude.{◌≡◌, ◌∷◌, ◌++◌, map, flat_map, OnOk, IfOk};
 ghost use Rattle.serde_json.specs.Written.{compact_text};
 ghost use Rattle.lc_formats.specs.Text.{numbers_text, lists_text};
 ghost use Rattle.lc_formats.specs.Shape.{IsShaped};

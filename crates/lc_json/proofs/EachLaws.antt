@@ -1,4 +1,5 @@
 -- All of a list of things, if each is there.
+--   none_first               none stands first
 --   each_none                one that isn't there is enough for none
 --   some_of                  the first and the others
 --   each_next, each_more     one more
@@ -6,7 +7,7 @@
 --   each_start               nothing, to begin with
 --   provided_same, provided_none      what passes the same test, and what fails it
 --   each_provided            a test of each is a test of all
-use Rattle.std.proofs.Common.{◌≡◌, ℕ, zero, suc, ◌+◌, ◌<◌, ◌≤◌, Bool, true, false, if◌then◌else◌, ◌&&◌, List, [], ◌∷◌, ◌++◌, length, get_or, take, map, Option, Some, None, option_map, option_and_then, refl, ap, sym, ◌∙◌, arith}
+use Rattle.std.proofs.Common.{◌≡◌, ℕ, zero, suc, ◌<◌, ◌≤◌, Bool, true, false, if◌then◌else◌, ◌&&◌, List, [], ◌∷◌, ◌++◌, length, get_or, take, map, Option, Some, None, option_map, option_and_then, refl, ap, sym, ◌∙◌, arith}
 use Rattle.std.specs.List.{list_all}
 use Rattle.std.proofs.lemmas.List.{take_all}
 use Rattle.lc_formats.specs.Json.{each, provided}

@@ -3,7 +3,7 @@
 --   bracketed_none, bracketed_more    an empty list in brackets, and one that has a first item
 --   items_led                         the items after the first
 --   compact_items, compact_numbers    an array's text is its items' texts in brackets
-use Rattle.std.proofs.Common.{◌≡◌, refl, ℕ, ◌<◌, ◌≤◌, ◌-◌, List, [], ◌∷◌, ◌++◌, length, get_or, drop, take, map, flat_map, codes, decimal, true, arith, ◌∙◌, ap, append_assoc, append-nil, sym}
+use Rattle.std.proofs.Common.{◌≡◌, refl, ℕ, ◌<◌, ◌≤◌, ◌-◌, List, [], ◌∷◌, ◌++◌, length, get_or, drop, take, map, flat_map, codes, true, arith, ◌∙◌, ap, append_assoc, append-nil, sym}
 use Rattle.std.proofs.lemmas.List.{take_rest}
 use Rattle.std.specs.List.{join_with_byte}
 use Rattle.serde_json.specs.Data.{Data, array}

@@ -1,7 +1,8 @@
 //! Reads the parts of a JSON value.
-ghost use Rattle.std.specs.Prelude.{◌≡◌, ℕ, ◌==◌, map, Option, option_map, option_and_then, IfOk};
+ghost use Rattle.std.specs.Prelude.{◌≡◌, ◌==◌, map, Option, option_map, option_and_then, IfOk};
 ghost use Rattle.serde_json.specs.Find.{get_member, as_str, as_array};
 ghost use Rattle.serde_json.specs.View.{view};
+ghost use Rattle.lc_formats.specs.Text.{same_bytes};
 ghost use Rattle.lc_formats.specs.Json.{json_in, number_at, numbers_of, list_at, listed, member_count};
 ghost use Rattle.lc_json.specs.Inside.{members_in};
 
@@ -97,4 +98,12 @@ pub fn has_keys(object: &Value, count: usize) -> bool
         Some(members) => members.len() == count,
         None => count == 0,
     }
+}
+
+/// Whether two texts are the same, byte by byte.
+#[tactic(auto, using(crate::proofs::InsideLaws::same_pointwise))]
+pub fn is_same(text: &[u8], other: &[u8]) -> bool
+    ensures is { result ≡ same_bytes text.now other.now }
+{
+    text == other
 }

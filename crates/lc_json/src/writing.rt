@@ -1,11 +1,11 @@
-//! Pieces of compact JSON, each put after a text that has begun.
-ghost use Rattle.std.specs.Prelude.{◌≡◌, ℕ, List, ◌∷◌, ◌++◌, map, flat_map, OnOk, decimal};
+//! Pieces of compact JSON, each put after a text that has begun. If memory runs out, a part of the piece may follow the text.
+ghost use Rattle.std.specs.Prelude.{◌≡◌, ◌∷◌, ◌++◌, map, flat_map, OnOk, decimal};
 ghost use Rattle.lc_formats.specs.Text.{bracketed, numbers_text};
 
 use itoa::{Buffer, Integer};
 use lc_field::NoMemory;
 
-/// Puts `piece` after the text. If no memory is left, the front of the text may have grown.
+/// Puts `piece` after the text.
 pub fn push_text(text: &mut Vec<u8>, piece: &[u8]) -> Result<(), NoMemory>
     ensures is { OnOk result (text.new.items ≡ text.old.items ++ piece.now) }
 {

@@ -1,4 +1,4 @@
-use Rattle.std.proofs.Common.{refl, sym, rules, arith, ◌∙◌}
+use Rattle.std.proofs.Common.{sym, rules}
 use Rattle.lc_json.proofs.EachLaws.{each_start}
 use Rattle.lc_json.proofs.InsideLaws.{numbers_missing, numbers_done}
 use Rattle.lc_json.proofs.reading.numbers_of.Goals as goal

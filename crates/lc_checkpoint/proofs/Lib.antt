@@ -1,0 +1,4 @@
+pub mod PointLaws
+pub mod SealLaws
+pub mod SettledLaws
+pub mod TextLaws
