@@ -4,3 +4,4 @@ pub mod CodeLaws
 pub mod CostLaws
 pub mod SetLaws
 pub mod CheckLaws
+pub mod PackedLaws

@@ -2,3 +2,4 @@ pub mod Walk
 pub mod Verdict
 pub mod Cost
 pub mod Sets
+pub mod Packed

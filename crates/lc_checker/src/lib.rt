@@ -4,6 +4,7 @@
 //! looks at each word that a certificate says was seen.
 #![tactic(auto)]
 
+mod bits;
 mod checking;
 mod cost;
 mod reasons;

@@ -4,8 +4,10 @@ ghost use Rattle.std.specs.Prelude.{◌≡◌, ℕ, ◌+◌, ◌-◌, ◌<◌, �
 ghost use Rattle.lc_algebra.specs.Field.{size};
 ghost use Rattle.lc_algebra.specs.Word.{IsWord, zero_word, word_sum, scale};
 ghost use Rattle.lc_formats.specs.Certificate.{is_lighter};
+ghost use Rattle.lc_checker.specs.Packed.{ArePacked};
 ghost use Rattle.lc_checker.specs.Walk.{AreSums, words_along, support_words, words_over, words_from, found};
 
+use crate::bits::{lighter_in_bits, packed_rows};
 use lc_field::NoMemory;
 use lc_matrix::Matrix;
 use lc_vec::{Word, weight};
@@ -25,7 +27,8 @@ pub(crate) fn first_lighter(
 {
     let mut sums = zeros(alloc, level + 1, rows.cols())?;
     let mut support = vec![in alloc; 0usize; level]?;
-    let Some(w) = lighter_through(rows, distance, level, &mut support, &mut sums) else {
+    let bits = packed_rows(alloc, rows)?;
+    let Some(w) = lighter_through(rows, &bits, distance, level, &mut support, &mut sums) else {
         return Ok(None);
     };
     Ok(Some(Word::from_slice(alloc, sums[w].symbols())?))
@@ -35,6 +38,7 @@ pub(crate) fn first_lighter(
 // its support, and returns how many they are.
 fn lighter_through(
     rows: &Matrix,
+    bits: &[u64],
     distance: u64,
     level: usize,
     support: &mut [usize],
@@ -42,6 +46,7 @@ fn lighter_through(
 ) -> Option<usize>
     requires level { level ≤ length rows.now.rows }
     requires rows { length rows.now.rows ≤ 255 }
+    requires packed { 0 < length bits.now → ArePacked rows.now bits.now }
     requires support { length support.old ≡ level }
     requires many { level < length sums.old }
     requires sums { AreSums rows.now sums.old }
@@ -50,11 +55,37 @@ fn lighter_through(
     ensures none { IfNone result (None ≡ find (is_lighter distance) (words_from rows.now.field rows.now.columns rows.now.rows 1 level)) }
 {
     for w in 1..level + 1 {
-        if lighter_over(rows, distance, w, support, sums, 0, 0) {
+        if lighter_on_level(rows, bits, distance, w, support, sums) {
             return Some(w);
         }
     }
     None
+}
+
+// Looks at the words of a level. If one of them is lighter, leaves the first such in the sum after `width` rows.
+#[tactic(auto, using(crate::proofs::PackedLaws::front_start))]
+fn lighter_on_level(
+    rows: &Matrix,
+    bits: &[u64],
+    distance: u64,
+    width: usize,
+    support: &mut [usize],
+    sums: &mut [Word],
+) -> bool
+    requires some { 0 < width }
+    requires width { width ≤ length support.old }
+    requires rows { length rows.now.rows ≤ 255 }
+    requires many { width < length sums.old }
+    requires sums { AreSums rows.now sums.old }
+    requires packed { 0 < length bits.now → ArePacked rows.now bits.now }
+    ensures is { found result (slice_index_or sums.new width []) ≡ find (is_lighter distance) (words_over rows.now.field rows.now.columns rows.now.rows [] 0 (length rows.now.rows - 0) (width - 0)) }
+    ensures sums { AreSums rows.now sums.new }
+    ensures long { length support.new ≡ length support.old }
+{
+    if bits.len() == 0 {
+        return lighter_over(rows, distance, width, support, sums, 0, 0);
+    }
+    lighter_in_bits(rows, bits, distance, width, support, sums, 0, 0, 0)
 }
 
 // So many zero words of n symbols.
@@ -108,7 +139,7 @@ fn lighter_over(
 
 // Looks at the words of the messages with this support. If one of them is lighter, leaves the first such in the sum after all
 // of its rows.
-fn lighter_on(rows: &Matrix, distance: u64, support: &[usize], sums: &mut [Word]) -> bool
+pub(crate) fn lighter_on(rows: &Matrix, distance: u64, support: &[usize], sums: &mut [Word]) -> bool
     requires some { 0 < length support.now }
     requires inside { All (λ p. p < length rows.now.rows) support.now }
     requires many { length support.now < length sums.old }

@@ -13,13 +13,13 @@ loop-w-init c =
       rest = ap (λ m. find (is_lighter c.args.distance) (words_from c.args.rows.now.field c.args.rows.now.columns c.args.rows.now.rows 1 m)) same;
     }
 
-pub returns-then-lighter_over : goal.returns-then-lighter_over
-returns-then-lighter_over c =
+pub returns-then-lighter_on_level : goal.returns-then-lighter_on_level
+returns-then-lighter_on_level c =
     let rows = c.args.rows.now in
     record {
       inside = omega (arith, c.loop-w-test.true);
       some = level_found rows.field rows.columns rows.rows c.args.distance c.loop-w.w (c.args.level + 1 - c.loop-w.w) (c.args.level + 1 - (c.loop-w.w + 1)) (length rows.rows - 0) (c.loop-w.w - 0) _ _ _ _
-          (omega (arith, c.loop-w-test.true)) refl (omega arith) (omega arith) c.loop-w.invariant.rest c.lighter_over.ensures.is c.if-lighter_over.true;
+          (omega (arith, c.loop-w-test.true)) refl (omega arith) (omega arith) c.loop-w.invariant.rest c.lighter_on_level.ensures.is c.if-lighter_on_level.true;
       none = tt;
     }
 
@@ -27,10 +27,10 @@ pub loop-w-preserved : goal.loop-w-preserved
 loop-w-preserved c =
     let rows = c.args.rows.now in
     record {
-      sums = c.lighter_over.ensures.sums;
-      long = c.lighter_over.ensures.long ∙ c.loop-w.invariant.long;
+      sums = c.lighter_on_level.ensures.sums;
+      long = c.lighter_on_level.ensures.long ∙ c.loop-w.invariant.long;
       rest = level_passed rows.field rows.columns rows.rows c.args.distance c.loop-w.w (c.args.level + 1 - c.loop-w.w) (c.args.level + 1 - (c.loop-w.w + 1)) (length rows.rows - 0) (c.loop-w.w - 0) _ _ _ _
-          (omega (arith, c.loop-w-test.true)) refl (omega arith) (omega arith) c.loop-w.invariant.rest c.lighter_over.ensures.is c.if-lighter_over.false;
+          (omega (arith, c.loop-w-test.true)) refl (omega arith) (omega arith) c.loop-w.invariant.rest c.lighter_on_level.ensures.is c.if-lighter_on_level.false;
     }
 
 pub returns : goal.returns
