@@ -1,5 +1,6 @@
 //! What a script has made and may need again.
-ghost use Rattle.std.specs.Prelude.{◌≡◌, ◌≢◌, ℕ, None, Some, IfOk, IsTrue};
+ghost use Rattle.std.specs.Prelude.{◌≡◌, ◌≢◌, ℕ, None, Some, IfOk, IfSome, IsTrue};
+ghost use Rattle.std.proofs.Props.{props};
 ghost use Rattle.std.specs.Result.{IsErrOf};
 ghost use Rattle.lc_algebra.specs.declared.FieldName.{FieldName};
 ghost use Rattle.lc_algebra.specs.Field.{size};
@@ -7,7 +8,7 @@ ghost use Rattle.lc_algebra.specs.Word.{IsWord};
 ghost use Rattle.lc_constructions.specs.Coset.{too_many_cosets};
 ghost use Rattle.lc_constructions.specs.Nearest.{IsNearest};
 ghost use Rattle.lc_field.specs.declared.refusal.FieldRefusal.TheVariants as refusal;
-ghost use Rattle.lc_syndrome.specs.declared.SyndromeRefusal.TheVariants as cosets;
+ghost use Rattle.lc_syndrome.specs.declared.refusal.SyndromeRefusal.TheVariants as cosets;
 
 use lc_code::Code;
 use lc_field::{Field, FieldRefusal, NoMemory};
@@ -21,6 +22,7 @@ use std::rc::Rc;
 pub(crate) struct Stock {
     fields: Vec<Rc<Field>>,
     leaders: Option<Leaders>,
+    ghost few: { IfSome leaders (λ l. too_many_cosets l ≡ None) } by { Prim.hlevel props },
 }
 
 impl Stock {
@@ -106,8 +108,19 @@ fn is_same(a: &Code, b: &Code) -> bool
     true
 }
 
+// The leaders of a code, which are built.
+#[tactic(auto, using(crate::proofs::StockLaws::few_cosets))]
+fn built(alloc: Global, code: &Code) -> Result<Leaders, SyndromeRefusal>
+    ensures code { IfOk result (λ l. l ≡ code.now) }
+    ensures few { IfOk result (λ _. too_many_cosets code.now ≡ None) }
+    ensures refused { (n : ℕ) → IsErrOf result (cosets.TooManyCosets n) → too_many_cosets code.now ≡ Some n }
+{
+    Leaders::build(alloc, code)
+}
+
 // The leaders of a code: those that are kept, if they are of this code.
 fn leaders_of(alloc: Global, kept: Option<Leaders>, code: &Code) -> Result<Leaders, SyndromeRefusal>
+    requires kept { IfSome kept (λ l. too_many_cosets l ≡ None) }
     ensures code { IfOk result (λ l. l ≡ code.now) }
     ensures few { IfOk result (λ _. too_many_cosets code.now ≡ None) }
     ensures refused { (n : ℕ) → IsErrOf result (cosets.TooManyCosets n) → too_many_cosets code.now ≡ Some n }
@@ -117,7 +130,7 @@ fn leaders_of(alloc: Global, kept: Option<Leaders>, code: &Code) -> Result<Leade
             return Ok(leaders);
         }
     }
-    Leaders::build(alloc, code)
+    built(alloc, code)
 }
 
 // The same field.
