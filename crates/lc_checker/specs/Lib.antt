@@ -1,0 +1,4 @@
+pub mod Walk
+pub mod Verdict
+pub mod Cost
+pub mod Sets

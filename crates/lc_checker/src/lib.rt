@@ -1,0 +1,16 @@
+//! The checker of certificates of a minimum distance.
+//!
+//! It shares with the search only the matrices and the order of the messages: it makes the generator matrix of each set anew and
+//! looks at each word that a certificate says was seen.
+#![tactic(auto)]
+
+mod checking;
+mod cost;
+mod reasons;
+mod seen;
+mod sets;
+mod verdict;
+mod walk;
+
+pub use checking::check;
+pub use verdict::{Reason, Verdict};
