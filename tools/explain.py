@@ -32,8 +32,10 @@ MEANINGS = {
     12: "lengths differ",
     13: "the coordinates can't be taken away",
     14: "the inner code has the wrong dimension",
+    15: "the code has too many cosets to keep a leader of each",
     16: "these rows have too many words to look at each",
     17: "the field is too large: codes are over fields of at most 16 elements",
+    18: "the code has no alternant form to decode by",
     40: "no name, number or sign begins with this byte",
     41: "something is missing or superfluous here",
     42: "more than 32 parentheses and brackets are open",
@@ -174,6 +176,7 @@ def length_refusal(name, values):
 
 COMBINED = ("ExtendedCode", "PuncturedCode", "ShortenedCode", "EvenWeightSubcode", "DirectSumCode", "UUVCode",
             "DirectProductCode", "IntersectionCode", "ConcatenatedCode")
+OF_WORDS = ("IsCodeword", "Decode", "AlgebraicDecode")
 BY_LISTS = ("GeneratorPolCode", "CheckPolCode", "GoppaCode", "AlternantCode")
 
 
@@ -214,11 +217,11 @@ def refusal(expr, fault, names):
         return f"in {values[1]} variables the length 2^{values[1]} is above {LONGEST}"
     if number == 2:
         return f"the length {values[0]} is not one of 1 to {LONGEST}"
-    if number == 12 and name == "IsCodeword":
+    if number == 12 and name in OF_WORDS:
         return f"the list has {len(values[1])} entries, the words of the code have {values[0].length}"
     if number == 12:
         return uneven(values[0])
-    if number == 3 and name == "IsCodeword":
+    if number == 3 and name in OF_WORDS:
         return too_large([values[1]], values[0].size).replace("of row 1 ", "of the list ")
     if number == 3 and name == "HammingCode":
         return f"a Hamming code has at least 2 checks, here {values[0]}"
@@ -226,6 +229,10 @@ def refusal(expr, fault, names):
         return f"the order {values[0]} is above the number of variables {values[1]}"
     if number == 3:
         return too_large(values[0], values[1].size)
+    if number == 15:
+        return f"{values[0].size}^{fault.values[0]} is above 2^20"
+    if number == 18:
+        return "only BCHCode, ReedSolomonCode, GoppaCode and AlternantCode make codes that have one"
     if number == 16:
         return f"{len(values[0])} rows over GF({values[1].size}) have {values[1].size}^{len(values[0])} words, more than 65,536"
     return ""

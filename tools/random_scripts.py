@@ -19,8 +19,8 @@ from dataclasses import dataclass, replace
 SIZES = (2, 3, 4, 5, 7, 8, 9, 11, 13, 16)
 LARGE_SIZES = (25, 27, 32, 64, 81, 128, 243, 256)
 NAMES = ("C", "D", "x", "rows", "F", "a_1")
-UNKNOWN = ("Distance", "Certificate", "BchCode", "Extended", "Foo", "hammingCode", "GF_", "Golay", "z")
-CALLS = ("GF", "Weight", "Dimension", "DualCode", "IsCodeword", "HammingCode", "ReedMullerCode", "CheckMat", "BCHCode", "GoppaCode",
+UNKNOWN = ("Distance", "WeightDistribution", "BchCode", "Extended", "Foo", "hammingCode", "GF_", "Golay", "z")
+CALLS = ("GF", "Weight", "Dimension", "DualCode", "IsCodeword", "Decode", "HammingCode", "ReedMullerCode", "CheckMat", "BCHCode", "GoppaCode",
          "ExtendedCode", "UUVCode", "PuncturedCode", "BinaryGolayCode")
 SIGNS = "()[],;:=#_ \n\tab19GF"
 KINDS = ("valid", "refused", "unfit", "cut", "altered", "noise")
@@ -237,6 +237,9 @@ class Maker:
                 return f"{call}({self.expr('numbers' if call == 'Weight' else 'code', depth - 1)})"
             return self.text(self.below(20))
         if kind == "numbers":
+            code = self.code(depth - 1) if depth and self.chance(0.5) else None
+            if code and (code.length <= (6 if code.size <= 4 else 3) or code.length > 20 and self.chance(0.1)):
+                return f"Decode({code.text},{self.word(code)})"
             return self.text(self.row(self.size(), self.below(7)))
         if kind == "lists":
             if depth and self.chance(0.5):
@@ -263,8 +266,12 @@ class Maker:
 
     def query(self):
         code = self.code()
-        if self.chance(0.5) and code.length <= (9 if code.size <= 4 else 5):
-            return f"MinimumDistance({code.text})"
+        if code.length <= (9 if code.size <= 4 else 5):
+            way = self.below(10)
+            if way < 5:
+                return f"{self.pick(('MinimumDistance', 'MinimumDistance', 'Certificate', 'ScanCertificate'))}({code.text})"
+            if way < 7:
+                return f"AlgebraicDecode({code.text},{self.word(code)})"
         return self.least()
 
     def least(self):

@@ -8,10 +8,12 @@ or 12 where the script has more than 1,048,576 bytes. It follows docs/FORMATS.md
 nothing with it. It is slow and easy to read: tokens are found one at a time, a fault ends everything at once, codes are
 made by plain elimination, and least words are found by listing all words.
 """
+import json
 import sys
 from dataclasses import dataclass
 from functools import lru_cache
 from itertools import combinations, product as tuples
+from math import comb
 
 import field_tables
 import linear_algebra
@@ -27,6 +29,7 @@ SYMBOL_SIZES = (2, 3, 4, 5, 7, 8, 9, 11, 13, 16)
 FIELD_SIZES = SYMBOL_SIZES + (25, 27, 32, 64, 81, 128, 243, 256)
 LONGEST = 255
 MOST_WORDS = 2**16
+MOST_COSETS = 2**20
 BUDGET = 2**20  # blocks of a search
 
 
@@ -684,11 +687,56 @@ def concatenated_code(outer, inner):
     return code_of_rows(inner.size, outer.length * inner.length, rows)
 
 
-def is_codeword(code, word):
+def need_word(code, word):
     if len(word) != code.length:
         raise Refused(12)
     need_entries(word, code.size, 2)
+
+
+def is_codeword(code, word):
+    need_word(code, word)
     return is_in(code, word)
+
+
+def errors_of_weight(code, word, weight):
+    """The errors of this weight that differ from the word by a word of the code, in any order."""
+    field = arithmetic(code.size)
+    for support in combinations(range(code.length), weight):
+        for symbols in tuples(range(1, code.size), repeat=weight):
+            error = [0] * code.length
+            for i, a in zip(support, symbols):
+                error[i] = a
+            if is_in(code, field.add_scaled(list(word), negative(field, 1), error)):
+                yield error
+
+
+def less(code, word, error):
+    field = arithmetic(code.size)
+    return list(field.add_scaled(list(word), negative(field, 1), error))
+
+
+def decode(code, word):
+    """The word less the first error, by weight and then lexicographically, that leads into the code."""
+    need_word(code, word)
+    checks = code.length - len(code.rows)
+    if code.size**checks > MOST_COSETS:
+        raise Refused(15, checks)
+    for weight in range(code.length + 1):
+        error = min(errors_of_weight(code, word, weight), default=None)
+        if error is not None:
+            return less(code, word, error)
+
+
+def algebraic_decode_line(code, word):
+    """The one word of the code within half of the checks of its form."""
+    if code.form is None:
+        raise Refused(18)
+    need_word(code, word)
+    for weight in range(min(code.form.r // 2, code.length) + 1):
+        error = next(errors_of_weight(code, word, weight), None)
+        if error is not None:
+            return text_of(less(code, word, error))
+    return "none"
 
 
 def least_word_line(rows, field):
@@ -708,6 +756,37 @@ def minimum_distance_line(code):
     is_exact, low, weight, word, blocks = search.answer(code.size, code.length, code.rows, BUDGET)
     distance = f"{weight}" if is_exact else f"between {low} and {weight}"
     return f"distance {distance} word {text_of(list(word))} blocks {blocks}"
+
+
+def cost_of(code, levels):
+    """How many words a checker looks at: by levels those of each set up to its level, by a scan all."""
+    q, k = code.size, len(code.rows)
+    if levels is None:
+        return q**k
+    return sum(comb(k, w) * (q - 1) ** (w - 1) for level in levels for w in range(1, min(level, k) + 1))
+
+
+def certificate_line(code, by):
+    if not code.rows:
+        return "certificate none"
+    is_exact, low, weight, word, blocks = search.answer(code.size, code.length, code.rows, BUDGET)
+    if not is_exact:
+        return f"certificate none between {low} and {weight}"
+    field, k = arithmetic(code.size), len(code.rows)
+    parts = {"by": by, "distance": weight, "field": code.size, "rows": [list(row) for row in code.rows]}
+    levels = None
+    if by == "levels":
+        bases = search.bases_of(field, code.length, code.rows)
+        levels = search.levels_below(code.size, k, len(bases), blocks)
+        parts["sets"] = [{"basis": basis, "fresh": fresh, "level": level} for (basis, fresh, _), level in zip(bases, levels)]
+    parts |= {"version": 1, "word": list(word)}
+    cost = cost_of(code, levels)
+    if cost > 2**32:
+        return f"certificate none cost {min(cost, 2**64 - 1)}"
+    text = json.dumps(parts, separators=(",", ":"))
+    if len(text) + 1 > INPUT_LIMIT:
+        return f"certificate none length {len(text) + 1}"
+    return text
 
 
 # name: the kinds of the arguments in each form of the call, and the function
@@ -746,11 +825,15 @@ CALLS = {
     "CheckMat": ([("code",)], lambda code: dual_of(code).rows),
     "Weight": ([("numbers",)], weight_of),
     "IsCodeword": ([("code", "numbers")], is_codeword),
+    "Decode": ([("code", "numbers")], decode),
 }
 # these print a line of their own, and stand only as a whole statement
 QUERIES = {
+    "AlgebraicDecode": ([("code", "numbers")], algebraic_decode_line),
     "LeastWord": ([("lists", "field")], least_word_line),
     "MinimumDistance": ([("code",)], minimum_distance_line),
+    "Certificate": ([("code",)], lambda code: certificate_line(code, "levels")),
+    "ScanCertificate": ([("code",)], lambda code: certificate_line(code, "scan")),
 }
 
 

@@ -3,7 +3,7 @@
 
 Stands beside the product and shares nothing with it: it lists the messages of each phase from the start, keeps the least pair of
 weight and place, and computes the bound anew at each end of a phase. Prints answers of some codes as a check by hand;
-`tools/reference.py` uses it for `MinimumDistance`.
+`tools/reference.py` uses it for `MinimumDistance` and for certificates.
 """
 from itertools import combinations, islice, product
 from math import comb
@@ -41,8 +41,8 @@ def systematic_in(field, rows, order):
     return sorted(pivots), [rows[i] for i in turn]
 
 
-def sets_of(field, n, rows):
-    """The information sets: for each the number of fresh columns, and its systematic rows."""
+def bases_of(field, n, rows):
+    """The information sets: for each its columns, those of them that are fresh, and its systematic rows."""
     sets, used = [], []
     while True:
         order = [c for c in range(n) if c not in used] + [c for c in range(n) if c in used]
@@ -50,8 +50,24 @@ def sets_of(field, n, rows):
         fresh = [c for c in basis if c not in used]
         if sets and 2 * len(fresh) < len(rows):
             return sets
-        sets.append((len(fresh), systematic))
+        sets.append((basis, fresh, systematic))
         used += fresh
+
+
+def sets_of(field, n, rows):
+    """The same, for each the number of fresh columns, and its systematic rows."""
+    return [(len(fresh), systematic) for _, fresh, systematic in bases_of(field, n, rows)]
+
+
+def levels_below(q, k, count, blocks):
+    """For each of so many sets the last level whose phase ends at or before this block, or 0."""
+    levels, end = [0] * count, 0
+    for level in range(1, k + 1):
+        for j in range(count):
+            end += -(-comb(k, level) * (q - 1) ** (level - 1) // BLOCK)
+            if end <= blocks:
+                levels[j] = level
+    return levels
 
 
 def weights_divisor(field, sets):

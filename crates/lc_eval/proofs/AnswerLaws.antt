@@ -33,7 +33,7 @@ Applying place b r o =
     ((IsNotDivisor b × (o ≡ refuse_at 4 place)) ⊎ (¬ IsNotDivisor b × ((v : language.Value) × Gives b v × (o ≡ gives v))))
     (λ r. o ≡ refuse_call place r)
 
-applying : (place : ℕ) (b : BoundCall) (r : Option Refusal) (result : Result Value Stop) → refusal_of b ≡ r → Answers result (Applying place b r) → Answers result (AppliesTo place b)
+pub applying : (place : ℕ) (b : BoundCall) (r : Option Refusal) (result : Result Value Stop) → refusal_of b ≡ r → Answers result (Applying place b r) → Answers result (AppliesTo place b)
 applying place b r result e h = subst (λ t. Answers result (Applying place b t)) (sym e) h
 
 -- the first refusal of a list of a constructor's, as a call's

@@ -1,29 +1,23 @@
 -- What the calls give is what the definitions say of them.
 --   gf_field, gf_refused          fields
 --   generator_applies, check_applies      codes by a matrix
---   codeword_long, codeword_no_symbol, codeword_told      whether a list is a word of a code
-use Rattle.std.proofs.Common.{◌≡◌, ◌≢◌, ℕ, ◌<◌, ◌↔◌, Bool, true, false, nat_lt, slice_index, slice_index_or, ◌==◌, List, [], ◌∷◌, map, length, Vec, Global, Some, None, Result, Err, IfOk, IsTrue, refl, sym, ap, subst, ◌∙◌, ⊎_elim, true≢false, arith}
-use Rattle.std.specs.List.{list_any, list_all}
-use Rattle.std.proofs.lemmas.List.{get_or_default}
-use Rattle.std.proofs.lemmas.List.Sums.{AllPass-from_list_all, list_all-from_AllPass}
+use Rattle.std.proofs.Common.{◌≡◌, ◌≢◌, ℕ, true, false, ◌==◌, List, [], ◌∷◌, map, Vec, Global, Some, None, Result, IfOk, refl, ap, subst, ◌∙◌, ⊎_elim}
+use Rattle.std.specs.List.{list_any}
 use Rattle.std.proofs.lemmas.Bool.{cases_Bool}
-use Rattle.std.proofs.lemmas.Bool.Decides.{nat_tests, Decides-eqb, Decides-ltb}
+use Rattle.std.proofs.lemmas.Bool.Decides.{Decides-eqb}
 use Rattle.lc_algebra.specs.declared.FieldName.{FieldName}
 use Rattle.lc_algebra.specs.declared.FieldName.TheVariants.{Gf2, Gf3, Gf4, Gf5, Gf7, Gf8, Gf9, Gf11, Gf13, Gf16, Gf25, Gf27, Gf32, Gf64, Gf81, Gf128, Gf243, Gf256}
-use Rattle.lc_algebra.specs.Field.{shape, shape_of, size, is_symbol}
-use Rattle.lc_algebra.specs.Word.{Fits}
+use Rattle.lc_algebra.specs.Field.{shape, shape_of, size}
 use Rattle.lc_algebra.specs.Matrix.{Matrix}
-use Rattle.lc_constructions.specs.Code.{InCode, IsCode, CheckedBy}
+use Rattle.lc_constructions.specs.Code.{IsCode, CheckedBy}
 use Rattle.lc_constructions.specs.Basic.{GeneratedBy}
 use Rattle.lc_constructions.specs.declared.refusal.CodeRefusal.{CodeRefusal}
-use Rattle.lc_constructions.specs.declared.refusal.CodeRefusal.TheVariants.{LengthsDiffer, BadArgument}
-use Rattle.lc_constructions.specs.Refusal.{refuse_if, first_refusal, IsRefusedAs}
-use Rattle.lc_constructions.specs.Refusals.{columns_of, are_elements, matrix_refusals}
+use Rattle.lc_constructions.specs.Refusal.{first_refusal, IsRefusedAs}
+use Rattle.lc_constructions.specs.Refusals.{columns_of, matrix_refusals}
 use Rattle.lc_constructions.specs.Cyclic.{all_fields}
-use Rattle.lc_basic.proofs.HammingLaws.{small_field}
-use Rattle.lc_language.specs.Bound.{BoundCall, gf, generator_mat_code, check_mat_code, is_codeword}
-use Rattle.lc_language.specs.Value.{field, code, truth}
-use Rattle.lc_language.specs.Refusal.{refuse, when, first_of, refusal_from, from_codes, word_refusals, refusals_of, refusal_of}
+use Rattle.lc_language.specs.Bound.{BoundCall, gf, generator_mat_code, check_mat_code}
+use Rattle.lc_language.specs.Value.{field, code}
+use Rattle.lc_language.specs.Refusal.{refuse, when, first_of, from_codes, refusals_of, refusal_of}
 use Rattle.lc_language.specs.Meaning.{Gives, IsNotDivisor}
 use Rattle.lc_language.specs.Evaluation.{gives, refused, refuse_at, refuse_call, AppliesTo}
 use Rattle.lc_eval.specs.declared.values.Value.{Value}
@@ -33,8 +27,8 @@ use Rattle.lc_eval.specs.Value.{rows_of, refused_of}
 use Rattle.lc_eval.specs.Applied.{Answers}
 use Rattle.lc_eval.specs.Made.{IsMade, plain_value}
 use Rattle.lc_eval.specs.Rows.{clamped, clamped_rows}
-use Rattle.lc_eval.proofs.AnswerLaws.{applied, given_by, refused_by}
-use Rattle.lc_eval.proofs.RowLaws.{clamped_each, columns_same, clamped_refusals, fine_same, elements_same, row_kept}
+use Rattle.lc_eval.proofs.AnswerLaws.{applied, given_by}
+use Rattle.lc_eval.proofs.RowLaws.{clamped_each, columns_same, clamped_refusals, fine_same}
 
 -- ---- fields
 
@@ -125,48 +119,3 @@ pub check_applies : (place : ℕ) (rows : List (Vec ℕ Global)) (f : FieldName)
     → IsRefusedAs made (first_refusal (matrix_refusals f words)) → IsMade made place result → Answers result (AppliesTo place (check_mat_code (rows_of rows) f))
 unfolding refusals_of
 check_applies place rows f words made result w c h s = matrix_applies place (check_mat_code (rows_of rows) f) f (λ u n. CheckedBy f u) rows words made result refl (λ n. n) (λ C is. record { code_is = (C, is, refl) }) w c h s
-
--- ---- words of a code
-
-codeword_uneven : (C : Matrix) (x : List ℕ) → length x ≢ C.columns → refusal_of (is_codeword C x) ≡ Some (refusal_from LengthsDiffer)
-unfolding refusal_of refusals_of word_refusals from_codes first_of refuse_if
-codeword_uneven C x h = let t : (length x == C.columns) ≡ false = grind (arith, nat_tests) in rw t refl
-
-codeword_high : (C : Matrix) (x : List ℕ) → length x ≡ C.columns → are_elements C.field x ≡ false → refusal_of (is_codeword C x) ≡ Some (refusal_from (BadArgument 2))
-unfolding refusal_of refusals_of word_refusals from_codes first_of refuse_if
-codeword_high C x h k = let t : (length x == C.columns) ≡ true = grind (arith, nat_tests) in rw (t, k) refl
-
-codeword_fine : (C : Matrix) (x : List ℕ) → length x ≡ C.columns → are_elements C.field x ≡ true → refusal_of (is_codeword C x) ≡ None
-unfolding refusal_of refusals_of word_refusals from_codes first_of refuse_if
-codeword_fine C x h k = let t : (length x == C.columns) ≡ true = grind (arith, nat_tests) in rw (t, k) refl
-
-fits_told : (f : FieldName) (w : List ℕ) (b : Bool) → IsTrue b ↔ Fits f w → are_elements f w ≡ b
-unfolding are_elements
-fits_told f w true h = list_all-from_AllPass (λ a. nat_lt a (size f)) w (λ k d l. (Decides-ltb (slice_index_or w k d) (size f)).1 (subst (λ a. a < size f) (get_or_default w k 0 d l) (h.0 refl k l)))
-fits_told f w false h =
-    ⊎_elim
-    (λ (t : list_all (λ a. nat_lt a (size f)) w ≡ true). absurd (true≢false (sym (h.1 (λ k l. (Decides-ltb (slice_index w k) (size f)).0 (AllPass-from_list_all (λ a. nat_lt a (size f)) w t k 0 l))))))
-    (λ (t : list_all (λ a. nat_lt a (size f)) w ≡ false). t)
-    (cases_Bool (list_all (λ a. nat_lt a (size f)) w))
-
-entries_told : (f : FieldName) (x w : List ℕ) (b : Bool) → IsTrue (is_symbol f) → w ≡ clamped x → IsTrue b ↔ Fits f w → are_elements f x ≡ b
-entries_told f x w b s e h = sym (elements_same f x (small_field f s)) ∙ subst (λ u. are_elements f u ≡ b) e (fits_told f w b h)
-
-kept_told : (f : FieldName) (x : List ℕ) → IsTrue (is_symbol f) → are_elements f (clamped x) ≡ true → clamped x ≡ x
-unfolding are_elements
-kept_told f x s h = row_kept (size f) x (small_field f s) h
-
-pub codeword_long : (place : ℕ) (C : Matrix) (x : List ℕ) (s : Stop) → length x ≢ C.columns → IsMade (Err LengthsDiffer) place (Err s) → Answers (Err s) (AppliesTo place (is_codeword C x))
-codeword_long place C x s h m = refused_by place (is_codeword C x) LengthsDiffer s (codeword_uneven C x h) m
-
-pub codeword_no_symbol : (place : ℕ) (C : Matrix) (f : FieldName) (x w : List ℕ) (b : Bool) (s : Stop) → length x ≡ C.columns → IsTrue (is_symbol C.field) → f ≡ C.field → w ≡ clamped x → IsTrue b ↔ Fits f w → b ≡ false → IsMade (Err (BadArgument 2)) place (Err s) → Answers (Err s) (AppliesTo place (is_codeword C x))
-codeword_no_symbol place C f x w b s l y o c h k m =
-    let high : are_elements C.field x ≡ false = entries_told C.field x w b y c (subst (λ g. IsTrue b ↔ Fits g w) o h) ∙ k in
-    (refused_by place (is_codeword C x) (BadArgument 2) s (codeword_high C x l high) m)
-
-pub codeword_told : (place : ℕ) (C : Matrix) (f : FieldName) (x w u : List ℕ) (b r : Bool) → length x ≡ C.columns → IsTrue (is_symbol C.field) → f ≡ C.field → w ≡ clamped x → IsTrue b ↔ Fits f w → b ≡ true → u ≡ clamped x → IsTrue r ↔ InCode C u → AppliesTo place (is_codeword C x) (gives (truth r))
-codeword_told place C f x w u b r l y o c h k d t =
-    let g : IsTrue b ↔ Fits C.field w = subst (λ g. IsTrue b ↔ Fits g w) o h in
-    let same : clamped x ≡ x = kept_told C.field x y (subst (λ v. are_elements C.field v ≡ true) c (fits_told C.field w b g ∙ k)) in
-    let told : IsTrue r ↔ InCode C x = subst (λ v. IsTrue r ↔ InCode C v) (d ∙ same) t in
-    (given_by place (is_codeword C x) (truth r) (codeword_fine C x l (entries_told C.field x w b y c g ∙ k)) (λ n. n) (r, refl, told))

@@ -13,3 +13,5 @@ pub mod WideLaws
 pub mod FormLaws
 pub mod CyclicCalls
 pub mod MisfitLaws
+pub mod StockLaws
+pub mod DecodeLaws

@@ -1,11 +1,14 @@
 -- What the query for a least word answers is what the definitions say.
+--   first_stays, first_behind     the first refusal of two lists, one after the other
+--   fails_so                     a fault of a call is that of the statement
 --   words_next, words_many, words_few      whether there are too many words
 --   rows_at                      the rows of a code
 --   least_refused                a matrix that is refused
 --   least_many                   too many words
 --   least_told                   the line
---   distance_none, distance_asked      the distance of a code of dimension 0, and of another
-use Rattle.std.proofs.Common.{◌≡◌, ℕ, ◌+◌, ◌*◌, ◌^◌, ◌<◌, ◌≤◌, ◌↔◌, inl, inr, Bool, true, false, nat_lt, List, [], ◌∷◌, ◌++◌, length, map, Vec, Global, Option, Some, None, is_some, Ok, Err, MatchOption, option_map, refl, sym, ap, subst, ◌∙◌, true≢false, arith}
+--   distance_none, levels_none, scan_none      what is printed of a code of dimension 0
+--   asks_distance, asks_levels, asks_scan      these queries are never refused
+use Rattle.std.proofs.Common.{◌≡◌, ℕ, ◌+◌, ◌*◌, ◌^◌, ◌<◌, ◌≤◌, ◌↔◌, inl, inr, Bool, true, false, nat_lt, List, [], ◌∷◌, ◌++◌, length, map, Vec, Global, Option, Some, None, is_some, Ok, Err, MatchOption, option_map, codes, Result, refl, sym, ap, subst, ◌∙◌, true≢false, arith}
 use Rattle.std.proofs.Math.Nat.{pow-le-pow_right}
 use Rattle.std.proofs.lemmas.List.{length-map}
 use Rattle.std.proofs.lemmas.Bool.Decides.{nat_tests, Decides-ltb}
@@ -21,11 +24,14 @@ use Rattle.lc_constructions.specs.declared.refusal.CodeRefusal.{CodeRefusal}
 use Rattle.lc_constructions.specs.Refusal.{first_refusal, IsRefusedAs}
 use Rattle.lc_constructions.specs.Refusals.{columns_of, matrix_refusals}
 use Rattle.lc_basic.proofs.HammingLaws.{power_next}
-use Rattle.lc_language.specs.Bound.{least_word, minimum_distance}
+use Rattle.lc_language.specs.Bound.{least_word, minimum_distance, certificate, scan_certificate}
 use Rattle.lc_language.specs.Refusal.{Refusal, refuse, when, first_of, refusal_from, from_codes, query_refusals_of, query_refusal_of}
 use Rattle.lc_language.specs.Print.{distance_none_line}
-use Rattle.lc_language.specs.Query.{distance, query_line, distance_answer_line}
-use Rattle.lc_language.specs.Evaluation.{refused, refuse_at, refuse_call, Step, prints, asks, fails, fail_with, PrintsLeast, QueriesTo}
+use Rattle.lc_algebra.specs.Divisor.{divisor_of}
+use Rattle.lc_formats.specs.Text.{line}
+use Rattle.lc_language.specs.Query.{QueryKind, distance, by_levels, by_scan, query_line, distance_answer_line, certificate_answer_line}
+use Rattle.lc_language.specs.Evaluation.{refused, refuse_at, refuse_call, Step, prints, fails, fail_with, PrintsLeast, AsksOf, QueriesTo}
+use Rattle.lc_eval.specs.declared.statement.Effect.{Effect}
 use Rattle.lc_eval.specs.declared.refusals.Refused.{Refused}
 use Rattle.lc_eval.specs.declared.refusals.Stop.{Stop}
 use Rattle.lc_eval.specs.declared.refusals.Stop.TheVariants as stop
@@ -59,13 +65,13 @@ rows_at f g n m rows others p q r h = rw (p, q, r) h
 
 -- ---- the refusals
 
-first_stays : (xs ys : List (Option Refusal)) (r : Refusal) → first_of xs ≡ Some r → first_of (xs ++ ys) ≡ Some r
+pub first_stays : (xs ys : List (Option Refusal)) (r : Refusal) → first_of xs ≡ Some r → first_of (xs ++ ys) ≡ Some r
 unfolding first_of
 first_stays [] ys r h = absurd (true≢false (ap is_some (sym h)))
 first_stays (None ∷ xs) ys r h = first_stays xs ys r h
 first_stays (Some x ∷ xs) ys r h = h
 
-first_behind : (xs ys : List (Option Refusal)) → first_of xs ≡ None → first_of (xs ++ ys) ≡ first_of ys
+pub first_behind : (xs ys : List (Option Refusal)) → first_of xs ≡ None → first_of (xs ++ ys) ≡ first_of ys
 unfolding first_of
 first_behind [] ys h = refl
 first_behind (None ∷ xs) ys h = first_behind xs ys h
@@ -99,7 +105,7 @@ Querying place rows f r step = MatchOption r (PrintsLeast rows f step) (λ r. st
 querying : (place : ℕ) (rows : List (List ℕ)) (f : FieldName) (r : Option Refusal) (step : Step) → query_refusal_of (least_word rows f) ≡ r → Querying place rows f r step → QueriesTo place (least_word rows f) step
 querying place rows f r step e h = subst (λ t. Querying place rows f t step) (sym e) h
 
-fails_so : (place : ℕ) (r : Refused) (refusal : Refusal) → refused (refused_of r) ≡ refuse_call place refusal → fails (refused_of r) ≡ fail_with (refuse_call place refusal)
+pub fails_so : (place : ℕ) (r : Refused) (refusal : Refusal) → refused (refused_of r) ≡ refuse_call place refusal → fails (refused_of r) ≡ fail_with (refuse_call place refusal)
 unfolding fail_with
 fails_so place r refusal h = ap fail_with h
 
@@ -166,15 +172,35 @@ least_told place rows f words C b text w h i t e l =
     let line : IsLeastLine f (columns_of given) given text = subst (λ u. IsLeastLine f (columns_of given) u text) same here in
     (querying place given f None (prints text) (matrix_few given f n.1 few) (printed given f text line))
 
--- ---- the minimum distance
+-- ---- queries that a search answers
 
-pub distance_none : (place : ℕ) (C : Matrix) (text : List ℕ) → length C.rows ≡ 0 → text ≡ distance_none_line → QueriesTo place (minimum_distance C) (prints text)
-unfolding query_refusal_of query_refusals_of first_of query_line distance_answer_line answer
-distance_none place C text e t = inl (e, ap (λ (x : List ℕ). prints x) (t ∙ sym line))
+pub distance_none : (C : Matrix) (text : List ℕ) → length C.rows ≡ 0 → text ≡ distance_none_line → text ≡ query_line distance C 0
+unfolding query_line distance_answer_line answer
+distance_none C text e t = t ∙ sym line
   where
     line : query_line distance C 0 ≡ distance_none_line
     line = rw e refl
 
-pub distance_asked : (place : ℕ) (C D : Matrix) → 0 < length C.rows → D ≡ C → QueriesTo place (minimum_distance C) (asks distance D)
+certificate_of_none : (kind : QueryKind) (C : Matrix) → length C.rows ≡ 0 → certificate_answer_line kind C (answer (divisor_of C) C 0) ≡ line (codes "certificate none")
+unfolding certificate_answer_line answer
+certificate_of_none kind C e = rw e refl
+
+pub levels_none : (C : Matrix) (text : List ℕ) → length C.rows ≡ 0 → text ≡ line (codes "certificate none") → text ≡ query_line by_levels C 0
+unfolding query_line
+levels_none C text e t = t ∙ sym (certificate_of_none by_levels C e)
+
+pub scan_none : (C : Matrix) (text : List ℕ) → length C.rows ≡ 0 → text ≡ line (codes "certificate none") → text ≡ query_line by_scan C 0
+unfolding query_line
+scan_none C text e t = t ∙ sym (certificate_of_none by_scan C e)
+
+pub asks_distance : (place : ℕ) (C : Matrix) (r : Result Effect Stop) → AffectsOrFails r (AsksOf distance C) → AffectsOrFails r (QueriesTo place (minimum_distance C))
 unfolding query_refusal_of query_refusals_of first_of
-distance_asked place C D l e = inr (l, ap (asks distance) e)
+asks_distance place C r h = h
+
+pub asks_levels : (place : ℕ) (C : Matrix) (r : Result Effect Stop) → AffectsOrFails r (AsksOf by_levels C) → AffectsOrFails r (QueriesTo place (certificate C))
+unfolding query_refusal_of query_refusals_of first_of
+asks_levels place C r h = h
+
+pub asks_scan : (place : ℕ) (C : Matrix) (r : Result Effect Stop) → AffectsOrFails r (AsksOf by_scan C) → AffectsOrFails r (QueriesTo place (scan_certificate C))
+unfolding query_refusal_of query_refusals_of first_of
+asks_scan place C r h = h

@@ -9,9 +9,9 @@ use Rattle.std.specs.Prelude.{◌≡◌, ℕ, List, [], ◌∷◌, map, Some}
 use Rattle.lc_language.specs.declared.Call as language
 use Rattle.lc_language.specs.declared.Call.TheVariants.{Value, Query}
 use Rattle.lc_language.specs.declared.ValueCall as language_value
-use Rattle.lc_language.specs.declared.ValueCall.TheVariants.{Gf, GeneratorMatCode, CheckMatCode, RepetitionCode, WholeSpaceCode, NullCode, HammingCode, ReedMullerCode, GeneratorPolCode, CheckPolCode, BinaryGolayCode, TernaryGolayCode, ExtendedBinaryGolayCode, ExtendedTernaryGolayCode, BchCode, ReedSolomonCode, GoppaCode, AlternantCode, DualCode, ExtendedCode, PuncturedCode, ShortenedCode, EvenWeightSubcode, DirectSumCode, UuvCode, DirectProductCode, IntersectionCode, ConcatenatedCode, Dimension, WordLength, GeneratorMat, CheckMat, Weight, IsCodeword}
+use Rattle.lc_language.specs.declared.ValueCall.TheVariants.{Gf, GeneratorMatCode, CheckMatCode, RepetitionCode, WholeSpaceCode, NullCode, HammingCode, ReedMullerCode, GeneratorPolCode, CheckPolCode, BinaryGolayCode, TernaryGolayCode, ExtendedBinaryGolayCode, ExtendedTernaryGolayCode, BchCode, ReedSolomonCode, GoppaCode, AlternantCode, DualCode, ExtendedCode, PuncturedCode, ShortenedCode, EvenWeightSubcode, DirectSumCode, UuvCode, DirectProductCode, IntersectionCode, ConcatenatedCode, Dimension, WordLength, GeneratorMat, CheckMat, Weight, IsCodeword, Decode}
 use Rattle.lc_language.specs.declared.QueryCall as language_query
-use Rattle.lc_language.specs.declared.QueryCall.TheVariants.{LeastWord, MinimumDistance}
+use Rattle.lc_language.specs.declared.QueryCall.TheVariants.{AlgebraicDecode, LeastWord, MinimumDistance, Certificate, ScanCertificate}
 use Rattle.lc_language.specs.declared.Kind.{Kind}
 use Rattle.lc_language.specs.Calls.{call_named, signatures}
 use Rattle.lc_language.specs.Bound as bound
@@ -63,17 +63,21 @@ value_call_of v.GeneratorMat = GeneratorMat
 value_call_of v.CheckMat = CheckMat
 value_call_of v.Weight = Weight
 value_call_of v.IsCodeword = IsCodeword
+value_call_of v.Decode = Decode
 
 abbrev pub query_call_of : QueryCall → language_query.QueryCall
+query_call_of q.AlgebraicDecode = AlgebraicDecode
 query_call_of q.LeastWord = LeastWord
 query_call_of q.MinimumDistance = MinimumDistance
+query_call_of q.Certificate = Certificate
+query_call_of q.ScanCertificate = ScanCertificate
 
 abbrev pub call_of : Call → language.Call
 call_of (call.Value x) = Value (value_call_of x)
 call_of (call.Query x) = Query (query_call_of x)
 
 unfoldable pub built_calls : List language.Call
-built_calls = Value Gf ∷ Value GeneratorMatCode ∷ Value CheckMatCode ∷ Value RepetitionCode ∷ Value WholeSpaceCode ∷ Value NullCode ∷ Value HammingCode ∷ Value ReedMullerCode ∷ Value GeneratorPolCode ∷ Value CheckPolCode ∷ Value BinaryGolayCode ∷ Value TernaryGolayCode ∷ Value ExtendedBinaryGolayCode ∷ Value ExtendedTernaryGolayCode ∷ Value BchCode ∷ Value ReedSolomonCode ∷ Value GoppaCode ∷ Value AlternantCode ∷ Value DualCode ∷ Value ExtendedCode ∷ Value PuncturedCode ∷ Value ShortenedCode ∷ Value EvenWeightSubcode ∷ Value DirectSumCode ∷ Value UuvCode ∷ Value DirectProductCode ∷ Value IntersectionCode ∷ Value ConcatenatedCode ∷ Value Dimension ∷ Value WordLength ∷ Value GeneratorMat ∷ Value CheckMat ∷ Value Weight ∷ Value IsCodeword ∷ Query LeastWord ∷ Query MinimumDistance ∷ []
+built_calls = Value Gf ∷ Value GeneratorMatCode ∷ Value CheckMatCode ∷ Value RepetitionCode ∷ Value WholeSpaceCode ∷ Value NullCode ∷ Value HammingCode ∷ Value ReedMullerCode ∷ Value GeneratorPolCode ∷ Value CheckPolCode ∷ Value BinaryGolayCode ∷ Value TernaryGolayCode ∷ Value ExtendedBinaryGolayCode ∷ Value ExtendedTernaryGolayCode ∷ Value BchCode ∷ Value ReedSolomonCode ∷ Value GoppaCode ∷ Value AlternantCode ∷ Value DualCode ∷ Value ExtendedCode ∷ Value PuncturedCode ∷ Value ShortenedCode ∷ Value EvenWeightSubcode ∷ Value DirectSumCode ∷ Value UuvCode ∷ Value DirectProductCode ∷ Value IntersectionCode ∷ Value ConcatenatedCode ∷ Value Dimension ∷ Value WordLength ∷ Value GeneratorMat ∷ Value CheckMat ∷ Value Weight ∷ Value IsCodeword ∷ Value Decode ∷ Query AlgebraicDecode ∷ Query LeastWord ∷ Query MinimumDistance ∷ Query Certificate ∷ Query ScanCertificate ∷ []
 
 abbrev pub bound_of : BoundCall → bound.BoundCall
 bound_of (b.Gf q) = bound.gf q
@@ -110,10 +114,14 @@ bound_of (b.GeneratorMat C) = bound.generator_mat C.now
 bound_of (b.CheckMat C) = bound.check_mat C.now
 bound_of (b.Weight x) = bound.weight_of x.now
 bound_of (b.IsCodeword C x) = bound.is_codeword C.now x.now
+bound_of (b.Decode C x) = bound.decode C.now x.now
 
 abbrev pub bound_query_of : BoundQuery → bound.BoundQuery
+bound_query_of (bq.AlgebraicDecode C x) = bound.algebraic_decode C.now.code C.now.form x.now
 bound_query_of (bq.LeastWord rows f) = bound.least_word (rows_of rows.now) f.now
 bound_query_of (bq.MinimumDistance C) = bound.minimum_distance C.now
+bound_query_of (bq.Certificate C) = bound.certificate C.now
+bound_query_of (bq.ScanCertificate C) = bound.scan_certificate C.now
 
 abbrev pub forms_of : Row → List (List Kind)
 forms_of row = map (λ kinds. kinds.now) row.forms.now

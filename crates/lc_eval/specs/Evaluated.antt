@@ -1,5 +1,6 @@
 -- What the evaluation of expressions and statements answers; the clauses of private functions alone speak of these.
 --   AnswersAll r P               r is the values of several expressions or the first fault, of which P holds, unless memory ran out
+--   kind_of k                    what a query of the kind k asks
 --   need_of q                    what a statement does that asks the query q
 --   Affects e P                  e is what a statement does, of which P holds
 --   AffectsOrFails r P           r is what a statement does, or its fault, of which P holds, unless memory ran out
@@ -12,7 +13,8 @@ use Rattle.lc_grammar.specs.Tree as tree
 use Rattle.lc_parse.specs.declared.tree.Expr.{Expr}
 use Rattle.lc_parse.specs.Views.{tree_of, trees_of}
 use Rattle.lc_language.specs.Print.{fault_line}
-use Rattle.lc_language.specs.Query.{distance}
+use Rattle.lc_language.specs.Query as language
+use Rattle.lc_language.specs.Query.{distance, by_levels, by_scan}
 use Rattle.lc_language.specs.Evaluation as evaluation
 use Rattle.lc_language.specs.Evaluation.{Outcomes, all_give, one_refused, Step, prints, binds, asks, fails, query_of}
 use Rattle.lc_eval.specs.Built.{built_calls, query_call_of, IsAsked}
@@ -20,7 +22,8 @@ use Rattle.lc_eval.specs.Value.{values_of, binding_of, refused_of}
 use Rattle.lc_eval.specs.declared.calls.QueryCall.{QueryCall}
 use Rattle.lc_eval.specs.declared.calls.Row.{Row}
 use Rattle.lc_eval.specs.declared.machine.Query.{Query}
-use Rattle.lc_eval.specs.declared.machine.Query.TheVariants as query
+use Rattle.lc_eval.specs.declared.machine.QueryKind.{QueryKind}
+use Rattle.lc_eval.specs.declared.machine.QueryKind.TheVariants.{Distance, Levels, Scan}
 use Rattle.lc_eval.specs.declared.values.Value.{Value}
 use Rattle.lc_eval.specs.declared.refusals.Stop.{Stop}
 use Rattle.lc_eval.specs.declared.refusals.Stop.TheVariants as stop
@@ -32,8 +35,13 @@ AnswersAll (Ok vs) P = P (all_give (values_of vs.items))
 AnswersAll (Err (stop.Refused r)) P = P (one_refused (refused_of r))
 AnswersAll (Err stop.NoMemory) P = Unit {0}
 
+abbrev pub kind_of : QueryKind → language.QueryKind
+kind_of Distance = distance
+kind_of Levels = by_levels
+kind_of Scan = by_scan
+
 abbrev pub need_of : Query → Step
-need_of (query.MinimumDistance C) = asks distance C
+need_of q = asks (kind_of q.kind) q.code
 
 abbrev pub Affects : Effect → (Step → Type 0) → Type 0
 Affects (effect.Binds b) P = P (binds (binding_of b))

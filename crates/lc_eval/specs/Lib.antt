@@ -3,6 +3,7 @@ pub mod Value
 pub mod Listed
 pub mod Names
 pub mod Machine
+pub mod Checked
 pub mod Applied
 pub mod Evaluated
 pub mod Scan

@@ -1,6 +1,5 @@
 -- The values and bindings of `lc_language` that those of the machine stand for.
 --   rows_of rows                  the rows of a list of lists
---   code_value_of c               a code with its alternant form
 --   value_of v, values_of vs      the value; the values of a list
 --   binding_of b                  the binding
 --   refused_of r                  the fault
@@ -8,7 +7,6 @@ use Rattle.std.specs.Prelude.{ℕ, List, map, string_bytes}
 use Rattle.std.specs.Global.{Vec}
 use Rattle.lc_language.specs.Value as language
 use Rattle.lc_language.specs.Evaluation as evaluation
-use Rattle.lc_eval.specs.declared.values.CodeValue.{CodeValue}
 use Rattle.lc_eval.specs.declared.values.Value.{Value}
 use Rattle.lc_eval.specs.declared.values.Value.TheVariants.{Number, Field, Numbers, Lists, Code, Truth}
 use Rattle.lc_eval.specs.declared.values.Binding.{Binding}
@@ -16,9 +14,6 @@ use Rattle.lc_eval.specs.declared.refusals.Refused.{Refused}
 
 abbrev pub rows_of : List (Vec ℕ) → List (List ℕ)
 rows_of rows = map (λ row. row.items) rows
-
-abbrev pub code_value_of : CodeValue → language.CodeValue
-code_value_of c = record { code = c.code; form = c.form }
 
 abbrev pub value_of : Value → language.Value
 value_of (Number n) = language.number n

@@ -10,31 +10,32 @@ ghost use Rattle.lc_eval.specs.Applied.{Answers};
 ghost use Rattle.lc_eval.specs.Made.{IsMade};
 
 use crate::calls::BoundCall;
+use crate::code_value::CodeValue;
 use crate::cyclic::{
     check_pol_code, extended_binary_golay_code, extended_ternary_golay_code, generator_pol_code,
 };
-use crate::fields::Fields;
+use crate::decoding::{decode, is_codeword};
 use crate::forms::{alternant_code, formed, goppa_code};
 use crate::refusals::{NOT_A_FIELD, Stop, fault, refused_as};
-use crate::rows::{lists_of, word_of, words_of};
-use crate::values::{CodeValue, Value};
+use crate::rows::{lists_of, words_of};
+use crate::stock::Stock;
+use crate::values::Value;
 use lc_code::{Code, CodeRefusal};
 use lc_field::{Field, FieldRefusal, NoMemory};
-use lc_vec::fits;
 use std::alloc::Global;
 use std::rc::Rc;
 
 /// What a call gives of its arguments, or its refusal, at this place.
 pub(crate) fn apply(
     alloc: Global,
-    fields: &mut Fields,
+    stock: &mut Stock,
     place: usize,
     call: BoundCall<'_>,
 ) -> Result<Value, Stop>
     ensures { Answers result (AppliesTo place (bound_of call.entry)) }
 {
     match call {
-        BoundCall::Gf(q) => gf(alloc, fields, place, q),
+        BoundCall::Gf(q) => gf(alloc, stock, place, q),
         BoundCall::GeneratorMatCode(rows, field) => generator_mat_code(alloc, place, rows, field),
         BoundCall::CheckMatCode(rows, field) => check_mat_code(alloc, place, rows, field),
         BoundCall::RepetitionCode(n, field) => {
@@ -94,6 +95,7 @@ pub(crate) fn apply(
         BoundCall::CheckMat(code) => Ok(rows_value(alloc, &code.dual(alloc)?)?),
         BoundCall::Weight(list) => Ok(Value::Number(nonzero(list) as u64)),
         BoundCall::IsCodeword(code, list) => is_codeword(alloc, place, code, list),
+        BoundCall::Decode(code, list) => decode(alloc, stock, place, code, list),
     }
 }
 
@@ -128,10 +130,10 @@ pub(crate) fn made(
 
 // The field with a number of elements.
 #[tactic(auto, using(crate::proofs::CallLaws::gf_field, crate::proofs::CallLaws::gf_refused))]
-fn gf(alloc: Global, fields: &mut Fields, place: usize, q: u64) -> Result<Value, Stop>
+fn gf(alloc: Global, stock: &mut Stock, place: usize, q: u64) -> Result<Value, Stop>
     ensures { Answers result (AppliesTo place (bound.gf q)) }
 {
-    match fields.of(alloc, q) {
+    match stock.field(alloc, q) {
         Ok(field) => Ok(Value::Field(field)),
         Err(FieldRefusal::NotAField) => Err(Stop::Refused(fault(alloc, NOT_A_FIELD, place))),
         Err(FieldRefusal::NoMemory) => Err(Stop::NoMemory),
@@ -171,19 +173,4 @@ fn nonzero(list: &[u64]) -> usize
     ensures { result ≡ weight_of list.now }
 {
     list.iter().filter(|a| **a != 0).count()
-}
-
-// Whether a list of numbers is a word of a code.
-fn is_codeword(alloc: Global, place: usize, code: &Code, list: &[u64]) -> Result<Value, Stop>
-    ensures { Answers result (AppliesTo place (bound.is_codeword code.now list.now)) }
-{
-    if list.len() != code.length() {
-        return Err(refused_as(alloc, place, CodeRefusal::LengthsDiffer));
-    }
-    let word = word_of(alloc, list)?;
-    if !fits(code.field(), word.symbols()) {
-        return Err(refused_as(alloc, place, CodeRefusal::BadArgument(2)));
-    }
-    let mut rest = word.symbols().to_vec(alloc)?;
-    Ok(Value::Truth(code.contains(word.symbols(), &mut rest)))
 }

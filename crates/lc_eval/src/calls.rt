@@ -9,6 +9,7 @@ ghost use Rattle.lc_language.specs.Bound as language;
 ghost use Rattle.lc_eval.specs.Built.{value_call_of, query_call_of, call_of, built_calls, bound_of, bound_query_of, forms_of, IsRowOf};
 ghost use Rattle.lc_eval.specs.Value.{value_of, values_of};
 
+use crate::code_value::CodeValue;
 use crate::values::Value;
 use lc_code::Code;
 use lc_field::Field;
@@ -51,13 +52,17 @@ pub(crate) enum ValueCall {
     CheckMat,
     Weight,
     IsCodeword,
+    Decode,
 }
 
 /// The calls that are statements of their own.
 #[derive(Clone, Copy)]
 pub(crate) enum QueryCall {
+    AlgebraicDecode,
     LeastWord,
     MinimumDistance,
+    Certificate,
+    ScanCertificate,
 }
 
 /// The calls.
@@ -78,7 +83,7 @@ pub(crate) struct Row {
 }
 
 // The built calls, in the order of the table of all calls.
-static TABLE: [Row; 36] = [
+static TABLE: [Row; 40] = [
     Row {
         call: Call::Value(ValueCall::Gf),
         name: "GF",
@@ -259,6 +264,16 @@ static TABLE: [Row; 36] = [
         forms: &[&[Kind::Code, Kind::Numbers]],
     },
     Row {
+        call: Call::Value(ValueCall::Decode),
+        name: "Decode",
+        forms: &[&[Kind::Code, Kind::Numbers]],
+    },
+    Row {
+        call: Call::Query(QueryCall::AlgebraicDecode),
+        name: "AlgebraicDecode",
+        forms: &[&[Kind::Code, Kind::Numbers]],
+    },
+    Row {
         call: Call::Query(QueryCall::LeastWord),
         name: "LeastWord",
         forms: &[&[Kind::Lists, Kind::Field]],
@@ -266,6 +281,16 @@ static TABLE: [Row; 36] = [
     Row {
         call: Call::Query(QueryCall::MinimumDistance),
         name: "MinimumDistance",
+        forms: &[&[Kind::Code]],
+    },
+    Row {
+        call: Call::Query(QueryCall::Certificate),
+        name: "Certificate",
+        forms: &[&[Kind::Code]],
+    },
+    Row {
+        call: Call::Query(QueryCall::ScanCertificate),
+        name: "ScanCertificate",
         forms: &[&[Kind::Code]],
     },
 ];
@@ -348,12 +373,16 @@ pub(crate) enum BoundCall<'a> {
     CheckMat(&'a Code),
     Weight(&'a [u64]),
     IsCodeword(&'a Code, &'a [u64]),
+    Decode(&'a Code, &'a [u64]),
 }
 
 /// A query with its arguments.
 pub(crate) enum BoundQuery<'a> {
+    AlgebraicDecode(&'a CodeValue, &'a [u64]),
     LeastWord(&'a [Vec<u64>], &'a Field),
     MinimumDistance(&'a Code),
+    Certificate(&'a Code),
+    ScanCertificate(&'a Code),
 }
 
 /// The call with these arguments; None if they are not of its kinds.
@@ -439,6 +468,7 @@ fn with_two<'a>(call: ValueCall, a: &'a Value, b: &'a Value) -> Option<BoundCall
             &b.code()?.code,
         )),
         ValueCall::IsCodeword => Some(BoundCall::IsCodeword(&a.code()?.code, b.numbers()?)),
+        ValueCall::Decode => Some(BoundCall::Decode(&a.code()?.code, b.numbers()?)),
         _ => None,
     }
 }
@@ -527,6 +557,10 @@ pub(crate) fn bind_query(call: QueryCall, arguments: &[Value]) -> Option<BoundQu
     ensures { option_map bound_query_of result ≡ language.bind_query (query_call_of call) (values_of arguments.now) }
 {
     match call {
+        QueryCall::AlgebraicDecode => {
+            let [a, b] = arguments else { return None };
+            Some(BoundQuery::AlgebraicDecode(a.code()?, b.numbers()?))
+        }
         QueryCall::LeastWord => {
             let [a, b] = arguments else { return None };
             Some(BoundQuery::LeastWord(a.lists()?, b.field()?))
@@ -534,6 +568,14 @@ pub(crate) fn bind_query(call: QueryCall, arguments: &[Value]) -> Option<BoundQu
         QueryCall::MinimumDistance => {
             let [a] = arguments else { return None };
             Some(BoundQuery::MinimumDistance(&a.code()?.code))
+        }
+        QueryCall::Certificate => {
+            let [a] = arguments else { return None };
+            Some(BoundQuery::Certificate(&a.code()?.code))
+        }
+        QueryCall::ScanCertificate => {
+            let [a] = arguments else { return None };
+            Some(BoundQuery::ScanCertificate(&a.code()?.code))
         }
     }
 }

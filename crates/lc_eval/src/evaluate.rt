@@ -9,11 +9,11 @@ ghost use Rattle.lc_eval.specs.Evaluated.{AnswersAll};
 
 use crate::apply::apply;
 use crate::calls::{Call, bind, row_named};
-use crate::fields::Fields;
 use crate::kinds::misfit;
 use crate::lists::Listed;
 use crate::names::Names;
 use crate::refusals::{MISFIT, Stop, UNKNOWN_NAME, WRONG_COUNT, fault};
+use crate::stock::Stock;
 use crate::values::Value;
 use lc_parse::{Expr, Node};
 use std::alloc::Global;
@@ -33,7 +33,7 @@ fn named(alloc: Global, names: &Names, place: usize, name: &str) -> Result<Value
 pub(crate) fn evaluate(
     alloc: Global,
     names: &Names,
-    fields: &mut Fields,
+    stock: &mut Stock,
     expr: &Expr,
 ) -> Result<Value, Stop>
     ensures { Answers result (Evaluates built_calls names.now (tree_of expr.now)) }
@@ -41,21 +41,21 @@ pub(crate) fn evaluate(
     match &expr.node {
         Node::Number(n) => Ok(Value::Number(*n)),
         Node::Name(name) => named(alloc, names, expr.place, name.as_str()),
-        Node::List(elements) => list(alloc, names, fields, elements),
+        Node::List(elements) => list(alloc, names, stock, elements),
         Node::Call(name, arguments) => {
-            call(alloc, names, fields, expr.place, name.as_str(), arguments)
+            call(alloc, names, stock, expr.place, name.as_str(), arguments)
         }
     }
 }
 
 // The value of the list of these elements, from the left: each is evaluated, and must then fit those before it.
 #[cycle(evaluation)]
-fn list(alloc: Global, names: &Names, fields: &mut Fields, elements: &[Expr]) -> Result<Value, Stop>
+fn list(alloc: Global, names: &Names, stock: &mut Stock, elements: &[Expr]) -> Result<Value, Stop>
     ensures { Answers result (EvaluatesList built_calls names.now (trees_of elements.now) nothing_yet) }
 {
     let mut found = Listed::Nothing;
     for element in elements {
-        let value = evaluate(alloc, names, fields, element)?;
+        let value = evaluate(alloc, names, stock, element)?;
         found = found.with(alloc, element.place, &value)?;
     }
     Ok(found.value(alloc)?)
@@ -66,7 +66,7 @@ fn list(alloc: Global, names: &Names, fields: &mut Fields, elements: &[Expr]) ->
 fn call(
     alloc: Global,
     names: &Names,
-    fields: &mut Fields,
+    stock: &mut Stock,
     place: usize,
     name: &str,
     arguments: &[Expr],
@@ -82,9 +82,9 @@ fn call(
     let Some(kinds) = row.kinds(arguments.len()) else {
         return Err(Stop::Refused(fault(alloc, WRONG_COUNT, place)));
     };
-    let values = evaluate_all(alloc, names, fields, arguments)?;
+    let values = evaluate_all(alloc, names, stock, arguments)?;
     match bind(call, &values) {
-        Some(bound) => apply(alloc, fields, place, bound),
+        Some(bound) => apply(alloc, stock, place, bound),
         None => Err(misfit(alloc, place, kinds, arguments, &values)),
     }
 }
@@ -94,14 +94,14 @@ fn call(
 pub(crate) fn evaluate_all(
     alloc: Global,
     names: &Names,
-    fields: &mut Fields,
+    stock: &mut Stock,
     exprs: &[Expr],
 ) -> Result<Vec<Value>, Stop>
     ensures { AnswersAll result (EvaluatesAll built_calls names.now (trees_of exprs.now)) }
 {
     let mut values = Vec::new(alloc);
     for expr in exprs {
-        values.push(evaluate(alloc, names, fields, expr)?)?;
+        values.push(evaluate(alloc, names, stock, expr)?)?;
     }
     Ok(values)
 }

@@ -1,13 +1,15 @@
 //! What the calls give that make a code with its alternant form.
-ghost use Rattle.std.specs.Prelude.{◌≡◌};
+ghost use Rattle.std.specs.Prelude.{◌≡◌, IfOk};
+ghost use Rattle.lc_constructions.specs.Alternant.{IsFormOf};
 ghost use Rattle.lc_language.specs.Bound as bound;
 ghost use Rattle.lc_language.specs.Evaluation.{AppliesTo};
 ghost use Rattle.lc_eval.specs.Applied.{Answers};
 ghost use Rattle.lc_eval.specs.Made.{IsFormed};
 
+use crate::code_value::CodeValue;
 use crate::refusals::{Stop, refused_as};
 use crate::rows::word_of;
-use crate::values::{CodeValue, Value};
+use crate::values::Value;
 use crate::wide::{is_wide, refuse_alternant, refuse_goppa};
 use lc_code::{CodeRefusal, FormedCode};
 use lc_field::Field;
@@ -20,6 +22,7 @@ pub(crate) fn formed(
     place: usize,
     code: Result<FormedCode, CodeRefusal>,
 ) -> Result<Value, Stop>
+    requires formed { IfOk code (λ c. IsFormOf c.code c.form) }
     ensures { IsFormed code place result }
 {
     match code {

@@ -3,9 +3,10 @@
 
 mod apply;
 mod calls;
+mod code_value;
 mod cyclic;
+mod decoding;
 mod evaluate;
-mod fields;
 mod forms;
 mod kinds;
 mod laws;
@@ -18,8 +19,9 @@ mod queries;
 mod refusals;
 mod rows;
 mod statement;
+mod stock;
 mod values;
 mod wide;
 
 pub use laws::{misfits_are_arguments, names_after_an_assignment};
-pub use machine::{Machine, Query, Step};
+pub use machine::{Machine, Query, QueryKind, Step};

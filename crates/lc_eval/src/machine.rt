@@ -3,9 +3,9 @@ ghost use Rattle.std.specs.Prelude.{◌≡◌, [], IfOk, IfErr};
 ghost use Rattle.lc_parse.specs.Views.{script_of};
 ghost use Rattle.lc_eval.specs.Machine.{State, Does};
 
-use crate::fields::Fields;
 use crate::names::Names;
 use crate::statement::{Effect, effect_of};
+use crate::stock::Stock;
 use crate::values::Binding;
 use lc_code::Code;
 use lc_field::NoMemory;
@@ -13,11 +13,24 @@ use lc_parse::Script;
 use std::alloc::Global;
 use std::marker::Model;
 
+/// What a query asks of a code.
+#[derive(Clone, Copy, Debug, PartialEq, Eq)]
+pub enum QueryKind {
+    /// the minimum distance
+    Distance,
+    /// a certificate of the minimum distance by levels of information sets
+    Levels,
+    /// a certificate of the minimum distance by a scan of all words
+    Scan,
+}
+
 /// A query that the machine leaves to its caller to answer, by a search.
 #[derive(Drop)]
-pub enum Query {
-    /// the minimum distance of a code of dimension at least 1
-    MinimumDistance(Code),
+pub struct Query {
+    /// what it asks
+    pub kind: QueryKind,
+    /// of which code, whose dimension is at least 1
+    pub code: Code,
 }
 
 /// What a step of the machine answers.
@@ -41,7 +54,7 @@ pub struct Machine {
     script: Script,
     next: usize,
     names: Names,
-    fields: Fields,
+    stock: Stock,
 }
 
 impl Model for Machine {
@@ -68,7 +81,7 @@ impl Machine {
             script,
             next: 0,
             names: Names::new(alloc),
-            fields: Fields::new(alloc),
+            stock: Stock::new(alloc),
         })
     }
 
@@ -82,7 +95,7 @@ impl Machine {
         let Some(statement) = self.script.statements.get(self.next) else {
             return Ok(Step::End);
         };
-        match effect_of(alloc, &self.names, &mut self.fields, statement)? {
+        match effect_of(alloc, &self.names, &mut self.stock, statement)? {
             Effect::Binds(Binding { name, value }) => {
                 self.names.bind(name, value)?;
                 self.next += 1;

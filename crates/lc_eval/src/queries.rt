@@ -1,23 +1,25 @@
 //! The calls that stand only as whole statements.
-ghost use Rattle.std.specs.Prelude.{◌≡◌, ◌^◌, nat_lt, IfOk};
+ghost use Rattle.std.specs.Prelude.{◌≡◌, ◌^◌, nat_lt, length, IfOk};
 ghost use Rattle.lc_algebra.specs.Field.{size};
 ghost use Rattle.lc_language.specs.Bound as bound;
-ghost use Rattle.lc_language.specs.Evaluation.{QueriesTo};
+ghost use Rattle.lc_language.specs.Query.{query_line};
+ghost use Rattle.lc_language.specs.Evaluation.{QueriesTo, AsksOf};
 ghost use Rattle.lc_eval.specs.Built.{bound_query_of};
 ghost use Rattle.lc_eval.specs.Value.{rows_of};
-ghost use Rattle.lc_eval.specs.Evaluated.{AffectsOrFails};
+ghost use Rattle.lc_eval.specs.Evaluated.{AffectsOrFails, kind_of};
 ghost use Rattle.lc_eval.specs.Scan.{IsLeastLine};
 
 use crate::calls::BoundQuery;
+use crate::decoding::algebraic_decode;
 use crate::least;
-use crate::machine::Query;
+use crate::machine::{Query, QueryKind};
 use crate::refusals::{Stop, TOO_MANY_WORDS, fault, refused_as};
 use crate::rows::{rows_of, words_of};
 use crate::statement::Effect;
 use lc_basic::generator_mat;
 use lc_code::Code;
 use lc_field::{Field, NoMemory};
-use lc_print::{distance_none_line, least_line, least_none_line};
+use lc_print::{certificate_none_line, distance_none_line, least_line, least_none_line};
 use lc_vec::weight;
 use std::alloc::Global;
 
@@ -53,24 +55,41 @@ fn line_of(alloc: Global, code: &Code) -> Result<Vec<u8>, NoMemory>
 }
 
 /// What a query does of its arguments, or its refusal, at this place.
+#[tactic(auto, using(crate::proofs::QueryLaws::asks_distance, crate::proofs::QueryLaws::asks_levels, crate::proofs::QueryLaws::asks_scan))]
 pub(crate) fn answer(alloc: Global, place: usize, query: BoundQuery<'_>) -> Result<Effect, Stop>
     ensures { AffectsOrFails result (QueriesTo place (bound_query_of query.entry)) }
 {
     match query {
         BoundQuery::LeastWord(rows, field) => least_word(alloc, place, rows, field),
-        BoundQuery::MinimumDistance(code) => minimum_distance(alloc, place, code),
+        BoundQuery::MinimumDistance(code) => asked(alloc, QueryKind::Distance, code),
+        BoundQuery::Certificate(code) => asked(alloc, QueryKind::Levels, code),
+        BoundQuery::ScanCertificate(code) => asked(alloc, QueryKind::Scan, code),
+        BoundQuery::AlgebraicDecode(code, list) => algebraic_decode(alloc, place, code, list),
     }
 }
 
-// The minimum distance of a code, which a search finds; a code of dimension 0 has none.
-#[tactic(auto, using(crate::proofs::QueryLaws::distance_none, crate::proofs::QueryLaws::distance_asked))]
-fn minimum_distance(alloc: Global, _place: usize, code: &Code) -> Result<Effect, Stop>
-    ensures { AffectsOrFails result (QueriesTo _place (bound.minimum_distance code.now)) }
+// The line of a query on a code of dimension 0.
+#[tactic(auto, using(crate::proofs::QueryLaws::distance_none, crate::proofs::QueryLaws::levels_none, crate::proofs::QueryLaws::scan_none))]
+fn nothing_line(alloc: Global, kind: QueryKind, _code: &Code) -> Result<Vec<u8>, NoMemory>
+    requires { length _code.now.rows ≡ 0 }
+    ensures { IfOk result (λ l. l.items ≡ query_line (kind_of kind) _code.now 0) }
+{
+    match kind {
+        QueryKind::Distance => Ok(distance_none_line(alloc)?),
+        QueryKind::Levels => Ok(certificate_none_line(alloc)?),
+        QueryKind::Scan => Ok(certificate_none_line(alloc)?),
+    }
+}
+
+// A query that a search answers; of a code of dimension 0 its line is known at once.
+fn asked(alloc: Global, kind: QueryKind, code: &Code) -> Result<Effect, Stop>
+    ensures { AffectsOrFails result (AsksOf (kind_of kind) code.now) }
 {
     if code.dimension() == 0 {
-        return Ok(Effect::Prints(distance_none_line(alloc)?));
+        return Ok(Effect::Prints(nothing_line(alloc, kind, code)?));
     }
-    Ok(Effect::Needs(Query::MinimumDistance(code.copy(alloc)?)))
+    let code = code.copy(alloc)?;
+    Ok(Effect::Needs(Query { kind, code }))
 }
 
 // The line of the first nonzero word, by weight and then lexicographically, among the sums of multiples of rows over a field.

@@ -11,8 +11,12 @@ use std::alloc::{AllocError, AllocFailed, Global};
 
 /// No field has this number of elements.
 pub(crate) const NOT_A_FIELD: u8 = 1;
+/// The code has more cosets than a decoder keeps leaders of.
+pub(crate) const TOO_MANY_COSETS: u8 = 15;
 /// There are more words than a query looks at.
 pub(crate) const TOO_MANY_WORDS: u8 = 16;
+/// The code has no alternant form.
+pub(crate) const NO_FORM: u8 = 18;
 /// A name that no value and no call has.
 pub(crate) const UNKNOWN_NAME: u8 = 44;
 /// A value that is not of the kind that is asked for, or a query inside an expression.

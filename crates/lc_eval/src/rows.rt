@@ -27,8 +27,8 @@ pub(crate) fn words_of(alloc: Global, rows: &[Vec<u64>]) -> Result<Vec<Word>, No
     Ok(words)
 }
 
-/// The symbols of a word as numbers.
-fn list_of(alloc: Global, symbols: &[u8]) -> Result<Vec<u64>, NoMemory>
+//// The symbols of a word as numbers.
+pub(crate) fn list_of(alloc: Global, symbols: &[u8]) -> Result<Vec<u64>, NoMemory>
     ensures { IfOk result (λ list. list.items ≡ symbols.now) }
 {
     Ok(symbols.iter().map(|a| u64::from(*a)).collect(alloc)?)

@@ -8,13 +8,13 @@ ghost use Rattle.lc_eval.specs.Evaluated.{Affects, AffectsOrFails, IsQueryOf};
 
 use crate::calls::{Call, QueryCall, Row, bind_query, row_named};
 use crate::evaluate::{evaluate, evaluate_all};
-use crate::fields::Fields;
 use crate::kinds::misfit;
 use crate::lines::value_line;
 use crate::machine::Query;
 use crate::names::Names;
 use crate::queries::answer;
 use crate::refusals::{Stop, WRONG_COUNT, fault};
+use crate::stock::Stock;
 use crate::values::Binding;
 use lc_field::NoMemory;
 use lc_parse::{Expr, Node, Statement};
@@ -38,12 +38,12 @@ pub(crate) enum Effect {
 pub(crate) fn effect_of(
     alloc: Global,
     names: &Names,
-    fields: &mut Fields,
+    stock: &mut Stock,
     statement: &Statement,
 ) -> Result<Effect, NoMemory>
     ensures { IfOk result (λ effect. Affects effect (Steps built_calls names.now (statement_of statement.now))) }
 {
-    match done(alloc, names, fields, statement) {
+    match done(alloc, names, stock, statement) {
         Ok(effect) => Ok(effect),
         Err(Stop::Refused(refused)) => {
             let line = fault_line(alloc, refused.number, refused.place, &refused.values)?;
@@ -57,31 +57,31 @@ pub(crate) fn effect_of(
 fn done(
     alloc: Global,
     names: &Names,
-    fields: &mut Fields,
+    stock: &mut Stock,
     statement: &Statement,
 ) -> Result<Effect, Stop>
     ensures { AffectsOrFails result (Steps built_calls names.now (statement_of statement.now)) }
 {
     match &statement.target {
         Some(name) => {
-            let value = evaluate(alloc, names, fields, &statement.expr)?;
+            let value = evaluate(alloc, names, stock, &statement.expr)?;
             let name = name.clone()?;
             Ok(Effect::Binds(Binding { name, value }))
         }
-        None => alone(alloc, names, fields, &statement.expr),
+        None => alone(alloc, names, stock, &statement.expr),
     }
 }
 
 // What an expression does that stands alone.
-fn alone(alloc: Global, names: &Names, fields: &mut Fields, expr: &Expr) -> Result<Effect, Stop>
+fn alone(alloc: Global, names: &Names, stock: &mut Stock, expr: &Expr) -> Result<Effect, Stop>
     ensures { AffectsOrFails result (StepsOf built_calls names.now None (tree_of expr.now)) }
 {
     match query_of(expr) {
         Some((row, call, arguments)) => {
-            ask(alloc, names, fields, row, call, expr.place, arguments)
+            ask(alloc, names, stock, row, call, expr.place, arguments)
         }
         None => {
-            let value = evaluate(alloc, names, fields, expr)?;
+            let value = evaluate(alloc, names, stock, expr)?;
             Ok(Effect::Prints(value_line(alloc, &value)?))
         }
     }
@@ -105,7 +105,7 @@ fn query_of(expr: &Expr) -> Option<(&'static Row, QueryCall, &[Expr])>
 fn ask(
     alloc: Global,
     names: &Names,
-    fields: &mut Fields,
+    stock: &mut Stock,
     row: &'static Row,
     call: QueryCall,
     place: usize,
@@ -117,7 +117,7 @@ fn ask(
     let Some(kinds) = row.kinds(arguments.len()) else {
         return Err(Stop::Refused(fault(alloc, WRONG_COUNT, place)));
     };
-    let values = evaluate_all(alloc, names, fields, arguments)?;
+    let values = evaluate_all(alloc, names, stock, arguments)?;
     match bind_query(call, &values) {
         Some(query) => answer(alloc, place, query),
         None => Err(misfit(alloc, place, kinds, arguments, &values)),

@@ -1,9 +1,9 @@
 //! The values of a script.
 ghost use Rattle.std.specs.Prelude.{◌≡◌, map, option_map, IfOk};
 ghost use Rattle.lc_language.specs.Value.{number_in, field_in, numbers_in, lists_in, code_in};
-ghost use Rattle.lc_eval.specs.Value.{value_of, code_value_of};
+ghost use Rattle.lc_eval.specs.Value.{value_of};
 
-use lc_code::{Alternant, Code};
+use crate::code_value::CodeValue;
 use lc_field::{Field, NoMemory};
 use std::rc::Rc;
 
@@ -22,13 +22,6 @@ pub(crate) enum Value {
     Code(Rc<CodeValue>),
     /// a truth value
     Truth(bool),
-}
-
-/// A code as a value, with its alternant form if it was made with one.
-#[derive(Drop)]
-pub(crate) struct CodeValue {
-    pub(crate) code: Code,
-    pub(crate) form: Option<Alternant>,
 }
 
 /// A name, and the value that it was assigned.
@@ -88,7 +81,7 @@ impl Value {
     /// The code that the value is.
     #[tactic(auto, unfolding(lc_language::specs::Value::code_in))]
     pub(crate) fn code(&self) -> Option<&CodeValue>
-        ensures { option_map (λ c. code_value_of c.now) result ≡ code_in (value_of self.now) }
+        ensures { option_map (λ c. c.now) result ≡ code_in (value_of self.now) }
     {
         match self {
             Value::Code(code) => Some(code),

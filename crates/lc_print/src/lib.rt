@@ -3,7 +3,8 @@
 //! memory.
 #![tactic(auto)]
 
-ghost use Rattle.std.specs.Prelude.{◌≡◌, map, IfOk, decimal};
+ghost use Rattle.std.specs.Prelude.{◌≡◌, ◌++◌, map, codes, IfOk, OnOk, decimal};
+ghost use Rattle.lc_language.specs.Query.{no_certificate_line};
 ghost use Rattle.lc_language.specs.Value.{truth, nothing};
 ghost use Rattle.lc_formats.specs.Text.{line, numbers_text, lists_text};
 ghost use Rattle.lc_language.specs.Print.{value_line, field_text, code_text, least_line as least_text, least_none_line as least_none_text, distance_line as distance_text, distance_none_line as distance_none_text, bracket_line as bracket_text, fault_line as fault_text};
@@ -72,6 +73,17 @@ pub fn code_line(alloc: Global, n: usize, k: usize, q: u64) -> Result<Vec<u8>, N
     push_field(&mut text, q)?;
     push_newline(&mut text)?;
     Ok(text)
+}
+
+// The two bounds of a distance.
+fn push_bounds(text: &mut Vec<u8>, low: u64, high: u64) -> Result<(), NoMemory>
+    ensures { OnOk result (text.new.items ≡ text.old.items ++ codes " between " ++ decimal low ++ codes " and " ++ decimal high) }
+{
+    push_text(text, b" between ")?;
+    push_number(text, low)?;
+    push_text(text, b" and ")?;
+    push_number(text, high)?;
+    Ok(())
 }
 
 // The line of a text that stands for itself.
@@ -154,10 +166,8 @@ pub fn bracket_line(
     ensures { IfOk result (λ v. v.items ≡ bracket_text low high word.now blocks) }
 {
     let mut text = Vec::new(alloc);
-    push_text(&mut text, b"distance between ")?;
-    push_number(&mut text, low)?;
-    push_text(&mut text, b" and ")?;
-    push_number(&mut text, high)?;
+    push_text(&mut text, b"distance")?;
+    push_bounds(&mut text, low, high)?;
     push_text(&mut text, b" word ")?;
     push_word(&mut text, word)?;
     push_text(&mut text, b" blocks ")?;
@@ -173,6 +183,51 @@ pub fn distance_none_line(alloc: Global) -> Result<Vec<u8>, NoMemory>
     ensures { IfOk result (λ v. v.items ≡ distance_none_text) }
 {
     text_line(alloc, b"distance none")
+}
+
+/// What a query for a certificate prints of a code that has no word but zero: `certificate none`.
+pub fn certificate_none_line(alloc: Global) -> Result<Vec<u8>, NoMemory>
+    ensures { IfOk result (λ v. v.items ≡ line (codes "certificate none")) }
+{
+    text_line(alloc, b"certificate none")
+}
+
+/// What a query for a certificate prints of bounds, if the search ended before the answer was known:
+/// `certificate none between 1 and 3`.
+pub fn certificate_bracket_line(alloc: Global, low: u64, high: u64) -> Result<Vec<u8>, NoMemory>
+    ensures { IfOk result (λ v. v.items ≡ line (codes "certificate none between " ++ decimal low ++ codes " and " ++ decimal high)) }
+{
+    let mut text = Vec::new(alloc);
+    push_text(&mut text, b"certificate none")?;
+    push_bounds(&mut text, low, high)?;
+    push_newline(&mut text)?;
+    Ok(text)
+}
+
+/// What a query for a certificate prints if a checker would have to look at too many words:
+/// `certificate none cost 4294967297`, with their number.
+#[tactic(auto, unfolding(lc_language::specs::Query::no_certificate_line))]
+pub fn certificate_cost_line(alloc: Global, cost: u64) -> Result<Vec<u8>, NoMemory>
+    ensures { IfOk result (λ v. v.items ≡ no_certificate_line (codes "cost") cost) }
+{
+    let mut text = Vec::new(alloc);
+    push_text(&mut text, b"certificate none cost ")?;
+    push_number(&mut text, cost)?;
+    push_newline(&mut text)?;
+    Ok(text)
+}
+
+/// What a query for a certificate prints if its text would be too long: `certificate none length 1048577`, with its length,
+/// the newline counted.
+#[tactic(auto, unfolding(lc_language::specs::Query::no_certificate_line))]
+pub fn certificate_length_line(alloc: Global, length: u64) -> Result<Vec<u8>, NoMemory>
+    ensures { IfOk result (λ v. v.items ≡ no_certificate_line (codes "length") length) }
+{
+    let mut text = Vec::new(alloc);
+    push_text(&mut text, b"certificate none length ")?;
+    push_number(&mut text, length)?;
+    push_newline(&mut text)?;
+    Ok(text)
 }
 
 /// The line of a fault: its number, its place in the script, and the numbers that it carries:

@@ -3,6 +3,7 @@
 --   Both P                  a relation of two things holds of at most one pair
 --   one_value a             of what equals a
 --   one_option r P Q        where an option says which relation holds
+--   one_known r P Q         the same, if P holds of one thing where the option is None
 --   one_either A B P Q      where one of two holds, with facts that exclude each other
 --   one_some P Q            of what is told by a thing that is one itself
 use Rattle.std.proofs.Common.{◌≡◌, ◌⊎◌, Option, Some, None, refl, sym, subst, ◌∙◌, ⊎_elim}
@@ -20,6 +21,10 @@ one_value a = λ x y p q. p ∙ sym q
 pub one_option : {A X : Type 0} (r : Option A) (P : X → Type 0) (Q : A → X → Type 0) → One P → ((a : A) → r ≡ Some a → One (Q a)) → One (λ x. MatchOption r (P x) (λ a. Q a x))
 one_option None P Q p q = p
 one_option (Some a) P Q p q = q a refl
+
+pub one_known : {A X : Type 0} (r : Option A) (P : X → Type 0) (Q : A → X → Type 0) → (r ≡ None → One P) → ((a : A) → One (Q a)) → One (λ x. MatchOption r (P x) (λ a. Q a x))
+one_known None P Q p q = p refl
+one_known (Some a) P Q p q = q a
 
 pub one_either : {X : Type 0} (A B : Type 0) (P Q : X → Type 0) → (A → B → ⊥) → One P → One Q → One (λ x. (A × P x) ⊎ (B × Q x))
 one_either A B P Q apart p q = λ x y h k.

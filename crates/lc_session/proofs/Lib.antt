@@ -1,6 +1,7 @@
 pub mod ArgumentLaws
 pub mod AtMostOne
 pub mod DistanceLaws
+pub mod OneNearest
 pub mod OneText
 pub mod OneValue
 pub mod RunLaws

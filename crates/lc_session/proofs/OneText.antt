@@ -27,7 +27,7 @@ use Rattle.lc_language.specs.Print.{fault_line}
 use Rattle.lc_language.specs.Query.{query_line, distribution_line, near_line}
 use Rattle.lc_language.specs.Evaluation.{Outcome, gives, refused, Outcomes, all_give, one_refused, refuse_at, refuse_call, misfit_place, Listed, nothing_yet, listed_with, list_value, ListGoesOn, AppliesTo, Applies, CallGives, Joins, GoesOn, Evaluates, EvaluatesAll, EvaluatesList, Step, binds, prints, asks, counts, nears, fails, Queries, fail_with, QueriesTo, QueriesAll, as_query, query_of, Assigns, StepsAsQuery, StepsOf, Steps, Prints, Runs, IsText}
 use Rattle.lc_eval.specs.Built.{built_calls}
-use Rattle.lc_session.proofs.AtMostOne.{One, Both, one_value, one_option, one_either, one_some}
+use Rattle.lc_session.proofs.AtMostOne.{One, Both, one_value, one_option, one_known, one_either, one_some}
 use Rattle.lc_session.proofs.OneValue.{IsOneValued, IsOneAnswered, IsDeterminate, built_one}
 
 -- ---- the calls of a table
@@ -58,17 +58,17 @@ list_goes_on_one : (e : Expr) (found : Listed) (Later : Listed → Outcome → T
 list_goes_on_one e found Later h (refused r) = one_value (refused r)
 list_goes_on_one e found Later h (gives v) = one_option (listed_with found v) (λ o. o ≡ refuse_at 45 (place_of e)) Later (one_value (refuse_at 45 (place_of e))) (λ next k. h next)
 
-applies_to_one : (place : ℕ) (b : BoundCall) → One (Gives b) → One (AppliesTo place b)
+applies_to_one : (place : ℕ) (b : BoundCall) → (refusal_of b ≡ None → One (Gives b)) → One (AppliesTo place b)
 applies_to_one place b d =
-    one_option (refusal_of b)
+    one_known (refusal_of b)
     (λ o. (IsNotDivisor b × (o ≡ refuse_at 4 place)) ⊎ (¬ IsNotDivisor b × ((v : Value) × Gives b v × (o ≡ gives v))))
     (λ r o. o ≡ refuse_call place r)
-    (one_either (IsNotDivisor b) (¬ IsNotDivisor b)
+    (λ unrefused. one_either (IsNotDivisor b) (¬ IsNotDivisor b)
     (λ o. o ≡ refuse_at 4 place) (λ o. (v : Value) × Gives b v × (o ≡ gives v))
     (λ a b. b a)
     (one_value (refuse_at 4 place))
-    (one_some (Gives b) (λ v o. o ≡ gives v) d (λ v. one_value (gives v))))
-    (λ r e. one_value (refuse_call place r))
+    (one_some (Gives b) (λ v o. o ≡ gives v) (d unrefused) (λ v. one_value (gives v))))
+    (λ r. one_value (refuse_call place r))
 
 applies_one : (c : ValueCall) (place : ℕ) (kinds : List Kind) (es : Exprs) → IsOneValued c → (os : Outcomes) → One (Applies c place kinds es os)
 applies_one c place kinds es d (one_refused r) = one_value (refused r)

@@ -7,12 +7,11 @@
 use Rattle.std.proofs.Common.{◌≡◌, ℕ, Bool, false, List, [], ◌∷◌, ◌++◌, map, refl, sym, ap, ◌∙◌, subst}
 use Rattle.std.proofs.lemmas.List.{append-nil, append_assoc}
 use Rattle.lc_parse.specs.Views.{statement_of}
-use Rattle.lc_language.specs.Query.{distance}
 use Rattle.lc_language.specs.Evaluation.{Runs, binds, asks}
 use Rattle.lc_eval.specs.Built.{built_calls}
 use Rattle.lc_eval.specs.Machine.{State, Does}
 use Rattle.lc_eval.specs.declared.machine.Query.{Query}
-use Rattle.lc_eval.specs.declared.machine.Query.TheVariants as query
+use Rattle.lc_eval.specs.Evaluated.{kind_of}
 use Rattle.lc_eval.specs.declared.machine.Step.TheVariants as step
 use Rattle.lc_session.specs.Searched.{searched_line}
 use Rattle.lc_session.proofs.SameNames.{runs_same}
@@ -42,9 +41,9 @@ pub goes_silently : (budget : ℕ) (start old new : State) (text : List ℕ) →
 goes_silently budget start old new text d g rest ends h = g rest ends (silent_from budget old new rest ends d h)
 
 need_from : (budget : ℕ) (old new : State) (q : Query) (line rest : List ℕ) (ends : Bool) → Does old (step.Need q) new → line ≡ searched_line budget q → RunsFrom budget new rest ends → RunsFrom budget old (line ++ rest) ends
-need_from budget old new (query.MinimumDistance C) line rest ends d e h =
+need_from budget old new q line rest ends d e h =
     let after : Runs built_calls budget old.bindings (map statement_of d.1.0) rest ends = subst (λ (m : State). RunsFrom budget m rest ends) d.1.2.1 h in
-    subst (λ ss. Runs built_calls budget old.bindings (map statement_of ss) (line ++ rest) ends) (sym d.1.1) (asks distance C, d.1.2.0, (rest, after, ap (λ l. l ++ rest) e))
+    subst (λ ss. Runs built_calls budget old.bindings (map statement_of ss) (line ++ rest) ends) (sym d.1.1) (asks (kind_of q.kind) q.code, d.1.2.0, (rest, after, ap (λ l. l ++ rest) e))
 
 -- a statement that asks a query prints its line
 pub goes_by_need : (budget : ℕ) (start old new : State) (q : Query) (text line now : List ℕ) → Does old (step.Need q) new → line ≡ searched_line budget q → now ≡ text ++ line → GoesTo budget start text old → GoesTo budget start now new

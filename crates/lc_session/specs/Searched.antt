@@ -2,14 +2,14 @@
 --   searched_line budget q       its line, by a search of at most so many blocks
 --   place_in a                   the place of the word of an answer
 use Rattle.std.specs.Prelude.{ℕ, List}
-use Rattle.lc_language.specs.Query.{distance, query_line}
+use Rattle.lc_language.specs.Query.{query_line}
 use Rattle.lc_search.specs.declared.answer.Answer.{Answer}
 use Rattle.lc_search.specs.declared.answer.Answer.TheVariants.{Exact, Bracket}
 use Rattle.lc_eval.specs.declared.machine.Query.{Query}
-use Rattle.lc_eval.specs.declared.machine.Query.TheVariants as query
+use Rattle.lc_eval.specs.Evaluated.{kind_of}
 
 abbrev pub searched_line : ℕ → Query → List ℕ
-searched_line budget (query.MinimumDistance C) = query_line distance C budget
+searched_line budget q = query_line (kind_of q.kind) q.code budget
 
 abbrev pub place_in : Answer → ℕ
 place_in (Exact weight place blocks) = place

@@ -2,6 +2,7 @@
 #![tactic(auto)]
 
 mod arguments;
+mod certificate;
 mod distance;
 mod input;
 mod laws;

@@ -6,8 +6,9 @@ ghost use Rattle.lc_eval.specs.Built.{built_calls};
 ghost use Rattle.lc_session.specs.Outcome.{end_number};
 ghost use Rattle.lc_session.specs.Searched.{searched_line};
 
+use crate::certificate::{levels_line_of, scan_line_of};
 use crate::distance::distance_line_of;
-use lc_eval::{Machine, Query, Step};
+use lc_eval::{Machine, Query, QueryKind, Step};
 use lc_field::NoMemory;
 use lc_parse::{ParseRefusal, Script, parse};
 use lc_print::fault_line;
@@ -44,8 +45,10 @@ fn line_of<R: Threads + Sync>(
     requires budget { budget ≤ 2 ^ 40 }
     ensures { IfOk result (λ line. line.items ≡ searched_line budget query.now) }
 {
-    match query {
-        Query::MinimumDistance(code) => distance_line_of(rt, alloc, workers, budget, code),
+    match query.kind {
+        QueryKind::Distance => distance_line_of(rt, alloc, workers, budget, &query.code),
+        QueryKind::Levels => levels_line_of(rt, alloc, workers, budget, &query.code),
+        QueryKind::Scan => scan_line_of(rt, alloc, workers, budget, &query.code),
     }
 }
 
