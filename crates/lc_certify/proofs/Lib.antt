@@ -1,0 +1,4 @@
+pub mod ClaimLaws
+pub mod ShapeLaws
+pub mod LineLaws
+pub mod NameLaws
