@@ -1,7 +1,9 @@
 -- The sets of a certificate, set by set.
 --   claims_none, claims_more      those of the sets so far, in their order
+--   made_claim s w                the set s with the level w
 --   at_index, claims_long         the sets with their levels, at an index, and how many they are
---   claims_are, levels_are        they are those of the search
+--   levels_long, claims_many      those of a search are as many as its sets
+--   claims_are, levels_are        they are the sets of the search, one after the other
 use Rattle.std.proofs.Common.{◌≡◌, ℕ, zero, suc, ◌+◌, ◌<◌, List, [], ◌∷◌, ◌++◌, length, map, slice_index_or, refl, sym, ap, ap₂, subst, ◌∙◌, arith}
 use Rattle.std.proofs.lemmas.List.{map-append, length-map, get_or-map, ext_get_or}
 use Rattle.lc_algebra.specs.Span.{below}

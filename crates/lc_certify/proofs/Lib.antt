@@ -1,3 +1,4 @@
+pub mod AnswerLaws
 pub mod ClaimLaws
 pub mod ShapeLaws
 pub mod LineLaws

@@ -1,7 +1,10 @@
 -- The line of a certificate, by its cost and its length.
---   cost_more, cost_within        the cost, by its count up to the greatest number of 64 bits
+--   counted c                     the cost, counted as far as the greatest number of 64 bits
+--   by_cost c b, after_cost c     the line, if b says whether the cost is too high, and if it isn't
+--   by_length text b              the line, if b says whether the text is too long
+--   cost_more, cost_within        what the counted cost says of the cost
 --   line_is, affordable, line_made, by_its_length      the line, case by case
---   too_costly, too_long, whole_line      the line
+--   too_costly, too_long, whole_line      and as the program has it
 use Rattle.std.proofs.Common.{◌≡◌, ℕ, ◌-◌, ◌^◌, ◌<◌, ◌≤◌, min, nat_lt, Bool, if◌then◌else◌, List, [], ◌∷◌, ◌++◌, length, codes, sym, ap, refl, ◌∙◌, arith}
 use Rattle.std.proofs.lemmas.Bool.{lt-ltb, le-ltb}
 use Rattle.lc_formats.specs.Certificate.{Certificate, cost}
