@@ -1,13 +1,13 @@
 //! The check of a certificate.
 
-ghost use Rattle.std.specs.Prelude.{◌≡◌, ◌↔◌, IfOk};
-ghost use Rattle.lc_formats.specs.Certificate.{Verdict as FormatsVerdict, accepted, set_reasons, verdict, IsValid};
+ghost use Rattle.std.specs.Prelude.{◌≡◌, ◌-◌, ◌^◌, ◌↔◌, min, IfOk};
+ghost use Rattle.lc_formats.specs.Certificate.{Verdict as FormatsVerdict, accepted, cost as cost_of, set_reasons, verdict, IsValid};
 ghost use Rattle.lc_formats.specs.Shape.{IsShaped};
 ghost use Rattle.lc_certificate.specs.Seen.{certificate_of};
 ghost use Rattle.lc_checker.specs.Sets.{IsMatrixOf, IsCodeOf, word_reasons};
 ghost use Rattle.lc_checker.specs.Verdict.{verdict_of};
 
-use crate::reasons::{set_reason, word_reason};
+use crate::reasons::{cost, set_reason, word_reason};
 use crate::seen::seen_lighter;
 use crate::verdict::{Reason, Verdict};
 use lc_certificate::Certificate;
@@ -30,6 +30,20 @@ pub fn check(alloc: Global, cert: &Certificate) -> Result<Verdict, NoMemory>
     let code = rows.echelon(alloc)?;
     let verdict = verdict_on(alloc, cert, &rows, &code)?;
     Ok(verdict)
+}
+
+/// The cost of a check of the certificate: how many words `check` looks at if the word and the sets are right, and 2^64 - 1 if
+/// they are more.
+///
+/// The certificate has the shape, as one that was read has.
+pub fn checking_cost(alloc: Global, cert: &Certificate) -> Result<u64, NoMemory>
+    requires shaped { IsShaped (certificate_of cert.now) }
+    ensures is { IfOk result (λ n. n ≡ min (cost_of (certificate_of cert.now)) (2 ^ 64 - 1)) }
+{
+    let rows = matrix_of(alloc, cert)?;
+    let code = rows.echelon(alloc)?;
+    let words = cost(alloc, cert, &code)?;
+    Ok(words)
 }
 
 // The matrix of the certificate's rows.

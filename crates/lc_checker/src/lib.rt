@@ -13,5 +13,5 @@ mod sets;
 mod verdict;
 mod walk;
 
-pub use checking::check;
+pub use checking::{check, checking_cost};
 pub use verdict::{Reason, Verdict};

@@ -48,7 +48,7 @@ pub(crate) fn word_reason(
 }
 
 // How many words the check looks at, or the greatest number of 64 bits if they are more.
-fn cost(alloc: Global, cert: &Certificate, code: &Matrix) -> Result<u64, NoMemory>
+pub(crate) fn cost(alloc: Global, cert: &Certificate, code: &Matrix) -> Result<u64, NoMemory>
     requires shaped { IsShaped (certificate_of cert.now) }
     requires code { IsCodeOf (certificate_of cert.now) code.now }
     ensures is { IfOk result (λ n. n ≡ capped (cost_of (certificate_of cert.now))) }

@@ -1,0 +1,5 @@
+pub mod AnswerLaws
+pub mod ClaimLaws
+pub mod ShapeLaws
+pub mod LineLaws
+pub mod NameLaws
