@@ -3,18 +3,19 @@
 --   finished_answer          a search that is finished has its answer
 --   IsOnWay first now        a search of the same code and budget, under way to the answer; blocks_left what is left of it
 --   on_way_next, on_way_answer      a round goes on, and the end is the answer
---   answer_has_word          at the place of an answer there is a word
+--   answer_has_word, answer_word      at the place of an answer there is a word, which is a nonzero word of the code
+--   answer_at_end            an answer states the blocks that were done
 --   underway_begun           a search from the start is under way
 --   EndsWith, ends_with      what a search answers, with the word
 --   none_line, exact_line, between_line      the lines
-use Rattle.std.proofs.Common.{◌≡◌, ℕ, zero, suc, ◌-◌, ◌^◌, ◌<◌, ◌≤◌, true, false, is_some, unwrap_or, Result, Ok, Err, IfOk, List, [], length, Option, Some, None, Contains, refl, sym, ap, subst, ◌∙◌, arith}
+use Rattle.std.proofs.Common.{◌≡◌, ℕ, zero, suc, ◌-◌, ◌^◌, ◌<◌, ◌≤◌, Bool, true, false, if◌then◌else◌, is_some, unwrap_or, Result, Ok, Err, IfOk, List, [], length, Option, Some, None, Contains, refl, sym, ap, subst, ◌∙◌, arith}
 use Rattle.std.specs.Global.{Vec}
 use Rattle.lc_algebra.specs.Divisor.{divisor_of}
 use Rattle.lc_algebra.specs.Span.{AreIndependent}
 use Rattle.lc_algebra.specs.Matrix.{Matrix, AreRows}
-use Rattle.lc_enumeration.specs.Search.{Answer, answer, finished, set_count, word_at}
+use Rattle.lc_enumeration.specs.Search.{Found, Answer, exact, bracket, answer, bound, finished, set_count, word_at}
 use Rattle.lc_enumeration.specs.Records.{Progress, Rounds, found_of, round_length, after_round, rounds, rounds_within, state_first, no_round, is_used_up, last_state, less_slice}
-use Rattle.lc_enumeration.specs.Truth.{IsUnderway, AnswerHolds, answer_blocks}
+use Rattle.lc_enumeration.specs.Truth.{IsUnderway, AnswerHolds, HasWord, answer_blocks}
 use Rattle.lc_infoset.proofs.SearchTruth.{own_answer}
 use Rattle.lc_infoset.proofs.SessionLaws.{rounds_underway, rounds_settle, first_underway}
 use Rattle.lc_language.specs.Print.{distance_line, bracket_line, distance_none_line}
@@ -22,7 +23,7 @@ use Rattle.lc_language.specs.Query.{distance, query_line, distance_answer_line, 
 use Rattle.lc_search.specs.State.{SearchState, first_state, after_search_round, answer_in, answer_of}
 use Rattle.lc_search.specs.declared.answer.Answer.{Answer as Answered}
 use Rattle.lc_search.specs.declared.answer.Answer.TheVariants.{Exact, Bracket}
-use Rattle.lc_session.specs.Searched.{place_in}
+use Rattle.lc_session.specs.Searched.{place_in, found_in}
 
 abbrev next_of : Matrix → ℕ → ℕ → Progress → Progress
 next_of C budget limit s = after_round C s (round_length C budget (Some limit) s.blocks)
@@ -113,6 +114,27 @@ answer_has_word C budget a rows free e = placed a (subst (AnswerHolds C) (sym e)
     placed : (a : Answered) → AnswerHolds C (answer_of a) → is_some (word_at C (set_count C) (place_in a)) ≡ true
     placed (Exact weight place blocks) h = has_some (word_at C (set_count C) place) h.1.word.0 h.1.word.1
     placed (Bracket low weight place blocks) h = has_some (word_at C (set_count C) place) h.1.word.0 h.1.word.1
+
+-- ---- the end of a search
+
+by_test : (t u : Bool) (p q x : Answer) (l : ℕ) → answer_blocks p ≡ l → answer_blocks q ≡ l → (if t then Some p else (if u then Some q else None)) ≡ Some x → answer_blocks x ≡ l
+by_test true u p q x l h k e = let same : p ≡ x = cc in subst (λ (a : Answer). answer_blocks a ≡ l) same h
+by_test false true p q x l h k e = let same : q ≡ x = cc in subst (λ (a : Answer). answer_blocks a ≡ l) same k
+by_test false false p q x l h k e = absurd cc
+
+finished_blocks : (d : ℕ) (C : Matrix) (budget l : ℕ) (found : Found) (x : Answer) → finished d C budget l found ≡ Some x → answer_blocks x ≡ l
+unfolding finished answer_blocks
+finished_blocks d C budget l found x e = by_test _ _ (exact found l) (bracket (bound d C l found.weight) found l) x l refl refl e
+
+pub answer_at_end : (s : SearchState) (a : Answered) → Some (answer_of a) ≡ answer_in s → answer_blocks (answer_of a) ≡ s.progress.blocks
+answer_at_end s a e = finished_blocks (divisor_of s.code) s.code s.budget s.progress.blocks (found_of s.progress) (answer_of a) (sym e)
+
+pub answer_word : (C D : Matrix) (budget : ℕ) (a : Answered) → AreRows C.field C.columns C.rows → AreIndependent C.field C.columns C.rows → answer_of a ≡ answer (divisor_of C) C budget → D ≡ C → HasWord D (found_in a)
+answer_word C D budget a rows free e same = subst (λ (B : Matrix). HasWord B (found_in a)) (sym same) (placed a (subst (AnswerHolds C) (sym e) (own_answer C budget rows free)))
+  where
+    placed : (a : Answered) → AnswerHolds C (answer_of a) → HasWord C (found_in a)
+    placed (Exact weight place blocks) h = h.1
+    placed (Bracket low weight place blocks) h = h.1
 
 -- ---- the lines
 

@@ -8,3 +8,4 @@ pub mod RunLaws
 pub mod SessionLaws
 pub mod SameNames
 pub mod CheckLaws
+pub mod CertificateLaws

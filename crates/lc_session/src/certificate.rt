@@ -1,38 +1,37 @@
 //! The line of a certificate.
 ghost use Rattle.std.specs.Prelude.{◌≡◌, ◌^◌, ◌≤◌, IfOk};
-ghost use Rattle.lc_language.specs.Query as language;
+ghost use Rattle.lc_language.specs.Query.{query_line};
+ghost use Rattle.lc_certify.specs.Claims.{kind_of};
 
+use crate::distance::{answered, begun};
+use lc_certify::{Way, exact_line};
 use lc_code::Code;
 use lc_field::NoMemory;
+use lc_print::{certificate_bracket_line, certificate_none_line};
+use lc_search::Answer;
 use std::alloc::Global;
 use std::thread::Threads;
 
-/// By levels.
-pub(crate) fn levels_line_of<R: Threads + Sync>(
+/// The line that `Certificate` or `ScanCertificate` prints of a code, by a search of at most `budget` blocks, with `workers`
+/// workers in each round, 1 to 256. Refused only for want of memory.
+pub(crate) fn certificate_line_of<R: Threads + Sync>(
     rt: &R,
     alloc: Global,
     workers: u32,
     budget: u64,
+    way: Way,
     code: &Code,
 ) -> Result<Vec<u8>, NoMemory>
     requires workers { (1 ≤ workers) × (workers ≤ 256) }
     requires budget { budget ≤ 2 ^ 40 }
-    ensures { IfOk result (λ line. line.items ≡ language.query_line language.by_levels code.now budget) }
+    ensures { IfOk result (λ line. line.items ≡ query_line (kind_of way) code.now budget) }
 {
-    Err(NoMemory)
-}
-
-/// By a scan.
-pub(crate) fn scan_line_of<R: Threads + Sync>(
-    rt: &R,
-    alloc: Global,
-    workers: u32,
-    budget: u64,
-    code: &Code,
-) -> Result<Vec<u8>, NoMemory>
-    requires workers { (1 ≤ workers) × (workers ≤ 256) }
-    requires budget { budget ≤ 2 ^ 40 }
-    ensures { IfOk result (λ line. line.items ≡ language.query_line language.by_scan code.now budget) }
-{
-    Err(NoMemory)
+    if code.dimension() == 0 {
+        return Ok(certificate_none_line(alloc)?);
+    }
+    let mut search = begun(alloc, code, budget)?;
+    match answered(rt, alloc, workers, &mut search)? {
+        Answer::Exact { weight, place, .. } => Ok(exact_line(alloc, way, &search, weight, place)?),
+        Answer::Bracket { low, weight, .. } => Ok(certificate_bracket_line(alloc, low, weight)?),
+    }
 }

@@ -2,10 +2,10 @@
 ghost use Rattle.std.specs.Prelude.{◌≡◌, ◌^◌, ◌<◌, ◌≤◌, true, length, is_some, IfOk};
 ghost use Rattle.lc_algebra.specs.Divisor.{divisor_of};
 ghost use Rattle.lc_enumeration.specs.Search.{answer, set_count, word_at};
-ghost use Rattle.lc_enumeration.specs.Truth.{IsUnderway};
+ghost use Rattle.lc_enumeration.specs.Truth.{IsUnderway, HasWord, answer_blocks};
 ghost use Rattle.lc_language.specs.Query as language;
 ghost use Rattle.lc_search.specs.State.{answer_of, first_state};
-ghost use Rattle.lc_session.specs.Searched.{place_in};
+ghost use Rattle.lc_session.specs.Searched.{place_in, found_in};
 
 use lc_code::Code;
 use lc_field::NoMemory;
@@ -50,8 +50,8 @@ pub(crate) fn distance_line_of<R: Threads + Sync>(
     }
 }
 
-// A search that has done no block.
-fn begun(alloc: Global, code: &Code, budget: u64) -> Result<Search, NoMemory>
+/// A search that has done no block.
+pub(crate) fn begun(alloc: Global, code: &Code, budget: u64) -> Result<Search, NoMemory>
     requires rows { 0 < length code.now.rows }
     requires budget { budget ≤ 2 ^ 40 }
     ensures first { IfOk result (λ s. s ≡ first_state code.now budget) }
@@ -60,9 +60,9 @@ fn begun(alloc: Global, code: &Code, budget: u64) -> Result<Search, NoMemory>
     Search::start(alloc, code, budget)
 }
 
-// The answer of a search that is under way, after its rounds.
-#[tactic(auto, using(crate::proofs::DistanceLaws::on_way_answer, crate::proofs::DistanceLaws::answer_has_word))]
-fn answered<R: Threads + Sync>(
+/// The answer of a search that is under way, after its rounds.
+#[tactic(auto, using(crate::proofs::DistanceLaws::on_way_answer, crate::proofs::DistanceLaws::answer_has_word, crate::proofs::DistanceLaws::answer_at_end, crate::proofs::DistanceLaws::answer_word))]
+pub(crate) fn answered<R: Threads + Sync>(
     rt: &R,
     alloc: Global,
     workers: u32,
@@ -75,6 +75,8 @@ fn answered<R: Threads + Sync>(
     ensures code { search.new.code ≡ search.old.code }
     ensures answer { IfOk result (λ a. answer_of a ≡ answer (divisor_of search.old.code) search.old.code search.old.budget) }
     ensures word { IfOk result (λ a. is_some (word_at search.old.code (set_count search.old.code) (place_in a)) ≡ true) }
+    ensures blocks { IfOk result (λ a. answer_blocks (answer_of a) ≡ search.new.progress.blocks) }
+    ensures found { IfOk result (λ a. HasWord search.new.code (found_in a)) }
 {
     loop {
         let _rows = search.sets().dimension();

@@ -6,8 +6,9 @@ ghost use Rattle.lc_eval.specs.Built.{built_calls};
 ghost use Rattle.lc_session.specs.Outcome.{end_number};
 ghost use Rattle.lc_session.specs.Searched.{searched_line};
 
-use crate::certificate::{levels_line_of, scan_line_of};
+use crate::certificate::certificate_line_of;
 use crate::distance::distance_line_of;
+use lc_certify::Way;
 use lc_eval::{Machine, Query, QueryKind, Step};
 use lc_field::NoMemory;
 use lc_parse::{ParseRefusal, Script, parse};
@@ -47,8 +48,12 @@ fn line_of<R: Threads + Sync>(
 {
     match query.kind {
         QueryKind::Distance => distance_line_of(rt, alloc, workers, budget, &query.code),
-        QueryKind::Levels => levels_line_of(rt, alloc, workers, budget, &query.code),
-        QueryKind::Scan => scan_line_of(rt, alloc, workers, budget, &query.code),
+        QueryKind::Levels => {
+            certificate_line_of(rt, alloc, workers, budget, Way::Levels, &query.code)
+        }
+        QueryKind::Scan => {
+            certificate_line_of(rt, alloc, workers, budget, Way::Scan, &query.code)
+        }
     }
 }
 
