@@ -129,12 +129,18 @@ finished_blocks d C budget l found x e = by_test _ _ (exact found l) (bracket (b
 pub answer_at_end : (s : SearchState) (a : Answered) → Some (answer_of a) ≡ answer_in s → answer_blocks (answer_of a) ≡ s.progress.blocks
 answer_at_end s a e = finished_blocks (divisor_of s.code) s.code s.budget s.progress.blocks (found_of s.progress) (answer_of a) (sym e)
 
-pub answer_word : (C D : Matrix) (budget : ℕ) (a : Answered) → AreRows C.field C.columns C.rows → AreIndependent C.field C.columns C.rows → answer_of a ≡ answer (divisor_of C) C budget → D ≡ C → HasWord D (found_in a)
-answer_word C D budget a rows free e same = subst (λ (B : Matrix). HasWord B (found_in a)) (sym same) (placed a (subst (AnswerHolds C) (sym e) (own_answer C budget rows free)))
-  where
-    placed : (a : Answered) → AnswerHolds C (answer_of a) → HasWord C (found_in a)
-    placed (Exact weight place blocks) h = h.1
-    placed (Bracket low weight place blocks) h = h.1
+placed_word : (C : Matrix) (a : Answered) → AnswerHolds C (answer_of a) → HasWord C (found_in a)
+placed_word C (Exact weight place blocks) h = h.1
+placed_word C (Bracket low weight place blocks) h = h.1
+
+pub answer_word : (first now : SearchState) (a : Answered) {D : Matrix} → 0 < length first.code.rows → first.budget ≤ 2 ^ 40 → IsOnWay first now → AreRows D.field D.columns D.rows → AreIndependent D.field D.columns D.rows → D ≡ now.code → Some (answer_of a) ≡ answer_in now → HasWord now.code (found_in a)
+answer_word first now a {D} some small h rows free same e =
+    let C = now.code in
+    let words : AreRows C.field C.columns C.rows = subst (λ (B : Matrix). AreRows B.field B.columns B.rows) same rows in
+    let apart : AreIndependent C.field C.columns C.rows = subst (λ (B : Matrix). AreIndependent B.field B.columns B.rows) same free in
+    let is : answer_of a ≡ answer (divisor_of first.code) first.code first.budget = on_way_answer first now a some small h e in
+    let here : answer_of a ≡ answer (divisor_of C) C first.budget = subst (λ (B : Matrix). answer_of a ≡ answer (divisor_of B) B first.budget) (sym h.same_code) is in
+    placed_word C a (subst (AnswerHolds C) (sym here) (own_answer C first.budget words apart))
 
 -- ---- the lines
 

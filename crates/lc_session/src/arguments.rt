@@ -193,7 +193,7 @@ pub(crate) fn asked_by(words: &[String]) -> Result<Request, usize>
     if !is_text(command.as_str(), "check") {
         return Err(0);
     }
-    if !others.is_empty() {
+    if others.len() > 0 {
         return Err(1);
     }
     Ok(Request::Check)

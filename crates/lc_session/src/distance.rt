@@ -61,7 +61,7 @@ pub(crate) fn begun(alloc: Global, code: &Code, budget: u64) -> Result<Search, N
 }
 
 /// The answer of a search that is under way, after its rounds.
-#[tactic(auto, using(crate::proofs::DistanceLaws::on_way_answer, crate::proofs::DistanceLaws::answer_has_word, crate::proofs::DistanceLaws::answer_at_end, crate::proofs::DistanceLaws::answer_word))]
+#[tactic(auto, using(crate::proofs::DistanceLaws::on_way_answer, crate::proofs::DistanceLaws::answer_has_word, crate::proofs::DistanceLaws::answer_at_end))]
 pub(crate) fn answered<R: Threads + Sync>(
     rt: &R,
     alloc: Global,

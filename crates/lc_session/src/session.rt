@@ -79,11 +79,11 @@ pub fn run_session<R: Threads + Sync, S: Source, K: Sink>(
         return Status::NoMemory;
     };
     let Reply { text, end } = reply;
-    if write_whole(sink, &text).is_err() {
-        return Status::SinkFault;
-    }
-    match end {
-        End::Done(number) => Status::Done(number),
-        End::Rejected(reason) => Status::Rejected(reason),
+    match write_whole(sink, &text) {
+        Ok(()) => match end {
+            End::Done(number) => Status::Done(number),
+            End::Rejected(reason) => Status::Rejected(reason),
+        },
+        Err(_) => Status::SinkFault,
     }
 }

@@ -35,6 +35,7 @@ impl Text {
 }
 
 // The line of a query that a search answers.
+#[tactic(auto, unfolding(lc_certify::specs::Claims::kind_of))]
 fn line_of<R: Threads + Sync>(
     rt: &R,
     alloc: Global,
@@ -63,11 +64,11 @@ fn run<R: Threads + Sync>(
     alloc: Global,
     workers: u32,
     budget: u64,
-    mut machine: Machine,
+    machine: &mut Machine,
 ) -> Result<Text, NoMemory>
     requires workers { (1 ≤ workers) × (workers ≤ 256) }
     requires budget { budget ≤ 2 ^ 40 }
-    ensures { IfOk result (λ t. Runs built_calls budget machine.bindings (map statement_of machine.left) t.bytes.items t.ends) }
+    ensures { IfOk result (λ t. Runs built_calls budget machine.old.bindings (map statement_of machine.old.left) t.bytes.items t.ends) }
 {
     let mut bytes = Vec::new(alloc);
     'statements: loop {
@@ -98,8 +99,8 @@ fn script_text<R: Threads + Sync>(
     requires budget { budget ≤ 2 ^ 40 }
     ensures { IfOk result (λ t. Runs built_calls budget [] (script_of script) t.bytes.items t.ends) }
 {
-    let machine = Machine::start(alloc, script)?;
-    run(rt, alloc, workers, budget, machine)
+    let mut machine = Machine::start(alloc, script)?;
+    run(rt, alloc, workers, budget, &mut machine)
 }
 
 /// The text that the bytes print as a script, with at most `budget` blocks and `workers` workers for each search, 1 to 256. If they
