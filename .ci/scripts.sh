@@ -167,6 +167,11 @@ check_against_reference() {
     agrees noise 200
 }
 
+check_certificates() {
+    check 'tools/check_certificate.py says what the stored texts say' python3 -B tools/compare_certificates.py --stored tests/rows
+    check '3,000 altered certificates: the program and tools/check_certificate.py agree' python3 -B tools/compare_certificates.py "$program" 3000
+}
+
 # explains FRONT: what tools/explain.py writes of FRONT.codes, on both outputs, and its status
 explains() {
     local got
@@ -191,4 +196,5 @@ check_program() {
     check_outside
     check_explanations
     check_against_reference
+    check_certificates
 }

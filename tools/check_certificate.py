@@ -226,14 +226,21 @@ def messages(k, q, level):
     return comb(k, level) * (q - 1) ** (level - 1)
 
 
+def levels_and_cost(k, q, sets):
+    """Up to which level the messages of each set are looked at, and how many words these are."""
+    if sets is None:
+        return [k], q**k
+    levels = [min(s["level"], k) for s in sets]
+    return levels, sum(messages(k, q, w) for level in levels for w in range(1, level + 1))
+
+
 def check(text, quiet=True):
     """The distance that the certificate proves. Raises the first reason against it."""
     field, rows, word, distance, sets = read(text)
     columns = range(len(word))
     pivots, echelon = systematic(field, rows, columns)
     k, q = len(echelon), field.q
-    levels = [min(s["level"], k) for s in sets] if sets else [k]
-    cost = sum(messages(k, q, w) for level in levels for w in range(1, level + 1)) if sets else q**k
+    levels, cost = levels_and_cost(k, q, sets)
     if cost > MOST_WORDS:
         raise Rejected(39, min(cost, WIDEST))
     if not is_in_span(field, echelon, pivots, word):
