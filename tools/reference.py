@@ -698,9 +698,21 @@ def is_codeword(code, word):
     return is_in(code, word)
 
 
+@lru_cache(maxsize=1)
+def words_by_rows(size, length, rows):
+    return [list(word) for word in span(arithmetic(size), length, [list(row) for row in rows])]
+
+
 def errors_of_weight(code, word, weight):
-    """The errors of this weight that differ from the word by a word of the code, in any order."""
+    """The errors of this weight that differ from the word by a word of the code, in any order: by all words of the code if they
+    are few, else by all errors."""
     field = arithmetic(code.size)
+    if code.size ** len(code.rows) <= 5000:
+        for other in words_by_rows(code.size, code.length, tuple(map(tuple, code.rows))):
+            error = field.add_scaled(list(word), negative(field, 1), other)
+            if weight_of(error) == weight:
+                yield list(error)
+        return
     for support in combinations(range(code.length), weight):
         for symbols in tuples(range(1, code.size), repeat=weight):
             error = [0] * code.length
