@@ -1,0 +1,69 @@
+//! The rounds of one search of a session.
+ghost use Rattle.std.specs.Prelude.{◌≡◌, ◌+◌, ◌-◌, ◌^◌, ◌<◌, ◌≤◌, List, [], ◌++◌, length, map, All, true, false, Some, Option, IfOk, IfSome, MatchResult, OnErr};
+ghost use Rattle.lc_enumeration.specs.Records.{SessionStep, found_of, last_state};
+ghost use Rattle.lc_enumeration.specs.Search.{fits};
+ghost use Rattle.lc_formats.specs.Checkpoint.{IsProgress};
+ghost use Rattle.lc_io.specs.Watchers.{hearing};
+ghost use Rattle.lc_checkpoint.specs.Seen.{settled_of};
+ghost use Rattle.lc_search.specs.State.{answer_in, answer_of};
+ghost use Rattle.lc_rounds.specs.Way.{rounds_left, steps_left, around, Origin, IsOnItsWay, HasStopped, Went};
+
+use crate::pace::Pace;
+use lc_io::{Gate, Vault, Watcher};
+use lc_search::{Answer, Search};
+use std::alloc::Global;
+use std::thread::Threads;
+
+/// Why a session stops before its search is answered.
+#[derive(Clone, Copy, Debug, PartialEq, Eq)]
+pub enum Stop {
+    /// Checkpoints are kept, and a watcher answered Pause to the last record, or the slice is used up and a round would follow.
+    Paused,
+    /// The store of the next checkpoint failed.
+    VaultFault,
+    /// Memory was refused.
+    NoMemory,
+}
+
+/// Does the rounds of a search until it is answered. After each round its checkpoint is stored, if the session keeps its
+/// checkpoints, and then its record is told to the watchers.
+///
+/// There are 1 to 256 workers. The search has the budget of the session's checkpoint, and its state fits its code. Fewer than
+/// 70,000 needs are settled. The turn is at most 2^60.
+pub fn search_need<R: Threads + Sync, V: Vault, W: Watcher, G: Gate + Sync>(
+    rt: &R,
+    alloc: Global,
+    workers: u32,
+    gate: &G,
+    vault: &mut V,
+    watchers: &mut Vec<W>,
+    pace: &mut Pace,
+    search: &mut Search,
+) -> Result<Answer, Stop>
+    requires workers { (1 ≤ workers) × (workers ≤ 256) }
+    requires rows { 0 < length search.old.code.rows }
+    requires budget { (search.old.budget ≤ 2 ^ 40) × (pace.old.point.budget ≡ search.old.budget) }
+    requires fitting { fits search.old.code search.old.progress.blocks (found_of search.old.progress) ≡ true }
+    requires version { pace.old.point.version ≡ 2 }
+    requires turn { pace.old.point.turn ≤ 2 ^ 60 }
+    requires few { length pace.old.point.settled.items < 70000 }
+    requires settled { All (IsProgress search.old.budget) (map settled_of pace.old.point.settled.items) }
+    requires room { pace.old.told + search.old.budget < 2 ^ 64 }
+    requires slice { pace.old.keep ≡ false → pace.old.slice ≡ None }
+
+    ensures goes { (o : Origin) (before : List SessionStep)
+        → IsOnItsWay o before pace.old (around (V.contents vault.old) (V.faults vault.old) (map (hearing W.heard W.coming W.pauses) watchers.old.items))
+        → Went o before (steps_left pace.old search.old) (rounds_left pace.old search.old).is_stopped pace.new (around (V.contents vault.new) (V.faults vault.new) (map (hearing W.heard W.coming W.pauses) watchers.new.items))
+            (λ told left. MatchResult result
+                (λ _. (left ≡ []) × ((rounds_left pace.old search.old).is_stopped ≡ false) × IsOnItsWay o told pace.new (around (V.contents vault.new) (V.faults vault.new) (map (hearing W.heard W.coming W.pauses) watchers.new.items)))
+                (λ stop. HasStopped o told left (rounds_left pace.old search.old).is_stopped pace.new (around (V.contents vault.new) (V.faults vault.new) (map (hearing W.heard W.coming W.pauses) watchers.new.items)) stop)) }
+    ensures answer { IfOk result (λ a. answer_in search.new ≡ Some (answer_of a)) }
+    ensures state { IfOk result (λ _. search.new.progress ≡ last_state search.old.progress (rounds_left pace.old search.old).states) }
+    ensures search { (search.new.code ≡ search.old.code) × (search.new.budget ≡ search.old.budget) }
+    ensures fitting { fits search.new.code search.new.progress.blocks (found_of search.new.progress) ≡ true }
+    ensures slice { IfOk result (λ _. pace.new.slice ≡ (rounds_left pace.old search.old).left) }
+    ensures pace { (pace.new.keep ≡ pace.old.keep) × (pace.new.told ≤ pace.old.told + (search.new.progress.blocks - search.old.progress.blocks)) }
+    ensures point { (pace.new.point.version ≡ 2) × (pace.new.point.script ≡ pace.old.point.script) × (pace.new.point.budget ≡ pace.old.point.budget) × (pace.new.point.settled ≡ pace.old.point.settled) × (pace.new.point.turn ≤ 2 ^ 60) }
+{
+    Err(Stop::NoMemory)
+}
