@@ -4,3 +4,5 @@ pub mod Values
 pub mod Packed
 pub mod Least
 pub mod Tables
+pub mod Planes
+pub mod Grid

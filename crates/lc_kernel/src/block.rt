@@ -7,10 +7,10 @@ ghost use Rattle.lc_enumeration.specs.Search.{block_least, board_value};
 ghost use Rattle.lc_kernel.specs.Kernel.{IsPlanOf, top_sum};
 ghost use Rattle.lc_kernel.specs.Tables.{AreTables};
 
-use crate::pairs::Pairs;
 use crate::runs::by_runs;
 use crate::scratch::Scratch;
 use crate::stack::Stack;
+use crate::table::Table;
 use lc_infoset::Sets;
 use lc_place::{Plan, Spot};
 
@@ -32,7 +32,7 @@ pub fn least(sets: &Sets, plan: &Plan, block: u64, scratch: &mut Scratch) -> u64
         block,
         &scratch.tables,
         &mut scratch.spot,
-        &mut scratch.heads,
+        &mut scratch.counts,
         &mut scratch.stack,
     )
 }
@@ -42,19 +42,19 @@ fn least_in(
     sets: &Sets,
     plan: &Plan,
     block: u64,
-    tables: &[Pairs],
+    tables: &[Table],
     spot: &mut Spot,
-    heads: &mut [u64],
+    counts: &mut [u32],
     stack: &mut Stack,
 ) -> u64
     requires plan { IsPlanOf plan.now sets.now }
     requires block { block < total plan.now.k plan.now.q plan.now.m }
     requires tables { AreTables sets.now tables.now }
     requires spot { length sets.now.rows ≤ spot.old.room }
-    requires heads { length sets.now.rows < length heads.old }
+    requires counts { length counts.old ≡ 4096 }
     requires stack { stack.old.code ≡ sets.now }
     ensures spot { spot.new.room ≡ spot.old.room }
-    ensures heads { length heads.new ≡ length heads.old }
+    ensures counts { length counts.new ≡ length counts.old }
     ensures stack { stack.new.code ≡ stack.old.code }
     ensures is { option_map board_value (block_least sets.now plan.now.m block) ≡ Some result }
 {
@@ -62,7 +62,7 @@ fn least_in(
     plan.start_of(block, spot);
     let set = spot.set();
     if spot.support().len() >= 2 && set < tables.len() {
-        return by_runs(sets, plan, block, &tables[set], spot, heads);
+        return by_runs(sets, plan, block, &tables[set], spot, counts);
     }
     scan(sets, plan, block, stack)
 }

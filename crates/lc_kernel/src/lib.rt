@@ -3,13 +3,14 @@
 #![tactic(auto)]
 
 mod block;
+mod counts;
 mod multiples;
 mod pairs;
 mod place;
-mod run;
 mod runs;
 mod scratch;
 mod stack;
+mod table;
 
 pub use block::least;
 pub use place::word_at;

@@ -1,12 +1,12 @@
 //! The memory that the kernel works in.
 
-ghost use Rattle.std.specs.Prelude.{◌≡◌, ◌<◌, ℕ, [], length, IfOk};
+ghost use Rattle.std.specs.Prelude.{◌≡◌, ℕ, [], length, IfOk};
 ghost use Rattle.std.specs.Arc.{arc_value};
 ghost use Rattle.lc_algebra.specs.declared.FieldName.TheVariants.{Gf2};
 ghost use Rattle.lc_kernel.specs.Tables.{AreTables};
 
-use crate::pairs::{Pairs, pairs_of};
 use crate::stack::Stack;
+use crate::table::{Table, table_of};
 use lc_field::NoMemory;
 use lc_infoset::Sets;
 use lc_place::Spot;
@@ -21,14 +21,14 @@ use std::sync::Arc;
 #[derive(Drop)]
 pub struct Scratch {
     pub(crate) stack: Stack,
-    // over 2 elements the tables of the first sets, of all as a rule; none over other fields
-    pub(crate) tables: Arc<Vec<Pairs>>,
+    // over 2 elements the tables of the sets; none over other fields
+    pub(crate) tables: Arc<Vec<Table>>,
     pub(crate) spot: Spot,
-    pub(crate) heads: Vec<u64>,
+    pub(crate) counts: Vec<u32>,
 }
 
 impl Model for Scratch {
-    ghost use Rattle.std.specs.Prelude.{◌≡◌, ◌<◌, length};
+    ghost use Rattle.std.specs.Prelude.{◌≡◌, length};
     ghost use Rattle.std.specs.Arc.{arc_value};
     ghost use Rattle.lc_algebra.specs.Matrix.{Matrix};
     ghost use Rattle.lc_kernel.specs.Tables.{AreTables};
@@ -37,7 +37,7 @@ impl Model for Scratch {
 
     ghost view = { λ s. s.stack.code };
 
-    ghost invariant = { λ s. AreTables s.stack.code (arc_value s.tables).items × (s.spot.room ≡ length s.stack.code.rows) × (length s.stack.code.rows < length s.heads.items) };
+    ghost invariant = { λ s. AreTables s.stack.code (arc_value s.tables).items × (s.spot.room ≡ length s.stack.code.rows) × (length s.counts.items ≡ 4096) };
 }
 
 impl Scratch {
@@ -62,7 +62,7 @@ impl Scratch {
     }
 
     // The memory with a stack and tables for its sets.
-    fn of(alloc: Global, stack: Stack, tables: Arc<Vec<Pairs>>) -> Result<Scratch, NoMemory>
+    fn of(alloc: Global, stack: Stack, tables: Arc<Vec<Table>>) -> Result<Scratch, NoMemory>
         requires tables { AreTables stack.code (arc_value tables).items }
         ensures code { IfOk result (λ s. s ≡ stack.code) }
     {
@@ -70,19 +70,19 @@ impl Scratch {
         let Ok(spot) = Spot::new(alloc, k) else {
             return Err(NoMemory);
         };
-        let heads = vec![in alloc; 0u64; k + 1]?;
+        let counts = vec![in alloc; 0u32; 4096]?;
         Ok(Scratch {
             stack,
             tables,
             spot,
-            heads,
+            counts,
         })
     }
 }
 
 // The tables of the sets, over 2 elements.
 #[tactic(auto, using(crate::proofs::TableLaws::no_tables, crate::proofs::TableLaws::two_elements))]
-fn tables_of(alloc: Global, sets: &Sets) -> Result<Vec<Pairs>, NoMemory>
+fn tables_of(alloc: Global, sets: &Sets) -> Result<Vec<Table>, NoMemory>
     ensures are { IfOk result (λ ts. AreTables sets.now ts.items) }
 {
     let mut tables = Vec::new(alloc);
@@ -92,18 +92,15 @@ fn tables_of(alloc: Global, sets: &Sets) -> Result<Vec<Pairs>, NoMemory>
     Ok(tables)
 }
 
-// Pushes the tables of the sets up to the first that has none.
-#[tactic(auto, using(crate::proofs::TableLaws::no_tables, crate::proofs::TableLaws::table_pushed))]
-fn push_tables(alloc: Global, sets: &Sets, tables: &mut Vec<Pairs>) -> Result<(), NoMemory>
+// Pushes the tables of the sets.
+#[tactic(auto, using(crate::proofs::TableLaws::no_tables))]
+fn push_tables(alloc: Global, sets: &Sets, tables: &mut Vec<Table>) -> Result<(), NoMemory>
     requires field { sets.now.field ≡ Gf2 }
     requires none { tables.old.items ≡ [] }
     ensures are { IfOk result (λ _. AreTables sets.now tables.new.items) }
 {
     for j in 0..sets.count() {
-        let Some(table) = pairs_of(alloc, sets, j)? else {
-            return Ok(());
-        };
-        tables.push(table)?;
+        tables.push(table_of(alloc, sets, j)?)?;
     }
     Ok(())
 }

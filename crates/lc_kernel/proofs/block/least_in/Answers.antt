@@ -1,7 +1,8 @@
 use Rattle.std.proofs.Common.{subst, arith}
-use Rattle.lc_kernel.specs.Packed.{IsTable}
+use Rattle.lc_kernel.specs.declared.table.Table.{Table}
+use Rattle.lc_kernel.specs.Tables.{IsTable}
 use Rattle.lc_kernel.proofs.ScanLaws.{spot_at}
-use Rattle.lc_kernel.proofs.TableLaws.{table_of}
+use Rattle.lc_kernel.proofs.TableLaws.{one_of_all}
 use Rattle.lc_kernel.proofs.block.least_in.Goals as goal
 
 pub by_runs-requires-clause-set : goal.by_runs-requires-clause-set
@@ -17,5 +18,5 @@ by_runs-requires-clause-at c =
 pub by_runs-requires-clause-table : goal.by_runs-requires-clause-table
 by_runs-requires-clause-table c =
     let t = c.index-tables-set.result in
-    let table = table_of c.args.sets.now c.args.tables.now c.set-set.result t c.requires.tables (omega (arith, c.if-set-tables.true)) c.index-tables-set.is in
-    subst (λ j. IsTable c.args.sets.now j t.rows.items t.sums.items t.starts.items) c.set-set.ensures table
+    let table = one_of_all (λ j (x : Table). IsTable c.args.sets.now j x.parts.items x.starts.items) c.args.tables.now c.set-set.result t c.requires.tables.each (omega (arith, c.if-set-tables.true)) c.index-tables-set.is in
+    subst (λ j. IsTable c.args.sets.now j t.parts.items t.starts.items) c.set-set.ensures table

@@ -1,0 +1,142 @@
+-- Words over any field as bits.
+--   plane_cons                   a plane, symbol by symbol
+--   ones_apart                   the weight of a sum: where one word differs from the negative of the other
+--   plane_sum                    in characteristic 2 a plane of a sum is an exclusive or
+use Rattle.std.proofs.Common.{◌≡◌, ◌≢◌, ◌⊎◌, ℕ, zero, suc, ◌+◌, ◌*◌, ◌%◌, ◌^◌, ◌<◌, ◌≤◌, not, cond, ◌==◌, List, [], ◌∷◌, length, map, bit_or, bit_xor, count_ones, refl, sym, ap, ◌∙◌, inl, inr, ⊎_elim, arith}
+use Rattle.std.specs.Int.{bit_at}
+use Rattle.std.proofs.lemmas.Bool.{cases_lt, cases_eq, ne_eqb}
+use Rattle.std.proofs.lemmas.Nat.{xor_block, or_block, ones_cat}
+use Rattle.std.proofs.lemmas.Nat.Bits.{bit_at-lt, bit_at_xor, same_from_bits_below}
+use lib.Count.{ones}
+use Rattle.lc_algebra.specs.declared.FieldName.{FieldName}
+use Rattle.lc_algebra.specs.Field.{size, add, neg, shape_of}
+use Rattle.lc_algebra.specs.Word.{Fits, word_sum, weight}
+use Rattle.lc_algebra.proofs.FieldLaws.{add_inside, neg_inside, neg_add, neg_neg, subtract_zero}
+use Rattle.lc_algebra.proofs.WordLaws.{weight_cons, fits_head, fits_tail}
+use Rattle.lc_field.proofs.SumLaws.{xor_add}
+use Rattle.lc_kernel.specs.Packed.{packed}
+use Rattle.lc_kernel.specs.Planes.{plane, apart}
+
+pub plane_cons : (j a : ℕ) (u : List ℕ) → plane j (a ∷ u) ≡ plane j u * 2 + bit_at a j
+unfolding plane packed
+plane_cons j a u = refl
+
+-- bits
+two_bits : (x : ℕ) → x < 2 → (x ≡ 0) ⊎ (x ≡ 1)
+two_bits zero l = inl refl
+two_bits (suc zero) l = inr refl
+two_bits (suc (suc x)) l = absurd (omega (arith, l))
+
+record OrBits (x y : ℕ) : Type 0 where
+  small : bit_or x y < 2
+  none : bit_or x y ≡ 0 → (x ≡ 0) × (y ≡ 0)
+
+or_bits : (x y : ℕ) → x < 2 → y < 2 → OrBits x y
+or_bits zero zero l m = record { small = omega arith; none = λ e. (refl, refl) }
+or_bits zero (suc zero) l m = record { small = omega arith; none = λ e. absurd (omega (arith, e)) }
+or_bits (suc zero) zero l m = record { small = omega arith; none = λ e. absurd (omega (arith, e)) }
+or_bits (suc zero) (suc zero) l m = record { small = omega arith; none = λ e. absurd (omega (arith, e)) }
+or_bits zero (suc (suc y)) l m = absurd (omega (arith, m))
+or_bits (suc zero) (suc (suc y)) l m = absurd (omega (arith, m))
+or_bits (suc (suc x)) y l m = absurd (omega (arith, l))
+
+record XorBits (x y : ℕ) : Type 0 where
+  small : bit_xor x y < 2
+  none : bit_xor x y ≡ 0 → x ≡ y
+  same : x ≡ y → bit_xor x y ≡ 0
+  sum : bit_xor x y ≡ (x + y) % 2
+
+xor_bits : (x y : ℕ) → x < 2 → y < 2 → XorBits x y
+xor_bits zero zero l m = record { small = omega arith; none = λ e. refl; same = λ e. refl; sum = refl }
+xor_bits zero (suc zero) l m = record { small = omega arith; none = λ e. absurd (omega (arith, e)); same = λ e. absurd (omega (arith, e)); sum = refl }
+xor_bits (suc zero) zero l m = record { small = omega arith; none = λ e. absurd (omega (arith, e)); same = λ e. absurd (omega (arith, e)); sum = refl }
+xor_bits (suc zero) (suc zero) l m = record { small = omega arith; none = λ e. refl; same = λ e. refl; sum = refl }
+xor_bits zero (suc (suc y)) l m = absurd (omega (arith, m))
+xor_bits (suc zero) (suc (suc y)) l m = absurd (omega (arith, m))
+xor_bits (suc (suc x)) y l m = absurd (omega (arith, l))
+
+-- whether one of the first n bits of two numbers differs
+abbrev differ : ℕ → ℕ → ℕ → ℕ
+differ zero a b = 0
+differ (suc j) a b = bit_or (bit_xor (bit_at a j) (bit_at b j)) (differ j a b)
+
+bits_of : (a b j : ℕ) → XorBits (bit_at a j) (bit_at b j)
+bits_of a b j = xor_bits (bit_at a j) (bit_at b j) (bit_at-lt a j) (bit_at-lt b j)
+
+differ_small : (n a b : ℕ) → differ n a b < 2
+differ_small zero a b = omega arith
+differ_small (suc j) a b = (or_bits (bit_xor (bit_at a j) (bit_at b j)) (differ j a b) (bits_of a b j).small (differ_small j a b)).small
+
+differ_same : (n a : ℕ) → differ n a a ≡ 0
+differ_same zero a = refl
+differ_same (suc j) a = ap (λ x. bit_or x (differ j a a)) ((bits_of a a j).same refl) ∙ ap (bit_or 0) (differ_same j a)
+
+differ_none : (n a b : ℕ) → differ n a b ≡ 0 → (i : ℕ) → i < n → bit_at a i ≡ bit_at b i
+differ_none zero a b e i l = absurd (omega (arith, l))
+differ_none (suc j) a b e i l =
+    let t = (or_bits (bit_xor (bit_at a j) (bit_at b j)) (differ j a b) (bits_of a b j).small (differ_small j a b)).none e in
+    ⊎_elim
+    (λ m. differ_none j a b t.1 i m)
+    (λ m. let last : i ≡ j = omega (arith, l, m) in ap (bit_at a) last ∙ (bits_of a b j).none t.0 ∙ ap (bit_at b) (sym last))
+    (cases_lt i j)
+
+differ_other : (n a b : ℕ) → a < 2 ^ n → b < 2 ^ n → a ≢ b → differ n a b ≡ 1
+differ_other n a b l m other = ⊎_elim
+    (λ e. absurd (other (same_from_bits_below n a b l m (differ_none n a b e))))
+    (λ e. e)
+    (two_bits (differ n a b) (differ_small n a b))
+
+apart_nil : (n : ℕ) → apart n [] [] ≡ 0
+unfolding plane packed
+apart_nil zero = refl
+apart_nil (suc j) = ap (bit_or 0) (apart_nil j)
+
+apart_cons : (n a b : ℕ) (u v : List ℕ) → apart n (a ∷ u) (b ∷ v) ≡ apart n u v * 2 + differ n a b
+apart_cons zero a b u v = refl
+apart_cons (suc j) a b u v =
+    let x = xor_block 1 (plane j u) (plane j v) (bit_at a j) (bit_at b j) (bit_at-lt a j) (bit_at-lt b j) in
+    let first : bit_xor (plane j (a ∷ u)) (plane j (b ∷ v)) ≡ bit_xor (plane j u) (plane j v) * 2 + bit_xor (bit_at a j) (bit_at b j) = ap (λ z. bit_xor z (plane j (b ∷ v))) (plane_cons j a u) ∙ ap (bit_xor (plane j u * 2 + bit_at a j)) (plane_cons j b v) ∙ x in
+    ap (λ z. bit_or z (apart j (a ∷ u) (b ∷ v))) first ∙ ap (bit_or (bit_xor (plane j u) (plane j v) * 2 + bit_xor (bit_at a j) (bit_at b j))) (apart_cons j a b u v)
+    ∙ or_block 1 (bit_xor (plane j u) (plane j v)) (apart j u v) (bit_xor (bit_at a j) (bit_at b j)) (differ j a b) (bits_of a b j).small (differ_small j a b)
+
+cell : (f : FieldName) (n a b : ℕ) → size f ≤ 2 ^ n → a < size f → b < size f → differ n a (neg f b) ≡ cond (not (add f a b == 0)) 1 0
+cell f n a b s l m = elim (cases_eq a (neg f b)) [
+  | inl e ↦ rw e (differ_same n (neg f b) ∙ sym (ap (λ x. cond (not (x == 0)) 1 0) (neg_add f b)))
+  | inr other ↦ (
+      let some : add f a b ≢ 0 = λ z. other (subtract_zero f a (neg f b) l (neg_inside f b) (ap (add f a) (neg_neg f b m) ∙ z)) in
+      differ_other n a (neg f b) (omega (arith, l, s)) (omega (arith, neg_inside f b, s)) other ∙ sym (ap (λ x. cond (not x) 1 0) (ne_eqb (add f a b) 0 some))
+      )
+]
+
+ones_bit : (x m : ℕ) → x < 2 → ones m + ones x ≡ ones m + x
+unfolding ones
+ones_bit zero m l = refl
+ones_bit (suc zero) m l = refl
+ones_bit (suc (suc x)) m l = absurd (omega (arith, l))
+
+plane_nil : (j : ℕ) → plane j [] ≡ bit_xor (plane j []) (plane j [])
+unfolding plane packed
+plane_nil j = refl
+
+pub ones_apart : (f : FieldName) (n : ℕ) (u v : List ℕ) → size f ≤ 2 ^ n → length u ≡ length v → Fits f u → Fits f v → count_ones (apart n u (map (neg f) v)) ≡ weight (word_sum f u v)
+unfolding ones word_sum
+ones_apart f n [] [] s e h i = ap count_ones (apart_nil n)
+ones_apart f n [] (b ∷ v) s e h i = absurd (omega (arith, e))
+ones_apart f n (a ∷ u) [] s e h i = absurd (omega (arith, e))
+ones_apart f n (a ∷ u) (b ∷ v) s e h i =
+    let t = ones_apart f n u v s (omega (arith, e)) (fits_tail f a u h) (fits_tail f b v i) in
+    let c = cell f n a b s (fits_head f a u h) (fits_head f b v i) in
+    ap count_ones (apart_cons n a (neg f b) u (map (neg f) v)) ∙ ones_cat 1 (apart n u (map (neg f) v)) (differ n a (neg f b)) (differ_small n a (neg f b)) ∙ ones_bit (differ n a (neg f b)) (apart n u (map (neg f) v)) (differ_small n a (neg f b))
+    ∙ omega (arith, t, c, weight_cons (add f a b) (word_sum f u v))
+
+pub plane_sum : (f : FieldName) (j : ℕ) (u v : List ℕ) → (shape_of f).characteristic ≡ 2 → length u ≡ length v → Fits f u → Fits f v → plane j (word_sum f u v) ≡ bit_xor (plane j u) (plane j v)
+unfolding word_sum
+plane_sum f j [] [] two e h i = plane_nil j
+plane_sum f j [] (b ∷ v) two e h i = absurd (omega (arith, e))
+plane_sum f j (a ∷ u) [] two e h i = absurd (omega (arith, e))
+plane_sum f j (a ∷ u) (b ∷ v) two e h i =
+    let t = plane_sum f j u v two (omega (arith, e)) (fits_tail f a u h) (fits_tail f b v i) in
+    let x = xor_block 1 (plane j u) (plane j v) (bit_at a j) (bit_at b j) (bit_at-lt a j) (bit_at-lt b j) in
+    let bit : bit_at (add f a b) j ≡ bit_xor (bit_at a j) (bit_at b j) = ap (λ z. bit_at z j) (sym (xor_add f a b two (fits_head f a u h) (fits_head f b v i))) ∙ bit_at_xor a b j ∙ sym (bits_of a b j).sum in
+    plane_cons j (add f a b) (word_sum f u v) ∙ ap (λ z. z * 2 + bit_at (add f a b) j) t ∙ ap (λ z. bit_xor (plane j u) (plane j v) * 2 + z) bit ∙ sym x
+    ∙ ap (λ z. bit_xor z (plane j v * 2 + bit_at b j)) (sym (plane_cons j a u)) ∙ ap (bit_xor (plane j (a ∷ u))) (sym (plane_cons j b v))
