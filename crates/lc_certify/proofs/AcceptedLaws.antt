@@ -2,7 +2,7 @@
 --   told_accepted             a valid certificate that has the shape is accepted, and so is its line
 --   none_said, line_cases     the line of a certificate says that there is none, or is the text of one that can be afforded
 --   printed                   the line that a query prints says none, or is accepted for the code
-use Rattle.std.proofs.Common.{◌≡◌, ℕ, ◌-◌, ◌^◌, ◌≤◌, ◌⊎◌, min, Bool, true, false, nat_lt, if◌then◌else◌, List, [], ◌∷◌, ◌++◌, length, codes, decimal, inl, inr, ⊎_elim, refl, sym, ap, ap₂, subst, ◌∙◌, arith, append_assoc}
+use Rattle.std.proofs.Common.{◌≡◌, ℕ, ◌-◌, ◌^◌, ◌≤◌, ◌⊎◌, min, nat_lt, if◌then◌else◌, List, [], ◌∷◌, ◌++◌, length, codes, decimal, inl, inr, ⊎_elim, refl, sym, ap, subst, ◌∙◌, arith, append_assoc}
 use Rattle.std.proofs.lemmas.Bool.{cases_Bool, ltb-false}
 use Rattle.lc_algebra.specs.Word.{IsWord}
 use Rattle.lc_algebra.specs.Matrix.{Matrix}
@@ -16,7 +16,7 @@ use Rattle.lc_formats.specs.Certificate.{Certificate, cost, verdict, accepted, I
 use Rattle.lc_formats.specs.CertificateText.{certificate_json, certificate_text}
 use Rattle.lc_formats.specs.Text.{line}
 use Rattle.lc_formats.specs.Shape.{IsShaped}
-use Rattle.lc_formats.specs.Check.{CertificateRead, reads_as, certificate_in, data_in, line_of_verdict, verdict_of, distance_of, check_text}
+use Rattle.lc_formats.specs.Check.{reads_as, certificate_in, data_in, line_of_verdict, verdict_of, distance_of, check_text}
 use Rattle.lc_formats.proofs.VerdictLaws.{valid_is_accepted}
 use Rattle.lc_formats.proofs.CertificateBack.{certificate_plain, certificate_back}
 use Rattle.lc_language.specs.Query.{QueryKind, longest, certificate_of, no_certificate_line, certificate_line, certificate_answer_line, word_at_place}

@@ -4,9 +4,8 @@
 --   lex_printed               the lexer on printed tokens and a rest that has no lexemes
 --   tokens_before_newline     so the tokens before a newline are those of the text alone
 --   json_before_newline       and so is the value
-use Rattle.std.proofs.Common.{◌≡◌, ℕ, Bool, true, false, cond, ◌&&◌, List, [], ◌∷◌, ◌++◌, Option, Some, refl, sym, ap, ap₂, ◌∙◌, append_assoc, append-nil, option_and_then}
-use Rattle.std.specs.Str.{is_utf8}
-use Rattle.std.proofs.lemmas.Str.{IsUtf8-append, IsUtf8-from_ascii, is_utf8-from_IsUtf8}
+use Rattle.std.proofs.Common.{◌≡◌, ℕ, Bool, true, false, cond, ◌&&◌, List, [], ◌∷◌, ◌++◌, refl, sym, ap, ap₂, ◌∙◌, append_assoc, append-nil, option_and_then}
+use Rattle.std.proofs.lemmas.Str.{IsUtf8-append, is_utf8-from_IsUtf8}
 use Rattle.json.specs.Token.{Token, begin_object, end_object, begin_array, end_array, key, string, number, boolean, null, bad}
 use Rattle.json.specs.Word.{ends_word, word}
 use Rattle.json.specs.Lex.{Lexeme, token, comma, colon, string_token, lex, between, fresh, punctuate, tokens}
@@ -18,7 +17,7 @@ use Rattle.json.proofs.Printed.Numbers.{lex-number, in_word-ended}
 use Rattle.json.proofs.Printed.Trees.{ArePrintable-json_tokens}
 use Rattle.json.proofs.Printed.Utf8.{IsUtf8-are_ascii}
 use Rattle.serde_json.specs.Data.{Data}
-use Rattle.serde_json.specs.Read.{read, of_json, max_depth}
+use Rattle.serde_json.specs.Read.{of_json, max_depth}
 use Rattle.serde_json.specs.Written.{outline, compact_text}
 use Rattle.serde_json.proofs.Texts.{print-outline}
 use Rattle.lc_formats.specs.Json.{json_in}

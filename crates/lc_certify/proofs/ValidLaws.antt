@@ -6,11 +6,10 @@
 --   ranks_kept, levels_kept   their fresh columns and their levels are those of the search
 --   level_or_sum, whole_level a search that is done has a level that is the dimension, or a sum that reaches the weight
 --   sets_hold                 so the sets hold
---   valid_at                  the certificate is valid
+--   valid_at, valid_as        the certificate is valid
 --   exact_is, exact_at        an exact answer is that of a search that is done
-use Rattle.std.proofs.Common.{◌≡◌, ℕ, zero, suc, ◌+◌, ◌^◌, ◌<◌, ◌≤◌, ◌⊎◌, min, max, Bool, true, false, ◌==◌, if◌then◌else◌, List, [], ◌∷◌, map, flat_map, find, filter, nat_le, length, slice_index_or, unwrap_or, All, AllPairs, Any, Contains, Option, Some, None, inl, inr, ⊎_elim, refl, sym, ap, ap₂, subst, ◌∙◌, arith}
+use Rattle.std.proofs.Common.{◌≡◌, ℕ, ◌^◌, ◌<◌, ◌≤◌, ◌⊎◌, max, true, false, ◌==◌, if◌then◌else◌, List, [], ◌∷◌, map, find, filter, nat_le, length, unwrap_or, All, AllPairs, Any, Contains, Option, Some, None, inl, inr, ⊎_elim, refl, sym, ap, ap₂, subst, ◌∙◌, arith}
 use Rattle.std.proofs.lemmas.Bool.{cases_Bool, leb-true, ne_eqb}
-use Rattle.std.proofs.lemmas.List.{length-map}
 use Rattle.std.proofs.lemmas.List.Elements.{All-head, All-tail, All-contains}
 use Rattle.lc_algebra.specs.declared.FieldName.{FieldName}
 use Rattle.lc_algebra.specs.Field.{size}
@@ -22,9 +21,9 @@ use Rattle.lc_algebra.proofs.SpanLaws.{contains_map, map_contains, contains_flat
 use Rattle.lc_algebra.proofs.ColumnLaws.{systematic_columns}
 use Rattle.lc_algebra.proofs.DimensionLaws.{dimension_unique}
 use Rattle.lc_algebra.proofs.DivisorLaws.{divisor_is, divisor_positive}
-use Rattle.lc_enumeration.specs.Message.{Message, messages, vector_of, numbers_from}
-use Rattle.lc_enumeration.specs.InformationSet.{InformationSet, dimension, first_basis, systematic, echelon_rows, is_member}
-use Rattle.lc_enumeration.specs.Search.{Found, Answer, no_word, exact, bracket, sets_of, set_count, ranks_of, generator_at, level_below, levels_below, best, bound, bound_of, bound_sum, is_done, answer_at, answer, ends_of, word_at}
+use Rattle.lc_enumeration.specs.Message.{messages, vector_of, numbers_from}
+use Rattle.lc_enumeration.specs.InformationSet.{InformationSet, dimension, systematic, echelon_rows, is_member}
+use Rattle.lc_enumeration.specs.Search.{Found, no_word, exact, sets_of, set_count, ranks_of, generator_at, level_below, levels_below, best, bound, bound_of, bound_sum, is_done, answer_at, answer, ends_of, word_at}
 use Rattle.lc_enumeration.specs.Truth.{HasWord}
 use Rattle.lc_enumeration.proofs.MemberLaws.{true_member}
 use Rattle.lc_enumeration.proofs.SearchLaws.{numbers_within}
@@ -197,6 +196,9 @@ valid_at kind C w d l h word x few =
     x.weighs
     (subst (λ n. IsWeightBound C.field n C.rows d) e bound)
     (sets_hold kind (certificate_of kind C w d l) C l (of_code kind C w d l h word.long) h x.done x.best)
+
+pub valid_as : (c : Certificate) (kind : QueryKind) (C : Matrix) (w : List ℕ) (d l : ℕ) → c ≡ certificate_of kind C w d l → IsSearchable C → IsWord C.field C.columns w → IsExactAt C w d l → cost c ≤ 2 ^ 32 → IsValid c
+valid_as c kind C w d l is h word x few = subst IsValid (sym is) (valid_at kind C w d l h word x (subst (λ b. cost b ≤ 2 ^ 32) is few))
 
 -- ---- exact answers
 
