@@ -1,7 +1,7 @@
 use Rattle.std.proofs.Common.{sym, subst}
 use Rattle.lc_checker.specs.Walk.{AreSums}
 use Rattle.lc_checker.proofs.WalkLaws.{sums_zero}
-use Rattle.lc_checker.proofs.walk.first_lighter.Goals as goal
+use Rattle.lc_checker.proofs.walk.first_in_order.Goals as goal
 
 pub lighter_through-requires-clause-sums : goal.lighter_through-requires-clause-sums
 lighter_through-requires-clause-sums c =
