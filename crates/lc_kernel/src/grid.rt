@@ -5,7 +5,7 @@ ghost use Rattle.lc_algebra.specs.Field.{size};
 ghost use Rattle.lc_algebra.specs.Word.{IsWord};
 ghost use Rattle.lc_enumeration.specs.Message.{supports_from};
 ghost use Rattle.lc_enumeration.specs.Search.{set_count};
-ghost use Rattle.lc_kernel.specs.Packed.{others, EndsAt, AreStarts};
+ghost use Rattle.lc_kernel.specs.Packed.{others, EndsAt};
 ghost use Rattle.lc_kernel.specs.Planes.{plane_at};
 ghost use Rattle.lc_kernel.specs.Sums.{AreMultiples};
 ghost use Rattle.lc_kernel.specs.Grid.{tail_count, tail_word, tails_in, negative, AreTails, ArePlanesOf};
@@ -112,7 +112,9 @@ fn push_row(
     requires tails { AreTails sets.now j (first * tail_count sets.now) words.old.items }
     ensures tails { IfOk result (λ _. AreTails sets.now j ((first + (length sets.now.rows - a - 1)) * tail_count sets.now) words.new.items) }
 {
-    for b in a + 1..sets.dimension() {
+    let _n = sets.length();
+    let k = sets.dimension();
+    for b in a + 1..k {
         push_tails(alloc, sets, multiples, j, a, b, first + (b - a - 1), words)?;
     }
     Ok(())
@@ -124,16 +126,18 @@ fn all_tails(
     sets: &Sets,
     multiples: &[Word],
     j: usize,
-    starts: &[usize],
 ) -> Result<Vec<Word>, NoMemory>
     requires multiples { AreMultiples sets.now multiples.now }
     requires set { j < set_count sets.now }
-    requires starts { AreStarts (length sets.now.rows) starts.now }
     ensures are { IfOk result (λ ws. AreTails sets.now j (tails_in sets.now) ws.items) }
 {
+    let _n = sets.length();
+    let k = sets.dimension();
     let mut words = Vec::new(alloc);
-    for a in 0..sets.dimension() {
-        push_row(alloc, sets, multiples, j, a, starts[a], &mut words)?;
+    let mut pair = 0;
+    for a in 0..k {
+        push_row(alloc, sets, multiples, j, a, pair, &mut words)?;
+        pair += k - a - 1;
     }
     Ok(words)
 }
@@ -257,7 +261,7 @@ pub(crate) fn grid_of(
         return Ok(None);
     }
     let starts = pair_starts(alloc, k)?;
-    let words = all_tails(alloc, sets, multiples, j, &starts)?;
+    let words = all_tails(alloc, sets, multiples, j)?;
     let tails = words.len();
     if tails > MOST {
         return Ok(None);

@@ -60,8 +60,9 @@ fn mark_part(
     ensures marked { (i a b : ℕ) → i < length masks.old → slice_get (supports_from 0 (length sets.now.rows) 2) ((start + i) / tail_count sets.now) ≡ Some (a ∷ b ∷ []) → slice_index masks.new i ≡ apart grid.now.planes (restrict (part_at (others sets.now spot.now.set) part) head.now) (restrict (part_at (others sets.now spot.now.set) part) (negative sets.now.field (tail_word sets.now spot.now.set a b ((start + i) % tail_count sets.now)))) }
 {
     let _n = sets.length();
-    let columns = grid.parts[part].columns.as_slice();
-    let bits = grid.parts[part].bits.as_slice();
+    let table = &grid.parts[part];
+    let columns = table.columns.as_slice();
+    let bits = table.bits.as_slice();
     masks.fill(0);
     for plane in 0..grid.planes {
         let first = plane * grid.tails + start;
@@ -190,12 +191,37 @@ fn pass(
 {
     let _k = sets.dimension();
     let mut stayed = spot.support().len();
-    for _offset in done..done + count {
-        if let Some(first) = plan.step(spot) {
-            stayed = stayed.min(first);
-        }
+    for offset in done..done + count {
+        stayed = step_once(sets, plan, block, spot, offset, stayed);
     }
     stayed
+}
+
+// Goes to the next message from one at an offset of a block. Returns how many of the first entries stayed, at
+// most so many.
+fn step_once(
+    sets: &Sets,
+    plan: &Plan,
+    block: u64,
+    spot: &mut Spot,
+    offset: u64,
+    most: usize,
+) -> usize
+    requires plan { IsPlanOf plan.now sets.now }
+    requires at { IsSpotAt sets.now plan.now.m block offset spot.old }
+    requires inside { offset + 1 < length (block_words sets.now plan.now.m block) }
+    ensures at { IsSpotAt sets.now plan.now.m block (offset + 1) spot.new }
+    ensures level { length spot.new.support ≡ length spot.old.support }
+    ensures set { spot.new.set ≡ spot.old.set }
+    ensures room { spot.new.room ≡ spot.old.room }
+    ensures few { result ≤ most }
+    ensures same { (i : ℕ) → i ≤ result → front_word sets.now spot.new i ≡ front_word sets.now spot.old i }
+{
+    let _k = sets.dimension();
+    match plan.step(spot) {
+        Some(first) => most.min(first),
+        None => most,
+    }
 }
 
 /// Counts the nonzero symbols, outside the basis, of the words of a block of a level of at least 3, from its

@@ -6,11 +6,11 @@ use Rattle.lc_kernel.specs.Least.{AreCounted}
 use Rattle.lc_kernel.specs.Sums.{AreFronts, IsRoom}
 use Rattle.lc_kernel.proofs.tails.count_tails.Given as goal
 
-abbrev pub decreases-loop-done : goal.decreases-loop-done
-decreases-loop-done l = length l.initial.counts - l.done
+abbrev pub decreases-loop-counts : goal.decreases-loop-counts
+decreases-loop-counts l = length l.initial.counts - l.done
 
-abbrev pub invariant-loop-done : goal.invariant-loop-done
-invariant-loop-done l = record {
+abbrev pub invariant-loop-counts : goal.invariant-loop-counts
+invariant-loop-counts l = record {
   inside : l.done < length l.initial.counts;
   set : l.spot.set ≡ l.initial.spot.set;
   level : length l.spot.support ≡ l.level;
