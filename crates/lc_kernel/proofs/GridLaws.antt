@@ -6,14 +6,16 @@
 --   tails_counted                the counts of a run after one more part of the columns
 --   tails_more, planes_none, planes_more, grid_parts_pushed      tails, planes and parts with one more
 --   cut_in_words                 some columns are inside the tails
+--   planes_room, tail_run_room, counted_joined      what a run reads and writes
 use Rattle.std.proofs.Common.{◌≡◌, ℕ, zero, suc, ◌+◌, ◌-◌, ◌*◌, ◌/◌, ◌%◌, ◌^◌, ◌<◌, ◌≤◌, cond, ltb, List, [], ◌∷◌, ◌++◌, min, length, take, drop, map, replicate, Some, None, count_ones, slice_get, slice_index, slice_index_or, Contains, refl, sym, ap, subst, ◌∙◌, ⊎_elim, arith, mod-lt, length-append}
 use Rattle.std.specs.Option.{option_map}
 use Rattle.std.proofs.lemmas.Bool.{cases_lt}
 use Rattle.std.proofs.lemmas.Bool.Decides.{nat_tests}
-use Rattle.std.proofs.lemmas.List.{length-take-le}
+use Rattle.std.proofs.Math.Nat.{mul-le-mul_right}
+use Rattle.std.proofs.lemmas.List.{length-take-le, get_or-take, get_or-append_right}
 use Rattle.std.proofs.lemmas.List.Elements.{All-get_or}
 use Rattle.std.proofs.lemmas.Nat.{div-mul-add, mod-mul-add, div_below, div-add-mod'}
-use Rattle.std.proofs.lemmas.Option.{get_or_from_slice_get}
+use Rattle.std.proofs.lemmas.Option.{get_or_from_slice_get, slice_get_within}
 use Rattle.std.proofs.Math.ListN.{get_or-append}
 use Rattle.std.proofs.Math.Seq.{take-append_seam, get_or-append_seam}
 use Rattle.lc_algebra.specs.declared.FieldName.{FieldName}
@@ -306,3 +308,34 @@ grid_parts_pushed C j n start end cols ws ps more p e t s l which h columns bits
 
 pub cut_in_words : (C : Matrix) (j start n : ℕ) (cols : List ℕ) (ws : List (List ℕ)) → cols ≡ others C j → AreTails C j (tails_in C) ws → (i t : ℕ) → i < length ws → t < length (take n (drop start cols)) → slice_index (take n (drop start cols)) t < length (slice_index_or ws i [])
 cut_in_words C j start n cols ws e h i t l m = omega (arith, cut_inside C j start n cols e t m, (h.words i (rw h.long at l)).long)
+
+-- a plane of all tails is inside the planes
+pub planes_room : (p n t L start many long : ℕ) → p < n → t ≡ L → start + many ≤ L → long ≡ n * L → p * t + start + many ≤ long
+planes_room p n t L start many long l e m is =
+    let rows : (p + 1) * L ≤ n * L = mul-le-mul_right L (omega (arith, l)) in
+    let same : p * t ≡ p * L = ap (λ z. p * z) e in
+    omega (arith, rows, same, next_product p L, m, is)
+
+-- the tails of a run are tails of the set
+pub tail_run_room : (C : Matrix) (m b n start count : ℕ) (s : SpotState) (head : List ℕ) → IsTailRun C m b s head n start count → start + count ≤ tails_in C
+tail_run_room C m b n start count s head h =
+    let T = tail_count C in
+    let r = h.pair.0 in
+    let pairs = supports_from 0 (length C.rows) 2 in
+    let inside : r < length pairs = slice_get_within pairs r (pair_of s) h.pair.1 in
+    let rows : (r + 1) * T ≤ length pairs * T = mul-le-mul_right T (omega (arith, inside)) in
+    omega (arith, rows, next_product r T, h.pair.2, h.inside)
+
+-- counts before a run, and those of the run
+pub counted_joined : (cols : List ℕ) (ws : List (List ℕ)) (done n : ℕ) (old new after : List ℕ) → AreCounted cols ws 0 done old → done ≤ length old → AreCounted cols ws done n new → length new ≡ n → AreCounted cols ws 0 (done + n) (take done old ++ (new ++ after))
+counted_joined cols ws done n old new after h l g e i m =
+    let front = take done old in
+    let long : length front ≡ done = length-take-le done old l in
+    ⊎_elim
+    (λ a. get_or-append front (new ++ after) 0 i (omega (arith, a, long)) ∙ get_or-take done old i 0 a ∙ h i a)
+    (λ a.
+    let k = i - done in
+    let inside : k < length new = omega (arith, a, m, e) in
+    let place : done + k ≡ 0 + i = omega (arith, a) in
+    get_or-append_right front (new ++ after) done i 0 long a ∙ get_or-append new after 0 k inside ∙ g k (omega (arith, inside, e)) ∙ ap (λ z. weight (restrict cols (slice_index_or ws z []))) place)
+    (cases_lt i done)

@@ -1,12 +1,12 @@
 //! The counts of a block of words over more than 2 elements, by runs of messages that share all but their last
 //! two coefficients.
 
-ghost use Rattle.std.specs.Prelude.{◌≡◌, ℕ, ◌+◌, ◌-◌, ◌*◌, ◌^◌, ◌<◌, ◌≤◌, ◌/◌, ◌%◌, ◌∷◌, [], Some, length, take, slice_get, slice_index};
+ghost use Rattle.std.specs.Prelude.{◌≡◌, ℕ, ◌+◌, ◌-◌, ◌*◌, ◌^◌, ◌<◌, ◌≤◌, ◌/◌, ◌%◌, ◌∷◌, [], Some, length, take, slice_get, slice_index, option_map};
 ghost use Rattle.std.specs.List.{Contains};
 ghost use Rattle.lc_algebra.specs.Field.{size};
 ghost use Rattle.lc_enumeration.specs.Message.{messages, supports_from};
-ghost use Rattle.lc_enumeration.specs.Plan.{IsInPhase};
-ghost use Rattle.lc_enumeration.specs.Search.{set_count, block_words};
+ghost use Rattle.lc_enumeration.specs.Plan.{total, IsInPhase};
+ghost use Rattle.lc_enumeration.specs.Search.{set_count, block_words, block_least, board_value};
 ghost use Rattle.lc_place.specs.Place.{spot_message};
 ghost use Rattle.lc_kernel.specs.Kernel.{IsPlanOf};
 ghost use Rattle.lc_kernel.specs.Values.{IsSpotAt};
@@ -19,6 +19,7 @@ ghost use Rattle.lc_kernel.specs.Grids.{IsGrid};
 ghost use Rattle.lc_kernel.specs.Least.{AreCounted};
 ghost use Rattle.lc_kernel.specs.Sums.{front_word, AreMultiples, IsRoom};
 
+use crate::counts::first_least;
 use crate::grid::Grid;
 use crate::multiples::nonzero;
 use crate::planes::{add_marked, mark_apart, plane_of};
@@ -275,4 +276,52 @@ pub(crate) fn count_tails(
         stayed = pass(sets, plan, block, spot, done as u64, count as u64).min(level - 2);
         done += count;
     }
+}
+
+/// The least value of a block of a level of at least 3, over more than 2 elements, from its first message on.
+pub(crate) fn by_tails(
+    sets: &Sets,
+    plan: &Plan,
+    block: u64,
+    grid: &Grid,
+    multiples: &[Word],
+    spot: &mut Spot,
+    heads: &mut [Word],
+    masks: &mut [u64],
+    counts: &mut [u32],
+) -> u64
+    requires plan { IsPlanOf plan.now sets.now }
+    requires block { block < total plan.now.k plan.now.q plan.now.m }
+    requires set { spot.old.set < set_count sets.now }
+    requires at { IsSpotAt sets.now plan.now.m block 0 spot.old }
+    requires level { 3 ≤ length spot.old.support }
+    requires grid { IsGrid sets.now spot.old.set grid.now.planes grid.now.tails grid.now.parts.items grid.now.starts.items }
+    requires multiples { AreMultiples sets.now multiples.now }
+    requires room { IsRoom sets.now spot.old heads.old }
+    requires masks { length masks.old ≡ 225 }
+    requires counts { length counts.old ≡ 4096 }
+    ensures is { option_map board_value (block_least sets.now plan.now.m block) ≡ Some result }
+    ensures heads { IsRoom sets.now spot.new heads.new }
+    ensures masks { length masks.new ≡ length masks.old }
+    ensures counts { length counts.new ≡ length counts.old }
+{
+    let _few = plan.total();
+    let _phase = plan.phase_of(block);
+    let _k = sets.dimension();
+    let _n = sets.length();
+    let level = spot.support().len() as u64;
+    let len = plan.block_len(block) as usize;
+    count_tails(
+        sets,
+        plan,
+        block,
+        grid,
+        multiples,
+        spot,
+        heads,
+        masks,
+        &mut counts[..len],
+    );
+    let (least, at) = first_least(&counts[..len]);
+    (level + least as u64) * 4_503_599_627_370_496 + (block * 4096 + at as u64)
 }
