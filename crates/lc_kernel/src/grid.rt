@@ -64,7 +64,12 @@ fn tail(
     let first = multiple_of(sets, multiples, j, a, (t / elements) as u8 + 1);
     let second = multiple_of(sets, multiples, j, b, (t % elements) as u8 + 1);
     let mut symbols = vec![in alloc; 0u8; n]?;
-    put_added(sets.field(), &mut symbols, first.symbols(), second.symbols());
+    put_added(
+        sets.field(),
+        &mut symbols,
+        first.symbols(),
+        second.symbols(),
+    );
     scale(sets.field(), &mut symbols, sets.field().neg(1));
     Ok(Word::from_vec(symbols))
 }

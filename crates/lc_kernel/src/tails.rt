@@ -68,7 +68,11 @@ fn mark_part(
     for plane in 0..grid.planes {
         let first = plane * grid.tails + start;
         let end = first + masks.len();
-        mark_apart(&bits[first..end], plane_of(head.symbols(), columns, plane), masks);
+        mark_apart(
+            &bits[first..end],
+            plane_of(head.symbols(), columns, plane),
+            masks,
+        );
     }
 }
 
@@ -119,7 +123,9 @@ fn count_run(
 {
     counts.fill(0);
     for part in 0..grid.parts.len() {
-        add_part(sets, plan, block, grid, part, spot, head, start, done, masks, counts);
+        add_part(
+            sets, plan, block, grid, part, spot, head, start, done, masks, counts,
+        );
     }
 }
 
@@ -172,14 +178,7 @@ fn one_run(
 }
 
 // Goes so many messages on from one at an offset of a block. Returns how many of the first entries stayed.
-fn pass(
-    sets: &Sets,
-    plan: &Plan,
-    block: u64,
-    spot: &mut Spot,
-    done: u64,
-    count: u64,
-) -> usize
+fn pass(sets: &Sets, plan: &Plan, block: u64, spot: &mut Spot, done: u64, count: u64) -> usize
     requires plan { IsPlanOf plan.now sets.now }
     requires at { IsSpotAt sets.now plan.now.m block done spot.old }
     requires inside { done + count < length (block_words sets.now plan.now.m block) }
