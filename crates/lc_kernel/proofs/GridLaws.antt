@@ -7,7 +7,7 @@
 --   tails_more, planes_none, planes_more, grid_parts_pushed      tails, planes and parts with one more
 --   cut_in_words                 some columns are inside the tails
 --   planes_room, tail_run_room, counted_joined      what a run reads and writes
-use Rattle.std.proofs.Common.{◌≡◌, ℕ, zero, suc, ◌+◌, ◌-◌, ◌*◌, ◌/◌, ◌%◌, ◌^◌, ◌<◌, ◌≤◌, cond, ltb, List, [], ◌∷◌, ◌++◌, min, length, take, drop, map, replicate, Some, None, count_ones, slice_get, slice_index, slice_index_or, Contains, refl, sym, ap, subst, ◌∙◌, ⊎_elim, arith, mod-lt, length-append}
+use Rattle.std.proofs.Common.{◌≡◌, ℕ, zero, suc, ◌+◌, ◌-◌, ◌*◌, ◌/◌, ◌%◌, ◌^◌, ◌<◌, ◌≤◌, List, [], ◌∷◌, ◌++◌, min, length, take, drop, map, Some, None, count_ones, slice_get, slice_index, slice_index_or, Contains, refl, sym, ap, subst, ◌∙◌, ⊎_elim, arith, mod-lt, length-append}
 use Rattle.std.specs.Option.{option_map}
 use Rattle.std.proofs.lemmas.Bool.{cases_lt}
 use Rattle.std.proofs.lemmas.Bool.Decides.{nat_tests}
@@ -27,7 +27,7 @@ use Rattle.lc_algebra.proofs.WordLaws.{sum_assoc, IsWord_sum, IsWord_scale, fits
 use Rattle.lc_algebra.proofs.FieldLaws.{neg_one_mul}
 use Rattle.lc_algebra.proofs.ColumnLaws.{restrict_sum, restrict_scale, length_restrict, index_restrict}
 use Rattle.lc_algebra.proofs.FieldLaws.{one_inside}
-use Rattle.lc_enumeration.specs.Message.{Message, messages, supports_from}
+use Rattle.lc_enumeration.specs.Message.{messages, supports_from}
 use Rattle.lc_enumeration.specs.Plan.{phase_level, blocks_before, IsInPhase}
 use Rattle.lc_enumeration.specs.Search.{word_of, generator_at, block_words}
 use Rattle.lc_enumeration.proofs.SearchLaws.{few_in_block}

@@ -15,7 +15,7 @@ use lib.Count.{ones}
 use Rattle.lc_algebra.specs.declared.FieldName.{FieldName}
 use Rattle.lc_algebra.specs.Field.{size, add, neg, shape_of}
 use Rattle.lc_algebra.specs.Word.{Fits, word_sum, weight}
-use Rattle.lc_algebra.proofs.FieldLaws.{add_inside, neg_inside, neg_add, neg_neg, subtract_zero}
+use Rattle.lc_algebra.proofs.FieldLaws.{neg_inside, neg_add, neg_neg, subtract_zero}
 use Rattle.lc_algebra.proofs.WordLaws.{weight_cons, fits_head, fits_tail}
 use Rattle.lc_algebra.specs.SpanLaws.{restrict}
 use Rattle.lc_algebra.proofs.ColumnLaws.{length_restrict, index_restrict}

@@ -9,12 +9,11 @@
 --   last_message, next_offset      the last message of a head, and the one after it
 --   spot_next                  the spot after a step
 --   index_of_pair              the index of a spot's pair
-use Rattle.std.proofs.Common.{◌≡◌, ℕ, suc, ◌+◌, ◌-◌, ◌*◌, ◌%◌, ◌^◌, ◌<◌, ◌≤◌, Bool, if◌then◌else◌, List, [], ◌∷◌, ◌++◌, length, take, drop, set, replicate, get_or, bit_xor, count_ones, slice_get, slice_index, slice_index_or, Some, None, option_map, Contains, refl, sym, ap, subst, ◌∙◌, ⊎_elim, arith, length-append}
+use Rattle.std.proofs.Common.{◌≡◌, ℕ, suc, ◌+◌, ◌-◌, ◌*◌, ◌^◌, ◌<◌, ◌≤◌, Bool, if◌then◌else◌, List, [], ◌∷◌, ◌++◌, length, take, drop, replicate, get_or, bit_xor, count_ones, slice_get, slice_index, slice_index_or, Some, None, option_map, Contains, refl, sym, ap, subst, ◌∙◌, arith, length-append}
 use Rattle.std.specs.Int.Bits.{xor_assoc}
 use Rattle.std.proofs.Math.Seq.{get_or-append_seam, take-append_seam}
-use Rattle.std.proofs.lemmas.Bool.{cases_lt}
 use Rattle.std.proofs.lemmas.Nat.{xor_comm}
-use Rattle.std.proofs.lemmas.List.{take-append-drop, length-drop, get_or-take, length-take-le, length-replicate, get_or-drop, get_or-append-add, get_or-set_same, get_or-set_other}
+use Rattle.std.proofs.lemmas.List.{take-append-drop, length-drop, get_or-take, length-take-le, length-replicate, get_or-drop, get_or-append-add}
 use Rattle.std.proofs.lemmas.Option.{slice_get_within, slice_get-get_or, get_or_from_slice_get}
 use Rattle.lc_algebra.specs.declared.FieldName.TheVariants.{Gf2}
 use Rattle.lc_algebra.specs.Field.{size}

@@ -1,5 +1,4 @@
-use Rattle.std.proofs.Common.{◌≡◌, ◌+◌, ◌-◌, ◌*◌, length, ap, subst, ◌∙◌, sym, arith}
-use Rattle.lc_enumeration.specs.Message.{supports_from}
+use Rattle.std.proofs.Common.{◌≡◌, ◌+◌, ◌-◌, ◌*◌, length, subst, sym, arith}
 use Rattle.lc_kernel.specs.Packed.{EndsAt}
 use Rattle.lc_kernel.specs.Grid.{tail_count, AreTails}
 use Rattle.lc_kernel.proofs.PairLaws.{ends_next, ends_all}

@@ -1,4 +1,4 @@
-use Rattle.std.proofs.Common.{◌≡◌, ◌-◌, ◌+◌, ◌*◌, ◌<◌, ◌≤◌, length}
+use Rattle.std.proofs.Common.{◌≡◌, ◌-◌, ◌*◌, ◌<◌, ◌≤◌, length}
 use Rattle.lc_kernel.specs.Grids.{AreGridParts}
 use Rattle.lc_kernel.proofs.grid.push_parts.Given as goal
 

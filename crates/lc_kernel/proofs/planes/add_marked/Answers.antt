@@ -1,4 +1,4 @@
-use Rattle.std.proofs.Common.{◌≡◌, ◌≤◌, count_ones, slice_index, arith}
+use Rattle.std.proofs.Common.{◌≤◌, count_ones, slice_index, arith}
 use Rattle.std.proofs.lemmas.Nat.{ones-le}
 use Rattle.lc_kernel.proofs.planes.add_marked.Goals as goal
 

@@ -1,6 +1,4 @@
-use Rattle.std.proofs.Common.{◌-◌, slice_index, ap, ◌∙◌, arith}
-use Rattle.lc_algebra.specs.SpanLaws.{restrict}
-use Rattle.lc_kernel.specs.Planes.{plane}
+use Rattle.std.proofs.Common.{◌-◌, slice_index, arith}
 use Rattle.lc_kernel.proofs.PlaneLaws.{plane_end, plane_next, plane_fits, bit_fits}
 use Rattle.lc_kernel.proofs.planes.plane_of.Goals as goal
 

@@ -1,4 +1,4 @@
-use Rattle.std.proofs.Common.{◌≡◌, ◌-◌, ◌*◌, ◌≤◌, length, take, arith}
+use Rattle.std.proofs.Common.{◌-◌, ◌*◌, ◌≤◌, length, take, arith}
 use Rattle.std.proofs.lemmas.List.{length-take}
 use Rattle.lc_kernel.specs.Packed.{others}
 use Rattle.lc_kernel.proofs.FrontLaws.{generates, front_word_fits}

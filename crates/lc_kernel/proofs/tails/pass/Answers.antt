@@ -1,6 +1,5 @@
-use Rattle.std.proofs.Common.{◌≡◌, length, refl, ap, subst, ◌∙◌, sym, arith}
+use Rattle.std.proofs.Common.{length, refl, ap, arith}
 use Rattle.lc_enumeration.proofs.SearchLaws.{few_in_block}
-use Rattle.lc_kernel.specs.Values.{IsSpotAt}
 use Rattle.lc_kernel.proofs.tails.pass.Goals as goal
 
 pub overflow_add-offset-end : goal.overflow_add-offset-end

@@ -1,4 +1,4 @@
-use Rattle.std.proofs.Common.{◌≡◌, ◌≤◌, is_some, arith}
+use Rattle.std.proofs.Common.{is_some, arith}
 use Rattle.lc_kernel.proofs.FrontLaws.{front_same}
 use Rattle.lc_kernel.proofs.RunLaws.{spot_next}
 use Rattle.lc_kernel.proofs.tails.step_once.Goals as goal

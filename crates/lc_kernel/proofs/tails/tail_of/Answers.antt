@@ -1,4 +1,4 @@
-use Rattle.std.proofs.Common.{◌≡◌, ◌-◌, ◌<◌, ◌≤◌, length, slice_index, refl, ap, arith}
+use Rattle.std.proofs.Common.{◌-◌, ◌<◌, length, slice_index, refl, ap, arith}
 use Rattle.lc_algebra.specs.Field.{size}
 use Rattle.lc_kernel.proofs.FrontLaws.{entries_are}
 use Rattle.lc_kernel.proofs.MultipleLaws.{below_product}
