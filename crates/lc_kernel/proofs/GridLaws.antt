@@ -4,15 +4,20 @@
 --   tail_ones                    the weight of a sum at some columns, by its planes
 --   tail_run_word, tail_run_pair, tail_run_ones      a word of a run, its tail, and its nonzero symbols
 --   tails_counted                the counts of a run after one more part of the columns
-use Rattle.std.proofs.Common.{◌≡◌, ℕ, zero, suc, ◌+◌, ◌-◌, ◌*◌, ◌/◌, ◌%◌, ◌^◌, ◌<◌, ◌≤◌, cond, ltb, List, [], ◌∷◌, ◌++◌, length, take, drop, map, replicate, Some, None, count_ones, slice_get, slice_index, slice_index_or, Contains, refl, sym, ap, subst, ◌∙◌, ⊎_elim, arith, mod-lt}
+--   tails_more, planes_none, planes_more, grid_parts_pushed      tails, planes and parts with one more
+--   cut_in_words                 some columns are inside the tails
+--   planes_room, tail_run_room, counted_joined      what a run reads and writes
+use Rattle.std.proofs.Common.{◌≡◌, ℕ, zero, suc, ◌+◌, ◌-◌, ◌*◌, ◌/◌, ◌%◌, ◌^◌, ◌<◌, ◌≤◌, List, [], ◌∷◌, ◌++◌, min, length, take, drop, map, Some, None, count_ones, slice_get, slice_index, slice_index_or, Contains, refl, sym, ap, subst, ◌∙◌, ⊎_elim, arith, mod-lt, length-append}
 use Rattle.std.specs.Option.{option_map}
 use Rattle.std.proofs.lemmas.Bool.{cases_lt}
 use Rattle.std.proofs.lemmas.Bool.Decides.{nat_tests}
-use Rattle.std.proofs.lemmas.List.{length-take-le}
+use Rattle.std.proofs.Math.Nat.{mul-le-mul_right}
+use Rattle.std.proofs.lemmas.List.{length-take-le, get_or-take, get_or-append_right}
 use Rattle.std.proofs.lemmas.List.Elements.{All-get_or}
 use Rattle.std.proofs.lemmas.Nat.{div-mul-add, mod-mul-add, div_below, div-add-mod'}
-use Rattle.std.proofs.lemmas.Option.{get_or_from_slice_get}
-use Rattle.std.proofs.Math.Seq.{take-append_seam}
+use Rattle.std.proofs.lemmas.Option.{get_or_from_slice_get, slice_get_within}
+use Rattle.std.proofs.Math.ListN.{get_or-append}
+use Rattle.std.proofs.Math.Seq.{take-append_seam, get_or-append_seam}
 use Rattle.lc_algebra.specs.declared.FieldName.{FieldName}
 use Rattle.lc_algebra.specs.Field.{size, neg}
 use Rattle.lc_algebra.specs.Word.{IsWord, Fits, word_sum, scale, weight}
@@ -22,7 +27,7 @@ use Rattle.lc_algebra.proofs.WordLaws.{sum_assoc, IsWord_sum, IsWord_scale, fits
 use Rattle.lc_algebra.proofs.FieldLaws.{neg_one_mul}
 use Rattle.lc_algebra.proofs.ColumnLaws.{restrict_sum, restrict_scale, length_restrict, index_restrict}
 use Rattle.lc_algebra.proofs.FieldLaws.{one_inside}
-use Rattle.lc_enumeration.specs.Message.{Message, messages, supports_from}
+use Rattle.lc_enumeration.specs.Message.{messages, supports_from}
 use Rattle.lc_enumeration.specs.Plan.{phase_level, blocks_before, IsInPhase}
 use Rattle.lc_enumeration.specs.Search.{word_of, generator_at, block_words}
 use Rattle.lc_enumeration.proofs.SearchLaws.{few_in_block}
@@ -30,11 +35,16 @@ use Rattle.lc_place.specs.Place.{SpotState, spot_message}
 use Rattle.lc_place.proofs.Coefficients.{next_numbers, carried}
 use Rattle.lc_place.proofs.Supports.{next_support}
 use Rattle.lc_place.proofs.Messages.{message_of, next_leading, turned, message_next, to_contains}
-use Rattle.lc_kernel.specs.Planes.{apart}
-use Rattle.lc_kernel.specs.Packed.{part_at, pair_of}
+use Rattle.lc_kernel.specs.Planes.{apart, plane_at}
+use Rattle.lc_kernel.specs.Packed.{others, part_at, pair_of}
 use Rattle.lc_kernel.specs.Least.{AreCounted}
 use Rattle.lc_kernel.specs.Sums.{front_word}
-use Rattle.lc_kernel.specs.Grid.{tail_pair, tail_count, tail_index, tail_word, negative, IsTailRun}
+use Rattle.lc_kernel.specs.declared.grid.GridPart.{GridPart}
+use Rattle.lc_kernel.specs.Grid.{tail_pair, tail_count, tail_index, tail_word, tails_in, negative, AreTails, ArePlanesOf, AreTailPlanes, IsTailRun}
+use Rattle.lc_kernel.specs.Grids.{AreGridParts, IsGridPart}
+use Rattle.lc_kernel.proofs.MultipleLaws.{below_product}
+use Rattle.lc_kernel.proofs.PairLaws.{same_pair}
+use Rattle.lc_kernel.proofs.TableLaws.{all_pushed, part_cut, cut_inside}
 use Rattle.lc_kernel.proofs.FrontLaws.{entries_are, generates, front_next, front_same, front_word_is, front_word_fits, front_whole}
 use Rattle.lc_kernel.proofs.PackLaws.{part_more}
 use Rattle.lc_kernel.proofs.PlaneLaws.{ones_apart}
@@ -235,3 +245,97 @@ tails_counted C m b n start count planes part s head cols old new masks h size_i
     let ones = tail_run_ones C m b n start count i planes (slice_index masks i) s head (part_at cols part) h size_is l (λ a c. marked i a c l) in
     let more = part_more cols (slice_index_or (block_words C m b) (n + i) []) part in
     omega (arith, added i l, counted i l, ones, more)
+
+-- the tails with one more
+pub tails_more : (C : Matrix) (j pair t a b : ℕ) (ws more : List (List ℕ)) (w : List ℕ) → AreTails C j (pair * tail_count C + t) ws → t < tail_count C → slice_get (supports_from 0 (length C.rows) 2) pair ≡ Some (a ∷ b ∷ []) → w ≡ negative C.field (tail_word C j a b t) → IsWord C.field C.columns w → more ≡ ws ++ w ∷ [] → AreTails C j (pair * tail_count C + (t + 1)) more
+tails_more C j pair t a b ws more w h l at is word made =
+    let T = tail_count C in
+    let n = pair * T + t in
+    let one_more : n + 1 ≡ pair * T + (t + 1) = omega arith in
+    let before : (e : ℕ) → e < n → slice_index_or more e [] ≡ slice_index_or ws e [] = λ e m. ap (λ z. slice_index_or z e []) made ∙ get_or-append ws (w ∷ []) [] e (omega (arith, m, h.long)) in
+    let last : (e : ℕ) → e ≡ n → slice_index_or more e [] ≡ w = λ e m. ap (λ z. slice_index_or z e []) made ∙ ap (λ z. slice_index_or (ws ++ w ∷ []) z []) (m ∙ sym h.long) ∙ get_or-append_seam ws w [] [] in
+    record {
+      long = ap length made ∙ length-append ws (w ∷ []) ∙ ap (λ z. z + 1) h.long ∙ one_more;
+      is = λ e x y m there. ⊎_elim
+          (λ i. before e i ∙ h.is e x y i there)
+          (λ i.
+          let at_end : e ≡ n = omega (arith, i, m, one_more) in
+          let row : e / T ≡ pair = ap (λ z. z / T) at_end ∙ div-mul-add pair T t l in
+          let column : e % T ≡ t = ap (λ z. z % T) at_end ∙ mod-mul-add pair T t l in
+          let same = same_pair a b x y (sym at ∙ ap (slice_get (supports_from 0 (length C.rows) 2)) (sym row) ∙ there) in
+          last e at_end ∙ is ∙ ap (λ z. negative C.field (tail_word C j z b t)) same.0 ∙ ap (λ z. negative C.field (tail_word C j x z t)) same.1 ∙ ap (λ z. negative C.field (tail_word C j x y z)) (sym column))
+          (cases_lt e n);
+      words = λ e m. ⊎_elim
+          (λ i. rw (before e i) (h.words e i))
+          (λ i. let at_end : e ≡ n = omega (arith, i, m, one_more) in rw (last e at_end) word)
+          (cases_lt e n);
+    }
+
+next_product : (p L : ℕ) → (p + 1) * L ≡ p * L + L
+next_product p L = omega arith
+
+-- the planes with one more
+pub planes_more : (cols : List ℕ) (p : ℕ) (ws : List (List ℕ)) (bits more : List ℕ) → ArePlanesOf cols p ws bits → length more ≡ length bits + length ws → ((i : ℕ) → i < length bits → slice_index more i ≡ slice_index bits i) → ((e : ℕ) → e < length ws → slice_index more (length bits + e) ≡ plane_at p cols (slice_index_or ws e [])) → ArePlanesOf cols (p + 1) ws more
+planes_more cols p ws bits more h long before after =
+    let L = length ws in
+    let carry : (p + 1) * L ≡ p * L + L = next_product p L in
+    record {
+      long = long ∙ ap (λ z. z + L) h.long ∙ sym carry;
+      is = λ q e l m. ⊎_elim
+          (λ i. before (q * L + e) (omega (arith, below_product p L q e i m, h.long)) ∙ h.is q e i m)
+          (λ i.
+          let last : q ≡ p = omega (arith, i, l) in
+          let place : q * L + e ≡ length bits + e = ap (λ z. z * L + e) last ∙ ap (λ z. z + e) (sym h.long) in
+          ap (slice_index more) place ∙ after e m ∙ ap (λ z. plane_at z cols (slice_index_or ws e [])) (sym last))
+          (cases_lt q p);
+    }
+
+pub planes_none : (cols : List ℕ) (ws : List (List ℕ)) (bits : List ℕ) → bits ≡ [] → ArePlanesOf cols 0 ws bits
+planes_none cols ws bits e = record { long = ap length e ∙ omega arith; is = λ p x l m. absurd (omega (arith, l)) }
+
+tail_planes : (C : Matrix) (j n : ℕ) (cols : List ℕ) (ws : List (List ℕ)) (bits : List ℕ) → AreTails C j (tails_in C) ws → ArePlanesOf cols n ws bits → AreTailPlanes C j cols n bits
+tail_planes C j n cols ws bits t h = record {
+  long = h.long ∙ ap (λ z. n * z) t.long;
+  is = λ p e a b l m at. ap (λ z. slice_index bits (p * z + e)) (sym t.long) ∙ h.is p e l (rw t.long m) ∙ ap (plane_at p cols) (t.is e a b m at);
+}
+
+pub grid_parts_pushed : (C : Matrix) (j n start end : ℕ) (cols : List ℕ) (ws : List (List ℕ)) (ps more : List GridPart) (p : GridPart) → cols ≡ others C j → AreTails C j (tails_in C) ws → start ≡ 64 * length ps → start ≤ length cols → end ≡ min (length cols) (start + 64) → AreGridParts C j n ps → p.columns.items ≡ take (end - start) (drop start cols) → ArePlanesOf (take (end - start) (drop start cols)) n ws p.bits.items → more ≡ ps ++ p ∷ [] → AreGridParts C j n more
+grid_parts_pushed C j n start end cols ws ps more p e t s l which h columns bits made =
+    let cut = take (end - start) (drop start cols) in
+    let part : cut ≡ part_at (others C j) (length ps) = part_cut cols (length ps) start end s l which ∙ ap (λ z. part_at z (length ps)) e in
+    all_pushed (λ b (x : GridPart). IsGridPart C j (part_at (others C j) b) n x.columns.items x.bits.items) ps more p h
+    (record { columns_are = columns ∙ part; planes = tail_planes C j n (part_at (others C j) (length ps)) ws p.bits.items t (subst (λ z. ArePlanesOf z n ws p.bits.items) part bits) }) made
+
+pub cut_in_words : (C : Matrix) (j start n : ℕ) (cols : List ℕ) (ws : List (List ℕ)) → cols ≡ others C j → AreTails C j (tails_in C) ws → (i t : ℕ) → i < length ws → t < length (take n (drop start cols)) → slice_index (take n (drop start cols)) t < length (slice_index_or ws i [])
+cut_in_words C j start n cols ws e h i t l m = omega (arith, cut_inside C j start n cols e t m, (h.words i (rw h.long at l)).long)
+
+-- a plane of all tails is inside the planes
+pub planes_room : (p n t L start many long : ℕ) → p < n → t ≡ L → start + many ≤ L → long ≡ n * L → p * t + start + many ≤ long
+planes_room p n t L start many long l e m is =
+    let rows : (p + 1) * L ≤ n * L = mul-le-mul_right L (omega (arith, l)) in
+    let same : p * t ≡ p * L = ap (λ z. p * z) e in
+    omega (arith, rows, same, next_product p L, m, is)
+
+-- the tails of a run are tails of the set
+pub tail_run_room : (C : Matrix) (m b n start count : ℕ) (s : SpotState) (head : List ℕ) → IsTailRun C m b s head n start count → start + count ≤ tails_in C
+tail_run_room C m b n start count s head h =
+    let T = tail_count C in
+    let r = h.pair.0 in
+    let pairs = supports_from 0 (length C.rows) 2 in
+    let inside : r < length pairs = slice_get_within pairs r (pair_of s) h.pair.1 in
+    let rows : (r + 1) * T ≤ length pairs * T = mul-le-mul_right T (omega (arith, inside)) in
+    omega (arith, rows, next_product r T, h.pair.2, h.inside)
+
+-- counts before a run, and those of the run
+pub counted_joined : (cols : List ℕ) (ws : List (List ℕ)) (done n : ℕ) (old new after : List ℕ) → AreCounted cols ws 0 done old → done ≤ length old → AreCounted cols ws done n new → length new ≡ n → AreCounted cols ws 0 (done + n) (take done old ++ (new ++ after))
+counted_joined cols ws done n old new after h l g e i m =
+    let front = take done old in
+    let long : length front ≡ done = length-take-le done old l in
+    ⊎_elim
+    (λ a. get_or-append front (new ++ after) 0 i (omega (arith, a, long)) ∙ get_or-take done old i 0 a ∙ h i a)
+    (λ a.
+    let k = i - done in
+    let inside : k < length new = omega (arith, a, m, e) in
+    let place : done + k ≡ 0 + i = omega (arith, a) in
+    get_or-append_right front (new ++ after) done i 0 long a ∙ get_or-append new after 0 k inside ∙ g k (omega (arith, inside, e)) ∙ ap (λ z. weight (restrict cols (slice_index_or ws z []))) place)
+    (cases_lt i done)

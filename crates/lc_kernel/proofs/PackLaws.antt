@@ -101,7 +101,7 @@ unfolding packed
 packed_small [] h = omega arith
 packed_small (a ∷ u) h = omega (arith, packed_small u (fits_tail Gf2 a u h), bit_of u a h, pow-suc 2 (length u))
 
-pow_more : (m n : ℕ) → m ≤ n → 2 ^ m ≤ 2 ^ n
+pub pow_more : (m n : ℕ) → m ≤ n → 2 ^ m ≤ 2 ^ n
 pow_more zero n l = omega (arith, pow-zero 2, one-le-pow n 2 (omega arith))
 pow_more (suc m) zero l = absurd (omega (arith, l))
 pow_more (suc m) (suc n) l = omega (arith, pow_more m n (omega (arith, l)), pow-suc 2 m, pow-suc 2 n)

@@ -125,7 +125,7 @@ pairs_few k l = omega (arith, few_pairs k l, length-supports 0 k 2, l)
 pub sums_none : (k : ℕ) (rows sums : List ℕ) → sums ≡ [] → ArePairsSoFar k rows sums
 sums_none k rows sums e = record { sum = λ r a b l at. absurd (omega (arith, l, ap length e)) }
 
-same_pair : (a b c d : ℕ) → Some (a ∷ b ∷ []) ≡ Some (c ∷ d ∷ []) → (a ≡ c) × (b ≡ d)
+pub same_pair : (a b c d : ℕ) → Some (a ∷ b ∷ []) ≡ Some (c ∷ d ∷ []) → (a ≡ c) × (b ≡ d)
 same_pair a b c d e = (cc (e), cc (e))
 
 pub sums_more : (k a d s x : ℕ) (rows sums more : List ℕ) → EndsAt k a s → a + 1 + d < k → length sums ≡ s + d → x ≡ bit_xor (slice_index rows a) (slice_index rows (a + 1 + d)) → more ≡ sums ++ x ∷ [] → ArePairsSoFar k rows sums → ArePairsSoFar k rows more

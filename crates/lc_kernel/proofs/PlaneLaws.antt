@@ -2,20 +2,27 @@
 --   plane_cons                   a plane, symbol by symbol
 --   ones_apart                   the weight of a sum: where one word differs from the negative of the other
 --   plane_sum                    in characteristic 2 a plane of a sum is an exclusive or
-use Rattle.std.proofs.Common.{◌≡◌, ◌≢◌, ◌⊎◌, ℕ, zero, suc, ◌+◌, ◌*◌, ◌%◌, ◌^◌, ◌<◌, ◌≤◌, not, cond, ◌==◌, List, [], ◌∷◌, length, map, bit_or, bit_xor, count_ones, refl, sym, ap, ◌∙◌, inl, inr, ⊎_elim, arith}
+--   plane_end, plane_step, plane_room, plane_next, plane_fits, bit_fits      a plane of a word, from its last column on
+use Rattle.std.proofs.Common.{◌≡◌, ◌≢◌, ◌⊎◌, ℕ, zero, suc, ◌+◌, ◌-◌, ◌*◌, ◌/◌, ◌%◌, ◌^◌, ◌<◌, ◌≤◌, not, cond, ◌==◌, List, [], ◌∷◌, length, drop, map, slice_index, bit_and, bit_or, bit_xor, count_ones, refl, sym, ap, ◌∙◌, inl, inr, ⊎_elim, arith}
 use Rattle.std.specs.Int.{bit_at}
 use Rattle.std.proofs.lemmas.Bool.{cases_lt, cases_eq, ne_eqb}
 use Rattle.std.proofs.lemmas.Nat.{xor_block, or_block, ones_cat}
-use Rattle.std.proofs.lemmas.Nat.Bits.{bit_at-lt, bit_at_xor, same_from_bits_below}
+use Rattle.std.proofs.lemmas.Nat.Bits.{bit_at-lt, bit_at_xor, same_from_bits_below, shr_and_one}
+use Rattle.std.proofs.Math.Nat.{pow-suc}
+use Rattle.std.proofs.Math.Seq.{drop-cons}
+use Rattle.std.proofs.lemmas.List.{drop_all, length-drop}
 use lib.Count.{ones}
 use Rattle.lc_algebra.specs.declared.FieldName.{FieldName}
 use Rattle.lc_algebra.specs.Field.{size, add, neg, shape_of}
 use Rattle.lc_algebra.specs.Word.{Fits, word_sum, weight}
-use Rattle.lc_algebra.proofs.FieldLaws.{add_inside, neg_inside, neg_add, neg_neg, subtract_zero}
+use Rattle.lc_algebra.proofs.FieldLaws.{neg_inside, neg_add, neg_neg, subtract_zero}
 use Rattle.lc_algebra.proofs.WordLaws.{weight_cons, fits_head, fits_tail}
+use Rattle.lc_algebra.specs.SpanLaws.{restrict}
+use Rattle.lc_algebra.proofs.ColumnLaws.{length_restrict, index_restrict}
 use Rattle.lc_field.proofs.SumLaws.{xor_add}
 use Rattle.lc_kernel.specs.Packed.{packed}
 use Rattle.lc_kernel.specs.Planes.{plane, apart}
+use Rattle.lc_kernel.proofs.PackLaws.{pow_more}
 
 pub plane_cons : (j a : ℕ) (u : List ℕ) → plane j (a ∷ u) ≡ plane j u * 2 + bit_at a j
 unfolding plane packed
@@ -140,3 +147,43 @@ plane_sum f j (a ∷ u) (b ∷ v) two e h i =
     let bit : bit_at (add f a b) j ≡ bit_xor (bit_at a j) (bit_at b j) = ap (λ z. bit_at z j) (sym (xor_add f a b two (fits_head f a u h) (fits_head f b v i))) ∙ bit_at_xor a b j ∙ sym (bits_of a b j).sum in
     plane_cons j (add f a b) (word_sum f u v) ∙ ap (λ z. z * 2 + bit_at (add f a b) j) t ∙ ap (λ z. bit_xor (plane j u) (plane j v) * 2 + z) bit ∙ sym x
     ∙ ap (λ z. bit_xor z (plane j v * 2 + bit_at b j)) (sym (plane_cons j a u)) ∙ ap (bit_xor (plane j (a ∷ u))) (sym (plane_cons j b v))
+
+-- a plane of the rest of a word, from its last symbol on
+plane_none : (j : ℕ) → plane j [] ≡ 0
+unfolding plane packed
+plane_none j = refl
+
+plane_small : (j : ℕ) (u : List ℕ) → plane j u < 2 ^ length u
+plane_small j [] = rw (plane_none j) (omega arith)
+plane_small j (a ∷ u) = omega (arith, plane_cons j a u, plane_small j u, bit_at-lt a j, pow-suc 2 (length u))
+
+pub plane_end : (j : ℕ) (cols word : List ℕ) → 0 ≡ plane j (drop (length cols) (restrict cols word))
+plane_end j cols word = sym (ap (plane j) (drop_all (length cols) (restrict cols word) (omega (arith, length_restrict cols word))) ∙ plane_none j)
+
+pub plane_step : (j : ℕ) (cols word : List ℕ) (t : ℕ) → t < length cols → plane j (drop t (restrict cols word)) ≡ plane j (drop (suc t) (restrict cols word)) * 2 + bit_at (slice_index word (slice_index cols t)) j
+plane_step j cols word t l =
+    ap (plane j) (drop-cons (restrict cols word) t 0 (omega (arith, l, length_restrict cols word))) ∙ plane_cons j (slice_index (restrict cols word) t) (drop (suc t) (restrict cols word))
+    ∙ ap (λ x. plane j (drop (suc t) (restrict cols word)) * 2 + bit_at x j) (index_restrict cols word t l)
+
+pub plane_room : (j : ℕ) (cols word : List ℕ) (t : ℕ) → length cols ≤ 64 → t < length cols → plane j (drop (suc t) (restrict cols word)) < 2 ^ 63
+plane_room j cols word t few l =
+    let R = restrict cols word in
+    let long : length (drop (suc t) R) ≡ length cols - suc t = length-drop (suc t) R ∙ ap (λ n. n - suc t) (length_restrict cols word) in
+    let power = pow_more (length (drop (suc t) R)) 63 (omega (arith, long, few, l)) in
+    omega (arith, plane_small j (drop (suc t) R), power)
+
+-- one step of the code, with what it has so far
+pub plane_next : (j : ℕ) (cols word : List ℕ) (t bits : ℕ) → 0 < t → t ≤ length cols → bits ≡ plane j (drop t (restrict cols word)) → bits * 2 + bit_and (slice_index word (slice_index cols (t - 1)) / 2 ^ j) 1 ≡ plane j (drop (t - 1) (restrict cols word))
+plane_next j cols word t bits some l is =
+    let at : suc (t - 1) ≡ t = omega (arith, some) in
+    let x = slice_index word (slice_index cols (t - 1)) in
+    ap (λ z. bits * 2 + z) (shr_and_one x j) ∙ ap (λ z. z * 2 + bit_at x j) (is ∙ ap (λ n. plane j (drop n (restrict cols word))) (sym at)) ∙ sym (plane_step j cols word (t - 1) (omega (arith, some, l)))
+
+pub plane_fits : (j : ℕ) (cols word : List ℕ) (t bits : ℕ) → length cols ≤ 64 → 0 < t → t ≤ length cols → bits ≡ plane j (drop t (restrict cols word)) → bits < 2 ^ 63
+plane_fits j cols word t bits few some l is =
+    let at : suc (t - 1) ≡ t = omega (arith, some) in
+    let same : plane j (drop (suc (t - 1)) (restrict cols word)) ≡ bits = ap (λ n. plane j (drop n (restrict cols word))) at ∙ sym is in
+    omega (arith, plane_room j cols word (t - 1) few (omega (arith, some, l)), same)
+
+pub bit_fits : (x j : ℕ) → bit_and (x / 2 ^ j) 1 < 2
+bit_fits x j = rw (shr_and_one x j) (bit_at-lt x j)

@@ -7,13 +7,13 @@
 --   run_at, part_counted, counted_few      the counts of a run after one more part, and their bound
 --   block_weight, runs_value      the weight of a word of a block, and the least value of a block, from its counts
 --   last_message, next_offset      the last message of a head, and the one after it
+--   spot_next                  the spot after a step
 --   index_of_pair              the index of a spot's pair
-use Rattle.std.proofs.Common.{◌≡◌, ℕ, suc, ◌+◌, ◌-◌, ◌*◌, ◌%◌, ◌^◌, ◌<◌, ◌≤◌, Bool, if◌then◌else◌, List, [], ◌∷◌, ◌++◌, length, take, drop, set, replicate, get_or, bit_xor, count_ones, slice_get, slice_index, slice_index_or, Some, None, option_map, Contains, refl, sym, ap, subst, ◌∙◌, ⊎_elim, arith, length-append}
+use Rattle.std.proofs.Common.{◌≡◌, ℕ, suc, ◌+◌, ◌-◌, ◌*◌, ◌^◌, ◌<◌, ◌≤◌, Bool, if◌then◌else◌, List, [], ◌∷◌, ◌++◌, length, take, drop, replicate, get_or, bit_xor, count_ones, slice_get, slice_index, slice_index_or, Some, None, option_map, Contains, refl, sym, ap, subst, ◌∙◌, arith, length-append}
 use Rattle.std.specs.Int.Bits.{xor_assoc}
 use Rattle.std.proofs.Math.Seq.{get_or-append_seam, take-append_seam}
-use Rattle.std.proofs.lemmas.Bool.{cases_lt}
 use Rattle.std.proofs.lemmas.Nat.{xor_comm}
-use Rattle.std.proofs.lemmas.List.{take-append-drop, length-drop, get_or-take, length-take-le, length-replicate, get_or-drop, get_or-append-add, get_or-set_same, get_or-set_other}
+use Rattle.std.proofs.lemmas.List.{take-append-drop, length-drop, get_or-take, length-take-le, length-replicate, get_or-drop, get_or-append-add}
 use Rattle.std.proofs.lemmas.Option.{slice_get_within, slice_get-get_or, get_or_from_slice_get}
 use Rattle.lc_algebra.specs.declared.FieldName.TheVariants.{Gf2}
 use Rattle.lc_algebra.specs.Field.{size}
@@ -306,3 +306,26 @@ runs_value C plan p b level least at s counts h rows free set_is phase small spo
     let value = counts_value (b * 4096 + 0) ws counts level (length counts) least at (omega (arith, few, long)) weights first in
     let place : (level + least) * 2 ^ 52 + (b * 4096 + 0 + at) ≡ (level + least) * 2 ^ 52 + (b * 4096 + at) = omega arith in
     block_value_of_words C plan.m p b ((level + least) * 2 ^ 52 + (b * 4096 + 0 + at)) phase small (subst (λ n. IsLeastValue (b * 4096 + 0) ws n ((level + least) * 2 ^ 52 + (b * 4096 + 0 + at))) long value) ∙ ap Some place
+
+-- the spot after a step
+pub spot_next : (C : Matrix) (plan : PlanSize) (b n : ℕ) (s t : SpotState) (o : Bool) → IsPlanOf plan C → IsSpotAt C plan.m b n s → n + 1 < length (block_words C plan.m b) → ((i : ℕ) → slice_get (messages plan.k plan.q (length s.support)) i ≡ Some (spot_message s) → slice_get (messages plan.k plan.q (length s.support)) (i + 1) ≡ (if o then Some (spot_message t) else None)) → Contains (messages plan.k plan.q (length t.support)) (spot_message t) → length t.support ≡ length s.support → t.set ≡ s.set → IsSpotAt C plan.m b (n + 1) t
+spot_next C plan b n s t o p at inside next message level set_is =
+    let next_here : (i : ℕ) → slice_get (messages (length C.rows) (size C.field) (length s.support)) i ≡ Some (spot_message s) → slice_get (messages (length C.rows) (size C.field) (length s.support)) (i + 1) ≡ (if o then Some (spot_message t) else None) = rw (← p.dimension, ← p.field) next in
+    record {
+      set = omega (arith, set_is, at.set);
+      level = omega (arith, level, at.level);
+      message = rw (← p.dimension, ← p.field) message;
+      of_block = λ phase i.
+          let now = at.of_block phase i in
+          let start = 4096 * (b - blocks_before (length C.rows) (size C.field) plan.m phase) in
+          let here : slice_get (messages (length C.rows) (size C.field) (length s.support)) (start + n) ≡ Some (spot_message s) = rw now.level now.message in
+          let step : slice_get (messages (length C.rows) (size C.field) (length s.support)) (start + n + 1) ≡ (if o then Some (spot_message t) else None) = next_here (start + n) here in
+          let place : start + n + 1 ≡ start + (n + 1) = omega arith in
+          let all = messages (length C.rows) (size C.field) (phase_level plan.m phase) in
+          let there : slice_get all (start + (n + 1)) ≡ (if o then Some (spot_message t) else None) = subst (λ z. slice_get (messages (length C.rows) (size C.field) z) (start + (n + 1)) ≡ (if o then Some (spot_message t) else None)) now.level (subst (λ z. slice_get (messages (length C.rows) (size C.field) (length s.support)) z ≡ (if o then Some (spot_message t) else None)) place step) in
+          record {
+            message = next_is o all (start + (n + 1)) (spot_message t) (inside_level C plan.m phase b (n + 1) i inside) there;
+            level = level ∙ now.level;
+            set = set_is ∙ now.set;
+          };
+    }

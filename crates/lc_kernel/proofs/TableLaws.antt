@@ -1,5 +1,5 @@
 -- The tables of the sets and their parts, as they are pushed.
---   no_tables                    none
+--   no_tables, no_grids          none
 --   all_pushed, one_of_all       what holds of each item of a list by its index holds of one more, and of an item that is read
 --   two_elements                 a field of 2 elements is that of the bits
 --   part_cut, cut_inside, parts_pushed      a part of the columns, as it is cut off, and the parts with one more
@@ -14,7 +14,9 @@ use Rattle.lc_algebra.specs.Field.{size}
 use Rattle.lc_algebra.specs.Matrix.{Matrix}
 use Rattle.lc_algebra.proofs.EmbeddingTests.{told_by_size}
 use Rattle.lc_place.proofs.Products.{get-append_left, get-append_right}
+use Rattle.lc_kernel.specs.declared.grid.Grid.{Grid}
 use Rattle.lc_kernel.specs.declared.table.Table.{Table}
+use Rattle.lc_kernel.specs.Grids.{AreGrids}
 use Rattle.lc_infoset.specs.Bound.{set_at}
 use Rattle.lc_kernel.specs.declared.pairs.Part.{Part}
 use Rattle.lc_kernel.specs.Packed.{others, part_at, IsPart}
@@ -26,6 +28,9 @@ two_elements f e = told_by_size f Gf2 (e ∙ sym two)
 
 pub no_tables : (C : Matrix) (ts : List Table) → ts ≡ [] → AreTables C ts
 no_tables C ts e = record { each = λ j t at. absurd (omega (arith, slice_get_within ts j t at, ap length e)) }
+
+pub no_grids : (C : Matrix) (gs : List Grid) → gs ≡ [] → AreGrids C gs
+no_grids C gs e = record { each = λ j g at. absurd (omega (arith, slice_get_within gs j g at, ap length e)) }
 
 same_item : {X : Type 0} (a b : X) → Some a ≡ Some b → a ≡ b
 same_item a b e = cc (e)

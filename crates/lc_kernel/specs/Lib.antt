@@ -6,3 +6,4 @@ pub mod Least
 pub mod Tables
 pub mod Planes
 pub mod Grid
+pub mod Grids

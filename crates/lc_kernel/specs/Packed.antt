@@ -11,7 +11,7 @@
 --   AreRowBits C j cols rows      the bits of the rows of the generator of set j at some columns
 --   IsPart C j cols rows sums      the rows of set j over 2 elements at some columns, and the sums of two
 --   head_of s, pair_of s    the support of a message but its last two places, and these
-use Rattle.std.specs.Prelude.{◌≡◌, ℕ, ◌+◌, ◌-◌, ◌*◌, ◌<◌, ◌≤◌, not, List, [], ◌∷◌, length, take, drop, Some, filter, bit_xor, slice_get, slice_index, slice_index_or}
+use Rattle.std.specs.Prelude.{◌≡◌, ℕ, ◌+◌, ◌-◌, ◌*◌, ◌<◌, not, List, [], ◌∷◌, length, take, drop, Some, filter, bit_xor, slice_get, slice_index, slice_index_or}
 use Rattle.lc_algebra.specs.declared.FieldName.TheVariants.{Gf2}
 use Rattle.lc_algebra.specs.Span.{below}
 use Rattle.lc_algebra.specs.Matrix.{Matrix}

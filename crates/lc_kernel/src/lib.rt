@@ -4,13 +4,16 @@
 
 mod block;
 mod counts;
+mod grid;
 mod multiples;
 mod pairs;
 mod place;
+mod planes;
 mod runs;
 mod scratch;
 mod stack;
 mod table;
+mod tails;
 
 pub use block::least;
 pub use place::word_at;

@@ -20,8 +20,8 @@ use crate::table::Table;
 use lc_infoset::Sets;
 use lc_place::{Plan, Spot};
 
-// The index of the pair of the last two places of a spot.
-fn pair_index(sets: &Sets, starts: &[usize], spot: &Spot) -> usize
+/// The index of the pair of the last two places of a spot.
+pub(crate) fn pair_index(sets: &Sets, starts: &[usize], spot: &Spot) -> usize
     requires message { Contains (messages (length sets.now.rows) (size sets.now.field) (length spot.now.support)) (spot_message spot.now) }
     requires level { 2 ≤ length spot.now.support }
     requires starts { AreStarts (length sets.now.rows) starts.now }

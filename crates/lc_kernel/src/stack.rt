@@ -195,6 +195,20 @@ impl Stack {
         }
     }
 
+    /// The multiples of the rows of all sets.
+    pub(crate) fn multiples(&self) -> &[Word]
+        ensures are { AreMultiples self.now.code result.now }
+    {
+        &self.multiples
+    }
+
+    // The length of the code.
+    pub(crate) fn length(&self) -> usize
+        ensures is { result ≡ self.now.code.columns }
+    {
+        self.code.cols()
+    }
+
     // The dimension of the code.
     pub(crate) fn dimension(&self) -> usize
         ensures is { result ≡ length self.now.code.rows }
@@ -212,8 +226,8 @@ impl Stack {
     }
 }
 
-// So many zero words of n symbols.
-fn zeros(alloc: Global, many: usize, n: usize) -> Result<Vec<Word>, NoMemory>
+/// So many zero words of n symbols.
+pub(crate) fn zeros(alloc: Global, many: usize, n: usize) -> Result<Vec<Word>, NoMemory>
     ensures many { IfOk result (λ ws. length ws.items ≡ many) }
     ensures zero { IfOk result (λ ws. (i : ℕ) → i < many → slice_index_or ws.items i [] ≡ zero_word n) }
 {

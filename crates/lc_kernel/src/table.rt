@@ -73,9 +73,13 @@ fn push_parts(
     }
 }
 
-// The columns below n that aren't in the set.
+/// The columns below n that aren't in the set.
 #[tactic(auto, using(lc_infoset::proofs::NextLaws::filter_more, lc_infoset::proofs::NextLaws::filter_same))]
-fn columns_outside(alloc: Global, n: usize, set: &[usize]) -> Result<Vec<usize>, NoMemory>
+pub(crate) fn columns_outside(
+    alloc: Global,
+    n: usize,
+    set: &[usize],
+) -> Result<Vec<usize>, NoMemory>
     ensures are { IfOk result (λ cs. cs.items ≡ outside n set.now) }
 {
     let mut columns = Vec::new(alloc);

@@ -1,4 +1,4 @@
-use Rattle.std.proofs.Common.{◌≡◌, ◌≤◌, bit_xor, count_ones, slice_index, refl, arith}
+use Rattle.std.proofs.Common.{◌≤◌, bit_xor, count_ones, slice_index, arith}
 use Rattle.std.proofs.lemmas.Nat.{ones-le, xor_lt}
 use Rattle.lc_kernel.proofs.counts.add_ones.Goals as goal
 

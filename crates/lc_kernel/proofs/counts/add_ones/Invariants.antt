@@ -1,4 +1,4 @@
-use Rattle.std.proofs.Common.{◌≡◌, ◌+◌, ◌<◌, ◌≤◌, ℕ, length, bit_xor, count_ones, slice_index}
+use Rattle.std.proofs.Common.{◌≡◌, ◌+◌, ◌<◌, ◌≤◌, ℕ, bit_xor, count_ones, slice_index}
 use Rattle.lc_kernel.proofs.counts.add_ones.Given as goal
 
 abbrev pub invariant-loop-i : goal.invariant-loop-i

@@ -1,4 +1,4 @@
-use Rattle.std.proofs.Common.{◌≡◌, ◌∷◌, [], length, ap, arith, length-append}
+use Rattle.std.proofs.Common.{◌∷◌, [], length, ap, arith, length-append}
 use Rattle.lc_kernel.proofs.PairLaws.{ends_next, starts_more}
 use Rattle.lc_kernel.proofs.pairs.pair_starts.Goals as goal
 

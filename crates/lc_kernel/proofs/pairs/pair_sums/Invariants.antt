@@ -1,4 +1,4 @@
-use Rattle.std.proofs.Common.{◌≡◌, ◌<◌, ℕ, length}
+use Rattle.std.proofs.Common.{length}
 use Rattle.lc_kernel.specs.Packed.{EndsAt, ArePairsSoFar}
 use Rattle.lc_kernel.proofs.pairs.pair_sums.Given as goal
 

@@ -1,4 +1,4 @@
-use Rattle.std.proofs.Common.{◌-◌, length, slice_index, arith}
+use Rattle.std.proofs.Common.{length, arith}
 use Rattle.std.proofs.lemmas.Option.{slice_get_within}
 use Rattle.lc_enumeration.specs.Message.{supports_from}
 use Rattle.lc_kernel.specs.Packed.{pair_of}

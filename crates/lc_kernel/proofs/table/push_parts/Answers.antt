@@ -1,4 +1,4 @@
-use Rattle.std.proofs.Common.{◌≡◌, ◌∷◌, [], ◌-◌, length, ap, arith, length-append}
+use Rattle.std.proofs.Common.{◌∷◌, [], ◌-◌, length, ap, arith, length-append}
 use Rattle.lc_kernel.proofs.TableLaws.{cut_inside, parts_pushed}
 use Rattle.lc_kernel.proofs.table.push_parts.Goals as goal
 

@@ -1,4 +1,4 @@
-use Rattle.std.proofs.Common.{◌≡◌, ◌-◌, ◌+◌, ◌*◌, ◌≤◌, length}
+use Rattle.std.proofs.Common.{◌≡◌, ◌-◌, ◌*◌, ◌≤◌, length}
 use Rattle.lc_kernel.specs.Tables.{AreParts}
 use Rattle.lc_kernel.proofs.table.push_parts.Given as goal
 
