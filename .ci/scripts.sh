@@ -188,6 +188,17 @@ check_explanations() {
     for script in tests/explain/*.codes; do check "${script%.codes}" explains "${script%.codes}"; done
 }
 
+# the functions for GUAVA and Sage, where these are installed
+agrees_with_guava() { CODES=$program timeout 300 gap -q <tests/bridges/gap.g 2>&1 | grep -v '^true$' >"$room/gap"; ! grep -E 'failed|Error' "$room/gap" && grep -q '^done$' "$room/gap"; }
+agrees_with_sage() { CODES=$program timeout 600 sage tests/bridges/sage.py >"$room/sage" 2>&1; ! grep -E 'failed|Error' "$room/sage" && grep -q '^done$' "$room/sage"; }
+
+check_bridges() {
+    if command -v gap >/dev/null && echo 'LoadPackage("guava");' | gap -q 2>/dev/null | grep -q true; then
+        check 'tools/gap/codes.g and GUAVA agree' agrees_with_guava
+    fi
+    if command -v sage >/dev/null; then check 'tools/sage/codes.py and Sage agree' agrees_with_sage; fi
+}
+
 check_program() {
     local document
     : >"$room/nothing"
@@ -199,4 +210,5 @@ check_program() {
     check_explanations
     check_against_reference
     check_certificates
+    check_bridges
 }
