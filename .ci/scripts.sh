@@ -189,8 +189,8 @@ check_explanations() {
 }
 
 # the functions for GUAVA and Sage, where these are installed
-agrees_with_guava() { CODES=$program timeout 300 gap -q <tests/bridges/gap.g 2>&1 | grep -v '^true$' >"$room/gap"; ! grep -E 'failed|Error' "$room/gap" && grep -q '^done$' "$room/gap"; }
-agrees_with_sage() { CODES=$program timeout 600 sage tests/bridges/sage.py >"$room/sage" 2>&1; ! grep -E 'failed|Error' "$room/sage" && grep -q '^done$' "$room/sage"; }
+agrees_with_guava() { CODES=$program timeout 300 gap -q <tests/bridges/with_guava.g 2>&1 | grep -v '^true$' >"$room/gap"; ! grep -E 'failed|Error' "$room/gap" && grep -q '^done$' "$room/gap"; }
+agrees_with_sage() { CODES=$program timeout 600 sage tests/bridges/with_sage.py >"$room/sage" 2>&1; ! grep -E 'failed|Error' "$room/sage" && grep -q '^done$' "$room/sage"; }
 
 check_bridges() {
     if command -v gap >/dev/null && echo 'LoadPackage("guava");' | gap -q 2>/dev/null | grep -q true; then

@@ -1,9 +1,10 @@
 """tools/sage/codes.py against Sage: over each field, codes of which both find the minimum distance. The program is $CODES."""
 import os
 
-from sage.all import GF, LinearCode, codes, load, random_matrix, set_random_seed
+from sage.all import GF, LinearCode, codes, random_matrix, set_random_seed
 
-load('tools/sage/codes.py', globals())
+with open('tools/sage/codes.py') as file:
+    exec(file.read())
 
 program = os.environ['CODES']
 set_random_seed(1)
