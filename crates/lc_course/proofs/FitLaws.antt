@@ -1,5 +1,4 @@
 -- Whether the records of a checkpoint fit, need by need.
---   AreFitting divisor budget needs records      so many records fit the first needs, one after another
 --   fitting_length, fitting_more
 --   misfit_past          the records that fit are passed over
 --   fits_start           no record is misfit if all before the need fit, and the session starts anew there or its record fits
@@ -11,13 +10,7 @@ use Rattle.lc_algebra.specs.Matrix.{Matrix}
 use Rattle.lc_enumeration.specs.Search.{fits, fits_settled}
 use Rattle.lc_enumeration.specs.Records.{Progress, Start, found_of}
 use Rattle.lc_enumeration.specs.Fitting.{Misfit, misfit_at, count_current, too_many, misfit_from, misfit}
-
--- records that fit the needs, one after another
-abbrev pub AreFitting : (Matrix → ℕ) → ℕ → List Matrix → List Progress → Type 0
-AreFitting divisor budget [] [] = Unit {0}
-AreFitting divisor budget [] (s ∷ records) = ⊥
-AreFitting divisor budget (C ∷ needs) [] = ⊥
-AreFitting divisor budget (C ∷ needs) (s ∷ records) = (fits_settled (divisor C) C budget s.blocks (found_of s) ≡ true) × AreFitting divisor budget needs records
+use Rattle.lc_course.specs.Course.{AreFitting}
 
 pub fitting_length : (divisor : Matrix → ℕ) (budget : ℕ) (needs : List Matrix) (records : List Progress) → AreFitting divisor budget needs records → length records ≡ length needs
 fitting_length divisor budget [] [] h = refl

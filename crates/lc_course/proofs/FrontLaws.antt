@@ -1,7 +1,5 @@
 -- The rounds of a session, need by need.
 --   drop_front, take_front, take_whole      fronts of lists
---   GoesSo divisor budget begin slice needs next told now left      after these needs a session has told these steps, and it goes on
---                        from the start now with this slice, however its needs go on after the next ones; begin says where it started
 --   ends_here            at the end of the needs these steps are all, and nothing stopped it
 --   at_need, at_need_stopped      the steps once one more need is met, and whether the slice stopped it there
 --   searched             if it didn't, the session goes on after that need
@@ -10,6 +8,7 @@ use Rattle.std.proofs.Common.{◌≡◌, ◌≤◌, ◌<◌, ◌+◌, ℕ, zero,
 use Rattle.std.proofs.lemmas.List.{append-nil, append_assoc, length-append}
 use Rattle.lc_algebra.specs.Matrix.{Matrix}
 use Rattle.lc_enumeration.specs.Records.{Progress, Start, SessionStep, SessionRounds, first_progress, rounds, last_state, step_of, no_steps, steps_first, session_from, session_rounds}
+use Rattle.lc_course.specs.Course.{GoesSo}
 
 pub drop_front : {A : Type 0} (xs ys : List A) (n : ℕ) → n ≡ length xs → drop n (xs ++ ys) ≡ ys
 drop_front [] ys zero e = refl
@@ -34,11 +33,6 @@ take_whole [] zero l = refl
 take_whole [] (suc n) l = refl
 take_whole (x ∷ xs) zero l = absurd (omega (arith, l))
 take_whole {A = A} (x ∷ xs) (suc n) l = ap (λ (t : List A). x ∷ t) (take_whole xs n (omega (arith, l)))
-
--- after these needs a session has told these steps, and it goes on from `now` with this slice, however its needs go on after `next`
-abbrev pub GoesSo : (Matrix → ℕ) → ℕ → (List Matrix → Start) → Option ℕ → List Matrix → List Matrix → List SessionStep → Start → Option ℕ → Type 0
-GoesSo divisor budget begin slice needs next told now left =
-    (more : List Matrix) → session_rounds divisor (needs ++ (next ++ more)) budget slice (begin (needs ++ (next ++ more))) ≡ steps_first told (session_rounds divisor (needs ++ (next ++ more)) budget left now)
 
 abbrev result : List SessionStep → List Progress → Option ℕ → Bool → SessionRounds
 result told settled left stopped = record { steps = told; settled = settled; left = left; is_stopped = stopped }

@@ -1,3 +1,9 @@
 pub mod FrontLaws
 pub mod StartLaws
 pub mod FitLaws
+pub mod SameNames
+pub mod StatementLaws
+pub mod AskLaws
+pub mod SettleLaws
+pub mod PlaceLaws
+pub mod TruthLaws

@@ -1,5 +1,4 @@
 -- Where a session starts that resumes a checkpoint, need by need.
---   IsWhole divisor version needs      no need so far makes a session start anew that resumes a checkpoint of this version
 --   whole_more           nor does one more need
 --   starts_whole         then all records are used
 --   starts_before        a need that makes it start anew
@@ -7,11 +6,7 @@ use Rattle.std.proofs.Common.{◌≡◌, ◌≤◌, ℕ, zero, suc, Bool, true, 
 use Rattle.lc_algebra.specs.Matrix.{Matrix}
 use Rattle.lc_enumeration.specs.Records.{Progress, Start}
 use Rattle.lc_enumeration.specs.Fitting.{first_divisible, start_before, used_start}
-use Rattle.lc_course.proofs.FrontLaws.{take_whole, take_front}
-
--- no need so far makes a session start anew that resumes a checkpoint of this version
-abbrev pub IsWhole : (Matrix → ℕ) → ℕ → List Matrix → Type 0
-IsWhole divisor version needs = (version == 1) ≡ true → first_divisible divisor needs ≡ None
+use Rattle.lc_course.specs.Course.{IsWhole}
 
 by_head : (b : Bool) (o : Option ℕ) → (if b then Some 0 else option_map suc o) ≡ None → (b ≡ false) × (o ≡ None)
 by_head true o e = absurd (let f = e in cc)

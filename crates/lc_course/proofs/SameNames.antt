@@ -2,6 +2,7 @@
 --   AreSame env other            each name has the same value by two lists of bindings
 --   evaluates_same, steps_same   so an expression has the same outcome, and a statement does the same
 --   runs_same                    and statements print the same
+--   needs_same, runs_by_same     ask the same needs, and print the same by the same answers
 use Rattle.std.proofs.Common.{◌≡◌, ℕ, Bool, if◌then◌else◌, List, [], ◌∷◌, Option, Some, None, ap, subst}
 use Rattle.std.specs.Prelude.{MatchOption}
 use Rattle.lc_formats.specs.Text.{same_bytes}
@@ -11,6 +12,10 @@ use Rattle.lc_language.specs.declared.QueryCall.{QueryCall}
 use Rattle.lc_grammar.specs.Tree.{Expr, Exprs, number, name, call, list, none, more, Statement, place_of, count_of}
 use Rattle.lc_language.specs.Value.{Value, Binding, value_named}
 use Rattle.lc_language.specs.Calls.{call_named, signature_for}
+use Rattle.lc_algebra.specs.Matrix.{Matrix}
+use Rattle.lc_enumeration.specs.Search.{Answer}
+use Rattle.lc_sessions.specs.Needs.{NeedsOn, Needs}
+use Rattle.lc_sessions.specs.Answers.{PrintsBy, RunsBy}
 use Rattle.lc_language.specs.Evaluation.{Outcome, gives, refused, Outcomes, refuse_at, Listed, nothing_yet, listed_with, ListGoesOn, Applies, GoesOn, CallGives, Evaluates, EvaluatesAll, EvaluatesList, Step, binds, prints, asks, counts, nears, fails, fail_with, QueriesAll, query_of, StepsAsQuery, StepsOf, Steps, Prints, Runs}
 
 abbrev pub AreSame : List Binding → List Binding → Type 0
@@ -89,3 +94,33 @@ pub runs_same : (table : List Call) (budget : ℕ) (ss : List Statement) (env ot
 runs_same table budget [] env other same text ends h = h
 runs_same table budget (s ∷ ss) env other same text ends h =
     (h.0, steps_same table env other same s h.0 h.1, prints_same budget env other h.0 (λ later. Runs table budget later ss) same (λ one two is t e k. runs_same table budget ss one two is t e k) text ends h.2)
+
+-- ---- the needs of statements, and their text by given answers
+
+needs_on_same : (env other : List Binding) (step : Step) (later : List Binding → List Matrix → Type 0) → AreSame env other → ((one two : List Binding) → AreSame one two → (needs : List Matrix) → later one needs → later two needs) → (needs : List Matrix) → NeedsOn env step later needs → NeedsOn other step later needs
+needs_on_same env other (binds b) later same f needs h = f (b ∷ env) (b ∷ other) (more_same env other b same) needs h
+needs_on_same env other (prints l) later same f needs h = f env other same needs h
+needs_on_same env other (asks kind C) later same f needs h = (h.0, f env other same h.0 h.1, h.2)
+needs_on_same env other (counts C) later same f needs h = f env other same needs h
+needs_on_same env other (nears C x) later same f needs h = f env other same needs h
+needs_on_same env other (fails r) later same f needs h = h
+
+pub needs_same : (table : List Call) (ss : List Statement) (env other : List Binding) → AreSame env other → (needs : List Matrix) → Needs table env ss needs → Needs table other ss needs
+needs_same table [] env other same needs h = h
+needs_same table (s ∷ ss) env other same needs h =
+    (h.0, steps_same table env other same s h.0 h.1, needs_on_same env other h.0 (λ later. Needs table later ss) same (λ one two is ns k. needs_same table ss one two is ns k) needs h.2)
+
+prints_by_same : (budget : ℕ) (env other : List Binding) (step : Step) (later : List Binding → List Answer → List ℕ → Bool → Type 0) → AreSame env other
+    → ((one two : List Binding) → AreSame one two → (answers : List Answer) (text : List ℕ) (ends : Bool) → later one answers text ends → later two answers text ends)
+    → (answers : List Answer) (text : List ℕ) (ends : Bool) → PrintsBy budget env step later answers text ends → PrintsBy budget other step later answers text ends
+prints_by_same budget env other (binds b) later same f answers text ends h = f (b ∷ env) (b ∷ other) (more_same env other b same) answers text ends h
+prints_by_same budget env other (prints l) later same f answers text ends h = (h.0, f env other same answers h.0 ends h.1, h.2)
+prints_by_same budget env other (asks kind C) later same f answers text ends (a, (left, split, (rest, k, is))) = (a, (left, split, (rest, f env other same left rest ends k, is)))
+prints_by_same budget env other (counts C) later same f answers text ends h = (h.0, f env other same answers h.0 ends h.1, h.2)
+prints_by_same budget env other (nears C x) later same f answers text ends h = (h.0, f env other same answers h.0 ends h.1, h.2)
+prints_by_same budget env other (fails r) later same f answers text ends h = h
+
+pub runs_by_same : (table : List Call) (budget : ℕ) (ss : List Statement) (env other : List Binding) → AreSame env other → (answers : List Answer) (text : List ℕ) (ends : Bool) → RunsBy table budget env ss answers text ends → RunsBy table budget other ss answers text ends
+runs_by_same table budget [] env other same answers text ends h = h
+runs_by_same table budget (s ∷ ss) env other same answers text ends h =
+    (h.0, steps_same table env other same s h.0 h.1, prints_by_same budget env other h.0 (λ later. RunsBy table budget later ss) same (λ one two is left t e k. runs_by_same table budget ss one two is left t e k) answers text ends h.2)

@@ -1,0 +1,59 @@
+-- A session on its way through the statements of its script.
+--   Beginning                what a session starts from: nothing, or the records of a checkpoint of a version
+--   begins b needs           where its searches start, by its needs
+--   AreFitting budget needs records      so many records fit the first needs, one after another
+--   GoesSo budget begin slice needs next told now left      after these needs it has told these steps, and goes on from the start
+--                            `now` with what is left of the slice, however its needs go on after `next`
+--   IsWhole version needs    none of these needs makes a session start anew that resumes a checkpoint of this version
+--   Waits, Came, Stands      the records of the checkpoint aren't used up, or they are; the state of the searches in both cases
+use Rattle.std.specs.Prelude.{◌≡◌, ◌≤◌, ℕ, Bool, true, ◌==◌, List, [], ◌∷◌, ◌++◌, length, Option, Some, None}
+use Rattle.lc_algebra.specs.Matrix.{Matrix}
+use Rattle.lc_algebra.specs.Divisor.{divisor_of}
+use Rattle.lc_enumeration.specs.Search.{fits_settled}
+use Rattle.lc_enumeration.specs.Records.{Progress, Start, SessionStep, found_of, fresh_start, steps_first, session_rounds}
+use Rattle.lc_enumeration.specs.Fitting.{first_divisible, used_start, misfit}
+
+pub data Beginning : Type 0 where
+  afresh : Beginning
+  after : ℕ → List Progress → Progress → Beginning
+
+abbrev pub begins : Beginning → List Matrix → Start
+begins afresh needs = fresh_start
+begins (after version settled current) needs = used_start divisor_of needs version settled current
+
+-- records that fit the needs, one after another
+abbrev pub AreFitting : (Matrix → ℕ) → ℕ → List Matrix → List Progress → Type 0
+AreFitting divisor budget [] [] = Unit {0}
+AreFitting divisor budget [] (s ∷ records) = ⊥
+AreFitting divisor budget (C ∷ needs) [] = ⊥
+AreFitting divisor budget (C ∷ needs) (s ∷ records) = (fits_settled (divisor C) C budget s.blocks (found_of s) ≡ true) × AreFitting divisor budget needs records
+
+-- after these needs a session has told these steps, and it goes on from `now` with this slice, however its needs go on after `next`
+abbrev pub GoesSo : (Matrix → ℕ) → ℕ → (List Matrix → Start) → Option ℕ → List Matrix → List Matrix → List SessionStep → Start → Option ℕ → Type 0
+GoesSo divisor budget begin slice needs next told now left =
+    (more : List Matrix) → session_rounds divisor (needs ++ (next ++ more)) budget slice (begin (needs ++ (next ++ more))) ≡ steps_first told (session_rounds divisor (needs ++ (next ++ more)) budget left now)
+
+-- no need so far makes a session start anew that resumes a checkpoint of this version
+abbrev pub IsWhole : (Matrix → ℕ) → ℕ → List Matrix → Type 0
+IsWhole divisor version needs = (version == 1) ≡ true → first_divisible divisor needs ≡ None
+
+-- the records of the checkpoint aren't used up: no round was done, and as many records as needs fit
+pub record Waits (b : Beginning) (version budget : ℕ) (slice : Option ℕ) (needs : List Matrix) (told : List SessionStep) (settled : List Progress) (left : Option ℕ) (done : List Progress) (current : Progress) : Type 0 where
+  pub begun : b ≡ after version settled current
+  pub silent : told ≡ []
+  pub same : left ≡ slice
+  pub rest : List Progress
+  pub split : settled ≡ done ++ rest
+  pub fitting : AreFitting divisor_of budget needs done
+  pub whole : IsWhole divisor_of version needs
+
+-- they are used up, or there were none: each need is settled
+pub record Came (b : Beginning) (budget : ℕ) (slice : Option ℕ) (needs : List Matrix) (told : List SessionStep) (settled : List Progress) (left : Option ℕ) (done : List Progress) : Type 0 where
+  pub goes : GoesSo divisor_of budget (begins b) slice needs [] told (record { settled = settled; current = None }) left
+  pub as_many : length settled ≡ length needs
+  pub fits : (more : List Matrix) → misfit divisor_of (needs ++ more) budget (begins b (needs ++ more)) ≡ None
+  pub all : done ≡ settled
+
+abbrev pub Stands : Beginning → ℕ → ℕ → Option ℕ → List Matrix → List SessionStep → List Progress → Option ℕ → List Progress → Option Progress → Type 0
+Stands b version budget slice needs told settled left done (Some current) = Waits b version budget slice needs told settled left done current
+Stands b version budget slice needs told settled left done None = Came b budget slice needs told settled left done
