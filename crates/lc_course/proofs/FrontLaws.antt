@@ -41,7 +41,7 @@ ended : (told : List SessionStep) (settled : List Progress) (left : Option ℕ) 
 unfolding steps_first no_steps
 ended told settled left stopped = ap (λ (l : List SessionStep). result l settled left stopped) (append-nil told)
 
-none_left : (divisor : Matrix → ℕ) (budget : ℕ) (needs : List Matrix) (left : Option ℕ) (now : Start) → length needs ≤ length now.settled → session_rounds divisor needs budget left now ≡ no_steps now.settled left false
+pub none_left : (divisor : Matrix → ℕ) (budget : ℕ) (needs : List Matrix) (left : Option ℕ) (now : Start) → length needs ≤ length now.settled → session_rounds divisor needs budget left now ≡ no_steps now.settled left false
 unfolding session_rounds session_from
 none_left divisor budget needs left now l = ap (λ (ns : List Matrix). session_from divisor ns budget left now.settled now.current) (drop_whole needs (length now.settled) l)
 

@@ -6,6 +6,7 @@
 --   starts_anew          a checkpoint of version 1, at the first need whose code has a divisor above 1
 --   goes_to              nothing is left of the records
 --   has_searched         the search of the need has ended
+--   waits_quietly        no round is done as long as records are left
 --   left_over            the script ends before the records do
 use Rattle.std.proofs.Common.{◌≡◌, ◌≤◌, ◌<◌, ◌+◌, ℕ, zero, suc, Bool, true, false, ◌==◌, nat_lt, List, [], ◌∷◌, ◌++◌, length, take, drop, Option, Some, None, refl, sym, ap, subst, ◌∙◌, arith}
 use Rattle.std.specs.Prelude.{slice_get}
@@ -13,10 +14,10 @@ use Rattle.std.proofs.lemmas.List.{append-nil, append_assoc, length-append}
 use Rattle.lc_algebra.specs.Matrix.{Matrix}
 use Rattle.lc_algebra.specs.Divisor.{divisor_of}
 use Rattle.lc_enumeration.specs.Search.{fits, fits_settled}
-use Rattle.lc_enumeration.specs.Records.{Progress, Start, SessionStep, SessionRounds, found_of, fresh_start, rounds, last_state, steps_first, session_rounds}
+use Rattle.lc_enumeration.specs.Records.{Progress, Start, SessionStep, SessionRounds, found_of, fresh_start, rounds, last_state, no_steps, steps_first, session_rounds}
 use Rattle.lc_enumeration.specs.Fitting.{Misfit, misfit_at, used_start, misfit}
 use Rattle.lc_course.specs.Course.{Beginning, afresh, after, begins, AreFitting, GoesSo, IsWhole, Waits, Came}
-use Rattle.lc_course.proofs.FrontLaws.{take_front, take_whole, state_at, states_at, steps_at, start_next, searched}
+use Rattle.lc_course.proofs.FrontLaws.{none_left, take_front, take_whole, state_at, states_at, steps_at, start_next, searched}
 use Rattle.lc_course.proofs.StartLaws.{starts_whole, starts_before, whole_more}
 use Rattle.lc_course.proofs.FitLaws.{fitting_length, fitting_more, fits_anew, fits_whole, unfit_settled, unfit_current, unfit_end}
 
@@ -150,6 +151,13 @@ module _ (b : Beginning) (version budget : ℕ) (slice : Option ℕ) (needs : Li
       ap (misfit divisor_of needs budget) (starts_so needs (omega (arith, within)) w.whole ∙ ap (λ (l : List Progress). record { settled = l; current = Some current }) w.split)
       ∙ unfit_end divisor_of budget needs done w.rest current w.fitting
       ∙ ap (λ (l : List Progress). Some (record { need = length needs; told = suc (length l); found = 0 })) (sym w.split)
+
+pub waits_quietly : (b : Beginning) (version budget : ℕ) (slice : Option ℕ) (needs : List Matrix) (told : List SessionStep) (settled : List Progress) (left : Option ℕ) (done : List Progress) (current : Progress) → Waits b version budget slice needs told settled left done current
+    → session_rounds divisor_of needs budget slice (begins b needs) ≡ no_steps settled slice false
+waits_quietly b version budget slice needs told settled left done current w =
+    let l = within b version budget slice needs told settled left done current w in
+    ap (session_rounds divisor_of needs budget slice) (starts_so b version budget slice needs told settled left done current w needs (omega (arith, l)) w.whole)
+    ∙ none_left divisor_of budget needs slice (record { settled = settled; current = Some current }) l
 
 pub goes_to : (b : Beginning) (budget : ℕ) (slice : Option ℕ) (needs : List Matrix) (told : List SessionStep) (settled : List Progress) (left : Option ℕ) (done : List Progress) (C : Matrix) → Came b budget slice needs told settled left done → AtNeed b budget slice needs C told (record { settled = settled; current = None }) left done
 goes_to b budget slice needs told settled left done C h = record { goes = λ more. h.goes (C ∷ more); as_many = h.as_many; fits = λ more. h.fits (C ∷ more); all = h.all }

@@ -1,0 +1,4 @@
+mod LineLaws
+mod PaceLaws
+mod NeedLaws
+mod TextLaws

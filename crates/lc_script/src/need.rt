@@ -1,0 +1,168 @@
+//! The answer of one need of a session.
+ghost use Rattle.std.specs.Prelude.{◌≡◌, ◌^◌, ◌<◌, ◌≤◌, List, [], ◌∷◌, ◌++◌, length, map, true, false, Some, IfOk, MatchResult};
+ghost use Rattle.lc_algebra.specs.Matrix.{Matrix};
+ghost use Rattle.lc_enumeration.specs.Search.{Answer, fits};
+ghost use Rattle.lc_enumeration.specs.Records.{found_of};
+ghost use Rattle.lc_io.specs.Watchers.{hearing};
+ghost use Rattle.lc_search.specs.State.{answer_in, answer_of};
+ghost use Rattle.lc_rounds.specs.Way.{Around, around};
+ghost use Rattle.lc_script.specs.Going.{World, IsRanged, Goes, IsNext, Halts};
+
+use crate::course::Course;
+use crate::records::{Answered, begun, passed};
+use lc_checkpoint::Settled;
+use lc_code::Code;
+use lc_io::{Gate, Vault, Watcher};
+use lc_rounds::{Stop, search_need};
+use lc_search::Answer;
+use std::alloc::Global;
+use std::thread::Threads;
+
+/// Why a session ends before its script does.
+#[derive(Clone, Copy, Debug, PartialEq, Eq)]
+pub enum Halt {
+    /// It stops among the rounds of a search.
+    Stop(Stop),
+    /// A record of its checkpoint doesn't fit, or there are more records than needs. No round was done.
+    Unfit {
+        /// The weight that the record tells; or how many records there are.
+        told: u64,
+        /// The weight of the word at the record's place, 0 if there is none; or 0.
+        found: u64,
+    },
+}
+
+// If the checkpoint is of version 1 and the code has a divisor above 1, the records from here on aren't used.
+fn start_anew(course: &mut Course, code: &Code)
+    requires ranged { IsRanged course.old }
+    ensures next { (w : World) (needs : List Matrix) (answers : List Answer) (now : Around) → Goes w needs answers course.old now → IsNext w needs code.now answers course.new now }
+    ensures ranged { IsRanged course.new }
+    ensures same { (course.new.met ≡ course.old.met) × (course.new.pace.point.budget ≡ course.old.pace.point.budget) }
+{
+    if course.current.is_some() && course.version == 1 && code.divisor() > 1 {
+        course.pace.point.settled.truncate(course.met as usize);
+        course.current = None;
+    }
+}
+
+// How far a search is that has this answer.
+fn record_of(answer: Answer) -> Settled {
+    match answer {
+        Answer::Exact {
+            weight,
+            place,
+            blocks,
+        } => Settled {
+            blocks,
+            weight,
+            place,
+        },
+        Answer::Bracket {
+            weight,
+            place,
+            blocks,
+            ..
+        } => Settled {
+            blocks,
+            weight,
+            place,
+        },
+    }
+}
+
+// Passes over a settled need.
+fn pass_over(alloc: Global, course: &mut Course, code: &Code) -> Result<Answered, Halt>
+    requires rows { 0 < length code.now.rows }
+    requires ranged { IsRanged course.old }
+    requires settled { course.old.met < length course.old.pace.point.settled.items }
+    ensures goes { (w : World) (needs : List Matrix) (answers : List Answer) (now : Around) → IsNext w needs code.now answers course.old now → MatchResult result
+        (λ x. Goes w (needs ++ code.now ∷ []) (answers ++ answer_of x.answer ∷ []) course.new now)
+        (λ halt. Halts w needs code.now course.new now halt) }
+    ensures answered { IfOk result (λ x. (x.search.code ≡ code.now) × (answer_in x.search ≡ Some (answer_of x.answer)) × (fits x.search.code x.search.progress.blocks (found_of x.search.progress) ≡ true)) }
+    ensures ranged { IfOk result (λ _. IsRanged course.new) }
+    ensures same { IfOk result (λ _. (course.new.met ≡ course.old.met + 1) × (course.new.pace.point.budget ≡ course.old.pace.point.budget)) }
+{
+    let record = course.pace.point.settled[course.met as usize];
+    let answered = passed(alloc, code, course.pace.point.budget, record)?;
+    let _rows = answered.search.sets().dimension();
+    course.met += 1;
+    Ok(answered)
+}
+
+// Searches for the answer of a need that isn't settled.
+fn search_on<R: Threads + Sync, V: Vault, W: Watcher, G: Gate + Sync>(
+    rt: &R,
+    alloc: Global,
+    workers: u32,
+    gate: &G,
+    vault: &mut V,
+    watchers: &mut Vec<W>,
+    course: &mut Course,
+    code: &Code,
+) -> Result<Answered, Halt>
+    requires workers { (1 ≤ workers) × (workers ≤ 256) }
+    requires rows { 0 < length code.now.rows }
+    requires ranged { IsRanged course.old }
+    requires few { course.old.met < 70000 }
+    requires settled { length course.old.pace.point.settled.items ≡ course.old.met }
+    ensures goes { (w : World) (needs : List Matrix) (answers : List Answer) → IsNext w needs code.now answers course.old (around (V.contents vault.old) (V.faults vault.old) (map (hearing W.heard W.coming W.pauses) watchers.old.items)) → MatchResult result
+        (λ x. Goes w (needs ++ code.now ∷ []) (answers ++ answer_of x.answer ∷ []) course.new (around (V.contents vault.new) (V.faults vault.new) (map (hearing W.heard W.coming W.pauses) watchers.new.items)))
+        (λ halt. Halts w needs code.now course.new (around (V.contents vault.new) (V.faults vault.new) (map (hearing W.heard W.coming W.pauses) watchers.new.items)) halt) }
+    ensures answered { IfOk result (λ x. (x.search.code ≡ code.now) × (answer_in x.search ≡ Some (answer_of x.answer)) × (fits x.search.code x.search.progress.blocks (found_of x.search.progress) ≡ true)) }
+    ensures ranged { IfOk result (λ _. IsRanged course.new) }
+    ensures same { IfOk result (λ _. (course.new.met ≡ course.old.met + 1) × (course.new.pace.point.budget ≡ course.old.pace.point.budget)) }
+{
+    let mut search = begun(alloc, code, course.pace.point.budget, course.current)?;
+    let found = search_need(
+        rt,
+        alloc,
+        workers,
+        gate,
+        vault,
+        watchers,
+        &mut course.pace,
+        &mut search,
+    );
+    let answer = match found {
+        Ok(answer) => answer,
+        Err(stop) => return Err(Halt::Stop(stop)),
+    };
+    if course.pace.point.settled.push(record_of(answer)).is_err() {
+        return Err(Halt::Stop(Stop::NoMemory));
+    }
+    let _rows = search.sets().dimension();
+    course.current = None;
+    course.met += 1;
+    Ok(Answered { search, answer })
+}
+
+/// Answers the next need of a session: by the record of a checkpoint, if it has one there, else by its search.
+///
+/// There are 1 to 256 workers, the code has dimension at least 1, and fewer than 70,000 needs were met.
+pub(crate) fn answer_need<R: Threads + Sync, V: Vault, W: Watcher, G: Gate + Sync>(
+    rt: &R,
+    alloc: Global,
+    workers: u32,
+    gate: &G,
+    vault: &mut V,
+    watchers: &mut Vec<W>,
+    course: &mut Course,
+    code: &Code,
+) -> Result<Answered, Halt>
+    requires workers { (1 ≤ workers) × (workers ≤ 256) }
+    requires rows { 0 < length code.now.rows }
+    requires ranged { IsRanged course.old }
+    requires few { course.old.met < 70000 }
+    ensures goes { (w : World) (needs : List Matrix) (answers : List Answer) → Goes w needs answers course.old (around (V.contents vault.old) (V.faults vault.old) (map (hearing W.heard W.coming W.pauses) watchers.old.items)) → MatchResult result
+        (λ x. Goes w (needs ++ code.now ∷ []) (answers ++ answer_of x.answer ∷ []) course.new (around (V.contents vault.new) (V.faults vault.new) (map (hearing W.heard W.coming W.pauses) watchers.new.items)))
+        (λ halt. Halts w needs code.now course.new (around (V.contents vault.new) (V.faults vault.new) (map (hearing W.heard W.coming W.pauses) watchers.new.items)) halt) }
+    ensures answered { IfOk result (λ x. (x.search.code ≡ code.now) × (answer_in x.search ≡ Some (answer_of x.answer)) × (fits x.search.code x.search.progress.blocks (found_of x.search.progress) ≡ true)) }
+    ensures ranged { IfOk result (λ _. IsRanged course.new) }
+    ensures same { IfOk result (λ _. (course.new.met ≡ course.old.met + 1) × (course.new.pace.point.budget ≡ course.old.pace.point.budget)) }
+{
+    start_anew(course, code);
+    if (course.met as usize) < course.pace.point.settled.len() {
+        return pass_over(alloc, course, code);
+    }
+    search_on(rt, alloc, workers, gate, vault, watchers, course, code)
+}

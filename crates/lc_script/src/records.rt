@@ -1,0 +1,99 @@
+//! The search of a need that a checkpoint has a record of, and of one that it has none of.
+ghost use Rattle.std.specs.Prelude.{◌≡◌, ◌^◌, ◌<◌, ◌≤◌, length, IfSome, MatchResult, option_map};
+ghost use Rattle.lc_checkpoint.specs.Seen.{settled_of};
+ghost use Rattle.lc_script.specs.Records.{IsPassed, IsNotPassed, IsBegun, IsNotBegun};
+
+use crate::need::Halt;
+use lc_checkpoint::Settled;
+use lc_code::Code;
+use lc_rounds::Stop;
+use lc_search::{Answer, ResumeRefusal, Search};
+use std::alloc::Global;
+
+/// A search that is answered, and its answer.
+#[derive(Drop)]
+pub(crate) struct Answered {
+    pub(crate) search: Search,
+    pub(crate) answer: Answer,
+}
+
+/// The search of a need whose record is settled, in the state of that record; or that the record doesn't fit the code, and
+/// the weight that is found. No round is done.
+///
+/// The code has dimension at least 1, the budget is at most 2^40, and the record has at most as many blocks.
+pub(crate) fn passed(
+    alloc: Global,
+    code: &Code,
+    budget: u64,
+    record: Settled,
+) -> Result<Answered, Halt>
+    requires rows { 0 < length code.now.rows }
+    requires budget { budget ≤ 2 ^ 40 }
+    requires blocks { record.blocks ≤ budget }
+    ensures { MatchResult result (λ x. IsPassed code.now budget (settled_of record) x) (λ h. IsNotPassed code.now budget (settled_of record) h) }
+{
+    let found = Search::resume_at(
+        alloc,
+        code,
+        budget,
+        record.blocks,
+        record.weight,
+        record.place,
+    );
+    let search = match found {
+        Ok(search) => search,
+        Err(ResumeRefusal::Unfit { found }) => {
+            return Err(Halt::Unfit {
+                told: record.weight,
+                found,
+            });
+        }
+        Err(ResumeRefusal::NoMemory) => return Err(Halt::Stop(Stop::NoMemory)),
+    };
+    match search.finished() {
+        Some(answer) => Ok(Answered { search, answer }),
+        None => Err(Halt::Unfit {
+            told: record.weight,
+            found: record.weight,
+        }),
+    }
+}
+
+/// The search of a need, in the state of its record if there is one; or that the record doesn't fit the code, and the weight
+/// that is found.
+///
+/// The code has dimension at least 1, the budget is at most 2^40, and the record has at most as many blocks.
+pub(crate) fn begun(
+    alloc: Global,
+    code: &Code,
+    budget: u64,
+    current: Option<Settled>,
+) -> Result<Search, Halt>
+    requires rows { 0 < length code.now.rows }
+    requires budget { budget ≤ 2 ^ 40 }
+    requires blocks { IfSome current (λ r. r.blocks ≤ budget) }
+    ensures { MatchResult result (λ s. IsBegun code.now budget (option_map settled_of current) s) (λ h. IsNotBegun code.now (option_map settled_of current) h) }
+{
+    let Some(record) = current else {
+        return match Search::start(alloc, code, budget) {
+            Ok(search) => Ok(search),
+            Err(_) => Err(Halt::Stop(Stop::NoMemory)),
+        };
+    };
+    let found = Search::resume_at(
+        alloc,
+        code,
+        budget,
+        record.blocks,
+        record.weight,
+        record.place,
+    );
+    match found {
+        Ok(search) => Ok(search),
+        Err(ResumeRefusal::Unfit { found }) => Err(Halt::Unfit {
+            told: record.weight,
+            found,
+        }),
+        Err(ResumeRefusal::NoMemory) => Err(Halt::Stop(Stop::NoMemory)),
+    }
+}
