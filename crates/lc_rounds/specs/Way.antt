@@ -1,16 +1,19 @@
 -- A session on its way through the rounds of its searches.
---   steps_of pace s          the rounds of a search from its state on: their steps, what is then left of the slice, and whether the
---                            slice stopped it
+--   rounds_left pace s       the rounds of a search from its state on: their states, what is then left of the slice, and whether
+--                            the slice stops it
+--   steps_left pace s        the steps of these rounds
 --   Around                   what the rounds of a session move: the slots of the vault and how often it failed, and the watchers
 --   around contents faults watchers      these together
 --   Origin                   where a session began: the turn of its first checkpoint, and what was around it
 --   Stored keep digest budget turn told old new      with keep, the checkpoints of these steps were stored in turn, else nothing
 --   EndsAt told record       the last of these steps has this record
 --   IsOnItsWay o told pace now      a session that has told these steps since it began, and goes on
+--   StopsAs ..               how it stops: what is stored, what failed, and why it is paused
 --   HasStopped o told left is_used_up pace now stop      a session that has told these steps, and stops before those that are left
-use Rattle.std.specs.Prelude.{◌≡◌, ◌⊎◌, ℕ, zero, Bool, true, false, List, [], ◌∷◌, ◌++◌, length, map, Option, Some, None}
+--   Went before all ends     some of these steps were told, after those before, and some are left; so it ends with these
+use Rattle.std.specs.Prelude.{◌≡◌, ◌⊎◌, ℕ, Bool, true, false, List, [], ◌∷◌, ◌++◌, length, map, Option, Some}
 use Rattle.lc_algebra.specs.Divisor.{divisor_of}
-use Rattle.lc_enumeration.specs.Records.{Rounds, SessionStep, SessionRounds, step_of, rounds}
+use Rattle.lc_enumeration.specs.Records.{Rounds, SessionStep, step_of, rounds}
 use Rattle.lc_io.specs.Outside.{HasRisen}
 use Rattle.lc_io.specs.Vaults.{Slots, WhereTold, IsTorn}
 use Rattle.lc_io.specs.Watchers.{Hearing}
@@ -81,7 +84,7 @@ pub record HasStopped (o : Origin) (told left : List SessionStep) (is_used_up : 
   pub stops : StopsAs o told left is_used_up is_paused pace now stop
 
 -- what a search did to the session: it told some of its steps, and went on once all were told, or stopped before those that are left
-pub record Went (o : Origin) (before : List SessionStep) (all : List SessionStep) (is_used_up : Bool) (pace : Pace) (now : Around) (ends : List SessionStep → List SessionStep → Type 0) : Type 0 where
+pub record Went (before all : List SessionStep) (ends : List SessionStep → List SessionStep → Type 0) : Type 0 where
   pub told : List SessionStep
   pub left : List SessionStep
   pub front : all ≡ told ++ left

@@ -41,7 +41,6 @@ pub fn search_need<R: Threads + Sync, V: Vault, W: Watcher, G: Gate + Sync>(
     search: &mut Search,
 ) -> Result<Answer, Stop>
     requires workers { (1 ≤ workers) × (workers ≤ 256) }
-    requires rows { 0 < length search.old.code.rows }
     requires budget { (search.old.budget ≤ 2 ^ 40) × (pace.old.point.budget ≡ search.old.budget) }
     requires fitting { fits search.old.code search.old.progress.blocks (found_of search.old.progress) ≡ true }
     requires version { pace.old.point.version ≡ 2 }
@@ -53,7 +52,7 @@ pub fn search_need<R: Threads + Sync, V: Vault, W: Watcher, G: Gate + Sync>(
 
     ensures goes { (o : Origin) (before : List SessionStep)
         → IsOnItsWay o before pace.old (around (V.contents vault.old) (V.faults vault.old) (map (hearing W.heard W.coming W.pauses) watchers.old.items))
-        → Went o before (steps_left pace.old search.old) (rounds_left pace.old search.old).is_stopped pace.new (around (V.contents vault.new) (V.faults vault.new) (map (hearing W.heard W.coming W.pauses) watchers.new.items))
+        → Went before (steps_left pace.old search.old)
             (λ told left. MatchResult result
                 (λ _. (left ≡ []) × ((rounds_left pace.old search.old).is_stopped ≡ false) × IsOnItsWay o told pace.new (around (V.contents vault.new) (V.faults vault.new) (map (hearing W.heard W.coming W.pauses) watchers.new.items)))
                 (λ stop. HasStopped o told left (rounds_left pace.old search.old).is_stopped pace.new (around (V.contents vault.new) (V.faults vault.new) (map (hearing W.heard W.coming W.pauses) watchers.new.items)) stop)) }
