@@ -7,3 +7,4 @@ pub mod AskLaws
 pub mod SettleLaws
 pub mod PlaceLaws
 pub mod TruthLaws
+pub mod ScriptTruth

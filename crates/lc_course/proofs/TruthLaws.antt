@@ -25,10 +25,10 @@ use Rattle.lc_language.specs.Value.{Binding}
 use Rattle.lc_language.specs.Evaluation.{Step, binds, prints, asks, counts, nears, fails}
 use Rattle.lc_sessions.specs.Needs.{NeedsOn, Needs, IsNeeds, MeetsFirst, OneScript, OneStep, NoFault}
 use Rattle.lc_sessions.specs.Slots.{takes, choice, later_of, chosen, IsTornOr, AreTrueSlots, IsTrueCheckpoint}
-use Rattle.lc_sessions.specs.Chain.{IsGround}
 use Rattle.lc_sessions.proofs.NeedsLaws.{met_agree}
 use Rattle.lc_sessions.proofs.SessionChains.{chosen_is}
 use Rattle.lc_sessions.proofs.TrueSteps.{settled_reads, parts_of}
+use Rattle.lc_course.proofs.AskLaws.{met_rows}
 
 pub taken_true : (table : List Call) (bytes : List ℕ) (budget : ℕ) (slots : Slots) (p : Checkpoint) → AreTrueSlots table bytes budget slots → choice slots ≡ takes p → IsTrueCheckpoint table bytes budget p
 unfolding chosen later_of
@@ -48,7 +48,7 @@ last_need : (needs : List Matrix) (C : Matrix) → slice_get (needs ++ C ∷ [])
 last_need [] C = refl
 last_need (D ∷ needs) C = last_need needs C
 
-divisor_some : (C : Matrix) → 1 ≤ divisor_of C
+pub divisor_some : (C : Matrix) → 1 ≤ divisor_of C
 unfolding divisor_of
 divisor_some C = divisor_positive C.field C.columns C.rows
 
@@ -89,15 +89,15 @@ met_within table bytes script one sound front needs met all =
     front_within table one b.0 [] a.2.0 front needs (subst (λ (ss : List Statement). Needs table [] (take a.2.0 ss) front) (script a.0 b.0 a.1 b.1) a.2.1) b.2)
     (λ (b : (fault : Fault) × IsFault bytes fault × (needs ≡ [])). absurd (sound a.0 b.0 a.1 b.1)) all) met
 
-module _ (table : List Call) (bytes : List ℕ) (budget : ℕ) (ground : IsGround table bytes budget) (p : Checkpoint) (holds : IsTrueCheckpoint table bytes budget p) where
+module _ (table : List Call) (bytes : List ℕ) (budget : ℕ) (script : OneScript bytes) (one : OneStep table) (p : Checkpoint) (holds : IsTrueCheckpoint table bytes budget p) where
   same_need : (needs : List Matrix) → MeetsFirst table bytes needs → (i : ℕ) (C D : Matrix) → slice_get needs i ≡ Some C → slice_get holds.0 i ≡ Some D → D ≡ C
-  same_need needs met i C D at there = met_agree table bytes ground.script ground.step holds.0 needs holds.1 met i D C there at
+  same_need needs met i C D at there = met_agree table bytes script one holds.0 needs holds.1 met i D C there at
 
   pub record_fits : (needs : List Matrix) (C : Matrix) → MeetsFirst table bytes (needs ++ C ∷ []) → (s : Progress) → slice_get p.settled (length needs) ≡ Some s → ((p.version == 1) ≡ true → nat_lt 1 (divisor_of C) ≡ false) → fits_settled (divisor_of C) C budget s.blocks (found_of s) ≡ true
   record_fits needs C met s at uncut =
       let h = settled_reads (divisor_in p.version) budget holds.0 p.settled (parts_of holds.0 (sha256 bytes) budget p holds.2).settled (length needs) s at in
       let same : h.0 ≡ C = same_need (needs ++ C ∷ []) met (length needs) C h.0 (last_need needs C) h.1 in
-      let rows : 0 < length C.rows = ground.rows (needs ++ C ∷ []) met (length needs) C (last_need needs C) in
+      let rows : 0 < length C.rows = met_rows table bytes (needs ++ C ∷ []) met (length needs) C (last_need needs C) in
       let settled : IsSettled (divisor_in p.version C) C budget s = subst (λ (D : Matrix). IsSettled (divisor_in p.version D) D budget s) same h.2 in
       settled_fits (divisor_of C) C budget s rows (subst (λ (d : ℕ). IsSettled d C budget s) (same_divisor p.version C (divisor_some C) uncut) settled)
 
@@ -106,12 +106,12 @@ module _ (table : List Call) (bytes : List ℕ) (budget : ℕ) (ground : IsGroun
   current_fits needs C met e =
       let parts = parts_of holds.0 (sha256 bytes) budget p holds.2 in
       let same : parts.current.0 ≡ C = same_need (needs ++ C ∷ []) met (length needs) C parts.current.0 (last_need needs C) (ap (slice_get holds.0) (sym e) ∙ parts.current.1) in
-      let rows : 0 < length C.rows = ground.rows (needs ++ C ∷ []) met (length needs) C (last_need needs C) in
+      let rows : 0 < length C.rows = met_rows table bytes (needs ++ C ∷ []) met (length needs) C (last_need needs C) in
       underway_fits C (current_of p) rows (subst (λ (D : Matrix). IsBestAt D (current_of p)) same parts.current.4)
 
   pub needs_reach : (needs : List Matrix) → NoFault bytes → IsNeeds table bytes needs → length p.settled < length needs
   needs_reach needs sound all =
       let parts = parts_of holds.0 (sha256 bytes) budget p holds.2 in
       let inside = slice_get_within holds.0 (length p.settled) parts.current.0 parts.current.1 in
-      let few = met_within table bytes ground.script ground.step sound holds.0 needs holds.1 all in
+      let few = met_within table bytes script one sound holds.0 needs holds.1 all in
       omega (arith, inside, few)

@@ -1,4 +1,6 @@
 mod LineLaws
 mod PaceLaws
+mod RangeLaws
 mod NeedLaws
 mod TextLaws
+mod ScriptLaws

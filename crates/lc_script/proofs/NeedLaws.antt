@@ -8,7 +8,7 @@
 use Rattle.std.proofs.Common.{◌≡◌, ◌≤◌, ◌<◌, ◌+◌, ◌⊎◌, inl, inr, ℕ, suc, Bool, true, false, ◌==◌, nat_lt, is_some, List, [], ◌∷◌, ◌++◌, length, map, take, All, Option, Some, None, option_map, unwrap_or, refl, sym, ap, subst, ◌∙◌, arith}
 use Rattle.std.specs.Prelude.{slice_get}
 use Rattle.std.proofs.lemmas.Option.{slice_get_within}
-use Rattle.std.proofs.lemmas.List.Elements.{All-append}
+use Rattle.std.proofs.lemmas.List.Elements.{All-append, All-cons, All-nil}
 use Rattle.std.proofs.lemmas.List.{append-nil, append_assoc, length-append}
 use Rattle.lc_algebra.specs.Matrix.{Matrix, AreRows}
 use Rattle.lc_algebra.specs.Span.{AreIndependent}
@@ -62,7 +62,7 @@ next_with w needs C answers c d now h stands same met = record {
 -- ---- what is answered, once more
 
 more_truth : (budget : ℕ) (needs : List Matrix) (C : Matrix) → All (λ D. AnswerHolds D (answer (divisor_of D) D budget)) needs → AnswerHolds C (answer (divisor_of C) C budget) → All (λ D. AnswerHolds D (answer (divisor_of D) D budget)) (needs ++ C ∷ [])
-more_truth budget needs C all one = All-append (λ (D : Matrix). AnswerHolds D (answer (divisor_of D) D budget)) needs (C ∷ []) all (All-one C one)
+more_truth budget needs C all one = All-append (λ (D : Matrix). AnswerHolds D (answer (divisor_of D) D budget)) needs (C ∷ []) all (All-cons (λ (D : Matrix). AnswerHolds D (answer (divisor_of D) D budget)) C [] one (All-nil (λ (D : Matrix). AnswerHolds D (answer (divisor_of D) D budget))))
 
 pub answered_more : (budget : ℕ) (needs : List Matrix) (done : List Progress) (answers : List Answer) (C : Matrix) (s : Progress) (a : Answer) → AreAnswered budget needs done answers → finished (divisor_of C) C budget s.blocks (found_of s) ≡ Some a → fits C s.blocks (found_of s) ≡ true → AreRows C.field C.columns C.rows → AreIndependent C.field C.columns C.rows
     → AreAnswered budget (needs ++ C ∷ []) (done ++ s ∷ []) (answers ++ a ∷ [])

@@ -4,10 +4,10 @@
 --   faulty, faulty_asks  after a statement that fails
 --   met_next             the needs with the one that a statement asks
 --   halted               the session ends at a need
---   finished_so          it has the text
---   records_left         records are left at the end of the text
+--   even, finished_so    it has the text
+--   over, records_left   records are left at the end of the text
 use Rattle.std.proofs.Common.{◌≡◌, ◌≤◌, ◌<◌, ◌+◌, ◌⊎◌, inl, inr, ⊎_elim, ℕ, suc, Bool, true, false, is_some, List, [], ◌∷◌, ◌++◌, length, map, take, Option, Some, None, option_map, refl, sym, ap, subst, ◌∙◌, arith}
-use Rattle.std.proofs.lemmas.List.{append-nil}
+use Rattle.std.proofs.lemmas.List.{append-nil, length-map}
 use Rattle.lc_algebra.specs.Matrix.{Matrix}
 use Rattle.lc_algebra.specs.Divisor.{divisor_of}
 use Rattle.lc_enumeration.specs.Search.{Answer}
@@ -96,41 +96,68 @@ faulty budget first old new l needs answers text later d e h =
           (at_fault built_calls budget [] old.bindings first (statement_of d.0) (map statement_of d.1.0) needs answers text at r d.1.2.1);
     }
 
-none_of : (o : Option Progress) → is_some o ≡ false → o ≡ None
-none_of None e = refl
-none_of (Some s) e = absurd (let f = e in cc)
+none_mapped : {A B : Type 0} {f : A → B} (o : Option A) → is_some o ≡ false → option_map f o ≡ None
+none_mapped None e = refl
+none_mapped (Some s) e = absurd (let g = e in cc)
 
-pub finished_so : (w : World) (first : List tree.Statement) (needs : List Matrix) (answers : List Answer) (t : Text) (c : Course) (now : Around) → option_map settled_of c.current ≡ None → Goes w needs answers c now → IsWritten w.budget first needs answers t.bytes.items t.ends → Finishes w first t c now
-finished_so w first needs answers t c now used h written =
-    let s : Came w.beginning w.budget w.slice needs h.told (settled_in c) c.pace.slice h.done = subst (λ (o : Option Progress). Stands w.beginning c.version w.budget w.slice needs h.told (settled_in c) c.pace.slice h.done o) used h.stands in
-    record {
-      needs = needs;
-      answers = answers;
+some_mapped : {A B : Type 0} {f : A → B} (o : Option A) → is_some o ≡ true → is_some (option_map f o) ≡ true
+some_mapped None e = absurd (let g = e in cc)
+some_mapped (Some s) e = refl
+
+-- nothing is left of the records, and no round
+pub record IsEven (w : World) (needs : List Matrix) (answers : List Answer) (c : Course) (now : Around) : Type 0 where
+  pub told : List SessionStep
+  pub rounds_are : rounds_from w needs ≡ record { steps = told; settled = settled_in c; left = c.pace.slice; is_stopped = false }
+  pub way : IsOnItsWay w.origin told c.pace now
+  pub fitting : misfit divisor_of needs w.budget (begins w.beginning needs) ≡ None
+  pub answered : AreAnswered w.budget needs (settled_in c) answers
+
+pub even : (w : World) (needs : List Matrix) (answers : List Answer) (c : Course) (now : Around) → is_some c.current ≡ false → Goes w needs answers c now → IsEven w needs answers c now
+even w needs answers c now none h = by (option_map settled_of c.current) (none_mapped c.current none) h.stands
+  where
+    by : (o : Option Progress) → o ≡ None → Stands w.beginning c.version w.budget w.slice needs h.told (settled_in c) c.pace.slice h.done o → IsEven w needs answers c now
+    by (Some current) e s = absurd (let f = e in cc)
+    by None e s = record {
       told = h.told;
-      asks_all = written.asks_all;
-      prints_all = written.prints_all;
       rounds_are = ends_here divisor_of w.budget (begins w.beginning) w.slice needs h.told (record { settled = settled_in c; current = None }) c.pace.slice s.goes (omega (arith, s.as_many));
       way = h.way;
       fitting = subst (λ (ns : List Matrix). misfit divisor_of ns w.budget (begins w.beginning ns) ≡ None) (append-nil needs) (s.fits []);
       answered = subst (λ (l : List Progress). AreAnswered w.budget needs l answers) s.all h.answered;
     }
 
-pub records_left : (w : World) (first : List tree.Statement) (needs : List Matrix) (answers : List Answer) (text : List ℕ) (ends : Bool) (c : Course) (now : Around) (t : ℕ) → is_some (option_map settled_of c.current) ≡ true → t ≡ length (settled_in c) + 1 → Goes w needs answers c now → AreMet first needs → IsWritten w.budget first needs answers text ends → Ends w first c now (halt.Unfit t 0)
-records_left w first needs answers text ends c now t some is h met written = by (option_map settled_of c.current) some h.stands
+pub finished_so : (w : World) (first : List tree.Statement) (needs : List Matrix) (answers : List Answer) (t : Text) (c : Course) (now : Around) → is_some c.current ≡ false → Goes w needs answers c now → IsWritten w.budget first needs answers t.bytes.items t.ends → Finishes w first t c now
+finished_so w first needs answers t c now none h written =
+    let e = even w needs answers c now none h in
+    record {
+      needs = needs;
+      answers = answers;
+      told = e.told;
+      asks_all = written.asks_all;
+      prints_all = written.prints_all;
+      rounds_are = e.rounds_are;
+      way = e.way;
+      fitting = e.fitting;
+      answered = e.answered;
+    }
+
+-- more records than needs are left
+pub over : (w : World) (needs : List Matrix) (answers : List Answer) (c : Course) (now : Around) → is_some c.current ≡ true → Goes w needs answers c now → IsMisfit w needs c now c.met (length c.pace.point.settled.items + 1) 0
+over w needs answers c now some h = by (option_map settled_of c.current) (some_mapped c.current some) h.stands
   where
-    by : (o : Option Progress) → is_some o ≡ true → Stands w.beginning c.version w.budget w.slice needs h.told (settled_in c) c.pace.slice h.done o → Ends w first c now (halt.Unfit t 0)
+    long : suc (length (settled_in c)) ≡ length c.pace.point.settled.items + 1
+    long = omega (arith, length-map settled_of c.pace.point.settled.items)
+
+    by : (o : Option Progress) → is_some o ≡ true → Stands w.beginning c.version w.budget w.slice needs h.told (settled_in c) c.pace.slice h.done o → IsMisfit w needs c now c.met (length c.pace.point.settled.items + 1) 0
     by None e s = absurd (let f = e in cc)
-    by (Some current) e s = (
-      needs,
-      met,
-      record {
-        first = left_over w.beginning c.version w.budget w.slice needs h.told (settled_in c) c.pace.slice h.done current s
-            ∙ ap (λ (n : ℕ). Some (record { need = n; told = suc (length (settled_in c)); found = 0 })) (sym h.met)
-            ∙ ap (λ (n : ℕ). Some (record { need = c.met; told = n; found = 0 })) (omega (arith, is));
-        way = subst (λ (l : List SessionStep). IsOnItsWay w.origin l c.pace now) s.silent h.way;
-      },
-      inr (h.met, written.asks_all),
-    )
+    by (Some current) e s = record {
+      first = left_over w.beginning c.version w.budget w.slice needs h.told (settled_in c) c.pace.slice h.done current s
+          ∙ ap (λ (n : ℕ). Some (record { need = n; told = suc (length (settled_in c)); found = 0 })) (sym h.met)
+          ∙ ap (λ (n : ℕ). Some (record { need = c.met; told = n; found = 0 })) long;
+      way = subst (λ (l : List SessionStep). IsOnItsWay w.origin l c.pace now) s.silent h.way;
+    }
+
+pub records_left : (w : World) (first : List tree.Statement) (needs : List Matrix) (answers : List Answer) (text : List ℕ) (ends : Bool) (c : Course) (now : Around) → is_some c.current ≡ true → Goes w needs answers c now → AreMet first needs → IsWritten w.budget first needs answers text ends → Ends w first c now (halt.Unfit (length c.pace.point.settled.items + 1) 0)
+records_left w first needs answers text ends c now some h met written = (needs, met, over w needs answers c now some h, inr (h.met, written.asks_all))
 
 -- the session ends at a need
 pub halted : (w : World) (first : List tree.Statement) (needs : List Matrix) (C : Matrix) (c : Course) (now : Around) (x : Halt) → AreMet first needs → AreMet first (needs ++ C ∷ []) → Halts w needs C c now x → Ends w first c now x

@@ -11,6 +11,7 @@
 --   HasCome budget first start m c text now      it has done the statements before those that are left
 --   Finishes w first t c now         it has done the statements, or up to one that fails, and this is the text
 --   Ends w first c now halt          it ended before
+--   Prints w bytes t c now, EndsBefore w bytes c now halt      the same of the statements of the bytes, if they are a script
 use Rattle.std.specs.Prelude.{◌≡◌, ◌≤◌, ◌<◌, ◌*◌, ◌^◌, ◌⊎◌, ℕ, suc, Bool, true, false, ◌==◌, nat_lt, List, [], ◌∷◌, ◌++◌, length, map, take, All, IfSome, slice_get, Option, Some, None, option_map}
 use Rattle.lc_algebra.specs.Matrix.{Matrix}
 use Rattle.lc_algebra.specs.Divisor.{divisor_of}
@@ -25,8 +26,8 @@ use Rattle.lc_checkpoint.specs.Seen.{settled_of}
 use Rattle.lc_parse.specs.Views.{statement_of}
 use Rattle.lc_eval.specs.Built.{built_calls}
 use Rattle.lc_eval.specs.Machine.{State}
-use Rattle.lc_sessions.specs.Needs.{Needs}
-use Rattle.lc_sessions.specs.Answers.{RunsBy, Settle, HasWords}
+use Rattle.lc_sessions.specs.Needs.{Needs, IsNeeds, MeetsFirst}
+use Rattle.lc_sessions.specs.Answers.{RunsBy, IsTextBy, Settle, HasWords}
 use Rattle.lc_rounds.specs.declared.rounds.Stop.{Stop}
 use Rattle.lc_rounds.specs.Way.{Around, Origin, IsOnItsWay, HasStopped}
 use Rattle.lc_course.specs.Course.{Beginning, afresh, after, begins, GoesSo, Waits, Stands}
@@ -145,3 +146,21 @@ Ends w first c now (halt.Unfit told found) =
     (needs : List Matrix) × AreMet first needs × IsMisfit w needs c now c.met told found
     × (((before : List Matrix) × (C : Matrix) × (needs ≡ before ++ C ∷ []) × (c.met ≡ length before) × Misfits w.beginning w.budget before C)
     ⊎ ((c.met ≡ length needs) × Needs built_calls [] first needs))
+
+pub record Prints (w : World) (bytes : List ℕ) (t : Text) (c : Course) (now : Around) : Type 0 where
+  pub needs : List Matrix
+  pub answers : List Answer
+  pub told : List SessionStep
+  pub asks_all : IsNeeds built_calls bytes needs
+  pub prints_all : IsTextBy built_calls w.budget bytes answers t.bytes.items t.ends
+  pub rounds_are : rounds_from w needs ≡ record { steps = told; settled = settled_in c; left = c.pace.slice; is_stopped = false }
+  pub way : IsOnItsWay w.origin told c.pace now
+  pub fitting : misfit divisor_of needs w.budget (begins w.beginning needs) ≡ None
+  pub answered : AreAnswered w.budget needs (settled_in c) answers
+
+abbrev pub EndsBefore : World → List ℕ → Course → Around → Halt → Type 0
+EndsBefore w bytes c now (halt.Stop stop) = (needs : List Matrix) × MeetsFirst built_calls bytes needs × Stops w needs c now stop
+EndsBefore w bytes c now (halt.Unfit told found) =
+    (needs : List Matrix) × MeetsFirst built_calls bytes needs × IsMisfit w needs c now c.met told found
+    × (((before : List Matrix) × (C : Matrix) × (needs ≡ before ++ C ∷ []) × (c.met ≡ length before) × Misfits w.beginning w.budget before C)
+    ⊎ ((c.met ≡ length needs) × IsNeeds built_calls bytes needs))

@@ -5,8 +5,10 @@ mod course;
 mod lines;
 mod need;
 mod records;
+mod script;
 mod statements;
 
 pub use course::Course;
 pub use need::Halt;
-pub use statements::{Text, text_of};
+pub use script::script_text;
+pub use statements::Text;

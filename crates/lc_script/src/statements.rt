@@ -1,5 +1,5 @@
 //! The statements of a script, one after another.
-ghost use Rattle.std.specs.Prelude.{◌≡◌, ◌^◌, ◌<◌, ◌≤◌, ℕ, List, [], length, map, take, MatchResult};
+ghost use Rattle.std.specs.Prelude.{◌≡◌, ◌+◌, ◌^◌, ◌<◌, ◌≤◌, ℕ, List, [], length, map, take, true, false, is_some, MatchResult};
 ghost use Rattle.lc_algebra.specs.Matrix.{Matrix};
 ghost use Rattle.lc_io.specs.Watchers.{hearing};
 ghost use Rattle.lc_parse.specs.Views.{statement_of};
@@ -26,8 +26,11 @@ pub struct Text {
     pub ends: bool,
 }
 
-// The text, unless a record of the checkpoint is left.
-fn ended(course: &Course, bytes: Vec<u8>, ends: bool) -> Result<Text, Halt> {
+/// The text, unless a record of the checkpoint is left.
+pub(crate) fn ended(course: &Course, bytes: Vec<u8>, ends: bool) -> Result<Text, Halt>
+    ensures { MatchResult result (λ t. (is_some course.now.current ≡ false) × (t.bytes.items ≡ bytes.items) × (t.ends ≡ ends))
+        (λ h. (is_some course.now.current ≡ true) × (h ≡ Halt.Unfit (length course.now.pace.point.settled.items + 1) 0)) }
+{
     if course.current.is_some() {
         return Err(Halt::Unfit {
             told: course.pace.point.settled.len() as u64 + 1,
@@ -40,7 +43,7 @@ fn ended(course: &Course, bytes: Vec<u8>, ends: bool) -> Result<Text, Halt> {
 /// The text of the statements of a machine that has done none, with the rounds of the searches that they ask for.
 ///
 /// There are 1 to 256 workers. The session has met no need, and the statements ask for fewer than 70,000.
-pub fn text_of<R: Threads + Sync, V: Vault, W: Watcher, G: Gate + Sync>(
+pub(crate) fn text_of<R: Threads + Sync, V: Vault, W: Watcher, G: Gate + Sync>(
     rt: &R,
     alloc: Global,
     workers: u32,

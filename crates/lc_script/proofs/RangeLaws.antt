@@ -1,0 +1,58 @@
+-- The numbers of a session are in range.
+--   last_within          a search has at most its budget of blocks
+--   record_ranged        the record of a search is in range
+use Rattle.std.proofs.Common.{◌≡◌, ◌≤◌, ◌<◌, ◌+◌, ◌-◌, ◌*◌, ◌^◌, ◌⊎◌, min, ℕ, zero, suc, Bool, true, false, ◌==◌, ◌&&◌, ◌||◌, nat_lt, is_some, List, length, Option, Some, None, refl, sym, ap, subst, ◌∙◌, ⊎_elim, arith}
+use Rattle.std.proofs.lemmas.Bool.{and_parts, or_cases, ltb-true, eqb-true}
+use Rattle.lc_algebra.specs.Matrix.{Matrix, AreRows}
+use Rattle.lc_algebra.specs.Span.{AreIndependent}
+use Rattle.lc_enumeration.specs.Search.{Answer, Found, finished, fits, set_count, word_at, weight_at}
+use Rattle.lc_enumeration.specs.Records.{Progress, Rounds, found_of, progress_of, within_slice, end_of_phase, round_length, after_round, is_used_up, state_first, no_round, less_slice, rounds_within, rounds, last_state}
+use Rattle.lc_formats.specs.Checkpoint.{IsProgress}
+use Rattle.lc_search.proofs.FitLaws.{fitting_word}
+use Rattle.lc_search.proofs.StateLaws.{light_word}
+
+slice_within : (slice : Option ℕ) (n : ℕ) → within_slice slice n ≤ n
+unfolding within_slice
+slice_within None n = omega arith
+slice_within (Some left) n = omega arith
+
+next_within : (C : Matrix) (budget : ℕ) (slice : Option ℕ) (s : Progress) → s.blocks ≤ budget → (after_round C s (round_length C budget slice s.blocks)).blocks ≤ budget
+unfolding after_round progress_of round_length
+next_within C budget slice s l =
+    let n = slice_within slice (min 256 (min (end_of_phase C s.blocks - s.blocks) (budget - s.blocks))) in
+    omega (arith, n, l)
+
+ends_within : (most d : ℕ) (C : Matrix) (budget : ℕ) (slice : Option ℕ) (s : Progress) → s.blocks ≤ budget → (last_state s (rounds_within most d C budget slice s).states).blocks ≤ budget
+unfolding rounds_within no_round state_first last_state
+ends_within zero d C budget slice s l = l
+ends_within (suc most) d C budget slice s l = by (finished d C budget s.blocks (found_of s)) (is_used_up slice)
+  where
+    count : ℕ
+    count = round_length C budget slice s.blocks
+
+    by : (a : Option Answer) (b : Bool) → (last_state s (elim a as (λ _. Rounds) [ Some _ ↦ no_round slice false | None ↦ elim b as (λ _. Rounds) [ true ↦ no_round slice true | false ↦ state_first (after_round C s count) (rounds_within most d C budget (less_slice slice count) (after_round C s count)) ] ]).states).blocks ≤ budget
+    by (Some x) b = l
+    by None true = l
+    by None false = ends_within most d C budget (less_slice slice count) (after_round C s count) (next_within C budget slice s l)
+
+pub last_within : (d : ℕ) (C : Matrix) (budget : ℕ) (slice : Option ℕ) (s : Progress) → s.blocks ≤ budget → (last_state s (rounds d C budget slice s).states).blocks ≤ budget
+unfolding rounds
+last_within d C budget slice s l = ends_within (suc (budget - s.blocks)) d C budget slice s l
+
+near : (C : Matrix) (l : ℕ) (x : Found) → fits C l x ≡ true → l ≤ 2 ^ 40 → x.place < 2 ^ 52
+unfolding fits
+near C l x t few =
+    let a = and_parts ((x.place == 0) || nat_lt x.place (l * 4096)) (is_some (word_at C (set_count C) x.place) && (weight_at C x.place == x.weight)) t in
+    ⊎_elim (λ z. omega (arith, eqb-true x.place 0 z)) (λ z. omega (arith, ltb-true x.place (l * 4096) z, few)) (or_cases (x.place == 0) (nat_lt x.place (l * 4096)) a.0)
+
+pub record_ranged : (C : Matrix) (budget : ℕ) (s : Progress) → AreRows C.field C.columns C.rows → AreIndependent C.field C.columns C.rows → C.columns ≤ 255 → 1 ≤ set_count C → fits C s.blocks (found_of s) ≡ true → s.blocks ≤ budget → budget ≤ 2 ^ 40 → IsProgress budget s
+unfolding found_of
+record_ranged C budget s rows free long some f few small =
+    let h = fitting_word C s.blocks (found_of s) rows free f in
+    let light = light_word C s.place h.word.0 rows free long some h.word.1 in
+    record {
+      done = few;
+      nonzero = omega (arith, h.nonzero);
+      light = omega (arith, light, h.word.3);
+      near = near C s.blocks (found_of s) f (omega (arith, few, small));
+    }
