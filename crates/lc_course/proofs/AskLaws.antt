@@ -6,15 +6,17 @@ use Rattle.std.specs.Prelude.{MatchOption, slice_get}
 use Rattle.lc_algebra.specs.Matrix.{Matrix}
 use Rattle.lc_algebra.specs.declared.FieldName.{FieldName}
 use Rattle.lc_algebra.specs.Span.{InSpan, IsLeast}
-use Rattle.lc_grammar.specs.Tree.{Expr, Exprs, number, name, call, list, Statement}
+use Rattle.lc_grammar.specs.Tree.{Expr, Exprs, number, name, call, list, count_of, Statement}
 use Rattle.lc_grammar.specs.Grammar.{Reads}
 use Rattle.lc_language.specs.declared.Call.{Call}
+use Rattle.lc_language.specs.declared.Call.TheVariants.{Query}
+use Rattle.lc_language.specs.Calls.{signature_for}
 use Rattle.lc_language.specs.declared.QueryCall.{QueryCall}
 use Rattle.lc_language.specs.declared.Kind.{Kind}
 use Rattle.lc_language.specs.Value.{Binding}
 use Rattle.lc_language.specs.Query.{QueryKind, query_line, near_line}
 use Rattle.lc_language.specs.Bound.{BoundQuery, algebraic_decode, least_word, minimum_distance, certificate, scan_certificate, weight_distribution, alternant_certificate, nearest_word, bind_query}
-use Rattle.lc_language.specs.Evaluation.{Outcome, gives, refused, Outcomes, all_give, one_refused, refuse_call, Evaluates, EvaluatesAll, Assigns, Step, binds, prints, asks, counts, nears, fails, AsksOf, NearsOf, Queries, QueriesTo, QueriesAll, query_of, fail_with, StepsAsQuery, StepsOf, Steps}
+use Rattle.lc_language.specs.Evaluation.{Outcome, gives, refused, Outcomes, all_give, one_refused, refuse_at, refuse_call, Evaluates, EvaluatesAll, Assigns, Step, binds, prints, asks, counts, nears, fails, AsksOf, NearsOf, Queries, QueriesTo, QueriesAll, query_of, fail_with, StepsAsQuery, StepsOf, Steps}
 use Rattle.lc_sessions.specs.Needs.{NeedsOn, Needs, MeetsFirst}
 
 abbrev HasRows : Step → Type 0
@@ -61,7 +63,7 @@ by_all c place kinds es (all_give vs) step h =
 
 as_query_rows : (table : List Call) (env : List Binding) (c : QueryCall) (e : Expr) (step : Step) → StepsAsQuery table env c e step → HasRows step
 as_query_rows table env c (call place x es) step h =
-    from_option _ _ (λ kinds. (os : Outcomes) × EvaluatesAll table env es os × QueriesAll c place kinds es os step) (HasRows step) (λ e. told step _ e (failed _)) (λ kinds k. by_all c place kinds es k.0 step k.2) h
+    from_option (signature_for (Query c) (count_of es)) (step ≡ fail_with (refuse_at 46 place)) (λ kinds. (os : Outcomes) × EvaluatesAll table env es os × QueriesAll c place kinds es os step) (HasRows step) (λ e. told step (fail_with (refuse_at 46 place)) e (failed (refuse_at 46 place))) (λ kinds k. by_all c place kinds es k.0 step k.2) h
 as_query_rows table env c (number place n) step h = absurd h
 as_query_rows table env c (name place x) step h = absurd h
 as_query_rows table env c (list place es) step h = absurd h

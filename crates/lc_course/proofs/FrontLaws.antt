@@ -49,7 +49,7 @@ pub ends_here : (divisor : Matrix → ℕ) (budget : ℕ) (begin : List Matrix �
     → session_rounds divisor needs budget slice (begin needs) ≡ record { steps = told; settled = now.settled; left = left; is_stopped = false }
 ends_here divisor budget begin slice needs told now left goes l =
     let at : session_rounds divisor needs budget slice (begin needs) ≡ steps_first told (session_rounds divisor needs budget left now) =
-        subst (λ (ns : List Matrix). session_rounds divisor ns budget slice (begin ns) ≡ steps_first told (session_rounds divisor ns budget left now)) (append-nil needs) (goes []) in
+    subst (λ (ns : List Matrix). session_rounds divisor ns budget slice (begin ns) ≡ steps_first told (session_rounds divisor ns budget left now)) (append-nil needs) (goes []) in
     at ∙ ap (steps_first told) (none_left divisor budget needs left now l) ∙ ended told now.settled left false
 
 -- ---- one more need

@@ -105,7 +105,7 @@ module _ (b : Beginning) (version budget : ℕ) (slice : Option ℕ) (needs : Li
   starts_here : (C : Matrix) (more : List Matrix) → length settled ≡ length needs → ((version == 1) ≡ true → nat_lt 1 (divisor_of C) ≡ false) → begins b (needs ++ C ∷ more) ≡ record { settled = settled; current = Some current }
   starts_here C more e uncut =
       let up_to : take (suc (length settled)) (needs ++ C ∷ more) ≡ needs ++ C ∷ [] =
-          ap (take (suc (length settled))) (sym (append_assoc needs (C ∷ []) more)) ∙ take_front (needs ++ C ∷ []) more (suc (length settled)) (omega (arith, e, length-append needs (C ∷ []))) in
+      ap (take (suc (length settled))) (sym (append_assoc needs (C ∷ []) more)) ∙ take_front (needs ++ C ∷ []) more (suc (length settled)) (omega (arith, e, length-append needs (C ∷ []))) in
       ap (λ (x : Beginning). begins x (needs ++ C ∷ more)) w.begun ∙ starts_whole divisor_of version settled current (needs ++ C ∷ more) (needs ++ C ∷ []) up_to (whole_more divisor_of version needs C w.whole uncut)
 
   goes_from : (C : Matrix) (now : Start) → ((more : List Matrix) → begins b (needs ++ C ∷ more) ≡ now) → GoesSo divisor_of budget (begins b) slice needs (C ∷ []) told now left

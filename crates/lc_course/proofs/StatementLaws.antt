@@ -108,6 +108,8 @@ at_end_asks table budget start now first needs answers text h =
 -- the needs of the statements done
 pub met_so_far : (table : List Call) (budget : ℕ) (start now : List Binding) (first left : List Statement) (needs : List Matrix) (answers : List Answer) (text : List ℕ) → HaveDone table budget start now first left needs answers text → (n : ℕ) × Needs table start (take n first) needs
 met_so_far table budget start now first left needs answers text h =
-    let front : take (length h.done) first ≡ h.done = ap (take (length h.done)) h.split ∙ take_front h.done left (length h.done) refl in
-    (length h.done, subst (λ (ss : List Statement). Needs table start ss needs) (sym front)
-    (subst (λ (ss : List Statement). Needs table start ss needs) (append-nil h.done) (subst (λ (ns : List Matrix). Needs table start (h.done ++ []) ns) (append-nil needs) (h.asks_so [] [] refl))))
+    let front : take (length h.done) first ≡ h.done = ap (take (length h.done)) h.split ∙ take_front h.done left (length h.done) refl in (
+      length h.done,
+      subst (λ (ss : List Statement). Needs table start ss needs) (sym front)
+          (subst (λ (ss : List Statement). Needs table start ss needs) (append-nil h.done) (subst (λ (ns : List Matrix). Needs table start (h.done ++ []) ns) (append-nil needs) (h.asks_so [] [] refl))),
+    )

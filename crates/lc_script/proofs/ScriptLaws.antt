@@ -32,6 +32,7 @@ by_script w bytes ss t c now reads h = record {
   prints_all = inl (ss, reads, h.prints_all);
   rounds_are = h.rounds_are;
   way = h.way;
+  of = h.of;
   fitting = h.fitting;
   answered = h.answered;
 }
@@ -60,6 +61,7 @@ no_script w bytes f t c now fault none h text ends =
       prints_all = inr (f, fault, text, ends, refl);
       rounds_are = e.rounds_are;
       way = e.way;
+      of = e.of;
       fitting = e.fitting;
       answered = e.answered;
     }

@@ -36,7 +36,7 @@ use Rattle.lc_script.specs.declared.course.Course.{Course}
 use Rattle.lc_script.specs.declared.need.Halt.{Halt}
 use Rattle.lc_script.specs.declared.need.Halt.TheVariants as halt
 use Rattle.lc_script.specs.declared.statements.Text.{Text}
-use Rattle.lc_script.specs.Going.{World, settled_in, rounds_from, AreAnswered, Goes, Misfits, Stops, IsMisfit, Halts, Finishes, AreMet, Ends}
+use Rattle.lc_script.specs.Going.{World, IsOf, settled_in, rounds_from, AreAnswered, Goes, Misfits, Stops, IsMisfit, Halts, Finishes, AreMet, Ends}
 
 abbrev pub Done : ℕ → List tree.Statement → State → List Matrix → List Answer → List ℕ → Type 0
 Done budget first m needs answers text = HaveDone built_calls budget [] m.bindings first (map statement_of m.left) needs answers text
@@ -109,6 +109,7 @@ pub record IsEven (w : World) (needs : List Matrix) (answers : List Answer) (c :
   pub told : List SessionStep
   pub rounds_are : rounds_from w needs ≡ record { steps = told; settled = settled_in c; left = c.pace.slice; is_stopped = false }
   pub way : IsOnItsWay w.origin told c.pace now
+  pub of : IsOf w c.pace
   pub fitting : misfit divisor_of needs w.budget (begins w.beginning needs) ≡ None
   pub answered : AreAnswered w.budget needs (settled_in c) answers
 
@@ -121,6 +122,7 @@ even w needs answers c now none h = by (option_map settled_of c.current) (none_m
       told = h.told;
       rounds_are = ends_here divisor_of w.budget (begins w.beginning) w.slice needs h.told (record { settled = settled_in c; current = None }) c.pace.slice s.goes (omega (arith, s.as_many));
       way = h.way;
+      of = h.of;
       fitting = subst (λ (ns : List Matrix). misfit divisor_of ns w.budget (begins w.beginning ns) ≡ None) (append-nil needs) (s.fits []);
       answered = subst (λ (l : List Progress). AreAnswered w.budget needs l answers) s.all h.answered;
     }
@@ -136,6 +138,7 @@ finished_so w first needs answers t c now none h written =
       prints_all = written.prints_all;
       rounds_are = e.rounds_are;
       way = e.way;
+      of = e.of;
       fitting = e.fitting;
       answered = e.answered;
     }
@@ -145,7 +148,7 @@ pub over : (w : World) (needs : List Matrix) (answers : List Answer) (c : Course
 over w needs answers c now some h = by (option_map settled_of c.current) (some_mapped c.current some) h.stands
   where
     long : suc (length (settled_in c)) ≡ length c.pace.point.settled.items + 1
-    long = omega (arith, length-map settled_of c.pace.point.settled.items)
+    long = omega (arith, length-map c.pace.point.settled.items settled_of)
 
     by : (o : Option Progress) → is_some o ≡ true → Stands w.beginning c.version w.budget w.slice needs h.told (settled_in c) c.pace.slice h.done o → IsMisfit w needs c now c.met (length c.pace.point.settled.items + 1) 0
     by None e s = absurd (let f = e in cc)
@@ -154,6 +157,7 @@ over w needs answers c now some h = by (option_map settled_of c.current) (some_m
           ∙ ap (λ (n : ℕ). Some (record { need = n; told = suc (length (settled_in c)); found = 0 })) (sym h.met)
           ∙ ap (λ (n : ℕ). Some (record { need = c.met; told = n; found = 0 })) long;
       way = subst (λ (l : List SessionStep). IsOnItsWay w.origin l c.pace now) s.silent h.way;
+      of = h.of;
     }
 
 pub records_left : (w : World) (first : List tree.Statement) (needs : List Matrix) (answers : List Answer) (text : List ℕ) (ends : Bool) (c : Course) (now : Around) → is_some c.current ≡ true → Goes w needs answers c now → AreMet first needs → IsWritten w.budget first needs answers text ends → Ends w first c now (halt.Unfit (length c.pace.point.settled.items + 1) 0)

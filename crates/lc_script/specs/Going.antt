@@ -1,5 +1,7 @@
 -- A session on its way through the statements of its script.
---   World                    what stays the same: what it starts from, its budget, its slice, and where it began to tell
+--   World                    what stays the same: what it starts from, its budget, its slice, whether it keeps checkpoints, the
+--                            SHA-256 of its script, and where it began to tell
+--   IsOf w p                 the session at this pace is of that world
 --   settled_in c             the settled needs of the session
 --   rounds_from w needs      the rounds of the searches of these needs
 --   IsRanged c               the numbers of a session are in range
@@ -28,6 +30,7 @@ use Rattle.lc_eval.specs.Built.{built_calls}
 use Rattle.lc_eval.specs.Machine.{State}
 use Rattle.lc_sessions.specs.Needs.{Needs, IsNeeds, MeetsFirst}
 use Rattle.lc_sessions.specs.Answers.{RunsBy, IsTextBy, Settle, HasWords}
+use Rattle.lc_rounds.specs.declared.pace.Pace.{Pace}
 use Rattle.lc_rounds.specs.declared.rounds.Stop.{Stop}
 use Rattle.lc_rounds.specs.Way.{Around, Origin, IsOnItsWay, HasStopped}
 use Rattle.lc_course.specs.Course.{Beginning, afresh, after, begins, GoesSo, Waits, Stands}
@@ -42,7 +45,15 @@ pub record World : Type 0 where
   pub beginning : Beginning
   pub budget : ℕ
   pub slice : Option ℕ
+  pub keep : Bool
+  pub digest : List ℕ
   pub origin : Origin
+
+-- the session has the budget, the script and the checkpoints of the world
+pub record IsOf (w : World) (p : Pace) : Type 0 where
+  pub keep : p.keep ≡ w.keep
+  pub digest : p.point.script ≡ w.digest
+  pub budget : p.point.budget ≡ w.budget
 
 abbrev pub settled_in : Course → List Progress
 settled_in c = map settled_of c.pace.point.settled.items
@@ -72,7 +83,7 @@ pub record Goes (w : World) (needs : List Matrix) (answers : List Answer) (c : C
   pub stands : Stands w.beginning c.version w.budget w.slice needs told (settled_in c) c.pace.slice done (option_map settled_of c.current)
   pub way : IsOnItsWay w.origin told c.pace now
   pub met : c.met ≡ length needs
-  pub budget : c.pace.point.budget ≡ w.budget
+  pub of : IsOf w c.pace
   pub answered : AreAnswered w.budget needs done answers
 
 abbrev pub IsUncut : ℕ → Matrix → Type 0
@@ -89,7 +100,7 @@ pub record IsNext (w : World) (needs : List Matrix) (C : Matrix) (answers : List
   pub stands : NextStands w.beginning c.version w.budget w.slice needs C told (settled_in c) c.pace.slice done (option_map settled_of c.current)
   pub way : IsOnItsWay w.origin told c.pace now
   pub met : c.met ≡ length needs
-  pub budget : c.pace.point.budget ≡ w.budget
+  pub of : IsOf w c.pace
   pub answered : AreAnswered w.budget needs done answers
 
 -- the record of a settled need doesn't fit, or that of the current one
@@ -105,12 +116,14 @@ pub record Stops (w : World) (needs : List Matrix) (c : Course) (now : Around) (
   pub left : List SessionStep
   pub front : (rounds_from w needs).steps ≡ told ++ left
   pub stopped : HasStopped w.origin told left (rounds_from w needs).is_stopped c.pace now stop
+  pub of : IsOf w c.pace
   pub fitting : (told ≡ []) ⊎ (misfit divisor_of needs w.budget (begins w.beginning needs) ≡ None)
 
 -- a record is misfit, and no round was done
 pub record IsMisfit (w : World) (needs : List Matrix) (c : Course) (now : Around) (need told found : ℕ) : Type 0 where
   pub first : misfit divisor_of needs w.budget (begins w.beginning needs) ≡ Some (record { need = need; told = told; found = found })
   pub way : IsOnItsWay w.origin [] c.pace now
+  pub of : IsOf w c.pace
 
 abbrev pub Halts : World → List Matrix → Matrix → Course → Around → Halt → Type 0
 Halts w needs C c now (halt.Stop stop) = Stops w needs c now stop ⊎ Stops w (needs ++ C ∷ []) c now stop
@@ -122,7 +135,6 @@ pub record HasCome (budget : ℕ) (first : List Statement) (before : Course) (st
   pub statements : HaveDone built_calls budget [] m.bindings first (map statement_of m.left) needs answers text
   pub met : c.met ≡ length needs
   pub ranged : IsRanged c
-  pub budget_is : c.pace.point.budget ≡ budget
   pub goes : (w : World) → Goes w [] [] before start → Goes w needs answers c now
 
 pub record Finishes (w : World) (first : List Statement) (t : Text) (c : Course) (now : Around) : Type 0 where
@@ -133,6 +145,7 @@ pub record Finishes (w : World) (first : List Statement) (t : Text) (c : Course)
   pub prints_all : RunsBy built_calls w.budget [] first answers t.bytes.items t.ends
   pub rounds_are : rounds_from w needs ≡ record { steps = told; settled = settled_in c; left = c.pace.slice; is_stopped = false }
   pub way : IsOnItsWay w.origin told c.pace now
+  pub of : IsOf w c.pace
   pub fitting : misfit divisor_of needs w.budget (begins w.beginning needs) ≡ None
   pub answered : AreAnswered w.budget needs (settled_in c) answers
 
@@ -155,6 +168,7 @@ pub record Prints (w : World) (bytes : List ℕ) (t : Text) (c : Course) (now : 
   pub prints_all : IsTextBy built_calls w.budget bytes answers t.bytes.items t.ends
   pub rounds_are : rounds_from w needs ≡ record { steps = told; settled = settled_in c; left = c.pace.slice; is_stopped = false }
   pub way : IsOnItsWay w.origin told c.pace now
+  pub of : IsOf w c.pace
   pub fitting : misfit divisor_of needs w.budget (begins w.beginning needs) ≡ None
   pub answered : AreAnswered w.budget needs (settled_in c) answers
 

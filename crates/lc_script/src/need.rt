@@ -37,7 +37,7 @@ fn start_anew(course: &mut Course, code: &Code)
     requires ranged { IsRanged course.old }
     ensures next { (w : World) (needs : List Matrix) (answers : List Answer) (now : Around) → Goes w needs answers course.old now → IsNext w needs code.now answers course.new now }
     ensures ranged { IsRanged course.new }
-    ensures same { (course.new.met ≡ course.old.met) × (course.new.pace.point.budget ≡ course.old.pace.point.budget) }
+    ensures same { course.new.met ≡ course.old.met }
 {
     if course.current.is_some() && course.version == 1 && code.divisor() > 1 {
         course.pace.point.settled.truncate(course.met as usize);
@@ -80,7 +80,7 @@ fn pass_over(alloc: Global, course: &mut Course, code: &Code) -> Result<Answered
         (λ halt. Halts w needs code.now course.new now halt) }
     ensures answered { IfOk result (λ x. (x.search.code ≡ code.now) × (answer_in x.search ≡ Some (answer_of x.answer)) × (fits x.search.code x.search.progress.blocks (found_of x.search.progress) ≡ true)) }
     ensures ranged { IfOk result (λ _. IsRanged course.new) }
-    ensures same { IfOk result (λ _. (course.new.met ≡ course.old.met + 1) × (course.new.pace.point.budget ≡ course.old.pace.point.budget)) }
+    ensures same { IfOk result (λ _. course.new.met ≡ course.old.met + 1) }
 {
     let record = course.pace.point.settled[course.met as usize];
     let answered = passed(alloc, code, course.pace.point.budget, record)?;
@@ -110,7 +110,7 @@ fn search_on<R: Threads + Sync, V: Vault, W: Watcher, G: Gate + Sync>(
         (λ halt. Halts w needs code.now course.new (around (V.contents vault.new) (V.faults vault.new) (map (hearing W.heard W.coming W.pauses) watchers.new.items)) halt) }
     ensures answered { IfOk result (λ x. (x.search.code ≡ code.now) × (answer_in x.search ≡ Some (answer_of x.answer)) × (fits x.search.code x.search.progress.blocks (found_of x.search.progress) ≡ true)) }
     ensures ranged { IfOk result (λ _. IsRanged course.new) }
-    ensures same { IfOk result (λ _. (course.new.met ≡ course.old.met + 1) × (course.new.pace.point.budget ≡ course.old.pace.point.budget)) }
+    ensures same { IfOk result (λ _. course.new.met ≡ course.old.met + 1) }
 {
     let mut search = begun(alloc, code, course.pace.point.budget, course.current)?;
     let found = search_need(
@@ -158,7 +158,7 @@ pub(crate) fn answer_need<R: Threads + Sync, V: Vault, W: Watcher, G: Gate + Syn
         (λ halt. Halts w needs code.now course.new (around (V.contents vault.new) (V.faults vault.new) (map (hearing W.heard W.coming W.pauses) watchers.new.items)) halt) }
     ensures answered { IfOk result (λ x. (x.search.code ≡ code.now) × (answer_in x.search ≡ Some (answer_of x.answer)) × (fits x.search.code x.search.progress.blocks (found_of x.search.progress) ≡ true)) }
     ensures ranged { IfOk result (λ _. IsRanged course.new) }
-    ensures same { IfOk result (λ _. (course.new.met ≡ course.old.met + 1) × (course.new.pace.point.budget ≡ course.old.pace.point.budget)) }
+    ensures same { IfOk result (λ _. course.new.met ≡ course.old.met + 1) }
 {
     start_anew(course, code);
     if (course.met as usize) < course.pace.point.settled.len() {
