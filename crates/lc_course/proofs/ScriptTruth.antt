@@ -2,6 +2,7 @@
 --   answers_are          records that settle the needs are answered by the search
 --   fresh_answers        a session that started afresh answers so
 --   true_over            a true checkpoint is true for the needs of the whole script
+--   start_true           where a session starts that resumes it is true
 --   true_answers         a session that resumed it answers so
 use Rattle.std.proofs.Common.{◌≡◌, ◌≤◌, ◌<◌, ◌^◌, ◌⊎◌, ⊎_elim, inl, inr, ℕ, zero, suc, Bool, true, false, ◌==◌, if◌then◌else◌, List, [], ◌∷◌, ◌++◌, length, take, drop, All, Option, Some, None, refl, sym, ap, subst, ◌∙◌, arith}
 use Rattle.std.specs.Prelude.{slice_get}
@@ -95,9 +96,15 @@ used_true version needs budget settled current (inr e) h =
     subst (λ (v : ℕ). IsTrueStart (divisor_in v) needs budget (record { settled = settled; current = Some current }) → IsTrueStart divisor_of needs budget (used_start divisor_of needs v settled current)) (sym e)
     (λ k. subst (IsTrueStart divisor_of needs budget) (sym (used_later divisor_of needs settled current)) k) h
 
+-- where a session starts that resumes it is true
+pub start_true : (table : List Call) (bytes : List ℕ) (budget : ℕ) (needs : List Matrix) (p : Checkpoint) → OneScript bytes → OneStep table → MeetsFirst table bytes needs → length p.settled < length needs → IsTrueCheckpoint table bytes budget p → IsTrueStart divisor_of needs budget (start_of needs p)
+unfolding start_of whole_start
+start_true table bytes budget needs p script one met long holds = used_true p.version needs budget p.settled (current_of p) holds.2.known (true_over table bytes budget needs p script one met long holds)
+
+pub rows_all : (table : List Call) (bytes : List ℕ) (needs : List Matrix) → MeetsFirst table bytes needs → AllRows needs
+rows_all table bytes needs met = all_rows needs (met_rows table bytes needs met)
+
 pub true_answers : (table : List Call) (bytes : List ℕ) (budget : ℕ) (needs : List Matrix) (slice : Option ℕ) (answers : List Answer) (p : Checkpoint) → OneScript bytes → OneStep table → budget ≤ 2 ^ 40 → MeetsFirst table bytes needs → length p.settled < length needs → IsTrueCheckpoint table bytes budget p
     → (session_rounds divisor_of needs budget slice (start_of needs p)).is_stopped ≡ false → Settle budget needs (session_rounds divisor_of needs budget slice (start_of needs p)).settled answers → answers ≡ answers_of needs budget
-unfolding start_of whole_start
 true_answers table bytes budget needs slice answers p script one small met long holds unstopped settle =
-    start_answers table bytes budget needs slice (start_of needs p) answers small met
-    (used_true p.version needs budget p.settled (current_of p) holds.2.known (true_over table bytes budget needs p script one met long holds)) unstopped settle
+    start_answers table bytes budget needs slice (start_of needs p) answers small met (start_true table bytes budget needs p script one met long holds) unstopped settle

@@ -4,3 +4,6 @@ mod RangeLaws
 mod NeedLaws
 mod TextLaws
 mod ScriptLaws
+mod StartLaws
+pub mod SessionLaws
+pub mod ReplyLaws

@@ -1,6 +1,7 @@
 -- A session on its way through the statements of its script.
 --   World                    what stays the same: what it starts from, its budget, its slice, whether it keeps checkpoints, the
 --                            SHA-256 of its script, and where it began to tell
+--   started b budget slice keep digest turn now      the world of a session that begins now
 --   IsOf w p                 the session at this pace is of that world
 --   settled_in c             the settled needs of the session
 --   rounds_from w needs      the rounds of the searches of these needs
@@ -48,6 +49,9 @@ pub record World : Type 0 where
   pub keep : Bool
   pub digest : List ℕ
   pub origin : Origin
+
+abbrev pub started : Beginning → ℕ → Option ℕ → Bool → List ℕ → ℕ → Around → World
+started b budget slice keep digest turn now = record { beginning = b; budget = budget; slice = slice; keep = keep; digest = digest; origin = record { turn = turn; around = now } }
 
 -- the session has the budget, the script and the checkpoints of the world
 pub record IsOf (w : World) (p : Pace) : Type 0 where

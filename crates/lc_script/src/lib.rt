@@ -4,11 +4,15 @@
 mod course;
 mod lines;
 mod need;
+mod queries;
 mod records;
 mod script;
+mod starting;
 mod statements;
 
 pub use course::Course;
 pub use need::Halt;
+pub use queries::need_line;
 pub use script::script_text;
+pub use starting::{afresh, resumed};
 pub use statements::Text;

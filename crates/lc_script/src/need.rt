@@ -82,8 +82,8 @@ fn pass_over(alloc: Global, course: &mut Course, code: &Code) -> Result<Answered
     ensures ranged { IfOk result (λ _. IsRanged course.new) }
     ensures same { IfOk result (λ _. course.new.met ≡ course.old.met + 1) }
 {
-    let record = course.pace.point.settled[course.met as usize];
-    let answered = passed(alloc, code, course.pace.point.budget, record)?;
+    let kept = course.pace.point.settled[course.met as usize];
+    let answered = passed(alloc, code, course.pace.point.budget, kept)?;
     let _rows = answered.search.sets().dimension();
     course.met += 1;
     Ok(answered)

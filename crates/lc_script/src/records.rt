@@ -25,26 +25,19 @@ pub(crate) fn passed(
     alloc: Global,
     code: &Code,
     budget: u64,
-    record: Settled,
+    kept: Settled,
 ) -> Result<Answered, Halt>
     requires rows { 0 < length code.now.rows }
     requires budget { budget ≤ 2 ^ 40 }
-    requires blocks { record.blocks ≤ budget }
-    ensures { MatchResult result (λ x. IsPassed code.now budget (settled_of record) x) (λ h. IsNotPassed code.now budget (settled_of record) h) }
+    requires blocks { kept.blocks ≤ budget }
+    ensures { MatchResult result (λ x. IsPassed code.now budget (settled_of kept) x) (λ h. IsNotPassed code.now budget (settled_of kept) h) }
 {
-    let found = Search::resume_at(
-        alloc,
-        code,
-        budget,
-        record.blocks,
-        record.weight,
-        record.place,
-    );
+    let found = Search::resume_at(alloc, code, budget, kept.blocks, kept.weight, kept.place);
     let search = match found {
         Ok(search) => search,
         Err(ResumeRefusal::Unfit { found }) => {
             return Err(Halt::Unfit {
-                told: record.weight,
+                told: kept.weight,
                 found,
             });
         }
@@ -53,8 +46,8 @@ pub(crate) fn passed(
     match search.finished() {
         Some(answer) => Ok(Answered { search, answer }),
         None => Err(Halt::Unfit {
-            told: record.weight,
-            found: record.weight,
+            told: kept.weight,
+            found: kept.weight,
         }),
     }
 }
@@ -74,24 +67,17 @@ pub(crate) fn begun(
     requires blocks { IfSome current (λ r. r.blocks ≤ budget) }
     ensures { MatchResult result (λ s. IsBegun code.now budget (option_map settled_of current) s) (λ h. IsNotBegun code.now (option_map settled_of current) h) }
 {
-    let Some(record) = current else {
+    let Some(kept) = current else {
         return match Search::start(alloc, code, budget) {
             Ok(search) => Ok(search),
             Err(_) => Err(Halt::Stop(Stop::NoMemory)),
         };
     };
-    let found = Search::resume_at(
-        alloc,
-        code,
-        budget,
-        record.blocks,
-        record.weight,
-        record.place,
-    );
+    let found = Search::resume_at(alloc, code, budget, kept.blocks, kept.weight, kept.place);
     match found {
         Ok(search) => Ok(search),
         Err(ResumeRefusal::Unfit { found }) => Err(Halt::Unfit {
-            told: record.weight,
+            told: kept.weight,
             found,
         }),
         Err(ResumeRefusal::NoMemory) => Err(Halt::Stop(Stop::NoMemory)),

@@ -5,12 +5,13 @@ ghost use Rattle.lc_io.specs.Watchers.{hearing};
 ghost use Rattle.lc_parse.specs.Views.{statement_of};
 ghost use Rattle.lc_eval.specs.Built.{built_calls};
 ghost use Rattle.lc_sessions.specs.Needs.{Needs};
+ghost use Rattle.lc_sessions.specs.Session.{end_number};
 ghost use Rattle.lc_rounds.specs.Way.{around};
 ghost use Rattle.lc_script.specs.Going.{World, IsRanged, Goes, Finishes, Ends};
 
 use crate::course::Course;
-use crate::lines::line_of;
-use crate::need::{Halt, answer_need};
+use crate::need::Halt;
+use crate::queries::need_line;
 use lc_eval::{Machine, Step};
 use lc_io::{Gate, Vault, Watcher};
 use lc_rounds::Stop;
@@ -24,6 +25,15 @@ pub struct Text {
     pub bytes: Vec<u8>,
     /// Whether a fault ends it.
     pub ends: bool,
+}
+
+impl Text {
+    /// 1 if a fault ends it, else 0.
+    pub fn number(&self) -> u8
+        ensures { result ≡ end_number self.now.ends }
+    {
+        if self.ends { 1 } else { 0 }
+    }
 }
 
 /// The text, unless a record of the checkpoint is left.
@@ -75,7 +85,7 @@ pub(crate) fn text_of<R: Threads + Sync, V: Vault, W: Watcher, G: Gate + Sync>(
             }
             Step::Silent => {}
             Step::Need(query) => {
-                let found = answer_need(
+                let line = need_line(
                     rt,
                     alloc,
                     workers,
@@ -83,11 +93,9 @@ pub(crate) fn text_of<R: Threads + Sync, V: Vault, W: Watcher, G: Gate + Sync>(
                     vault,
                     watchers,
                     course,
+                    query.kind,
                     &query.code,
                 )?;
-                let Ok(line) = line_of(alloc, query.kind, &found.search, found.answer) else {
-                    return Err(Halt::Stop(Stop::NoMemory));
-                };
                 if bytes.extend_from_slice(&line).is_err() {
                     return Err(Halt::Stop(Stop::NoMemory));
                 }
