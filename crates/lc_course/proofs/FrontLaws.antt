@@ -8,7 +8,7 @@ use Rattle.std.proofs.Common.{◌≡◌, ◌≤◌, ◌<◌, ◌+◌, ℕ, zero,
 use Rattle.std.proofs.lemmas.List.{append-nil, append_assoc, length-append}
 use Rattle.lc_algebra.specs.Matrix.{Matrix}
 use Rattle.lc_enumeration.specs.Records.{Progress, Start, SessionStep, SessionRounds, first_progress, rounds, last_state, step_of, no_steps, steps_first, session_from, session_rounds}
-use Rattle.lc_course.specs.Course.{GoesSo}
+use Rattle.lc_course.specs.Course.{GoesSo, state_at, states_at, steps_at, start_next}
 
 pub drop_front : {A : Type 0} (xs ys : List A) (n : ℕ) → n ≡ length xs → drop n (xs ++ ys) ≡ ys
 drop_front [] ys zero e = refl
@@ -53,18 +53,6 @@ ends_here divisor budget begin slice needs told now left goes l =
     at ∙ ap (steps_first told) (none_left divisor budget needs left now l) ∙ ended told now.settled left false
 
 -- ---- one more need
-
-abbrev pub state_at : Matrix → Start → Progress
-state_at C now = unwrap_or now.current (first_progress C)
-
-abbrev pub states_at : (Matrix → ℕ) → ℕ → Matrix → Option ℕ → Start → List Progress
-states_at divisor budget C left now = (rounds (divisor C) C budget left (state_at C now)).states
-
-abbrev pub steps_at : (Matrix → ℕ) → ℕ → Matrix → Option ℕ → Start → List SessionStep
-steps_at divisor budget C left now = map (step_of (divisor C) C now.settled) (states_at divisor budget C left now)
-
-abbrev pub start_next : (Matrix → ℕ) → ℕ → Matrix → Option ℕ → Start → Start
-start_next divisor budget C left now = record { settled = now.settled ++ last_state (state_at C now) (states_at divisor budget C left now) ∷ []; current = None }
 
 -- the session from the start now on, if C is its next need
 abbrev one_need : (Matrix → ℕ) → ℕ → Matrix → Option ℕ → Start → List Matrix → SessionRounds

@@ -8,3 +8,4 @@ pub mod SettleLaws
 pub mod PlaceLaws
 pub mod TruthLaws
 pub mod ScriptTruth
+pub mod NeedBytes

@@ -16,8 +16,8 @@ use Rattle.lc_algebra.specs.Divisor.{divisor_of}
 use Rattle.lc_enumeration.specs.Search.{fits, fits_settled}
 use Rattle.lc_enumeration.specs.Records.{Progress, Start, SessionStep, SessionRounds, found_of, fresh_start, rounds, last_state, no_steps, steps_first, session_rounds}
 use Rattle.lc_enumeration.specs.Fitting.{Misfit, misfit_at, used_start, misfit}
-use Rattle.lc_course.specs.Course.{Beginning, afresh, after, begins, AreFitting, GoesSo, IsWhole, Waits, Came}
-use Rattle.lc_course.proofs.FrontLaws.{none_left, take_front, take_whole, state_at, states_at, steps_at, start_next, searched}
+use Rattle.lc_course.specs.Course.{Beginning, afresh, after, begins, AreFitting, GoesSo, IsWhole, Waits, Came, state_at, states_at, steps_at, start_next}
+use Rattle.lc_course.proofs.FrontLaws.{none_left, take_front, take_whole, searched}
 use Rattle.lc_course.proofs.StartLaws.{starts_whole, starts_before, whole_more}
 use Rattle.lc_course.proofs.FitLaws.{fitting_length, fitting_more, fits_anew, fits_whole, unfit_settled, unfit_current, unfit_end}
 

@@ -5,12 +5,14 @@
 --   GoesSo budget begin slice needs next told now left      after these needs it has told these steps, and goes on from the start
 --                            `now` with what is left of the slice, however its needs go on after `next`
 --   IsWhole version needs    none of these needs makes a session start anew that resumes a checkpoint of this version
+--   state_at, states_at, steps_at, start_next      the search of a need from a start: where it begins, its states, its steps, and the
+--                            start after it
 --   Waits, Came, Stands      the records of the checkpoint aren't used up, or they are; the state of the searches in both cases
-use Rattle.std.specs.Prelude.{◌≡◌, ◌≤◌, ℕ, Bool, true, ◌==◌, List, [], ◌∷◌, ◌++◌, length, Option, Some, None}
+use Rattle.std.specs.Prelude.{◌≡◌, ◌≤◌, ℕ, Bool, true, ◌==◌, List, [], ◌∷◌, ◌++◌, length, map, unwrap_or, Option, Some, None}
 use Rattle.lc_algebra.specs.Matrix.{Matrix}
 use Rattle.lc_algebra.specs.Divisor.{divisor_of}
 use Rattle.lc_enumeration.specs.Search.{fits_settled}
-use Rattle.lc_enumeration.specs.Records.{Progress, Start, SessionStep, found_of, fresh_start, steps_first, session_rounds}
+use Rattle.lc_enumeration.specs.Records.{Progress, Start, SessionStep, found_of, first_progress, rounds, last_state, step_of, fresh_start, steps_first, session_rounds}
 use Rattle.lc_enumeration.specs.Fitting.{first_divisible, used_start, misfit}
 
 pub data Beginning : Type 0 where
@@ -57,3 +59,17 @@ pub record Came (b : Beginning) (budget : ℕ) (slice : Option ℕ) (needs : Lis
 abbrev pub Stands : Beginning → ℕ → ℕ → Option ℕ → List Matrix → List SessionStep → List Progress → Option ℕ → List Progress → Option Progress → Type 0
 Stands b version budget slice needs told settled left done (Some current) = Waits b version budget slice needs told settled left done current
 Stands b version budget slice needs told settled left done None = Came b budget slice needs told settled left done
+
+-- ---- the search of one need
+
+abbrev pub state_at : Matrix → Start → Progress
+state_at C now = unwrap_or now.current (first_progress C)
+
+abbrev pub states_at : (Matrix → ℕ) → ℕ → Matrix → Option ℕ → Start → List Progress
+states_at divisor budget C left now = (rounds (divisor C) C budget left (state_at C now)).states
+
+abbrev pub steps_at : (Matrix → ℕ) → ℕ → Matrix → Option ℕ → Start → List SessionStep
+steps_at divisor budget C left now = map (step_of (divisor C) C now.settled) (states_at divisor budget C left now)
+
+abbrev pub start_next : (Matrix → ℕ) → ℕ → Matrix → Option ℕ → Start → Start
+start_next divisor budget C left now = record { settled = now.settled ++ last_state (state_at C now) (states_at divisor budget C left now) ∷ []; current = None }

@@ -26,9 +26,9 @@ use Rattle.lc_rounds.specs.declared.pace.Pace.{Pace}
 use Rattle.lc_rounds.specs.declared.rounds.Stop.{Stop}
 use Rattle.lc_rounds.specs.declared.rounds.Stop.TheVariants.{Paused, VaultFault, NoMemory}
 use Rattle.lc_rounds.specs.Way.{Around, Origin, IsOnItsWay, HasStopped}
-use Rattle.lc_course.specs.Course.{Beginning, afresh, after, begins, Waits, Came, Stands}
+use Rattle.lc_course.specs.Course.{Beginning, afresh, after, begins, Waits, Came, Stands, state_at, states_at, steps_at, start_next}
 use Rattle.lc_checkpoint.specs.Seen.{settled_of}
-use Rattle.lc_course.proofs.FrontLaws.{ends_here, at_need, state_at, states_at, steps_at, start_next}
+use Rattle.lc_course.proofs.FrontLaws.{ends_here, at_need}
 use Rattle.lc_course.proofs.SettleLaws.{settled_more, words_more, answer_word}
 use Rattle.lc_course.proofs.PlaceLaws.{AtNeed, goes_to, passes, stumbles, enters, trips, starts_anew, waits_quietly, has_searched}
 use Rattle.lc_script.specs.declared.course.Course.{Course}
