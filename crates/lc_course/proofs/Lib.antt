@@ -8,4 +8,3 @@ pub mod SettleLaws
 pub mod PlaceLaws
 pub mod TruthLaws
 pub mod ScriptTruth
-pub mod NeedBytes

@@ -2,7 +2,7 @@
 //!
 //! Each function proves what its clauses say, and does nothing when it is run.
 
-ghost use Rattle.std.specs.Prelude.{◌≡◌, ◌*◌, ◌<◌, ◌≤◌, ◌^◌, ◌++◌, ℕ, Bool, false, List, [], ◌∷◌, length, Option, None};
+ghost use Rattle.std.specs.Prelude.{◌≡◌, ◌<◌, ◌≤◌, ◌^◌, ◌++◌, ℕ, Bool, false, List, [], ◌∷◌, length, Option, None};
 ghost use Rattle.lc_algebra.specs.Matrix.{Matrix};
 ghost use Rattle.lc_algebra.specs.Divisor.{divisor_of};
 ghost use Rattle.lc_enumeration.specs.Search.{Answer};
@@ -27,12 +27,6 @@ pub fn sessions_go_need_by_need()
         → GoesSo divisor budget begin slice (needs ++ C ∷ []) [] (told ++ steps_at divisor budget C left now) (start_next divisor budget C left now) (rounds (divisor C) C budget left (state_at C now)).left }
     ensures ends { (divisor : Matrix → ℕ) (budget : ℕ) (begin : List Matrix → Start) (slice : Option ℕ) (needs : List Matrix) (told : List SessionStep) (now : Start) (left : Option ℕ) → GoesSo divisor budget begin slice needs [] told now left → length needs ≤ length now.settled
         → session_rounds divisor needs budget slice (begin needs) ≡ record { steps = told; settled = now.settled; left = left; is_stopped = false } }
-{}
-
-/// A need takes at least fifteen bytes of its script: a name of eleven letters, two parentheses, an argument
-/// and a semicolon.
-pub fn needs_take_bytes()
-    ensures { (table : List Call) (bytes : List ℕ) (needs : List Matrix) → MeetsFirst table bytes needs → 15 * length needs ≤ length bytes }
 {}
 
 /// A session that nothing stopped settles its needs by the answers of the search, if it started afresh or
