@@ -1,9 +1,5 @@
 mod LineLaws
-mod PaceLaws
-mod RangeLaws
-mod NeedLaws
-mod TextLaws
+pub mod TextLaws
 mod ScriptLaws
-mod StartLaws
 pub mod SessionLaws
 pub mod ReplyLaws

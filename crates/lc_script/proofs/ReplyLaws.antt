@@ -34,9 +34,10 @@ use Rattle.lc_rounds.specs.Way.{Around}
 use Rattle.lc_course.specs.Course.{Beginning, afresh, after, begins}
 use Rattle.lc_course.proofs.TruthLaws.{taken_true, record_fits, current_fits, needs_reach}
 use Rattle.lc_course.proofs.ScriptTruth.{fresh_answers, true_answers, start_true, rows_all}
-use Rattle.lc_script.specs.declared.course.Course.{Course}
+use Rattle.lc_answers.specs.declared.course.Course.{Course}
 use Rattle.lc_script.specs.declared.statements.Text.{Text}
-use Rattle.lc_script.specs.Going.{World, settled_in, rounds_from, Prints, IsMisfit, Misfits}
+use Rattle.lc_answers.specs.Going.{World, settled_in, rounds_from, IsMisfit, Misfits}
+use Rattle.lc_script.specs.Text.{Prints}
 use Rattle.lc_script.proofs.SessionLaws.{world, course_of}
 
 -- the needs of a script are met by its session

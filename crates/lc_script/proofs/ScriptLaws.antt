@@ -14,13 +14,14 @@ use Rattle.lc_eval.specs.Built.{built_calls}
 use Rattle.lc_sessions.specs.Needs.{Needs}
 use Rattle.lc_sessions.specs.Answers.{RunsBy}
 use Rattle.lc_rounds.specs.Way.{Around}
-use Rattle.lc_script.specs.declared.course.Course.{Course}
-use Rattle.lc_script.specs.declared.need.Halt.{Halt}
-use Rattle.lc_script.specs.declared.need.Halt.TheVariants as halt
+use Rattle.lc_answers.specs.declared.course.Course.{Course}
+use Rattle.lc_answers.specs.declared.need.Halt.{Halt}
+use Rattle.lc_answers.specs.declared.need.Halt.TheVariants as halt
 use Rattle.lc_rounds.specs.declared.rounds.Stop.TheVariants.{NoMemory}
 use Rattle.lc_script.specs.declared.statements.Text.{Text}
-use Rattle.lc_script.specs.Going.{World, settled_in, Goes, Finishes, Ends, Prints, EndsBefore, Misfits}
-use Rattle.lc_script.proofs.NeedLaws.{starving}
+use Rattle.lc_answers.specs.Going.{World, settled_in, Goes, Misfits}
+use Rattle.lc_script.specs.Text.{Finishes, Ends, Prints, EndsBefore}
+use Rattle.lc_answers.proofs.NeedLaws.{starving}
 use Rattle.lc_script.proofs.TextLaws.{even, over}
 
 pub by_script : (w : World) (bytes : List ℕ) (ss : List tree.Statement) (t : Text) (c : Course) (now : Around) → Reads bytes ss → Finishes w ss t c now → Prints w bytes t c now

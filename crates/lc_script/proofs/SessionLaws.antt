@@ -31,9 +31,10 @@ use Rattle.lc_rounds.specs.Way.{Around, around, Origin, Stored, EndsAt, IsOnItsW
 use Rattle.lc_rounds.specs.declared.pace.Pace.{Pace}
 use Rattle.lc_rounds.specs.declared.rounds.Stop.TheVariants.{Paused, VaultFault, NoMemory}
 use Rattle.lc_course.specs.Course.{Beginning, begins}
-use Rattle.lc_script.specs.declared.course.Course.{Course}
+use Rattle.lc_answers.specs.declared.course.Course.{Course}
 use Rattle.lc_script.specs.declared.statements.Text.{Text}
-use Rattle.lc_script.specs.Going.{World, IsOf, rounds_from, Stops, IsMisfit, Prints}
+use Rattle.lc_answers.specs.Going.{World, IsOf, rounds_from, Stops, IsMisfit}
+use Rattle.lc_script.specs.Text.{Prints}
 
 abbrev pub outside_of : Option (List ℕ) → ℕ → Option (List ℕ) → ℕ → Around → Outside
 outside_of source source_faults sink sink_faults now = record { source = source; source_faults = source_faults; sink = sink; sink_faults = sink_faults; vault = now.vault; vault_faults = now.faults; watchers = now.watchers }

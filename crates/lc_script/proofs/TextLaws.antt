@@ -32,11 +32,12 @@ use Rattle.lc_course.proofs.FrontLaws.{ends_here}
 use Rattle.lc_course.proofs.AskLaws.{asked_rows}
 use Rattle.lc_course.proofs.StatementLaws.{by_line, by_binding, by_need, at_fault, at_fault_asks, at_end, at_end_asks, met_with_next, met_so_far}
 use Rattle.lc_course.proofs.PlaceLaws.{left_over}
-use Rattle.lc_script.specs.declared.course.Course.{Course}
-use Rattle.lc_script.specs.declared.need.Halt.{Halt}
-use Rattle.lc_script.specs.declared.need.Halt.TheVariants as halt
+use Rattle.lc_answers.specs.declared.course.Course.{Course}
+use Rattle.lc_answers.specs.declared.need.Halt.{Halt}
+use Rattle.lc_answers.specs.declared.need.Halt.TheVariants as halt
 use Rattle.lc_script.specs.declared.statements.Text.{Text}
-use Rattle.lc_script.specs.Going.{World, IsOf, settled_in, rounds_from, AreAnswered, Goes, Misfits, Stops, IsMisfit, Halts, Finishes, AreMet, Ends}
+use Rattle.lc_answers.specs.Going.{World, IsOf, settled_in, rounds_from, AreAnswered, Goes, Misfits, Stops, IsMisfit, Halts}
+use Rattle.lc_script.specs.Text.{Finishes, AreMet, Ends}
 
 abbrev pub Done : ℕ → List tree.Statement → State → List Matrix → List Answer → List ℕ → Type 0
 Done budget first m needs answers text = HaveDone built_calls budget [] m.bindings first (map statement_of m.left) needs answers text

@@ -1,18 +1,11 @@
-//! The text of a script, with the rounds of its searches: statement by statement and need by need.
+//! The text of a script, statement by statement, with the rounds of its searches.
 #![tactic(auto)]
 
-mod course;
 mod lines;
-mod need;
 mod queries;
-mod records;
 mod script;
-mod starting;
 mod statements;
 
-pub use course::Course;
-pub use need::Halt;
 pub use queries::need_line;
 pub use script::script_text;
-pub use starting::{afresh, resumed};
 pub use statements::Text;

@@ -6,11 +6,11 @@ ghost use Rattle.lc_io.specs.Watchers.{hearing};
 ghost use Rattle.lc_eval.specs.Evaluated.{kind_of};
 ghost use Rattle.lc_sessions.specs.Answers.{answer_line};
 ghost use Rattle.lc_rounds.specs.Way.{around};
-ghost use Rattle.lc_script.specs.Going.{World, IsRanged, Goes, Halts};
+ghost use Rattle.lc_answers.specs.Going.{World, IsRanged, Goes, Halts};
 
-use crate::course::Course;
+use lc_answers::Course;
 use crate::lines::line_of;
-use crate::need::{Halt, answer_need};
+use lc_answers::{Halt, answer_need};
 use lc_code::Code;
 use lc_eval::QueryKind;
 use lc_io::{Gate, Vault, Watcher};

@@ -5,10 +5,11 @@ ghost use Rattle.lc_io.specs.Watchers.{hearing};
 ghost use Rattle.lc_eval.specs.Built.{built_calls};
 ghost use Rattle.lc_sessions.specs.Needs.{MeetsFirst};
 ghost use Rattle.lc_rounds.specs.Way.{around};
-ghost use Rattle.lc_script.specs.Going.{World, IsRanged, Goes, Prints, EndsBefore};
+ghost use Rattle.lc_answers.specs.Going.{World, IsRanged, Goes};
+ghost use Rattle.lc_script.specs.Text.{Prints, EndsBefore};
 
-use crate::course::Course;
-use crate::need::Halt;
+use lc_answers::Course;
+use lc_answers::Halt;
 use crate::statements::{Text, ended, text_of};
 use lc_eval::Machine;
 use lc_io::{Gate, Vault, Watcher};

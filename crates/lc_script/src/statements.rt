@@ -7,10 +7,11 @@ ghost use Rattle.lc_eval.specs.Built.{built_calls};
 ghost use Rattle.lc_sessions.specs.Needs.{Needs};
 ghost use Rattle.lc_sessions.specs.Session.{end_number};
 ghost use Rattle.lc_rounds.specs.Way.{around};
-ghost use Rattle.lc_script.specs.Going.{World, IsRanged, Goes, Finishes, Ends};
+ghost use Rattle.lc_answers.specs.Going.{World, IsRanged, Goes};
+ghost use Rattle.lc_script.specs.Text.{Finishes, Ends};
 
-use crate::course::Course;
-use crate::need::Halt;
+use lc_answers::Course;
+use lc_answers::Halt;
 use crate::queries::need_line;
 use lc_eval::{Machine, Step};
 use lc_io::{Gate, Vault, Watcher};

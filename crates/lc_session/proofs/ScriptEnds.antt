@@ -23,11 +23,12 @@ use Rattle.lc_rounds.specs.Way.{Around}
 use Rattle.lc_rounds.specs.declared.rounds.Stop.TheVariants as stop
 use Rattle.lc_course.specs.Course.{afresh, after, begins}
 use Rattle.lc_course.proofs.FitLaws.{fits_anew}
-use Rattle.lc_script.specs.declared.course.Course.{Course}
-use Rattle.lc_script.specs.declared.need.Halt.{Halt}
-use Rattle.lc_script.specs.declared.need.Halt.TheVariants as halt
+use Rattle.lc_answers.specs.declared.course.Course.{Course}
+use Rattle.lc_answers.specs.declared.need.Halt.{Halt}
+use Rattle.lc_answers.specs.declared.need.Halt.TheVariants as halt
 use Rattle.lc_script.specs.declared.statements.Text.{Text}
-use Rattle.lc_script.specs.Going.{World, rounds_from, Stops, Prints, IsMisfit, EndsBefore}
+use Rattle.lc_answers.specs.Going.{World, rounds_from, Stops, IsMisfit}
+use Rattle.lc_script.specs.Text.{Prints, EndsBefore}
 use Rattle.lc_script.proofs.SessionLaws.{outside_of, world, IsReady, course_of, paused_session, torn_session, starved_session, unfit_session, done_session, unwritten_session}
 use Rattle.lc_script.proofs.ReplyLaws.{whole_met, run_replies, resumed, resume_replies, resume_unfit}
 use Rattle.lc_session.specs.declared.status.Status.{Status}

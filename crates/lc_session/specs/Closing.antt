@@ -8,9 +8,9 @@ use Rattle.std.specs.Io.KnownBytes.{Appends}
 use Rattle.lc_io.specs.Outside.{HasRisen, AppendsPart}
 use Rattle.lc_sessions.specs.Session.{end_number}
 use Rattle.lc_rounds.specs.declared.rounds.Stop.TheVariants as stop
-use Rattle.lc_script.specs.declared.course.Course.{Course}
-use Rattle.lc_script.specs.declared.need.Halt.{Halt}
-use Rattle.lc_script.specs.declared.need.Halt.TheVariants as halt
+use Rattle.lc_answers.specs.declared.course.Course.{Course}
+use Rattle.lc_answers.specs.declared.need.Halt.{Halt}
+use Rattle.lc_answers.specs.declared.need.Halt.TheVariants as halt
 use Rattle.lc_script.specs.declared.statements.Text.{Text}
 use Rattle.lc_session.specs.declared.status.Status.{Status}
 use Rattle.lc_session.specs.declared.status.Status.TheVariants as status

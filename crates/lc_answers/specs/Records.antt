@@ -10,9 +10,9 @@ use Rattle.lc_enumeration.specs.Search.{fits, fits_settled, weight_at}
 use Rattle.lc_enumeration.specs.Records.{Progress, found_of, first_progress}
 use Rattle.lc_search.specs.State.{SearchState, answer_in, answer_of}
 use Rattle.lc_rounds.specs.declared.rounds.Stop.TheVariants.{Paused, VaultFault, NoMemory}
-use Rattle.lc_script.specs.declared.need.Halt.{Halt}
-use Rattle.lc_script.specs.declared.need.Halt.TheVariants.{Stop, Unfit}
-use Rattle.lc_script.specs.declared.records.Answered.{Answered}
+use Rattle.lc_answers.specs.declared.need.Halt.{Halt}
+use Rattle.lc_answers.specs.declared.need.Halt.TheVariants.{Stop, Unfit}
+use Rattle.lc_answers.specs.declared.records.Answered.{Answered}
 
 abbrev pub state_of : Matrix → ℕ → Progress → SearchState
 state_of C budget s = record { code = C; budget = budget; progress = s }

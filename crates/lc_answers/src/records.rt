@@ -1,7 +1,7 @@
 //! The search of a need that a checkpoint has a record of, and of one that it has none of.
 ghost use Rattle.std.specs.Prelude.{◌≡◌, ◌^◌, ◌<◌, ◌≤◌, length, IfSome, MatchResult, option_map};
 ghost use Rattle.lc_checkpoint.specs.Seen.{settled_of};
-ghost use Rattle.lc_script.specs.Records.{IsPassed, IsNotPassed, IsBegun, IsNotBegun};
+ghost use Rattle.lc_answers.specs.Records.{IsPassed, IsNotPassed, IsBegun, IsNotBegun};
 
 use crate::need::Halt;
 use lc_checkpoint::Settled;
@@ -12,9 +12,11 @@ use std::alloc::Global;
 
 /// A search that is answered, and its answer.
 #[derive(Drop)]
-pub(crate) struct Answered {
-    pub(crate) search: Search,
-    pub(crate) answer: Answer,
+pub struct Answered {
+    /// The search, in the state in which it is answered.
+    pub search: Search,
+    /// Its answer.
+    pub answer: Answer,
 }
 
 /// The search of a need whose record is settled, in the state of that record; or that the record doesn't fit the code, and

@@ -31,12 +31,12 @@ use Rattle.lc_checkpoint.specs.Seen.{settled_of}
 use Rattle.lc_course.proofs.FrontLaws.{ends_here, at_need}
 use Rattle.lc_course.proofs.SettleLaws.{settled_more, words_more, answer_word}
 use Rattle.lc_course.proofs.PlaceLaws.{AtNeed, goes_to, passes, stumbles, enters, trips, starts_anew, waits_quietly, has_searched}
-use Rattle.lc_script.specs.declared.course.Course.{Course}
-use Rattle.lc_script.specs.declared.need.Halt.{Halt}
-use Rattle.lc_script.specs.declared.need.Halt.TheVariants as halt
-use Rattle.lc_script.specs.Records.{IsPassed, IsNotPassed, IsNotBegun}
-use Rattle.lc_script.specs.Going.{World, IsOf, settled_in, rounds_from, AreAnswered, Goes, IsUncut, NextStands, IsNext, Misfits, Stops, IsMisfit, Halts}
-use Rattle.lc_script.proofs.PaceLaws.{IsSame, same_way, starved}
+use Rattle.lc_answers.specs.declared.course.Course.{Course}
+use Rattle.lc_answers.specs.declared.need.Halt.{Halt}
+use Rattle.lc_answers.specs.declared.need.Halt.TheVariants as halt
+use Rattle.lc_answers.specs.Records.{IsPassed, IsNotPassed, IsNotBegun}
+use Rattle.lc_answers.specs.Going.{World, IsOf, settled_in, rounds_from, AreAnswered, Goes, IsUncut, NextStands, IsNext, Misfits, Stops, IsMisfit, Halts}
+use Rattle.lc_answers.proofs.PaceLaws.{IsSame, same_way, starved}
 
 -- ---- the session goes on to a need
 

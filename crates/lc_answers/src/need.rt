@@ -6,7 +6,7 @@ ghost use Rattle.lc_enumeration.specs.Records.{found_of};
 ghost use Rattle.lc_io.specs.Watchers.{hearing};
 ghost use Rattle.lc_search.specs.State.{answer_in, answer_of};
 ghost use Rattle.lc_rounds.specs.Way.{Around, around};
-ghost use Rattle.lc_script.specs.Going.{World, IsRanged, Goes, IsNext, Halts};
+ghost use Rattle.lc_answers.specs.Going.{World, IsRanged, Goes, IsNext, Halts};
 
 use crate::course::Course;
 use crate::records::{Answered, begun, passed};
@@ -139,7 +139,7 @@ fn search_on<R: Threads + Sync, V: Vault, W: Watcher, G: Gate + Sync>(
 /// Answers the next need of a session: by the record of a checkpoint, if it has one there, else by its search.
 ///
 /// There are 1 to 256 workers, the code has dimension at least 1, and fewer than 70,000 needs were met.
-pub(crate) fn answer_need<R: Threads + Sync, V: Vault, W: Watcher, G: Gate + Sync>(
+pub fn answer_need<R: Threads + Sync, V: Vault, W: Watcher, G: Gate + Sync>(
     rt: &R,
     alloc: Global,
     workers: u32,

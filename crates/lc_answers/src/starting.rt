@@ -5,7 +5,7 @@ ghost use Rattle.lc_checkpoint.specs.Seen.{point_of, settled_of};
 ghost use Rattle.lc_sessions.specs.Slots.{next_turn};
 ghost use Rattle.lc_rounds.specs.Way.{Around};
 ghost use Rattle.lc_course.specs.Course.{afresh, after};
-ghost use Rattle.lc_script.specs.Going.{IsRanged, Goes, started};
+ghost use Rattle.lc_answers.specs.Going.{IsRanged, Goes, started};
 
 use crate::course::Course;
 use lc_checkpoint::{Checkpoint, Settled};

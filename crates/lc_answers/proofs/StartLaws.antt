@@ -17,7 +17,7 @@ use Rattle.lc_sessions.specs.Slots.{slots_after}
 use Rattle.lc_rounds.specs.Way.{Around, Origin, Stored, EndsAt, IsOnItsWay}
 use Rattle.lc_rounds.specs.declared.pace.Pace.{Pace}
 use Rattle.lc_course.specs.Course.{Beginning, after, Waits}
-use Rattle.lc_script.specs.Going.{AreAnswered}
+use Rattle.lc_answers.specs.Going.{AreAnswered}
 
 nothing_stored : (keep : Bool) (digest : List ℕ) (budget turn : ℕ) (held : Option Slots) → Stored keep digest budget turn [] held held
 nothing_stored true digest budget turn held = WhereTold-refl held (λ before after. after ≡ slots_after 2 digest budget turn [] before) (λ a. refl)

@@ -1,0 +1,4 @@
+pub mod PaceLaws
+pub mod RangeLaws
+pub mod NeedLaws
+pub mod StartLaws
