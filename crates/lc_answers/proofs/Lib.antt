@@ -1,4 +1,5 @@
 pub mod PaceLaws
 pub mod RangeLaws
+pub mod RecordLaws
 pub mod NeedLaws
 pub mod StartLaws

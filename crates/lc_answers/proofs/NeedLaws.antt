@@ -5,38 +5,66 @@
 --   at_search            it begins a search
 --   not_begun            the record of the current need doesn't fit
 --   went_on, went_stopped      the search is answered, or the session stops
-use Rattle.std.proofs.Common.{◌≡◌, ◌≤◌, ◌<◌, ◌+◌, ◌⊎◌, inl, inr, ℕ, suc, Bool, true, false, ◌==◌, nat_lt, is_some, List, [], ◌∷◌, ◌++◌, length, map, take, All, Option, Some, None, option_map, unwrap_or, refl, sym, ap, subst, ◌∙◌, arith}
-use Rattle.std.specs.Prelude.{slice_get}
-use Rattle.std.proofs.lemmas.Option.{slice_get_within}
-use Rattle.std.proofs.lemmas.List.Elements.{All-append, All-cons, All-nil}
-use Rattle.std.proofs.lemmas.List.{append-nil, append_assoc, length-append}
+use Rattle.std.proofs.Common.{◌≡◌, ◌≤◌, ◌<◌, ◌+◌, ◌⊎◌, inl, inr, ℕ, zero, suc, Bool, true, false, ◌==◌, ◌&&◌, ◌^◌, IfSome, nat_lt, is_some, List, [], ◌∷◌, ◌++◌, length, map, take, All, Option, Some, None, option_map, unwrap_or, refl, sym, ap, subst, ◌∙◌, arith}
+use Rattle.std.specs.Prelude.{slice_get, slice_index_or}
+use Rattle.std.proofs.lemmas.Option.{slice_get_within, slice_get-map, slice_get-get_or}
+use Rattle.std.proofs.lemmas.List.Elements.{All-append, All-cons, All-nil, All-head, All-tail, All-take}
+use Rattle.std.proofs.lemmas.Bool.{and_parts}
+use Rattle.std.proofs.lemmas.List.{append-nil, append_assoc, length-append, map-append, take-map}
 use Rattle.lc_algebra.specs.Matrix.{Matrix, AreRows}
 use Rattle.lc_algebra.specs.Span.{AreIndependent}
 use Rattle.lc_algebra.specs.Divisor.{divisor_of}
-use Rattle.lc_enumeration.specs.Search.{Answer, answer, finished, fits, fits_settled, weight_at}
-use Rattle.lc_enumeration.specs.Records.{Progress, Start, SessionStep, SessionRounds, found_of, first_progress, Rounds, rounds, last_state, no_steps, session_rounds}
+use Rattle.lc_enumeration.specs.Search.{Found, Answer, answer, finished, fits, fits_settled, weight_at}
+use Rattle.lc_enumeration.specs.Records.{Progress, Start, SessionStep, SessionRounds, found_of, first_progress, Rounds, rounds, last_state, step_of, no_steps, session_rounds}
 use Rattle.lc_enumeration.specs.Fitting.{Misfit, misfit_at, misfit}
-use Rattle.lc_enumeration.specs.Truth.{AnswerHolds}
+use Rattle.lc_enumeration.specs.Truth.{AnswerHolds, answer_blocks}
+use Rattle.lc_infoset.proofs.FittingLaws.{answer_found, finished_state}
 use Rattle.lc_infoset.proofs.SearchTruth.{own_answer}
 use Rattle.lc_search.specs.State.{SearchState, answer_in, answer_of}
 use Rattle.lc_search.specs.declared.answer.Answer.{Answer as Answered}
+use Rattle.lc_search.specs.declared.answer.Answer.TheVariants.{Exact, Bracket}
 use Rattle.lc_search.proofs.FitLaws.{fitting_word}
 use Rattle.lc_sessions.specs.Answers.{Settle, HasWords}
 use Rattle.lc_rounds.specs.declared.pace.Pace.{Pace}
 use Rattle.lc_rounds.specs.declared.rounds.Stop.{Stop}
 use Rattle.lc_rounds.specs.declared.rounds.Stop.TheVariants.{Paused, VaultFault, NoMemory}
-use Rattle.lc_rounds.specs.Way.{Around, Origin, IsOnItsWay, HasStopped}
+use Rattle.lc_rounds.specs.Way.{rounds_left, steps_left, Around, Origin, IsOnItsWay, HasStopped, Went}
 use Rattle.lc_course.specs.Course.{Beginning, afresh, after, begins, Waits, Came, Stands, state_at, states_at, steps_at, start_next}
+use Rattle.lc_formats.specs.Checkpoint.{IsProgress}
 use Rattle.lc_checkpoint.specs.Seen.{settled_of}
+use Rattle.lc_checkpoint.specs.declared.checkpoint.Settled.{Settled}
 use Rattle.lc_course.proofs.FrontLaws.{ends_here, at_need}
 use Rattle.lc_course.proofs.SettleLaws.{settled_more, words_more, answer_word}
 use Rattle.lc_course.proofs.PlaceLaws.{AtNeed, goes_to, passes, stumbles, enters, trips, starts_anew, waits_quietly, has_searched}
 use Rattle.lc_answers.specs.declared.course.Course.{Course}
 use Rattle.lc_answers.specs.declared.need.Halt.{Halt}
 use Rattle.lc_answers.specs.declared.need.Halt.TheVariants as halt
-use Rattle.lc_answers.specs.Records.{IsPassed, IsNotPassed, IsNotBegun}
-use Rattle.lc_answers.specs.Going.{World, IsOf, settled_in, rounds_from, AreAnswered, Goes, IsUncut, NextStands, IsNext, Misfits, Stops, IsMisfit, Halts}
+use Rattle.lc_answers.specs.declared.records.Answered.{Answered as Answered_}
+use Rattle.lc_answers.specs.Records.{IsPassed, IsNotPassed, IsBegun, IsNotBegun}
+use Rattle.lc_answers.specs.Going.{World, IsOf, IsRanged, settled_in, rounds_from, AreAnswered, Goes, IsUncut, NextStands, IsNext, Misfits, Stops, IsMisfit, Halts}
 use Rattle.lc_answers.proofs.PaceLaws.{IsSame, same_way, starved}
+
+found_in : Answered → Found
+found_in (Exact weight place blocks) = record { weight = weight; place = place }
+found_in (Bracket low weight place blocks) = record { weight = weight; place = place }
+
+blocks_in : Answered → ℕ
+blocks_in (Exact weight place blocks) = blocks
+blocks_in (Bracket low weight place blocks) = blocks
+
+parts_told : (a : Answered) → (answer_found (answer_of a) ≡ found_in a) × (answer_blocks (answer_of a) ≡ blocks_in a)
+unfolding answer_found answer_blocks found_in blocks_in
+parts_told (Exact weight place blocks) = (refl, refl)
+parts_told (Bracket low weight place blocks) = (refl, refl)
+
+as_progress : (s : SearchState) (a : Answered) → answer_in s ≡ Some (answer_of a) → record { blocks = blocks_in a; weight = (found_in a).weight; place = (found_in a).place } ≡ s.progress
+unfolding found_of
+as_progress s a e =
+    let t = finished_state (divisor_of s.code) s.code s.budget s.progress.blocks (found_of s.progress) (answer_of a) e in
+    let p = parts_told a in
+    let found : found_in a ≡ found_of s.progress = sym p.0 ∙ t.0 in
+    let done : blocks_in a ≡ s.progress.blocks = sym p.1 ∙ t.1 in
+    ap (λ (x : Found). record { blocks = blocks_in a; weight = x.weight; place = x.place }) found ∙ ap (λ (n : ℕ). record { blocks = n; weight = s.progress.weight; place = s.progress.place }) done
 
 -- ---- the session goes on to a need
 
@@ -256,3 +284,174 @@ starving w needs answers c now h = by (option_map settled_of c.current) h.stands
       of = h.of;
       fitting = inr (subst (λ (ns : List Matrix). misfit divisor_of ns w.budget (begins w.beginning ns) ≡ None) (append-nil needs) (s.fits []));
     }
+
+-- ---- the record of an answer
+
+pub recorded_exact : (weight place blocks : ℕ) (s : SearchState) → answer_in s ≡ Some (answer_of (Exact weight place blocks)) → settled_of (record { blocks = blocks; weight = weight; place = place }) ≡ s.progress
+unfolding settled_of blocks_in found_in
+recorded_exact weight place blocks s e = as_progress s (Exact weight place blocks) e
+
+pub recorded_bracket : (low weight place blocks : ℕ) (s : SearchState) → answer_in s ≡ Some (answer_of (Bracket low weight place blocks)) → settled_of (record { blocks = blocks; weight = weight; place = place }) ≡ s.progress
+unfolding settled_of blocks_in found_in
+recorded_bracket low weight place blocks s e = as_progress s (Bracket low weight place blocks) e
+
+-- ---- what the calls of the program say
+
+-- a need is passed over
+pub passes_on : (w : World) (needs : List Matrix) (C : Matrix) (answers : List Answer) (c d : Course) (now : Around) (s : Progress) (x : Answered_) → slice_get (settled_in c) c.met ≡ Some s → IsPassed C c.pace.point.budget s x → {D : Matrix} → D ≡ x.search.code → AreRows D.field D.columns D.rows → AreIndependent D.field D.columns D.rows
+    → d ≡ record c { met = c.met + 1 } → IsNext w needs C answers c now → Goes w (needs ++ C ∷ []) (answers ++ answer_of x.answer ∷ []) d now
+passes_on w needs C answers c d now s x at p same_code rows free same h =
+    let code : x.search.code ≡ C = ap (λ (y : SearchState). y.code) p.state in
+    let words = subst (λ (B : Matrix). AreRows B.field B.columns B.rows) (same_code ∙ code) rows in
+    let apart = subst (λ (B : Matrix). AreIndependent B.field B.columns B.rows) (same_code ∙ code) free in
+    let budget : c.pace.point.budget ≡ w.budget = h.of.budget in
+    let fit = subst (λ (n : ℕ). fits_settled (divisor_of C) C n s.blocks (found_of s) ≡ true) budget p.fitting in
+    let e : finished (divisor_of C) C w.budget s.blocks (found_of s) ≡ Some (answer_of x.answer) = subst (λ (n : ℕ). finished (divisor_of C) C n s.blocks (found_of s) ≡ Some (answer_of x.answer)) budget (sym (ap answer_in p.state) ∙ p.answered) in
+    has_passed w needs C answers c d now s (answer_of x.answer) h (ap (slice_get (settled_in c)) (sym h.met) ∙ at) fit p.fits_so e words apart same
+
+-- or its record doesn't fit
+pub passes_not : (w : World) (needs : List Matrix) (C : Matrix) (answers : List Answer) (c : Course) (now : Around) (s : Progress) (x : Halt) → slice_get (settled_in c) c.met ≡ Some s → IsNotPassed C c.pace.point.budget s x → IsNext w needs C answers c now → Halts w needs C c now x
+passes_not w needs C answers c now s x at n h =
+    has_not_passed w needs C answers c now s x h (ap (slice_get (settled_in c)) (sym h.met) ∙ at) (subst (λ (b : ℕ). IsNotPassed C b s x) h.of.budget n)
+
+-- ---- the records of the program
+
+all_at : {X : Type 0} (P : X → Type 0) (xs : List X) (i : ℕ) (x : X) → All P xs → slice_get xs i ≡ Some x → P x
+all_at P [] i x h at = absurd (let e = at in cc)
+all_at P (y ∷ xs) zero x h at = subst P (let e = at in cc) (All-head P y xs h)
+all_at P (y ∷ xs) (suc i) x h at = all_at P xs i x (All-tail P y xs h) at
+
+pub record_at : (items : List Settled) (i : ℕ) (x : Settled) → i < length items → x ≡ slice_index_or items i x → slice_get (map settled_of items) i ≡ Some (settled_of x)
+record_at items i x l e = slice_get-map settled_of items i ∙ ap (option_map settled_of) (slice_get-get_or items i x l ∙ ap Some (sym e))
+
+pub record_within : (budget : ℕ) (items : List Settled) (i : ℕ) (x : Settled) → All (IsProgress budget) (map settled_of items) → i < length items → x ≡ slice_index_or items i x → x.blocks ≤ budget
+unfolding settled_of
+record_within budget items i x all l e = (all_at (IsProgress budget) (map settled_of items) i (settled_of x) all (record_at items i x l e)).done
+
+-- ---- a search
+
+pub same_rounds : (w : World) (C : Matrix) (c : Course) (o : Option Progress) (s : SearchState) → IsBegun C c.pace.point.budget o s → c.pace.point.budget ≡ w.budget → rounds_left c.pace s ≡ need_rounds w C c.pace.slice (record { settled = settled_in c; current = o })
+same_rounds w C c o s b e =
+    ap (rounds_left c.pace) b.state ∙ ap (λ (n : ℕ). rounds (divisor_of C) C n c.pace.slice (unwrap_or o (first_progress C))) e
+
+pub same_steps : (w : World) (C : Matrix) (c : Course) (o : Option Progress) (s : SearchState) → IsBegun C c.pace.point.budget o s → c.pace.point.budget ≡ w.budget → steps_left c.pace s ≡ steps_at divisor_of w.budget C c.pace.slice (record { settled = settled_in c; current = o })
+same_steps w C c o s b e =
+    ap (steps_left c.pace) b.state ∙ ap (λ (n : ℕ). map (step_of (divisor_of C) C (settled_in c)) (rounds (divisor_of C) C n c.pace.slice (unwrap_or o (first_progress C))).states) e
+
+at_search_here : (w : World) (needs : List Matrix) (C : Matrix) (answers : List Answer) (c : Course) (now : Around) (s : SearchState) → IsBegun C c.pace.point.budget (option_map settled_of c.current) s → length (settled_in c) ≡ c.met → (h : IsNext w needs C answers c now) → AtNeed w.beginning w.budget w.slice needs C h.told (record { settled = settled_in c; current = option_map settled_of c.current }) c.pace.slice h.done
+at_search_here w needs C answers c now s b e h = at_search w.beginning c.version w.budget w.slice needs C h.told (settled_in c) c.pace.slice h.done (option_map settled_of c.current) h.stands (e ∙ h.met) b.fitting
+
+-- the record of the current need doesn't fit, or memory is refused
+pub begins_not : (w : World) (needs : List Matrix) (C : Matrix) (answers : List Answer) (c : Course) (now : Around) (x : Halt) → length (settled_in c) ≡ c.met → IsNotBegun C (option_map settled_of c.current) x → IsNext w needs C answers c now → Halts w needs C c now x
+begins_not w needs C answers c now x e n h = not_begun_as w needs C answers c now (option_map settled_of c.current) x h h.stands (e ∙ h.met) n
+
+-- two paces of the same world
+pub record IsSameWorld (p q : Pace) : Type 0 where
+  pub keep : q.keep ≡ p.keep
+  pub script : q.point.script ≡ p.point.script
+  pub budget : q.point.budget ≡ p.point.budget
+
+world_same : (w : World) (p q : Pace) → IsSameWorld p q → IsOf w p → IsOf w q
+world_same w p q s h = record { keep = s.keep ∙ h.keep; digest = s.script ∙ h.digest; budget = s.budget ∙ h.budget }
+
+pub stops_so : (w : World) (needs : List Matrix) (C : Matrix) (answers : List Answer) (c d : Course) (now later : Around) (s : SearchState) (stop : Stop) → IsBegun C c.pace.point.budget (option_map settled_of c.current) s → length (settled_in c) ≡ c.met → IsSameWorld c.pace d.pace → (h : IsNext w needs C answers c now)
+    → Went h.told (steps_left c.pace s) (λ told left. HasStopped w.origin told left (rounds_left c.pace s).is_stopped d.pace later stop) → Halts w needs C d later (halt.Stop stop)
+stops_so w needs C answers c d now later s stop b e same h went =
+    let o = option_map settled_of c.current in
+    let at = at_search_here w needs C answers c now s b e h in
+    went_stopped w needs C c d later h.told went.told went.left h.done c.pace.slice (record { settled = settled_in c; current = o }) (rounds_left c.pace s).is_stopped stop at (sym (same_steps w C c o s b h.of.budget) ∙ went.front) (ap (λ (r : Rounds). r.is_stopped) (same_rounds w C c o s b h.of.budget)) went.ends_so (world_same w c.pace d.pace same h.of)
+
+pub starves_so : (w : World) (needs : List Matrix) (C : Matrix) (answers : List Answer) (c d : Course) (now later : Around) (s : SearchState) (p : Pace) → IsBegun C c.pace.point.budget (option_map settled_of c.current) s → length (settled_in c) ≡ c.met → IsSameWorld c.pace p → IsSame p d.pace → (h : IsNext w needs C answers c now)
+    → Went h.told (steps_left c.pace s) (λ told left. (left ≡ []) × ((rounds_left c.pace s).is_stopped ≡ false) × IsOnItsWay w.origin told p later) → Halts w needs C d later (halt.Stop NoMemory)
+starves_so w needs C answers c d now later s p b e world same h went =
+    let o = option_map settled_of c.current in
+    let at = at_search_here w needs C answers c now s b e h in
+    went_starved w needs C c d later h.told went.told went.left h.done c.pace.slice (record { settled = settled_in c; current = o }) at (sym (same_steps w C c o s b h.of.budget) ∙ went.front) (same_way w.origin (h.told ++ went.told) p d.pace later same went.ends_so.2) (same_of w p d.pace same (world_same w c.pace p world h.of))
+
+pub goes_so : (w : World) (needs : List Matrix) (C : Matrix) (answers : List Answer) (c d : Course) (now later : Around) (s t : SearchState) (p : Pace) (a : Answered) → IsBegun C c.pace.point.budget (option_map settled_of c.current) s → length (settled_in c) ≡ c.met → IsSameWorld c.pace p → IsSame p d.pace
+    → answer_in t ≡ Some (answer_of a) → t.progress ≡ last_state s.progress (rounds_left c.pace s).states → t.code ≡ s.code → t.budget ≡ s.budget → fits t.code t.progress.blocks (found_of t.progress) ≡ true → p.slice ≡ (rounds_left c.pace s).left
+    → {D : Matrix} → D ≡ t.code → AreRows D.field D.columns D.rows → AreIndependent D.field D.columns D.rows → settled_in d ≡ settled_in c ++ t.progress ∷ [] → option_map settled_of d.current ≡ None → d.met ≡ c.met + 1 → (h : IsNext w needs C answers c now)
+    → Went h.told (steps_left c.pace s) (λ told left. (left ≡ []) × ((rounds_left c.pace s).is_stopped ≡ false) × IsOnItsWay w.origin told p later) → Goes w (needs ++ C ∷ []) (answers ++ answer_of a ∷ []) d later
+goes_so w needs C answers c d now later s t p a b e world same answered state code budget fit slice same_code rows free settled used met h went =
+    let o = option_map settled_of c.current in
+    let start : Start = record { settled = settled_in c; current = o } in
+    let at = at_search_here w needs C answers c now s b e h in
+    let rs = same_rounds w C c o s b h.of.budget in
+    let here : t.code ≡ C = code ∙ ap (λ (x : SearchState). x.code) b.state in
+    let funds : t.budget ≡ w.budget = budget ∙ ap (λ (x : SearchState). x.budget) b.state ∙ h.of.budget in
+    let is_last : t.progress ≡ last_state (state_at C start) (need_rounds w C c.pace.slice start).states = state ∙ ap (λ (x : SearchState). last_state x.progress (rounds_left c.pace s).states) b.state ∙ ap (λ (r : Rounds). last_state (state_at C start) r.states) rs in
+    let words = subst (λ (B : Matrix). AreRows B.field B.columns B.rows) (same_code ∙ here) rows in
+    let apart = subst (λ (B : Matrix). AreIndependent B.field B.columns B.rows) (same_code ∙ here) free in
+    let f = subst (λ (B : Matrix). fits B t.progress.blocks (found_of t.progress) ≡ true) here fit in
+    let g : finished (divisor_of C) C w.budget t.progress.blocks (found_of t.progress) ≡ Some (answer_of a) =
+        subst (λ (n : ℕ). finished (divisor_of C) C n t.progress.blocks (found_of t.progress) ≡ Some (answer_of a)) funds (subst (λ (B : Matrix). finished (divisor_of B) B t.budget t.progress.blocks (found_of t.progress) ≡ Some (answer_of a)) here answered) in
+    went_on w needs C answers c d now later p h start went.told went.left t.progress (answer_of a) at refl (sym (same_steps w C c o s b h.of.budget) ∙ went.front) went.ends_so.0 (sym (ap (λ (r : Rounds). r.is_stopped) rs) ∙ went.ends_so.1) went.ends_so.2 is_last g f words apart same (world_same w c.pace p world h.of) (slice ∙ ap (λ (r : Rounds). r.left) rs) settled used met
+
+-- ---- where a need is answered
+
+taken_long : {X : Type 0} (n : ℕ) (xs : List X) → n ≤ length xs → length (take n xs) ≡ n
+taken_long zero xs l = refl
+taken_long (suc n) [] l = absurd (omega (arith, l))
+taken_long (suc n) (x ∷ xs) l = ap suc (taken_long n xs (omega (arith, l)))
+
+-- whether the records from a need on aren't used
+abbrev pub begins_anew : Course → Matrix → Bool
+begins_anew c C = is_some c.current && ((c.version == 1) && nat_lt 1 (divisor_of C))
+
+is_some_map : {A B : Type 0} (f : A → B) (o : Option A) → is_some (option_map f o) ≡ is_some o
+is_some_map f None = refl
+is_some_map f (Some a) = refl
+
+pub anew : (w : World) (needs : List Matrix) (C : Matrix) (answers : List Answer) (c d : Course) (now : Around) → begins_anew c C ≡ true → d.pace.point.settled.items ≡ take c.met c.pace.point.settled.items → d.current ≡ None → IsSame c.pace d.pace → d.met ≡ c.met → Goes w needs answers c now → IsNext w needs C answers d now
+anew w needs C answers c d now b cut none same met h =
+    let p = and_parts (is_some c.current) ((c.version == 1) && nat_lt 1 (divisor_of C)) b in
+    let q = and_parts (c.version == 1) (nat_lt 1 (divisor_of C)) p.1 in
+    let stands = cut_stands w.beginning c.version w.budget w.slice needs C h.told (settled_in c) c.pace.slice h.done (option_map settled_of c.current) h.stands (is_some_map settled_of c.current ∙ p.0) q.0 q.1 in
+    let settled : take (length needs) (settled_in c) ≡ settled_in d = ap (λ (n : ℕ). take n (settled_in c)) (sym h.met) ∙ take-map settled_of c.met c.pace.point.settled.items ∙ ap (map settled_of) (sym cut) in
+    next_with w needs C answers c d now h
+    (subst (λ (o : Option Settled). NextStands w.beginning d.version w.budget w.slice needs C h.told (settled_in d) d.pace.slice h.done (option_map settled_of o)) (sym none)
+    (subst (λ (o : Option ℕ). AtNeed w.beginning w.budget w.slice needs C h.told (record { settled = settled_in d; current = None }) o h.done) (sym same.slice)
+    (subst (λ (l : List Progress). AtNeed w.beginning w.budget w.slice needs C h.told (record { settled = l; current = None }) c.pace.slice h.done) settled stands))) same met
+
+uncut_by : (some first divisible : Bool) → (some && (first && divisible)) ≡ false → some ≡ true → first ≡ true → divisible ≡ false
+uncut_by true true divisible e f g = e
+uncut_by true false divisible e f g = absurd (let h = g in cc)
+uncut_by false first divisible e f g = absurd (let h = f in cc)
+
+pub not_anew : (w : World) (needs : List Matrix) (C : Matrix) (answers : List Answer) (c : Course) (now : Around) → begins_anew c C ≡ false → Goes w needs answers c now → IsNext w needs C answers c now
+not_anew w needs C answers c now b h =
+    next_with w needs C answers c c now h
+    (uncut_stands w.beginning c.version w.budget w.slice needs C h.told (settled_in c) c.pace.slice h.done (option_map settled_of c.current) h.stands (λ some v. uncut_by (is_some c.current) (c.version == 1) (nat_lt 1 (divisor_of C)) b (sym (is_some_map settled_of c.current) ∙ some) v))
+    (record { keep = refl; told = refl; last = refl; slice = refl; turn = refl; script = refl; budget = refl }) refl
+
+pub anew_ranged : (c d : Course) → d.pace.point.settled.items ≡ take c.met c.pace.point.settled.items → d.current ≡ None → IsSame c.pace d.pace → d.pace.point.version ≡ c.pace.point.version → d.met ≡ c.met → IsRanged c → IsRanged d
+anew_ranged c d cut none same version met h = record {
+  version = version ∙ h.version;
+  turn = omega (arith, same.turn, h.turn);
+  small = omega (arith, same.budget, h.small);
+  settled = subst (λ (b : ℕ). All (IsProgress b) (settled_in d)) (sym same.budget)
+      (subst (λ (l : List Progress). All (IsProgress c.pace.point.budget) l) (take-map settled_of c.met c.pace.point.settled.items ∙ ap (map settled_of) (sym cut)) (All-take (IsProgress c.pace.point.budget) c.met (settled_in c) h.settled));
+  current = subst (λ (o : Option Settled). IfSome o (λ r. IsProgress d.pace.point.budget (settled_of r))) (sym none) tt;
+  told = omega (arith, same.told, met, h.told);
+  slice = λ e. same.slice ∙ h.slice (sym same.keep ∙ e);
+  many = (let l = taken_long c.met c.pace.point.settled.items h.many in omega (arith, met, l, ap (λ (xs : List Settled). length xs) cut));
+}
+
+pub anew_long : (c : Course) (items : List Settled) → items ≡ take c.met c.pace.point.settled.items → IsRanged c → length items ≡ c.met
+anew_long c items cut h = ap (λ (xs : List Settled). length xs) cut ∙ taken_long c.met c.pace.point.settled.items h.many
+
+-- the session after a search
+pub searched_ranged : (c d : Course) (last : Settled) → IsRanged c → IsProgress c.pace.point.budget (settled_of last) → length c.pace.point.settled.items ≡ c.met → d.pace.point.version ≡ 2 → d.pace.point.turn ≤ 2 ^ 60 → d.pace.point.budget ≡ c.pace.point.budget → d.pace.point.settled.items ≡ c.pace.point.settled.items ++ last ∷ [] → d.current ≡ None
+    → d.pace.told ≤ c.pace.told + 2 ^ 40 → d.pace.keep ≡ c.pace.keep → (c.pace.slice ≡ None → d.pace.slice ≡ None) → d.met ≡ c.met + 1 → IsRanged d
+searched_ranged c d last h one long version turn funds settled none told keep slice met = record {
+  version = version;
+  turn = turn;
+  small = omega (arith, funds, h.small);
+  settled = subst (λ (b : ℕ). All (IsProgress b) (settled_in d)) (sym funds)
+      (subst (λ (l : List Progress). All (IsProgress c.pace.point.budget) l) (sym (ap (map settled_of) settled ∙ map-append settled_of c.pace.point.settled.items (last ∷ [])))
+      (All-append (IsProgress c.pace.point.budget) (settled_in c) (settled_of last ∷ []) h.settled (All-cons (IsProgress c.pace.point.budget) (settled_of last) [] one (All-nil (IsProgress c.pace.point.budget)))));
+  current = subst (λ (o : Option Settled). IfSome o (λ r. IsProgress d.pace.point.budget (settled_of r))) (sym none) tt;
+  told = omega (arith, told, met, h.told);
+  slice = λ e. slice (h.slice (sym keep ∙ e));
+  many = omega (arith, met, long, ap (λ (xs : List Settled). length xs) settled, length-append c.pace.point.settled.items (last ∷ []));
+}

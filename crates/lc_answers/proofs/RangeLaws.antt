@@ -22,10 +22,9 @@ next_within C budget slice s l =
     let n = slice_within slice (min 256 (min (end_of_phase C s.blocks - s.blocks) (budget - s.blocks))) in
     omega (arith, n, l)
 
-ends_within : (most d : ℕ) (C : Matrix) (budget : ℕ) (slice : Option ℕ) (s : Progress) → s.blocks ≤ budget → (last_state s (rounds_within most d C budget slice s).states).blocks ≤ budget
+step_within : (most d : ℕ) (C : Matrix) (budget : ℕ) (slice : Option ℕ) (s : Progress) → s.blocks ≤ budget → ((slice : Option ℕ) (t : Progress) → t.blocks ≤ budget → (last_state t (rounds_within most d C budget slice t).states).blocks ≤ budget) → (last_state s (rounds_within (suc most) d C budget slice s).states).blocks ≤ budget
 unfolding rounds_within no_round state_first last_state
-ends_within zero d C budget slice s l = l
-ends_within (suc most) d C budget slice s l = by (finished d C budget s.blocks (found_of s)) (is_used_up slice)
+step_within most d C budget slice s l later = by (finished d C budget s.blocks (found_of s)) (is_used_up slice)
   where
     count : ℕ
     count = round_length C budget slice s.blocks
@@ -33,7 +32,12 @@ ends_within (suc most) d C budget slice s l = by (finished d C budget s.blocks (
     by : (a : Option Answer) (b : Bool) → (last_state s (elim a as (λ _. Rounds) [ Some _ ↦ no_round slice false | None ↦ elim b as (λ _. Rounds) [ true ↦ no_round slice true | false ↦ state_first (after_round C s count) (rounds_within most d C budget (less_slice slice count) (after_round C s count)) ] ]).states).blocks ≤ budget
     by (Some x) b = l
     by None true = l
-    by None false = ends_within most d C budget (less_slice slice count) (after_round C s count) (next_within C budget slice s l)
+    by None false = later (less_slice slice count) (after_round C s count) (next_within C budget slice s l)
+
+ends_within : (most d : ℕ) (C : Matrix) (budget : ℕ) (slice : Option ℕ) (s : Progress) → s.blocks ≤ budget → (last_state s (rounds_within most d C budget slice s).states).blocks ≤ budget
+unfolding rounds_within no_round last_state
+ends_within zero d C budget slice s l = l
+ends_within (suc most) d C budget slice s l = step_within most d C budget slice s l (λ sl t k. ends_within most d C budget sl t k)
 
 pub last_within : (d : ℕ) (C : Matrix) (budget : ℕ) (slice : Option ℕ) (s : Progress) → s.blocks ≤ budget → (last_state s (rounds d C budget slice s).states).blocks ≤ budget
 unfolding rounds

@@ -1,4 +1,5 @@
 -- What becomes of a record of a checkpoint, at the need that it belongs to.
+--   halt_from told refusal   why a session ends that can't go on from a record of this weight
 --   IsPassed C budget s x    the record s of a settled need fits the code C, and x is its search with its answer
 --   IsNotPassed C budget s h it doesn't, and h says so; or no memory is left
 --   IsBegun C budget o s     s is the search of the code from the record o on, which fits; from the start if there is none
@@ -9,10 +10,16 @@ use Rattle.lc_algebra.specs.Divisor.{divisor_of}
 use Rattle.lc_enumeration.specs.Search.{fits, fits_settled, weight_at}
 use Rattle.lc_enumeration.specs.Records.{Progress, found_of, first_progress}
 use Rattle.lc_search.specs.State.{SearchState, answer_in, answer_of}
+use Rattle.lc_search.specs.declared.resume.ResumeRefusal.{ResumeRefusal}
+use Rattle.lc_search.specs.declared.resume.ResumeRefusal.TheVariants as refusal
 use Rattle.lc_rounds.specs.declared.rounds.Stop.TheVariants.{Paused, VaultFault, NoMemory}
 use Rattle.lc_answers.specs.declared.need.Halt.{Halt}
 use Rattle.lc_answers.specs.declared.need.Halt.TheVariants.{Stop, Unfit}
 use Rattle.lc_answers.specs.declared.records.Answered.{Answered}
+
+abbrev pub halt_from : ℕ → ResumeRefusal → Halt
+halt_from told (refusal.Unfit found) = Unfit told found
+halt_from told refusal.NoMemory = Stop NoMemory
 
 abbrev pub state_of : Matrix → ℕ → Progress → SearchState
 state_of C budget s = record { code = C; budget = budget; progress = s }

@@ -1,10 +1,13 @@
 //! The answer of one need of a session.
-ghost use Rattle.std.specs.Prelude.{◌≡◌, ◌^◌, ◌<◌, ◌≤◌, List, [], ◌∷◌, ◌++◌, length, map, true, false, Some, IfOk, MatchResult};
+ghost use Rattle.std.specs.Prelude.{◌≡◌, ◌+◌, ◌^◌, ◌<◌, ◌≤◌, List, [], ◌∷◌, ◌++◌, length, map, true, false, is_some, nat_lt, ◌==◌, ◌&&◌, Some, IfOk, MatchResult};
 ghost use Rattle.lc_algebra.specs.Matrix.{Matrix};
-ghost use Rattle.lc_enumeration.specs.Search.{Answer, fits};
+ghost use Rattle.lc_algebra.specs.Divisor.{divisor_of};
+ghost use Rattle.lc_enumeration.specs.Search as enumeration;
+ghost use Rattle.lc_enumeration.specs.Search.{fits};
 ghost use Rattle.lc_enumeration.specs.Records.{found_of};
 ghost use Rattle.lc_io.specs.Watchers.{hearing};
-ghost use Rattle.lc_search.specs.State.{answer_in, answer_of};
+ghost use Rattle.lc_checkpoint.specs.Seen.{settled_of};
+ghost use Rattle.lc_search.specs.State.{SearchState, answer_in, answer_of};
 ghost use Rattle.lc_rounds.specs.Way.{Around, around};
 ghost use Rattle.lc_answers.specs.Going.{World, IsRanged, Goes, IsNext, Halts};
 
@@ -32,21 +35,18 @@ pub enum Halt {
     },
 }
 
-// If the checkpoint is of version 1 and the code has a divisor above 1, the records from here on aren't used.
-fn start_anew(course: &mut Course, code: &Code)
-    requires ranged { IsRanged course.old }
-    ensures next { (w : World) (needs : List Matrix) (answers : List Answer) (now : Around) → Goes w needs answers course.old now → IsNext w needs code.now answers course.new now }
-    ensures ranged { IsRanged course.new }
-    ensures same { course.new.met ≡ course.old.met }
+// Whether the records from here on aren't used: the checkpoint is of version 1, and the code has a divisor above 1.
+fn begins_anew(course: &Course, code: &Code) -> bool
+    ensures { result ≡ (is_some course.now.current && ((course.now.version == 1) && nat_lt 1 (divisor_of code.now))) }
 {
-    if course.current.is_some() && course.version == 1 && code.divisor() > 1 {
-        course.pace.point.settled.truncate(course.met as usize);
-        course.current = None;
-    }
+    course.current.is_some() && course.version == 1 && code.divisor() > 1
 }
 
 // How far a search is that has this answer.
-fn record_of(answer: Answer) -> Settled {
+#[tactic(auto, using(crate::proofs::NeedLaws::recorded_exact, crate::proofs::NeedLaws::recorded_bracket))]
+fn record_of(answer: Answer) -> Settled
+    ensures { (s : SearchState) → answer_in s ≡ Some (answer_of answer) → settled_of result ≡ s.progress }
+{
     match answer {
         Answer::Exact {
             weight,
@@ -75,7 +75,7 @@ fn pass_over(alloc: Global, course: &mut Course, code: &Code) -> Result<Answered
     requires rows { 0 < length code.now.rows }
     requires ranged { IsRanged course.old }
     requires settled { course.old.met < length course.old.pace.point.settled.items }
-    ensures goes { (w : World) (needs : List Matrix) (answers : List Answer) (now : Around) → IsNext w needs code.now answers course.old now → MatchResult result
+    ensures goes { (w : World) (needs : List Matrix) (answers : List enumeration.Answer) (now : Around) → IsNext w needs code.now answers course.old now → MatchResult result
         (λ x. Goes w (needs ++ code.now ∷ []) (answers ++ answer_of x.answer ∷ []) course.new now)
         (λ halt. Halts w needs code.now course.new now halt) }
     ensures answered { IfOk result (λ x. (x.search.code ≡ code.now) × (answer_in x.search ≡ Some (answer_of x.answer)) × (fits x.search.code x.search.progress.blocks (found_of x.search.progress) ≡ true)) }
@@ -83,13 +83,17 @@ fn pass_over(alloc: Global, course: &mut Course, code: &Code) -> Result<Answered
     ensures same { IfOk result (λ _. course.new.met ≡ course.old.met + 1) }
 {
     let kept = course.pace.point.settled[course.met as usize];
-    let answered = passed(alloc, code, course.pace.point.budget, kept)?;
+    let answered = match passed(alloc, code, course.pace.point.budget, kept) {
+        Ok(answered) => answered,
+        Err(halt) => return Err(halt),
+    };
     let _rows = answered.search.sets().dimension();
     course.met += 1;
     Ok(answered)
 }
 
 // Searches for the answer of a need that isn't settled.
+#[tactic(auto, using(crate::proofs::RecordLaws::current_within))]
 fn search_on<R: Threads + Sync, V: Vault, W: Watcher, G: Gate + Sync>(
     rt: &R,
     alloc: Global,
@@ -105,15 +109,18 @@ fn search_on<R: Threads + Sync, V: Vault, W: Watcher, G: Gate + Sync>(
     requires ranged { IsRanged course.old }
     requires few { course.old.met < 70000 }
     requires settled { length course.old.pace.point.settled.items ≡ course.old.met }
-    ensures goes { (w : World) (needs : List Matrix) (answers : List Answer) → IsNext w needs code.now answers course.old (around (V.contents vault.old) (V.faults vault.old) (map (hearing W.heard W.coming W.pauses) watchers.old.items)) → MatchResult result
+    ensures goes { (w : World) (needs : List Matrix) (answers : List enumeration.Answer) → IsNext w needs code.now answers course.old (around (V.contents vault.old) (V.faults vault.old) (map (hearing W.heard W.coming W.pauses) watchers.old.items)) → MatchResult result
         (λ x. Goes w (needs ++ code.now ∷ []) (answers ++ answer_of x.answer ∷ []) course.new (around (V.contents vault.new) (V.faults vault.new) (map (hearing W.heard W.coming W.pauses) watchers.new.items)))
         (λ halt. Halts w needs code.now course.new (around (V.contents vault.new) (V.faults vault.new) (map (hearing W.heard W.coming W.pauses) watchers.new.items)) halt) }
     ensures answered { IfOk result (λ x. (x.search.code ≡ code.now) × (answer_in x.search ≡ Some (answer_of x.answer)) × (fits x.search.code x.search.progress.blocks (found_of x.search.progress) ≡ true)) }
     ensures ranged { IfOk result (λ _. IsRanged course.new) }
     ensures same { IfOk result (λ _. course.new.met ≡ course.old.met + 1) }
 {
-    let mut search = begun(alloc, code, course.pace.point.budget, course.current)?;
-    let found = search_need(
+    let mut search = match begun(alloc, code, course.pace.point.budget, course.current) {
+        Ok(search) => search,
+        Err(halt) => return Err(halt),
+    };
+    let answer = match search_need(
         rt,
         alloc,
         workers,
@@ -122,8 +129,7 @@ fn search_on<R: Threads + Sync, V: Vault, W: Watcher, G: Gate + Sync>(
         watchers,
         &mut course.pace,
         &mut search,
-    );
-    let answer = match found {
+    ) {
         Ok(answer) => answer,
         Err(stop) => return Err(Halt::Stop(stop)),
     };
@@ -153,14 +159,18 @@ pub fn answer_need<R: Threads + Sync, V: Vault, W: Watcher, G: Gate + Sync>(
     requires rows { 0 < length code.now.rows }
     requires ranged { IsRanged course.old }
     requires few { course.old.met < 70000 }
-    ensures goes { (w : World) (needs : List Matrix) (answers : List Answer) → Goes w needs answers course.old (around (V.contents vault.old) (V.faults vault.old) (map (hearing W.heard W.coming W.pauses) watchers.old.items)) → MatchResult result
+    ensures goes { (w : World) (needs : List Matrix) (answers : List enumeration.Answer) → Goes w needs answers course.old (around (V.contents vault.old) (V.faults vault.old) (map (hearing W.heard W.coming W.pauses) watchers.old.items)) → MatchResult result
         (λ x. Goes w (needs ++ code.now ∷ []) (answers ++ answer_of x.answer ∷ []) course.new (around (V.contents vault.new) (V.faults vault.new) (map (hearing W.heard W.coming W.pauses) watchers.new.items)))
         (λ halt. Halts w needs code.now course.new (around (V.contents vault.new) (V.faults vault.new) (map (hearing W.heard W.coming W.pauses) watchers.new.items)) halt) }
     ensures answered { IfOk result (λ x. (x.search.code ≡ code.now) × (answer_in x.search ≡ Some (answer_of x.answer)) × (fits x.search.code x.search.progress.blocks (found_of x.search.progress) ≡ true)) }
     ensures ranged { IfOk result (λ _. IsRanged course.new) }
     ensures same { IfOk result (λ _. course.new.met ≡ course.old.met + 1) }
 {
-    start_anew(course, code);
+    if begins_anew(course, code) {
+        course.pace.point.settled.truncate(course.met as usize);
+        course.current = None;
+        return search_on(rt, alloc, workers, gate, vault, watchers, course, code);
+    }
     if (course.met as usize) < course.pace.point.settled.len() {
         return pass_over(alloc, course, code);
     }

@@ -1,7 +1,7 @@
 //! The search of a need that a checkpoint has a record of, and of one that it has none of.
 ghost use Rattle.std.specs.Prelude.{◌≡◌, ◌^◌, ◌<◌, ◌≤◌, length, IfSome, MatchResult, option_map};
 ghost use Rattle.lc_checkpoint.specs.Seen.{settled_of};
-ghost use Rattle.lc_answers.specs.Records.{IsPassed, IsNotPassed, IsBegun, IsNotBegun};
+ghost use Rattle.lc_answers.specs.Records.{halt_from, IsPassed, IsNotPassed, IsBegun, IsNotBegun};
 
 use crate::need::Halt;
 use lc_checkpoint::Settled;
@@ -19,10 +19,21 @@ pub struct Answered {
     pub answer: Answer,
 }
 
+// Why no search goes on from a record that tells this weight.
+fn halt_of(told: u64, refusal: ResumeRefusal) -> Halt
+    ensures { result ≡ halt_from told refusal }
+{
+    match refusal {
+        ResumeRefusal::Unfit { found } => Halt::Unfit { told, found },
+        ResumeRefusal::NoMemory => Halt::Stop(Stop::NoMemory),
+    }
+}
+
 /// The search of a need whose record is settled, in the state of that record; or that the record doesn't fit the code, and
 /// the weight that is found. No round is done.
 ///
 /// The code has dimension at least 1, the budget is at most 2^40, and the record has at most as many blocks.
+#[tactic(auto, using(crate::proofs::RecordLaws::passed_unfit))]
 pub(crate) fn passed(
     alloc: Global,
     code: &Code,
@@ -34,16 +45,16 @@ pub(crate) fn passed(
     requires blocks { kept.blocks ≤ budget }
     ensures { MatchResult result (λ x. IsPassed code.now budget (settled_of kept) x) (λ h. IsNotPassed code.now budget (settled_of kept) h) }
 {
-    let found = Search::resume_at(alloc, code, budget, kept.blocks, kept.weight, kept.place);
-    let search = match found {
+    let search = match Search::resume_at(
+        alloc,
+        code,
+        budget,
+        kept.blocks,
+        kept.weight,
+        kept.place,
+    ) {
         Ok(search) => search,
-        Err(ResumeRefusal::Unfit { found }) => {
-            return Err(Halt::Unfit {
-                told: kept.weight,
-                found,
-            });
-        }
-        Err(ResumeRefusal::NoMemory) => return Err(Halt::Stop(Stop::NoMemory)),
+        Err(refusal) => return Err(halt_of(kept.weight, refusal)),
     };
     match search.finished() {
         Some(answer) => Ok(Answered { search, answer }),
@@ -58,6 +69,7 @@ pub(crate) fn passed(
 /// that is found.
 ///
 /// The code has dimension at least 1, the budget is at most 2^40, and the record has at most as many blocks.
+#[tactic(auto, using(crate::proofs::RecordLaws::begun_so, crate::proofs::RecordLaws::begun_unfit))]
 pub(crate) fn begun(
     alloc: Global,
     code: &Code,
@@ -75,13 +87,15 @@ pub(crate) fn begun(
             Err(_) => Err(Halt::Stop(Stop::NoMemory)),
         };
     };
-    let found = Search::resume_at(alloc, code, budget, kept.blocks, kept.weight, kept.place);
-    match found {
+    match Search::resume_at(
+        alloc,
+        code,
+        budget,
+        kept.blocks,
+        kept.weight,
+        kept.place,
+    ) {
         Ok(search) => Ok(search),
-        Err(ResumeRefusal::Unfit { found }) => Err(Halt::Unfit {
-            told: kept.weight,
-            found,
-        }),
-        Err(ResumeRefusal::NoMemory) => Err(Halt::Stop(Stop::NoMemory)),
+        Err(refusal) => Err(halt_of(kept.weight, refusal)),
     }
 }

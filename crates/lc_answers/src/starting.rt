@@ -70,6 +70,7 @@ pub fn afresh(
 /// A session that starts from a checkpoint of its script and budget.
 ///
 /// The checkpoint is in range, and the slice is as for one that starts afresh.
+#[tactic(auto, unfolding(lc_checkpoint::specs::Seen::point_of, lc_sessions::specs::Slots::next_turn))]
 pub fn resumed(keep: bool, slice: Option<u64>, point: Checkpoint) -> Course
     requires ranged { IsInRange (point_of point) }
     requires slice { IfSome slice (λ n. 0 < n) }
@@ -84,7 +85,7 @@ pub fn resumed(keep: bool, slice: Option<u64>, point: Checkpoint) -> Course
         weight: point.weight,
         place: point.place,
     };
-    let turn = LAST_TURN.min(point.turn + 1);
+    let turn = (point.turn + 1).min(LAST_TURN);
     Course {
         pace: Pace {
             keep,
