@@ -5,17 +5,18 @@
 --   at_search            it begins a search
 --   not_begun            the record of the current need doesn't fit
 --   went_on, went_stopped      the search is answered, or the session stops
-use Rattle.std.proofs.Common.{◌≡◌, ◌≤◌, ◌<◌, ◌+◌, ◌⊎◌, inl, inr, ℕ, zero, suc, Bool, true, false, ◌==◌, ◌&&◌, ◌^◌, IfSome, nat_lt, is_some, List, [], ◌∷◌, ◌++◌, length, map, take, All, Option, Some, None, option_map, unwrap_or, refl, sym, ap, subst, ◌∙◌, arith}
-use Rattle.std.specs.Prelude.{slice_get, slice_index_or}
+use Rattle.std.proofs.Common.{◌≡◌, ◌≤◌, ◌<◌, ◌+◌, ◌⊎◌, inl, inr, ℕ, zero, suc, Bool, true, false, ◌==◌, ◌&&◌, ◌^◌, IfSome, nat_lt, is_some, Result, Ok, Err, is_err, List, [], ◌∷◌, ◌++◌, length, map, take, All, Option, Some, None, option_map, unwrap_or, refl, sym, ap, subst, ◌∙◌, arith}
+use Rattle.std.specs.Prelude.{slice_get, slice_index_or, ◌-◌}
+use Rattle.std.specs.Result.{OnOk}
 use Rattle.std.proofs.lemmas.Option.{slice_get_within, slice_get-map, slice_get-get_or}
 use Rattle.std.proofs.lemmas.List.Elements.{All-append, All-cons, All-nil, All-head, All-tail, All-take}
 use Rattle.std.proofs.lemmas.Bool.{and_parts}
-use Rattle.std.proofs.lemmas.List.{append-nil, append_assoc, length-append, map-append, take-map}
+use Rattle.std.proofs.lemmas.List.{append-nil, append_assoc, length-append, length-map, map-append, take-map}
 use Rattle.lc_algebra.specs.Matrix.{Matrix, AreRows}
 use Rattle.lc_algebra.specs.Span.{AreIndependent}
 use Rattle.lc_algebra.specs.Divisor.{divisor_of}
 use Rattle.lc_enumeration.specs.Search.{Found, Answer, answer, finished, fits, fits_settled, weight_at}
-use Rattle.lc_enumeration.specs.Records.{Progress, Start, SessionStep, SessionRounds, found_of, first_progress, Rounds, rounds, last_state, step_of, no_steps, session_rounds}
+use Rattle.lc_enumeration.specs.Records.{Progress, Start, SessionStep, SessionRounds, found_of, first_progress, progress_of, Rounds, rounds, last_state, step_of, no_steps, session_rounds}
 use Rattle.lc_enumeration.specs.Fitting.{Misfit, misfit_at, misfit}
 use Rattle.lc_enumeration.specs.Truth.{AnswerHolds, answer_blocks}
 use Rattle.lc_infoset.proofs.FittingLaws.{answer_found, finished_state}
@@ -42,6 +43,8 @@ use Rattle.lc_answers.specs.declared.need.Halt.TheVariants as halt
 use Rattle.lc_answers.specs.declared.records.Answered.{Answered as Answered_}
 use Rattle.lc_answers.specs.Records.{IsPassed, IsNotPassed, IsBegun, IsNotBegun}
 use Rattle.lc_answers.specs.Going.{World, IsOf, IsRanged, settled_in, rounds_from, AreAnswered, Goes, IsUncut, NextStands, IsNext, Misfits, Stops, IsMisfit, Halts}
+use Rattle.lc_infoset.proofs.AnswerLaws.{some_set}
+use Rattle.lc_answers.proofs.RangeLaws.{last_within, record_ranged, none_left_over}
 use Rattle.lc_answers.proofs.PaceLaws.{IsSame, same_way, starved}
 
 found_in : Answered → Found
@@ -455,3 +458,39 @@ searched_ranged c d last h one long version turn funds settled none told keep sl
   slice = λ e. slice (h.slice (sym keep ∙ e));
   many = omega (arith, met, long, ap (λ (xs : List Settled). length xs) settled, length-append c.pace.point.settled.items (last ∷ []));
 }
+
+pub settled_long : (c : Course) → length c.pace.point.settled.items ≡ c.met → length (settled_in c) ≡ c.met
+settled_long c e = length-map c.pace.point.settled.items settled_of ∙ e
+
+-- ---- what the program keeps of a search
+
+pub on_ok : {A E : Type 0} (r : Result A E) (P : Type 0) → is_err r ≡ false → OnOk r P → P
+on_ok (Ok a) P e h = h
+on_ok (Err x) P e h = absurd (let f = e in cc)
+
+pub pushed : (c : Course) (p : Pace) (items : List Settled) (last : Settled) (s : Progress) → items ≡ p.point.settled.items ++ last ∷ [] → p.point.settled.items ≡ c.pace.point.settled.items → settled_of last ≡ s → map settled_of items ≡ settled_in c ++ s ∷ []
+pushed c p items last s is same e =
+    ap (map settled_of) (is ∙ ap (λ (l : List Settled). l ++ last ∷ []) same) ∙ map-append settled_of c.pace.point.settled.items (last ∷ []) ∙ ap (λ (x : Progress). settled_in c ++ x ∷ []) e
+
+begun_within : (C : Matrix) (budget : ℕ) (o : Option Settled) → IfSome o (λ r. IsProgress budget (settled_of r)) → (unwrap_or (option_map settled_of o) (first_progress C)).blocks ≤ budget
+unfolding first_progress progress_of
+begun_within C budget None h = omega arith
+begun_within C budget (Some r) h = h.done
+
+pub few_blocks : (c : Course) (C : Matrix) (s t : SearchState) → IsRanged c → IsBegun C c.pace.point.budget (option_map settled_of c.current) s → t.progress ≡ last_state s.progress (rounds_left c.pace s).states → t.progress.blocks ≤ c.pace.point.budget
+few_blocks c C s t h b state =
+    let start = unwrap_or (option_map settled_of c.current) (first_progress C) in
+    let is : t.progress ≡ last_state start (rounds (divisor_of C) C c.pace.point.budget c.pace.slice start).states = state ∙ ap (λ (x : SearchState). last_state x.progress (rounds_left c.pace x).states) b.state in
+    let l = last_within (divisor_of C) C c.pace.point.budget c.pace.slice start (begun_within C c.pace.point.budget c.current h.current) in
+    omega (arith, l, ap (λ (x : Progress). x.blocks) is)
+
+pub one_ranged : {D : Matrix} (t : SearchState) (budget : ℕ) (last : Settled) → settled_of last ≡ t.progress → D ≡ t.code → AreRows D.field D.columns D.rows → AreIndependent D.field D.columns D.rows → D.columns ≤ 255 → fits t.code t.progress.blocks (found_of t.progress) ≡ true → t.progress.blocks ≤ budget → budget ≤ 2 ^ 40 → IsProgress budget (settled_of last)
+one_ranged {D = D} t budget last e same rows free long fit few small =
+    subst (IsProgress budget) (sym e)
+    (record_ranged D budget t.progress rows free long (some_set D) (subst (λ (B : Matrix). fits B t.progress.blocks (found_of t.progress) ≡ true) (sym same) fit) few small)
+
+pub told_more : (c : Course) (told : ℕ) (s t : SearchState) → IsRanged c → told ≤ c.pace.told + (t.progress.blocks - s.progress.blocks) → t.progress.blocks ≤ c.pace.point.budget → told ≤ c.pace.told + 2 ^ 40
+told_more c told s t h l few = omega (arith, l, few, h.small)
+
+pub slice_kept : (c : Course) (C : Matrix) (s : SearchState) (slice : Option ℕ) → slice ≡ (rounds_left c.pace s).left → c.pace.slice ≡ None → slice ≡ None
+slice_kept c C s slice is none = is ∙ ap (λ (o : Option ℕ). (rounds (divisor_of s.code) s.code s.budget o s.progress).left) none ∙ none_left_over (divisor_of s.code) s.code s.budget s.progress

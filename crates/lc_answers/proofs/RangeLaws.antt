@@ -1,5 +1,6 @@
 -- The numbers of a session are in range.
 --   last_within          a search has at most its budget of blocks
+--   none_left_over       a session without a slice goes on without one
 --   record_ranged        the record of a search is in range
 use Rattle.std.proofs.Common.{◌≡◌, ◌≤◌, ◌<◌, ◌+◌, ◌-◌, ◌*◌, ◌^◌, ◌⊎◌, min, ℕ, zero, suc, Bool, true, false, ◌==◌, ◌&&◌, ◌||◌, nat_lt, is_some, List, length, Option, Some, None, refl, sym, ap, subst, ◌∙◌, ⊎_elim, arith}
 use Rattle.std.proofs.lemmas.Bool.{and_parts, or_cases, ltb-true, eqb-true}
@@ -42,6 +43,27 @@ ends_within (suc most) d C budget slice s l = step_within most d C budget slice 
 pub last_within : (d : ℕ) (C : Matrix) (budget : ℕ) (slice : Option ℕ) (s : Progress) → s.blocks ≤ budget → (last_state s (rounds d C budget slice s).states).blocks ≤ budget
 unfolding rounds
 last_within d C budget slice s l = ends_within (suc (budget - s.blocks)) d C budget slice s l
+
+none_step : (most d : ℕ) (C : Matrix) (budget : ℕ) (s : Progress) → ((t : Progress) → (rounds_within most d C budget None t).left ≡ None) → (rounds_within (suc most) d C budget None s).left ≡ None
+unfolding rounds_within no_round state_first is_used_up less_slice
+none_step most d C budget s later = by (finished d C budget s.blocks (found_of s))
+  where
+    count : ℕ
+    count = round_length C budget None s.blocks
+
+    by : (a : Option Answer) → (elim a as (λ _. Rounds) [ Some _ ↦ no_round None false | None ↦ state_first (after_round C s count) (rounds_within most d C budget None (after_round C s count)) ]).left ≡ None
+    by (Some x) = refl
+    by None = later (after_round C s count)
+
+none_within : (most d : ℕ) (C : Matrix) (budget : ℕ) (s : Progress) → (rounds_within most d C budget None s).left ≡ None
+unfolding rounds_within no_round
+none_within zero d C budget s = refl
+none_within (suc most) d C budget s = none_step most d C budget s (λ t. none_within most d C budget t)
+
+-- a session without a slice goes on without one
+pub none_left_over : (d : ℕ) (C : Matrix) (budget : ℕ) (s : Progress) → (rounds d C budget None s).left ≡ None
+unfolding rounds
+none_left_over d C budget s = none_within (suc (budget - s.blocks)) d C budget s
 
 near : (C : Matrix) (l : ℕ) (x : Found) → fits C l x ≡ true → l ≤ 2 ^ 40 → x.place < 2 ^ 52
 unfolding fits

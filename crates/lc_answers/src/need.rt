@@ -1,5 +1,5 @@
 //! The answer of one need of a session.
-ghost use Rattle.std.specs.Prelude.{◌≡◌, ◌+◌, ◌^◌, ◌<◌, ◌≤◌, List, [], ◌∷◌, ◌++◌, length, map, true, false, is_some, nat_lt, ◌==◌, ◌&&◌, Some, IfOk, MatchResult};
+ghost use Rattle.std.specs.Prelude.{◌≡◌, ◌+◌, ◌^◌, ◌<◌, ◌≤◌, List, [], ◌∷◌, ◌++◌, length, map, take, None, true, false, is_some, nat_lt, ◌==◌, ◌&&◌, Some, IfOk, MatchResult};
 ghost use Rattle.lc_algebra.specs.Matrix.{Matrix};
 ghost use Rattle.lc_algebra.specs.Divisor.{divisor_of};
 ghost use Rattle.lc_enumeration.specs.Search as enumeration;
@@ -9,6 +9,7 @@ ghost use Rattle.lc_io.specs.Watchers.{hearing};
 ghost use Rattle.lc_checkpoint.specs.Seen.{settled_of};
 ghost use Rattle.lc_search.specs.State.{SearchState, answer_in, answer_of};
 ghost use Rattle.lc_rounds.specs.Way.{Around, around};
+ghost use Rattle.lc_answers.proofs.PaceLaws.{IsSame};
 ghost use Rattle.lc_answers.specs.Going.{World, IsRanged, Goes, IsNext, Halts};
 
 use crate::course::Course;
@@ -40,6 +41,18 @@ fn begins_anew(course: &Course, code: &Code) -> bool
     ensures { result ≡ (is_some course.now.current && ((course.now.version == 1) && nat_lt 1 (divisor_of code.now))) }
 {
     course.current.is_some() && course.version == 1 && code.divisor() > 1
+}
+
+// Leaves out the records from the need on that is met next.
+fn cut(course: &mut Course)
+    ensures cut { course.new.pace.point.settled.items ≡ take course.old.met course.old.pace.point.settled.items }
+    ensures none { course.new.current ≡ None }
+    ensures met { course.new.met ≡ course.old.met }
+    ensures version { course.new.pace.point.version ≡ course.old.pace.point.version }
+    ensures same { IsSame course.old.pace course.new.pace }
+{
+    course.pace.point.settled.truncate(course.met as usize);
+    course.current = None;
 }
 
 // How far a search is that has this answer.
@@ -136,7 +149,9 @@ fn search_on<R: Threads + Sync, V: Vault, W: Watcher, G: Gate + Sync>(
     if course.pace.point.settled.push(record_of(answer)).is_err() {
         return Err(Halt::Stop(Stop::NoMemory));
     }
-    let _rows = search.sets().dimension();
+    let whole = search.sets();
+    let _rows = whole.dimension();
+    let _long = whole.length();
     course.current = None;
     course.met += 1;
     Ok(Answered { search, answer })
@@ -167,8 +182,7 @@ pub fn answer_need<R: Threads + Sync, V: Vault, W: Watcher, G: Gate + Sync>(
     ensures same { IfOk result (λ _. course.new.met ≡ course.old.met + 1) }
 {
     if begins_anew(course, code) {
-        course.pace.point.settled.truncate(course.met as usize);
-        course.current = None;
+        cut(course);
         return search_on(rt, alloc, workers, gate, vault, watchers, course, code);
     }
     if (course.met as usize) < course.pace.point.settled.len() {
