@@ -5,9 +5,8 @@
 --   at_search            it begins a search
 --   not_begun            the record of the current need doesn't fit
 --   went_on, went_stopped      the search is answered, or the session stops
-use Rattle.std.proofs.Common.{◌≡◌, ◌≤◌, ◌<◌, ◌+◌, ◌⊎◌, inl, inr, ℕ, zero, suc, Bool, true, false, ◌==◌, ◌&&◌, ◌^◌, IfSome, nat_lt, is_some, Result, Ok, Err, is_err, List, [], ◌∷◌, ◌++◌, length, map, take, All, Option, Some, None, option_map, unwrap_or, refl, sym, ap, subst, ◌∙◌, arith}
+use Rattle.std.proofs.Common.{◌≡◌, ◌≤◌, ◌<◌, ◌+◌, ◌⊎◌, inl, inr, ℕ, zero, suc, Bool, true, false, ◌==◌, ◌&&◌, ◌^◌, IfSome, nat_lt, is_some, Result, Ok, Err, is_err, is_ok, if◌then◌else◌, List, [], ◌∷◌, ◌++◌, length, map, take, All, Option, Some, None, option_map, unwrap_or, refl, sym, ap, subst, ◌∙◌, arith}
 use Rattle.std.specs.Prelude.{slice_get, slice_index_or, ◌-◌}
-use Rattle.std.specs.Result.{OnOk}
 use Rattle.std.proofs.lemmas.Option.{slice_get_within, slice_get-map, slice_get-get_or}
 use Rattle.std.proofs.lemmas.List.Elements.{All-append, All-cons, All-nil, All-head, All-tail, All-take}
 use Rattle.std.proofs.lemmas.Bool.{and_parts}
@@ -16,8 +15,8 @@ use Rattle.lc_algebra.specs.Matrix.{Matrix, AreRows}
 use Rattle.lc_algebra.specs.Span.{AreIndependent}
 use Rattle.lc_algebra.specs.Divisor.{divisor_of}
 use Rattle.lc_enumeration.specs.Search.{Found, Answer, answer, finished, fits, fits_settled, weight_at}
-use Rattle.lc_enumeration.specs.Records.{Progress, Start, SessionStep, SessionRounds, found_of, first_progress, progress_of, Rounds, rounds, last_state, step_of, no_steps, session_rounds}
-use Rattle.lc_enumeration.specs.Fitting.{Misfit, misfit_at, misfit}
+use Rattle.lc_enumeration.specs.Records.{Progress, Start, SessionStep, SessionRounds, found_of, first_progress, progress_of, Rounds, rounds, last_state, step_of, no_steps}
+use Rattle.lc_enumeration.specs.Fitting.{misfit_at, misfit}
 use Rattle.lc_enumeration.specs.Truth.{AnswerHolds, answer_blocks}
 use Rattle.lc_infoset.proofs.FittingLaws.{answer_found, finished_state}
 use Rattle.lc_infoset.proofs.SearchTruth.{own_answer}
@@ -25,18 +24,17 @@ use Rattle.lc_search.specs.State.{SearchState, answer_in, answer_of}
 use Rattle.lc_search.specs.declared.answer.Answer.{Answer as Answered}
 use Rattle.lc_search.specs.declared.answer.Answer.TheVariants.{Exact, Bracket}
 use Rattle.lc_search.proofs.FitLaws.{fitting_word}
-use Rattle.lc_sessions.specs.Answers.{Settle, HasWords}
 use Rattle.lc_rounds.specs.declared.pace.Pace.{Pace}
 use Rattle.lc_rounds.specs.declared.rounds.Stop.{Stop}
 use Rattle.lc_rounds.specs.declared.rounds.Stop.TheVariants.{Paused, VaultFault, NoMemory}
-use Rattle.lc_rounds.specs.Way.{rounds_left, steps_left, Around, Origin, IsOnItsWay, HasStopped, Went}
-use Rattle.lc_course.specs.Course.{Beginning, afresh, after, begins, Waits, Came, Stands, state_at, states_at, steps_at, start_next}
+use Rattle.lc_rounds.specs.Way.{rounds_left, steps_left, Around, IsOnItsWay, HasStopped, Went}
+use Rattle.lc_course.specs.Course.{Beginning, after, begins, Waits, Came, Stands, AtNeed, state_at, steps_at, start_next}
 use Rattle.lc_formats.specs.Checkpoint.{IsProgress}
 use Rattle.lc_checkpoint.specs.Seen.{settled_of}
 use Rattle.lc_checkpoint.specs.declared.checkpoint.Settled.{Settled}
 use Rattle.lc_course.proofs.FrontLaws.{ends_here, at_need}
 use Rattle.lc_course.proofs.SettleLaws.{settled_more, words_more, answer_word}
-use Rattle.lc_course.proofs.PlaceLaws.{AtNeed, goes_to, passes, stumbles, enters, trips, starts_anew, waits_quietly, has_searched}
+use Rattle.lc_course.proofs.PlaceLaws.{goes_to, passes, stumbles, enters, trips, starts_anew, waits_quietly, has_searched}
 use Rattle.lc_answers.specs.declared.course.Course.{Course}
 use Rattle.lc_answers.specs.declared.need.Halt.{Halt}
 use Rattle.lc_answers.specs.declared.need.Halt.TheVariants as halt
@@ -45,7 +43,8 @@ use Rattle.lc_answers.specs.Records.{IsPassed, IsNotPassed, IsBegun, IsNotBegun}
 use Rattle.lc_answers.specs.Going.{World, IsOf, IsRanged, settled_in, rounds_from, AreAnswered, Goes, IsUncut, NextStands, IsNext, Misfits, Stops, IsMisfit, Halts}
 use Rattle.lc_infoset.proofs.AnswerLaws.{some_set}
 use Rattle.lc_answers.proofs.RangeLaws.{last_within, record_ranged, none_left_over}
-use Rattle.lc_answers.proofs.PaceLaws.{IsSame, same_way, starved}
+use Rattle.lc_answers.proofs.PaceLaws.{same_way, starved}
+use Rattle.lc_answers.specs.Paces.{IsSame}
 
 found_in : Answered → Found
 found_in (Exact weight place blocks) = record { weight = weight; place = place }
@@ -387,7 +386,7 @@ goes_so w needs C answers c d now later s t p a b e world same answered state co
     let apart = subst (λ (B : Matrix). AreIndependent B.field B.columns B.rows) (same_code ∙ here) free in
     let f = subst (λ (B : Matrix). fits B t.progress.blocks (found_of t.progress) ≡ true) here fit in
     let g : finished (divisor_of C) C w.budget t.progress.blocks (found_of t.progress) ≡ Some (answer_of a) =
-        subst (λ (n : ℕ). finished (divisor_of C) C n t.progress.blocks (found_of t.progress) ≡ Some (answer_of a)) funds (subst (λ (B : Matrix). finished (divisor_of B) B t.budget t.progress.blocks (found_of t.progress) ≡ Some (answer_of a)) here answered) in
+    subst (λ (n : ℕ). finished (divisor_of C) C n t.progress.blocks (found_of t.progress) ≡ Some (answer_of a)) funds (subst (λ (B : Matrix). finished (divisor_of B) B t.budget t.progress.blocks (found_of t.progress) ≡ Some (answer_of a)) here answered) in
     went_on w needs C answers c d now later p h start went.told went.left t.progress (answer_of a) at refl (sym (same_steps w C c o s b h.of.budget) ∙ went.front) went.ends_so.0 (sym (ap (λ (r : Rounds). r.is_stopped) rs) ∙ went.ends_so.1) went.ends_so.2 is_last g f words apart same (world_same w c.pace p world h.of) (slice ∙ ap (λ (r : Rounds). r.left) rs) settled used met
 
 -- ---- where a need is answered
@@ -464,9 +463,9 @@ settled_long c e = length-map c.pace.point.settled.items settled_of ∙ e
 
 -- ---- what the program keeps of a search
 
-pub on_ok : {A E : Type 0} (r : Result A E) (P : Type 0) → is_err r ≡ false → OnOk r P → P
-on_ok (Ok a) P e h = h
-on_ok (Err x) P e h = absurd (let f = e in cc)
+pub on_ok : {A E : Type 0} (r : Result A E) (zs xs ys : List Settled) → is_err r ≡ false → zs ≡ (if is_ok r then xs else ys) → zs ≡ xs
+on_ok (Ok a) zs xs ys e h = h
+on_ok (Err x) zs xs ys e h = absurd (let f = e in cc)
 
 pub pushed : (c : Course) (p : Pace) (items : List Settled) (last : Settled) (s : Progress) → items ≡ p.point.settled.items ++ last ∷ [] → p.point.settled.items ≡ c.pace.point.settled.items → settled_of last ≡ s → map settled_of items ≡ settled_in c ++ s ∷ []
 pushed c p items last s is same e =

@@ -1,27 +1,16 @@
 -- What a session tells while it passes over a need, and when memory is refused.
---   IsSame p q           two paces that tell the same: the settled needs may differ
 --   same_way             a session is on its way by either
 --   starved              a session on its way stops if memory is refused
-use Rattle.std.proofs.Common.{◌≡◌, ◌⊎◌, [], ℕ, Bool, List, Option, refl, sym, ap, subst, ◌∙◌}
+use Rattle.std.proofs.Common.{◌≡◌, ◌⊎◌, [], ℕ, Bool, List, sym, subst, ◌∙◌}
 use Rattle.lc_enumeration.specs.Records.{SessionStep}
 use Rattle.lc_checkpoint.specs.Seen.{point_of}
 use Rattle.lc_rounds.specs.declared.pace.Pace.{Pace}
 use Rattle.lc_rounds.specs.declared.rounds.Stop.TheVariants.{NoMemory}
 use Rattle.lc_rounds.specs.Way.{Around, Origin, EndsAt, Stored, IsOnItsWay, HasStopped}
+use Rattle.lc_answers.specs.Paces.{IsSame}
 use Rattle.lc_sessions.specs.Session.{records_of}
-use Rattle.lc_sessions.specs.Slots.{turn_after}
 use Rattle.lc_io.specs.Told.{Kept}
 use Rattle.lc_io.specs.declared.watcher.Record.{Record}
-
--- two paces that tell the same
-pub record IsSame (p q : Pace) : Type 0 where
-  pub keep : q.keep ≡ p.keep
-  pub told : q.told ≡ p.told
-  pub last : q.last ≡ p.last
-  pub slice : q.slice ≡ p.slice
-  pub turn : q.point.turn ≡ p.point.turn
-  pub script : q.point.script ≡ p.point.script
-  pub budget : q.point.budget ≡ p.point.budget
 
 pub same_way : (o : Origin) (told : List SessionStep) (p q : Pace) (now : Around) → IsSame p q → IsOnItsWay o told p now → IsOnItsWay o told q now
 unfolding point_of

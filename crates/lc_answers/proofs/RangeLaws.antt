@@ -2,7 +2,7 @@
 --   last_within          a search has at most its budget of blocks
 --   none_left_over       a session without a slice goes on without one
 --   record_ranged        the record of a search is in range
-use Rattle.std.proofs.Common.{◌≡◌, ◌≤◌, ◌<◌, ◌+◌, ◌-◌, ◌*◌, ◌^◌, ◌⊎◌, min, ℕ, zero, suc, Bool, true, false, ◌==◌, ◌&&◌, ◌||◌, nat_lt, is_some, List, length, Option, Some, None, refl, sym, ap, subst, ◌∙◌, ⊎_elim, arith}
+use Rattle.std.proofs.Common.{◌≡◌, ◌≤◌, ◌<◌, ◌-◌, ◌*◌, ◌^◌, min, ℕ, zero, suc, Bool, true, false, ◌==◌, ◌&&◌, ◌||◌, nat_lt, is_some, Option, Some, None, refl, ⊎_elim, arith}
 use Rattle.std.proofs.lemmas.Bool.{and_parts, or_cases, ltb-true, eqb-true}
 use Rattle.lc_algebra.specs.Matrix.{Matrix, AreRows}
 use Rattle.lc_algebra.specs.Span.{AreIndependent}

@@ -2,13 +2,13 @@
 --   passed_unfit, passed_so, passed_not      the record of a settled need
 --   begun_first, begun_so, begun_unfit       that of the current one
 --   current_within       its blocks are within the budget
-use Rattle.std.proofs.Common.{◌≡◌, ◌<◌, ◌≤◌, IfSome, ℕ, Bool, true, false, ◌==◌, ◌&&◌, ◌||◌, nat_lt, is_some, Result, Ok, Err, List, length, Option, Some, None, option_map, unwrap_or, refl, sym, ap, subst, ◌∙◌}
-use Rattle.std.specs.Prelude.{MatchResult, ◌*◌}
+use Rattle.std.proofs.Common.{◌≡◌, ◌<◌, ◌≤◌, IfSome, ℕ, Bool, true, false, ◌==◌, ◌&&◌, ◌||◌, nat_lt, is_some, length, Option, Some, None, option_map, refl, sym, ap, subst, ◌∙◌}
+use Rattle.std.specs.Prelude.{◌*◌}
 use Rattle.std.proofs.lemmas.Bool.{and_parts, and_from, eqb-true}
 use Rattle.lc_algebra.specs.Matrix.{Matrix}
 use Rattle.lc_algebra.specs.Divisor.{divisor_of}
 use Rattle.lc_enumeration.specs.Search.{Answer, Found, finished, fits, fits_settled, weight_at, word_at, set_count}
-use Rattle.lc_enumeration.specs.Records.{Progress, found_of, first_progress}
+use Rattle.lc_enumeration.specs.Records.{found_of, first_progress}
 use Rattle.lc_enumeration.proofs.RecordsLaws.{first_is_best}
 use Rattle.lc_infoset.proofs.FittingLaws.{underway_fits}
 use Rattle.lc_formats.specs.Checkpoint.{IsProgress}
@@ -20,8 +20,7 @@ use Rattle.lc_search.specs.declared.answer.Answer.{Answer as Answer_}
 use Rattle.lc_search.specs.declared.resume.ResumeRefusal.{ResumeRefusal}
 use Rattle.lc_search.specs.declared.resume.ResumeRefusal.TheVariants.{Unfit, NoMemory}
 use Rattle.lc_answers.specs.declared.need.Halt.TheVariants as halt
-use Rattle.lc_answers.specs.declared.records.Answered.{Answered}
-use Rattle.lc_answers.specs.Records.{state_of, halt_from, IsPassed, IsNotPassed, IsBegun, IsNotBegun}
+use Rattle.lc_answers.specs.Records.{halt_from, IsPassed, IsNotPassed, IsBegun, IsNotBegun}
 
 pub passed_unfit : (C : Matrix) (budget : ℕ) (kept : Settled) (e : ResumeRefusal) → IsUnfit C kept.blocks kept.weight kept.place e → IsNotPassed C budget (settled_of kept) (halt_from kept.weight e)
 unfolding settled_of found_of fits_settled

@@ -2,7 +2,7 @@
 --   first_way            it is on its way
 --   none_answered, waits_first      nothing is met
 --   course_from, starts_ranged, starts_resumed      it starts from a checkpoint
-use Rattle.std.proofs.Common.{◌≡◌, ◌<◌, ◌+◌, min, map, ℕ, Bool, true, false, List, [], Option, Some, None, IfSome, inl, refl, sym, ap, subst, ◌∙◌, arith}
+use Rattle.std.proofs.Common.{◌≡◌, ◌<◌, ◌+◌, min, map, ℕ, Bool, true, false, List, [], Option, Some, None, IfSome, inl, refl, arith}
 use Rattle.std.proofs.lemmas.List.Elements.{All-nil}
 use Rattle.lc_algebra.specs.Matrix.{Matrix}
 use Rattle.lc_algebra.specs.Divisor.{divisor_of}
@@ -10,7 +10,7 @@ use Rattle.lc_enumeration.specs.Search.{answer}
 use Rattle.lc_enumeration.specs.Records.{Progress}
 use Rattle.lc_enumeration.specs.Truth.{AnswerHolds}
 use Rattle.lc_enumeration.specs.Fitting.{first_divisible}
-use Rattle.lc_io.specs.Vaults.{Slots, WhereTold}
+use Rattle.lc_io.specs.Vaults.{Slots}
 use Rattle.lc_io.proofs.SeveralRecords.{Kept-none}
 use Rattle.lc_io.proofs.SlotLaws.{WhereTold-refl}
 use Rattle.lc_io.specs.declared.watcher.Record.{Record}
@@ -18,9 +18,9 @@ use Rattle.lc_formats.specs.Checkpoint.{IsInRange, current_of}
 use Rattle.lc_checkpoint.specs.Seen.{point_of, settled_of}
 use Rattle.lc_checkpoint.specs.declared.checkpoint.Checkpoint.{Checkpoint}
 use Rattle.lc_sessions.specs.Slots.{next_turn, slots_after}
-use Rattle.lc_rounds.specs.Way.{Around, Origin, Stored, EndsAt, IsOnItsWay}
+use Rattle.lc_rounds.specs.Way.{Around, Stored, IsOnItsWay}
 use Rattle.lc_rounds.specs.declared.pace.Pace.{Pace}
-use Rattle.lc_course.specs.Course.{Beginning, after, Waits}
+use Rattle.lc_course.specs.Course.{after, Waits}
 use Rattle.lc_answers.specs.Going.{started, IsRanged, AreAnswered, Goes}
 use Rattle.lc_answers.specs.declared.course.Course.{Course}
 

@@ -11,7 +11,7 @@
 --   Misfits b budget needs C         the record of C doesn't fit it
 --   Stops w needs c now stop         it stops among the rounds of these needs
 --   Halts w needs C c now halt       it ends at the need C after these
-use Rattle.std.specs.Prelude.{◌≡◌, ◌≤◌, ◌<◌, ◌*◌, ◌^◌, ◌⊎◌, ℕ, Bool, true, false, ◌==◌, nat_lt, List, [], ◌∷◌, ◌++◌, length, map, All, IfSome, slice_get, Option, Some, None, option_map}
+use Rattle.std.specs.Prelude.{◌≡◌, ◌≤◌, ◌*◌, ◌^◌, ◌⊎◌, ℕ, Bool, true, false, ◌==◌, nat_lt, List, [], ◌∷◌, ◌++◌, length, map, All, IfSome, slice_get, Option, Some, None, option_map}
 use Rattle.lc_algebra.specs.Matrix.{Matrix}
 use Rattle.lc_algebra.specs.Divisor.{divisor_of}
 use Rattle.lc_enumeration.specs.Search.{Answer, answer, fits, fits_settled}
@@ -24,8 +24,7 @@ use Rattle.lc_sessions.specs.Answers.{Settle, HasWords}
 use Rattle.lc_rounds.specs.declared.pace.Pace.{Pace}
 use Rattle.lc_rounds.specs.declared.rounds.Stop.{Stop}
 use Rattle.lc_rounds.specs.Way.{Around, Origin, IsOnItsWay, HasStopped}
-use Rattle.lc_course.specs.Course.{Beginning, afresh, after, begins, Waits, Stands}
-use Rattle.lc_course.proofs.PlaceLaws.{AtNeed}
+use Rattle.lc_course.specs.Course.{Beginning, afresh, after, begins, Waits, Stands, AtNeed}
 use Rattle.lc_answers.specs.declared.course.Course.{Course}
 use Rattle.lc_answers.specs.declared.need.Halt.{Halt}
 use Rattle.lc_answers.specs.declared.need.Halt.TheVariants as halt

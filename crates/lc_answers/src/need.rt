@@ -9,7 +9,7 @@ ghost use Rattle.lc_io.specs.Watchers.{hearing};
 ghost use Rattle.lc_checkpoint.specs.Seen.{settled_of};
 ghost use Rattle.lc_search.specs.State.{SearchState, answer_in, answer_of};
 ghost use Rattle.lc_rounds.specs.Way.{Around, around};
-ghost use Rattle.lc_answers.proofs.PaceLaws.{IsSame};
+ghost use Rattle.lc_answers.specs.Paces.{IsSame};
 ghost use Rattle.lc_answers.specs.Going.{World, IsRanged, Goes, IsNext, Halts};
 
 use crate::course::Course;
@@ -45,6 +45,9 @@ fn begins_anew(course: &Course, code: &Code) -> bool
 
 // Leaves out the records from the need on that is met next.
 fn cut(course: &mut Course)
+    requires ranged { IsRanged course.old }
+    ensures ranged { IsRanged course.new }
+    ensures long { length course.new.pace.point.settled.items ≡ course.old.met }
     ensures cut { course.new.pace.point.settled.items ≡ take course.old.met course.old.pace.point.settled.items }
     ensures none { course.new.current ≡ None }
     ensures met { course.new.met ≡ course.old.met }

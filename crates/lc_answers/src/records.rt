@@ -87,14 +87,7 @@ pub(crate) fn begun(
             Err(_) => Err(Halt::Stop(Stop::NoMemory)),
         };
     };
-    match Search::resume_at(
-        alloc,
-        code,
-        budget,
-        kept.blocks,
-        kept.weight,
-        kept.place,
-    ) {
+    match Search::resume_at(alloc, code, budget, kept.blocks, kept.weight, kept.place) {
         Ok(search) => Ok(search),
         Err(refusal) => Err(halt_of(kept.weight, refusal)),
     }

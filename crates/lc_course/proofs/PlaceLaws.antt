@@ -1,5 +1,4 @@
 -- How a session goes from need to need: it passes over settled records, starts its searches, and ends.
---   AtNeed               a session about to search for its next need, which is C
 --   starts               nothing was resumed
 --   passes, stumbles     the record of a settled need fits, or it doesn't
 --   enters, trips        the record of the current need fits, or it doesn't
@@ -16,17 +15,10 @@ use Rattle.lc_algebra.specs.Divisor.{divisor_of}
 use Rattle.lc_enumeration.specs.Search.{fits, fits_settled}
 use Rattle.lc_enumeration.specs.Records.{Progress, Start, SessionStep, SessionRounds, found_of, fresh_start, rounds, last_state, no_steps, steps_first, session_rounds}
 use Rattle.lc_enumeration.specs.Fitting.{Misfit, misfit_at, used_start, misfit}
-use Rattle.lc_course.specs.Course.{Beginning, afresh, after, begins, AreFitting, GoesSo, IsWhole, Waits, Came, state_at, states_at, steps_at, start_next}
+use Rattle.lc_course.specs.Course.{Beginning, afresh, after, begins, AreFitting, GoesSo, IsWhole, Waits, Came, AtNeed, state_at, states_at, steps_at, start_next}
 use Rattle.lc_course.proofs.FrontLaws.{none_left, take_front, take_whole, searched}
 use Rattle.lc_course.proofs.StartLaws.{starts_whole, starts_before, whole_more}
 use Rattle.lc_course.proofs.FitLaws.{fitting_length, fitting_more, fits_anew, fits_whole, unfit_settled, unfit_current, unfit_end}
-
--- a session about to search for its next need
-pub record AtNeed (b : Beginning) (budget : ℕ) (slice : Option ℕ) (needs : List Matrix) (C : Matrix) (told : List SessionStep) (now : Start) (left : Option ℕ) (done : List Progress) : Type 0 where
-  pub goes : GoesSo divisor_of budget (begins b) slice needs (C ∷ []) told now left
-  pub as_many : length now.settled ≡ length needs
-  pub fits : (more : List Matrix) → misfit divisor_of (needs ++ C ∷ more) budget (begins b (needs ++ C ∷ more)) ≡ None
-  pub all : done ≡ now.settled
 
 nothing_told : (r : SessionRounds) → r ≡ steps_first [] r
 unfolding steps_first

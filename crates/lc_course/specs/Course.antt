@@ -5,6 +5,7 @@
 --   GoesSo budget begin slice needs next told now left      after these needs it has told these steps, and goes on from the start
 --                            `now` with what is left of the slice, however its needs go on after `next`
 --   IsWhole version needs    none of these needs makes a session start anew that resumes a checkpoint of this version
+--   AtNeed                   a session about to search for its next need, which is C
 --   state_at, states_at, steps_at, start_next      the search of a need from a start: where it begins, its states, its steps, and the
 --                            start after it
 --   Waits, Came, Stands      the records of the checkpoint aren't used up, or they are; the state of the searches in both cases
@@ -73,3 +74,10 @@ steps_at divisor budget C left now = map (step_of (divisor C) C now.settled) (st
 
 abbrev pub start_next : (Matrix → ℕ) → ℕ → Matrix → Option ℕ → Start → Start
 start_next divisor budget C left now = record { settled = now.settled ++ last_state (state_at C now) (states_at divisor budget C left now) ∷ []; current = None }
+
+-- a session about to search for its next need
+pub record AtNeed (b : Beginning) (budget : ℕ) (slice : Option ℕ) (needs : List Matrix) (C : Matrix) (told : List SessionStep) (now : Start) (left : Option ℕ) (done : List Progress) : Type 0 where
+  pub goes : GoesSo divisor_of budget (begins b) slice needs (C ∷ []) told now left
+  pub as_many : length now.settled ≡ length needs
+  pub fits : (more : List Matrix) → misfit divisor_of (needs ++ C ∷ more) budget (begins b (needs ++ C ∷ more)) ≡ None
+  pub all : done ≡ now.settled

@@ -41,7 +41,7 @@ returns-clause-goes g c w needs answers h =
       current = None;
     } in
     let told = c.record_of.ensures c.search_need.new.search c.in-Ok-search_need.ensures.answer in
-    let kept = on_ok c.push.result _ (sym c.is_err.ensures.value ∙ c.if-is_err.false) c.push.ensures.items in
+    let kept = on_ok c.push.result c.push.new.self.items _ _ (sym c.is_err.ensures.value ∙ c.if-is_err.false) c.push.ensures.items in
     goes_so w needs c.args.code.now answers c.args.course.now d _ later c.in-Ok.search c.search_need.new.search p c.in-Ok-search_need.answer c.in-Ok.ensures (settled_long c.args.course.now c.requires.settled)
     (record { keep = c.search_need.ensures.pace.0; script = c.search_need.ensures.point.1; budget = c.search_need.ensures.point.2 })
     (record { keep = refl; told = refl; last = refl; slice = refl; turn = refl; script = refl; budget = refl })
@@ -60,7 +60,7 @@ returns-clause-ranged g c =
       current = None;
     } in
     let t = c.search_need.new.search in
-    let kept = on_ok c.push.result _ (sym c.is_err.ensures.value ∙ c.if-is_err.false) c.push.ensures.items in
+    let kept = on_ok c.push.result c.push.new.self.items _ _ (sym c.is_err.ensures.value ∙ c.if-is_err.false) c.push.ensures.items in
     let few = few_blocks c.args.course.now c.args.code.now c.in-Ok.search t c.requires.ranged c.in-Ok.ensures c.in-Ok-search_need.ensures.state in
     let one = one_ranged t c.args.course.now.pace.point.budget c.record_of.result (c.record_of.ensures t c.in-Ok-search_need.ensures.answer) c.sets-whole.ensures.is c.dimension-rows.ensures.rows c.dimension-rows.ensures.independent (omega (arith, c.length-long.ensures.is, c.length-long.ensures.most)) c.search_need.ensures.fitting few c.requires.ranged.small in
     searched_ranged c.args.course.now d c.record_of.result c.requires.ranged one c.requires.settled c.search_need.ensures.point.0 c.search_need.ensures.point.4 c.search_need.ensures.point.2

@@ -1,6 +1,6 @@
-use Rattle.std.proofs.Common.{[], length, refl, arith}
+use Rattle.std.proofs.Common.{arith}
 use Rattle.lc_checkpoint.specs.Seen.{point_of}
-use Rattle.lc_answers.proofs.StartLaws.{first_way, none_answered, waits_first, starts_ranged, starts_resumed}
+use Rattle.lc_answers.proofs.StartLaws.{starts_ranged, starts_resumed}
 use Rattle.lc_answers.proofs.starting.resumed.Goals as goal
 
 pub overflow_add-point : goal.overflow_add-point
