@@ -1,7 +1,14 @@
 //! How far a session is between two rounds.
 
+ghost use Rattle.std.specs.Prelude.{◌≡◌, ◌+◌, ◌^◌, ◌<◌, ◌≤◌};
+ghost use Rattle.lc_sessions.specs.Slots.{next_turn};
+ghost use Rattle.lc_rounds.specs.Step.{once_told};
+
 use lc_checkpoint::Checkpoint;
 use lc_io::Record;
+
+// Checkpoints have turns up to this one.
+const LAST_TURN: u64 = 1 << 60;
 
 /// How far a session is between two rounds: what its next checkpoint says, and what it counts.
 #[derive(Drop)]
@@ -17,4 +24,28 @@ pub struct Pace {
     /// The next checkpoint: its version is 2, its turn is that of the next checkpoint, and its settled needs are those of the
     /// session. Its blocks, weight and place are set when it is stored.
     pub point: Checkpoint,
+}
+
+// The turn of the next checkpoint.
+#[tactic(auto, unfolding(lc_sessions::specs::Slots::next_turn))]
+fn turn_behind(turn: u64) -> u64
+    requires turn { turn ≤ 2 ^ 60 }
+    ensures is { result ≡ next_turn turn }
+    ensures early { result ≤ 2 ^ 60 }
+{
+    LAST_TURN.min(turn + 1)
+}
+
+impl Pace {
+    // Counts a record that was told: the next checkpoint has the next turn.
+    pub(crate) fn count(&mut self, note: Record)
+        requires room { self.old.told + 1 < 2 ^ 64 }
+        requires turn { self.old.point.turn ≤ 2 ^ 60 }
+        ensures is { self.new ≡ once_told self.old note }
+        ensures early { self.new.point.turn ≤ 2 ^ 60 }
+    {
+        self.told += 1;
+        self.last = note;
+        self.point.turn = turn_behind(self.point.turn);
+    }
 }

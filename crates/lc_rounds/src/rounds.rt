@@ -1,16 +1,20 @@
 //! The rounds of one search of a session.
-ghost use Rattle.std.specs.Prelude.{◌≡◌, ◌+◌, ◌-◌, ◌^◌, ◌<◌, ◌≤◌, List, [], ◌++◌, length, map, All, true, false, Some, Option, IfOk, IfSome, MatchResult, OnErr};
-ghost use Rattle.lc_enumeration.specs.Records.{SessionStep, found_of, last_state};
+ghost use Rattle.std.specs.Prelude.{◌≡◌, ◌+◌, ◌-◌, ◌^◌, ◌<◌, ◌≤◌, List, [], ◌++◌, ◌∷◌, length, map, All, true, false, Some, IfOk, None, OnOk, MatchResult};
+ghost use Rattle.lc_enumeration.specs.Records.{SessionStep, found_of, is_used_up, last_state};
 ghost use Rattle.lc_enumeration.specs.Search.{fits};
 ghost use Rattle.lc_formats.specs.Checkpoint.{IsProgress};
 ghost use Rattle.lc_io.specs.Watchers.{hearing};
 ghost use Rattle.lc_checkpoint.specs.Seen.{settled_of};
 ghost use Rattle.lc_search.specs.State.{answer_in, answer_of};
+ghost use Rattle.lc_rounds.specs.Step.{next_step, after_step, after_next, IsSameSession, StopsAt};
 ghost use Rattle.lc_rounds.specs.Way.{rounds_left, steps_left, around, Origin, IsOnItsWay, HasStopped, Went};
 
+use crate::keeping::{Unkept, has_bytes, keep_point};
 use crate::pace::Pace;
+use crate::round::do_round;
+use lc_field::NoMemory;
 use lc_io::{Gate, Vault, Watcher};
-use lc_search::{Answer, Search};
+use lc_search::{Answer, Search, tell};
 use std::alloc::Global;
 use std::thread::Threads;
 
@@ -23,6 +27,70 @@ pub enum Stop {
     VaultFault,
     /// Memory was refused.
     NoMemory,
+}
+
+// Whether nothing is left of the slice.
+#[tactic(auto, unfolding(lc_enumeration::specs::Records::is_used_up))]
+fn is_used_up(slice: Option<u64>) -> bool
+    ensures is { result ≡ is_used_up slice }
+{
+    match slice {
+        Some(left) => left == 0,
+        None => false,
+    }
+}
+
+// Does a round of the search, stores its checkpoint, if the session keeps its checkpoints, and tells its record.
+fn pass_round<R: Threads + Sync, V: Vault, W: Watcher, G: Gate + Sync>(
+    rt: &R,
+    alloc: Global,
+    workers: u32,
+    gate: &G,
+    vault: &mut V,
+    watchers: &mut Vec<W>,
+    pace: &mut Pace,
+    search: &mut Search,
+) -> Result<(), Stop>
+    requires workers { (1 ≤ workers) × (workers ≤ 256) }
+    requires budget { (search.old.budget ≤ 2 ^ 40) × (pace.old.point.budget ≡ search.old.budget) }
+    requires fitting { fits search.old.code search.old.progress.blocks (found_of search.old.progress) ≡ true }
+    requires going { answer_in search.old ≡ None }
+    requires left { is_used_up pace.old.slice ≡ false }
+    requires version { pace.old.point.version ≡ 2 }
+    requires turn { pace.old.point.turn ≤ 2 ^ 60 }
+    requires few { length pace.old.point.settled.items < 70000 }
+    requires settled { All (IsProgress search.old.budget) (map settled_of pace.old.point.settled.items) }
+    requires room { pace.old.told + (search.old.budget - search.old.progress.blocks) < 2 ^ 64 }
+    ensures goes { (o : Origin) (told : List SessionStep)
+        → IsOnItsWay o told pace.old (around (V.contents vault.old) (V.faults vault.old) (map (hearing W.heard W.coming W.pauses) watchers.old.items))
+        → MatchResult result
+        (λ _. IsOnItsWay o (told ++ next_step pace.old search.old ∷ []) pace.new (around (V.contents vault.new) (V.faults vault.new) (map (hearing W.heard W.coming W.pauses) watchers.new.items)))
+        (λ stop. StopsAt o told (next_step pace.old search.old) pace.new (around (V.contents vault.new) (V.faults vault.new) (map (hearing W.heard W.coming W.pauses) watchers.new.items)) stop) }
+    ensures pace { OnOk result (pace.new ≡ after_step pace.old search.old) }
+    ensures search { OnOk result (search.new ≡ after_next pace.old search.old) }
+    ensures further { OnOk result ((search.old.progress.blocks < search.new.progress.blocks) × (search.new.progress.blocks ≤ search.old.budget)) }
+    ensures same { IsSameSession pace.old pace.new × (search.new.code ≡ search.old.code) × (search.new.budget ≡ search.old.budget) }
+    ensures onward { search.old.progress.blocks ≤ search.new.progress.blocks }
+    ensures turn { pace.new.point.turn ≤ 2 ^ 60 }
+    ensures fitting { fits search.new.code search.new.progress.blocks (found_of search.new.progress) ≡ true }
+    ensures told { pace.new.told ≤ pace.old.told + (search.new.progress.blocks - search.old.progress.blocks) }
+{
+    let record = match do_round(rt, alloc, workers, gate, pace, search) {
+        Ok(record) => record,
+        Err(NoMemory) => return Err(Stop::NoMemory),
+    };
+    has_bytes(&pace.point.script);
+    match keep_point(alloc, vault, pace.keep, &pace.point) {
+        Ok(()) => {}
+        Err(Unkept::VaultFault) => return Err(Stop::VaultFault),
+        Err(Unkept::NoMemory) => return Err(Stop::NoMemory),
+    }
+    pace.count(record);
+    let paused = tell(watchers, &record);
+    if pace.keep && paused {
+        return Err(Stop::Paused);
+    }
+    Ok(())
 }
 
 /// Does the rounds of a search until it is answered. After each round its checkpoint is stored, if the session keeps its
@@ -53,9 +121,9 @@ pub fn search_need<R: Threads + Sync, V: Vault, W: Watcher, G: Gate + Sync>(
     ensures goes { (o : Origin) (before : List SessionStep)
         → IsOnItsWay o before pace.old (around (V.contents vault.old) (V.faults vault.old) (map (hearing W.heard W.coming W.pauses) watchers.old.items))
         → Went before (steps_left pace.old search.old)
-            (λ told left. MatchResult result
-                (λ _. (left ≡ []) × ((rounds_left pace.old search.old).is_stopped ≡ false) × IsOnItsWay o told pace.new (around (V.contents vault.new) (V.faults vault.new) (map (hearing W.heard W.coming W.pauses) watchers.new.items)))
-                (λ stop. HasStopped o told left (rounds_left pace.old search.old).is_stopped pace.new (around (V.contents vault.new) (V.faults vault.new) (map (hearing W.heard W.coming W.pauses) watchers.new.items)) stop)) }
+        (λ told left. MatchResult result
+        (λ _. (left ≡ []) × ((rounds_left pace.old search.old).is_stopped ≡ false) × IsOnItsWay o told pace.new (around (V.contents vault.new) (V.faults vault.new) (map (hearing W.heard W.coming W.pauses) watchers.new.items)))
+        (λ stop. HasStopped o told left (rounds_left pace.old search.old).is_stopped pace.new (around (V.contents vault.new) (V.faults vault.new) (map (hearing W.heard W.coming W.pauses) watchers.new.items)) stop)) }
     ensures answer { IfOk result (λ a. answer_in search.new ≡ Some (answer_of a)) }
     ensures state { IfOk result (λ _. search.new.progress ≡ last_state search.old.progress (rounds_left pace.old search.old).states) }
     ensures search { (search.new.code ≡ search.old.code) × (search.new.budget ≡ search.old.budget) }
@@ -64,5 +132,16 @@ pub fn search_need<R: Threads + Sync, V: Vault, W: Watcher, G: Gate + Sync>(
     ensures pace { (pace.new.keep ≡ pace.old.keep) × (pace.new.told ≤ pace.old.told + (search.new.progress.blocks - search.old.progress.blocks)) }
     ensures point { (pace.new.point.version ≡ 2) × (pace.new.point.script ≡ pace.old.point.script) × (pace.new.point.budget ≡ pace.old.point.budget) × (pace.new.point.settled ≡ pace.old.point.settled) × (pace.new.point.turn ≤ 2 ^ 60) }
 {
-    Err(Stop::NoMemory)
+    loop {
+        if let Some(answer) = search.finished() {
+            return Ok(answer);
+        }
+        if is_used_up(pace.slice) {
+            return Err(Stop::Paused);
+        }
+        match pass_round(rt, alloc, workers, gate, vault, watchers, pace, search) {
+            Ok(()) => {}
+            Err(stop) => return Err(stop),
+        }
+    }
 }
