@@ -38,7 +38,8 @@ use Rattle.lc_answers.specs.declared.course.Course.{Course}
 use Rattle.lc_script.specs.declared.statements.Text.{Text}
 use Rattle.lc_answers.specs.Going.{World, settled_in, rounds_from, IsMisfit, Misfits}
 use Rattle.lc_script.specs.Text.{Prints}
-use Rattle.lc_script.proofs.SessionLaws.{world, course_of}
+use Rattle.lc_script.specs.Worlds.{world}
+use Rattle.lc_script.proofs.SessionLaws.{course_of}
 
 -- the needs of a script are met by its session
 whole_met : (bytes : List ℕ) (needs : List Matrix) → IsNeeds built_calls bytes needs → MeetsFirst built_calls bytes needs

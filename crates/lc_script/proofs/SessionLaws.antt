@@ -1,6 +1,4 @@
 -- How a session of `run` or `resume` ends, from what its text and its searches did.
---   outside_of           what is known of the outside
---   world                what stays the same in a session that asks for these settings
 --   IsReady              its searches start
 --   course_of            how it went
 --   assembled            the contract of a session, from its parts
@@ -33,21 +31,9 @@ use Rattle.lc_rounds.specs.declared.rounds.Stop.TheVariants.{Paused, VaultFault,
 use Rattle.lc_course.specs.Course.{Beginning, begins}
 use Rattle.lc_answers.specs.declared.course.Course.{Course}
 use Rattle.lc_script.specs.declared.statements.Text.{Text}
+use Rattle.lc_script.specs.Worlds.{outside_of, world}
 use Rattle.lc_answers.specs.Going.{World, IsOf, rounds_from, Stops, IsMisfit}
 use Rattle.lc_script.specs.Text.{Prints}
-
-abbrev pub outside_of : Option (List ℕ) → ℕ → Option (List ℕ) → ℕ → Around → Outside
-outside_of source source_faults sink sink_faults now = record { source = source; source_faults = source_faults; sink = sink; sink_faults = sink_faults; vault = now.vault; vault_faults = now.faults; watchers = now.watchers }
-
-abbrev pub world : Settings → List ℕ → Beginning → ℕ → Option Slots → Outside → World
-world asked bytes b turn held old = record {
-  beginning = b;
-  budget = asked.budget;
-  slice = asked.slice;
-  keep = asked.keep;
-  digest = sha256 bytes;
-  origin = record { turn = turn; around = around held old.vault_faults old.watchers };
-}
 
 -- its searches start
 pub record IsReady (args : List (List ℕ)) (asked : Settings) (old : Outside) (source : Option (List ℕ)) (source_faults : ℕ) (bytes : List ℕ) (held : Option Slots) : Type 0 where

@@ -16,7 +16,7 @@ use Rattle.lc_sessions.specs.Endings.{Ending, usage, done, sink_fault, no_memory
 use Rattle.lc_sessions.specs.Session as session
 use Rattle.lc_sessions.specs.Session.{Outside, rounds_of, Accepts, WasRead, IsAccepted, IsSession}
 use Rattle.lc_rounds.specs.Way.{Around}
-use Rattle.lc_script.proofs.SessionLaws.{outside_of}
+use Rattle.lc_script.specs.Worlds.{outside_of}
 
 module _ (args : List (List ℕ)) (workers budget number : ℕ) (accepted : options all_options args ≡ settings (record { command = check; workers = workers; budget = budget; slice = None; keep = false; number = number })) (now : Around) (old_source source : Option (List ℕ)) (old_source_faults source_faults : ℕ) (old_sink sink : Option (List ℕ)) (old_sink_faults sink_faults : ℕ) (bytes : List ℕ) (read : WasRead old_source source bytes) (quiet : source_faults ≡ old_source_faults) where
   asked : Settings

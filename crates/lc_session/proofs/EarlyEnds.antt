@@ -21,7 +21,7 @@ use Rattle.lc_sessions.specs.Slots.{takes, nothing_stored, none_decodes, is_for}
 use Rattle.lc_sessions.specs.Endings.{Ending, usage, source_fault, vault_fault, no_memory, no_checkpoint, damaged_checkpoint, other_script, too_long}
 use Rattle.lc_sessions.specs.Session as session
 use Rattle.lc_sessions.specs.Session.{Outside, most_bytes, rounds_of, records_of, can_end, reads, Accepts, WasRead, GaveTooMuch, ReadsScript, Reads, Starts, Meets, AreHalfEmptied, Stores, StoresIfKept, Finds, Replied, Writes, Counts, NoneFailed, IsSession}
-use Rattle.lc_script.proofs.SessionLaws.{outside_of}
+use Rattle.lc_script.specs.Worlds.{outside_of}
 use Rattle.lc_rounds.specs.Way.{Around}
 
 abbrev pub none : List ℕ → session.Course

@@ -29,7 +29,8 @@ use Rattle.lc_answers.specs.declared.need.Halt.TheVariants as halt
 use Rattle.lc_script.specs.declared.statements.Text.{Text}
 use Rattle.lc_answers.specs.Going.{World, rounds_from, Stops, IsMisfit}
 use Rattle.lc_script.specs.Text.{Prints, EndsBefore}
-use Rattle.lc_script.proofs.SessionLaws.{outside_of, world, IsReady, course_of, paused_session, torn_session, starved_session, unfit_session, done_session, unwritten_session}
+use Rattle.lc_script.specs.Worlds.{outside_of, world}
+use Rattle.lc_script.proofs.SessionLaws.{IsReady, course_of, paused_session, torn_session, starved_session, unfit_session, done_session, unwritten_session}
 use Rattle.lc_script.proofs.ReplyLaws.{whole_met, run_replies, resumed, resume_replies, resume_unfit}
 use Rattle.lc_session.specs.declared.status.Status.{Status}
 use Rattle.lc_session.specs.Ending.{ending_of}

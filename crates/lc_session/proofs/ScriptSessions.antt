@@ -25,7 +25,8 @@ use Rattle.lc_answers.specs.declared.need.Halt.{Halt}
 use Rattle.lc_script.specs.declared.statements.Text.{Text}
 use Rattle.lc_answers.specs.Going.{World, started, Goes}
 use Rattle.lc_script.specs.Text.{Prints, EndsBefore}
-use Rattle.lc_script.proofs.SessionLaws.{outside_of, world, IsReady}
+use Rattle.lc_script.specs.Worlds.{outside_of, world}
+use Rattle.lc_script.proofs.SessionLaws.{IsReady}
 use Rattle.lc_session.specs.declared.status.Status.{Status}
 use Rattle.lc_session.specs.Ending.{ending_of}
 use Rattle.lc_session.specs.Closing.{Closes}

@@ -37,7 +37,7 @@ use Rattle.lc_answers.specs.declared.need.Halt.TheVariants as halt
 use Rattle.lc_answers.specs.Going.{World, started, rounds_from, settled_in, Goes, Stops, Halts}
 use Rattle.lc_script.proofs.TextLaws.{IsEven, even}
 use Rattle.lc_answers.proofs.NeedLaws.{starving}
-use Rattle.lc_script.proofs.SessionLaws.{outside_of}
+use Rattle.lc_script.specs.Worlds.{outside_of}
 
 many_rows : (i : ℕ) (words : List ℕ) → length (summary_rows i words) ≡ length words
 unfolding summary_rows

@@ -8,7 +8,7 @@ ghost use Rattle.lc_sessions.specs.Options.{settings, options, all_options};
 ghost use Rattle.lc_sessions.specs.Session.{AreHalfEmptied, IsSession};
 ghost use Rattle.lc_arguments.specs.Asked.{settings_for, IsWithin};
 ghost use Rattle.lc_rounds.specs.Way.{around};
-ghost use Rattle.lc_script.proofs.SessionLaws.{outside_of};
+ghost use Rattle.lc_script.specs.Worlds.{outside_of};
 ghost use Rattle.lc_session.specs.Ending.{ending_of};
 ghost use Rattle.lc_session.specs.Closing.{Closes, status_of};
 

@@ -5,7 +5,7 @@ ghost use Rattle.lc_eval.specs.Built.{built_calls};
 ghost use Rattle.lc_sessions.specs.Session.{IsSession};
 ghost use Rattle.lc_arguments.specs.Asked.{words_of};
 ghost use Rattle.lc_rounds.specs.Way.{around};
-ghost use Rattle.lc_script.proofs.SessionLaws.{outside_of};
+ghost use Rattle.lc_script.specs.Worlds.{outside_of};
 ghost use Rattle.lc_session.specs.Ending.{ending_of};
 
 use crate::check::check;
