@@ -28,6 +28,7 @@ stored() {
 nothing_stands_alone() {
     local file
     for file in "$1"/*; do
+        [ -d "$file" ] && continue
         case $file in
         *.codes) [ -f "${file%.codes}.out" ] || { echo "$file has no .out"; return 1; } ;;
         *.out | *.status | *.err | *.words) [ -f "${file%.*}.codes" ] || { echo "$file has no .codes"; return 1; } ;;
@@ -169,6 +170,7 @@ check_against_reference() {
 
 check_certificates() {
     check 'tools/check_certificate.py says what the stored texts say' python3 -B tools/compare_certificates.py --stored tests/rows
+    check 'the gallery: `codes` prints each certificate, and both programs accept it' python3 -B tools/gallery.py --check "$program"
     check '3,000 altered certificates: the program and tools/check_certificate.py agree' python3 -B tools/compare_certificates.py "$program" 3000
 }
 

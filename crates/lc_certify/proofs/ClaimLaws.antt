@@ -46,7 +46,7 @@ claims_long [] ws e = refl
 claims_long (s ∷ sets) [] e = absurd (omega (arith, e))
 claims_long (s ∷ sets) (w ∷ ws) e = ap suc (claims_long sets ws (omega (arith, e)))
 
-levels_long : (C : Matrix) (l : ℕ) → length (levels_below C l) ≡ set_count C
+pub levels_long : (C : Matrix) (l : ℕ) → length (levels_below C l) ≡ set_count C
 levels_long C l = ap length (levels_of C l) ∙ length-map (below (set_count C)) (level_below C l) ∙ length_below (set_count C)
 
 pub claims_many : (C : Matrix) (l : ℕ) → length (claims_at (sets_of C) (levels_below C l)) ≡ set_count C

@@ -1,11 +1,13 @@
 //! The certificate of a search.
-ghost use Rattle.std.specs.Prelude.{◌≡◌, ◌≤◌, IsTrue, IfOk};
+ghost use Rattle.std.specs.Prelude.{◌≡◌, ◌^◌, ◌≤◌, IsTrue, IfOk};
 ghost use Rattle.lc_algebra.specs.Field.{is_symbol};
 ghost use Rattle.lc_algebra.specs.Word.{IsWord};
+ghost use Rattle.lc_formats.specs.Certificate.{cost, IsValid};
 ghost use Rattle.lc_formats.specs.Shape.{IsShaped};
 ghost use Rattle.lc_certificate.specs.Seen.{proof_of as seen_proof, certificate_of as seen_certificate};
 ghost use Rattle.lc_language.specs.Query.{proof_of, certificate_of};
 ghost use Rattle.lc_certify.specs.Claims.{kind_of};
+ghost use Rattle.lc_certify.specs.Accepted.{IsExactAt};
 
 use crate::claims::claims_of;
 use crate::way::Way;
@@ -67,7 +69,7 @@ fn proof_by(alloc: Global, way: Way, search: &Search) -> Result<Proof, NoMemory>
 ///
 /// `word` is a word of the code's length over its field, and `weight` is at least 1. In a search that has ended with an exact
 /// answer they are its best word and that word's weight, which is the distance; that the search has ended isn't tried. The
-/// certificate has the shape that a reader wants.
+/// certificate has the shape that a reader wants, and it is valid in such a search if it costs a checker at most 2^32 words.
 #[tactic(auto, unfolding(lc_certificate::specs::Seen::certificate_of, lc_language::specs::Query::certificate_of))]
 pub fn certificate_of(
     alloc: Global,
@@ -80,6 +82,7 @@ pub fn certificate_of(
     requires positive { 1 ≤ weight }
     ensures is { IfOk result (λ c. seen_certificate c ≡ certificate_of (kind_of way) search.now.code word weight search.now.progress.blocks) }
     ensures shaped { IfOk result (λ c. IsShaped (seen_certificate c)) }
+    ensures valid { IfOk result (λ c. IsExactAt search.now.code word weight search.now.progress.blocks → cost (seen_certificate c) ≤ 2 ^ 32 → IsValid (seen_certificate c)) }
 {
     let sets = search.sets();
     let _some = sets.dimension();

@@ -4,6 +4,7 @@
 mod answered;
 mod certificate;
 mod claims;
+pub mod laws;
 mod line;
 mod way;
 

@@ -5,3 +5,5 @@ pub mod CostLaws
 pub mod SetLaws
 pub mod CheckLaws
 pub mod PackedLaws
+pub mod BlockLaws
+pub mod HeavyLaws

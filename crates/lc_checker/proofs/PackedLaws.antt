@@ -6,10 +6,10 @@
 --   front_start, front_next    the packed sum of the rows at the places of a front, and of one place more
 --   front_within               the places of a front
 --   leaf_passed                a last place whose word isn't lighter is passed over
-use Rattle.std.proofs.Common.{◌≡◌, ◌⊎◌, ℕ, zero, suc, ◌+◌, ◌-◌, ◌*◌, ◌^◌, ◌<◌, ◌≤◌, Bool, true, false, not, cond, ◌==◌, ◌&&◌, nat_lt, List, [], ◌∷◌, ◌++◌, find, take, drop, flat_map, length, bit_xor, count_ones, count_by, slice_index, slice_index_or, Option, Some, None, refl, sym, ap, ap₂, subst, ◌∙◌, inl, inr, ⊎_elim, arith, append-nil}
-use Rattle.std.proofs.Math.Nat.{pow-suc, pow-zero, pow-le-pow_right}
+use Rattle.std.proofs.Common.{◌≡◌, ℕ, zero, suc, ◌+◌, ◌-◌, ◌*◌, ◌^◌, ◌<◌, ◌≤◌, Bool, false, not, cond, ◌==◌, ◌&&◌, nat_lt, List, [], ◌∷◌, ◌++◌, find, take, drop, flat_map, length, bit_xor, count_ones, slice_index, Option, refl, sym, ap, ap₂, subst, ◌∙◌, arith, append-nil}
+use Rattle.std.proofs.Math.Nat.{pow-suc, pow-le-pow_right}
 use Rattle.std.proofs.Math.Seq.{drop-cons}
-use Rattle.std.proofs.lemmas.List.{length-drop, length-append, length-take-le, drop_all, get_or-take}
+use Rattle.std.proofs.lemmas.List.{length-drop, length-take-le, drop_all, get_or-take}
 use Rattle.std.proofs.lemmas.List.Concat.{flat_map-cons}
 use Rattle.std.proofs.lemmas.Nat.{xor_block, ones_cat}
 use lib.Count.{ones}
@@ -47,7 +47,7 @@ add_bits (suc (suc a)) b l m = absurd (omega (arith, l))
 bit_of : (u : List ℕ) (a : ℕ) → Fits Gf2 (a ∷ u) → a < 2
 bit_of u a h = omega (arith, fits_head Gf2 a u h, two)
 
-packed_sum : (u v : List ℕ) → length u ≡ length v → Fits Gf2 u → Fits Gf2 v → packed (word_sum Gf2 u v) ≡ bit_xor (packed u) (packed v)
+pub packed_sum : (u v : List ℕ) → length u ≡ length v → Fits Gf2 u → Fits Gf2 v → packed (word_sum Gf2 u v) ≡ bit_xor (packed u) (packed v)
 unfolding packed word_sum
 packed_sum [] [] e h i = refl
 packed_sum [] (b ∷ v) e h i = absurd (omega (arith, e))
@@ -64,7 +64,7 @@ one_bit zero l = refl
 one_bit (suc zero) l = refl
 one_bit (suc (suc a)) l = absurd (omega (arith, l))
 
-packed_ones : (u : List ℕ) → Fits Gf2 u → count_ones (packed u) ≡ weight u
+pub packed_ones : (u : List ℕ) → Fits Gf2 u → count_ones (packed u) ≡ weight u
 unfolding packed
 packed_ones [] h = one_bit 0 (omega arith)
 packed_ones (a ∷ u) h =
@@ -95,7 +95,7 @@ pack_step word i bits z l e =
     let back : suc (i - 1) ≡ i = omega (arith, z) in
     sym (ap packed (drop-cons word (i - 1) 0 (omega (arith, l, z))) ∙ packed_cons (slice_index word (i - 1)) (drop (suc (i - 1)) word) ∙ ap (λ m. packed (drop m word) * 2 + slice_index word (i - 1)) back ∙ ap (λ x. x * 2 + slice_index word (i - 1)) (sym e))
 
-fits_drop : (w : List ℕ) (i : ℕ) → Fits Gf2 w → Fits Gf2 (drop i w)
+pub fits_drop : (w : List ℕ) (i : ℕ) → Fits Gf2 w → Fits Gf2 (drop i w)
 fits_drop w zero h = h
 fits_drop [] (suc i) h = h
 fits_drop (a ∷ w) (suc i) h = fits_drop w i (fits_tail Gf2 a w h)
@@ -150,7 +150,7 @@ sum_word f n rows a (p ∷ s) r w h =
     let is : IsWord f n (row_of rows p) = r p [] (h 0 (omega arith)) in
     sum_word f n rows (word_sum f a (scale f 1 (row_of rows p))) s r (IsWord_sum f n a (scale f 1 (row_of rows p)) w.long (length_scale f 1 (row_of rows p) ∙ is.long)) (λ i l. h (suc i) (omega (arith, l)))
 
-zero_packed : (n : ℕ) → packed (zero_word n) ≡ 0
+pub zero_packed : (n : ℕ) → packed (zero_word n) ≡ 0
 zero_packed zero = packed_nil
 zero_packed (suc n) = packed_cons 0 (zero_word n) ∙ omega (arith, zero_packed n)
 
@@ -161,7 +161,7 @@ front_start C front e = rw e (sym (zero_packed C.columns))
 pub front_word : (C : Matrix) (bits front : List ℕ) → ArePacked C bits → ((i : ℕ) → i < length front → slice_index front i < length C.rows) → IsWord C.field C.columns (sum_over C.field C.rows (zero_word C.columns) front)
 front_word C bits front h inside = sum_word C.field C.columns C.rows (zero_word C.columns) front h.words (IsWord_zero C.field C.columns) inside
 
-fits_two : (f : FieldName) (n : ℕ) (w : List ℕ) → f ≡ Gf2 → IsWord f n w → Fits Gf2 w
+pub fits_two : (f : FieldName) (n : ℕ) (w : List ℕ) → f ≡ Gf2 → IsWord f n w → Fits Gf2 w
 fits_two f n w e h = subst (λ g. Fits g w) e h.fits
 
 pub front_next : (C : Matrix) (bits front longer : List ℕ) (p sum : ℕ) → ArePacked C bits → ((i : ℕ) → i < length front → slice_index front i < length C.rows) → p < length C.rows → longer ≡ front ++ p ∷ [] → sum ≡ front_bits C front → bit_xor sum (slice_index bits p) ≡ front_bits C longer

@@ -3,7 +3,7 @@
 --   sum_over f rows a s   the sum of a and the rows at the places of s
 --   front_bits C front    the packed sum of the rows at the places of front
 --   ArePacked C bits      a matrix over 2 elements with at most 64 columns, and its packed rows
-use Rattle.std.specs.Prelude.{◌≡◌, ℕ, ◌+◌, ◌*◌, ◌<◌, ◌≤◌, List, [], ◌∷◌, length, slice_index}
+use Rattle.std.specs.Prelude.{◌≡◌, ℕ, ◌+◌, ◌*◌, ◌<◌, List, [], ◌∷◌, length, slice_index}
 use Rattle.lc_algebra.specs.declared.FieldName.{FieldName}
 use Rattle.lc_algebra.specs.declared.FieldName.TheVariants.{Gf2}
 use Rattle.lc_algebra.specs.Word.{zero_word, word_sum, scale}

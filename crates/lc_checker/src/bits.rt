@@ -40,7 +40,7 @@ fn bits_of_rows(alloc: Global, rows: &Matrix) -> Result<Vec<u64>, NoMemory>
 
 // The bits of a word over 2 elements, the first symbol the lowest.
 #[tactic(auto, using(crate::proofs::PackedLaws::pack_none, crate::proofs::PackedLaws::pack_step, crate::proofs::PackedLaws::pack_room, crate::proofs::PackedLaws::bit_small, crate::proofs::PackedLaws::pack_all))]
-fn bits_of(word: &[u8]) -> u64
+pub(crate) fn bits_of(word: &[u8]) -> u64
     requires bits { Fits Gf2 word.now }
     requires few { length word.now ≤ 64 }
     ensures is { result ≡ packed word.now }

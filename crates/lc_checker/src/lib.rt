@@ -5,11 +5,13 @@
 #![tactic(auto)]
 
 mod bits;
+mod blocks;
 mod checking;
 mod cost;
 mod reasons;
 mod seen;
 mod sets;
+mod sums;
 mod verdict;
 mod walk;
 

@@ -1,6 +1,6 @@
 //! The walk through the words of the messages of some levels, in the order of the messages, to the first one that is lighter.
 
-ghost use Rattle.std.specs.Prelude.{◌≡◌, ℕ, ◌+◌, ◌-◌, ◌<◌, ◌≤◌, List, [], length, set, take, drop, find, slice_index, slice_index_or, All, Some, None, IfOk, IfSome, IfNone};
+ghost use Rattle.std.specs.Prelude.{◌≡◌, ℕ, ◌+◌, ◌-◌, ◌<◌, ◌≤◌, false, List, [], length, set, take, drop, find, slice_index, slice_index_or, All, Some, None, IfOk, IfSome, IfNone};
 ghost use Rattle.lc_algebra.specs.Field.{size};
 ghost use Rattle.lc_algebra.specs.Word.{IsWord, zero_word, word_sum, scale};
 ghost use Rattle.lc_formats.specs.Certificate.{is_lighter};
@@ -8,14 +8,54 @@ ghost use Rattle.lc_checker.specs.Packed.{ArePacked};
 ghost use Rattle.lc_checker.specs.Walk.{AreSums, words_along, support_words, words_over, words_from, found};
 
 use crate::bits::{lighter_in_bits, packed_rows};
+use crate::blocks::has_light;
+use crate::sums::has_lighter_sum;
 use lc_field::NoMemory;
 use lc_matrix::Matrix;
 use lc_vec::{Word, weight};
 use std::alloc::Global;
 
-// The first word of the levels 1 to `level` over these rows that is lighter than the distance, and not zero.
-#[tactic(auto, using(crate::proofs::WalkLaws::sums_zero))]
+// The first word of the levels 1 to `level` over these rows that is lighter than the distance, and not zero. Whether there is
+// one is seen first, in the quickest order.
 pub(crate) fn first_lighter(
+    alloc: Global,
+    rows: &Matrix,
+    distance: u64,
+    level: usize,
+) -> Result<Option<Word>, NoMemory>
+    requires level { level ≤ length rows.now.rows }
+    requires rows { length rows.now.rows ≤ 255 }
+    ensures is { IfOk result (λ w. w ≡ find (is_lighter distance) (words_from rows.now.field rows.now.columns rows.now.rows 1 level)) }
+{
+    if !has_lighter(alloc, rows, distance, level)? {
+        return Ok(None);
+    }
+    let word = first_in_order(alloc, rows, distance, level)?;
+    Ok(word)
+}
+
+// Whether there is such a word.
+#[tactic(auto, using(crate::proofs::PackedLaws::binary_field))]
+fn has_lighter(alloc: Global, rows: &Matrix, distance: u64, level: usize) -> Result<bool, NoMemory>
+    requires level { level ≤ length rows.now.rows }
+    requires rows { length rows.now.rows ≤ 255 }
+    ensures none { IfOk result (λ b. b ≡ false → None ≡ find (is_lighter distance) (words_from rows.now.field rows.now.columns rows.now.rows 1 level)) }
+{
+    if rows.field().size() != 2 || 256 < rows.cols() {
+        return has_lighter_sum(alloc, rows, distance, level);
+    }
+    if rows.cols() <= 64 {
+        return has_light::<1>(alloc, rows, distance, level);
+    }
+    if rows.cols() <= 128 {
+        return has_light::<2>(alloc, rows, distance, level);
+    }
+    has_light::<4>(alloc, rows, distance, level)
+}
+
+// The first such word, in the order of the messages.
+#[tactic(auto, using(crate::proofs::WalkLaws::sums_zero))]
+fn first_in_order(
     alloc: Global,
     rows: &Matrix,
     distance: u64,
@@ -89,7 +129,7 @@ fn lighter_on_level(
 }
 
 // So many zero words of n symbols.
-fn zeros(alloc: Global, many: usize, n: usize) -> Result<Vec<Word>, NoMemory>
+pub(crate) fn zeros(alloc: Global, many: usize, n: usize) -> Result<Vec<Word>, NoMemory>
     ensures many { IfOk result (λ ws. length ws.items ≡ many) }
     ensures zero { IfOk result (λ ws. (i : ℕ) → i < many → slice_index_or ws.items i [] ≡ zero_word n) }
 {
@@ -195,7 +235,7 @@ fn put_row(rows: &Matrix, place: usize, c: u8, sums: &mut [Word], depth: usize)
 
 // Whether the word isn't zero and is lighter than the distance.
 #[tactic(auto, unfolding(lc_formats::specs::Certificate::is_lighter))]
-fn is_lighter(symbols: &[u8], distance: u64) -> bool
+pub(crate) fn is_lighter(symbols: &[u8], distance: u64) -> bool
     ensures is { result ≡ is_lighter distance symbols.now }
 {
     let w = weight(symbols) as u64;

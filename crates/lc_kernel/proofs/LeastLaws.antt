@@ -1,12 +1,12 @@
--- The least number of a list, one number more at a time, and the least value of a run.
+-- The least number of a list, one number more at a time, and the least value of some words.
 --   least_taken, least_kept      one number more, which is less or isn't
---   run_least                    the least value of a run, from the first of its least numbers of ones
---   run_none                     if none is below the bound, the value stays
---   seen_run                     what is seen after a run
-use Rattle.std.proofs.Common.{◌≡◌, ◌⊎◌, ℕ, ◌+◌, ◌-◌, ◌*◌, ◌/◌, ◌%◌, ◌^◌, ◌<◌, ◌≤◌, List, length, slice_index, bit_xor, count_ones, refl, sym, ap, ◌∙◌, inl, inr, ⊎_elim, arith}
+--   counts_value                 the least value of words, from the first of their least counts
+--   first_of, one_least          the first of the counts that is the least of them, and that there is one
+use Rattle.std.proofs.Common.{◌≡◌, ◌≢◌, ◌⊎◌, ℕ, ◌+◌, ◌*◌, ◌^◌, ◌<◌, ◌≤◌, List, [], length, slice_index, slice_index_or, refl, sym, ap, ◌∙◌, inl, inr, ⊎_elim, arith}
 use Rattle.std.proofs.lemmas.Bool.{cases_lt}
-use Rattle.lc_kernel.specs.Values.{value_at, IsLeastValue, IsLeastSeen}
-use Rattle.lc_kernel.specs.Least.{IsLeastOr, IsFirstLeast, run_value, IsRunBest}
+use Rattle.lc_algebra.specs.Word.{weight}
+use Rattle.lc_kernel.specs.Values.{IsLeastValue}
+use Rattle.lc_kernel.specs.Least.{IsLeastOr, IsFirstLeast}
 
 one_more : (i n : ℕ) → i < n + 1 → (i < n) ⊎ (i ≡ n)
 one_more i n l = ⊎_elim (λ a. inl a) (λ a. inr (omega (arith, a, l))) (cases_lt i n)
@@ -25,41 +25,29 @@ least_kept n f bound v h l = record {
   attained = λ a. let t = h.attained a in (t.0, omega (arith, t.1), t.2);
 }
 
-pub run_least : (sums : List ℕ) (prefix level place best ones at : ℕ) → ones < best / 2 ^ 52 - level → IsFirstLeast (length sums) (λ i. count_ones (bit_xor (slice_index sums i) prefix)) ones at → place + length sums ≤ 2 ^ 52 → IsRunBest sums prefix level place best ((level + ones) * 2 ^ 52 + (place + at))
-run_least sums prefix level place best ones at few h room =
-    let f = λ (i : ℕ). count_ones (bit_xor (slice_index sums i) prefix) in
-    record {
-      most = omega (arith, few, h.inside, room);
-      low = λ i l. ⊎_elim
-          (λ a. let t : ones < f i = h.first i a in omega (arith, t, h.inside, room))
-          (λ a. let t : ones ≤ f i = h.low i l in omega (arith, t, a))
-          (cases_lt i at);
-      from = inr (at, h.inside, ap (λ x. (level + x) * 2 ^ 52 + (place + at)) (sym h.is));
-    }
-
-pub run_none : (sums : List ℕ) (prefix level place best : ℕ) → ((i : ℕ) → i < length sums → best / 2 ^ 52 - level ≤ count_ones (bit_xor (slice_index sums i) prefix)) → best % 2 ^ 52 ≤ place → IsRunBest sums prefix level place best best
-run_none sums prefix level place best h later = record {
-  most = omega arith;
-  low = λ i l. omega (arith, h i l, later);
-  from = inl refl;
+pub counts_value : (first : ℕ) (ws : List (List ℕ)) (counts : List ℕ) (level n least at : ℕ) → n ≤ 2 ^ 52 → ((i : ℕ) → i < n → weight (slice_index_or ws i []) ≡ level + slice_index counts i) → IsFirstLeast n (λ i. slice_index counts i) least at → IsLeastValue first ws n ((level + least) * 2 ^ 52 + (first + at))
+counts_value first ws counts level n least at few h l = record {
+  low = λ i m. ⊎_elim
+      (λ a. omega (arith, l.first i a, h i m, l.inside, few))
+      (λ a. omega (arith, l.low i m, h i m, a))
+      (cases_lt i at);
+  attained = (at, l.inside, ap (λ x. (level + x) * 2 ^ 52 + (first + at)) (sym l.is) ∙ ap (λ x. x * 2 ^ 52 + (first + at)) (sym (h at l.inside)));
 }
 
-pub seen_run : (first done : ℕ) (ws : List (List ℕ)) (sums : List ℕ) (prefix level best v : ℕ) → IsLeastSeen first ws done best → done + length sums ≤ length ws → ((i : ℕ) → i < length sums → value_at first ws (done + i) ≡ run_value sums prefix level (first + done) i) → IsRunBest sums prefix level (first + done) best v → IsLeastSeen first ws (done + length sums) v
-seen_run first done ws sums prefix level best v h room values r = record {
-  low = λ i l. ⊎_elim
-      (λ a. omega (arith, h.low i a, r.most))
-      (λ a.
-      let j = i - done in
-      let e : done + j ≡ i = omega (arith, a) in
-      let low = r.low j (omega (arith, l, a)) in
-      let is = values j (omega (arith, l, a)) in
-      rw (sym e) (omega (arith, low, is)))
-      (cases_lt i done);
-  attained = ⊎_elim
-      (λ e. let t = h.attained in (t.0, omega (arith, t.1), t.2, e ∙ t.3))
-      (λ t. (done + t.0, omega (arith, t.1), omega (arith, t.1, room), t.2 ∙ sym (values t.0 t.1)))
-      r.from;
+-- the first of the counts that is the least of them
+pub first_of : (counts : List ℕ) (least at : ℕ) → IsLeastOr (length counts) (λ i. slice_index counts i) 256 least → at < length counts → slice_index counts at ≡ least → ((i : ℕ) → i < at → slice_index counts i ≢ least) → IsFirstLeast (length counts) (λ i. slice_index counts i) least at
+first_of counts least at h inside is before = record {
+  inside = inside;
+  is = is;
+  low = h.low;
+  first = λ i l. ⊎_elim
+      (λ a. a)
+      (λ a. absurd (before i l (omega (arith, a, h.low i (omega (arith, l, inside))))))
+      (cases_lt least (slice_index counts i));
 }
 
-pub seen_all : (first : ℕ) (ws : List (List ℕ)) (n v : ℕ) → n ≡ length ws → IsLeastSeen first ws n v → IsLeastValue first ws n v
-seen_all first ws n v e h = let t = h.attained in record { low = h.low; attained = (t.0, omega (arith, e, t.2), t.3) }
+-- some count is the least of them
+pub one_least : (counts : List ℕ) (least : ℕ) → 0 < length counts → ((i : ℕ) → i < length counts → slice_index counts i ≤ 255) → IsLeastOr (length counts) (λ i. slice_index counts i) 256 least → ((i : ℕ) → i < length counts → slice_index counts i ≢ least) → ⊥
+one_least counts least some few h none =
+    let t = h.attained (omega (arith, h.low 0 some, few 0 some)) in
+    none t.0 t.1 t.2

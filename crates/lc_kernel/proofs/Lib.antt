@@ -2,6 +2,8 @@ pub mod FrontLaws
 pub mod SumLaws
 pub mod ScanLaws
 pub mod PackLaws
+pub mod PlaneLaws
+pub mod GridLaws
 pub mod PairLaws
 pub mod LeastLaws
 pub mod RunLaws

@@ -16,7 +16,7 @@ use Rattle.lc_algebra.specs.Matrix.{Matrix}
 use Rattle.lc_enumeration.specs.Search.{set_count, generator_at}
 use Rattle.lc_kernel.specs.Sums.{multiple_at, multiple_index, AreMultiples}
 
-below_product : (a b i j : ℕ) → i < a → j < b → i * b + j < a * b
+pub below_product : (a b i j : ℕ) → i < a → j < b → i * b + j < a * b
 below_product a b i j l m = omega (arith, m, mul-le-mul_right b l, suc-mul i b)
 
 pub index_inside : (C : Matrix) (j i c : ℕ) → j < set_count C → i < length C.rows → c + 1 < size C.field → multiple_index C j i c < set_count C * length C.rows * (size C.field - 1)

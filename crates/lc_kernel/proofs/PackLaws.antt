@@ -3,15 +3,17 @@
 --   count_split                  what is counted in a list, by what passes a test
 --   weight_split                 the weight of a word, by its symbols in a set and outside it
 --   message_symbols              a word has its message on the basis of its set
---   weight_of_word               the weight of a message's word: its level, and the ones outside the basis
---   outside_inside               the columns outside a set are columns
+--   weight_of_word               the weight of a message's word: its level, and its symbols outside the basis
+--   part_none, part_more, part_all      the weight at some columns, part by part
+--   outside_inside, others_few      the columns outside a set are columns
 --   pack_none, pack_step, pack_room, bit_small      the bits of a word, from its last column on
 --   bits_none, bits_more         the bits of the word of an entry more
-use Rattle.std.proofs.Common.{◌≡◌, ◌⊎◌, ℕ, zero, suc, ◌+◌, ◌-◌, ◌*◌, ◌^◌, ◌<◌, ◌≤◌, Bool, not, cond, ◌==◌, if◌then◌else◌, List, [], ◌∷◌, length, drop, filter, bit_xor, count_ones, count_by, slice_index, slice_index_or, Contains, refl, sym, ap, ◌∙◌, inl, inr, ⊎_elim, arith}
+use Rattle.std.proofs.Common.{◌≡◌, ◌⊎◌, ℕ, zero, suc, ◌+◌, ◌-◌, ◌*◌, ◌^◌, ◌<◌, ◌≤◌, Bool, not, cond, ◌==◌, if◌then◌else◌, List, [], ◌∷◌, length, take, drop, ◌++◌, filter, bit_xor, count_ones, count_by, slice_index, slice_index_or, Contains, refl, sym, ap, ◌∙◌, inl, inr, ⊎_elim, arith}
 use Rattle.std.proofs.Math.Nat.{pow-suc, pow-zero, one-le-pow}
-use Rattle.std.proofs.Math.Seq.{drop-cons}
+use Rattle.std.proofs.Math.Seq.{drop-cons, take-add}
 use Rattle.std.proofs.lemmas.Bool.{cases_Bool, eq-eqb, ne_eqb}
-use Rattle.std.proofs.lemmas.List.{get_or_default, ext_get_or, drop_all, length-drop, get_or-drop}
+use Rattle.std.proofs.lemmas.List.{get_or_default, ext_get_or, drop_all, take_all, length-drop, get_or-drop}
+use Rattle.std.proofs.lemmas.List.Sums.{sum_by-append, length-filter, count_by-le-length}
 use Rattle.std.proofs.lemmas.Nat.{xor_block, ones_cat}
 use lib.Count.{ones}
 use Rattle.lc_algebra.specs.declared.FieldName.{FieldName}
@@ -23,7 +25,7 @@ use Rattle.lc_algebra.specs.Span.{below, combine, AreIndependent}
 use Rattle.lc_algebra.specs.Matrix.{Matrix, AreRows, IsIdentityOn, entry}
 use Rattle.lc_algebra.specs.SpanLaws.{restrict}
 use Rattle.lc_algebra.proofs.WordLaws.{weight_cons, fits_head, fits_tail, fits_symbol, one_scale}
-use Rattle.lc_algebra.proofs.SpanLaws.{contains_below, below_contains}
+use Rattle.lc_algebra.proofs.SpanLaws.{contains_below, below_contains, length_below}
 use Rattle.lc_algebra.proofs.ColumnLaws.{index_restrict, length_restrict, restrict_sum, restrict_zero}
 use Rattle.lc_algebra.proofs.ReducedLaws.{symbol_of_combination}
 use Rattle.lc_algebra.proofs.DimensionLaws.{AreDistinct, distinct_below}
@@ -45,7 +47,7 @@ use Rattle.lc_algebra.proofs.SpanLaws.{length_combine}
 use Rattle.std.proofs.lemmas.List.Elements.{All-get_or, Contains-get_or}
 use Rattle.lc_kernel.specs.Sums.{front_word}
 use Rattle.lc_kernel.proofs.FrontLaws.{entries_are, generates, front_first, front_next, front_whole, front_word_fits}
-use Rattle.lc_kernel.specs.Packed.{packed, outside, others, bits_at, AreRowBits}
+use Rattle.lc_kernel.specs.Packed.{packed, outside, others, part_at, bits_at, AreRowBits}
 
 pub two : size Gf2 ≡ 2
 unfolding size shape_of shape
@@ -99,7 +101,7 @@ unfolding packed
 packed_small [] h = omega arith
 packed_small (a ∷ u) h = omega (arith, packed_small u (fits_tail Gf2 a u h), bit_of u a h, pow-suc 2 (length u))
 
-pow_more : (m n : ℕ) → m ≤ n → 2 ^ m ≤ 2 ^ n
+pub pow_more : (m n : ℕ) → m ≤ n → 2 ^ m ≤ 2 ^ n
 pow_more zero n l = omega (arith, pow-zero 2, one-le-pow n 2 (omega arith))
 pow_more (suc m) zero l = absurd (omega (arith, l))
 pow_more (suc m) (suc n) l = omega (arith, pow_more m n (omega (arith, l)), pow-suc 2 m, pow-suc 2 n)
@@ -200,10 +202,24 @@ bits_more C cols s bits i e rows free l message b m =
     let next : front_word C s (suc i) ≡ word_sum C.field (front_word C s i) row = front_next C s i g t m ∙ ap (word_sum C.field (front_word C s i)) (ap (λ c. scale C.field c row) one ∙ one_scale C.field row word.fits) in
     ap (bits_at cols) next ∙ tail_sum C cols (front_word C s i) row e (front_word_fits C s i g) word ∙ ap (bit_xor (bits_at cols (front_word C s i))) (sym (b.bits r (t.row i m)))
 
-pub weight_by_bits : (C : Matrix) (s : SpotState) → C.field ≡ Gf2 → AreRows C.field C.columns C.rows → AreIndependent C.field C.columns C.rows → s.set < set_count C → Contains (messages (length C.rows) (size C.field) (length s.support)) (spot_message s) → 0 < length s.support → weight (front_word C s (length s.support)) ≡ length s.support + count_ones (bits_at (others C s.set) (front_word C s (length s.support)))
-weight_by_bits C s e rows free l message some =
-    let g = generates C s.set rows free l in
-    weight_of_word C s rows free l message some ∙ ap (λ x. length s.support + x) (sym (tail_ones C (others C s.set) (front_word C s (length s.support)) e (front_word_fits C s (length s.support) g)))
+pub part_more : (cols w : List ℕ) (b : ℕ) → weight (restrict (take (64 * (b + 1)) cols) w) ≡ weight (restrict (take (64 * b) cols) w) + weight (restrict (part_at cols b) w)
+part_more cols w b =
+    let more : 64 * (b + 1) ≡ 64 * b + 64 = omega arith in
+    let parts : take (64 * (b + 1)) cols ≡ take (64 * b) cols ++ part_at cols b = ap (λ n. take n cols) more ∙ take-add (64 * b) 64 cols in
+    let both = sum_by-append (λ y. cond (has_symbol w y) 1 0) (take (64 * b) cols) (part_at cols b) in
+    let whole = weight_restrict (take (64 * (b + 1)) cols) w ∙ ap (count_by (has_symbol w)) parts in
+    omega (arith, whole, both, weight_restrict (take (64 * b) cols) w, weight_restrict (part_at cols b) w)
+
+pub part_none : (cols w : List ℕ) → weight (restrict (take (64 * 0) cols) w) ≡ 0
+part_none cols w = refl
+
+pub part_all : (cols w : List ℕ) (b : ℕ) → length cols ≤ 64 * b → weight (restrict (take (64 * b) cols) w) ≡ weight (restrict cols w)
+part_all cols w b l = ap (λ z. weight (restrict z w)) (take_all (64 * b) cols l)
+
+pub others_few : (C : Matrix) (j : ℕ) → length (others C j) ≤ C.columns
+others_few C j =
+    let fresh = λ (c : ℕ). not (is_member (set_at C j).basis c) in
+    omega (arith, length-filter fresh (below C.columns), count_by-le-length fresh (below C.columns), length_below C.columns)
 
 pub outside_inside : (n t : ℕ) (set : List ℕ) → t < length (outside n set) → slice_index (outside n set) t < n
 outside_inside n t set l = contains_below n (slice_index (outside n set) t) (filter_passes (λ c. not (is_member set c)) (below n) (slice_index (outside n set) t) (Contains-get_or (outside n set) t 0 l)).member

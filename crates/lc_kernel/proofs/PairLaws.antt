@@ -3,9 +3,11 @@
 --   pair_at                    the pair at an index
 --   last_pair                  the last one
 --   pair_shape                 each support of two places is a pair
+--   starts_more                the first pairs of one row more
+--   pairs_few                  how many pairs there are at most
 --   sums_none, sums_more, sums_next, pairs_made      the sums of no pair, of one more, and of all
 --   ends_row                   after the pairs of a row come those of the next
-use Rattle.std.proofs.Common.{◌≡◌, ℕ, zero, suc, ◌+◌, ◌-◌, ◌<◌, ◌≤◌, List, [], ◌∷◌, ◌++◌, length, bit_xor, get_or, slice_index, Some, refl, ap, sym, ◌∙◌, arith, ⊎_elim, length-append}
+use Rattle.std.proofs.Common.{◌≡◌, ℕ, zero, suc, ◌+◌, ◌-◌, ◌*◌, ◌<◌, ◌≤◌, List, [], ◌∷◌, ◌++◌, length, bit_xor, get_or, slice_index, Some, refl, ap, sym, ◌∙◌, arith, ⊎_elim, length-append}
 use Rattle.std.specs.Prelude.{slice_get}
 use Rattle.std.proofs.Math.ListN.{get_or-append}
 use Rattle.std.proofs.Math.Seq.{get_or-append_seam}
@@ -103,10 +105,27 @@ pair_shape (a ∷ []) e = absurd (omega (arith, e))
 pair_shape (a ∷ b ∷ []) e = refl
 pair_shape (a ∷ b ∷ c ∷ u) e = absurd (omega (arith, e))
 
+pub starts_more : (k a first : ℕ) (starts more : List ℕ) → length starts ≡ a → ((t : ℕ) → t < a → EndsAt k t (slice_index starts t)) → EndsAt k a first → more ≡ starts ++ first ∷ [] → (t : ℕ) → t < a + 1 → EndsAt k t (slice_index more t)
+starts_more k a first starts more many h ends made t l = ⊎_elim
+    (λ i. let same : slice_index more t ≡ slice_index starts t = ap (λ z. slice_index z t) made ∙ get_or-append starts (first ∷ []) 0 t (omega (arith, i, many)) in rw same (h t i))
+    (λ i.
+    let last : t ≡ a = omega (arith, i, l) in
+    let same : slice_index more a ≡ first = ap (λ z. slice_index z a) made ∙ ap (slice_index (starts ++ first ∷ [])) (sym many) ∙ get_or-append_seam starts first [] 0 in
+    rw (last, same) ends)
+    (cases_lt t a)
+
+few_pairs : (k : ℕ) → k ≤ 255 → choose k 2 ≤ 255 * k
+unfolding choose
+few_pairs zero l = omega arith
+few_pairs (suc k) l = omega (arith, choose_two k, choose_one k, few_pairs k (omega (arith, l)), l)
+
+pub pairs_few : (k : ℕ) → k ≤ 255 → length (supports_from 0 k 2) ≤ 65025
+pairs_few k l = omega (arith, few_pairs k l, length-supports 0 k 2, l)
+
 pub sums_none : (k : ℕ) (rows sums : List ℕ) → sums ≡ [] → ArePairsSoFar k rows sums
 sums_none k rows sums e = record { sum = λ r a b l at. absurd (omega (arith, l, ap length e)) }
 
-same_pair : (a b c d : ℕ) → Some (a ∷ b ∷ []) ≡ Some (c ∷ d ∷ []) → (a ≡ c) × (b ≡ d)
+pub same_pair : (a b c d : ℕ) → Some (a ∷ b ∷ []) ≡ Some (c ∷ d ∷ []) → (a ≡ c) × (b ≡ d)
 same_pair a b c d e = (cc (e), cc (e))
 
 pub sums_more : (k a d s x : ℕ) (rows sums more : List ℕ) → EndsAt k a s → a + 1 + d < k → length sums ≡ s + d → x ≡ bit_xor (slice_index rows a) (slice_index rows (a + 1 + d)) → more ≡ sums ++ x ∷ [] → ArePairsSoFar k rows sums → ArePairsSoFar k rows more
@@ -121,15 +140,13 @@ sums_more k a d s x rows sums more h l e is made so_far = record {
       (cases_lt r (length sums));
 }
 
-pub pairs_made : (k : ℕ) (rows sums starts : List ℕ) → length rows ≡ k → EndsAt k k (length sums) → ArePairsSoFar k rows sums → length starts ≡ k → ((a : ℕ) → a < k → EndsAt k a (slice_index starts a)) → ArePairs k rows sums starts
-pairs_made k rows sums starts count ends so_far many first =
+pub pairs_made : (k : ℕ) (rows sums : List ℕ) → length rows ≡ k → EndsAt k k (length sums) → ArePairsSoFar k rows sums → ArePairs k rows sums
+pairs_made k rows sums count ends so_far =
     let long = ends_all k (length sums) ends in
     record {
       count = count;
       long = long;
       sum = λ r a b at. so_far.sum r a b (omega (arith, long, slice_get_within (supports_from 0 k 2) r (a ∷ b ∷ []) at)) at;
-      firsts = many;
-      first = first;
     }
 
 pub sums_next : (k a b s x : ℕ) (rows sums more : List ℕ) → EndsAt k a s → a + 1 ≤ b → b < k → length sums ≡ s + (b - (a + 1)) → x ≡ bit_xor (slice_index rows a) (slice_index rows b) → more ≡ sums ++ x ∷ [] → ArePairsSoFar k rows sums → ArePairsSoFar k rows more

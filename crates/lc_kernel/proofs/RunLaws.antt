@@ -2,43 +2,45 @@
 --   support_parts              a support is its head and its last pair
 --   head_same                  the fronts in a common head are the same
 --   all_ones                   all coefficients are 1
---   heads_none, heads_more     the bits of the fronts, one entry more
 --   run_word                   the bits of a word of a run: those of its head and of its pair
---   run_value_is               the values of the words of a run are those of the block
---   run_at, part_values, part_seen      what is seen after a part of a run
---   first_seen                 the value of the first word
+--   run_ones                   how many nonzero symbols a word of a run has in a part of the columns
+--   run_at, part_counted, counted_few      the counts of a run after one more part, and their bound
+--   block_weight, runs_value      the weight of a word of a block, and the least value of a block, from its counts
 --   last_message, next_offset      the last message of a head, and the one after it
+--   spot_next                  the spot after a step
 --   index_of_pair              the index of a spot's pair
-use Rattle.std.proofs.Common.{◌≡◌, ℕ, suc, ◌+◌, ◌-◌, ◌*◌, ◌%◌, ◌^◌, ◌<◌, ◌≤◌, Bool, if◌then◌else◌, List, [], ◌∷◌, ◌++◌, length, take, drop, set, replicate, get_or, bit_xor, count_ones, slice_get, slice_index, slice_index_or, Some, None, Contains, refl, sym, ap, subst, ◌∙◌, ⊎_elim, arith, length-append}
+use Rattle.std.proofs.Common.{◌≡◌, ℕ, suc, ◌+◌, ◌-◌, ◌*◌, ◌^◌, ◌<◌, ◌≤◌, Bool, if◌then◌else◌, List, [], ◌∷◌, ◌++◌, length, take, drop, replicate, get_or, bit_xor, count_ones, slice_get, slice_index, slice_index_or, Some, None, option_map, Contains, refl, sym, ap, subst, ◌∙◌, arith, length-append}
 use Rattle.std.specs.Int.Bits.{xor_assoc}
 use Rattle.std.proofs.Math.Seq.{get_or-append_seam, take-append_seam}
-use Rattle.std.proofs.lemmas.Bool.{cases_lt}
 use Rattle.std.proofs.lemmas.Nat.{xor_comm}
-use Rattle.std.proofs.lemmas.List.{take-append-drop, length-drop, get_or-take, length-take-le, length-replicate, get_or-drop, get_or-append-add, get_or-set_same, get_or-set_other}
+use Rattle.std.proofs.lemmas.List.{take-append-drop, length-drop, get_or-take, length-take-le, length-replicate, get_or-drop, get_or-append-add}
 use Rattle.std.proofs.lemmas.Option.{slice_get_within, slice_get-get_or, get_or_from_slice_get}
 use Rattle.lc_algebra.specs.declared.FieldName.TheVariants.{Gf2}
 use Rattle.lc_algebra.specs.Field.{size}
 use Rattle.lc_algebra.specs.Word.{weight}
+use Rattle.lc_algebra.specs.SpanLaws.{restrict}
+use Rattle.lc_algebra.proofs.WordLaws.{weight_at_most_length}
+use Rattle.lc_algebra.proofs.ColumnLaws.{length_restrict}
 use Rattle.lc_algebra.specs.Span.{AreIndependent}
 use Rattle.lc_algebra.specs.Matrix.{Matrix, AreRows}
 use Rattle.lc_enumeration.specs.Message.{Message, messages, supports_from}
 use Rattle.lc_enumeration.specs.Plan.{phase_level, blocks_before, block_length, place_of, IsInPhase}
-use Rattle.lc_enumeration.specs.Search.{set_count, word_of, block_words}
+use Rattle.lc_enumeration.specs.Search.{set_count, word_of, block_words, block_least, board_value}
 use Rattle.lc_place.specs.Place.{PlanSize, SpotState, spot_message}
 use Rattle.lc_place.proofs.Supports.{support_shape}
-use Rattle.lc_place.proofs.Messages.{message_of, to_contains, from_contains, length-messages}
+use Rattle.lc_place.proofs.Messages.{message_of, message_shape, to_contains, from_contains, length-messages}
 use Rattle.lc_place.proofs.Runs.{support_of, message_of_support, message_along}
 use Rattle.lc_kernel.specs.Kernel.{IsPlanOf}
 use Rattle.lc_kernel.specs.Sums.{front_word}
-use Rattle.lc_kernel.specs.Values.{value_at, IsMessageOf, IsSpotAt, IsLeastSeen}
-use Rattle.lc_kernel.specs.Packed.{others, bits_at, head_of, pair_of, ArePairs, AreRowBits, AreHeads, IsTable}
-use Rattle.lc_kernel.specs.Least.{run_value, IsRunBest}
-use Rattle.lc_kernel.proofs.FrontLaws.{entries_are, front_word_is, front_whole, front_same}
-use Rattle.lc_kernel.proofs.PackLaws.{two, weight_by_bits, bits_more, bits_none}
+use Rattle.lc_kernel.specs.Values.{IsMessageOf, IsSpotAt, IsLeastValue}
+use Rattle.lc_kernel.specs.Packed.{others, part_at, bits_at, head_of, pair_of, AreStarts, IsPart}
+use Rattle.lc_kernel.specs.Least.{IsFirstLeast, AreCounted}
+use Rattle.lc_kernel.proofs.FrontLaws.{entries_are, generates, front_word_is, front_word_fits, front_whole, front_same}
+use Rattle.lc_kernel.proofs.PackLaws.{two, weight_of_word, tail_ones, bits_more, part_more}
 use Rattle.lc_enumeration.proofs.SearchLaws.{few_in_block}
-use Rattle.lc_kernel.proofs.LeastLaws.{seen_run}
+use Rattle.lc_kernel.proofs.LeastLaws.{counts_value}
 use Rattle.lc_kernel.proofs.PairLaws.{pair_shape, pair_at, last_pair}
-use Rattle.lc_kernel.proofs.ScanLaws.{block_word, block_long, next_is}
+use Rattle.lc_kernel.proofs.ScanLaws.{block_word, block_long, next_is, block_value_of_words}
 
 pub support_parts : (s : List ℕ) → 2 ≤ length s → s ≡ take (length s - 2) s ++ slice_index s (length s - 2) ∷ slice_index s (length s - 1) ∷ []
 support_parts s l =
@@ -64,20 +66,6 @@ same_coefficients a b e = let t : a ≡ b = cc (e) in ap (λ (m : Message). m.co
 pub all_ones : (k w n : ℕ) (m : Message) → slice_get (messages k 2 w) n ≡ Some m → m.coefficients ≡ replicate w 1
 all_ones k w n m e = same_coefficients m (message_of m.support (replicate w 1)) (sym e ∙ message_of_support k w n m.support (support_of k w n m e))
 
-pub heads_none : (C : Matrix) (cols : List ℕ) (s : SpotState) (heads : List ℕ) → AreRows C.field C.columns C.rows → AreIndependent C.field C.columns C.rows → s.set < set_count C → slice_index heads 0 ≡ 0 → AreHeads C cols s 0 heads
-heads_none C cols s heads rows free l first i m = let e : i ≡ 0 = omega (arith, m) in rw e (first ∙ sym (bits_none C cols s rows free l))
-
-pub heads_more : (C : Matrix) (cols : List ℕ) (s : SpotState) (rows : List ℕ) (i x : ℕ) (heads more : List ℕ) → C.field ≡ Gf2 → AreRows C.field C.columns C.rows → AreIndependent C.field C.columns C.rows → s.set < set_count C → Contains (messages (length C.rows) (size C.field) (length s.support)) (spot_message s) → AreRowBits C s.set cols rows → i < length s.support → i + 1 < length heads → x ≡ bit_xor (slice_index heads i) (slice_index rows (slice_index s.support i)) → more ≡ set heads (i + 1) x → AreHeads C cols s i heads → AreHeads C cols s (i + 1) more
-heads_more C cols s rows i x heads more e r free l message bits inside room is made h n m =
-    ⊎_elim
-    (λ a. ap (λ z. slice_index z n) made ∙ get_or-set_other heads (i + 1) n x 0 (λ q. omega (arith, a, q)) ∙ h n (omega (arith, a)))
-    (λ a.
-    let last : n ≡ i + 1 = omega (arith, a, m) in
-    let step : i + 1 ≡ suc i = omega arith in
-    ap (λ z. slice_index z n) made ∙ ap (slice_index (set heads (i + 1) x)) last ∙ get_or-set_same heads (i + 1) x 0 room ∙ is ∙ ap (λ z. bit_xor z (slice_index rows (slice_index s.support i))) (h i (omega arith))
-    ∙ sym (bits_more C cols s rows i e r free l message bits inside) ∙ ap (λ z. bits_at cols (front_word C s z)) (sym (last ∙ step)))
-    (cases_lt n (i + 1))
-
 -- the spot of another pair with the same head
 abbrev with_pair : SpotState → ℕ → ℕ → SpotState
 with_pair s a b = record { set = s.set; support = head_of s ++ a ∷ b ∷ []; coefficients = replicate (length s.support) 1; room = 0 }
@@ -85,24 +73,24 @@ with_pair s a b = record { set = s.set; support = head_of s ++ a ∷ b ∷ []; c
 long_pair : (h : List ℕ) (a b : ℕ) → length (h ++ a ∷ b ∷ []) ≡ length h + 2
 long_pair h a b = length-append h (a ∷ b ∷ [])
 
-first_of_pair : (h : List ℕ) (a b : ℕ) → slice_index (h ++ a ∷ b ∷ []) (length h) ≡ a
+pub first_of_pair : (h : List ℕ) (a b : ℕ) → slice_index (h ++ a ∷ b ∷ []) (length h) ≡ a
 first_of_pair h a b = get_or-append_seam h a (b ∷ []) 0
 
-second_of_pair : (h : List ℕ) (a b : ℕ) → slice_index (h ++ a ∷ b ∷ []) (suc (length h)) ≡ b
+pub second_of_pair : (h : List ℕ) (a b : ℕ) → slice_index (h ++ a ∷ b ∷ []) (suc (length h)) ≡ b
 second_of_pair h a b = let e : length h + 1 ≡ suc (length h) = omega arith in ap (slice_index (h ++ a ∷ b ∷ [])) (sym e) ∙ get_or-append-add h (a ∷ b ∷ []) 1 0
 
 xor_turned : (p a b : ℕ) → bit_xor (bit_xor p a) b ≡ bit_xor (bit_xor a b) p
 xor_turned p a b = xor_assoc p a b ∙ xor_comm p (bit_xor a b)
 
--- what a run needs: a spot at a message of its level, over 2 elements, and the table of its set
-pub record IsRunAt (C : Matrix) (s : SpotState) (rows sums starts : List ℕ) (prefix r : ℕ) : Type 0 where
+-- what a run needs: a spot at a message of its level, over 2 elements, and a part of the table of its set
+pub record IsRunAt (C : Matrix) (cols : List ℕ) (s : SpotState) (rows sums : List ℕ) (prefix r : ℕ) : Type 0 where
   pub rows_are : AreRows C.field C.columns C.rows
   pub free : AreIndependent C.field C.columns C.rows
   pub set : s.set < set_count C
   pub message : Contains (messages (length C.rows) (size C.field) (length s.support)) (spot_message s)
   pub level : 2 ≤ length s.support
-  pub table : IsTable C s.set rows sums starts
-  pub prefix_is : prefix ≡ bits_at (others C s.set) (front_word C s (length s.support - 2))
+  pub part : IsPart C s.set cols rows sums
+  pub prefix_is : prefix ≡ bits_at cols (front_word C s (length s.support - 2))
   pub pair_is : slice_get (supports_from 0 (length C.rows) 2) r ≡ Some (pair_of s)
 
 ones_of : (C : Matrix) (s : SpotState) → C.field ≡ Gf2 → Contains (messages (length C.rows) (size C.field) (length s.support)) (spot_message s) → s.coefficients ≡ replicate (length s.support) 1
@@ -115,44 +103,40 @@ along C s n r j u e l at a b =
 head_long : (s : SpotState) → length (head_of s) ≡ length s.support - 2
 head_long s = length-take-le (length s.support - 2) s.support (omega arith)
 
-pub run_word : (C : Matrix) (s : SpotState) (rows sums starts : List ℕ) (prefix r n j a b : ℕ) → IsRunAt C s rows sums starts prefix r → slice_get (messages (length C.rows) (size C.field) (length s.support)) n ≡ Some (spot_message s) → slice_get (supports_from 0 (length C.rows) 2) (r + j) ≡ Some (a ∷ b ∷ []) → weight (front_word C (with_pair s a b) (length s.support)) ≡ length s.support + count_ones (bit_xor (slice_index sums (r + j)) prefix)
-run_word C s rows sums starts prefix r n j a b h at there =
-    let e = h.table.field in
+pub run_word : (C : Matrix) (cols : List ℕ) (s : SpotState) (rows sums : List ℕ) (prefix r n j a b : ℕ) → IsRunAt C cols s rows sums prefix r → slice_get (messages (length C.rows) (size C.field) (length s.support)) n ≡ Some (spot_message s) → slice_get (supports_from 0 (length C.rows) 2) (r + j) ≡ Some (a ∷ b ∷ []) → bits_at cols (front_word C (with_pair s a b) (length s.support)) ≡ bit_xor (slice_index sums (r + j)) prefix
+run_word C cols s rows sums prefix r n j a b h at there =
+    let e = h.part.field in
     let t = with_pair s a b in
     let w = length s.support in
     let w_is : length t.support ≡ w = long_pair (head_of s) a b ∙ omega (arith, head_long s, h.level) in
     let message : Contains (messages (length C.rows) (size C.field) (length t.support)) (spot_message t) = rw w_is (to_contains (messages (length C.rows) (size C.field) w) (spot_message t) (n + j) (along C s n r j (a ∷ b ∷ []) e h.level at h.pair_is there)) in
-    let cols = others C s.set in
     let i = length (head_of s) in
-    let one : bits_at cols (front_word C t (suc i)) ≡ bit_xor (bits_at cols (front_word C t i)) (slice_index rows (slice_index t.support i)) = bits_more C cols t rows i e h.rows_are h.free h.set message h.table.bits (omega (arith, long_pair (head_of s) a b)) in
-    let other : bits_at cols (front_word C t (suc (suc i))) ≡ bit_xor (bits_at cols (front_word C t (suc i))) (slice_index rows (slice_index t.support (suc i))) = bits_more C cols t rows (suc i) e h.rows_are h.free h.set message h.table.bits (omega (arith, long_pair (head_of s) a b)) in
+    let one : bits_at cols (front_word C t (suc i)) ≡ bit_xor (bits_at cols (front_word C t i)) (slice_index rows (slice_index t.support i)) = bits_more C cols t rows i e h.rows_are h.free h.set message h.part.bits (omega (arith, long_pair (head_of s) a b)) in
+    let other : bits_at cols (front_word C t (suc (suc i))) ≡ bit_xor (bits_at cols (front_word C t (suc i))) (slice_index rows (slice_index t.support (suc i))) = bits_more C cols t rows (suc i) e h.rows_are h.free h.set message h.part.bits (omega (arith, long_pair (head_of s) a b)) in
     let front : front_word C t i ≡ front_word C s i = front_same C s t i i (omega arith) refl (take-append_seam (head_of s) (a ∷ b ∷ []) ∙ ap (λ z. take z s.support) (sym (head_long s))) (ap (take i) (sym (ones_of C s e h.message))) in
     let whole : suc (suc i) ≡ w = omega (arith, head_long s, h.level) in
     let prefix_here : bits_at cols (front_word C t i) ≡ prefix = ap (bits_at cols) (front ∙ ap (front_word C s) (head_long s)) ∙ sym h.prefix_is in
-    let bits : bits_at cols (front_word C t w) ≡ bit_xor (slice_index sums (r + j)) prefix =
     ap (λ z. bits_at cols (front_word C t z)) (sym whole) ∙ other ∙ ap (λ z. bit_xor z (slice_index rows (slice_index t.support (suc i)))) (one ∙ ap (λ z. bit_xor z (slice_index rows (slice_index t.support i))) prefix_here)
     ∙ ap (λ z. bit_xor (bit_xor prefix (slice_index rows z)) (slice_index rows (slice_index t.support (suc i)))) (first_of_pair (head_of s) a b) ∙ ap (λ z. bit_xor (bit_xor prefix (slice_index rows a)) (slice_index rows z)) (second_of_pair (head_of s) a b)
-    ∙ xor_turned prefix (slice_index rows a) (slice_index rows b) ∙ ap (λ z. bit_xor z prefix) (sym (h.table.pairs.sum (r + j) a b there)) in
-    let weighs : weight (front_word C t (length t.support)) ≡ length t.support + count_ones (bits_at cols (front_word C t (length t.support))) = weight_by_bits C t e h.rows_are h.free h.set message (omega (arith, w_is, h.level)) in
-    ap (λ z. weight (front_word C t z)) (sym w_is) ∙ weighs ∙ ap (λ z. z + count_ones (bits_at cols (front_word C t z))) w_is ∙ ap (λ z. w + count_ones z) bits
+    ∙ xor_turned prefix (slice_index rows a) (slice_index rows b) ∙ ap (λ z. bit_xor z prefix) (sym (h.part.pairs.sum (r + j) a b there))
 
-pub run_value_is : (C : Matrix) (m p b n r j : ℕ) (s : SpotState) (rows sums starts : List ℕ) (prefix first : ℕ) → IsInPhase (length C.rows) (size C.field) m p b → IsMessageOf C m b n s p → IsRunAt C s rows sums starts prefix r → r + j < length sums → n + j < 4096 → first ≡ b * 4096 → value_at (place_of b 0) (block_words C m b) (n + j) ≡ (length s.support + count_ones (bit_xor (slice_index sums (r + j)) prefix)) * 2 ^ 52 + (first + n + j)
-unfolding place_of
-run_value_is C m p b n r j s rows sums starts prefix first phase here h inside few f =
+-- the nonzero symbols of a word of a run in a part of the columns
+pub run_ones : (C : Matrix) (cols : List ℕ) (m p b n r j : ℕ) (s : SpotState) (rows sums : List ℕ) (prefix : ℕ) → IsInPhase (length C.rows) (size C.field) m p b → IsMessageOf C m b n s p → IsRunAt C cols s rows sums prefix r → r + j < length (supports_from 0 (length C.rows) 2) → n + j < 4096 → weight (restrict cols (slice_index_or (block_words C m b) (n + j) [])) ≡ count_ones (bit_xor (slice_index sums (r + j)) prefix)
+run_ones C cols m p b n r j s rows sums prefix phase here h inside few =
     let k = length C.rows in
     let w = length s.support in
     let pairs = supports_from 0 k 2 in
     let from = 4096 * (b - blocks_before k (size C.field) m p) in
     let u = get_or pairs (r + j) [] in
-    let at_u : slice_get pairs (r + j) ≡ Some u = slice_get-get_or pairs (r + j) [] (omega (arith, inside, h.table.pairs.long)) in
+    let at_u : slice_get pairs (r + j) ≡ Some u = slice_get-get_or pairs (r + j) [] inside in
     let shape = support_shape 0 k 2 (r + j) u at_u in
     let x = get_or u 0 0 in
     let y = get_or u 1 0 in
     let there : slice_get pairs (r + j) ≡ Some (x ∷ y ∷ []) = at_u ∙ ap Some (pair_shape u shape.many) in
     let t = with_pair s x y in
     let at : slice_get (messages k (size C.field) w) (from + n) ≡ Some (spot_message s) = rw here.level here.message in
-    let weighs = run_word C s rows sums starts prefix r (from + n) j x y h at there in
-    let next : slice_get (messages k (size C.field) w) (from + n + j) ≡ Some (spot_message t) = along C s (from + n) r j (x ∷ y ∷ []) h.table.field h.level at h.pair_is there in
+    let bits = run_word C cols s rows sums prefix r (from + n) j x y h at there in
+    let next : slice_get (messages k (size C.field) w) (from + n + j) ≡ Some (spot_message t) = along C s (from + n) r j (x ∷ y ∷ []) h.part.field h.level at h.pair_is there in
     let place : from + n + j ≡ from + (n + j) = omega arith in
     let next_here : slice_get (messages k (size C.field) (phase_level m p)) (from + (n + j)) ≡ Some (spot_message t) = subst (λ z. slice_get (messages k (size C.field) z) (from + (n + j)) ≡ Some (spot_message t)) here.level (subst (λ z. slice_get (messages k (size C.field) w) z ≡ Some (spot_message t)) place next) in
     let word = block_word C m p b (n + j) (spot_message t) phase few next_here in
@@ -160,7 +144,7 @@ run_value_is C m p b n r j s rows sums starts prefix first phase here h inside f
     let whole = front_whole (spot_message t) w long (sym (length-replicate w 1)) in
     let word_is : word_of C m p (spot_message t) ≡ front_word C t w = ap (word_of C m p) (sym whole) ∙ front_word_is C m p t w here.set in
     let read : slice_index_or (block_words C m b) (n + j) [] ≡ front_word C t w = get_or_from_slice_get (block_words C m b) (n + j) (word_of C m p (spot_message t)) [] word ∙ word_is in
-    rw read (rw weighs (omega (arith, f)))
+    ap (λ z. weight (restrict cols z)) read ∙ sym (tail_ones C cols (front_word C t w) h.part.field (front_word_fits C t w (generates C s.set h.rows_are h.free h.set))) ∙ ap count_ones bits
 
 -- the last two places of a spot, as the code reads them
 pub record PairRead (C : Matrix) (s : SpotState) (starts : List ℕ) : Type 0 where
@@ -168,8 +152,8 @@ pub record PairRead (C : Matrix) (s : SpotState) (starts : List ℕ) : Type 0 wh
   pub inside : slice_index s.support (length s.support - 1) < length C.rows
   pub started : slice_index s.support (length s.support - 2) < length starts
 
-pub pair_read : (C : Matrix) (s : SpotState) (rows sums starts : List ℕ) → ArePairs (length C.rows) rows sums starts → Contains (messages (length C.rows) (size C.field) (length s.support)) (spot_message s) → 2 ≤ length s.support → PairRead C s starts
-pair_read C s rows sums starts h message l =
+pub pair_read : (C : Matrix) (s : SpotState) (starts : List ℕ) → AreStarts (length C.rows) starts → Contains (messages (length C.rows) (size C.field) (length s.support)) (spot_message s) → 2 ≤ length s.support → PairRead C s starts
+pair_read C s starts h message l =
     let t = entries_are C s message in
     let a = slice_index s.support (length s.support - 2) in
     let next : suc (length s.support - 2) ≡ length s.support - 1 = omega (arith, l) in
@@ -177,8 +161,8 @@ pair_read C s rows sums starts h message l =
     let inside = t.row (length s.support - 1) (omega (arith, l)) in
     record { rises = rises; inside = inside; started = omega (arith, rises, inside, h.firsts) }
 
-pub index_of_pair : (C : Matrix) (s : SpotState) (rows sums starts : List ℕ) → ArePairs (length C.rows) rows sums starts → Contains (messages (length C.rows) (size C.field) (length s.support)) (spot_message s) → 2 ≤ length s.support → slice_get (supports_from 0 (length C.rows) 2) (slice_index starts (slice_index s.support (length s.support - 2)) + (slice_index s.support (length s.support - 1) - slice_index s.support (length s.support - 2) - 1)) ≡ Some (pair_of s)
-index_of_pair C s rows sums starts h message l =
+pub index_of_pair : (C : Matrix) (s : SpotState) (starts : List ℕ) → AreStarts (length C.rows) starts → Contains (messages (length C.rows) (size C.field) (length s.support)) (spot_message s) → 2 ≤ length s.support → slice_get (supports_from 0 (length C.rows) 2) (slice_index starts (slice_index s.support (length s.support - 2)) + (slice_index s.support (length s.support - 1) - slice_index s.support (length s.support - 2) - 1)) ≡ Some (pair_of s)
+index_of_pair C s starts h message l =
     let t = entries_are C s message in
     let a = slice_index s.support (length s.support - 2) in
     let b = slice_index s.support (length s.support - 1) in
@@ -190,31 +174,24 @@ index_of_pair C s rows sums starts h message l =
     let e : a + 1 + d ≡ b = omega (arith, rises) in
     at ∙ ap (λ z. Some (a ∷ z ∷ [])) e
 
-pub pair_inside : (C : Matrix) (s : SpotState) (rows sums starts : List ℕ) (r : ℕ) → ArePairs (length C.rows) rows sums starts → slice_get (supports_from 0 (length C.rows) 2) r ≡ Some (pair_of s) → r < length sums
-pair_inside C s rows sums starts r h e = omega (arith, h.long, slice_get_within (supports_from 0 (length C.rows) 2) r (pair_of s) e)
-
-pub seen_place : (b done best n : ℕ) (ws : List (List ℕ)) → IsLeastSeen (place_of b 0) ws done best → length ws ≤ 4096 → b < 2 ^ 40 → best % 2 ^ 52 ≤ b * 4096 + done
-unfolding place_of
-seen_place b done best n ws h few small = let t = h.attained in omega (arith, t.1, t.2, t.3, few, small)
-
-pub last_message : (C : Matrix) (s last : SpotState) (rows sums starts : List ℕ) (n r j : ℕ) → C.field ≡ Gf2 → 2 ≤ length s.support → ArePairs (length C.rows) rows sums starts → Contains (messages (length C.rows) (size C.field) (length s.support)) (spot_message s) → slice_get (messages (length C.rows) (size C.field) (length s.support)) n ≡ Some (spot_message s) → slice_get (supports_from 0 (length C.rows) 2) r ≡ Some (pair_of s) → r + j ≡ length (supports_from 0 (length C.rows) 2) - 1
+pub last_message : (C : Matrix) (s last : SpotState) (starts : List ℕ) (n r j : ℕ) → C.field ≡ Gf2 → 2 ≤ length s.support → AreStarts (length C.rows) starts → Contains (messages (length C.rows) (size C.field) (length s.support)) (spot_message s) → slice_get (messages (length C.rows) (size C.field) (length s.support)) n ≡ Some (spot_message s) → slice_get (supports_from 0 (length C.rows) 2) r ≡ Some (pair_of s) → r + j ≡ length (supports_from 0 (length C.rows) 2) - 1
     → last.support ≡ head_of s ++ (length C.rows - 2) ∷ (length C.rows - 1) ∷ [] → last.coefficients ≡ s.coefficients
     → slice_get (messages (length C.rows) (size C.field) (length s.support)) (n + j) ≡ Some (spot_message last)
-last_message C s last rows sums starts n r j e l h message at pair end support coefficients =
+last_message C s last starts n r j e l h message at pair end support coefficients =
     let k = length C.rows in
     let few = (entries_are C s message).few in
     let there = last_pair k (slice_index starts (k - 2)) (h.first (k - 2) (omega (arith, l, few))) (omega (arith, l, few)) in
     along C s n r j ((k - 2) ∷ (k - 1) ∷ []) e l at pair (ap (slice_get (supports_from 0 k 2)) end ∙ there) ∙ ap Some (cc (support, coefficients, ones_of C s e message))
 
-pub last_is_message : (C : Matrix) (plan : PlanSize) (s last : SpotState) (rows sums starts : List ℕ) → IsPlanOf plan C → C.field ≡ Gf2 → 2 ≤ length s.support → ArePairs (length C.rows) rows sums starts → Contains (messages (length C.rows) (size C.field) (length s.support)) (spot_message s) → last.support ≡ head_of s ++ (length C.rows - 2) ∷ (length C.rows - 1) ∷ [] → last.coefficients ≡ s.coefficients → Contains (messages plan.k plan.q (length last.support)) (spot_message last)
-last_is_message C plan s last rows sums starts p e l h message support coefficients =
+pub last_is_message : (C : Matrix) (plan : PlanSize) (s last : SpotState) (starts : List ℕ) → IsPlanOf plan C → C.field ≡ Gf2 → 2 ≤ length s.support → AreStarts (length C.rows) starts → Contains (messages (length C.rows) (size C.field) (length s.support)) (spot_message s) → last.support ≡ head_of s ++ (length C.rows - 2) ∷ (length C.rows - 1) ∷ [] → last.coefficients ≡ s.coefficients → Contains (messages plan.k plan.q (length last.support)) (spot_message last)
+last_is_message C plan s last starts p e l h message support coefficients =
     let n = from_contains _ _ message in
-    let pair = index_of_pair C s rows sums starts h message l in
+    let pair = index_of_pair C s starts h message l in
     let r = slice_index starts (slice_index s.support (length s.support - 2)) + (slice_index s.support (length s.support - 1) - slice_index s.support (length s.support - 2) - 1) in
     let pairs = supports_from 0 (length C.rows) 2 in
     let j = length pairs - 1 - r in
     let end : r + j ≡ length pairs - 1 = omega (arith, slice_get_within pairs r (pair_of s) pair) in
-    let at = last_message C s last rows sums starts n.0 r j e l h message n.1 pair end support coefficients in
+    let at = last_message C s last starts n.0 r j e l h message n.1 pair end support coefficients in
     let long : length last.support ≡ length s.support = ap length support ∙ long_pair (head_of s) (length C.rows - 2) (length C.rows - 1) ∙ omega (arith, head_long s, l) in
     rw (p.dimension, p.field, long) (to_contains (messages (length C.rows) (size C.field) (length s.support)) (spot_message last) (n.0 + j) at)
 
@@ -222,8 +199,8 @@ inside_level : (C : Matrix) (m p b n : ℕ) → IsInPhase (length C.rows) (size 
 unfolding block_length
 inside_level C m p b n h l = omega (arith, l, block_long C m p b h, length-messages (length C.rows) (size C.field) (phase_level m p))
 
-pub next_offset : (C : Matrix) (plan : PlanSize) (b from done : ℕ) (s last new : SpotState) (rows sums starts : List ℕ) (o : Bool) → IsPlanOf plan C → C.field ≡ Gf2 → 2 ≤ length s.support → ArePairs (length C.rows) rows sums starts → IsSpotAt C plan.m b from s
-    → ((r : ℕ) × (slice_get (supports_from 0 (length C.rows) 2) r ≡ Some (pair_of s)) × (r + (done - from) ≡ length sums))
+pub next_offset : (C : Matrix) (plan : PlanSize) (b from done : ℕ) (s last new : SpotState) (starts : List ℕ) (o : Bool) → IsPlanOf plan C → C.field ≡ Gf2 → 2 ≤ length s.support → AreStarts (length C.rows) starts → IsSpotAt C plan.m b from s
+    → ((r : ℕ) × (slice_get (supports_from 0 (length C.rows) 2) r ≡ Some (pair_of s)) × (r + (done - from) ≡ length (supports_from 0 (length C.rows) 2)))
     → from < done
     → done < length (block_words C plan.m b)
     → last.support ≡ head_of s ++ (length C.rows - 2) ∷ (length C.rows - 1) ∷ []
@@ -234,14 +211,14 @@ pub next_offset : (C : Matrix) (plan : PlanSize) (b from done : ℕ) (s last new
     → length new.support ≡ length last.support
     → new.set ≡ last.set
     → IsSpotAt C plan.m b done new
-next_offset C plan b from done s last new rows sums starts o p e l h at end later inside support coefficients same_set next message level set_is =
+next_offset C plan b from done s last new starts o p e l h at end later inside support coefficients same_set next message level set_is =
     let long : length last.support ≡ length s.support = ap length support ∙ long_pair (head_of s) (length C.rows - 2) (length C.rows - 1) ∙ omega (arith, head_long s, l) in
     let next_here : (n : ℕ) → slice_get (messages (length C.rows) (size C.field) (length last.support)) n ≡ Some (spot_message last) → slice_get (messages (length C.rows) (size C.field) (length last.support)) (n + 1) ≡ (if o then Some (spot_message new) else None) = rw (← p.dimension, ← p.field) next in
     let r = end.0 in
     let pair = end.1 in
     let pairs = supports_from 0 (length C.rows) 2 in
     let j = done - from - 1 in
-    let last_index : r + j ≡ length pairs - 1 = omega (arith, end.2, h.long, later) in
+    let last_index : r + j ≡ length pairs - 1 = omega (arith, end.2, later) in
     record {
       set = omega (arith, set_is, same_set, at.set);
       level = omega (arith, level, long, l);
@@ -251,7 +228,7 @@ next_offset C plan b from done s last new rows sums starts o p e l h at end late
           let start = 4096 * (b - blocks_before (length C.rows) (size C.field) plan.m phase) in
           let w = length s.support in
           let here : slice_get (messages (length C.rows) (size C.field) w) (start + from) ≡ Some (spot_message s) = rw now.level now.message in
-          let before : slice_get (messages (length C.rows) (size C.field) w) (start + from + j) ≡ Some (spot_message last) = last_message C s last rows sums starts (start + from) r j e l h at.message here pair last_index support coefficients in
+          let before : slice_get (messages (length C.rows) (size C.field) w) (start + from + j) ≡ Some (spot_message last) = last_message C s last starts (start + from) r j e l h at.message here pair last_index support coefficients in
           let step : slice_get (messages (length C.rows) (size C.field) (length last.support)) (start + from + j + 1) ≡ (if o then Some (spot_message new) else None) = next_here (start + from + j) (rw long before) in
           let place : start + from + j + 1 ≡ start + done = omega (arith, later) in
           let all = messages (length C.rows) (size C.field) (phase_level plan.m phase) in
@@ -263,46 +240,92 @@ next_offset C plan b from done s last new rows sums starts o p e l h at end late
           };
     }
 
-pub run_at : (C : Matrix) (m b n : ℕ) (s : SpotState) (rows sums starts : List ℕ) (prefix r : ℕ) → AreRows C.field C.columns C.rows → AreIndependent C.field C.columns C.rows → s.set < set_count C → IsSpotAt C m b n s → 2 ≤ length s.support → IsTable C s.set rows sums starts → prefix ≡ bits_at (others C s.set) (front_word C s (length s.support - 2)) → slice_get (supports_from 0 (length C.rows) 2) r ≡ Some (pair_of s) → IsRunAt C s rows sums starts prefix r
-run_at C m b n s rows sums starts prefix r a f l at level table prefix_is pair_is = record {
+pub run_at : (C : Matrix) (cols : List ℕ) (m b n : ℕ) (s : SpotState) (rows sums : List ℕ) (prefix r : ℕ) → AreRows C.field C.columns C.rows → AreIndependent C.field C.columns C.rows → s.set < set_count C → IsSpotAt C m b n s → 2 ≤ length s.support → IsPart C s.set cols rows sums → prefix ≡ bits_at cols (front_word C s (length s.support - 2)) → slice_get (supports_from 0 (length C.rows) 2) r ≡ Some (pair_of s) → IsRunAt C cols s rows sums prefix r
+run_at C cols m b n s rows sums prefix r a f l at level part prefix_is pair_is = record {
   rows_are = a;
   free = f;
   set = l;
   message = at.message;
   level = level;
-  table = table;
+  part = part;
   prefix_is = prefix_is;
   pair_is = pair_is;
 }
 
-at_place : (b n : ℕ) → b * 4096 + n ≡ place_of b 0 + n
-unfolding place_of
-at_place b n = omega arith
-
-pub part_values : (C : Matrix) (m p b done r count : ℕ) (s : SpotState) (rows sums starts part : List ℕ) (prefix : ℕ) → IsInPhase (length C.rows) (size C.field) m p b → IsSpotAt C m b done s → IsRunAt C s rows sums starts prefix r → part ≡ take count (drop r sums) → r + count ≤ length sums → done + count ≤ length (block_words C m b) → (i : ℕ) → i < length part → value_at (place_of b 0) (block_words C m b) (done + i) ≡ run_value part prefix (length s.support) (place_of b 0 + done) i
-unfolding place_of
-part_values C m p b done r count s rows sums starts part prefix phase at h is inside within i l =
-    let long : length part ≡ count = ap length is ∙ length-take-le count (drop r sums) (omega (arith, length-drop r sums, inside)) in
+-- the counts of a run after one more part of the columns
+pub part_counted : (C : Matrix) (cols : List ℕ) (m p b done r part many : ℕ) (s : SpotState) (rows sums old new piece : List ℕ) (prefix : ℕ) → IsInPhase (length C.rows) (size C.field) m p b → IsSpotAt C m b done s → IsRunAt C (part_at cols part) s rows sums prefix r → r + many ≤ length (supports_from 0 (length C.rows) 2) → done + many ≤ length (block_words C m b) → piece ≡ take many (drop r sums)
+    → ((i : ℕ) → i < many → slice_index new i ≡ slice_index old i + count_ones (bit_xor (slice_index piece i) prefix))
+    → AreCounted (take (64 * part) cols) (block_words C m b) done many old
+    → AreCounted (take (64 * (part + 1)) cols) (block_words C m b) done many new
+part_counted C cols m p b done r part many s rows sums old new piece prefix phase at h pairs words piece_is is counted i l =
     let few = few_in_block C m b in
-    let read : slice_index part i ≡ slice_index sums (r + i) = ap (λ z. slice_index z i) is ∙ get_or-take count (drop r sums) i 0 (omega (arith, l, long)) ∙ get_or-drop r sums i 0 in
-    let zero_place : b * 4096 + 0 ≡ b * 4096 = omega arith in
-    let t = run_value_is C m p b done r i s rows sums starts prefix (b * 4096 + 0) phase (at.of_block p phase) h (omega (arith, l, long, inside)) (omega (arith, l, long, within, few)) zero_place in
-    rw read t
+    let w = slice_index_or (block_words C m b) (done + i) [] in
+    let read : slice_index piece i ≡ slice_index sums (r + i) = ap (λ z. slice_index z i) piece_is ∙ get_or-take many (drop r sums) i 0 l ∙ get_or-drop r sums i 0 in
+    let ones : weight (restrict (part_at cols part) w) ≡ count_ones (bit_xor (slice_index sums (r + i)) prefix) = run_ones C (part_at cols part) m p b done r i s rows sums prefix phase (at.of_block p phase) h (omega (arith, pairs, l)) (omega (arith, words, few, l)) in
+    let here : slice_index new i ≡ slice_index old i + count_ones (bit_xor (slice_index sums (r + i)) prefix) = is i l ∙ ap (λ z. slice_index old i + count_ones (bit_xor z prefix)) read in
+    omega (arith, here, ones, counted i l, part_more cols w part)
 
-pub part_seen : (C : Matrix) (m p b done r count : ℕ) (s : SpotState) (rows sums starts part : List ℕ) (prefix level place best v : ℕ) → IsInPhase (length C.rows) (size C.field) m p b → IsSpotAt C m b done s → IsRunAt C s rows sums starts prefix r → part ≡ take count (drop r sums) → r + count ≤ length sums → done + count ≤ length (block_words C m b) → level ≡ length s.support → place ≡ b * 4096 + done → IsLeastSeen (place_of b 0) (block_words C m b) done best → IsRunBest part prefix level place best v → IsLeastSeen (place_of b 0) (block_words C m b) (done + count) v
-part_seen C m p b done r count s rows sums starts part prefix level place best v phase at h is inside within e d seen run =
-    let long : length part ≡ count = ap length is ∙ length-take-le count (drop r sums) (omega (arith, length-drop r sums, inside)) in
-    let values = part_values C m p b done r count s rows sums starts part prefix phase at h is inside within in
-    let place_is : place ≡ place_of b 0 + done = d ∙ at_place b done in
-    let here : IsRunBest part prefix (length s.support) (place_of b 0 + done) best v = subst (λ x. IsRunBest part prefix (length s.support) x best v) place_is (subst (λ x. IsRunBest part prefix x place best v) e run) in
-    subst (λ x. IsLeastSeen (place_of b 0) (block_words C m b) (done + x) v) long (seen_run (place_of b 0) done (block_words C m b) part prefix (length s.support) best v seen (omega (arith, long, within)) values here)
+-- counts are at most the number of columns
+pub counted_few : (C : Matrix) (m b from n : ℕ) (cols counts : List ℕ) → length cols ≤ 255 → AreCounted cols (block_words C m b) from n counts → (i : ℕ) → i < n → slice_index counts i ≤ 255
+counted_few C m b from n cols counts few h i l =
+    let w = restrict cols (slice_index_or (block_words C m b) (from + i) []) in
+    omega (arith, h i l, weight_at_most_length w, length_restrict cols (slice_index_or (block_words C m b) (from + i) []), few)
 
-pub first_seen : (C : Matrix) (m p b r v level : ℕ) (s : SpotState) (rows sums starts : List ℕ) (prefix x : ℕ) → IsInPhase (length C.rows) (size C.field) m p b → IsSpotAt C m b 0 s → IsRunAt C s rows sums starts prefix r → r < length sums → 0 < length (block_words C m b) → x ≡ slice_index sums r → level ≡ length s.support → v ≡ (level + count_ones (bit_xor x prefix)) * 2 ^ 52 + b * 4096 → IsLeastSeen (place_of b 0) (block_words C m b) 0 v
-first_seen C m p b r v level s rows sums starts prefix x phase at h inside some read e is =
-    let first : r + 0 ≡ r = omega arith in
-    let t = run_value_is C m p b 0 r 0 s rows sums starts prefix (b * 4096) phase (at.of_block p phase) h (omega (arith, inside)) (omega arith) refl in
-    let same : v ≡ (length s.support + count_ones (bit_xor (slice_index sums (r + 0)) prefix)) * 2 ^ 52 + (b * 4096 + 0 + 0) = is ∙ rw (first, ← read, e) (omega arith) in
+-- the weight of a word of a block: its level, and its symbols outside the basis
+pub block_weight : (C : Matrix) (plan : PlanSize) (p b n : ℕ) (s : SpotState) → IsPlanOf plan C → AreRows C.field C.columns C.rows → AreIndependent C.field C.columns C.rows → s.set < set_count C → IsInPhase (length C.rows) (size C.field) plan.m p b → IsSpotAt C plan.m b 0 s → n < length (block_words C plan.m b) → weight (slice_index_or (block_words C plan.m b) n []) ≡ length s.support + weight (restrict (others C s.set) (slice_index_or (block_words C plan.m b) n []))
+block_weight C plan p b n s h rows free set_is phase spot l =
+    let k = length C.rows in
+    let here = spot.of_block p phase in
+    let from = 4096 * (b - blocks_before k (size C.field) plan.m p) in
+    let all = messages k (size C.field) (phase_level plan.m p) in
+    let u = slice_index_or all (from + n) (message_of [] []) in
+    let at : slice_get all (from + n) ≡ Some u = slice_get-get_or all (from + n) (message_of [] []) (inside_level C plan.m p b n phase l) in
+    let t : SpotState = record { set = s.set; support = u.support; coefficients = u.coefficients; room = 0 } in
+    let shape = message_shape k (size C.field) (phase_level plan.m p) (from + n) u at in
+    let w = length t.support in
+    let w_is : w ≡ length s.support = shape.support.many ∙ sym here.level in
+    let message : Contains (messages k (size C.field) w) (spot_message t) = rw shape.support.many (to_contains all (spot_message t) (from + n) at) in
+    let few = few_in_block C plan.m b in
+    let word = block_word C plan.m p b n u phase (omega (arith, l, few)) at in
+    let whole = front_whole (spot_message t) w refl (shape.support.many ∙ sym shape.many) in
+    let word_is : word_of C plan.m p u ≡ front_word C t w = ap (word_of C plan.m p) (sym whole) ∙ front_word_is C plan.m p t w here.set in
+    let read : slice_index_or (block_words C plan.m b) n [] ≡ front_word C t w = get_or_from_slice_get (block_words C plan.m b) n (word_of C plan.m p u) [] word ∙ word_is in
+    let weighs : weight (front_word C t w) ≡ w + weight (restrict (others C t.set) (front_word C t w)) = weight_of_word C t rows free set_is message (omega (arith, w_is, spot.level)) in
+    ap weight read ∙ weighs ∙ ap (λ z. z + weight (restrict (others C s.set) (front_word C t w))) w_is ∙ ap (λ z. length s.support + weight (restrict (others C s.set) z)) (sym read)
+
+-- the least value of a block, from its counts
+pub runs_value : (C : Matrix) (plan : PlanSize) (p b level least at : ℕ) (s : SpotState) (counts : List ℕ) → IsPlanOf plan C → AreRows C.field C.columns C.rows → AreIndependent C.field C.columns C.rows → s.set < set_count C → IsInPhase (length C.rows) (size C.field) plan.m p b → b < 2 ^ 40 → IsSpotAt C plan.m b 0 s → level ≡ length s.support → length counts ≡ length (block_words C plan.m b) → AreCounted (others C s.set) (block_words C plan.m b) 0 (length counts) counts → IsFirstLeast (length counts) (λ i. slice_index counts i) least at → option_map board_value (block_least C plan.m b) ≡ Some ((level + least) * 2 ^ 52 + (b * 4096 + at))
+unfolding place_of
+runs_value C plan p b level least at s counts h rows free set_is phase small spot e long counted first =
+    let ws = block_words C plan.m b in
+    let few = few_in_block C plan.m b in
+    let weights : (i : ℕ) → i < length counts → weight (slice_index_or ws i []) ≡ level + slice_index counts i = λ i l.
+    let z : 0 + i ≡ i = omega arith in
+    let count : slice_index counts i ≡ weight (restrict (others C s.set) (slice_index_or ws i [])) = counted i l ∙ ap (λ n. weight (restrict (others C s.set) (slice_index_or ws n []))) z in
+    omega (arith, block_weight C plan p b i s h rows free set_is phase spot (omega (arith, l, long)), count, e) in
+    let value = counts_value (b * 4096 + 0) ws counts level (length counts) least at (omega (arith, few, long)) weights first in
+    let place : (level + least) * 2 ^ 52 + (b * 4096 + 0 + at) ≡ (level + least) * 2 ^ 52 + (b * 4096 + at) = omega arith in
+    block_value_of_words C plan.m p b ((level + least) * 2 ^ 52 + (b * 4096 + 0 + at)) phase small (subst (λ n. IsLeastValue (b * 4096 + 0) ws n ((level + least) * 2 ^ 52 + (b * 4096 + 0 + at))) long value) ∙ ap Some place
+
+-- the spot after a step
+pub spot_next : (C : Matrix) (plan : PlanSize) (b n : ℕ) (s t : SpotState) (o : Bool) → IsPlanOf plan C → IsSpotAt C plan.m b n s → n + 1 < length (block_words C plan.m b) → ((i : ℕ) → slice_get (messages plan.k plan.q (length s.support)) i ≡ Some (spot_message s) → slice_get (messages plan.k plan.q (length s.support)) (i + 1) ≡ (if o then Some (spot_message t) else None)) → Contains (messages plan.k plan.q (length t.support)) (spot_message t) → length t.support ≡ length s.support → t.set ≡ s.set → IsSpotAt C plan.m b (n + 1) t
+spot_next C plan b n s t o p at inside next message level set_is =
+    let next_here : (i : ℕ) → slice_get (messages (length C.rows) (size C.field) (length s.support)) i ≡ Some (spot_message s) → slice_get (messages (length C.rows) (size C.field) (length s.support)) (i + 1) ≡ (if o then Some (spot_message t) else None) = rw (← p.dimension, ← p.field) next in
     record {
-      low = λ i l. absurd (omega (arith, l));
-      attained = (0, omega arith, some, same ∙ sym t);
+      set = omega (arith, set_is, at.set);
+      level = omega (arith, level, at.level);
+      message = rw (← p.dimension, ← p.field) message;
+      of_block = λ phase i.
+          let now = at.of_block phase i in
+          let start = 4096 * (b - blocks_before (length C.rows) (size C.field) plan.m phase) in
+          let here : slice_get (messages (length C.rows) (size C.field) (length s.support)) (start + n) ≡ Some (spot_message s) = rw now.level now.message in
+          let step : slice_get (messages (length C.rows) (size C.field) (length s.support)) (start + n + 1) ≡ (if o then Some (spot_message t) else None) = next_here (start + n) here in
+          let place : start + n + 1 ≡ start + (n + 1) = omega arith in
+          let all = messages (length C.rows) (size C.field) (phase_level plan.m phase) in
+          let there : slice_get all (start + (n + 1)) ≡ (if o then Some (spot_message t) else None) = subst (λ z. slice_get (messages (length C.rows) (size C.field) z) (start + (n + 1)) ≡ (if o then Some (spot_message t) else None)) now.level (subst (λ z. slice_get (messages (length C.rows) (size C.field) (length s.support)) z ≡ (if o then Some (spot_message t) else None)) place step) in
+          record {
+            message = next_is o all (start + (n + 1)) (spot_message t) (inside_level C plan.m phase b (n + 1) i inside) there;
+            level = level ∙ now.level;
+            set = set_is ∙ now.set;
+          };
     }

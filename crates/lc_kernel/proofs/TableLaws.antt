@@ -1,10 +1,12 @@
--- The tables of the sets, as they are pushed.
---   no_tables, table_pushed      none, and one more
+-- The tables of the sets and their parts, as they are pushed.
+--   no_tables, no_grids          none
+--   all_pushed, one_of_all       what holds of each item of a list by its index holds of one more, and of an item that is read
 --   two_elements                 a field of 2 elements is that of the bits
---   table_of                     the table at an index
-use Rattle.std.proofs.Common.{◌≡◌, ℕ, ◌+◌, ◌<◌, List, [], ◌∷◌, ◌++◌, length, slice_index_or, Some, sym, ap, subst, ◌∙◌, ⊎_elim, arith, length-append}
+--   part_cut, cut_inside, parts_pushed      a part of the columns, as it is cut off, and the parts with one more
+use Rattle.std.proofs.Common.{◌≡◌, ℕ, ◌+◌, ◌-◌, ◌*◌, ◌<◌, ◌≤◌, List, [], ◌∷◌, ◌++◌, min, length, take, drop, slice_index, slice_index_or, Some, sym, ap, subst, ◌∙◌, ⊎_elim, arith, length-append}
 use Rattle.std.specs.Prelude.{slice_get}
 use Rattle.std.proofs.lemmas.Bool.{cases_lt}
+use Rattle.std.proofs.lemmas.List.{take_all, length-take, length-drop, get_or-take, get_or-drop}
 use Rattle.std.proofs.lemmas.Option.{slice_get_within, slice_get-get_or}
 use Rattle.lc_algebra.specs.declared.FieldName.{FieldName}
 use Rattle.lc_algebra.specs.declared.FieldName.TheVariants.{Gf2}
@@ -12,32 +14,61 @@ use Rattle.lc_algebra.specs.Field.{size}
 use Rattle.lc_algebra.specs.Matrix.{Matrix}
 use Rattle.lc_algebra.proofs.EmbeddingTests.{told_by_size}
 use Rattle.lc_place.proofs.Products.{get-append_left, get-append_right}
-use Rattle.lc_kernel.specs.declared.pairs.Pairs.{Pairs}
-use Rattle.lc_kernel.specs.Packed.{IsTable}
-use Rattle.lc_kernel.specs.Tables.{AreTables}
-use Rattle.lc_kernel.proofs.PackLaws.{two}
+use Rattle.lc_kernel.specs.declared.grid.Grid.{Grid}
+use Rattle.lc_kernel.specs.declared.table.Table.{Table}
+use Rattle.lc_kernel.specs.Grids.{AreGrids}
+use Rattle.lc_infoset.specs.Bound.{set_at}
+use Rattle.lc_kernel.specs.declared.pairs.Part.{Part}
+use Rattle.lc_kernel.specs.Packed.{others, part_at, IsPart}
+use Rattle.lc_kernel.specs.Tables.{AreParts, AreTables}
+use Rattle.lc_kernel.proofs.PackLaws.{two, outside_inside}
 
 pub two_elements : (f : FieldName) → size f ≡ 2 → f ≡ Gf2
 two_elements f e = told_by_size f Gf2 (e ∙ sym two)
 
-pub no_tables : (C : Matrix) (ts : List Pairs) → ts ≡ [] → AreTables C ts
-no_tables C ts e j t at = absurd (omega (arith, slice_get_within ts j t at, ap length e))
+pub no_tables : (C : Matrix) (ts : List Table) → ts ≡ [] → AreTables C ts
+no_tables C ts e = record { each = λ j t at. absurd (omega (arith, slice_get_within ts j t at, ap length e)) }
 
-same_table : (a b : Pairs) → Some a ≡ Some b → a ≡ b
-same_table a b e = cc (e)
+pub no_grids : (C : Matrix) (gs : List Grid) → gs ≡ [] → AreGrids C gs
+no_grids C gs e = record { each = λ j g at. absurd (omega (arith, slice_get_within gs j g at, ap length e)) }
 
-pub table_pushed : (C : Matrix) (ts more : List Pairs) (j : ℕ) (t : Pairs) → AreTables C ts → j ≡ length ts → IsTable C j t.rows.items t.sums.items t.starts.items → more ≡ ts ++ t ∷ [] → AreTables C more
-table_pushed C ts more j t h e is made i u at =
-    let there : slice_get (ts ++ t ∷ []) i ≡ Some u = ap (λ z. slice_get z i) (sym made) ∙ at in
+same_item : {X : Type 0} (a b : X) → Some a ≡ Some b → a ≡ b
+same_item a b e = cc (e)
+
+pub all_pushed : {X : Type 0} (P : ℕ → X → Type 0) (xs more : List X) (x : X) → ((i : ℕ) (y : X) → slice_get xs i ≡ Some y → P i y) → P (length xs) x → more ≡ xs ++ x ∷ [] → (i : ℕ) (y : X) → slice_get more i ≡ Some y → P i y
+all_pushed P xs more x h is made i y at =
+    let there : slice_get (xs ++ x ∷ []) i ≡ Some y = ap (λ z. slice_get z i) (sym made) ∙ at in
     ⊎_elim
-    (λ l. h i u (sym (get-append_left ts (t ∷ []) i l) ∙ there))
+    (λ l. h i y (sym (get-append_left xs (x ∷ []) i l) ∙ there))
     (λ l.
-    let inside = slice_get_within (ts ++ t ∷ []) i u there in
-    let last : i ≡ j = omega (arith, l, e, inside, length-append ts (t ∷ [])) in
-    let place : i ≡ length ts + 0 = omega (arith, last, e) in
-    let same : t ≡ u = same_table t u (sym (get-append_right ts (t ∷ []) 0) ∙ ap (slice_get (ts ++ t ∷ [])) (sym place) ∙ there) in
-    subst (λ x. IsTable C x u.rows.items u.sums.items u.starts.items) (sym last) (subst (λ (x : Pairs). IsTable C j x.rows.items x.sums.items x.starts.items) same is))
-    (cases_lt i (length ts))
+    let inside = slice_get_within (xs ++ x ∷ []) i y there in
+    let last : i ≡ length xs = omega (arith, l, inside, length-append xs (x ∷ [])) in
+    let place : i ≡ length xs + 0 = omega (arith, last) in
+    let same : x ≡ y = same_item x y (sym (get-append_right xs (x ∷ []) 0) ∙ ap (slice_get (xs ++ x ∷ [])) (sym place) ∙ there) in
+    subst (λ n. P n y) (sym last) (subst (P (length xs)) same is))
+    (cases_lt i (length xs))
 
-pub table_of : (C : Matrix) (ts : List Pairs) (j : ℕ) (t : Pairs) → AreTables C ts → j < length ts → t ≡ slice_index_or ts j t → IsTable C j t.rows.items t.sums.items t.starts.items
-table_of C ts j t h l e = h j t (slice_get-get_or ts j t l ∙ ap Some (sym e))
+pub one_of_all : {X : Type 0} (P : ℕ → X → Type 0) (xs : List X) (i : ℕ) (x : X) → ((j : ℕ) (y : X) → slice_get xs j ≡ Some y → P j y) → i < length xs → x ≡ slice_index_or xs i x → P i x
+one_of_all P xs i x h l e = h i x (slice_get-get_or xs i x l ∙ ap Some (sym e))
+
+pub part_cut : (cols : List ℕ) (b start end : ℕ) → start ≡ 64 * b → start ≤ length cols → end ≡ min (length cols) (start + 64) → take (end - start) (drop start cols) ≡ part_at cols b
+part_cut cols b start end e l which =
+    let whole : drop start cols ≡ drop (64 * b) cols = ap (λ n. drop n cols) e in
+    ⊎_elim
+    (λ a.
+    let rest : length (drop start cols) ≡ end - start = length-drop start cols ∙ omega (arith, which, a) in
+    take_all (end - start) (drop start cols) (omega (arith, rest)) ∙ whole ∙ sym (take_all 64 (drop (64 * b) cols) (omega (arith, ap length whole, length-drop start cols, a))))
+    (λ a. let n : end - start ≡ 64 = omega (arith, which, a) in ap (λ x. take x (drop start cols)) n ∙ ap (take 64) whole)
+    (cases_lt (length cols) (start + 64))
+
+pub cut_inside : (C : Matrix) (j start n : ℕ) (cols : List ℕ) → cols ≡ others C j → (t : ℕ) → t < length (take n (drop start cols)) → slice_index (take n (drop start cols)) t < C.columns
+cut_inside C j start n cols e t l =
+    let long = length-take n (drop start cols) in
+    let here : slice_index (take n (drop start cols)) t ≡ slice_index cols (start + t) = get_or-take n (drop start cols) t 0 (omega (arith, l, long)) ∙ get_or-drop start cols t 0 in
+    let inside : start + t < length (others C j) = omega (arith, l, long, length-drop start cols, ap length e) in
+    omega (arith, here, ap (λ z. slice_index z (start + t)) e, outside_inside C.columns (start + t) (set_at C j).basis inside)
+
+pub parts_pushed : (C : Matrix) (j start end : ℕ) (cols : List ℕ) (ps more : List Part) (p : Part) → cols ≡ others C j → start ≡ 64 * length ps → start ≤ length cols → end ≡ min (length cols) (start + 64) → AreParts C j ps → IsPart C j (take (end - start) (drop start cols)) p.rows.items p.sums.items → more ≡ ps ++ p ∷ [] → AreParts C j more
+parts_pushed C j start end cols ps more p e s l which h is made =
+    all_pushed (λ b (x : Part). IsPart C j (part_at (others C j) b) x.rows.items x.sums.items) ps more p h
+    (subst (λ z. IsPart C j z p.rows.items p.sums.items) (part_cut cols (length ps) start end s l which ∙ ap (λ z. part_at z (length ps)) e) is) made

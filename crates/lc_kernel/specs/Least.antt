@@ -1,10 +1,10 @@
--- The least number of ones, and the least value, in a run of sums.
+-- The least of some counts.
 --   IsLeastOr n f bound v       v is the least of the bound and the numbers f 0 to f (n - 1)
 --   IsFirstLeast n f v i        number i is v, all are at least v, and those before it are greater
---   run_value sums prefix level place i      the value of word i of a run: the level and the ones of a sum with the prefix
---                               are its weight
---   IsRunBest sums prefix level place best v      v is the least of a value and of those of a run
-use Rattle.std.specs.Prelude.{◌≡◌, ◌⊎◌, ℕ, ◌+◌, ◌*◌, ◌^◌, ◌<◌, ◌≤◌, List, length, slice_index, bit_xor, count_ones}
+--   AreCounted cols ws from n counts      the first n counts are the weights, at some columns, of the words from index from on
+use Rattle.std.specs.Prelude.{◌≡◌, ℕ, ◌+◌, ◌<◌, ◌≤◌, List, [], slice_index, slice_index_or}
+use Rattle.lc_algebra.specs.Word.{weight}
+use Rattle.lc_algebra.specs.SpanLaws.{restrict}
 
 pub record IsLeastOr (n : ℕ) (f : ℕ → ℕ) (bound v : ℕ) : Type 0 where
   pub most : v ≤ bound
@@ -17,10 +17,5 @@ pub record IsFirstLeast (n : ℕ) (f : ℕ → ℕ) (v i : ℕ) : Type 0 where
   pub low : (j : ℕ) → j < n → v ≤ f j
   pub first : (j : ℕ) → j < i → v < f j
 
-abbrev pub run_value : List ℕ → ℕ → ℕ → ℕ → ℕ → ℕ
-run_value sums prefix level place i = (level + count_ones (bit_xor (slice_index sums i) prefix)) * 2 ^ 52 + (place + i)
-
-pub record IsRunBest (sums : List ℕ) (prefix level place best v : ℕ) : Type 0 where
-  pub most : v ≤ best
-  pub low : (i : ℕ) → i < length sums → v ≤ run_value sums prefix level place i
-  pub from : (v ≡ best) ⊎ ((i : ℕ) × (i < length sums) × (v ≡ run_value sums prefix level place i))
+abbrev pub AreCounted : List ℕ → List (List ℕ) → ℕ → ℕ → List ℕ → Type 0
+AreCounted cols ws from n counts = (i : ℕ) → i < n → slice_index counts i ≡ weight (restrict cols (slice_index_or ws (from + i) []))

@@ -4,3 +4,6 @@ pub mod Values
 pub mod Packed
 pub mod Least
 pub mod Tables
+pub mod Planes
+pub mod Grid
+pub mod Grids

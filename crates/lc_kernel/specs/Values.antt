@@ -3,7 +3,6 @@
 --   IsLeastValue place ws n v      v is the least value of the first n of these words
 --   IsMessageOf C m b n s p        the spot is at message n of block b, in phase p
 --   IsSpotAt C m b n s             the spot is at message n of block b
---   IsLeastSeen place ws n v       v is the value of one of the words up to n, and no greater than those of the words before n
 --   IsAtOffset C m b n s           the stack is at message n of block b, with all its sums
 use Rattle.std.specs.Prelude.{◌≡◌, ℕ, ◌+◌, ◌-◌, ◌*◌, ◌^◌, ◌<◌, ◌≤◌, List, [], Some, length, slice_get, slice_index_or, Contains}
 use Rattle.lc_algebra.specs.Field.{size}
@@ -35,7 +34,3 @@ pub record IsSpotAt (C : Matrix) (m b n : ℕ) (s : SpotState) : Type 0 where
   pub level : 0 < length s.support
   pub message : Contains (messages (length C.rows) (size C.field) (length s.support)) (spot_message s)
   pub of_block : (p : ℕ) → IsInPhase (length C.rows) (size C.field) m p b → IsMessageOf C m b n s p
-
-pub record IsLeastSeen (place : ℕ) (ws : List (List ℕ)) (n v : ℕ) : Type 0 where
-  pub low : (i : ℕ) → i < n → v ≤ value_at place ws i
-  pub attained : (i : ℕ) × (i ≤ n) × (i < length ws) × (v ≡ value_at place ws i)

@@ -6,13 +6,18 @@ ghost use Rattle.lc_enumeration.specs.Plan.{total};
 ghost use Rattle.lc_enumeration.specs.Search.{block_least, board_value};
 ghost use Rattle.lc_kernel.specs.Kernel.{IsPlanOf, top_sum};
 ghost use Rattle.lc_kernel.specs.Tables.{AreTables};
+ghost use Rattle.lc_kernel.specs.Grids.{AreGrids};
+ghost use Rattle.lc_kernel.specs.Sums.{IsRoom};
 
-use crate::pairs::Pairs;
+use crate::grid::Grid;
 use crate::runs::by_runs;
 use crate::scratch::Scratch;
 use crate::stack::Stack;
+use crate::table::Table;
+use crate::tails::by_tails;
 use lc_infoset::Sets;
 use lc_place::{Plan, Spot};
+use lc_vec::Word;
 
 /// The least value of a block on the board: the weight times 2^52 plus the place of the lightest word of the
 /// block, the first of these.
@@ -31,38 +36,56 @@ pub fn least(sets: &Sets, plan: &Plan, block: u64, scratch: &mut Scratch) -> u64
         plan,
         block,
         &scratch.tables,
+        &scratch.grids,
         &mut scratch.spot,
         &mut scratch.heads,
+        &mut scratch.masks,
+        &mut scratch.counts,
         &mut scratch.stack,
     )
 }
 
 // The same in parts: by runs if its set has a table and its level is at least 2, and else message by message.
+#[tactic(auto, using(crate::proofs::SumLaws::room_kept))]
 fn least_in(
     sets: &Sets,
     plan: &Plan,
     block: u64,
-    tables: &[Pairs],
+    tables: &[Table],
+    grids: &[Grid],
     spot: &mut Spot,
-    heads: &mut [u64],
+    heads: &mut [Word],
+    masks: &mut [u64],
+    counts: &mut [u32],
     stack: &mut Stack,
 ) -> u64
     requires plan { IsPlanOf plan.now sets.now }
     requires block { block < total plan.now.k plan.now.q plan.now.m }
     requires tables { AreTables sets.now tables.now }
-    requires spot { length sets.now.rows ≤ spot.old.room }
-    requires heads { length sets.now.rows < length heads.old }
+    requires grids { AreGrids sets.now grids.now }
+    requires heads { IsRoom sets.now spot.old heads.old }
+    requires masks { length masks.old ≡ 225 }
+    requires counts { length counts.old ≡ 4096 }
     requires stack { stack.old.code ≡ sets.now }
-    ensures spot { spot.new.room ≡ spot.old.room }
-    ensures heads { length heads.new ≡ length heads.old }
+    ensures heads { IsRoom sets.now spot.new heads.new }
+    ensures masks { length masks.new ≡ length masks.old }
+    ensures counts { length counts.new ≡ length counts.old }
     ensures stack { stack.new.code ≡ stack.old.code }
     ensures is { option_map board_value (block_least sets.now plan.now.m block) ≡ Some result }
 {
     let _phase = plan.phase_of(block);
     plan.start_of(block, spot);
     let set = spot.set();
-    if spot.support().len() >= 2 && set < tables.len() {
-        return by_runs(sets, plan, block, &tables[set], spot, heads);
+    let level = spot.support().len();
+    if level >= 3 && set < grids.len() {
+        let grid = &grids[set];
+        let multiples = stack.multiples();
+        return by_tails(
+            sets, plan, block, grid, multiples, spot, heads, masks, counts,
+        );
+    }
+    if level >= 2 && set < tables.len() {
+        return by_runs(sets, plan, block, &tables[set], spot, counts);
     }
     scan(sets, plan, block, stack)
 }

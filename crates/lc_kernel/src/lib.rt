@@ -3,13 +3,17 @@
 #![tactic(auto)]
 
 mod block;
+mod counts;
+mod grid;
 mod multiples;
 mod pairs;
 mod place;
-mod run;
+mod planes;
 mod runs;
 mod scratch;
 mod stack;
+mod table;
+mod tails;
 
 pub use block::least;
 pub use place::word_at;

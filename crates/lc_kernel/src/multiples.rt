@@ -25,8 +25,8 @@ pub(crate) fn multiples_of(alloc: Global, sets: &Sets) -> Result<Vec<Word>, NoMe
     Ok(words)
 }
 
-// How many nonzero elements the field has.
-fn nonzero(sets: &Sets) -> usize
+/// How many nonzero elements the field has.
+pub(crate) fn nonzero(sets: &Sets) -> usize
     ensures is { result ≡ size sets.now.field - 1 }
     ensures least { 1 ≤ result }
     ensures most { result ≤ 15 }

@@ -1,61 +1,39 @@
 //! The sums of two rows of an information set over 2 elements, as bits.
 
-ghost use Rattle.std.specs.Prelude.{◌≡◌, ℕ, ◌+◌, ◌<◌, ◌≤◌, length, slice_index, IfOk};
+ghost use Rattle.std.specs.Prelude.{◌≡◌, ℕ, ◌+◌, ◌<◌, ◌≤◌, [], length, slice_index, IfOk};
 ghost use Rattle.lc_algebra.specs.declared.FieldName.TheVariants.{Gf2};
 ghost use Rattle.lc_algebra.specs.Word.{Fits};
-ghost use Rattle.lc_enumeration.specs.InformationSet.{is_member};
 ghost use Rattle.lc_enumeration.specs.Search.{set_count};
-ghost use Rattle.lc_kernel.specs.Packed.{outside, others, bits_at, EndsAt, ArePairsSoFar, ArePairs, AreRowBits, IsTable};
+ghost use Rattle.lc_kernel.specs.Packed.{bits_at, EndsAt, ArePairsSoFar, ArePairs, AreStarts, AreRowBits, IsPart};
 
 use lc_field::NoMemory;
 use lc_infoset::Sets;
 use std::alloc::Global;
 
-/// For one set: the bits of its rows at the columns outside its basis, those of the sums of two rows, in
-/// the order of the pairs, and for each row the index of its first pair.
+/// For at most 64 columns outside the basis of a set: the bits of the set's rows there, and those of the sums
+/// of two rows, in the order of the pairs.
 #[derive(Drop)]
-pub(crate) struct Pairs {
+pub(crate) struct Part {
     pub(crate) rows: Vec<u64>,
     pub(crate) sums: Vec<u64>,
-    pub(crate) starts: Vec<usize>,
 }
 
-/// The pairs of set `j`, over 2 elements, if there are at most 64 columns outside its basis.
-#[tactic(auto, using(crate::proofs::PackLaws::outside_inside, crate::proofs::RunLaws::run_value_is))]
-pub(crate) fn pairs_of(alloc: Global, sets: &Sets, j: usize) -> Result<Option<Pairs>, NoMemory>
+/// The part for these columns, at most 64, of set `j` over 2 elements.
+pub(crate) fn part_of(
+    alloc: Global,
+    sets: &Sets,
+    j: usize,
+    columns: &[usize],
+) -> Result<Part, NoMemory>
     requires set { j < set_count sets.now }
     requires field { sets.now.field ≡ Gf2 }
-    ensures are { IfOk result (λ o. (t : _) → o ≡ Some t → IsTable sets.now j t.rows.items t.sums.items t.starts.items) }
+    requires few { length columns.now ≤ 64 }
+    requires inside { (t : ℕ) → t < length columns.now → slice_index columns.now t < sets.now.columns }
+    ensures is { IfOk result (λ p. IsPart sets.now j columns.now p.rows.items p.sums.items) }
 {
-    let columns = columns_outside(alloc, sets.length(), sets.basis(j))?;
-    if columns.len() > 64 {
-        return Ok(None);
-    }
-    let rows = row_bits(alloc, sets, j, &columns)?;
-    let (sums, starts) = pair_sums(alloc, &rows)?;
-    Ok(Some(Pairs { rows, sums, starts }))
-}
-
-// The columns below n that aren't in the set.
-#[tactic(auto, using(lc_infoset::proofs::NextLaws::filter_more, lc_infoset::proofs::NextLaws::filter_same))]
-fn columns_outside(alloc: Global, n: usize, set: &[usize]) -> Result<Vec<usize>, NoMemory>
-    ensures are { IfOk result (λ cs. cs.items ≡ outside n set.now) }
-{
-    let mut columns = Vec::new(alloc);
-    for c in 0..n {
-        if !holds(set, c) {
-            columns.push(c)?;
-        }
-    }
-    Ok(columns)
-}
-
-// Whether c is one of the columns.
-#[tactic(auto, using(lc_infoset::proofs::NextLaws::told_member))]
-fn holds(columns: &[usize], c: usize) -> bool
-    ensures is { result ≡ is_member columns.now c }
-{
-    columns.contains(&c)
+    let rows = row_bits(alloc, sets, j, columns)?;
+    let sums = pair_sums(alloc, &rows)?;
+    Ok(Part { rows, sums })
 }
 
 // The bits of the rows of set j at these columns.
@@ -89,18 +67,31 @@ fn bits_of(word: &[u8], columns: &[usize]) -> u64
     bits
 }
 
-// The sums of the pairs of rows, in their order, and the index of each row's first pair.
+/// For each of k rows, k at most 255, the index of its first pair.
+#[tactic(auto, using(crate::proofs::PairLaws::ends_first))]
+pub(crate) fn pair_starts(alloc: Global, k: usize) -> Result<Vec<usize>, NoMemory>
+    requires few { k ≤ 255 }
+    ensures are { IfOk result (λ starts. AreStarts k starts.items) }
+{
+    let mut starts = Vec::with_capacity(alloc, k)?;
+    let mut first = 0;
+    for a in 0..k {
+        starts.push(first)?;
+        first += k - a - 1;
+    }
+    Ok(starts)
+}
+
+// The sums of the pairs of rows, in their order.
 #[tactic(auto, using(crate::proofs::PairLaws::pairs_made, crate::proofs::PairLaws::sums_none, crate::proofs::PairLaws::ends_first))]
-fn pair_sums(alloc: Global, rows: &[u64]) -> Result<(Vec<u64>, Vec<usize>), NoMemory>
-    ensures are { IfOk result (λ t. ArePairs (length rows.now) rows.now t.0.items t.1.items) }
+fn pair_sums(alloc: Global, rows: &[u64]) -> Result<Vec<u64>, NoMemory>
+    ensures are { IfOk result (λ sums. ArePairs (length rows.now) rows.now sums.items) }
 {
     let mut sums = Vec::new(alloc);
-    let mut starts = Vec::new(alloc);
     for a in 0..rows.len() {
-        starts.push(sums.len())?;
         push_pairs(rows, a, &mut sums)?;
     }
-    Ok((sums, starts))
+    Ok(sums)
 }
 
 // The sums of row a and each later row.

@@ -1,15 +1,19 @@
 //! The memory that the kernel works in.
 
-ghost use Rattle.std.specs.Prelude.{◌≡◌, ◌<◌, ℕ, [], length, IfOk};
+ghost use Rattle.std.specs.Prelude.{◌≡◌, ℕ, [], length, IfOk};
 ghost use Rattle.std.specs.Arc.{arc_value};
 ghost use Rattle.lc_algebra.specs.declared.FieldName.TheVariants.{Gf2};
 ghost use Rattle.lc_kernel.specs.Tables.{AreTables};
+ghost use Rattle.lc_kernel.specs.Grids.{AreGrids};
+ghost use Rattle.lc_kernel.specs.Sums.{AreMultiples};
 
-use crate::pairs::{Pairs, pairs_of};
-use crate::stack::Stack;
+use crate::grid::{Grid, grid_of};
+use crate::stack::{Stack, zeros};
+use crate::table::{Table, table_of};
 use lc_field::NoMemory;
 use lc_infoset::Sets;
 use lc_place::Spot;
+use lc_vec::Word;
 use std::alloc::Global;
 use std::marker::Model;
 use std::sync::Arc;
@@ -21,23 +25,30 @@ use std::sync::Arc;
 #[derive(Drop)]
 pub struct Scratch {
     pub(crate) stack: Stack,
-    // over 2 elements the tables of the first sets, of all as a rule; none over other fields
-    pub(crate) tables: Arc<Vec<Pairs>>,
+    // over 2 elements the tables of the sets; none over other fields
+    pub(crate) tables: Arc<Vec<Table>>,
+    // over more than 2 elements the tables of the first sets, of all as a rule; none over 2 elements
+    pub(crate) grids: Arc<Vec<Grid>>,
     pub(crate) spot: Spot,
-    pub(crate) heads: Vec<u64>,
+    // the zero word, and then the sums of the entries of a message but the last two
+    pub(crate) heads: Vec<Word>,
+    pub(crate) masks: Vec<u64>,
+    pub(crate) counts: Vec<u32>,
 }
 
 impl Model for Scratch {
-    ghost use Rattle.std.specs.Prelude.{◌≡◌, ◌<◌, length};
+    ghost use Rattle.std.specs.Prelude.{◌≡◌, length};
     ghost use Rattle.std.specs.Arc.{arc_value};
     ghost use Rattle.lc_algebra.specs.Matrix.{Matrix};
     ghost use Rattle.lc_kernel.specs.Tables.{AreTables};
+    ghost use Rattle.lc_kernel.specs.Grids.{AreGrids};
+    ghost use Rattle.lc_kernel.specs.Sums.{IsRoom};
 
     ghost Value = { Matrix };
 
     ghost view = { λ s. s.stack.code };
 
-    ghost invariant = { λ s. AreTables s.stack.code (arc_value s.tables).items × (s.spot.room ≡ length s.stack.code.rows) × (length s.stack.code.rows < length s.heads.items) };
+    ghost invariant = { λ s. AreTables s.stack.code (arc_value s.tables).items × AreGrids s.stack.code (arc_value s.grids).items × IsRoom s.stack.code s.spot s.heads.items × (length s.masks.items ≡ 225) × (length s.counts.items ≡ 4096) };
 }
 
 impl Scratch {
@@ -45,10 +56,14 @@ impl Scratch {
     pub fn new(alloc: Global, sets: &Sets) -> Result<Scratch, NoMemory>
         ensures code { IfOk result (λ s. s ≡ sets.now) }
     {
+        let stack = Stack::new(alloc, sets)?;
         let Ok(tables) = Arc::new(alloc, tables_of(alloc, sets)?) else {
             return Err(NoMemory);
         };
-        Scratch::of(alloc, Stack::new(alloc, sets)?, tables)
+        let Ok(grids) = Arc::new(alloc, grids_of(alloc, sets, stack.multiples())?) else {
+            return Err(NoMemory);
+        };
+        Scratch::of(alloc, stack, tables, grids)
     }
 
     /// Memory for blocks of the same sets, for another worker. It shares the tables.
@@ -58,31 +73,46 @@ impl Scratch {
         let Ok(tables) = Arc::try_clone(&self.tables) else {
             return Err(NoMemory);
         };
-        Scratch::of(alloc, self.stack.another(alloc)?, tables)
+        let Ok(grids) = Arc::try_clone(&self.grids) else {
+            return Err(NoMemory);
+        };
+        Scratch::of(alloc, self.stack.another(alloc)?, tables, grids)
     }
 
     // The memory with a stack and tables for its sets.
-    fn of(alloc: Global, stack: Stack, tables: Arc<Vec<Pairs>>) -> Result<Scratch, NoMemory>
+    #[tactic(auto, using(crate::proofs::SumLaws::front_room))]
+    fn of(
+        alloc: Global,
+        stack: Stack,
+        tables: Arc<Vec<Table>>,
+        grids: Arc<Vec<Grid>>,
+    ) -> Result<Scratch, NoMemory>
         requires tables { AreTables stack.code (arc_value tables).items }
+        requires grids { AreGrids stack.code (arc_value grids).items }
         ensures code { IfOk result (λ s. s ≡ stack.code) }
     {
         let k = stack.dimension();
         let Ok(spot) = Spot::new(alloc, k) else {
             return Err(NoMemory);
         };
-        let heads = vec![in alloc; 0u64; k + 1]?;
+        let heads = zeros(alloc, k + 1, stack.length())?;
+        let masks = vec![in alloc; 0u64; 225]?;
+        let counts = vec![in alloc; 0u32; 4096]?;
         Ok(Scratch {
             stack,
             tables,
+            grids,
             spot,
             heads,
+            masks,
+            counts,
         })
     }
 }
 
 // The tables of the sets, over 2 elements.
 #[tactic(auto, using(crate::proofs::TableLaws::no_tables, crate::proofs::TableLaws::two_elements))]
-fn tables_of(alloc: Global, sets: &Sets) -> Result<Vec<Pairs>, NoMemory>
+fn tables_of(alloc: Global, sets: &Sets) -> Result<Vec<Table>, NoMemory>
     ensures are { IfOk result (λ ts. AreTables sets.now ts.items) }
 {
     let mut tables = Vec::new(alloc);
@@ -92,18 +122,49 @@ fn tables_of(alloc: Global, sets: &Sets) -> Result<Vec<Pairs>, NoMemory>
     Ok(tables)
 }
 
-// Pushes the tables of the sets up to the first that has none.
-#[tactic(auto, using(crate::proofs::TableLaws::no_tables, crate::proofs::TableLaws::table_pushed))]
-fn push_tables(alloc: Global, sets: &Sets, tables: &mut Vec<Pairs>) -> Result<(), NoMemory>
+// Pushes the tables of the sets.
+#[tactic(auto, using(crate::proofs::TableLaws::no_tables))]
+fn push_tables(alloc: Global, sets: &Sets, tables: &mut Vec<Table>) -> Result<(), NoMemory>
     requires field { sets.now.field ≡ Gf2 }
     requires none { tables.old.items ≡ [] }
     ensures are { IfOk result (λ _. AreTables sets.now tables.new.items) }
 {
     for j in 0..sets.count() {
-        let Some(table) = pairs_of(alloc, sets, j)? else {
+        tables.push(table_of(alloc, sets, j)?)?;
+    }
+    Ok(())
+}
+
+// The tables of the sets, over more than 2 elements.
+#[tactic(auto, using(crate::proofs::TableLaws::no_grids))]
+fn grids_of(alloc: Global, sets: &Sets, multiples: &[Word]) -> Result<Vec<Grid>, NoMemory>
+    requires multiples { AreMultiples sets.now multiples.now }
+    ensures are { IfOk result (λ gs. AreGrids sets.now gs.items) }
+{
+    let mut grids = Vec::new(alloc);
+    if sets.field().size() != 2 {
+        push_grids(alloc, sets, multiples, &mut grids)?;
+    }
+    Ok(grids)
+}
+
+// Pushes the tables of the sets up to the first that has none.
+#[tactic(auto, using(crate::proofs::TableLaws::no_grids))]
+fn push_grids(
+    alloc: Global,
+    sets: &Sets,
+    multiples: &[Word],
+    grids: &mut Vec<Grid>,
+) -> Result<(), NoMemory>
+    requires multiples { AreMultiples sets.now multiples.now }
+    requires none { grids.old.items ≡ [] }
+    ensures are { IfOk result (λ _. AreGrids sets.now grids.new.items) }
+{
+    for j in 0..sets.count() {
+        let Some(grid) = grid_of(alloc, sets, multiples, j)? else {
             return Ok(());
         };
-        tables.push(table)?;
+        grids.push(grid)?;
     }
     Ok(())
 }

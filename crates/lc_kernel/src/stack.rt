@@ -106,7 +106,8 @@ impl Stack {
         let _phase = plan.phase_of(block);
         let _k = sets.dimension();
         plan.start_of(block, &mut self.spot);
-        refresh(sets, &self.multiples, &self.spot, &mut self.words, 0);
+        let level = self.spot.support().len();
+        refresh(sets, &self.multiples, &self.spot, &mut self.words, 0, level);
     }
 
     /// Goes to the next message of the level. Returns how many sums it made again: those from the first
@@ -127,8 +128,16 @@ impl Stack {
         let Some(first) = plan.step(&mut self.spot) else {
             return None;
         };
-        refresh(sets, &self.multiples, &self.spot, &mut self.words, first);
-        Some(self.spot.support().len() - first)
+        let level = self.spot.support().len();
+        refresh(
+            sets,
+            &self.multiples,
+            &self.spot,
+            &mut self.words,
+            first,
+            level,
+        );
+        Some(level - first)
     }
 
     /// The weight of the word of the message. The stack is at a message of its sets.
@@ -186,6 +195,20 @@ impl Stack {
         }
     }
 
+    /// The multiples of the rows of all sets.
+    pub(crate) fn multiples(&self) -> &[Word]
+        ensures are { AreMultiples self.now.code result.now }
+    {
+        &self.multiples
+    }
+
+    // The length of the code.
+    pub(crate) fn length(&self) -> usize
+        ensures is { result ≡ self.now.code.columns }
+    {
+        self.code.cols()
+    }
+
     // The dimension of the code.
     pub(crate) fn dimension(&self) -> usize
         ensures is { result ≡ length self.now.code.rows }
@@ -203,8 +226,8 @@ impl Stack {
     }
 }
 
-// So many zero words of n symbols.
-fn zeros(alloc: Global, many: usize, n: usize) -> Result<Vec<Word>, NoMemory>
+/// So many zero words of n symbols.
+pub(crate) fn zeros(alloc: Global, many: usize, n: usize) -> Result<Vec<Word>, NoMemory>
     ensures many { IfOk result (λ ws. length ws.items ≡ many) }
     ensures zero { IfOk result (λ ws. (i : ℕ) → i < many → slice_index_or ws.items i [] ≡ zero_word n) }
 {
@@ -215,18 +238,27 @@ fn zeros(alloc: Global, many: usize, n: usize) -> Result<Vec<Word>, NoMemory>
     Ok(words)
 }
 
-// Makes the sums from the one at `from` on again.
-fn refresh(sets: &Sets, multiples: &[Word], spot: &Spot, words: &mut [Word], from: usize)
+/// Makes the sums of the first `to` entries again, those of the first `from` being there.
+pub(crate) fn refresh(
+    sets: &Sets,
+    multiples: &[Word],
+    spot: &Spot,
+    words: &mut [Word],
+    from: usize,
+    to: usize,
+)
     requires multiples { AreMultiples sets.now multiples.now }
     requires set { spot.now.set < set_count sets.now }
     requires message { Contains (messages (length sets.now.rows) (size sets.now.field) (length spot.now.support)) (spot_message spot.now) }
     requires room { IsRoom sets.now spot.now words.old }
     requires fronts { AreFronts sets.now spot.now from words.old }
+    requires order { from ≤ to }
+    requires inside { to ≤ length spot.now.support }
     ensures room { IsRoom sets.now spot.now words.new }
-    ensures fronts { AreFronts sets.now spot.now (length spot.now.support) words.new }
+    ensures fronts { AreFronts sets.now spot.now to words.new }
 {
     let _k = sets.dimension();
-    for i in from..spot.support().len() {
+    for i in from..to {
         extend(sets, multiples, spot, words, i);
     }
 }

@@ -1,8 +1,27 @@
 use Rattle.std.proofs.Common.{subst, arith}
-use Rattle.lc_kernel.specs.Packed.{IsTable}
+use Rattle.lc_kernel.specs.declared.grid.Grid.{Grid}
+use Rattle.lc_kernel.specs.declared.table.Table.{Table}
+use Rattle.lc_kernel.specs.Grids.{IsGrid}
+use Rattle.lc_kernel.specs.Tables.{IsTable}
 use Rattle.lc_kernel.proofs.ScanLaws.{spot_at}
-use Rattle.lc_kernel.proofs.TableLaws.{table_of}
+use Rattle.lc_kernel.proofs.TableLaws.{one_of_all}
 use Rattle.lc_kernel.proofs.block.least_in.Goals as goal
+
+pub by_tails-requires-clause-set : goal.by_tails-requires-clause-set
+by_tails-requires-clause-set c =
+    let e = c.start_of.ensures in
+    (spot_at c.args.sets.now c.args.plan.now c.args.block c.start_of.new.spot c.requires.plan e.first e.level e.set e.message (c.phase_of-phase.ensures.found.0, c.phase_of-phase.ensures.found.1)).1
+
+pub by_tails-requires-clause-at : goal.by_tails-requires-clause-at
+by_tails-requires-clause-at c =
+    let e = c.start_of.ensures in
+    (spot_at c.args.sets.now c.args.plan.now c.args.block c.start_of.new.spot c.requires.plan e.first e.level e.set e.message (c.phase_of-phase.ensures.found.0, c.phase_of-phase.ensures.found.1)).0
+
+pub by_tails-requires-clause-grid : goal.by_tails-requires-clause-grid
+by_tails-requires-clause-grid c =
+    let g = c.index-grids-set.result in
+    let grid = one_of_all (λ j (x : Grid). IsGrid c.args.sets.now j x.planes x.tails x.parts.items x.starts.items) c.args.grids.now c.set-set.result g c.requires.grids.each (omega (arith, c.if-level-ge3.true)) c.index-grids-set.is in
+    subst (λ j. IsGrid c.args.sets.now j g.planes g.tails g.parts.items g.starts.items) c.set-set.ensures grid
 
 pub by_runs-requires-clause-set : goal.by_runs-requires-clause-set
 by_runs-requires-clause-set c =
@@ -17,5 +36,5 @@ by_runs-requires-clause-at c =
 pub by_runs-requires-clause-table : goal.by_runs-requires-clause-table
 by_runs-requires-clause-table c =
     let t = c.index-tables-set.result in
-    let table = table_of c.args.sets.now c.args.tables.now c.set-set.result t c.requires.tables (omega (arith, c.if-set-tables.true)) c.index-tables-set.is in
-    subst (λ j. IsTable c.args.sets.now j t.rows.items t.sums.items t.starts.items) c.set-set.ensures table
+    let table = one_of_all (λ j (x : Table). IsTable c.args.sets.now j x.parts.items x.starts.items) c.args.tables.now c.set-set.result t c.requires.tables.each (omega (arith, c.if-set-tables.true)) c.index-tables-set.is in
+    subst (λ j. IsTable c.args.sets.now j t.parts.items t.starts.items) c.set-set.ensures table

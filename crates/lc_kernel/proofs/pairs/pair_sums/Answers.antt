@@ -1,4 +1,4 @@
-use Rattle.std.proofs.Common.{◌≡◌, length, refl, subst, ◌∙◌, arith}
+use Rattle.std.proofs.Common.{◌≡◌, length, refl, subst, arith}
 use Rattle.lc_kernel.specs.Packed.{EndsAt}
 use Rattle.lc_kernel.proofs.PairLaws.{pairs_made}
 use Rattle.lc_kernel.proofs.pairs.pair_sums.Goals as goal
@@ -9,4 +9,4 @@ returns c =
     let i = c.loop-a.invariant in
     let all : c.loop-a.a ≡ length rows = omega (arith, c.loop-a-test.false, c.loop-a.auto.a-end) in
     let ends : EndsAt (length rows) (length rows) (length c.loop-a.sums.items) = subst (λ a. EndsAt (length rows) a (length c.loop-a.sums.items)) all i.ends in
-    record { are = pairs_made (length rows) rows c.loop-a.sums.items c.loop-a.starts.items refl ends i.so_far (i.many ∙ all) (λ t l. i.first t (omega (arith, all, l))) }
+    record { are = pairs_made (length rows) rows c.loop-a.sums.items refl ends i.so_far }

@@ -1,4 +1,4 @@
-use Rattle.std.proofs.Common.{◌≡◌, ◌<◌, ℕ, length, slice_index}
+use Rattle.std.proofs.Common.{length}
 use Rattle.lc_kernel.specs.Packed.{EndsAt, ArePairsSoFar}
 use Rattle.lc_kernel.proofs.pairs.pair_sums.Given as goal
 
@@ -6,6 +6,4 @@ abbrev pub invariant-loop-a : goal.invariant-loop-a
 invariant-loop-a l = record {
   ends : EndsAt (length l.rows) l.a (length l.sums.items);
   so_far : ArePairsSoFar (length l.rows) l.rows l.sums.items;
-  many : length l.starts.items ≡ l.a;
-  first : (t : ℕ) → t < l.a → EndsAt (length l.rows) t (slice_index l.starts.items t);
 }

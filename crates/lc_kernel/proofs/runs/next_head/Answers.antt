@@ -13,7 +13,7 @@ step-first-requires c =
     let s = c.args.spot.now in
     let t = c.args.table.now in
     let support : c.to_last_pair.new.self.support ≡ head_of s ++ (length C.rows - 2) ∷ (length C.rows - 1) ∷ [] = c.to_last_pair.ensures.support ∙ ap (λ k. head_of s ++ (k - 2) ∷ (k - 1) ∷ []) c.dimension-k.ensures.is in
-    last_is_message C c.args.plan.now s c.to_last_pair.new.self t.rows.items t.sums.items t.starts.items c.requires.plan c.requires.table.field c.requires.level c.requires.table.pairs c.requires.at.message support c.to_last_pair.ensures.coefficients
+    last_is_message C c.args.plan.now s c.to_last_pair.new.self t.starts.items c.requires.plan c.requires.table.field c.requires.level c.requires.table.first c.requires.at.message support c.to_last_pair.ensures.coefficients
 
 pub returns-clause-at : goal.returns-clause-at
 returns-clause-at c =
@@ -23,4 +23,4 @@ returns-clause-at c =
     let last = c.to_last_pair.new.self in
     let e = c.step-first.ensures in
     let support : last.support ≡ head_of s ++ (length C.rows - 2) ∷ (length C.rows - 1) ∷ [] = c.to_last_pair.ensures.support ∙ ap (λ k. head_of s ++ (k - 2) ∷ (k - 1) ∷ []) c.dimension-k.ensures.is in
-    next_offset C c.args.plan.now c.args.block c.args.from c.args.done s last c.step-first.new.spot t.rows.items t.sums.items t.starts.items (is_some c.step-first.result) c.requires.plan c.requires.table.field c.requires.level c.requires.table.pairs c.requires.at c.requires.end c.requires.later c.requires.inside support c.to_last_pair.ensures.coefficients c.to_last_pair.ensures.set e.next e.message e.level e.set
+    next_offset C c.args.plan.now c.args.block c.args.from c.args.done s last c.step-first.new.spot t.starts.items (is_some c.step-first.result) c.requires.plan c.requires.table.field c.requires.level c.requires.table.first c.requires.at c.requires.end c.requires.later c.requires.inside support c.to_last_pair.ensures.coefficients c.to_last_pair.ensures.set e.next e.message e.level e.set

@@ -8,17 +8,23 @@ extend-requires-clause-entries c = (entries_are c.args.sets.now c.args.spot.now 
 
 pub extend-requires-clause-row : goal.extend-requires-clause-row
 extend-requires-clause-row c =
-    let inside : c.loop-i.i < length c.args.spot.now.support = rw (← c.support-i-end.ensures.places) c.loop-i-test.true in
+    let inside : c.loop-i.i < length c.args.spot.now.support = omega (arith, c.loop-i-test.true, c.requires.inside) in
     (entries_are c.args.sets.now c.args.spot.now c.requires.message).row c.loop-i.i inside
 
 pub extend-requires-clause-element : goal.extend-requires-clause-element
 extend-requires-clause-element c =
-    let inside : c.loop-i.i < length c.args.spot.now.support = rw (← c.support-i-end.ensures.places) c.loop-i-test.true in
+    let inside : c.loop-i.i < length c.args.spot.now.support = omega (arith, c.loop-i-test.true, c.requires.inside) in
     let t = entries_are c.args.sets.now c.args.spot.now c.requires.message in
     (t.fitting.some c.loop-i.i (omega (arith, inside, t.many)), t.element c.loop-i.i inside)
 
 pub loop-i-preserved : goal.loop-i-preserved
 loop-i-preserved c =
-    let inside : c.loop-i.i < length c.args.spot.now.support = rw (← c.support-i-end.ensures.places) c.loop-i-test.true in
+    let inside : c.loop-i.i < length c.args.spot.now.support = omega (arith, c.loop-i-test.true, c.requires.inside) in
     let t = front_put c.args.sets.now c.args.spot.now c.loop-i.i c.loop-i.words c.extend.new.words c.dimension-k.ensures.rows c.dimension-k.ensures.independent c.requires.set c.requires.message inside c.loop-i.invariant.room c.loop-i.invariant.fronts c.extend.ensures.is in
     record { room = t.0; fronts = t.1 }
+
+pub extend-requires-clause-many : goal.extend-requires-clause-many
+extend-requires-clause-many c =
+    let inside : c.loop-i.i < length c.args.spot.now.support = omega (arith, c.loop-i-test.true, c.requires.inside) in
+    let few = (entries_are c.args.sets.now c.args.spot.now c.requires.message).few in
+    omega (arith, inside, few, c.loop-i.invariant.room.many)

@@ -1,7 +1,8 @@
-use Rattle.std.proofs.Common.{◌≡◌, ◌<◌, ap, ◌∙◌, [], length, slice_index_or, arith}
+use Rattle.std.proofs.Common.{◌≡◌, ◌<◌, ap, ◌∙◌, [], length, subst, slice_index_or, arith}
 use Rattle.lc_algebra.specs.Matrix.{Matrix}
 use Rattle.lc_algebra.specs.Word.{zero_word}
 use Rattle.lc_enumeration.specs.Search.{set_count}
+use Rattle.lc_kernel.specs.Sums.{AreFronts}
 use Rattle.lc_kernel.proofs.SumLaws.{code_message, fronts_are, step_fronts, stack_at, written_whole}
 use Rattle.lc_kernel.proofs.stack.Stack.advance.Goals as goal
 
@@ -24,5 +25,5 @@ returns-clause-at c =
     (omega (arith, at.set, c.step.ensures.set))
     (code_message c.args.sets.now c.args.plan.now spot c.requires.plan c.step.ensures.message)
     (omega (arith, at.level, c.step.ensures.level))
-    c.refresh.ensures.room c.refresh.ensures.fronts
+    c.refresh.ensures.room (subst (λ n. AreFronts c.args.sets.now spot n c.refresh.new.words) (ap length c.support-level.ensures.places) c.refresh.ensures.fronts)
     (written_whole c.self.inside.words.len c.refresh.new.words c.self.inside.words.items (omega (arith, c.self.inside.words.ok.0, c.self.invariant.0.many, c.refresh.ensures.room.many, ap (λ (C : Matrix). length C.rows) at.code)))

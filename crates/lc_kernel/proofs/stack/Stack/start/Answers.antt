@@ -1,7 +1,8 @@
-use Rattle.std.proofs.Common.{◌≡◌, ap, ◌∙◌, [], length, slice_index_or, arith}
+use Rattle.std.proofs.Common.{◌≡◌, ap, ◌∙◌, [], length, subst, slice_index_or, arith}
 use Rattle.lc_algebra.specs.Matrix.{Matrix}
 use Rattle.lc_algebra.specs.Word.{zero_word}
 use Rattle.lc_kernel.specs.Kernel.{StackState}
+use Rattle.lc_kernel.specs.Sums.{AreFronts}
 use Rattle.lc_kernel.proofs.SumLaws.{set_below, level_some, code_message, front_start, stack_at, written_whole}
 use Rattle.lc_kernel.proofs.stack.Stack.start.Goals as goal
 
@@ -28,5 +29,5 @@ returns-clause-at c =
     (set_below c.args.sets.now c.args.plan.now found.0 spot.set c.requires.plan (c.start_of.ensures.set found.0 found.1)).0
     (code_message c.args.sets.now c.args.plan.now spot c.requires.plan c.start_of.ensures.message)
     (level_some c.args.plan.now.m found.0 _ (c.start_of.ensures.level found.0 found.1))
-    c.refresh.ensures.room c.refresh.ensures.fronts
+    c.refresh.ensures.room (subst (λ n. AreFronts c.args.sets.now spot n c.refresh.new.words) (ap length c.support-level.ensures.places) c.refresh.ensures.fronts)
     (written_whole c.self.inside.words.len c.refresh.new.words c.self.inside.words.items (omega (arith, c.self.inside.words.ok.0, c.self.invariant.0.many, c.refresh.ensures.room.many, ap (λ (C : Matrix). length C.rows) code)))

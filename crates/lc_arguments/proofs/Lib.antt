@@ -1,0 +1,5 @@
+pub mod TextLaws
+pub mod NumberLaws
+pub mod KeyLaws
+pub mod ArgumentLaws
+pub mod CourseLaws

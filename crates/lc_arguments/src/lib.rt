@@ -1,0 +1,10 @@
+//! The command line: what its arguments ask for, or the index of the first one that is refused.
+#![tactic(auto)]
+
+mod arguments;
+mod keys;
+mod numbers;
+mod request;
+
+pub use arguments::asked_by;
+pub use request::{Asked, Command};

@@ -1,0 +1,6 @@
+use Rattle.std.proofs.Common.{◌+◌, ◌-◌, ◌*◌}
+use Rattle.lc_kernel.specs.Grid.{tail_count, AreTails}
+use Rattle.lc_kernel.proofs.grid.push_row.Given as goal
+
+abbrev pub invariant-loop-b : goal.invariant-loop-b
+invariant-loop-b l = AreTails l.sets l.j ((l.first + (l.b - l.a - 1)) * tail_count l.sets) l.words.items

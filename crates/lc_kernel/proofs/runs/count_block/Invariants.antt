@@ -1,0 +1,19 @@
+use Rattle.std.proofs.Common.{◌≡◌, ◌-◌, ◌<◌, length}
+use Rattle.lc_enumeration.specs.Search.{block_words}
+use Rattle.lc_kernel.specs.Values.{IsSpotAt}
+use Rattle.lc_kernel.specs.Packed.{others}
+use Rattle.lc_kernel.specs.Least.{AreCounted}
+use Rattle.lc_kernel.proofs.runs.count_block.Given as goal
+
+abbrev pub decreases-loop-counts : goal.decreases-loop-counts
+decreases-loop-counts l = length l.initial.counts - l.done
+
+abbrev pub invariant-loop-counts : goal.invariant-loop-counts
+invariant-loop-counts l = record {
+  inside : l.done < length l.initial.counts;
+  set : l.spot.set ≡ l.initial.spot.set;
+  level : length l.spot.support ≡ length l.initial.spot.support;
+  room : l.spot.room ≡ l.initial.spot.room;
+  at : IsSpotAt l.sets l.plan.m l.block l.done l.spot;
+  counted : AreCounted (others l.sets l.spot.set) (block_words l.sets l.plan.m l.block) 0 l.done l.counts;
+}

@@ -1,0 +1,31 @@
+-- The tables of the sets of a code over more than 2 elements.
+--   IsGridPart C j cols n columns bits      some columns, and the first n planes there of the negatives of all tails
+--   AreGridParts C j n ps      part b of the list is that for part b of the columns outside the basis of set j
+--   IsGrid C j n tails ps starts      these parts for all such columns, how many tails there are, and the first pair of each row
+--   AreGrids C gs              table j is that of set j
+use Rattle.std.specs.Prelude.{◌≡◌, ℕ, ◌*◌, ◌^◌, ◌≤◌, List, Some, length, slice_get}
+use Rattle.lc_algebra.specs.Field.{size}
+use Rattle.lc_algebra.specs.Matrix.{Matrix}
+use Rattle.lc_kernel.specs.declared.grid.Grid.{Grid}
+use Rattle.lc_kernel.specs.declared.grid.GridPart.{GridPart}
+use Rattle.lc_kernel.specs.Packed.{others, part_at, AreStarts}
+use Rattle.lc_kernel.specs.Grid.{tails_in, AreTailPlanes}
+
+pub record IsGridPart (C : Matrix) (j : ℕ) (cols : List ℕ) (n : ℕ) (columns bits : List ℕ) : Type 0 where
+  pub columns_are : columns ≡ cols
+  pub planes : AreTailPlanes C j cols n bits
+
+abbrev pub AreGridParts : Matrix → ℕ → ℕ → List GridPart → Type 0
+AreGridParts C j n ps = (b : ℕ) (p : GridPart) → slice_get ps b ≡ Some p → IsGridPart C j (part_at (others C j) b) n p.columns.items p.bits.items
+
+pub record IsGrid (C : Matrix) (j n tails : ℕ) (ps : List GridPart) (starts : List ℕ) : Type 0 where
+  pub planes : size C.field ≤ 2 ^ n
+  pub few : n ≤ 4
+  pub count : tails ≡ tails_in C
+  pub small : tails ≤ 2 ^ 18
+  pub wide : length (others C j) ≤ 64 * length ps
+  pub parts : AreGridParts C j n ps
+  pub first : AreStarts (length C.rows) starts
+
+pub record AreGrids (C : Matrix) (gs : List Grid) : Type 0 where
+  pub each : (j : ℕ) (g : Grid) → slice_get gs j ≡ Some g → IsGrid C j g.planes g.tails g.parts.items g.starts.items

@@ -1,0 +1,18 @@
+-- Words over any field as bits: plane j of a word has bit j of the number of each symbol.
+--   plane j w               the number whose bits are the bits j of the symbols of w, the first one the lowest
+--   plane_at j cols w       plane j of the symbols of a word at some columns
+--   apart n u v             the bits at which one of the first n planes of two words differ
+use Rattle.std.specs.Prelude.{ℕ, zero, suc, List, map, bit_or, bit_xor}
+use Rattle.std.specs.Int.{bit_at}
+use Rattle.lc_algebra.specs.SpanLaws.{restrict}
+use Rattle.lc_kernel.specs.Packed.{packed}
+
+unfoldable pub plane : ℕ → List ℕ → ℕ
+plane j w = packed (map (λ a. bit_at a j) w)
+
+abbrev pub plane_at : ℕ → List ℕ → List ℕ → ℕ
+plane_at j cols w = plane j (restrict cols w)
+
+abbrev pub apart : ℕ → List ℕ → List ℕ → ℕ
+apart zero u v = 0
+apart (suc j) u v = bit_or (bit_xor (plane j u) (plane j v)) (apart j u v)

@@ -1,0 +1,302 @@
+//! The table of an information set over more than 2 elements: the words that end messages, as bits.
+
+ghost use Rattle.std.specs.Prelude.{◌≡◌, ℕ, ◌+◌, ◌-◌, ◌*◌, ◌^◌, ◌<◌, ◌≤◌, ◌∷◌, [], Some, length, slice_get, slice_index, slice_index_or, IfOk};
+ghost use Rattle.lc_algebra.specs.Field.{size};
+ghost use Rattle.lc_algebra.specs.Word.{IsWord};
+ghost use Rattle.lc_enumeration.specs.Message.{supports_from};
+ghost use Rattle.lc_enumeration.specs.Search.{set_count};
+ghost use Rattle.lc_kernel.specs.Packed.{others, EndsAt};
+ghost use Rattle.lc_kernel.specs.Planes.{plane_at};
+ghost use Rattle.lc_kernel.specs.Sums.{AreMultiples};
+ghost use Rattle.lc_kernel.specs.Grid.{tail_count, tail_word, tails_in, negative, AreTails, ArePlanesOf};
+ghost use Rattle.lc_kernel.specs.Grids.{AreGridParts, IsGrid};
+
+use crate::multiples::{multiple_of, nonzero};
+use crate::pairs::pair_starts;
+use crate::planes::plane_of;
+use crate::table::columns_outside;
+use lc_field::NoMemory;
+use lc_infoset::Sets;
+use lc_vec::{Word, put_added, scale};
+use std::alloc::Global;
+
+/// The most tails that a table has.
+const MOST: usize = 262_144;
+
+/// For at most 64 columns outside the basis of a set: these columns, and the planes there of the negatives of all
+/// tails, plane by plane.
+#[derive(Drop)]
+pub(crate) struct GridPart {
+    pub(crate) columns: Vec<usize>,
+    pub(crate) bits: Vec<u64>,
+}
+
+/// For one set: how many planes the symbols have, how many tails there are, the parts for the columns outside its basis, 64 columns each
+/// but the last, and for each row the index of its first pair.
+#[derive(Drop)]
+pub(crate) struct Grid {
+    pub(crate) planes: usize,
+    pub(crate) tails: usize,
+    pub(crate) parts: Vec<GridPart>,
+    pub(crate) starts: Vec<usize>,
+}
+
+// The negative of the sum of multiples of rows a and b of set j: tail t.
+fn tail(
+    alloc: Global,
+    sets: &Sets,
+    multiples: &[Word],
+    j: usize,
+    a: usize,
+    b: usize,
+    t: usize,
+) -> Result<Word, NoMemory>
+    requires multiples { AreMultiples sets.now multiples.now }
+    requires set { j < set_count sets.now }
+    requires first { a < length sets.now.rows }
+    requires second { b < length sets.now.rows }
+    requires tail { t < tail_count sets.now }
+    ensures is { IfOk result (λ w. w ≡ negative sets.now.field (tail_word sets.now j a b t)) }
+    ensures word { IfOk result (λ w. IsWord sets.now.field sets.now.columns w) }
+{
+    let elements = nonzero(sets);
+    let n = sets.length();
+    let first = multiple_of(sets, multiples, j, a, (t / elements) as u8 + 1);
+    let second = multiple_of(sets, multiples, j, b, (t % elements) as u8 + 1);
+    let mut symbols = vec![in alloc; 0u8; n]?;
+    put_added(
+        sets.field(),
+        &mut symbols,
+        first.symbols(),
+        second.symbols(),
+    );
+    scale(sets.field(), &mut symbols, sets.field().neg(1));
+    Ok(Word::from_vec(symbols))
+}
+
+// Pushes the tails of rows a and b, whose pair has this index.
+fn push_tails(
+    alloc: Global,
+    sets: &Sets,
+    multiples: &[Word],
+    j: usize,
+    a: usize,
+    b: usize,
+    pair: usize,
+    words: &mut Vec<Word>,
+) -> Result<(), NoMemory>
+    requires multiples { AreMultiples sets.now multiples.now }
+    requires set { j < set_count sets.now }
+    requires first { a < length sets.now.rows }
+    requires second { b < length sets.now.rows }
+    requires pair { slice_get (supports_from 0 (length sets.now.rows) 2) pair ≡ Some (a ∷ b ∷ []) }
+    requires tails { AreTails sets.now j (pair * tail_count sets.now) words.old.items }
+    ensures tails { IfOk result (λ _. AreTails sets.now j ((pair + 1) * tail_count sets.now) words.new.items) }
+{
+    let elements = nonzero(sets);
+    for t in 0..elements * elements {
+        words.push(tail(alloc, sets, multiples, j, a, b, t)?)?;
+    }
+    Ok(())
+}
+
+// Pushes the tails of row a and each later row, the first of whose pairs has this index.
+fn push_row(
+    alloc: Global,
+    sets: &Sets,
+    multiples: &[Word],
+    j: usize,
+    a: usize,
+    first: usize,
+    words: &mut Vec<Word>,
+) -> Result<(), NoMemory>
+    requires multiples { AreMultiples sets.now multiples.now }
+    requires set { j < set_count sets.now }
+    requires row { a < length sets.now.rows }
+    requires first { EndsAt (length sets.now.rows) a first }
+    requires tails { AreTails sets.now j (first * tail_count sets.now) words.old.items }
+    ensures tails { IfOk result (λ _. AreTails sets.now j ((first + (length sets.now.rows - a - 1)) * tail_count sets.now) words.new.items) }
+{
+    let _n = sets.length();
+    let k = sets.dimension();
+    for b in a + 1..k {
+        push_tails(alloc, sets, multiples, j, a, b, first + (b - a - 1), words)?;
+    }
+    Ok(())
+}
+
+// The negatives of all tails of set j.
+fn all_tails(
+    alloc: Global,
+    sets: &Sets,
+    multiples: &[Word],
+    j: usize,
+) -> Result<Vec<Word>, NoMemory>
+    requires multiples { AreMultiples sets.now multiples.now }
+    requires set { j < set_count sets.now }
+    ensures are { IfOk result (λ ws. AreTails sets.now j (tails_in sets.now) ws.items) }
+{
+    let _n = sets.length();
+    let k = sets.dimension();
+    let mut words = Vec::new(alloc);
+    let mut pair = 0;
+    for a in 0..k {
+        push_row(alloc, sets, multiples, j, a, pair, &mut words)?;
+        pair += k - a - 1;
+    }
+    Ok(words)
+}
+
+// Pushes a plane of the words at some columns.
+fn push_plane(
+    words: &[Word],
+    columns: &[usize],
+    plane: usize,
+    bits: &mut Vec<u64>,
+) -> Result<(), NoMemory>
+    requires few { length columns.now ≤ 64 }
+    requires plane { plane < 8 }
+    requires inside { (i t : ℕ) → i < length words.now → t < length columns.now → slice_index columns.now t < length (slice_index_or words.now i []) }
+    ensures long { IfOk result (λ _. length bits.new.items ≡ length bits.old.items + length words.now) }
+    ensures before { IfOk result (λ _. (i : ℕ) → i < length bits.old.items → slice_index bits.new.items i ≡ slice_index bits.old.items i) }
+    ensures after { IfOk result (λ _. (e : ℕ) → e < length words.now → slice_index bits.new.items (length bits.old.items + e) ≡ plane_at plane columns.now (slice_index_or words.now e [])) }
+{
+    for e in 0..words.len() {
+        bits.push(plane_of(words[e].symbols(), columns, plane))?;
+    }
+    Ok(())
+}
+
+// The planes of the words at some columns, plane by plane.
+fn planes_of(
+    alloc: Global,
+    words: &[Word],
+    columns: &[usize],
+    planes: usize,
+) -> Result<Vec<u64>, NoMemory>
+    requires few { length columns.now ≤ 64 }
+    requires planes { planes ≤ 4 }
+    requires inside { (i t : ℕ) → i < length words.now → t < length columns.now → slice_index columns.now t < length (slice_index_or words.now i []) }
+    ensures are { IfOk result (λ bits. ArePlanesOf columns.now planes words.now bits.items) }
+{
+    let mut bits = Vec::new(alloc);
+    for plane in 0..planes {
+        push_plane(words, columns, plane, &mut bits)?;
+    }
+    Ok(bits)
+}
+
+// Pushes the parts for these columns.
+fn push_parts(
+    alloc: Global,
+    sets: &Sets,
+    j: usize,
+    columns: &[usize],
+    words: &[Word],
+    planes: usize,
+    parts: &mut Vec<GridPart>,
+) -> Result<(), NoMemory>
+    requires set { j < set_count sets.now }
+    requires columns { columns.now ≡ others sets.now j }
+    requires words { AreTails sets.now j (tails_in sets.now) words.now }
+    requires planes { planes ≤ 4 }
+    requires none { parts.old.items ≡ [] }
+    ensures wide { IfOk result (λ _. length columns.now ≤ 64 * length parts.new.items) }
+    ensures are { IfOk result (λ _. AreGridParts sets.now j planes parts.new.items) }
+{
+    let mut start = 0;
+    while start < columns.len() {
+        let end = columns.len().min(start + 64);
+        parts.push(grid_part(alloc, words, &columns[start..end], planes)?)?;
+        start = end;
+    }
+    Ok(())
+}
+
+// The part for these columns.
+fn grid_part(
+    alloc: Global,
+    words: &[Word],
+    columns: &[usize],
+    planes: usize,
+) -> Result<GridPart, NoMemory>
+    requires few { length columns.now ≤ 64 }
+    requires planes { planes ≤ 4 }
+    requires inside { (i t : ℕ) → i < length words.now → t < length columns.now → slice_index columns.now t < length (slice_index_or words.now i []) }
+    ensures columns { IfOk result (λ p. p.columns.items ≡ columns.now) }
+    ensures bits { IfOk result (λ p. ArePlanesOf columns.now planes words.now p.bits.items) }
+{
+    let bits = planes_of(alloc, words, columns, planes)?;
+    Ok(GridPart {
+        columns: columns.to_vec(alloc)?,
+        bits,
+    })
+}
+
+// How many planes the symbols of the field have.
+fn plane_count(sets: &Sets) -> usize
+    ensures all { size sets.now.field ≤ 2 ^ result }
+    ensures few { result ≤ 4 }
+{
+    let size = sets.field().size();
+    if size <= 4 {
+        return 2;
+    }
+    if size <= 8 {
+        return 3;
+    }
+    4
+}
+
+/// The table of set `j`, if there aren't too many tails.
+pub(crate) fn grid_of(
+    alloc: Global,
+    sets: &Sets,
+    multiples: &[Word],
+    j: usize,
+) -> Result<Option<Grid>, NoMemory>
+    requires multiples { AreMultiples sets.now multiples.now }
+    requires set { j < set_count sets.now }
+    ensures is { IfOk result (λ o. (g : _) → o ≡ Some g → IsGrid sets.now j g.planes g.tails g.parts.items g.starts.items) }
+{
+    let _n = sets.length();
+    let k = sets.dimension();
+    let elements = nonzero(sets);
+    if k * k * elements * elements > MOST {
+        return Ok(None);
+    }
+    let starts = pair_starts(alloc, k)?;
+    let words = all_tails(alloc, sets, multiples, j)?;
+    let tails = words.len();
+    if tails > MOST {
+        return Ok(None);
+    }
+    let planes = plane_count(sets);
+    let parts = parts_of(alloc, sets, j, &words, planes)?;
+    Ok(Some(Grid {
+        planes,
+        tails,
+        parts,
+        starts,
+    }))
+}
+
+// The parts of set j.
+fn parts_of(
+    alloc: Global,
+    sets: &Sets,
+    j: usize,
+    words: &[Word],
+    planes: usize,
+) -> Result<Vec<GridPart>, NoMemory>
+    requires set { j < set_count sets.now }
+    requires words { AreTails sets.now j (tails_in sets.now) words.now }
+    requires planes { planes ≤ 4 }
+    ensures wide { IfOk result (λ ps. length (others sets.now j) ≤ 64 * length ps.items) }
+    ensures are { IfOk result (λ ps. AreGridParts sets.now j planes ps.items) }
+{
+    let columns = columns_outside(alloc, sets.length(), sets.basis(j))?;
+    let mut parts = Vec::new(alloc);
+    push_parts(alloc, sets, j, &columns, words, planes, &mut parts)?;
+    Ok(parts)
+}

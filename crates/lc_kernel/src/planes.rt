@@ -1,0 +1,43 @@
+//! The bits of the symbols of words, as numbers, and where words differ.
+
+ghost use Rattle.std.specs.Prelude.{◌≡◌, ℕ, ◌+◌, ◌<◌, ◌≤◌, length, slice_index, bit_or, bit_xor, count_ones};
+ghost use Rattle.lc_kernel.specs.Planes.{plane_at};
+
+/// Bit `plane` of the symbols of a word at some columns, at most 64: the first column is the lowest bit.
+pub(crate) fn plane_of(word: &[u8], columns: &[usize], plane: usize) -> u64
+    requires few { length columns.now ≤ 64 }
+    requires plane { plane < 8 }
+    requires inside { (t : ℕ) → t < length columns.now → slice_index columns.now t < length word.now }
+    ensures is { result ≡ plane_at plane columns.now word.now }
+{
+    let mut bits = 0;
+    let mut t = columns.len();
+    while t > 0 {
+        t -= 1;
+        let bit = (word[columns[t]] >> plane) & 1;
+        bits = bits * 2 + bit as u64;
+    }
+    bits
+}
+
+/// Adds to each mask the bits at which a number of the list differs from `bits`.
+pub(crate) fn mark_apart(list: &[u64], bits: u64, masks: &mut [u64])
+    requires lengths { length list.now ≡ length masks.old }
+    ensures is { (i : ℕ) → i < length masks.old → slice_index masks.new i ≡ bit_or (bit_xor bits (slice_index list.now i)) (slice_index masks.old i) }
+{
+    for i in 0..masks.len() {
+        masks[i] = (bits ^ list[i]) | masks[i];
+    }
+}
+
+/// Adds to each count the number of ones of a mask.
+pub(crate) fn add_marked(masks: &[u64], counts: &mut [u32])
+    requires lengths { length masks.now ≡ length counts.old }
+    requires few { (i : ℕ) → i < length counts.old → slice_index counts.old i ≤ 255 }
+    ensures is { (i : ℕ) → i < length counts.old → slice_index counts.new i ≡ slice_index counts.old i + count_ones (slice_index masks.now i) }
+{
+    for i in 0..counts.len() {
+        let ones = masks[i].count_ones();
+        counts[i] += ones;
+    }
+}

@@ -1,0 +1,116 @@
+//! Command lines, and what they ask for.
+use lc_arguments::{Asked, Command, asked_by};
+use std::alloc::{AllocError, Global};
+use std::test::Fail;
+
+// What a command asks for with no key.
+const PLAIN: Asked = Asked {
+    command: Command::Run,
+    workers: 1,
+    budget: 1_048_576,
+    slice: None,
+    keep: false,
+    seed: 0,
+};
+
+// Command lines that are refused, and the index of the argument that is wrong or missing.
+const REFUSED: [(&str, usize); 20] = [
+    ("", 0),
+    ("walk", 0),
+    ("run workers=0", 1),
+    ("run workers=257", 1),
+    ("run budget=1099511627777", 1),
+    ("run budget=+1", 1),
+    ("run budget=01", 1),
+    ("run slice=2", 1),
+    ("run budget=7 slice=2", 2),
+    ("run slice=2 keep=no", 1),
+    ("run slice=0 keep=yes", 1),
+    ("run keep=yes keep=no", 2),
+    ("run keep=maybe", 1),
+    ("run seed=1", 1),
+    ("resume workers", 1),
+    ("check budget=7", 1),
+    ("summary", 1),
+    ("summary budget=7", 2),
+    ("summary seed=18446744073709551616", 1),
+    ("summary seed=1 keep=yes", 2),
+];
+
+// The arguments of a command line, with a space between each two.
+fn arguments_in(alloc: Global, line: &str) -> Result<Vec<String>, AllocError> {
+    let mut arguments = Vec::with_capacity(alloc, 8)?;
+    for piece in line.split_whitespace() {
+        let argument = String::from_str(alloc, piece)?;
+        if arguments.push(argument).is_err() {
+            return Err(AllocError);
+        }
+    }
+    Ok(arguments)
+}
+
+// What a command line asks for, or the index that is refused.
+fn asked_in(alloc: Global, line: &str) -> Result<Result<Asked, usize>, AllocError> {
+    let arguments = arguments_in(alloc, line)?;
+    Ok(asked_by(&arguments))
+}
+
+#[test]
+fn refused_command_lines(rt: HostRuntime) -> Result<(), Fail> {
+    for (line, index) in &REFUSED {
+        assert!(rt; asked_in(rt.alloc(), line)? == Err(*index));
+    }
+    Ok(())
+}
+
+#[test]
+fn accepted_command_lines(rt: HostRuntime) -> Result<(), Fail> {
+    let cases: [(&str, Asked); 7] = [
+        ("run", PLAIN),
+        (
+            "check",
+            Asked {
+                command: Command::Check,
+                ..PLAIN
+            },
+        ),
+        (
+            "run budget=0 workers=256",
+            Asked {
+                workers: 256,
+                budget: 0,
+                ..PLAIN
+            },
+        ),
+        (
+            "run budget=1099511627776",
+            Asked {
+                budget: 1_099_511_627_776,
+                ..PLAIN
+            },
+        ),
+        (
+            "resume slice=3 keep=yes",
+            Asked {
+                command: Command::Resume,
+                slice: Some(3),
+                keep: true,
+                ..PLAIN
+            },
+        ),
+        ("run keep=no", PLAIN),
+        (
+            "summary workers=4 seed=18446744073709551615",
+            Asked {
+                command: Command::Summary,
+                workers: 4,
+                seed: 18_446_744_073_709_551_615,
+                ..PLAIN
+            },
+        ),
+    ];
+    for (line, asked) in &cases {
+        assert!(rt; asked_in(rt.alloc(), line)? == Ok(*asked));
+    }
+    Ok(())
+}
