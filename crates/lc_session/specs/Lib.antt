@@ -1,4 +1,5 @@
-pub mod Closing
+pub mod Asked
 pub mod Ending
 pub mod Outcome
 pub mod Reply
+pub mod Searched

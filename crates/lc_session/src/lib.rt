@@ -1,14 +1,16 @@
 //! A session: the words of the command line, the bytes in and the bytes out.
 #![tactic(auto)]
 
+mod arguments;
+mod certificate;
 mod check;
+mod distance;
 mod input;
 mod laws;
 mod reply;
-mod scripts;
 mod session;
 mod status;
-mod summary;
+mod text;
 
 pub use laws::one_text;
 pub use session::run_session;
