@@ -6,7 +6,8 @@
 --   halted               the session ends at a need
 --   even, finished_so    it has the text
 --   over, records_left   records are left at the end of the text
-use Rattle.std.proofs.Common.{◌≡◌, ◌≤◌, ◌<◌, ◌+◌, ◌⊎◌, inl, inr, ⊎_elim, ℕ, suc, Bool, true, false, is_some, List, [], ◌∷◌, ◌++◌, length, map, take, Option, Some, None, option_map, refl, sym, ap, subst, ◌∙◌, arith}
+--   ended_as, IsEnded    what an end of the text says
+use Rattle.std.proofs.Common.{◌≡◌, ◌≤◌, ◌<◌, ◌+◌, ◌⊎◌, inl, inr, ⊎_elim, ℕ, suc, Bool, true, false, is_some, List, [], ◌∷◌, ◌++◌, length, map, take, Option, Some, None, option_map, refl, sym, ap, subst, ◌∙◌, arith, Result, Ok, Err, MatchResult}
 use Rattle.std.proofs.lemmas.List.{append-nil, length-map}
 use Rattle.lc_algebra.specs.Matrix.{Matrix}
 use Rattle.lc_algebra.specs.Divisor.{divisor_of}
@@ -163,6 +164,14 @@ over w needs answers c now some h = by (option_map settled_of c.current) (some_m
 
 pub records_left : (w : World) (first : List tree.Statement) (needs : List Matrix) (answers : List Answer) (text : List ℕ) (ends : Bool) (c : Course) (now : Around) → is_some c.current ≡ true → Goes w needs answers c now → AreMet first needs → IsWritten w.budget first needs answers text ends → Ends w first c now (halt.Unfit (length c.pace.point.settled.items + 1) 0)
 records_left w first needs answers text ends c now some h met written = (needs, met, over w needs answers c now some h, inr (h.met, written.asks_all))
+
+-- what an end of the text says, in other words
+pub ended_as : {A E : Type 0} (r : Result A E) (P P' : A → Type 0) (Q Q' : E → Type 0) → ((a : A) → P a → P' a) → ((e : E) → Q e → Q' e) → MatchResult r P Q → MatchResult r P' Q'
+ended_as (Ok a) P P' Q Q' f g h = f a h
+ended_as (Err e) P P' Q Q' f g h = g e h
+
+abbrev pub IsEnded : Course → List ℕ → Bool → Result Text Halt → Type 0
+IsEnded c text ends r = MatchResult r (λ t. (is_some c.current ≡ false) × (t.bytes.items ≡ text) × (t.ends ≡ ends)) (λ x. (is_some c.current ≡ true) × (x ≡ halt.Unfit (length c.pace.point.settled.items + 1) 0))
 
 -- the session ends at a need
 pub halted : (w : World) (first : List tree.Statement) (needs : List Matrix) (C : Matrix) (c : Course) (now : Around) (x : Halt) → AreMet first needs → AreMet first (needs ++ C ∷ []) → Halts w needs C c now x → Ends w first c now x

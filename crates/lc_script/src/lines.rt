@@ -21,6 +21,7 @@ fn distance_line_of(alloc: Global, search: &Search, answer: Answer) -> Result<Ve
     requires answered { answer_in search.now ≡ Some (answer_of answer) }
     ensures { IfOk result (λ line. line.items ≡ distance_answer_line search.now.code (answer_of answer)) }
 {
+    let _rows = search.sets().dimension();
     match answer {
         Answer::Exact {
             weight,
