@@ -7,7 +7,7 @@
 --   ends_whole, ends_left        no statement is left, and no record is, or some are
 --   ends_faulty, ends_faulty_left    a statement fails, so too
 --   whole_result, faulty_result      the same, of a result
-use Rattle.std.proofs.Common.{◌≡◌, ◌≤◌, ◌<◌, ◌+◌, ◌×◌, ℕ, Bool, true, false, is_some, Result, MatchResult, List, [], ◌∷◌, ◌++◌, length, map, take, refl, sym, ap, subst, ◌∙◌, arith}
+use Rattle.std.proofs.Common.{◌≡◌, ◌<◌, ◌+◌, ℕ, Bool, true, false, is_some, Result, Ok, Err, is_ok, is_err, if◌then◌else◌, MatchResult, List, [], ◌∷◌, ◌++◌, length, map, take, sym, ap, subst, ◌∙◌, arith}
 use Rattle.std.proofs.lemmas.List.{length-append}
 use Rattle.lc_algebra.specs.Matrix.{Matrix}
 use Rattle.lc_enumeration.specs.Search.{Answer}
@@ -29,9 +29,14 @@ use Rattle.lc_answers.specs.declared.need.Halt.TheVariants as halt
 use Rattle.lc_answers.specs.Going.{World, IsRanged, Goes, Halts}
 use Rattle.lc_answers.proofs.NeedLaws.{starving}
 use Rattle.lc_script.specs.declared.statements.Text.{Text}
-use Rattle.lc_script.specs.Text.{HasCome, Finishes, AreMet, Ends}
+use Rattle.lc_script.specs.Text.{HasCome, Finishes, Ends}
 use Rattle.lc_course.specs.Statements.{HaveDone}
 use Rattle.lc_script.proofs.TextLaws.{IsWritten, on_line, on_silent, on_need, met_next, met_now, whole, faulty, finished_so, records_left, halted, ended_as, IsEnded}
+
+-- the text with one more line
+pub added : {A E : Type 0} (r : Result A E) (old new line given other : List ℕ) → is_err r ≡ false → new ≡ (if is_ok r then old ++ given else other) → given ≡ line → new ≡ old ++ line
+added (Ok a) old new line given other e h g = h ∙ ap (λ (x : List ℕ). old ++ x) g
+added (Err x) old new line given other e h g = absurd (let f = e in cc)
 
 pub at_first : (budget : ℕ) (before : Course) (start : Around) (m : State) (text : List ℕ) → m.bindings ≡ [] → before.met ≡ 0 → IsRanged before → text ≡ [] → HasCome budget (map statement_of m.left) before start m before text start
 at_first budget before start m text unbound unmet ranged none = record {

@@ -4,12 +4,12 @@
 --   word_there, exact_word, bracket_word      there is a word at its place
 --   exact_line, between_line     the lines of distances
 --   exact_said, between_said     the lines of certificates
-use Rattle.std.proofs.Common.{◌≡◌, ◌++◌, ℕ, true, is_some, List, [], Option, Some, None, unwrap_or, Result, Ok, Err, IfOk, codes, decimal, refl, sym, ap, subst, ◌∙◌}
+use Rattle.std.proofs.Common.{◌≡◌, ◌++◌, ℕ, true, is_some, List, [], Option, Some, unwrap_or, Result, Ok, Err, IfOk, codes, decimal, refl, sym, ap, subst, ◌∙◌}
 use Rattle.std.specs.Global.{Vec}
 use Rattle.lc_algebra.specs.Matrix.{Matrix, AreRows}
 use Rattle.lc_algebra.specs.Span.{AreIndependent}
 use Rattle.lc_algebra.specs.Divisor.{divisor_of}
-use Rattle.lc_enumeration.specs.Search.{Found, Answer, exact, bracket, fits, set_count, word_at}
+use Rattle.lc_enumeration.specs.Search.{Found, exact, fits, set_count, word_at}
 use Rattle.lc_enumeration.specs.Records.{found_of}
 use Rattle.lc_enumeration.specs.Truth.{HasWord, answer_blocks}
 use Rattle.lc_infoset.proofs.FittingLaws.{answer_found, finished_state}

@@ -5,14 +5,13 @@
 --   resume_replies       what `resume` prints
 --   not_true             over true slots every record fits
 --   resume_unfit         a record that doesn't fit
-use Rattle.std.proofs.Common.{◌≡◌, ◌≤◌, ◌<◌, ◌^◌, ◌⊎◌, inl, inr, ⊎_elim, ℕ, Bool, true, false, IsTrue, List, [], ◌∷◌, ◌++◌, length, Option, Some, None, refl, sym, ap, subst, ◌∙◌, arith}
+use Rattle.std.proofs.Common.{◌≡◌, ◌≤◌, ◌^◌, ◌⊎◌, inl, inr, ⊎_elim, ℕ, Bool, false, IsTrue, List, [], ◌∷◌, ◌++◌, length, Option, Some, refl, sym, ap, subst, ◌∙◌, arith}
 use Rattle.std.proofs.lemmas.Bool.{false≢true}
 use Rattle.std.proofs.lemmas.List.{length-append}
 use Rattle.sha2.specs.Sha256.{sha256}
 use Rattle.lc_algebra.specs.Matrix.{Matrix}
 use Rattle.lc_algebra.specs.Divisor.{divisor_of}
-use Rattle.lc_enumeration.specs.Search.{Answer}
-use Rattle.lc_enumeration.specs.Records.{SessionStep, SessionRounds, Start, Progress, session_rounds}
+use Rattle.lc_enumeration.specs.Records.{SessionStep, SessionRounds, Progress, session_rounds}
 use Rattle.lc_enumeration.specs.Fitting.{Misfit, misfit}
 use Rattle.lc_infoset.proofs.FittingLaws.{true_start_fits}
 use Rattle.lc_formats.specs.Checkpoint.{Checkpoint, current_of}
@@ -24,9 +23,8 @@ use Rattle.lc_eval.specs.Built.{built_calls}
 use Rattle.lc_sessions.specs.Options.{run, resume, Settings}
 use Rattle.lc_sessions.specs.Needs.{Needs, IsNeeds, MeetsFirst, OneScript, OneStep, NoFault}
 use Rattle.lc_sessions.specs.Answers.{Settle, answers_of}
-use Rattle.lc_sessions.specs.Slots.{next_turn, takes, choice, is_for, AreTrueSlots, IsTrueCheckpoint}
-use Rattle.lc_sessions.specs.Session as session
-use Rattle.lc_sessions.specs.Session.{Outside, rounds_of, Finds, GoesOnFrom, IsResumed, IsUnfit, IsScriptText, IsResumedText, Replies, Resumes}
+use Rattle.lc_sessions.specs.Slots.{next_turn, takes, is_for, AreTrueSlots, IsTrueCheckpoint}
+use Rattle.lc_sessions.specs.Session.{Outside, Finds, IsResumed, IsScriptText, Replies, Resumes}
 use Rattle.lc_sessions.specs.Endings.{unfit}
 use Rattle.lc_sessions.proofs.HonestLaws.{text_by_search}
 use Rattle.lc_sessions.proofs.AnswerLaws.{met_whole}
@@ -36,7 +34,7 @@ use Rattle.lc_course.proofs.TruthLaws.{taken_true, record_fits, current_fits, ne
 use Rattle.lc_course.proofs.ScriptTruth.{fresh_answers, true_answers, start_true, rows_all}
 use Rattle.lc_answers.specs.declared.course.Course.{Course}
 use Rattle.lc_script.specs.declared.statements.Text.{Text}
-use Rattle.lc_answers.specs.Going.{World, settled_in, rounds_from, IsMisfit, Misfits}
+use Rattle.lc_answers.specs.Going.{rounds_from, IsMisfit, Misfits}
 use Rattle.lc_script.specs.Text.{Prints}
 use Rattle.lc_script.specs.Worlds.{world}
 use Rattle.lc_script.proofs.SessionLaws.{course_of}
@@ -62,7 +60,7 @@ module _ (bytes : List ℕ) (script : OneScript bytes) (one : OneStep built_call
       subst (λ x. Replies built_calls x asked old.vault (course_of bytes afresh turn h.needs h.told [] h.way.is_paused t.bytes.items t.ends)) (sym runs) (h.asks_all, script_text_of t c now afresh h [] same)
 
   module _ (p : Checkpoint) (found : Finds old.vault (takes p)) (same_script : IsTrue (is_for (sha256 bytes) asked.budget p)) (turns : turn ≡ next_turn p.turn) where
-    from : Beginning
+    abbrev pub from : Beginning
     from = after p.version p.settled (current_of p)
 
     pub resumed : (needs : List Matrix) (told left : List SessionStep) (is_paused : Bool) (text : List ℕ) (faulty : Bool) → IsResumed asked old.vault (course_of bytes from turn needs told left is_paused text faulty)
@@ -94,13 +92,13 @@ module _ (bytes : List ℕ) (script : OneScript bytes) (one : OneStep built_call
     not_true : (needs : List Matrix) (m : Misfit) → MeetsFirst built_calls bytes needs → misfit divisor_of needs asked.budget (begins from needs) ≡ Some m
         → ((before : List Matrix) × (C : Matrix) × (needs ≡ before ++ C ∷ []) × Misfits from asked.budget before C) ⊎ IsNeeds built_calls bytes needs
         → (slots : Slots) → old.vault ≡ Some slots → ¬ AreTrueSlots built_calls bytes asked.budget slots
-    unfolding start_of
+    unfolding start_of current_of
     not_true needs m met first (inr all) slots told both =
         let holds = taken slots told both in
         let fits = true_start_fits divisor_of needs asked.budget (start_of needs p) (rows_all built_calls bytes needs met) (start_true built_calls bytes asked.budget needs p script one met (needs_reach built_calls bytes asked.budget script one p holds needs sound all) holds) in
         let e = sym first ∙ fits in
         cc
-    not_true needs m met first (inl (before, C, split, uncut, which)) slots told both =
+    not_true needs m met first (inl (before, C, split, (uncut, which))) slots told both =
         let holds = taken slots told both in
         let there : MeetsFirst built_calls bytes (before ++ C ∷ []) = subst (MeetsFirst built_calls bytes) split met in
         ⊎_elim (λ a. false≢true (sym a.2 ∙ record_fits built_calls bytes asked.budget script one p holds before C there a.0 a.1 uncut))

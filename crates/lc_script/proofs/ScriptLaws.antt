@@ -4,26 +4,23 @@
 --   no_script, no_script_left      bytes that are no script
 --   starved_first        memory is refused before the first statement
 --   few_of, by_script_result, no_script_result       the same, of a machine and of a result
-use Rattle.std.proofs.Common.{Result, MatchResult, ◌≡◌, ◌≤◌, ◌<◌, ◌+◌, ◌⊎◌, inl, inr, ⊎_elim, ℕ, Bool, true, false, is_some, List, [], ◌∷◌, ◌++◌, length, map, take, Option, Some, None, option_map, refl, sym, ap, subst, ◌∙◌, arith}
+use Rattle.std.proofs.Common.{Result, MatchResult, ◌≡◌, ◌<◌, ◌+◌, inl, inr, ⊎_elim, ℕ, true, false, is_some, List, [], ◌∷◌, ◌++◌, length, map, take, refl, sym, subst, ◌∙◌}
 use Rattle.lc_algebra.specs.Matrix.{Matrix}
-use Rattle.lc_enumeration.specs.Search.{Answer}
 use Rattle.lc_grammar.specs.Tree as tree
 use Rattle.lc_grammar.specs.Grammar.{Reads, Fault, IsFault}
 use Rattle.lc_language.specs.Print.{fault_line}
-use Rattle.lc_checkpoint.specs.Seen.{settled_of}
 use Rattle.lc_parse.specs.Views.{statement_of, script_of}
 use Rattle.lc_parse.specs.declared.tree.Script.{Script}
 use Rattle.lc_eval.specs.Built.{built_calls}
 use Rattle.lc_eval.specs.Machine.{State}
 use Rattle.lc_sessions.specs.Needs.{Needs, MeetsFirst}
-use Rattle.lc_sessions.specs.Answers.{RunsBy}
 use Rattle.lc_rounds.specs.Way.{Around}
 use Rattle.lc_answers.specs.declared.course.Course.{Course}
 use Rattle.lc_answers.specs.declared.need.Halt.{Halt}
 use Rattle.lc_answers.specs.declared.need.Halt.TheVariants as halt
 use Rattle.lc_rounds.specs.declared.rounds.Stop.TheVariants.{NoMemory}
 use Rattle.lc_script.specs.declared.statements.Text.{Text}
-use Rattle.lc_answers.specs.Going.{World, settled_in, Goes, Misfits}
+use Rattle.lc_answers.specs.Going.{World, Goes, Misfits}
 use Rattle.lc_script.specs.Text.{Finishes, Ends, Prints, EndsBefore}
 use Rattle.lc_answers.proofs.NeedLaws.{starving}
 use Rattle.lc_script.proofs.TextLaws.{even, over, ended_as, IsEnded}

@@ -4,14 +4,12 @@
 --   assembled            the contract of a session, from its parts
 --   paused_session, torn_session, starved_session, unfit_session      it ended before its script
 --   done_session, unwritten_session      it has its text
-use Rattle.std.proofs.Common.{◌≡◌, ◌+◌, ◌⊎◌, inl, inr, ⊎_elim, ℕ, Bool, true, false, IsTrue, List, [], ◌∷◌, ◌++◌, length, Option, Some, None, refl, sym, ap, subst, ◌∙◌}
+use Rattle.std.proofs.Common.{◌≡◌, ◌⊎◌, inl, inr, ℕ, Bool, true, false, IsTrue, List, [], ◌++◌, Option, Some, None, refl, sym, ap, subst, ◌∙◌}
 use Rattle.std.specs.Io.KnownBytes.{Appends}
 use Rattle.std.proofs.lemmas.List.{append-nil}
 use Rattle.sha2.specs.Sha256.{sha256}
 use Rattle.lc_algebra.specs.Matrix.{Matrix}
-use Rattle.lc_algebra.specs.Divisor.{divisor_of}
 use Rattle.lc_enumeration.specs.Records.{SessionStep, SessionRounds}
-use Rattle.lc_enumeration.specs.Fitting.{misfit}
 use Rattle.lc_io.specs.Outside.{HasRisen, AppendsPart}
 use Rattle.lc_io.specs.Vaults.{Slots, WhereTold, IsTorn}
 use Rattle.lc_io.specs.Told.{Kept}
@@ -20,12 +18,12 @@ use Rattle.lc_io.specs.declared.watcher.Record.{Record}
 use Rattle.lc_checkpoint.specs.Seen.{point_of}
 use Rattle.lc_eval.specs.Built.{built_calls}
 use Rattle.lc_sessions.specs.Options.{Command, run, resume, Settings, Options, settings, options, all_options}
-use Rattle.lc_sessions.specs.Needs.{IsNeeds, MeetsFirst}
-use Rattle.lc_sessions.specs.Slots.{slot_of, turn_after, slots_after, AreTrueSlots}
+use Rattle.lc_sessions.specs.Needs.{MeetsFirst}
+use Rattle.lc_sessions.specs.Slots.{slot_of, turn_after, slots_after}
 use Rattle.lc_sessions.specs.Endings.{Ending, done, usage, paused, sink_fault, vault_fault, no_memory, unfit}
 use Rattle.lc_sessions.specs.Session as session
 use Rattle.lc_sessions.specs.Session.{Outside, rounds_of, record_of, records_of, can_end, Accepts, WasRead, ReadsScript, Reads, Starts, Meets, begin_with, told_slots, Keeps, Tears, IsStarted, StoresIfKept, Stores, end_number, Replies, Judges, Replied, Writes, Counts, IsSession}
-use Rattle.lc_rounds.specs.Way.{Around, around, Origin, Stored, EndsAt, IsOnItsWay, HasStopped}
+use Rattle.lc_rounds.specs.Way.{Around, Stored}
 use Rattle.lc_rounds.specs.declared.pace.Pace.{Pace}
 use Rattle.lc_rounds.specs.declared.rounds.Stop.TheVariants.{Paused, VaultFault, NoMemory}
 use Rattle.lc_course.specs.Course.{Beginning, begins}
@@ -45,7 +43,7 @@ pub record IsReady (args : List (List ℕ)) (asked : Settings) (old : Outside) (
   pub unkept : asked.keep ≡ false → held ≡ old.vault
 
 abbrev pub course_of : List ℕ → Beginning → ℕ → List Matrix → List SessionStep → List SessionStep → Bool → List ℕ → Bool → session.Course
-course_of bytes b turn needs told left paused text faulty = record { bytes = bytes; needs = needs; start = begins b needs; turn = turn; told = told; left = left; is_paused = paused; text = text; is_faulty = faulty }
+course_of bytes b turn needs told left is_paused text faulty = record { bytes = bytes; needs = needs; start = begins b needs; turn = turn; told = told; left = left; is_paused = is_paused; text = text; is_faulty = faulty }
 
 reads_so : (c : Command) (ending : Ending) (old new : Option (List ℕ)) (course : session.Course) → (c ≡ run) ⊎ (c ≡ resume) → ReadsScript ending old new course → Reads c ending old new course
 reads_so c ending old new course (inl e) h = subst (λ (x : Command). Reads x ending old new course) (sym e) h
@@ -124,10 +122,10 @@ keeps_nothing c (Some old) new e h = h.1 ∙ ap Some (h.2 ∙ ap (λ (x : Comman
 -- ---- the endings
 
 module _ (args : List (List ℕ)) (asked : Settings) (old : Outside) (source : Option (List ℕ)) (source_faults : ℕ) (bytes : List ℕ) (held : Option Slots) (ready : IsReady args asked old source source_faults bytes held) (b : Beginning) (turn : ℕ) (c : Course) (now : Around) where
-  the_world : World
+  abbrev pub the_world : World
   the_world = world asked bytes b turn held old
 
-  same_outside : Outside
+  abbrev pub same_outside : Outside
   same_outside = outside_of source source_faults old.sink old.sink_faults now
 
   kept_stored : (told : List SessionStep) (is_paused : Bool) (needs : List Matrix) (left : List SessionStep) (text : List ℕ) (faulty : Bool) (ending : Ending) → IsOf the_world c.pace → Stored c.pace.keep (point_of c.pace.point).script c.pace.point.budget turn told held now.vault

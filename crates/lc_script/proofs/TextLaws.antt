@@ -7,16 +7,14 @@
 --   even, finished_so    it has the text
 --   over, records_left   records are left at the end of the text
 --   ended_as, IsEnded    what an end of the text says
-use Rattle.std.proofs.Common.{◌≡◌, ◌≤◌, ◌<◌, ◌+◌, ◌⊎◌, inl, inr, ⊎_elim, ℕ, suc, Bool, true, false, is_some, List, [], ◌∷◌, ◌++◌, length, map, take, Option, Some, None, option_map, refl, sym, ap, subst, ◌∙◌, arith, Result, Ok, Err, MatchResult}
+use Rattle.std.proofs.Common.{◌≡◌, ◌<◌, ◌+◌, inl, inr, ⊎_elim, ℕ, suc, Bool, true, false, is_some, List, [], ◌∷◌, ◌++◌, length, map, Option, Some, None, option_map, refl, sym, ap, subst, ◌∙◌, arith, Result, Ok, Err, MatchResult}
 use Rattle.std.proofs.lemmas.List.{append-nil, length-map}
 use Rattle.lc_algebra.specs.Matrix.{Matrix}
 use Rattle.lc_algebra.specs.Divisor.{divisor_of}
 use Rattle.lc_enumeration.specs.Search.{Answer}
-use Rattle.lc_enumeration.specs.Records.{Progress, SessionStep, SessionRounds}
+use Rattle.lc_enumeration.specs.Records.{Progress, SessionStep}
 use Rattle.lc_enumeration.specs.Fitting.{misfit}
 use Rattle.lc_grammar.specs.Tree as tree
-use Rattle.lc_language.specs.Evaluation.{asks}
-use Rattle.lc_language.specs.Print.{fault_line}
 use Rattle.lc_parse.specs.Views.{statement_of}
 use Rattle.lc_checkpoint.specs.Seen.{settled_of}
 use Rattle.lc_eval.specs.Built.{built_calls}
@@ -27,7 +25,7 @@ use Rattle.lc_eval.specs.declared.machine.Step.TheVariants as step
 use Rattle.lc_sessions.specs.Needs.{Needs}
 use Rattle.lc_sessions.specs.Answers.{RunsBy, answer_line}
 use Rattle.lc_rounds.specs.Way.{Around, IsOnItsWay}
-use Rattle.lc_course.specs.Course.{begins, Waits, Came, Stands}
+use Rattle.lc_course.specs.Course.{begins, Stands}
 use Rattle.lc_course.specs.Statements.{HaveDone}
 use Rattle.lc_course.proofs.FrontLaws.{ends_here}
 use Rattle.lc_course.proofs.AskLaws.{asked_rows}
@@ -37,7 +35,7 @@ use Rattle.lc_answers.specs.declared.course.Course.{Course}
 use Rattle.lc_answers.specs.declared.need.Halt.{Halt}
 use Rattle.lc_answers.specs.declared.need.Halt.TheVariants as halt
 use Rattle.lc_script.specs.declared.statements.Text.{Text}
-use Rattle.lc_answers.specs.Going.{World, IsOf, settled_in, rounds_from, AreAnswered, Goes, Misfits, Stops, IsMisfit, Halts}
+use Rattle.lc_answers.specs.Going.{World, IsOf, settled_in, rounds_from, AreAnswered, Goes, Stops, IsMisfit, Halts}
 use Rattle.lc_script.specs.Text.{Finishes, AreMet, Ends}
 
 abbrev pub Done : ℕ → List tree.Statement → State → List Matrix → List Answer → List ℕ → Type 0
@@ -98,13 +96,13 @@ faulty budget first old new l needs answers text later d e h =
           (at_fault built_calls budget [] old.bindings first (statement_of d.0) (map statement_of d.1.0) needs answers text at r d.1.2.1);
     }
 
-none_mapped : {A B : Type 0} {f : A → B} (o : Option A) → is_some o ≡ false → option_map f o ≡ None
-none_mapped None e = refl
-none_mapped (Some s) e = absurd (let g = e in cc)
+none_mapped : {A B : Type 0} (f : A → B) (o : Option A) → is_some o ≡ false → option_map f o ≡ None
+none_mapped f None e = refl
+none_mapped f (Some s) e = absurd (let g = e in cc)
 
-some_mapped : {A B : Type 0} {f : A → B} (o : Option A) → is_some o ≡ true → is_some (option_map f o) ≡ true
-some_mapped None e = absurd (let g = e in cc)
-some_mapped (Some s) e = refl
+some_mapped : {A B : Type 0} (f : A → B) (o : Option A) → is_some o ≡ true → is_some (option_map f o) ≡ true
+some_mapped f None e = absurd (let g = e in cc)
+some_mapped f (Some s) e = refl
 
 -- nothing is left of the records, and no round
 pub record IsEven (w : World) (needs : List Matrix) (answers : List Answer) (c : Course) (now : Around) : Type 0 where
@@ -116,7 +114,7 @@ pub record IsEven (w : World) (needs : List Matrix) (answers : List Answer) (c :
   pub answered : AreAnswered w.budget needs (settled_in c) answers
 
 pub even : (w : World) (needs : List Matrix) (answers : List Answer) (c : Course) (now : Around) → is_some c.current ≡ false → Goes w needs answers c now → IsEven w needs answers c now
-even w needs answers c now none h = by (option_map settled_of c.current) (none_mapped c.current none) h.stands
+even w needs answers c now none h = by (option_map settled_of c.current) (none_mapped settled_of c.current none) h.stands
   where
     by : (o : Option Progress) → o ≡ None → Stands w.beginning c.version w.budget w.slice needs h.told (settled_in c) c.pace.slice h.done o → IsEven w needs answers c now
     by (Some current) e s = absurd (let f = e in cc)
@@ -147,7 +145,7 @@ finished_so w first needs answers t c now none h written =
 
 -- more records than needs are left
 pub over : (w : World) (needs : List Matrix) (answers : List Answer) (c : Course) (now : Around) → is_some c.current ≡ true → Goes w needs answers c now → IsMisfit w needs c now c.met (length c.pace.point.settled.items + 1) 0
-over w needs answers c now some h = by (option_map settled_of c.current) (some_mapped c.current some) h.stands
+over w needs answers c now some h = by (option_map settled_of c.current) (some_mapped settled_of c.current some) h.stands
   where
     long : suc (length (settled_in c)) ≡ length c.pace.point.settled.items + 1
     long = omega (arith, length-map c.pace.point.settled.items settled_of)

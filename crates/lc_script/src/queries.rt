@@ -1,5 +1,5 @@
 //! The line of a query, with the rounds of its search.
-ghost use Rattle.std.specs.Prelude.{◌≡◌, ◌<◌, ◌≤◌, List, [], ◌∷◌, ◌++◌, length, map, IfOk, MatchResult};
+ghost use Rattle.std.specs.Prelude.{◌≡◌, ◌+◌, ◌<◌, ◌≤◌, List, [], ◌∷◌, ◌++◌, length, map, IfOk, MatchResult};
 ghost use Rattle.lc_algebra.specs.Matrix.{Matrix};
 ghost use Rattle.lc_enumeration.specs.Search.{Answer};
 ghost use Rattle.lc_io.specs.Watchers.{hearing};
@@ -8,9 +8,8 @@ ghost use Rattle.lc_sessions.specs.Answers.{answer_line};
 ghost use Rattle.lc_rounds.specs.Way.{around};
 ghost use Rattle.lc_answers.specs.Going.{World, IsRanged, Goes, Halts};
 
-use lc_answers::Course;
 use crate::lines::line_of;
-use lc_answers::{Halt, answer_need};
+use lc_answers::{Course, Halt, answer_need};
 use lc_code::Code;
 use lc_eval::QueryKind;
 use lc_io::{Gate, Vault, Watcher};
@@ -43,7 +42,10 @@ pub fn need_line<R: Threads + Sync, V: Vault, W: Watcher, G: Gate + Sync>(
     ensures ranged { IfOk result (λ _. IsRanged course.new) }
     ensures same { IfOk result (λ _. course.new.met ≡ course.old.met + 1) }
 {
-    let found = answer_need(rt, alloc, workers, gate, vault, watchers, course, code)?;
+    let found = match answer_need(rt, alloc, workers, gate, vault, watchers, course, code) {
+        Ok(found) => found,
+        Err(halt) => return Err(halt),
+    };
     match line_of(alloc, kind, &found.search, found.answer) {
         Ok(line) => Ok(line),
         Err(_) => Err(Halt::Stop(Stop::NoMemory)),

@@ -8,9 +8,8 @@ ghost use Rattle.lc_rounds.specs.Way.{around};
 ghost use Rattle.lc_answers.specs.Going.{World, IsRanged, Goes};
 ghost use Rattle.lc_script.specs.Text.{Prints, EndsBefore};
 
-use lc_answers::Course;
-use lc_answers::Halt;
 use crate::statements::{Text, ended, text_of};
+use lc_answers::{Course, Halt};
 use lc_eval::Machine;
 use lc_io::{Gate, Vault, Watcher};
 use lc_parse::{ParseRefusal, parse};

@@ -10,9 +10,8 @@ ghost use Rattle.lc_rounds.specs.Way.{around};
 ghost use Rattle.lc_answers.specs.Going.{World, IsRanged, Goes};
 ghost use Rattle.lc_script.specs.Text.{Finishes, Ends};
 
-use lc_answers::Course;
-use lc_answers::Halt;
 use crate::queries::need_line;
+use lc_answers::{Course, Halt};
 use lc_eval::{Machine, Step};
 use lc_io::{Gate, Vault, Watcher};
 use lc_rounds::Stop;
@@ -86,7 +85,7 @@ pub(crate) fn text_of<R: Threads + Sync, V: Vault, W: Watcher, G: Gate + Sync>(
             }
             Step::Silent => {}
             Step::Need(query) => {
-                let line = need_line(
+                let line = match need_line(
                     rt,
                     alloc,
                     workers,
@@ -96,7 +95,10 @@ pub(crate) fn text_of<R: Threads + Sync, V: Vault, W: Watcher, G: Gate + Sync>(
                     course,
                     query.kind,
                     &query.code,
-                )?;
+                ) {
+                    Ok(line) => line,
+                    Err(halt) => return Err(halt),
+                };
                 if bytes.extend_from_slice(&line).is_err() {
                     return Err(Halt::Stop(Stop::NoMemory));
                 }
