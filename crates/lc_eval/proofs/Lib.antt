@@ -4,7 +4,6 @@ pub mod KindLaws
 pub mod TableLaws
 pub mod EvaluationLaws
 pub mod StatementLaws
-pub mod ScanLaws
 pub mod AnswerLaws
 pub mod RowLaws
 pub mod CallLaws

@@ -39,7 +39,7 @@ use Rattle.lc_eval.specs.Value.{rows_of, refused_of}
 use Rattle.lc_eval.specs.Evaluated.{AffectsOrFails}
 use Rattle.lc_eval.specs.Made.{IsMade}
 use Rattle.lc_eval.specs.Rows.{clamped, clamped_rows}
-use Rattle.lc_eval.specs.Scan.{IsLeastLine}
+use Rattle.lc_eval.specs.Least.{IsLeastLine}
 use Rattle.lc_eval.proofs.AnswerLaws.{first_from_codes}
 use Rattle.lc_eval.proofs.RowLaws.{clamped_each, columns_same, clamped_refusals, fine_same, fine_rows}
 

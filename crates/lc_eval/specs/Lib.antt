@@ -6,6 +6,6 @@ pub mod Machine
 pub mod Checked
 pub mod Applied
 pub mod Evaluated
-pub mod Scan
 pub mod Made
 pub mod Rows
+pub mod Least

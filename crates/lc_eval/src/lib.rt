@@ -10,7 +10,6 @@ mod evaluate;
 mod forms;
 mod kinds;
 mod laws;
-mod least;
 mod lines;
 mod lists;
 mod machine;

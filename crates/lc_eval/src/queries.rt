@@ -7,11 +7,10 @@ ghost use Rattle.lc_language.specs.Evaluation.{QueriesTo, AsksOf};
 ghost use Rattle.lc_eval.specs.Built.{bound_query_of};
 ghost use Rattle.lc_eval.specs.Value.{rows_of};
 ghost use Rattle.lc_eval.specs.Evaluated.{AffectsOrFails, kind_of};
-ghost use Rattle.lc_eval.specs.Scan.{IsLeastLine};
+ghost use Rattle.lc_eval.specs.Least.{IsLeastLine};
 
 use crate::calls::BoundQuery;
 use crate::decoding::algebraic_decode;
-use crate::least;
 use crate::machine::{Query, QueryKind};
 use crate::refusals::{Stop, TOO_MANY_WORDS, fault, refused_as};
 use crate::rows::{rows_of, words_of};
@@ -48,7 +47,7 @@ fn line_of(alloc: Global, code: &Code) -> Result<Vec<u8>, NoMemory>
     ensures { IfOk result (λ line. IsLeastLine code.now.field code.now.columns code.now.rows line.items) }
 {
     let rows = rows_of(alloc, code)?;
-    match least::least_word(alloc, code.field(), code.length(), &rows)? {
+    match lc_least::least_word(alloc, code.field(), code.length(), &rows)? {
         Some(word) => least_line(alloc, weight(word.symbols()) as u64, &word),
         None => least_none_line(alloc),
     }

@@ -1,11 +1,11 @@
 -- The search for a polynomial over a small field that has a given zero in a large one.
---   reaches_none, none_reached         no coefficients more
---   reaches_more, more_reached         one coefficient more
+--   vanishes_none, none_reached         no coefficients more
+--   vanishes_more, more_reached         one coefficient more
 --   value_power, value_x_power         the values of x^n and of x^n - 1
 --   length_x_power, last_up            how long x^n - 1 is; the last coefficient, one place up
 --   value_scaled                       the value of a multiple by an element of the small field
 --   embedded_x_power                   x^n - 1 stands for itself in the large field
---   reaches_lower                      a polynomial with the zero is reached from its upper coefficients
+--   vanishes_lower                      a polynomial with the zero is reached from its upper coefficients
 --   polynomial_reached                 and, divided by its last coefficient, from a 1
 --   size_reached                       each element is a zero of some polynomial with as many coefficients as the large field
 --                                      has elements, and a last 1
@@ -24,36 +24,36 @@ use Rattle.lc_algebra.proofs.PowerLaws.{pow_zero, pow_suc, pow_size}
 use Rattle.lc_algebra.proofs.EmbeddingLaws.{embed_zero, embed_one, embed_mul, embed_neg}
 use Rattle.lc_algebra.proofs.WordLaws.{fits_head, fits_tail, fits_cons, fits_symbol}
 use Rattle.lc_poly.proofs.TrimLaws.{trimmed_is}
-use Rattle.lc_poly.specs.Minimal.{next_value, Reaches}
+use Rattle.lc_poly.specs.Minimal.{next_value, CanVanish}
 use Rattle.lc_algebra.proofs.PolynomialLaws.{index_multiple, fits_multiple, only_polynomial}
 use Rattle.lc_poly.proofs.ListLaws.{fits_set, fits_zeros, dropped}
 use Rattle.lc_poly.proofs.DivisionLaws.{x_power_polynomial}
 
 module _ (small large : FieldName) (a : ℕ) where
-  pub reaches_none : (n v : ℕ) → n ≡ 0 → v ≡ 0 → Reaches small large a n v
-  unfolding Reaches
-  reaches_none n v e h = rw e h
+  pub vanishes_none : (n v : ℕ) → n ≡ 0 → v ≡ 0 → CanVanish small large a n v
+  unfolding CanVanish
+  vanishes_none n v e h = rw e h
 
-  pub none_reached : (n v : ℕ) → n ≡ 0 → Reaches small large a n v → v ≡ 0
-  unfolding Reaches
+  pub none_reached : (n v : ℕ) → n ≡ 0 → CanVanish small large a n v → v ≡ 0
+  unfolding CanVanish
   none_reached zero v e h = h
   none_reached (suc n) v e h = absurd (omega (arith, e))
 
-  pub reaches_more : (n v c : ℕ) → 0 < n → c < size small → Reaches small large a (n - 1) (next_value small large a c v) → Reaches small large a n v
-  unfolding Reaches
-  reaches_more zero v c l k h = absurd (omega (arith, l))
-  reaches_more (suc n) v c l k h =
+  pub vanishes_more : (n v c : ℕ) → 0 < n → c < size small → CanVanish small large a (n - 1) (next_value small large a c v) → CanVanish small large a n v
+  unfolding CanVanish
+  vanishes_more zero v c l k h = absurd (omega (arith, l))
+  vanishes_more (suc n) v c l k h =
       let e : suc n - 1 ≡ n = omega arith in
       (c, k, rw e at h)
 
-  pub more_reached : (n v : ℕ) → 0 < n → Reaches small large a n v → (c : ℕ) × (c < size small) × Reaches small large a (n - 1) (next_value small large a c v)
-  unfolding Reaches
+  pub more_reached : (n v : ℕ) → 0 < n → CanVanish small large a n v → (c : ℕ) × (c < size small) × CanVanish small large a (n - 1) (next_value small large a c v)
+  unfolding CanVanish
   more_reached zero v l h = absurd (omega (arith, l))
   more_reached (suc n) v l h =
       let e : suc n - 1 ≡ n = omega arith in
       (h.0, h.1, rw e h.2)
 
-  pub not_reached : (n v m : ℕ) → 0 < n → ((c : ℕ) → c < m → Reaches small large a (n - 1) (next_value small large a c v) → ⊥) → size small ≤ m → Reaches small large a n v → ⊥
+  pub not_reached : (n v m : ℕ) → 0 < n → ((c : ℕ) → c < m → CanVanish small large a (n - 1) (next_value small large a c v) → ⊥) → size small ≤ m → CanVanish small large a n v → ⊥
   not_reached n v m l h k r =
       let t = more_reached n v l r in
       h t.0 (omega (arith, k, t.1)) t.2
@@ -123,7 +123,7 @@ pub record IsUpper (small large : FieldName) (a degree place value : ℕ) (list 
   pub inside : value < size large
   pub place_inside : place ≤ degree
   pub is : value ≡ value_at large (map (embed small large) (drop place list)) a
-  pub reaches : Reaches small large a place value
+  pub reaches : CanVanish small large a place value
 
 module _ (small large : FieldName) (a : ℕ) (s : IsSubfield small large) (inside : a < size large) where
   abbrev values : List ℕ → ℕ
@@ -132,14 +132,14 @@ module _ (small large : FieldName) (a : ℕ) (s : IsSubfield small large) (insid
   values_cons : (c : ℕ) (u : List ℕ) → values (c ∷ u) ≡ next_value small large a c (values u)
   values_cons c u = value_cons large (embed small large c) (map (embed small large) u) a
 
-  pub reaches_lower : (u : List ℕ) (n : ℕ) → Fits small u → n ≤ length u → values u ≡ 0 → Reaches small large a n (values (drop n u))
-  unfolding Reaches
-  reaches_lower u zero h l z = z
-  reaches_lower u (suc n) h l z =
+  pub vanishes_lower : (u : List ℕ) (n : ℕ) → Fits small u → n ≤ length u → values u ≡ 0 → CanVanish small large a n (values (drop n u))
+  unfolding CanVanish
+  vanishes_lower u zero h l z = z
+  vanishes_lower u (suc n) h l z =
       let d : drop n u ≡ slice_index u n ∷ drop (n + 1) u = drop_more u n 0 (omega (arith, l)) in
       let e : n + 1 ≡ suc n = omega arith in
       let v : values (drop n u) ≡ next_value small large a (slice_index u n) (values (drop (suc n) u)) = ap values d ∙ values_cons (slice_index u n) (drop (n + 1) u) ∙ ap (λ j. next_value small large a (slice_index u n) (values (drop j u))) e in
-      (slice_index u n, fits_symbol small u h n, rw v at (reaches_lower u n h (omega (arith, l)) z))
+      (slice_index u n, fits_symbol small u h n, rw v at (vanishes_lower u n h (omega (arith, l)) z))
 
   last_kept : (u : List ℕ) (n : ℕ) → length u ≡ n + 1 → slice_index u n ≡ 1 → values (drop n u) ≡ 1
   last_kept u n l e =
@@ -147,7 +147,7 @@ module _ (small large : FieldName) (a : ℕ) (s : IsSubfield small large) (insid
       let z : drop (n + 1) u ≡ [] = dropped u (n + 1) (omega (arith, l)) in
       rw (d, z, e) (rw (embed_one small large s) (value_constant large 1 a (one_inside large)))
 
-  pub polynomial_reached : (v : List ℕ) → IsPolynomial small v → 0 < length v → values v ≡ 0 → Reaches small large a (length v - 1) 1
+  pub polynomial_reached : (v : List ℕ) → IsPolynomial small v → 0 < length v → values v ≡ 0 → CanVanish small large a (length v - 1) 1
   polynomial_reached v p l z =
       let n = length v - 1 in
       let i = inverse_of small (slice_index v n) (fits_symbol small v p.fits n) (p.leads l) in
@@ -156,7 +156,7 @@ module _ (small large : FieldName) (a : ℕ) (s : IsSubfield small large) (insid
       let lead : slice_index w n ≡ 1 = index_multiple small i.0 v n ∙ mul_comm small i.0 (slice_index v n) ∙ i.1.one in
       let zw : values w ≡ 0 = value_scaled small large i.0 v a s i.1.inside p.fits ∙ ap (mul large (embed small large i.0)) z ∙ mul_zero large (embed small large i.0) in
       let k : values (drop n w) ≡ 1 = last_kept w n (omega (arith, lw, l)) lead in
-      rw k at (reaches_lower w n (fits_multiple small i.0 v) (omega (arith, lw)) zw)
+      rw k at (vanishes_lower w n (fits_multiple small i.0 v) (omega (arith, lw)) zw)
 
   up_polynomial : (u : List ℕ) → IsPolynomial small u → 0 < length u → IsPolynomial small (0 ∷ u)
   up_polynomial u p l = record {
@@ -164,7 +164,7 @@ module _ (small large : FieldName) (a : ℕ) (s : IsSubfield small large) (insid
     leads = λ k. last_up u l (p.leads l);
   }
 
-  pub size_reached : Reaches small large a (size large) 1
+  pub size_reached : CanVanish small large a (size large) 1
   size_reached =
       let q = size large in
       let b : 1 < q = one_inside large in
@@ -176,11 +176,11 @@ module _ (small large : FieldName) (a : ℕ) (s : IsSubfield small large) (insid
       let t : mul large a (pow large a m) ≡ a = sym (pow_suc large a m) ∙ (let e : suc m ≡ q = omega arith in ap (pow large a) e) ∙ pow_size large a inside in
       let y : mul large a (neg large 1) ≡ neg large a = mul_neg large a 1 ∙ ap (neg large) (mul_one large a inside) in
       let z : values (0 ∷ x) ≡ 0 = values_cons 0 x ∙ cc (embed_zero small large s, vx, mul_add large a (pow large a m) (neg large 1), t, y, add_neg large a, zero_add large 0 (zero_inside large)) in
-      let r : Reaches small large a (length (0 ∷ x) - 1) 1 = polynomial_reached (0 ∷ x) p (omega arith) z in
+      let r : CanVanish small large a (length (0 ∷ x) - 1) 1 = polynomial_reached (0 ∷ x) p (omega arith) z in
       let e : length (0 ∷ x) - 1 ≡ q = omega (arith, lx) in
       rw e at r
 
-  pub upper_none : (degree : ℕ) → Reaches small large a degree 1 → IsUpper small large a degree degree 1 (set (replicate (degree + 1) 0) degree 1)
+  pub upper_none : (degree : ℕ) → CanVanish small large a degree 1 → IsUpper small large a degree degree 1 (set (replicate (degree + 1) 0) degree 1)
   upper_none degree r =
       let l : length {A = ℕ} (replicate (degree + 1) 0) ≡ degree + 1 = length-replicate (degree + 1) 0 in
       let long : length (set (replicate (degree + 1) 0) degree 1) ≡ degree + 1 = length-set (replicate (degree + 1) 0) degree 1 ∙ l in
@@ -195,7 +195,7 @@ module _ (small large : FieldName) (a : ℕ) (s : IsSubfield small large) (insid
         reaches = r;
       }
 
-  pub upper_step : (degree place value : ℕ) (list : List ℕ) (c next : ℕ) → IsUpper small large a degree place value list → 0 < place → c < size small → next ≡ next_value small large a c value → Reaches small large a (place - 1) next → IsUpper small large a degree (place - 1) next (set list (place - 1) c)
+  pub upper_step : (degree place value : ℕ) (list : List ℕ) (c next : ℕ) → IsUpper small large a degree place value list → 0 < place → c < size small → next ≡ next_value small large a c value → CanVanish small large a (place - 1) next → IsUpper small large a degree (place - 1) next (set list (place - 1) c)
   upper_step degree place value list c next h l k e r =
       let d : drop (place - 1) (set list (place - 1) c) ≡ c ∷ drop (place - 1 + 1) list = drop-set list (place - 1) c (omega (arith, h.long, h.place_inside)) in
       let m : place - 1 + 1 ≡ place = omega arith in
@@ -209,7 +209,7 @@ module _ (small large : FieldName) (a : ℕ) (s : IsSubfield small large) (insid
         reaches = r;
       }
 
-  pub minimal_told : (degree place value : ℕ) (list : List ℕ) → IsUpper small large a degree place value list → place ≡ 0 → ((n : ℕ) → n < degree → Reaches small large a n 1 → ⊥) → IsMinimal small large a list
+  pub minimal_told : (degree place value : ℕ) (list : List ℕ) → IsUpper small large a degree place value list → place ≡ 0 → ((n : ℕ) → n < degree → CanVanish small large a n 1 → ⊥) → IsMinimal small large a list
   minimal_told degree place value list h e none =
       let j : length list - 1 ≡ degree = omega (arith, h.long) in
       let z : value ≡ 0 = none_reached small large a place value e h.reaches in

@@ -3,7 +3,7 @@ ghost use Rattle.std.specs.Prelude.{◌≡◌, ℕ, ◌+◌, ◌<◌, ◌≤◌,
 ghost use Rattle.lc_algebra.specs.Field.{size};
 ghost use Rattle.lc_algebra.specs.Word.{Fits};
 ghost use Rattle.lc_algebra.specs.Embedding.{IsSubfield, IsMinimal};
-ghost use Rattle.lc_poly.specs.Minimal.{next_value, Reaches};
+ghost use Rattle.lc_poly.specs.Minimal.{next_value, CanVanish};
 
 use crate::arithmetic::zeros;
 use crate::poly::Poly;
@@ -43,12 +43,12 @@ fn least_degree(large: &Field, small: &Field, a: u8) -> usize
     requires subfield { IsSubfield small.now large.now }
     requires element { a < size large.now }
     ensures most { result ≤ 256 }
-    ensures reached { Reaches small.now large.now a result 1 }
-    ensures least { (n : ℕ) → n < result → Reaches small.now large.now a n 1 → ⊥ }
+    ensures reached { CanVanish small.now large.now a result 1 }
+    ensures least { (n : ℕ) → n < result → CanVanish small.now large.now a n 1 → ⊥ }
 {
     let most = large.size() as usize;
     for degree in 0..most {
-        if reaches(large, small, a, degree, 1) {
+        if can_vanish(large, small, a, degree, 1) {
             return degree;
         }
     }
@@ -60,8 +60,8 @@ fn write_minimal(large: &Field, small: &Field, a: u8, degree: usize, list: &mut 
     requires subfield { IsSubfield small.now large.now }
     requires element { a < size large.now }
     requires zeros { list.old ≡ replicate (degree + 1) 0 }
-    requires reached { Reaches small.now large.now a degree 1 }
-    requires least { (n : ℕ) → n < degree → Reaches small.now large.now a n 1 → ⊥ }
+    requires reached { CanVanish small.now large.now a degree 1 }
+    requires least { (n : ℕ) → n < degree → CanVanish small.now large.now a n 1 → ⊥ }
     ensures fits { Fits small.now list.new }
     ensures minimal { IsMinimal small.now large.now a list.new }
 {
@@ -81,12 +81,12 @@ fn next_coefficient(large: &Field, small: &Field, a: u8, depth: usize, value: u8
     requires subfield { IsSubfield small.now large.now }
     requires element { a < size large.now }
     requires value { value < size large.now }
-    requires reached { Reaches small.now large.now a (depth + 1) value }
+    requires reached { CanVanish small.now large.now a (depth + 1) value }
     ensures below { result < size small.now }
-    ensures reaches { Reaches small.now large.now a depth (next_value small.now large.now a result value) }
+    ensures reaches { CanVanish small.now large.now a depth (next_value small.now large.now a result value) }
 {
     for c in 0..small.size() {
-        if reaches(
+        if can_vanish(
             large,
             small,
             a,
@@ -100,17 +100,17 @@ fn next_coefficient(large: &Field, small: &Field, a: u8, depth: usize, value: u8
 }
 
 // Whether some `depth` coefficients below those that gave `value` make it 0.
-fn reaches(large: &Field, small: &Field, a: u8, depth: usize, value: u8) -> bool
+fn can_vanish(large: &Field, small: &Field, a: u8, depth: usize, value: u8) -> bool
     requires subfield { IsSubfield small.now large.now }
     requires element { a < size large.now }
     requires value { value < size large.now }
-    ensures is { IsTrue result ↔ Reaches small.now large.now a depth value }
+    ensures is { IsTrue result ↔ CanVanish small.now large.now a depth value }
 {
     if depth == 0 {
         return value == 0;
     }
     for c in 0..small.size() {
-        if reaches(
+        if can_vanish(
             large,
             small,
             a,

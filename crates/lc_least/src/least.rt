@@ -2,7 +2,7 @@
 ghost use Rattle.std.specs.Prelude.{◌≡◌, ◌⊎◌, ◌↔◌, ◌<◌, IfOk, IsTrue, length, option_map};
 ghost use Rattle.lc_algebra.specs.Word.{Fits, weight as weight_of, zero_word, AtMost, ComesNoLater};
 ghost use Rattle.lc_algebra.specs.Matrix.{AreRows};
-ghost use Rattle.lc_eval.specs.Scan.{IsFirst, Reaches, ReachesBelow, IsLeastOr};
+ghost use Rattle.lc_least.specs.Scan.{IsFirst, IsInCoset, IsInCosetBelow, IsLeastOr};
 
 use lc_field::{Field, NoMemory};
 use lc_vec::{Word, add_scaled, weight};
@@ -69,7 +69,7 @@ fn scan(field: &Field, rows: &[Word], sum: &mut [u8], best: &mut Best)
     requires rows { AreRows field.now (length sum.old) rows.now }
     requires sum { Fits field.now sum.old }
     requires best { length best.old.symbols.items ≡ length sum.old }
-    ensures first { IsFirst (Reaches field.now (length sum.old) rows.now sum.old) best.old.symbols.items best.new.symbols.items }
+    ensures first { IsFirst (IsInCoset field.now (length sum.old) rows.now sum.old) best.old.symbols.items best.new.symbols.items }
     ensures length { length best.new.symbols.items ≡ length best.old.symbols.items }
     ensures sum { sum.new ≡ sum.old }
 {
@@ -89,7 +89,7 @@ fn scan(field: &Field, rows: &[Word], sum: &mut [u8], best: &mut Best)
 /// the rows; None exactly where there is none, all rows being zero. The rows are words of `n` symbols of the field.
 ///
 /// All q^k sums of the k rows are made, so this is for few rows. Refused only for want of memory.
-pub(crate) fn least_word(
+pub fn least_word(
     alloc: Global,
     field: &Field,
     n: usize,

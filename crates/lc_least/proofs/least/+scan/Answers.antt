@@ -2,8 +2,8 @@ use Rattle.std.proofs.Common.{◌≡◌, ◌<◌, ◌∙◌, sym, refl, arith, l
 use Rattle.std.proofs.lemmas.Grind.{common_steps}
 use Rattle.lc_algebra.specs.Field.{size}
 use Rattle.lc_algebra.specs.Word.{IsWord}
-use Rattle.lc_eval.proofs.ScanLaws.{rows_tail, row_word, scan_none, scan_empty, scan_turn, scan_back, scan_done}
-use Rattle.lc_eval.proofs.least.+scan.Goals as goal
+use Rattle.lc_least.proofs.ScanLaws.{rows_tail, row_word, scan_none, scan_empty, scan_turn, scan_back, scan_done}
+use Rattle.lc_least.proofs.least.+scan.Goals as goal
 
 pub returns-in_default-clause-first : goal.returns-in_default-clause-first
 returns-in_default-clause-first t c =

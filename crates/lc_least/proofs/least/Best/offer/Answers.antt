@@ -1,9 +1,9 @@
 use Rattle.std.proofs.Common.{◌<◌, sym, ◌∙◌, arith}
 use Rattle.std.proofs.lemmas.Bool.{false≢true}
 use Rattle.lc_algebra.specs.Word.{weight}
-use Rattle.lc_eval.proofs.ScanLaws.{offered, kept, passed}
-use Rattle.lc_eval.proofs.least.Best.offer.Goals.{else-weight-gt0-via-then-weight-gt0+else-yields_to, else-weight-gt0-via-else-weight-gt0}
-use Rattle.lc_eval.proofs.least.Best.offer.Goals as goal
+use Rattle.lc_least.proofs.ScanLaws.{offered, kept, passed}
+use Rattle.lc_least.proofs.least.Best.offer.Goals.{else-weight-gt0-via-then-weight-gt0+else-yields_to, else-weight-gt0-via-else-weight-gt0}
+use Rattle.lc_least.proofs.least.Best.offer.Goals as goal
 
 pub returns-then-yields_to-clause-first : goal.returns-then-yields_to-clause-first
 returns-then-yields_to-clause-first c =

@@ -1,7 +1,7 @@
 use Rattle.std.proofs.Common.{◌≡◌, ◌<◌, ◌∙◌, sym, arith}
 use Rattle.lc_algebra.specs.Word.{weight, zero_word}
-use Rattle.lc_eval.proofs.ScanLaws.{zeros_fit, scan_whole, least_found, least_none}
-use Rattle.lc_eval.proofs.least.least_word.Goals as goal
+use Rattle.lc_least.proofs.ScanLaws.{zeros_fit, scan_whole, least_found, least_none}
+use Rattle.lc_least.proofs.least.least_word.Goals as goal
 
 pub scan-requires-clause-sum : goal.scan-requires-clause-sum
 scan-requires-clause-sum c =

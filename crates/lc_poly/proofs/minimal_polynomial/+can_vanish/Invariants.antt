@@ -1,0 +1,9 @@
+use Rattle.std.proofs.Common.{ℕ, ◌-◌, ◌<◌}
+use Rattle.lc_poly.specs.Minimal.{next_value, CanVanish}
+use Rattle.lc_poly.proofs.minimal_polynomial.+can_vanish.Given as goal
+
+abbrev pub invariant-loop-c : goal.invariant-loop-c
+invariant-loop-c l = (n : ℕ) → n < l.c → CanVanish l.small l.large l.a (l.depth - 1) (next_value l.small l.large l.a n l.value) → ⊥
+
+abbrev pub decreases-can_vanish : goal.decreases-can_vanish
+decreases-can_vanish l = l.depth
