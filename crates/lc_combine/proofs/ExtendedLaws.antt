@@ -46,7 +46,7 @@ sum_all f u s i l e = rw (drop_all i u (omega (arith, e))) (sum_end f s l)
 abbrev last : FieldName → List ℕ → List ℕ
 last f u = neg f (symbol_sum f u) ∷ []
 
-one_symbol : (f : FieldName) (a : ℕ) → a < size f → IsWord f 1 (a ∷ [])
+pub one_symbol : (f : FieldName) (a : ℕ) → a < size f → IsWord f 1 (a ∷ [])
 one_symbol f a l = record { long = refl; fits = fits_cons f a [] l (λ i m. absurd (omega (arith, m))) }
 
 one_sum : (f : FieldName) (a b : ℕ) → word_sum f (a ∷ []) (b ∷ []) ≡ add f a b ∷ []

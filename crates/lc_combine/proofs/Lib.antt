@@ -3,6 +3,7 @@ pub mod RefusalLaws
 pub mod SumLaws
 pub mod DualLaws
 pub mod ExtendedLaws
+pub mod ExtendedDual
 pub mod DeletedLaws
 pub mod SubcodeLaws
 pub mod ProductLaws

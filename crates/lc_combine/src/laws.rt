@@ -1,9 +1,10 @@
 //! What the parts of a combined code tell of it, as the contracts of functions that do nothing.
-ghost use Rattle.std.specs.Prelude.{◌≡◌, ℕ, ◌+◌, ◌-◌, ◌*◌, ◌<◌, ◌≤◌, List, None, IsTrue, length};
-ghost use Rattle.lc_algebra.specs.Field.{is_symbol};
+ghost use Rattle.std.specs.Prelude.{◌≡◌, ℕ, ◌+◌, ◌-◌, ◌*◌, ◌<◌, ◌≤◌, ◌↔◌, List, [], ◌∷◌, ◌++◌, None, IsTrue, length, replicate};
+ghost use Rattle.lc_algebra.specs.Field.{is_symbol, size, neg};
+ghost use Rattle.lc_algebra.specs.Word.{IsWord, word_sum, scale};
 ghost use Rattle.lc_algebra.specs.Span.{IsWeightBound};
 ghost use Rattle.lc_algebra.specs.Matrix.{Matrix, AreRows, IsReduced};
-ghost use Rattle.lc_constructions.specs.Code.{IsCode};
+ghost use Rattle.lc_constructions.specs.Code.{InCode, IsCode};
 ghost use Rattle.lc_constructions.specs.Combined.{InDual, InExtended, InPunctured, InShortened, InDirectSum, InUuv, InDirectProduct};
 ghost use Rattle.lc_constructions.specs.Concatenated.{InConcatenated};
 ghost use Rattle.lc_constructions.specs.Refusal.{first_refusal};
@@ -27,6 +28,14 @@ pub fn combined_codes_are_heavy()
 pub fn shortening_is_dual_to_puncturing()
     ensures dual { (C H P S : Matrix) (coordinates : List ℕ) → AreRows C.field C.columns C.rows → IsReduced C.columns C.rows → first_refusal (deleted_refusals C coordinates) ≡ None → IsCode C.field C.columns (InDual C) H → IsCode C.field (C.columns - length coordinates) (InPunctured H coordinates) P → IsCode C.field (C.columns - length coordinates) (InShortened C coordinates) S →
         IsCode C.field (C.columns - length coordinates) (InDual P) S }
+{}
+
+/// The dual of an extended code: a word w and after it a symbol a are in it exactly if w less a in each symbol is in the dual of
+/// the code. So each word of the dual, with 0 after it, is in it, and the word of ones with 1 after it (MacWilliams and Sloane,
+/// chapter 1). E is the extended code of C, and D is the dual of E.
+pub fn dual_of_an_extended_code()
+    ensures dual { (C E D : Matrix) → AreRows C.field C.columns C.rows → IsCode C.field (C.columns + 1) (InExtended C) E → IsCode C.field (C.columns + 1) (InDual E) D → (w : List ℕ) (a : ℕ) → IsWord C.field C.columns w → a < size C.field →
+        InCode D (w ++ a ∷ []) ↔ InDual C (word_sum C.field w (scale C.field (neg C.field a) (replicate C.columns 1))) }
 {}
 
 /// The dimension of a direct sum, and of the words u followed by u + v, is the sum of the dimensions of the parts (MacWilliams and

@@ -16,7 +16,7 @@ pub use deleted::{punctured, shortened};
 pub use extended_codes::extended;
 pub use laws::{
     combined_codes_are_heavy, dimensions_of_changed_codes, dimensions_of_products,
-    dimensions_of_sums, shortening_is_dual_to_puncturing,
+    dimensions_of_sums, dual_of_an_extended_code, shortening_is_dual_to_puncturing,
 };
 pub use products::direct_product;
 pub use subcodes::{even_weight, intersection};
