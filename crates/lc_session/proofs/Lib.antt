@@ -1,9 +1,5 @@
 pub mod ArgumentLaws
-pub mod AtMostOne
 pub mod DistanceLaws
-pub mod OneNearest
-pub mod OneText
-pub mod OneValue
 pub mod RunLaws
 pub mod SessionLaws
 pub mod SameNames

@@ -6,12 +6,11 @@ mod certificate;
 mod check;
 mod distance;
 mod input;
-mod laws;
 mod reply;
 mod session;
 mod status;
 mod text;
 
-pub use laws::one_text;
+pub use lc_ground::one_text;
 pub use session::run_session;
 pub use status::{Status, status_line};

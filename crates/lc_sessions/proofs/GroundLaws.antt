@@ -101,21 +101,21 @@ target_within d C budget None f = omega arith
 target_within d C budget (Some e) f = listed_within C budget e (find_passes (is_done d C) (done_list C budget) e f).member
 
 -- an answer has no more blocks than the budget
-answer_within : (d : ℕ) (C : Matrix) (budget : ℕ) (s : Progress) → 0 < length C.rows → IsSettled d C budget s → s.blocks ≤ budget
+pub answer_within : (d : ℕ) (C : Matrix) (budget : ℕ) (s : Progress) → 0 < length C.rows → IsSettled d C budget s → s.blocks ≤ budget
 answer_within d C budget s rows settles =
     let o = find (is_done d C) (done_list C budget) in
     let at = settled_at d C budget o s (subst (SettlesAs s) (answer_is d C budget rows) (settles_so d C budget s (answer d C budget) settles)) in
     let t = target_within d C budget o refl in
     omega (arith, at.0, t)
 
-blocks_within : (d : ℕ) (C : Matrix) (budget : ℕ) → 0 < length C.rows → answer_blocks (answer d C budget) ≤ budget
+pub blocks_within : (d : ℕ) (C : Matrix) (budget : ℕ) → 0 < length C.rows → answer_blocks (answer d C budget) ≤ budget
 blocks_within d C budget rows =
     let o = find (is_done d C) (done_list C budget) in
     let most : answer_blocks (answer d C budget) ≡ target o budget = target_is d C budget rows in
     let t = target_within d C budget o refl in
     omega (arith, most, t)
 
-settled_within : (divisor : Matrix → ℕ) (budget : ℕ) (needs : List Matrix) (settled : List Progress) → budget ≤ 2 ^ 40 → ((i : ℕ) (C : Matrix) → slice_get needs i ≡ Some C → 0 < length C.rows) → AreSettled divisor budget needs settled → blocks_of settled ≤ length settled * 2 ^ 40
+pub settled_within : (divisor : Matrix → ℕ) (budget : ℕ) (needs : List Matrix) (settled : List Progress) → budget ≤ 2 ^ 40 → ((i : ℕ) (C : Matrix) → slice_get needs i ≡ Some C → 0 < length C.rows) → AreSettled divisor budget needs settled → blocks_of settled ≤ length settled * 2 ^ 40
 settled_within divisor budget needs [] small rows all = omega arith
 settled_within divisor budget [] (s ∷ settled) small rows all = absurd all
 settled_within divisor budget (C ∷ needs) (s ∷ settled) small rows all =

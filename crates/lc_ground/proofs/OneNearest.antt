@@ -19,7 +19,7 @@ use Rattle.lc_algebra.proofs.WordLaws.{length_scale, length_sums, no_later_antis
 use Rattle.lc_constructions.specs.Nearest.{IsNearest}
 use Rattle.lc_language.specs.Bound.{decode}
 use Rattle.lc_language.specs.Refusal.{refusal_of, refusals_of, word_refusals, from_codes, first_of}
-use Rattle.lc_session.proofs.AtMostOne.{One}
+use Rattle.lc_ground.proofs.AtMostOne.{One}
 
 pub span_lengths : (f : FieldName) (n : ℕ) (rows : List (List ℕ)) (u v : List ℕ) → InSpan f n rows u → InSpan f n rows v → length u ≡ length v
 span_lengths f n [] u v p q = ap (λ (w : List ℕ). length w) (p ∙ sym q)

@@ -37,11 +37,11 @@ use Rattle.lc_language.specs.Print.{value_line, least_line, least_none_line}
 use Rattle.lc_language.specs.Refusal.{refusal_of}
 use Rattle.lc_constructions.specs.Nearest.{IsNearest, IsDecoded}
 use Rattle.lc_constructions.proofs.NearestLaws.{decoded_once}
-use Rattle.lc_session.proofs.OneNearest.{span_lengths, nearest_one}
+use Rattle.lc_ground.proofs.OneNearest.{span_lengths, nearest_one}
 use Rattle.lc_language.specs.Query.{QueryKind, distance, by_levels, by_scan}
 use Rattle.lc_language.specs.Evaluation.{Step, prints, PrintsLeast, AsksOf, Queries}
 use Rattle.lc_eval.specs.Built.{built_calls}
-use Rattle.lc_session.proofs.AtMostOne.{One, one_value, one_some}
+use Rattle.lc_ground.proofs.AtMostOne.{One, one_value, one_some}
 
 -- ---- codes
 

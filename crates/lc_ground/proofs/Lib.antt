@@ -1,0 +1,9 @@
+pub mod AtMostOne
+pub mod OneNearest
+pub mod OneValue
+pub mod OneText
+pub mod ShapeLaws
+pub mod AskShapes
+pub mod RangeLaws
+pub mod BudgetLaws
+pub mod GroundLaws

@@ -1,0 +1,10 @@
+-- The codes of a script.
+--   IsCodeOfRows C       C is a code of length at most 255, given by its reduced generator matrix
+use Rattle.std.specs.Prelude.{◌≤◌}
+use Rattle.lc_algebra.specs.Matrix.{Matrix, AreRows, IsReduced}
+use Rattle.lc_constructions.specs.Code.{longest}
+
+pub record IsCodeOfRows (C : Matrix) : Type 0 where
+  pub long : C.columns ≤ longest
+  pub rows : AreRows C.field C.columns C.rows
+  pub reduced : IsReduced C.columns C.rows

@@ -1,0 +1,43 @@
+ghost use Rattle.std.specs.Prelude.{◌≡◌, ◌≤◌, ◌×◌, ◌^◌, ℕ, Bool, List, length, Option, Some, slice_get};
+ghost use Rattle.lc_algebra.specs.Matrix.{Matrix};
+ghost use Rattle.lc_io.specs.Vaults.{Slots};
+ghost use Rattle.lc_language.specs.declared.Call.{Call};
+ghost use Rattle.lc_language.specs.Evaluation.{IsText};
+ghost use Rattle.lc_eval.specs.Built.{built_calls};
+ghost use Rattle.lc_sessions.specs.Options.{run, resume};
+ghost use Rattle.lc_sessions.specs.Needs.{MeetsFirst};
+ghost use Rattle.lc_sessions.specs.Slots.{AreTrueSlots};
+ghost use Rattle.lc_sessions.specs.Endings.{done};
+ghost use Rattle.lc_sessions.specs.Session.{Outside, most_bytes, IsSession};
+ghost use Rattle.lc_sessions.specs.Promises.{PrintsText};
+ghost use Rattle.lc_sessions.specs.Chain.{Chain, IsGround};
+ghost use Rattle.lc_ground.specs.Shapes.{IsCodeOfRows};
+
+/// Bytes print at most one text: whatever satisfies the definition of the text of a script is the same text,
+/// and ends in a fault or not alike. So what a session writes is determined by the script alone.
+pub fn one_text()
+    ensures { (budget : ℕ) (bytes text other : List ℕ) (ends end : Bool) → IsText built_calls budget bytes text ends → IsText built_calls budget bytes other end → (text ≡ other) × (ends ≡ end) }
+{}
+
+/// Each code that a script searches has a length of at most 255, and its rows are its reduced generator matrix.
+pub fn needs_are_codes()
+    ensures { (table : List Call) (bytes : List ℕ) (needs : List Matrix) → MeetsFirst table bytes needs → (i : ℕ) (C : Matrix) → slice_get needs i ≡ Some C → IsCodeOfRows C }
+{}
+
+/// What the laws of chains rest on holds of every script of at most 2^20 bytes, and every budget of at most 2^40 blocks: bytes are one
+/// script, a statement does one thing, each need is a code with rows, there are fewer than 2^17 of them, and a true checkpoint is read
+/// back from its text.
+pub fn scripts_are_ground()
+    ensures { (bytes : List ℕ) (budget : ℕ) → length bytes ≤ most_bytes → budget ≤ 2 ^ 40 → IsGround built_calls bytes budget }
+{}
+
+/// Sessions that are stopped and resumed print the text of their script. Every chain of sessions over the two slots of a vault leaves
+/// them as `resume` asks for them; and a session of `resume` over the slots of a chain that finishes prints the text of the script
+/// under its budget, whatever the workers, slices and endings of the sessions before it were. A session of `run` that finishes prints
+/// it over any slots.
+pub fn chains_print_the_text()
+    ensures slots { (bytes : List ℕ) (budget : ℕ) → length bytes ≤ most_bytes → budget ≤ 2 ^ 40 → (version : ℕ) (slots : Slots) → Chain built_calls bytes budget version slots → AreTrueSlots built_calls bytes budget slots }
+    ensures run { (args : List (List ℕ)) (old new : Outside) (n : ℕ) (s : IsSession built_calls args old new (done n)) → s.asked.command ≡ run → PrintsText built_calls s.asked.budget s.course.bytes old.sink new.sink n }
+    ensures resume { (args : List (List ℕ)) (old new : Outside) (n : ℕ) (s : IsSession built_calls args old new (done n)) (version : ℕ) (slots : Slots) → s.asked.command ≡ resume → old.vault ≡ Some slots → Chain built_calls s.course.bytes s.asked.budget version slots
+        → PrintsText built_calls s.asked.budget s.course.bytes old.sink new.sink n }
+{}

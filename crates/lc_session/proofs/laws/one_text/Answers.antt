@@ -1,5 +1,0 @@
-use Rattle.lc_session.proofs.OneText.{one_text}
-use Rattle.lc_session.proofs.laws.one_text.Goals as goal
-
-pub returns : goal.returns
-returns c = one_text
