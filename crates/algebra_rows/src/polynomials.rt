@@ -142,8 +142,8 @@ fn is_set(alloc: Global, n: u64, q: u64, i: u64, expected: &[u64]) -> Result<boo
 
 #[test]
 fn cyclotomic_sets(rt: HostRuntime) -> Result<(), Fail> {
-    for (n, q, i, expected) in SETS {
-        assert!(rt; is_set(rt.alloc(), n, q, i, expected)?, "{i} modulo {n}");
+    for row in &SETS {
+        assert!(rt; is_set(rt.alloc(), row.0, row.1, row.2, row.3)?, "{} modulo {}", row.2, row.0);
     }
     Ok(())
 }
@@ -182,15 +182,23 @@ fn divides_or_not(
     Ok(g.divides(alloc, &whole)? == expected)
 }
 
+// The same for the polynomial of a list.
+fn list_divides_or_not(
+    alloc: Global,
+    field: &Field,
+    n: usize,
+    list: &[u8],
+    expected: bool,
+) -> Result<bool, NoMemory> {
+    let g = poly(alloc, field, list)?;
+    divides_or_not(alloc, &g, field, n, expected)
+}
+
 #[test]
 fn generators_divide(rt: HostRuntime) -> Result<(), Fail> {
-    for (q, n, list, expected) in GENERATORS {
-        let field = Field::of(rt.alloc(), q)?;
-        let g = poly(rt.alloc(), &field, list)?;
-        assert!(rt;
-            divides_or_not(rt.alloc(), &g, &field, n, expected)?,
-            "at {n}"
-        );
+    for row in &GENERATORS {
+        let field = Field::of(rt.alloc(), row.0)?;
+        assert!(rt; list_divides_or_not(rt.alloc(), &field, row.1, row.2, row.3)?, "at {}", row.1);
     }
     Ok(())
 }
@@ -227,14 +235,19 @@ fn is_one_at_one(a: &Poly, field: &Field) -> bool
     a.eval(1) == 1
 }
 
+// Whether the product with 1 + 4 x, and the quotient and the remainder by it, have these coefficients.
+fn is_multiplied_and_divided(alloc: Global, field: &Field, a: &Poly) -> Result<bool, NoMemory>
+    requires { a.now.field ≡ field.now }
+{
+    let b = poly(alloc, field, &[1, 4])?;
+    Ok(has_product(alloc, a, &b, &[4, 1, 2, 3])? && has_quotient(alloc, a, &b, &[3, 3], &[1])?)
+}
+
 #[test]
 fn products_and_quotients(rt: HostRuntime) -> Result<(), Fail> {
     let field = Field::of(rt.alloc(), 5)?;
     let a = poly(rt.alloc(), &field, &[4, 0, 2, 0, 0])?;
-    let b = poly(rt.alloc(), &field, &[1, 4])?;
-    assert!(rt; a.coefficients() == [4, 0, 2].as_slice());
-    assert!(rt; has_product(rt.alloc(), &a, &b, &[4, 1, 2, 3])?);
-    assert!(rt; has_quotient(rt.alloc(), &a, &b, &[3, 3], &[1])?);
-    assert!(rt; is_one_at_one(&a, &field));
+    assert!(rt; a.coefficients() == [4, 0, 2].as_slice() && is_one_at_one(&a, &field));
+    assert!(rt; is_multiplied_and_divided(rt.alloc(), &field, &a)?);
     Ok(())
 }

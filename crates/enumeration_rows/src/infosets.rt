@@ -3,17 +3,18 @@ ghost use Rattle.std.specs.Prelude.{◌≡◌, ◌<◌, length, All};
 ghost use Rattle.std.specs.Bool.{OnTrue};
 ghost use Rattle.lc_enumeration.specs.Search.{set_count};
 
-use crate::codes::generated;
-use crate::matrices::matrix_of;
+use crate::shapes::{Rows, are_words, generated, words_of};
+use lc_field::Field;
 use lc_infoset::Sets;
+use lc_matrix::Matrix;
 use std::alloc::Global;
 use std::process::Abort;
 use std::test::Fail;
 
 // The information sets of the code of rows that are seen to be words, not all of them zero.
 #[tactic(auto, using(lc_algebra::proofs::ReducedLaws::reduced_independent))]
-fn sets_of(rt: &impl Abort, alloc: Global, q: u64, n: usize, rows: &[&[u8]]) -> Result<Sets, Fail> {
-    let code = generated(rt, alloc, q, n, rows)?;
+fn sets_of(rt: &impl Abort, alloc: Global, row: &Row) -> Result<Sets, Fail> {
+    let code = generated(rt, alloc, row.0, row.1, row.2)?;
     assert!(rt; 1 <= code.dimension() && code.field().is_symbol());
     Ok(Sets::build(alloc, code.matrix())?)
 }
@@ -46,29 +47,27 @@ fn is_identity(sets: &Sets, j: usize) -> bool
 }
 
 // Whether these are the sets and their fresh columns, in order, and whether the rows of each are the identity on it.
-fn has_sets(sets: &Sets, expected: &[(&[usize], &[usize])]) -> bool {
+fn has_sets(sets: &Sets, expected: Columns) -> bool {
     if sets.count() != expected.len() {
         return false;
     }
     for j in 0..sets.count() {
-        let (basis, fresh) = expected[j];
-        if sets.basis(j) != basis || sets.fresh(j) != fresh || !is_identity(sets, j) {
+        let row = &expected[j];
+        if sets.basis(j) != row.0 || sets.fresh(j) != row.1 || !is_identity(sets, j) {
             return false;
         }
     }
     true
 }
 
-// The size of the field, the length, rows of a code, its information sets with their fresh columns, its divisor, and levels of the
-// sets with the bound that they give.
-type Row = (
-    u64,
-    usize,
-    &'static [&'static [u8]],
-    &'static [(&'static [usize], &'static [usize])],
-    u64,
-    &'static [(&'static [u64], u64)],
-);
+// Information sets with their fresh columns.
+type Columns = &'static [(&'static [usize], &'static [usize])];
+
+// Levels of the sets, with the bound that they give.
+type Bounds = &'static [(&'static [u64], u64)];
+
+// The size of the field, the length, rows of a code, its information sets, its divisor, and bounds.
+type Row = (u64, usize, Rows, Columns, u64, Bounds);
 
 const CODES: [Row; 14] = [
     // Hamming
@@ -298,14 +297,16 @@ const CODES: [Row; 14] = [
     ),
 ];
 
+// Whether the code of the row has these sets, and its sets the divisor.
+fn are_sets(rt: &impl Abort, alloc: Global, row: &Row) -> Result<bool, Fail> {
+    let sets = sets_of(rt, alloc, row)?;
+    Ok(has_sets(&sets, row.3) && sets.divisor() == row.4)
+}
+
 #[test]
 fn sets_with_their_fresh_columns(rt: HostRuntime) -> Result<(), Fail> {
-    for (q, n, rows, expected, divisor, _) in &CODES {
-        let sets = sets_of(&rt, rt.alloc(), *q, *n, rows)?;
-        assert!(&rt;
-            has_sets(&sets, expected) && sets.divisor() == *divisor,
-            "{q} {n}"
-        );
+    for row in &CODES {
+        assert!(rt; are_sets(&rt, rt.alloc(), row)?, "{} {}", row.0, row.1);
     }
     Ok(())
 }
@@ -320,26 +321,31 @@ fn are_levels(sets: &Sets, levels: &[u64]) -> bool
 }
 
 // Whether each of these levels gives the bound beside it.
-fn has_bounds(sets: &Sets, expected: &[(&[u64], u64)]) -> bool {
-    for (levels, bound) in expected {
-        if !are_levels(sets, levels) || sets.bound(levels) != *bound {
+fn has_bounds(sets: &Sets, expected: Bounds) -> bool {
+    for row in expected {
+        if !are_levels(sets, row.0) || sets.bound(row.0) != row.1 {
             return false;
         }
     }
     true
 }
 
+// Whether the sets of the code of the row have these bounds.
+fn are_bounds(rt: &impl Abort, alloc: Global, row: &Row) -> Result<bool, Fail> {
+    let sets = sets_of(rt, alloc, row)?;
+    Ok(has_bounds(&sets, row.5))
+}
+
 #[test]
 fn bounds_are_rounded_up(rt: HostRuntime) -> Result<(), Fail> {
-    for (q, n, rows, _, _, bounds) in &CODES {
-        let sets = sets_of(&rt, rt.alloc(), *q, *n, rows)?;
-        assert!(&rt; has_bounds(&sets, bounds), "{q} {n}");
+    for row in &CODES {
+        assert!(rt; are_bounds(&rt, rt.alloc(), row)?, "{} {}", row.0, row.1);
     }
     Ok(())
 }
 
 // The size of the field, the length, some rows, and the number that divides the weights of their words.
-const ROWS: [(u64, usize, &[&[u8]], u64); 9] = [
+const ROWS: [(u64, usize, Rows, u64); 9] = [
     (
         2,
         8,
@@ -365,20 +371,46 @@ const ROWS: [(u64, usize, &[&[u8]], u64); 9] = [
     (2, 4, &[&[0, 0, 0, 0]], 4),
 ];
 
+// The matrix of rows over a field that are seen to be words of n symbols.
+fn matrix_over(
+    rt: &impl Abort,
+    alloc: Global,
+    field: &Field,
+    n: usize,
+    rows: Rows,
+) -> Result<Matrix, Fail> {
+    let words = words_of(alloc, rows)?;
+    assert!(rt; are_words(field, n, &words));
+    Ok(Matrix::from_rows(alloc, field, n, &words)?)
+}
+
+// The divisor of the matrix of rows over q elements.
+fn divisor_of(rt: &impl Abort, alloc: Global, q: u64, n: usize, rows: Rows) -> Result<u64, Fail> {
+    let field = Field::of(alloc, q)?;
+    let matrix = matrix_over(rt, alloc, &field, n, rows)?;
+    Ok(matrix.divisor())
+}
+
 #[test]
 fn divisors_of_rows(rt: HostRuntime) -> Result<(), Fail> {
-    for (q, n, rows, divisor) in &ROWS {
-        let matrix = matrix_of(&rt, rt.alloc(), *q, *n, rows)?;
-        assert!(&rt; matrix.divisor() == *divisor, "{q} {n}");
+    for row in &ROWS {
+        let divisor = divisor_of(&rt, rt.alloc(), row.0, row.1, row.2)?;
+        assert!(rt; divisor == row.3, "{} {}", row.0, row.1);
     }
     Ok(())
 }
 
+// The divisor of the code of the row.
+fn code_divisor(rt: &impl Abort, alloc: Global, row: &Row) -> Result<u64, Fail> {
+    let code = generated(rt, alloc, row.0, row.1, row.2)?;
+    Ok(code.divisor())
+}
+
 #[test]
 fn divisors_of_codes(rt: HostRuntime) -> Result<(), Fail> {
-    for (q, n, rows, _, divisor, _) in &CODES {
-        let code = generated(&rt, rt.alloc(), *q, *n, rows)?;
-        assert!(&rt; code.divisor() == *divisor, "{q} {n}");
+    for row in &CODES {
+        let divisor = code_divisor(&rt, rt.alloc(), row)?;
+        assert!(rt; divisor == row.4, "{} {}", row.0, row.1);
     }
     Ok(())
 }

@@ -3,7 +3,7 @@ ghost use Rattle.std.specs.Prelude.{◌≡◌, ◌<◌, IfOk};
 ghost use Rattle.lc_enumeration.specs.Plan.{total};
 ghost use Rattle.lc_kernel.specs.Kernel.{IsPlanOf};
 
-use crate::codes::generated;
+use crate::shapes::{Rows, generated};
 use lc_basic::{hamming, reed_muller};
 use lc_code::Code;
 use lc_field::Field;
@@ -79,47 +79,115 @@ fn blocks_agree(
     true
 }
 
-// Whether this is so for a code, and for the memory of another worker.
+// Whether this is so by a stack of its own.
+fn scratch_agrees(
+    alloc: Global,
+    sets: &Sets,
+    plan: &Plan,
+    most: u64,
+    scratch: &mut Scratch,
+) -> Result<bool, Fail>
+    requires plan { IsPlanOf plan.now sets.now }
+    requires scratch { scratch.old ≡ sets.now }
+{
+    let mut stack = Stack::new(alloc, sets)?;
+    Ok(blocks_agree(sets, plan, most, scratch, &mut stack))
+}
+
+// Whether this is so for the memory of another worker.
+fn another_agrees(
+    alloc: Global,
+    sets: &Sets,
+    plan: &Plan,
+    most: u64,
+    first: &Scratch,
+) -> Result<bool, Fail>
+    requires plan { IsPlanOf plan.now sets.now }
+    requires scratch { first.now ≡ sets.now }
+{
+    let mut scratch = first.another(alloc)?;
+    scratch_agrees(alloc, sets, plan, most, &mut scratch)
+}
+
+// Whether this is so for a plan of the sets.
+fn plan_agrees(alloc: Global, sets: &Sets, plan: &Plan, most: u64) -> Result<bool, Fail>
+    requires plan { IsPlanOf plan.now sets.now }
+{
+    let first = Scratch::new(alloc, sets)?;
+    another_agrees(alloc, sets, plan, most, &first)
+}
+
+// Whether this is so for the sets.
+fn sets_agree(alloc: Global, sets: &Sets, most: u64) -> Result<bool, Fail> {
+    let plan = plan_of(alloc, sets)?;
+    plan_agrees(alloc, sets, &plan, most)
+}
+
+// Whether this is so for a code.
 fn code_agrees(rt: &impl Abort, alloc: Global, code: &Code, most: u64) -> Result<bool, Fail> {
     let sets = sets_of(rt, alloc, code)?;
-    let plan = plan_of(alloc, &sets)?;
-    let first = Scratch::new(alloc, &sets)?;
-    let mut scratch = first.another(alloc)?;
-    let mut stack = Stack::new(alloc, &sets)?;
-    Ok(blocks_agree(&sets, &plan, most, &mut scratch, &mut stack))
+    sets_agree(alloc, &sets, most)
+}
+
+// The numbers of checks and the sizes of the fields of some Hamming codes.
+const HAMMING: [(u64, u64); 8] = [
+    (3, 2),
+    (4, 2),
+    (3, 3),
+    (2, 4),
+    (2, 5),
+    (2, 8),
+    (2, 9),
+    (2, 11),
+];
+
+// The Hamming code with r checks over q elements.
+fn hamming_code(alloc: Global, r: u64, q: u64) -> Result<Code, Fail> {
+    let field = Field::of(alloc, q)?;
+    Ok(hamming(alloc, r, &field)?)
+}
+
+// Whether this is so for the Hamming code.
+fn hamming_agrees(rt: &impl Abort, alloc: Global, r: u64, q: u64) -> Result<bool, Fail> {
+    let code = hamming_code(alloc, r, q)?;
+    code_agrees(rt, alloc, &code, 12)
 }
 
 #[test]
 fn blocks_of_hamming_codes(rt: HostRuntime) -> Result<(), Fail> {
-    for (r, q) in &[
-        (3, 2),
-        (4, 2),
-        (3, 3),
-        (2, 4),
-        (2, 5),
-        (2, 8),
-        (2, 9),
-        (2, 11),
-    ] {
-        let field = Field::of(rt.alloc(), *q)?;
-        let code = hamming(rt.alloc(), *r, &field)?;
-        assert!(&rt; code_agrees(&rt, rt.alloc(), &code, 12)?, "{r} {q}");
+    for row in &HAMMING {
+        assert!(rt; hamming_agrees(&rt, rt.alloc(), row.0, row.1)?, "{} {}", row.0, row.1);
     }
     Ok(())
 }
 
+// The orders and the numbers of variables of some Reed-Muller codes, and how many blocks are looked at. The last two have over 64
+// columns outside a set, and blocks that begin within a head.
+const REED_MULLER: [(u64, u64, u64); 4] = [(2, 5, 40), (3, 6, 12), (1, 7, 12), (2, 7, 12)];
+
+// Whether this is so for the Reed-Muller code.
+fn reed_muller_agrees(
+    rt: &impl Abort,
+    alloc: Global,
+    r: u64,
+    m: u64,
+    most: u64,
+) -> Result<bool, Fail> {
+    let code = reed_muller(alloc, r, m)?;
+    code_agrees(rt, alloc, &code, most)
+}
+
 #[test]
 fn blocks_of_reed_muller_codes(rt: HostRuntime) -> Result<(), Fail> {
-    // the last two have over 64 columns outside a set, and blocks that begin within a head
-    for (r, m, most) in &[(2, 5, 40), (3, 6, 12), (1, 7, 12), (2, 7, 12)] {
-        let code = reed_muller(rt.alloc(), *r, *m)?;
-        assert!(&rt; code_agrees(&rt, rt.alloc(), &code, *most)?, "{r} {m}");
+    for row in &REED_MULLER {
+        let agrees = reed_muller_agrees(&rt, rt.alloc(), row.0, row.1, row.2)?;
+        assert!(rt; agrees, "{} {}", row.0, row.1);
     }
     Ok(())
 }
 
 // Rows of codes over 4 and 7 elements, and their lengths.
-const ROWS: [(u64, usize, &[&[u8]]); 2] = [
+const ROWS: [(u64, usize, Rows); 2] = [
     (
         4,
         9,
@@ -141,11 +209,16 @@ const ROWS: [(u64, usize, &[&[u8]]); 2] = [
     ),
 ];
 
+// Whether this is so for the code of the rows.
+fn rows_agree(rt: &impl Abort, alloc: Global, q: u64, n: usize, rows: Rows) -> Result<bool, Fail> {
+    let code = generated(rt, alloc, q, n, rows)?;
+    code_agrees(rt, alloc, &code, 20)
+}
+
 #[test]
 fn blocks_of_other_codes(rt: HostRuntime) -> Result<(), Fail> {
-    for (q, n, rows) in &ROWS {
-        let code = generated(&rt, rt.alloc(), *q, *n, rows)?;
-        assert!(&rt; code_agrees(&rt, rt.alloc(), &code, 20)?, "{q}");
+    for row in &ROWS {
+        assert!(rt; rows_agree(&rt, rt.alloc(), row.0, row.1, row.2)?, "{}", row.0);
     }
     Ok(())
 }
@@ -180,17 +253,28 @@ fn has_word(
     }
 }
 
+// Whether this is so of each row.
+fn has_words(alloc: Global, sets: &Sets, plan: &Plan) -> Result<bool, Fail>
+    requires plan { IsPlanOf plan.now sets.now }
+{
+    for row in &WORDS {
+        if !has_word(alloc, sets, plan, row.0, &row.1)? {
+            return Ok(false);
+        }
+    }
+    Ok(true)
+}
+
+// Whether the sets of the code have these words at their places.
+fn has_places(rt: &impl Abort, alloc: Global, code: &Code) -> Result<bool, Fail> {
+    let sets = sets_of(rt, alloc, code)?;
+    let plan = plan_of(alloc, &sets)?;
+    has_words(alloc, &sets, &plan)
+}
+
 #[test]
 fn words_at_places(rt: HostRuntime) -> Result<(), Fail> {
-    let field = Field::of(rt.alloc(), 2)?;
-    let code = hamming(rt.alloc(), 3, &field)?;
-    let sets = sets_of(&rt, rt.alloc(), &code)?;
-    let plan = plan_of(rt.alloc(), &sets)?;
-    for (place, word) in &WORDS {
-        assert!(&rt;
-            has_word(rt.alloc(), &sets, &plan, *place, word)?,
-            "{place}"
-        );
-    }
+    let code = hamming_code(rt.alloc(), 3, 2)?;
+    assert!(rt; has_places(&rt, rt.alloc(), &code)?);
     Ok(())
 }

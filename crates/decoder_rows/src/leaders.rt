@@ -1,29 +1,23 @@
 //! Tests of coset leaders, by nearest words that a search through the whole code finds.
-use crate::codes::generated;
+use crate::shapes::{Rows, generated};
+use lc_code::Code;
+use lc_field::NoMemory;
 use lc_syndrome::{Leaders, SyndromeRefusal};
 use lc_vec::fits;
 use std::alloc::Global;
-use std::process::Abort;
 use std::test::Fail;
+
+// Whether the refusal of 2^21 cosets has number 15 and carries one value.
+fn is_numbered(alloc: Global) -> Result<bool, NoMemory> {
+    let refusal = SyndromeRefusal::TooManyCosets(21);
+    let values = refusal.values(alloc)?;
+    Ok(refusal.number() == 15 && values.len() == 1)
+}
 
 #[test]
 fn number_of_too_many_cosets(rt: HostRuntime) -> Result<(), Fail> {
-    let refusal = SyndromeRefusal::TooManyCosets(21);
-    let values = refusal.values(rt.alloc())?;
-    assert!(rt; refusal.number() == 15 && values.len() == 1);
+    assert!(rt; is_numbered(rt.alloc())?);
     Ok(())
-}
-
-// The leaders of the code of rows of n symbols.
-fn leaders_of(
-    rt: &impl Abort,
-    alloc: Global,
-    q: u64,
-    n: usize,
-    rows: &[&[u8]],
-) -> Result<Leaders, Fail> {
-    let code = generated(rt, alloc, q, n, rows)?;
-    Ok(Leaders::build(alloc, &code)?)
 }
 
 // Whether the word is decoded as this one.
@@ -168,27 +162,30 @@ const BINARY: [([u8; 7], [u8; 7]); 128] = [
     ([1, 1, 1, 1, 1, 1, 1], [1, 1, 1, 1, 1, 1, 1]),
 ];
 
-// Whether each word is decoded as the table says.
-fn decodes_binary(leaders: &Leaders) -> bool {
+// The rows of the Hamming code.
+const HAMMING: Rows = &[
+    &[1, 0, 0, 0, 0, 1, 1],
+    &[0, 1, 0, 0, 1, 0, 1],
+    &[0, 0, 1, 0, 1, 1, 0],
+    &[0, 0, 0, 1, 1, 1, 1],
+];
+
+// Whether the leaders of the code decode each word as the table says.
+fn decodes_binary(alloc: Global, code: &Code) -> Result<bool, SyndromeRefusal> {
+    let leaders = Leaders::build(alloc, code)?;
     let mut out = [0u8; 7];
     for row in &BINARY {
-        if !decodes(leaders, &row.0, &mut out, &row.1) {
-            return false;
+        if !decodes(&leaders, &row.0, &mut out, &row.1) {
+            return Ok(false);
         }
     }
-    true
+    Ok(true)
 }
 
 #[test]
 fn nearest_words_of_a_hamming_code(rt: HostRuntime) -> Result<(), Fail> {
-    let rows: [&[u8]; 4] = [
-        &[1, 0, 0, 0, 0, 1, 1],
-        &[0, 1, 0, 0, 1, 0, 1],
-        &[0, 0, 1, 0, 1, 1, 0],
-        &[0, 0, 0, 1, 1, 1, 1],
-    ];
-    let leaders = leaders_of(&rt, rt.alloc(), 2, 7, &rows)?;
-    assert!(rt; decodes_binary(&leaders));
+    let code = generated(&rt, rt.alloc(), 2, 7, HAMMING)?;
+    assert!(rt; decodes_binary(rt.alloc(), &code)?);
     Ok(())
 }
 
@@ -277,21 +274,24 @@ const TERNARY: [([u8; 4], [u8; 4]); 81] = [
     ([2, 2, 2, 2], [2, 2, 2, 1]),
 ];
 
-// Whether each word is decoded as the table says.
-fn decodes_ternary(leaders: &Leaders) -> bool {
+// The rows of that code.
+const PAIRED: Rows = &[&[1, 1, 0, 0], &[0, 0, 1, 2]];
+
+// Whether the leaders of the code decode each word as the table says.
+fn decodes_ternary(alloc: Global, code: &Code) -> Result<bool, SyndromeRefusal> {
+    let leaders = Leaders::build(alloc, code)?;
     let mut out = [0u8; 4];
     for row in &TERNARY {
-        if !decodes(leaders, &row.0, &mut out, &row.1) {
-            return false;
+        if !decodes(&leaders, &row.0, &mut out, &row.1) {
+            return Ok(false);
         }
     }
-    true
+    Ok(true)
 }
 
 #[test]
 fn nearest_words_of_a_ternary_code(rt: HostRuntime) -> Result<(), Fail> {
-    let rows: [&[u8]; 2] = [&[1, 1, 0, 0], &[0, 0, 1, 2]];
-    let leaders = leaders_of(&rt, rt.alloc(), 3, 4, &rows)?;
-    assert!(rt; decodes_ternary(&leaders));
+    let code = generated(&rt, rt.alloc(), 3, 4, PAIRED)?;
+    assert!(rt; decodes_ternary(rt.alloc(), &code)?);
     Ok(())
 }

@@ -1,5 +1,5 @@
 use Rattle.std.proofs.Common.{◌≡◌}
-use Rattle.algebra_rows.proofs.kernel.blocks_agree.Given as goal
+use Rattle.enumeration_rows.proofs.kernel.blocks_agree.Given as goal
 
 abbrev pub invariant-loop-block : goal.invariant-loop-block
 invariant-loop-block l = record {
