@@ -77,7 +77,11 @@ fn copied(alloc: Global, q: u64) -> Result<Field, FieldRefusal> {
 fn every_entry_of_every_table(rt: HostRuntime) -> Result<(), Fail> {
     for row in &TABLES {
         let field = copied(rt.alloc(), row.0)?;
-        assert!(rt; has_tables(&field, row.1, row.2, row.3), "in the field of {}", row.0);
+        assert!(rt;
+            has_tables(&field, row.1, row.2, row.3),
+            "in the field of {}",
+            row.0
+        );
     }
     Ok(())
 }
@@ -108,7 +112,13 @@ fn has_product(field: &Field, a: u8, b: u8, product: u8) -> bool {
 fn products_of_the_table(rt: HostRuntime) -> Result<(), Fail> {
     for row in &PRODUCTS {
         let field = Field::of(rt.alloc(), row.0)?;
-        assert!(rt; has_product(&field, row.1, row.2, row.3), "{} times {} in the field of {}", row.1, row.2, row.0);
+        assert!(rt;
+            has_product(&field, row.1, row.2, row.3),
+            "{} times {} in the field of {}",
+            row.1,
+            row.2,
+            row.0
+        );
     }
     Ok(())
 }

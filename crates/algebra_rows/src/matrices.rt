@@ -84,10 +84,16 @@ const FORMS: [(Given, Rows, Rows); 10] = [
     ((2, 0, &[&[], &[]]), &[], &[]),
 ];
 
-// Whether the reduced matrix has these rows, and the rank is their number.
+// Whether the reduced matrix has these rows.
 fn has_echelon(alloc: Global, matrix: &Matrix, rows: Rows) -> Result<bool, NoMemory> {
     let reduced = matrix.echelon(alloc)?;
-    Ok(has_rows(&reduced, rows) && matrix.rank(alloc)? == rows.len())
+    Ok(has_rows(&reduced, rows))
+}
+
+// Whether the rank is this number.
+fn has_rank(alloc: Global, matrix: &Matrix, rank: usize) -> Result<bool, NoMemory> {
+    let found = matrix.rank(alloc)?;
+    Ok(found == rank)
 }
 
 // Whether the kernel has these rows.
@@ -97,7 +103,21 @@ fn has_kernel(alloc: Global, matrix: &Matrix, rows: Rows) -> Result<bool, NoMemo
     Ok(has_rows(&kernel, rows))
 }
 
-// Whether the matrix has this reduced form and this kernel.
+// Whether the matrix has this reduced form and rank, and this kernel.
+fn are_forms(
+    alloc: Global,
+    matrix: &Matrix,
+    reduced: Rows,
+    kernel: Rows,
+) -> Result<bool, NoMemory> {
+    Ok(
+        has_echelon(alloc, matrix, reduced)?
+            && has_rank(alloc, matrix, reduced.len())?
+            && has_kernel(alloc, matrix, kernel)?,
+    )
+}
+
+// The same for the matrix that is given.
 fn has_forms(
     rt: &impl Abort,
     alloc: Global,
@@ -106,7 +126,7 @@ fn has_forms(
     kernel: Rows,
 ) -> Result<bool, Fail> {
     let matrix = matrix_of(rt, alloc, given)?;
-    Ok(has_echelon(alloc, &matrix, reduced)? && has_kernel(alloc, &matrix, kernel)?)
+    Ok(are_forms(alloc, &matrix, reduced, kernel)?)
 }
 
 #[test]

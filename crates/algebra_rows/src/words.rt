@@ -39,8 +39,12 @@ fn has_sums(field: &Field, row: &Row, top: u8) -> bool {
 
 // Whether the number of elements is no element of the field, and the words are as the row says.
 fn is_right(field: &Field, row: &Row) -> bool {
-    let top = (field.size() - 1) as u8;
-    !fits(field, &[0, row.0 as u8]) && has_weights(top) && 2 <= top && has_sums(field, row, top)
+    let size = field.size();
+    if size < 3 || 16 < size {
+        return false;
+    }
+    let top = (size - 1) as u8;
+    !fits(field, &[0, size as u8]) && has_weights(top) && has_sums(field, row, top)
 }
 
 #[test]

@@ -239,7 +239,11 @@ fn have_shape_of(alloc: Global, q: u64, rows: Rows, expected: Shape) -> Result<b
 #[test]
 fn codes_by_a_matrix(rt: HostRuntime) -> Result<(), Fail> {
     for row in &MATRICES {
-        assert!(rt; have_shape_of(rt.alloc(), row.0, row.1, row.2)?, "over {}", row.0);
+        assert!(rt;
+            have_shape_of(rt.alloc(), row.0, row.1, row.2)?,
+            "over {}",
+            row.0
+        );
     }
     Ok(())
 }
@@ -286,8 +290,15 @@ fn code_of(alloc: Global, q: u64, rows: Rows) -> Result<Code, CodeRefusal> {
 #[test]
 fn a_code_is_the_dual_of_its_dual(rt: HostRuntime) -> Result<(), Fail> {
     for row in &REDUCED {
-        assert!(rt; is_code(code_of(rt.alloc(), row.0, row.1), row.2), "over {}", row.0);
-        let code = dual(rt.alloc(), dual(rt.alloc(), code_of(rt.alloc(), row.0, row.1)));
+        assert!(rt;
+            is_code(code_of(rt.alloc(), row.0, row.1), row.2),
+            "over {}",
+            row.0
+        );
+        let code = dual(
+            rt.alloc(),
+            dual(rt.alloc(), code_of(rt.alloc(), row.0, row.1)),
+        );
         assert!(rt; is_code(code, row.2), "over {}", row.0);
     }
     Ok(())

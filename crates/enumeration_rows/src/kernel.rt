@@ -156,7 +156,12 @@ fn hamming_agrees(rt: &impl Abort, alloc: Global, r: u64, q: u64) -> Result<bool
 #[test]
 fn blocks_of_hamming_codes(rt: HostRuntime) -> Result<(), Fail> {
     for row in &HAMMING {
-        assert!(rt; hamming_agrees(&rt, rt.alloc(), row.0, row.1)?, "{} {}", row.0, row.1);
+        assert!(rt;
+            hamming_agrees(&rt, rt.alloc(), row.0, row.1)?,
+            "{} {}",
+            row.0,
+            row.1
+        );
     }
     Ok(())
 }
@@ -218,7 +223,11 @@ fn rows_agree(rt: &impl Abort, alloc: Global, q: u64, n: usize, rows: Rows) -> R
 #[test]
 fn blocks_of_other_codes(rt: HostRuntime) -> Result<(), Fail> {
     for row in &ROWS {
-        assert!(rt; rows_agree(&rt, rt.alloc(), row.0, row.1, row.2)?, "{}", row.0);
+        assert!(rt;
+            rows_agree(&rt, rt.alloc(), row.0, row.1, row.2)?,
+            "{}",
+            row.0
+        );
     }
     Ok(())
 }

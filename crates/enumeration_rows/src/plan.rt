@@ -204,13 +204,7 @@ fn a_phase_may_fill_its_block(rt: HostRuntime) -> Result<(), NoMemory> {
 }
 
 // Whether the block begins in set 0, with this support and these coefficients.
-fn begins(
-    plan: &Plan,
-    spot: &mut Spot,
-    block: u64,
-    support: &[usize],
-    coefficients: &[u8],
-) -> bool
+fn begins(plan: &Plan, spot: &mut Spot, block: u64, support: &[usize], coefficients: &[u8]) -> bool
     requires room { plan.now.k ≤ spot.old.room }
 {
     if plan.total() <= block {
@@ -224,7 +218,15 @@ fn begins(
 fn a_binary_block_begins_in_the_middle_of_a_level(rt: HostRuntime) -> Result<(), NoMemory> {
     let plan = Plan::build(rt.alloc(), 45, 2, 1)?;
     let mut spot = Spot::new(rt.alloc(), 45)?;
-    assert!(rt; begins(&plan, &mut spot, 341, &[32, 33, 38, 40, 42], &[1, 1, 1, 1, 1]));
+    assert!(rt;
+        begins(
+            &plan,
+            &mut spot,
+            341,
+            &[32, 33, 38, 40, 42],
+            &[1, 1, 1, 1, 1]
+        )
+    );
     Ok(())
 }
 
