@@ -67,13 +67,20 @@ fn has_tables(field: &Field, sums: u32, products: u32, inverses: u32) -> bool {
     all_sums(field) == sums && all_products(field) == products && all_inverses(field) == inverses
 }
 
+// A copy of the field of q elements.
+fn copied(alloc: Global, q: u64) -> Result<Field, FieldRefusal> {
+    let field = Field::of(alloc, q)?;
+    Ok(field.copy(alloc)?)
+}
+
 #[test]
 fn every_entry_of_every_table(rt: HostRuntime) -> Result<(), Fail> {
-    for (q, sums, products, inverses) in TABLES {
-        let field = Field::of(rt.alloc(), q)?.copy(rt.alloc())?;
+    for row in &TABLES {
+        let field = copied(rt.alloc(), row.0)?;
         assert!(rt;
-            has_tables(&field, sums, products, inverses),
-            "in the field of {q}"
+            has_tables(&field, row.1, row.2, row.3),
+            "in the field of {}",
+            row.0
         );
     }
     Ok(())
@@ -103,11 +110,14 @@ fn has_product(field: &Field, a: u8, b: u8, product: u8) -> bool {
 
 #[test]
 fn products_of_the_table(rt: HostRuntime) -> Result<(), Fail> {
-    for (q, a, b, product) in PRODUCTS {
-        let field = Field::of(rt.alloc(), q)?;
+    for row in &PRODUCTS {
+        let field = Field::of(rt.alloc(), row.0)?;
         assert!(rt;
-            has_product(&field, a, b, product),
-            "{a} times {b} in the field of {q}"
+            has_product(&field, row.1, row.2, row.3),
+            "{} times {} in the field of {}",
+            row.1,
+            row.2,
+            row.0
         );
     }
     Ok(())
@@ -115,12 +125,7 @@ fn products_of_the_table(rt: HostRuntime) -> Result<(), Fail> {
 
 // Whether the table has a field of this size.
 fn is_size(q: u64) -> bool {
-    for row in TABLES {
-        if row.0 == q {
-            return true;
-        }
-    }
-    false
+    TABLES.iter().any(|row| row.0 == q)
 }
 
 // Whether there is a field of q elements exactly if the table has one, and no field is refused as such.

@@ -142,8 +142,13 @@ fn is_set(alloc: Global, n: u64, q: u64, i: u64, expected: &[u64]) -> Result<boo
 
 #[test]
 fn cyclotomic_sets(rt: HostRuntime) -> Result<(), Fail> {
-    for (n, q, i, expected) in SETS {
-        assert!(rt; is_set(rt.alloc(), n, q, i, expected)?, "{i} modulo {n}");
+    for row in &SETS {
+        assert!(rt;
+            is_set(rt.alloc(), row.0, row.1, row.2, row.3)?,
+            "{} modulo {}",
+            row.2,
+            row.0
+        );
     }
     Ok(())
 }
@@ -182,14 +187,26 @@ fn divides_or_not(
     Ok(g.divides(alloc, &whole)? == expected)
 }
 
+// The same for the polynomial of a list.
+fn list_divides_or_not(
+    alloc: Global,
+    field: &Field,
+    n: usize,
+    list: &[u8],
+    expected: bool,
+) -> Result<bool, NoMemory> {
+    let g = poly(alloc, field, list)?;
+    divides_or_not(alloc, &g, field, n, expected)
+}
+
 #[test]
 fn generators_divide(rt: HostRuntime) -> Result<(), Fail> {
-    for (q, n, list, expected) in GENERATORS {
-        let field = Field::of(rt.alloc(), q)?;
-        let g = poly(rt.alloc(), &field, list)?;
+    for row in &GENERATORS {
+        let field = Field::of(rt.alloc(), row.0)?;
         assert!(rt;
-            divides_or_not(rt.alloc(), &g, &field, n, expected)?,
-            "at {n}"
+            list_divides_or_not(rt.alloc(), &field, row.1, row.2, row.3)?,
+            "at {}",
+            row.1
         );
     }
     Ok(())
@@ -227,14 +244,33 @@ fn is_one_at_one(a: &Poly, field: &Field) -> bool
     a.eval(1) == 1
 }
 
+// Whether the product, the quotient and the remainder of the two polynomials have these coefficients.
+fn has_product_and_quotient(alloc: Global, a: &Poly, b: &Poly) -> Result<bool, NoMemory>
+    requires { a.now.field ≡ b.now.field }
+{
+    Ok(has_product(alloc, a, b, &[4, 1, 2, 3])? && has_quotient(alloc, a, b, &[3, 3], &[1])?)
+}
+
+// The same of the polynomial and 1 + 4 x.
+fn is_multiplied_and_divided(alloc: Global, field: &Field, a: &Poly) -> Result<bool, NoMemory>
+    requires { a.now.field ≡ field.now }
+{
+    let b = poly(alloc, field, &[1, 4])?;
+    has_product_and_quotient(alloc, a, &b)
+}
+
+// Whether the polynomial of this list has these coefficients, the value 1 at 1, and is multiplied and divided so.
+fn is_computed_with(alloc: Global, field: &Field) -> Result<bool, NoMemory> {
+    let a = poly(alloc, field, &[4, 0, 2, 0, 0])?;
+    if a.coefficients() != [4, 0, 2].as_slice() || !is_one_at_one(&a, field) {
+        return Ok(false);
+    }
+    is_multiplied_and_divided(alloc, field, &a)
+}
+
 #[test]
 fn products_and_quotients(rt: HostRuntime) -> Result<(), Fail> {
     let field = Field::of(rt.alloc(), 5)?;
-    let a = poly(rt.alloc(), &field, &[4, 0, 2, 0, 0])?;
-    let b = poly(rt.alloc(), &field, &[1, 4])?;
-    assert!(rt; a.coefficients() == [4, 0, 2].as_slice());
-    assert!(rt; has_product(rt.alloc(), &a, &b, &[4, 1, 2, 3])?);
-    assert!(rt; has_quotient(rt.alloc(), &a, &b, &[3, 3], &[1])?);
-    assert!(rt; is_one_at_one(&a, &field));
+    assert!(rt; is_computed_with(rt.alloc(), &field)?);
     Ok(())
 }

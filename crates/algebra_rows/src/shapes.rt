@@ -7,8 +7,11 @@ use lc_field::{Field, NoMemory};
 use lc_vec::{Word, fits};
 use std::alloc::Global;
 
-/// Whether the word has n symbols of the field.
-pub(crate) fn is_word(field: &Field, n: usize, word: &[u8]) -> bool
+/// Rows of symbols.
+pub(crate) type Rows = &'static [&'static [u8]];
+
+// Whether the word has n symbols of the field.
+fn is_word(field: &Field, n: usize, word: &[u8]) -> bool
     ensures is { IsTrue result → IsWord field.now n word.now }
 {
     word.len() == n && fits(field, word)
@@ -27,7 +30,7 @@ pub(crate) fn are_words(field: &Field, n: usize, words: &[Word]) -> bool
 }
 
 /// The words of these symbols.
-pub(crate) fn words_of(alloc: Global, rows: &[&[u8]]) -> Result<Vec<Word>, NoMemory> {
+pub(crate) fn words_of(alloc: Global, rows: Rows) -> Result<Vec<Word>, NoMemory> {
     let mut words = Vec::new(alloc);
     for row in rows {
         words.push(Word::from_slice(alloc, row)?)?;

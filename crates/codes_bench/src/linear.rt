@@ -3,6 +3,7 @@
 ghost use Rattle.std.specs.Prelude.{◌≡◌, ◌<◌, ◌≤◌, length, IfOk};
 ghost use Rattle.lc_algebra.specs.Field.{size};
 ghost use Rattle.lc_algebra.specs.Word.{Fits, IsWord};
+ghost use Rattle.lc_algebra.specs.Span.{AreIndependent};
 ghost use Rattle.lc_algebra.specs.Matrix.{AreRows};
 
 use crate::rate::{Failure, Rate};
@@ -54,19 +55,44 @@ fn add_often(field: &Field, to: &mut [u8], from: &[u8])
     }
 }
 
-/// The rate of `add_scaled` over the field of `q` elements.
-pub fn add_scaled_rate<R: Clock + AllocGlobal>(rt: &R, q: u64) -> Result<Rate, Failure> {
-    let field = Field::of(rt.alloc(), q)?;
-    let mut state = 1;
-    let from = symbols(rt.alloc(), &field, &mut state)?;
-    let mut to = symbols(rt.alloc(), &field, &mut state)?;
+// The rate of `add_scaled` for a word, added to another.
+fn add_scaled_from<R: Clock + AllocGlobal>(
+    rt: &R,
+    field: &Field,
+    from: &[u8],
+    state: &mut u64,
+) -> Result<Rate, Failure>
+    requires from { IsWord field.now LENGTH from.now }
+{
+    let mut to = symbols(rt.alloc(), field, state)?;
     let start = Instant::now(rt)?;
-    add_often(&field, &mut to, &from);
+    add_often(field, &mut to, from);
     Ok(Rate {
         count: SUMS * LENGTH as u64,
         what: "symbols",
         elapsed: start.elapsed(rt)?,
     })
+}
+
+// The rate of `add_scaled` over the field.
+fn add_scaled_over<R: Clock + AllocGlobal>(rt: &R, field: &Field) -> Result<Rate, Failure> {
+    let mut state = 1;
+    let from = symbols(rt.alloc(), field, &mut state)?;
+    add_scaled_from(rt, field, &from, &mut state)
+}
+
+/// The rate of `add_scaled` over the field of `q` elements.
+pub fn add_scaled_rate<R: Clock + AllocGlobal>(rt: &R, q: u64) -> Result<Rate, Failure> {
+    let field = Field::of(rt.alloc(), q)?;
+    add_scaled_over(rt, &field)
+}
+
+// A pseudo-random word.
+fn row(alloc: Global, field: &Field, state: &mut u64) -> Result<Word, Failure>
+    ensures word { IfOk result (λ row. IsWord field.now LENGTH row) }
+{
+    let symbols = symbols(alloc, field, state)?;
+    Ok(Word::from_slice(alloc, &symbols)?)
 }
 
 // Pseudo-random rows.
@@ -76,18 +102,32 @@ fn rows(alloc: Global, field: &Field) -> Result<Vec<Word>, Failure>
     let mut state = 1;
     let mut rows = Vec::new(alloc);
     for _ in 0..ROWS {
-        let row = Word::from_slice(alloc, &symbols(alloc, field, &mut state)?)?;
-        if rows.push(row).is_err() {
+        if rows.push(row(alloc, field, &mut state)?).is_err() {
             return Err(Failure::NoMemory);
         }
     }
     Ok(rows)
 }
 
+// The matrix of pseudo-random rows over the field of `q` elements.
+fn matrix(alloc: Global, q: u64) -> Result<Matrix, Failure>
+    ensures columns { IfOk result (λ m. m.columns ≡ LENGTH) }
+{
+    let field = Field::of(alloc, q)?;
+    matrix_over(alloc, &field)
+}
+
+// The same over a field.
+fn matrix_over(alloc: Global, field: &Field) -> Result<Matrix, Failure>
+    ensures columns { IfOk result (λ m. m.columns ≡ LENGTH) }
+{
+    let rows = rows(alloc, field)?;
+    Ok(Matrix::from_rows(alloc, field, LENGTH, &rows)?)
+}
+
 /// The rate of `Matrix::echelon` over the field of `q` elements, in rows of the matrix.
 pub fn echelon_rate<R: Clock + AllocGlobal>(rt: &R, q: u64) -> Result<Rate, Failure> {
-    let field = Field::of(rt.alloc(), q)?;
-    let matrix = Matrix::from_rows(rt.alloc(), &field, LENGTH, &rows(rt.alloc(), &field)?)?;
+    let matrix = matrix(rt.alloc(), q)?;
     let start = Instant::now(rt)?;
     for _ in 0..FORMS {
         let _form = matrix.echelon(rt.alloc())?;
@@ -99,14 +139,21 @@ pub fn echelon_rate<R: Clock + AllocGlobal>(rt: &R, q: u64) -> Result<Rate, Fail
     })
 }
 
-/// The rate of `Sets::build` over the field of `q` elements, in codes.
+// The reduced form of pseudo-random rows over the field of `q` elements.
 #[tactic(auto, using(lc_algebra::proofs::ReducedLaws::reduced_independent))]
+fn form(alloc: Global, q: u64) -> Result<Matrix, Failure>
+    ensures columns { IfOk result (λ m. m.columns ≡ LENGTH) }
+    ensures independent { IfOk result (λ m. AreIndependent m.field m.columns m.rows) }
+{
+    let matrix = matrix(alloc, q)?;
+    Ok(matrix.echelon(alloc)?)
+}
+
+/// The rate of `Sets::build` over the field of `q` elements, in codes.
 pub fn infosets_rate<R: Clock + AllocGlobal>(rt: &R, q: u64) -> Result<Rate, Failure> {
-    let field = Field::of(rt.alloc(), q)?;
-    let matrix = Matrix::from_rows(rt.alloc(), &field, LENGTH, &rows(rt.alloc(), &field)?)?;
-    let form = matrix.echelon(rt.alloc())?;
+    let form = form(rt.alloc(), q)?;
     let height = form.rows();
-    if !field.is_symbol() || height == 0 {
+    if !form.field().is_symbol() || height == 0 {
         return Err(Failure::Refused);
     }
     let start = Instant::now(rt)?;

@@ -2,9 +2,6 @@ pub mod BchExamples
 pub mod CodeExamples
 pub mod DistributionExamples
 pub mod DistributionLaws
-pub mod ExtendedGolayExamples
-pub mod GolayExamples
-pub mod GolaySessionExamples
 pub mod GreedyLaws
 pub mod MemberLaws
 pub mod NearExamples
@@ -12,5 +9,7 @@ pub mod PlanExamples
 pub mod PlanLaws
 pub mod RecordsExamples
 pub mod RecordsLaws
+pub mod ReedMullerExamples
+pub mod ReedMullerSessionExamples
 pub mod SearchExamples
 pub mod SearchLaws

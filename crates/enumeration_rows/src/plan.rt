@@ -1,0 +1,239 @@
+//! The values are those of `tools/plan_numbers.py`, which counts and lists without this crate.
+ghost use Rattle.std.specs.Prelude.{◌≡◌, ◌≤◌};
+
+use lc_place::{NoMemory, Plan, Spot};
+
+fn crosses<T: Send>(_value: &T) {}
+
+fn is_shared<T: Send + Sync>(_value: &T) {}
+
+// Whether the spot has this set, this support and these coefficients.
+fn is_at(spot: &Spot, set: usize, support: &[usize], coefficients: &[u8]) -> bool {
+    spot.set() == set && spot.support() == support && spot.coefficients() == coefficients
+}
+
+// Whether the steps from block 1 of dimension 4 over 2 elements, to its last message, change from these places on.
+fn are_binary_steps(plan: &Plan, spot: &mut Spot) -> bool
+    requires room { plan.now.k ≤ spot.old.room }
+{
+    if plan.total() != 4 {
+        return false;
+    }
+    plan.start_of(1, spot);
+    let is_first = is_at(spot, 0, &[0, 1], &[1, 1]);
+    let changes = [
+        plan.step(spot),
+        plan.step(spot),
+        plan.step(spot),
+        plan.step(spot),
+    ];
+    let goes_on = plan.next(spot);
+    let ends = plan.step(spot).is_none() && !plan.next(spot);
+    is_first
+        && changes == [Some(1), Some(1), Some(0), Some(1)]
+        && goes_on
+        && ends
+        && is_at(spot, 0, &[2, 3], &[1, 1])
+}
+
+#[test]
+fn binary_steps_change_from_the_first_moved_place(rt: HostRuntime) -> Result<(), NoMemory> {
+    let plan = Plan::build(rt.alloc(), 4, 2, 1)?;
+    let mut spot = Spot::new(rt.alloc(), 4)?;
+    crosses(&spot);
+    is_shared(&plan);
+    assert!(rt; are_binary_steps(&plan, &mut spot));
+    Ok(())
+}
+
+// Whether block 1 of dimension 2 over 3 elements has two messages.
+fn has_a_pair(plan: &Plan, spot: &mut Spot) -> bool
+    requires room { plan.now.k ≤ spot.old.room }
+{
+    if plan.total() != 2 {
+        return false;
+    }
+    plan.start_of(1, spot);
+    plan.step(spot) == Some(1) && plan.step(spot).is_none()
+}
+
+// Whether the first steps from block 2 of dimension 4 over 3 elements change from these places on.
+fn are_ternary_steps(plan: &Plan, spot: &mut Spot) -> bool
+    requires room { plan.now.k ≤ spot.old.room }
+{
+    if plan.total() != 4 {
+        return false;
+    }
+    plan.start_of(2, spot);
+    let changes = [
+        plan.step(spot),
+        plan.step(spot),
+        plan.step(spot),
+        plan.step(spot),
+    ];
+    changes == [Some(2), Some(1), Some(2), Some(1)] && is_at(spot, 0, &[0, 1, 3], &[1, 1, 1])
+}
+
+#[test]
+fn ternary_pairs_have_both_second_coefficients(rt: HostRuntime) -> Result<(), NoMemory> {
+    let plan = Plan::build(rt.alloc(), 2, 3, 1)?;
+    let mut spot = Spot::new(rt.alloc(), 4)?;
+    assert!(rt; has_a_pair(&plan, &mut spot));
+    Ok(())
+}
+
+#[test]
+fn ternary_steps_change_from_the_coefficients_that_begin_anew(
+    rt: HostRuntime,
+) -> Result<(), NoMemory> {
+    let plan = Plan::build(rt.alloc(), 4, 3, 1)?;
+    let mut spot = Spot::new(rt.alloc(), 4)?;
+    assert!(rt; are_ternary_steps(&plan, &mut spot));
+    Ok(())
+}
+
+// Of the plan of dimension 45 over 2 elements a block, the level of its phase, where the phase begins and ends, and how many messages
+// the block has.
+const PHASES: [(u64, usize, u64, u64, u64); 6] = [
+    (0, 1, 0, 1, 45),
+    (1, 2, 1, 2, 990),
+    (4, 3, 2, 6, 4096),
+    (5, 3, 2, 6, 1902),
+    (6, 4, 6, 43, 4096),
+    (342, 6, 342, 2331, 4096),
+];
+
+// Whether the block's phase is so, in set 0.
+fn is_phase(plan: &Plan, row: &(u64, usize, u64, u64, u64)) -> bool {
+    if plan.total() <= row.0 {
+        return false;
+    }
+    let phase = plan.phase_of(row.0);
+    phase.level == row.1
+        && phase.set == 0
+        && phase.start == row.2
+        && phase.end == row.3
+        && plan.phase_end(row.0) == row.3
+        && plan.block_len(row.0) == row.4
+}
+
+// Whether this is so of each row.
+fn are_phases(plan: &Plan) -> bool {
+    for row in &PHASES {
+        if !is_phase(plan, row) {
+            return false;
+        }
+    }
+    true
+}
+
+#[test]
+fn phases_have_the_blocks_of_their_levels(rt: HostRuntime) -> Result<(), NoMemory> {
+    let plan = Plan::build(rt.alloc(), 45, 2, 1)?;
+    assert!(rt; plan.total() == 8_589_934_619 && are_phases(&plan));
+    Ok(())
+}
+
+// Whether the set's phase at level 1 is one block of one message.
+fn is_one_message(plan: &Plan, spot: &mut Spot, set: u8) -> bool
+    requires room { plan.now.k ≤ spot.old.room }
+    ensures room { spot.new.room ≡ spot.old.room }
+{
+    let block = u64::from(set);
+    if plan.total() <= block {
+        return false;
+    }
+    let phase = plan.phase_of(block);
+    plan.start_of(block, spot);
+    phase.level == 1
+        && phase.set == usize::from(set)
+        && phase.start == block
+        && phase.end == block + 1
+        && plan.block_len(block) == 1
+        && is_at(spot, usize::from(set), &[0], &[1])
+}
+
+// Whether this is so of four sets.
+fn are_one_message(plan: &Plan, spot: &mut Spot) -> bool
+    requires room { plan.now.k ≤ spot.old.room }
+{
+    is_one_message(plan, spot, 0)
+        && is_one_message(plan, spot, 1)
+        && is_one_message(plan, spot, 2)
+        && is_one_message(plan, spot, 3)
+}
+
+#[test]
+fn sets_follow_one_another_within_a_level(rt: HostRuntime) -> Result<(), NoMemory> {
+    let plan = Plan::build(rt.alloc(), 1, 3, 4)?;
+    let mut spot = Spot::new(rt.alloc(), 1)?;
+    assert!(rt; plan.total() == 4 && are_one_message(&plan, &mut spot));
+    Ok(())
+}
+
+// Whether the plan of dimension 255 over 16 elements is cut at 2^40, in a phase of level 6.
+fn is_cut(plan: &Plan) -> bool {
+    let total = plan.total();
+    if total != 1_099_511_627_776 {
+        return false;
+    }
+    let phase = plan.phase_of(total - 1);
+    phase.level == 6
+        && phase.start == 106_897_980_921
+        && phase.end == total
+        && plan.block_len(total - 1) == 4096
+}
+
+// Whether the last phase of dimension 7 over 5 elements fills its one block.
+fn is_filled(plan: &Plan) -> bool {
+    plan.total() == 9 && plan.block_len(8) == 4096 && plan.phase_of(8).start == 8
+}
+
+#[test]
+fn a_plan_is_cut(rt: HostRuntime) -> Result<(), NoMemory> {
+    let plan = Plan::build(rt.alloc(), 255, 16, 1)?;
+    assert!(rt; is_cut(&plan));
+    Ok(())
+}
+
+#[test]
+fn a_phase_may_fill_its_block(rt: HostRuntime) -> Result<(), NoMemory> {
+    let plan = Plan::build(rt.alloc(), 7, 5, 1)?;
+    assert!(rt; is_filled(&plan));
+    Ok(())
+}
+
+// Whether the block begins in set 0, with this support and these coefficients.
+fn begins(plan: &Plan, spot: &mut Spot, block: u64, support: &[usize], coefficients: &[u8]) -> bool
+    requires room { plan.now.k ≤ spot.old.room }
+{
+    if plan.total() <= block {
+        return false;
+    }
+    plan.start_of(block, spot);
+    is_at(spot, 0, support, coefficients)
+}
+
+#[test]
+fn a_binary_block_begins_in_the_middle_of_a_level(rt: HostRuntime) -> Result<(), NoMemory> {
+    let plan = Plan::build(rt.alloc(), 45, 2, 1)?;
+    let mut spot = Spot::new(rt.alloc(), 45)?;
+    assert!(rt;
+        begins(
+            &plan,
+            &mut spot,
+            341,
+            &[32, 33, 38, 40, 42],
+            &[1, 1, 1, 1, 1]
+        )
+    );
+    Ok(())
+}
+
+#[test]
+fn a_quaternary_block_begins_in_the_middle_of_a_level(rt: HostRuntime) -> Result<(), NoMemory> {
+    let plan = Plan::build(rt.alloc(), 20, 4, 2)?;
+    let mut spot = Spot::new(rt.alloc(), 45)?;
+    assert!(rt; begins(&plan, &mut spot, 11, &[0, 1, 17, 19], &[1, 3, 1, 2]));
+    Ok(())
+}
