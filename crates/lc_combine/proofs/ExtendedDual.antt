@@ -9,7 +9,7 @@ use Rattle.lc_algebra.specs.Field.{size, add, neg, mul}
 use Rattle.lc_algebra.specs.Word.{Fits, IsWord, word_sum, scale, word_dot}
 use Rattle.lc_algebra.specs.Span.{InSpan}
 use Rattle.lc_algebra.specs.Matrix.{Matrix, AreRows}
-use Rattle.lc_algebra.proofs.FieldLaws.{mul_one, mul_comm, mul_neg, neg_mul}
+use Rattle.lc_algebra.proofs.FieldLaws.{mul_one, mul_comm, neg_mul}
 use Rattle.lc_algebra.proofs.WordLaws.{fits_head, fits_tail, dot_sum, dot_scale, length_scale}
 use Rattle.lc_algebra.proofs.SpanLaws.{span_word}
 use Rattle.lc_constructions.specs.Code.{InCode, IsCode}
@@ -65,6 +65,9 @@ extended_dual C E D r e d w a y l = (to, from)
         sym (dots u c) ∙ subst (λ g. word_dot g (u ++ neg f (symbol_sum f u) ∷ []) (w ++ a ∷ []) ≡ 0) e.over (dual (u ++ neg f (symbol_sum f u) ∷ []) inside)
 
     from : InDual C (word_sum f w (scale f (neg f a) (replicate n 1))) → InCode D (w ++ a ∷ [])
-    from h = (in_code D f (n + 1) (InDual E) (w ++ a ∷ []) d).1 (long, λ v t.
-        let (u, c, k) = ((in_code E f (n + 1) (InExtended C) v e).0 t).1 in
-        subst (λ g. word_dot g v (w ++ a ∷ []) ≡ 0) (sym e.over) (ap (λ x. word_dot f x (w ++ a ∷ [])) k ∙ dots u c ∙ h u c))
+    from h = (in_code D f (n + 1) (InDual E) (w ++ a ∷ []) d).1 (
+      long,
+      λ v t.
+          let (u, c, k) = ((in_code E f (n + 1) (InExtended C) v e).0 t).1 in
+          subst (λ g. word_dot g v (w ++ a ∷ []) ≡ 0) (sym e.over) (ap (λ x. word_dot f x (w ++ a ∷ [])) k ∙ dots u c ∙ h u c),
+    )

@@ -3,11 +3,9 @@
 --   steps_shaped         what a statement binds or asks for
 --   needs_shaped         the needs of some statements
 --   met_shaped           those that a session meets
-use Rattle.std.proofs.Common.{◌≡◌, ◌<◌, ◌≤◌, ℕ, Bool, true, false, List, [], ◌∷◌, length, take, Option, Some, None, refl, sym, ap, subst, ◌∙◌, ⊎_elim}
-use Rattle.std.specs.Prelude.{MatchOption, if◌then◌else◌}
+use Rattle.std.proofs.Common.{◌≡◌, ◌⊎◌, ◌<◌, ℕ, Bool, true, false, List, [], ◌∷◌, length, take, Option, Some, None, sym, subst, ⊎_elim}
+use Rattle.std.specs.Prelude.{if◌then◌else◌}
 use Rattle.std.specs.List.{AllByRecursion}
-use Rattle.lc_algebra.specs.declared.FieldName.{FieldName}
-use Rattle.lc_algebra.specs.Span.{InSpan, IsLeast}
 use Rattle.lc_algebra.specs.Matrix.{Matrix}
 use Rattle.lc_grammar.specs.Tree.{Expr, Exprs, number, name, call, list, none, more, Statement, place_of, count_of}
 use Rattle.lc_grammar.specs.Grammar.{Reads}
@@ -24,10 +22,10 @@ use Rattle.lc_language.specs.Query.{QueryKind, query_line, near_line}
 use Rattle.lc_language.specs.Bound.{BoundCall, bind, BoundQuery, algebraic_decode, least_word, minimum_distance, certificate, scan_certificate, weight_distribution, alternant_certificate, nearest_word, bind_query}
 use Rattle.lc_language.specs.Refusal.{refusal_of, query_refusal_of}
 use Rattle.lc_language.specs.Meaning.{Gives, IsNotDivisor}
-use Rattle.lc_language.specs.Evaluation.{Outcome, gives, refused, Outcomes, all_give, one_refused, refuse_at, refuse_call, misfit_place, Listed, nothing_yet, all_numbers, all_lists, listed_with, list_value, ListGoesOn, AppliesTo, Applies, CallGives, Joins, GoesOn, Evaluates, EvaluatesAll, EvaluatesList, Step, binds, prints, asks, counts, nears, fails, AsksOf, NearsOf, Queries, QueriesTo, QueriesAll, query_of, fail_with, Assigns, StepsAsQuery, StepsOf, Steps}
+use Rattle.lc_language.specs.Evaluation.{Outcome, gives, refused, Outcomes, all_give, one_refused, refuse_at, refuse_call, misfit_place, Listed, nothing_yet, all_numbers, all_lists, listed_with, list_value, ListGoesOn, AppliesTo, Applies, CallGives, Joins, GoesOn, Evaluates, EvaluatesAll, EvaluatesList, Step, binds, prints, asks, counts, nears, fails, AsksOf, Queries, QueriesTo, QueriesAll, query_of, fail_with, Assigns, StepsAsQuery, StepsOf, Steps}
 use Rattle.lc_sessions.specs.Needs.{NeedsOn, Needs, MeetsFirst}
 use Rattle.lc_ground.specs.Shapes.{IsCodeOfRows}
-use Rattle.lc_ground.proofs.ShapeLaws.{IsShaped, AreShaped, HaveShapes, HaveQueryShapes, from_option, from_known, shaped_as, gives_shaped, bind_shaped, bind_query_shaped}
+use Rattle.lc_ground.proofs.ShapeLaws.{IsShaped, AreShaped, HaveShapes, HaveQueryShapes, from_option, from_known, gives_shaped, bind_shaped, bind_query_shaped}
 
 abbrev IsGiven : Outcome → Type 0
 IsGiven (gives v) = IsShaped v

@@ -1,9 +1,9 @@
 -- The budget that arguments ask for is at most 2^40.
 --   options_small        the settings of arguments that are accepted
-use Rattle.std.proofs.Common.{◌≡◌, ◌≤◌, ◌^◌, ℕ, Bool, true, false, List, [], ◌∷◌, ◌++◌, length, Option, Some, None, refl, sym, ap, subst, ◌∙◌, arith}
+use Rattle.std.proofs.Common.{◌≡◌, ◌≤◌, ◌^◌, ℕ, suc, Bool, true, false, List, [], ◌∷◌, ◌++◌, length, Option, Some, None, refl, subst, arith}
 use Rattle.std.specs.Prelude.{option_map, option_and_then, is_some, if◌then◌else◌, ◌&&◌, ◌==◌, not, nat_le}
 use Rattle.std.specs.List.{list_any, before_first, after_first}
-use Rattle.std.proofs.lemmas.Bool.{and_parts, leb-true, cases_Bool}
+use Rattle.std.proofs.lemmas.Bool.{and_parts, leb-true}
 use Rattle.lc_sessions.specs.Options.{Command, run, resume, check, summary, Key, workers, budget, slice, keep, seed, CommandRow, Settings, settings_of, number_in, number_within, yes_or_no, put_key, key_named, row_named, same_key, place_of_key, Options, settings, usage, checked, options_from, options}
 
 mapped : {A B : Type 0} (o : Option A) (f : A → B) (r : B) → option_map f o ≡ Some r → (a : A) × (o ≡ Some a) × (f a ≡ r)

@@ -3,18 +3,16 @@
 --   script_is_ground     the ground of a script
 --   chains_are_true      chains leave true slots
 --   resumed_prints       a session over the slots of a chain prints the text of the script
-use Rattle.std.proofs.Common.{◌≡◌, ◌⊎◌, inl, inr, ◌≤◌, ◌<◌, ◌*◌, ◌^◌, ℕ, List, length, Option, Some, None, refl, sym, ap, subst, ◌∙◌, arith}
-use Rattle.std.specs.Prelude.{slice_get}
+use Rattle.std.proofs.Common.{◌≡◌, ◌⊎◌, inl, inr, ◌≤◌, ◌<◌, ◌^◌, ℕ, List, length, Some, refl, sym, subst, arith}
 use Rattle.lc_algebra.specs.Matrix.{Matrix}
 use Rattle.lc_parse.proofs.Outcomes.{one_script}
-use Rattle.lc_formats.specs.Checkpoint.{Checkpoint}
 use Rattle.lc_io.specs.Vaults.{Slots}
 use Rattle.lc_eval.specs.Built.{built_calls}
-use Rattle.lc_sessions.specs.Options.{Command, run, resume, Settings, Options, settings, usage as refuses, options, all_options}
+use Rattle.lc_sessions.specs.Options.{Command, resume, Settings, Options, settings, usage as refuses, options, all_options}
 use Rattle.lc_sessions.specs.Needs.{MeetsFirst, OneStep}
 use Rattle.lc_sessions.specs.Slots.{AreTrueSlots}
-use Rattle.lc_sessions.specs.Endings.{Ending, usage, done, no_memory}
-use Rattle.lc_sessions.specs.Session.{Outside, most_bytes, Accepts, WasRead, Reads, IsSession}
+use Rattle.lc_sessions.specs.Endings.{usage, done, no_memory}
+use Rattle.lc_sessions.specs.Session.{Outside, most_bytes, Accepts, Reads, IsSession}
 use Rattle.lc_sessions.specs.Promises.{PrintsText}
 use Rattle.lc_sessions.specs.Chain.{Chain, IsGround}
 use Rattle.lc_sessions.proofs.ChainLaws as chains

@@ -1,11 +1,11 @@
 -- A true checkpoint of a script is in range, and is read back from its text.
---   digest_bytes_small   a digest is bytes
+--   digest_is_bytes      a digest is bytes
 --   state_ranged         the best word after some blocks of a need
 --   settled_ranged       the records of settled needs
 --   true_in_range        a true checkpoint
 --   true_read_back       so it is read back
-use Rattle.std.proofs.Common.{◌≡◌, ◌≤◌, ◌<◌, ◌+◌, ◌-◌, ◌*◌, ◌/◌, ◌%◌, ◌^◌, ◌⊎◌, ◌++◌, min, ℕ, zero, suc, Bool, true, false, ◌==◌, ◌&&◌, ◌||◌, nat_lt, is_some, if◌then◌else◌, List, [], ◌∷◌, length, slice_index, Option, Some, None, refl, sym, ap, subst, ◌∙◌, ⊎_elim, arith, All, map}
-use Rattle.std.specs.Prelude.{slice_get, sum}
+use Rattle.std.proofs.Common.{◌≡◌, ◌≤◌, ◌<◌, ◌*◌, ◌^◌, ◌++◌, ℕ, zero, suc, Bool, true, false, ◌==◌, ◌&&◌, ◌||◌, nat_lt, is_some, if◌then◌else◌, List, [], ◌∷◌, length, slice_index, Some, refl, sym, ap, subst, ◌∙◌, ⊎_elim, arith, All}
+use Rattle.std.specs.Prelude.{slice_get}
 use Rattle.std.specs.List.{AllByRecursion}
 use Rattle.std.specs.Int.{to_be_bytes, bytes_high_first, byte_at, w32}
 use Rattle.std.proofs.lemmas.Bool.{and_parts, or_cases, ltb-true, eqb-true}
@@ -14,21 +14,20 @@ use Rattle.std.proofs.lemmas.Option.{slice_get_within}
 use Rattle.sha2.specs.Sha256.{sha256, digest_bytes}
 use Rattle.sha2.proofs.Facts256.{length-sha256}
 use Rattle.hex.specs.Hex.{IsBytes}
-use Rattle.lc_algebra.specs.Word.{weight}
 use Rattle.lc_algebra.specs.Matrix.{Matrix}
 use Rattle.lc_algebra.proofs.WordLaws.{weight_at_most_length}
 use Rattle.lc_algebra.proofs.SpanLaws.{span_word}
 use Rattle.lc_algebra.proofs.ReducedLaws.{reduced_independent}
-use Rattle.lc_enumeration.specs.Search.{Found, fits, set_count, word_at, weight_at, best, answer}
+use Rattle.lc_enumeration.specs.Search.{Found, fits, set_count, word_at, weight_at, answer}
 use Rattle.lc_enumeration.specs.Records.{Progress, found_of, IsBestAt}
-use Rattle.lc_enumeration.specs.Truth.{HasWord, IsSettled, answer_blocks}
+use Rattle.lc_enumeration.specs.Truth.{HasWord, answer_blocks}
 use Rattle.lc_infoset.proofs.SearchTruth.{best_is_word}
 use Rattle.lc_infoset.proofs.FittingLaws.{underway_fits, settled_is_best}
 use Rattle.lc_formats.specs.Checkpoint.{Checkpoint, current_of, IsProgress, IsInRange, point, checkpoint_text, checkpoint_in}
 use Rattle.lc_formats.specs.Truth.{divisor_in, turn_allowance, IsTrueFor}
 use Rattle.lc_formats.proofs.CheckpointBack.{checkpoint_back}
 use Rattle.lc_formats.proofs.CheckpointSize.{text_fits}
-use Rattle.lc_sessions.proofs.TrueSteps.{AreSettled, blocks_of, parts_of}
+use Rattle.lc_sessions.proofs.TrueSteps.{AreSettled, parts_of}
 use Rattle.lc_sessions.proofs.GroundLaws.{answer_within, blocks_within, settled_within}
 use Rattle.lc_ground.specs.Shapes.{IsCodeOfRows}
 use Rattle.lc_ground.proofs.AskShapes.{AreCodesOfRows}
@@ -47,9 +46,13 @@ small_append : (u v : List ℕ) → AreSmall u → AreSmall v → AreSmall (u ++
 small_append [] v h k = k
 small_append (b ∷ u) v h k = (h.0, small_append u v h.1 k)
 
+small_byte : (i n : ℕ) → byte_at i n < 256
+small_byte zero n = omega arith
+small_byte (suc i) n = omega arith
+
 small_high_first : (k n : ℕ) → AreSmall (bytes_high_first k n)
 small_high_first zero n = tt
-small_high_first (suc k) n = (omega arith, small_high_first k n)
+small_high_first (suc k) n = (small_byte k n, small_high_first k n)
 
 digest_small : (h : List ℕ) (n : ℕ) → AreSmall (digest_bytes h n)
 unfolding digest_bytes
@@ -110,6 +113,10 @@ allowed version = by (version == 1)
     by true = omega arith
     by false = omega arith
 
+current_within : (q : Checkpoint) (a b : ℕ) → q.blocks ≤ a → a ≤ b → (current_of q).blocks ≤ b
+unfolding current_of
+current_within q a b x y = omega (arith, x, y)
+
 pub true_in_range : (needs : List Matrix) (bytes : List ℕ) (budget : ℕ) (p : Checkpoint) → budget ≤ 2 ^ 40 → AreCodesOfRows needs → ((i : ℕ) (C : Matrix) → slice_get needs i ≡ Some C → 0 < length C.rows) → length needs < 70000 → IsTrueFor needs (sha256 bytes) budget p → IsInRange p × (length p.settled < 70000)
 true_in_range needs bytes budget p small shaped rows few holds =
     let parts = parts_of needs (sha256 bytes) budget p holds in
@@ -133,10 +140,6 @@ true_in_range needs bytes budget p small shaped rows few holds =
       },
       omega (arith, inside, few),
     )
-  where
-    current_within : (q : Checkpoint) (a b : ℕ) → q.blocks ≤ a → a ≤ b → (current_of q).blocks ≤ b
-    unfolding current_of
-    current_within q a b x y = omega (arith, x, y)
 
 pub true_read_back : (needs : List Matrix) (bytes : List ℕ) (budget : ℕ) (p : Checkpoint) → budget ≤ 2 ^ 40 → AreCodesOfRows needs → ((i : ℕ) (C : Matrix) → slice_get needs i ≡ Some C → 0 < length C.rows) → length needs < 70000 → IsTrueFor needs (sha256 bytes) budget p → checkpoint_in (checkpoint_text p) ≡ point p
 true_read_back needs bytes budget p small shaped rows few holds =

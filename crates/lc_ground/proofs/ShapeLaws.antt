@@ -4,15 +4,15 @@
 --   from_option, from_known  by cases on an option
 --   gives_shaped             a bound call that isn't refused gives such a value
 --   bind_shaped, bind_query_shaped       arguments that are such values bind a call of such codes
-use Rattle.std.proofs.Common.{◌≡◌, ◌≤◌, ◌+◌, ◌-◌, ◌*◌, ◌<◌, ◌^◌, ℕ, Bool, true, false, List, [], ◌∷◌, length, Option, Some, None, refl, sym, ap, subst, ◌∙◌, ⊎_elim, arith}
-use Rattle.std.specs.Prelude.{MatchOption, IsTrue, ◌==◌, ◌&&◌, nat_lt, nat_le, not}
+use Rattle.std.proofs.Common.{◌≡◌, ◌≤◌, ◌+◌, ◌*◌, ◌^◌, ℕ, Bool, true, false, List, [], ◌∷◌, length, Option, Some, None, refl, sym, subst, arith}
+use Rattle.std.specs.Prelude.{MatchOption, IsTrue, ◌&&◌, nat_le, not}
 use Rattle.std.specs.List.{AllByRecursion}
-use Rattle.std.proofs.lemmas.Bool.{cases_Bool, leb-true}
+use Rattle.std.proofs.lemmas.Bool.{leb-true}
 use Rattle.lc_algebra.specs.declared.FieldName.{FieldName}
 use Rattle.lc_algebra.specs.Field.{size, is_symbol}
 use Rattle.lc_algebra.specs.Matrix.{Matrix, AreRows, IsReduced}
 use Rattle.lc_constructions.specs.declared.refusal.CodeRefusal.{CodeRefusal}
-use Rattle.lc_constructions.specs.Code.{IsCode, is_length, longest}
+use Rattle.lc_constructions.specs.Code.{IsCode, is_length}
 use Rattle.lc_constructions.specs.Basic.{hamming_length}
 use Rattle.lc_constructions.specs.Alternant.{AlternantForm}
 use Rattle.lc_constructions.specs.Refusal.{refuse_if}
@@ -24,7 +24,7 @@ use Rattle.lc_language.specs.declared.QueryCall.TheVariants.{AlgebraicDecode, Le
 use Rattle.lc_language.specs.Value.{Value, number, field, numbers, lists, code, truth, nothing, CodeValue, number_in, field_in, numbers_in, lists_in, code_in}
 use Rattle.lc_language.specs.Bound.{BoundCall, gf, generator_mat_code, check_mat_code, repetition_code, whole_space_code, null_code, hamming_code, reed_muller_code, generator_pol_code, check_pol_code, binary_golay_code, ternary_golay_code, extended_binary_golay_code, extended_ternary_golay_code, bch_code, reed_solomon_code, goppa_code, alternant_code, dual_code, extended_code, punctured_code, shortened_code, even_weight_subcode, direct_sum_code, uuv_code, direct_product_code, intersection_code, concatenated_code, dimension, word_length, generator_mat, check_mat, weight_of, is_codeword, decode, BoundQuery, algebraic_decode, least_word, minimum_distance, certificate, scan_certificate, weight_distribution, alternant_certificate, nearest_word, given, with_none, with_one, with_two, with_three, with_four, with_five, or_else, bind, bind_query}
 use Rattle.lc_language.specs.Refusal.{first_of, from_codes, refusals_of, refusal_of}
-use Rattle.lc_language.specs.Meaning.{IsCodeValue, Gives, decoded}
+use Rattle.lc_language.specs.Meaning.{IsCodeValue, Gives}
 use Rattle.lc_ground.specs.Shapes.{IsCodeOfRows}
 
 abbrev pub IsShaped : Value → Type 0
@@ -181,7 +181,7 @@ gives_shaped ternary_golay_code v h e g = made_shaped _ _ _ _ v (omega arith) g
 gives_shaped extended_binary_golay_code v h e g = made_shaped _ _ _ _ v (omega arith) g.2
 gives_shaped extended_ternary_golay_code v h e g = made_shaped _ _ _ _ v (omega arith) g.2
 gives_shaped (bch_code n b d f) v h e g = made_shaped _ _ _ _ v (bch_short f n d e) g.2
-gives_shaped (reed_solomon_code n d) v h e g = made_shaped _ _ _ _ v (let few = symbols_few g.0 g.2.0 in omega (arith, few, g.1)) g.2.1
+gives_shaped (reed_solomon_code n d) v h e g = made_shaped _ _ _ _ v (let few = symbols_few g.0 g.2 in omega (arith, few, g.1)) g.3
 gives_shaped (goppa_code g points K f) v h e k = made_shaped _ _ _ _ v (goppa_short f K g points e) k
 gives_shaped (alternant_code r points multipliers K f) v h e g = made_shaped _ _ _ _ v (alternant_short f K r points multipliers e) g
 gives_shaped (dual_code C) v h e g = made_shaped _ _ _ _ v h.long g
@@ -286,49 +286,49 @@ either_of P (Some s) p r f g e = f r e
 
 pub bind_shaped : (c : ValueCall) (vs : List Value) (b : BoundCall) → AreShaped vs → bind c vs ≡ Some b → HaveShapes b
 unfolding bind
-bind_shaped Gf vs b h e = one_of HaveShapes _ _ vs b (λ v a s i. tt) h e
-bind_shaped GeneratorMatCode vs b h e = two_of HaveShapes _ _ _ vs b (λ v x y s i. tt) h e
-bind_shaped CheckMatCode vs b h e = two_of HaveShapes _ _ _ vs b (λ v x y s i. tt) h e
-bind_shaped RepetitionCode vs b h e = two_of HaveShapes _ _ _ vs b (λ v x y s i. tt) h e
-bind_shaped WholeSpaceCode vs b h e = two_of HaveShapes _ _ _ vs b (λ v x y s i. tt) h e
-bind_shaped NullCode vs b h e = two_of HaveShapes _ _ _ vs b (λ v x y s i. tt) h e
-bind_shaped HammingCode vs b h e = two_of HaveShapes _ _ _ vs b (λ v x y s i. tt) h e
-bind_shaped ReedMullerCode vs b h e = two_of HaveShapes _ _ _ vs b (λ v x y s i. tt) h e
-bind_shaped GeneratorPolCode vs b h e = three_of HaveShapes _ _ _ _ vs b (λ x y z. tt) e
-bind_shaped CheckPolCode vs b h e = three_of HaveShapes _ _ _ _ vs b (λ x y z. tt) e
-bind_shaped BinaryGolayCode vs b h e = none_of HaveShapes _ vs b tt e
-bind_shaped TernaryGolayCode vs b h e = none_of HaveShapes _ vs b tt e
-bind_shaped ExtendedBinaryGolayCode vs b h e = none_of HaveShapes _ vs b tt e
-bind_shaped ExtendedTernaryGolayCode vs b h e = none_of HaveShapes _ vs b tt e
-bind_shaped BchCode vs b h e = either_of HaveShapes _ _ b (λ s k. three_of HaveShapes _ _ _ _ vs s (λ x y z. tt) k) (λ s k. four_of HaveShapes _ _ _ _ _ vs s (λ w x y z. tt) k) e
-bind_shaped ReedSolomonCode vs b h e = two_of HaveShapes _ _ _ vs b (λ v x y s i. tt) h e
-bind_shaped GoppaCode vs b h e = four_of HaveShapes _ _ _ _ _ vs b (λ w x y z. tt) e
-bind_shaped AlternantCode vs b h e = five_of HaveShapes _ _ _ _ _ _ vs b (λ v w x y z. tt) e
-bind_shaped DualCode vs b h e = one_of HaveShapes _ _ vs b (λ v C s i. in_code v C i s) h e
-bind_shaped ExtendedCode vs b h e = one_of HaveShapes _ _ vs b (λ v C s i. in_code v C i s) h e
-bind_shaped PuncturedCode vs b h e = two_of HaveShapes _ _ _ vs b (λ v C y s i. in_code v C i s) h e
-bind_shaped ShortenedCode vs b h e = two_of HaveShapes _ _ _ vs b (λ v C y s i. in_code v C i s) h e
-bind_shaped EvenWeightSubcode vs b h e = one_of HaveShapes _ _ vs b (λ v C s i. in_code v C i s) h e
-bind_shaped DirectSumCode vs b h e = two_of HaveShapes _ _ _ vs b (λ v x y s i. tt) h e
-bind_shaped UuvCode vs b h e = two_of HaveShapes _ _ _ vs b (λ v x y s i. tt) h e
-bind_shaped DirectProductCode vs b h e = two_of HaveShapes _ _ _ vs b (λ v x y s i. tt) h e
-bind_shaped IntersectionCode vs b h e = two_of HaveShapes _ _ _ vs b (λ v C y s i. in_code v C i s) h e
-bind_shaped ConcatenatedCode vs b h e = two_of HaveShapes _ _ _ vs b (λ v x y s i. tt) h e
-bind_shaped Dimension vs b h e = one_of HaveShapes _ _ vs b (λ v x s i. tt) h e
-bind_shaped WordLength vs b h e = one_of HaveShapes _ _ vs b (λ v x s i. tt) h e
-bind_shaped GeneratorMat vs b h e = one_of HaveShapes _ _ vs b (λ v x s i. tt) h e
-bind_shaped CheckMat vs b h e = one_of HaveShapes _ _ vs b (λ v x s i. tt) h e
-bind_shaped Weight vs b h e = one_of HaveShapes _ _ vs b (λ v x s i. tt) h e
-bind_shaped IsCodeword vs b h e = two_of HaveShapes _ _ _ vs b (λ v x y s i. tt) h e
-bind_shaped Decode vs b h e = two_of HaveShapes _ _ _ vs b (λ v x y s i. tt) h e
+bind_shaped Gf vs b h e = one_of HaveShapes gf number_in vs b (λ v a s i. tt) h e
+bind_shaped GeneratorMatCode vs b h e = two_of HaveShapes generator_mat_code lists_in field_in vs b (λ v x y s i. tt) h e
+bind_shaped CheckMatCode vs b h e = two_of HaveShapes check_mat_code lists_in field_in vs b (λ v x y s i. tt) h e
+bind_shaped RepetitionCode vs b h e = two_of HaveShapes repetition_code number_in field_in vs b (λ v x y s i. tt) h e
+bind_shaped WholeSpaceCode vs b h e = two_of HaveShapes whole_space_code number_in field_in vs b (λ v x y s i. tt) h e
+bind_shaped NullCode vs b h e = two_of HaveShapes null_code number_in field_in vs b (λ v x y s i. tt) h e
+bind_shaped HammingCode vs b h e = two_of HaveShapes hamming_code number_in field_in vs b (λ v x y s i. tt) h e
+bind_shaped ReedMullerCode vs b h e = two_of HaveShapes reed_muller_code number_in number_in vs b (λ v x y s i. tt) h e
+bind_shaped GeneratorPolCode vs b h e = three_of HaveShapes generator_pol_code numbers_in number_in field_in vs b (λ x y z. tt) e
+bind_shaped CheckPolCode vs b h e = three_of HaveShapes check_pol_code numbers_in number_in field_in vs b (λ x y z. tt) e
+bind_shaped BinaryGolayCode vs b h e = none_of HaveShapes binary_golay_code vs b tt e
+bind_shaped TernaryGolayCode vs b h e = none_of HaveShapes ternary_golay_code vs b tt e
+bind_shaped ExtendedBinaryGolayCode vs b h e = none_of HaveShapes extended_binary_golay_code vs b tt e
+bind_shaped ExtendedTernaryGolayCode vs b h e = none_of HaveShapes extended_ternary_golay_code vs b tt e
+bind_shaped BchCode vs b h e = either_of HaveShapes (with_three (λ n d f. bch_code n 1 d f) number_in number_in field_in vs) (with_four bch_code number_in number_in number_in field_in vs) b (λ s k. three_of HaveShapes (λ n d f. bch_code n 1 d f) number_in number_in field_in vs s (λ x y z. tt) k) (λ s k. four_of HaveShapes bch_code number_in number_in number_in field_in vs s (λ w x y z. tt) k) e
+bind_shaped ReedSolomonCode vs b h e = two_of HaveShapes reed_solomon_code number_in number_in vs b (λ v x y s i. tt) h e
+bind_shaped GoppaCode vs b h e = four_of HaveShapes goppa_code numbers_in numbers_in field_in field_in vs b (λ w x y z. tt) e
+bind_shaped AlternantCode vs b h e = five_of HaveShapes alternant_code number_in numbers_in numbers_in field_in field_in vs b (λ v w x y z. tt) e
+bind_shaped DualCode vs b h e = one_of HaveShapes (λ C. dual_code C.code) code_in vs b (λ v C s i. in_code v C i s) h e
+bind_shaped ExtendedCode vs b h e = one_of HaveShapes (λ C. extended_code C.code) code_in vs b (λ v C s i. in_code v C i s) h e
+bind_shaped PuncturedCode vs b h e = two_of HaveShapes (λ C places. punctured_code C.code places) code_in numbers_in vs b (λ v C y s i. in_code v C i s) h e
+bind_shaped ShortenedCode vs b h e = two_of HaveShapes (λ C places. shortened_code C.code places) code_in numbers_in vs b (λ v C y s i. in_code v C i s) h e
+bind_shaped EvenWeightSubcode vs b h e = one_of HaveShapes (λ C. even_weight_subcode C.code) code_in vs b (λ v C s i. in_code v C i s) h e
+bind_shaped DirectSumCode vs b h e = two_of HaveShapes (λ C D. direct_sum_code C.code D.code) code_in code_in vs b (λ v x y s i. tt) h e
+bind_shaped UuvCode vs b h e = two_of HaveShapes (λ C D. uuv_code C.code D.code) code_in code_in vs b (λ v x y s i. tt) h e
+bind_shaped DirectProductCode vs b h e = two_of HaveShapes (λ C D. direct_product_code C.code D.code) code_in code_in vs b (λ v x y s i. tt) h e
+bind_shaped IntersectionCode vs b h e = two_of HaveShapes (λ C D. intersection_code C.code D.code) code_in code_in vs b (λ v C y s i. in_code v C i s) h e
+bind_shaped ConcatenatedCode vs b h e = two_of HaveShapes (λ C D. concatenated_code C.code D.code) code_in code_in vs b (λ v x y s i. tt) h e
+bind_shaped Dimension vs b h e = one_of HaveShapes (λ C. dimension C.code) code_in vs b (λ v x s i. tt) h e
+bind_shaped WordLength vs b h e = one_of HaveShapes (λ C. word_length C.code) code_in vs b (λ v x s i. tt) h e
+bind_shaped GeneratorMat vs b h e = one_of HaveShapes (λ C. generator_mat C.code) code_in vs b (λ v x s i. tt) h e
+bind_shaped CheckMat vs b h e = one_of HaveShapes (λ C. check_mat C.code) code_in vs b (λ v x s i. tt) h e
+bind_shaped Weight vs b h e = one_of HaveShapes weight_of numbers_in vs b (λ v x s i. tt) h e
+bind_shaped IsCodeword vs b h e = two_of HaveShapes (λ C x. is_codeword C.code x) code_in numbers_in vs b (λ v x y s i. tt) h e
+bind_shaped Decode vs b h e = two_of HaveShapes (λ C x. decode C.code x) code_in numbers_in vs b (λ v x y s i. tt) h e
 
 pub bind_query_shaped : (c : QueryCall) (vs : List Value) (b : BoundQuery) → AreShaped vs → bind_query c vs ≡ Some b → HaveQueryShapes b
 unfolding bind_query
-bind_query_shaped AlgebraicDecode vs b h e = two_of HaveQueryShapes _ _ _ vs b (λ v x y s i. tt) h e
-bind_query_shaped LeastWord vs b h e = two_of HaveQueryShapes _ _ _ vs b (λ v x y s i. tt) h e
-bind_query_shaped MinimumDistance vs b h e = one_of HaveQueryShapes _ _ vs b (λ v C s i. in_code v C i s) h e
-bind_query_shaped Certificate vs b h e = one_of HaveQueryShapes _ _ vs b (λ v C s i. in_code v C i s) h e
-bind_query_shaped ScanCertificate vs b h e = one_of HaveQueryShapes _ _ vs b (λ v C s i. in_code v C i s) h e
-bind_query_shaped WeightDistribution vs b h e = one_of HaveQueryShapes _ _ vs b (λ v x s i. tt) h e
-bind_query_shaped AlternantCertificate vs b h e = two_of HaveQueryShapes _ _ _ vs b (λ v x y s i. tt) h e
-bind_query_shaped NearestWord vs b h e = two_of HaveQueryShapes _ _ _ vs b (λ v x y s i. tt) h e
+bind_query_shaped AlgebraicDecode vs b h e = two_of HaveQueryShapes (λ C x. algebraic_decode C.code C.form x) code_in numbers_in vs b (λ v x y s i. tt) h e
+bind_query_shaped LeastWord vs b h e = two_of HaveQueryShapes least_word lists_in field_in vs b (λ v x y s i. tt) h e
+bind_query_shaped MinimumDistance vs b h e = one_of HaveQueryShapes (λ C. minimum_distance C.code) code_in vs b (λ v C s i. in_code v C i s) h e
+bind_query_shaped Certificate vs b h e = one_of HaveQueryShapes (λ C. certificate C.code) code_in vs b (λ v C s i. in_code v C i s) h e
+bind_query_shaped ScanCertificate vs b h e = one_of HaveQueryShapes (λ C. scan_certificate C.code) code_in vs b (λ v C s i. in_code v C i s) h e
+bind_query_shaped WeightDistribution vs b h e = one_of HaveQueryShapes (λ C. weight_distribution C.code) code_in vs b (λ v x s i. tt) h e
+bind_query_shaped AlternantCertificate vs b h e = two_of HaveQueryShapes (λ C x. alternant_certificate C.code C.form x) code_in numbers_in vs b (λ v x y s i. tt) h e
+bind_query_shaped NearestWord vs b h e = two_of HaveQueryShapes (λ C x. nearest_word C.code x) code_in numbers_in vs b (λ v x y s i. tt) h e

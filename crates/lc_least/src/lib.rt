@@ -3,5 +3,5 @@
 
 mod least;
 
-pub use least::least_word;
 pub use lc_field::NoMemory;
+pub use least::least_word;
