@@ -350,7 +350,7 @@ fn bounds_are_rounded_up(rt: HostRuntime) -> Result<(), Fail> {
 }
 
 // The size of the field, the length, some rows, and the number that divides the weights of their words.
-const ROWS: [(u64, usize, Rows, u64); 9] = [
+static ROWS: [(u64, usize, Rows, u64); 9] = [
     (
         2,
         8,
