@@ -5,7 +5,7 @@ use std::test::Fail;
 
 // Of each field the size, and a number that every entry of its tables of sums, of products and of inverses moves, as
 // tools/field_tables.py prints them.
-const TABLES: [(u64, u32, u32, u32); 18] = [
+static TABLES: [(u64, u32, u32, u32); 18] = [
     (2, 5, 4, 2),
     (3, 45, 42, 8),
     (4, 204, 198, 19),
@@ -87,7 +87,7 @@ fn every_entry_of_every_table(rt: HostRuntime) -> Result<(), Fail> {
 }
 
 // Sizes of fields, two elements of each, and their product, by hand.
-const PRODUCTS: [(u64, u8, u8, u8); 13] = [
+static PRODUCTS: [(u64, u8, u8, u8); 13] = [
     (4, 2, 2, 3),
     (8, 4, 2, 3),
     (8, 2, 5, 1),

@@ -43,7 +43,7 @@ fn has_rows(matrix: &Matrix, rows: Rows) -> bool {
 }
 
 // A matrix, and the rows of its reduced form and of its kernel.
-const FORMS: [(Given, Rows, Rows); 10] = [
+static FORMS: [(Given, Rows, Rows); 10] = [
     (
         (
             2,
@@ -139,7 +139,7 @@ fn forms_over_fields(rt: HostRuntime) -> Result<(), Fail> {
 }
 
 // A matrix, a set of columns, and the rows of the matrix that is the identity there; none, if there is no such matrix.
-const SETS: [(Given, &[usize], Rows); 7] = [
+static SETS: [(Given, &[usize], Rows); 7] = [
     (
         (3, 3, &[&[1, 2, 0], &[2, 1, 1]]),
         &[1, 2],
@@ -204,7 +204,7 @@ fn systematic_matrices(rt: HostRuntime) -> Result<(), Fail> {
 }
 
 // A matrix, a right side and whether there is a solution.
-const SYSTEMS: [(Given, &[u8], bool); 8] = [
+static SYSTEMS: [(Given, &[u8], bool); 8] = [
     ((3, 3, &[&[1, 2, 0], &[2, 1, 0]]), &[1, 1], false),
     ((3, 3, &[&[1, 2, 0], &[2, 1, 0]]), &[0, 0], true),
     (
@@ -296,7 +296,7 @@ fn the_one_symbol_of_all_solutions(rt: HostRuntime) -> Result<(), Fail> {
 }
 
 // A matrix, a word and whether it is a sum of multiples of the rows.
-const SPANS: [(Given, &[u8], bool); 7] = [
+static SPANS: [(Given, &[u8], bool); 7] = [
     ((3, 3, &[&[1, 2, 0], &[2, 1, 1]]), &[2, 1, 2], true),
     ((3, 3, &[&[1, 2, 0], &[2, 1, 1]]), &[2, 2, 0], false),
     ((9, 4, &[&[3, 4, 5, 0], &[6, 8, 7, 1]]), &[3, 4, 5, 8], true),

@@ -12,7 +12,7 @@ use std::test::Fail;
 type Row = (u8, &'static [u8]);
 
 // The field of 16 elements over that of 2.
-const OVER_2: [Row; 16] = [
+static OVER_2: [Row; 16] = [
     (0, &[0, 1]),
     (1, &[1, 1]),
     (2, &[1, 1, 0, 0, 1]),
@@ -32,7 +32,7 @@ const OVER_2: [Row; 16] = [
 ];
 
 // The field of 16 elements over that of 4.
-const OVER_4: [Row; 16] = [
+static OVER_4: [Row; 16] = [
     (0, &[0, 1]),
     (1, &[1, 1]),
     (2, &[2, 1, 1]),
@@ -52,7 +52,7 @@ const OVER_4: [Row; 16] = [
 ];
 
 // The field of 27 elements over that of 3.
-const OVER_3: [Row; 27] = [
+static OVER_3: [Row; 27] = [
     (0, &[0, 1]),
     (1, &[2, 1]),
     (2, &[1, 1]),
@@ -122,7 +122,7 @@ fn minimal_polynomials_over_3(rt: HostRuntime) -> Result<(), Fail> {
 }
 
 // n, q, i, and the cyclotomic set of i modulo n for q.
-const SETS: [(u64, u64, u64, &[u64]); 6] = [
+static SETS: [(u64, u64, u64, &[u64]); 6] = [
     (15, 2, 1, &[1, 2, 4, 8]),
     (15, 2, 5, &[5, 10]),
     (23, 2, 1, &[1, 2, 3, 4, 6, 8, 9, 12, 13, 16, 18]),
@@ -164,7 +164,7 @@ fn poly(alloc: Global, field: &Field, list: &[u8]) -> Result<Poly, NoMemory>
 }
 
 // The size of the field, n, a polynomial, and whether it divides x^n - 1.
-const GENERATORS: [(u64, usize, &[u8], bool); 3] = [
+static GENERATORS: [(u64, usize, &[u8], bool); 3] = [
     (2, 23, &[1, 1, 0, 0, 0, 1, 1, 1, 0, 1, 0, 1], true),
     (3, 11, &[2, 0, 1, 2, 1, 1], true),
     (2, 4, &[1, 1, 1], false),

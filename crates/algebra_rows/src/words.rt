@@ -9,7 +9,7 @@ type Row = (u64, u8, [u8; 4], u8);
 
 // Over fields of 3, 4, 9 and 16 elements: c, the sum of [0, 1, 2, q - 1] and c times [1, 2, q - 1, q - 1], and the dot of
 // both words, as tools/linear_algebra.py prints them.
-const WORDS: [Row; 4] = [
+static WORDS: [Row; 4] = [
     (3, 2, [2, 2, 0, 0], 1),
     (4, 3, [3, 0, 0, 1], 1),
     (9, 8, [8, 5, 1, 7], 5),

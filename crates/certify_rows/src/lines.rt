@@ -51,81 +51,44 @@ fn are_words(field: &Field, n: usize, words: &[Word]) -> bool
     true
 }
 
-// The words of the rows.
-fn words(alloc: Global) -> Result<Vec<Word>, NoMemory> {
-    let mut words = Vec::new(alloc);
-    for row in &ROWS {
-        words.push(Word::from_slice(alloc, row)?)?;
-    }
-    Ok(words)
-}
-
-// The code of words that are seen to be of 7 symbols of the field, of dimension at least 1.
-fn code_of(rt: &impl Abort, alloc: Global, field: &Field, words: &[Word]) -> Result<Code, Fail>
-    ensures some { IfOk result (λ c. 0 < length c.rows) }
-{
-    assert!(rt; field.is_symbol() && are_words(field, 7, words));
-    let code = Code::from_rows(alloc, field, 7, words)?;
-    assert!(rt; 1 <= code.dimension());
-    Ok(code)
-}
-
-// The code of the rows over a field, of dimension at least 1.
-fn code_over(rt: &impl Abort, alloc: Global, field: &Field) -> Result<Code, Fail>
-    ensures some { IfOk result (λ c. 0 < length c.rows) }
-{
-    let words = words(alloc)?;
-    code_of(rt, alloc, field, &words)
-}
-
 // The Hamming code, of dimension at least 1.
 fn hamming(rt: &impl Abort, alloc: Global) -> Result<Code, Fail>
     ensures some { IfOk result (λ c. 0 < length c.rows) }
 {
     let field = Field::of(alloc, 2)?;
-    code_over(rt, alloc, &field)
-}
-
-// Whether this is the line of the certificate of this word.
-fn has_line(
-    alloc: Global,
-    way: Way,
-    search: &Search,
-    word: Word,
-    text: &[u8],
-) -> Result<bool, NoMemory>
-    requires word { IsWord search.now.code.field search.now.code.columns word }
-{
-    let certificate = certificate_of(alloc, way, search, word, 3)?;
-    let line = certificate_line(alloc, &certificate)?;
-    Ok(line.as_slice() == text)
-}
-
-// Whether this is the line of the certificate of the search, by the first row.
-fn is_first(alloc: Global, way: Way, search: &Search, text: &[u8]) -> Result<bool, NoMemory> {
-    let word = Word::from_slice(alloc, &ROWS[0])?;
-    let sets = search.sets();
-    if !is_word(sets.field(), sets.length(), &word) {
-        return Ok(false);
+    let mut words = Vec::new(alloc);
+    for row in &ROWS {
+        words.push(Word::from_slice(alloc, row)?)?;
     }
-    has_line(alloc, way, search, word, text)
+    assert!(rt; field.is_symbol() && are_words(&field, 7, &words));
+    let code = Code::from_rows(alloc, &field, 7, &words)?;
+    assert!(rt; 1 <= code.dimension());
+    Ok(code)
 }
 
-// Whether this is the line of the certificate after two blocks, by the first row.
+// Whether this is the line of the certificate after two blocks, by its first row.
 fn is_printed(alloc: Global, code: &Code, way: Way, text: &[u8]) -> Result<bool, NoMemory>
     requires dimension { 0 < length code.now.rows }
 {
     let Ok(search) = Search::resume_at(alloc, code, 2, 2, 3, 0) else {
         return Ok(false);
     };
-    is_first(alloc, way, &search, text)
+    let word = Word::from_slice(alloc, &ROWS[0])?;
+    let sets = search.sets();
+    if !is_word(sets.field(), sets.length(), &word) {
+        return Ok(false);
+    }
+    let certificate = certificate_of(alloc, way, &search, word, 3)?;
+    let line = certificate_line(alloc, &certificate)?;
+    Ok(line.as_slice() == text)
 }
 
 #[test]
 fn certificates_of_the_hamming_code(rt: HostRuntime) -> Result<(), Fail> {
-    let code = hamming(&rt, rt.alloc())?;
-    for row in &LINES {
-        assert!(rt; is_printed(rt.alloc(), &code, row.0, row.1)?);
+    let alloc = rt.alloc();
+    let code = hamming(&rt, alloc)?;
+    for (way, text) in &LINES {
+        assert!(rt; is_printed(alloc, &code, *way, text)?);
     }
     Ok(())
 }

@@ -8,7 +8,7 @@ use std::process::Abort;
 use std::test::Fail;
 
 // Refusals, their numbers, and how many values each carries.
-const REFUSALS: [(CodeRefusal, u8, usize); 5] = [
+static REFUSALS: [(CodeRefusal, u8, usize); 5] = [
     (CodeRefusal::BadLength, 2, 0),
     (CodeRefusal::RepeatedPoint(1, 2), 8, 2),
     (CodeRefusal::BadPositions, 13, 0),
@@ -80,7 +80,7 @@ fn checked(rt: &impl Abort, alloc: Global, given: &Given) -> Result<Code, Fail> 
 
 // The size of the field, the length, rows, and those of the reduced generator matrix of their words and of the dual code, as
 // tools/linear_algebra.py prints them.
-const CODES: [(Given, Rows, Rows); 7] = [
+static CODES: [(Given, Rows, Rows); 7] = [
     (
         (
             2,
@@ -176,7 +176,7 @@ fn holds(alloc: Global, code: &Code, word: &[u8]) -> Result<bool, NoMemory> {
 }
 
 // The size of the field, the length, rows, a word, and whether it is in their code, as tools/linear_algebra.py prints it.
-const MEMBERS: [(Given, &[u8], bool); 8] = [
+static MEMBERS: [(Given, &[u8], bool); 8] = [
     ((3, 3, &[&[1, 2, 0], &[2, 1, 1]]), &[2, 1, 2], true),
     ((3, 3, &[&[1, 2, 0], &[2, 1, 1]]), &[2, 2, 0], false),
     ((9, 4, &[&[3, 4, 5, 0], &[6, 8, 7, 1]]), &[3, 4, 5, 8], true),

@@ -38,7 +38,7 @@ fn changed(alloc: Global, code: &Code, change: Change) -> Result<Code, CodeRefus
 }
 
 // What is made of the binary Hamming code of length 7.
-const CHANGES: [(Change, Shape); 5] = [
+static CHANGES: [(Change, Shape); 5] = [
     (Change::Extended, Ok((8, 4))),
     (Change::Even, Ok((7, 3))),
     (Change::Punctured(&[0]), Ok((6, 4))),
@@ -156,7 +156,7 @@ fn of_two(alloc: Global, a: Part, b: Part, way: Way) -> Shape {
 }
 
 // Two codes and what is made of them. The third is a Reed-Muller code made from two others (MacWilliams and Sloane, chapter 13).
-const PAIRS: [(Part, Part, Way, Shape); 7] = [
+static PAIRS: [(Part, Part, Way, Shape); 7] = [
     (
         Part::Repetition(2),
         Part::Repetition(3),

@@ -27,7 +27,7 @@ fn is_code(code: Result<Code, CodeRefusal>, rows: Rows) -> bool {
 }
 
 // The size of the field, the number of checks, and the length and the dimension of the Hamming code.
-const HAMMING: [(u64, u64, Shape); 11] = [
+static HAMMING: [(u64, u64, Shape); 11] = [
     (2, 2, Ok((3, 1))),
     (2, 3, Ok((7, 4))),
     (2, 8, Ok((255, 247))),
@@ -59,7 +59,7 @@ fn shapes_of_hamming_codes(rt: HostRuntime) -> Result<(), Fail> {
 }
 
 // The size of the field, the number of checks, and the rows of the Hamming code, as tools/linear_algebra.py prints them.
-const HAMMING_ROWS: [(u64, u64, Rows); 2] = [
+static HAMMING_ROWS: [(u64, u64, Rows); 2] = [
     (
         2,
         3,
@@ -83,7 +83,7 @@ fn rows_of_hamming_codes(rt: HostRuntime) -> Result<(), Fail> {
 }
 
 // The order, the number of variables, and the length and the dimension of the Reed-Muller code.
-const REED_MULLER: [(u64, u64, Shape); 8] = [
+static REED_MULLER: [(u64, u64, Shape); 8] = [
     (1, 3, Ok((8, 4))),
     (2, 5, Ok((32, 16))),
     (7, 7, Ok((128, 128))),
@@ -118,7 +118,7 @@ fn rows_of_reed_muller_codes(rt: HostRuntime) -> Result<(), Fail> {
 }
 
 // The size of the field, a length, and whether the codes of that length are refused.
-const LENGTHS: [(u64, u64, Option<CodeRefusal>); 6] = [
+static LENGTHS: [(u64, u64, Option<CodeRefusal>); 6] = [
     (5, 4, None),
     (16, 1, None),
     (2, 255, None),
@@ -187,7 +187,7 @@ fn the_dual_of_a_repetition_code(rt: HostRuntime) -> Result<(), Fail> {
 }
 
 // The size of the field, rows, and the length and the dimension of the code that they generate, or why there is none.
-const MATRICES: [(u64, Rows, Shape); 8] = [
+static MATRICES: [(u64, Rows, Shape); 8] = [
     (3, &[&[1, 1, 1]], Ok((3, 1))),
     (
         2,
@@ -249,7 +249,7 @@ fn codes_by_a_matrix(rt: HostRuntime) -> Result<(), Fail> {
 }
 
 // The size of the field, rows, and those of the reduced generator matrix of their words, as tools/linear_algebra.py prints them.
-const REDUCED: [(u64, Rows, Rows); 5] = [
+static REDUCED: [(u64, Rows, Rows); 5] = [
     (
         2,
         &[&[1, 1, 0, 1, 0], &[0, 1, 1, 0, 1], &[1, 0, 1, 1, 1]],

@@ -27,7 +27,7 @@ fn bch_dimension(alloc: Global, q: u64, n: u64, b: u64, d: u64) -> Result<usize,
 }
 
 // The length, the design distance and the dimension of binary primitive BCH codes (MacWilliams and Sloane, chapter 9).
-const PRIMITIVE: [(u64, u64, usize); 24] = [
+static PRIMITIVE: [(u64, u64, usize); 24] = [
     (7, 3, 4),
     (7, 5, 1),
     (7, 7, 1),
@@ -65,7 +65,7 @@ fn dimensions_of_primitive_codes(rt: HostRuntime) -> Result<(), Fail> {
 
 // The size of the field, the length, the first exponent, the design distance, and the dimension of the BCH code or why there is
 // none. The dimensions are those of the cyclotomic sets.
-const BCH: [(u64, u64, u64, u64, Result<usize, CodeRefusal>); 12] = [
+static BCH: [(u64, u64, u64, u64, Result<usize, CodeRefusal>); 12] = [
     (2, 15, 0, 4, Ok(10)),
     (2, 15, 16, 5, Ok(7)),
     (2, 17, 1, 3, Ok(9)),
@@ -90,7 +90,7 @@ fn dimensions_of_bch_codes(rt: HostRuntime) -> Result<(), Fail> {
 }
 
 // The length, the design distance, and the dimension of the Reed-Solomon code or why there is none.
-const REED_SOLOMON: [(u64, u64, Result<usize, CodeRefusal>); 13] = [
+static REED_SOLOMON: [(u64, u64, Result<usize, CodeRefusal>); 13] = [
     (1, 1, Ok(1)),
     (2, 2, Ok(1)),
     (3, 2, Ok(2)),
@@ -117,7 +117,7 @@ fn dimensions_of_reed_solomon_codes(rt: HostRuntime) -> Result<(), Fail> {
 
 // The size of the field, the length, the coefficients of a polynomial, and the dimension of the code that it generates or why there is
 // none.
-const CYCLIC: [(u64, u64, &[u8], Result<usize, CodeRefusal>); 13] = [
+static CYCLIC: [(u64, u64, &[u8], Result<usize, CodeRefusal>); 13] = [
     (2, 4, &[1, 1], Ok(3)),
     (2, 4, &[1, 1, 0, 0, 0, 0], Ok(3)),
     (2, 7, &[1, 1, 0, 1], Ok(4)),
@@ -191,7 +191,7 @@ fn dimensions_of_golay_codes(rt: HostRuntime) -> Result<(), Fail> {
 
 // A Goppa polynomial, points in the field of 8 elements, and the dimension of the binary Goppa code or why there is none. The first is
 // the code of length 8 of MacWilliams and Sloane, chapter 12.
-const GOPPA: [(&[u8], &[u8], Result<usize, CodeRefusal>); 5] = [
+static GOPPA: [(&[u8], &[u8], Result<usize, CodeRefusal>); 5] = [
     (&[1, 1, 1], &[0, 1, 2, 3, 4, 5, 6, 7], Ok(2)),
     (
         &[1, 1, 1],

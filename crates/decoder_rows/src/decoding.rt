@@ -36,7 +36,7 @@ fn reed_solomon_row(alloc: Global, n: u64, d: u64, row: Row) -> Result<bool, Cod
 
 // Reed-Solomon codes by length and design distance: over 5 elements; over 8, where the word is the generator polynomial with 0, 1, 2
 // and 3 errors; and over 9, likewise.
-const REED_SOLOMON: [(u64, u64, Row); 17] = [
+static REED_SOLOMON: [(u64, u64, Row); 17] = [
     (4, 3, (&[1, 1, 3, 4], &[1, 0, 3, 4])),
     (4, 3, (&[0, 0, 1, 1], &[])),
     (4, 3, (&[1, 0, 3, 2], &[1, 0, 3, 4])),
@@ -80,7 +80,7 @@ fn bch_row(alloc: Global, d: u64, row: Row) -> Result<bool, CodeRefusal> {
 const GENERATOR: &[u8] = &[1, 1, 1, 0, 1, 1, 0, 0, 1, 0, 1, 0, 0, 0, 0];
 
 // Received words with 0 to 3 errors, and with 4.
-const BCH: [Row; 7] = [
+static BCH: [Row; 7] = [
     (GENERATOR, GENERATOR),
     (&[1, 1, 1, 0, 1, 1, 0, 0, 1, 0, 1, 0, 0, 0, 1], GENERATOR),
     (&[0, 1, 1, 0, 1, 1, 0, 0, 1, 0, 1, 0, 0, 1, 0], GENERATOR),
@@ -124,7 +124,7 @@ fn goppa_decodes(alloc: Global, row: Row) -> Result<bool, CodeRefusal> {
 }
 
 // One error is corrected, and two aren't, although the code has distance 5.
-const GOPPA: [Row; 3] = [
+static GOPPA: [Row; 3] = [
     (&[1, 1, 0, 1, 0, 1, 0, 1], &[1, 1, 0, 1, 0, 1, 0, 1]),
     (&[1, 1, 1, 1, 0, 1, 0, 1], &[1, 1, 0, 1, 0, 1, 0, 1]),
     (&[1, 1, 1, 1, 1, 1, 0, 1], &[]),
@@ -151,7 +151,7 @@ fn alternant_row(alloc: Global, r: u64, row: Row) -> Result<bool, CodeRefusal> {
 }
 
 // One check: only words of the code, whose symbols have the sum 0. As many as points: only the zero word.
-const ALTERNANT: [(u64, Row); 4] = [
+static ALTERNANT: [(u64, Row); 4] = [
     (1, (&[1, 2, 0, 0, 2], &[1, 2, 0, 0, 2])),
     (1, (&[1, 2, 0, 0, 3], &[])),
     (5, (&[0, 3, 0, 0, 4], &[0, 0, 0, 0, 0])),

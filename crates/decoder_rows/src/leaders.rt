@@ -31,7 +31,7 @@ fn decodes(leaders: &Leaders, word: &[u8], out: &mut [u8], nearest: &[u8]) -> bo
 }
 
 // Words over 2 elements, and their nearest words in a Hamming code, as tools/nearest_words.py prints them.
-const BINARY: [([u8; 7], [u8; 7]); 128] = [
+static BINARY: [([u8; 7], [u8; 7]); 128] = [
     ([0, 0, 0, 0, 0, 0, 0], [0, 0, 0, 0, 0, 0, 0]),
     ([0, 0, 0, 0, 0, 0, 1], [0, 0, 0, 0, 0, 0, 0]),
     ([0, 0, 0, 0, 0, 1, 0], [0, 0, 0, 0, 0, 0, 0]),
@@ -190,7 +190,7 @@ fn nearest_words_of_a_hamming_code(rt: HostRuntime) -> Result<(), Fail> {
 }
 
 // Words over 3 elements, and their nearest words in a code with several words at one distance.
-const TERNARY: [([u8; 4], [u8; 4]); 81] = [
+static TERNARY: [([u8; 4], [u8; 4]); 81] = [
     ([0, 0, 0, 0], [0, 0, 0, 0]),
     ([0, 0, 0, 1], [0, 0, 0, 0]),
     ([0, 0, 0, 2], [0, 0, 0, 0]),

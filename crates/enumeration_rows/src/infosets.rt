@@ -69,7 +69,7 @@ type Bounds = &'static [(&'static [u64], u64)];
 // The size of the field, the length, rows of a code, its information sets, its divisor, and bounds.
 type Row = (u64, usize, Rows, Columns, u64, Bounds);
 
-const CODES: [Row; 14] = [
+static CODES: [Row; 14] = [
     // Hamming
     (
         2,
@@ -297,6 +297,11 @@ const CODES: [Row; 14] = [
     ),
 ];
 
+// The rows of the table.
+fn codes() -> &'static [Row] {
+    &CODES
+}
+
 // Whether the code of the row has these sets, and its sets the divisor.
 fn are_sets(rt: &impl Abort, alloc: Global, row: &Row) -> Result<bool, Fail> {
     let sets = sets_of(rt, alloc, row)?;
@@ -305,7 +310,7 @@ fn are_sets(rt: &impl Abort, alloc: Global, row: &Row) -> Result<bool, Fail> {
 
 #[test]
 fn sets_with_their_fresh_columns(rt: HostRuntime) -> Result<(), Fail> {
-    for row in &CODES {
+    for row in codes() {
         assert!(rt; are_sets(&rt, rt.alloc(), row)?, "{} {}", row.0, row.1);
     }
     Ok(())
@@ -338,14 +343,14 @@ fn are_bounds(rt: &impl Abort, alloc: Global, row: &Row) -> Result<bool, Fail> {
 
 #[test]
 fn bounds_are_rounded_up(rt: HostRuntime) -> Result<(), Fail> {
-    for row in &CODES {
+    for row in codes() {
         assert!(rt; are_bounds(&rt, rt.alloc(), row)?, "{} {}", row.0, row.1);
     }
     Ok(())
 }
 
 // The size of the field, the length, some rows, and the number that divides the weights of their words.
-const ROWS: [(u64, usize, Rows, u64); 9] = [
+static ROWS: [(u64, usize, Rows, u64); 9] = [
     (
         2,
         8,
@@ -408,7 +413,7 @@ fn code_divisor(rt: &impl Abort, alloc: Global, row: &Row) -> Result<u64, Fail> 
 
 #[test]
 fn divisors_of_codes(rt: HostRuntime) -> Result<(), Fail> {
-    for row in &CODES {
+    for row in codes() {
         let divisor = code_divisor(&rt, rt.alloc(), row)?;
         assert!(rt; divisor == row.4, "{} {}", row.0, row.1);
     }

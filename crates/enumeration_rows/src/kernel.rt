@@ -130,7 +130,7 @@ fn code_agrees(rt: &impl Abort, alloc: Global, code: &Code, most: u64) -> Result
 }
 
 // The numbers of checks and the sizes of the fields of some Hamming codes.
-const HAMMING: [(u64, u64); 8] = [
+static HAMMING: [(u64, u64); 8] = [
     (3, 2),
     (4, 2),
     (3, 3),
@@ -168,7 +168,7 @@ fn blocks_of_hamming_codes(rt: HostRuntime) -> Result<(), Fail> {
 
 // The orders and the numbers of variables of some Reed-Muller codes, and how many blocks are looked at. The last two have over 64
 // columns outside a set, and blocks that begin within a head.
-const REED_MULLER: [(u64, u64, u64); 4] = [(2, 5, 40), (3, 6, 12), (1, 7, 12), (2, 7, 12)];
+static REED_MULLER: [(u64, u64, u64); 4] = [(2, 5, 40), (3, 6, 12), (1, 7, 12), (2, 7, 12)];
 
 // Whether this is so for the Reed-Muller code.
 fn reed_muller_agrees(
@@ -192,7 +192,7 @@ fn blocks_of_reed_muller_codes(rt: HostRuntime) -> Result<(), Fail> {
 }
 
 // Rows of codes over 4 and 7 elements, and their lengths.
-const ROWS: [(u64, usize, Rows); 2] = [
+static ROWS: [(u64, usize, Rows); 2] = [
     (
         4,
         9,
@@ -234,7 +234,7 @@ fn blocks_of_other_codes(rt: HostRuntime) -> Result<(), Fail> {
 
 // The places of the code of the Hamming row, with the words there: block 0 has the places 0 to 3, and block 1, of the second
 // set, begins at 4,096.
-const WORDS: [(u64, Option<&[u8]>); 6] = [
+static WORDS: [(u64, Option<&[u8]>); 6] = [
     (0, Some(&[1, 0, 0, 0, 0, 1, 1])),
     (3, Some(&[0, 0, 0, 1, 1, 1, 1])),
     (4, None),

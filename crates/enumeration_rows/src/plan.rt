@@ -94,7 +94,7 @@ fn ternary_steps_change_from_the_coefficients_that_begin_anew(
 
 // Of the plan of dimension 45 over 2 elements a block, the level of its phase, where the phase begins and ends, and how many messages
 // the block has.
-const PHASES: [(u64, usize, u64, u64, u64); 6] = [
+static PHASES: [(u64, usize, u64, u64, u64); 6] = [
     (0, 1, 0, 1, 45),
     (1, 2, 1, 2, 990),
     (4, 3, 2, 6, 4096),

@@ -109,7 +109,6 @@ fn is_same(a: &Code, b: &Code) -> bool
 }
 
 // The leaders of a code, which are built.
-#[tactic(auto, using(crate::proofs::StockLaws::few_cosets))]
 fn built(alloc: Global, code: &Code) -> Result<Leaders, SyndromeRefusal>
     ensures code { IfOk result (λ l. l ≡ code.now) }
     ensures few { IfOk result (λ _. too_many_cosets code.now ≡ None) }
