@@ -1,11 +1,10 @@
-pub mod ArgumentLaws
-pub mod AtMostOne
-pub mod DistanceLaws
-pub mod OneNearest
 pub mod OneText
 pub mod OneValue
-pub mod RunLaws
-pub mod SessionLaws
-pub mod SameNames
-pub mod CheckLaws
-pub mod CertificateLaws
+pub mod AtMostOne
+mod OneNearest
+mod CheckLaws
+mod EarlyEnds
+mod ScriptEnds
+mod ScriptSessions
+mod SummarySessions
+mod CheckSessions
