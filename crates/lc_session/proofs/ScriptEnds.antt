@@ -49,10 +49,10 @@ judges_so : (bytes : List ℕ) (c d : Command) → c ≡ d → Judges d bytes �
 judges_so bytes c d e h = subst (λ (x : Command). Judges x bytes) (sym e) h
 
 module _ (args : List (List ℕ)) (asked : Settings) (old : Outside) (source : Option (List ℕ)) (source_faults : ℕ) (bytes : List ℕ) (held : Option Slots) (ready : IsReady args asked old source source_faults bytes held) (script : OneScript bytes) (one : OneStep built_calls) (sound : NoFault bytes) (small : asked.budget ≤ 2 ^ 40) (c : Course) (now : Around) (sink : Option (List ℕ)) (sink_faults : ℕ) where
-  final : Outside
+  abbrev pub final : Outside
   final = outside_of source source_faults sink sink_faults now
 
-  unwritten : Outside
+  abbrev pub unwritten : Outside
   unwritten = outside_of source source_faults old.sink old.sink_faults now
 
   ends_as : (s : Status) (e : Ending) → ending_of s ≡ e → (sink ≡ old.sink) → (sink_faults ≡ old.sink_faults) → IsSession built_calls args old unwritten e → IsSession built_calls args old final (ending_of s)
@@ -109,10 +109,10 @@ module _ (args : List (List ℕ)) (asked : Settings) (old : Outside) (source : O
   -- ---- resume
 
   module _ (p : Checkpoint) (found : Finds old.vault (takes p)) (same_script : IsTrue (is_for (sha256 bytes) asked.budget p)) (turn : ℕ) (turns : turn ≡ next_turn p.turn) (resumes : asked.command ≡ resume) where
-    over : World
+    abbrev pub over : World
     over = world asked bytes (after p.version p.settled (current_of p)) turn held old
 
-    its_course : (needs : List Matrix) (told left : List SessionStep) (is_paused : Bool) (text : List ℕ) (faulty : Bool) → session.Course
+    abbrev pub its_course : (needs : List Matrix) (told left : List SessionStep) (is_paused : Bool) (text : List ℕ) (faulty : Bool) → session.Course
     its_course needs told left is_paused text faulty = course_of bytes (after p.version p.settled (current_of p)) turn needs told left is_paused text faulty
 
     taken_up : (needs : List Matrix) (told left : List SessionStep) (is_paused : Bool) (text : List ℕ) (faulty : Bool) → IsResumed asked old.vault (its_course needs told left is_paused text faulty)

@@ -19,7 +19,6 @@ use Rattle.lc_sessions.specs.Slots.{next_turn, takes, is_for}
 use Rattle.lc_sessions.specs.Session.{Outside, most_bytes, WasRead, begin_with, Finds, IsSession}
 use Rattle.lc_rounds.specs.Way.{Around, around}
 use Rattle.lc_course.specs.Course.{Beginning, afresh, after}
-use Rattle.lc_needs.proofs.NeedLaws.{met_long}
 use Rattle.lc_answers.specs.declared.course.Course.{Course}
 use Rattle.lc_answers.specs.declared.need.Halt.{Halt}
 use Rattle.lc_script.specs.declared.statements.Text.{Text}
@@ -37,8 +36,8 @@ use Rattle.lc_session.proofs.ScriptEnds.{run_ends, resume_ends}
 one_step_built : OneStep built_calls
 one_step_built env s = steps_one built_calls env built_one s
 
-pub few_needs : (bytes : List ℕ) → length bytes ≤ most_bytes → (needs : List Matrix) → MeetsFirst built_calls bytes needs → length needs < 70000
-few_needs bytes l needs met = (let n = met_long built_calls bytes needs met in omega (arith, l, n))
+pub few_needs : (bytes : List ℕ) → length bytes ≤ most_bytes → ((needs : List Matrix) → MeetsFirst built_calls bytes needs → 15 * length needs ≤ length bytes) → (needs : List Matrix) → MeetsFirst built_calls bytes needs → length needs < 70000
+few_needs bytes l long needs met = (let n = long needs met in omega (arith, l, n))
 
 -- what a call says of the text and of how it ended
 abbrev Found : World → List ℕ → Result Text Halt → Course → Around → Type 0
