@@ -1,12 +1,15 @@
 -- The sessions of `run` and `resume`, from what their calls did.
 --   one_step_built       a statement of the calls that are built does one thing
 --   few_needs            a script asks for fewer than 70,000 needs
+--   named_so             the digest and the budget that a checkpoint names
 --   run_session_of       `run`, from its first statement on
 --   resume_session_of    `resume`, from its first statement on
-use Rattle.std.proofs.Common.{◌≡◌, ◌≤◌, ◌<◌, ◌*◌, ◌^◌, inl, inr, ℕ, Bool, true, false, IsTrue, Result, List, [], length, Option, Some, None, refl, sym, ap, subst, ◌∙◌, arith}
+use Rattle.std.proofs.Common.{◌≡◌, ◌≤◌, ◌<◌, ◌*◌, ◌^◌, ◌==◌, inl, inr, ℕ, Bool, true, false, IsTrue, Result, List, [], length, Option, Some, None, refl, sym, ap, subst, ◌∙◌, arith}
 use Rattle.std.specs.Prelude.{MatchResult}
+use Rattle.std.proofs.lemmas.Bool.{and_parts, eqb-true}
 use Rattle.sha2.specs.Sha256.{sha256}
 use Rattle.lc_algebra.specs.Matrix.{Matrix}
+use Rattle.lc_formats.specs.Text.{same_bytes}
 use Rattle.lc_formats.specs.Checkpoint.{Checkpoint, current_of}
 use Rattle.lc_io.specs.Vaults.{Slots, WhereTold, empty_slots}
 use Rattle.lc_io.proofs.SlotLaws.{WhereTold-refl}
@@ -19,6 +22,7 @@ use Rattle.lc_sessions.specs.Slots.{next_turn, takes, is_for}
 use Rattle.lc_sessions.specs.Session.{Outside, most_bytes, WasRead, begin_with, Finds, IsSession}
 use Rattle.lc_rounds.specs.Way.{Around, around}
 use Rattle.lc_course.specs.Course.{Beginning, afresh, after}
+use Rattle.lc_needs.proofs.NeedLaws.{same_text}
 use Rattle.lc_answers.specs.declared.course.Course.{Course}
 use Rattle.lc_answers.specs.declared.need.Halt.{Halt}
 use Rattle.lc_script.specs.declared.statements.Text.{Text}
@@ -38,6 +42,10 @@ one_step_built env s = steps_one built_calls env built_one s
 
 pub few_needs : (bytes : List ℕ) → length bytes ≤ most_bytes → ((needs : List Matrix) → MeetsFirst built_calls bytes needs → 15 * length needs ≤ length bytes) → (needs : List Matrix) → MeetsFirst built_calls bytes needs → length needs < 70000
 few_needs bytes l long needs met = (let n = long needs met in omega (arith, l, n))
+
+named_so : (digest : List ℕ) (budget : ℕ) (p : Checkpoint) → is_for digest budget p ≡ true → (p.script ≡ digest) × (p.budget ≡ budget)
+unfolding is_for
+named_so digest budget p e = let a = and_parts (same_bytes p.script digest) (p.budget == budget) e in (same_text p.script digest a.0, eqb-true p.budget budget a.1)
 
 -- what a call says of the text and of how it ended
 abbrev Found : World → List ℕ → Result Text Halt → Course → Around → Type 0
@@ -67,15 +75,16 @@ run_session_of args asked old source source_faults bytes held faults first last 
 
 pub resume_session_of : (args : List (List ℕ)) (asked : Settings) (old : Outside) (source : Option (List ℕ)) (source_faults : ℕ) (bytes : List ℕ) (held : Option Slots) (faults : ℕ) (p : Checkpoint) (first last : Course) (r : Result Text Halt) (now : Around) (sink : Option (List ℕ)) (sink_faults : ℕ) (s : Status)
     → options all_options args ≡ settings asked → asked.command ≡ resume → asked.budget ≤ 2 ^ 40 → WasRead old.source source bytes → source_faults ≡ old.source_faults
-    → held ≡ old.vault → faults ≡ old.vault_faults → Finds old.vault (takes p) → IsTrue (is_for (sha256 bytes) asked.budget p) → p.budget ≡ asked.budget → p.script ≡ sha256 bytes
+    → held ≡ old.vault → faults ≡ old.vault_faults → Finds old.vault (takes p) → IsTrue (is_for (sha256 bytes) asked.budget p)
     → Goes (started (after p.version p.settled (current_of p)) p.budget asked.slice asked.keep p.script (next_turn p.turn) (around held faults old.watchers)) [] [] first (around held faults old.watchers)
     → ((w : World) → Goes w [] [] first (around held faults old.watchers) → MatchResult r (λ t. Prints w bytes t last now) (λ x. EndsBefore w bytes last now x))
     → Closes r last old.sink sink old.sink_faults sink_faults s → IsSession built_calls args old (outside_of source source_faults sink sink_faults now) (ending_of s)
-resume_session_of args asked old source source_faults bytes held faults p first last r now sink sink_faults s accepted resumes small read quiet same_slots calm taken named of hashed goes found closed =
+resume_session_of args asked old source source_faults bytes held faults p first last r now sink sink_faults s accepted resumes small read quiet same_slots calm taken named goes found closed =
+    let names = named_so (sha256 bytes) asked.budget p named in
     let b = after p.version p.settled (current_of p) in
     let w = started b p.budget asked.slice asked.keep p.script (next_turn p.turn) (around held faults old.watchers) in
     let same : w ≡ world asked bytes b (next_turn p.turn) old.vault old =
-        ap (λ (n : ℕ). started b n asked.slice asked.keep p.script (next_turn p.turn) (around held faults old.watchers)) of ∙ same_world asked bytes p.script b (next_turn p.turn) held faults old hashed calm
+        ap (λ (n : ℕ). started b n asked.slice asked.keep p.script (next_turn p.turn) (around held faults old.watchers)) names.1 ∙ same_world asked bytes p.script b (next_turn p.turn) held faults old names.0 calm
         ∙ ap (λ (o : Option Slots). world asked bytes b (next_turn p.turn) o old) same_slots in
     let ready : IsReady args asked old source source_faults bytes old.vault = record { accepted = accepted; searches = inr resumes; read = read; quiet = quiet; begun = λ k. begun_resume asked old.vault resumes; unkept = λ k. refl } in
     resume_ends args asked old source source_faults bytes old.vault ready (one_script bytes) one_step_built (no_both bytes) small last now sink sink_faults p taken named (next_turn p.turn) refl resumes r s (subst (λ (x : World). Found x bytes r last now) same (found w goes)) closed
