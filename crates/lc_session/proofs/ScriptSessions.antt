@@ -1,6 +1,7 @@
 -- The sessions of `run` and `resume`, from what their calls did.
 --   one_step_built       a statement of the calls that are built does one thing
 --   few_needs            a script asks for fewer than 70,000 needs
+--   is_for_so            whether a checkpoint is for bytes that were read
 --   named_so             the digest and the budget that a checkpoint names
 --   run_session_of       `run`, from its first statement on
 --   resume_session_of    `resume`, from its first statement on
@@ -40,8 +41,11 @@ use Rattle.lc_session.proofs.ScriptEnds.{run_ends, resume_ends}
 one_step_built : OneStep built_calls
 one_step_built env s = steps_one built_calls env built_one s
 
-pub few_needs : (bytes : List ℕ) → length bytes ≤ most_bytes → ((needs : List Matrix) → MeetsFirst built_calls bytes needs → 15 * length needs ≤ length bytes) → (needs : List Matrix) → MeetsFirst built_calls bytes needs → length needs < 70000
-few_needs bytes l long needs met = (let n = long needs met in omega (arith, l, n))
+pub few_needs : (given bytes : List ℕ) → given ≡ bytes → length bytes ≤ most_bytes → ((needs : List Matrix) → MeetsFirst built_calls given needs → 15 * length needs ≤ length given) → (needs : List Matrix) → MeetsFirst built_calls given needs → length needs < 70000
+few_needs given bytes same l long needs met = (let n = long needs met in let e = ap (λ (b : List ℕ). length b) same in omega (arith, l, n, e))
+
+pub is_for_so : (digest hashed bytes : List ℕ) (budget : ℕ) (p : Checkpoint) (found answer : Bool) → digest ≡ sha256 hashed → hashed ≡ bytes → found ≡ is_for digest budget p → found ≡ answer → is_for (sha256 bytes) budget p ≡ answer
+is_for_so digest hashed bytes budget p found answer d same f a = ap (λ (x : List ℕ). is_for x budget p) (ap sha256 (sym same) ∙ sym d) ∙ sym f ∙ a
 
 named_so : (digest : List ℕ) (budget : ℕ) (p : Checkpoint) → is_for digest budget p ≡ true → (p.script ≡ digest) × (p.budget ≡ budget)
 unfolding is_for
@@ -61,25 +65,25 @@ begun_run asked old held runs h = subst (λ (x : Command). WhereTold old held (�
 begun_resume : (asked : Settings) (old : Option Slots) → asked.command ≡ resume → WhereTold old old (λ before now. now ≡ begin_with asked.command before)
 begun_resume asked old resumes = subst (λ (x : Command). WhereTold old old (λ before now. now ≡ begin_with x before)) (sym resumes) (WhereTold-refl old (λ before now. now ≡ before) (λ a. refl))
 
-pub run_session_of : (args : List (List ℕ)) (asked : Settings) (old : Outside) (source : Option (List ℕ)) (source_faults : ℕ) (bytes : List ℕ) (held : Option Slots) (faults : ℕ) (first last : Course) (digest : List ℕ) (r : Result Text Halt) (now : Around) (sink : Option (List ℕ)) (sink_faults : ℕ) (s : Status)
+pub run_session_of : (args : List (List ℕ)) (asked : Settings) (old : Outside) (source : Option (List ℕ)) (source_faults : ℕ) (bytes given : List ℕ) (held : Option Slots) (faults : ℕ) (first last : Course) (digest : List ℕ) (r : Result Text Halt) (now : Around) (sink : Option (List ℕ)) (sink_faults : ℕ) (s : Status)
     → options all_options args ≡ settings asked → asked.command ≡ run → asked.budget ≤ 2 ^ 40 → WasRead old.source source bytes → source_faults ≡ old.source_faults
     → (asked.keep ≡ true → WhereTold old.vault held (λ before after. after ≡ empty_slots)) → (asked.keep ≡ false → held ≡ old.vault) → faults ≡ old.vault_faults → digest ≡ sha256 bytes
     → Goes (started afresh asked.budget asked.slice asked.keep digest 0 (around held faults old.watchers)) [] [] first (around held faults old.watchers)
-    → ((w : World) → Goes w [] [] first (around held faults old.watchers) → MatchResult r (λ t. Prints w bytes t last now) (λ x. EndsBefore w bytes last now x))
+    → ((w : World) → Goes w [] [] first (around held faults old.watchers) → MatchResult r (λ t. Prints w given t last now) (λ x. EndsBefore w given last now x)) → given ≡ bytes
     → Closes r last old.sink sink old.sink_faults sink_faults s → IsSession built_calls args old (outside_of source source_faults sink sink_faults now) (ending_of s)
-run_session_of args asked old source source_faults bytes held faults first last digest r now sink sink_faults s accepted runs small read quiet begun unkept calm hashed goes found closed =
+run_session_of args asked old source source_faults bytes given held faults first last digest r now sink sink_faults s accepted runs small read quiet begun unkept calm hashed goes found same_given closed =
     let w = started afresh asked.budget asked.slice asked.keep digest 0 (around held faults old.watchers) in
     let same : w ≡ world asked bytes afresh 0 held old = same_world asked bytes digest afresh 0 held faults old hashed calm in
     let ready : IsReady args asked old source source_faults bytes held = record { accepted = accepted; searches = inl runs; read = read; quiet = quiet; begun = λ k. begun_run asked old.vault held runs (begun k); unkept = unkept } in
-    run_ends args asked old source source_faults bytes held ready (one_script bytes) one_step_built (no_both bytes) small last now sink sink_faults r s runs (subst (λ (x : World). Found x bytes r last now) same (found w goes)) closed
+    run_ends args asked old source source_faults bytes held ready (one_script bytes) one_step_built (no_both bytes) small last now sink sink_faults r s runs (subst (λ (b : List ℕ). Found (world asked bytes afresh 0 held old) b r last now) same_given (subst (λ (x : World). Found x given r last now) same (found w goes))) closed
 
-pub resume_session_of : (args : List (List ℕ)) (asked : Settings) (old : Outside) (source : Option (List ℕ)) (source_faults : ℕ) (bytes : List ℕ) (held : Option Slots) (faults : ℕ) (p : Checkpoint) (first last : Course) (r : Result Text Halt) (now : Around) (sink : Option (List ℕ)) (sink_faults : ℕ) (s : Status)
+pub resume_session_of : (args : List (List ℕ)) (asked : Settings) (old : Outside) (source : Option (List ℕ)) (source_faults : ℕ) (bytes given : List ℕ) (held : Option Slots) (faults : ℕ) (p : Checkpoint) (first last : Course) (r : Result Text Halt) (now : Around) (sink : Option (List ℕ)) (sink_faults : ℕ) (s : Status)
     → options all_options args ≡ settings asked → asked.command ≡ resume → asked.budget ≤ 2 ^ 40 → WasRead old.source source bytes → source_faults ≡ old.source_faults
     → held ≡ old.vault → faults ≡ old.vault_faults → Finds old.vault (takes p) → IsTrue (is_for (sha256 bytes) asked.budget p)
     → Goes (started (after p.version p.settled (current_of p)) p.budget asked.slice asked.keep p.script (next_turn p.turn) (around held faults old.watchers)) [] [] first (around held faults old.watchers)
-    → ((w : World) → Goes w [] [] first (around held faults old.watchers) → MatchResult r (λ t. Prints w bytes t last now) (λ x. EndsBefore w bytes last now x))
+    → ((w : World) → Goes w [] [] first (around held faults old.watchers) → MatchResult r (λ t. Prints w given t last now) (λ x. EndsBefore w given last now x)) → given ≡ bytes
     → Closes r last old.sink sink old.sink_faults sink_faults s → IsSession built_calls args old (outside_of source source_faults sink sink_faults now) (ending_of s)
-resume_session_of args asked old source source_faults bytes held faults p first last r now sink sink_faults s accepted resumes small read quiet same_slots calm taken named goes found closed =
+resume_session_of args asked old source source_faults bytes given held faults p first last r now sink sink_faults s accepted resumes small read quiet same_slots calm taken named goes found same_given closed =
     let names = named_so (sha256 bytes) asked.budget p named in
     let b = after p.version p.settled (current_of p) in
     let w = started b p.budget asked.slice asked.keep p.script (next_turn p.turn) (around held faults old.watchers) in
@@ -87,4 +91,4 @@ resume_session_of args asked old source source_faults bytes held faults p first 
         ap (λ (n : ℕ). started b n asked.slice asked.keep p.script (next_turn p.turn) (around held faults old.watchers)) names.1 ∙ same_world asked bytes p.script b (next_turn p.turn) held faults old names.0 calm
         ∙ ap (λ (o : Option Slots). world asked bytes b (next_turn p.turn) o old) same_slots in
     let ready : IsReady args asked old source source_faults bytes old.vault = record { accepted = accepted; searches = inr resumes; read = read; quiet = quiet; begun = λ k. begun_resume asked old.vault resumes; unkept = λ k. refl } in
-    resume_ends args asked old source source_faults bytes old.vault ready (one_script bytes) one_step_built (no_both bytes) small last now sink sink_faults p taken named (next_turn p.turn) refl resumes r s (subst (λ (x : World). Found x bytes r last now) same (found w goes)) closed
+    resume_ends args asked old source source_faults bytes old.vault ready (one_script bytes) one_step_built (no_both bytes) small last now sink sink_faults p taken named (next_turn p.turn) refl resumes r s (subst (λ (d : List ℕ). Found (world asked bytes b (next_turn p.turn) old.vault old) d r last now) same_given (subst (λ (x : World). Found x given r last now) same (found w goes))) closed

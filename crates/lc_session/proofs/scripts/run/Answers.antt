@@ -29,7 +29,12 @@ returns-in-Err g c args accepted =
     not_emptied args (settings_for c.args.asked) _ _ _ a.bytes.items (around _ _ _) accepted (record { gave = a.ensures.given; ended = a.ensures.ended; within = a.ensures.within }) (a.ensures.count (λ e. cc)) refl (ap command_for c.requires.runs) c.in-Err.ensures.half.0 c.in-Err.ensures.half.1 c.in-Err.ensures.count
 
 pub script_text-found-requires-clause-few : goal.script_text-found-requires-clause-few
-script_text-found-requires-clause-few g c κs within = ?
+script_text-found-requires-clause-few g c _ _ = few_needs c.deref-2.result.now c.in-Ok.bytes.items c.deref-2.ensures.value c.in-Ok.ensures.within (c.needs_take_bytes.ensures.front built_calls c.deref-2.result.now)
 
 pub returns : goal.returns
-returns g c args accepted = ?
+returns g c args accepted =
+    let a = c.in-Ok in
+    let b = c.in-Ok-cleared in
+    run_session_of args (settings_for c.args.asked) _ _ _ a.bytes.items c.deref-2.result.now _ _ c.afresh-course.result c.script_text-found.new.course c.digest.result c.script_text-found.result (around _ _ _) _ _ c.closed.result accepted (ap command_for c.requires.runs) c.requires.within.limits.few_blocks
+    (record { gave = a.ensures.given; ended = a.ensures.ended; within = a.ensures.within }) (a.ensures.count (λ e. cc)) b.ensures.emptied b.ensures.kept b.ensures.count (c.digest.ensures ∙ ap sha256 c.deref.ensures.value)
+    (c.afresh-course.ensures.starts (around _ _ _)) c.script_text-found.ensures c.deref-2.ensures.value c.closed.ensures
