@@ -117,14 +117,7 @@ pub(crate) fn run<R: Threads + Sync, S: Source, K: Sink, V: Vault, W: Watcher, G
 }
 
 /// The session of `resume`: reads a script, takes the checkpoint that goes on, and writes the text of the script.
-pub(crate) fn resume<
-    R: Threads + Sync,
-    S: Source,
-    K: Sink,
-    V: Vault,
-    W: Watcher,
-    G: Gate + Sync,
->(
+pub(crate) fn resume<R: Threads + Sync, S: Source, K: Sink, V: Vault, W: Watcher, G: Gate + Sync>(
     rt: &R,
     alloc: Global,
     asked: Asked,
