@@ -5,7 +5,7 @@
 --   named_so             the digest and the budget that a checkpoint names
 --   run_session_of       `run`, from its first statement on
 --   resume_session_of    `resume`, from its first statement on
-use Rattle.std.proofs.Common.{◌≡◌, ◌≤◌, ◌<◌, ◌*◌, ◌^◌, ◌==◌, inl, inr, ℕ, Bool, true, false, IsTrue, Result, List, [], length, Option, Some, None, refl, sym, ap, subst, ◌∙◌, arith}
+use Rattle.std.proofs.Common.{◌≡◌, ◌≤◌, ◌<◌, ◌*◌, ◌^◌, ◌==◌, inl, inr, ℕ, Bool, true, false, IsTrue, Result, List, [], length, Option, refl, sym, ap, subst, ◌∙◌, arith}
 use Rattle.std.specs.Prelude.{MatchResult}
 use Rattle.std.proofs.lemmas.Bool.{and_parts, eqb-true}
 use Rattle.sha2.specs.Sha256.{sha256}
@@ -14,7 +14,6 @@ use Rattle.lc_formats.specs.Text.{same_bytes}
 use Rattle.lc_formats.specs.Checkpoint.{Checkpoint, current_of}
 use Rattle.lc_io.specs.Vaults.{Slots, WhereTold, empty_slots}
 use Rattle.lc_io.proofs.SlotLaws.{WhereTold-refl}
-use Rattle.lc_io.specs.Watchers.{Hearing}
 use Rattle.lc_parse.proofs.Outcomes.{one_script, no_both}
 use Rattle.lc_eval.specs.Built.{built_calls}
 use Rattle.lc_sessions.specs.Options.{Command, run, resume, Settings, settings, options, all_options}
