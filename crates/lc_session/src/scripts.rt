@@ -101,6 +101,7 @@ pub(crate) fn run<R: Threads + Sync, S: Source, K: Sink, V: Vault, W: Watcher, G
         Ok(()) => {}
         Err(_) => return Status::VaultFault { told: 0 },
     }
+    // A script of so many bytes asks for fewer than 70,000 searches.
     needs_take_bytes();
     let mut course = afresh(alloc, asked.keep, asked.slice, asked.budget, digest(&bytes));
     let found = script_text(
@@ -153,6 +154,7 @@ pub(crate) fn resume<R: Threads + Sync, S: Source, K: Sink, V: Vault, W: Watcher
             budget: point.budget,
         };
     }
+    // A script of so many bytes asks for fewer than 70,000 searches.
     needs_take_bytes();
     let mut course = resumed(asked.keep, asked.slice, point);
     let found = script_text(
