@@ -1,7 +1,6 @@
-pub mod ArgumentLaws
-pub mod DistanceLaws
-pub mod RunLaws
-pub mod SessionLaws
-pub mod SameNames
-pub mod CheckLaws
-pub mod CertificateLaws
+mod CheckLaws
+mod EarlyEnds
+mod ScriptEnds
+mod ScriptSessions
+mod SummarySessions
+mod CheckSessions

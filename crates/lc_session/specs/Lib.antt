@@ -1,5 +1,4 @@
-pub mod Asked
+pub mod Closing
 pub mod Ending
 pub mod Outcome
 pub mod Reply
-pub mod Searched

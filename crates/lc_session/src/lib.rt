@@ -1,15 +1,13 @@
 //! A session: the words of the command line, the bytes in and the bytes out.
 #![tactic(auto)]
 
-mod arguments;
-mod certificate;
 mod check;
-mod distance;
 mod input;
 mod reply;
+mod scripts;
 mod session;
 mod status;
-mod text;
+mod summary;
 
 pub use lc_ground::one_text;
 pub use session::run_session;

@@ -1,0 +1,65 @@
+//! The session of `summary`.
+ghost use Rattle.std.specs.Prelude.{◌≡◌, ℕ, List, map, Option};
+ghost use Rattle.lc_io.specs.Watchers.{hearing};
+ghost use Rattle.lc_eval.specs.Built.{built_calls};
+ghost use Rattle.lc_sessions.specs.Options.{settings, options, all_options};
+ghost use Rattle.lc_sessions.specs.Session.{IsSession};
+ghost use Rattle.lc_arguments.specs.Asked.{settings_for, IsWithin};
+ghost use Rattle.lc_rounds.specs.Way.{around};
+ghost use Rattle.lc_script.specs.Worlds.{outside_of};
+ghost use Rattle.lc_session.specs.Ending.{ending_of};
+
+use crate::status::Status;
+use lc_arguments::{Asked, Command};
+use lc_eval::QueryKind;
+use lc_io::{Gate, Sink, Vault, Watcher, write_whole};
+use lc_answers::afresh;
+use lc_script::need_line;
+use lc_summary::{summary_code, summary_line};
+use std::alloc::Global;
+use std::thread::Threads;
+
+/// The session of `summary`: writes the line of the code of a seed. It reads nothing, and leaves the vault as it is.
+pub(crate) fn summary<R: Threads + Sync, K: Sink, V: Vault, W: Watcher, G: Gate + Sync>(
+    rt: &R,
+    alloc: Global,
+    asked: Asked,
+    sink: &mut K,
+    vault: &mut V,
+    watchers: &mut Vec<W>,
+    gate: &G,
+) -> Status
+    requires within { IsWithin asked }
+    requires sums { asked.command ≡ Command.Summary }
+    ensures { (args : List (List ℕ)) (source : Option (List ℕ)) (source_faults : ℕ) → options all_options args ≡ settings (settings_for asked) → IsSession built_calls args
+        (outside_of source source_faults (K.written sink.old) (K.faults sink.old) (around (V.contents vault.old) (V.faults vault.old) (map (hearing W.heard W.coming W.pauses) watchers.old.items)))
+        (outside_of source source_faults (K.written sink.new) (K.faults sink.new) (around (V.contents vault.new) (V.faults vault.new) (map (hearing W.heard W.coming W.pauses) watchers.new.items)))
+        (ending_of result) }
+{
+    let Ok(code) = summary_code(alloc, asked.seed) else {
+        return Status::NoMemory { told: 0 };
+    };
+    let mut course = afresh(alloc, false, None, asked.budget, [0; 32]);
+    let found = need_line(
+        rt,
+        alloc,
+        asked.workers as u32,
+        gate,
+        vault,
+        watchers,
+        &mut course,
+        QueryKind::Distance,
+        &code,
+    );
+    let told = course.pace.told;
+    let Ok(line) = found else {
+        return Status::NoMemory { told };
+    };
+    let Ok(text) = summary_line(alloc, asked.seed, &line, told) else {
+        return Status::NoMemory { told };
+    };
+    match write_whole(sink, &text) {
+        Ok(()) => Status::Done(0),
+        Err(_) => Status::SinkFault,
+    }
+}
