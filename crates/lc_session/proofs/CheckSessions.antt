@@ -19,19 +19,19 @@ use Rattle.lc_rounds.specs.Way.{Around}
 use Rattle.lc_script.specs.Worlds.{outside_of}
 
 module _ (args : List (List ℕ)) (workers budget number : ℕ) (accepted : options all_options args ≡ settings (record { command = check; workers = workers; budget = budget; slice = None; keep = false; number = number })) (now : Around) (old_source source : Option (List ℕ)) (old_source_faults source_faults : ℕ) (old_sink sink : Option (List ℕ)) (old_sink_faults sink_faults : ℕ) (bytes : List ℕ) (read : WasRead old_source source bytes) (quiet : source_faults ≡ old_source_faults) where
-  asked : Settings
+  abbrev pub asked : Settings
   asked = record { command = check; workers = workers; budget = budget; slice = None; keep = false; number = number }
 
-  old : Outside
+  abbrev pub old : Outside
   old = outside_of old_source old_source_faults old_sink old_sink_faults now
 
-  new : Outside
+  abbrev pub new : Outside
   new = outside_of source source_faults sink sink_faults now
 
   accepts_so : (ending : Ending) → ((i : ℕ) → ¬ (ending ≡ usage i)) → Accepts (options all_options args) asked old new ending
   accepts_so ending other = subst (λ (o : Options). Accepts o asked old new ending) (sym accepted) (refl, other)
 
-  course : List ℕ → session.Course
+  abbrev pub course : List ℕ → session.Course
   course text = record { bytes = bytes; needs = []; start = fresh_start; turn = 0; told = []; left = []; is_paused = false; text = text; is_faulty = false }
 
   no_rounds : (text : List ℕ) → (rounds_of asked (course text)).steps ≡ []

@@ -113,7 +113,7 @@ unread args asked old source source_faults now accepted reading same calm heard 
 -- ---- the vault
 
 module _ (args : List (List ℕ)) (asked : Settings) (old : Outside) (source : Option (List ℕ)) (source_faults : ℕ) (bytes : List ℕ) (now : Around) (accepted : options all_options args ≡ settings asked) (read : WasRead old.source source bytes) (quiet : source_faults ≡ old.source_faults) (heard : now.watchers ≡ old.watchers) where
-  final : Outside
+  abbrev pub final : Outside
   final = outside_of source source_faults old.sink old.sink_faults now
 
   reads_so : (ending : Ending) (c : Command) → asked.command ≡ c → reads c ≡ true → ReadsScript ending old.source source (none bytes) → Reads asked.command ending old.source source (none bytes)

@@ -2,6 +2,7 @@ pub mod OneText
 pub mod OneValue
 pub mod AtMostOne
 mod OneNearest
+mod AskedLaws
 mod CheckLaws
 mod EarlyEnds
 mod ScriptEnds

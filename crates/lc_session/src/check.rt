@@ -19,7 +19,7 @@ use crate::input::{InputRefusal, input};
 use crate::reply::{End, Reply};
 use crate::status::Status;
 use lc_certificate::{CertRefusal, Certificate, parse};
-use lc_checker::{Reason, Verdict, check};
+use lc_checker::{Reason, Verdict, check as judge};
 use lc_field::NoMemory;
 use lc_print::{accepted_line, rejected_line};
 use lc_arguments::{Asked, Command};
@@ -45,7 +45,7 @@ fn judged(alloc: Global, _bytes: &[u8], certificate: &Certificate) -> Result<Rep
     requires shaped { IsShaped (certificate_of certificate.now) }
     ensures { IfOk result (λ r. IsSaidOf _bytes.now r.text.items (status_of r.end)) }
 {
-    match check(alloc, certificate)? {
+    match judge(alloc, certificate)? {
         Verdict::Accepted => {
             let text = accepted_line(alloc, certificate.distance)?;
             let end = End::Done(0);
