@@ -3,6 +3,7 @@
 --   line_is, rounds_told      the line of its search, and how many rounds that took
 --   text_is              the text
 --   summary_done, summary_unwritten      the session has its text
+--   written_so, unwritten_so, starved_so, halted_so      the same, from what the calls did
 --   summary_unstarted, summary_halted, summary_starved      memory is refused before its search, in it, or after it
 use Rattle.std.proofs.Common.{◌≡◌, ◌≤◌, ◌<◌, ◌^◌, ◌⊎◌, inl, inr, ⊎_elim, ℕ, zero, suc, Bool, true, false, IsTrue, is_some, List, [], ◌∷◌, ◌++◌, length, map, All, Option, Some, None, option_map, refl, sym, ap, subst, ◌∙◌, arith}
 use Rattle.std.specs.Io.KnownBytes.{Appends}
@@ -209,6 +210,28 @@ module _ (number budget : ℕ) (small : budget ≤ 2 ^ 40) (digest : List ℕ) (
       -- the line was refused memory
       pub summary_starved : (a : Answer) → Goes the_world (code ∷ []) (a ∷ []) c now → taken ≡ sink → taken_faults ≡ sink_faults → IsSession built_calls args old new (no_memory c.pace.told)
       summary_starved a h same calm = starved_by (code ∷ []) (inr refl) (starving the_world (code ∷ []) (a ∷ []) c now h) same calm
+
+      -- ---- from what the calls did with the code
+
+      with_code : (C : Matrix) (a : Answer) → C ≡ code → Goes the_world (C ∷ []) (a ∷ []) c now → Goes the_world (code ∷ []) (a ∷ []) c now
+      with_code C a is h = subst (λ (x : Matrix). Goes the_world (x ∷ []) (a ∷ []) c now) is h
+
+      text_so : (C : Matrix) (a : Answer) (line text : List ℕ) → C ≡ code → Goes the_world (C ∷ []) (a ∷ []) c now → line ≡ answer_line distance C a → ((b : ℕ) → line ≡ query_line distance code b → c.pace.told ≡ round_count code b → text ≡ summary_text number b) → text ≡ summary_text number budget
+      text_so C a line text is h l f = text_is a c now line text (with_code C a is h) (l ∙ ap (λ (x : Matrix). answer_line distance x a) is) f
+
+      pub written_so : (C : Matrix) (a : Answer) (line text : List ℕ) → C ≡ code → Goes the_world (C ∷ []) (a ∷ []) c now → line ≡ answer_line distance C a → ((b : ℕ) → line ≡ query_line distance code b → c.pace.told ≡ round_count code b → text ≡ summary_text number b)
+          → Appends sink taken text → taken_faults ≡ sink_faults → IsSession built_calls args old new (done 0)
+      written_so C a line text is h l f written calm = summary_done a text (with_code C a is h) (text_so C a line text is h l f) written calm
+
+      pub unwritten_so : (C : Matrix) (a : Answer) (line text : List ℕ) → C ≡ code → Goes the_world (C ∷ []) (a ∷ []) c now → line ≡ answer_line distance C a → ((b : ℕ) → line ≡ query_line distance code b → c.pace.told ≡ round_count code b → text ≡ summary_text number b)
+          → AppendsPart sink taken text → HasRisen sink_faults taken_faults → IsSession built_calls args old new sink_fault
+      unwritten_so C a line text is h l f written risen = summary_unwritten a text (with_code C a is h) (text_so C a line text is h l f) written risen
+
+      pub starved_so : (C : Matrix) (a : Answer) → C ≡ code → Goes the_world (C ∷ []) (a ∷ []) c now → taken ≡ sink → taken_faults ≡ sink_faults → IsSession built_calls args old new (no_memory c.pace.told)
+      starved_so C a is h same calm = summary_starved a (with_code C a is h) same calm
+
+      pub halted_so : (C : Matrix) (x : Halt) → C ≡ code → Halts the_world [] C c now x → taken ≡ sink → taken_faults ≡ sink_faults → IsSession built_calls args old new (no_memory c.pace.told)
+      halted_so C x is h same calm = summary_halted x (subst (λ (y : Matrix). Halts the_world [] y c now x) is h) same calm
 
 -- memory was refused before its search
 pub summary_unstarted : (args : List (List ℕ)) (workers budget number : ℕ) (old : Outside) → options all_options args ≡ settings (record { command = summary; workers = workers; budget = budget; slice = None; keep = false; number = number }) → IsSession built_calls args old old (no_memory 0)
