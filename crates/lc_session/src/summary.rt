@@ -10,10 +10,10 @@ ghost use Rattle.lc_script.specs.Worlds.{outside_of};
 ghost use Rattle.lc_session.specs.Ending.{ending_of};
 
 use crate::status::Status;
+use lc_answers::afresh;
 use lc_arguments::{Asked, Command};
 use lc_eval::QueryKind;
 use lc_io::{Gate, Sink, Vault, Watcher, write_whole};
-use lc_answers::afresh;
 use lc_script::need_line;
 use lc_summary::{summary_code, summary_line};
 use std::alloc::Global;
