@@ -76,7 +76,7 @@ resume_session_of args asked old source source_faults bytes held faults p first 
     let b = after p.version p.settled (current_of p) in
     let w = started b p.budget asked.slice asked.keep p.script (next_turn p.turn) (around held faults old.watchers) in
     let same : w ≡ world asked bytes b (next_turn p.turn) old.vault old =
-    ap (λ (n : ℕ). started b n asked.slice asked.keep p.script (next_turn p.turn) (around held faults old.watchers)) of ∙ same_world asked bytes p.script b (next_turn p.turn) held faults old hashed calm
-    ∙ ap (λ (o : Option Slots). world asked bytes b (next_turn p.turn) o old) same_slots in
+        ap (λ (n : ℕ). started b n asked.slice asked.keep p.script (next_turn p.turn) (around held faults old.watchers)) of ∙ same_world asked bytes p.script b (next_turn p.turn) held faults old hashed calm
+        ∙ ap (λ (o : Option Slots). world asked bytes b (next_turn p.turn) o old) same_slots in
     let ready : IsReady args asked old source source_faults bytes old.vault = record { accepted = accepted; searches = inr resumes; read = read; quiet = quiet; begun = λ k. begun_resume asked old.vault resumes; unkept = λ k. refl } in
     resume_ends args asked old source source_faults bytes old.vault ready (one_script bytes) one_step_built (no_both bytes) small last now sink sink_faults p taken named (next_turn p.turn) refl resumes r s (subst (λ (x : World). Found x bytes r last now) same (found w goes)) closed

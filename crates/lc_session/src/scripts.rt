@@ -14,10 +14,10 @@ ghost use Rattle.lc_session.specs.Closing.{Closes, status_of};
 
 use crate::input::{InputRefusal, input};
 use crate::status::Status;
-use lc_answers::{Course, Halt, afresh, resumed};
 use lc_arguments::{Asked, Command};
 use lc_io::{Failed, Gate, Sink, Source, Vault, Watcher, write_whole};
 use lc_rounds::Stop;
+use lc_answers::{Course, Halt, afresh, resumed};
 use lc_script::{Text, script_text};
 use lc_slots::{Found, LoadRefusal, chosen, digest, emptied, is_for};
 use std::alloc::Global;
@@ -114,7 +114,14 @@ pub(crate) fn run<R: Threads + Sync, S: Source, K: Sink, V: Vault, W: Watcher, G
 }
 
 /// The session of `resume`: reads a script, takes the checkpoint that goes on, and writes the text of the script.
-pub(crate) fn resume<R: Threads + Sync, S: Source, K: Sink, V: Vault, W: Watcher, G: Gate + Sync>(
+pub(crate) fn resume<
+    R: Threads + Sync,
+    S: Source,
+    K: Sink,
+    V: Vault,
+    W: Watcher,
+    G: Gate + Sync,
+>(
     rt: &R,
     alloc: Global,
     asked: Asked,
