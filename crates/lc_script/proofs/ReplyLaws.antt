@@ -1,4 +1,5 @@
 -- What a session of `run` or `resume` prints, and where `resume` starts.
+--   whole_met            the needs of a script are met by its session
 --   script_text_of       a text by the answers of the search is that of the script
 --   run_replies          what `run` prints
 --   IsTaken, resumed     the checkpoint that `resume` takes
@@ -40,7 +41,7 @@ use Rattle.lc_script.specs.Worlds.{world}
 use Rattle.lc_script.proofs.SessionLaws.{course_of}
 
 -- the needs of a script are met by its session
-whole_met : (bytes : List ℕ) (needs : List Matrix) → IsNeeds built_calls bytes needs → MeetsFirst built_calls bytes needs
+pub whole_met : (bytes : List ℕ) (needs : List Matrix) → IsNeeds built_calls bytes needs → MeetsFirst built_calls bytes needs
 whole_met bytes needs all =
     ⊎_elim (λ (a : (ss : List Statement) × Reads bytes ss × Needs built_calls [] ss needs). met_whole built_calls bytes a.0 needs a.1 a.2) (λ (a : (fault : Fault) × IsFault bytes fault × (needs ≡ [])). inl a.2) all
 

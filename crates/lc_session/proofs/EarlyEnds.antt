@@ -5,9 +5,8 @@
 --   not_emptied          `run` can't empty the slots
 --   not_loaded, no_room  `resume` can't load them
 --   nothing_found, damage_found, other_found      what `resume` finds
-use Rattle.std.proofs.Common.{◌≡◌, ◌+◌, ◌⊎◌, inl, inr, ℕ, Bool, true, false, IsTrue, List, [], ◌++◌, length, Option, Some, None, refl, sym, ap, subst, ◌∙◌}
+use Rattle.std.proofs.Common.{◌≡◌, ◌+◌, inl, inr, ℕ, Bool, true, false, IsTrue, List, [], ◌++◌, Option, None, refl, sym, ap, subst, ◌∙◌}
 use Rattle.sha2.specs.Sha256.{sha256}
-use Rattle.lc_algebra.specs.Divisor.{divisor_of}
 use Rattle.lc_enumeration.specs.Records.{fresh_start, session_from, session_rounds, no_steps}
 use Rattle.lc_formats.specs.Checkpoint.{Checkpoint}
 use Rattle.lc_io.specs.Outside.{HasRisen, GaveFront, GaveLess}
@@ -20,7 +19,7 @@ use Rattle.lc_sessions.specs.Options.{Command, run, resume, check, summary, Sett
 use Rattle.lc_sessions.specs.Slots.{takes, nothing_stored, none_decodes, is_for}
 use Rattle.lc_sessions.specs.Endings.{Ending, usage, source_fault, vault_fault, no_memory, no_checkpoint, damaged_checkpoint, other_script, too_long}
 use Rattle.lc_sessions.specs.Session as session
-use Rattle.lc_sessions.specs.Session.{Outside, most_bytes, rounds_of, records_of, can_end, reads, Accepts, WasRead, GaveTooMuch, ReadsScript, Reads, Starts, Meets, AreHalfEmptied, Stores, StoresIfKept, Finds, Replied, Writes, Counts, NoneFailed, IsSession}
+use Rattle.lc_sessions.specs.Session.{Outside, most_bytes, rounds_of, records_of, can_end, reads, Accepts, WasRead, GaveTooMuch, ReadsScript, Reads, Starts, Meets, AreHalfEmptied, Stores, StoresIfKept, Finds, Replied, Writes, Counts, IsSession}
 use Rattle.lc_script.specs.Worlds.{outside_of}
 use Rattle.lc_rounds.specs.Way.{Around}
 

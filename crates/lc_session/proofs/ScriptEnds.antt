@@ -1,24 +1,22 @@
 -- How sessions of `run` and `resume` end.
 --   run_ends             `run`, once it has emptied the slots
 --   resume_ends          `resume`, once it has taken a checkpoint
-use Rattle.std.proofs.Common.{◌≡◌, ◌≤◌, ◌^◌, ◌⊎◌, inl, inr, ⊎_elim, ℕ, Bool, true, false, IsTrue, Result, Ok, Err, List, [], ◌∷◌, ◌++◌, Option, Some, None, refl, sym, ap, subst, ◌∙◌}
+use Rattle.std.proofs.Common.{◌≡◌, ◌≤◌, ◌^◌, ◌⊎◌, inl, inr, ℕ, Bool, true, false, IsTrue, Result, Ok, Err, List, [], ◌∷◌, ◌++◌, Option, None, refl, sym, ap, subst, ◌∙◌}
 use Rattle.std.specs.Prelude.{MatchResult}
-use Rattle.std.specs.Io.KnownBytes.{Appends}
 use Rattle.sha2.specs.Sha256.{sha256}
 use Rattle.lc_algebra.specs.Matrix.{Matrix}
 use Rattle.lc_algebra.specs.Divisor.{divisor_of}
 use Rattle.lc_enumeration.specs.Records.{SessionStep, fresh_start}
 use Rattle.lc_enumeration.specs.Fitting.{misfit}
 use Rattle.lc_formats.specs.Checkpoint.{Checkpoint, current_of}
-use Rattle.lc_io.specs.Outside.{HasRisen, AppendsPart}
 use Rattle.lc_io.specs.Vaults.{Slots}
 use Rattle.lc_eval.specs.Built.{built_calls}
 use Rattle.lc_sessions.specs.Options.{Command, run, resume, Settings}
-use Rattle.lc_sessions.specs.Needs.{MeetsFirst, OneScript, OneStep, NoFault}
+use Rattle.lc_sessions.specs.Needs.{OneScript, OneStep, NoFault}
 use Rattle.lc_sessions.specs.Slots.{next_turn, takes, is_for}
 use Rattle.lc_sessions.specs.Endings.{Ending, done, paused, sink_fault, vault_fault, no_memory, unfit}
 use Rattle.lc_sessions.specs.Session as session
-use Rattle.lc_sessions.specs.Session.{Outside, IsFresh, IsResumed, Fits, MayBeResumed, Finds, can_end, Starts, Resumes, IsStarted, Judges, end_number, IsSession}
+use Rattle.lc_sessions.specs.Session.{Outside, IsFresh, IsResumed, MayBeResumed, Finds, can_end, Starts, Resumes, IsStarted, Judges, end_number, IsSession}
 use Rattle.lc_rounds.specs.Way.{Around}
 use Rattle.lc_rounds.specs.declared.rounds.Stop.TheVariants as stop
 use Rattle.lc_course.specs.Course.{afresh, after, begins}
@@ -27,7 +25,7 @@ use Rattle.lc_answers.specs.declared.course.Course.{Course}
 use Rattle.lc_answers.specs.declared.need.Halt.{Halt}
 use Rattle.lc_answers.specs.declared.need.Halt.TheVariants as halt
 use Rattle.lc_script.specs.declared.statements.Text.{Text}
-use Rattle.lc_answers.specs.Going.{World, rounds_from, Stops, IsMisfit}
+use Rattle.lc_answers.specs.Going.{World, rounds_from, IsMisfit}
 use Rattle.lc_script.specs.Text.{Prints, EndsBefore}
 use Rattle.lc_script.specs.Worlds.{outside_of, world}
 use Rattle.lc_script.proofs.SessionLaws.{IsReady, course_of, paused_session, torn_session, starved_session, unfit_session, done_session, unwritten_session}
@@ -49,10 +47,10 @@ judges_so : (bytes : List ℕ) (c d : Command) → c ≡ d → Judges d bytes �
 judges_so bytes c d e h = subst (λ (x : Command). Judges x bytes) (sym e) h
 
 module _ (args : List (List ℕ)) (asked : Settings) (old : Outside) (source : Option (List ℕ)) (source_faults : ℕ) (bytes : List ℕ) (held : Option Slots) (ready : IsReady args asked old source source_faults bytes held) (script : OneScript bytes) (one : OneStep built_calls) (sound : NoFault bytes) (small : asked.budget ≤ 2 ^ 40) (c : Course) (now : Around) (sink : Option (List ℕ)) (sink_faults : ℕ) where
-  final : Outside
+  abbrev pub final : Outside
   final = outside_of source source_faults sink sink_faults now
 
-  unwritten : Outside
+  abbrev pub unwritten : Outside
   unwritten = outside_of source source_faults old.sink old.sink_faults now
 
   ends_as : (s : Status) (e : Ending) → ending_of s ≡ e → (sink ≡ old.sink) → (sink_faults ≡ old.sink_faults) → IsSession built_calls args old unwritten e → IsSession built_calls args old final (ending_of s)
@@ -109,10 +107,10 @@ module _ (args : List (List ℕ)) (asked : Settings) (old : Outside) (source : O
   -- ---- resume
 
   module _ (p : Checkpoint) (found : Finds old.vault (takes p)) (same_script : IsTrue (is_for (sha256 bytes) asked.budget p)) (turn : ℕ) (turns : turn ≡ next_turn p.turn) (resumes : asked.command ≡ resume) where
-    over : World
+    abbrev pub over : World
     over = world asked bytes (after p.version p.settled (current_of p)) turn held old
 
-    its_course : (needs : List Matrix) (told left : List SessionStep) (is_paused : Bool) (text : List ℕ) (faulty : Bool) → session.Course
+    abbrev pub its_course : (needs : List Matrix) (told left : List SessionStep) (is_paused : Bool) (text : List ℕ) (faulty : Bool) → session.Course
     its_course needs told left is_paused text faulty = course_of bytes (after p.version p.settled (current_of p)) turn needs told left is_paused text faulty
 
     taken_up : (needs : List Matrix) (told left : List SessionStep) (is_paused : Bool) (text : List ℕ) (faulty : Bool) → IsResumed asked old.vault (its_course needs told left is_paused text faulty)

@@ -2,7 +2,6 @@
 --   status_of c halt     the status of a session that ended before its script
 --   IsClosed t old new before now status      the text was written, or the sink failed
 --   Closes found c old new before now status      the text was written, or there is none
---   outside_by ..        what is known of the outside of a session
 use Rattle.std.specs.Prelude.{◌≡◌, ◌⊎◌, ℕ, List, Option, Result, Ok, Err}
 use Rattle.std.specs.Io.KnownBytes.{Appends}
 use Rattle.lc_io.specs.Outside.{HasRisen, AppendsPart}

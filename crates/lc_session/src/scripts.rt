@@ -14,10 +14,11 @@ ghost use Rattle.lc_session.specs.Closing.{Closes, status_of};
 
 use crate::input::{InputRefusal, input};
 use crate::status::Status;
+use lc_answers::{Course, Halt, afresh, resumed};
 use lc_arguments::{Asked, Command};
 use lc_io::{Failed, Gate, Sink, Source, Vault, Watcher, write_whole};
+use lc_needs::needs_take_bytes;
 use lc_rounds::Stop;
-use lc_answers::{Course, Halt, afresh, resumed};
 use lc_script::{Text, script_text};
 use lc_slots::{Found, LoadRefusal, chosen, digest, emptied, is_for};
 use std::alloc::Global;
@@ -96,9 +97,12 @@ pub(crate) fn run<R: Threads + Sync, S: Source, K: Sink, V: Vault, W: Watcher, G
         Err(InputRefusal::TooLong) => return Status::TooLong,
         Err(InputRefusal::NoMemory) => return Status::NoMemory { told: 0 },
     };
-    if cleared(vault, asked.keep).is_err() {
-        return Status::VaultFault { told: 0 };
+    match cleared(vault, asked.keep) {
+        Ok(()) => {}
+        Err(_) => return Status::VaultFault { told: 0 },
     }
+    // A script of so many bytes asks for fewer than 70,000 searches.
+    needs_take_bytes();
     let mut course = afresh(alloc, asked.keep, asked.slice, asked.budget, digest(&bytes));
     let found = script_text(
         rt,
@@ -114,14 +118,7 @@ pub(crate) fn run<R: Threads + Sync, S: Source, K: Sink, V: Vault, W: Watcher, G
 }
 
 /// The session of `resume`: reads a script, takes the checkpoint that goes on, and writes the text of the script.
-pub(crate) fn resume<
-    R: Threads + Sync,
-    S: Source,
-    K: Sink,
-    V: Vault,
-    W: Watcher,
-    G: Gate + Sync,
->(
+pub(crate) fn resume<R: Threads + Sync, S: Source, K: Sink, V: Vault, W: Watcher, G: Gate + Sync>(
     rt: &R,
     alloc: Global,
     asked: Asked,
@@ -157,6 +154,8 @@ pub(crate) fn resume<
             budget: point.budget,
         };
     }
+    // A script of so many bytes asks for fewer than 70,000 searches.
+    needs_take_bytes();
     let mut course = resumed(asked.keep, asked.slice, point);
     let found = script_text(
         rt,
