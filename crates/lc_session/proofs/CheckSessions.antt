@@ -1,5 +1,6 @@
 -- The session of `check`.
 --   accepted_session, rejected_session, unwritten_session      the line is written, or the sink fails
+--   done_session, refused_session, failing_session      the same, from what is said of the bytes
 --   starved_session      memory is refused
 use Rattle.std.proofs.Common.{◌≡◌, inl, inr, ℕ, Bool, true, false, List, [], Option, Some, None, refl, sym, ap, subst, ◌∙◌}
 use Rattle.std.specs.Io.KnownBytes.{Appends}
@@ -17,21 +18,27 @@ use Rattle.lc_sessions.specs.Session as session
 use Rattle.lc_sessions.specs.Session.{Outside, rounds_of, Accepts, WasRead, IsAccepted, IsSession}
 use Rattle.lc_rounds.specs.Way.{Around}
 use Rattle.lc_script.specs.Worlds.{outside_of}
+use Rattle.lc_checker.specs.Verdict.{reason_of}
+use Rattle.lc_checker.specs.declared.verdict.Reason as why
+use Rattle.lc_session.specs.Outcome.{IsSaidOf}
+use Rattle.lc_session.specs.Reply.{status_of}
+use Rattle.lc_session.specs.declared.reply.End.{End}
+use Rattle.lc_session.specs.declared.reply.End.TheVariants as end
 
 module _ (args : List (List ℕ)) (workers budget number : ℕ) (accepted : options all_options args ≡ settings (record { command = check; workers = workers; budget = budget; slice = None; keep = false; number = number })) (now : Around) (old_source source : Option (List ℕ)) (old_source_faults source_faults : ℕ) (old_sink sink : Option (List ℕ)) (old_sink_faults sink_faults : ℕ) (bytes : List ℕ) (read : WasRead old_source source bytes) (quiet : source_faults ≡ old_source_faults) where
-  asked : Settings
+  abbrev pub asked : Settings
   asked = record { command = check; workers = workers; budget = budget; slice = None; keep = false; number = number }
 
-  old : Outside
+  abbrev pub old : Outside
   old = outside_of old_source old_source_faults old_sink old_sink_faults now
 
-  new : Outside
+  abbrev pub new : Outside
   new = outside_of source source_faults sink sink_faults now
 
   accepts_so : (ending : Ending) → ((i : ℕ) → ¬ (ending ≡ usage i)) → Accepts (options all_options args) asked old new ending
   accepts_so ending other = subst (λ (o : Options). Accepts o asked old new ending) (sym accepted) (refl, other)
 
-  course : List ℕ → session.Course
+  abbrev pub course : List ℕ → session.Course
   course text = record { bytes = bytes; needs = []; start = fresh_start; turn = 0; told = []; left = []; is_paused = false; text = text; is_faulty = false }
 
   no_rounds : (text : List ℕ) → (rounds_of asked (course text)).steps ≡ []
@@ -113,3 +120,17 @@ module _ (args : List (List ℕ)) (workers budget number : ℕ) (accepted : opti
     written = same;
     counted = record { source = quiet; sink = calm; vault = refl };
   }
+
+  -- what is said of the bytes tells how the session ends
+  pub done_session : (text : List ℕ) (e : End) (n : ℕ) → IsSaidOf bytes text (status_of e) → e ≡ end.Done n → Appends old_sink sink text → sink_faults ≡ old_sink_faults → IsSession built_calls args old new (done n)
+  done_session text e n said is written calm =
+      let s : IsSaidOf bytes text (status_of (end.Done n)) = subst (λ (x : End). IsSaidOf bytes text (status_of x)) is said in
+      subst (λ (m : ℕ). IsSession built_calls args old new (done m)) (sym s.1.0) (accepted_session text s.0 s.1.1 written calm)
+
+  pub refused_session : (text : List ℕ) (e : End) (r : why.Reason) → IsSaidOf bytes text (status_of e) → e ≡ end.Rejected r → Appends old_sink sink text → sink_faults ≡ old_sink_faults → IsSession built_calls args old new (rejected (reason_of r))
+  refused_session text e r said is written calm =
+      let s : IsSaidOf bytes text (status_of (end.Rejected r)) = subst (λ (x : End). IsSaidOf bytes text (status_of x)) is said in
+      rejected_session text (reason_of r) s.0 s.1 written calm
+
+  pub failing_session : (text : List ℕ) (e : End) → IsSaidOf bytes text (status_of e) → AppendsPart old_sink sink text → HasRisen old_sink_faults sink_faults → IsSession built_calls args old new sink_fault
+  failing_session text e said written risen = unwritten_session text said.0 written risen

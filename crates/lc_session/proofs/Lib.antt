@@ -1,3 +1,4 @@
+mod AskedLaws
 mod CheckLaws
 mod EarlyEnds
 mod ScriptEnds

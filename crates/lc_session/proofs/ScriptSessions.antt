@@ -1,5 +1,4 @@
 -- The sessions of `run` and `resume`, from what their calls did.
---   one_step_built       a statement of the calls that are built does one thing
 --   few_needs            a script asks for fewer than 70,000 needs
 --   is_for_so            whether a checkpoint is for bytes that were read
 --   named_so             the digest and the budget that a checkpoint names
@@ -17,7 +16,7 @@ use Rattle.lc_io.proofs.SlotLaws.{WhereTold-refl}
 use Rattle.lc_parse.proofs.Outcomes.{one_script, no_both}
 use Rattle.lc_eval.specs.Built.{built_calls}
 use Rattle.lc_sessions.specs.Options.{Command, run, resume, Settings, settings, options, all_options}
-use Rattle.lc_sessions.specs.Needs.{MeetsFirst, OneStep}
+use Rattle.lc_sessions.specs.Needs.{MeetsFirst}
 use Rattle.lc_sessions.specs.Slots.{next_turn, takes, is_for}
 use Rattle.lc_sessions.specs.Session.{Outside, most_bytes, WasRead, begin_with, Finds, IsSession}
 use Rattle.lc_rounds.specs.Way.{Around, around}
@@ -33,12 +32,8 @@ use Rattle.lc_script.proofs.SessionLaws.{IsReady}
 use Rattle.lc_session.specs.declared.status.Status.{Status}
 use Rattle.lc_session.specs.Ending.{ending_of}
 use Rattle.lc_session.specs.Closing.{Closes}
-use Rattle.lc_session.proofs.OneText.{steps_one}
-use Rattle.lc_session.proofs.OneValue.{built_one}
+use Rattle.lc_ground.proofs.GroundLaws.{one_step_built}
 use Rattle.lc_session.proofs.ScriptEnds.{run_ends, resume_ends}
-
-one_step_built : OneStep built_calls
-one_step_built env s = steps_one built_calls env built_one s
 
 pub few_needs : (given bytes : List ℕ) → given ≡ bytes → length bytes ≤ most_bytes → ((needs : List Matrix) → MeetsFirst built_calls given needs → 15 * length needs ≤ length given) → (needs : List Matrix) → MeetsFirst built_calls given needs → length needs < 70000
 few_needs given bytes same l long needs met = (let n = long needs met in let e = ap (λ (b : List ℕ). length b) same in omega (arith, l, n, e))

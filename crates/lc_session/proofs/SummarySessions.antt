@@ -1,8 +1,10 @@
 -- The session of `summary`.
 --   code_rows            the code of a seed has rows
---   line_is, rounds_are_told      the line of its search, and how many rounds that took
+--   line_is, rounds_told      the line of its search, and how many rounds that took
+--   text_is              the text
 --   summary_done, summary_unwritten      the session has its text
---   summary_starved      memory is refused
+--   written_so, unwritten_so, starved_so, halted_so      the same, from what the calls did
+--   summary_unstarted, summary_halted, summary_starved      memory is refused before its search, in it, or after it
 use Rattle.std.proofs.Common.{◌≡◌, ◌≤◌, ◌<◌, ◌^◌, ◌⊎◌, inl, inr, ⊎_elim, ℕ, zero, suc, Bool, true, false, IsTrue, is_some, List, [], ◌∷◌, ◌++◌, length, map, All, Option, Some, None, option_map, refl, sym, ap, subst, ◌∙◌, arith}
 use Rattle.std.specs.Io.KnownBytes.{Appends}
 use Rattle.std.proofs.lemmas.List.{append-nil, length-map}
@@ -38,6 +40,7 @@ use Rattle.lc_answers.specs.Going.{World, started, rounds_from, settled_in, Goes
 use Rattle.lc_script.proofs.TextLaws.{IsEven, even}
 use Rattle.lc_answers.proofs.NeedLaws.{starving}
 use Rattle.lc_script.specs.Worlds.{outside_of}
+use Rattle.lc_session.proofs.EarlyEnds.{early}
 
 many_rows : (i : ℕ) (words : List ℕ) → length (summary_rows i words) ≡ length words
 unfolding summary_rows
@@ -53,23 +56,23 @@ pub code_rows : (number : ℕ) → 0 < length (summary_code number).rows
 unfolding summary_code
 code_rows number = (let e = many_rows 0 (generator_words 24 (seeded number)) ∙ many_words 24 (seeded number) in omega (arith, e))
 
-none_current : (version budget : ℕ) (slice : Option ℕ) (needs : List Matrix) (told : List SessionStep) (settled : List Progress) (left : Option ℕ) (done : List Progress) (o : Option Progress) → Stands afresh version budget slice needs told settled left done o → is_some o ≡ false
-none_current version budget slice needs told settled left done (Some s) h = absurd (let e = h.begun in cc)
-none_current version budget slice needs told settled left done None h = refl
+none_current : (version budget : ℕ) (slice : Option ℕ) (needs : List Matrix) (told : List SessionStep) (settled : List Progress) (left : Option ℕ) (past : List Progress) (o : Option Progress) → Stands afresh version budget slice needs told settled left past o → is_some o ≡ false
+none_current version budget slice needs told settled left past (Some s) h = absurd (let e = h.begun in cc)
+none_current version budget slice needs told settled left past None h = refl
 
-unmapped : {A B : Type 0} {f : A → B} (o : Option A) → is_some (option_map f o) ≡ false → is_some o ≡ false
-unmapped None e = refl
-unmapped (Some s) e = absurd (let g = e in cc)
+unmapped : {A B : Type 0} (f : A → B) (o : Option A) → is_some (option_map f o) ≡ false → is_some o ≡ false
+unmapped f None e = refl
+unmapped f (Some s) e = absurd (let g = e in cc)
 
 module _ (number budget : ℕ) (small : budget ≤ 2 ^ 40) (digest : List ℕ) (first : Around) where
-  code : Matrix
+  abbrev pub code : Matrix
   code = summary_code number
 
-  the_world : World
+  abbrev pub the_world : World
   the_world = started afresh budget None false digest 0 first
 
   evened : (a : Answer) (c : Course) (now : Around) → Goes the_world (code ∷ []) (a ∷ []) c now → IsEven the_world (code ∷ []) (a ∷ []) c now
-  evened a c now h = even the_world (code ∷ []) (a ∷ []) c now (unmapped c.current (none_current c.version budget None (code ∷ []) h.told (settled_in c) c.pace.slice h.done (option_map settled_of c.current) h.stands)) h
+  evened a c now h = even the_world (code ∷ []) (a ∷ []) c now (unmapped settled_of c.current (none_current c.version budget None (code ∷ []) h.told (settled_in c) c.pace.slice h.done (option_map settled_of c.current) h.stands)) h
 
   some_rows : HaveRows (code ∷ [])
   some_rows = All-cons (λ (C : Matrix). 0 < length C.rows) code [] (code_rows number) (All-nil (λ (C : Matrix). 0 < length C.rows))
@@ -102,14 +105,14 @@ module _ (number budget : ℕ) (small : budget ≤ 2 ^ 40) (digest : List ℕ) (
   -- ---- the session
 
   module _ (args : List (List ℕ)) (workers : ℕ) (source : Option (List ℕ)) (source_faults : ℕ) (sink : Option (List ℕ)) (sink_faults : ℕ) where
-    asked : Settings
+    abbrev pub asked : Settings
     asked = record { command = summary; workers = workers; budget = budget; slice = None; keep = false; number = number }
 
-    old : Outside
+    abbrev pub old : Outside
     old = outside_of source source_faults sink sink_faults first
 
     module _ (accepted : options all_options args ≡ settings asked) (c : Course) (now : Around) (taken : Option (List ℕ)) (taken_faults : ℕ) where
-      new : Outside
+      abbrev pub new : Outside
       new = outside_of source source_faults taken taken_faults now
 
       accepts_so : (ending : Ending) → ((i : ℕ) → ¬ (ending ≡ usage i)) → Accepts (options all_options args) asked old new ending
@@ -122,7 +125,7 @@ module _ (number budget : ℕ) (small : budget ≤ 2 ^ 40) (digest : List ℕ) (
       heard_so : (keep is_paused : Bool) (told : List SessionStep) → keep ≡ false → Kept keep (records_of told) is_paused first.watchers now.watchers → Kept false (records_of told) is_paused first.watchers now.watchers
       heard_so keep is_paused told e h = subst (λ (k : Bool). Kept k (records_of told) is_paused first.watchers now.watchers) e h
 
-      went : List SessionStep → Bool → List ℕ → session.Course
+      abbrev pub went : List SessionStep → Bool → List ℕ → session.Course
       went told is_paused text = record { bytes = []; needs = code ∷ []; start = fresh_start; turn = 0; told = told; left = []; is_paused = is_paused; text = text; is_faulty = false }
 
       replies : (a : Answer) (text : List ℕ) (h : Goes the_world (code ∷ []) (a ∷ []) c now) → text ≡ summary_text number budget → Replies built_calls summary asked first.vault (went (evened a c now h).told (evened a c now h).way.is_paused text)
@@ -207,3 +210,31 @@ module _ (number budget : ℕ) (small : budget ≤ 2 ^ 40) (digest : List ℕ) (
       -- the line was refused memory
       pub summary_starved : (a : Answer) → Goes the_world (code ∷ []) (a ∷ []) c now → taken ≡ sink → taken_faults ≡ sink_faults → IsSession built_calls args old new (no_memory c.pace.told)
       summary_starved a h same calm = starved_by (code ∷ []) (inr refl) (starving the_world (code ∷ []) (a ∷ []) c now h) same calm
+
+      -- ---- from what the calls did with the code
+
+      with_code : (C : Matrix) (a : Answer) → C ≡ code → Goes the_world (C ∷ []) (a ∷ []) c now → Goes the_world (code ∷ []) (a ∷ []) c now
+      with_code C a is h = subst (λ (x : Matrix). Goes the_world (x ∷ []) (a ∷ []) c now) is h
+
+      text_so : (C : Matrix) (a : Answer) (line text : List ℕ) → C ≡ code → Goes the_world (C ∷ []) (a ∷ []) c now → line ≡ answer_line distance C a → ((b : ℕ) → line ≡ query_line distance code b → c.pace.told ≡ round_count code b → text ≡ summary_text number b) → text ≡ summary_text number budget
+      text_so C a line text is h l f = text_is a c now line text (with_code C a is h) (l ∙ ap (λ (x : Matrix). answer_line distance x a) is) f
+
+      pub written_so : (C : Matrix) (a : Answer) (line text : List ℕ) → C ≡ code → Goes the_world (C ∷ []) (a ∷ []) c now → line ≡ answer_line distance C a → ((b : ℕ) → line ≡ query_line distance code b → c.pace.told ≡ round_count code b → text ≡ summary_text number b)
+          → Appends sink taken text → taken_faults ≡ sink_faults → IsSession built_calls args old new (done 0)
+      written_so C a line text is h l f written calm = summary_done a text (with_code C a is h) (text_so C a line text is h l f) written calm
+
+      pub unwritten_so : (C : Matrix) (a : Answer) (line text : List ℕ) → C ≡ code → Goes the_world (C ∷ []) (a ∷ []) c now → line ≡ answer_line distance C a → ((b : ℕ) → line ≡ query_line distance code b → c.pace.told ≡ round_count code b → text ≡ summary_text number b)
+          → AppendsPart sink taken text → HasRisen sink_faults taken_faults → IsSession built_calls args old new sink_fault
+      unwritten_so C a line text is h l f written risen = summary_unwritten a text (with_code C a is h) (text_so C a line text is h l f) written risen
+
+      pub starved_so : (C : Matrix) (a : Answer) → C ≡ code → Goes the_world (C ∷ []) (a ∷ []) c now → taken ≡ sink → taken_faults ≡ sink_faults → IsSession built_calls args old new (no_memory c.pace.told)
+      starved_so C a is h same calm = summary_starved a (with_code C a is h) same calm
+
+      pub halted_so : (C : Matrix) (x : Halt) → C ≡ code → Halts the_world [] C c now x → taken ≡ sink → taken_faults ≡ sink_faults → IsSession built_calls args old new (no_memory c.pace.told)
+      halted_so C x is h same calm = summary_halted x (subst (λ (y : Matrix). Halts the_world [] y c now x) is h) same calm
+
+-- memory was refused before its search
+pub summary_unstarted : (args : List (List ℕ)) (workers budget number : ℕ) (old : Outside) → options all_options args ≡ settings (record { command = summary; workers = workers; budget = budget; slice = None; keep = false; number = number }) → IsSession built_calls args old old (no_memory 0)
+summary_unstarted args workers budget number old accepted =
+    let asked : Settings = record { command = summary; workers = workers; budget = budget; slice = None; keep = false; number = number } in
+    early args asked old old [] (no_memory 0) accepted (λ i e. cc) refl refl (record { start = refl; turn = refl }) refl refl refl tt refl (record { source = refl; sink = refl; vault = refl })

@@ -18,12 +18,12 @@ ghost use Rattle.lc_session.specs.declared.reply.End.TheVariants as end;
 use crate::input::{InputRefusal, input};
 use crate::reply::{End, Reply};
 use crate::status::Status;
+use lc_arguments::{Asked, Command};
 use lc_certificate::{CertRefusal, Certificate, parse};
 use lc_checker::{Reason, Verdict, check as judge};
 use lc_field::NoMemory;
-use lc_print::{accepted_line, rejected_line};
-use lc_arguments::{Asked, Command};
 use lc_io::{Sink, Source, write_whole};
+use lc_print::{accepted_line, rejected_line};
 use std::alloc::Global;
 
 // The reply to a certificate that is rejected for this reason.

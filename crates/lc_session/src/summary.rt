@@ -10,10 +10,10 @@ ghost use Rattle.lc_script.specs.Worlds.{outside_of};
 ghost use Rattle.lc_session.specs.Ending.{ending_of};
 
 use crate::status::Status;
+use lc_answers::afresh;
 use lc_arguments::{Asked, Command};
 use lc_eval::QueryKind;
 use lc_io::{Gate, Sink, Vault, Watcher, write_whole};
-use lc_answers::afresh;
 use lc_script::need_line;
 use lc_summary::{summary_code, summary_line};
 use std::alloc::Global;
@@ -40,7 +40,7 @@ pub(crate) fn summary<R: Threads + Sync, K: Sink, V: Vault, W: Watcher, G: Gate 
         return Status::NoMemory { told: 0 };
     };
     let mut course = afresh(alloc, false, None, asked.budget, [0; 32]);
-    let found = need_line(
+    let line = match need_line(
         rt,
         alloc,
         asked.workers as u32,
@@ -50,11 +50,15 @@ pub(crate) fn summary<R: Threads + Sync, K: Sink, V: Vault, W: Watcher, G: Gate 
         &mut course,
         QueryKind::Distance,
         &code,
-    );
-    let told = course.pace.told;
-    let Ok(line) = found else {
-        return Status::NoMemory { told };
+    ) {
+        Ok(line) => line,
+        Err(_) => {
+            return Status::NoMemory {
+                told: course.pace.told,
+            };
+        }
     };
+    let told = course.pace.told;
     let Ok(text) = summary_line(alloc, asked.seed, &line, told) else {
         return Status::NoMemory { told };
     };

@@ -1,0 +1,45 @@
+use Rattle.std.proofs.Common.{Err, refl, ap, ◌∙◌}
+use Rattle.lc_sessions.specs.Options.{settings}
+use Rattle.lc_arguments.specs.Asked.{settings_for}
+use Rattle.lc_session.proofs.AskedLaws.{check_reads, check_asked}
+use Rattle.lc_session.proofs.EarlyEnds.{source_failed, too_much, unread}
+use Rattle.lc_session.proofs.CheckSessions.{done_session, refused_session, failing_session, starved_session}
+use Rattle.lc_session.proofs.check.check.Goals as goal
+
+pub returns-in-Err-Failed : goal.returns-in-Err-Failed
+returns-in-Err-Failed g c args now accepted =
+    let e = c.in-Err-Failed.field-0-is in
+    source_failed args (settings_for c.args._asked) _ _ _ now accepted (check_reads c.args._asked c.requires.checks) refl refl refl (c.in-Err-Failed.ensures.before (ap Err e)) (c.in-Err-Failed.ensures.failed (ap Err e))
+
+pub returns-in-Err-TooLong : goal.returns-in-Err-TooLong
+returns-in-Err-TooLong g c args now accepted =
+    let e = c.in-Err-TooLong.field-0-is in
+    too_much args (settings_for c.args._asked) _ _ _ now accepted (check_reads c.args._asked c.requires.checks) refl refl refl (c.in-Err-TooLong.ensures.too_long (ap Err e)) (c.in-Err-TooLong.ensures.count (λ f. cc))
+
+pub returns-in-Err-NoMemory : goal.returns-in-Err-NoMemory
+returns-in-Err-NoMemory g c args now accepted =
+    let e = c.in-Err-NoMemory.field-0-is in
+    unread args (settings_for c.args._asked) _ _ _ now accepted (check_reads c.args._asked c.requires.checks) refl refl refl (c.in-Err-NoMemory.ensures.front (ap Err e)) (c.in-Err-NoMemory.ensures.count (λ f. cc))
+
+pub returns-in_default : goal.returns-in_default
+returns-in_default g c args now accepted =
+    let a = c.args._asked in
+    starved_session args a.workers a.budget a.seed (accepted ∙ ap settings (check_asked a c.requires.within c.requires.checks)) now _ _ _ _ _ _ _ _ c.in-Ok.bytes.items (record { gave = c.in-Ok.ensures.given; ended = c.in-Ok.ensures.ended; within = c.in-Ok.ensures.within }) (c.in-Ok.ensures.count (λ f. cc)) refl refl
+
+pub returns-in-Done : goal.returns-in-Done
+returns-in-Done g c args now accepted =
+    let a = c.args._asked in
+    done_session args a.workers a.budget a.seed (accepted ∙ ap settings (check_asked a c.requires.within c.requires.checks)) now _ _ _ _ _ _ _ _ c.in-Ok.bytes.items (record { gave = c.in-Ok.ensures.given; ended = c.in-Ok.ensures.ended; within = c.in-Ok.ensures.within }) (c.in-Ok.ensures.count (λ f. cc))
+    c.in-Ok-checked.reply.text.items c.in-Ok-checked.reply.end c.in-Done.number (rw c.deref.ensures.value at c.in-Ok-checked.ensures) c.in-Done.is (rw c.deref-2.ensures.value at c.in-Ok-write_whole.ensures.whole) c.in-Ok-write_whole.ensures.count
+
+pub returns-in-Ok-write_whole : goal.returns-in-Ok-write_whole
+returns-in-Ok-write_whole g c args now accepted =
+    let a = c.args._asked in
+    refused_session args a.workers a.budget a.seed (accepted ∙ ap settings (check_asked a c.requires.within c.requires.checks)) now _ _ _ _ _ _ _ _ c.in-Ok.bytes.items (record { gave = c.in-Ok.ensures.given; ended = c.in-Ok.ensures.ended; within = c.in-Ok.ensures.within }) (c.in-Ok.ensures.count (λ f. cc))
+    c.in-Ok-checked.reply.text.items c.in-Ok-checked.reply.end c.in-Rejected.reason (rw c.deref.ensures.value at c.in-Ok-checked.ensures) c.in-Rejected.is (rw c.deref-2.ensures.value at c.in-Ok-write_whole.ensures.whole) c.in-Ok-write_whole.ensures.count
+
+pub returns : goal.returns
+returns g c args now accepted =
+    let a = c.args._asked in
+    failing_session args a.workers a.budget a.seed (accepted ∙ ap settings (check_asked a c.requires.within c.requires.checks)) now _ _ _ _ _ _ _ _ c.in-Ok.bytes.items (record { gave = c.in-Ok.ensures.given; ended = c.in-Ok.ensures.ended; within = c.in-Ok.ensures.within }) (c.in-Ok.ensures.count (λ f. cc))
+    c.in-Ok-checked.reply.text.items c.in-Ok-checked.reply.end (rw c.deref.ensures.value at c.in-Ok-checked.ensures) (rw c.deref-2.ensures.value at c.in-Err.ensures.front) c.in-Err.ensures.count
