@@ -3,7 +3,8 @@
 #
 #   sbatch --array=1-$(wc -l < folders.txt) tools/cluster/array.slurm folders.txt budget=1000000000
 #
-# A task that is stopped by its time limit or by a failing node is queued again and goes on from its last checkpoint.
+# from the top of the repository. A task that is stopped by its time limit or by a failing node is queued again and goes on from
+# its last checkpoint.
 #SBATCH --time=04:00:00
 #SBATCH --cpus-per-task=4
 #SBATCH --requeue
@@ -15,7 +16,8 @@ folder=$(sed -n "${SLURM_ARRAY_TASK_ID}p" "$list")
 # two minutes before the time limit the session is asked to stop; the next task goes on with it
 trap 'touch "$folder/codes.stop"' USR1
 rm -f "$folder/codes.stop"
-"$(dirname "$0")/job" "$folder" "workers=$SLURM_CPUS_PER_TASK" "$@" &
+# Slurm runs a copy of this file: the other script is found from the folder in which the array was submitted
+"${SLURM_SUBMIT_DIR:-.}/tools/cluster/job" "$folder" "workers=$SLURM_CPUS_PER_TASK" "$@" &
 job=$!
 while :; do
     wait "$job"
