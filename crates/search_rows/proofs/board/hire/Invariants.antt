@@ -1,7 +1,7 @@
 use Rattle.std.proofs.Common.{◌≡◌, ◌+◌, length, true}
 use Rattle.std.specs.Prelude.{All}
 use Rattle.lc_board.specs.Board.{AllReported}
-use Rattle.codes_rows.proofs.board.hire.Given as goal
+use Rattle.search_rows.proofs.board.hire.Given as goal
 
 abbrev pub invariant-loop : goal.invariant-loop
 invariant-loop l =

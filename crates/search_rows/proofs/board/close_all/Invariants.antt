@@ -1,6 +1,6 @@
 use Rattle.std.proofs.Common.{◌≡◌, ◌+◌, length, vec_len}
 use Rattle.std.specs.Prelude.{All}
-use Rattle.codes_rows.proofs.board.close_all.Given as goal
+use Rattle.search_rows.proofs.board.close_all.Given as goal
 
 abbrev pub invariant-loop-worker : goal.invariant-loop-worker
 invariant-loop-worker l =

@@ -2,8 +2,8 @@ use Rattle.std.proofs.Common.{arith, ◌≡◌, length, length-append, Some, Lis
 use Rattle.std.specs.Prelude.{All}
 use Rattle.std.proofs.lemmas.List.Elements.{All-pop, All-push}
 use Rattle.lc_board.specs.Seats.{Seated}
-use Rattle.codes_rows.specs.declared.board.Worker.{Worker}
-use Rattle.codes_rows.proofs.board.close_all.Goals as goal
+use Rattle.search_rows.specs.declared.board.Worker.{Worker}
+use Rattle.search_rows.proofs.board.close_all.Goals as goal
 
 pub loop-worker-preserved : goal.loop-worker-preserved
 loop-worker-preserved c =

@@ -1,5 +1,5 @@
 use Rattle.std.proofs.Common.{length}
-use Rattle.codes_rows.proofs.board.+fn-work_all-join_mut+arg2+fn-work_all-join_mut+arg3+work_all.Given as goal
+use Rattle.search_rows.proofs.board.+fn-work_all-join_mut+arg2+fn-work_all-join_mut+arg3+work_all.Given as goal
 
 abbrev pub decreases-join_mut+arg2 : goal.decreases-join_mut+arg2
 decreases-join_mut+arg2 g l = length l.front.now
