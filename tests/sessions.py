@@ -227,6 +227,16 @@ def slices(checks, program, budget):
         checks.that((status, out) == (wanted, text) and records_in(err)[0][0] == 1, 'the first search is settled, and not done again')
 
 
+def example(checks, program):
+    """What examples/in_slices.codes says of itself."""
+    front = os.path.join(os.path.dirname(os.path.abspath(__file__)), '..', 'examples', 'in_slices')
+    with open(front + '.codes', 'rb') as script, open(front + '.out', 'rb') as text:
+        folder, wanted = Folder(program, script.read(), 1 << 20), text.read()
+    with folder:
+        status, out, _, count = in_slices(folder, 30)
+        checks.that((status, out, count) == (DONE, wanted, 3), 'examples/in_slices: status %d after %d sessions' % (status, count))
+
+
 def flipped(held, at):
     return held[:at] + bytes([held[at] ^ 1]) + held[at + 1:]
 
@@ -385,7 +395,7 @@ def main():
     parts = [lambda seed=seed: kill_at_random(checks, program, budget, -(-kills // LANES), seed) for seed in range(LANES)]
     for part in (stop_file, slices, changed_slots, full_disk, read_only_folder, faulty_folders, record_lines):
         parts.append(lambda part=part: part(checks, program, budget))
-    parts.append(lambda: earlier_versions(checks, program))
+    parts += [lambda: earlier_versions(checks, program), lambda: example(checks, program)]
     with ThreadPoolExecutor(LANES) as lanes:
         for ran in [lanes.submit(part) for part in parts]:
             ran.result()
