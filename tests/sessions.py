@@ -5,7 +5,8 @@
 
 Runs PROGRAM in folders of its own: killed (SIGKILL) at KILLS random moments (200) over three scripts and resumed until it is
 done, stopped by the file codes.stop, cut in slices, over slots that are damaged, swapped, foreign or forged, over checkpoints
-of version 1, and over folders in which nothing can be stored. A session that finishes must print the text of the same script
+of version 1, and over folders in which nothing can be stored. If strace is there, a session is also killed at each of its calls
+of the kernel on files, and each of these fails once. A session that finishes must print the text of the same script
 without checkpoints. The searches are long enough for a second or two of PROGRAM. Prints a line for each check that fails, and
 at the end 'N passed, M failed'.
 """
@@ -24,7 +25,7 @@ DONE, USAGE, PAUSED, VAULT_FAULT, NO_CHECKPOINT, DAMAGED, OTHER_SCRIPT, UNFIT = 
 LANES = 2
 MOST_IN_A_CHAIN = 12
 
-# the search of the first script is one of 2,331 blocks, and tells how fast the program is
+# a search of 2,331 blocks, which tells how fast the program is with its checkpoints
 SPEED, SPEED_BLOCKS = b'MinimumDistance(BCHCode(63,7,GF(2)));', 2331
 SCRIPTS = {
     'one search': b'C := BCHCode(127,13,GF(2));\nDimension(C);\nMinimumDistance(C);\n',
@@ -130,7 +131,7 @@ class Checks:
 def budget_for(program):
     with Folder(program, SPEED, 100000) as folder:
         began = time.monotonic()
-        folder.session('run')
+        folder.session('run', 'keep=yes')
         return max(700, min(60000, int(2 * SPEED_BLOCKS / (time.monotonic() - began))))
 
 
@@ -173,8 +174,9 @@ def kill_at_random(checks, program, budget, kills, seed):
     plain = {}
     for name in SCRIPTS:
         with Folder(program, SCRIPTS[name], budget) as folder:
-            began = time.monotonic()
-            plain[name] = folder.session('run')[:2], max(0.01, (time.monotonic() - began) / 4)
+            wanted, began = folder.session('run')[:2], time.monotonic()
+            checks.that(folder.session('run', 'keep=yes')[:2] == wanted, name + ': another text with checkpoints')
+            plain[name] = wanted, (time.monotonic() - began) / 4
     done = turn = 0
     while done < kills:
         name = list(SCRIPTS)[turn % len(SCRIPTS)]
@@ -370,6 +372,47 @@ def faulty_folders(checks, program, budget):
         checks.that(folder.session('run', 'keep=yes')[0] == VAULT_FAULT, 'a slot that is a folder can not be emptied')
 
 
+# the calls of the kernel by which a session opens, writes, syncs and renames a file, and a way in which each may fail
+FAULTS = {'openat': 'EMFILE', 'write': 'ENOSPC', 'fsync': 'EIO', 'rename': 'EIO'}
+
+
+def traced(call, log, *more):
+    return ('strace', '-f', '-qq', '-o', log, '-e', 'trace=' + call, *more)
+
+
+def calls_of_a_session(program, call):
+    """The numbers, from 1, of these calls in a session that keeps its checkpoints; of those that open a file, those that open a
+    slot. None if there is no strace, or it may not be used."""
+    if shutil.which('strace') is None:
+        return None
+    with Folder(program, GOLAY, 1 << 20) as folder:
+        log = os.path.join(folder.path, 'log')
+        if folder.session('run', 'keep=yes', before=traced(call, log))[0] != DONE:
+            return None
+        with open(log) as lines:
+            return [i for i, line in enumerate(lines, 1) if call != 'openat' or 'codes.slot' in line]
+
+
+def at_each_call(checks, program, call, what):
+    """A session of which one call of the kernel after another is the last, or fails, and the session after it. None may leave a
+    slot that is no checkpoint."""
+    numbers = calls_of_a_session(program, call)
+    if numbers is None:
+        return
+    checks.that(len(numbers) >= 8, '%s: only %d calls' % (call, len(numbers)))
+    text = b'distance 7 word ' + GOLAY_WORD + b'] blocks 6\n'
+    for number in numbers:
+        with Folder(program, GOLAY, 1 << 20) as folder:
+            before = traced(call, '/dev/null', '-e', 'inject=%s:%s:when=%d' % (call, what, number))
+            status, out, _ = folder.session('run', 'keep=yes', before=before)
+            name = '%s %d %s: status %d' % (call, number, what, status)
+            checks.that(out == text if status == DONE else text.startswith(out), name + ', or another text')
+            checks.that(all(is_sealed(slot) for slot in folder.both() if slot), name + ', and a slot that is no checkpoint')
+            again, out, _ = folder.session('resume', 'keep=yes')
+            wanted = (DONE, text) if any(folder.both()) else (NO_CHECKPOINT, b'')
+            checks.that((again, out) == wanted, '%s, then %d' % (name, again))
+
+
 def record_lines(checks, program, budget):
     with Folder(program, SCRIPTS['two searches'], budget) as folder:
         wanted, text, err = folder.session('run')
@@ -396,6 +439,9 @@ def main():
     for part in (stop_file, slices, changed_slots, full_disk, read_only_folder, faulty_folders, record_lines):
         parts.append(lambda part=part: part(checks, program, budget))
     parts += [lambda: earlier_versions(checks, program), lambda: example(checks, program)]
+    for call, error in FAULTS.items():
+        for what in ('signal=KILL', 'error=' + error):
+            parts.append(lambda call=call, what=what: at_each_call(checks, program, call, what))
     with ThreadPoolExecutor(LANES) as lanes:
         for ran in [lanes.submit(part) for part in parts]:
             ran.result()
