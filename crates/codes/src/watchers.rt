@@ -1,37 +1,53 @@
 //! The watchers of the program.
-ghost use Rattle.std.specs.Prelude.{None};
+ghost use Rattle.std.specs.Prelude.{◌≡◌, ◌++◌, None, OnOk, decimal};
+ghost use Rattle.codes.specs.Lines.{record_line};
 
-use lc_io::{Advice, NoMemory, Record, Watcher};
+use itoa::Buffer;
+use lc_io::{Advice, NoMemory, Record, Watcher, WriterSink, write_whole};
 use std::alloc::Global;
 use std::fs;
 use std::fs::Files;
-use std::io::{BufWriter, Write};
+use std::io::Write;
 
 // More than the bytes of any line: four numbers of at most twenty digits, and their names.
 const LONGEST_LINE: usize = 128;
 
+// A name and a number in decimal digits.
+fn push_named(line: &mut Vec<u8>, name: &[u8], number: u64) -> Result<(), NoMemory>
+    ensures { OnOk result (line.new.items ≡ line.old.items ++ name.now ++ decimal number) }
+{
+    line.extend_from_slice(name)?;
+    line.extend_from_slice(Buffer::new().format(number).as_bytes())?;
+    Ok(())
+}
+
+// Replaces the line by that of a record.
+#[tactic(auto, unfolding(crate::specs::Lines::record_line))]
+fn put_line(line: &mut Vec<u8>, note: &Record) -> Result<(), NoMemory>
+    ensures { OnOk result (line.new.items ≡ record_line note.now) }
+{
+    line.clear();
+    push_named(line, b"query ", note.query)?;
+    push_named(line, b" blocks ", note.blocks)?;
+    push_named(line, b" bound ", note.bound)?;
+    push_named(line, b" best ", note.best)?;
+    line.extend_from_slice(b"\n")?;
+    Ok(())
+}
+
 /// Writes a line for each record, and leaves after the first write that fails.
 #[derive(Drop)]
 pub(crate) struct LineWatcher<W: Write + Drop> {
-    out: BufWriter<W>,
+    line: Vec<u8>,
+    sink: WriterSink<W>,
 }
 
 impl<W: Write + Drop> LineWatcher<W> {
-    /// A watcher that writes each line at once.
+    /// A watcher that writes each line at once. It takes the room for its lines here, and none later.
     pub(crate) fn new(alloc: Global, out: W) -> Result<LineWatcher<W>, NoMemory> {
-        match BufWriter::with_capacity(alloc, LONGEST_LINE, out) {
-            Ok(out) => Ok(LineWatcher { out }),
-            Err(_) => Err(NoMemory),
-        }
-    }
-
-    fn write(&mut self, note: &Record) -> std::io::Result<()> {
-        writeln!(
-            self.out,
-            "query {} blocks {} bound {} best {}",
-            note.query, note.blocks, note.bound, note.best
-        )?;
-        self.out.flush()
+        let line = Vec::with_capacity(alloc, LONGEST_LINE)?;
+        let sink = WriterSink::new(out);
+        Ok(LineWatcher { line, sink })
     }
 }
 
@@ -45,7 +61,10 @@ impl<W: Write + Drop> Watcher for LineWatcher<W> {
     ghost pauses = { λ w. 0 };
 
     fn told(&mut self, note: &Record) -> Advice {
-        match self.write(note) {
+        if put_line(&mut self.line, note).is_err() {
+            return Advice::Leave;
+        }
+        match write_whole(&mut self.sink, &self.line) {
             Ok(()) => Advice::Go,
             Err(_) => Advice::Leave,
         }
