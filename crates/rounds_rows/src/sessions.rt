@@ -165,7 +165,7 @@ fn reads_and_writes_that_fail_end_a_session(rt: HostRuntime) -> Result<(), Fail>
     Ok(())
 }
 
-// Words that are refused, and the line of the first that is.
+// Arguments that are refused, and what is said of the first that is.
 const REFUSED: [(&[&str], &[u8]); 6] = [
     (&[], b"codes: word 0 refused\n"),
     (&["run", "run"], b"codes: word 1 refused\n"),
@@ -185,7 +185,7 @@ fn are_refused<R: Threads + Sync>(
 }
 
 #[test]
-fn words_are_refused(rt: HostRuntime) -> Result<(), Fail> {
+fn arguments_are_refused(rt: HostRuntime) -> Result<(), Fail> {
     let mut vault = MemoryVault::new(rt.alloc(), 0, &[])?;
     for row in &REFUSED {
         assert!(rt; are_refused(&rt, rt.alloc(), &mut vault, row)?);

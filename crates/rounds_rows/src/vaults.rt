@@ -67,7 +67,7 @@ fn answers<R: Threads + Sync>(
     gives(rt, alloc, words, &mut source, vault, text, line)
 }
 
-// Whether a session with these words on this script ends with this text and this line.
+// Whether a session with these arguments on this script ends with this text and this line.
 pub(crate) fn ends<R: Threads + Sync>(
     rt: &R,
     alloc: Global,
@@ -161,7 +161,7 @@ fn a_store_that_fails_leaves_the_other_slot(rt: HostRuntime) -> Result<(), Fail>
     Ok(())
 }
 
-// A session that pauses after two rounds, one of which this load fails, and one that goes on.
+// A session that pauses after two rounds, a session of which this load fails, and one that goes on.
 fn survives_a_load<R: Threads + Sync>(rt: &R, alloc: Global, call: u64) -> Result<bool, Fail> {
     let mut vault = MemoryVault::new(alloc, 512, &[call])?;
     let slice = ["run", "keep=yes", "slice=2"];
