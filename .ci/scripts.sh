@@ -1,8 +1,11 @@
 # How the repository's checks run the program on scripts. `.ci/checks` reads this file; it sets `program`, the path of the
 # program, and `room`, an empty folder for what it writes, and counts by its function `check`.
 
+# what was written to $room/err but for the lines of records, as $room/said
+but_for_records() { grep -vxE 'query [0-9]+ blocks [0-9]+ bound [0-9]+ best [0-9]+' "$room/err" >"$room/said" || :; }
+
 # gives SCRIPT OUT STATUS ERR WORD..: on that script, with these words, the program writes exactly the bytes of OUT and ERR,
-# and ends with STATUS
+# the lines of records apart, and ends with STATUS
 gives() {
     local script=$1 out=$2 status=$3 err=$4 got
     shift 4
@@ -10,8 +13,9 @@ gives() {
     got=$?
     [ "$got" -eq "$status" ] || echo "status $got, wanted $status"
     cmp "$room/out" "$out" || echo "standard output: $(head -c 200 "$room/out" | head -n 5)"
-    cmp "$room/err" "$err" || echo "standard error: $(head -c 200 "$room/err")"
-    [ "$got" -eq "$status" ] && cmp -s "$room/out" "$out" && cmp -s "$room/err" "$err"
+    but_for_records
+    cmp "$room/said" "$err" || echo "standard error: $(head -c 200 "$room/said")"
+    [ "$got" -eq "$status" ] && cmp -s "$room/out" "$out" && cmp -s "$room/said" "$err"
 }
 
 # stored FRONT: the case of the files FRONT.codes (the script), FRONT.out (the text), and where they are there FRONT.status
@@ -126,7 +130,8 @@ ends() {
     "$@" >"$room/out" 2>"$room/err"
     got=$?
     [ "$got" -eq "$status" ] || { echo "status $got, wanted $status"; return 1; }
-    { [ -z "$says" ] || echo "$says"; } | cmp - "$room/err" || { echo "standard error: $(head -c 200 "$room/err")"; return 1; }
+    but_for_records
+    { [ -z "$says" ] || echo "$says"; } | cmp - "$room/said" || { echo "standard error: $(head -c 200 "$room/said")"; return 1; }
 }
 
 reads_a_folder() { "$program" run </; }
@@ -181,7 +186,8 @@ explains() {
     python3 tools/explain.py "$program" "$1.codes" >"$room/out" 2>"$room/err"
     got=$?
     [ "$got" -eq "$(cat "$1.status")" ] || { echo "status $got"; return 1; }
-    cmp "$room/out" "$1.out" && diff "$room/err" "$1.err"
+    but_for_records
+    cmp "$room/out" "$1.out" && diff "$room/said" "$1.err"
 }
 
 check_explanations() {
@@ -200,6 +206,12 @@ check_bridges() {
     if command -v sage >/dev/null; then check 'tools/sage/codes.py and Sage agree' agrees_with_sage; fi
 }
 
+check_sessions() {
+    check 'sessions that are killed, stopped, cut in slices and resumed' python3 -B tests/sessions.py "$program"
+    check 'streams and folders that fail, and scripts at the limits of the language' python3 -B tests/hostile.py "$program"
+    check '2,000 changed checkpoints: the program and tools/checkpoints.py agree' python3 -B tools/checkpoints.py "$program" 2000
+}
+
 check_program() {
     local document
     : >"$room/nothing"
@@ -211,5 +223,6 @@ check_program() {
     check_explanations
     check_against_reference
     check_certificates
+    check_sessions
     check_bridges
 }

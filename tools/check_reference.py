@@ -3,24 +3,38 @@
 
     tools/check_reference.py FOLDER..
 
-Looks at each NAME.codes of the folders, with its NAME.out and NAME.status, and leaves out those that have words of their
-own (NAME.words). Prints the names of those that differ, and ends with 1 where there is one.
+Looks at each NAME.codes of the folders, with its NAME.out, NAME.status, NAME.err and NAME.words, and leaves out checks of
+certificates and sessions that keep checkpoints. Prints the names of those that differ, and ends with 1 where there is one.
 """
 import sys
 from pathlib import Path
 
-from reference import text_and_status
+from reference import ended
+
+
+def beside(script, suffix, otherwise):
+    file = script.with_suffix(suffix)
+    return file.read_bytes() if file.exists() else otherwise
+
+
+def is_record(line):
+    return line.startswith(b"query ")
 
 
 def main():
     differ = 0
     for folder in sys.argv[1:]:
         for script in sorted(Path(folder).glob("*.codes")):
-            status = script.with_suffix(".status")
-            wanted = script.with_suffix(".out").read_bytes(), int(status.read_text()) if status.exists() else 0
-            if not script.with_suffix(".words").exists() and text_and_status(script.read_bytes()) != wanted:
+            words = beside(script, ".words", b"run\n").decode().splitlines()
+            wanted = beside(script, ".out", b""), int(beside(script, ".status", b"0")), beside(script, ".err", b"")
+            found = ended(words, script.read_bytes())
+            if found is None:
+                continue
+            text, status, error = found
+            said = b"".join(line for line in error.splitlines(True) if not is_record(line))
+            if (text, status, said) != wanted:
                 differ += 1
-                print(f"{script}: {text_and_status(script.read_bytes())}")
+                print(f"{script}: {found}")
     sys.exit(1 if differ else 0)
 
 

@@ -3,15 +3,15 @@
 
     tools/compare.py PROGRAM KIND COUNT
 
-PROGRAM is the path of `codes`; KIND is one of those of tools/random_scripts.py. The texts and the statuses must be the
-same, and standard error empty. Prints each script on which they differ, and ends with 1 where there is one.
+PROGRAM is the path of `codes`; KIND is one of those of tools/random_scripts.py. The texts, the statuses and the records on
+standard error must be the same. Prints each script on which they differ, and ends with 1 where there is one.
 """
 import subprocess
 import sys
 from concurrent.futures import ThreadPoolExecutor
 
 from random_scripts import scripts
-from reference import text_and_status
+from reference import ended
 
 LANES = 4
 
@@ -27,10 +27,10 @@ def main():
     differ = 0
     with ThreadPoolExecutor(LANES) as lanes:
         for script, (text, status, error) in zip(made, lanes.map(lambda script: run(program, script), made)):
-            wanted, wanted_status = text_and_status(script)
-            if (text, status, error) != (wanted, wanted_status, b""):
+            wanted = ended(["run"], script)
+            if (text, status, error) != wanted:
                 differ += 1
-                print(f"{script}\n  program    {status} {text} {error}\n  reference  {wanted_status} {wanted}")
+                print(f"{script}\n  program    {status} {text} {error}\n  reference  {wanted[1]} {wanted[0]} {wanted[2]}")
     print(f"{kind}: {count} scripts, {differ} differ")
     sys.exit(1 if differ else 0)
 

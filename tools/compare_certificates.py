@@ -43,9 +43,9 @@ def codes():
 
 def certificates():
     for code in codes():
-        yield reference.certificate_line(code, "levels")
+        yield reference.certificate_line(reference.Session(), code, "levels")
         if code.size ** len(code.rows) <= 20000:
-            yield reference.certificate_line(code, "scan")
+            yield reference.certificate_line(reference.Session(), code, "scan")
 
 
 def any_value(random):

@@ -291,7 +291,7 @@ def of_statements(statements, fault):
     for statement in statements:
         try:
             if reference.is_query(statement):
-                reference.call_value(statement.expr, QUERIES, names)
+                reference.call_value(statement.expr, QUERIES, names, reference.Session())
             else:
                 value = reference.value_of(statement.expr, names)
                 if statement.target is not None:

@@ -1,14 +1,17 @@
 #!/usr/bin/env python3
 """A second reader of scripts: what `codes run` must print, found in the plainest way.
 
-    tools/reference.py < SCRIPT
+    tools/reference.py [run [workers=N] [budget=N]] < SCRIPT
+    tools/reference.py summary seed=N [workers=N] [budget=N]
 
-writes the text of the script to standard output and ends with its status: 0, or 1 where the last line is a fault line,
-or 12 where the script has more than 1,048,576 bytes. It follows docs/FORMATS.md, stands beside the product and shares
-nothing with it. It is slow and easy to read: tokens are found one at a time, a fault ends everything at once, codes are
-made by plain elimination, and least words are found by listing all words.
+writes the text of the script to standard output and the records of its searches to standard error, and ends with its status: 0,
+or 1 where the last line is a fault line, or 2 where a word is refused, or 12 where the script has more than 1,048,576 bytes. It
+keeps no checkpoints. It follows docs/FORMATS.md, stands beside the product and shares nothing with it. It is slow and easy to
+read: tokens are found one at a time, a fault ends everything at once, codes are made by plain elimination, and least words are
+found by listing all words.
 """
 import json
+import re
 import sys
 from dataclasses import dataclass
 from functools import lru_cache
@@ -31,6 +34,7 @@ LONGEST = 255
 MOST_WORDS = 2**16
 MOST_COSETS = 2**20
 BUDGET = 2**20  # blocks of a search
+MOST_BLOCKS = 2**40
 
 
 class Fault(Exception):
@@ -762,10 +766,26 @@ def least_word_line(rows, field):
     return f"least {weight_of(word)} word {text_of(list(word))}"
 
 
-def minimum_distance_line(code):
+class Session:
+    """The budget of the searches of a script, and the records of those that are done."""
+
+    def __init__(self, budget=BUDGET):
+        self.budget, self.searches, self.records = budget, 0, []
+
+    def answer(self, code):
+        found, rounds = search.search(code.size, code.length, code.rows, self.budget)
+        self.records += [(self.searches, *record) for record in rounds]
+        self.searches += 1
+        return found
+
+    def lines(self):
+        return "".join("query %d blocks %d bound %d best %d\n" % record for record in self.records).encode()
+
+
+def minimum_distance_line(session, code):
     if not code.rows:
         return "distance none"
-    is_exact, low, weight, word, blocks = search.answer(code.size, code.length, code.rows, BUDGET)
+    is_exact, low, weight, word, blocks = session.answer(code)
     distance = f"{weight}" if is_exact else f"between {low} and {weight}"
     return f"distance {distance} word {text_of(list(word))} blocks {blocks}"
 
@@ -778,10 +798,10 @@ def cost_of(code, levels):
     return sum(comb(k, w) * (q - 1) ** (w - 1) for level in levels for w in range(1, min(level, k) + 1))
 
 
-def certificate_line(code, by):
+def certificate_line(session, code, by):
     if not code.rows:
         return "certificate none"
-    is_exact, low, weight, word, blocks = search.answer(code.size, code.length, code.rows, BUDGET)
+    is_exact, low, weight, word, blocks = session.answer(code)
     if not is_exact:
         return f"certificate none between {low} and {weight}"
     field, k = arithmetic(code.size), len(code.rows)
@@ -839,13 +859,13 @@ CALLS = {
     "IsCodeword": ([("code", "numbers")], is_codeword),
     "Decode": ([("code", "numbers")], decode),
 }
-# these print a line of their own, and stand only as a whole statement
+# these print a line of their own, and stand only as a whole statement; the functions get the session first
 QUERIES = {
-    "AlgebraicDecode": ([("code", "numbers")], algebraic_decode_line),
-    "LeastWord": ([("lists", "field")], least_word_line),
+    "AlgebraicDecode": ([("code", "numbers")], lambda _, code, word: algebraic_decode_line(code, word)),
+    "LeastWord": ([("lists", "field")], lambda _, rows, field: least_word_line(rows, field)),
     "MinimumDistance": ([("code",)], minimum_distance_line),
-    "Certificate": ([("code",)], lambda code: certificate_line(code, "levels")),
-    "ScanCertificate": ([("code",)], lambda code: certificate_line(code, "scan")),
+    "Certificate": ([("code",)], lambda session, code: certificate_line(session, code, "levels")),
+    "ScanCertificate": ([("code",)], lambda session, code: certificate_line(session, code, "scan")),
 }
 
 
@@ -897,7 +917,7 @@ def list_value(parts, names):
     return values
 
 
-def call_value(expr, table, names):
+def call_value(expr, table, names, *before):
     """What a call of this table gives; its name stands in the table."""
     forms, function = table[expr.value.decode()]
     kinds = next((form for form in forms if len(form) == len(expr.parts)), None)
@@ -908,7 +928,7 @@ def call_value(expr, table, names):
         if not is_of_kind(kind, value):
             raise Fault(45, part.place)
     try:
-        return function(*values)
+        return function(*before, *values)
     except Refused as refusal:
         raise Fault(refusal.number, expr.place, refusal.values) from None
 
@@ -935,15 +955,16 @@ def is_query(statement):
     return statement.target is None and expr.kind == "call" and expr.value.decode() in QUERIES
 
 
-def text_and_status(script):
+def text_and_status(script, session=None):
     """The text of a script, as bytes, and the status."""
     if len(script) > INPUT_LIMIT:
         return b"", 12
+    session = session or Session()
     lines, names, status = [], {}, 0
     try:
         for statement in read_script(script):
             if is_query(statement):
-                lines.append(call_value(statement.expr, QUERIES, names))
+                lines.append(call_value(statement.expr, QUERIES, names, session))
             elif statement.target is None:
                 lines.append(text_of(value_of(statement.expr, names)))
             else:
@@ -954,8 +975,107 @@ def text_and_status(script):
     return "".join(line + "\n" for line in lines).encode(), status
 
 
+# ---- the command line ---------------------------------------------------------------------------------------------
+
+KEYS = {
+    "run": ("workers", "budget", "slice", "keep"),
+    "resume": ("workers", "budget", "slice", "keep"),
+    "check": (),
+    "summary": ("seed", "workers", "budget"),
+}
+RANGES = {"workers": (1, 256), "budget": (0, MOST_BLOCKS), "slice": (1, MOST_BLOCKS), "seed": (0, WIDEST)}
+
+
+class Usage(Exception):
+    """The index of the word that is refused."""
+
+
+def setting(key, text):
+    """What the text after the sign says, or None."""
+    if key == "keep":
+        return {"yes": True, "no": False}.get(text)
+    if re.fullmatch("0|[1-9][0-9]{0,19}", text) is None:
+        return None
+    least, most = RANGES[key]
+    return int(text) if least <= int(text) <= most else None
+
+
+def settings_of(words):
+    """The command, and what the words after it say."""
+    if not words or words[0] not in KEYS:
+        raise Usage(0)
+    said = {}
+    for i, word in enumerate(words[1:], 1):
+        key, _, text = word.partition("=")
+        value = setting(key, text) if key in KEYS[words[0]] else None
+        if value is None or key in said:
+            raise Usage(i)
+        said[key] = value
+    if "slice" in said and not said.get("keep"):
+        raise Usage(1 + list(said).index("slice"))
+    if words[0] == "summary" and "seed" not in said:
+        raise Usage(len(words))
+    return words[0], said
+
+
+def rotated(word, count):
+    return (word >> count | word << (32 - count)) & 0xFFFFFFFF
+
+
+def pcg_output(state):
+    return rotated(((state >> 18 ^ state) >> 27) & 0xFFFFFFFF, state >> 59)
+
+
+def pcg_words(number, count):
+    """The first words of Pcg32 from this seed (O'Neill, PCG; the crates rand_core and rand_pcg say how a seed is made)."""
+    def step(state, increment):
+        return (state * 6364136223846793005 + increment) & WIDEST
+
+    seed, state = [], number
+    for _ in range(4):
+        state = step(state, 11634580027462260723)
+        seed.append(pcg_output(state))
+    increment = seed[2] | seed[3] << 32 | 1
+    state = step((seed[0] | seed[1] << 32) + increment & WIDEST, increment)
+    words = []
+    for _ in range(count):
+        words.append(pcg_output(state))
+        state = step(state, increment)
+    return words
+
+
+def summary_line(session, number):
+    """The line of the code of length 48 that is made from the number."""
+    half = 24
+    rows = [[int(i == j) for j in range(half)] + [word >> j & 1 for j in range(half)]
+            for i, word in enumerate(pcg_words(number, half))]
+    line = minimum_distance_line(session, Code(2, 2 * half, rows))
+    return f"summary seed {number} {line} rounds {len(session.records)}"
+
+
+def ended(words, script):
+    """The text, the status and standard error of `codes` with these words; None for what isn't done here."""
+    try:
+        command, said = settings_of(words)
+    except Usage as refused:
+        return b"", 2, b"codes: word %d refused\n" % refused.args[0]
+    if command in ("resume", "check") or said.get("keep"):
+        return None
+    session = Session(said.get("budget", BUDGET))
+    if command == "summary":
+        return (summary_line(session, said["seed"]) + "\n").encode(), 0, session.lines()
+    text, status = text_and_status(script, session)
+    return text, status, session.lines() + (b"codes: input too long\n" if status == 12 else b"")
+
+
 def main():
-    text, status = text_and_status(sys.stdin.buffer.read(INPUT_LIMIT + 1))
+    words = sys.argv[1:] or ["run"]
+    found = ended(words, b"" if words[0] == "summary" else sys.stdin.buffer.read(INPUT_LIMIT + 1))
+    if found is None:
+        sys.exit("reference.py: checkpoints and certificates are not read here")
+    text, status, error = found
+    sys.stderr.buffer.write(error)
+    sys.stderr.buffer.flush()
     sys.stdout.buffer.write(text)
     sys.stdout.buffer.flush()
     sys.exit(status)

@@ -12,6 +12,7 @@ from linear_algebra import Field
 
 BLOCK = 4096
 CUT = 2**40
+ROUND = 256
 
 
 def inverse(field, a):
@@ -100,33 +101,41 @@ def bound(divisor, k, sets, levels, weight):
     return -(-least // divisor) * divisor
 
 
-def answer(q, n, rows, budget):
-    """Of independent rows, at least one: whether the distance is exact, the lower end, the weight, the word and the blocks."""
+def search(q, n, rows, budget):
+    """Of independent rows, at least one: whether the distance is exact, the lower end, the weight, the word and the blocks; and
+    the records of the rounds: after each the blocks that are done, the bound and the least weight."""
     field, k = Field(q), len(rows)
     sets = sets_of(field, n, rows)
     divisor = weights_divisor(field, sets)
     first = sets[0][1][0]
     best = (sum(1 for a in first if a), 0, first)
-    levels, blocks = [0] * len(sets), 0
+    levels, blocks, records = [0] * len(sets), 0, []
     for level in range(1, k + 1):
         for j, (_, systematic) in enumerate(sets):
             low = bound(divisor, k, sets, levels, best[0])
             if low >= best[0]:
-                return True, low, best[0], best[2], blocks
+                return (True, low, best[0], best[2], blocks), records
             end = blocks + -(-comb(k, level) * (q - 1) ** (level - 1) // BLOCK)
-            last = min(end, budget, CUT)
-            listed = islice(words_of_level(field, n, systematic, level), (last - blocks) * BLOCK)
-            for place, word in enumerate(listed, blocks * BLOCK):
-                weight = sum(1 for a in word if a)
-                if weight < best[0]:
-                    best = (weight, place, word)
-            if last < end:
-                return False, low, best[0], best[2], last
-            blocks = end
-            if end < CUT:
-                levels[j] = level
+            words = words_of_level(field, n, systematic, level)
+            while blocks < min(end, budget, CUT):
+                last = min(end, budget, CUT, blocks + ROUND)
+                for place, word in enumerate(islice(words, (last - blocks) * BLOCK), blocks * BLOCK):
+                    weight = sum(1 for a in word if a)
+                    if weight < best[0]:
+                        best = (weight, place, word)
+                blocks = last
+                if blocks == end:
+                    levels[j] = level
+                records.append((blocks, bound(divisor, k, sets, levels, best[0]), best[0]))
+            if blocks < end:
+                return (False, low, best[0], best[2], blocks), records
     low = bound(divisor, k, sets, levels, best[0])
-    return low >= best[0], low, best[0], best[2], min(blocks, budget)
+    return (low >= best[0], low, best[0], best[2], blocks), records
+
+
+def answer(q, n, rows, budget):
+    """The first of them."""
+    return search(q, n, rows, budget)[0]
 
 
 def main():

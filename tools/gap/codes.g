@@ -11,6 +11,7 @@
 #   isExact       whether it was
 #   word          a codeword of weight `high`, as a codeword of GUAVA
 #   blocks        how many blocks of 4,096 words were searched
+# While it searches, `codes` writes a line for each of its rounds to standard error.
 # `budget` is the most blocks of a search (2^20), `workers` the number of threads (1), `program` the path of `codes` (the one on the
 # path of the system).
 

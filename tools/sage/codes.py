@@ -47,7 +47,8 @@ def codes_distance(C, budget=None, workers=None, program='codes'):
     options = [key + '=%d' % value for key, value in (('budget', budget), ('workers', workers)) if value is not None]
     run = subprocess.run([program, 'run', *options], input=codes_script(C), capture_output=True, text=True)
     if run.returncode != 0:
-        raise RuntimeError('codes ended with status %d: %s%s' % (run.returncode, run.stdout, run.stderr))
+        said = [line for line in run.stderr.splitlines() if not line.startswith('query ')]  # but for the records of rounds
+        raise RuntimeError('codes ended with status %d: %s%s' % (run.returncode, run.stdout, '\n'.join(said)))
     parts = run.stdout.split()
     low, high = (parts[2], parts[4]) if parts[1] == 'between' else (parts[1], parts[1])
     list_ = next(part for part in parts if part.startswith('['))

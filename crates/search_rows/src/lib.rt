@@ -1,0 +1,10 @@
+//! Tests of the outside, of boards and of searches, by values from outside. They stand here so that no crate is proved twice, once
+//! with its tests.
+#![tactic(auto)]
+
+#[cfg(test)]
+mod board;
+#[cfg(test)]
+mod outside;
+#[cfg(test)]
+mod search;
