@@ -2,16 +2,17 @@
 --   plane_cons                   a plane, symbol by symbol
 --   ones_apart                   the weight of a sum: where one word differs from the negative of the other
 --   plane_sum                    in characteristic 2 a plane of a sum is an exclusive or
---   plane_end, plane_step, plane_room, plane_next, plane_fits, bit_fits      a plane of a word, from its last column on
-use Rattle.std.proofs.Common.{◌≡◌, ◌≢◌, ◌⊎◌, ℕ, zero, suc, ◌+◌, ◌-◌, ◌*◌, ◌/◌, ◌%◌, ◌^◌, ◌<◌, ◌≤◌, not, cond, ◌==◌, List, [], ◌∷◌, length, drop, map, slice_index, bit_and, bit_or, bit_xor, count_ones, refl, sym, ap, ◌∙◌, inl, inr, ⊎_elim, arith}
+--   block_planes                 the planes of a block of symbols, with zeros after them
+--   plane_mask                   a plane of a block of 64 symbols, by vectors
+use Rattle.std.proofs.Common.{◌≡◌, ◌≢◌, ◌⊎◌, ℕ, zero, suc, ◌+◌, ◌-◌, ◌*◌, ◌%◌, ◌^◌, ◌<◌, ◌≤◌, not, cond, ◌==◌, List, [], ◌∷◌, length, map, replicate, slice_index, bit_and, bit_or, bit_xor, count_ones, refl, sym, ap, ◌∙◌, inl, inr, ⊎_elim, arith, w8}
 use Rattle.std.specs.Int.{bit_at}
 use Rattle.std.proofs.lemmas.Bool.{cases_lt, cases_eq, ne_eqb}
-use Rattle.std.proofs.lemmas.Nat.{xor_block, or_block, ones_cat}
-use Rattle.std.proofs.lemmas.Nat.Bits.{bit_at-lt, bit_at_xor, same_from_bits_below, shr_and_one}
-use Rattle.std.proofs.Math.Nat.{pow-suc}
-use Rattle.std.proofs.Math.Seq.{drop-cons}
-use Rattle.std.proofs.lemmas.List.{drop_all, length-drop}
+use Rattle.std.proofs.lemmas.Nat.{xor_block, or_block, ones_cat, pow_pos}
+use Rattle.std.proofs.lemmas.Nat.Bits.{bit_at-lt, bit_at-zero, bit_at_xor, and_pow, same_from_bits_below}
+use Rattle.std.proofs.lemmas.Simd.{bitmask_splat, zip2_splat, length-zip2, map-map}
 use lib.Count.{ones}
+use lib.Lanes.{zip2, mask_l, top}
+use mir.Val.{bits, hbits}
 use Rattle.lc_algebra.specs.declared.FieldName.{FieldName}
 use Rattle.lc_algebra.specs.Field.{size, add, neg, shape_of}
 use Rattle.lc_algebra.specs.Word.{Fits, word_sum, weight}
@@ -22,7 +23,6 @@ use Rattle.lc_algebra.proofs.ColumnLaws.{length_restrict, index_restrict}
 use Rattle.lc_field.proofs.SumLaws.{xor_add}
 use Rattle.lc_kernel.specs.Packed.{packed}
 use Rattle.lc_kernel.specs.Planes.{plane, apart}
-use Rattle.lc_kernel.proofs.PackLaws.{pow_more}
 
 pub plane_cons : (j a : ℕ) (u : List ℕ) → plane j (a ∷ u) ≡ plane j u * 2 + bit_at a j
 unfolding plane packed
@@ -148,42 +148,51 @@ plane_sum f j (a ∷ u) (b ∷ v) two e h i =
     plane_cons j (add f a b) (word_sum f u v) ∙ ap (λ z. z * 2 + bit_at (add f a b) j) t ∙ ap (λ z. bit_xor (plane j u) (plane j v) * 2 + z) bit ∙ sym x
     ∙ ap (λ z. bit_xor z (plane j v * 2 + bit_at b j)) (sym (plane_cons j a u)) ∙ ap (bit_xor (plane j (a ∷ u))) (sym (plane_cons j b v))
 
--- a plane of the rest of a word, from its last symbol on
+-- planes of words with zeros after them
 plane_none : (j : ℕ) → plane j [] ≡ 0
 unfolding plane packed
 plane_none j = refl
 
-plane_small : (j : ℕ) (u : List ℕ) → plane j u < 2 ^ length u
-plane_small j [] = rw (plane_none j) (omega arith)
-plane_small j (a ∷ u) = omega (arith, plane_cons j a u, plane_small j u, bit_at-lt a j, pow-suc 2 (length u))
+plane_padded : (j : ℕ) (u v : List ℕ) → length u ≤ length v → ((t : ℕ) → t < length u → slice_index v t ≡ slice_index u t) → ((t : ℕ) → length u ≤ t → slice_index v t ≡ 0) → plane j v ≡ plane j u
+plane_padded j [] [] e h rest = refl
+plane_padded j [] (b ∷ v) e h rest =
+    let t = plane_padded j [] v (omega arith) (λ t l. absurd (omega (arith, l))) (λ t l. rest (suc t) (omega (arith, l))) in
+    let bit : bit_at b j ≡ 0 = ap (λ z. bit_at z j) (rest 0 (omega arith)) ∙ bit_at-zero j in
+    omega (arith, plane_cons j b v, t, bit, plane_none j)
+plane_padded j (a ∷ u) [] e h rest = absurd (omega (arith, e))
+plane_padded j (a ∷ u) (b ∷ v) e h rest =
+    let t = plane_padded j u v (omega (arith, e)) (λ t l. h (suc t) (omega (arith, l))) (λ t l. rest (suc t) (omega (arith, l))) in
+    plane_cons j b v ∙ ap (λ z. z * 2 + bit_at b j) t ∙ ap (λ z. plane j u * 2 + bit_at z j) (h 0 (omega arith)) ∙ sym (plane_cons j a u)
 
-pub plane_end : (j : ℕ) (cols word : List ℕ) → 0 ≡ plane j (drop (length cols) (restrict cols word))
-plane_end j cols word = sym (ap (plane j) (drop_all (length cols) (restrict cols word) (omega (arith, length_restrict cols word))) ∙ plane_none j)
+-- a block with the symbols of a word at some columns, and then zeros
+pub block_planes : (cols word block : List ℕ) → length cols ≤ 64 → length block ≡ 64 → ((t : ℕ) → t < length cols → slice_index block t ≡ slice_index word (slice_index cols t)) → ((t : ℕ) → length cols ≤ t → slice_index block t ≡ 0) → (j : ℕ) → plane j block ≡ plane_at j cols word
+block_planes cols word block few long h rest j =
+    let many = length_restrict cols word in
+    plane_padded j (restrict cols word) block (omega (arith, many, few, long)) (λ t l. h t (omega (arith, l, many)) ∙ sym (index_restrict cols word t (omega (arith, l, many)))) (λ t l. rest t (omega (arith, l, many)))
 
-pub plane_step : (j : ℕ) (cols word : List ℕ) (t : ℕ) → t < length cols → plane j (drop t (restrict cols word)) ≡ plane j (drop (suc t) (restrict cols word)) * 2 + bit_at (slice_index word (slice_index cols t)) j
-plane_step j cols word t l =
-    ap (plane j) (drop-cons (restrict cols word) t 0 (omega (arith, l, length_restrict cols word))) ∙ plane_cons j (slice_index (restrict cols word) t) (drop (suc t) (restrict cols word))
-    ∙ ap (λ x. plane j (drop (suc t) (restrict cols word)) * 2 + bit_at x j) (index_restrict cols word t l)
+set_bit : (b p : ℕ) → 0 < p → b < 2 → cond (not (b * p == 0)) 1 0 ≡ b
+set_bit zero p some l = ap (λ x. cond (not (x == 0)) 1 0) (none p)
+  where
+    none : (p : ℕ) → 0 * p ≡ 0
+    none p = omega arith
+set_bit (suc zero) p some l = ap (λ x. cond (not x) 1 0) (ne_eqb (1 * p) 0 (λ e. omega (arith, e, some)))
+set_bit (suc (suc b)) p some l = absurd (omega (arith, l))
 
-pub plane_room : (j : ℕ) (cols word : List ℕ) (t : ℕ) → length cols ≤ 64 → t < length cols → plane j (drop (suc t) (restrict cols word)) < 2 ^ 63
-plane_room j cols word t few l =
-    let R = restrict cols word in
-    let long : length (drop (suc t) R) ≡ length cols - suc t = length-drop (suc t) R ∙ ap (λ n. n - suc t) (length_restrict cols word) in
-    let power = pow_more (length (drop (suc t) R)) 63 (omega (arith, long, few, l)) in
-    omega (arith, plane_small j (drop (suc t) R), power)
+bit_test : (a j : ℕ) → cond (not (bit_and a (2 ^ j) == 0)) 1 0 ≡ bit_at a j
+bit_test a j = ap (λ x. cond (not (x == 0)) 1 0) (and_pow a j) ∙ set_bit (bit_at a j) (2 ^ j) (pow_pos j) (bit_at-lt a j)
 
--- one step of the code, with what it has so far
-pub plane_next : (j : ℕ) (cols word : List ℕ) (t bits : ℕ) → 0 < t → t ≤ length cols → bits ≡ plane j (drop t (restrict cols word)) → bits * 2 + bit_and (slice_index word (slice_index cols (t - 1)) / 2 ^ j) 1 ≡ plane j (drop (t - 1) (restrict cols word))
-plane_next j cols word t bits some l is =
-    let at : suc (t - 1) ≡ t = omega (arith, some) in
-    let x = slice_index word (slice_index cols (t - 1)) in
-    ap (λ z. bits * 2 + z) (shr_and_one x j) ∙ ap (λ z. z * 2 + bit_at x j) (is ∙ ap (λ n. plane j (drop n (restrict cols word))) (sym at)) ∙ sym (plane_step j cols word (t - 1) (omega (arith, some, l)))
+bits_mask : (j : ℕ) (ws : List ℕ) → mask_l (map (λ a. not (bit_and a (2 ^ j) == 0)) ws) ≡ plane j ws
+bits_mask j [] = sym (plane_none j)
+bits_mask j (a ∷ ws) =
+    let t = bits_mask j ws in
+    let here : mask_l (map (λ a. not (bit_and a (2 ^ j) == 0)) (a ∷ ws)) ≡ cond (not (bit_and a (2 ^ j) == 0)) 1 0 + 2 * mask_l (map (λ a. not (bit_and a (2 ^ j) == 0)) ws) = refl in
+    omega (arith, here, bit_test a j, t, plane_cons j a ws)
 
-pub plane_fits : (j : ℕ) (cols word : List ℕ) (t bits : ℕ) → length cols ≤ 64 → 0 < t → t ≤ length cols → bits ≡ plane j (drop t (restrict cols word)) → bits < 2 ^ 63
-plane_fits j cols word t bits few some l is =
-    let at : suc (t - 1) ≡ t = omega (arith, some) in
-    let same : plane j (drop (suc (t - 1)) (restrict cols word)) ≡ bits = ap (λ n. plane j (drop n (restrict cols word))) at ∙ sym is in
-    omega (arith, plane_room j cols word (t - 1) few (omega (arith, some, l)), same)
-
-pub bit_fits : (x j : ℕ) → bit_and (x / 2 ^ j) 1 < 2
-bit_fits x j = rw (shr_and_one x j) (bit_at-lt x j)
+-- a plane of 64 symbols, as a comparison of vectors
+pub plane_mask : (ws : List ℕ) (j m : ℕ) → length ws ≡ 64 → m ≡ 2 ^ j → mask_l (map (top (hbits w8)) (zip2 (λ a b. cond (not (a == b)) (2 ^ bits w8 - 1) 0) (zip2 bit_and ws (replicate 64 m)) (replicate 64 0))) % 2 ^ 64 ≡ plane j ws
+plane_mask ws j m long is =
+    bitmask_splat w8 (λ a b. not (a == b)) (zip2 bit_and ws (replicate 64 m)) 64 0 (length-zip2 bit_and ws (replicate 64 m) long ∙ long) (omega arith)
+    ∙ ap (λ xs. mask_l (map (λ x. not (x == 0)) xs)) (zip2_splat bit_and ws 64 m long)
+    ∙ ap mask_l (map-map (λ x. not (x == 0)) (λ a. bit_and a m) ws)
+    ∙ ap (λ p. mask_l (map (λ a. not (bit_and a p == 0)) ws)) is
+    ∙ bits_mask j ws

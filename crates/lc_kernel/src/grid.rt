@@ -13,7 +13,7 @@ ghost use Rattle.lc_kernel.specs.Grids.{AreGridParts, IsGrid};
 
 use crate::multiples::{multiple_of, nonzero};
 use crate::pairs::pair_starts;
-use crate::planes::plane_of;
+use crate::planes::{gather, plane_of};
 use crate::table::columns_outside;
 use lc_field::NoMemory;
 use lc_infoset::Sets;
@@ -162,7 +162,8 @@ fn push_plane(
     ensures after { IfOk result (λ _. (e : ℕ) → e < length words.now → slice_index bits.new.items (length bits.old.items + e) ≡ plane_at plane columns.now (slice_index_or words.now e [])) }
 {
     for e in 0..words.len() {
-        bits.push(plane_of(words[e].symbols(), columns, plane))?;
+        let block = gather(words[e].symbols(), columns);
+        bits.push(plane_of(&block, plane))?;
     }
     Ok(())
 }

@@ -1,23 +1,30 @@
 //! The bits of the symbols of words, as numbers, and where words differ.
 
 ghost use Rattle.std.specs.Prelude.{◌≡◌, ℕ, ◌+◌, ◌<◌, ◌≤◌, length, slice_index, bit_or, bit_xor, count_ones};
-ghost use Rattle.lc_kernel.specs.Planes.{plane_at};
+ghost use Rattle.lc_kernel.specs.Planes.{plane, plane_at};
 
-/// Bit `plane` of the symbols of a word at some columns, at most 64: the first column is the lowest bit.
-pub(crate) fn plane_of(word: &[u8], columns: &[usize], plane: usize) -> u64
+use std::simd::prelude::*;
+
+/// The symbols of a word at some columns, at most 64, and then zeros.
+pub(crate) fn gather(word: &[u8], columns: &[usize]) -> [u8; 64]
     requires few { length columns.now ≤ 64 }
-    requires plane { plane < 8 }
     requires inside { (t : ℕ) → t < length columns.now → slice_index columns.now t < length word.now }
-    ensures is { result ≡ plane_at plane columns.now word.now }
+    ensures planes { (j : ℕ) → plane j result ≡ plane_at j columns.now word.now }
 {
-    let mut bits = 0;
-    let mut t = columns.len();
-    while t > 0 {
-        t -= 1;
-        let bit = (word[columns[t]] >> plane) & 1;
-        bits = bits * 2 + bit as u64;
+    let mut block = [0; 64];
+    for t in 0..columns.len() {
+        block[t] = word[columns[t]];
     }
-    bits
+    block
+}
+
+/// Bit `bit` of each of 64 symbols: the first symbol's is the lowest.
+pub(crate) fn plane_of(block: &[u8; 64], bit: usize) -> u64
+    requires bit { bit < 8 }
+    ensures is { result ≡ plane bit block.now }
+{
+    let ones = u8x64::from_array(*block) & u8x64::splat(1 << bit);
+    ones.simd_ne(u8x64::splat(0)).to_bitmask()
 }
 
 /// Adds to each mask the bits at which a number of the list differs from `bits`.

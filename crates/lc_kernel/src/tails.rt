@@ -22,7 +22,7 @@ ghost use Rattle.lc_kernel.specs.Sums.{front_word, AreMultiples, IsRoom};
 use crate::counts::first_least;
 use crate::grid::Grid;
 use crate::multiples::nonzero;
-use crate::planes::{add_marked, mark_apart, plane_of};
+use crate::planes::{add_marked, gather, mark_apart, plane_of};
 use crate::runs::pair_index;
 use crate::stack::refresh;
 use lc_infoset::Sets;
@@ -64,15 +64,12 @@ fn mark_part(
     let table = &grid.parts[part];
     let columns = table.columns.as_slice();
     let bits = table.bits.as_slice();
+    let block = gather(head.symbols(), columns);
     masks.fill(0);
     for plane in 0..grid.planes {
         let first = plane * grid.tails + start;
         let end = first + masks.len();
-        mark_apart(
-            &bits[first..end],
-            plane_of(head.symbols(), columns, plane),
-            masks,
-        );
+        mark_apart(&bits[first..end], plane_of(&block, plane), masks);
     }
 }
 
