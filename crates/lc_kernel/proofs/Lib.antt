@@ -9,3 +9,4 @@ pub mod LeastLaws
 pub mod RunLaws
 pub mod TableLaws
 pub mod MultipleLaws
+pub mod TailLaws

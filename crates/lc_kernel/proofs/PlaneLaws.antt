@@ -2,14 +2,19 @@
 --   plane_cons                   a plane, symbol by symbol
 --   ones_apart                   the weight of a sum: where one word differs from the negative of the other
 --   plane_sum                    in characteristic 2 a plane of a sum is an exclusive or
+--   zeros_at                     a list of zeros
 --   block_planes                 the planes of a block of symbols, with zeros after them
 --   plane_mask                   a plane of a block of 64 symbols, by vectors
-use Rattle.std.proofs.Common.{◌≡◌, ◌≢◌, ◌⊎◌, ℕ, zero, suc, ◌+◌, ◌-◌, ◌*◌, ◌%◌, ◌^◌, ◌<◌, ◌≤◌, not, cond, ◌==◌, List, [], ◌∷◌, length, map, replicate, slice_index, bit_and, bit_or, bit_xor, count_ones, refl, sym, ap, ◌∙◌, inl, inr, ⊎_elim, arith, w8}
+--   added_next                   counts with one more of them added to
+--   apart_two, apart_three, apart_four      where a word differs from one of some words, by two, three or four planes
+use Rattle.std.proofs.Common.{◌≡◌, ◌≢◌, ◌⊎◌, ℕ, zero, suc, ◌+◌, ◌-◌, ◌*◌, ◌%◌, ◌^◌, ◌<◌, ◌≤◌, not, cond, ◌==◌, List, [], ◌∷◌, length, take, drop, set, map, replicate, slice_index, bit_and, bit_or, bit_xor, count_ones, refl, sym, ap, ◌∙◌, inl, inr, ⊎_elim, arith, w8}
 use Rattle.std.specs.Int.{bit_at}
 use Rattle.std.proofs.lemmas.Bool.{cases_lt, cases_eq, ne_eqb}
 use Rattle.std.proofs.lemmas.Nat.{xor_block, or_block, ones_cat, pow_pos}
 use Rattle.std.proofs.lemmas.Nat.Bits.{bit_at-lt, bit_at-zero, bit_at_xor, and_pow, same_from_bits_below}
 use Rattle.std.proofs.lemmas.Simd.{bitmask_splat, zip2_splat, length-zip2, map-map}
+use Rattle.std.specs.Int.Bits.{or_zero_r}
+use Rattle.std.proofs.lemmas.List.{get_or-take, get_or-drop, get_or-set_same, get_or-set_other}
 use lib.Count.{ones}
 use lib.Lanes.{zip2, mask_l, top}
 use mir.Val.{bits, hbits}
@@ -22,7 +27,7 @@ use Rattle.lc_algebra.specs.SpanLaws.{restrict}
 use Rattle.lc_algebra.proofs.ColumnLaws.{length_restrict, index_restrict}
 use Rattle.lc_field.proofs.SumLaws.{xor_add}
 use Rattle.lc_kernel.specs.Packed.{packed}
-use Rattle.lc_kernel.specs.Planes.{plane, apart}
+use Rattle.lc_kernel.specs.Planes.{plane, plane_at, apart, bits_apart}
 
 pub plane_cons : (j a : ℕ) (u : List ℕ) → plane j (a ∷ u) ≡ plane j u * 2 + bit_at a j
 unfolding plane packed
@@ -164,6 +169,11 @@ plane_padded j (a ∷ u) (b ∷ v) e h rest =
     let t = plane_padded j u v (omega (arith, e)) (λ t l. h (suc t) (omega (arith, l))) (λ t l. rest (suc t) (omega (arith, l))) in
     plane_cons j b v ∙ ap (λ z. z * 2 + bit_at b j) t ∙ ap (λ z. plane j u * 2 + bit_at z j) (h 0 (omega arith)) ∙ sym (plane_cons j a u)
 
+pub zeros_at : (n i : ℕ) → slice_index (replicate n 0) i ≡ 0
+zeros_at zero i = refl
+zeros_at (suc n) zero = refl
+zeros_at (suc n) (suc i) = zeros_at n i
+
 -- a block with the symbols of a word at some columns, and then zeros
 pub block_planes : (cols word block : List ℕ) → length cols ≤ 64 → length block ≡ 64 → ((t : ℕ) → t < length cols → slice_index block t ≡ slice_index word (slice_index cols t)) → ((t : ℕ) → length cols ≤ t → slice_index block t ≡ 0) → (j : ℕ) → plane j block ≡ plane_at j cols word
 block_planes cols word block few long h rest j =
@@ -196,3 +206,41 @@ plane_mask ws j m long is =
     ∙ ap mask_l (map-map (λ x. not (x == 0)) (λ a. bit_and a m) ws)
     ∙ ap (λ p. mask_l (map (λ a. not (bit_and a p == 0)) ws)) is
     ∙ bits_mask j ws
+
+-- a word and words by their planes, one list of bits after another
+read_cut : (bits : List ℕ) (first n i : ℕ) → i < n → slice_index (take (first + n - first) (drop first bits)) i ≡ slice_index bits (first + i)
+read_cut bits first n i l = get_or-take (first + n - first) (drop first bits) i 0 (omega (arith, l)) ∙ get_or-drop first bits i 0
+
+pub apart_two : (head bits : List ℕ) (words start n i : ℕ) → i < n → bit_or (bit_xor (slice_index head 1) (slice_index (take (words + start + n - (words + start)) (drop (words + start) bits)) i)) (bit_xor (slice_index head 0) (slice_index (take (start + n - start) (drop start bits)) i)) ≡ bits_apart 2 head bits words (start + i)
+apart_two head bits words start n i l =
+    let first : slice_index (take (start + n - start) (drop start bits)) i ≡ slice_index bits (0 * words + (start + i)) = read_cut bits start n i l ∙ ap (slice_index bits) (omega arith) in
+    let second : slice_index (take (words + start + n - (words + start)) (drop (words + start) bits)) i ≡ slice_index bits (1 * words + (start + i)) = read_cut bits (words + start) n i l ∙ ap (slice_index bits) (omega arith) in
+    ap (λ z. bit_or (bit_xor (slice_index head 1) z) (bit_xor (slice_index head 0) (slice_index (take (start + n - start) (drop start bits)) i))) second
+    ∙ ap (λ z. bit_or (bit_xor (slice_index head 1) (slice_index bits (1 * words + (start + i)))) (bit_xor (slice_index head 0) z)) first
+    ∙ ap (bit_or (bit_xor (slice_index head 1) (slice_index bits (1 * words + (start + i))))) (sym (or_zero_r (bit_xor (slice_index head 0) (slice_index bits (0 * words + (start + i))))))
+
+pub apart_three : (head bits : List ℕ) (words start n i low : ℕ) → i < n → low ≡ bits_apart 2 head bits words (start + i) → bit_or (bit_xor (slice_index head 2) (slice_index (take (words + (words + start) + n - (words + (words + start))) (drop (words + (words + start)) bits)) i)) low ≡ bits_apart 3 head bits words (start + i)
+apart_three head bits words start n i low l is =
+    let third : slice_index (take (words + (words + start) + n - (words + (words + start))) (drop (words + (words + start)) bits)) i ≡ slice_index bits (2 * words + (start + i)) = read_cut bits (words + (words + start)) n i l ∙ ap (slice_index bits) (omega arith) in
+    ap (λ z. bit_or (bit_xor (slice_index head 2) z) low) third ∙ ap (bit_or (bit_xor (slice_index head 2) (slice_index bits (2 * words + (start + i))))) is
+
+pub apart_four : (head bits : List ℕ) (words start n i low : ℕ) → i < n → low ≡ bits_apart 3 head bits words (start + i) → bit_or (bit_xor (slice_index head 3) (slice_index (take (words + (words + (words + start)) + n - (words + (words + (words + start)))) (drop (words + (words + (words + start))) bits)) i)) low ≡ bits_apart 4 head bits words (start + i)
+apart_four head bits words start n i low l is =
+    let fourth : slice_index (take (words + (words + (words + start)) + n - (words + (words + (words + start)))) (drop (words + (words + (words + start))) bits)) i ≡ slice_index bits (3 * words + (start + i)) = read_cut bits (words + (words + (words + start))) n i l ∙ ap (slice_index bits) (omega arith) in
+    ap (λ z. bit_or (bit_xor (slice_index head 3) z) low) fourth ∙ ap (bit_or (bit_xor (slice_index head 3) (slice_index bits (3 * words + (start + i))))) is
+
+-- counts with one more of them added to
+pub record AreAdded (f : ℕ → ℕ) (first counts : List ℕ) (i : ℕ) : Type 0 where
+  pub done : (t : ℕ) → t < i → slice_index counts t ≡ slice_index first t + f t
+  pub left : (t : ℕ) → i ≤ t → slice_index counts t ≡ slice_index first t
+
+pub added_next : (f : ℕ → ℕ) (first old : List ℕ) (i : ℕ) → i < length old → AreAdded f first old i → AreAdded f first (set old i (slice_index old i + f i)) (i + 1)
+added_next f first old i l h = record {
+  done = λ t m. ⊎_elim
+      (λ a. get_or-set_other old i t (slice_index old i + f i) 0 (λ e. omega (arith, e, a)) ∙ h.done t a)
+      (λ a.
+      let same : t ≡ i = omega (arith, a, m) in
+      ap (slice_index (set old i (slice_index old i + f i))) same ∙ get_or-set_same old i (slice_index old i + f i) 0 l ∙ ap (λ z. z + f i) (h.left i (omega arith)) ∙ ap (λ z. slice_index first z + f z) (sym same))
+      (cases_lt t i);
+  left = λ t m. get_or-set_other old i t (slice_index old i + f i) 0 (λ e. omega (arith, e, m)) ∙ h.left t (omega (arith, m));
+}

@@ -20,6 +20,7 @@ AreGridParts C j n ps = (b : ℕ) (p : GridPart) → slice_get ps b ≡ Some p �
 
 pub record IsGrid (C : Matrix) (j n tails : ℕ) (ps : List GridPart) (starts : List ℕ) : Type 0 where
   pub planes : size C.field ≤ 2 ^ n
+  pub least : 2 ≤ n
   pub few : n ≤ 4
   pub count : tails ≡ tails_in C
   pub small : tails ≤ 2 ^ 18

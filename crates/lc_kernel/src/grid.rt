@@ -237,6 +237,7 @@ fn grid_part(
 // How many planes the symbols of the field have.
 fn plane_count(sets: &Sets) -> usize
     ensures all { size sets.now.field ≤ 2 ^ result }
+    ensures least { 2 ≤ result }
     ensures few { result ≤ 4 }
 {
     let size = sets.field().size();

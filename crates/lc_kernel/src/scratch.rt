@@ -32,7 +32,6 @@ pub struct Scratch {
     pub(crate) spot: Spot,
     // the zero word, and then the sums of the entries of a message but the last two
     pub(crate) heads: Vec<Word>,
-    pub(crate) masks: Vec<u64>,
     pub(crate) counts: Vec<u32>,
 }
 
@@ -48,7 +47,7 @@ impl Model for Scratch {
 
     ghost view = { λ s. s.stack.code };
 
-    ghost invariant = { λ s. AreTables s.stack.code (arc_value s.tables).items × AreGrids s.stack.code (arc_value s.grids).items × IsRoom s.stack.code s.spot s.heads.items × (length s.masks.items ≡ 225) × (length s.counts.items ≡ 4096) };
+    ghost invariant = { λ s. AreTables s.stack.code (arc_value s.tables).items × AreGrids s.stack.code (arc_value s.grids).items × IsRoom s.stack.code s.spot s.heads.items × (length s.counts.items ≡ 4096) };
 }
 
 impl Scratch {
@@ -96,7 +95,6 @@ impl Scratch {
             return Err(NoMemory);
         };
         let heads = zeros(alloc, k + 1, stack.length())?;
-        let masks = vec![in alloc; 0u64; 225]?;
         let counts = vec![in alloc; 0u32; 4096]?;
         Ok(Scratch {
             stack,
@@ -104,7 +102,6 @@ impl Scratch {
             grids,
             spot,
             heads,
-            masks,
             counts,
         })
     }
