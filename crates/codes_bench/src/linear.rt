@@ -30,12 +30,12 @@ const FORMS: u64 = 40;
 const BUILDS: u64 = 40;
 
 // Pseudo-random symbols of the field, from a generator that goes on from `state`.
-fn symbols(alloc: Global, field: &Field, state: &mut u64) -> Result<Vec<u8>, AllocError>
-    ensures word { IfOk result (λ symbols. IsWord field.now LENGTH symbols.items) }
+fn symbols(alloc: Global, field: &Field, n: usize, state: &mut u64) -> Result<Vec<u8>, AllocError>
+    ensures word { IfOk result (λ symbols. IsWord field.now n symbols.items) }
 {
     let q = u64::from(field.size());
     let mut symbols = Vec::new(alloc);
-    for place in 0..LENGTH {
+    for place in 0..n {
         *state = state
             .wrapping_mul(6_364_136_223_846_793_005)
             .wrapping_add(1_442_695_040_888_963_407);
@@ -58,8 +58,8 @@ fn add_often(field: &Field, to: &mut [u8], from: &[u8])
 pub fn add_scaled_rate<R: Clock + AllocGlobal>(rt: &R, q: u64) -> Result<Rate, Failure> {
     let field = Field::of(rt.alloc(), q)?;
     let mut state = 1;
-    let from = symbols(rt.alloc(), &field, &mut state)?;
-    let mut to = symbols(rt.alloc(), &field, &mut state)?;
+    let from = symbols(rt.alloc(), &field, LENGTH, &mut state)?;
+    let mut to = symbols(rt.alloc(), &field, LENGTH, &mut state)?;
     let start = Instant::now(rt)?;
     add_often(&field, &mut to, &from);
     Ok(Rate {
@@ -69,14 +69,14 @@ pub fn add_scaled_rate<R: Clock + AllocGlobal>(rt: &R, q: u64) -> Result<Rate, F
     })
 }
 
-// Pseudo-random rows.
-fn rows(alloc: Global, field: &Field) -> Result<Vec<Word>, Failure>
-    ensures words { IfOk result (λ rows. AreRows field.now LENGTH rows.items) }
+/// Pseudo-random rows: `k` words of length `n`.
+pub(crate) fn rows(alloc: Global, field: &Field, n: usize, k: usize) -> Result<Vec<Word>, Failure>
+    ensures words { IfOk result (λ rows. AreRows field.now n rows.items) }
 {
     let mut state = 1;
     let mut rows = Vec::new(alloc);
-    for _ in 0..ROWS {
-        let row = Word::from_slice(alloc, &symbols(alloc, field, &mut state)?)?;
+    for _ in 0..k {
+        let row = Word::from_slice(alloc, &symbols(alloc, field, n, &mut state)?)?;
         if rows.push(row).is_err() {
             return Err(Failure::NoMemory);
         }
@@ -87,7 +87,12 @@ fn rows(alloc: Global, field: &Field) -> Result<Vec<Word>, Failure>
 /// The rate of `Matrix::echelon` over the field of `q` elements, in rows of the matrix.
 pub fn echelon_rate<R: Clock + AllocGlobal>(rt: &R, q: u64) -> Result<Rate, Failure> {
     let field = Field::of(rt.alloc(), q)?;
-    let matrix = Matrix::from_rows(rt.alloc(), &field, LENGTH, &rows(rt.alloc(), &field)?)?;
+    let matrix = Matrix::from_rows(
+        rt.alloc(),
+        &field,
+        LENGTH,
+        &rows(rt.alloc(), &field, LENGTH, ROWS)?,
+    )?;
     let start = Instant::now(rt)?;
     for _ in 0..FORMS {
         let _form = matrix.echelon(rt.alloc())?;
@@ -103,7 +108,12 @@ pub fn echelon_rate<R: Clock + AllocGlobal>(rt: &R, q: u64) -> Result<Rate, Fail
 #[tactic(auto, using(lc_algebra::proofs::ReducedLaws::reduced_independent))]
 pub fn infosets_rate<R: Clock + AllocGlobal>(rt: &R, q: u64) -> Result<Rate, Failure> {
     let field = Field::of(rt.alloc(), q)?;
-    let matrix = Matrix::from_rows(rt.alloc(), &field, LENGTH, &rows(rt.alloc(), &field)?)?;
+    let matrix = Matrix::from_rows(
+        rt.alloc(),
+        &field,
+        LENGTH,
+        &rows(rt.alloc(), &field, LENGTH, ROWS)?,
+    )?;
     let form = matrix.echelon(rt.alloc())?;
     let height = form.rows();
     if !field.is_symbol() || height == 0 {

@@ -2,6 +2,7 @@
 --   next_tail                    the pair of elements after a pair
 --   tails_along                  the messages after a message, from pair to pair
 --   last_two                     the last two of a list by their index
+--   restrict_fits                a word at some columns has symbols of the field
 --   tail_ones                    the weight of a sum at some columns, by its planes
 --   tail_run_word, tail_run_pair, tail_run_ones      a word of a run, its tail, and its nonzero symbols
 --   tails_more, planes_none, planes_more, grid_parts_pushed      tails, planes and parts with one more
@@ -128,7 +129,7 @@ unfolding scale
 negative_is f [] = refl
 negative_is f (a ∷ u) = cc (neg_one_mul f a, negative_is f u)
 
-restrict_fits : (f : FieldName) (n : ℕ) (cols u : List ℕ) → IsWord f n u → Fits f (restrict cols u)
+pub restrict_fits : (f : FieldName) (n : ℕ) (cols u : List ℕ) → IsWord f n u → Fits f (restrict cols u)
 restrict_fits f n cols u h i l = rw (index_restrict cols u i (omega (arith, l, length_restrict cols u))) (fits_symbol f u h.fits (slice_index cols i))
 
 pub tail_ones : (f : FieldName) (n p : ℕ) (cols head tail : List ℕ) → size f ≤ 2 ^ p → IsWord f n head → IsWord f n tail → weight (restrict cols (word_sum f head tail)) ≡ count_ones (apart p (restrict cols head) (restrict cols (negative f tail)))

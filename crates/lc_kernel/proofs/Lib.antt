@@ -10,3 +10,4 @@ pub mod RunLaws
 pub mod TableLaws
 pub mod MultipleLaws
 pub mod TailLaws
+pub mod FrontPlanes

@@ -39,6 +39,7 @@ pub fn least(sets: &Sets, plan: &Plan, block: u64, scratch: &mut Scratch) -> u64
         &scratch.grids,
         &mut scratch.spot,
         &mut scratch.heads,
+        &mut scratch.fronts,
         &mut scratch.counts,
         &mut scratch.stack,
     )
@@ -54,6 +55,7 @@ fn least_in(
     grids: &[Grid],
     spot: &mut Spot,
     heads: &mut [Word],
+    fronts: &mut [[u64; 4]],
     counts: &mut [u32],
     stack: &mut Stack,
 ) -> u64
@@ -62,9 +64,11 @@ fn least_in(
     requires tables { AreTables sets.now tables.now }
     requires grids { AreGrids sets.now grids.now }
     requires heads { IsRoom sets.now spot.old heads.old }
+    requires fronts { length fronts.old ≡ length sets.now.rows + 1 }
     requires counts { length counts.old ≡ 4096 }
     requires stack { stack.old.code ≡ sets.now }
     ensures heads { IsRoom sets.now spot.new heads.new }
+    ensures fronts { length fronts.new ≡ length fronts.old }
     ensures counts { length counts.new ≡ length counts.old }
     ensures stack { stack.new.code ≡ stack.old.code }
     ensures is { option_map board_value (block_least sets.now plan.now.m block) ≡ Some result }
@@ -76,7 +80,9 @@ fn least_in(
     if level >= 3 && set < grids.len() {
         let grid = &grids[set];
         let multiples = stack.multiples();
-        return by_tails(sets, plan, block, grid, multiples, spot, heads, counts);
+        return by_tails(
+            sets, plan, block, grid, multiples, spot, heads, fronts, counts,
+        );
     }
     if level >= 2 && set < tables.len() {
         return by_runs(sets, plan, block, &tables[set], spot, counts);

@@ -16,10 +16,12 @@ ghost use Rattle.lc_algebra.specs.Word.{IsWord};
 ghost use Rattle.lc_kernel.specs.Grid.{tail_count, tail_index, tail_word, tails_in, negative, IsTailRun};
 ghost use Rattle.lc_kernel.specs.Planes.{apart};
 ghost use Rattle.lc_kernel.specs.Grids.{IsGrid};
+ghost use Rattle.lc_kernel.specs.Fronts.{HasFronts};
 ghost use Rattle.lc_kernel.specs.Least.{AreCounted};
 ghost use Rattle.lc_kernel.specs.Sums.{front_word, AreMultiples, IsRoom};
 
 use crate::counts::first_least;
+use crate::fronts::count_words;
 use crate::grid::Grid;
 use crate::multiples::nonzero;
 use crate::planes::{add_apart, pack};
@@ -29,8 +31,8 @@ use lc_infoset::Sets;
 use lc_place::{Plan, Spot};
 use lc_vec::Word;
 
-// The index of the pair of the last two coefficients of a spot.
-fn tail_of(sets: &Sets, spot: &Spot) -> usize
+/// The index of the pair of the last two coefficients of a spot.
+pub(crate) fn tail_of(sets: &Sets, spot: &Spot) -> usize
     requires message { Contains (messages (length sets.now.rows) (size sets.now.field) (length spot.now.support)) (spot_message spot.now) }
     requires level { 3 ≤ length spot.now.support }
     ensures is { result ≡ tail_index sets.now spot.now }
@@ -142,9 +144,16 @@ fn one_run(
     count
 }
 
-// Goes from a message at an offset of a block, with so many left in its run, to the first one after the run.
-// Returns how many of the first entries stayed.
-fn pass(sets: &Sets, plan: &Plan, block: u64, spot: &mut Spot, done: u64, count: u64) -> usize
+/// Goes from a message at an offset of a block, with so many left in its run, to the first one after the run.
+/// Returns how many of the first entries stayed.
+pub(crate) fn pass(
+    sets: &Sets,
+    plan: &Plan,
+    block: u64,
+    spot: &mut Spot,
+    done: u64,
+    count: u64,
+) -> usize
     requires plan { IsPlanOf plan.now sets.now }
     requires at { IsSpotAt sets.now plan.now.m block done spot.old }
     requires level { 3 ≤ length spot.old.support }
@@ -225,6 +234,7 @@ pub(crate) fn by_tails(
     multiples: &[Word],
     spot: &mut Spot,
     heads: &mut [Word],
+    fronts: &mut [[u64; 4]],
     counts: &mut [u32],
 ) -> u64
     requires plan { IsPlanOf plan.now sets.now }
@@ -233,11 +243,14 @@ pub(crate) fn by_tails(
     requires at { IsSpotAt sets.now plan.now.m block 0 spot.old }
     requires level { 3 ≤ length spot.old.support }
     requires grid { IsGrid sets.now spot.old.set grid.now.planes grid.now.tails grid.now.parts.items grid.now.starts.items }
+    requires kept { HasFronts sets.now spot.old.set grid.now.planes grid.now.kept grid.now.even (length grid.now.parts.items) grid.now.rows.items }
     requires multiples { AreMultiples sets.now multiples.now }
     requires room { IsRoom sets.now spot.old heads.old }
+    requires many { length fronts.old ≡ length sets.now.rows + 1 }
     requires counts { length counts.old ≡ 4096 }
     ensures is { option_map board_value (block_least sets.now plan.now.m block) ≡ Some result }
     ensures heads { IsRoom sets.now spot.new heads.new }
+    ensures many { length fronts.new ≡ length fronts.old }
     ensures counts { length counts.new ≡ length counts.old }
 {
     let _few = plan.total();
@@ -246,7 +259,7 @@ pub(crate) fn by_tails(
     let _n = sets.length();
     let level = spot.support().len() as u64;
     let len = plan.block_len(block) as usize;
-    count_tails(
+    count_words(
         sets,
         plan,
         block,
@@ -254,6 +267,7 @@ pub(crate) fn by_tails(
         multiples,
         spot,
         heads,
+        fronts,
         &mut counts[..len],
     );
     let (least, at) = first_least(&counts[..len]);
