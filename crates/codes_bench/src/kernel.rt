@@ -77,9 +77,10 @@ pub fn least_rate<R: Clock + AllocGlobal>(
     n: usize,
     k: usize,
     level: usize,
-) -> Result<Rate, Failure>
-    requires length { (1 ≤ n) × (n ≤ 255) }
-{
+) -> Result<Rate, Failure> {
+    if n == 0 || n > 255 {
+        return Err(Failure::Refused);
+    }
     let sets = sets_of(rt.alloc(), q, n, k)?;
     let plan = plan_of(rt.alloc(), &sets)?;
     level_rate(rt, &sets, &plan, level)
@@ -92,5 +93,8 @@ fn plan_of(alloc: Global, sets: &Sets) -> Result<Plan, Failure>
     let size = u64::from(sets.field().size());
     let _count = sets.count();
     let _n = sets.length();
+    if size < 2 || size > 16 {
+        return Err(Failure::Refused);
+    }
     Ok(Plan::build(alloc, sets.dimension(), size, 1)?)
 }
