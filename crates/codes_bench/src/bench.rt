@@ -19,6 +19,9 @@ pub enum Bench {
     StepBinary,
     /// the messages of weight 4 and length 20 over 4 elements
     StepQuaternary,
+    /// the least words of the first blocks of a level: the size of the field, the length and the dimension of a code,
+    /// and the level
+    Least(u64, usize, usize, usize),
     /// a script of 95,325 statements, 1,048,575 bytes
     ParseWeights,
     /// a script of one statement, a list of 255 lists of 255 numbers
@@ -26,7 +29,7 @@ pub enum Bench {
 }
 
 /// The benches with their names.
-pub const BENCHES: [(&str, Bench); 19] = [
+pub const BENCHES: [(&str, Bench); 24] = [
     ("add_scaled_2", Bench::AddScaled(2)),
     ("add_scaled_3", Bench::AddScaled(3)),
     ("add_scaled_4", Bench::AddScaled(4)),
@@ -44,6 +47,11 @@ pub const BENCHES: [(&str, Bench); 19] = [
     ("concatenated_255", Bench::Concatenated),
     ("step_2", Bench::StepBinary),
     ("step_4", Bench::StepQuaternary),
+    ("kernel_2", Bench::Least(2, 80, 40, 5)),
+    ("kernel_3", Bench::Least(3, 40, 20, 6)),
+    ("kernel_4", Bench::Least(4, 30, 15, 5)),
+    ("kernel_5", Bench::Least(5, 24, 8, 5)),
+    ("kernel_16", Bench::Least(16, 30, 15, 4)),
     ("parse_weights", Bench::ParseWeights),
     ("parse_matrix", Bench::ParseMatrix),
 ];

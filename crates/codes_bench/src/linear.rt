@@ -30,13 +30,13 @@ const FORMS: u64 = 40;
 /// How often the information sets are built.
 const BUILDS: u64 = 40;
 
-// Pseudo-random symbols of the field, from a generator that goes on from `state`.
-fn symbols(alloc: Global, field: &Field, state: &mut u64) -> Result<Vec<u8>, AllocError>
-    ensures word { IfOk result (λ symbols. IsWord field.now LENGTH symbols.items) }
+// `n` pseudo-random symbols of the field, from a generator that goes on from `state`.
+fn symbols(alloc: Global, field: &Field, n: usize, state: &mut u64) -> Result<Vec<u8>, AllocError>
+    ensures word { IfOk result (λ symbols. IsWord field.now n symbols.items) }
 {
     let q = u64::from(field.size());
     let mut symbols = Vec::new(alloc);
-    for place in 0..LENGTH {
+    for place in 0..n {
         *state = state
             .wrapping_mul(6_364_136_223_846_793_005)
             .wrapping_add(1_442_695_040_888_963_407);
@@ -64,7 +64,7 @@ fn add_scaled_from<R: Clock + AllocGlobal>(
 ) -> Result<Rate, Failure>
     requires from { IsWord field.now LENGTH from.now }
 {
-    let mut to = symbols(rt.alloc(), field, state)?;
+    let mut to = symbols(rt.alloc(), field, LENGTH, state)?;
     let start = Instant::now(rt)?;
     add_often(field, &mut to, from);
     Ok(Rate {
@@ -77,7 +77,7 @@ fn add_scaled_from<R: Clock + AllocGlobal>(
 // The rate of `add_scaled` over the field.
 fn add_scaled_over<R: Clock + AllocGlobal>(rt: &R, field: &Field) -> Result<Rate, Failure> {
     let mut state = 1;
-    let from = symbols(rt.alloc(), field, &mut state)?;
+    let from = symbols(rt.alloc(), field, LENGTH, &mut state)?;
     add_scaled_from(rt, field, &from, &mut state)
 }
 
@@ -87,22 +87,22 @@ pub fn add_scaled_rate<R: Clock + AllocGlobal>(rt: &R, q: u64) -> Result<Rate, F
     add_scaled_over(rt, &field)
 }
 
-// A pseudo-random word.
-fn row(alloc: Global, field: &Field, state: &mut u64) -> Result<Word, Failure>
-    ensures word { IfOk result (λ row. IsWord field.now LENGTH row) }
+// A pseudo-random word of length `n`.
+fn row(alloc: Global, field: &Field, n: usize, state: &mut u64) -> Result<Word, Failure>
+    ensures word { IfOk result (λ row. IsWord field.now n row) }
 {
-    let symbols = symbols(alloc, field, state)?;
+    let symbols = symbols(alloc, field, n, state)?;
     Ok(Word::from_slice(alloc, &symbols)?)
 }
 
-// Pseudo-random rows.
-fn rows(alloc: Global, field: &Field) -> Result<Vec<Word>, Failure>
-    ensures words { IfOk result (λ rows. AreRows field.now LENGTH rows.items) }
+/// Pseudo-random rows: `k` words of length `n`.
+pub(crate) fn rows(alloc: Global, field: &Field, n: usize, k: usize) -> Result<Vec<Word>, Failure>
+    ensures words { IfOk result (λ rows. AreRows field.now n rows.items) }
 {
     let mut state = 1;
     let mut rows = Vec::new(alloc);
-    for _ in 0..ROWS {
-        if rows.push(row(alloc, field, &mut state)?).is_err() {
+    for _ in 0..k {
+        if rows.push(row(alloc, field, n, &mut state)?).is_err() {
             return Err(Failure::NoMemory);
         }
     }
@@ -121,7 +121,7 @@ fn matrix(alloc: Global, q: u64) -> Result<Matrix, Failure>
 fn matrix_over(alloc: Global, field: &Field) -> Result<Matrix, Failure>
     ensures columns { IfOk result (λ m. m.columns ≡ LENGTH) }
 {
-    let rows = rows(alloc, field)?;
+    let rows = rows(alloc, field, LENGTH, ROWS)?;
     Ok(Matrix::from_rows(alloc, field, LENGTH, &rows)?)
 }
 

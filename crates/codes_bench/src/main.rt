@@ -4,6 +4,7 @@
 
 mod bench;
 mod codes;
+mod kernel;
 mod linear;
 mod messages;
 mod rate;
@@ -32,6 +33,7 @@ fn measure<R: Clock + AllocGlobal>(rt: &R, bench: Bench) -> Result<Rate, Failure
         Bench::Concatenated => codes::concatenated_rate(rt),
         Bench::StepBinary => messages::step_rate(rt, 45, 5, 2),
         Bench::StepQuaternary => messages::step_rate(rt, 20, 4, 4),
+        Bench::Least(q, n, k, level) => kernel::least_rate(rt, q, n, k, level),
         Bench::ParseWeights => scripts::weights_rate(rt),
         Bench::ParseMatrix => scripts::matrix_rate(rt),
     }

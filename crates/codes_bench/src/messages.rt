@@ -14,8 +14,8 @@ use std::time::Instant;
 /// How often the level is listed.
 const PASSES: u64 = 20;
 
-// The first block of a level, if the plan has it.
-fn first_block(plan: &Plan, level: usize) -> Option<u64>
+/// The first block of a level, if the plan has it.
+pub(crate) fn first_block(plan: &Plan, level: usize) -> Option<u64>
     ensures { IfSome result (λ b. b < total plan.now.k plan.now.q plan.now.m) }
 {
     let mut block = 0;

@@ -1,9 +1,10 @@
 -- The words of messages over more than 2 elements that end with the same two rows.
 --   next_tail                    the pair of elements after a pair
 --   tails_along                  the messages after a message, from pair to pair
+--   last_two                     the last two of a list by their index
+--   restrict_fits                a word at some columns has symbols of the field
 --   tail_ones                    the weight of a sum at some columns, by its planes
 --   tail_run_word, tail_run_pair, tail_run_ones      a word of a run, its tail, and its nonzero symbols
---   tails_counted                the counts of a run after one more part of the columns
 --   tails_more, planes_none, planes_more, grid_parts_pushed      tails, planes and parts with one more
 --   cut_in_words                 some columns are inside the tails
 --   planes_room, tail_run_room, counted_joined      what a run reads and writes
@@ -128,7 +129,7 @@ unfolding scale
 negative_is f [] = refl
 negative_is f (a ∷ u) = cc (neg_one_mul f a, negative_is f u)
 
-restrict_fits : (f : FieldName) (n : ℕ) (cols u : List ℕ) → IsWord f n u → Fits f (restrict cols u)
+pub restrict_fits : (f : FieldName) (n : ℕ) (cols u : List ℕ) → IsWord f n u → Fits f (restrict cols u)
 restrict_fits f n cols u h i l = rw (index_restrict cols u i (omega (arith, l, length_restrict cols u))) (fits_symbol f u h.fits (slice_index cols i))
 
 pub tail_ones : (f : FieldName) (n p : ℕ) (cols head tail : List ℕ) → size f ≤ 2 ^ p → IsWord f n head → IsWord f n tail → weight (restrict cols (word_sum f head tail)) ≡ count_ones (apart p (restrict cols head) (restrict cols (negative f tail)))
@@ -141,7 +142,7 @@ tail_ones f n p cols head tail s h t =
     ∙ ap (λ x. count_ones (apart p u x)) (sym turned_tail)
 
 -- the last two of a list by their index
-last_two : (q : ℕ) (u : List ℕ) (i j : ℕ) → 1 ≤ slice_index u i → 1 ≤ slice_index u j → slice_index u j < q → slice_index u i ∷ slice_index u j ∷ [] ≡ tail_pair q ((slice_index u i - 1) * (q - 1) + (slice_index u j - 1))
+pub last_two : (q : ℕ) (u : List ℕ) (i j : ℕ) → 1 ≤ slice_index u i → 1 ≤ slice_index u j → slice_index u j < q → slice_index u i ∷ slice_index u j ∷ [] ≡ tail_pair q ((slice_index u i - 1) * (q - 1) + (slice_index u j - 1))
 last_two q u i j a b l =
     let d = q - 1 in
     let x = slice_index u i - 1 in
@@ -234,17 +235,6 @@ tail_run_ones C m b n start count i planes x s head cols h size_is l marked =
     ap (λ z. weight (restrict cols z)) (tail_run_word C m h.phase.0 b n start count i s head h h.phase.1 l)
     ∙ tail_ones C.field C.columns planes cols head tail size_is head_word tail_is
     ∙ ap (λ z. count_ones (apart planes (restrict cols head) (restrict cols (negative C.field (tail_word C s.set a c z))))) (sym t.1) ∙ ap count_ones (sym is)
-
--- the counts of a run after one more part of the columns
-pub tails_counted : (C : Matrix) (m b n start count planes part : ℕ) (s : SpotState) (head cols old new masks : List ℕ) → IsTailRun C m b s head n start count → size C.field ≤ 2 ^ planes
-    → ((i a c : ℕ) → i < count → slice_get (supports_from 0 (length C.rows) 2) ((start + i) / tail_count C) ≡ Some (a ∷ c ∷ []) → slice_index masks i ≡ apart planes (restrict (part_at cols part) head) (restrict (part_at cols part) (negative C.field (tail_word C s.set a c ((start + i) % tail_count C)))))
-    → ((i : ℕ) → i < count → slice_index new i ≡ slice_index old i + count_ones (slice_index masks i))
-    → AreCounted (take (64 * part) cols) (block_words C m b) n count old
-    → AreCounted (take (64 * (part + 1)) cols) (block_words C m b) n count new
-tails_counted C m b n start count planes part s head cols old new masks h size_is marked added counted i l =
-    let ones = tail_run_ones C m b n start count i planes (slice_index masks i) s head (part_at cols part) h size_is l (λ a c. marked i a c l) in
-    let more = part_more cols (slice_index_or (block_words C m b) (n + i) []) part in
-    omega (arith, added i l, counted i l, ones, more)
 
 -- the tails with one more
 pub tails_more : (C : Matrix) (j pair t a b : ℕ) (ws more : List (List ℕ)) (w : List ℕ) → AreTails C j (pair * tail_count C + t) ws → t < tail_count C → slice_get (supports_from 0 (length C.rows) 2) pair ≡ Some (a ∷ b ∷ []) → w ≡ negative C.field (tail_word C j a b t) → IsWord C.field C.columns w → more ≡ ws ++ w ∷ [] → AreTails C j (pair * tail_count C + (t + 1)) more

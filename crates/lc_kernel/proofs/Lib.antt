@@ -9,3 +9,5 @@ pub mod LeastLaws
 pub mod RunLaws
 pub mod TableLaws
 pub mod MultipleLaws
+pub mod TailLaws
+pub mod FrontPlanes

@@ -2,18 +2,27 @@
 --   plane_cons                   a plane, symbol by symbol
 --   ones_apart                   the weight of a sum: where one word differs from the negative of the other
 --   plane_sum                    in characteristic 2 a plane of a sum is an exclusive or
---   plane_end, plane_step, plane_room, plane_next, plane_fits, bit_fits      a plane of a word, from its last column on
-use Rattle.std.proofs.Common.{◌≡◌, ◌≢◌, ◌⊎◌, ℕ, zero, suc, ◌+◌, ◌-◌, ◌*◌, ◌/◌, ◌%◌, ◌^◌, ◌<◌, ◌≤◌, not, cond, ◌==◌, List, [], ◌∷◌, length, drop, map, slice_index, bit_and, bit_or, bit_xor, count_ones, refl, sym, ap, ◌∙◌, inl, inr, ⊎_elim, arith}
+--   zeros_at                     a list of zeros
+--   block_planes                 the planes of a block of symbols, with zeros after them
+--   plane_mask                   a plane of a block of 64 symbols, by vectors
+--   added_next                   counts with one more of them added to
+--   trits                        over 3 elements a plane of a sum, from two planes of each word
+--   apart_two, apart_three, apart_four      where a word differs from one of some words, by two, three or four planes
+use Rattle.std.proofs.Common.{◌≡◌, ◌≢◌, ◌⊎◌, ℕ, zero, suc, ◌+◌, ◌-◌, ◌*◌, ◌%◌, ◌^◌, ◌<◌, ◌≤◌, not, cond, ◌==◌, List, [], ◌∷◌, length, take, drop, set, map, replicate, slice_index, bit_and, bit_or, bit_xor, count_ones, refl, sym, ap, ◌∙◌, inl, inr, ⊎_elim, arith, w8}
 use Rattle.std.specs.Int.{bit_at}
 use Rattle.std.proofs.lemmas.Bool.{cases_lt, cases_eq, ne_eqb}
-use Rattle.std.proofs.lemmas.Nat.{xor_block, or_block, ones_cat}
-use Rattle.std.proofs.lemmas.Nat.Bits.{bit_at-lt, bit_at_xor, same_from_bits_below, shr_and_one}
-use Rattle.std.proofs.Math.Nat.{pow-suc}
-use Rattle.std.proofs.Math.Seq.{drop-cons}
-use Rattle.std.proofs.lemmas.List.{drop_all, length-drop}
+use Rattle.std.proofs.lemmas.Nat.{xor_block, or_block, ones_cat, pow_pos}
+use Rattle.std.proofs.lemmas.Nat.Bits.{bit_at-lt, bit_at-zero, bit_at_xor, and_pow, same_from_bits_below}
+use Rattle.std.proofs.lemmas.Simd.{bitmask_splat, zip2_splat, length-zip2, map-map}
+use Rattle.std.specs.Int.Bits.{or_zero_r}
+use Rattle.std.proofs.lemmas.List.{get_or-take, get_or-drop, get_or-set_same, get_or-set_other}
 use lib.Count.{ones}
+use lib.Lanes.{zip2, mask_l, top}
+use mir.Val.{bits, hbits}
 use Rattle.lc_algebra.specs.declared.FieldName.{FieldName}
-use Rattle.lc_algebra.specs.Field.{size, add, neg, shape_of}
+use Rattle.lc_algebra.specs.declared.FieldName.TheVariants.{Gf3}
+use Rattle.lc_algebra.specs.Field.{size, add, neg, coefficients, shape_of, shape}
+use Rattle.lc_algebra.specs.Residue.{digits, number, plus}
 use Rattle.lc_algebra.specs.Word.{Fits, word_sum, weight}
 use Rattle.lc_algebra.proofs.FieldLaws.{neg_inside, neg_add, neg_neg, subtract_zero}
 use Rattle.lc_algebra.proofs.WordLaws.{weight_cons, fits_head, fits_tail}
@@ -21,8 +30,7 @@ use Rattle.lc_algebra.specs.SpanLaws.{restrict}
 use Rattle.lc_algebra.proofs.ColumnLaws.{length_restrict, index_restrict}
 use Rattle.lc_field.proofs.SumLaws.{xor_add}
 use Rattle.lc_kernel.specs.Packed.{packed}
-use Rattle.lc_kernel.specs.Planes.{plane, apart}
-use Rattle.lc_kernel.proofs.PackLaws.{pow_more}
+use Rattle.lc_kernel.specs.Planes.{plane, plane_at, apart, bits_apart, trit_sum}
 
 pub plane_cons : (j a : ℕ) (u : List ℕ) → plane j (a ∷ u) ≡ plane j u * 2 + bit_at a j
 unfolding plane packed
@@ -148,42 +156,167 @@ plane_sum f j (a ∷ u) (b ∷ v) two e h i =
     plane_cons j (add f a b) (word_sum f u v) ∙ ap (λ z. z * 2 + bit_at (add f a b) j) t ∙ ap (λ z. bit_xor (plane j u) (plane j v) * 2 + z) bit ∙ sym x
     ∙ ap (λ z. bit_xor z (plane j v * 2 + bit_at b j)) (sym (plane_cons j a u)) ∙ ap (bit_xor (plane j (a ∷ u))) (sym (plane_cons j b v))
 
--- a plane of the rest of a word, from its last symbol on
-plane_none : (j : ℕ) → plane j [] ≡ 0
+-- planes of words with zeros after them
+pub plane_none : (j : ℕ) → plane j [] ≡ 0
 unfolding plane packed
 plane_none j = refl
 
-plane_small : (j : ℕ) (u : List ℕ) → plane j u < 2 ^ length u
-plane_small j [] = rw (plane_none j) (omega arith)
-plane_small j (a ∷ u) = omega (arith, plane_cons j a u, plane_small j u, bit_at-lt a j, pow-suc 2 (length u))
+plane_padded : (j : ℕ) (u v : List ℕ) → length u ≤ length v → ((t : ℕ) → t < length u → slice_index v t ≡ slice_index u t) → ((t : ℕ) → length u ≤ t → slice_index v t ≡ 0) → plane j v ≡ plane j u
+plane_padded j [] [] e h rest = refl
+plane_padded j [] (b ∷ v) e h rest =
+    let t = plane_padded j [] v (omega arith) (λ t l. absurd (omega (arith, l))) (λ t l. rest (suc t) (omega (arith, l))) in
+    let bit : bit_at b j ≡ 0 = ap (λ z. bit_at z j) (rest 0 (omega arith)) ∙ bit_at-zero j in
+    omega (arith, plane_cons j b v, t, bit, plane_none j)
+plane_padded j (a ∷ u) [] e h rest = absurd (omega (arith, e))
+plane_padded j (a ∷ u) (b ∷ v) e h rest =
+    let t = plane_padded j u v (omega (arith, e)) (λ t l. h (suc t) (omega (arith, l))) (λ t l. rest (suc t) (omega (arith, l))) in
+    plane_cons j b v ∙ ap (λ z. z * 2 + bit_at b j) t ∙ ap (λ z. plane j u * 2 + bit_at z j) (h 0 (omega arith)) ∙ sym (plane_cons j a u)
 
-pub plane_end : (j : ℕ) (cols word : List ℕ) → 0 ≡ plane j (drop (length cols) (restrict cols word))
-plane_end j cols word = sym (ap (plane j) (drop_all (length cols) (restrict cols word) (omega (arith, length_restrict cols word))) ∙ plane_none j)
+pub zeros_at : (n i : ℕ) → slice_index (replicate n 0) i ≡ 0
+zeros_at zero i = refl
+zeros_at (suc n) zero = refl
+zeros_at (suc n) (suc i) = zeros_at n i
 
-pub plane_step : (j : ℕ) (cols word : List ℕ) (t : ℕ) → t < length cols → plane j (drop t (restrict cols word)) ≡ plane j (drop (suc t) (restrict cols word)) * 2 + bit_at (slice_index word (slice_index cols t)) j
-plane_step j cols word t l =
-    ap (plane j) (drop-cons (restrict cols word) t 0 (omega (arith, l, length_restrict cols word))) ∙ plane_cons j (slice_index (restrict cols word) t) (drop (suc t) (restrict cols word))
-    ∙ ap (λ x. plane j (drop (suc t) (restrict cols word)) * 2 + bit_at x j) (index_restrict cols word t l)
+-- a block with the symbols of a word at some columns, and then zeros
+pub block_planes : (cols word block : List ℕ) → length cols ≤ 64 → length block ≡ 64 → ((t : ℕ) → t < length cols → slice_index block t ≡ slice_index word (slice_index cols t)) → ((t : ℕ) → length cols ≤ t → slice_index block t ≡ 0) → (j : ℕ) → plane j block ≡ plane_at j cols word
+block_planes cols word block few long h rest j =
+    let many = length_restrict cols word in
+    plane_padded j (restrict cols word) block (omega (arith, many, few, long)) (λ t l. h t (omega (arith, l, many)) ∙ sym (index_restrict cols word t (omega (arith, l, many)))) (λ t l. rest t (omega (arith, l, many)))
 
-pub plane_room : (j : ℕ) (cols word : List ℕ) (t : ℕ) → length cols ≤ 64 → t < length cols → plane j (drop (suc t) (restrict cols word)) < 2 ^ 63
-plane_room j cols word t few l =
-    let R = restrict cols word in
-    let long : length (drop (suc t) R) ≡ length cols - suc t = length-drop (suc t) R ∙ ap (λ n. n - suc t) (length_restrict cols word) in
-    let power = pow_more (length (drop (suc t) R)) 63 (omega (arith, long, few, l)) in
-    omega (arith, plane_small j (drop (suc t) R), power)
+set_bit : (b p : ℕ) → 0 < p → b < 2 → cond (not (b * p == 0)) 1 0 ≡ b
+set_bit zero p some l = ap (λ x. cond (not (x == 0)) 1 0) (none p)
+  where
+    none : (p : ℕ) → 0 * p ≡ 0
+    none p = omega arith
+set_bit (suc zero) p some l = ap (λ x. cond (not x) 1 0) (ne_eqb (1 * p) 0 (λ e. omega (arith, e, some)))
+set_bit (suc (suc b)) p some l = absurd (omega (arith, l))
 
--- one step of the code, with what it has so far
-pub plane_next : (j : ℕ) (cols word : List ℕ) (t bits : ℕ) → 0 < t → t ≤ length cols → bits ≡ plane j (drop t (restrict cols word)) → bits * 2 + bit_and (slice_index word (slice_index cols (t - 1)) / 2 ^ j) 1 ≡ plane j (drop (t - 1) (restrict cols word))
-plane_next j cols word t bits some l is =
-    let at : suc (t - 1) ≡ t = omega (arith, some) in
-    let x = slice_index word (slice_index cols (t - 1)) in
-    ap (λ z. bits * 2 + z) (shr_and_one x j) ∙ ap (λ z. z * 2 + bit_at x j) (is ∙ ap (λ n. plane j (drop n (restrict cols word))) (sym at)) ∙ sym (plane_step j cols word (t - 1) (omega (arith, some, l)))
+bit_test : (a j : ℕ) → cond (not (bit_and a (2 ^ j) == 0)) 1 0 ≡ bit_at a j
+bit_test a j = ap (λ x. cond (not (x == 0)) 1 0) (and_pow a j) ∙ set_bit (bit_at a j) (2 ^ j) (pow_pos j) (bit_at-lt a j)
 
-pub plane_fits : (j : ℕ) (cols word : List ℕ) (t bits : ℕ) → length cols ≤ 64 → 0 < t → t ≤ length cols → bits ≡ plane j (drop t (restrict cols word)) → bits < 2 ^ 63
-plane_fits j cols word t bits few some l is =
-    let at : suc (t - 1) ≡ t = omega (arith, some) in
-    let same : plane j (drop (suc (t - 1)) (restrict cols word)) ≡ bits = ap (λ n. plane j (drop n (restrict cols word))) at ∙ sym is in
-    omega (arith, plane_room j cols word (t - 1) few (omega (arith, some, l)), same)
+bits_mask : (j : ℕ) (ws : List ℕ) → mask_l (map (λ a. not (bit_and a (2 ^ j) == 0)) ws) ≡ plane j ws
+bits_mask j [] = sym (plane_none j)
+bits_mask j (a ∷ ws) =
+    let t = bits_mask j ws in
+    let here : mask_l (map (λ a. not (bit_and a (2 ^ j) == 0)) (a ∷ ws)) ≡ cond (not (bit_and a (2 ^ j) == 0)) 1 0 + 2 * mask_l (map (λ a. not (bit_and a (2 ^ j) == 0)) ws) = refl in
+    omega (arith, here, bit_test a j, t, plane_cons j a ws)
 
-pub bit_fits : (x j : ℕ) → bit_and (x / 2 ^ j) 1 < 2
-bit_fits x j = rw (shr_and_one x j) (bit_at-lt x j)
+-- a plane of 64 symbols, as a comparison of vectors
+pub plane_mask : (ws : List ℕ) (j m : ℕ) → length ws ≡ 64 → m ≡ 2 ^ j → mask_l (map (top (hbits w8)) (zip2 (λ a b. cond (not (a == b)) (2 ^ bits w8 - 1) 0) (zip2 bit_and ws (replicate 64 m)) (replicate 64 0))) % 2 ^ 64 ≡ plane j ws
+plane_mask ws j m long is =
+    bitmask_splat w8 (λ a b. not (a == b)) (zip2 bit_and ws (replicate 64 m)) 64 0 (length-zip2 bit_and ws (replicate 64 m) long ∙ long) (omega arith)
+    ∙ ap (λ xs. mask_l (map (λ x. not (x == 0)) xs)) (zip2_splat bit_and ws 64 m long)
+    ∙ ap mask_l (map-map (λ x. not (x == 0)) (λ a. bit_and a m) ws)
+    ∙ ap (λ p. mask_l (map (λ a. not (bit_and a p == 0)) ws)) is
+    ∙ bits_mask j ws
+
+-- a word and words by their planes, one list of bits after another
+read_cut : (bits : List ℕ) (first n i : ℕ) → i < n → slice_index (take (first + n - first) (drop first bits)) i ≡ slice_index bits (first + i)
+read_cut bits first n i l = get_or-take (first + n - first) (drop first bits) i 0 (omega (arith, l)) ∙ get_or-drop first bits i 0
+
+pub apart_two : (head bits : List ℕ) (words start n i : ℕ) → i < n → bit_or (bit_xor (slice_index head 1) (slice_index (take (words + start + n - (words + start)) (drop (words + start) bits)) i)) (bit_xor (slice_index head 0) (slice_index (take (start + n - start) (drop start bits)) i)) ≡ bits_apart 2 head bits words (start + i)
+apart_two head bits words start n i l =
+    let first : slice_index (take (start + n - start) (drop start bits)) i ≡ slice_index bits (0 * words + (start + i)) = read_cut bits start n i l ∙ ap (slice_index bits) (omega arith) in
+    let second : slice_index (take (words + start + n - (words + start)) (drop (words + start) bits)) i ≡ slice_index bits (1 * words + (start + i)) = read_cut bits (words + start) n i l ∙ ap (slice_index bits) (omega arith) in
+    ap (λ z. bit_or (bit_xor (slice_index head 1) z) (bit_xor (slice_index head 0) (slice_index (take (start + n - start) (drop start bits)) i))) second
+    ∙ ap (λ z. bit_or (bit_xor (slice_index head 1) (slice_index bits (1 * words + (start + i)))) (bit_xor (slice_index head 0) z)) first
+    ∙ ap (bit_or (bit_xor (slice_index head 1) (slice_index bits (1 * words + (start + i))))) (sym (or_zero_r (bit_xor (slice_index head 0) (slice_index bits (0 * words + (start + i))))))
+
+pub apart_three : (head bits : List ℕ) (words start n i low : ℕ) → i < n → low ≡ bits_apart 2 head bits words (start + i) → bit_or (bit_xor (slice_index head 2) (slice_index (take (words + (words + start) + n - (words + (words + start))) (drop (words + (words + start)) bits)) i)) low ≡ bits_apart 3 head bits words (start + i)
+apart_three head bits words start n i low l is =
+    let third : slice_index (take (words + (words + start) + n - (words + (words + start))) (drop (words + (words + start)) bits)) i ≡ slice_index bits (2 * words + (start + i)) = read_cut bits (words + (words + start)) n i l ∙ ap (slice_index bits) (omega arith) in
+    ap (λ z. bit_or (bit_xor (slice_index head 2) z) low) third ∙ ap (bit_or (bit_xor (slice_index head 2) (slice_index bits (2 * words + (start + i))))) is
+
+pub apart_four : (head bits : List ℕ) (words start n i low : ℕ) → i < n → low ≡ bits_apart 3 head bits words (start + i) → bit_or (bit_xor (slice_index head 3) (slice_index (take (words + (words + (words + start)) + n - (words + (words + (words + start)))) (drop (words + (words + (words + start))) bits)) i)) low ≡ bits_apart 4 head bits words (start + i)
+apart_four head bits words start n i low l is =
+    let fourth : slice_index (take (words + (words + (words + start)) + n - (words + (words + (words + start)))) (drop (words + (words + (words + start))) bits)) i ≡ slice_index bits (3 * words + (start + i)) = read_cut bits (words + (words + (words + start))) n i l ∙ ap (slice_index bits) (omega arith) in
+    ap (λ z. bit_or (bit_xor (slice_index head 3) z) low) fourth ∙ ap (bit_or (bit_xor (slice_index head 3) (slice_index bits (3 * words + (start + i))))) is
+
+-- counts with one more of them added to
+pub record AreAdded (f : ℕ → ℕ) (first counts : List ℕ) (i : ℕ) : Type 0 where
+  pub done : (t : ℕ) → t < i → slice_index counts t ≡ slice_index first t + f t
+  pub left : (t : ℕ) → i ≤ t → slice_index counts t ≡ slice_index first t
+
+pub added_next : (f : ℕ → ℕ) (first old : List ℕ) (i : ℕ) → i < length old → AreAdded f first old i → AreAdded f first (set old i (slice_index old i + f i)) (i + 1)
+added_next f first old i l h = record {
+  done = λ t m. ⊎_elim
+      (λ a. get_or-set_other old i t (slice_index old i + f i) 0 (λ e. omega (arith, e, a)) ∙ h.done t a)
+      (λ a.
+      let same : t ≡ i = omega (arith, a, m) in
+      ap (slice_index (set old i (slice_index old i + f i))) same ∙ get_or-set_same old i (slice_index old i + f i) 0 l ∙ ap (λ z. z + f i) (h.left i (omega arith)) ∙ ap (λ z. slice_index first z + f z) (sym same))
+      (cases_lt t i);
+  left = λ t m. get_or-set_other old i t (slice_index old i + f i) 0 (λ e. omega (arith, e, m)) ∙ h.left t (omega (arith, m));
+}
+
+-- planes of sums over 3 elements: bit 0 of a symbol says whether it is 1, and bit 1 whether it is 2
+or_small : (x y : ℕ) → x < 2 → y < 2 → bit_or x y < 2
+or_small x y l m = (or_bits x y l m).small
+
+or_step : (x y a b : ℕ) → a < 2 → b < 2 → bit_or (x * 2 + a) (y * 2 + b) ≡ bit_or x y * 2 + bit_or a b
+or_step x y a b l m = or_block 1 x y a b l m
+
+xor_step : (x y a b : ℕ) → a < 2 → b < 2 → bit_xor (x * 2 + a) (y * 2 + b) ≡ bit_xor x y * 2 + bit_xor a b
+xor_step x y a b l m = xor_block 1 x y a b l m
+
+trit_step : (x y z w a b c d : ℕ) → a < 2 → b < 2 → c < 2 → d < 2 → trit_sum (x * 2 + a) (y * 2 + b) (z * 2 + c) (w * 2 + d) ≡ trit_sum x y z w * 2 + trit_sum a b c d
+trit_step x y z w a b c d la lb lc ld =
+    let p = or_step x w a d la ld in
+    let q = or_step y z b c lb lc in
+    let r = or_step y w b d lb ld in
+    let s = xor_step (bit_or x w) (bit_or y z) (bit_or a d) (bit_or b c) (or_small a d la ld) (or_small b c lb lc) in
+    let t = xor_step (bit_or y w) (bit_xor (bit_or x w) (bit_or y z)) (bit_or b d) (bit_xor (bit_or a d) (bit_or b c)) (or_small b d lb ld) (xor_bits (bit_or a d) (bit_or b c) (or_small a d la ld) (or_small b c lb lc)).small in
+    ap (λ n. bit_xor n (bit_xor (bit_or (x * 2 + a) (w * 2 + d)) (bit_or (y * 2 + b) (z * 2 + c)))) r
+    ∙ ap (λ n. bit_xor (bit_or y w * 2 + bit_or b d) (bit_xor n (bit_or (y * 2 + b) (z * 2 + c)))) p
+    ∙ ap (λ n. bit_xor (bit_or y w * 2 + bit_or b d) (bit_xor (bit_or x w * 2 + bit_or a d) n)) q
+    ∙ ap (bit_xor (bit_or y w * 2 + bit_or b d)) s ∙ t
+
+pub trit_low : (a b : ℕ) → a < 3 → b < 3 → trit_sum (bit_at a 0) (bit_at a 1) (bit_at b 0) (bit_at b 1) ≡ bit_at (add Gf3 a b) 0
+unfolding add coefficients shape_of shape number plus digits
+trit_low zero zero l m = refl
+trit_low zero (suc zero) l m = refl
+trit_low zero (suc (suc zero)) l m = refl
+trit_low (suc zero) zero l m = refl
+trit_low (suc zero) (suc zero) l m = refl
+trit_low (suc zero) (suc (suc zero)) l m = refl
+trit_low (suc (suc zero)) zero l m = refl
+trit_low (suc (suc zero)) (suc zero) l m = refl
+trit_low (suc (suc zero)) (suc (suc zero)) l m = refl
+trit_low zero (suc (suc (suc b))) l m = absurd (omega (arith, m))
+trit_low (suc zero) (suc (suc (suc b))) l m = absurd (omega (arith, m))
+trit_low (suc (suc zero)) (suc (suc (suc b))) l m = absurd (omega (arith, m))
+trit_low (suc (suc (suc a))) b l m = absurd (omega (arith, l))
+
+pub trit_high : (a b : ℕ) → a < 3 → b < 3 → trit_sum (bit_at a 1) (bit_at a 0) (bit_at b 1) (bit_at b 0) ≡ bit_at (add Gf3 a b) 1
+unfolding add coefficients shape_of shape number plus digits
+trit_high zero zero l m = refl
+trit_high zero (suc zero) l m = refl
+trit_high zero (suc (suc zero)) l m = refl
+trit_high (suc zero) zero l m = refl
+trit_high (suc zero) (suc zero) l m = refl
+trit_high (suc zero) (suc (suc zero)) l m = refl
+trit_high (suc (suc zero)) zero l m = refl
+trit_high (suc (suc zero)) (suc zero) l m = refl
+trit_high (suc (suc zero)) (suc (suc zero)) l m = refl
+trit_high zero (suc (suc (suc b))) l m = absurd (omega (arith, m))
+trit_high (suc zero) (suc (suc (suc b))) l m = absurd (omega (arith, m))
+trit_high (suc (suc zero)) (suc (suc (suc b))) l m = absurd (omega (arith, m))
+trit_high (suc (suc (suc a))) b l m = absurd (omega (arith, l))
+
+pub three : size Gf3 ≡ 3
+unfolding size shape_of shape
+three = refl
+
+-- plane i of a sum, from planes i and j of the words, where 0 and 1 are i and j
+pub trits : (i j : ℕ) (u v : List ℕ) → ((a b : ℕ) → a < 3 → b < 3 → trit_sum (bit_at a i) (bit_at a j) (bit_at b i) (bit_at b j) ≡ bit_at (add Gf3 a b) i) → length u ≡ length v → Fits Gf3 u → Fits Gf3 v → plane i (word_sum Gf3 u v) ≡ trit_sum (plane i u) (plane j u) (plane i v) (plane j v)
+unfolding word_sum
+trits i j [] [] f e h k = rw (plane_none i, plane_none j) refl
+trits i j [] (b ∷ v) f e h k = absurd (omega (arith, e))
+trits i j (a ∷ u) [] f e h k = absurd (omega (arith, e))
+trits i j (a ∷ u) (b ∷ v) f e h k =
+    let t = trits i j u v f (omega (arith, e)) (fits_tail Gf3 a u h) (fits_tail Gf3 b v k) in
+    let l : a < 3 = omega (arith, fits_head Gf3 a u h, three) in
+    let m : b < 3 = omega (arith, fits_head Gf3 b v k, three) in
+    let whole : plane i (add Gf3 a b ∷ word_sum Gf3 u v) ≡ trit_sum (plane i u * 2 + bit_at a i) (plane j u * 2 + bit_at a j) (plane i v * 2 + bit_at b i) (plane j v * 2 + bit_at b j) =
+    plane_cons i (add Gf3 a b) (word_sum Gf3 u v) ∙ ap (λ n. n * 2 + bit_at (add Gf3 a b) i) t ∙ ap (λ n. trit_sum (plane i u) (plane j u) (plane i v) (plane j v) * 2 + n) (sym (f a b l m))
+    ∙ sym (trit_step (plane i u) (plane j u) (plane i v) (plane j v) (bit_at a i) (bit_at a j) (bit_at b i) (bit_at b j) (bit_at-lt a i) (bit_at-lt a j) (bit_at-lt b i) (bit_at-lt b j)) in
+    rw (plane_cons i a u, plane_cons j a u, plane_cons i b v, plane_cons j b v) whole

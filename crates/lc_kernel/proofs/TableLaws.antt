@@ -1,6 +1,7 @@
 -- The tables of the sets and their parts, as they are pushed.
 --   no_tables, no_grids          none
 --   all_pushed, one_of_all       what holds of each item of a list by its index holds of one more, and of an item that is read
+--   three_elements               a field of 3 elements
 --   two_elements                 a field of 2 elements is that of the bits
 --   part_cut, cut_inside, parts_pushed      a part of the columns, as it is cut off, and the parts with one more
 use Rattle.std.proofs.Common.{◌≡◌, ℕ, ◌+◌, ◌-◌, ◌*◌, ◌<◌, ◌≤◌, List, [], ◌∷◌, ◌++◌, min, length, take, drop, slice_index, slice_index_or, Some, sym, ap, subst, ◌∙◌, ⊎_elim, arith, length-append}
@@ -9,7 +10,7 @@ use Rattle.std.proofs.lemmas.Bool.{cases_lt}
 use Rattle.std.proofs.lemmas.List.{take_all, length-take, length-drop, get_or-take, get_or-drop}
 use Rattle.std.proofs.lemmas.Option.{slice_get_within, slice_get-get_or}
 use Rattle.lc_algebra.specs.declared.FieldName.{FieldName}
-use Rattle.lc_algebra.specs.declared.FieldName.TheVariants.{Gf2}
+use Rattle.lc_algebra.specs.declared.FieldName.TheVariants.{Gf2, Gf3}
 use Rattle.lc_algebra.specs.Field.{size}
 use Rattle.lc_algebra.specs.Matrix.{Matrix}
 use Rattle.lc_algebra.proofs.EmbeddingTests.{told_by_size}
@@ -22,15 +23,19 @@ use Rattle.lc_kernel.specs.declared.pairs.Part.{Part}
 use Rattle.lc_kernel.specs.Packed.{others, part_at, IsPart}
 use Rattle.lc_kernel.specs.Tables.{AreParts, AreTables}
 use Rattle.lc_kernel.proofs.PackLaws.{two, outside_inside}
+use Rattle.lc_kernel.proofs.PlaneLaws.{three}
 
 pub two_elements : (f : FieldName) → size f ≡ 2 → f ≡ Gf2
 two_elements f e = told_by_size f Gf2 (e ∙ sym two)
+
+pub three_elements : (f : FieldName) → size f ≡ 3 → f ≡ Gf3
+three_elements f e = told_by_size f Gf3 (e ∙ sym three)
 
 pub no_tables : (C : Matrix) (ts : List Table) → ts ≡ [] → AreTables C ts
 no_tables C ts e = record { each = λ j t at. absurd (omega (arith, slice_get_within ts j t at, ap length e)) }
 
 pub no_grids : (C : Matrix) (gs : List Grid) → gs ≡ [] → AreGrids C gs
-no_grids C gs e = record { each = λ j g at. absurd (omega (arith, slice_get_within gs j g at, ap length e)) }
+no_grids C gs e = record { each = λ j g at. absurd (omega (arith, slice_get_within gs j g at, ap length e)); fronts = λ j g at. absurd (omega (arith, slice_get_within gs j g at, ap length e)) }
 
 same_item : {X : Type 0} (a b : X) → Some a ≡ Some b → a ≡ b
 same_item a b e = cc (e)

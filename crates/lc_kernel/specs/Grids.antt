@@ -10,6 +10,7 @@ use Rattle.lc_kernel.specs.declared.grid.Grid.{Grid}
 use Rattle.lc_kernel.specs.declared.grid.GridPart.{GridPart}
 use Rattle.lc_kernel.specs.Packed.{others, part_at, AreStarts}
 use Rattle.lc_kernel.specs.Grid.{tails_in, AreTailPlanes}
+use Rattle.lc_kernel.specs.Fronts.{HasFronts}
 
 pub record IsGridPart (C : Matrix) (j : ℕ) (cols : List ℕ) (n : ℕ) (columns bits : List ℕ) : Type 0 where
   pub columns_are : columns ≡ cols
@@ -20,6 +21,7 @@ AreGridParts C j n ps = (b : ℕ) (p : GridPart) → slice_get ps b ≡ Some p �
 
 pub record IsGrid (C : Matrix) (j n tails : ℕ) (ps : List GridPart) (starts : List ℕ) : Type 0 where
   pub planes : size C.field ≤ 2 ^ n
+  pub least : 2 ≤ n
   pub few : n ≤ 4
   pub count : tails ≡ tails_in C
   pub small : tails ≤ 2 ^ 18
@@ -29,3 +31,4 @@ pub record IsGrid (C : Matrix) (j n tails : ℕ) (ps : List GridPart) (starts : 
 
 pub record AreGrids (C : Matrix) (gs : List Grid) : Type 0 where
   pub each : (j : ℕ) (g : Grid) → slice_get gs j ≡ Some g → IsGrid C j g.planes g.tails g.parts.items g.starts.items
+  pub fronts : (j : ℕ) (g : Grid) → slice_get gs j ≡ Some g → HasFronts C j g.planes g.kept g.even (length g.parts.items) g.rows.items

@@ -6,4 +6,5 @@ pub mod Least
 pub mod Tables
 pub mod Planes
 pub mod Grid
+pub mod Fronts
 pub mod Grids

@@ -1,8 +1,10 @@
 -- Words over any field as bits: plane j of a word has bit j of the number of each symbol.
 --   plane j w               the number whose bits are the bits j of the symbols of w, the first one the lowest
 --   plane_at j cols w       plane j of the symbols of a word at some columns
+--   bits_apart n u bits m e      the bits at which one of the first n planes u of a word differs from that of word e of m words
 --   apart n u v             the bits at which one of the first n planes of two words differ
-use Rattle.std.specs.Prelude.{ℕ, zero, suc, List, map, bit_or, bit_xor}
+--   trit_sum a b c d        a plane of a sum over 3 elements, from the planes of two words: a and c are the same plane as that of the sum
+use Rattle.std.specs.Prelude.{ℕ, zero, suc, ◌+◌, ◌*◌, List, map, bit_or, bit_xor, slice_index}
 use Rattle.std.specs.Int.{bit_at}
 use Rattle.lc_algebra.specs.SpanLaws.{restrict}
 use Rattle.lc_kernel.specs.Packed.{packed}
@@ -16,3 +18,10 @@ plane_at j cols w = plane j (restrict cols w)
 abbrev pub apart : ℕ → List ℕ → List ℕ → ℕ
 apart zero u v = 0
 apart (suc j) u v = bit_or (bit_xor (plane j u) (plane j v)) (apart j u v)
+
+abbrev pub bits_apart : ℕ → List ℕ → List ℕ → ℕ → ℕ → ℕ
+bits_apart zero u bits m e = 0
+bits_apart (suc j) u bits m e = bit_or (bit_xor (slice_index u j) (slice_index bits (j * m + e))) (bits_apart j u bits m e)
+
+abbrev pub trit_sum : ℕ → ℕ → ℕ → ℕ → ℕ
+trit_sum a b c d = bit_xor (bit_or b d) (bit_xor (bit_or a d) (bit_or b c))

@@ -39,7 +39,7 @@ pub fn least(sets: &Sets, plan: &Plan, block: u64, scratch: &mut Scratch) -> u64
         &scratch.grids,
         &mut scratch.spot,
         &mut scratch.heads,
-        &mut scratch.masks,
+        &mut scratch.fronts,
         &mut scratch.counts,
         &mut scratch.stack,
     )
@@ -55,7 +55,7 @@ fn least_in(
     grids: &[Grid],
     spot: &mut Spot,
     heads: &mut [Word],
-    masks: &mut [u64],
+    fronts: &mut [[u64; 4]],
     counts: &mut [u32],
     stack: &mut Stack,
 ) -> u64
@@ -64,11 +64,11 @@ fn least_in(
     requires tables { AreTables sets.now tables.now }
     requires grids { AreGrids sets.now grids.now }
     requires heads { IsRoom sets.now spot.old heads.old }
-    requires masks { length masks.old ≡ 225 }
+    requires fronts { length fronts.old ≡ length sets.now.rows + 1 }
     requires counts { length counts.old ≡ 4096 }
     requires stack { stack.old.code ≡ sets.now }
     ensures heads { IsRoom sets.now spot.new heads.new }
-    ensures masks { length masks.new ≡ length masks.old }
+    ensures fronts { length fronts.new ≡ length fronts.old }
     ensures counts { length counts.new ≡ length counts.old }
     ensures stack { stack.new.code ≡ stack.old.code }
     ensures is { option_map board_value (block_least sets.now plan.now.m block) ≡ Some result }
@@ -81,7 +81,7 @@ fn least_in(
         let grid = &grids[set];
         let multiples = stack.multiples();
         return by_tails(
-            sets, plan, block, grid, multiples, spot, heads, masks, counts,
+            sets, plan, block, grid, multiples, spot, heads, fronts, counts,
         );
     }
     if level >= 2 && set < tables.len() {

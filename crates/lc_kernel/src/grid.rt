@@ -1,19 +1,21 @@
 //! The table of an information set over more than 2 elements: the words that end messages, as bits.
 
-ghost use Rattle.std.specs.Prelude.{◌≡◌, ℕ, ◌+◌, ◌-◌, ◌*◌, ◌^◌, ◌<◌, ◌≤◌, ◌∷◌, [], Some, length, slice_get, slice_index, slice_index_or, IfOk};
-ghost use Rattle.lc_algebra.specs.Field.{size};
+ghost use Rattle.std.specs.Prelude.{◌≡◌, ℕ, ◌+◌, ◌-◌, ◌*◌, ◌^◌, ◌<◌, ◌≤◌, ◌∷◌, [], Some, true, length, slice_get, slice_index, slice_index_or, IfOk};
+ghost use Rattle.lc_algebra.specs.Field.{size, shape_of};
 ghost use Rattle.lc_algebra.specs.Word.{IsWord};
 ghost use Rattle.lc_enumeration.specs.Message.{supports_from};
 ghost use Rattle.lc_enumeration.specs.Search.{set_count};
-ghost use Rattle.lc_kernel.specs.Packed.{others, EndsAt};
+ghost use Rattle.lc_kernel.specs.Packed.{others, part_at, EndsAt};
 ghost use Rattle.lc_kernel.specs.Planes.{plane_at};
 ghost use Rattle.lc_kernel.specs.Sums.{AreMultiples};
 ghost use Rattle.lc_kernel.specs.Grid.{tail_count, tail_word, tails_in, negative, AreTails, ArePlanesOf};
 ghost use Rattle.lc_kernel.specs.Grids.{AreGridParts, IsGrid};
+ghost use Rattle.lc_kernel.specs.Fronts.{IsPlanewise, AreRowPlanes, HasFronts};
 
+use crate::fronts::row_planes;
 use crate::multiples::{multiple_of, nonzero};
 use crate::pairs::pair_starts;
-use crate::planes::plane_of;
+use crate::planes::{gather, plane_of};
 use crate::table::columns_outside;
 use lc_field::NoMemory;
 use lc_infoset::Sets;
@@ -31,14 +33,19 @@ pub(crate) struct GridPart {
     pub(crate) bits: Vec<u64>,
 }
 
-/// For one set: how many planes the symbols have, how many tails there are, the parts for the columns outside its basis, 64 columns each
-/// but the last, and for each row the index of its first pair.
+/// For one set: how many planes the symbols have, how many tails there are, the parts for the columns outside its
+/// basis, 64 columns each but the last, and for each row the index of its first pair. If there is one part, and the
+/// field is of characteristic 2 (`even`) or has 3 elements, it keeps also the planes of the nonzero multiples of its
+/// rows.
 #[derive(Drop)]
 pub(crate) struct Grid {
     pub(crate) planes: usize,
     pub(crate) tails: usize,
     pub(crate) parts: Vec<GridPart>,
     pub(crate) starts: Vec<usize>,
+    pub(crate) kept: bool,
+    pub(crate) even: bool,
+    pub(crate) rows: Vec<[u64; 4]>,
 }
 
 // The negative of the sum of multiples of rows a and b of set j: tail t.
@@ -162,7 +169,8 @@ fn push_plane(
     ensures after { IfOk result (λ _. (e : ℕ) → e < length words.now → slice_index bits.new.items (length bits.old.items + e) ≡ plane_at plane columns.now (slice_index_or words.now e [])) }
 {
     for e in 0..words.len() {
-        bits.push(plane_of(words[e].symbols(), columns, plane))?;
+        let block = gather(words[e].symbols(), columns);
+        bits.push(plane_of(&block, plane))?;
     }
     Ok(())
 }
@@ -236,6 +244,8 @@ fn grid_part(
 // How many planes the symbols of the field have.
 fn plane_count(sets: &Sets) -> usize
     ensures all { size sets.now.field ≤ 2 ^ result }
+    ensures least { 2 ≤ result }
+    ensures three { size sets.now.field ≡ 3 → result ≡ 2 }
     ensures few { result ≤ 4 }
 {
     let size = sets.field().size();
@@ -249,6 +259,7 @@ fn plane_count(sets: &Sets) -> usize
 }
 
 /// The table of set `j`, if there aren't too many tails.
+#[tactic(auto, using(crate::proofs::FrontPlanes::fronts_made))]
 pub(crate) fn grid_of(
     alloc: Global,
     sets: &Sets,
@@ -258,6 +269,7 @@ pub(crate) fn grid_of(
     requires multiples { AreMultiples sets.now multiples.now }
     requires set { j < set_count sets.now }
     ensures is { IfOk result (λ o. (g : _) → o ≡ Some g → IsGrid sets.now j g.planes g.tails g.parts.items g.starts.items) }
+    ensures fronts { IfOk result (λ o. (g : _) → o ≡ Some g → HasFronts sets.now j g.planes g.kept g.even (length g.parts.items) g.rows.items) }
 {
     let _n = sets.length();
     let k = sets.dimension();
@@ -273,11 +285,17 @@ pub(crate) fn grid_of(
     }
     let planes = plane_count(sets);
     let parts = parts_of(alloc, sets, j, &words, planes)?;
+    let rows = rows_of(alloc, sets, multiples, j, &parts, planes)?;
+    let even = is_even(sets);
+    let kept = keeps(sets, planes, even, parts.len());
     Ok(Some(Grid {
         planes,
         tails,
         parts,
         starts,
+        kept,
+        even,
+        rows,
     }))
 }
 
@@ -299,4 +317,57 @@ fn parts_of(
     let mut parts = Vec::new(alloc);
     push_parts(alloc, sets, j, &columns, words, planes, &mut parts)?;
     Ok(parts)
+}
+
+// Whether the field is of characteristic 2.
+fn is_even(sets: &Sets) -> bool
+    ensures is { result ≡ true → (shape_of sets.now.field).characteristic ≡ 2 }
+{
+    sets.field().characteristic() == 2
+}
+
+// Whether a set with so many parts keeps planes of sums.
+#[tactic(auto, using(crate::proofs::FrontPlanes::planewise_even, crate::proofs::FrontPlanes::planewise_three))]
+fn keeps(sets: &Sets, planes: usize, even: bool, parts: usize) -> bool
+    requires planes { planes ≤ 4 }
+    requires three { size sets.now.field ≡ 3 → planes ≡ 2 }
+    requires even { even ≡ true → (shape_of sets.now.field).characteristic ≡ 2 }
+    ensures alone { result ≡ true → parts ≡ 1 }
+    ensures sums { result ≡ true → IsPlanewise sets.now.field planes even }
+{
+    if parts != 1 {
+        return false;
+    }
+    if even {
+        return true;
+    }
+    if sets.field().size() != 3 {
+        return false;
+    }
+    true
+}
+
+// The planes of the nonzero multiples of the rows of set j, if there is one part.
+fn rows_of(
+    alloc: Global,
+    sets: &Sets,
+    multiples: &[Word],
+    j: usize,
+    parts: &[GridPart],
+    planes: usize,
+) -> Result<Vec<[u64; 4]>, NoMemory>
+    requires multiples { AreMultiples sets.now multiples.now }
+    requires set { j < set_count sets.now }
+    requires planes { planes ≤ 4 }
+    requires parts { AreGridParts sets.now j planes parts.now }
+    ensures are { IfOk result (λ rows. length parts.now ≡ 1 → AreRowPlanes sets.now j (part_at (others sets.now j) 0) planes (length sets.now.rows * (size sets.now.field - 1)) rows.items) }
+{
+    let many = parts.len();
+    if many != 1 {
+        return Ok(Vec::new(alloc));
+    }
+    let part = &parts[0];
+    let columns = part.columns.as_slice();
+    let rows = row_planes(alloc, sets, multiples, j, columns, planes)?;
+    Ok(rows)
 }

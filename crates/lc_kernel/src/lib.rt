@@ -4,6 +4,7 @@
 
 mod block;
 mod counts;
+mod fronts;
 mod grid;
 mod multiples;
 mod pairs;

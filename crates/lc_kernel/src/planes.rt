@@ -1,43 +1,137 @@
 //! The bits of the symbols of words, as numbers, and where words differ.
 
-ghost use Rattle.std.specs.Prelude.{◌≡◌, ℕ, ◌+◌, ◌<◌, ◌≤◌, length, slice_index, bit_or, bit_xor, count_ones};
-ghost use Rattle.lc_kernel.specs.Planes.{plane_at};
+ghost use Rattle.std.specs.Prelude.{◌≡◌, ℕ, ◌+◌, ◌*◌, ◌^◌, ◌<◌, ◌≤◌, length, slice_index, bit_or, bit_xor, count_ones};
+ghost use Rattle.lc_kernel.specs.Planes.{plane, plane_at, bits_apart};
 
-/// Bit `plane` of the symbols of a word at some columns, at most 64: the first column is the lowest bit.
-pub(crate) fn plane_of(word: &[u8], columns: &[usize], plane: usize) -> u64
+use std::simd::prelude::*;
+
+/// The symbols of a word at some columns, at most 64, and then zeros.
+pub(crate) fn gather(word: &[u8], columns: &[usize]) -> [u8; 64]
     requires few { length columns.now ≤ 64 }
-    requires plane { plane < 8 }
     requires inside { (t : ℕ) → t < length columns.now → slice_index columns.now t < length word.now }
-    ensures is { result ≡ plane_at plane columns.now word.now }
+    ensures planes { (j : ℕ) → plane j result ≡ plane_at j columns.now word.now }
 {
-    let mut bits = 0;
-    let mut t = columns.len();
-    while t > 0 {
-        t -= 1;
-        let bit = (word[columns[t]] >> plane) & 1;
-        bits = bits * 2 + bit as u64;
+    let mut block = [0; 64];
+    for t in 0..columns.len() {
+        block[t] = word[columns[t]];
+    }
+    block
+}
+
+/// Bit `bit` of each of 64 symbols: the first symbol's is the lowest.
+pub(crate) fn plane_of(block: &[u8; 64], bit: usize) -> u64
+    requires bit { bit < 8 }
+    ensures is { result ≡ plane bit block.now }
+{
+    let ones = u8x64::from_array(*block) & u8x64::splat(1 << bit);
+    ones.simd_ne(u8x64::splat(0)).to_bitmask()
+}
+
+/// The first planes of the symbols of a word at some columns, at most 64.
+pub(crate) fn pack(word: &[u8], columns: &[usize], planes: usize) -> [u64; 4]
+    requires few { length columns.now ≤ 64 }
+    requires inside { (t : ℕ) → t < length columns.now → slice_index columns.now t < length word.now }
+    requires planes { planes ≤ 4 }
+    ensures are { (j : ℕ) → j < planes → slice_index result j ≡ plane_at j columns.now word.now }
+{
+    let block = gather(word, columns);
+    let mut bits = [0; 4];
+    for j in 0..planes {
+        bits[j] = plane_of(&block, j);
     }
     bits
 }
 
-/// Adds to each mask the bits at which a number of the list differs from `bits`.
-pub(crate) fn mark_apart(list: &[u64], bits: u64, masks: &mut [u64])
-    requires lengths { length list.now ≡ length masks.old }
-    ensures is { (i : ℕ) → i < length masks.old → slice_index masks.new i ≡ bit_or (bit_xor bits (slice_index list.now i)) (slice_index masks.old i) }
+// Adds to each count at how many symbols a word, of which p and r are two planes, differs from another.
+fn add_two(ones: &[u64], twos: &[u64], p: u64, r: u64, counts: &mut [u32])
+    requires ones { length ones.now ≡ length counts.old }
+    requires twos { length twos.now ≡ length counts.old }
+    requires few { (i : ℕ) → i < length counts.old → slice_index counts.old i ≤ 255 }
+    ensures is { (i : ℕ) → i < length counts.old → slice_index counts.new i ≡ slice_index counts.old i + count_ones (bit_or (bit_xor r (slice_index twos.now i)) (bit_xor p (slice_index ones.now i))) }
 {
-    for i in 0..masks.len() {
-        masks[i] = (bits ^ list[i]) | masks[i];
+    for i in 0..counts.len() {
+        let apart = (r ^ twos[i]) | (p ^ ones[i]);
+        let many = apart.count_ones();
+        counts[i] += many;
     }
 }
 
-/// Adds to each count the number of ones of a mask.
-pub(crate) fn add_marked(masks: &[u64], counts: &mut [u32])
-    requires lengths { length masks.now ≡ length counts.old }
+// The same by three planes.
+fn add_three(ones: &[u64], twos: &[u64], fours: &[u64], p: u64, r: u64, s: u64, counts: &mut [u32])
+    requires ones { length ones.now ≡ length counts.old }
+    requires twos { length twos.now ≡ length counts.old }
+    requires fours { length fours.now ≡ length counts.old }
     requires few { (i : ℕ) → i < length counts.old → slice_index counts.old i ≤ 255 }
-    ensures is { (i : ℕ) → i < length counts.old → slice_index counts.new i ≡ slice_index counts.old i + count_ones (slice_index masks.now i) }
+    ensures is { (i : ℕ) → i < length counts.old → slice_index counts.new i ≡ slice_index counts.old i + count_ones (bit_or (bit_xor s (slice_index fours.now i)) (bit_or (bit_xor r (slice_index twos.now i)) (bit_xor p (slice_index ones.now i)))) }
 {
     for i in 0..counts.len() {
-        let ones = masks[i].count_ones();
-        counts[i] += ones;
+        let apart = (s ^ fours[i]) | ((r ^ twos[i]) | (p ^ ones[i]));
+        let many = apart.count_ones();
+        counts[i] += many;
     }
+}
+
+// The same by four planes.
+fn add_four(
+    ones: &[u64],
+    twos: &[u64],
+    fours: &[u64],
+    eights: &[u64],
+    p: u64,
+    r: u64,
+    s: u64,
+    t: u64,
+    counts: &mut [u32],
+)
+    requires ones { length ones.now ≡ length counts.old }
+    requires twos { length twos.now ≡ length counts.old }
+    requires fours { length fours.now ≡ length counts.old }
+    requires eights { length eights.now ≡ length counts.old }
+    requires few { (i : ℕ) → i < length counts.old → slice_index counts.old i ≤ 255 }
+    ensures is { (i : ℕ) → i < length counts.old → slice_index counts.new i ≡ slice_index counts.old i + count_ones (bit_or (bit_xor t (slice_index eights.now i)) (bit_or (bit_xor s (slice_index fours.now i)) (bit_or (bit_xor r (slice_index twos.now i)) (bit_xor p (slice_index ones.now i))))) }
+{
+    for i in 0..counts.len() {
+        let low = (r ^ twos[i]) | (p ^ ones[i]);
+        let apart = (t ^ eights[i]) | ((s ^ fours[i]) | low);
+        let many = apart.count_ones();
+        counts[i] += many;
+    }
+}
+
+/// Adds to each count at how many symbols a word, by its planes, differs from one of some words, by theirs: so
+/// many lists, one after another. The words of the counts begin at an index.
+pub(crate) fn add_apart(
+    planes: usize,
+    bits: &[u64],
+    words: usize,
+    start: usize,
+    head: &[u64; 4],
+    counts: &mut [u32],
+)
+    requires least { 2 ≤ planes }
+    requires most { planes ≤ 4 }
+    requires long { length bits.now ≡ planes * words }
+    requires room { start + length counts.old ≤ words }
+    requires small { words ≤ 2 ^ 18 }
+    requires few { (i : ℕ) → i < length counts.old → slice_index counts.old i ≤ 255 }
+    ensures is { (i : ℕ) → i < length counts.old → slice_index counts.new i ≡ slice_index counts.old i + count_ones (bits_apart planes head.now bits.now words (start + i)) }
+{
+    let many = counts.len();
+    let second = words + start;
+    let ones = &bits[start..start + many];
+    let twos = &bits[second..second + many];
+    if planes == 2 {
+        add_two(ones, twos, head[0], head[1], counts);
+        return;
+    }
+    let third = words + second;
+    let fours = &bits[third..third + many];
+    if planes == 3 {
+        add_three(ones, twos, fours, head[0], head[1], head[2], counts);
+        return;
+    }
+    let fourth = words + third;
+    let eights = &bits[fourth..fourth + many];
+    let [p, r, s, t] = *head;
+    add_four(ones, twos, fours, eights, p, r, s, t, counts);
 }

@@ -32,12 +32,13 @@ pub struct Scratch {
     pub(crate) spot: Spot,
     // the zero word, and then the sums of the entries of a message but the last two
     pub(crate) heads: Vec<Word>,
-    pub(crate) masks: Vec<u64>,
+    // over 3 elements, and in characteristic 2, the planes of these sums
+    pub(crate) fronts: Vec<[u64; 4]>,
     pub(crate) counts: Vec<u32>,
 }
 
 impl Model for Scratch {
-    ghost use Rattle.std.specs.Prelude.{◌≡◌, length};
+    ghost use Rattle.std.specs.Prelude.{◌≡◌, ◌+◌, length};
     ghost use Rattle.std.specs.Arc.{arc_value};
     ghost use Rattle.lc_algebra.specs.Matrix.{Matrix};
     ghost use Rattle.lc_kernel.specs.Tables.{AreTables};
@@ -48,7 +49,7 @@ impl Model for Scratch {
 
     ghost view = { λ s. s.stack.code };
 
-    ghost invariant = { λ s. AreTables s.stack.code (arc_value s.tables).items × AreGrids s.stack.code (arc_value s.grids).items × IsRoom s.stack.code s.spot s.heads.items × (length s.masks.items ≡ 225) × (length s.counts.items ≡ 4096) };
+    ghost invariant = { λ s. AreTables s.stack.code (arc_value s.tables).items × AreGrids s.stack.code (arc_value s.grids).items × IsRoom s.stack.code s.spot s.heads.items × (length s.fronts.items ≡ length s.stack.code.rows + 1) × (length s.counts.items ≡ 4096) };
 }
 
 impl Scratch {
@@ -96,7 +97,7 @@ impl Scratch {
             return Err(NoMemory);
         };
         let heads = zeros(alloc, k + 1, stack.length())?;
-        let masks = vec![in alloc; 0u64; 225]?;
+        let fronts = vec![in alloc; [0u64; 4]; k + 1]?;
         let counts = vec![in alloc; 0u32; 4096]?;
         Ok(Scratch {
             stack,
@@ -104,7 +105,7 @@ impl Scratch {
             grids,
             spot,
             heads,
-            masks,
+            fronts,
             counts,
         })
     }

@@ -16,21 +16,23 @@ ghost use Rattle.lc_algebra.specs.Word.{IsWord};
 ghost use Rattle.lc_kernel.specs.Grid.{tail_count, tail_index, tail_word, tails_in, negative, IsTailRun};
 ghost use Rattle.lc_kernel.specs.Planes.{apart};
 ghost use Rattle.lc_kernel.specs.Grids.{IsGrid};
+ghost use Rattle.lc_kernel.specs.Fronts.{HasFronts};
 ghost use Rattle.lc_kernel.specs.Least.{AreCounted};
 ghost use Rattle.lc_kernel.specs.Sums.{front_word, AreMultiples, IsRoom};
 
 use crate::counts::first_least;
+use crate::fronts::count_words;
 use crate::grid::Grid;
 use crate::multiples::nonzero;
-use crate::planes::{add_marked, mark_apart, plane_of};
+use crate::planes::{add_apart, pack};
 use crate::runs::pair_index;
 use crate::stack::refresh;
 use lc_infoset::Sets;
 use lc_place::{Plan, Spot};
 use lc_vec::Word;
 
-// The index of the pair of the last two coefficients of a spot.
-fn tail_of(sets: &Sets, spot: &Spot) -> usize
+/// The index of the pair of the last two coefficients of a spot.
+pub(crate) fn tail_of(sets: &Sets, spot: &Spot) -> usize
     requires message { Contains (messages (length sets.now.rows) (size sets.now.field) (length spot.now.support)) (spot_message spot.now) }
     requires level { 3 ≤ length spot.now.support }
     ensures is { result ≡ tail_index sets.now spot.now }
@@ -42,38 +44,6 @@ fn tail_of(sets: &Sets, spot: &Spot) -> usize
     let first = coefficients[coefficients.len() - 2] as usize - 1;
     let second = coefficients[coefficients.len() - 1] as usize - 1;
     first * elements + second
-}
-
-// Marks where the words of a run, whose tails begin at an index, aren't 0 in a part of the columns.
-fn mark_part(
-    sets: &Sets,
-    grid: &Grid,
-    part: usize,
-    spot: &Spot,
-    head: &Word,
-    start: usize,
-    masks: &mut [u64],
-)
-    requires grid { IsGrid sets.now spot.now.set grid.now.planes grid.now.tails grid.now.parts.items grid.now.starts.items }
-    requires part { part < length grid.now.parts.items }
-    requires head { IsWord sets.now.field sets.now.columns head.now }
-    requires tails { start + length masks.old ≤ tails_in sets.now }
-    ensures marked { (i a b : ℕ) → i < length masks.old → slice_get (supports_from 0 (length sets.now.rows) 2) ((start + i) / tail_count sets.now) ≡ Some (a ∷ b ∷ []) → slice_index masks.new i ≡ apart grid.now.planes (restrict (part_at (others sets.now spot.now.set) part) head.now) (restrict (part_at (others sets.now spot.now.set) part) (negative sets.now.field (tail_word sets.now spot.now.set a b ((start + i) % tail_count sets.now)))) }
-{
-    let _n = sets.length();
-    let table = &grid.parts[part];
-    let columns = table.columns.as_slice();
-    let bits = table.bits.as_slice();
-    masks.fill(0);
-    for plane in 0..grid.planes {
-        let first = plane * grid.tails + start;
-        let end = first + masks.len();
-        mark_apart(
-            &bits[first..end],
-            plane_of(head.symbols(), columns, plane),
-            masks,
-        );
-    }
 }
 
 // Adds to the counts of a run what a part of the columns has. The run's words begin at an offset of a block
@@ -88,19 +58,20 @@ fn add_part(
     head: &Word,
     start: usize,
     done: u64,
-    masks: &mut [u64],
     counts: &mut [u32],
 )
     requires run { IsTailRun sets.now plan.now.m block spot.now head.now done start (length counts.old) }
     requires grid { IsGrid sets.now spot.now.set grid.now.planes grid.now.tails grid.now.parts.items grid.now.starts.items }
     requires part { part < length grid.now.parts.items }
-    requires masks { length masks.old ≡ length counts.old }
     requires counted { AreCounted (take (64 * part) (others sets.now spot.now.set)) (block_words sets.now plan.now.m block) done (length counts.old) counts.old }
     ensures counted { AreCounted (take (64 * (part + 1)) (others sets.now spot.now.set)) (block_words sets.now plan.now.m block) done (length counts.old) counts.new }
 {
     let _n = sets.length();
-    mark_part(sets, grid, part, spot, head, start, masks);
-    add_marked(masks, counts);
+    let table = &grid.parts[part];
+    let columns = table.columns.as_slice();
+    let tails = table.bits.as_slice();
+    let bits = pack(head.symbols(), columns, grid.planes);
+    add_apart(grid.planes, tails, grid.tails, start, &bits, counts);
 }
 
 // Counts the nonzero symbols, outside the basis, of the words of a run.
@@ -113,18 +84,16 @@ fn count_run(
     head: &Word,
     start: usize,
     done: u64,
-    masks: &mut [u64],
     counts: &mut [u32],
 )
     requires run { IsTailRun sets.now plan.now.m block spot.now head.now done start (length counts.old) }
     requires grid { IsGrid sets.now spot.now.set grid.now.planes grid.now.tails grid.now.parts.items grid.now.starts.items }
-    requires masks { length masks.old ≡ length counts.old }
     ensures counted { AreCounted (others sets.now spot.now.set) (block_words sets.now plan.now.m block) done (length counts.old) counts.new }
 {
     counts.fill(0);
     for part in 0..grid.parts.len() {
         add_part(
-            sets, plan, block, grid, part, spot, head, start, done, masks, counts,
+            sets, plan, block, grid, part, spot, head, start, done, counts,
         );
     }
 }
@@ -139,7 +108,6 @@ fn one_run(
     spot: &Spot,
     head: &Word,
     done: usize,
-    masks: &mut [u64],
     counts: &mut [u32],
 ) -> usize
     requires phase { (p : ℕ) × IsInPhase (length sets.now.rows) (size sets.now.field) plan.now.m p block }
@@ -148,13 +116,13 @@ fn one_run(
     requires level { 3 ≤ length spot.now.support }
     requires grid { IsGrid sets.now spot.now.set grid.now.planes grid.now.tails grid.now.parts.items grid.now.starts.items }
     requires head { head.now ≡ front_word sets.now spot.now (length spot.now.support - 2) }
-    requires masks { length masks.old ≡ 225 }
     requires some { done < length counts.old }
     requires words { length counts.old ≡ length (block_words sets.now plan.now.m block) }
     requires counted { AreCounted (others sets.now spot.now.set) (block_words sets.now plan.now.m block) 0 done counts.old }
     ensures counted { AreCounted (others sets.now spot.now.set) (block_words sets.now plan.now.m block) 0 (done + result) counts.new }
     ensures some { 0 < result }
     ensures within { done + result ≤ length counts.old }
+    ensures end { done + result < length counts.old → tail_index sets.now spot.now + result ≡ tail_count sets.now }
 {
     let _k = sets.dimension();
     let elements = nonzero(sets);
@@ -171,53 +139,36 @@ fn one_run(
         head,
         start,
         done as u64,
-        &mut masks[..count],
         &mut counts[done..end],
     );
     count
 }
 
-// Goes so many messages on from one at an offset of a block. Returns how many of the first entries stayed.
-fn pass(sets: &Sets, plan: &Plan, block: u64, spot: &mut Spot, done: u64, count: u64) -> usize
+/// Goes from a message at an offset of a block, with so many left in its run, to the first one after the run.
+/// Returns how many of the first entries stayed.
+pub(crate) fn pass(
+    sets: &Sets,
+    plan: &Plan,
+    block: u64,
+    spot: &mut Spot,
+    done: u64,
+    count: u64,
+) -> usize
     requires plan { IsPlanOf plan.now sets.now }
     requires at { IsSpotAt sets.now plan.now.m block done spot.old }
+    requires level { 3 ≤ length spot.old.support }
+    requires some { 0 < count }
+    requires end { tail_index sets.now spot.old + count ≡ tail_count sets.now }
     requires inside { done + count < length (block_words sets.now plan.now.m block) }
     ensures at { IsSpotAt sets.now plan.now.m block (done + count) spot.new }
     ensures level { length spot.new.support ≡ length spot.old.support }
     ensures set { spot.new.set ≡ spot.old.set }
     ensures room { spot.new.room ≡ spot.old.room }
-    ensures few { result ≤ length spot.old.support }
+    ensures few { result ≤ length spot.old.support - 2 }
     ensures same { (i : ℕ) → i ≤ result → front_word sets.now spot.new i ≡ front_word sets.now spot.old i }
 {
-    let _k = sets.dimension();
-    let mut stayed = spot.support().len();
-    for offset in done..done + count {
-        stayed = step_once(sets, plan, block, spot, offset, stayed);
-    }
-    stayed
-}
-
-// Goes to the next message from one at an offset of a block. Returns how many of the first entries stayed, at
-// most so many.
-fn step_once(
-    sets: &Sets,
-    plan: &Plan,
-    block: u64,
-    spot: &mut Spot,
-    offset: u64,
-    most: usize,
-) -> usize
-    requires plan { IsPlanOf plan.now sets.now }
-    requires at { IsSpotAt sets.now plan.now.m block offset spot.old }
-    requires inside { offset + 1 < length (block_words sets.now plan.now.m block) }
-    ensures at { IsSpotAt sets.now plan.now.m block (offset + 1) spot.new }
-    ensures level { length spot.new.support ≡ length spot.old.support }
-    ensures set { spot.new.set ≡ spot.old.set }
-    ensures room { spot.new.room ≡ spot.old.room }
-    ensures few { result ≤ most }
-    ensures same { (i : ℕ) → i ≤ result → front_word sets.now spot.new i ≡ front_word sets.now spot.old i }
-{
-    let _k = sets.dimension();
+    let most = spot.support().len() - 2;
+    spot.to_last_tail(nonzero(sets) as u8);
     match plan.step(spot) {
         Some(first) => most.min(first),
         None => most,
@@ -234,7 +185,6 @@ pub(crate) fn count_tails(
     multiples: &[Word],
     spot: &mut Spot,
     heads: &mut [Word],
-    masks: &mut [u64],
     counts: &mut [u32],
 )
     requires plan { IsPlanOf plan.now sets.now }
@@ -245,7 +195,6 @@ pub(crate) fn count_tails(
     requires grid { IsGrid sets.now spot.old.set grid.now.planes grid.now.tails grid.now.parts.items grid.now.starts.items }
     requires multiples { AreMultiples sets.now multiples.now }
     requires room { IsRoom sets.now spot.old heads.old }
-    requires masks { length masks.old ≡ 225 }
     requires some { 0 < length counts.old }
     requires words { length counts.old ≡ length (block_words sets.now plan.now.m block) }
     ensures counted { AreCounted (others sets.now spot.old.set) (block_words sets.now plan.now.m block) 0 (length counts.old) counts.new }
@@ -266,13 +215,12 @@ pub(crate) fn count_tails(
             spot,
             &heads[level - 2],
             done,
-            masks,
             counts,
         );
         if done + count >= counts.len() {
             return;
         }
-        stayed = pass(sets, plan, block, spot, done as u64, count as u64).min(level - 2);
+        stayed = pass(sets, plan, block, spot, done as u64, count as u64);
         done += count;
     }
 }
@@ -286,7 +234,7 @@ pub(crate) fn by_tails(
     multiples: &[Word],
     spot: &mut Spot,
     heads: &mut [Word],
-    masks: &mut [u64],
+    fronts: &mut [[u64; 4]],
     counts: &mut [u32],
 ) -> u64
     requires plan { IsPlanOf plan.now sets.now }
@@ -295,13 +243,14 @@ pub(crate) fn by_tails(
     requires at { IsSpotAt sets.now plan.now.m block 0 spot.old }
     requires level { 3 ≤ length spot.old.support }
     requires grid { IsGrid sets.now spot.old.set grid.now.planes grid.now.tails grid.now.parts.items grid.now.starts.items }
+    requires kept { HasFronts sets.now spot.old.set grid.now.planes grid.now.kept grid.now.even (length grid.now.parts.items) grid.now.rows.items }
     requires multiples { AreMultiples sets.now multiples.now }
     requires room { IsRoom sets.now spot.old heads.old }
-    requires masks { length masks.old ≡ 225 }
+    requires many { length fronts.old ≡ length sets.now.rows + 1 }
     requires counts { length counts.old ≡ 4096 }
     ensures is { option_map board_value (block_least sets.now plan.now.m block) ≡ Some result }
     ensures heads { IsRoom sets.now spot.new heads.new }
-    ensures masks { length masks.new ≡ length masks.old }
+    ensures many { length fronts.new ≡ length fronts.old }
     ensures counts { length counts.new ≡ length counts.old }
 {
     let _few = plan.total();
@@ -310,7 +259,7 @@ pub(crate) fn by_tails(
     let _n = sets.length();
     let level = spot.support().len() as u64;
     let len = plan.block_len(block) as usize;
-    count_tails(
+    count_words(
         sets,
         plan,
         block,
@@ -318,7 +267,7 @@ pub(crate) fn by_tails(
         multiples,
         spot,
         heads,
-        masks,
+        fronts,
         &mut counts[..len],
     );
     let (least, at) = first_least(&counts[..len]);

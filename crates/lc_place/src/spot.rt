@@ -61,6 +61,19 @@ impl Spot {
         self.support[level - 1] = k - 1;
     }
 
+    /// Sets the last two coefficients to `top`, and leaves all else. There are at least two coefficients.
+    pub fn to_last_tail(&mut self, top: u8)
+        requires two { 2 ≤ length self.old.coefficients }
+        ensures coefficients { self.new.coefficients ≡ take (length self.old.coefficients - 2) self.old.coefficients ++ top ∷ top ∷ [] }
+        ensures support { self.new.support ≡ self.old.support }
+        ensures set { self.new.set ≡ self.old.set }
+        ensures room { self.new.room ≡ self.old.room }
+    {
+        let level = self.coefficients.len();
+        self.coefficients[level - 2] = top;
+        self.coefficients[level - 1] = top;
+    }
+
     /// The index of the information set, from 0.
     pub fn set(&self) -> usize
         ensures { result ≡ self.now.set }

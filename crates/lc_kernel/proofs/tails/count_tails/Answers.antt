@@ -9,7 +9,6 @@ loop-counts-init c = record {
   level = sym (ap length c.support-level.ensures.places);
   room = refl;
   stayed = omega arith;
-  long = refl;
   at = c.requires.at;
   heads = c.requires.room;
   fronts = front_start c.args.sets.now c.args.spot.now c.args.heads.now c.dimension-k.ensures.rows c.dimension-k.ensures.independent c.requires.set c.requires.room.first;

@@ -16,7 +16,6 @@ invariant-loop-counts l = record {
   level : length l.spot.support ≡ l.level;
   room : l.spot.room ≡ l.initial.spot.room;
   stayed : l.stayed ≤ l.level - 2;
-  long : length l.masks ≡ length l.initial.masks;
   at : IsSpotAt l.sets l.plan.m l.block l.done l.spot;
   heads : IsRoom l.sets l.spot l.heads;
   fronts : AreFronts l.sets l.spot l.stayed l.heads;

@@ -8,11 +8,11 @@ pub invariant_of-result : goal.invariant_of-result
 invariant_of-result c =
     let k = c.dimension-k.ensures.is in
     let heads = c.in_ok-heads.ensures in
-    let masks : length c.in_ok-masks.masks.items ≡ 225 = omega (arith, c.in_ok-masks.ensures.len, c.in_ok-masks.masks.ok.0) in
+    let fronts : length c.in_ok-fronts.fronts.items ≡ length c.args.stack.code.rows + 1 = omega (arith, c.in_ok-fronts.ensures.len, c.in_ok-fronts.fronts.ok.0, k) in
     let counts : length c.in_ok-counts.counts.items ≡ 4096 = omega (arith, c.in_ok-counts.ensures.len, c.in_ok-counts.counts.ok.0) in (
       c.requires.tables,
       c.requires.grids,
       front_room c.args.stack.code c.in-Ok.spot c.in_ok-heads.heads.items (heads.many ∙ ap (λ z. z + 1) k) (λ i l. heads.zero i (omega (arith, l, k)) ∙ ap zero_word c.length.ensures.is) (ap (λ (s : SpotState). s.room) c.in-Ok.ensures ∙ k),
-      masks,
+      fronts,
       counts,
     )

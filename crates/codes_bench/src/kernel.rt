@@ -1,0 +1,100 @@
+//! The least words of the blocks of a level.
+
+ghost use Rattle.std.specs.Prelude.{◌≡◌, ◌≤◌, IfOk};
+ghost use Rattle.lc_kernel.specs.Kernel.{IsPlanOf};
+
+use crate::linear::rows;
+use crate::messages::first_block;
+use crate::rate::{Failure, Rate};
+use lc_field::Field;
+use lc_infoset::Sets;
+use lc_kernel::{Scratch, least};
+use lc_matrix::Matrix;
+use lc_place::Plan;
+use std::alloc::{AllocGlobal, Global};
+use std::rt::Clock;
+use std::time::Instant;
+
+/// How many blocks are looked at, at most.
+const BLOCKS: u64 = 2_000;
+
+// Looks at blocks from one on, and answers how many words they have.
+fn look(sets: &Sets, plan: &Plan, first: u64, scratch: &mut Scratch) -> u64
+    requires plan { IsPlanOf plan.now sets.now }
+    requires scratch { scratch.old ≡ sets.now }
+{
+    let end = plan.total().min(first.saturating_add(BLOCKS));
+    let mut count: u64 = 0;
+    for block in first..end {
+        let _value = least(sets, plan, block, scratch);
+        count = count.saturating_add(plan.block_len(block));
+    }
+    count
+}
+
+// The information sets of a pseudo-random code of length `n` with `k` rows over `q` elements.
+#[tactic(auto, using(lc_algebra::proofs::ReducedLaws::reduced_independent))]
+fn sets_of(alloc: Global, q: u64, n: usize, k: usize) -> Result<Sets, Failure>
+    requires length { (1 ≤ n) × (n ≤ 255) }
+{
+    let field = Field::of(alloc, q)?;
+    let matrix = Matrix::from_rows(alloc, &field, n, &rows(alloc, &field, n, k)?)?;
+    let form = matrix.echelon(alloc)?;
+    let height = form.rows();
+    if !field.is_symbol() || height == 0 {
+        return Err(Failure::Refused);
+    }
+    Ok(Sets::build(alloc, &form)?)
+}
+
+// The rate over the first blocks of a level, in words.
+fn level_rate<R: Clock + AllocGlobal>(
+    rt: &R,
+    sets: &Sets,
+    plan: &Plan,
+    level: usize,
+) -> Result<Rate, Failure>
+    requires plan { IsPlanOf plan.now sets.now }
+{
+    let Some(block) = first_block(plan, level) else {
+        return Err(Failure::Refused);
+    };
+    let mut scratch = Scratch::new(rt.alloc(), sets)?;
+    let start = Instant::now(rt)?;
+    let count = look(sets, plan, block, &mut scratch);
+    Ok(Rate {
+        count,
+        what: "words",
+        elapsed: start.elapsed(rt)?,
+    })
+}
+
+/// The rate of `least` over the first blocks of a level of a pseudo-random code of length `n` with `k` rows over
+/// `q` elements, in words.
+pub fn least_rate<R: Clock + AllocGlobal>(
+    rt: &R,
+    q: u64,
+    n: usize,
+    k: usize,
+    level: usize,
+) -> Result<Rate, Failure> {
+    if n == 0 || n > 255 {
+        return Err(Failure::Refused);
+    }
+    let sets = sets_of(rt.alloc(), q, n, k)?;
+    let plan = plan_of(rt.alloc(), &sets)?;
+    level_rate(rt, &sets, &plan, level)
+}
+
+// The plan with one of these sets.
+fn plan_of(alloc: Global, sets: &Sets) -> Result<Plan, Failure>
+    ensures is { IfOk result (λ p. IsPlanOf p sets.now) }
+{
+    let size = u64::from(sets.field().size());
+    let _count = sets.count();
+    let _n = sets.length();
+    if size < 2 || size > 16 {
+        return Err(Failure::Refused);
+    }
+    Ok(Plan::build(alloc, sets.dimension(), size, 1)?)
+}

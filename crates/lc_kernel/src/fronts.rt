@@ -1,0 +1,284 @@
+//! The counts of a block of words over 3 elements, or in characteristic 2, whose columns outside the basis are at
+//! most 64: the planes of the sums of the first entries are kept from run to run, and made from those of the rows.
+
+ghost use Rattle.std.specs.Prelude.{◌≡◌, ℕ, ◌+◌, ◌-◌, ◌*◌, ◌^◌, ◌<◌, ◌≤◌, ◌/◌, ◌%◌, ◌∷◌, [], Some, true, false, length, slice_get, slice_index, slice_index_or, bit_xor, IfOk};
+ghost use Rattle.std.specs.List.{Contains};
+ghost use Rattle.lc_algebra.specs.Field.{size};
+ghost use Rattle.lc_enumeration.specs.Message.{messages, supports_from};
+ghost use Rattle.lc_enumeration.specs.Plan.{IsInPhase};
+ghost use Rattle.lc_enumeration.specs.Search.{set_count, block_words};
+ghost use Rattle.lc_place.specs.Place.{spot_message};
+ghost use Rattle.lc_kernel.specs.Kernel.{IsPlanOf};
+ghost use Rattle.lc_kernel.specs.Values.{IsSpotAt};
+ghost use Rattle.lc_kernel.specs.Packed.{others, part_at};
+ghost use Rattle.lc_kernel.specs.Grid.{tail_count, tail_index, IsTailRun};
+ghost use Rattle.lc_kernel.specs.Planes.{plane_at, trit_sum};
+ghost use Rattle.lc_kernel.specs.Grids.{IsGrid};
+ghost use Rattle.lc_kernel.specs.Fronts.{AreRowPlanes, AreFrontPlanes, ArePlanes, IsKept, HasFronts};
+ghost use Rattle.lc_kernel.specs.Least.{AreCounted};
+ghost use Rattle.lc_kernel.specs.Sums.{front_word, AreMultiples, IsRoom};
+
+use crate::grid::Grid;
+use crate::multiples::{multiple_of, nonzero};
+use crate::planes::{add_apart, pack};
+use crate::runs::pair_index;
+use crate::tails::{count_tails, pass, tail_of};
+use lc_field::NoMemory;
+use lc_infoset::Sets;
+use lc_place::{Plan, Spot};
+use lc_vec::Word;
+use std::alloc::Global;
+
+/// The planes at some columns of the nonzero multiples of the rows of set `j`, row by row, in the order of the
+/// elements.
+pub(crate) fn row_planes(
+    alloc: Global,
+    sets: &Sets,
+    multiples: &[Word],
+    j: usize,
+    columns: &[usize],
+    planes: usize,
+) -> Result<Vec<[u64; 4]>, NoMemory>
+    requires multiples { AreMultiples sets.now multiples.now }
+    requires set { j < set_count sets.now }
+    requires few { length columns.now ≤ 64 }
+    requires inside { (t : ℕ) → t < length columns.now → slice_index columns.now t < sets.now.columns }
+    requires planes { planes ≤ 4 }
+    ensures are { IfOk result (λ rows. AreRowPlanes sets.now j columns.now planes (length sets.now.rows * (size sets.now.field - 1)) rows.items) }
+{
+    let elements = nonzero(sets);
+    let k = sets.dimension();
+    let _n = sets.length();
+    let mut rows = Vec::new(alloc);
+    for index in 0..k * elements {
+        let c = (index % elements) as u8 + 1;
+        let word = multiple_of(sets, multiples, j, index / elements, c);
+        rows.push(pack(word.symbols(), columns, planes))?;
+    }
+    Ok(rows)
+}
+
+// A plane of a sum over 3 elements, from the planes of two words, this one first.
+fn trits(a: u64, b: u64, c: u64, d: u64) -> u64
+    ensures is { result ≡ trit_sum a b c d }
+{
+    (b | d) ^ ((a | d) ^ (b | c))
+}
+
+// The planes of a sum, from those of two words: in characteristic 2, if `even` is true, and else over 3 elements.
+fn sum_planes(even: bool, u: &[u64; 4], v: &[u64; 4]) -> [u64; 4]
+    ensures even { even ≡ true → (j : ℕ) → j < 4 → slice_index result j ≡ bit_xor (slice_index u.now j) (slice_index v.now j) }
+    ensures low { even ≡ false → slice_index result 0 ≡ trit_sum (slice_index u.now 0) (slice_index u.now 1) (slice_index v.now 0) (slice_index v.now 1) }
+    ensures high { even ≡ false → slice_index result 1 ≡ trit_sum (slice_index u.now 1) (slice_index u.now 0) (slice_index v.now 1) (slice_index v.now 0) }
+{
+    if even {
+        return [u[0] ^ v[0], u[1] ^ v[1], u[2] ^ v[2], u[3] ^ v[3]];
+    }
+    let low = trits(u[0], u[1], v[0], v[1]);
+    let high = trits(u[1], u[0], v[1], v[0]);
+    [low, high, 0, 0]
+}
+
+// The planes of the sum of one entry more than i.
+fn next_front(sets: &Sets, grid: &Grid, spot: &Spot, front: &[u64; 4], i: usize) -> [u64; 4]
+    requires set { spot.now.set < set_count sets.now }
+    requires message { Contains (messages (length sets.now.rows) (size sets.now.field) (length spot.now.support)) (spot_message spot.now) }
+    requires kept { IsKept sets.now spot.now.set grid.now.planes grid.now.even grid.now.rows.items }
+    requires entry { i < length spot.now.support }
+    requires front { ArePlanes (part_at (others sets.now spot.now.set) 0) grid.now.planes (front_word sets.now spot.now i) front.now }
+    ensures is { ArePlanes (part_at (others sets.now spot.now.set) 0) grid.now.planes (front_word sets.now spot.now (i + 1)) result }
+{
+    let _k = sets.dimension();
+    let _n = sets.length();
+    let support = spot.support();
+    let coefficients = spot.coefficients();
+    let row = support[i] * nonzero(sets);
+    let element = coefficients[i] as usize - 1;
+    sum_planes(grid.even, front, &grid.rows[row + element])
+}
+
+// Makes the planes of the sums of the first `to` entries again, those of the first `from` being there.
+fn refresh_planes(
+    sets: &Sets,
+    grid: &Grid,
+    spot: &Spot,
+    fronts: &mut [[u64; 4]],
+    from: usize,
+    to: usize,
+)
+    requires set { spot.now.set < set_count sets.now }
+    requires message { Contains (messages (length sets.now.rows) (size sets.now.field) (length spot.now.support)) (spot_message spot.now) }
+    requires kept { IsKept sets.now spot.now.set grid.now.planes grid.now.even grid.now.rows.items }
+    requires many { length fronts.old ≡ length sets.now.rows + 1 }
+    requires fronts { AreFrontPlanes sets.now spot.now grid.now.planes from fronts.old }
+    requires order { from ≤ to }
+    requires inside { to ≤ length spot.now.support }
+    ensures fronts { AreFrontPlanes sets.now spot.now grid.now.planes to fronts.new }
+{
+    let _k = sets.dimension();
+    let _n = sets.length();
+    for i in from..to {
+        let front = next_front(sets, grid, spot, &fronts[i], i);
+        fronts[i + 1] = front;
+    }
+}
+
+// Counts the nonzero symbols, outside the basis, of the words of a run, from the planes of its head.
+fn count_front(
+    sets: &Sets,
+    plan: &Plan,
+    block: u64,
+    grid: &Grid,
+    spot: &Spot,
+    head: &[u64; 4],
+    start: usize,
+    done: u64,
+    counts: &mut [u32],
+)
+    requires run { IsTailRun sets.now plan.now.m block spot.now (front_word sets.now spot.now (length spot.now.support - 2)) done start (length counts.old) }
+    requires grid { IsGrid sets.now spot.now.set grid.now.planes grid.now.tails grid.now.parts.items grid.now.starts.items }
+    requires alone { length grid.now.parts.items ≡ 1 }
+    requires head { ArePlanes (part_at (others sets.now spot.now.set) 0) grid.now.planes (front_word sets.now spot.now (length spot.now.support - 2)) head.now }
+    ensures counted { AreCounted (others sets.now spot.now.set) (block_words sets.now plan.now.m block) done (length counts.old) counts.new }
+{
+    let _n = sets.length();
+    counts.fill(0);
+    let part = &grid.parts[0];
+    let tails = part.bits.as_slice();
+    add_apart(grid.planes, tails, grid.tails, start, head, counts);
+}
+
+// Counts the words of a block up to the end of a run that begins at an offset. Returns how many words the
+// run has.
+fn one_front(
+    sets: &Sets,
+    plan: &Plan,
+    block: u64,
+    grid: &Grid,
+    spot: &Spot,
+    head: &[u64; 4],
+    done: usize,
+    counts: &mut [u32],
+) -> usize
+    requires phase { (p : ℕ) × IsInPhase (length sets.now.rows) (size sets.now.field) plan.now.m p block }
+    requires set { spot.now.set < set_count sets.now }
+    requires at { IsSpotAt sets.now plan.now.m block done spot.now }
+    requires level { 3 ≤ length spot.now.support }
+    requires grid { IsGrid sets.now spot.now.set grid.now.planes grid.now.tails grid.now.parts.items grid.now.starts.items }
+    requires alone { length grid.now.parts.items ≡ 1 }
+    requires head { ArePlanes (part_at (others sets.now spot.now.set) 0) grid.now.planes (front_word sets.now spot.now (length spot.now.support - 2)) head.now }
+    requires some { done < length counts.old }
+    requires words { length counts.old ≡ length (block_words sets.now plan.now.m block) }
+    requires counted { AreCounted (others sets.now spot.now.set) (block_words sets.now plan.now.m block) 0 done counts.old }
+    ensures counted { AreCounted (others sets.now spot.now.set) (block_words sets.now plan.now.m block) 0 (done + result) counts.new }
+    ensures some { 0 < result }
+    ensures within { done + result ≤ length counts.old }
+    ensures end { done + result < length counts.old → tail_index sets.now spot.now + result ≡ tail_count sets.now }
+{
+    let _k = sets.dimension();
+    let elements = nonzero(sets);
+    let tail = tail_of(sets, spot);
+    let start = pair_index(sets, &grid.starts, spot) * elements * elements + tail;
+    let count = (elements * elements - tail).min(counts.len() - done);
+    let end = done + count;
+    count_front(
+        sets,
+        plan,
+        block,
+        grid,
+        spot,
+        head,
+        start,
+        done as u64,
+        &mut counts[done..end],
+    );
+    count
+}
+
+/// Counts the nonzero symbols, outside the basis, of the words of a block of a level of at least 3, from its
+/// first message on.
+pub(crate) fn count_fronts(
+    sets: &Sets,
+    plan: &Plan,
+    block: u64,
+    grid: &Grid,
+    spot: &mut Spot,
+    fronts: &mut [[u64; 4]],
+    counts: &mut [u32],
+)
+    requires plan { IsPlanOf plan.now sets.now }
+    requires phase { (p : ℕ) × IsInPhase (length sets.now.rows) (size sets.now.field) plan.now.m p block }
+    requires set { spot.old.set < set_count sets.now }
+    requires at { IsSpotAt sets.now plan.now.m block 0 spot.old }
+    requires level { 3 ≤ length spot.old.support }
+    requires grid { IsGrid sets.now spot.old.set grid.now.planes grid.now.tails grid.now.parts.items grid.now.starts.items }
+    requires alone { length grid.now.parts.items ≡ 1 }
+    requires kept { IsKept sets.now spot.old.set grid.now.planes grid.now.even grid.now.rows.items }
+    requires many { length fronts.old ≡ length sets.now.rows + 1 }
+    requires some { 0 < length counts.old }
+    requires words { length counts.old ≡ length (block_words sets.now plan.now.m block) }
+    ensures counted { AreCounted (others sets.now spot.old.set) (block_words sets.now plan.now.m block) 0 (length counts.old) counts.new }
+    ensures room { spot.new.room ≡ spot.old.room }
+{
+    let _k = sets.dimension();
+    let _n = sets.length();
+    let level = spot.support().len();
+    fronts[0] = [0; 4];
+    let mut done = 0;
+    let mut stayed = 0;
+    loop {
+        refresh_planes(sets, grid, spot, fronts, stayed, level - 2);
+        let count = one_front(
+            sets,
+            plan,
+            block,
+            grid,
+            spot,
+            &fronts[level - 2],
+            done,
+            counts,
+        );
+        if done + count >= counts.len() {
+            return;
+        }
+        stayed = pass(sets, plan, block, spot, done as u64, count as u64);
+        done += count;
+    }
+}
+
+/// Counts the nonzero symbols, outside the basis, of the words of a block of a level of at least 3, from its
+/// first message on: by the planes of its heads if the table keeps them, and else by their symbols.
+#[tactic(auto, using(crate::proofs::SumLaws::room_kept))]
+pub(crate) fn count_words(
+    sets: &Sets,
+    plan: &Plan,
+    block: u64,
+    grid: &Grid,
+    multiples: &[Word],
+    spot: &mut Spot,
+    heads: &mut [Word],
+    fronts: &mut [[u64; 4]],
+    counts: &mut [u32],
+)
+    requires plan { IsPlanOf plan.now sets.now }
+    requires phase { (p : ℕ) × IsInPhase (length sets.now.rows) (size sets.now.field) plan.now.m p block }
+    requires set { spot.old.set < set_count sets.now }
+    requires at { IsSpotAt sets.now plan.now.m block 0 spot.old }
+    requires level { 3 ≤ length spot.old.support }
+    requires grid { IsGrid sets.now spot.old.set grid.now.planes grid.now.tails grid.now.parts.items grid.now.starts.items }
+    requires kept { HasFronts sets.now spot.old.set grid.now.planes grid.now.kept grid.now.even (length grid.now.parts.items) grid.now.rows.items }
+    requires multiples { AreMultiples sets.now multiples.now }
+    requires room { IsRoom sets.now spot.old heads.old }
+    requires many { length fronts.old ≡ length sets.now.rows + 1 }
+    requires some { 0 < length counts.old }
+    requires words { length counts.old ≡ length (block_words sets.now plan.now.m block) }
+    ensures counted { AreCounted (others sets.now spot.old.set) (block_words sets.now plan.now.m block) 0 (length counts.old) counts.new }
+    ensures room { spot.new.room ≡ spot.old.room }
+    ensures heads { IsRoom sets.now spot.new heads.new }
+{
+    if grid.kept {
+        count_fronts(sets, plan, block, grid, spot, fronts, counts);
+        return;
+    }
+    count_tails(sets, plan, block, grid, multiples, spot, heads, counts);
+}
