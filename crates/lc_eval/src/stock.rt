@@ -71,9 +71,9 @@ impl Stock {
         ensures refused { (n : ℕ) → IsErrOf result (cosets.TooManyCosets n) → too_many_cosets code.now ≡ Some n }
     {
         let leaders = leaders_of(alloc, self.leaders.take(), code)?;
-        let near = word_near(alloc, &leaders, word)?;
+        let near = word_near(alloc, &leaders, word);
         self.leaders = Some(leaders);
-        Ok(near)
+        Ok(near?)
     }
 }
 
