@@ -1,5 +1,6 @@
-//! The counts of a block of words over 3 elements, or in characteristic 2, whose columns outside the basis are at
-//! most 64: the planes of the sums of the first entries are kept from run to run, and made from those of the rows.
+//! The counts of a block of words by runs, over 3 elements and in characteristic 2, if at most 64 columns are outside
+//! the basis. The planes of the sums of the first entries of a message are kept from run to run, and come from those
+//! of the rows.
 
 ghost use Rattle.std.specs.Prelude.{◌≡◌, ℕ, ◌+◌, ◌-◌, ◌*◌, ◌^◌, ◌<◌, ◌≤◌, ◌/◌, ◌%◌, ◌∷◌, [], Some, true, false, length, slice_get, slice_index, slice_index_or, bit_xor, IfOk};
 ghost use Rattle.std.specs.List.{Contains};
@@ -58,7 +59,7 @@ pub(crate) fn row_planes(
     Ok(rows)
 }
 
-// A plane of a sum over 3 elements, from the planes of two words, this one first.
+// Plane 0 or 1 of a sum over 3 elements: a and c are the same plane of the two words, b and d the other one.
 fn trits(a: u64, b: u64, c: u64, d: u64) -> u64
     ensures is { result ≡ trit_sum a b c d }
 {
@@ -79,7 +80,7 @@ fn sum_planes(even: bool, u: &[u64; 4], v: &[u64; 4]) -> [u64; 4]
     [low, high, 0, 0]
 }
 
-// The planes of the sum of one entry more than i.
+// The planes of the sum of the first i + 1 entries, from those of the first i.
 fn next_front(sets: &Sets, grid: &Grid, spot: &Spot, front: &[u64; 4], i: usize) -> [u64; 4]
     requires set { spot.now.set < set_count sets.now }
     requires message { Contains (messages (length sets.now.rows) (size sets.now.field) (length spot.now.support)) (spot_message spot.now) }

@@ -42,7 +42,7 @@ pub(crate) fn pack(word: &[u8], columns: &[usize], planes: usize) -> [u64; 4]
     bits
 }
 
-// Adds to each count at how many symbols a word, of which p and r are two planes, differs from another.
+// Adds to each count the number of symbols at which a word, whose planes are p and r, differs from another.
 fn add_two(ones: &[u64], twos: &[u64], p: u64, r: u64, counts: &mut [u32])
     requires ones { length ones.now ≡ length counts.old }
     requires twos { length twos.now ≡ length counts.old }
@@ -98,8 +98,8 @@ fn add_four(
     }
 }
 
-/// Adds to each count at how many symbols a word, by its planes, differs from one of some words, by theirs: so
-/// many lists, one after another. The words of the counts begin at an index.
+/// Adds to each count the number of symbols at which a word, given by its planes, differs from one of some words. The
+/// bits are the planes of these words, plane by plane, and count i is for word `start` + i.
 pub(crate) fn add_apart(
     planes: usize,
     bits: &[u64],
