@@ -1,0 +1,3 @@
+pub mod GolayExamples
+pub mod ExtendedGolayExamples
+pub mod GolaySessionExamples
