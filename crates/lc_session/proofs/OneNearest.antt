@@ -2,7 +2,7 @@
 --   span_lengths             the words of some rows are of one length
 --   span_fits, span_short    they have symbols of the field, and are no longer than the code
 --   nearest_one              so two nearest words are one, if decoding isn't refused
-use Rattle.std.proofs.Common.{◌≡◌, ℕ, zero, suc, nat_lt, ⊎_elim, true≢false, is_some, ◌<◌, ◌≤◌, ◌==◌, true, false, Bool, List, [], ◌∷◌, length, take, slice_index, None, Some, Option, option_map, refl, sym, ap, subst, ◌∙◌, arith}
+use Rattle.std.proofs.Common.{◌≡◌, ℕ, zero, suc, nat_lt, ⊎_elim, true≢false, is_some, ◌<◌, ◌≤◌, ◌==◌, true, false, List, [], ◌∷◌, length, take, slice_index, None, refl, sym, ap, subst, ◌∙◌, arith}
 use Rattle.std.proofs.lemmas.Bool.{cases_Bool, eqb-true}
 use Rattle.std.proofs.lemmas.Bool.Decides.{Decides-ltb}
 use Rattle.std.proofs.lemmas.List.{get_or-take, length-take-le}
@@ -12,7 +12,7 @@ use Rattle.lc_constructions.specs.Refusal.{refuse_if}
 use Rattle.lc_constructions.specs.Refusals.{are_elements}
 use Rattle.lc_algebra.specs.declared.FieldName.{FieldName}
 use Rattle.lc_algebra.specs.Field.{size, add, neg}
-use Rattle.lc_algebra.specs.Word.{Fits, IsWord, word_sum, scale, difference, zero_word, ComesNoLater}
+use Rattle.lc_algebra.specs.Word.{Fits, IsWord, word_sum, scale, difference}
 use Rattle.lc_algebra.specs.Span.{InSpan}
 use Rattle.lc_algebra.specs.Matrix.{Matrix}
 use Rattle.lc_algebra.proofs.WordLaws.{length_scale, length_sums, no_later_antisymmetric, length_zero_word, length_difference, IsWord_zero, fits_symbol, sum_comm, sum_assoc, sum_negative, zero_sum, difference_back}

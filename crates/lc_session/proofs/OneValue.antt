@@ -11,11 +11,11 @@ use Rattle.std.specs.List.{AllByRecursion}
 use Rattle.lc_algebra.specs.declared.FieldName.{FieldName}
 use Rattle.lc_algebra.specs.declared.FieldName.TheVariants.{Gf2, Gf3}
 use Rattle.lc_algebra.specs.Field.{size}
-use Rattle.lc_algebra.specs.Word.{word_sum, scale, weight}
+use Rattle.lc_algebra.specs.Word.{weight}
 use Rattle.lc_algebra.specs.Span.{InSpan, IsLeast}
 use Rattle.lc_algebra.specs.Matrix.{Matrix}
 use Rattle.lc_algebra.proofs.EmbeddingTests.{told_by_size}
-use Rattle.lc_algebra.proofs.WordLaws.{length_scale, no_later_antisymmetric}
+use Rattle.lc_algebra.proofs.WordLaws.{no_later_antisymmetric}
 use Rattle.lc_algebra.proofs.ReducedLaws.{generator_unique}
 use Rattle.lc_constructions.specs.Code.{InCode, IsCode, CheckedBy}
 use Rattle.lc_constructions.specs.Basic.{GeneratedBy, IsConstant, IsAny, IsZero, hamming_checks, hamming_length, reed_muller_rows}
