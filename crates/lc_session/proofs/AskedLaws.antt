@@ -1,8 +1,8 @@
 -- What the arguments ask of a session that keeps no checkpoints.
 --   check_reads          to check a certificate is to read it
 --   check_asked, summary_asked      a certificate is checked, or a summary is asked for: without checkpoints, and so without a slice
-use Rattle.std.proofs.Common.{◌≡◌, Bool, true, false, ℕ, Option, Some, None, IfSome, refl, sym, ap, subst, ◌∙◌}
-use Rattle.lc_sessions.specs.Options.{check, summary, Settings}
+use Rattle.std.proofs.Common.{◌≡◌, Bool, true, false, ℕ, Option, Some, None, IfSome, refl, ap, subst}
+use Rattle.lc_sessions.specs.Options.{check, summary}
 use Rattle.lc_sessions.specs.Session.{reads}
 use Rattle.lc_arguments.specs.Asked.{command_for, settings_for, CanKeep, IsWithin}
 use Rattle.lc_arguments.specs.declared.request.Asked.{Asked}

@@ -4,8 +4,8 @@
 --   accepted_reply           of a certificate that is accepted: its distance is the minimum distance of its rows
 use Rattle.std.proofs.Common.{◌≡◌, ◌++◌, ℕ, List, length, codes, decimal, refl, sym, ap, subst, ◌∙◌}
 use Rattle.lc_algebra.specs.Span.{IsDistance}
-use Rattle.lc_formats.specs.Certificate.{Certificate, Verdict, Reason as Why, verdict, accepted, rejected, code_length}
-use Rattle.lc_formats.specs.Check.{certificate_in, CertificateRead, reads_as, refused_as, verdict_of, distance_of, check_text, line_of_verdict, reason_line}
+use Rattle.lc_formats.specs.Certificate.{Certificate, Reason as Why, verdict, accepted, rejected, code_length}
+use Rattle.lc_formats.specs.Check.{certificate_in, reads_as, refused_as, verdict_of, distance_of, check_text, line_of_verdict, reason_line}
 use Rattle.lc_formats.specs.Shape.{IsShaped}
 use Rattle.lc_formats.specs.Text.{line}
 use Rattle.lc_formats.proofs.VerdictLaws.{accepted_is_valid}

@@ -2,15 +2,13 @@
 --   accepted_session, rejected_session, unwritten_session      the line is written, or the sink fails
 --   done_session, refused_session, failing_session      the same, from what is said of the bytes
 --   starved_session      memory is refused
-use Rattle.std.proofs.Common.{◌≡◌, inl, inr, ℕ, Bool, true, false, List, [], Option, Some, None, refl, sym, ap, subst, ◌∙◌}
+use Rattle.std.proofs.Common.{◌≡◌, inl, ℕ, false, List, [], Option, None, refl, sym, subst}
 use Rattle.std.specs.Io.KnownBytes.{Appends}
 use Rattle.lc_enumeration.specs.Records.{fresh_start, session_from, session_rounds, no_steps}
 use Rattle.lc_formats.specs.Certificate.{Reason, rejected as rejects}
 use Rattle.lc_formats.specs.Check.{certificate_in, verdict_of, check_text}
 use Rattle.lc_io.specs.Outside.{HasRisen, AppendsPart}
-use Rattle.lc_io.specs.Vaults.{Slots}
 use Rattle.lc_io.proofs.SeveralRecords.{Kept-none}
-use Rattle.lc_io.proofs.SlotLaws.{WhereTold-refl}
 use Rattle.lc_eval.specs.Built.{built_calls}
 use Rattle.lc_sessions.specs.Options.{check, Settings, Options, settings, options, all_options}
 use Rattle.lc_sessions.specs.Endings.{Ending, usage, done, sink_fault, no_memory, rejected}

@@ -5,7 +5,7 @@
 --   summary_done, summary_unwritten      the session has its text
 --   written_so, unwritten_so, starved_so, halted_so      the same, from what the calls did
 --   summary_unstarted, summary_halted, summary_starved      memory is refused before its search, in it, or after it
-use Rattle.std.proofs.Common.{◌≡◌, ◌≤◌, ◌<◌, ◌^◌, ◌⊎◌, inl, inr, ⊎_elim, ℕ, zero, suc, Bool, true, false, IsTrue, is_some, List, [], ◌∷◌, ◌++◌, length, map, All, Option, Some, None, option_map, refl, sym, ap, subst, ◌∙◌, arith}
+use Rattle.std.proofs.Common.{◌≡◌, ◌≤◌, ◌<◌, ◌^◌, ◌⊎◌, inl, inr, ⊎_elim, ℕ, zero, suc, Bool, true, false, is_some, List, [], ◌∷◌, length, Option, Some, None, option_map, refl, sym, ap, subst, ◌∙◌, arith}
 use Rattle.std.specs.Io.KnownBytes.{Appends}
 use Rattle.std.proofs.lemmas.List.{append-nil, length-map}
 use Rattle.std.proofs.lemmas.List.Elements.{All-nil, All-cons, All-head}
@@ -16,27 +16,26 @@ use Rattle.lc_enumeration.specs.Records.{Progress, SessionStep, SessionRounds, f
 use Rattle.lc_enumeration.specs.Truth.{AnswerHolds, AreSettled}
 use Rattle.lc_infoset.proofs.SessionLaws.{HaveRows, fresh_is_true, session_settles}
 use Rattle.lc_io.specs.Outside.{HasRisen, AppendsPart}
-use Rattle.lc_io.specs.Vaults.{Slots}
 use Rattle.lc_io.specs.Told.{Kept}
 use Rattle.lc_language.specs.Query.{distance, query_line}
 use Rattle.lc_checkpoint.specs.Seen.{settled_of}
 use Rattle.lc_eval.specs.Built.{built_calls}
-use Rattle.lc_sessions.specs.Options.{Command, summary, Settings, Options, settings, options, all_options}
+use Rattle.lc_sessions.specs.Options.{summary, Settings, Options, settings, options, all_options}
 use Rattle.lc_sessions.specs.Answers.{answer_line, answers_of}
-use Rattle.lc_sessions.specs.Summary.{generator_words, seeded, summary_row, summary_rows, summary_code, round_count, summary_text}
+use Rattle.lc_sessions.specs.Summary.{generator_words, seeded, summary_rows, summary_code, round_count, summary_text}
 use Rattle.lc_sessions.specs.Endings.{Ending, usage, done, sink_fault, no_memory}
 use Rattle.lc_sessions.specs.Session as session
 use Rattle.lc_sessions.specs.Session.{Outside, records_of, can_end, Accepts, Reads, Starts, Meets, Stores, Replied, Replies, Judges, Writes, Counts, NoneFailed, IsSession}
-use Rattle.lc_rounds.specs.Way.{Around, around, Stored, IsOnItsWay, HasStopped}
+use Rattle.lc_rounds.specs.Way.{Around, Stored}
 use Rattle.lc_rounds.specs.declared.rounds.Stop.{Stop}
 use Rattle.lc_rounds.specs.declared.rounds.Stop.TheVariants.{Paused, VaultFault, NoMemory}
-use Rattle.lc_course.specs.Course.{afresh, after, Stands}
+use Rattle.lc_course.specs.Course.{afresh, Stands}
 use Rattle.lc_course.proofs.FitLaws.{fits_anew}
 use Rattle.lc_course.proofs.ScriptTruth.{answers_are}
 use Rattle.lc_answers.specs.declared.course.Course.{Course}
 use Rattle.lc_answers.specs.declared.need.Halt.{Halt}
 use Rattle.lc_answers.specs.declared.need.Halt.TheVariants as halt
-use Rattle.lc_answers.specs.Going.{World, started, rounds_from, settled_in, Goes, Stops, Halts}
+use Rattle.lc_answers.specs.Going.{World, started, settled_in, Goes, Stops, Halts}
 use Rattle.lc_script.proofs.TextLaws.{IsEven, even}
 use Rattle.lc_answers.proofs.NeedLaws.{starving}
 use Rattle.lc_script.specs.Worlds.{outside_of}

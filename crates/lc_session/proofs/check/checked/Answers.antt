@@ -1,4 +1,3 @@
-use Rattle.lc_checker.specs.declared.verdict.Reason.TheVariants as reason
 use Rattle.lc_session.proofs.CheckLaws.{no_json_reply, shape_reply, limit_reply}
 use Rattle.lc_session.proofs.check.checked.Goals as goal
 

@@ -1,4 +1,4 @@
-use Rattle.std.proofs.Common.{◌∙◌, ap, sym, subst}
+use Rattle.std.proofs.Common.{◌∙◌, ap, sym}
 use Rattle.lc_certificate.specs.Seen.{certificate_of}
 use Rattle.lc_checker.specs.Verdict.{verdict_of}
 use Rattle.lc_session.proofs.CheckLaws.{accepted_reply, rejected_reply}

@@ -1,4 +1,4 @@
-use Rattle.std.proofs.Common.{◌≡◌, ◌<◌, length, map, [], refl, sym, ap, subst, ◌∙◌}
+use Rattle.std.proofs.Common.{◌<◌, length, map, [], refl, sym, ap, subst, ◌∙◌}
 use Rattle.lc_algebra.specs.Matrix.{Matrix}
 use Rattle.lc_io.specs.Watchers.{hearing}
 use Rattle.lc_sessions.specs.Options.{settings}
