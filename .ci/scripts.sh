@@ -206,7 +206,21 @@ check_bridges() {
     if command -v sage >/dev/null; then check 'tools/sage/codes.py and Sage agree' agrees_with_sage; fi
 }
 
+# two jobs of tools/cluster beside each other, by GNU parallel if it is installed, give the texts of their scripts
+jobs_give_texts() {
+    local list=$room/folders d
+    for d in 5 7; do
+        mkdir -p "$room/jobs/$d"
+        echo "MinimumDistance(BCHCode(63,$d,GF(2)));" >"$room/jobs/$d/script.codes"
+        echo "$room/jobs/$d"
+    done >"$list"
+    export CODES=$program
+    if command -v parallel >/dev/null; then parallel -j 2 tools/cluster/job {} budget=1000 :::: "$list"; else xargs -P 2 -I{} tools/cluster/job {} budget=1000 <"$list"; fi
+    for d in 5 7; do "$program" run budget=1000 <"$room/jobs/$d/script.codes" 2>/dev/null | cmp - "$room/jobs/$d/text" || return 1; done
+}
+
 check_sessions() {
+    check 'two jobs of tools/cluster/job beside each other' jobs_give_texts
     check 'sessions that are killed, stopped, cut in slices and resumed' python3 -B tests/sessions.py "$program"
     check 'streams and folders that fail, and scripts at the limits of the language' python3 -B tests/hostile.py "$program"
     check '2,000 changed checkpoints: the program and tools/checkpoints.py agree' python3 -B tools/checkpoints.py "$program" 2000
