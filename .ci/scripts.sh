@@ -166,6 +166,7 @@ agrees() { check "$2 scripts, $1: the program and tools/reference.py agree" pyth
 check_against_reference() {
     check 'tools/reference.py gives the stored texts' python3 -B tools/check_reference.py examples tests/rows
     check 'calls with two refusals each: the first of them is told' python3 -B tools/refusal_order.py "$program"
+    check 'searches over each field at lengths around 64, 128 and 192: the program and the reference program agree' python3 -B tools/kernel_codes.py "$program"
     agrees valid 500
     agrees refused 400
     agrees unfit 400

@@ -23,7 +23,7 @@ from math import comb
 
 from linear_algebra import Field
 from reference import FieldValue, bch_code, binary_golay_code, extended_code, hamming_code
-from search import BLOCK, CUT, bound, levels_below, sets_of, weights_divisor, words_of_level
+from search import BLOCK, bound, levels_below, sets_of, weights_divisor, words_of_level
 
 DONE, PAUSED, NO_CHECKPOINT, DAMAGED, OTHER_SCRIPT, UNFIT = 0, 3, 8, 9, 10, 13
 LONGEST = 4194304
@@ -104,8 +104,12 @@ class Need:
         levels = levels_below(self.q, len(self.rows), len(self.sets), blocks)
         return bound(self.divisor, len(self.rows), self.sets, levels, weight)
 
+    def is_exact(self, blocks, weight):
+        """At the end of a phase, or past the last one, the bound reaches the weight."""
+        return (blocks in self.ends or blocks > self.ends[-1]) and weight <= self.low(blocks, weight)
+
     def is_finished(self, blocks, weight):
-        return blocks == self.budget or (blocks in self.ends and weight <= self.low(blocks, weight))
+        return blocks == self.budget or self.is_exact(blocks, weight)
 
     def line(self, blocks, weight, place):
         """The line of the search that goes on from this state."""
@@ -114,8 +118,7 @@ class Need:
                 weight, place = self.least[blocks]
             blocks += 1
         word = "[" + ",".join(map(str, self.words[place])) + "]"
-        low = self.low(blocks, weight)
-        if blocks in self.ends and weight <= low:
+        if self.is_exact(blocks, weight):
             return f"distance {weight} word {word} blocks {blocks}\n"
         raise Doubtful  # a bracket: the budgets here are large
 
