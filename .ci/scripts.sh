@@ -173,6 +173,7 @@ check_against_reference() {
     agrees cut 250
     agrees altered 250
     agrees noise 200
+    agrees searched 500
 }
 
 check_certificates() {

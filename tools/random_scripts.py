@@ -11,6 +11,7 @@ prints COUNT scripts of that kind, each as a Python literal; `tools/compare.py` 
     cut        scripts of the three kinds above, cut off at some byte
     altered    the same, with a few bytes changed, left out or put in
     noise      bytes, most of them from those that scripts are made of, and deep nesting and wide numbers
+    searched   distances and certificates of codes of up to 30 symbols, and of codes made from them
 """
 import random
 import sys
@@ -23,7 +24,7 @@ UNKNOWN = ("Distance", "WeightDistribution", "BchCode", "Extended", "Foo", "hamm
 CALLS = ("GF", "Weight", "Dimension", "DualCode", "IsCodeword", "Decode", "HammingCode", "ReedMullerCode", "CheckMat", "BCHCode", "GoppaCode",
          "ExtendedCode", "UUVCode", "PuncturedCode", "BinaryGolayCode")
 SIGNS = "()[],;:=#_ \n\tab19GF"
-KINDS = ("valid", "refused", "unfit", "cut", "altered", "noise")
+KINDS = ("valid", "refused", "unfit", "cut", "altered", "noise", "searched")
 
 
 @dataclass
@@ -284,6 +285,21 @@ class Maker:
             rows = self.matrix(size, 1 + self.below(8), most)
         return f"LeastWord({self.text(rows)},{self.field(size)})"
 
+    def searched(self):
+        """A distance or a certificate of a code by rows, or of its extended code, its dual or a shortened code of it."""
+        size, length = self.size(), 2 + self.below(29)
+        most = {2: 9, 3: 5, 4: 4}.get(size, 3)
+        rows = [[self.below(size) if self.chance(0.7) else 0 for _ in range(length)] for _ in range(1 + self.below(most))]
+        code = f"GeneratorMatCode({self.text(rows)},{self.field(size)})"
+        way = self.below(6)
+        if way == 0:
+            code = f"ExtendedCode({code})"
+        elif way == 1 and length <= {2: 12, 3: 8}.get(size, 6):
+            code = f"DualCode({code})"
+        elif way == 2:
+            code = f"ShortenedCode({code},[{self.below(length - 1)}])"
+        return f"{self.pick(('MinimumDistance', 'MinimumDistance', 'Certificate', 'ScanCertificate'))}({code});".encode()
+
     def blank(self):
         return self.pick(("", "", "\n", " ", "\r\n", "\t", " # a comment\n", "#;(\xff\n"))
 
@@ -354,6 +370,8 @@ def scripts(kind, count):
             yield makers[kind].script()
         elif kind == "noise":
             yield noise(others)
+        elif kind == "searched":
+            yield others.searched()
         else:
             script = others.pick(bases).script()
             yield script[:others.below(len(script) + 1)] if kind == "cut" else altered(others, script)
