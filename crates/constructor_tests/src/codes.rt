@@ -1,0 +1,184 @@
+//! Tests of what the contracts are meant to say, by values from outside; each call is seen to answer.
+use lc_code::{Code, CodeRefusal};
+use lc_field::{Field, NoMemory};
+use lc_vec::{Word, fits};
+use std::alloc::Global;
+use std::process::Abort;
+use std::test::Fail;
+use test_rows::{Rows, are_words, generated, has_rows, words_of};
+
+// Refusals, their numbers, and how many values each carries.
+static REFUSALS: [(CodeRefusal, u8, usize); 5] = [
+    (CodeRefusal::BadLength, 2, 0),
+    (CodeRefusal::RepeatedPoint(1, 2), 8, 2),
+    (CodeRefusal::BadPositions, 13, 0),
+    (CodeRefusal::InnerDimension(1, 2), 14, 2),
+    (CodeRefusal::FieldTooLarge, 17, 0),
+];
+
+// Whether the refusal has this number and carries so many values.
+fn is_numbered(
+    alloc: Global,
+    refusal: &CodeRefusal,
+    number: u8,
+    count: usize,
+) -> Result<bool, NoMemory> {
+    let values = refusal.values(alloc)?;
+    Ok(refusal.number() == number && values.len() == count)
+}
+
+#[test]
+fn numbers_of_refusals(rt: HostRuntime) -> Result<(), Fail> {
+    for row in &REFUSALS {
+        assert!(rt; is_numbered(rt.alloc(), &row.0, row.1, row.2)?, "{}", row.1);
+    }
+    Ok(())
+}
+
+// The size of a field, a length, and rows or checks of a code.
+type Given = (u64, usize, Rows);
+
+// The code of checks that are seen to be words of n symbols.
+fn checked(rt: &impl Abort, alloc: Global, given: &Given) -> Result<Code, Fail> {
+    let &(q, n, rows) = given;
+    let field = Field::of(alloc, q)?;
+    let words = words_of(alloc, rows)?;
+    assert!(rt; field.is_symbol() && 1 <= n && n <= 255 && are_words(&field, n, &words));
+    Ok(Code::from_checks(alloc, &field, n, &words)?)
+}
+
+// The size of the field, the length, rows, and those of the reduced generator matrix of their words and of the dual code, as
+// tools/linear_algebra.py prints them.
+static CODES: [(Given, Rows, Rows); 7] = [
+    (
+        (
+            2,
+            5,
+            &[&[1, 1, 0, 1, 0], &[0, 1, 1, 0, 1], &[1, 0, 1, 1, 1]],
+        ),
+        &[&[1, 0, 1, 1, 1], &[0, 1, 1, 0, 1]],
+        &[&[1, 0, 0, 1, 0], &[0, 1, 0, 1, 1], &[0, 0, 1, 0, 1]],
+    ),
+    (
+        (3, 3, &[&[1, 2, 0], &[2, 1, 1]]),
+        &[&[1, 2, 0], &[0, 0, 1]],
+        &[&[1, 1, 0]],
+    ),
+    (
+        (4, 4, &[&[0, 2, 3, 1], &[2, 1, 0, 3], &[2, 3, 3, 2]]),
+        &[&[1, 0, 1, 0], &[0, 1, 2, 3]],
+        &[&[1, 0, 1, 3], &[0, 1, 0, 2]],
+    ),
+    (
+        (9, 4, &[&[3, 4, 5, 0], &[6, 8, 7, 1]]),
+        &[&[1, 3, 8, 0], &[0, 0, 0, 1]],
+        &[&[1, 0, 8, 0], &[0, 1, 5, 0]],
+    ),
+    (
+        (16, 4, &[&[0, 7, 9, 2], &[5, 1, 0, 14]]),
+        &[&[1, 0, 14, 5], &[0, 1, 3, 12]],
+        &[&[1, 0, 9, 15], &[0, 1, 2, 3]],
+    ),
+    ((5, 2, &[]), &[], &[&[1, 0], &[0, 1]]),
+    ((7, 1, &[&[3]]), &[&[1]], &[]),
+];
+
+// Whether the dual of the code has these rows.
+fn is_dual(alloc: Global, code: &Code, rows: Rows) -> Result<bool, NoMemory> {
+    let dual = code.dual(alloc)?;
+    Ok(has_rows(&dual, rows))
+}
+
+// Whether the code has these rows, its dual those, and the dual's dual the rows again.
+fn are_duals(alloc: Global, code: &Code, rows: Rows, others: Rows) -> Result<bool, NoMemory> {
+    let dual = code.dual(alloc)?;
+    Ok(has_rows(code, rows) && has_rows(&dual, others) && is_dual(alloc, &dual, rows)?)
+}
+
+// Whether the code of these rows has the reduced rows, and its dual the others.
+fn has_dual(
+    rt: &impl Abort,
+    alloc: Global,
+    given: &Given,
+    reduced: Rows,
+    others: Rows,
+) -> Result<bool, Fail> {
+    let code = generated(rt, alloc, given.0, given.1, given.2)?;
+    Ok(are_duals(alloc, &code, reduced, others)?)
+}
+
+#[test]
+fn codes_and_duals(rt: HostRuntime) -> Result<(), Fail> {
+    for row in &CODES {
+        assert!(rt; has_dual(&rt, rt.alloc(), &row.0, row.1, row.2)?, "over {}", row.0.0);
+    }
+    Ok(())
+}
+
+// Whether a copy of the code has these rows, and length n.
+fn is_copied(alloc: Global, code: &Code, rows: Rows, n: usize) -> Result<bool, NoMemory> {
+    let copy = code.copy(alloc)?;
+    Ok(has_rows(&copy, rows) && copy.length() == n)
+}
+
+// Whether the code of these checks, and a copy of it, has these rows.
+fn is_checked(rt: &impl Abort, alloc: Global, given: &Given, rows: Rows) -> Result<bool, Fail> {
+    let code = checked(rt, alloc, given)?;
+    Ok(is_copied(alloc, &code, rows, given.1)?)
+}
+
+#[test]
+fn codes_of_checks(rt: HostRuntime) -> Result<(), Fail> {
+    for row in &CODES {
+        assert!(rt; is_checked(&rt, rt.alloc(), &row.0, row.2)?, "over {}", row.0.0);
+    }
+    Ok(())
+}
+
+// Whether the word, if it is one, is in the code; the buffer holds something else before.
+fn holds(alloc: Global, code: &Code, word: &[u8]) -> Result<bool, NoMemory> {
+    let mut buf = vec![in alloc; 1u8; code.length()]?;
+    if word.len() != code.length() || !fits(code.field(), word) {
+        return Ok(false);
+    }
+    Ok(code.contains(word, &mut buf))
+}
+
+// The size of the field, the length, rows, a word, and whether it is in their code, as tools/linear_algebra.py prints it.
+static MEMBERS: [(Given, &[u8], bool); 8] = [
+    ((3, 3, &[&[1, 2, 0], &[2, 1, 1]]), &[2, 1, 2], true),
+    ((3, 3, &[&[1, 2, 0], &[2, 1, 1]]), &[2, 2, 0], false),
+    ((9, 4, &[&[3, 4, 5, 0], &[6, 8, 7, 1]]), &[3, 4, 5, 8], true),
+    (
+        (9, 4, &[&[3, 4, 5, 0], &[6, 8, 7, 1]]),
+        &[3, 4, 0, 8],
+        false,
+    ),
+    (
+        (16, 4, &[&[0, 7, 9, 2], &[5, 1, 0, 14]]),
+        &[1, 1, 13, 9],
+        true,
+    ),
+    (
+        (16, 4, &[&[0, 7, 9, 2], &[5, 1, 0, 14]]),
+        &[1, 1, 13, 8],
+        false,
+    ),
+    ((2, 2, &[]), &[0, 0], true),
+    ((2, 2, &[]), &[0, 1], false),
+];
+
+// Whether the word is in the code of these rows.
+fn is_member(rt: &impl Abort, alloc: Global, given: &Given, word: &[u8]) -> Result<bool, Fail> {
+    let code = generated(rt, alloc, given.0, given.1, given.2)?;
+    Ok(holds(alloc, &code, word)?)
+}
+
+#[test]
+fn members_of_codes(rt: HostRuntime) -> Result<(), Fail> {
+    for row in &MEMBERS {
+        let inside = is_member(&rt, rt.alloc(), &row.0, row.1)?;
+        assert!(rt; inside == row.2, "over {}", row.0.0);
+    }
+    Ok(())
+}

@@ -1,6 +1,0 @@
-use Rattle.std.proofs.Common.{ℕ, ◌<◌, [], slice_index_or}
-use Rattle.lc_algebra.specs.Word.{IsWord}
-use Rattle.decoder_rows.proofs.shapes.are_words.Given as goal
-
-abbrev pub invariant-loop-word : goal.invariant-loop-word
-invariant-loop-word l = (k : ℕ) → k < l.word-index → IsWord l.field l.n (slice_index_or l.words k [])

@@ -1,8 +1,0 @@
-use Rattle.std.proofs.Common.{◌≡◌}
-use Rattle.enumeration_rows.proofs.kernel.blocks_agree.Given as goal
-
-abbrev pub invariant-loop-block : goal.invariant-loop-block
-invariant-loop-block l = record {
-  scratch : l.scratch ≡ l.sets;
-  stack : l.stack.code ≡ l.sets;
-}

@@ -1,0 +1,10 @@
+//! Tests of information sets, plans and the kernel, by values from outside. They stand here so that no crate is proved twice, once
+//! with its tests.
+#![tactic(auto)]
+
+#[cfg(test)]
+mod infosets;
+#[cfg(test)]
+mod kernel;
+#[cfg(test)]
+mod plan;

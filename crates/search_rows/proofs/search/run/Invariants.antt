@@ -1,5 +1,0 @@
-use Rattle.std.proofs.Common.{◌-◌}
-use Rattle.search_rows.proofs.search.run.Given as goal
-
-abbrev pub decreases-loop-answer : goal.decreases-loop-answer
-decreases-loop-answer g l = l.search.budget - l.search.progress.blocks
