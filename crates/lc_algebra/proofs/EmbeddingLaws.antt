@@ -151,3 +151,5 @@ pub embed_neg : (small large : FieldName) (a : ℕ) → IsSubfield small large �
 embed_neg small large a s l =
     negative_unique large (embed small large a) (embed small large (neg small a)) (embed_inside small large (neg small a))
     (cc (embed_add small large a (neg small a) s l (neg_inside small a), add_neg small a, embed_zero small large s))
+
+pub ruleset embedding_keeps_arithmetic_laws = (embed_self, embed_prime)

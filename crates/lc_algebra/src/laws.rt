@@ -26,7 +26,7 @@ pub fn product_is_remainder(field: FieldName)
 /// The powers of the chosen primitive element are the nonzero elements, each once, and their
 /// exponents count modulo the size less one. Each element to the power of the size is itself, and the
 /// power by the characteristic keeps sums. (MacWilliams and Sloane, chapter 4.)
-#[tactic(auto, using(crate::proofs::FieldRecords::is_primitive, crate::proofs::PowerLaws::power_rest, crate::proofs::PowerLaws::pow_size, crate::proofs::PowerLaws::frobenius))]
+#[tactic(auto, using(crate::proofs::FieldRecords::is_primitive, crate::proofs::PowerLaws::powers_of_primitive_laws))]
 pub fn powers_of_primitive(field: FieldName)
     ensures primitive { IsPrimitive field (shape_of field).primitive }
     ensures exponents { (n : ℕ) → pow field (shape_of field).primitive (n % (size field - 1)) ≡ pow field (shape_of field).primitive n }
@@ -37,7 +37,7 @@ pub fn powers_of_primitive(field: FieldName)
 
 /// If a field lies in a larger one, the embedding takes its elements to distinct elements of the
 /// larger one and keeps sums and products. (MacWilliams and Sloane, chapter 4.)
-#[tactic(auto, using(crate::proofs::EmbeddingLaws::embed_self, crate::proofs::EmbeddingLaws::embed_prime))]
+#[tactic(auto, using(crate::proofs::EmbeddingLaws::embedding_keeps_arithmetic_laws))]
 pub fn embedding_keeps_arithmetic(small: FieldName, large: FieldName)
     ensures embedding { IsSubfield small large → IsEmbedding small large (embed small large) }
     ensures itself { (a : ℕ) → a < size small → embed small small a ≡ a }

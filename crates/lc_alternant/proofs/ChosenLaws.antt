@@ -191,3 +191,7 @@ spread_chosen (zero ∷ vs) (z ∷ zs) e h = ap (λ u. z ∷ u) (spread_chosen v
 spread_chosen (suc v ∷ vs) (z ∷ zs) e h =
     let o : z ≡ 0 = h 0 (omega arith) (λ q. omega (arith, q)) in
     cc (o, spread_chosen vs zs (omega (arith, e)) (but_tail (suc v) z vs zs h))
+
+pub ruleset chosen_laws = (chosen_none, chosen_more, chosen_over, chosen_whole)
+
+pub ruleset spread_laws = (spread_none, spread_whole)

@@ -24,6 +24,7 @@ use Rattle.lc_constructions.specs.Alternant.{AlternantForm, check_row, syndrome_
 use Rattle.lc_constructions.proofs.AlternantLaws.{embedded_fits}
 use Rattle.lc_alternant.specs.Checks.{AreCheckRows, AreSyndromes}
 use Rattle.lc_alternant.specs.Key.{IsKeyRow, AreKeyRows}
+use Rattle.lc_code.proofs.CoordinateSteps.{entries_none, entries_more, entries_whole}
 
 pub mapped_none : (g : ℕ → ℕ) (xs : List ℕ) → [] ≡ map g (take 0 xs)
 mapped_none g xs = refl
@@ -102,3 +103,15 @@ key_row_taken t m s row k q l e = record {
   long = ap length e ∙ length-take k (drop m s) ∙ omega (arith, length-drop m s, l, q);
   symbols = λ i a. ap (λ u. get_or u i 0) e ∙ get_or-take k (drop m s) i 0 (omega (arith, a, q)) ∙ get_or-drop m s i 0;
 }
+
+pub ruleset check_rows_laws = (check_rows_none, check_rows_more)
+
+pub ruleset check_entries_laws = (check_word, entries_none, entries_more, entries_whole)
+
+pub ruleset syndromes_laws = (syndromes_none, syndromes_more)
+
+pub ruleset images_laws = (mapped_none, mapped_more, mapped_whole, length_mapped, fits_images)
+
+pub ruleset key_rows_laws = (key_rows_none, key_rows_more)
+
+pub ruleset values_at_laws = (mapped_none, mapped_more, mapped_whole)

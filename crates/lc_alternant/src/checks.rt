@@ -12,7 +12,7 @@ use lc_vec::{Word, dot};
 use std::alloc::Global;
 
 // The first check rows, as many as `count`: row j has the products of the multipliers with the j-th powers of the points.
-#[tactic(auto, using(crate::proofs::StepLaws::check_rows_none, crate::proofs::StepLaws::check_rows_more))]
+#[tactic(auto, using(crate::proofs::StepLaws::check_rows_laws))]
 pub(crate) fn check_rows(
     alloc: Global,
     locator: &Field,
@@ -34,7 +34,7 @@ pub(crate) fn check_rows(
 }
 
 // The entries of check row j.
-#[tactic(auto, using(lc_code::proofs::CoordinateSteps::entries_none, lc_code::proofs::CoordinateSteps::entries_more, lc_code::proofs::CoordinateSteps::entries_whole, crate::proofs::StepLaws::check_word))]
+#[tactic(auto, using(crate::proofs::StepLaws::check_entries_laws))]
 fn check_entries(
     alloc: Global,
     locator: &Field,
@@ -57,7 +57,7 @@ fn check_entries(
 }
 
 // The syndromes of the word for the first checks, as many as `count`.
-#[tactic(auto, using(crate::proofs::StepLaws::syndromes_none, crate::proofs::StepLaws::syndromes_more))]
+#[tactic(auto, using(crate::proofs::StepLaws::syndromes_laws))]
 pub(crate) fn syndromes(
     alloc: Global,
     field: &Field,
@@ -94,7 +94,7 @@ fn syndrome(alloc: Global, form: &Alternant, images: &[u8], j: usize) -> Result<
 }
 
 // The images of the symbols in the locator field.
-#[tactic(auto, using(crate::proofs::StepLaws::mapped_none, crate::proofs::StepLaws::mapped_more, crate::proofs::StepLaws::mapped_whole, crate::proofs::StepLaws::length_mapped, crate::proofs::StepLaws::fits_images))]
+#[tactic(auto, using(crate::proofs::StepLaws::images_laws))]
 fn images(alloc: Global, field: &Field, locator: &Field, word: &[u8]) -> Result<Vec<u8>, NoMemory>
     requires subfield { IsSubfield field.now locator.now }
     requires word { Fits field.now word.now }

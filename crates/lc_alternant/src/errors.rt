@@ -60,7 +60,7 @@ fn solution(
 }
 
 // The entries at the coordinates at which the values are 0.
-#[tactic(auto, using(crate::proofs::ChosenLaws::chosen_none, crate::proofs::ChosenLaws::chosen_more, crate::proofs::ChosenLaws::chosen_over, crate::proofs::ChosenLaws::chosen_whole))]
+#[tactic(auto, using(crate::proofs::ChosenLaws::chosen_laws))]
 fn chosen(alloc: Global, values: &[u8], entries: &[u8]) -> Result<Vec<u8>, NoMemory>
     requires lengths { length entries.now ≡ length values.now }
     ensures are { IfOk result (λ v. v.items ≡ chosen values.now entries.now) }
@@ -75,7 +75,7 @@ fn chosen(alloc: Global, values: &[u8], entries: &[u8]) -> Result<Vec<u8>, NoMem
 }
 
 // The entries, in their order, at the coordinates at which the values are 0, and 0 at the others.
-#[tactic(auto, using(crate::proofs::ChosenLaws::spread_none, crate::proofs::ChosenLaws::spread_whole))]
+#[tactic(auto, using(crate::proofs::ChosenLaws::spread_laws))]
 fn spread(alloc: Global, values: &[u8], entries: &[u8]) -> Result<Vec<u8>, NoMemory>
     ensures are { IfOk result (λ v. v.items ≡ spread values.now entries.now) }
 {

@@ -50,7 +50,7 @@ fn key_polynomial(
 }
 
 // The rows of the key equation: row j has the syndromes j to j + t.
-#[tactic(auto, using(crate::proofs::StepLaws::key_rows_none, crate::proofs::StepLaws::key_rows_more))]
+#[tactic(auto, using(crate::proofs::StepLaws::key_rows_laws))]
 fn key_rows(alloc: Global, syndromes: &[u8], t: usize) -> Result<Vec<Word>, NoMemory>
     requires count { length syndromes.now ≡ 2 * t }
     requires few { t ≤ 255 }
@@ -64,7 +64,7 @@ fn key_rows(alloc: Global, syndromes: &[u8], t: usize) -> Result<Vec<Word>, NoMe
 }
 
 // The values of the polynomial at the points.
-#[tactic(auto, using(crate::proofs::StepLaws::mapped_none, crate::proofs::StepLaws::mapped_more, crate::proofs::StepLaws::mapped_whole))]
+#[tactic(auto, using(crate::proofs::StepLaws::values_at_laws))]
 fn values_at(alloc: Global, polynomial: &Poly, points: &[u8]) -> Result<Vec<u8>, NoMemory>
     requires points { Fits polynomial.now.field points.now }
     ensures are { IfOk result (λ vs. vs.items ≡ map (value_at polynomial.now.field polynomial.now.coefficients) points.now) }

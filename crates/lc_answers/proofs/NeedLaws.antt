@@ -493,3 +493,5 @@ told_more c told s t h l few = omega (arith, l, few, h.small)
 
 pub slice_kept : (c : Course) (C : Matrix) (s : SearchState) (slice : Option ℕ) → slice ≡ (rounds_left c.pace s).left → c.pace.slice ≡ None → slice ≡ None
 slice_kept c C s slice is none = is ∙ ap (λ (o : Option ℕ). (rounds (divisor_of s.code) s.code s.budget o s.progress).left) none ∙ none_left_over (divisor_of s.code) s.code s.budget s.progress
+
+pub ruleset record_of_laws = (recorded_exact, recorded_bracket)

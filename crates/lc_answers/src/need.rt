@@ -59,7 +59,7 @@ fn cut(course: &mut Course)
 }
 
 // How far a search is that has this answer.
-#[tactic(auto, using(crate::proofs::NeedLaws::recorded_exact, crate::proofs::NeedLaws::recorded_bracket))]
+#[tactic(auto, using(crate::proofs::NeedLaws::record_of_laws))]
 fn record_of(answer: Answer) -> Settled
     ensures { (s : SearchState) → answer_in s ≡ Some (answer_of answer) → settled_of result ≡ s.progress }
 {

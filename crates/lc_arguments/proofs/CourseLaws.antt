@@ -310,3 +310,5 @@ command_given words w ws name c r e is found m =
     let whole : options all_options (words_of words) ≡ options_from (keys_of (command_for c)) (words_of ws) [] (settings_of (command_for c)) =
     ap (λ t. options all_options (words_of t)) e ∙ first_word (string_bytes w) (words_of ws) (command_for c) (keys_of (command_for c)) (ap (row_named all_options) (sym is) ∙ sym found) in
     subst (λ (o : Options). MatchResult r (λ a. (o ≡ settings (settings_for a)) × IsWithin a) (λ i. o ≡ usage i)) (sym whole) m
+
+pub ruleset place_of_laws = (place_here, place_later, place_nowhere)

@@ -64,3 +64,7 @@ is_summary name a b c d = rw (a, b, c, d) refl
 pub is_no_command : (name : List ℕ) → same_bytes (codes "run") name ≡ false → same_bytes (codes "resume") name ≡ false → same_bytes (codes "check") name ≡ false → same_bytes (codes "summary") name ≡ false → option_map row_of None ≡ row_named all_options name
 unfolding all_options row row_named command_text
 is_no_command name a b c d = rw (a, b, c, d) refl
+
+pub ruleset named_laws = (named_here, named_later, named_nowhere)
+
+pub ruleset command_in_laws = (is_run, is_resume, is_check, is_summary, is_no_command)

@@ -110,3 +110,9 @@ says_no text e f = rw (e, f) refl
 pub says_neither : (text : List ℕ) → same_bytes text (codes "yes") ≡ false → same_bytes text (codes "no") ≡ false → None ≡ yes_or_no text
 unfolding yes_or_no
 says_neither text e f = rw (e, f) refl
+
+pub ruleset number_in_laws = (number_empty, number_long, number_other, number_zero, number_wide, number_is)
+
+pub ruleset number_within_laws = (within_none, within_below, within_above, within_is)
+
+pub ruleset yes_or_no_laws = (says_yes, says_no, says_neither)

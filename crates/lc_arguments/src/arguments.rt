@@ -27,7 +27,7 @@ fn name_in(argument: &str) -> &str
 }
 
 // The number of the first argument with this key, counted from 1.
-#[tactic(auto, using(crate::proofs::CourseLaws::place_here, crate::proofs::CourseLaws::place_later, crate::proofs::CourseLaws::place_nowhere))]
+#[tactic(auto, using(crate::proofs::CourseLaws::place_of_laws))]
 fn place_of(arguments: &[String], key: Key) -> Option<usize>
     ensures { result ≡ place_named (key_text (key_for key)) (map name_of (words_of arguments.now)) 1 }
 {

@@ -45,7 +45,7 @@ impl Key {
 }
 
 // The first of these keys that has this name.
-#[tactic(auto, using(crate::proofs::KeyLaws::named_here, crate::proofs::KeyLaws::named_later, crate::proofs::KeyLaws::named_nowhere))]
+#[tactic(auto, using(crate::proofs::KeyLaws::named_laws))]
 fn named(keys: &[Key], name: &str) -> Option<Key>
     ensures { option_map key_for result ≡ key_named (map key_for keys.now) name.now }
 {
@@ -70,7 +70,7 @@ pub(crate) fn key_in(command: Command, name: &str) -> Option<Key>
 }
 
 // The command that has this name.
-#[tactic(auto, using(crate::proofs::KeyLaws::is_run, crate::proofs::KeyLaws::is_resume, crate::proofs::KeyLaws::is_check, crate::proofs::KeyLaws::is_summary, crate::proofs::KeyLaws::is_no_command))]
+#[tactic(auto, using(crate::proofs::KeyLaws::command_in_laws))]
 pub(crate) fn command_in(name: &str) -> Option<Command>
     ensures { option_map row_of result ≡ row_named all_options name.now }
 {

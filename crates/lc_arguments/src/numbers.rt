@@ -29,7 +29,7 @@ fn is_plain(text: &[u8]) -> bool
 }
 
 // The number that the text writes: one to twenty digits with no leading zero, save 0 itself.
-#[tactic(auto, using(crate::proofs::NumberLaws::number_empty, crate::proofs::NumberLaws::number_long, crate::proofs::NumberLaws::number_other, crate::proofs::NumberLaws::number_zero, crate::proofs::NumberLaws::number_wide, crate::proofs::NumberLaws::number_is))]
+#[tactic(auto, using(crate::proofs::NumberLaws::number_in_laws))]
 fn number_in(text: &[u8]) -> Option<u64>
     ensures { result ≡ number_in text.now }
 {
@@ -50,7 +50,7 @@ fn number_in(text: &[u8]) -> Option<u64>
 }
 
 // The number that the text writes, if it is in this range.
-#[tactic(auto, using(crate::proofs::NumberLaws::within_none, crate::proofs::NumberLaws::within_below, crate::proofs::NumberLaws::within_above, crate::proofs::NumberLaws::within_is))]
+#[tactic(auto, using(crate::proofs::NumberLaws::number_within_laws))]
 pub(crate) fn number_within(text: &str, low: u64, high: u64) -> Option<u64>
     ensures { result ≡ number_within low high text.now }
 {
@@ -65,7 +65,7 @@ pub(crate) fn number_within(text: &str, low: u64, high: u64) -> Option<u64>
 }
 
 // Whether the text says yes; None if it says neither yes nor no.
-#[tactic(auto, using(crate::proofs::NumberLaws::says_yes, crate::proofs::NumberLaws::says_no, crate::proofs::NumberLaws::says_neither))]
+#[tactic(auto, using(crate::proofs::NumberLaws::yes_or_no_laws))]
 pub(crate) fn yes_or_no(text: &str) -> Option<bool>
     ensures { result ≡ yes_or_no text.now }
 {

@@ -260,3 +260,7 @@ checks_more q r i unit now new w l k e s a b =
 pub checks_whole : (q r n : ℕ) (rows : List (List ℕ)) → n ≡ r → rows ≡ checks_part q r n → rows ≡ hamming_checks q r
 unfolding checks_part hamming_checks
 checks_whole q r n rows e a = a ∙ ap (λ k. map (λ i. map (λ u. slice_index u i) (hamming_columns q r)) (below k)) e
+
+pub ruleset check_rows_laws = (checks_first, checks_more, checks_whole)
+
+pub ruleset add_block_laws = (digits_first, digits_more)

@@ -82,3 +82,5 @@ zero_is n w h = (
 pub zero_code : (f : FieldName) (n : ℕ) (rows : List (List ℕ)) (C : Matrix) → rows ≡ [] → IsCode f n (GeneratedBy f n rows) C → IsCode f n IsZero C
 zero_code f n rows C e c =
     same_code f n (GeneratedBy f n []) IsZero C (λ w h. zero_is n w h.long) (subst (λ r. IsCode f n (GeneratedBy f n r) C) e c)
+
+pub ruleset constant_words_laws = (ones_rows, constant_code)

@@ -92,3 +92,9 @@ pub length_fits : (f : FieldName) (r q n : ℕ) → q ≡ size f → hamming_len
 length_fits f r q n e h k m =
     let t : hamming_length q r ≡ hamming_length (size f) r = ap (λ x. hamming_length x r) e in
     ⊎_elim (λ a. absurd (omega (arith, m a, t, h))) (λ a. k (omega (arith, a)) ∙ t) (cases_lt 255 n)
+
+pub ruleset check_hamming_laws = (small_field, hamming_too_large, hamming_few, hamming_long, hamming_fine)
+
+pub ruleset length_of_laws = (power_small, points_next, power_next, length_is, length_passed, length_least)
+
+pub ruleset power_laws = (power_next, power_positive)

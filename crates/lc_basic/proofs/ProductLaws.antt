@@ -226,3 +226,15 @@ reed_muller_high r m l e = rw (short_length m l, e) refl
 pub reed_muller_fine : (r m : ℕ) → m ≤ 7 → nat_lt m r ≡ false → first_refusal (reed_muller_refusals r m) ≡ None
 unfolding first_refusal refuse_if bad_length bad_argument reed_muller_refusals
 reed_muller_fine r m l e = rw (short_length m l, e) refl
+
+pub ruleset check_reed_muller_laws = (reed_muller_long, reed_muller_high, reed_muller_fine)
+
+pub ruleset code_of_products_laws = (binary_is_symbol, binary_rows, binary_code)
+
+pub ruleset binary_laws = (two_elements, some_two)
+
+pub ruleset places_laws = (few_points, short_power)
+
+pub ruleset add_products_laws = (products_none, products_constant)
+
+pub ruleset times_variable_laws = (times_first, times_next, times_made)

@@ -223,3 +223,5 @@ reed_muller_dimension r m C c =
     let k : length (subsets (below m) r) ≡ parts_within m r = count_parts (below m) r ∙ ap (λ x. parts_within x r) (length_below m) in
     let e : suc r ≡ r + 1 = omega arith in
     sym d ∙ length_monomials r m ∙ k ∙ ap (λ x. sum_by (choose m) (below x)) e
+
+pub ruleset dimension_of_reed_muller_codes_laws = (monomials_independent, reed_muller_dimension)

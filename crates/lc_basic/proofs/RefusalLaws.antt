@@ -76,3 +76,7 @@ matrix_rows f rows b c h e k d l = record {
   long = (Decides-eqb (length (slice_index_or rows k d)) (columns_of rows)).0 (AllPass-from_list_all (λ row. length row == columns_of rows) rows c k d l);
   fits = h.0 e k d l;
 }
+
+pub ruleset check_length_laws = (length_too_large, length_bad, length_fine)
+
+pub ruleset check_matrix_laws = (matrix_too_large, matrix_bad_length, matrix_uneven, matrix_no_elements, matrix_fine, matrix_rows)

@@ -86,3 +86,5 @@ whole_dimension f n C c =
       words = g.words;
     } in
     omega (arith, rank_of_kernel f n [] [] C.rows zero.words none kernel)
+
+pub ruleset dimensions_of_trivial_codes_laws = (repetition_dimension, whole_dimension, null_dimension)

@@ -13,7 +13,7 @@ use lc_algebra::FieldName;
 
 /// Repetition codes have dimension 1, the whole space has dimension n and null codes have dimension 0 (MacWilliams and Sloane,
 /// chapter 1).
-#[tactic(auto, using(crate::proofs::TrivialLaws::repetition_dimension, crate::proofs::TrivialLaws::whole_dimension, crate::proofs::TrivialLaws::null_dimension))]
+#[tactic(auto, using(crate::proofs::TrivialLaws::dimensions_of_trivial_codes_laws))]
 pub fn dimensions_of_trivial_codes(field: FieldName)
     ensures repetition { (n : ℕ) (C : Matrix) → 1 ≤ n → IsCode field n IsConstant C → length C.rows ≡ 1 }
     ensures whole { (n : ℕ) (C : Matrix) → IsCode field n IsAny C → length C.rows ≡ n }
@@ -28,7 +28,7 @@ pub fn dimension_of_hamming_codes(field: FieldName)
 
 /// The rows of a Reed-Muller code of order `r` in `m` variables, one for each product of at most `r` of them, are independent; so its
 /// dimension is the sum of the binomial coefficients of m over 0 to r (MacWilliams and Sloane, chapter 13).
-#[tactic(auto, using(crate::proofs::ReedMullerDimension::monomials_independent, crate::proofs::ReedMullerDimension::reed_muller_dimension))]
+#[tactic(auto, using(crate::proofs::ReedMullerDimension::dimension_of_reed_muller_codes_laws))]
 pub fn dimension_of_reed_muller_codes()
     ensures rows { (r m : ℕ) → AreIndependent Gf2 (2 ^ m) (reed_muller_rows r m) }
     ensures dimension { (r m : ℕ) (C : Matrix) → IsCode Gf2 (2 ^ m) (GeneratedBy Gf2 (2 ^ m) (reed_muller_rows r m)) C → length C.rows ≡ sum_by (choose m) (below (r + 1)) }

@@ -19,7 +19,7 @@ use std::alloc::Global;
 ///
 /// Its length n is (q^r - 1) / (q - 1) over a field of q elements, and its dimension n - r. Refused in this order: the field has
 /// more than 16 elements, FieldTooLarge; `r` is below 2, BadArgument(1); n is above 255, BadLength. `r` may be any number.
-#[tactic(auto, using(lc_constructions::proofs::RefusalLaws::refuses_first, lc_constructions::proofs::RefusalLaws::refuses_nothing))]
+#[tactic(auto, using(lc_constructions::proofs::RefusalLaws::refused_or_not))]
 pub fn hamming(alloc: Global, r: u64, field: &Field) -> Result<Code, CodeRefusal>
     ensures code { IfOk result (λ c. IsCode field.now (hamming_length (size field.now) r) (CheckedBy field.now (hamming_checks (size field.now) r)) c) }
     ensures refused { IsRefusedAs result (first_refusal (hamming_refusals field.now r)) }
@@ -30,7 +30,7 @@ pub fn hamming(alloc: Global, r: u64, field: &Field) -> Result<Code, CodeRefusal
 }
 
 // Checks a field and a number of checks.
-#[tactic(auto, using(crate::proofs::HammingLaws::small_field, crate::proofs::HammingLaws::hamming_too_large, crate::proofs::HammingLaws::hamming_few, crate::proofs::HammingLaws::hamming_long, crate::proofs::HammingLaws::hamming_fine))]
+#[tactic(auto, using(crate::proofs::HammingLaws::check_hamming_laws))]
 fn check_hamming(field: &Field, r: u64) -> Result<(), CodeRefusal>
     ensures is { IsChecked result (first_refusal (hamming_refusals field.now r)) }
     ensures symbol { IfOk result (λ _. IsTrue (is_symbol field.now)) }
@@ -50,7 +50,7 @@ fn check_hamming(field: &Field, r: u64) -> Result<(), CodeRefusal>
 }
 
 // The length, or some number above 255 if the length is above 255.
-#[tactic(auto, using(crate::proofs::HammingLaws::power_small, crate::proofs::HammingLaws::points_next, crate::proofs::HammingLaws::power_next, crate::proofs::HammingLaws::length_is, crate::proofs::HammingLaws::length_passed, crate::proofs::HammingLaws::length_least))]
+#[tactic(auto, using(crate::proofs::HammingLaws::length_of_laws))]
 fn length_of(q: u64, r: u64) -> u64
     requires least { 1 < q }
     requires most { q ≤ 16 }
@@ -96,7 +96,7 @@ fn whole_length(field: &Field, r: u64) -> usize
 }
 
 // The check matrix: row i holds the digits that count q^(r - 1 - i).
-#[tactic(auto, using(crate::proofs::ColumnLaws::checks_first, crate::proofs::ColumnLaws::checks_more, crate::proofs::ColumnLaws::checks_whole))]
+#[tactic(auto, using(crate::proofs::ColumnLaws::check_rows_laws))]
 fn check_rows(alloc: Global, q: u64, r: u64) -> Result<Vec<Word>, NoMemory>
     requires least { 1 < q }
     requires most { q ≤ 16 }
@@ -112,7 +112,7 @@ fn check_rows(alloc: Global, q: u64, r: u64) -> Result<Vec<Word>, NoMemory>
 }
 
 // q to the power e.
-#[tactic(auto, using(crate::proofs::HammingLaws::power_next, crate::proofs::HammingLaws::power_positive))]
+#[tactic(auto, using(crate::proofs::HammingLaws::power_laws))]
 pub(crate) fn power(q: u64, e: u64) -> u64
     requires least { 1 < q }
     requires most { q ≤ 16 }
@@ -146,7 +146,7 @@ fn digits_of(alloc: Global, q: u64, unit: u64, r: u64) -> Result<Word, NoMemory>
 }
 
 // The digits that count units, of the columns first to 2 first - 1.
-#[tactic(auto, using(crate::proofs::ColumnLaws::digits_first, crate::proofs::ColumnLaws::digits_more))]
+#[tactic(auto, using(crate::proofs::ColumnLaws::add_block_laws))]
 fn add_block(symbols: &mut Vec<u8>, q: u64, unit: u64, first: u64) -> Result<(), NoMemory>
     requires least { 1 < q }
     requires most { q ≤ 16 }

@@ -17,7 +17,7 @@ use std::alloc::Global;
 /// The length of the code is that of the first row. Refused in this order: the field has more than 16 elements, FieldTooLarge;
 /// there is no row, or the first one has no symbol or more than 255, BadLength; a row has another length, LengthsDiffer; an entry
 /// isn't below the size of the field, BadArgument(1).
-#[tactic(auto, using(lc_constructions::proofs::RefusalLaws::refuses_first, lc_constructions::proofs::RefusalLaws::refuses_nothing))]
+#[tactic(auto, using(lc_constructions::proofs::RefusalLaws::refused_or_not))]
 pub fn generator_mat(alloc: Global, rows: &[Word], field: &Field) -> Result<Code, CodeRefusal>
     ensures code { IfOk result (λ c. IsCode field.now (columns_of rows.now) (GeneratedBy field.now (columns_of rows.now) rows.now) c) }
     ensures refused { IsRefusedAs result (first_refusal (matrix_refusals field.now rows.now)) }
@@ -30,7 +30,7 @@ pub fn generator_mat(alloc: Global, rows: &[Word], field: &Field) -> Result<Code
 /// The code with this check matrix: all words that have dot 0 with each row (GUAVA manual, `CheckMatCode`).
 ///
 /// The length of the code is that of the first row. Refused as `generator_mat` is, in the same order.
-#[tactic(auto, using(lc_constructions::proofs::RefusalLaws::refuses_first, lc_constructions::proofs::RefusalLaws::refuses_nothing))]
+#[tactic(auto, using(lc_constructions::proofs::RefusalLaws::refused_or_not))]
 pub fn check_mat(alloc: Global, rows: &[Word], field: &Field) -> Result<Code, CodeRefusal>
     ensures code { IfOk result (λ c. IsCode field.now (columns_of rows.now) (CheckedBy field.now rows.now) c) }
     ensures refused { IsRefusedAs result (first_refusal (matrix_refusals field.now rows.now)) }

@@ -19,7 +19,7 @@ use std::alloc::Global;
 /// most `r`, where the bits of i are the variables (MacWilliams and Sloane, chapter 13; GUAVA manual, `ReedMullerCode`).
 ///
 /// Its length is 2^m. Refused in this order: 2^m is above 255, BadLength; `r` is above `m`, BadArgument(1). Both may be any numbers.
-#[tactic(auto, using(lc_constructions::proofs::RefusalLaws::refuses_first, lc_constructions::proofs::RefusalLaws::refuses_nothing))]
+#[tactic(auto, using(lc_constructions::proofs::RefusalLaws::refused_or_not))]
 pub fn reed_muller(alloc: Global, r: u64, m: u64) -> Result<Code, CodeRefusal>
     ensures code { IfOk result (λ c. IsCode Gf2 (2 ^ m) (GeneratedBy Gf2 (2 ^ m) (reed_muller_rows r m)) c) }
     ensures refused { IsRefusedAs result (first_refusal (reed_muller_refusals r m)) }
@@ -30,7 +30,7 @@ pub fn reed_muller(alloc: Global, r: u64, m: u64) -> Result<Code, CodeRefusal>
 }
 
 // Checks an order and a number of variables.
-#[tactic(auto, using(crate::proofs::ProductLaws::reed_muller_long, crate::proofs::ProductLaws::reed_muller_high, crate::proofs::ProductLaws::reed_muller_fine))]
+#[tactic(auto, using(crate::proofs::ProductLaws::check_reed_muller_laws))]
 fn check_reed_muller(r: u64, m: u64) -> Result<(), CodeRefusal>
     ensures is { IsChecked result (first_refusal (reed_muller_refusals r m)) }
     ensures most { IfOk result (λ _. m ≤ 7) }
@@ -44,7 +44,7 @@ fn check_reed_muller(r: u64, m: u64) -> Result<(), CodeRefusal>
     Ok(())
 }
 
-#[tactic(auto, using(crate::proofs::ProductLaws::binary_is_symbol, crate::proofs::ProductLaws::binary_rows, crate::proofs::ProductLaws::binary_code))]
+#[tactic(auto, using(crate::proofs::ProductLaws::code_of_products_laws))]
 fn code_of_products(alloc: Global, r: u64, m: u64) -> Result<Code, NoMemory>
     requires most { m ≤ 7 }
     ensures code { IfOk result (λ c. IsCode Gf2 (2 ^ m) (GeneratedBy Gf2 (2 ^ m) (reed_muller_rows r m)) c) }
@@ -55,7 +55,7 @@ fn code_of_products(alloc: Global, r: u64, m: u64) -> Result<Code, NoMemory>
 }
 
 // The field of two elements.
-#[tactic(auto, using(crate::proofs::ProductLaws::two_elements, crate::proofs::ProductLaws::some_two))]
+#[tactic(auto, using(crate::proofs::ProductLaws::binary_laws))]
 pub(crate) fn binary(alloc: Global) -> Result<Field, NoMemory>
     ensures is { IfOk result (λ f. f ≡ Gf2) }
 {
@@ -67,7 +67,7 @@ pub(crate) fn binary(alloc: Global) -> Result<Field, NoMemory>
 }
 
 // The number of places of m variables.
-#[tactic(auto, using(crate::proofs::ProductLaws::few_points, crate::proofs::ProductLaws::short_power))]
+#[tactic(auto, using(crate::proofs::ProductLaws::places_laws))]
 fn places(m: u64) -> usize
     requires most { m ≤ 7 }
     ensures is { result ≡ 2 ^ m }
@@ -90,7 +90,7 @@ fn product_rows(alloc: Global, r: u64, m: u64) -> Result<Vec<Word>, NoMemory>
 }
 
 // The values times each product of at most r of the variables v to v + left - 1.
-#[tactic(auto, using(crate::proofs::ProductLaws::products_none, crate::proofs::ProductLaws::products_constant))]
+#[tactic(auto, using(crate::proofs::ProductLaws::add_products_laws))]
 fn add_products(
     alloc: Global,
     rows: &mut Vec<Word>,
@@ -113,7 +113,7 @@ fn add_products(
 }
 
 // The values, each times the value of the variable v there.
-#[tactic(auto, using(crate::proofs::ProductLaws::times_first, crate::proofs::ProductLaws::times_next, crate::proofs::ProductLaws::times_made))]
+#[tactic(auto, using(crate::proofs::ProductLaws::times_variable_laws))]
 fn times_variable(alloc: Global, values: &[u8], v: u64) -> Result<Vec<u8>, NoMemory>
     requires most { v ≤ 7 }
     ensures is { IfOk result (λ new. new.items ≡ times_all values.now (v ∷ [])) }

@@ -24,7 +24,7 @@ pub(crate) fn is_length(n: u64) -> bool
 }
 
 // Checks a field and a length.
-#[tactic(auto, using(crate::proofs::RefusalLaws::length_too_large, crate::proofs::RefusalLaws::length_bad, crate::proofs::RefusalLaws::length_fine))]
+#[tactic(auto, using(crate::proofs::RefusalLaws::check_length_laws))]
 pub(crate) fn check_length(field: &Field, n: u64) -> Result<(), CodeRefusal>
     ensures is { IsChecked result (first_refusal (length_refusals field.now n)) }
     ensures symbol { IfOk result (λ _. IsTrue (is_symbol field.now)) }
@@ -70,7 +70,7 @@ fn have_elements(field: &Field, rows: &[Word]) -> bool
 }
 
 // Checks a field and a matrix.
-#[tactic(auto, using(crate::proofs::RefusalLaws::matrix_too_large, crate::proofs::RefusalLaws::matrix_bad_length, crate::proofs::RefusalLaws::matrix_uneven, crate::proofs::RefusalLaws::matrix_no_elements, crate::proofs::RefusalLaws::matrix_fine, crate::proofs::RefusalLaws::matrix_rows))]
+#[tactic(auto, using(crate::proofs::RefusalLaws::check_matrix_laws))]
 pub(crate) fn check_matrix(field: &Field, rows: &[Word]) -> Result<(), CodeRefusal>
     ensures is { IsChecked result (first_refusal (matrix_refusals field.now rows.now)) }
     ensures symbol { IfOk result (λ _. IsTrue (is_symbol field.now)) }

@@ -15,7 +15,7 @@ use std::alloc::Global;
 /// The repetition code of length `n`: the words whose symbols are all equal (GUAVA manual, `RepetitionCode`).
 ///
 /// Refused in this order: the field has more than 16 elements, FieldTooLarge; `n` is 0 or above 255, BadLength.
-#[tactic(auto, using(lc_constructions::proofs::RefusalLaws::refuses_first, lc_constructions::proofs::RefusalLaws::refuses_nothing))]
+#[tactic(auto, using(lc_constructions::proofs::RefusalLaws::refused_or_not))]
 pub fn repetition(alloc: Global, n: u64, field: &Field) -> Result<Code, CodeRefusal>
     ensures code { IfOk result (λ c. IsCode field.now n IsConstant c) }
     ensures refused { IsRefusedAs result (first_refusal (length_refusals field.now n)) }
@@ -25,7 +25,7 @@ pub fn repetition(alloc: Global, n: u64, field: &Field) -> Result<Code, CodeRefu
     Ok(constant_words(alloc, n as usize, field)?)
 }
 
-#[tactic(auto, using(crate::proofs::FamilyLaws::ones_rows, crate::proofs::FamilyLaws::constant_code))]
+#[tactic(auto, using(crate::proofs::FamilyLaws::constant_words_laws))]
 fn constant_words(alloc: Global, n: usize, field: &Field) -> Result<Code, NoMemory>
     requires symbol { IsTrue (is_symbol field.now) }
     requires least { 1 ≤ n }
@@ -46,7 +46,7 @@ pub(crate) fn ones(alloc: Global, n: usize) -> Result<Word, NoMemory>
 /// The code of all words of length `n` (GUAVA manual, `WholeSpaceCode`).
 ///
 /// Refused in this order: the field has more than 16 elements, FieldTooLarge; `n` is 0 or above 255, BadLength.
-#[tactic(auto, using(lc_constructions::proofs::RefusalLaws::refuses_first, lc_constructions::proofs::RefusalLaws::refuses_nothing))]
+#[tactic(auto, using(lc_constructions::proofs::RefusalLaws::refused_or_not))]
 pub fn whole_space(alloc: Global, n: u64, field: &Field) -> Result<Code, CodeRefusal>
     ensures code { IfOk result (λ c. IsCode field.now n IsAny c) }
     ensures refused { IsRefusedAs result (first_refusal (length_refusals field.now n)) }
@@ -70,7 +70,7 @@ fn all_words(alloc: Global, n: usize, field: &Field) -> Result<Code, NoMemory>
 /// The null code of length `n`, of the zero word alone (GUAVA manual, `NullCode`).
 ///
 /// Refused in this order: the field has more than 16 elements, FieldTooLarge; `n` is 0 or above 255, BadLength.
-#[tactic(auto, using(lc_constructions::proofs::RefusalLaws::refuses_first, lc_constructions::proofs::RefusalLaws::refuses_nothing))]
+#[tactic(auto, using(lc_constructions::proofs::RefusalLaws::refused_or_not))]
 pub fn null_code(alloc: Global, n: u64, field: &Field) -> Result<Code, CodeRefusal>
     ensures code { IfOk result (λ c. IsCode field.now n IsZero c) }
     ensures refused { IsRefusedAs result (first_refusal (length_refusals field.now n)) }

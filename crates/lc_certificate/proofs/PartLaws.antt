@@ -163,3 +163,11 @@ then_refused d f e c h k m p r = subst (IsRefusedAs e) (ap (closed (members_in d
 pub read_shaped : (bytes : List ℕ) (d : Data) (r : Result made.Certificate CertRefusal) → Some d ≡ json_in bytes → IfOk r (λ c. object_in (as_object d) ≡ reads_as (certificate_of c)) → IfOk r (λ c. IsShaped (certificate_of c))
 read_shaped bytes d (Ok c) h e = certificate_shaped bytes (certificate_of c) (json_is bytes d h ∙ e)
 read_shaped bytes d (Err x) h e = e
+
+pub ruleset distance_at_laws = (distance_found, distance_zero, distance_nowhere)
+
+pub ruleset parts_of_laws = (no_rows, no_word, no_distance, parts_way)
+
+pub ruleset check_closed_laws = (not_closed, beyond, is_closed)
+
+pub ruleset certificate_from_laws = (no_object, other_version, no_field, field_known)

@@ -19,7 +19,7 @@ use Rattle.lc_formats.specs.Json.{plain_number, numbers_of, list_at, listed, eac
 use Rattle.lc_formats.specs.Check.{fit, are_rows}
 use Rattle.lc_formats.proofs.ReadLaws.{each_length}
 use Rattle.lc_json.specs.Inside.{members_in}
-use Rattle.lc_json.proofs.EachLaws.{some_of, each_none, each_whole, each_provided, provided_same, provided_none}
+use Rattle.lc_json.proofs.EachLaws.{some_of, each_none, each_whole, each_provided, provided_same, provided_none, each_next, each_start}
 use Rattle.lc_json.proofs.InsideLaws.{get_inside, numbers_are, no_numbers}
 
 abbrev symbol_in : FieldName → Value → Option ℕ
@@ -119,3 +119,9 @@ pub rows_nowhere : (f : FieldName) (o : Option Items) → None ≡ option_map li
 unfolding provided
 rows_nowhere f None h = refl
 rows_nowhere f (Some es) h = absurd cc
+
+pub ruleset word_of_laws = (word_no_array, word_other_length, word_missing, word_done, each_next, each_start)
+
+pub ruleset rows_of_laws = (rows_none, rows_no_array, rows_empty, rows_missing, rows_done, each_next, each_start)
+
+pub ruleset rows_at_laws = (rows_found, rows_nowhere)

@@ -33,7 +33,7 @@ use Rattle.lc_formats.specs.Check.{reads_as, refused_as, is_scan, are_places, cl
 use Rattle.lc_formats.proofs.TestLaws.{rising_holds, rising_passes, places_hold}
 use Rattle.lc_formats.proofs.ReadLaws.{provided_inside, each_all, same_some}
 use Rattle.lc_json.specs.Inside.{members_in}
-use Rattle.lc_json.proofs.EachLaws.{none_first, each_none, each_more, each_whole}
+use Rattle.lc_json.proofs.EachLaws.{none_first, each_none, each_more, each_whole, each_start}
 use Rattle.lc_certificate.specs.Reading.{way_at}
 use Rattle.lc_certificate.proofs.ListLaws.{all_whole, all_fails, all_mapped}
 
@@ -283,3 +283,19 @@ seen_rise see (c ∷ cs) a = All-cons (λ x. IsStrictlyIncreasing (see x).basis)
 
 pub read_rise : {C : Type 0} (see : C → SetClaim) (n : ℕ) (vs : List Value) (cs : List C) → Some (map see cs) ≡ each (map (λ v. claim_in n (members_in (view v))) vs) → All (λ c. IsStrictlyIncreasing (see c).basis) cs
 read_rise see n vs cs h = seen_rise see cs (bases_rise n vs (map see cs) (sym h))
+
+pub ruleset places_at_laws = (places_pass, places_fail, places_nowhere)
+
+pub ruleset set_of_laws = (no_basis, no_fresh, no_level, set_read)
+
+pub ruleset sets_of_laws = (claims_none, claims_more, claims_whole, each_start)
+
+pub ruleset sets_at_laws = (sets_none, sets_empty, sets_others, sets_are)
+
+pub ruleset is_fresh_in_basis_laws = (part_fails, part_whole)
+
+pub ruleset are_fresh_in_bases_laws = (parts_fail, parts_whole)
+
+pub ruleset levels_at_laws = (no_sets, bad_sets, outside_basis, sets_read, bases_rise)
+
+pub ruleset proof_at_laws = (no_way, scan_has_sets, scan_is, levels_are)

@@ -54,7 +54,7 @@ fn field_at(object: &Value) -> Option<FieldName>
 }
 
 // The distance of an object.
-#[tactic(auto, using(crate::proofs::PartLaws::distance_found, crate::proofs::PartLaws::distance_zero, crate::proofs::PartLaws::distance_nowhere))]
+#[tactic(auto, using(crate::proofs::PartLaws::distance_at_laws))]
 fn distance_at(object: &Value) -> Option<u64>
     ensures is { result ≡ distance_at (members_in (view object.now)) }
 {
@@ -78,7 +78,7 @@ fn columns_of(rows: &[Word]) -> usize
 }
 
 // The certificate over the field that the parts of an object make.
-#[tactic(auto, using(crate::proofs::PartLaws::no_rows, crate::proofs::PartLaws::no_word, crate::proofs::PartLaws::no_distance, crate::proofs::PartLaws::parts_way))]
+#[tactic(auto, using(crate::proofs::PartLaws::parts_of_laws))]
 fn parts_of(alloc: Global, object: &Value, field: FieldName) -> Result<Certificate, CertRefusal>
     ensures is { IfOk result (λ c. parts_in (members_in (view object.now)) field ≡ reads_as (certificate_of c)) }
     ensures refused { IfErr result (λ e. IsRefusedAs e (parts_in (members_in (view object.now)) field)) }
@@ -134,7 +134,7 @@ fn is_beyond_limit(cert: &Certificate) -> bool
 }
 
 // Checks that the object of a certificate has no other keys, and that the certificate is within the limits.
-#[tactic(auto, using(crate::proofs::PartLaws::not_closed, crate::proofs::PartLaws::beyond, crate::proofs::PartLaws::is_closed), unfolding(crate::specs::Seen::certificate_of))]
+#[tactic(auto, using(crate::proofs::PartLaws::check_closed_laws), unfolding(crate::specs::Seen::certificate_of))]
 fn check_closed(object: &Value, cert: &Certificate) -> Result<(), CertRefusal>
     ensures is { IfOk result (λ _. closed (members_in (view object.now)) (reads_as (certificate_of cert.now)) ≡ reads_as (certificate_of cert.now)) }
     ensures refused { IfErr result (λ e. IsRefusedAs e (closed (members_in (view object.now)) (reads_as (certificate_of cert.now)))) }
@@ -149,7 +149,7 @@ fn check_closed(object: &Value, cert: &Certificate) -> Result<(), CertRefusal>
 }
 
 // The certificate that a value is.
-#[tactic(auto, using(crate::proofs::PartLaws::no_object, crate::proofs::PartLaws::other_version, crate::proofs::PartLaws::no_field, crate::proofs::PartLaws::field_known))]
+#[tactic(auto, using(crate::proofs::PartLaws::certificate_from_laws))]
 fn certificate_from(alloc: Global, value: &Value) -> Result<Certificate, CertRefusal>
     ensures is { IfOk result (λ c. object_in (as_object (view value.now)) ≡ reads_as (certificate_of c)) }
     ensures refused { IfErr result (λ e. IsRefusedAs e (object_in (as_object (view value.now)))) }

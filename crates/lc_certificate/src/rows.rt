@@ -31,7 +31,7 @@ fn symbol_of(field: FieldName, value: &Value) -> Option<u8>
 }
 
 // The word of length n over the field that a value lists.
-#[tactic(auto, using(crate::proofs::RowLaws::word_no_array, crate::proofs::RowLaws::word_other_length, crate::proofs::RowLaws::word_missing, crate::proofs::RowLaws::word_done, lc_json::proofs::EachLaws::each_next, lc_json::proofs::EachLaws::each_start))]
+#[tactic(auto, using(crate::proofs::RowLaws::word_of_laws))]
 fn word_of(
     alloc: Global,
     field: FieldName,
@@ -57,7 +57,7 @@ fn word_of(
 }
 
 // The rows that values list: at least one, all of the first one's length, which isn't 0.
-#[tactic(auto, using(crate::proofs::RowLaws::rows_none, crate::proofs::RowLaws::rows_no_array, crate::proofs::RowLaws::rows_empty, crate::proofs::RowLaws::rows_missing, crate::proofs::RowLaws::rows_done, lc_json::proofs::EachLaws::each_next, lc_json::proofs::EachLaws::each_start))]
+#[tactic(auto, using(crate::proofs::RowLaws::rows_of_laws))]
 fn rows_of(alloc: Global, field: FieldName, items: &[Value]) -> Result<Option<Vec<Word>>, NoMemory>
     ensures is { IfOk result (λ o. option_map (λ v. v.items) o ≡ provided (are_rows field) (each (map numbers_of (map view items.now)))) }
 {
@@ -82,7 +82,7 @@ fn rows_of(alloc: Global, field: FieldName, items: &[Value]) -> Result<Option<Ve
 }
 
 // The rows of an object.
-#[tactic(auto, using(crate::proofs::RowLaws::rows_found, crate::proofs::RowLaws::rows_nowhere), unfolding(lc_formats::specs::Check::rows_at))]
+#[tactic(auto, using(crate::proofs::RowLaws::rows_at_laws), unfolding(lc_formats::specs::Check::rows_at))]
 pub(crate) fn rows_at(
     alloc: Global,
     object: &Value,

@@ -49,7 +49,7 @@ fn are_places(n: u64, places: &[u64]) -> bool
 }
 
 // The coordinates listed at a key of a set.
-#[tactic(auto, using(crate::proofs::SetLaws::places_pass, crate::proofs::SetLaws::places_fail, crate::proofs::SetLaws::places_nowhere))]
+#[tactic(auto, using(crate::proofs::SetLaws::places_at_laws))]
 fn places_at(alloc: Global, set: &Value, key: &str, n: u64) -> Result<Option<Vec<u64>>, NoMemory>
     ensures is { IfOk result (λ o. option_map (λ v. v.items) o ≡ provided (are_places n) (list_at key.now (members_in (view set.now)))) }
 {
@@ -63,7 +63,7 @@ fn places_at(alloc: Global, set: &Value, key: &str, n: u64) -> Result<Option<Vec
 }
 
 // The set that an object states.
-#[tactic(auto, using(crate::proofs::SetLaws::no_basis, crate::proofs::SetLaws::no_fresh, crate::proofs::SetLaws::no_level, crate::proofs::SetLaws::set_read), unfolding(crate::specs::Seen::claim_of))]
+#[tactic(auto, using(crate::proofs::SetLaws::set_of_laws), unfolding(crate::specs::Seen::claim_of))]
 fn set_of(alloc: Global, n: u64, set: &Value) -> Result<Option<SetClaim>, NoMemory>
     ensures is { IfOk result (λ o. option_map claim_of o ≡ claim_in n (members_in (view set.now))) }
 {
@@ -84,7 +84,7 @@ fn set_of(alloc: Global, n: u64, set: &Value) -> Result<Option<SetClaim>, NoMemo
 }
 
 // The sets that objects state.
-#[tactic(auto, using(crate::proofs::SetLaws::claims_none, crate::proofs::SetLaws::claims_more, crate::proofs::SetLaws::claims_whole, lc_json::proofs::EachLaws::each_start))]
+#[tactic(auto, using(crate::proofs::SetLaws::sets_of_laws))]
 fn sets_of(alloc: Global, n: u64, sets: &[Value]) -> Result<Option<Vec<SetClaim>>, NoMemory>
     ensures is { IfOk result (λ o. option_map (λ v. map claim_of v.items) o ≡ each (map (λ v. claim_in n (members_in (view v))) sets.now)) }
 {
@@ -113,7 +113,7 @@ fn have_three_keys(items: &[Value]) -> bool
 }
 
 // The values that state the sets of an object: at least one, and all of them objects.
-#[tactic(auto, using(crate::proofs::SetLaws::sets_none, crate::proofs::SetLaws::sets_empty, crate::proofs::SetLaws::sets_others, crate::proofs::SetLaws::sets_are))]
+#[tactic(auto, using(crate::proofs::SetLaws::sets_at_laws))]
 fn sets_at(object: &Value) -> Option<&Vec<Value>>
     ensures is { option_map (λ v. map (λ x. members_in (view x)) v.now.items) result ≡ sets_at (members_in (view object.now)) }
 {
@@ -147,7 +147,7 @@ fn has(places: &[u64], place: u64) -> bool
 }
 
 // Whether each fresh coordinate of a set is in its basis. The basis rises.
-#[tactic(auto, using(crate::proofs::SetLaws::part_fails, crate::proofs::SetLaws::part_whole, crate::proofs::ListLaws::all_next), unfolding(crate::specs::Seen::claim_of))]
+#[tactic(auto, using(crate::proofs::SetLaws::is_fresh_in_basis_laws, crate::proofs::ListLaws::all_next), unfolding(crate::specs::Seen::claim_of))]
 fn is_fresh_in_basis(claim: &SetClaim) -> bool
     requires rises { IsStrictlyIncreasing claim.now.basis.items }
     ensures is { result ≡ fresh_in_basis (claim_of claim.now) }
@@ -161,7 +161,7 @@ fn is_fresh_in_basis(claim: &SetClaim) -> bool
 }
 
 // Whether the fresh coordinates of each set are in its basis. The bases rise.
-#[tactic(auto, using(crate::proofs::SetLaws::parts_fail, crate::proofs::SetLaws::parts_whole, crate::proofs::ListLaws::all_next))]
+#[tactic(auto, using(crate::proofs::SetLaws::are_fresh_in_bases_laws, crate::proofs::ListLaws::all_next))]
 fn are_fresh_in_bases(claims: &[SetClaim]) -> bool
     requires rise { All (λ claim. IsStrictlyIncreasing claim.basis.items) claims.now }
     ensures is { result ≡ list_all fresh_in_basis (map claim_of claims.now) }
@@ -200,7 +200,7 @@ fn way_at(object: &Value) -> Option<bool>
 }
 
 // The proof by levels that an object states, for words of length n.
-#[tactic(auto, using(crate::proofs::SetLaws::no_sets, crate::proofs::SetLaws::bad_sets, crate::proofs::SetLaws::outside_basis, crate::proofs::SetLaws::sets_read, crate::proofs::SetLaws::bases_rise))]
+#[tactic(auto, using(crate::proofs::SetLaws::levels_at_laws))]
 fn levels_at(alloc: Global, object: &Value, n: u64) -> Result<Proof, CertRefusal>
     ensures is { IfOk result (λ p. (make : formats.Proof → formats.Certificate)
         → sets_in n make (sets_at (members_in (view object.now))) ≡ reads_as (make (proof_of p))) }
@@ -220,7 +220,7 @@ fn levels_at(alloc: Global, object: &Value, n: u64) -> Result<Proof, CertRefusal
 }
 
 // How the distance is proved, as an object states it, for words of length n.
-#[tactic(auto, using(crate::proofs::SetLaws::no_way, crate::proofs::SetLaws::scan_has_sets, crate::proofs::SetLaws::scan_is, crate::proofs::SetLaws::levels_are), unfolding(crate::specs::Seen::proof_of))]
+#[tactic(auto, using(crate::proofs::SetLaws::proof_at_laws), unfolding(crate::specs::Seen::proof_of))]
 pub(crate) fn proof_at(alloc: Global, object: &Value, n: u64) -> Result<Proof, CertRefusal>
     ensures is { IfOk result (λ p. (make : formats.Proof → formats.Certificate)
         → way_in (members_in (view object.now)) n make (way_at (members_in (view object.now))) ≡ reads_as (make (proof_of p))) }

@@ -56,3 +56,5 @@ too_long c n m before whole text is few e pushed more many shown =
 pub whole_line : (c : Certificate) (n : ℕ) (before whole : List ℕ) → n ≡ counted c → n ≤ 2 ^ 32 → before ≡ certificate_text c → whole ≡ before ++ 10 ∷ [] → length whole ≤ 1048576 → whole ≡ certificate_line c
 unfolding longest
 whole_line c n before whole is few e pushed short = sym (by_its_length c n before whole is few e pushed ∙ ap (by_length whole) (le-ltb longest (length whole) short))
+
+pub ruleset certificate_line_laws = (too_costly, too_long, whole_line)

@@ -20,7 +20,7 @@ use lc_vec::Word;
 use std::alloc::Global;
 
 // The name of a field of symbols.
-#[tactic(auto, using(crate::proofs::NameLaws::named, crate::proofs::NameLaws::sixteen), unfolding(lc_algebra::specs::Field::size, lc_algebra::specs::Field::shape_of, lc_algebra::specs::Field::shape))]
+#[tactic(auto, using(crate::proofs::NameLaws::name_of_laws), unfolding(lc_algebra::specs::Field::size, lc_algebra::specs::Field::shape_of, lc_algebra::specs::Field::shape))]
 fn name_of(field: &Field) -> FieldName
     requires symbol { IsTrue (is_symbol field.now) }
     ensures is { result ≡ field.now }

@@ -20,7 +20,7 @@ const LONGEST: usize = 1_048_576;
 /// how many; else, if the line would have more than 2^20 bytes, it says how many these are.
 ///
 /// The certificate has the shape, as one of a search has.
-#[tactic(auto, using(crate::proofs::LineLaws::too_costly, crate::proofs::LineLaws::too_long, crate::proofs::LineLaws::whole_line))]
+#[tactic(auto, using(crate::proofs::LineLaws::certificate_line_laws))]
 pub fn certificate_line(alloc: Global, certificate: &Certificate) -> Result<Vec<u8>, NoMemory>
     requires shaped { IsShaped (certificate_of certificate.now) }
     ensures is { IfOk result (λ line. line.items ≡ certificate_line (certificate_of certificate.now)) }

@@ -206,3 +206,5 @@ leaf_passed C bits front d p m sum b o h inside l one q t dark old =
     let heavy : is_lighter d w ≡ false = sym (light_is d w (fits_two f n w h.binary word)) ∙ ap (λ x. nat_lt 0 (count_ones x) && nat_lt (count_ones x) d) (sym next) ∙ sym t ∙ dark in
     let nothing : found false [] ≡ find (is_lighter d) (support_words f n C.rows longer) = found_nothing (is_lighter d) w [] heavy ∙ ap (find (is_lighter d)) (sym (support_single f n C.rows longer h.binary)) in
     over_passed f n C.rows d p (length C.rows) m 0 front longer [] false o l (omega (arith, one)) refl old (over_whole f n C.rows d (p + 1) (length C.rows - (p + 1)) 0 longer (found false []) refl nothing) refl
+
+pub ruleset bits_of_laws = (pack_none, pack_step, pack_room, bit_small, pack_all)

@@ -216,3 +216,5 @@ unfolding rounded
 rounded_made d s t r e q =
     let same : max s 1 ≡ max 1 t = omega (arith, e) in
     q ∙ ap (λ m. (m + (d - 1)) / d * d) same
+
+pub ruleset claimed_sum_laws = (divisor_some, divisor_small, rounded_made)

@@ -39,7 +39,7 @@ fn bits_of_rows(alloc: Global, rows: &Matrix) -> Result<Vec<u64>, NoMemory>
 }
 
 // The bits of a word over 2 elements, the first symbol the lowest.
-#[tactic(auto, using(crate::proofs::PackedLaws::pack_none, crate::proofs::PackedLaws::pack_step, crate::proofs::PackedLaws::pack_room, crate::proofs::PackedLaws::bit_small, crate::proofs::PackedLaws::pack_all))]
+#[tactic(auto, using(crate::proofs::PackedLaws::bits_of_laws))]
 pub(crate) fn bits_of(word: &[u8]) -> u64
     requires bits { Fits Gf2 word.now }
     requires few { length word.now ≤ 64 }

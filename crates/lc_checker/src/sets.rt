@@ -87,7 +87,7 @@ fn times_fresh(fresh: &[u64], place: u64) -> usize
 }
 
 // The bound that the levels give: the least multiple of the divisor of the weights that is at least 1 and at least the sum.
-#[tactic(auto, using(crate::proofs::SetLaws::divisor_some, crate::proofs::SetLaws::divisor_small, crate::proofs::SetLaws::rounded_made))]
+#[tactic(auto, using(crate::proofs::SetLaws::claimed_sum_laws))]
 pub(crate) fn claimed_sum(rows: &Matrix, k: usize, claims: &[SetClaim]) -> u64
     requires few { length claims.now ≤ 255 }
     requires dimension { k ≤ 255 }

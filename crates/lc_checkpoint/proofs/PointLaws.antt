@@ -257,3 +257,17 @@ body_is bytes d e h = ap (λ b. if b then body_in (json_in (drop 65 bytes)) else
 pub read_ranged : (bytes : List ℕ) (d : Data) (r : Result made.Checkpoint CheckpointRefusal) → is_whole bytes ≡ true → Some d ≡ json_in (drop 65 bytes) → IfOk r (λ p. versioned (members_in d) (number_at (codes "version") (members_in d)) ≡ point (point_of p)) → IfOk r (λ p. IsInRange (point_of p))
 read_ranged bytes d (Ok p) w h e = checkpoint_ranged bytes (point_of p) (body_is bytes d w h ∙ e)
 read_ranged bytes d (Err x) w h e = e
+
+pub ruleset is_whole_laws = (whole_short, whole_long, whole_other, whole_line)
+
+pub ruleset ranged_at_laws = (ranged_found, ranged_low, ranged_high, ranged_nowhere)
+
+pub ruleset script_at_laws = (script_found, script_nowhere)
+
+pub ruleset current_at_laws = (no_blocks, no_weight, no_place, current_read)
+
+pub ruleset state_of_laws = (no_keys, no_script, no_turn, no_current, no_done, state_read)
+
+pub ruleset point_from_laws = (no_version, version_other, no_budget, no_state, state_known)
+
+pub ruleset decode_laws = (is_damaged, no_body, body_is)

@@ -17,7 +17,7 @@ use Rattle.lc_enumeration.specs.Records.{Progress}
 use Rattle.lc_formats.specs.Json.{plain_number, numbers_of, listed, each, provided}
 use Rattle.lc_formats.specs.Checkpoint.{triple_of, is_in_range, settled_in, done_in}
 use Rattle.lc_formats.proofs.ReadLaws.{each_length}
-use Rattle.lc_json.proofs.EachLaws.{each_none, each_more, each_whole}
+use Rattle.lc_json.proofs.EachLaws.{each_none, each_more, each_whole, each_start}
 use Rattle.lc_json.proofs.InsideLaws.{numbers_are, no_numbers}
 
 not_three : (ys : List ℕ) → length ys ≢ 3 → triple_of ys ≡ None
@@ -103,3 +103,13 @@ done_nowhere budget ms h = ap (λ o. option_and_then (λ es. each (map (settled_
 pub done_read : {V : Type 0} (see : V → List Progress) (r : Result (Option V) NoMemory) (budget : ℕ) (items vs : List Value) (o : Option (List Progress)) → items ≡ vs → o ≡ each (map (settled_in budget) (map view vs)) → IfOk r (λ found. option_map see found ≡ each (map (settled_in budget) (map view items))) → IfOk r (λ found. option_map see found ≡ o)
 done_read see (Ok found) budget items vs o same h e = e ∙ ap (λ xs. each (map (settled_in budget) (map view xs))) same ∙ sym h
 done_read see (Err x) budget items vs o same h e = e
+
+pub ruleset triple_from_laws = (from_other, from_none)
+
+pub ruleset triple_of_laws = (triple_found, triple_nowhere)
+
+pub ruleset settled_in_laws = (settled_found, settled_out, settled_nowhere)
+
+pub ruleset settled_list_laws = (list_missing, list_whole, each_start)
+
+pub ruleset done_at_laws = (done_found, done_long, done_nowhere)

@@ -16,7 +16,7 @@ use serde_json::Value;
 use std::alloc::Global;
 
 // Whether the bytes are the seal of the rest, a newline and the rest, and their number is allowed.
-#[tactic(auto, using(crate::proofs::PointLaws::whole_short, crate::proofs::PointLaws::whole_long, crate::proofs::PointLaws::whole_other, crate::proofs::PointLaws::whole_line))]
+#[tactic(auto, using(crate::proofs::PointLaws::is_whole_laws))]
 fn is_whole(bytes: &[u8]) -> bool
     ensures is { result ≡ is_whole bytes.now }
     ensures long { IsTrue result → 65 ≤ length bytes.now }
@@ -33,7 +33,7 @@ fn is_whole(bytes: &[u8]) -> bool
 }
 
 // The number at a key, if it is within a range.
-#[tactic(auto, using(crate::proofs::PointLaws::ranged_found, crate::proofs::PointLaws::ranged_low, crate::proofs::PointLaws::ranged_high, crate::proofs::PointLaws::ranged_nowhere))]
+#[tactic(auto, using(crate::proofs::PointLaws::ranged_at_laws))]
 fn ranged_at(object: &Value, key: &str, low: u64, high: u64) -> Option<u64>
     ensures is { result ≡ number_up_to low high (number_at key.now (members_in (view object.now))) }
 {
@@ -52,7 +52,7 @@ fn ranged_at(object: &Value, key: &str, low: u64, high: u64) -> Option<u64>
 }
 
 // The digest of the script.
-#[tactic(auto, using(crate::proofs::PointLaws::script_found, crate::proofs::PointLaws::script_nowhere))]
+#[tactic(auto, using(crate::proofs::PointLaws::script_at_laws))]
 fn script_at(object: &Value) -> Option<[u8; 32]>
     ensures is { result ≡ script_in (members_in (view object.now)) }
 {
@@ -63,7 +63,7 @@ fn script_at(object: &Value) -> Option<[u8; 32]>
 }
 
 // The blocks, the weight and the place that three values state.
-#[tactic(auto, using(crate::proofs::SettledLaws::from_other, crate::proofs::SettledLaws::from_none), unfolding(crate::specs::Seen::settled_of, lc_formats::specs::Json::plain_number))]
+#[tactic(auto, using(crate::proofs::SettledLaws::triple_from_laws), unfolding(crate::specs::Seen::settled_of, lc_formats::specs::Json::plain_number))]
 fn triple_from(items: &[Value]) -> Option<Settled>
     ensures is { option_map settled_of result ≡ option_and_then triple_of (each (map (λ v. plain_number (view v)) items.now)) }
 {
@@ -87,7 +87,7 @@ fn triple_from(items: &[Value]) -> Option<Settled>
 }
 
 // The blocks, the weight and the place that an array of three numbers states.
-#[tactic(auto, using(crate::proofs::SettledLaws::triple_found, crate::proofs::SettledLaws::triple_nowhere))]
+#[tactic(auto, using(crate::proofs::SettledLaws::triple_of_laws))]
 fn triple_of(value: &Value) -> Option<Settled>
     ensures is { option_map settled_of result ≡ option_and_then triple_of (numbers_of (view value.now)) }
 {
@@ -107,7 +107,7 @@ fn is_in_range(budget: u64, settled: &Settled) -> bool
 }
 
 // The settled need that an array states, if its numbers are in range.
-#[tactic(auto, using(crate::proofs::SettledLaws::settled_found, crate::proofs::SettledLaws::settled_out, crate::proofs::SettledLaws::settled_nowhere))]
+#[tactic(auto, using(crate::proofs::SettledLaws::settled_in_laws))]
 fn settled_in(budget: u64, value: &Value) -> Option<Settled>
     ensures is { option_map settled_of result ≡ settled_in budget (view value.now) }
 {
@@ -123,7 +123,7 @@ fn settled_in(budget: u64, value: &Value) -> Option<Settled>
 }
 
 // The settled needs that arrays state.
-#[tactic(auto, using(crate::proofs::SettledLaws::list_missing, crate::proofs::SettledLaws::list_whole, lc_json::proofs::EachLaws::each_start))]
+#[tactic(auto, using(crate::proofs::SettledLaws::settled_list_laws))]
 fn settled_list(
     alloc: Global,
     budget: u64,
@@ -142,7 +142,7 @@ fn settled_list(
 }
 
 // The settled needs of an object, at most 131,072.
-#[tactic(auto, using(crate::proofs::SettledLaws::done_found, crate::proofs::SettledLaws::done_long, crate::proofs::SettledLaws::done_nowhere))]
+#[tactic(auto, using(crate::proofs::SettledLaws::done_at_laws))]
 fn done_at(alloc: Global, object: &Value, budget: u64) -> Result<Option<Vec<Settled>>, NoMemory>
     ensures is { IfOk result (λ o. option_map (λ v. map settled_of v.items) o ≡ done_in budget (members_in (view object.now))) }
 {
@@ -158,7 +158,7 @@ fn done_at(alloc: Global, object: &Value, budget: u64) -> Result<Option<Vec<Sett
 }
 
 // How far the search of the current need is.
-#[tactic(auto, using(crate::proofs::PointLaws::no_blocks, crate::proofs::PointLaws::no_weight, crate::proofs::PointLaws::no_place, crate::proofs::PointLaws::current_read), unfolding(crate::specs::Seen::settled_of))]
+#[tactic(auto, using(crate::proofs::PointLaws::current_at_laws), unfolding(crate::specs::Seen::settled_of))]
 fn current_at(object: &Value, budget: u64) -> Option<Settled>
     ensures is { option_map settled_of result ≡ current_in budget (members_in (view object.now)) }
 {
@@ -179,7 +179,7 @@ fn current_at(object: &Value, budget: u64) -> Option<Settled>
 }
 
 // The checkpoint of this version and budget that an object states.
-#[tactic(auto, using(crate::proofs::PointLaws::no_keys, crate::proofs::PointLaws::no_script, crate::proofs::PointLaws::no_turn, crate::proofs::PointLaws::no_current, crate::proofs::PointLaws::no_done, crate::proofs::PointLaws::state_read), unfolding(crate::specs::Seen::point_of))]
+#[tactic(auto, using(crate::proofs::PointLaws::state_of_laws), unfolding(crate::specs::Seen::point_of))]
 fn state_of(
     alloc: Global,
     object: &Value,
@@ -223,7 +223,7 @@ fn is_known(version: u64) -> bool
 }
 
 // The checkpoint that the body is.
-#[tactic(auto, using(crate::proofs::PointLaws::no_version, crate::proofs::PointLaws::version_other, crate::proofs::PointLaws::no_budget, crate::proofs::PointLaws::no_state, crate::proofs::PointLaws::state_known))]
+#[tactic(auto, using(crate::proofs::PointLaws::point_from_laws))]
 fn point_from(alloc: Global, body: &Value) -> Result<Checkpoint, CheckpointRefusal>
     ensures is { IfOk result (λ p. versioned (members_in (view body.now)) (number_at (codes "version") (members_in (view body.now))) ≡ point (point_of p)) }
     ensures refused { IfErr result (λ e. IsRefusedAs e (versioned (members_in (view body.now)) (number_at (codes "version") (members_in (view body.now))))) }
@@ -249,7 +249,7 @@ fn point_from(alloc: Global, body: &Value) -> Result<Checkpoint, CheckpointRefus
 /// digits of the SHA-256 of the rest and a newline; else with `Shape` if the body is no JSON object with a whole number for
 /// its version, with `Version` if that is neither 1 nor 2, and with `Shape` if a key is missing or foreign, or a value is out
 /// of range.
-#[tactic(auto, using(crate::proofs::PointLaws::is_damaged, crate::proofs::PointLaws::no_body, crate::proofs::PointLaws::body_is))]
+#[tactic(auto, using(crate::proofs::PointLaws::decode_laws))]
 pub fn decode(alloc: Global, bytes: &[u8]) -> Result<Checkpoint, CheckpointRefusal>
     ensures is { IfOk result (λ p. checkpoint_in bytes.now ≡ point (point_of p)) }
     ensures refused { IfErr result (λ e. IsRefusedAs e (checkpoint_in bytes.now)) }

@@ -100,3 +100,7 @@ same_matrix C e a b c =
 
 pub rows_kept : (C e : Matrix) → IsKept C → e.field ≡ C.field → e.columns ≡ C.columns → e.rows ≡ C.rows → IsKept e
 rows_kept C e k a b c = subst IsKept (sym (same_matrix C e a b c)) k
+
+pub ruleset from_rows_laws = (generated_kept, generated_code)
+
+pub ruleset from_checks_laws = (checked_kept, checked_code)

@@ -214,3 +214,19 @@ expanded_words f form ts (suc j) e =
 
 pub symbols : (f : FieldName) (form : AlternantForm) (c : ℕ) (rows : List (List ℕ)) → length form.multipliers ≡ length form.points → AreExpandedChecks f form c rows → AreRows f (length form.points) rows
 symbols f form c rows e a = let (ts, t, q) = a.each in subst (AreRows f (length form.points)) (sym q) (expanded_words f form ts c e)
+
+pub ruleset enough_checks_laws = (enough_all, enough_points)
+
+pub ruleset expanded_checks_laws = (symbols, expanded_none, expanded_more, expanded_whole, entries_inside)
+
+pub ruleset check_entries_laws = (entries_none, entries_more, entries_whole)
+
+pub ruleset add_coordinates_laws = (rows_none, rows_more)
+
+pub ruleset coordinate_row_laws = (row_none, row_more, row_whole)
+
+pub ruleset coordinate_laws = (small_size, coordinate_first, coordinate_next, zero_inside)
+
+pub ruleset numbers_laws = (numbered_none, numbered_more, numbered_whole, element_told)
+
+pub ruleset element_laws = (small_size, digit_inside, element_none, element_step, zero_inside)

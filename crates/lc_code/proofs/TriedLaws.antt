@@ -103,3 +103,5 @@ tried_last C i word rest k e s =
           let a : rest ≡ zero_word C.columns = nothing_left C word rest k t (t.same.0 m) in
           (Decides-eqb (weight rest) 0).1 (ap weight a ∙ weight_zero_word C.columns)),
     )
+
+pub ruleset contains_laws = (tried_first, tried_more, tried_last)

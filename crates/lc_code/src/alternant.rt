@@ -78,7 +78,7 @@ fn length_of(form: &Alternant) -> usize
 }
 
 // As many checks as say all: r, but no more than there are points.
-#[tactic(auto, using(crate::proofs::CoordinateSteps::enough_all, crate::proofs::CoordinateSteps::enough_points))]
+#[tactic(auto, using(crate::proofs::CoordinateSteps::enough_checks_laws))]
 fn enough_checks(form: &Alternant) -> usize
     ensures enough { IsEnough form.now result }
 {

@@ -41,7 +41,7 @@ impl Code {
     /// The code of all sums of multiples of the rows, none of which need be independent of the others.
     ///
     /// The field has at most 16 elements, `n` is 1 to 255, and the rows are words of `n` symbols of the field.
-    #[tactic(auto, using(crate::proofs::CodeLaws::generated_kept, crate::proofs::CodeLaws::generated_code))]
+    #[tactic(auto, using(crate::proofs::CodeLaws::from_rows_laws))]
     pub fn from_rows(
         alloc: Global,
         field: &Field,
@@ -63,7 +63,7 @@ impl Code {
     /// The code of all words that have dot 0 with each of the checks, which need not be independent.
     ///
     /// The field has at most 16 elements, `n` is 1 to 255, and the checks are words of `n` symbols of the field.
-    #[tactic(auto, using(crate::proofs::CodeLaws::checked_kept, crate::proofs::CodeLaws::checked_code))]
+    #[tactic(auto, using(crate::proofs::CodeLaws::from_checks_laws))]
     pub fn from_checks(
         alloc: Global,
         field: &Field,
@@ -149,7 +149,7 @@ impl Code {
     ///
     /// The word has n symbols of the field. The buffer has n symbols too, of any value, and holds any symbols afterwards; no
     /// memory is taken.
-    #[tactic(auto, using(crate::proofs::TriedLaws::tried_first, crate::proofs::TriedLaws::tried_more, crate::proofs::TriedLaws::tried_last))]
+    #[tactic(auto, using(crate::proofs::TriedLaws::contains_laws))]
     pub fn contains(&self, word: &[u8], buf: &mut [u8]) -> bool
         requires word { IsWord self.now.field self.now.columns word.now }
         requires buffer { length buf.old ≡ self.now.columns }

@@ -16,7 +16,7 @@ use lc_vec::Word;
 use std::alloc::Global;
 
 // The coordinates over the field of the entries of the first `count` check rows.
-#[tactic(auto, using(crate::proofs::CoordinateSteps::symbols, crate::proofs::CoordinateSteps::expanded_none, crate::proofs::CoordinateSteps::expanded_more, crate::proofs::CoordinateSteps::expanded_whole, crate::proofs::CoordinateSteps::entries_inside))]
+#[tactic(auto, using(crate::proofs::CoordinateSteps::expanded_checks_laws))]
 pub(crate) fn expanded_checks(
     alloc: Global,
     field: &Field,
@@ -38,7 +38,7 @@ pub(crate) fn expanded_checks(
 }
 
 // The entries of check row j: the products of the multipliers with the j-th powers of the points.
-#[tactic(auto, using(crate::proofs::CoordinateSteps::entries_none, crate::proofs::CoordinateSteps::entries_more, crate::proofs::CoordinateSteps::entries_whole))]
+#[tactic(auto, using(crate::proofs::CoordinateSteps::check_entries_laws))]
 fn check_entries(alloc: Global, form: &Alternant, j: usize) -> Result<Vec<u8>, NoMemory>
     requires points { Fits form.now.locator form.now.points }
     requires count { length form.now.multipliers ≡ length form.now.points }
@@ -54,7 +54,7 @@ fn check_entries(alloc: Global, form: &Alternant, j: usize) -> Result<Vec<u8>, N
 }
 
 // Adds a row for each coordinate of the entries.
-#[tactic(auto, using(crate::proofs::CoordinateSteps::rows_none, crate::proofs::CoordinateSteps::rows_more))]
+#[tactic(auto, using(crate::proofs::CoordinateSteps::add_coordinates_laws))]
 fn add_coordinates(
     alloc: Global,
     field: &Field,
@@ -75,7 +75,7 @@ fn add_coordinates(
 }
 
 // Coordinate i of each entry.
-#[tactic(auto, using(crate::proofs::CoordinateSteps::row_none, crate::proofs::CoordinateSteps::row_more, crate::proofs::CoordinateSteps::row_whole))]
+#[tactic(auto, using(crate::proofs::CoordinateSteps::coordinate_row_laws))]
 fn coordinate_row(
     alloc: Global,
     field: &Field,
@@ -97,7 +97,7 @@ fn coordinate_row(
 }
 
 // Coordinate i of those with number t.
-#[tactic(auto, using(crate::proofs::CoordinateSteps::small_size, lc_algebra::proofs::FieldLaws::zero_inside, crate::proofs::CoordinateSteps::coordinate_first, crate::proofs::CoordinateSteps::coordinate_next))]
+#[tactic(auto, using(crate::proofs::CoordinateSteps::coordinate_laws))]
 fn coordinate(field: &Field, degree: u8, t: u8, i: u8) -> u8
     requires symbol { IsTrue (is_symbol field.now) }
     requires coordinate { i < degree }
@@ -111,7 +111,7 @@ fn coordinate(field: &Field, degree: u8, t: u8, i: u8) -> u8
 }
 
 // For each element of the locator field the number of its coordinates.
-#[tactic(auto, using(crate::proofs::CoordinateSteps::numbered_none, crate::proofs::CoordinateSteps::numbered_more, crate::proofs::CoordinateSteps::numbered_whole, crate::proofs::CoordinateSteps::element_told))]
+#[tactic(auto, using(crate::proofs::CoordinateSteps::numbers_laws))]
 fn numbers(alloc: Global, field: &Field, locator: &Field) -> Result<Vec<u8>, NoMemory>
     requires symbol { IsTrue (is_symbol field.now) }
     requires subfield { IsSubfield field.now locator.now }
@@ -136,7 +136,7 @@ fn relative_degree(field: &Field, locator: &Field) -> u8
 }
 
 // The element whose coordinates, as many as `degree`, have the number t.
-#[tactic(auto, using(crate::proofs::CoordinateSteps::small_size, lc_algebra::proofs::FieldLaws::zero_inside, crate::proofs::CoordinateSteps::digit_inside, crate::proofs::CoordinateSteps::element_none, crate::proofs::CoordinateSteps::element_step))]
+#[tactic(auto, using(crate::proofs::CoordinateSteps::element_laws))]
 fn element(field: &Field, locator: &Field, degree: u8, t: u8) -> u8
     requires symbol { IsTrue (is_symbol field.now) }
     requires subfield { IsSubfield field.now locator.now }

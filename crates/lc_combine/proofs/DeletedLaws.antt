@@ -267,3 +267,5 @@ shortened_members C H coordinates w r reduced d h word =
 pub shortened_code : (C H E : Matrix) (coordinates : List ℕ) (g : FieldName) (k : ℕ) (rows : List (List ℕ)) → AreRows C.field C.columns C.rows → IsReduced C.columns C.rows → IsCode C.field C.columns (InDual C) H → first_refusal (deleted_refusals C coordinates) ≡ None → g ≡ C.field → k ≡ C.columns - length coordinates → rows ≡ punctured_rows coordinates H.rows → IsCode g k (CheckedBy g rows) E → IsCode C.field (C.columns - length coordinates) (InShortened C coordinates) E
 shortened_code C H E coordinates g k rows r reduced d h a b e c =
     checked_by C.field g (C.columns - length coordinates) k (punctured_rows coordinates H.rows) rows (InShortened C coordinates) E a b e (λ w word. shortened_members C H coordinates w r reduced d h word) c
+
+pub ruleset keep_laws = (symbol_left, symbol_kept)

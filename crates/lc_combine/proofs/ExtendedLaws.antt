@@ -93,3 +93,7 @@ extended_members C w r =
 
 pub extended_code : (C E : Matrix) (g : FieldName) (k : ℕ) (rows : List (List ℕ)) → AreRows C.field C.columns C.rows → g ≡ C.field → k ≡ C.columns + 1 → rows ≡ extended_rows C.field C.rows → IsCode g k (GeneratedBy g k rows) E → IsCode C.field (C.columns + 1) (InExtended C) E
 extended_code C E g k rows r a b e c = generated_by C.field g (C.columns + 1) k (extended_rows C.field C.rows) rows (InExtended C) E a b e (λ w _. extended_members C w r) c
+
+pub ruleset extended_words_laws = (extended_words, extended_code)
+
+pub ruleset last_symbol_laws = (sum_none, sum_more, sum_all, zero_inside)

@@ -103,3 +103,7 @@ nested_too_long C D s e d l = nested C D s e ∙ (rw (eq-eqb (length D.rows) s d
 pub nested_fine : (C D : Matrix) (s : ℕ) → degree_over (size D.field) (size C.field) ≡ Some s → length D.rows ≡ s → 1 ≤ C.columns * D.columns → C.columns * D.columns ≤ 255 → first_refusal (concatenated_refusals C D) ≡ None
 unfolding first_refusal refuse_if bad_length nested_refusals
 nested_fine C D s e d a l = nested C D s e ∙ (rw (eq-eqb (length D.rows) s d, short_length (C.columns * D.columns) a l) refl)
+
+pub ruleset check_nested_laws = (other_dimension, nested_too_long, nested_fine)
+
+pub ruleset degree_over_laws = (power_first, power_next, power_most, none_more, degree_at, degree_none)

@@ -188,3 +188,7 @@ product_members C D w x r s =
 
 pub product_code : (C D E : Matrix) (g : FieldName) (k : ℕ) (rows : List (List ℕ)) → C.field ≡ D.field → AreRows C.field C.columns C.rows → AreRows D.field D.columns D.rows → g ≡ C.field → k ≡ C.columns * D.columns → rows ≡ product_rows C D → IsCode g k (GeneratedBy g k rows) E → IsCode C.field (C.columns * D.columns) (InDirectProduct C D) E
 product_code C D E g k rows x r s a b e c = generated_by C.field g (C.columns * D.columns) k (product_rows C D) rows (InDirectProduct C D) E a b e (λ w _. product_members C D w x r s) c
+
+pub ruleset tensor_laws = (tensor_none, tensor_more)
+
+pub ruleset push_multiple_laws = (multiple_none, multiple_more)

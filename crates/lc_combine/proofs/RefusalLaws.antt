@@ -163,3 +163,21 @@ uuv_too_long C D a e b = rw (eq-eqb (size C.field) (size D.field) a, eq-eqb C.co
 pub uuv_fine : (C D : Matrix) → size C.field ≡ size D.field → C.columns ≡ D.columns → 1 ≤ C.columns → C.columns + D.columns ≤ 255 → first_refusal (uuv_refusals C D) ≡ None
 unfolding first_refusal refuse_if bad_length fields_differ lengths_differ uuv_refusals
 uuv_fine C D a e l b = rw (eq-eqb (size C.field) (size D.field) a, eq-eqb C.columns D.columns e, short_length (C.columns + D.columns) (omega (arith, l)) b) refl
+
+pub ruleset check_extended_laws = (extended_too_long, extended_fine)
+
+pub ruleset check_even_weight_laws = (two_elements, even_not_binary, even_binary)
+
+pub ruleset check_direct_product_laws = (same_field, product_of_fields, product_too_long, product_fine, product_least)
+
+pub ruleset product_laws = (product_least, product_most)
+
+pub ruleset check_intersection_laws = (same_field, common_of_fields, common_of_lengths, common_fine)
+
+pub ruleset check_deleted_laws = (deleted_bad, deleted_good, deleted_count)
+
+pub ruleset is_rising_laws = (rising_all, rising_not)
+
+pub ruleset check_direct_sum_laws = (same_field, sum_of_fields, sum_too_long, sum_fine)
+
+pub ruleset check_uuv_laws = (same_field, uuv_of_fields, uuv_of_lengths, uuv_too_long, uuv_fine)

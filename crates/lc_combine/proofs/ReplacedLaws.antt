@@ -219,3 +219,11 @@ rows_more C D s i ws new l p h =
 
 pub rows_whole : (C D : Matrix) (s i : ℕ) (ws : List (List ℕ)) → i ≡ length C.rows → AreReplaced C D (outer_rows C.field s (take i C.rows)) ws → AreReplaced C D (outer_rows C.field s C.rows) ws
 rows_whole C D s i ws e p = subst (λ r. AreReplaced C D (outer_rows C.field s r) ws) (take_all i C.rows (omega (arith, e))) p
+
+pub ruleset replaced_rows_laws = (rows_none, rows_more, rows_whole)
+
+pub ruleset push_multiples_laws = (multiples_none, multiples_more, power_none, power_more)
+
+pub ruleset replaced_word_laws = (word_none, word_more, word_whole)
+
+pub ruleset expansion_laws = (subfield_of_degree, expansion_found)

@@ -135,3 +135,5 @@ pub uuv_code : (C D E : Matrix) (g : FieldName) (n : ℕ) (rows : List (List ℕ
 uuv_code C D E g n rows k h r s a b e c =
     let l : n ≡ C.columns + C.columns = omega (arith, h, b) in
     subst (λ m. IsCode C.field (C.columns + m) (InUuv C D) E) h (generated_by C.field g (C.columns + C.columns) n (uuv_rows C D) rows (InUuv C D) E a l e (λ w _. uuv_members C D w k h r s) c)
+
+pub ruleset code_of_sum_laws = (direct_sum_words, direct_sum_code)

@@ -23,7 +23,7 @@ use std::alloc::Global;
 ///
 /// Refused in this order: the size of the outer field isn't a power of the size of the inner one, FieldsDiffer; the dimension of
 /// the inner code isn't the exponent, InnerDimension of both; the product of the lengths is above 255, BadLength.
-#[tactic(auto, using(lc_constructions::proofs::RefusalLaws::refuses_first, lc_constructions::proofs::RefusalLaws::refuses_nothing))]
+#[tactic(auto, using(lc_constructions::proofs::RefusalLaws::refused_or_not))]
 pub fn concatenated(alloc: Global, outer: &Code, inner: &Code) -> Result<Code, CodeRefusal>
     ensures code { IfOk result (λ c. IsCode inner.now.field (outer.now.columns * inner.now.columns) (InConcatenated outer.now inner.now) c) }
     ensures refused { IsRefusedAs result (first_refusal (concatenated_refusals outer.now inner.now)) }
@@ -47,7 +47,7 @@ fn replaced_words(alloc: Global, outer: &Code, inner: &Code) -> Result<Code, NoM
 }
 
 // The replaced words of all multiples of the outer rows by the powers of the primitive element.
-#[tactic(auto, using(crate::proofs::ReplacedLaws::rows_none, crate::proofs::ReplacedLaws::rows_more, crate::proofs::ReplacedLaws::rows_whole))]
+#[tactic(auto, using(crate::proofs::ReplacedLaws::replaced_rows_laws))]
 fn replaced_rows(alloc: Global, outer: &Code, inner: &Code) -> Result<Vec<Word>, NoMemory>
     requires degree { degree_over (size inner.now.field) (size outer.now.field) ≡ Some (length inner.now.rows) }
     ensures are { IfOk result (λ rows. AreReplaced outer.now inner.now (outer_rows outer.now.field (length inner.now.rows) outer.now.rows) rows.items) }
@@ -60,7 +60,7 @@ fn replaced_rows(alloc: Global, outer: &Code, inner: &Code) -> Result<Vec<Word>,
 }
 
 // Pushes the replaced words of the multiples of row i.
-#[tactic(auto, using(crate::proofs::ReplacedLaws::multiples_none, crate::proofs::ReplacedLaws::multiples_more, crate::proofs::ReplacedLaws::power_none, crate::proofs::ReplacedLaws::power_more))]
+#[tactic(auto, using(crate::proofs::ReplacedLaws::push_multiples_laws))]
 fn push_multiples(
     alloc: Global,
     outer: &Code,
@@ -82,7 +82,7 @@ fn push_multiples(
 }
 
 // The word with each symbol replaced.
-#[tactic(auto, using(crate::proofs::ReplacedLaws::word_none, crate::proofs::ReplacedLaws::word_more, crate::proofs::ReplacedLaws::word_whole))]
+#[tactic(auto, using(crate::proofs::ReplacedLaws::replaced_word_laws))]
 fn replaced_word(alloc: Global, outer: &Code, inner: &Code, word: &[u8]) -> Result<Word, NoMemory>
     requires degree { degree_over (size inner.now.field) (size outer.now.field) ≡ Some (length inner.now.rows) }
     requires word { Fits outer.now.field word.now }
@@ -109,7 +109,7 @@ fn replaced(alloc: Global, outer: &Code, inner: &Code, a: u8) -> Result<Vec<u8>,
 }
 
 // The number whose s digits, to the base of the smaller size, are the coefficients of the element.
-#[tactic(auto, using(crate::proofs::ReplacedLaws::subfield_of_degree, crate::proofs::ReplacedLaws::expansion_found))]
+#[tactic(auto, using(crate::proofs::ReplacedLaws::expansion_laws))]
 fn expansion(outer: &Field, inner: &Field, s: usize, a: u8) -> u16
     requires degree { degree_over (size inner.now) (size outer.now) ≡ Some s }
     requires symbol { IsTrue (is_symbol outer.now) }

@@ -16,7 +16,7 @@ use std::alloc::Global;
 /// (MacWilliams and Sloane, chapter 1; GUAVA manual, `PuncturedCode`).
 ///
 /// Refused: the coordinates aren't strictly rising, one of them is the length or more, or they are all coordinates, BadPositions.
-#[tactic(auto, using(lc_constructions::proofs::RefusalLaws::refuses_first, lc_constructions::proofs::RefusalLaws::refuses_nothing))]
+#[tactic(auto, using(lc_constructions::proofs::RefusalLaws::refused_or_not))]
 pub fn punctured(alloc: Global, code: &Code, places: &[u64]) -> Result<Code, CodeRefusal>
     ensures code { IfOk result (λ c. IsCode code.now.field (code.now.columns - length places.now) (InPunctured code.now places.now) c) }
     ensures refused { IsRefusedAs result (first_refusal (deleted_refusals code.now places.now)) }
@@ -41,7 +41,7 @@ fn punctured_words(alloc: Global, code: &Code, places: &[u64]) -> Result<Code, N
 /// (MacWilliams and Sloane, chapter 1; GUAVA manual, `ShortenedCode`).
 ///
 /// Refused: the coordinates aren't strictly rising, one of them is the length or more, or they are all coordinates, BadPositions.
-#[tactic(auto, using(lc_constructions::proofs::RefusalLaws::refuses_first, lc_constructions::proofs::RefusalLaws::refuses_nothing))]
+#[tactic(auto, using(lc_constructions::proofs::RefusalLaws::refused_or_not))]
 pub fn shortened(alloc: Global, code: &Code, places: &[u64]) -> Result<Code, CodeRefusal>
     ensures code { IfOk result (λ c. IsCode code.now.field (code.now.columns - length places.now) (InShortened code.now places.now) c) }
     ensures refused { IsRefusedAs result (first_refusal (deleted_refusals code.now places.now)) }
@@ -88,7 +88,7 @@ fn without(alloc: Global, word: &[u8], places: &[u64]) -> Result<Word, NoMemory>
 }
 
 // Takes symbol i, if it isn't at one of these coordinates.
-#[tactic(auto, using(crate::proofs::DeletedLaws::symbol_left, crate::proofs::DeletedLaws::symbol_kept))]
+#[tactic(auto, using(crate::proofs::DeletedLaws::keep_laws))]
 fn keep(word: &[u8], places: &[u64], i: usize, symbols: &mut Vec<u8>) -> Result<(), NoMemory>
     requires inside { i < length word.now }
     requires state { symbols.old.items ≡ without places.now (take i word.now) }

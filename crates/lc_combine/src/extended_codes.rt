@@ -18,7 +18,7 @@ use std::alloc::Global;
 /// (MacWilliams and Sloane, chapter 1; GUAVA manual, `ExtendedCode`).
 ///
 /// Refused: the length of the code is 255, BadLength.
-#[tactic(auto, using(lc_constructions::proofs::RefusalLaws::refuses_first, lc_constructions::proofs::RefusalLaws::refuses_nothing))]
+#[tactic(auto, using(lc_constructions::proofs::RefusalLaws::refused_or_not))]
 pub fn extended(alloc: Global, code: &Code) -> Result<Code, CodeRefusal>
     ensures code { IfOk result (λ c. IsCode code.now.field (code.now.columns + 1) (InExtended code.now) c) }
     ensures refused { IsRefusedAs result (first_refusal (extended_refusals code.now)) }
@@ -28,7 +28,7 @@ pub fn extended(alloc: Global, code: &Code) -> Result<Code, CodeRefusal>
     Ok(extended_words(alloc, code)?)
 }
 
-#[tactic(auto, using(crate::proofs::ExtendedLaws::extended_words, crate::proofs::ExtendedLaws::extended_code))]
+#[tactic(auto, using(crate::proofs::ExtendedLaws::extended_words_laws))]
 fn extended_words(alloc: Global, code: &Code) -> Result<Code, NoMemory>
     requires most { code.now.columns < longest }
     ensures code { IfOk result (λ c. IsCode code.now.field (code.now.columns + 1) (InExtended code.now) c) }
@@ -55,7 +55,7 @@ fn extended_rows(alloc: Global, code: &Code) -> Result<Vec<Word>, NoMemory>
 }
 
 // Minus the sum of the symbols.
-#[tactic(auto, using(crate::proofs::ExtendedLaws::sum_none, crate::proofs::ExtendedLaws::sum_more, crate::proofs::ExtendedLaws::sum_all, lc_algebra::proofs::FieldLaws::zero_inside))]
+#[tactic(auto, using(crate::proofs::ExtendedLaws::last_symbol_laws))]
 fn last_symbol(field: &Field, word: &[u8]) -> u8
     requires word { Fits field.now word.now }
     ensures is { result ≡ neg field.now (symbol_sum field.now word.now) }

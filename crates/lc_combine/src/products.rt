@@ -18,7 +18,7 @@ use std::alloc::Global;
 /// u is a word of `a` and v one of `b` (MacWilliams and Sloane, chapter 18; GUAVA manual, `DirectProductCode`).
 ///
 /// Refused in this order: the fields differ, FieldsDiffer; the product of the lengths is above 255, BadLength.
-#[tactic(auto, using(lc_constructions::proofs::RefusalLaws::refuses_first, lc_constructions::proofs::RefusalLaws::refuses_nothing))]
+#[tactic(auto, using(lc_constructions::proofs::RefusalLaws::refused_or_not))]
 pub fn direct_product(alloc: Global, a: &Code, b: &Code) -> Result<Code, CodeRefusal>
     ensures code { IfOk result (λ c. IsCode a.now.field (a.now.columns * b.now.columns) (InDirectProduct a.now b.now) c) }
     ensures refused { IsRefusedAs result (first_refusal (direct_product_refusals a.now b.now)) }
@@ -71,7 +71,7 @@ fn push_products(
 }
 
 // The word of all products of a symbol of the first word and one of the second.
-#[tactic(auto, using(crate::proofs::ProductLaws::tensor_none, crate::proofs::ProductLaws::tensor_more))]
+#[tactic(auto, using(crate::proofs::ProductLaws::tensor_laws))]
 fn tensor(alloc: Global, field: &Field, first: &[u8], second: &[u8]) -> Result<Word, NoMemory>
     requires first { Fits field.now first.now }
     requires second { Fits field.now second.now }
@@ -85,7 +85,7 @@ fn tensor(alloc: Global, field: &Field, first: &[u8], second: &[u8]) -> Result<W
 }
 
 // Pushes c times the word.
-#[tactic(auto, using(crate::proofs::ProductLaws::multiple_none, crate::proofs::ProductLaws::multiple_more))]
+#[tactic(auto, using(crate::proofs::ProductLaws::push_multiple_laws))]
 pub(crate) fn push_multiple(
     field: &Field,
     c: u8,

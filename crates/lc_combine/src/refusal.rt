@@ -10,7 +10,7 @@ ghost use Rattle.lc_constructions.specs.Refusals.{is_rising, extended_refusals, 
 use lc_code::{Code, CodeRefusal};
 
 // Checks a code that gets a further symbol.
-#[tactic(auto, using(crate::proofs::RefusalLaws::extended_too_long, crate::proofs::RefusalLaws::extended_fine))]
+#[tactic(auto, using(crate::proofs::RefusalLaws::check_extended_laws))]
 pub(crate) fn check_extended(code: &Code) -> Result<(), CodeRefusal>
     ensures is { IsChecked result (first_refusal (extended_refusals code.now)) }
     ensures most { IfOk result (λ _. code.now.columns < longest) }
@@ -22,7 +22,7 @@ pub(crate) fn check_extended(code: &Code) -> Result<(), CodeRefusal>
 }
 
 // Checks a code whose words of even weight are asked for.
-#[tactic(auto, using(crate::proofs::RefusalLaws::two_elements, crate::proofs::RefusalLaws::even_not_binary, crate::proofs::RefusalLaws::even_binary))]
+#[tactic(auto, using(crate::proofs::RefusalLaws::check_even_weight_laws))]
 pub(crate) fn check_even_weight(code: &Code) -> Result<(), CodeRefusal>
     ensures is { IsChecked result (first_refusal (even_weight_refusals code.now)) }
     ensures binary { IfOk result (λ _. code.now.field ≡ Gf2) }
@@ -34,7 +34,7 @@ pub(crate) fn check_even_weight(code: &Code) -> Result<(), CodeRefusal>
 }
 
 // Checks two codes that are multiplied.
-#[tactic(auto, using(crate::proofs::RefusalLaws::same_field, crate::proofs::RefusalLaws::product_of_fields, crate::proofs::RefusalLaws::product_too_long, crate::proofs::RefusalLaws::product_fine, crate::proofs::RefusalLaws::product_least))]
+#[tactic(auto, using(crate::proofs::RefusalLaws::check_direct_product_laws))]
 pub(crate) fn check_direct_product(a: &Code, b: &Code) -> Result<(), CodeRefusal>
     ensures is { IsChecked result (first_refusal (direct_product_refusals a.now b.now)) }
     ensures field { IfOk result (λ _. a.now.field ≡ b.now.field) }
@@ -51,7 +51,7 @@ pub(crate) fn check_direct_product(a: &Code, b: &Code) -> Result<(), CodeRefusal
 }
 
 // The product of two lengths.
-#[tactic(auto, using(crate::proofs::RefusalLaws::product_least, crate::proofs::RefusalLaws::product_most))]
+#[tactic(auto, using(crate::proofs::RefusalLaws::product_laws))]
 fn product(n: usize, m: usize) -> usize
     requires first_least { 1 ≤ n }
     requires first { n ≤ longest }
@@ -64,7 +64,7 @@ fn product(n: usize, m: usize) -> usize
 }
 
 // Checks two codes for their common words.
-#[tactic(auto, using(crate::proofs::RefusalLaws::same_field, crate::proofs::RefusalLaws::common_of_fields, crate::proofs::RefusalLaws::common_of_lengths, crate::proofs::RefusalLaws::common_fine))]
+#[tactic(auto, using(crate::proofs::RefusalLaws::check_intersection_laws))]
 pub(crate) fn check_intersection(a: &Code, b: &Code) -> Result<(), CodeRefusal>
     ensures is { IsChecked result (first_refusal (intersection_refusals a.now b.now)) }
     ensures field { IfOk result (λ _. a.now.field ≡ b.now.field) }
@@ -80,7 +80,7 @@ pub(crate) fn check_intersection(a: &Code, b: &Code) -> Result<(), CodeRefusal>
 }
 
 // Checks the coordinates to be deleted from the words of a code.
-#[tactic(auto, using(crate::proofs::RefusalLaws::deleted_bad, crate::proofs::RefusalLaws::deleted_good, crate::proofs::RefusalLaws::deleted_count))]
+#[tactic(auto, using(crate::proofs::RefusalLaws::check_deleted_laws))]
 pub(crate) fn check_deleted(code: &Code, places: &[u64]) -> Result<(), CodeRefusal>
     ensures is { IsChecked result (first_refusal (deleted_refusals code.now places.now)) }
     ensures count { IfOk result (λ _. length places.now < code.now.columns) }
@@ -108,7 +108,7 @@ fn leave(places: &[u64], n: usize) -> bool
 }
 
 // Whether each coordinate is below the next one.
-#[tactic(auto, using(crate::proofs::RefusalLaws::rising_all, crate::proofs::RefusalLaws::rising_not))]
+#[tactic(auto, using(crate::proofs::RefusalLaws::is_rising_laws))]
 fn is_rising(places: &[u64]) -> bool
     ensures is { result ≡ is_rising places.now }
 {
@@ -121,7 +121,7 @@ fn is_rising(places: &[u64]) -> bool
 }
 
 // Checks two codes that follow each other.
-#[tactic(auto, using(crate::proofs::RefusalLaws::same_field, crate::proofs::RefusalLaws::sum_of_fields, crate::proofs::RefusalLaws::sum_too_long, crate::proofs::RefusalLaws::sum_fine))]
+#[tactic(auto, using(crate::proofs::RefusalLaws::check_direct_sum_laws))]
 pub(crate) fn check_direct_sum(a: &Code, b: &Code) -> Result<(), CodeRefusal>
     ensures is { IsChecked result (first_refusal (direct_sum_refusals a.now b.now)) }
     ensures field { IfOk result (λ _. a.now.field ≡ b.now.field) }
@@ -137,7 +137,7 @@ pub(crate) fn check_direct_sum(a: &Code, b: &Code) -> Result<(), CodeRefusal>
 }
 
 // Checks two codes for the words u followed by u + v.
-#[tactic(auto, using(crate::proofs::RefusalLaws::same_field, crate::proofs::RefusalLaws::uuv_of_fields, crate::proofs::RefusalLaws::uuv_of_lengths, crate::proofs::RefusalLaws::uuv_too_long, crate::proofs::RefusalLaws::uuv_fine))]
+#[tactic(auto, using(crate::proofs::RefusalLaws::check_uuv_laws))]
 pub(crate) fn check_uuv(a: &Code, b: &Code) -> Result<(), CodeRefusal>
     ensures is { IsChecked result (first_refusal (uuv_refusals a.now b.now)) }
     ensures field { IfOk result (λ _. a.now.field ≡ b.now.field) }
@@ -171,7 +171,7 @@ pub(crate) fn check_concatenated(outer: &Code, inner: &Code) -> Result<(), CodeR
 }
 
 // Checks an outer and an inner code whose fields have q^s and q elements.
-#[tactic(auto, using(crate::proofs::NestedLaws::other_dimension, crate::proofs::NestedLaws::nested_too_long, crate::proofs::NestedLaws::nested_fine))]
+#[tactic(auto, using(crate::proofs::NestedLaws::check_nested_laws))]
 fn check_nested(outer: &Code, inner: &Code, s: usize) -> Result<(), CodeRefusal>
     requires degree { degree_over (size inner.now.field) (size outer.now.field) ≡ Some s }
     ensures is { IsChecked result (first_refusal (concatenated_refusals outer.now inner.now)) }
@@ -189,7 +189,7 @@ fn check_nested(outer: &Code, inner: &Code, s: usize) -> Result<(), CodeRefusal>
 }
 
 // The exponent s from 1 to 8 for which q^s is the size.
-#[tactic(auto, using(crate::proofs::NestedLaws::power_first, crate::proofs::NestedLaws::power_next, crate::proofs::NestedLaws::power_most, crate::proofs::NestedLaws::none_more, crate::proofs::NestedLaws::degree_at, crate::proofs::NestedLaws::degree_none))]
+#[tactic(auto, using(crate::proofs::NestedLaws::degree_over_laws))]
 fn degree_over(q: u64, size: u64) -> Option<usize>
     requires most { q ≤ 16 }
     ensures is { result ≡ degree_over q size }

@@ -15,7 +15,7 @@ use std::alloc::Global;
 /// The words of even weight of a binary code (MacWilliams and Sloane, chapter 1; GUAVA manual, `EvenWeightSubcode`).
 ///
 /// Refused: the field hasn't 2 elements, BadArgument(1).
-#[tactic(auto, using(lc_constructions::proofs::RefusalLaws::refuses_first, lc_constructions::proofs::RefusalLaws::refuses_nothing))]
+#[tactic(auto, using(lc_constructions::proofs::RefusalLaws::refused_or_not))]
 pub fn even_weight(alloc: Global, code: &Code) -> Result<Code, CodeRefusal>
     ensures code { IfOk result (λ c. IsCode code.now.field code.now.columns (InEvenWeight code.now) c) }
     ensures refused { IsRefusedAs result (first_refusal (even_weight_refusals code.now)) }
@@ -49,7 +49,7 @@ fn even_checks(alloc: Global, dual: &Code) -> Result<Vec<Word>, NoMemory>
 /// The words of both codes (MacWilliams and Sloane, chapter 1; GUAVA manual, `IntersectionCode`).
 ///
 /// Refused in this order: the fields differ, FieldsDiffer; the lengths differ, LengthsDiffer.
-#[tactic(auto, using(lc_constructions::proofs::RefusalLaws::refuses_first, lc_constructions::proofs::RefusalLaws::refuses_nothing))]
+#[tactic(auto, using(lc_constructions::proofs::RefusalLaws::refused_or_not))]
 pub fn intersection(alloc: Global, a: &Code, b: &Code) -> Result<Code, CodeRefusal>
     ensures code { IfOk result (λ c. IsCode a.now.field a.now.columns (InIntersection a.now b.now) c) }
     ensures refused { IsRefusedAs result (first_refusal (intersection_refusals a.now b.now)) }

@@ -16,7 +16,7 @@ use std::alloc::Global;
 /// manual, `DirectSumCode`).
 ///
 /// Refused in this order: the fields differ, FieldsDiffer; the lengths add up to more than 255, BadLength.
-#[tactic(auto, using(lc_constructions::proofs::RefusalLaws::refuses_first, lc_constructions::proofs::RefusalLaws::refuses_nothing))]
+#[tactic(auto, using(lc_constructions::proofs::RefusalLaws::refused_or_not))]
 pub fn direct_sum(alloc: Global, a: &Code, b: &Code) -> Result<Code, CodeRefusal>
     ensures code { IfOk result (λ c. IsCode a.now.field (a.now.columns + b.now.columns) (InDirectSum a.now b.now) c) }
     ensures refused { IsRefusedAs result (first_refusal (direct_sum_refusals a.now b.now)) }
@@ -26,7 +26,7 @@ pub fn direct_sum(alloc: Global, a: &Code, b: &Code) -> Result<Code, CodeRefusal
     Ok(code_of_sum(alloc, a, b)?)
 }
 
-#[tactic(auto, using(crate::proofs::SumLaws::direct_sum_words, crate::proofs::SumLaws::direct_sum_code))]
+#[tactic(auto, using(crate::proofs::SumLaws::code_of_sum_laws))]
 fn code_of_sum(alloc: Global, a: &Code, b: &Code) -> Result<Code, NoMemory>
     requires field { a.now.field ≡ b.now.field }
     requires most { a.now.columns + b.now.columns ≤ longest }
@@ -53,7 +53,7 @@ fn sum_rows(alloc: Global, a: &Code, b: &Code) -> Result<Vec<Word>, NoMemory>
 ///
 /// Refused in this order: the fields differ, FieldsDiffer; the lengths differ, LengthsDiffer; twice the length is above 255,
 /// BadLength.
-#[tactic(auto, using(lc_constructions::proofs::RefusalLaws::refuses_first, lc_constructions::proofs::RefusalLaws::refuses_nothing))]
+#[tactic(auto, using(lc_constructions::proofs::RefusalLaws::refused_or_not))]
 pub fn uuv(alloc: Global, a: &Code, b: &Code) -> Result<Code, CodeRefusal>
     ensures code { IfOk result (λ c. IsCode a.now.field (a.now.columns + b.now.columns) (InUuv a.now b.now) c) }
     ensures refused { IsRefusedAs result (first_refusal (uuv_refusals a.now b.now)) }

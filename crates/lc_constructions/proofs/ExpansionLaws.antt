@@ -115,3 +115,5 @@ expansion_exists small large s a t e l =
     let h = and_parts (all_distinct (map (value_of small large) us)) (list_all (λ a. list_any (λ cs. a == value_of small large cs) us) (below (size large))) (passed small large s t e) in
     let (cs, c, k) = any_contains (λ cs. a == value_of small large cs) us (passes (λ a. list_any (λ cs. a == value_of small large cs) us) (below (size large)) a h.1 (below_contains (size large) a l)) in
     (cs, word_of_list small s cs c, eqb-true a (value_of small large cs) k)
+
+pub ruleset expansion_is_unique_laws = (expansion_once, expansion_exists)

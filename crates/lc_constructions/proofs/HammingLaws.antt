@@ -67,3 +67,5 @@ pub columns_step : (q r : ℕ) → 1 < q → hamming_columns q (suc r) ≡ map (
 columns_step q r l =
     let e : suc (suc (q - 2)) ≡ q = omega (arith, l) in
     subst (λ k. hamming_columns k (suc r) ≡ map (λ u. 0 ∷ u) (hamming_columns k r) ++ map (λ u. 1 ∷ u) (all_lists k r)) e (step_above (q - 2) r)
+
+pub ruleset hamming_columns_one_more_laws = (columns_none, columns_step)

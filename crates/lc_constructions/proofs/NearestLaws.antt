@@ -184,3 +184,5 @@ decoded_once C form x (Some u) (Some v) h k = ap (λ (w : List ℕ). Some w) (k.
 pub goppa_form_is_the_code : (f K : FieldName) (g points w : List ℕ) → IsGoppaWord f K g points w ↔ IsAlternantWord f (goppa_form K g points) w
 unfolding goppa_sum goppa_form syndrome_at
 goppa_form_is_the_code f K g points w = ((λ h. h), (λ h. h))
+
+pub ruleset decoding_has_one_answer_laws = (nearest_exists, nearest_once, decoded_once)

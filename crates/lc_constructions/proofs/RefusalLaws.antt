@@ -1,6 +1,7 @@
 -- How results of constructors answer refusals.
 --   refused_here, refused_later      the first refusal of a list whose first entry is a test
 --   refuses_first, refuses_nothing   the result is the refusal; there is no refusal
+--   refused_or_not                   both of these
 --   refused_exactly                  an error other than NoMemory is the result exactly if it is the refusal
 --   decided                          a test is another one that decides the same
 --   elements_fit, fits_elements, elements_told      the test for elements of a field decides whether a word fits it
@@ -52,3 +53,5 @@ fits_elements f xs h =
 
 pub elements_told : (f : FieldName) (xs : List ℕ) (b : Bool) → IsTrue b ↔ Fits f xs → b ≡ are_elements f xs
 elements_told f xs b h = decided b (are_elements f xs) (Fits f xs) h (elements_fit f xs) (fits_elements f xs)
+
+pub ruleset refused_or_not = (refuses_first, refuses_nothing)

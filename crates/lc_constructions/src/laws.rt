@@ -27,7 +27,7 @@ use lc_algebra::FieldName;
 
 /// Each received word of the code's length has exactly one nearest word, and decoding within half of an alternant form's checks
 /// has at most one answer. (MacWilliams and Sloane, chapter 1.)
-#[tactic(auto, using(crate::proofs::NearestLaws::nearest_exists, crate::proofs::NearestLaws::nearest_once, crate::proofs::NearestLaws::decoded_once))]
+#[tactic(auto, using(crate::proofs::NearestLaws::decoding_has_one_answer_laws))]
 pub fn decoding_has_one_answer()
     ensures some_nearest { (C : Matrix) (x : List ℕ) → AreRows C.field C.columns C.rows → length x ≡ C.columns → (w : List ℕ) × IsNearest C x w }
     ensures one_nearest { (C : Matrix) (x u v : List ℕ) → AreRows C.field C.columns C.rows → IsWord C.field C.columns x → IsNearest C x u → IsNearest C x v → u ≡ v }
@@ -103,7 +103,7 @@ pub fn goppa_codes_by_fractions(field: FieldName, locator: FieldName)
 
 /// Each element of a symbol field of q^s elements is written over the field of q elements in exactly one way: as the sum of
 /// c_i γ^i, i below s. (MacWilliams and Sloane, chapter 10.)
-#[tactic(auto, using(crate::proofs::ExpansionLaws::expansion_once, crate::proofs::ExpansionLaws::expansion_exists))]
+#[tactic(auto, using(crate::proofs::ExpansionLaws::expansion_is_unique_laws))]
 pub fn expansion_is_unique(small: FieldName, large: FieldName)
     ensures one { (s a : ℕ) (cs ds : List ℕ) → IsTrue (is_symbol large) → degree_over (size small) (size large) ≡ Some s → IsWord small s cs → IsWord small s ds → IsExpansion small large a cs → IsExpansion small large a ds → cs ≡ ds }
     ensures some { (s a : ℕ) → IsTrue (is_symbol large) → degree_over (size small) (size large) ≡ Some s → a < size large → (cs : List ℕ) × IsWord small s cs × IsExpansion small large a cs }
@@ -111,7 +111,7 @@ pub fn expansion_is_unique(small: FieldName, large: FieldName)
 
 /// The check columns of a Hamming code with one more check: those that begin with 0 go on with a column, those that begin with 1
 /// go on with any list. (MacWilliams and Sloane, chapter 1.)
-#[tactic(auto, using(crate::proofs::HammingLaws::columns_none, crate::proofs::HammingLaws::columns_step))]
+#[tactic(auto, using(crate::proofs::HammingLaws::hamming_columns_one_more_laws))]
 pub fn hamming_columns_one_more()
     ensures none { (q : ℕ) → hamming_columns q 0 ≡ [] }
     ensures more { (q r : ℕ) → 1 < q → hamming_columns q (suc r) ≡ map (λ u. 0 ∷ u) (hamming_columns q r) ++ map (λ u. 1 ∷ u) (all_lists q r) }

@@ -165,3 +165,5 @@ zeros_modulo f K n b d w l e m =
 pub whole_code : (f K : FieldName) (n b d : ℕ) (C : Matrix) → 1 ≤ n → IsLocatorField f n K → IsCode f n (IsBchWord f K n (b % n) d) C → IsCode f n (IsBchWord f K n b d) C
 whole_code f K n b d C l h c =
     same_code f n (IsBchWord f K n (b % n) d) (IsBchWord f K n b d) C (λ w k. zeros_modulo f K n b d w l (root_in_locator f K n h) k.long) c
+
+pub ruleset check_bch_laws = (bch_refused_large, bch_refused_length, bch_refused_root, bch_refused_delta, bch_accepted)

@@ -326,3 +326,5 @@ check_dimension f n x C l p (g, q, d) c =
     let (a, b, e) = divisor_degrees f n g x l q p d in
     let m : length C.rows ≡ n - (length g - 1) = generator_dimension f n g C l q (cofactor_divides f n g x p d) ((same_cyclic_code f n g x C l q p d).1 c) in
     omega (arith, m, a, b, e)
+
+pub ruleset shifts_laws = (shifts_none, shifts_more)

@@ -54,3 +54,5 @@ unfolding first_refusal refuse_if
 cyclic_fine f x n b d s l e z k says t =
     let m : d ≡ true = cyclic_divides f x n b d says t ∙ k in
     refused_last f x n d s l e (ne_eqb (length (trimmed x)) 0 z) ∙ ap (λ y. first_refusal (refuse_if (not y) NotADivisor ∷ [])) m
+
+pub ruleset check_cyclic_laws = (cyclic_large, cyclic_length, cyclic_entries, cyclic_zero, no_divisor, cyclic_fine)

@@ -15,6 +15,7 @@ use Rattle.lc_algebra.proofs.FieldLaws.{zero_inside}
 use Rattle.lc_constructions.specs.Cyclic.{all_fields, locator_field}
 use Rattle.lc_constructions.specs.Refusals.{is_size_of_symbol_field}
 use Rattle.lc_cyclic.specs.Fields.{field_number, holds_root}
+use Rattle.lc_code.proofs.CoordinateSteps.{degree_nonzero}
 
 find_here : (p : FieldName → Bool) (x : FieldName) (xs : List FieldName) → p x ≡ true → find p (x ∷ xs) ≡ Some x
 find_here p x xs e = rw e refl
@@ -113,3 +114,7 @@ by_order p d n r e Q h k =
     let a : (r == p) ≡ true = eq-eqb r p h in
     let b : (e % d == 0) ≡ true = eq-eqb (e % d) 0 k in
     rw (a, b) refl
+
+pub ruleset locator_size_laws = (locator_found, locator_missing)
+
+pub ruleset is_locator_laws = (other_characteristic, other_degree, by_order, degree_nonzero)

@@ -16,7 +16,7 @@ use Rattle.lc_algebra.specs.Word.{Fits}
 use Rattle.lc_algebra.specs.Polynomial.{value_at, trimmed, put_on, poly_product, x_power_minus_one, IsPolynomial, Divides}
 use Rattle.lc_algebra.specs.Embedding.{IsSubfield, embed, IsMinimal}
 use Rattle.lc_algebra.specs.Matrix.{Matrix}
-use Rattle.lc_algebra.proofs.FieldLaws.{add_neg, mul_zero, zero_mul, one_inside}
+use Rattle.lc_algebra.proofs.FieldLaws.{add_neg, mul_zero, zero_mul, one_inside, zero_inside}
 use Rattle.lc_algebra.proofs.PowerLaws.{one_pow, pow_mul}
 use Rattle.lc_algebra.proofs.PolynomialLaws.{fits_product, product_commutes, product_same}
 use Rattle.lc_constructions.specs.Code.{IsCode}
@@ -131,3 +131,5 @@ generator_code f K n b d m x g list C l h e em el G c =
           sym (value_embedded_same f K h.subfield w v (pow K x (b + j)) r.same) ∙ ap (V w) (at (b + j)) ∙ All-contains P es (b + j) s (contains_exponents b (d - 1) j (omega (arith, o, em)))) in
           t.1 (q, qp.fits, λ i. r.same i ∙ same i)),
     )) (subst (λ u. IsCode f n (IsMultipleOf f n u) C) el c)
+
+pub ruleset value_in_laws = (value_none, value_step, zero_inside)

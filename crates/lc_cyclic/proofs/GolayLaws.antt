@@ -94,3 +94,13 @@ binary_dimension C c = generator_dimension Gf2 23 binary_golay_generator C (omeg
 
 pub ternary_dimension : (C : Matrix) → IsCode Gf3 11 (IsMultipleOf Gf3 11 ternary_golay_generator) C → length C.rows ≡ 6
 ternary_dimension C c = generator_dimension Gf3 11 ternary_golay_generator C (omega arith) ternary_generator ternary_divides c
+
+pub ruleset binary_golay_laws = (binary_symbol, binary_polynomial, binary_divisor)
+
+pub ruleset ternary_golay_laws = (ternary_symbol, ternary_polynomial, ternary_divisor)
+
+pub ruleset binary_field_laws = (binary_size, binary_field)
+
+pub ruleset ternary_field_laws = (ternary_size, ternary_field)
+
+pub ruleset dimensions_of_golay_codes_laws = (binary_dimension, ternary_dimension)

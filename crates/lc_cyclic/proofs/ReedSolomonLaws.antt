@@ -95,3 +95,7 @@ own_code f n d C c = subst (λ g. IsCode g n (IsReedSolomonWord g d) C) (sym c.o
 
 pub own_form : (f : FieldName) (n d : ℕ) (P : List ℕ → Type 0) (form kept : AlternantForm) (C : Matrix) → form ≡ bch_form f n 1 d → kept ≡ form → IsCode f n P C → kept ≡ bch_form C.field n 1 d
 own_form f n d P form kept C h k c = k ∙ h ∙ ap (λ g. bch_form g n 1 d) (sym c.over)
+
+pub ruleset check_reed_solomon_laws = (no_field, bad_delta, accepted)
+
+pub ruleset is_length_laws = (too_short, too_long)

@@ -21,7 +21,7 @@ use std::alloc::Global;
 ///
 /// Refused in this order: the field has more than 16 elements, FieldTooLarge; `n` is 0 or above 255, BadLength; there is no locator
 /// field, NoRoot; `d` is below 2 or above n, BadDelta. `b` may be any number.
-#[tactic(auto, using(lc_constructions::proofs::RefusalLaws::refuses_first, lc_constructions::proofs::RefusalLaws::refuses_nothing))]
+#[tactic(auto, using(lc_constructions::proofs::RefusalLaws::refused_or_not))]
 pub fn bch(alloc: Global, n: u64, b: u64, d: u64, field: &Field) -> Result<FormedCode, CodeRefusal>
     ensures code { IfOk result (λ c. IsCode field.now n (IsBchWord field.now c.form.locator n b d) c.code) }
     ensures locator { IfOk result (λ c. IsLocatorField field.now n c.form.locator) }
@@ -63,7 +63,7 @@ fn formed_bch(
 }
 
 // Checks the arguments of a BCH code. Gives the size of its locator field.
-#[tactic(auto, using(crate::proofs::BchLaws::bch_refused_large, crate::proofs::BchLaws::bch_refused_length, crate::proofs::BchLaws::bch_refused_root, crate::proofs::BchLaws::bch_refused_delta, crate::proofs::BchLaws::bch_accepted))]
+#[tactic(auto, using(crate::proofs::BchLaws::check_bch_laws))]
 fn check_bch(field: &Field, n: u64, d: u64) -> Result<u64, CodeRefusal>
     ensures is { IsChecked result (first_refusal (bch_refusals field.now n d)) }
     ensures symbol { IfOk result (λ _. IsTrue (is_symbol field.now)) }

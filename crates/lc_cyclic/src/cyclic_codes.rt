@@ -47,7 +47,7 @@ pub fn check_pol(alloc: Global, list: &[u8], n: u64, field: &Field) -> Result<Co
 }
 
 // Checks the arguments of a cyclic code.
-#[tactic(auto, using(crate::proofs::CyclicRefusals::cyclic_large, crate::proofs::CyclicRefusals::cyclic_length, crate::proofs::CyclicRefusals::cyclic_entries, crate::proofs::CyclicRefusals::cyclic_zero, crate::proofs::CyclicRefusals::no_divisor, crate::proofs::CyclicRefusals::cyclic_fine))]
+#[tactic(auto, using(crate::proofs::CyclicRefusals::check_cyclic_laws))]
 fn check_cyclic(field: &Field, list: &[u8], n: u64) -> Result<(), CodeRefusal>
     ensures is { (divides : Bool) → DividesPowerLess field.now list.now n divides → IsChecked result (first_refusal (cyclic_refusals field.now list.now n divides)) }
     ensures symbol { IfOk result (λ _. IsTrue (is_symbol field.now)) }
@@ -132,7 +132,7 @@ fn cofactor(alloc: Global, field: &Field, list: &[u8], n: usize) -> Result<Poly,
 }
 
 // The shifts of a polynomial that generate its code.
-#[tactic(auto, using(crate::proofs::CyclicLaws::shifts_none, crate::proofs::CyclicLaws::shifts_more))]
+#[tactic(auto, using(crate::proofs::CyclicLaws::shifts_laws))]
 fn shifts(alloc: Global, polynomial: &[u8], n: usize) -> Result<Vec<Word>, NoMemory>
     requires most { n ≤ longest }
     requires room { length polynomial.now ≤ n + 1 }

@@ -58,7 +58,7 @@ fn shape_at(i: usize) -> Shape
 }
 
 // The size of the locator field of a BCH code of length n, if there is one.
-#[tactic(auto, using(crate::proofs::FieldLaws::locator_found, crate::proofs::FieldLaws::locator_missing))]
+#[tactic(auto, using(crate::proofs::FieldLaws::locator_size_laws))]
 pub(crate) fn locator_size(field: &Field, n: u64) -> Option<u64>
     requires least { 1 ≤ n }
     ensures is { result ≡ option_map size (locator_field field.now n) }
@@ -73,7 +73,7 @@ pub(crate) fn locator_size(field: &Field, n: u64) -> Option<u64>
 }
 
 // Whether the field of this shape contains the field and has an element of order n.
-#[tactic(auto, using(lc_code::proofs::CoordinateSteps::degree_nonzero, crate::proofs::FieldLaws::other_characteristic, crate::proofs::FieldLaws::other_degree, crate::proofs::FieldLaws::by_order))]
+#[tactic(auto, using(crate::proofs::FieldLaws::is_locator_laws))]
 fn is_locator(field: &Field, n: u64, shape: &Shape) -> bool
     requires least { 1 ≤ n }
     requires size { 1 ≤ shape.now.size }

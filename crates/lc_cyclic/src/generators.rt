@@ -83,7 +83,7 @@ fn with_zero(
 }
 
 // The value in the locator field of a polynomial over the field, by Horner's rule.
-#[tactic(auto, using(crate::proofs::GeneratorLaws::value_none, crate::proofs::GeneratorLaws::value_step, lc_algebra::proofs::FieldLaws::zero_inside))]
+#[tactic(auto, using(crate::proofs::GeneratorLaws::value_in_laws))]
 fn value_in(field: &Field, locator: &Field, list: &[u8], at: u8) -> u8
     requires list { Fits field.now list.now }
     requires subfield { IsSubfield field.now locator.now }

@@ -13,7 +13,7 @@ use std::alloc::Global;
 
 /// The binary Golay code: the cyclic code of length 23 with the generator polynomial 1 + x^2 + x^4 + x^5 + x^6 + x^10 + x^11. Its
 /// dimension is 12 (MacWilliams and Sloane, chapters 2 and 20; GUAVA manual, `BinaryGolayCode`).
-#[tactic(auto, using(crate::proofs::GolayLaws::binary_symbol, crate::proofs::GolayLaws::binary_polynomial, crate::proofs::GolayLaws::binary_divisor))]
+#[tactic(auto, using(crate::proofs::GolayLaws::binary_golay_laws))]
 pub fn binary_golay(alloc: Global) -> Result<Code, NoMemory>
     ensures code { IfOk result (λ c. IsCode Gf2 23 (IsMultipleOf Gf2 23 binary_golay_generator) c) }
 {
@@ -23,7 +23,7 @@ pub fn binary_golay(alloc: Global) -> Result<Code, NoMemory>
 
 /// The ternary Golay code: the cyclic code of length 11 over 3 elements with the generator polynomial 2 + x^2 + 2 x^3 + x^4 + x^5.
 /// Its dimension is 6 (MacWilliams and Sloane, chapter 20; GUAVA manual, `TernaryGolayCode`).
-#[tactic(auto, using(crate::proofs::GolayLaws::ternary_symbol, crate::proofs::GolayLaws::ternary_polynomial, crate::proofs::GolayLaws::ternary_divisor))]
+#[tactic(auto, using(crate::proofs::GolayLaws::ternary_golay_laws))]
 pub fn ternary_golay(alloc: Global) -> Result<Code, NoMemory>
     ensures code { IfOk result (λ c. IsCode Gf3 11 (IsMultipleOf Gf3 11 ternary_golay_generator) c) }
 {
@@ -32,7 +32,7 @@ pub fn ternary_golay(alloc: Global) -> Result<Code, NoMemory>
 }
 
 // The field of two elements.
-#[tactic(auto, using(crate::proofs::GolayLaws::binary_size, crate::proofs::GolayLaws::binary_field))]
+#[tactic(auto, using(crate::proofs::GolayLaws::binary_field_laws))]
 fn binary_field(alloc: Global) -> Result<Field, NoMemory>
     ensures is { IfOk result (λ f. f ≡ Gf2) }
 {
@@ -41,7 +41,7 @@ fn binary_field(alloc: Global) -> Result<Field, NoMemory>
 }
 
 // The field of three elements.
-#[tactic(auto, using(crate::proofs::GolayLaws::ternary_size, crate::proofs::GolayLaws::ternary_field))]
+#[tactic(auto, using(crate::proofs::GolayLaws::ternary_field_laws))]
 fn ternary_field(alloc: Global) -> Result<Field, NoMemory>
     ensures is { IfOk result (λ f. f ≡ Gf3) }
 {

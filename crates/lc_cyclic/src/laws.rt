@@ -20,7 +20,7 @@ pub fn dimensions_of_cyclic_codes(field: FieldName)
 {}
 
 /// The binary Golay code has dimension 12, the ternary one 6 (MacWilliams and Sloane, chapter 20).
-#[tactic(auto, using(crate::proofs::GolayLaws::binary_dimension, crate::proofs::GolayLaws::ternary_dimension))]
+#[tactic(auto, using(crate::proofs::GolayLaws::dimensions_of_golay_codes_laws))]
 pub fn dimensions_of_golay_codes()
     ensures binary { (C : Matrix) → IsCode Gf2 23 (IsMultipleOf Gf2 23 binary_golay_generator) C → length C.rows ≡ 12 }
     ensures ternary { (C : Matrix) → IsCode Gf3 11 (IsMultipleOf Gf3 11 ternary_golay_generator) C → length C.rows ≡ 6 }

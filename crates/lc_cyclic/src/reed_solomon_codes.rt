@@ -18,7 +18,7 @@ use std::alloc::Global;
 /// `ReedSolomonCode`).
 ///
 /// Refused in this order: no field of at most 16 elements has n + 1 of them, NoFieldOfLength; `d` is 0 or above n, BadDelta.
-#[tactic(auto, using(lc_constructions::proofs::RefusalLaws::refuses_first, lc_constructions::proofs::RefusalLaws::refuses_nothing))]
+#[tactic(auto, using(lc_constructions::proofs::RefusalLaws::refused_or_not))]
 pub fn reed_solomon(alloc: Global, n: u64, d: u64) -> Result<FormedCode, CodeRefusal>
     ensures size { IfOk result (λ c. size c.code.field ≡ n + 1) }
     ensures code { IfOk result (λ c. IsCode c.code.field n (IsReedSolomonWord c.code.field d) c.code) }
@@ -34,7 +34,7 @@ pub fn reed_solomon(alloc: Global, n: u64, d: u64) -> Result<FormedCode, CodeRef
 }
 
 // Checks the arguments of a Reed-Solomon code.
-#[tactic(auto, using(crate::proofs::ReedSolomonLaws::no_field, crate::proofs::ReedSolomonLaws::bad_delta, crate::proofs::ReedSolomonLaws::accepted))]
+#[tactic(auto, using(crate::proofs::ReedSolomonLaws::check_reed_solomon_laws))]
 fn check_reed_solomon(n: u64, d: u64) -> Result<(), CodeRefusal>
     ensures is { IsChecked result (first_refusal (reed_solomon_refusals n d)) }
     ensures there { IfOk result (λ _. IsTrue (is_size_of_symbol_field (n + 1))) }
@@ -52,7 +52,7 @@ fn check_reed_solomon(n: u64, d: u64) -> Result<(), CodeRefusal>
 }
 
 // Whether some symbol field has n + 1 elements.
-#[tactic(auto, using(crate::proofs::ReedSolomonLaws::too_short, crate::proofs::ReedSolomonLaws::too_long))]
+#[tactic(auto, using(crate::proofs::ReedSolomonLaws::is_length_laws))]
 fn is_length(n: u64) -> bool
     ensures is { result ≡ is_size_of_symbol_field (n + 1) }
     ensures least { IsTrue result → 1 ≤ n }

@@ -233,3 +233,5 @@ misfits_told c es vs kinds s n = misfit_iff (bind c vs) (first_misfit kinds es v
 pub query_misfits_told : (c : QueryCall) (es : Exprs) (vs : List Value) (kinds : List Kind) → signature_for (Query c) (count_of es) ≡ Some kinds → count_of es ≡ length vs → (bind_query c vs ≡ None) ↔ ((place : ℕ) × (first_misfit kinds es vs ≡ Some place))
 unfolding signature_for signatures
 query_misfits_told c es vs kinds s n = misfit_iff (bind_query c vs) (first_misfit kinds es vs) (fits kinds vs) (query_bound_if_fits c vs kinds (ap (λ (m : ℕ). find (λ ks. length ks == m) (query_signatures c)) (sym n) ∙ s)) (misfit_found kinds es vs n)
+
+pub ruleset misfits_are_arguments_laws = (misfits_told, query_misfits_told)

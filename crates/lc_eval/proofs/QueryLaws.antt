@@ -204,3 +204,7 @@ asks_levels place C r h = h
 pub asks_scan : (place : ℕ) (C : Matrix) (r : Result Effect Stop) → AffectsOrFails r (AsksOf by_scan C) → AffectsOrFails r (QueriesTo place (scan_certificate C))
 unfolding query_refusal_of query_refusals_of first_of
 asks_scan place C r h = h
+
+pub ruleset answer_laws = (asks_distance, asks_levels, asks_scan)
+
+pub ruleset nothing_line_laws = (distance_none, levels_none, scan_none)

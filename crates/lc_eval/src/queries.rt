@@ -54,7 +54,7 @@ fn line_of(alloc: Global, code: &Code) -> Result<Vec<u8>, NoMemory>
 }
 
 /// What a query does of its arguments, or its refusal, at this place.
-#[tactic(auto, using(crate::proofs::QueryLaws::asks_distance, crate::proofs::QueryLaws::asks_levels, crate::proofs::QueryLaws::asks_scan))]
+#[tactic(auto, using(crate::proofs::QueryLaws::answer_laws))]
 pub(crate) fn answer(alloc: Global, place: usize, query: BoundQuery<'_>) -> Result<Effect, Stop>
     ensures { AffectsOrFails result (QueriesTo place (bound_query_of query.entry)) }
 {
@@ -68,7 +68,7 @@ pub(crate) fn answer(alloc: Global, place: usize, query: BoundQuery<'_>) -> Resu
 }
 
 // The line of a query on a code of dimension 0.
-#[tactic(auto, using(crate::proofs::QueryLaws::distance_none, crate::proofs::QueryLaws::levels_none, crate::proofs::QueryLaws::scan_none))]
+#[tactic(auto, using(crate::proofs::QueryLaws::nothing_line_laws))]
 fn nothing_line(alloc: Global, kind: QueryKind, _code: &Code) -> Result<Vec<u8>, NoMemory>
     requires { length _code.now.rows ≡ 0 }
     ensures { IfOk result (λ l. l.items ≡ query_line (kind_of kind) _code.now 0) }

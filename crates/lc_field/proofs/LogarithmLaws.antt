@@ -104,3 +104,5 @@ logs_step f logs n place e l c b h =
 pub powers_step : (f : FieldName) (old new : List ℕ) (n power next : ℕ) → length old ≡ n → power ≡ γ f n → ((k : ℕ) → k < n → slice_index old k ≡ γ f k) → new ≡ old ++ power ∷ [] → next ≡ mul f (shape_of f).primitive power → (length new ≡ n + 1) × (next ≡ γ f (n + 1)) × ((k : ℕ) → k < n + 1 → slice_index new k ≡ γ f k)
 powers_step f old new n power next c e h g s =
     (rw (g, length-append old (power ∷ [])) (omega (arith, c)), cc (pow_suc f (shape_of f).primitive n, add-one n), λ k l. rw g (⊎_elim (λ d. let r : slice_index (old ++ power ∷ []) k ≡ power = get_or_push old power 0 k (c ∙ sym d) in cc) (λ d. get_or_append_left old (power ∷ []) 0 k (omega (arith, l, c, d)) ∙ h k (omega (arith, l, d))) (cases_eq k n)))
+
+pub ruleset logs_of_laws = (logs_more, logs_whole, pow_inside)

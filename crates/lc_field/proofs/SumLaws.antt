@@ -12,7 +12,7 @@ use Rattle.lc_algebra.specs.declared.FieldName.TheVariants.{Gf2}
 use Rattle.lc_algebra.specs.Residue.{digits, number, plus, minus}
 use Rattle.lc_algebra.specs.Field.{shape, shape_of, size, coefficients, add, neg, mul}
 use Rattle.lc_algebra.proofs.ResidueLaws.{times_one}
-use Rattle.lc_algebra.proofs.FieldLaws.{residues_coefficients, add_inside, neg_one_mul, one_mul}
+use Rattle.lc_algebra.proofs.FieldLaws.{residues_coefficients, add_inside, neg_one_mul, one_mul, neg_inside}
 use Rattle.lc_field.specs.declared.row.Row.{Row}
 use Rattle.lc_field.specs.Rows.{IsRow}
 use Rattle.lc_field.specs.Tables.{combined}
@@ -76,3 +76,7 @@ neg_even f a e l =
 
 pub xor_below : (f : FieldName) (a b : ℕ) → (shape_of f).characteristic ≡ 2 → a < size f → b < size f → bit_xor a b < size f
 xor_below f a b e l m = rw (xor_add f a b e l m) (add_inside f a b)
+
+pub ruleset add_laws = (xor_add, xor_below, add_inside)
+
+pub ruleset neg_laws = (neg_even, neg_product, neg_inside)

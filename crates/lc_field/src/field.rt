@@ -134,7 +134,7 @@ impl Field {
 
     /// The sum of two elements, each below the size.
     #[inline]
-    #[tactic(auto, using(lc_algebra::proofs::FieldLaws::add_inside, crate::proofs::SumLaws::xor_add, crate::proofs::SumLaws::xor_below))]
+    #[tactic(auto, using(crate::proofs::SumLaws::add_laws))]
     pub fn add(&self, a: u8, b: u8) -> u8
         requires first { a < size self.now }
         requires second { b < size self.now }
@@ -180,7 +180,7 @@ impl Field {
 
     /// The negative of an element below the size.
     #[inline]
-    #[tactic(auto, using(lc_algebra::proofs::FieldLaws::neg_inside, crate::proofs::SumLaws::neg_even, crate::proofs::SumLaws::neg_product))]
+    #[tactic(auto, using(crate::proofs::SumLaws::neg_laws))]
     pub fn neg(&self, a: u8) -> u8
         requires element { a < size self.now }
         ensures is { result ≡ neg self.now a }

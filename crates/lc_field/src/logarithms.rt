@@ -143,7 +143,7 @@ fn powers_of(alloc: Global, row: &Row) -> Result<Vec<u8>, NoMemory>
 }
 
 // At each nonzero element the exponent of the power that it is.
-#[tactic(auto, using(lc_algebra::proofs::PowerLaws::pow_inside, crate::proofs::LogarithmLaws::logs_more, crate::proofs::LogarithmLaws::logs_whole))]
+#[tactic(auto, using(crate::proofs::LogarithmLaws::logs_of_laws))]
 fn logs_of(alloc: Global, row: &Row, powers: &[u8]) -> Result<Vec<u8>, NoMemory>
     requires row { IsRow row.now }
     requires powers { IsPowers row.now.name powers.now }

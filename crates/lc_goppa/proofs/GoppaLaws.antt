@@ -31,6 +31,7 @@ use Rattle.lc_constructions.proofs.NearestLaws.{goppa_form_is_the_code}
 use Rattle.lc_code.proofs.CodeLaws.{same_code}
 use Rattle.lc_goppa.specs.Form.{alternant_form}
 use Rattle.lc_goppa.proofs.PointLaws.{find_none, find_told}
+use Rattle.lc_constructions.proofs.RefusalLaws.{refused_or_not}
 
 value_put_on : (K : FieldName) (a : ℕ) (v : List ℕ) (x : ℕ) → value_at K (put_on a v) x ≡ value_at K (a ∷ v) x
 unfolding put_on value_at
@@ -109,3 +110,7 @@ pub goppa_form_told : (K : FieldName) (g xs ys zs : List ℕ) (r n : ℕ) (form 
 unfolding goppa_form
 goppa_form_told K g xs ys zs r n form e z h k d =
     e ∙ ap (λ u. alternant_form K xs u r) (z ∙ h) ∙ ap (λ m. alternant_form K xs (goppa_multipliers K g xs) m) (d ∙ ap (λ m. m - 1) k)
+
+pub ruleset goppa_laws = (goppa_code, refused_or_not)
+
+pub ruleset multipliers_of_laws = (multipliers_none, multipliers_more, multipliers_whole)

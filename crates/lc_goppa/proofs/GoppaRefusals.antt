@@ -78,3 +78,5 @@ goppa_checked f K g xs result a c d e h i j = subst (IsChecked result) (sym (gop
 pub goppa_accepted : (f K : FieldName) (g xs : List ℕ) (result : Result ⊤ CodeRefusal) → IsTrue (is_symbol f) → IsSubfield f K → is_length (length xs) ≡ true → is_goppa_polynomial K g ≡ true → Fits K g → Fits K xs → AllPairs (λ a b. a ≢ b) xs → IfOk result (λ _. (i : ℕ) → i < length xs → 0 < value_at K g (slice_index xs i)) → IfOk result (λ _. IsGoppaInput f K g xs)
 goppa_accepted f K g xs (Ok x) s t l p h k d n = goppa_input f K g xs s t l p h k d n
 goppa_accepted f K g xs (Err x) s t l p h k d n = tt
+
+pub ruleset check_goppa_laws = (goppa_too_large, goppa_outside, goppa_bad_length, goppa_bad_polynomial, goppa_bad_points, goppa_repeated, goppa_checked, goppa_accepted)

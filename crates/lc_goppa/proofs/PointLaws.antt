@@ -101,3 +101,5 @@ repeated_none xs h =
 pub all_apart : (xs : List ℕ) → ((k i : ℕ) → k < length xs → i < k → slice_index xs i ≢ slice_index xs k) → AllPairs (λ a b. a ≢ b) xs
 all_apart xs h i j d l m e =
     h j i m l (sym (get_or_default xs i d 0 (omega (arith, l, m))) ∙ e ∙ get_or_default xs j d 0 m)
+
+pub ruleset repeated_point_laws = (repeated_told, repeated_none, all_apart)

@@ -81,3 +81,5 @@ form_fine f K xs ys r s t l e p m z d = record {
   multipliers = m;
   nonzero = nonzero_entries ys z;
 }
+
+pub ruleset check_form_laws = (form_too_large, form_outside, form_bad_length, form_uneven, form_bad_count, form_bad_points, form_bad_multipliers, form_repeated, form_fine)

@@ -18,7 +18,7 @@ use std::alloc::Global;
 /// there is no point, or more than 255, BadLength; there are more or fewer multipliers than points, LengthsDiffer; `r` is 0 or above
 /// the number of points, BadArgument(1); a point isn't an element of the locator field, BadArgument(2); a multiplier isn't, or is 0,
 /// BadArgument(3); two points coincide, RepeatedPoint with their indices.
-#[tactic(auto, using(lc_constructions::proofs::RefusalLaws::refuses_first, lc_constructions::proofs::RefusalLaws::refuses_nothing))]
+#[tactic(auto, using(lc_constructions::proofs::RefusalLaws::refused_or_not))]
 pub fn alternant(
     alloc: Global,
     r: u64,

@@ -25,7 +25,7 @@ use std::alloc::Global;
 /// there is no point, or more than 255, BadLength; a coefficient isn't an element of the locator field, or the degree isn't 1 to 255,
 /// BadArgument(1); a point isn't an element of the locator field, BadArgument(2); two points coincide, RepeatedPoint with their indices;
 /// G is 0 at a point, RootAt with its index.
-#[tactic(auto, using(lc_constructions::proofs::RefusalLaws::refuses_first, lc_constructions::proofs::RefusalLaws::refuses_nothing, crate::proofs::GoppaLaws::goppa_code))]
+#[tactic(auto, using(crate::proofs::GoppaLaws::goppa_laws))]
 pub fn goppa(
     alloc: Global,
     list: &[u8],
@@ -45,7 +45,7 @@ pub fn goppa(
 }
 
 // Checks the arguments of a Goppa code.
-#[tactic(auto, using(crate::proofs::GoppaRefusals::goppa_too_large, crate::proofs::GoppaRefusals::goppa_outside, crate::proofs::GoppaRefusals::goppa_bad_length, crate::proofs::GoppaRefusals::goppa_bad_polynomial, crate::proofs::GoppaRefusals::goppa_bad_points, crate::proofs::GoppaRefusals::goppa_repeated, crate::proofs::GoppaRefusals::goppa_checked, crate::proofs::GoppaRefusals::goppa_accepted))]
+#[tactic(auto, using(crate::proofs::GoppaRefusals::check_goppa_laws))]
 fn check_goppa(
     field: &Field,
     locator: &Field,
@@ -109,7 +109,7 @@ fn goppa_form(
 }
 
 // The inverses of the polynomial's values at the points.
-#[tactic(auto, using(crate::proofs::GoppaLaws::multipliers_none, crate::proofs::GoppaLaws::multipliers_more, crate::proofs::GoppaLaws::multipliers_whole))]
+#[tactic(auto, using(crate::proofs::GoppaLaws::multipliers_of_laws))]
 fn multipliers_of(
     alloc: Global,
     locator: &Field,

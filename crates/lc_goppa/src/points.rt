@@ -5,7 +5,7 @@ ghost use Rattle.lc_constructions.specs.Refusals.{first_index, repeated_point};
 use lc_code::CodeRefusal;
 
 // The refusal of the first point that an earlier one is equal to, if there is one.
-#[tactic(auto, using(crate::proofs::PointLaws::repeated_told, crate::proofs::PointLaws::repeated_none, crate::proofs::PointLaws::all_apart))]
+#[tactic(auto, using(crate::proofs::PointLaws::repeated_point_laws))]
 pub(crate) fn repeated_point(points: &[u8]) -> Option<CodeRefusal>
     ensures is { result ≡ repeated_point points.now }
     ensures distinct { IsNone result → AllPairs (λ a b. a ≢ b) points.now }

@@ -47,7 +47,7 @@ fn has_zero(entries: &[u8]) -> bool
 }
 
 // Checks the parts of an alternant form; `bad_count` says whether its number of checks is refused.
-#[tactic(auto, using(crate::proofs::RefusalLaws::form_too_large, crate::proofs::RefusalLaws::form_outside, crate::proofs::RefusalLaws::form_bad_length, crate::proofs::RefusalLaws::form_uneven, crate::proofs::RefusalLaws::form_bad_count, crate::proofs::RefusalLaws::form_bad_points, crate::proofs::RefusalLaws::form_bad_multipliers, crate::proofs::RefusalLaws::form_repeated, crate::proofs::RefusalLaws::form_fine))]
+#[tactic(auto, using(crate::proofs::RefusalLaws::check_form_laws))]
 pub(crate) fn check_form(
     field: &Field,
     locator: &Field,

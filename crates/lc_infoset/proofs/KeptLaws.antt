@@ -149,3 +149,9 @@ pub fresh_few : (C : Matrix) (d j : ℕ) (states : List SetState) (x : SetState)
 fresh_few C d j states x h l =
     let s : IsSetAfter [] (set_at C j) = All-contains (IsSetAfter []) (sets_of C) (set_at C j) (sets_are C).each (set_listed C j l) in
     omega (arith, ap length (fresh_kept C d j states x h l), distinct_at_most (set_at C j).fresh (set_at C j).basis (distinct_from_pairs (set_at C j).fresh s.once) (λ c m. All-contains (Contains (set_at C j).basis) (set_at C j).fresh c s.part m), (generators_are C h.words h.independent j l).0)
+
+pub ruleset count_laws = (count_kept, count_least, count_most)
+
+pub ruleset set_laws = (set_inside, basis_kept, fresh_kept, rows_kept, field_kept, columns_kept, basis_long, basis_inside, fresh_few, rows_long)
+
+pub ruleset divisor_laws = (divisor_some, divisor_small)

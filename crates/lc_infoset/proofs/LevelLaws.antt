@@ -67,3 +67,7 @@ rounded_made d s t r e q =
 
 pub bound_made : (d k : ℕ) (ranks levels : List ℕ) (s r : ℕ) → All (λ w. w < k) levels → s ≡ bound_sum k ranks levels → r ≡ (max s 1 + (d - 1)) / d * d → (weight : ℕ) → bound_of d k ranks levels weight ≡ r
 bound_made d k ranks levels s r h e q weight = bound_is d k ranks levels weight h ∙ sym (rounded_made d s (bound_sum k ranks levels) r e q)
+
+pub ruleset bound_laws = (rounded_made, bound_made)
+
+pub ruleset sum_of_laws = (sum_none, sum_more, sum_whole)

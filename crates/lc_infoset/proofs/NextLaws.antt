@@ -123,3 +123,9 @@ next_state C used order at pivots basis turn fresh e generator h free eo ep eb t
     let turned : AreTurned (filter p (below n)) (picked order at) turn = subst (λ xs. AreTurned (filter p (below n)) xs turn) ep (subst (λ xs. AreTurned xs pivots turn) eb t) in
     let rows : generator.rows ≡ systematic f n C.rows (filter (is_member chosen) (below n)) = gr ∙ turned_generator f n p order at turn C.rows e h turned is ∙ ap (systematic f n C.rows) (sym eb ∙ first) in
     state_same basis (filter (is_member chosen) (below n)) fresh (filter (λ c. not (is_member used c)) (filter (is_member chosen) (below n))) generator (matrix_of f n (systematic f n C.rows (filter (is_member chosen) (below n)))) first (ef ∙ ap (filter (λ c. not (is_member used c))) first) (matrix_same generator f n (systematic f n C.rows (filter (is_member chosen) (below n))) gf gc rows)
+
+pub ruleset next_set_laws = (order_inside, turn_inside, next_state)
+
+pub ruleset push_unused_laws = (filter_none, filter_kept, filter_left)
+
+pub ruleset push_pivot_laws = (filter_more, filter_same, turned_more, member_at)

@@ -13,7 +13,7 @@ impl Sets {
     /// (Brouwer and Zimmermann; Grassl, Searching for linear codes with large minimum distance).
     ///
     /// There is one level for each set, each below k: for a level of k there is no unseen word.
-    #[tactic(auto, using(crate::proofs::LevelLaws::rounded_made, crate::proofs::LevelLaws::bound_made))]
+    #[tactic(auto, using(crate::proofs::LevelLaws::bound_laws))]
     pub fn bound(&self, levels: &[u64]) -> u64
         requires count { length levels.now ≡ set_count self.now }
         requires below { All (λ w. w < length self.now.rows) levels.now }
@@ -26,7 +26,7 @@ impl Sets {
     }
 
     // The sum over the sets of level + 1 - (k - fresh columns), where that is positive.
-    #[tactic(auto, using(crate::proofs::LevelLaws::sum_none, crate::proofs::LevelLaws::sum_more, crate::proofs::LevelLaws::sum_whole))]
+    #[tactic(auto, using(crate::proofs::LevelLaws::sum_of_laws))]
     fn sum_of(&self, levels: &[u64]) -> u64
         requires count { length levels.now ≡ set_count self.now }
         requires below { All (λ w. w < length self.now.rows) levels.now }

@@ -13,7 +13,7 @@ use lc_matrix::Matrix;
 use std::alloc::Global;
 
 // The set of the code after those whose fresh columns are used, with its generator.
-#[tactic(auto, using(crate::proofs::NextLaws::order_inside, crate::proofs::NextLaws::turn_inside, crate::proofs::NextLaws::next_state))]
+#[tactic(auto, using(crate::proofs::NextLaws::next_set_laws))]
 pub(crate) fn next_set(alloc: Global, code: &Matrix, used: &[usize]) -> Result<KeptSet, NoMemory>
     requires independent { AreIndependent code.now.field code.now.columns code.now.rows }
     ensures is { IfOk result (λ s. s ≡ set_state code.now (next_set_of code.now.field code.now.columns code.now.rows used.now)) }
@@ -56,7 +56,7 @@ pub(crate) fn unused_columns(
     Ok(columns)
 }
 
-#[tactic(auto, using(crate::proofs::NextLaws::filter_none, crate::proofs::NextLaws::filter_kept, crate::proofs::NextLaws::filter_left))]
+#[tactic(auto, using(crate::proofs::NextLaws::push_unused_laws))]
 fn push_unused(n: usize, used: &[usize], order: &mut Vec<usize>) -> Result<(), NoMemory>
     ensures are { IfOk result (λ _. order.new.items ≡ order.old.items ++ filter (λ c. not (is_member used.now c)) (below n)) }
 {
@@ -68,7 +68,7 @@ fn push_unused(n: usize, used: &[usize], order: &mut Vec<usize>) -> Result<(), N
     Ok(())
 }
 
-#[tactic(auto, using(crate::proofs::NextLaws::filter_none, crate::proofs::NextLaws::filter_kept, crate::proofs::NextLaws::filter_left))]
+#[tactic(auto, using(crate::proofs::NextLaws::push_unused_laws))]
 fn push_used(n: usize, used: &[usize], order: &mut Vec<usize>) -> Result<(), NoMemory>
     ensures are { IfOk result (λ _. order.new.items ≡ order.old.items ++ filter (is_member used.now) (below n)) }
 {
@@ -114,7 +114,7 @@ fn rising(alloc: Global, n: usize, pivots: &[usize]) -> Result<(Vec<usize>, Vec<
     Ok((columns, turn))
 }
 
-#[tactic(auto, using(crate::proofs::NextLaws::filter_more, crate::proofs::NextLaws::filter_same, crate::proofs::NextLaws::turned_more, crate::proofs::NextLaws::member_at))]
+#[tactic(auto, using(crate::proofs::NextLaws::push_pivot_laws))]
 fn push_pivot(
     pivots: &[usize],
     c: usize,

@@ -107,7 +107,7 @@ impl Sets {
     }
 
     /// The number of sets, 1 to n.
-    #[tactic(auto, using(crate::proofs::KeptLaws::count_kept, crate::proofs::KeptLaws::count_least, crate::proofs::KeptLaws::count_most))]
+    #[tactic(auto, using(crate::proofs::KeptLaws::count_laws))]
     pub fn count(&self) -> usize
         ensures is { result ≡ set_count self.now }
         ensures least { 1 ≤ result }
@@ -147,7 +147,7 @@ impl Sets {
     }
 
     // Set j with its generator.
-    #[tactic(auto, using(crate::proofs::KeptLaws::set_inside, crate::proofs::KeptLaws::basis_kept, crate::proofs::KeptLaws::fresh_kept, crate::proofs::KeptLaws::rows_kept, crate::proofs::KeptLaws::field_kept, crate::proofs::KeptLaws::columns_kept, crate::proofs::KeptLaws::basis_long, crate::proofs::KeptLaws::basis_inside, crate::proofs::KeptLaws::fresh_few, crate::proofs::KeptLaws::rows_long))]
+    #[tactic(auto, using(crate::proofs::KeptLaws::set_laws))]
     fn set(&self, j: usize) -> &KeptSet
         requires set { j < set_count self.now }
         ensures basis { result.now.set.basis ≡ (set_at self.now j).basis }
@@ -165,7 +165,7 @@ impl Sets {
 
     /// The number that divides the weights of the code: over 2 elements 4 if all are divisible by 4, else 2 if all are even;
     /// over 3 elements 3 if all are divisible by 3; else 1.
-    #[tactic(auto, using(crate::proofs::KeptLaws::divisor_some, crate::proofs::KeptLaws::divisor_small))]
+    #[tactic(auto, using(crate::proofs::KeptLaws::divisor_laws))]
     pub fn divisor(&self) -> u64
         ensures is { result ≡ divisor_of self.now }
         ensures least { 1 ≤ result }

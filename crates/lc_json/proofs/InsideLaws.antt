@@ -125,3 +125,13 @@ same_pointwise [] [] = refl
 same_pointwise [] (b ∷ v) = refl
 same_pointwise (a ∷ u) [] = refl
 same_pointwise (a ∷ u) (b ∷ v) = rw (same_pointwise u v) refl
+
+pub ruleset read_laws = (json_found, json_missing)
+
+pub ruleset number_at_laws = (number_found, number_missing)
+
+pub ruleset numbers_of_laws = (numbers_are, no_numbers)
+
+pub ruleset list_at_laws = (list_found, list_missing)
+
+pub ruleset has_keys_laws = (members_counted, no_members_counted)

@@ -12,7 +12,7 @@ use std::alloc::Global;
 
 /// The JSON value that the bytes are; `None` exactly if they are none, as bytes that are not UTF-8 and values that are nested
 /// more than 127 deep.
-#[tactic(auto, using(crate::proofs::InsideLaws::json_found, crate::proofs::InsideLaws::json_missing))]
+#[tactic(auto, using(crate::proofs::InsideLaws::read_laws))]
 pub fn read(alloc: Global, bytes: &[u8]) -> Result<Option<Value>, NoMemory>
     ensures is { IfOk result (λ o. option_map view o ≡ json_in bytes.now) }
 {
@@ -28,7 +28,7 @@ pub fn read(alloc: Global, bytes: &[u8]) -> Result<Option<Value>, NoMemory>
 }
 
 /// The number at a key of an object, if a whole number of 64 bits stands there. A value that is no object has no keys.
-#[tactic(auto, using(crate::proofs::InsideLaws::number_found, crate::proofs::InsideLaws::number_missing))]
+#[tactic(auto, using(crate::proofs::InsideLaws::number_at_laws))]
 pub fn number_at(object: &Value, key: &str) -> Option<u64>
     ensures is { result ≡ number_at key.now (members_in (view object.now)) }
 {
@@ -61,7 +61,7 @@ pub fn array_at<'v>(object: &'v Value, key: &str) -> Option<&'v Vec<Value>>
 }
 
 /// The numbers that a value lists, if it is an array of whole numbers of 64 bits.
-#[tactic(auto, using(crate::proofs::InsideLaws::numbers_are, crate::proofs::InsideLaws::no_numbers, crate::proofs::EachLaws::each_none, crate::proofs::EachLaws::each_next), unfolding(lc_formats::specs::Json::plain_number))]
+#[tactic(auto, using(crate::proofs::InsideLaws::numbers_of_laws, crate::proofs::EachLaws::numbers_of_laws), unfolding(lc_formats::specs::Json::plain_number))]
 pub fn numbers_of(alloc: Global, value: &Value) -> Result<Option<Vec<u64>>, NoMemory>
     ensures is { IfOk result (λ o. option_map (λ v. v.items) o ≡ numbers_of (view value.now)) }
 {
@@ -79,7 +79,7 @@ pub fn numbers_of(alloc: Global, value: &Value) -> Result<Option<Vec<u64>>, NoMe
 }
 
 /// The numbers listed at a key of an object, if an array of whole numbers of 64 bits stands there.
-#[tactic(auto, using(crate::proofs::InsideLaws::list_found, crate::proofs::InsideLaws::list_missing))]
+#[tactic(auto, using(crate::proofs::InsideLaws::list_at_laws))]
 pub fn list_at(alloc: Global, object: &Value, key: &str) -> Result<Option<Vec<u64>>, NoMemory>
     ensures is { IfOk result (λ o. option_map (λ v. v.items) o ≡ list_at key.now (members_in (view object.now))) }
 {
@@ -90,7 +90,7 @@ pub fn list_at(alloc: Global, object: &Value, key: &str) -> Result<Option<Vec<u6
 }
 
 /// Whether an object has `count` keys. A value that is no object has none.
-#[tactic(auto, using(crate::proofs::InsideLaws::members_counted, crate::proofs::InsideLaws::no_members_counted))]
+#[tactic(auto, using(crate::proofs::InsideLaws::has_keys_laws))]
 pub fn has_keys(object: &Value, count: usize) -> bool
     ensures is { result ≡ (member_count (members_in (view object.now)) == count) }
 {

@@ -165,3 +165,5 @@ planewise_three f n even few is three planes = record { few = few; two = λ e. a
 
 pub fronts_made : (C : Matrix) (j n parts : ℕ) (kept even : Bool) (rows : List (List ℕ)) → (kept ≡ true → parts ≡ 1) → (kept ≡ true → IsPlanewise C.field n even) → (parts ≡ 1 → AreRowPlanes C j (part_at (others C j) 0) n (length C.rows * (size C.field - 1)) rows) → HasFronts C j n kept even parts rows
 fronts_made C j n parts kept even rows a b r = record { alone = a; sums = λ t. record { sums = b t; multiples = r (a t) } }
+
+pub ruleset keeps_laws = (planewise_even, planewise_three)

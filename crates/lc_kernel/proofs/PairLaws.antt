@@ -157,3 +157,5 @@ sums_next k a b s x rows sums more h from l e is made so_far =
 
 pub ends_row : (k a s b n : ℕ) → a < k → EndsAt k a s → b ≡ k → n ≡ s + (b - (a + 1)) → EndsAt k (a + 1) n
 ends_row k a s b n l h e is = let same : s + (k - a - 1) ≡ n = omega (arith, e, is, l) in rw (sym same) (ends_next k a s l h)
+
+pub ruleset pair_sums_laws = (pairs_made, sums_none, ends_first)

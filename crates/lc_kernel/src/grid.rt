@@ -327,7 +327,7 @@ fn is_even(sets: &Sets) -> bool
 }
 
 // Whether a set with so many parts keeps planes of sums.
-#[tactic(auto, using(crate::proofs::FrontPlanes::planewise_even, crate::proofs::FrontPlanes::planewise_three))]
+#[tactic(auto, using(crate::proofs::FrontPlanes::keeps_laws))]
 fn keeps(sets: &Sets, planes: usize, even: bool, parts: usize) -> bool
     requires planes { planes ≤ 4 }
     requires three { size sets.now.field ≡ 3 → planes ≡ 2 }

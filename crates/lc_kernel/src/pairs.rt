@@ -83,7 +83,7 @@ pub(crate) fn pair_starts(alloc: Global, k: usize) -> Result<Vec<usize>, NoMemor
 }
 
 // The sums of the pairs of rows, in their order.
-#[tactic(auto, using(crate::proofs::PairLaws::pairs_made, crate::proofs::PairLaws::sums_none, crate::proofs::PairLaws::ends_first))]
+#[tactic(auto, using(crate::proofs::PairLaws::pair_sums_laws))]
 fn pair_sums(alloc: Global, rows: &[u64]) -> Result<Vec<u64>, NoMemory>
     ensures are { IfOk result (λ sums. ArePairs (length rows.now) rows.now sums.items) }
 {

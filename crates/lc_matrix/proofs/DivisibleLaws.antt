@@ -265,3 +265,7 @@ divisor_not_three f n rows s three = divisor_one f n rows (λ e. absurd (omega (
 
 pub divisor_other : (f : FieldName) (n : ℕ) (rows : List (List ℕ)) → size f ≢ 2 → size f ≢ 3 → weight_divisor f n rows ≡ 1
 divisor_other f n rows two three = divisor_one f n rows (λ e k. two e) (λ e k. two e) (λ e k. three e)
+
+pub ruleset binary_divisor_laws = (possible_four, possible_two, divisor_four, divisor_two, divisor_odd)
+
+pub ruleset ternary_divisor_laws = (possible_three, divisor_three, divisor_not_three)

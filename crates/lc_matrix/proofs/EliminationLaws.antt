@@ -15,7 +15,7 @@ use Rattle.lc_algebra.specs.Field.{size, add, mul, neg, IsInverse}
 use Rattle.lc_algebra.specs.Word.{IsWord, word_sum, scale}
 use Rattle.lc_algebra.specs.Matrix.{AreRows, entry}
 use Rattle.lc_algebra.specs.SpanLaws.{AddsMultiples}
-use Rattle.lc_algebra.proofs.FieldLaws.{zero_add, add_zero, add_neg, mul_zero, mul_one, one_mul, mul_comm, neg_inside, neg_zero}
+use Rattle.lc_algebra.proofs.FieldLaws.{zero_add, add_zero, add_neg, mul_zero, mul_one, one_mul, mul_comm, neg_inside, neg_zero, one_inside}
 use Rattle.lc_algebra.proofs.WordLaws.{length_scale, index_scale, index_word_sum, IsWord_scale, IsWord_sum, word_symbol, zero_scale, sum_zero}
 use Rattle.lc_algebra.proofs.SpanLaws.{same_span_reflexive, same_span_transitive, span_multiple_added, span_row_scaled, span_multiples_added}
 use Rattle.lc_matrix.specs.Elimination.{KeepsWords, IsClearedTo, IsReducedTo}
@@ -259,3 +259,15 @@ reduced_taken f n t order at rows others h k room one zero =
 pub reduced_pushed : (f : FieldName) (n t r d : ℕ) (order at new : List ℕ) (rows others : List (List ℕ)) → r ≡ length at → d ≡ slice_index order t → IsReducedTo order t at rows → KeepsWords f n r rows others → r < length rows → entry others r d ≡ 1 → ((j : ℕ) → j < length rows → r ≢ j → entry others j d ≡ 0) → new ≡ at ++ t ∷ [] → IsReducedTo order (t + 1) new others
 reduced_pushed f n t r d order at new rows others e q h k room one zero is =
     subst (λ x. IsReducedTo order (t + 1) x others) (sym is) (reduced_taken f n t order at rows others h (subst (λ x. KeepsWords f n x rows others) e k) (omega (arith, room, e)) (subst (λ x. entry others x (slice_index order t) ≡ 1) e (ap (entry others r) (sym q) ∙ one)) (λ j l o. ap (entry others j) (sym q) ∙ zero j l (λ s. o (sym e ∙ s))))
+
+pub ruleset reduce_laws = (reduced_none, same_span_reflexive, same_span_transitive)
+
+pub ruleset read_column_laws = (reduced_left, reduced_taken)
+
+pub ruleset take_column_laws = (keeps_reflexive, keeps_transitive)
+
+pub ruleset lead_laws = (keeps_transitive, keeps_scaled, unit_symbol)
+
+pub ruleset raise_laws = (keeps_reflexive, keeps_added, raised_symbol, one_inside)
+
+pub ruleset clear_laws = (cleared_none, cleared_more, cleared_keeps, cleared_leads, cleared_zero)

@@ -229,3 +229,13 @@ flat_kept f n k j s l h =
           let o : i < j * n = omega (arith, m, long) in
           rw (get_or-take (j * n) s i 0 o) (h.fits i (omega (arith, o, h.long, most j k n l)));
     }
+
+pub ruleset rows_laws = (length_rows_of, words_of)
+
+pub ruleset row_laws = (length_rows_of, row_read, row_word)
+
+pub ruleset push_laws = (length_rows_of, row_pushed, flat_pushed)
+
+pub ruleset add_to_row_laws = (length_rows_of, row_fits)
+
+pub ruleset keep_laws = (length_rows_of, kept_room, rows_kept, flat_kept)

@@ -317,3 +317,7 @@ kernel_made original copy reduced result ps read r es ef ec w s b er k =
     let free_of : IsFree read copy.columns k.0 = subst (λ x. IsFree read x k.0) ec k.1 in
     let kernel : AreKernelWords copy.field copy.columns read reduced.rows k.0 (length k.0) result.rows = subst (λ x. AreKernelWords x copy.columns read reduced.rows k.0 (length k.0) result.rows) ef (subst (λ x. AreKernelWords reduced.field x read reduced.rows k.0 (length k.0) result.rows) ec k.2) in
     subst (λ (x : Matrix). IsReducedGenerator x.field x.columns (IsOrthogonal x.field x.rows) result.rows) es (kernel_of copy.field copy.columns read copy.rows reduced.rows k.0 result.rows own words s back free_of kernel)
+
+pub ruleset push_words_laws = (words_none, words_more)
+
+pub ruleset kernel_word_laws = (kernel_word_none, kernel_word_more)

@@ -87,3 +87,7 @@ solution_made s a e ps ds dt right w n m r q x y z v h p b d o g j k =
     let k2 : IsSolutionWord s.field s.columns dt e.rows w = subst (λ u. IsSolutionWord s.field u dt e.rows w) j k1 in
     let k3 : IsSolutionWord s.field s.columns ps e.rows w = subst (λ u. IsSolutionWord s.field s.columns u e.rows w) g k2 in
     (k3.word, solution_of s.field s.columns ps s.rows e.rows right w r q (echelon_shaped s a e right x y z h) (places_shaped s a e ps y p) (λ t. o ((place_told ps ds n s.columns b d).1 t)) k3)
+
+pub ruleset augment_laws = (augmented_more, augmented_whole)
+
+pub ruleset solution_laws = (solution_begun, solution_step, solution_done)

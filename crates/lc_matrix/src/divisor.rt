@@ -24,7 +24,7 @@ impl Matrix {
         }
     }
 
-    #[tactic(auto, using(crate::proofs::DivisibleLaws::possible_four, crate::proofs::DivisibleLaws::possible_two, crate::proofs::DivisibleLaws::divisor_four, crate::proofs::DivisibleLaws::divisor_two, crate::proofs::DivisibleLaws::divisor_odd))]
+    #[tactic(auto, using(crate::proofs::DivisibleLaws::binary_divisor_laws))]
     fn binary_divisor(&self) -> u64
         requires binary { size self.now.field ≡ 2 }
         ensures is { result ≡ weight_divisor self.now.field self.now.columns self.now.rows }
@@ -38,7 +38,7 @@ impl Matrix {
         1
     }
 
-    #[tactic(auto, using(crate::proofs::DivisibleLaws::possible_three, crate::proofs::DivisibleLaws::divisor_three, crate::proofs::DivisibleLaws::divisor_not_three))]
+    #[tactic(auto, using(crate::proofs::DivisibleLaws::ternary_divisor_laws))]
     fn ternary_divisor(&self) -> u64
         requires ternary { size self.now.field ≡ 3 }
         ensures is { result ≡ weight_divisor self.now.field self.now.columns self.now.rows }

@@ -57,7 +57,7 @@ impl Matrix {
     }
 
     // Puts the words of the free columns below the rows of the kernel, which has none yet.
-    #[tactic(auto, using(crate::proofs::KernelLaws::words_none, crate::proofs::KernelLaws::words_more))]
+    #[tactic(auto, using(crate::proofs::KernelLaws::push_words_laws))]
     fn push_words(
         &self,
         alloc: Global,
@@ -83,7 +83,7 @@ impl Matrix {
     }
 
     // The word that is 1 at the free column j, 0 at the other free columns, and has dot 0 with each row.
-    #[tactic(auto, using(crate::proofs::KernelLaws::kernel_word_none, crate::proofs::KernelLaws::kernel_word_more))]
+    #[tactic(auto, using(crate::proofs::KernelLaws::kernel_word_laws))]
     fn kernel_word(&self, alloc: Global, places: &[usize], j: usize) -> Result<Vec<u8>, NoMemory>
         requires reduced { IsReducedBack self.now.columns places.now self.now.rows }
         requires column { j < self.now.columns }

@@ -60,7 +60,7 @@ impl Matrix {
     }
 
     /// The number of rows.
-    #[tactic(auto, using(crate::proofs::FlatLaws::length_rows_of, crate::proofs::FlatLaws::words_of))]
+    #[tactic(auto, using(crate::proofs::FlatLaws::rows_laws))]
     pub fn rows(&self) -> usize
         ensures is { result ≡ length self.now.rows }
         ensures words { AreRows self.now.field self.now.columns self.now.rows }
@@ -76,7 +76,7 @@ impl Matrix {
     }
 
     /// The symbols of row `i`, from the left. There is a row `i`: rows are counted from 0.
-    #[tactic(auto, using(crate::proofs::FlatLaws::length_rows_of, crate::proofs::FlatLaws::row_read, crate::proofs::FlatLaws::row_word))]
+    #[tactic(auto, using(crate::proofs::FlatLaws::row_laws))]
     pub fn row(&self, i: usize) -> &[u8]
         requires row { i < length self.now.rows }
         ensures is { result.now ≡ slice_index_or self.now.rows i [] }
@@ -101,7 +101,7 @@ impl Matrix {
     }
 
     // A further row, below the others.
-    #[tactic(auto, using(crate::proofs::FlatLaws::length_rows_of, crate::proofs::FlatLaws::row_pushed, crate::proofs::FlatLaws::flat_pushed))]
+    #[tactic(auto, using(crate::proofs::FlatLaws::push_laws))]
     pub(crate) fn push(&mut self, row: &[u8]) -> Result<(), NoMemory>
         requires room { length self.old.rows + 1 < 2 ^ 64 }
         requires word { IsWord self.old.field self.old.columns row.now }
@@ -125,7 +125,7 @@ impl Matrix {
     }
 
     // Adds c times the word to row i.
-    #[tactic(auto, using(crate::proofs::FlatLaws::length_rows_of, crate::proofs::FlatLaws::row_fits))]
+    #[tactic(auto, using(crate::proofs::FlatLaws::add_to_row_laws))]
     pub(crate) fn add_to_row(&mut self, i: usize, from: &[u8], c: u8)
         requires row { i < length self.old.rows }
         requires word { IsWord self.old.field self.old.columns from.now }
@@ -144,7 +144,7 @@ impl Matrix {
     }
 
     // Multiplies row i by c.
-    #[tactic(auto, using(crate::proofs::FlatLaws::length_rows_of, crate::proofs::FlatLaws::row_fits))]
+    #[tactic(auto, using(crate::proofs::FlatLaws::add_to_row_laws))]
     pub(crate) fn scale_row(&mut self, i: usize, c: u8)
         requires row { i < length self.old.rows }
         requires element { c < size self.old.field }
@@ -157,7 +157,7 @@ impl Matrix {
     }
 
     // Leaves the first k rows.
-    #[tactic(auto, using(crate::proofs::FlatLaws::length_rows_of, crate::proofs::FlatLaws::kept_room, crate::proofs::FlatLaws::rows_kept, crate::proofs::FlatLaws::flat_kept))]
+    #[tactic(auto, using(crate::proofs::FlatLaws::keep_laws))]
     pub(crate) fn keep(&mut self, k: usize)
         requires count { k ≤ length self.old.rows }
         ensures field { self.new.field ≡ self.old.field }

@@ -13,7 +13,7 @@ use std::alloc::Global;
 
 impl Matrix {
     // Row-reduces, trying columns in `order`. Returns, for each pivot row, the index in `order` of its pivot column.
-    #[tactic(auto, using(crate::proofs::EliminationLaws::reduced_none, lc_algebra::proofs::SpanLaws::same_span_reflexive, lc_algebra::proofs::SpanLaws::same_span_transitive))]
+    #[tactic(auto, using(crate::proofs::EliminationLaws::reduce_laws))]
     pub(crate) fn reduce(&mut self, alloc: Global, order: &[usize]) -> Result<Vec<usize>, NoMemory>
         requires inside { All (λ c. c < self.old.columns) order.now }
         ensures field { self.new.field ≡ self.old.field }
@@ -33,7 +33,7 @@ impl Matrix {
     }
 
     // Reads the column at place t of the order, and takes the place at which the column isn't 0 from the rows on that have none.
-    #[tactic(auto, using(crate::proofs::EliminationLaws::reduced_left, crate::proofs::EliminationLaws::reduced_taken))]
+    #[tactic(auto, using(crate::proofs::EliminationLaws::read_column_laws))]
     fn read_column(
         &mut self,
         order: &[usize],
@@ -61,7 +61,7 @@ impl Matrix {
 
     // Makes column `c` a pivot column with its 1 in row `r`, using the rows `r..`. Returns false, changing nothing, if they are
     // all 0 there.
-    #[tactic(auto, using(crate::proofs::EliminationLaws::keeps_reflexive, crate::proofs::EliminationLaws::keeps_transitive))]
+    #[tactic(auto, using(crate::proofs::EliminationLaws::take_column_laws))]
     fn take_column(&mut self, r: usize, c: usize, pivot: &mut [u8]) -> bool
         requires column { c < self.old.columns }
         requires room { length pivot.old ≡ self.old.columns }
@@ -103,7 +103,7 @@ impl Matrix {
     }
 
     // Makes the symbol of row r at column c a 1 and lends the row in the buffer; row i is the first from r on that isn't 0 there.
-    #[tactic(auto, using(crate::proofs::EliminationLaws::keeps_transitive, crate::proofs::EliminationLaws::keeps_scaled, crate::proofs::EliminationLaws::unit_symbol))]
+    #[tactic(auto, using(crate::proofs::EliminationLaws::lead_laws))]
     fn lead(&mut self, r: usize, i: usize, c: usize, pivot: &mut [u8])
         requires column { c < self.old.columns }
         requires from { r ≤ i }
@@ -124,7 +124,7 @@ impl Matrix {
     }
 
     // Makes the symbol of row r at column c nonzero; row i is the first from r on that isn't 0 there.
-    #[tactic(auto, using(crate::proofs::EliminationLaws::keeps_reflexive, crate::proofs::EliminationLaws::keeps_added, crate::proofs::EliminationLaws::raised_symbol, lc_algebra::proofs::FieldLaws::one_inside))]
+    #[tactic(auto, using(crate::proofs::EliminationLaws::raise_laws))]
     fn raise(&mut self, r: usize, i: usize, c: usize, pivot: &mut [u8])
         requires column { c < self.old.columns }
         requires from { r ≤ i }
@@ -146,7 +146,7 @@ impl Matrix {
     }
 
     // Makes column `c` 0 in all rows but row `r`, which has a 1 there and is the word in `pivot`.
-    #[tactic(auto, using(crate::proofs::EliminationLaws::cleared_none, crate::proofs::EliminationLaws::cleared_more, crate::proofs::EliminationLaws::cleared_keeps, crate::proofs::EliminationLaws::cleared_leads, crate::proofs::EliminationLaws::cleared_zero))]
+    #[tactic(auto, using(crate::proofs::EliminationLaws::clear_laws))]
     fn clear(&mut self, r: usize, c: usize, pivot: &[u8])
         requires column { c < self.old.columns }
         requires row { r < length self.old.rows }

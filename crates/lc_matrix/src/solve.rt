@@ -31,7 +31,7 @@ impl Matrix {
     }
 
     // Each row, with its right side after it.
-    #[tactic(auto, using(crate::proofs::SolutionLaws::augmented_more, crate::proofs::SolutionLaws::augmented_whole))]
+    #[tactic(auto, using(crate::proofs::SolutionLaws::augment_laws))]
     fn augment(&self, alloc: Global, right: &[u8]) -> Result<Matrix, NoMemory>
         requires right { IsWord self.now.field (length self.now.rows) right.now }
         ensures field { IfOk result (λ m. m.field ≡ self.now.field) }
@@ -74,7 +74,7 @@ impl Matrix {
 
     // The word of n symbols that is the last symbol of row i at place i, and 0 elsewhere. The rows are reduced, with these
     // pivots, none of them in the last column.
-    #[tactic(auto, using(crate::proofs::SolutionLaws::solution_begun, crate::proofs::SolutionLaws::solution_step, crate::proofs::SolutionLaws::solution_done))]
+    #[tactic(auto, using(crate::proofs::SolutionLaws::solution_laws))]
     fn solution(&self, alloc: Global, n: usize, places: &[usize]) -> Result<Word, NoMemory>
         requires columns { self.now.columns ≡ n + 1 }
         requires pivots { HasPivots self.now.columns places.now self.now.rows }

@@ -294,3 +294,7 @@ Scans-end bytes ts at ending s h = go s.most s.enough s.all
 
 pub not_35 : (b : ℕ) → (b ≡ 35 → ⊥) → (b == 35) ≡ false
 not_35 b h = grind (arith, nat_tests)
+
+pub ruleset value_of_laws = (value_none, value_grows, value_more, value_all)
+
+pub ruleset is_wide_laws = (wide_none, wide_some, wide_other)

@@ -77,7 +77,7 @@ fn line_len(rest: &[u8]) -> usize
 
 /// The number that decimal digits write, or None if it has more than 64 bits. `text` is the digits as ASCII bytes, the highest one
 /// first; leading zeros are allowed, and no digit at all is 0.
-#[tactic(auto, using(crate::proofs::Scanning::value_none, crate::proofs::Scanning::value_grows, crate::proofs::Scanning::value_more, crate::proofs::Scanning::value_all))]
+#[tactic(auto, using(crate::proofs::Scanning::value_of_laws))]
 pub fn value_of(text: &[u8]) -> Option<u64>
     ensures { MatchOption result (2 ^ 64 ≤ number_of text.now) (λ n. number_of text.now ≡ n) }
 {
@@ -163,7 +163,7 @@ fn token_at(here: &[u8], first: u8, rest: &[u8]) -> Option<Cut>
 }
 
 // Whether the token is a number that is too wide.
-#[tactic(auto, using(crate::proofs::Scanning::wide_none, crate::proofs::Scanning::wide_some, crate::proofs::Scanning::wide_other))]
+#[tactic(auto, using(crate::proofs::Scanning::is_wide_laws))]
 fn is_wide(cut: Cut, here: &[u8]) -> bool
     requires { cut.len ≤ length here.now }
     ensures { result ≡ (is_number cut.kind && nat_lt widest (number_of (slice_range here.now 0 cut.len))) }

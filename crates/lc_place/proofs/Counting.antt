@@ -170,3 +170,5 @@ table_none f t e = rw e (record { many = refl; entry = λ a l. absurd (omega (ar
 pub start_first : (k q m : ℕ) → 0 ≡ start_entry k q m 0
 unfolding blocks_before
 start_first k q m = let e : 0 * m ≡ 0 = omega arith in rw e (omega arith)
+
+pub ruleset next_choose_laws = (choose_sum, choose_left, choose_top)

@@ -231,3 +231,7 @@ puts_entry q w r i u v t d size h inside small e =
       so_far = λ is. rw same.1 (entries_more q w r i u v t (1 + t / (q - 1) ^ (w - 1 - i)) size h inside refl (rw same.0 at is));
       small = omega (arith, same.1, mod_le t ((q - 1) ^ (w - 1 - i)));
     })
+
+pub ruleset fill_support_laws = (support_start, support_end)
+
+pub ruleset fill_coefficients_laws = (entries_start, entries_end)

@@ -17,7 +17,7 @@ fn put<T: Drop>(list: &mut Vec<T>, item: T)
 }
 
 /// The support of `width` places below `k` at a place of their list.
-#[tactic(auto, using(crate::proofs::Unranking::support_start, crate::proofs::Unranking::support_end))]
+#[tactic(auto, using(crate::proofs::Unranking::fill_support_laws))]
 pub(crate) fn fill_support(
     chooses: &[u64],
     k: usize,
@@ -50,7 +50,7 @@ pub(crate) fn fill_support(
 }
 
 /// The coefficients of `width` places at a place of their list.
-#[tactic(auto, using(crate::proofs::Unranking::entries_start, crate::proofs::Unranking::entries_end))]
+#[tactic(auto, using(crate::proofs::Unranking::fill_coefficients_laws))]
 pub(crate) fn fill_coefficients(
     powers: &[u64],
     k: usize,

@@ -25,7 +25,7 @@ pub(crate) struct Size {
 }
 
 /// The entry at `index`, from those before it.
-#[tactic(auto, using(crate::proofs::Counting::choose_sum, crate::proofs::Counting::choose_left, crate::proofs::Counting::choose_top))]
+#[tactic(auto, using(crate::proofs::Counting::next_choose_laws))]
 fn next_choose(table: &[u64], index: usize) -> u64
     requires small { index < 2 ^ 16 }
     requires before { IsTable choose_entry index table.now }

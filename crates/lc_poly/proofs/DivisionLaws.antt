@@ -119,3 +119,5 @@ pub divides_told : (f g : FieldName) (a b q r : List ℕ) (is_zero : Bool) → f
 divides_told f g a b q r is_zero e hb d t =
     let x : (r ≡ []) ↔ Divides f b a = divides_exactly f a b q r hb (rw (← e) at d) in
     ((λ h. x.0 (t.0 h)), (λ h. t.1 (x.1 h)))
+
+pub ruleset x_power_minus_one_laws = (x_power_fits, x_power_told)

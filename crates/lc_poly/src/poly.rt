@@ -105,7 +105,7 @@ impl Poly {
 }
 
 /// The polynomial x^n - 1 over a field, for n from 1 to 255.
-#[tactic(auto, using(crate::proofs::DivisionLaws::x_power_fits, crate::proofs::DivisionLaws::x_power_told))]
+#[tactic(auto, using(crate::proofs::DivisionLaws::x_power_minus_one_laws))]
 pub fn x_power_minus_one(alloc: Global, field: &Field, n: usize) -> Result<Poly, NoMemory>
     requires least { 1 ≤ n }
     requires most { n ≤ 255 }

@@ -27,3 +27,5 @@ limit_none C budget l =
     let a = round_is C budget 256 l in
     let b = none_is C budget l in
     omega (arith, a, b)
+
+pub ruleset limit_of_laws = (limit_some, limit_none, some_left)

@@ -22,7 +22,7 @@ const LONGEST_ROUND: u64 = 256;
 const PLACES: u64 = 1 << 52;
 
 // How many blocks the next round may do at most.
-#[tactic(auto, using(crate::proofs::SliceLaws::limit_some, crate::proofs::SliceLaws::limit_none, crate::proofs::SliceLaws::some_left))]
+#[tactic(auto, using(crate::proofs::SliceLaws::limit_of_laws))]
 fn limit_of(slice: Option<u64>) -> u64
     requires left { is_used_up slice ≡ false }
     ensures some { 1 ≤ result }

@@ -181,3 +181,5 @@ levels_more C l j w levels inside so_far is =
 
 pub levels_whole : (C : Matrix) (l n : ℕ) (levels : List ℕ) → n ≡ set_count C → length levels ≤ n → take n levels ≡ map (level_below C l) (below n) → levels ≡ levels_below C l
 levels_whole C l n levels many long so_far = sym (take_all n levels long) ∙ so_far ∙ ap (λ m. map (level_below C l) (below m)) many ∙ sym (levels_of C l)
+
+pub ruleset put_levels_laws = (levels_none, levels_whole)

@@ -146,3 +146,9 @@ module _ (s : SearchState) (low : ℕ) where
   pub state_none : low ≡ bound (divisor_of s.code) s.code s.progress.blocks s.progress.weight → (may_end s.code s.progress.blocks ≡ true → low < s.progress.weight) → (s.progress.blocks ≡ s.budget → ⊥) → None ≡ answer_in s
   unfolding found_of
   state_none e more left = answer_none (divisor_of s.code) s.code s.budget s.progress.blocks (found_of s.progress) low e more left
+
+pub ruleset start_laws = (first_there, first_made)
+
+pub ruleset level_of_laws = (level_inside, level_at)
+
+pub ruleset bound_laws = (levels_counted, bound_here)

@@ -18,6 +18,7 @@ use Rattle.lc_enumeration.proofs.PlanLaws.{cut_is}
 use Rattle.lc_board.specs.Board.{drew, told, HasDrawn}
 use Rattle.lc_board.specs.declared.views.View.{View}
 use Rattle.lc_search.specs.Work.{block_value, after_reports, HasReported, HasWorked}
+use Rattle.lc_board.proofs.Callers.{owes, settled}
 
 abbrev raised : ℕ → ℕ → ℕ
 raised m y = m + (y + 1 - m)
@@ -71,3 +72,5 @@ value_is C m b v e = ap (λ o. unwrap_or o 0) (sym e)
 pub few_blocks : (k q m : ℕ) → total k q m ≤ 2 ^ 40
 unfolding total
 few_blocks k q m = omega (arith, cut_is)
+
+pub ruleset work_laws = (nothing_yet, one_more, at_last, falls, owes, settled)

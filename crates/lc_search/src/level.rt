@@ -42,7 +42,7 @@ fn level_of(level: usize, set: usize, j: usize) -> u64
 
 /// Puts the last level of each set that is done wholly after so many blocks at the set's place, 0 if none is. There is room for
 /// all sets, and the plan goes through them.
-#[tactic(auto, using(crate::proofs::LevelLaws::levels_none, crate::proofs::LevelLaws::levels_whole))]
+#[tactic(auto, using(crate::proofs::LevelLaws::put_levels_laws))]
 pub(crate) fn put_levels(sets: &Sets, plan: &Plan, blocks: u64, levels: &mut [u64])
     requires plan { plan.now ≡ whole_plan sets.now }
     requires room { length levels.old ≡ set_count sets.now }

@@ -86,7 +86,7 @@ pub(crate) fn search_at(
 impl Search {
     /// A search that has done no block of the code; its best word is the one at place 0. The code has dimension at least 1.
     /// `budget` is a number of blocks, at most 2^40.
-    #[tactic(auto, using(crate::proofs::StateLaws::first_there, crate::proofs::StateLaws::first_made))]
+    #[tactic(auto, using(crate::proofs::StateLaws::start_laws))]
     pub fn start(alloc: Global, code: &Code, budget: u64) -> Result<Search, NoMemory>
         requires dimension { 0 < length code.now.rows }
         requires budget { budget ≤ 2 ^ 40 }
@@ -110,7 +110,7 @@ impl Search {
 
     /// The last level of set `set` whose messages are all done, 0 if there is none. Sets are counted from 0, and there is such
     /// a set.
-    #[tactic(auto, using(crate::proofs::StateLaws::level_inside, crate::proofs::StateLaws::level_at))]
+    #[tactic(auto, using(crate::proofs::StateLaws::level_of_laws))]
     pub fn level_of(&self, set: usize) -> u64
         requires set { set < set_count self.now.code }
         ensures is { result ≡ level_below self.now.code self.now.progress.blocks set }
@@ -132,7 +132,7 @@ impl Search {
     }
 
     // The lower bound on the minimum distance after the blocks that are done.
-    #[tactic(auto, using(crate::proofs::StateLaws::levels_counted, crate::proofs::LevelLaws::levels_few, crate::proofs::StateLaws::bound_here))]
+    #[tactic(auto, using(crate::proofs::StateLaws::bound_laws, crate::proofs::LevelLaws::levels_few))]
     fn bound(&self) -> u64
         ensures is { result ≡ bound (divisor_of self.now.code) self.now.code self.now.progress.blocks self.now.progress.weight }
     {

@@ -126,7 +126,7 @@ pub(crate) fn run_list<R: Threads + Sync, G: Gate + Sync>(
 ///
 /// The seat is one of this board and has reported all that it drew. `start` plus the board's count is at most the plan's total.
 /// The plan is one of these sets, and the scratch was made for them. It takes no memory and doesn't wait.
-#[tactic(auto, using(lc_board::proofs::Callers::owes, lc_board::proofs::Callers::settled, crate::proofs::WorkLaws::nothing_yet, crate::proofs::WorkLaws::one_more, crate::proofs::WorkLaws::at_last, crate::proofs::WorkLaws::falls))]
+#[tactic(auto, using(crate::proofs::WorkLaws::work_laws))]
 pub fn work<G: Gate + Sync>(
     sets: &Sets,
     plan: &Plan,

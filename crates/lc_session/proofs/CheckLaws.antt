@@ -73,3 +73,5 @@ unfolding judged_of
 accepted_reply bytes c text e h v t =
     let proof : IsAccepted bytes = record { certificate = c; reads = e; verdict = read_verdict bytes c e ∙ sym v; proves = proves_distance c h (sym v) } in
     (said_accepted bytes c text e (sym v) t, (refl, proof))
+
+pub ruleset judged_laws = (accepted_reply, rejected_reply)

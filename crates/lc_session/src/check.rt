@@ -39,7 +39,7 @@ fn rejected(alloc: Global, reason: Reason) -> Result<Reply, NoMemory>
 }
 
 // The reply to a certificate that the bytes are.
-#[tactic(auto, using(crate::proofs::CheckLaws::accepted_reply, crate::proofs::CheckLaws::rejected_reply))]
+#[tactic(auto, using(crate::proofs::CheckLaws::judged_laws))]
 fn judged(alloc: Global, _bytes: &[u8], certificate: &Certificate) -> Result<Reply, NoMemory>
     requires read { certificate_in _bytes.now ≡ reads_as (certificate_of certificate.now) }
     requires shaped { IsShaped (certificate_of certificate.now) }

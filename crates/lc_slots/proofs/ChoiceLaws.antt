@@ -159,3 +159,7 @@ slots_chosen None mid zero one f c e a b = tt
 slots_chosen (Some slots) mid zero one f c e a b =
     let second : IsRead one (in_slot One slots) = subst (λ (m : Option Slots). IfSome m (λ s. IsRead one (in_slot One s))) e b in
     c.is slots.zero_slot slots.one_slot a second
+
+pub ruleset later_of_laws = (empty_empty, empty_refused, empty_holds, refused_empty, refused_refused, refused_holds, holds_empty, holds_refused, holds_holds)
+
+pub ruleset greater_turn_laws = (later_second, later_first)

@@ -25,3 +25,5 @@ second_torn old mid new p q = WhereTold-then old mid new (IsPut Zero []) (IsTorn
 
 pub first_torn : (old new : Option Slots) → WhereTold old new (IsTorn Zero) → WhereTold old new AreHalfEmptied
 first_torn old new p = WhereTold-map old new (IsTorn Zero) AreHalfEmptied tears_first p
+
+pub ruleset emptied_laws = (both_emptied, first_torn, second_torn)

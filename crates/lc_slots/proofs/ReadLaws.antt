@@ -95,3 +95,5 @@ pub slot_reads : (told : Option Slots) (slot : Slot) (old new : List â„•) (n : â
 slot_reads None slot old new n h l loads read = tt
 slot_reads (Some slots) slot old new n h l (e, f) read =
     front_reads (length old) h (in_slot slot slots) l (subst (IsRead h) (loaded_front (in_slot slot slots) old new n e f) read)
+
+pub ruleset held_in_laws = (reads_nothing, reads_damaged, reads_version, reads_shape, reads_point)

@@ -25,7 +25,7 @@ pub enum Found {
 }
 
 // The checkpoint that goes on, of what the two slots hold.
-#[tactic(auto, using(crate::proofs::ChoiceLaws::empty_empty, crate::proofs::ChoiceLaws::empty_refused, crate::proofs::ChoiceLaws::empty_holds, crate::proofs::ChoiceLaws::refused_empty, crate::proofs::ChoiceLaws::refused_refused, crate::proofs::ChoiceLaws::refused_holds, crate::proofs::ChoiceLaws::holds_empty, crate::proofs::ChoiceLaws::holds_refused, crate::proofs::ChoiceLaws::holds_holds))]
+#[tactic(auto, using(crate::proofs::ChoiceLaws::later_of_laws))]
 fn later_of(zero: Held, one: Held) -> Found
     ensures { IsChosen zero one result }
 {
@@ -49,7 +49,7 @@ fn later_of(zero: Held, one: Held) -> Found
 }
 
 // The checkpoint of the greater turn, the first one if the turns are equal.
-#[tactic(auto, using(crate::proofs::ChoiceLaws::later_second, crate::proofs::ChoiceLaws::later_first))]
+#[tactic(auto, using(crate::proofs::ChoiceLaws::greater_turn_laws))]
 fn greater_turn(first: Checkpoint, second: Checkpoint) -> Found
     ensures { IsChosen (Held.Holds first) (Held.Holds second) result }
 {

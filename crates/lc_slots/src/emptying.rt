@@ -10,7 +10,7 @@ use lc_io::{Failed, Slot, Vault};
 ///
 /// A store that fails ends it: then slot zero holds any bytes and slot one is as it was, or slot zero is empty and slot one
 /// holds any bytes. Takes no memory.
-#[tactic(auto, using(crate::proofs::EmptyLaws::both_emptied, crate::proofs::EmptyLaws::first_torn, crate::proofs::EmptyLaws::second_torn))]
+#[tactic(auto, using(crate::proofs::EmptyLaws::emptied_laws))]
 pub fn emptied<V: Vault>(vault: &mut V) -> Result<(), Failed>
     ensures emptied { OnOk result (WhereTold (V.contents vault.old) (V.contents vault.new) (λ before after. after ≡ empty_slots)) }
     ensures half { OnErr result (WhereTold (V.contents vault.old) (V.contents vault.new) AreHalfEmptied) }

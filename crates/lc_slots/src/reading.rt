@@ -46,7 +46,7 @@ pub(crate) enum Held {
 }
 
 // What these bytes are.
-#[tactic(auto, using(crate::proofs::ReadLaws::reads_nothing, crate::proofs::ReadLaws::reads_damaged, crate::proofs::ReadLaws::reads_version, crate::proofs::ReadLaws::reads_shape, crate::proofs::ReadLaws::reads_point))]
+#[tactic(auto, using(crate::proofs::ReadLaws::held_in_laws))]
 fn held_in(alloc: Global, bytes: &[u8]) -> Result<Held, NoMemory>
     ensures is { IfOk result (λ h. IsRead h bytes.now) }
     ensures ranged { IfOk result (λ h. IsRanged h) }

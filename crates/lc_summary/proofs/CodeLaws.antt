@@ -159,3 +159,5 @@ binary_symbols f e = subst (λ g. IsTrue (is_symbol g)) (sym e) refl
 pub code_made : {E : Type 0} (seed : ℕ) (f : FieldName) (rows : List (List ℕ)) (r : Result Matrix E) → f ≡ Gf2 → rows ≡ summary_rows 0 (generator_words 24 (seeded seed)) → IfOk r (λ c. IsCode f 48 (GeneratedBy f 48 rows) c) → IfOk r (λ c. c ≡ summary_code seed)
 code_made seed f rows (Ok c) e is code = code_is seed rows c is (subst (λ g. IsCode g 48 (GeneratedBy g 48 rows) c) e code)
 code_made seed f rows (Err x) e is code = tt
+
+pub ruleset summary_code_laws = (rows_are_words, binary_symbols)

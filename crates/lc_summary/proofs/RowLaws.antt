@@ -97,3 +97,7 @@ two_elements Gf256 e = absurd (omega (arith, e))
 pub has_two_elements : ((f : FieldName) → size f ≢ 2) → ⊥
 unfolding size shape shape_of
 has_two_elements none = none Gf2 refl
+
+pub ruleset summary_row_laws = (unit_first, unit_more, bits_first, bits_more, row_whole)
+
+pub ruleset binary_field_laws = (two_elements, has_two_elements)

@@ -13,7 +13,7 @@ use std::alloc::Global;
 
 // Row `i` of the generator matrix: 1 at coordinate `i` of the first 24, and then the 24 lowest bits of a word of the
 // generator, the lowest first.
-#[tactic(auto, using(crate::proofs::RowLaws::unit_first, crate::proofs::RowLaws::unit_more, crate::proofs::RowLaws::bits_first, crate::proofs::RowLaws::bits_more, crate::proofs::RowLaws::row_whole))]
+#[tactic(auto, using(crate::proofs::RowLaws::summary_row_laws))]
 fn summary_row(alloc: Global, i: u64, word: u32) -> Result<Word, NoMemory>
     ensures { IfOk result (λ w. w ≡ summary_row i word) }
 {
@@ -40,7 +40,7 @@ fn summary_rows(alloc: Global, seed: u64) -> Result<Vec<Word>, NoMemory>
 }
 
 // The field of 2 elements.
-#[tactic(auto, using(crate::proofs::RowLaws::two_elements, crate::proofs::RowLaws::has_two_elements))]
+#[tactic(auto, using(crate::proofs::RowLaws::binary_field_laws))]
 fn binary_field(alloc: Global) -> Result<Field, NoMemory>
     ensures { IfOk result (λ f. f ≡ Gf2) }
 {
@@ -54,7 +54,7 @@ fn binary_field(alloc: Global) -> Result<Field, NoMemory>
 /// The code over 2 elements of length 48 that the rows of a seed span: row `i` of 24 is 1 at coordinate `i` of the first 24, and
 /// its last 24 symbols are the lowest bits of the next word of the generator PCG32 (O'Neill, PCG: a family of simple fast
 /// space-efficient statistically good algorithms for random number generation). Refused only for want of memory.
-#[tactic(auto, using(crate::proofs::CodeLaws::rows_are_words, crate::proofs::CodeLaws::binary_symbols))]
+#[tactic(auto, using(crate::proofs::CodeLaws::summary_code_laws))]
 pub fn summary_code(alloc: Global, seed: u64) -> Result<Code, NoMemory>
     ensures code { IfOk result (λ c. c ≡ summary_code seed) }
 {

@@ -98,3 +98,5 @@ rest_empty H number t rest old word coordinates symbols steps r z d h s =
 pub rest_done : (H : Matrix) (number t rest : ℕ) (old word : List ℕ) → IsRest H number t rest old word → H.columns ≤ t → (d : List ℕ) → Leads H d → syndrome_number H d ≡ number → word ≡ difference H.field old d
 rest_done H number t rest old word r m d h s =
     zero_left H number t rest old word r (zero_from_weight H.columns r.leader.0 r.leader.1.word.long (omega (arith, m, r.leader.3))) d h s
+
+pub ruleset correct_laws = (rest_below, rest_coordinate, rest_symbol)

@@ -232,3 +232,5 @@ level_whole H w i j c frontier coordinates symbols next next_firsts known state 
     here = λ l r h wl st q m f. absurd (omega (arith, m));
   };
 }
+
+pub ruleset first_laws = (first_table, some_coset)

@@ -212,3 +212,15 @@ unfolding syndrome_number
 number_whole H m t a x l e =
     let k : m - t ≡ 0 = omega (arith, l) in
     e ∙ ap (λ j. number_from H j x) k
+
+pub ruleset of_symbol_laws = (entry_inside, entry_of)
+
+pub ruleset sum_laws = (xor_sum, xor_inside)
+
+pub ruleset of_laws = (begun_none, begun_more, begun_whole)
+
+pub ruleset digit_sum_laws = (sum_none, sum_more)
+
+pub ruleset unit_numbers_laws = (numbered_none, numbered_more)
+
+pub ruleset number_of_laws = (number_none, number_more, number_whole)

@@ -55,7 +55,7 @@ impl Steps {
 
     /// Takes from the word the leader whose syndrome has this number: from the first nonzero symbol on, what is left of the leader
     /// is the leader of another coset.
-    #[tactic(auto, using(crate::proofs::DecodingLaws::rest_below, crate::proofs::DecodingLaws::rest_coordinate, crate::proofs::DecodingLaws::rest_symbol))]
+    #[tactic(auto, using(crate::proofs::DecodingLaws::correct_laws))]
     pub(crate) fn correct(&self, syndromes: &Syndromes, number: u32, word: &mut [u8])
         requires steps { IsSteps syndromes.now self.now.coordinates.items self.now.symbols.items }
         requires leader { (e : List ℕ) × Leads syndromes.now e × (syndrome_number syndromes.now e ≡ number) }
@@ -77,7 +77,7 @@ impl Steps {
     }
 
     // The zero word alone.
-    #[tactic(auto, using(crate::proofs::LevelLaws::first_table, crate::proofs::LevelLaws::some_coset))]
+    #[tactic(auto, using(crate::proofs::LevelLaws::first_laws))]
     fn first(alloc: Global, syndromes: &Syndromes) -> Result<Steps, NoMemory>
         ensures table { IfOk result (λ s. IsTable syndromes.now 1 s.coordinates.items s.symbols.items []) }
     {

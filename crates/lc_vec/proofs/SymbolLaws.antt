@@ -9,7 +9,7 @@ use Rattle.std.proofs.Math.Seq.{drop-cons}
 use Rattle.lc_algebra.specs.declared.FieldName.{FieldName}
 use Rattle.lc_algebra.specs.Field.{size, add, mul}
 use Rattle.lc_algebra.specs.Word.{word_sum, scale, word_dot}
-use Rattle.lc_algebra.proofs.FieldLaws.{zero_add, add_zero, add_assoc}
+use Rattle.lc_algebra.proofs.FieldLaws.{zero_add, add_zero, add_assoc, zero_inside}
 use Rattle.lc_algebra.proofs.WordLaws.{length_word_sum, length_scale, index_word_sum, index_scale, dot_inside}
 
 pub word_sum_made : (f : FieldName) (c : ℕ) (u v w : List ℕ) → length u ≡ length v → length w ≡ length u → ((k : ℕ) → k < length w → slice_index w k ≡ add f (slice_index u k) (mul f c (slice_index v k))) → w ≡ word_sum f u (scale f c v)
@@ -43,3 +43,5 @@ dot_end f s l = add_zero f s l
 pub dot_all : (f : FieldName) (u v : List ℕ) (s i : ℕ) → s < size f → i ≡ length u → length u ≡ length v → add f s (word_dot f (drop i u) (drop i v)) ≡ s
 dot_all f u v s i l e k =
     rw (drop_all i u (omega (arith, e)), drop_all i v (omega (arith, e, k))) (dot_end f s l)
+
+pub ruleset dot_laws = (dot_none, dot_more, dot_all, zero_inside)

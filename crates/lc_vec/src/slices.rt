@@ -134,7 +134,7 @@ pub fn weight(symbols: &[u8]) -> usize
 ///
 /// Both words have the same length, and their symbols are elements of the field.
 #[inline]
-#[tactic(auto, using(crate::proofs::SymbolLaws::dot_none, crate::proofs::SymbolLaws::dot_more, crate::proofs::SymbolLaws::dot_all, lc_algebra::proofs::FieldLaws::zero_inside))]
+#[tactic(auto, using(crate::proofs::SymbolLaws::dot_laws))]
 pub fn dot(field: &Field, a: &[u8], b: &[u8]) -> u8
     requires lengths { length a.now ≡ length b.now }
     requires first { Fits field.now a.now }
