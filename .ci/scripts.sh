@@ -4,7 +4,7 @@
 # what was written to $room/err but for the lines of records, as $room/said
 but_for_records() { grep -vxE 'query [0-9]+ blocks [0-9]+ bound [0-9]+ best [0-9]+' "$room/err" >"$room/said" || :; }
 
-# gives SCRIPT OUT STATUS ERR WORD..: on that script, with these words, the program writes exactly the bytes of OUT and ERR,
+# gives SCRIPT OUT STATUS ERR ARGUMENT..: on that script, with these arguments, the program writes exactly the bytes of OUT and ERR,
 # the lines of records apart, and ends with STATUS
 gives() {
     local script=$1 out=$2 status=$3 err=$4 got
@@ -19,13 +19,13 @@ gives() {
 }
 
 # stored FRONT: the case of the files FRONT.codes (the script), FRONT.out (the text), and where they are there FRONT.status
-# (the status, else 0), FRONT.err (standard error, else nothing) and FRONT.words (one word a line, else the one word `run`)
+# (the status, else 0), FRONT.err (standard error, else nothing) and FRONT.arguments (one argument a line, else the one argument `run`)
 stored() {
-    local front=$1 status=0 err=$room/nothing words=(run)
+    local front=$1 status=0 err=$room/nothing arguments=(run)
     [ -f "$front.status" ] && status=$(cat "$front.status")
     [ -f "$front.err" ] && err=$front.err
-    [ -f "$front.words" ] && mapfile -t words <"$front.words"
-    gives "$front.codes" "$front.out" "$status" "$err" ${words[@]+"${words[@]}"}
+    [ -f "$front.arguments" ] && mapfile -t arguments <"$front.arguments"
+    gives "$front.codes" "$front.out" "$status" "$err" ${arguments[@]+"${arguments[@]}"}
 }
 
 # each file of a folder belongs to a script there
@@ -35,19 +35,26 @@ nothing_stands_alone() {
         [ -d "$file" ] && continue
         case $file in
         *.codes) [ -f "${file%.codes}.out" ] || { echo "$file has no .out"; return 1; } ;;
-        *.out | *.status | *.err | *.words) [ -f "${file%.*}.codes" ] || { echo "$file has no .codes"; return 1; } ;;
+        *.out | *.status | *.err | *.arguments) [ -f "${file%.*}.codes" ] || { echo "$file has no .codes"; return 1; } ;;
         *.md) ;;
         *) echo "$file is no file of a case"; return 1 ;;
         esac
     done
 }
 
+# check_folder FOLDER NAME: each case of the folder; NAME is what it is called in a line of what failed
 check_folder() {
     local script
-    check "$1: each file belongs to a script" nothing_stands_alone "$1"
+    check "$2: each file belongs to a script" nothing_stands_alone "$1"
     for script in "$1"/*.codes; do
-        check "${script%.codes}" stored "${script%.codes}"
+        check "$2/$(basename "$script" .codes)" stored "${script%.codes}"
     done
+}
+
+# the rows of the documents of tests/rows, each with files of its own in $room/rows
+check_rows() {
+    check 'tests/rows: each row has its blocks' python3 -B tools/rows.py tests/rows "$room/rows"
+    check_folder "$room/rows" tests/rows
 }
 
 # from_document FILE FRONT: writes each fenced block `codes` of a document to FRONT-N.codes and the block `text` behind it to
@@ -164,7 +171,7 @@ check_outside() {
 agrees() { check "$2 scripts, $1: the program and tools/reference.py agree" python3 -B tools/compare.py "$program" "$1" "$2"; }
 
 check_against_reference() {
-    check 'tools/reference.py gives the stored texts' python3 -B tools/check_reference.py examples tests/rows
+    check 'tools/reference.py gives the stored texts' python3 -B tools/check_reference.py examples "$room/rows"
     check 'calls with two refusals each: the first of them is told' python3 -B tools/refusal_order.py "$program"
     check 'searches over each field at lengths around 64, 128 and 192: the program and the reference program agree' python3 -B tools/kernel_codes.py "$program"
     agrees valid 500
@@ -177,7 +184,7 @@ check_against_reference() {
 }
 
 check_certificates() {
-    check 'tools/check_certificate.py says what the stored texts say' python3 -B tools/compare_certificates.py --stored tests/rows
+    check 'tools/check_certificate.py says what the stored texts say' python3 -B tools/compare_certificates.py --stored "$room/rows"
     check 'the gallery: `codes` prints each certificate, and both programs accept it' python3 -B tools/gallery.py --check "$program"
     check '3,000 altered certificates: the program and tools/check_certificate.py agree' python3 -B tools/compare_certificates.py "$program" 3000
 }
@@ -231,8 +238,8 @@ check_sessions() {
 check_program() {
     local document
     : >"$room/nothing"
-    check_folder examples
-    check_folder tests/rows
+    check_folder examples examples
+    check_rows
     for document in README.md docs/*.md; do check_document "$document"; done
     check_limits
     check_outside

@@ -3,7 +3,7 @@
 
     tools/check_reference.py FOLDER..
 
-Looks at each NAME.codes of the folders, with its NAME.out, NAME.status, NAME.err and NAME.words, and leaves out checks of
+Looks at each NAME.codes of the folders, with its NAME.out, NAME.status, NAME.err and NAME.arguments, and leaves out checks of
 certificates and sessions that keep checkpoints. Prints the names of those that differ, and ends with 1 where there is one.
 """
 import sys
@@ -25,7 +25,7 @@ def main():
     differ = 0
     for folder in sys.argv[1:]:
         for script in sorted(Path(folder).glob("*.codes")):
-            words = beside(script, ".words", b"run\n").decode().splitlines()
+            words = beside(script, ".arguments", b"run\n").decode().splitlines()
             wanted = beside(script, ".out", b""), int(beside(script, ".status", b"0")), beside(script, ".err", b"")
             found = ended(words, script.read_bytes())
             if found is None:

@@ -149,7 +149,7 @@ def run(program, text):
 
 
 def compare_stored(folder):
-    cases = [words.with_suffix("") for words in sorted(folder.glob("*.words")) if words.read_text() == "check\n"]
+    cases = [file.with_suffix("") for file in sorted(folder.glob("*.arguments")) if file.read_text() == "check\n"]
     differ = [case.name for case in cases if expected(case.with_suffix(".codes").read_text())[0] != case.with_suffix(".out").read_text()]
     print(f"{len(cases)} stored certificates, {len(differ)} differ {' '.join(differ)}")
     sys.exit(1 if differ or not cases else 0)

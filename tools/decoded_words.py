@@ -1,15 +1,14 @@
 #!/usr/bin/env python3
-"""Makes the rows of tests/rows whose names begin with `decode_all` and `decode_errors`: scripts that decode, with their texts.
+"""Prints the rows of tests/rows/decoding.md whose names begin with `decode all` and `decode errors`: scripts that decode, with
+their texts.
 
-    tools/decoded_words.py FOLDER
+    tools/decoded_words.py
 
 The words are found by plain means, never by the program: all words of a small code are listed, and each received word is
 compared with all of them. Errors are put at pseudo-random coordinates; as long as they are few, the word that was sent is
 known besides, and must be the one found.
 """
-import sys
 from itertools import product as tuples
-from pathlib import Path
 from random import Random
 
 import reference
@@ -107,10 +106,9 @@ def rows():
 
 
 def main():
-    folder = Path(sys.argv[1])
     for name, statements, lines in rows():
-        (folder / f"{name}.codes").write_text("\n".join(statements) + "\n")
-        (folder / f"{name}.out").write_text("".join(line + "\n" for line in lines))
+        script, text = "\n".join(statements), "\n".join(lines)
+        print(f"### {name.replace('_', ' ')}\n\n```codes\n{script}\n\n```\n\n```text\n{text}\n```\n")
 
 
 if __name__ == "__main__":
