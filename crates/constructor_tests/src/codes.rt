@@ -96,21 +96,15 @@ fn are_duals(alloc: Global, code: &Code, rows: Rows, others: Rows) -> Result<boo
 }
 
 // Whether the code of these rows has the reduced rows, and its dual the others.
-fn has_dual(
-    rt: &impl Abort,
-    alloc: Global,
-    given: &Given,
-    reduced: Rows,
-    others: Rows,
-) -> Result<bool, Fail> {
-    let code = generated(rt, alloc, given.0, given.1, given.2)?;
+fn has_dual(alloc: Global, given: &Given, reduced: Rows, others: Rows) -> Result<bool, Fail> {
+    let code = generated(alloc, given.0, given.1, given.2)?;
     Ok(are_duals(alloc, &code, reduced, others)?)
 }
 
 #[test]
 fn codes_and_duals(rt: HostRuntime) -> Result<(), Fail> {
     for row in &CODES {
-        assert!(rt; has_dual(&rt, rt.alloc(), &row.0, row.1, row.2)?, "over {}", row.0.0);
+        assert!(rt; has_dual(rt.alloc(), &row.0, row.1, row.2)?, "over {}", row.0.0);
     }
     Ok(())
 }
@@ -169,15 +163,15 @@ static MEMBERS: [(Given, &[u8], bool); 8] = [
 ];
 
 // Whether the word is in the code of these rows.
-fn is_member(rt: &impl Abort, alloc: Global, given: &Given, word: &[u8]) -> Result<bool, Fail> {
-    let code = generated(rt, alloc, given.0, given.1, given.2)?;
+fn is_member(alloc: Global, given: &Given, word: &[u8]) -> Result<bool, Fail> {
+    let code = generated(alloc, given.0, given.1, given.2)?;
     Ok(holds(alloc, &code, word)?)
 }
 
 #[test]
 fn members_of_codes(rt: HostRuntime) -> Result<(), Fail> {
     for row in &MEMBERS {
-        let inside = is_member(&rt, rt.alloc(), &row.0, row.1)?;
+        let inside = is_member(rt.alloc(), &row.0, row.1)?;
         assert!(rt; inside == row.2, "over {}", row.0.0);
     }
     Ok(())

@@ -184,7 +184,7 @@ fn decodes_binary(alloc: Global, code: &Code) -> Result<bool, SyndromeRefusal> {
 
 #[test]
 fn nearest_words_of_a_hamming_code(rt: HostRuntime) -> Result<(), Fail> {
-    let code = generated(&rt, rt.alloc(), 2, 7, HAMMING)?;
+    let code = generated(rt.alloc(), 2, 7, HAMMING)?;
     assert!(rt; decodes_binary(rt.alloc(), &code)?);
     Ok(())
 }
@@ -291,7 +291,7 @@ fn decodes_ternary(alloc: Global, code: &Code) -> Result<bool, SyndromeRefusal> 
 
 #[test]
 fn nearest_words_of_a_ternary_code(rt: HostRuntime) -> Result<(), Fail> {
-    let code = generated(&rt, rt.alloc(), 3, 4, PAIRED)?;
+    let code = generated(rt.alloc(), 3, 4, PAIRED)?;
     assert!(rt; decodes_ternary(rt.alloc(), &code)?);
     Ok(())
 }

@@ -14,7 +14,7 @@ use test_rows::{Rows, are_words, generated, words_of};
 // The information sets of the code of rows that are seen to be words, not all of them zero.
 #[tactic(auto, using(lc_algebra::proofs::ReducedLaws::reduced_independent))]
 fn sets_of(rt: &impl Abort, alloc: Global, row: &Row) -> Result<Sets, Fail> {
-    let code = generated(rt, alloc, row.0, row.1, row.2)?;
+    let code = generated(alloc, row.0, row.1, row.2)?;
     assert!(rt; 1 <= code.dimension() && code.field().is_symbol());
     Ok(Sets::build(alloc, code.matrix())?)
 }
@@ -406,15 +406,15 @@ fn divisors_of_rows(rt: HostRuntime) -> Result<(), Fail> {
 }
 
 // The divisor of the code of the row.
-fn code_divisor(rt: &impl Abort, alloc: Global, row: &Row) -> Result<u64, Fail> {
-    let code = generated(rt, alloc, row.0, row.1, row.2)?;
+fn code_divisor(alloc: Global, row: &Row) -> Result<u64, Fail> {
+    let code = generated(alloc, row.0, row.1, row.2)?;
     Ok(code.divisor())
 }
 
 #[test]
 fn divisors_of_codes(rt: HostRuntime) -> Result<(), Fail> {
     for row in codes() {
-        let divisor = code_divisor(&rt, rt.alloc(), row)?;
+        let divisor = code_divisor(rt.alloc(), row)?;
         assert!(rt; divisor == row.4, "{} {}", row.0, row.1);
     }
     Ok(())

@@ -216,7 +216,7 @@ static ROWS: [(u64, usize, Rows); 2] = [
 
 // Whether this is so for the code of the rows.
 fn rows_agree(rt: &impl Abort, alloc: Global, q: u64, n: usize, rows: Rows) -> Result<bool, Fail> {
-    let code = generated(rt, alloc, q, n, rows)?;
+    let code = generated(alloc, q, n, rows)?;
     code_agrees(rt, alloc, &code, 20)
 }
 

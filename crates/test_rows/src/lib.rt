@@ -6,12 +6,10 @@ ghost use Rattle.std.specs.Prelude.{IsTrue};
 ghost use Rattle.lc_algebra.specs.Word.{IsWord};
 ghost use Rattle.lc_algebra.specs.Matrix.{AreRows};
 
-use lc_code::Code;
+use lc_code::{Code, CodeRefusal};
 use lc_field::{Field, NoMemory};
 use lc_vec::{Word, fits};
 use std::alloc::Global;
-use std::process::Abort;
-use std::test::Fail;
 
 /// Rows of symbols.
 pub type Rows = &'static [&'static [u8]];
@@ -44,17 +42,16 @@ pub fn words_of(alloc: Global, rows: Rows) -> Result<Vec<Word>, NoMemory> {
     Ok(words)
 }
 
-/// The code over q elements of rows that are seen to be words of n symbols.
-pub fn generated(
-    rt: &impl Abort,
-    alloc: Global,
-    q: u64,
-    n: usize,
-    rows: Rows,
-) -> Result<Code, Fail> {
-    let field = Field::of(alloc, q)?;
+/// The code over q elements of rows that are words of n symbols. Refuses with BadLength if they aren't, or if there is no such
+/// code.
+pub fn generated(alloc: Global, q: u64, n: usize, rows: Rows) -> Result<Code, CodeRefusal> {
+    let Ok(field) = Field::of(alloc, q) else {
+        return Err(CodeRefusal::BadLength);
+    };
     let words = words_of(alloc, rows)?;
-    assert!(rt; field.is_symbol() && 1 <= n && n <= 255 && are_words(&field, n, &words));
+    if !field.is_symbol() || n < 1 || n > 255 || !are_words(&field, n, &words) {
+        return Err(CodeRefusal::BadLength);
+    }
     Ok(Code::from_rows(alloc, &field, n, &words)?)
 }
 
