@@ -5,6 +5,7 @@
 --   start c f n           the starting state with c blocks, the first value f and n actors
 --   Possible r e          the event e is possible in the state r
 --   moved r e             what the state becomes by a possible event
+--   NeedsMemory r e       the event is a report, and possible: it alone makes a list longer
 --   Reaches r es s        the events es are possible one after another from r, and lead to s
 --   blocks_of a           the blocks that an actor holds or has finished
 --   values_of a           the values of the blocks that it has finished
@@ -56,6 +57,13 @@ moved r (Report a v) = record r { best = min r.best v; actors = set r.actors a (
 moved r EndRound = record r { mode = Ended }
 moved r Kill = record r { mode = Stopped }
 moved r Resume = start r.count r.first (length r.actors)
+
+abbrev pub NeedsMemory : Round → Event → Type 0
+NeedsMemory r (Claim a) = ⊥
+NeedsMemory r (Report a v) = Possible r (Report a v)
+NeedsMemory r EndRound = ⊥
+NeedsMemory r Kill = ⊥
+NeedsMemory r Resume = ⊥
 
 abbrev pub Reaches : Round → List Event → Round → Type 0
 Reaches r [] s = s ≡ r

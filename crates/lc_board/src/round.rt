@@ -2,7 +2,7 @@
 ghost use Rattle.std.specs.Prelude.{◌≡◌, ◌<◌, ◌≤◌, ◌∷◌, ◌++◌, ◌↔◌, ◌+◌, min, map, true, false, set, length, replicate, [], None, All, IsTrue, IfOk, OnOk, OnErr, IsSome, if◌then◌else◌};
 ghost use Rattle.lc_board.specs.declared.round.Mode.TheVariants.{Running, Ended, Stopped};
 ghost use Rattle.lc_board.specs.declared.round.Event.TheVariants.{Claim, Report, EndRound, Kill, Resume};
-ghost use Rattle.lc_board.specs.Round.{start, actor_at, idle, drew, finished, Possible, moved};
+ghost use Rattle.lc_board.specs.Round.{start, actor_at, idle, drew, finished, Possible, moved, NeedsMemory};
 
 use crate::NoMemory;
 use std::alloc::Global;
@@ -84,6 +84,7 @@ impl Actor {
     fn finish(&mut self, value: u64) -> Result<bool, NoMemory>
         ensures ok { IfOk result (λ done. (IsTrue done ↔ IsSome self.old.held) × (self.new ≡ finished value self.old)) }
         ensures err { OnErr result (self.new ≡ self.old) }
+        ensures held { OnErr result (IsSome self.old.held) }
     {
         let Some(block) = self.held else {
             return Ok(false);
@@ -210,12 +211,13 @@ impl RoundState {
     }
 
     /// Does one event, and answers false exactly if the event isn't possible; then, and if memory ran out,
-    /// the state is as before.
+    /// the state is as before. Only a report that is possible takes memory.
     pub fn step(&mut self, alloc: Global, event: Event) -> Result<bool, NoMemory>
         ensures answer { IfOk result (λ done. IsTrue done ↔ Possible self.old event) }
         ensures state { IfOk result (λ done. self.new ≡ (if done then moved self.old event else self.old)) }
         ensures actors { length self.new.actors ≡ length self.old.actors }
         ensures no_memory { OnErr result (self.new ≡ self.old) }
+        ensures needed { OnErr result (NeedsMemory self.old event) }
     {
         let _ = alloc;
         match event {
@@ -244,6 +246,7 @@ impl RoundState {
         ensures answer { IfOk result (λ done. IsTrue done ↔ Possible self.old (Report actor value)) }
         ensures state { IfOk result (λ done. self.new ≡ (if done then moved self.old (Report actor value) else self.old)) }
         ensures no_memory { OnErr result (self.new ≡ self.old) }
+        ensures needed { OnErr result (Possible self.old (Report actor value)) }
     {
         let index = actor as usize;
         if !self.mode.is_running() || index >= self.actors.len() {

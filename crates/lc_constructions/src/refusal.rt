@@ -1,5 +1,5 @@
 //! Why a constructor or a combinator of codes gives no code.
-ghost use Rattle.std.specs.Prelude.{◌≡◌, IfOk};
+ghost use Rattle.std.specs.Prelude.{◌≡◌, [], IfOk, IsOk};
 ghost use Rattle.lc_constructions.specs.Refusal.{refusal_number, refusal_values};
 ghost use Rattle.lc_constructions.specs.declared.refusal.CodeRefusal.TheVariants as refusal;
 
@@ -69,10 +69,11 @@ impl CodeRefusal {
         }
     }
 
-    /// The numbers that the refusal carries, in the order in which they are printed.
+    /// The numbers that the refusal carries, in the order in which they are printed. If it carries none, no memory is taken.
     #[tactic(auto, unfolding(crate::specs::Refusal::refusal_values))]
     pub fn values(&self, alloc: Global) -> Result<Vec<u64>, FieldMemory>
         ensures are { IfOk result (λ values. values.items ≡ refusal_values self.now) }
+        ensures none { refusal_values self.now ≡ [] → IsOk result }
     {
         match *self {
             CodeRefusal::BadArgument(argument) => Ok(vec![in alloc; argument]?),

@@ -1,7 +1,7 @@
 // The two loops over a source and a sink.
 ghost use Rattle.std.specs.Prelude.{◌≡◌, ◌<◌, ◌≤◌, length, IfOk, OnOk, OnErr, IsErrOf, MatchResult};
 ghost use Rattle.std.specs.Io.KnownBytes.{Consumes, Appends, IsAtEnd};
-ghost use Rattle.lc_io.specs.Outside.{HasRisen, GaveFront, GaveLess, AppendsPart};
+ghost use Rattle.lc_io.specs.Outside.{HasRisen, GaveFront, GaveLess, GaveSome, AppendsPart};
 
 use crate::{Failed, Sink, Source};
 use std::alloc::{AllocError, Global};
@@ -19,8 +19,8 @@ pub enum ReadRefusal {
 pub(crate) const CHUNK: usize = 4096;
 
 /// Reads a source until it ends or has given `limit` bytes, and answers what it gave. Each turn
-/// takes at least one byte or ends. Refused if a read fails, and for want of memory: then some
-/// bytes may have been taken from the source.
+/// takes at least one byte or ends. Refused if a read fails, and for want of memory, which only the
+/// bytes that were read take: then some bytes may have been taken from the source.
 pub fn read_to_limit<S: Source>(
     alloc: Global,
     source: &mut S,
@@ -37,6 +37,8 @@ pub fn read_to_limit<S: Source>(
         → GaveLess (S.rest source.old) (S.rest source.new) limit }
     ensures no_memory { IsErrOf result ReadRefusal.NoMemory
         → S.faults source.new ≡ S.faults source.old }
+    ensures kept { IsErrOf result ReadRefusal.NoMemory
+        → GaveSome (S.rest source.old) (S.rest source.new) limit }
     ensures count { OnOk result (S.faults source.new ≡ S.faults source.old) }
 {
     let mut bytes = Vec::new(alloc);

@@ -6,7 +6,7 @@ use Rattle.std.specs.List.{AllByRecursion}
 use Rattle.std.proofs.lemmas.List.Elements.{All-from_recursion}
 use Rattle.lc_grammar.specs.declared.Token.{Token}
 use Rattle.lc_grammar.specs.Token as language
-use Rattle.lc_grammar.specs.Token.{scan}
+use Rattle.lc_grammar.specs.Token.{scan, scan_within, ended}
 use Rattle.lc_grammar.specs.Tree.{Statement}
 use Rattle.lc_grammar.specs.Grammar.{deepest, Reads, Fault, IsFault, TokenFault}
 use Rattle.lc_grammar.proofs.Course.{start, Outcome, read, fault, course}
@@ -126,3 +126,8 @@ no_token_fault (TooWide p) end f is h fault_is = absurd (cc)
 
 pub empty_of : (n : ℕ) (b : Bool) → b ≡ (n == 0) → b ≡ true → n ≡ 0
 empty_of n b e t = let h : (n == 0) ≡ true = sym e ∙ t in grind (arith, nat_tests)
+
+-- no bytes have no tokens, which end at once
+pub nothing_scanned : (bytes : List ℕ) → bytes ≡ [] → ((scan bytes).tokens ≡ []) × ((scan bytes).ending ≡ language.script_end 0)
+unfolding scan scan_within ended
+nothing_scanned bytes e = rw e (refl, refl)

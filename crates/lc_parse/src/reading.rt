@@ -1,4 +1,4 @@
-ghost use Rattle.std.specs.Prelude.{◌≡◌, map, ◌+◌, ◌<◌, ◌≤◌, ◌++◌, ◌∷◌, ◌&&◌, [], List, None, nat_le, length, option_map, string_bytes, IfOk, IfErr, MatchOption};
+ghost use Rattle.std.specs.Prelude.{◌≡◌, map, ◌+◌, ◌<◌, ◌≤◌, ◌++◌, ◌∷◌, ◌&&◌, [], List, None, nat_le, length, option_map, string_bytes, ℕ, IfOk, IfErr, IsOk, MatchOption};
 ghost use Rattle.lc_grammar.specs.declared.TokenKind.TheVariants.{Name, Number, Open};
 ghost use Rattle.lc_grammar.specs.Token.{text_of, number_of, scan, script_end};
 ghost use Rattle.lc_grammar.specs.Tree as trees;
@@ -315,6 +315,7 @@ fn statements(source: &Source<'_>, tokens: &[Token]) -> Result<Vec<Statement>, P
     ensures read { IfOk result (λ v. course source.now.bytes.now deepest (start []) tokens.now (ending_of source.now.ending)
         ≡ read (map statement_of v.items)) }
     ensures refused { IfErr result (λ e. Refuses source.now.bytes.now source.now.ending (start []) tokens.now e) }
+    ensures nothing { (place : ℕ) → ending_of source.now.ending ≡ script_end place → tokens.now ≡ [] → IsOk result }
 {
     let mut found = Vec::new(source.alloc);
     let mut left = tokens;
@@ -353,7 +354,7 @@ pub fn tokens(alloc: Global, bytes: &[u8]) -> Result<Vec<Token>, ParseRefusal>
 /// may be any. If they are no script it refuses with the number of the fault and the first offset at which
 /// they can't go on: 40 at a byte that begins no token, 43 at a number above 2^64 - 1, 42 at the parenthesis or
 /// bracket that would be the 33rd open one, 41 at a token that the grammar doesn't allow there, or at the
-/// script's length if its end isn't allowed. It refuses if memory runs out.
+/// script's length if its end isn't allowed. It refuses if memory runs out, which no bytes never do.
 pub fn parse(alloc: Global, bytes: &[u8]) -> Result<Script, ParseRefusal>
     // What it returns is a script that the bytes are.
     ensures read { IfOk result (λ s. Reads bytes.now (script_of s)) }
@@ -364,6 +365,8 @@ pub fn parse(alloc: Global, bytes: &[u8]) -> Result<Script, ParseRefusal>
     ensures fault { IfErr result (λ e. IsRefusedAs e (IsFault bytes.now)) }
     // It returns the fault of the bytes, unless memory runs out.
     ensures faulty { (f : Fault) → IsFault bytes.now f → IsFaultAs result f }
+    // No bytes are the script of no statements, for which no memory is asked.
+    ensures nothing { bytes.now ≡ [] → IsOk result }
 {
     let (tokens, ending) = scan(alloc, bytes)?;
     let source = Source {

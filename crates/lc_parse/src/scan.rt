@@ -1,4 +1,4 @@
-ghost use Rattle.std.specs.Prelude.{◌≡◌, ◌∷◌, ◌^◌, ◌≤◌, ◌==◌, ◌&&◌, nat_lt, not, length, slice_range, IfOk, MatchOption};
+ghost use Rattle.std.specs.Prelude.{◌≡◌, ◌∷◌, ◌^◌, ◌≤◌, ◌==◌, ◌&&◌, [], nat_lt, not, length, slice_range, IfOk, IsOk, MatchOption};
 ghost use Rattle.std.specs.List.{prefix_len};
 ghost use Rattle.lc_grammar.specs.Token.{is_blank, is_letter, is_digit, is_name_byte, number_of, cut_of, assign_at, sign_at, token_at, is_number, widest, scan};
 ghost use Rattle.lc_parse.specs.Reading.{cuts_of, ending_of, IsStep};
@@ -209,6 +209,7 @@ fn lexeme_at(bytes: &[u8], at: usize) -> Lexeme
 pub(crate) fn scan(alloc: Global, bytes: &[u8]) -> Result<(Vec<Token>, Ending), AllocError>
     ensures tokens { IfOk result (λ r. r.0.items ≡ (scan bytes.now).tokens) }
     ensures ending { IfOk result (λ r. ending_of r.1 ≡ (scan bytes.now).ending) }
+    ensures nothing { bytes.now ≡ [] → IsOk result }
 {
     let mut tokens = Vec::new(alloc);
     let mut at = 0;
