@@ -1,133 +1,22 @@
-//! Tests of the kernel: the least values of blocks against a plain scan, and words at places.
-ghost use Rattle.std.specs.Prelude.{◌≡◌, ◌<◌, IfOk};
+//! Tests of the kernel: the least values of blocks of named codes against a plain scan, and words at places.
+ghost use Rattle.std.specs.Prelude.{◌≡◌, ◌<◌, ◌≤◌};
 ghost use Rattle.lc_enumeration.specs.Plan.{total};
 ghost use Rattle.lc_kernel.specs.Kernel.{IsPlanOf};
 
+use crate::blocks::Blocks;
+use crate::plain::{Sums, put_word, sums_over};
+use crate::shapes::{CHARACTERISTIC_2, CHARACTERISTIC_3, Columns, OTHER_PRIMES, Over, Shape};
+use crate::tasks::{Task, code_does, shape_does};
 use lc_basic::{hamming, reed_muller};
 use lc_code::Code;
 use lc_field::Field;
 use lc_infoset::Sets;
-use lc_kernel::{Scratch, Stack, least, word_at};
-use lc_place::Plan;
+use lc_kernel::word_at;
+use lc_place::{Plan, Spot};
 use std::alloc::Global;
 use std::process::Abort;
 use std::test::Fail;
 use test_rows::{Rows, generated};
-
-// The information sets of a code that is seen to have words.
-#[tactic(auto, using(lc_algebra::proofs::ReducedLaws::reduced_independent))]
-fn sets_of(rt: &impl Abort, alloc: Global, code: &Code) -> Result<Sets, Fail> {
-    assert!(rt;
-        1 <= code.dimension()
-            && code.field().is_symbol()
-            && 1 <= code.length()
-            && code.length() <= 255
-    );
-    Ok(Sets::build(alloc, code.matrix())?)
-}
-
-// The plan of all sets of a code.
-fn plan_of(alloc: Global, sets: &Sets) -> Result<Plan, Fail>
-    ensures is { IfOk result (λ p. IsPlanOf p sets.now) }
-{
-    let _n = sets.length();
-    Ok(Plan::build(
-        alloc,
-        sets.dimension(),
-        sets.field().size() as u64,
-        sets.count(),
-    )?)
-}
-
-// The least value of a block, message by message.
-fn plain_least(sets: &Sets, plan: &Plan, block: u64, stack: &mut Stack) -> u64
-    requires plan { IsPlanOf plan.now sets.now }
-    requires block { block < total plan.now.k plan.now.q plan.now.m }
-    requires stack { stack.old.code ≡ sets.now }
-    ensures stack { stack.new.code ≡ sets.now }
-{
-    let _few = plan.total();
-    let _n = sets.length();
-    stack.start(sets, plan, block);
-    let mut place = block * 4096;
-    let mut best = stack.weight() as u64 * 4_503_599_627_370_496 + place;
-    for _offset in 1..plan.block_len(block) {
-        let _made = stack.advance(sets, plan);
-        place = place.saturating_add(1);
-        best = best.min((stack.weight() as u64 * 4_503_599_627_370_496).saturating_add(place));
-    }
-    best
-}
-
-// Whether the first blocks have the least values of a plain scan.
-fn blocks_agree(
-    sets: &Sets,
-    plan: &Plan,
-    most: u64,
-    scratch: &mut Scratch,
-    stack: &mut Stack,
-) -> bool
-    requires plan { IsPlanOf plan.now sets.now }
-    requires scratch { scratch.old ≡ sets.now }
-    requires stack { stack.old.code ≡ sets.now }
-{
-    for block in 0..plan.total().min(most) {
-        if least(sets, plan, block, scratch) != plain_least(sets, plan, block, stack) {
-            return false;
-        }
-    }
-    true
-}
-
-// Whether this is so by a stack of its own.
-fn scratch_agrees(
-    alloc: Global,
-    sets: &Sets,
-    plan: &Plan,
-    most: u64,
-    scratch: &mut Scratch,
-) -> Result<bool, Fail>
-    requires plan { IsPlanOf plan.now sets.now }
-    requires scratch { scratch.old ≡ sets.now }
-{
-    let mut stack = Stack::new(alloc, sets)?;
-    Ok(blocks_agree(sets, plan, most, scratch, &mut stack))
-}
-
-// Whether this is so for the memory of another worker.
-fn another_agrees(
-    alloc: Global,
-    sets: &Sets,
-    plan: &Plan,
-    most: u64,
-    first: &Scratch,
-) -> Result<bool, Fail>
-    requires plan { IsPlanOf plan.now sets.now }
-    requires scratch { first.now ≡ sets.now }
-{
-    let mut scratch = first.another(alloc)?;
-    scratch_agrees(alloc, sets, plan, most, &mut scratch)
-}
-
-// Whether this is so for a plan of the sets.
-fn plan_agrees(alloc: Global, sets: &Sets, plan: &Plan, most: u64) -> Result<bool, Fail>
-    requires plan { IsPlanOf plan.now sets.now }
-{
-    let first = Scratch::new(alloc, sets)?;
-    another_agrees(alloc, sets, plan, most, &first)
-}
-
-// Whether this is so for the sets.
-fn sets_agree(alloc: Global, sets: &Sets, most: u64) -> Result<bool, Fail> {
-    let plan = plan_of(alloc, sets)?;
-    plan_agrees(alloc, sets, &plan, most)
-}
-
-// Whether this is so for a code.
-fn code_agrees(rt: &impl Abort, alloc: Global, code: &Code, most: u64) -> Result<bool, Fail> {
-    let sets = sets_of(rt, alloc, code)?;
-    sets_agree(alloc, &sets, most)
-}
 
 // The numbers of checks and the sizes of the fields of some Hamming codes.
 static HAMMING: [(u64, u64); 8] = [
@@ -150,7 +39,7 @@ fn hamming_code(alloc: Global, r: u64, q: u64) -> Result<Code, Fail> {
 // Whether this is so for the Hamming code.
 fn hamming_agrees(rt: &impl Abort, alloc: Global, r: u64, q: u64) -> Result<bool, Fail> {
     let code = hamming_code(alloc, r, q)?;
-    code_agrees(rt, alloc, &code, 12)
+    code_does(rt, alloc, &code, Task::Least(Blocks::First(12)))
 }
 
 #[test]
@@ -179,7 +68,7 @@ fn reed_muller_agrees(
     most: u64,
 ) -> Result<bool, Fail> {
     let code = reed_muller(alloc, r, m)?;
-    code_agrees(rt, alloc, &code, most)
+    code_does(rt, alloc, &code, Task::Least(Blocks::First(most)))
 }
 
 #[test]
@@ -217,7 +106,7 @@ static ROWS: [(u64, usize, Rows); 2] = [
 // Whether this is so for the code of the rows.
 fn rows_agree(rt: &impl Abort, alloc: Global, q: u64, n: usize, rows: Rows) -> Result<bool, Fail> {
     let code = generated(alloc, q, n, rows)?;
-    code_agrees(rt, alloc, &code, 20)
+    code_does(rt, alloc, &code, Task::Least(Blocks::First(20)))
 }
 
 #[test]
@@ -263,7 +152,7 @@ fn has_word(
 }
 
 // Whether this is so of each row.
-fn has_words(alloc: Global, sets: &Sets, plan: &Plan) -> Result<bool, Fail>
+pub(crate) fn has_words(alloc: Global, sets: &Sets, plan: &Plan) -> Result<bool, Fail>
     requires plan { IsPlanOf plan.now sets.now }
 {
     for row in &WORDS {
@@ -274,16 +163,131 @@ fn has_words(alloc: Global, sets: &Sets, plan: &Plan) -> Result<bool, Fail>
     Ok(true)
 }
 
-// Whether the sets of the code have these words at their places.
-fn has_places(rt: &impl Abort, alloc: Global, code: &Code) -> Result<bool, Fail> {
-    let sets = sets_of(rt, alloc, code)?;
-    let plan = plan_of(alloc, &sets)?;
-    has_words(alloc, &sets, &plan)
-}
-
 #[test]
 fn words_at_places(rt: HostRuntime) -> Result<(), Fail> {
     let code = hamming_code(rt.alloc(), 3, 2)?;
-    assert!(rt; has_places(&rt, rt.alloc(), &code)?);
+    assert!(rt; code_does(&rt, rt.alloc(), &code, Task::Words)?);
+    Ok(())
+}
+
+// Makes a word the last one of a block. False if it can't be made.
+fn put_last(
+    sets: &Sets,
+    sums: &Sums,
+    plan: &Plan,
+    block: u64,
+    spot: &mut Spot,
+    word: &mut [u8],
+) -> bool
+    requires block { block < total plan.now.k plan.now.q plan.now.m }
+    requires room { plan.now.k ≤ spot.old.room }
+    ensures room { spot.new.room ≡ spot.old.room }
+{
+    plan.start_of(block, spot);
+    for _offset in 1..plan.block_len(block) {
+        let _goes_on = plan.next(spot);
+    }
+    put_word(sets, sums, spot, word)
+}
+
+// Whether the last word of a block is at its place, and none after it unless the block is full.
+fn has_end(
+    alloc: Global,
+    sets: &Sets,
+    plan: &Plan,
+    block: u64,
+    spot: &mut Spot,
+    word: &mut [u8],
+) -> Result<bool, Fail>
+    requires plan { IsPlanOf plan.now sets.now }
+    requires block { block < total plan.now.k plan.now.q plan.now.m }
+    requires room { plan.now.k ≤ spot.old.room }
+    ensures room { spot.new.room ≡ spot.old.room }
+{
+    let sums = sums_over(sets.field());
+    if !put_last(sets, &sums, plan, block, spot, word) {
+        return Ok(false);
+    }
+    let many = plan.block_len(block);
+    let end = block.saturating_mul(4096).saturating_add(many);
+    Ok(
+        has_word(alloc, sets, plan, end.saturating_sub(1), &Some(word))?
+            && (many == 4096 || has_word(alloc, sets, plan, end, &None)?),
+    )
+}
+
+// Whether this is so of the blocks of a level in set 0.
+fn has_ends(
+    alloc: Global,
+    sets: &Sets,
+    plan: &Plan,
+    level: usize,
+    spot: &mut Spot,
+    word: &mut [u8],
+) -> Result<bool, Fail>
+    requires plan { IsPlanOf plan.now sets.now }
+    requires room { plan.now.k ≤ spot.old.room }
+{
+    for block in 0..plan.total().min(4096) {
+        let phase = plan.phase_of(block);
+        if phase.level == level
+            && phase.set == 0
+            && !has_end(alloc, sets, plan, block, spot, word)?
+        {
+            return Ok(false);
+        }
+    }
+    Ok(true)
+}
+
+// Whether this is so by a word of its own.
+fn spot_has_ends(
+    alloc: Global,
+    sets: &Sets,
+    plan: &Plan,
+    level: usize,
+    spot: &mut Spot,
+) -> Result<bool, Fail>
+    requires plan { IsPlanOf plan.now sets.now }
+    requires room { plan.now.k ≤ spot.old.room }
+{
+    let mut word = vec![in alloc; 0u8; sets.length()]?;
+    has_ends(alloc, sets, plan, level, spot, &mut word)
+}
+
+// Whether the last words of the blocks of a level in set 0 are at their places, and none after them.
+pub(crate) fn words_are_at_ends(
+    alloc: Global,
+    sets: &Sets,
+    plan: &Plan,
+    level: usize,
+) -> Result<bool, Fail>
+    requires plan { IsPlanOf plan.now sets.now }
+{
+    let mut spot = Spot::new(alloc, sets.dimension())?;
+    spot_has_ends(alloc, sets, plan, level, &mut spot)
+}
+
+// Whether this is so for a code over a field, with two columns outside its sets.
+fn field_has_ends(rt: &impl Abort, alloc: Global, over: &Over) -> Result<bool, Fail> {
+    let shape = Shape {
+        length: over.dimension.saturating_add(2),
+        dimension: over.dimension,
+        columns: Columns::Dense,
+    };
+    shape_does(rt, alloc, over.q, &shape, Task::Ends(over.level))
+}
+
+#[test]
+fn words_at_the_ends_of_blocks(rt: HostRuntime) -> Result<(), Fail> {
+    for over in &CHARACTERISTIC_2 {
+        assert!(rt; field_has_ends(&rt, rt.alloc(), over)?, "{}", over.q);
+    }
+    for over in &CHARACTERISTIC_3 {
+        assert!(rt; field_has_ends(&rt, rt.alloc(), over)?, "{}", over.q);
+    }
+    for over in &OTHER_PRIMES {
+        assert!(rt; field_has_ends(&rt, rt.alloc(), over)?, "{}", over.q);
+    }
     Ok(())
 }

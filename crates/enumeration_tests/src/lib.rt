@@ -3,8 +3,20 @@
 #![tactic(auto)]
 
 #[cfg(test)]
+mod blocks;
+#[cfg(test)]
 mod infosets;
 #[cfg(test)]
 mod kernel;
 #[cfg(test)]
+mod plain;
+#[cfg(test)]
 mod plan;
+#[cfg(test)]
+mod planted;
+#[cfg(test)]
+mod shapes;
+#[cfg(test)]
+mod stack;
+#[cfg(test)]
+mod tasks;
