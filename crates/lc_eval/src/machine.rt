@@ -1,5 +1,5 @@
 //! The statements of a script, one after another.
-ghost use Rattle.std.specs.Prelude.{◌≡◌, [], IfOk, IfErr};
+ghost use Rattle.std.specs.Prelude.{◌≡◌, [], IfOk, IfErr, IsOk};
 ghost use Rattle.lc_parse.specs.Views.{script_of};
 ghost use Rattle.lc_eval.specs.Machine.{State, Does};
 
@@ -73,9 +73,10 @@ impl Model for Machine {
 }
 
 impl Machine {
-    /// The machine at the first statement of the script, with no name bound. The script is dropped if no memory is left.
+    /// The machine at the first statement of the script, with no name bound. That takes no memory.
     pub fn start(alloc: Global, script: Script) -> Result<Machine, NoMemory>
         ensures start { IfOk result (λ m. m ≡ record { bindings = []; left = script.statements.items }) }
+        ensures always { IsOk result }
     {
         Ok(Machine {
             script,
