@@ -5,6 +5,10 @@
 #[cfg(test)]
 mod board;
 #[cfg(test)]
+mod gate;
+#[cfg(test)]
 mod outside;
 #[cfg(test)]
 mod search;
+#[cfg(test)]
+mod shifts;
