@@ -7,6 +7,10 @@ mod adapters;
 #[cfg(test)]
 mod board;
 #[cfg(test)]
+mod gate;
+#[cfg(test)]
 mod outside;
 #[cfg(test)]
 mod search;
+#[cfg(test)]
+mod shifts;

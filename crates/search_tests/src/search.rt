@@ -1,90 +1,32 @@
-//! Searches with one worker and with several, by values from a list of all words of the levels that are done.
-ghost use Rattle.std.specs.Prelude.{◌≡◌, ◌<◌, ◌≤◌, ◌^◌, IfOk, length};
+//! Searches with one worker and with several, by values from a list of all words of the levels that are done, as
+//! tools/search_numbers.py prints them.
+ghost use Rattle.std.specs.Prelude.{◌≡◌, ◌<◌, ◌≤◌, ◌^◌, length};
 ghost use Rattle.lc_search.specs.State.{answer_in};
 
+use crate::shifts::{
+    BCH_63, BCH_255, EVEN_SHIFTS, HAMMING, LATE_SHIFTS, RESIDUES, SHIFTS, Shifts, code_of,
+};
 use lc_code::Code;
-use lc_field::{Field, NoMemory};
+use lc_field::NoMemory;
 use lc_io::{Advice, Gate, MemoryWatcher, OpenGate, Record};
 use lc_search::{Answer, ResumeRefusal, RoundRecord, Search, tell};
-use lc_vec::Word;
 use std::alloc::Global;
 use std::process::Abort;
 use std::sync::atomic::{AtomicU64, Ordering};
 use std::test::Fail;
 use std::thread::Threads;
-use test_rows::are_words;
 
-// The Hamming code of length 7.
-const HAMMING: Shifts = Shifts {
-    length: 7,
-    dimension: 4,
-    exponents: &[0, 1, 3],
-};
+// With how many workers each search is done.
+const WORKERS: [u32; 7] = [1, 2, 3, 4, 7, 64, 256];
 
-// The quadratic residue code of length 47 (MacWilliams and Sloane, chapter 16).
-const RESIDUES: Shifts = Shifts {
-    length: 47,
-    dimension: 24,
-    exponents: &[0, 1, 2, 3, 5, 6, 7, 9, 10, 12, 13, 14, 18, 19, 23],
-};
-
-// A code whose best word is in block 4.
-const SHIFTS: Shifts = Shifts {
-    length: 60,
-    dimension: 26,
-    exponents: &[
-        0, 3, 4, 5, 10, 12, 13, 15, 17, 18, 21, 22, 23, 25, 28, 30, 32, 33, 34,
-    ],
-};
-
-// A code of even weights, whose best word is in block 11.
-const EVEN_SHIFTS: Shifts = Shifts {
-    length: 60,
-    dimension: 26,
-    exponents: &[0, 1, 2, 6, 8, 10, 16, 21, 23, 26, 32, 34],
-};
-
-// The code over 2 elements of the shifts of one word, with ones at the exponents.
-struct Shifts {
-    length: usize,
-    dimension: usize,
-    exponents: &'static [usize],
-}
-
-// The word with ones at the exponents, moved by so many coordinates.
-fn shifted(alloc: Global, shifts: &Shifts, by: usize) -> Result<Word, NoMemory> {
-    let mut symbols = vec![in alloc; 0u8; shifts.length]?;
-    for exponent in shifts.exponents {
-        if let Some(symbol) = symbols.get_mut(exponent.saturating_add(by)) {
-            *symbol = 1;
-        }
-    }
-    Ok(Word::from_vec(symbols))
-}
-
-// The code of the shifts, of dimension at least 1.
-fn code_of(rt: &impl Abort, alloc: Global, shifts: &Shifts) -> Result<Code, Fail>
-    ensures some { IfOk result (λ c. 0 < length c.rows) }
-{
-    let field = Field::of(alloc, 2)?;
-    let mut words = Vec::new(alloc);
-    for by in 0..shifts.dimension {
-        words.push(shifted(alloc, shifts, by)?)?;
-    }
-    let n = shifts.length;
-    assert!(rt; field.is_symbol() && 1 <= n && n <= 255 && are_words(&field, n, &words));
-    let code = Code::from_rows(alloc, &field, n, &words)?;
-    assert!(rt; 1 <= code.dimension());
-    Ok(code)
-}
-
-// Does rounds until the search is answered.
-fn run<R: Threads + Sync>(
+// Does rounds until the search is answered. The workers pass the gate.
+pub(crate) fn run<R: Threads + Sync, G: Gate + Sync>(
     rt: &R,
     alloc: Global,
     search: &mut Search,
     workers: u32,
     limit: u64,
+    gate: &G,
 ) -> Result<Answer, NoMemory>
     requires workers { (1 ≤ workers) × (workers ≤ 256) }
     requires limit { 1 ≤ limit }
@@ -93,16 +35,49 @@ fn run<R: Threads + Sync>(
         if let Some(answer) = search.finished() {
             return Ok(answer);
         }
-        let _record = search.round(rt, alloc, workers, limit, &OpenGate)?;
+        let _record = search.round(rt, alloc, workers, limit, gate)?;
     }
 }
 
-// Searches, their budgets, with how many workers, and what they answer.
-const SHORT: [(Shifts, u64, &[u32], Answer); 2] = [
+// Searches, their budgets, which end inside a phase, and what they answer.
+const BRACKETS: [(Shifts, u64, Answer); 3] = [
+    (
+        RESIDUES,
+        20,
+        Answer::Bracket {
+            low: 9,
+            weight: 11,
+            place: 5,
+            blocks: 20,
+        },
+    ),
+    (
+        LATE_SHIFTS,
+        102,
+        Answer::Bracket {
+            low: 6,
+            weight: 8,
+            place: 415_371,
+            blocks: 102,
+        },
+    ),
+    (
+        BCH_63,
+        300,
+        Answer::Bracket {
+            low: 5,
+            weight: 7,
+            place: 8,
+            blocks: 300,
+        },
+    ),
+];
+
+// Searches whose budgets are large enough.
+const DISTANCES: [(Shifts, u64, Answer); 4] = [
     (
         HAMMING,
         100,
-        &[1, 2, 3, 4, 7, 64, 256],
         Answer::Exact {
             weight: 3,
             place: 0,
@@ -111,22 +86,7 @@ const SHORT: [(Shifts, u64, &[u32], Answer); 2] = [
     ),
     (
         RESIDUES,
-        20,
-        &[1, 2, 4, 7],
-        Answer::Bracket {
-            low: 9,
-            weight: 11,
-            place: 5,
-            blocks: 20,
-        },
-    ),
-];
-
-const LONG: [(Shifts, u64, &[u32], Answer); 3] = [
-    (
-        RESIDUES,
         1 << 40,
-        &[4],
         Answer::Exact {
             weight: 11,
             place: 5,
@@ -136,7 +96,6 @@ const LONG: [(Shifts, u64, &[u32], Answer); 3] = [
     (
         SHIFTS,
         1 << 20,
-        &[7],
         Answer::Exact {
             weight: 11,
             place: 18_835,
@@ -146,7 +105,6 @@ const LONG: [(Shifts, u64, &[u32], Answer); 3] = [
     (
         EVEN_SHIFTS,
         1 << 20,
-        &[1],
         Answer::Exact {
             weight: 10,
             place: 45_438,
@@ -171,7 +129,7 @@ fn gives<R: Threads + Sync>(
     requires limit { 1 ≤ limit }
 {
     let mut search = Search::start(alloc, code, budget)?;
-    let found = run(rt, alloc, &mut search, workers, limit)?;
+    let found = run(rt, alloc, &mut search, workers, limit, &OpenGate)?;
     Ok(found == *answer)
 }
 
@@ -179,16 +137,15 @@ fn gives<R: Threads + Sync>(
 fn give<R: Threads + Sync + Abort>(
     rt: &R,
     alloc: Global,
-    rows: &[(Shifts, u64, &[u32], Answer)],
+    rows: &[(Shifts, u64, Answer)],
 ) -> Result<(), Fail> {
-    for (shifts, budget, workers, answer) in rows {
+    for (shifts, budget, answer) in rows {
         let code = code_of(rt, alloc, shifts)?;
         assert!(rt; *budget <= 1 << 40);
-        for count in *workers {
-            assert!(rt; 1 <= *count && *count <= 256);
+        for workers in WORKERS {
             assert!(rt;
-                gives(rt, alloc, &code, *budget, *count, u64::MAX, answer)?,
-                "{count}"
+                gives(rt, alloc, &code, *budget, workers, u64::MAX, answer)?,
+                "{workers}"
             );
         }
     }
@@ -196,19 +153,19 @@ fn give<R: Threads + Sync + Abort>(
 }
 
 #[test]
-fn workers_give_equal_answers(rt: HostRuntime) -> Result<(), Fail> {
-    give(&rt, rt.alloc(), &SHORT)
+fn budgets_end_searches(rt: HostRuntime) -> Result<(), Fail> {
+    give(&rt, rt.alloc(), &BRACKETS)
 }
 
 #[test]
 fn searches_end_at_the_distance(rt: HostRuntime) -> Result<(), Fail> {
-    give(&rt, rt.alloc(), &LONG)
+    give(&rt, rt.alloc(), &DISTANCES)
 }
 
 #[test]
 fn limits_give_equal_answers(rt: HostRuntime) -> Result<(), Fail> {
     let alloc = rt.alloc();
-    let (shifts, budget, _, answer) = &SHORT[1];
+    let (shifts, budget, answer) = &BRACKETS[2];
     let code = code_of(&rt, alloc, shifts)?;
     assert!(rt; *budget <= 1 << 40);
     for limit in [1, 2, 255, 256] {
@@ -216,6 +173,41 @@ fn limits_give_equal_answers(rt: HostRuntime) -> Result<(), Fail> {
             gives(&rt, alloc, &code, *budget, 3, limit, answer)?,
             "{limit}"
         );
+    }
+    Ok(())
+}
+
+// Whether a search that has 300 blocks left of a plan that is cut at 2^40, and no better word than the one at place 0, ends
+// with the least word of these blocks and the bound of the levels below the cut.
+fn ends_at_the_cut<R: Threads + Sync>(
+    rt: &R,
+    alloc: Global,
+    code: &Code,
+    workers: u32,
+) -> Result<bool, ResumeRefusal>
+    requires dimension { 0 < length code.now.rows }
+    requires workers { (1 ≤ workers) × (workers ≤ 256) }
+{
+    let mut search = Search::resume_at(alloc, code, 1 << 40, (1 << 40) - 300, 27, 0)?;
+    let found = run(rt, alloc, &mut search, workers, u64::MAX, &OpenGate)?;
+    Ok(
+        found
+            == Answer::Bracket {
+                low: 10,
+                weight: 20,
+                place: 4_503_599_627_147_147,
+                blocks: 1 << 40,
+            },
+    )
+}
+
+#[test]
+fn a_plan_is_cut(rt: HostRuntime) -> Result<(), Fail> {
+    let alloc = rt.alloc();
+    let code = code_of(&rt, alloc, &BCH_255)?;
+    for workers in [1, 64, 256] {
+        let ends = ends_at_the_cut(&rt, alloc, &code, workers);
+        assert!(rt; ends == Ok(true), "{workers}");
     }
     Ok(())
 }

@@ -1,0 +1,99 @@
+//! Workers beside each other: a round whose reports are held at the gate until its other blocks have come there.
+ghost use Rattle.std.specs.Prelude.{◌<◌, ◌≤◌, length};
+
+use crate::search::run;
+use crate::shifts::{BCH_63, code_of};
+use lc_code::Code;
+use lc_field::NoMemory;
+use lc_io::Gate;
+use lc_search::{Answer, Search};
+use std::alloc::Global;
+use std::sync::atomic::{AtomicBool, AtomicU64, Ordering};
+use std::test::Fail;
+use std::thread::Threads;
+
+// The blocks of the messages of weight 3, which one round does: the first and the last one.
+const FIRST: u64 = 2;
+
+const LAST: u64 = 5;
+
+// The flags of these blocks.
+const ALL: u64 = 0b11_1100;
+
+// How often a gate looks at the flags.
+const TURNS: u64 = 1 << 30;
+
+// A gate that holds the report of one block until the three other blocks have come to it, and keeps whether they came.
+#[derive(Drop)]
+struct WaitingGate {
+    held: u64,
+    flags: AtomicU64,
+    met: AtomicBool,
+}
+
+impl WaitingGate {
+    fn holding(held: u64) -> WaitingGate {
+        WaitingGate {
+            held,
+            flags: AtomicU64::new(0),
+            met: AtomicBool::new(false),
+        }
+    }
+
+    // Looks at the flags until all are there.
+    fn wait(&self) {
+        for _ in 0..TURNS {
+            if self.flags.load(Ordering::SeqCst) == ALL {
+                self.met.store(true, Ordering::SeqCst);
+                return;
+            }
+        }
+    }
+}
+
+impl Gate for WaitingGate {
+    fn before_report(&self, _worker: u32, block: u64) {
+        if block < FIRST || block > LAST {
+            return;
+        }
+        self.flags.fetch_or(1 << block, Ordering::SeqCst);
+        if block == self.held {
+            self.wait();
+        }
+    }
+}
+
+// What a search with two workers that pass the gate answers.
+fn search_through<R: Threads + Sync>(
+    rt: &R,
+    alloc: Global,
+    code: &Code,
+    gate: &WaitingGate,
+) -> Result<Answer, NoMemory>
+    requires dimension { 0 < length code.now.rows }
+{
+    let mut search = Search::start(alloc, code, 1 << 20)?;
+    run(rt, alloc, &mut search, 2, u64::MAX, gate)
+}
+
+// A body that does the blocks of a round one after another, or gives each worker blocks of its own beforehand, fails for one
+// of the blocks that are held.
+#[test]
+fn blocks_come_to_the_gate_while_another_is_held(rt: HostRuntime) -> Result<(), Fail> {
+    let alloc = rt.alloc();
+    let code = code_of(&rt, alloc, &BCH_63)?;
+    for held in FIRST..=LAST {
+        let gate = WaitingGate::holding(held);
+        let answer = search_through(&rt, alloc, &code, &gate)?;
+        assert!(rt; gate.met.load(Ordering::SeqCst), "{held}");
+        assert!(rt;
+            answer
+                == Answer::Exact {
+                    weight: 7,
+                    place: 8,
+                    blocks: 2_331,
+                }
+        );
+    }
+    Ok(())
+}
