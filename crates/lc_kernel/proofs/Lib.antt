@@ -11,3 +11,5 @@ pub mod TableLaws
 pub mod MultipleLaws
 pub mod TailLaws
 pub mod FrontPlanes
+pub mod ListLaws
+pub mod SweepLaws

@@ -195,7 +195,7 @@ last_is_message C plan s last starts p e l h message support coefficients =
     let long : length last.support ≡ length s.support = ap length support ∙ long_pair (head_of s) (length C.rows - 2) (length C.rows - 1) ∙ omega (arith, head_long s, l) in
     rw (p.dimension, p.field, long) (to_contains (messages (length C.rows) (size C.field) (length s.support)) (spot_message last) (n.0 + j) at)
 
-inside_level : (C : Matrix) (m p b n : ℕ) → IsInPhase (length C.rows) (size C.field) m p b → n < length (block_words C m b) → 4096 * (b - blocks_before (length C.rows) (size C.field) m p) + n < length (messages (length C.rows) (size C.field) (phase_level m p))
+pub inside_level : (C : Matrix) (m p b n : ℕ) → IsInPhase (length C.rows) (size C.field) m p b → n < length (block_words C m b) → 4096 * (b - blocks_before (length C.rows) (size C.field) m p) + n < length (messages (length C.rows) (size C.field) (phase_level m p))
 unfolding block_length
 inside_level C m p b n h l = omega (arith, l, block_long C m p b h, length-messages (length C.rows) (size C.field) (phase_level m p))
 

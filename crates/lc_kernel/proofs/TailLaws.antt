@@ -111,7 +111,7 @@ last_fronts C s last count i h l =
     front_same C s last (w - 2) i l h.set (ap (take (w - 2)) h.support) same
 
 -- a head's planes, and those of a tail's negative
-bits_of_run : (C : Matrix) (j planes : ℕ) (cols head u bits : List ℕ) (tails e a c : ℕ) → tails ≡ tails_in C → AreTailPlanes C j cols planes bits → ((p : ℕ) → p < planes → slice_index u p ≡ plane_at p cols head) → e < tails_in C → slice_get (supports_from 0 (length C.rows) 2) (e / tail_count C) ≡ Some (a ∷ c ∷ []) → (n : ℕ) → n ≤ planes → bits_apart n u bits tails e ≡ apart n (restrict cols head) (restrict cols (negative C.field (tail_word C j a c (e % tail_count C))))
+pub bits_of_run : (C : Matrix) (j planes : ℕ) (cols head u bits : List ℕ) (tails e a c : ℕ) → tails ≡ tails_in C → AreTailPlanes C j cols planes bits → ((p : ℕ) → p < planes → slice_index u p ≡ plane_at p cols head) → e < tails_in C → slice_get (supports_from 0 (length C.rows) 2) (e / tail_count C) ≡ Some (a ∷ c ∷ []) → (n : ℕ) → n ≤ planes → bits_apart n u bits tails e ≡ apart n (restrict cols head) (restrict cols (negative C.field (tail_word C j a c (e % tail_count C))))
 bits_of_run C j planes cols head u bits tails e a c is t h inside at zero l = refl
 bits_of_run C j planes cols head u bits tails e a c is t h inside at (suc n) l =
     let rest = bits_of_run C j planes cols head u bits tails e a c is t h inside at n (omega (arith, l)) in

@@ -7,4 +7,5 @@ pub mod Tables
 pub mod Planes
 pub mod Grid
 pub mod Fronts
+pub mod Sweeps
 pub mod Grids

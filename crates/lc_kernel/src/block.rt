@@ -40,6 +40,8 @@ pub fn least(sets: &Sets, plan: &Plan, block: u64, scratch: &mut Scratch) -> u64
         &mut scratch.spot,
         &mut scratch.heads,
         &mut scratch.fronts,
+        &mut scratch.places,
+        &mut scratch.tops,
         &mut scratch.counts,
         &mut scratch.stack,
     )
@@ -56,6 +58,8 @@ fn least_in(
     spot: &mut Spot,
     heads: &mut [Word],
     fronts: &mut [[u64; 4]],
+    places: &mut [usize],
+    tops: &mut [[u64; 4]],
     counts: &mut [u32],
     stack: &mut Stack,
 ) -> u64
@@ -65,10 +69,14 @@ fn least_in(
     requires grids { AreGrids sets.now grids.now }
     requires heads { IsRoom sets.now spot.old heads.old }
     requires fronts { length fronts.old ≡ length sets.now.rows + 1 }
+    requires places { length places.old ≡ length sets.now.rows }
+    requires tops { length tops.old ≡ 1024 }
     requires counts { length counts.old ≡ 4096 }
     requires stack { stack.old.code ≡ sets.now }
     ensures heads { IsRoom sets.now spot.new heads.new }
     ensures fronts { length fronts.new ≡ length fronts.old }
+    ensures places { length places.new ≡ length places.old }
+    ensures tops { length tops.new ≡ length tops.old }
     ensures counts { length counts.new ≡ length counts.old }
     ensures stack { stack.new.code ≡ stack.old.code }
     ensures is { option_map board_value (block_least sets.now plan.now.m block) ≡ Some result }
@@ -81,7 +89,7 @@ fn least_in(
         let grid = &grids[set];
         let multiples = stack.multiples();
         return by_tails(
-            sets, plan, block, grid, multiples, spot, heads, fronts, counts,
+            sets, plan, block, grid, multiples, spot, heads, fronts, places, tops, counts,
         );
     }
     if level >= 2 && set < tables.len() {

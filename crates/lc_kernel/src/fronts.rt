@@ -23,6 +23,7 @@ use crate::grid::Grid;
 use crate::multiples::{multiple_of, nonzero};
 use crate::planes::{add_apart, pack};
 use crate::runs::pair_index;
+use crate::sweeps::{count_sweeps, head_count};
 use crate::tails::{count_tails, pass, tail_of};
 use lc_field::NoMemory;
 use lc_infoset::Sets;
@@ -66,8 +67,8 @@ fn trits(a: u64, b: u64, c: u64, d: u64) -> u64
     (b | d) ^ ((a | d) ^ (b | c))
 }
 
-// The planes of a sum, from those of two words: in characteristic 2, if `even` is true, and else over 3 elements.
-fn sum_planes(even: bool, u: &[u64; 4], v: &[u64; 4]) -> [u64; 4]
+/// The planes of a sum, from those of two words: in characteristic 2, if `even` is true, and else over 3 elements.
+pub(crate) fn sum_planes(even: bool, u: &[u64; 4], v: &[u64; 4]) -> [u64; 4]
     ensures even { even ≡ true → (j : ℕ) → j < 4 → slice_index result j ≡ bit_xor (slice_index u.now j) (slice_index v.now j) }
     ensures low { even ≡ false → slice_index result 0 ≡ trit_sum (slice_index u.now 0) (slice_index u.now 1) (slice_index v.now 0) (slice_index v.now 1) }
     ensures high { even ≡ false → slice_index result 1 ≡ trit_sum (slice_index u.now 1) (slice_index u.now 0) (slice_index v.now 1) (slice_index v.now 0) }
@@ -248,7 +249,8 @@ pub(crate) fn count_fronts(
 }
 
 /// Counts the nonzero symbols, outside the basis, of the words of a block of a level of at least 3, from its
-/// first message on: by the planes of its heads if the table keeps them, and else by their symbols.
+/// first message on: by the planes of its heads if the table keeps them, support by support
+/// if a support hasn't too many, and else by the symbols of its heads.
 #[tactic(auto, using(crate::proofs::SumLaws::room_kept))]
 pub(crate) fn count_words(
     sets: &Sets,
@@ -259,6 +261,8 @@ pub(crate) fn count_words(
     spot: &mut Spot,
     heads: &mut [Word],
     fronts: &mut [[u64; 4]],
+    places: &mut [usize],
+    tops: &mut [[u64; 4]],
     counts: &mut [u32],
 )
     requires plan { IsPlanOf plan.now sets.now }
@@ -271,15 +275,31 @@ pub(crate) fn count_words(
     requires multiples { AreMultiples sets.now multiples.now }
     requires room { IsRoom sets.now spot.old heads.old }
     requires many { length fronts.old ≡ length sets.now.rows + 1 }
+    requires places { length places.old ≡ length sets.now.rows }
+    requires tops { length tops.old ≡ 1024 }
     requires some { 0 < length counts.old }
     requires words { length counts.old ≡ length (block_words sets.now plan.now.m block) }
     ensures counted { AreCounted (others sets.now spot.old.set) (block_words sets.now plan.now.m block) 0 (length counts.old) counts.new }
     ensures room { spot.new.room ≡ spot.old.room }
     ensures heads { IsRoom sets.now spot.new heads.new }
 {
-    if grid.kept {
-        count_fronts(sets, plan, block, grid, spot, fronts, counts);
+    if !grid.kept {
+        count_tails(sets, plan, block, grid, multiples, spot, heads, counts);
         return;
     }
-    count_tails(sets, plan, block, grid, multiples, spot, heads, counts);
+    let level = spot.support().len();
+    let Some(many) = head_count(sets, level) else {
+        count_fronts(sets, plan, block, grid, spot, fronts, counts);
+        return;
+    };
+    count_sweeps(
+        sets,
+        plan,
+        block,
+        grid,
+        spot,
+        &mut places[..level],
+        &mut tops[..many],
+        counts,
+    );
 }

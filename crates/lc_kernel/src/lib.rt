@@ -13,6 +13,7 @@ mod planes;
 mod runs;
 mod scratch;
 mod stack;
+mod sweeps;
 mod table;
 mod tails;
 

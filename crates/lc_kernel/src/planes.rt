@@ -1,6 +1,6 @@
 //! The bits of the symbols of words, as numbers, and where words differ.
 
-ghost use Rattle.std.specs.Prelude.{◌≡◌, ℕ, ◌+◌, ◌*◌, ◌^◌, ◌<◌, ◌≤◌, length, slice_index, bit_or, bit_xor, count_ones};
+ghost use Rattle.std.specs.Prelude.{◌≡◌, ℕ, ◌+◌, ◌*◌, ◌/◌, ◌%◌, ◌^◌, ◌<◌, ◌≤◌, [], length, slice_index, slice_index_or, bit_or, bit_xor, count_ones};
 ghost use Rattle.lc_kernel.specs.Planes.{plane, plane_at, bits_apart};
 
 use std::simd::prelude::*;
@@ -134,4 +134,45 @@ pub(crate) fn add_apart(
     let eights = &bits[fourth..fourth + many];
     let [p, r, s, t] = *head;
     add_four(ones, twos, fours, eights, p, r, s, t, counts);
+}
+
+/// Adds to each count the number of symbols at which a head differs from one of some words, the tails of the heads.
+/// The bits are as those of `add_apart`; count i is for head (`first` + i) / `tails`, and for word `start` +
+/// (`first` + i) % `tails`.
+pub(crate) fn add_heads(
+    planes: usize,
+    bits: &[u64],
+    words: usize,
+    start: usize,
+    tails: usize,
+    heads: &[[u64; 4]],
+    first: usize,
+    counts: &mut [u32],
+)
+    requires least { 2 ≤ planes }
+    requires most { planes ≤ 4 }
+    requires long { length bits.now ≡ planes * words }
+    requires some { 0 < tails }
+    requires room { start + tails ≤ words }
+    requires small { words ≤ 2 ^ 18 }
+    requires inside { first + length counts.old ≤ length heads.now * tails }
+    requires few { length heads.now ≤ 1024 }
+    requires counts { (i : ℕ) → i < length counts.old → slice_index counts.old i ≤ 255 }
+    ensures is { (i : ℕ) → i < length counts.old → slice_index counts.new i ≡ slice_index counts.old i + count_ones (bits_apart planes (slice_index_or heads.now ((first + i) / tails) []) bits.now words (start + (first + i) % tails)) }
+{
+    let mut done = 0;
+    while done < counts.len() {
+        let tail = (first + done) % tails;
+        let end = (done + (tails - tail)).min(counts.len());
+        let head = &heads[(first + done) / tails];
+        add_apart(
+            planes,
+            bits,
+            words,
+            start + tail,
+            head,
+            &mut counts[done..end],
+        );
+        done = end;
+    }
 }

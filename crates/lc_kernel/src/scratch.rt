@@ -9,6 +9,7 @@ ghost use Rattle.lc_kernel.specs.Sums.{AreMultiples};
 
 use crate::grid::{Grid, grid_of};
 use crate::stack::{Stack, zeros};
+use crate::sweeps::MOST_HEADS;
 use crate::table::{Table, table_of};
 use lc_field::NoMemory;
 use lc_infoset::Sets;
@@ -34,6 +35,9 @@ pub struct Scratch {
     pub(crate) heads: Vec<Word>,
     // over 3 elements, and in characteristic 2, the planes of these sums
     pub(crate) fronts: Vec<[u64; 4]>,
+    // for these fields too, a support, and the planes of the words of its first places
+    pub(crate) places: Vec<usize>,
+    pub(crate) tops: Vec<[u64; 4]>,
     pub(crate) counts: Vec<u32>,
 }
 
@@ -49,7 +53,7 @@ impl Model for Scratch {
 
     ghost view = { λ s. s.stack.code };
 
-    ghost invariant = { λ s. AreTables s.stack.code (arc_value s.tables).items × AreGrids s.stack.code (arc_value s.grids).items × IsRoom s.stack.code s.spot s.heads.items × (length s.fronts.items ≡ length s.stack.code.rows + 1) × (length s.counts.items ≡ 4096) };
+    ghost invariant = { λ s. AreTables s.stack.code (arc_value s.tables).items × AreGrids s.stack.code (arc_value s.grids).items × IsRoom s.stack.code s.spot s.heads.items × (length s.fronts.items ≡ length s.stack.code.rows + 1) × (length s.places.items ≡ length s.stack.code.rows) × (length s.tops.items ≡ 1024) × (length s.counts.items ≡ 4096) };
 }
 
 impl Scratch {
@@ -98,6 +102,8 @@ impl Scratch {
         };
         let heads = zeros(alloc, k + 1, stack.length())?;
         let fronts = vec![in alloc; [0u64; 4]; k + 1]?;
+        let places = vec![in alloc; 0usize; k]?;
+        let tops = vec![in alloc; [0u64; 4]; MOST_HEADS]?;
         let counts = vec![in alloc; 0u32; 4096]?;
         Ok(Scratch {
             stack,
@@ -106,6 +112,8 @@ impl Scratch {
             spot,
             heads,
             fronts,
+            places,
+            tops,
             counts,
         })
     }

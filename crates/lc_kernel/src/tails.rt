@@ -235,6 +235,8 @@ pub(crate) fn by_tails(
     spot: &mut Spot,
     heads: &mut [Word],
     fronts: &mut [[u64; 4]],
+    places: &mut [usize],
+    tops: &mut [[u64; 4]],
     counts: &mut [u32],
 ) -> u64
     requires plan { IsPlanOf plan.now sets.now }
@@ -247,10 +249,14 @@ pub(crate) fn by_tails(
     requires multiples { AreMultiples sets.now multiples.now }
     requires room { IsRoom sets.now spot.old heads.old }
     requires many { length fronts.old ≡ length sets.now.rows + 1 }
+    requires places { length places.old ≡ length sets.now.rows }
+    requires tops { length tops.old ≡ 1024 }
     requires counts { length counts.old ≡ 4096 }
     ensures is { option_map board_value (block_least sets.now plan.now.m block) ≡ Some result }
     ensures heads { IsRoom sets.now spot.new heads.new }
     ensures many { length fronts.new ≡ length fronts.old }
+    ensures places { length places.new ≡ length places.old }
+    ensures tops { length tops.new ≡ length tops.old }
     ensures counts { length counts.new ≡ length counts.old }
 {
     let _few = plan.total();
@@ -268,6 +274,8 @@ pub(crate) fn by_tails(
         spot,
         heads,
         fronts,
+        places,
+        tops,
         &mut counts[..len],
     );
     let (least, at) = first_least(&counts[..len]);

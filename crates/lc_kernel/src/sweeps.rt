@@ -1,0 +1,294 @@
+//! The counts of a block of words by supports, over 3 elements and in characteristic 2, if at most 64 columns are
+//! outside the basis. The planes of the words of the first places of a support, with all lists of
+//! coefficients, are its heads; they are kept from support to support.
+
+ghost use Rattle.std.specs.Prelude.{◌≡◌, ℕ, ◌+◌, ◌-◌, ◌*◌, ◌^◌, ◌<◌, ◌≤◌, ◌∷◌, [], Some, None, length, take, slice_get, slice_index, IfSome, IfNone};
+ghost use Rattle.std.specs.List.{Contains};
+ghost use Rattle.lc_algebra.specs.Field.{size};
+ghost use Rattle.lc_enumeration.specs.Message.{messages, supports_from, leading_lists};
+ghost use Rattle.lc_enumeration.specs.Plan.{IsInPhase};
+ghost use Rattle.lc_enumeration.specs.Search.{set_count, block_words};
+ghost use Rattle.lc_place.specs.Place.{spot_message};
+ghost use Rattle.lc_kernel.specs.Values.{IsSpotAt};
+ghost use Rattle.lc_kernel.specs.Packed.{others, part_at};
+ghost use Rattle.lc_kernel.specs.Grid.{tail_count};
+ghost use Rattle.lc_kernel.specs.Grids.{IsGrid};
+ghost use Rattle.lc_kernel.specs.Fronts.{IsKept};
+ghost use Rattle.lc_kernel.specs.Least.{AreCounted};
+ghost use Rattle.lc_kernel.specs.Sweeps.{list_count, IsListedAt, AreHeads};
+
+use crate::fronts::sum_planes;
+use crate::grid::Grid;
+use crate::multiples::nonzero;
+use crate::planes::add_heads;
+use lc_infoset::Sets;
+use lc_place::{Plan, Spot};
+
+/// The most heads that a support has.
+pub(crate) const MOST_HEADS: usize = 1024;
+
+/// How many heads a support of a level of at least 3 has, if there aren't too many.
+pub(crate) fn head_count(sets: &Sets, level: usize) -> Option<usize>
+    requires level { 3 ≤ level }
+    ensures is { IfSome result (λ many. many ≡ list_count sets.now (level - 2)) }
+    ensures few { IfSome result (λ many. many ≤ 1024) }
+{
+    let elements = nonzero(sets);
+    let mut many = 1;
+    for _place in 3..level {
+        many *= elements;
+        if many > MOST_HEADS {
+            return None;
+        }
+    }
+    Some(many)
+}
+
+// The index of the coefficients of a spot among the lists of its level.
+fn list_of(sets: &Sets, spot: &Spot) -> usize
+    requires message { Contains (messages (length sets.now.rows) (size sets.now.field) (length spot.now.support)) (spot_message spot.now) }
+    requires level { 3 ≤ length spot.now.support }
+    requires few { list_count sets.now (length spot.now.support) ≤ 2 ^ 18 }
+    ensures is { slice_get (leading_lists (size sets.now.field) (length spot.now.support)) result ≡ Some spot.now.coefficients }
+{
+    let elements = nonzero(sets);
+    let coefficients = spot.coefficients();
+    let mut list = 0;
+    for i in 1..coefficients.len() {
+        list = list * elements + (coefficients[i] as usize - 1);
+    }
+    list
+}
+
+// Makes the heads of one place more, from those of the first i.
+fn grow(
+    sets: &Sets,
+    grid: &Grid,
+    set: usize,
+    support: &[usize],
+    i: usize,
+    many: usize,
+    heads: &mut [[u64; 4]],
+)
+    requires set { set < set_count sets.now }
+    requires rises { Contains (supports_from 0 (length sets.now.rows) (length support.now)) support.now }
+    requires kept { IsKept sets.now set grid.now.planes grid.now.even grid.now.rows.items }
+    requires some { 1 ≤ i }
+    requires entry { i < length support.now }
+    requires many { many ≡ list_count sets.now (i + 1) }
+    requires room { many ≤ length heads.old }
+    requires heads { AreHeads sets.now set support.now grid.now.planes i heads.old }
+    ensures heads { AreHeads sets.now set support.now grid.now.planes (i + 1) heads.new }
+{
+    let _k = sets.dimension();
+    let _n = sets.length();
+    let elements = nonzero(sets);
+    let row = support[i] * elements;
+    let mut e = many;
+    while e > 0 {
+        e -= 1;
+        let sum = sum_planes(
+            grid.even,
+            &heads[e / elements],
+            &grid.rows[row + e % elements],
+        );
+        heads[e] = sum;
+    }
+}
+
+// Makes the heads of a support.
+fn make_heads(sets: &Sets, grid: &Grid, set: usize, support: &[usize], heads: &mut [[u64; 4]])
+    requires set { set < set_count sets.now }
+    requires rises { Contains (supports_from 0 (length sets.now.rows) (length support.now)) support.now }
+    requires kept { IsKept sets.now set grid.now.planes grid.now.even grid.now.rows.items }
+    requires level { 3 ≤ length support.now }
+    requires room { list_count sets.now (length support.now - 2) ≤ length heads.old }
+    requires few { list_count sets.now (length support.now - 2) ≤ 1024 }
+    ensures heads { AreHeads sets.now set support.now grid.now.planes (length support.now - 2) heads.new }
+{
+    let _k = sets.dimension();
+    let _n = sets.length();
+    let elements = nonzero(sets);
+    heads[0] = grid.rows[support[0] * elements];
+    let mut many = 1;
+    for i in 1..support.len() - 2 {
+        many *= elements;
+        grow(sets, grid, set, support, i, many, heads);
+    }
+}
+
+// Counts the words of a block with one support, from one of its lists on, up to the end of the support
+// or of the block. Returns how many these are.
+fn count_support(
+    sets: &Sets,
+    plan: &Plan,
+    block: u64,
+    grid: &Grid,
+    set: usize,
+    support: &[usize],
+    heads: &[[u64; 4]],
+    list: usize,
+    done: usize,
+    counts: &mut [u32],
+) -> usize
+    requires phase { (p : ℕ) × IsInPhase (length sets.now.rows) (size sets.now.field) plan.now.m p block }
+    requires set { set < set_count sets.now }
+    requires at { IsListedAt sets.now plan.now.m block done set support.now list }
+    requires grid { IsGrid sets.now set grid.now.planes grid.now.tails grid.now.parts.items grid.now.starts.items }
+    requires alone { length grid.now.parts.items ≡ 1 }
+    requires many { length heads.now ≡ list_count sets.now (length support.now - 2) }
+    requires few { length heads.now ≤ 1024 }
+    requires heads { AreHeads sets.now set support.now grid.now.planes (length support.now - 2) heads.now }
+    requires some { done < length counts.old }
+    requires words { length counts.old ≡ length (block_words sets.now plan.now.m block) }
+    requires counted { AreCounted (others sets.now set) (block_words sets.now plan.now.m block) 0 done counts.old }
+    requires rest { (i : ℕ) → done ≤ i → slice_index counts.old i ≡ 0 }
+    ensures counted { AreCounted (others sets.now set) (block_words sets.now plan.now.m block) 0 (done + result) counts.new }
+    ensures rest { (i : ℕ) → done + result ≤ i → slice_index counts.new i ≡ 0 }
+    ensures some { 0 < result }
+    ensures within { done + result ≤ length counts.old }
+    ensures end { done + result < length counts.old → list + result ≡ list_count sets.now (length support.now) }
+{
+    let _k = sets.dimension();
+    let _n = sets.length();
+    let elements = nonzero(sets);
+    let tails = elements * elements;
+    let first = support[support.len() - 2];
+    let last = support[support.len() - 1];
+    let pair = grid.starts[first] + (last - first - 1);
+    let count = (heads.len() * tails - list).min(counts.len() - done);
+    let end = done + count;
+    let part = &grid.parts[0];
+    add_heads(
+        grid.planes,
+        part.bits.as_slice(),
+        grid.tails,
+        pair * tails,
+        tails,
+        heads,
+        list,
+        &mut counts[done..end],
+    );
+    count
+}
+
+// Goes to the next support among k places. Returns the first place that changed. None if there is no next
+// one.
+fn next_support(support: &mut [usize], k: usize) -> Option<usize>
+    requires few { k ≤ 255 }
+    requires rises { Contains (supports_from 0 k (length support.old)) support.old }
+    ensures next { IfSome result (λ _. (n : ℕ) → slice_get (supports_from 0 k (length support.old)) n ≡ Some support.old → slice_get (supports_from 0 k (length support.old)) (n + 1) ≡ Some support.new) }
+    ensures inside { IfSome result (λ i. i < length support.old) }
+    ensures same { IfSome result (λ i. take i support.new ≡ take i support.old) }
+    ensures last { IfNone result ((n : ℕ) → slice_get (supports_from 0 k (length support.old)) n ≡ Some support.old → slice_get (supports_from 0 k (length support.old)) (n + 1) ≡ None) }
+{
+    let many = support.len();
+    let mut place = many;
+    while place > 0 {
+        place -= 1;
+        if support[place] + (many - place) < k {
+            move_on(support, place);
+            return Some(place);
+        }
+    }
+    None
+}
+
+// Moves the place at an index on by 1, and those after it to follow it without a gap.
+fn move_on(support: &mut [usize], place: usize)
+    requires inside { place < length support.old }
+    requires room { slice_index support.old place + (length support.old - place) < 256 }
+    ensures before { (u : ℕ) → u < place → slice_index support.new u ≡ slice_index support.old u }
+    ensures later { (u : ℕ) → place ≤ u → u < length support.old → slice_index support.new u ≡ slice_index support.old place + 1 + (u - place) }
+{
+    let mut column = support[place];
+    for later in place..support.len() {
+        column += 1;
+        support[later] = column;
+    }
+}
+
+// Goes from a list of a support, with so many lists left, to the first one of the next support, and makes its
+// heads.
+fn turn(
+    sets: &Sets,
+    plan: &Plan,
+    block: u64,
+    grid: &Grid,
+    set: usize,
+    support: &mut [usize],
+    heads: &mut [[u64; 4]],
+    list: usize,
+    done: usize,
+    count: usize,
+)
+    requires phase { (p : ℕ) × IsInPhase (length sets.now.rows) (size sets.now.field) plan.now.m p block }
+    requires set { set < set_count sets.now }
+    requires at { IsListedAt sets.now plan.now.m block done set support.old list }
+    requires kept { IsKept sets.now set grid.now.planes grid.now.even grid.now.rows.items }
+    requires some { 0 < count }
+    requires end { list + count ≡ list_count sets.now (length support.old) }
+    requires inside { done + count < length (block_words sets.now plan.now.m block) }
+    requires few { list_count sets.now (length support.old - 2) ≤ 1024 }
+    requires room { list_count sets.now (length support.old - 2) ≤ length heads.old }
+    requires heads { AreHeads sets.now set support.old grid.now.planes (length support.old - 2) heads.old }
+    ensures at { IsListedAt sets.now plan.now.m block (done + count) set support.new 0 }
+    ensures heads { AreHeads sets.now set support.new grid.now.planes (length support.old - 2) heads.new }
+{
+    let k = sets.dimension();
+    let _n = sets.length();
+    let Some(place) = next_support(support, k) else {
+        return;
+    };
+    if place + 2 < support.len() {
+        make_heads(sets, grid, set, support, heads);
+    }
+}
+
+/// Counts the nonzero symbols, outside the basis, of the words of a block of a level of at least 3, from its
+/// first message on, by the heads of its supports.
+pub(crate) fn count_sweeps(
+    sets: &Sets,
+    plan: &Plan,
+    block: u64,
+    grid: &Grid,
+    spot: &Spot,
+    support: &mut [usize],
+    heads: &mut [[u64; 4]],
+    counts: &mut [u32],
+)
+    requires phase { (p : ℕ) × IsInPhase (length sets.now.rows) (size sets.now.field) plan.now.m p block }
+    requires set { spot.now.set < set_count sets.now }
+    requires at { IsSpotAt sets.now plan.now.m block 0 spot.now }
+    requires level { 3 ≤ length spot.now.support }
+    requires grid { IsGrid sets.now spot.now.set grid.now.planes grid.now.tails grid.now.parts.items grid.now.starts.items }
+    requires alone { length grid.now.parts.items ≡ 1 }
+    requires kept { IsKept sets.now spot.now.set grid.now.planes grid.now.even grid.now.rows.items }
+    requires places { length support.old ≡ length spot.now.support }
+    requires many { length heads.old ≡ list_count sets.now (length spot.now.support - 2) }
+    requires few { length heads.old ≤ 1024 }
+    requires some { 0 < length counts.old }
+    requires words { length counts.old ≡ length (block_words sets.now plan.now.m block) }
+    ensures counted { AreCounted (others sets.now spot.now.set) (block_words sets.now plan.now.m block) 0 (length counts.old) counts.new }
+{
+    let _elements = nonzero(sets);
+    let set = spot.set();
+    let mut list = list_of(sets, spot);
+    support.copy_from_slice(spot.support());
+    counts.fill(0);
+    make_heads(sets, grid, set, support, heads);
+    let mut done = 0;
+    loop {
+        let count = count_support(
+            sets, plan, block, grid, set, support, heads, list, done, counts,
+        );
+        if done + count >= counts.len() {
+            return;
+        }
+        turn(
+            sets, plan, block, grid, set, support, heads, list, done, count,
+        );
+        done += count;
+        list = 0;
+    }
+}
