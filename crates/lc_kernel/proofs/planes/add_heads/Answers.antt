@@ -3,7 +3,7 @@ use Rattle.std.proofs.Math.Nat.{mod-lt}
 use Rattle.std.proofs.lemmas.List.{length-take, length-drop, get_or-take, get_or-drop}
 use Rattle.lc_kernel.specs.Planes.{bits_apart}
 use Rattle.lc_kernel.proofs.PlaneLaws.{apart_two}
-use Rattle.lc_kernel.proofs.SweepLaws.{AreAddedTo, added_head, head_of_word}
+use Rattle.lc_kernel.proofs.SweepLaws.{added_head, head_of_word}
 use Rattle.lc_kernel.proofs.planes.add_heads.Goals as goal
 
 pub loop-done-preserved : goal.loop-done-preserved

@@ -1,4 +1,4 @@
-use Rattle.std.proofs.Common.{◌≡◌, ◌≤◌, ◌<◌, ◌^◌, count_ones, bit_or, bit_xor, arith}
+use Rattle.std.proofs.Common.{arith}
 use Rattle.std.proofs.lemmas.Nat.{ones-le}
 use lib.Bits.{or_lt, xor_lt}
 use Rattle.lc_kernel.proofs.planes.apart_by_two.Goals as goal
