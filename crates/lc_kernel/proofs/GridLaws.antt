@@ -47,7 +47,6 @@ use Rattle.lc_kernel.proofs.MultipleLaws.{below_product}
 use Rattle.lc_kernel.proofs.PairLaws.{same_pair}
 use Rattle.lc_kernel.proofs.TableLaws.{all_pushed, part_cut, cut_inside}
 use Rattle.lc_kernel.proofs.FrontLaws.{entries_are, generates, front_next, front_same, front_word_is, front_word_fits, front_whole}
-use Rattle.lc_kernel.proofs.PackLaws.{part_more}
 use Rattle.lc_kernel.proofs.PlaneLaws.{ones_apart}
 use Rattle.lc_kernel.proofs.RunLaws.{support_parts, first_of_pair, second_of_pair}
 use Rattle.lc_kernel.proofs.ScanLaws.{block_word}

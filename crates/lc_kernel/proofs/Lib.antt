@@ -11,5 +11,6 @@ pub mod TableLaws
 pub mod MultipleLaws
 pub mod TailLaws
 pub mod FrontPlanes
+pub mod RowLaws
 pub mod ListLaws
 pub mod SweepLaws

@@ -8,16 +8,16 @@
 --   listed_next           the message after one of them, with the same support
 --   listed_along          the messages after it
 --   listed_turn           the first message with the next support
-use Rattle.std.proofs.Common.{◌≡◌, ℕ, zero, suc, ◌+◌, ◌-◌, ◌*◌, ◌/◌, ◌%◌, ◌^◌, ◌<◌, ◌≤◌, List, [], ◌∷◌, ◌++◌, length, replicate, Some, None, slice_get, slice_index, slice_index_or, Contains, refl, sym, ap, ◌∙◌, arith}
+use Rattle.std.proofs.Common.{◌≡◌, ℕ, zero, suc, ◌+◌, ◌-◌, ◌*◌, ◌/◌, ◌%◌, ◌^◌, ◌<◌, ◌≤◌, List, [], ◌∷◌, ◌++◌, length, replicate, Some, None, slice_get, slice_index_or, Contains, refl, sym, ap, ◌∙◌, arith}
 use Rattle.std.specs.Option.{option_map}
 use Rattle.std.proofs.Math.Nat.{pow-suc, pow-zero, mod-lt}
 use Rattle.std.proofs.lemmas.Nat.{pow-add, div-add-mod', div_below}
 use Rattle.std.proofs.lemmas.Option.{slice_get-map, slice_get-get_or, slice_get_past}
 use Rattle.lc_enumeration.specs.Message.{messages, supports_from, numbers_from, nonzero_lists, leading_lists}
 use Rattle.lc_place.proofs.Products.{product, ProductPart, product_part, product_at, map_part}
-use Rattle.lc_place.proofs.Coefficients.{nonzero_digit, length-nonzero_lists, length-leading_lists, numbers_inside}
+use Rattle.lc_place.proofs.Coefficients.{nonzero_digit, length-nonzero_lists, length-leading_lists}
 use Rattle.lc_place.proofs.Supports.{next_support}
-use Rattle.lc_place.proofs.Messages.{message_of, next_leading, next_message, turned, leading_next, leading_shape, leading_first, message_at, message_next, supports_are, from_contains, to_contains}
+use Rattle.lc_place.proofs.Messages.{message_of, next_leading, turned, leading_next, leading_shape, leading_first, message_at, message_next, supports_are, from_contains, to_contains}
 use Rattle.lc_kernel.specs.Grid.{tail_pair}
 
 only_nil : (r : ℕ) (u : List ℕ) → slice_get ([] ∷ []) r ≡ Some u → (r ≡ 0) × (u ≡ [])

@@ -14,7 +14,7 @@ use Rattle.lc_algebra.specs.Matrix.{Matrix}
 use Rattle.lc_algebra.proofs.FieldLaws.{one_inside}
 use Rattle.lc_algebra.specs.SpanLaws.{restrict}
 use Rattle.lc_enumeration.specs.Message.{messages, supports_from}
-use Rattle.lc_enumeration.specs.Plan.{phase_level, blocks_before}
+use Rattle.lc_enumeration.specs.Plan.{blocks_before}
 use Rattle.lc_enumeration.specs.Search.{block_words}
 use Rattle.lc_place.specs.Place.{SpotState, spot_message}
 use Rattle.lc_place.proofs.Messages.{message_of, from_contains, to_contains}

@@ -1,4 +1,4 @@
-use Rattle.std.proofs.Common.{rules, ◌≤◌, length, replicate, refl, sym, ap, arith}
+use Rattle.std.proofs.Common.{rules, length, replicate, refl, sym, ap, arith}
 use Rattle.std.proofs.lemmas.List.{length-set}
 use Rattle.lc_kernel.proofs.FrontLaws.{entries_are}
 use Rattle.lc_kernel.proofs.FrontPlanes.{front_planes_first, front_planes_same}

@@ -1,4 +1,4 @@
-use Rattle.std.proofs.Common.{◌≡◌, ℕ, ◌+◌, ◌≤◌, ◌<◌, ◌^◌, count_ones, slice_index, bit_or, bit_xor, arith}
+use Rattle.std.proofs.Common.{ℕ, ◌≤◌, count_ones, slice_index, bit_or, bit_xor, arith}
 use Rattle.std.proofs.lemmas.Nat.{ones-le}
 use lib.Bits.{or_lt, xor_lt}
 use Rattle.lc_kernel.proofs.PlaneLaws.{added_next}

@@ -1,7 +1,6 @@
-use Rattle.std.proofs.Common.{◌≡◌, ◌+◌, ◌≤◌, ◌<◌, ◌^◌, count_ones, slice_index, bit_or, bit_xor, arith}
+use Rattle.std.proofs.Common.{◌≤◌, count_ones, slice_index, bit_or, bit_xor, arith}
 use Rattle.std.proofs.lemmas.Nat.{ones-le}
 use lib.Bits.{or_lt, xor_lt}
-use Rattle.lc_kernel.proofs.PlaneLaws.{added_next}
 use Rattle.lc_kernel.proofs.planes.add_two.Goals as goal
 
 pub overflow_add-counts : goal.overflow_add-counts

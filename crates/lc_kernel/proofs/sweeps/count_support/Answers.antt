@@ -1,8 +1,7 @@
-use Rattle.std.proofs.Common.{◌≡◌, ℕ, ◌+◌, ◌-◌, ◌*◌, ◌^◌, ◌<◌, ◌≤◌, [], Some, length, take, drop, slice_get, slice_index, slice_index_or, min, vec_len, refl, sym, ap, subst, ◌∙◌, arith}
+use Rattle.std.proofs.Common.{◌≡◌, ◌+◌, ◌-◌, ◌*◌, ◌<◌, ◌≤◌, length, take, drop, slice_index, sym, ap, subst, ◌∙◌, arith}
 use Rattle.std.proofs.Math.Nat.{mul-le-mul_right}
-use Rattle.std.proofs.lemmas.List.{length-take, length-drop, get_or_default, get_or-take, get_or-drop}
+use Rattle.std.proofs.lemmas.List.{length-take, length-drop, get_or-take, get_or-drop}
 use Rattle.std.proofs.lemmas.Option.{slice_get_within}
-use Rattle.lc_algebra.specs.Field.{size}
 use Rattle.lc_enumeration.specs.Message.{supports_from}
 use Rattle.lc_enumeration.specs.Search.{block_words}
 use Rattle.lc_kernel.specs.declared.grid.GridPart.{GridPart}
@@ -10,12 +9,12 @@ use Rattle.lc_kernel.specs.Packed.{others, part_at, pair_of}
 use Rattle.lc_kernel.specs.Grid.{tail_count, tails_in, AreTailPlanes}
 use Rattle.lc_kernel.specs.Grids.{IsGridPart}
 use Rattle.lc_kernel.specs.Least.{AreCounted}
-use Rattle.lc_kernel.specs.Sweeps.{list_count, listed_spot}
+use Rattle.lc_kernel.specs.Sweeps.{listed_spot}
 use Rattle.lc_kernel.proofs.GridLaws.{counted_joined}
 use Rattle.lc_kernel.proofs.PairLaws.{pairs_few}
-use Rattle.lc_kernel.proofs.RunLaws.{pair_read, index_of_pair}
+use Rattle.lc_kernel.proofs.RunLaws.{pair_read}
 use Rattle.lc_kernel.proofs.TableLaws.{one_of_all}
-use Rattle.lc_kernel.proofs.SweepLaws.{IsSweep, sweep_counted, square, put_after, pair_there, lists_there}
+use Rattle.lc_kernel.proofs.SweepLaws.{IsSweep, sweep_counted, put_after, pair_there, lists_there}
 use Rattle.lc_kernel.proofs.sweeps.count_support.Goals as goal
 
 pub index-requires : goal.index-requires

@@ -1,4 +1,4 @@
-use Rattle.std.proofs.Common.{◌≡◌, ◌+◌, ◌-◌, ◌^◌, ◌<◌, ◌≤◌, length, slice_index, sym, ap, subst, ◌∙◌, arith}
+use Rattle.std.proofs.Common.{◌≡◌, ◌-◌, length, slice_index, sym, ap, subst, ◌∙◌, arith}
 use Rattle.lc_algebra.specs.Field.{size}
 use Rattle.lc_algebra.proofs.FieldLaws.{one_inside}
 use Rattle.lc_kernel.specs.Sweeps.{IsListedAt}

@@ -1,4 +1,4 @@
-use Rattle.std.proofs.Common.{◌≡◌, ◌-◌, ◌*◌, ◌<◌, ◌≤◌, ℕ, [], slice_index, slice_index_or}
+use Rattle.std.proofs.Common.{◌≡◌, ◌-◌, ◌<◌, ◌≤◌, ℕ, [], slice_index, slice_index_or}
 use Rattle.lc_algebra.specs.Field.{size}
 use Rattle.lc_kernel.specs.Sweeps.{IsGrown}
 use Rattle.lc_kernel.proofs.sweeps.grow.Given as goal

@@ -1,4 +1,4 @@
-use Rattle.std.proofs.Common.{◌≡◌, ℕ, suc, ◌+◌, ◌-◌, ◌<◌, ◌≤◌, Some, length, slice_get, slice_index, sym, ap, ◌∙◌, arith}
+use Rattle.std.proofs.Common.{◌≡◌, suc, ◌+◌, ◌-◌, ◌<◌, length, slice_get, slice_index, sym, ap, ◌∙◌, arith}
 use Rattle.lc_enumeration.specs.Message.{supports_from}
 use Rattle.lc_place.proofs.Supports.{support_next, support_moved, support_last}
 use Rattle.lc_kernel.proofs.SweepLaws.{support_is, take_same}

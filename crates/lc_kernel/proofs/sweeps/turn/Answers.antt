@@ -1,4 +1,4 @@
-use Rattle.std.proofs.Common.{◌≡◌, ◌+◌, ◌-◌, ◌<◌, ◌≤◌, length, sym, ap, ◌∙◌, arith}
+use Rattle.std.proofs.Common.{◌-◌, length, arith}
 use Rattle.lc_kernel.proofs.SweepLaws.{support_is, turned_at, turned_none, heads_kept}
 use Rattle.lc_kernel.proofs.sweeps.turn.Goals as goal
 
