@@ -1,7 +1,7 @@
 //! The benches, by their names.
 
 /// What is measured.
-#[derive(Clone, Copy, Debug, PartialEq, Eq, Drop)]
+#[derive(Clone, Copy, Drop)]
 pub enum Bench {
     /// adding multiples of a word of 255 symbols over the field of this size
     AddScaled(u64),
@@ -19,17 +19,43 @@ pub enum Bench {
     StepBinary,
     /// the messages of weight 4 and length 20 over 4 elements
     StepQuaternary,
-    /// the least words of the first blocks of a level: the size of the field, the length and the dimension of a code,
-    /// and the level
+    /// the least words of the blocks of a level: the size of the field, the length and the dimension of a code, and the
+    /// level
     Least(u64, usize, usize, usize),
+    /// the innermost loop of the kernel alone, over long runs, for symbols of this many bits
+    Limit(u32),
+    /// a decoder
+    Decoder(Decoder),
+    /// a search
+    Search(Searches),
     /// a script of 95,325 statements, 1,048,575 bytes
     ParseWeights,
     /// a script of one statement, a list of 255 lists of 255 numbers
     ParseMatrix,
 }
 
+/// What is measured of decoders.
+#[derive(Clone, Copy, Drop)]
+pub enum Decoder {
+    /// the coset leaders of a binary code of length 255 with 2^20 cosets
+    Leaders,
+    /// nearest words by these leaders
+    Nearest,
+    /// the algebraic decoder of a BCH code: the size of the field, the length and the design distance
+    Algebraic(u64, u64, u64),
+}
+
+/// What is measured of searches.
+#[derive(Clone, Copy, Drop)]
+pub enum Searches {
+    /// rounds of searches: the length and the dimension of a binary code, and the workers, each of which has a block
+    Rounds(usize, usize, u32),
+    /// the search of the BCH code of length 63 and dimension 36 with this many workers
+    Whole(u32),
+}
+
 /// The benches with their names.
-pub const BENCHES: [(&str, Bench); 24] = [
+pub static BENCHES: [(&str, Bench); 45] = [
     ("add_scaled_2", Bench::AddScaled(2)),
     ("add_scaled_3", Bench::AddScaled(3)),
     ("add_scaled_4", Bench::AddScaled(4)),
@@ -48,19 +74,40 @@ pub const BENCHES: [(&str, Bench); 24] = [
     ("step_2", Bench::StepBinary),
     ("step_4", Bench::StepQuaternary),
     ("kernel_2", Bench::Least(2, 80, 40, 5)),
+    ("kernel_2_63", Bench::Least(2, 63, 45, 6)),
+    ("kernel_2_79", Bench::Least(2, 79, 40, 6)),
+    ("kernel_2_127", Bench::Least(2, 127, 36, 7)),
     ("kernel_3", Bench::Least(3, 40, 20, 6)),
     ("kernel_4", Bench::Least(4, 30, 15, 5)),
     ("kernel_5", Bench::Least(5, 24, 8, 5)),
+    ("kernel_7", Bench::Least(7, 24, 8, 5)),
+    ("kernel_8", Bench::Least(8, 24, 8, 5)),
+    ("kernel_9", Bench::Least(9, 24, 8, 5)),
+    ("kernel_11", Bench::Least(11, 24, 8, 5)),
+    ("kernel_13", Bench::Least(13, 24, 8, 5)),
     ("kernel_16", Bench::Least(16, 30, 15, 4)),
+    ("limit_1", Bench::Limit(1)),
+    ("limit_2", Bench::Limit(2)),
+    ("limit_3", Bench::Limit(3)),
+    ("limit_4", Bench::Limit(4)),
+    ("leaders_2", Bench::Decoder(Decoder::Leaders)),
+    ("nearest_2", Bench::Decoder(Decoder::Nearest)),
+    ("decode_16", Bench::Decoder(Decoder::Algebraic(16, 15, 7))),
+    ("decode_256", Bench::Decoder(Decoder::Algebraic(2, 255, 31))),
+    ("rounds_1", Bench::Search(Searches::Rounds(255, 8, 1))),
+    ("rounds_4", Bench::Search(Searches::Rounds(80, 40, 4))),
+    ("workers_1", Bench::Search(Searches::Whole(1))),
+    ("workers_2", Bench::Search(Searches::Whole(2))),
+    ("workers_4", Bench::Search(Searches::Whole(4))),
     ("parse_weights", Bench::ParseWeights),
     ("parse_matrix", Bench::ParseMatrix),
 ];
 
 /// The bench with a name, if there is one.
 pub fn bench_named(word: &str) -> Option<Bench> {
-    for (name, bench) in BENCHES {
-        if word == name {
-            return Some(bench);
+    for row in &BENCHES {
+        if word == row.0 {
+            return Some(row.1);
         }
     }
     None

@@ -1,6 +1,7 @@
 //! The least words of the blocks of a level.
 
-ghost use Rattle.std.specs.Prelude.{◌≡◌, ◌≤◌, IfOk};
+ghost use Rattle.std.specs.Prelude.{◌≡◌, ◌≤◌, ◌<◌, IfOk};
+ghost use Rattle.lc_enumeration.specs.Plan.{total};
 ghost use Rattle.lc_kernel.specs.Kernel.{IsPlanOf};
 
 use crate::linear::rows;
@@ -15,21 +16,26 @@ use std::alloc::{AllocGlobal, Global};
 use std::rt::Clock;
 use std::time::Instant;
 
-/// How many blocks are looked at, at most.
+/// How many blocks are looked at.
 const BLOCKS: u64 = 2_000;
 
-// Looks at blocks from one on, and answers how many words they have.
+// Looks at the blocks of the phase that begins with one, again and again, and answers how many words they have.
 fn look(sets: &Sets, plan: &Plan, first: u64, scratch: &mut Scratch) -> u64
     requires plan { IsPlanOf plan.now sets.now }
+    requires first { first < total plan.now.k plan.now.q plan.now.m }
     requires scratch { scratch.old ≡ sets.now }
 {
-    let end = plan.total().min(first.saturating_add(BLOCKS));
+    let end = plan.phase_end(first).min(plan.total());
+    let mut block = first;
     let mut count: u64 = 0;
-    for block in first..end {
-        let _value = least(sets, plan, block, scratch);
+    let mut lightest = u64::MAX;
+    for _ in 0..BLOCKS {
+        lightest = lightest.min(least(sets, plan, block, scratch));
         count = count.saturating_add(plan.block_len(block));
+        block = if block + 1 < end { block + 1 } else { first };
     }
-    count
+    // the values are used, so that no compiler leaves out what finds them
+    if lightest == 0 { 0 } else { count }
 }
 
 // The information sets of a pseudo-random code of length `n` with `k` rows over `q` elements.
@@ -47,7 +53,7 @@ fn sets_of(alloc: Global, q: u64, n: usize, k: usize) -> Result<Sets, Failure>
     Ok(Sets::build(alloc, &form)?)
 }
 
-// The rate over the first blocks of a level, in words.
+// The rate over the blocks of a level, in words.
 fn level_rate<R: Clock + AllocGlobal>(
     rt: &R,
     sets: &Sets,
@@ -69,7 +75,7 @@ fn level_rate<R: Clock + AllocGlobal>(
     })
 }
 
-/// The rate of `least` over the first blocks of a level of a pseudo-random code of length `n` with `k` rows over
+/// The rate of `least` over the blocks of a level of a pseudo-random code of length `n` with `k` rows over
 /// `q` elements, in words.
 pub fn least_rate<R: Clock + AllocGlobal>(
     rt: &R,

@@ -7,6 +7,7 @@ ghost use Rattle.lc_algebra.specs.Span.{AreIndependent};
 ghost use Rattle.lc_algebra.specs.Matrix.{AreRows};
 
 use crate::rate::{Failure, Rate};
+use lc_code::Code;
 use lc_field::Field;
 use lc_infoset::Sets;
 use lc_matrix::Matrix;
@@ -107,6 +108,31 @@ pub(crate) fn rows(alloc: Global, field: &Field, n: usize, k: usize) -> Result<V
         }
     }
     Ok(rows)
+}
+
+// The code of `k` pseudo-random rows of length `n` over the field.
+fn code_over(alloc: Global, field: &Field, n: usize, k: usize) -> Result<Code, Failure>
+    requires length { (1 ≤ n) × (n ≤ 255) }
+    ensures some { IfOk result (λ c. 0 < length c.rows) }
+{
+    if !field.is_symbol() {
+        return Err(Failure::Refused);
+    }
+    let rows = rows(alloc, field, n, k)?;
+    let code = Code::from_rows(alloc, field, n, &rows)?;
+    if code.dimension() == 0 {
+        return Err(Failure::Refused);
+    }
+    Ok(code)
+}
+
+/// The binary code of `k` pseudo-random rows of length `n`, of dimension at least 1.
+pub(crate) fn binary_code(alloc: Global, n: usize, k: usize) -> Result<Code, Failure>
+    requires length { (1 ≤ n) × (n ≤ 255) }
+    ensures some { IfOk result (λ c. 0 < length c.rows) }
+{
+    let field = Field::of(alloc, 2)?;
+    code_over(alloc, &field, n, k)
 }
 
 // The matrix of pseudo-random rows over the field of `q` elements.

@@ -4,26 +4,50 @@
 
 mod bench;
 mod codes;
+mod decoders;
 mod kernel;
+mod limits;
 mod linear;
 mod messages;
 mod rate;
 mod scripts;
+mod searches;
 
-use bench::{BENCHES, Bench, bench_named};
+use bench::{BENCHES, Bench, Decoder, Searches, bench_named};
 use rate::{Failure, Rate};
 use std::alloc::AllocGlobal;
 use std::env;
 use std::process::ExitCode;
 use std::rt::{Clock, Env, Runtime};
+use std::thread::Threads;
 
 // The first word after the program's name, if there is one.
 fn first_word<R: Env + AllocGlobal>(rt: &R) -> Result<Option<String>, Failure> {
     Ok(env::args(rt)?.nth(1))
 }
 
+// The rate of a bench of decoders.
+fn measure_decoder<R: Clock + AllocGlobal>(rt: &R, decoder: Decoder) -> Result<Rate, Failure> {
+    match decoder {
+        Decoder::Leaders => decoders::leaders_rate(rt),
+        Decoder::Nearest => decoders::nearest_rate(rt),
+        Decoder::Algebraic(q, n, d) => decoders::decode_rate(rt, q, n, d),
+    }
+}
+
+// The rate of a bench of searches.
+fn measure_searches<R: Clock + AllocGlobal + Threads + Sync>(
+    rt: &R,
+    searches: Searches,
+) -> Result<Rate, Failure> {
+    match searches {
+        Searches::Rounds(n, k, workers) => searches::rounds_rate(rt, n, k, workers),
+        Searches::Whole(workers) => searches::search_rate(rt, workers),
+    }
+}
+
 // The rate of a bench.
-fn measure<R: Clock + AllocGlobal>(rt: &R, bench: Bench) -> Result<Rate, Failure> {
+fn measure<R: Clock + AllocGlobal + Threads + Sync>(rt: &R, bench: Bench) -> Result<Rate, Failure> {
     match bench {
         Bench::AddScaled(q) => linear::add_scaled_rate(rt, q),
         Bench::Echelon(q) => linear::echelon_rate(rt, q),
@@ -34,6 +58,9 @@ fn measure<R: Clock + AllocGlobal>(rt: &R, bench: Bench) -> Result<Rate, Failure
         Bench::StepBinary => messages::step_rate(rt, 45, 5, 2),
         Bench::StepQuaternary => messages::step_rate(rt, 20, 4, 4),
         Bench::Least(q, n, k, level) => kernel::least_rate(rt, q, n, k, level),
+        Bench::Limit(planes) => limits::limit_rate(rt, planes),
+        Bench::Decoder(decoder) => measure_decoder(rt, decoder),
+        Bench::Search(searches) => measure_searches(rt, searches),
         Bench::ParseWeights => scripts::weights_rate(rt),
         Bench::ParseMatrix => scripts::matrix_rate(rt),
     }
@@ -41,14 +68,14 @@ fn measure<R: Clock + AllocGlobal>(rt: &R, bench: Bench) -> Result<Rate, Failure
 
 // Prints the names of all benches.
 fn print_names<R: Runtime + AllocGlobal>(rt: &R) -> Result<(), Failure> {
-    for (name, _) in BENCHES {
-        println!(rt; "{name}")?;
+    for row in &BENCHES {
+        println!(rt; "{}", row.0)?;
     }
     Ok(())
 }
 
 // Prints the line of the bench with a name, or the names of all.
-fn run<R: Runtime + AllocGlobal>(rt: &R) -> Result<(), Failure> {
+fn run<R: Runtime + AllocGlobal + Threads + Sync>(rt: &R) -> Result<(), Failure> {
     let Some(word) = first_word(rt)? else {
         return print_names(rt);
     };

@@ -3,6 +3,7 @@
 use lc_code::CodeRefusal;
 use lc_field::{FieldRefusal, NoMemory};
 use lc_parse::ParseRefusal;
+use lc_syndrome::SyndromeRefusal;
 use std::alloc::AllocError;
 use std::time::Duration;
 use std::{fmt, io};
@@ -63,6 +64,12 @@ impl From<FieldRefusal> for Failure {
 
 impl From<CodeRefusal> for Failure {
     fn from(_error: CodeRefusal) -> Failure {
+        Failure::Refused
+    }
+}
+
+impl From<SyndromeRefusal> for Failure {
+    fn from(_error: SyndromeRefusal) -> Failure {
         Failure::Refused
     }
 }
