@@ -17,10 +17,11 @@ use std::rt::Clock;
 use std::time::Instant;
 
 /// How many blocks are looked at.
-const BLOCKS: u64 = 2_000;
+const BLOCKS: u64 = 20_000;
 
-// Looks at the blocks of the phase that begins with one, again and again, and answers how many words they have.
-fn look(sets: &Sets, plan: &Plan, first: u64, scratch: &mut Scratch) -> u64
+// Looks at the blocks of the phase that begins with one, again and again, and answers how many words they have, and their
+// least value.
+fn look(sets: &Sets, plan: &Plan, first: u64, scratch: &mut Scratch) -> (u64, u64)
     requires plan { IsPlanOf plan.now sets.now }
     requires first { first < total plan.now.k plan.now.q plan.now.m }
     requires scratch { scratch.old ≡ sets.now }
@@ -28,14 +29,13 @@ fn look(sets: &Sets, plan: &Plan, first: u64, scratch: &mut Scratch) -> u64
     let end = plan.phase_end(first).min(plan.total());
     let mut block = first;
     let mut count: u64 = 0;
-    let mut lightest = u64::MAX;
+    let mut value = u64::MAX;
     for _ in 0..BLOCKS {
-        lightest = lightest.min(least(sets, plan, block, scratch));
+        value = value.min(least(sets, plan, block, scratch));
         count = count.saturating_add(plan.block_len(block));
         block = if block + 1 < end { block + 1 } else { first };
     }
-    // the values are used, so that no compiler leaves out what finds them
-    if lightest == 0 { 0 } else { count }
+    (count, value)
 }
 
 // The information sets of a pseudo-random code of length `n` with `k` rows over `q` elements.
@@ -67,11 +67,16 @@ fn level_rate<R: Clock + AllocGlobal>(
     };
     let mut scratch = Scratch::new(rt.alloc(), sets)?;
     let start = Instant::now(rt)?;
-    let count = look(sets, plan, block, &mut scratch);
+    let (count, value) = look(sets, plan, block, &mut scratch);
+    let elapsed = start.elapsed(rt)?;
+    // the value is used, so that no compiler leaves a part of the kernel out
+    if value == u64::MAX {
+        return Err(Failure::Refused);
+    }
     Ok(Rate {
         count,
         what: "words",
-        elapsed: start.elapsed(rt)?,
+        elapsed,
     })
 }
 
