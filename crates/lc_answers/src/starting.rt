@@ -1,5 +1,5 @@
 //! A session at the first statement of its script.
-ghost use Rattle.std.specs.Prelude.{◌≡◌, ◌≤◌, ◌<◌, ◌^◌, [], map, true, false, None, IfSome};
+ghost use Rattle.std.specs.Prelude.{◌≡◌, ◌≤◌, ◌<◌, ◌^◌, [], map, true, false, None, is_some, IfSome};
 ghost use Rattle.lc_formats.specs.Checkpoint.{IsInRange, current_of};
 ghost use Rattle.lc_checkpoint.specs.Seen.{point_of, settled_of};
 ghost use Rattle.lc_sessions.specs.Slots.{next_turn};
@@ -42,6 +42,7 @@ pub fn afresh(
     requires kept { keep ≡ false → slice ≡ None }
     ensures ranged { IsRanged result }
     ensures unmet { result.met ≡ 0 }
+    ensures fresh { is_some result.current ≡ false }
     ensures starts { (now : Around) → Goes (started afresh budget slice keep script 0 now) [] [] result now }
 {
     Course {

@@ -1,5 +1,6 @@
 //! What the calls give that make a field or a code, or tell what a code or a word is like.
-ghost use Rattle.std.specs.Prelude.{◌≡◌, ℕ, Err, None, IfOk};
+ghost use Rattle.std.specs.Prelude.{◌≡◌, ◌≢◌, ℕ, [], Err, None, IfOk, IfErr};
+ghost use Rattle.lc_constructions.specs.Refusal.{refusal_values};
 ghost use Rattle.lc_algebra.specs.Word.{weight as weight_of};
 ghost use Rattle.lc_language.specs.Bound as bound;
 ghost use Rattle.lc_language.specs.Value as language;
@@ -114,13 +115,14 @@ fn rows_value(alloc: Global, code: &Code) -> Result<Value, NoMemory>
     Ok(Value::Lists(Rc::new(alloc, rows)?))
 }
 
-/// A code, or its refusal at this place.
+/// A code, or its refusal at this place. A refusal that carries no numbers takes no memory.
 pub(crate) fn made(
     alloc: Global,
     place: usize,
     code: Result<Code, CodeRefusal>,
 ) -> Result<Value, Stop>
-    ensures { IsMade code place result }
+    ensures is { IsMade code place result }
+    ensures told { IfErr code (λ e. e ≢ CodeRefusal.NoMemory → refusal_values e ≡ [] → result ≢ Err Stop.NoMemory) }
 {
     match code {
         Ok(code) => Ok(code_value(alloc, code)?),

@@ -1,5 +1,6 @@
 //! Why an expression has no value.
-ghost use Rattle.std.specs.Prelude.{◌≡◌, Err};
+ghost use Rattle.std.specs.Prelude.{◌≡◌, ◌≢◌, [], Err};
+ghost use Rattle.lc_constructions.specs.Refusal.{refusal_values};
 ghost use Rattle.lc_language.specs.Evaluation.{refused, refuse_at};
 ghost use Rattle.lc_eval.specs.Value.{refused_of};
 ghost use Rattle.lc_eval.specs.Made.{IsMade};
@@ -53,10 +54,11 @@ pub(crate) fn fault(alloc: Global, number: u8, place: usize) -> Refused
     }
 }
 
-/// The refusal of a constructor of codes, at this place.
+/// The refusal of a constructor of codes, at this place. If it carries no numbers it takes no memory.
 #[tactic(auto, unfolding(lc_language::specs::Refusal::refusal_from, lc_language::specs::Refusal::refuse, lc_language::specs::Evaluation::refuse_call))]
 pub(crate) fn refused_as(alloc: Global, place: usize, refusal: CodeRefusal) -> Stop
-    ensures { IsMade (Err refusal) place (Err result) }
+    ensures is { IsMade (Err refusal) place (Err result) }
+    ensures told { refusal ≢ CodeRefusal.NoMemory → refusal_values refusal ≡ [] → result ≢ Stop.NoMemory }
 {
     if refusal == CodeRefusal::NoMemory {
         return Stop::NoMemory;

@@ -7,7 +7,10 @@
 --   ends_whole, ends_left        no statement is left, and no record is, or some are
 --   ends_faulty, ends_faulty_left    a statement fails, so too
 --   whole_result, faulty_result      the same, of a result
-use Rattle.std.proofs.Common.{◌≡◌, ◌<◌, ◌+◌, ℕ, Bool, true, false, is_some, Result, Ok, Err, is_ok, is_err, if◌then◌else◌, MatchResult, List, [], ◌∷◌, ◌++◌, length, map, take, sym, ap, subst, ◌∙◌, arith}
+--   only_ends            a machine with no statement left answers that, and nothing else
+--   IsUntouched first before m c     if the machine had no statement, it has none and the session is as it was
+--   is_ended             there is a text if no record is left
+use Rattle.std.proofs.Common.{◌≡◌, ◌<◌, ◌+◌, ℕ, Bool, true, false, is_some, Result, Ok, Err, is_ok, is_err, IsOk, if◌then◌else◌, MatchResult, List, [], ◌∷◌, ◌++◌, length, map, take, sym, ap, subst, ◌∙◌, arith}
 use Rattle.std.proofs.lemmas.List.{length-append}
 use Rattle.lc_algebra.specs.Matrix.{Matrix}
 use Rattle.lc_enumeration.specs.Search.{Answer}
@@ -17,6 +20,7 @@ use Rattle.lc_eval.specs.Built.{built_calls}
 use Rattle.lc_eval.specs.Machine.{State, Does}
 use Rattle.lc_eval.specs.Evaluated.{kind_of}
 use Rattle.lc_eval.specs.declared.machine.Query.{Query}
+use Rattle.lc_eval.specs.declared.machine.Step.{Step}
 use Rattle.lc_eval.specs.declared.machine.Step.TheVariants as step
 use Rattle.lc_sessions.specs.Needs.{Needs}
 use Rattle.lc_sessions.specs.Answers.{answer_line}
@@ -137,3 +141,33 @@ module _ (budget : ℕ) (first : List tree.Statement) (before : Course) (start :
   faulty_result l later d more w funds g r e =
       ended_as r (λ t. (is_some c.current ≡ false) × (t.bytes.items ≡ later) × (t.ends ≡ true)) (λ t. Finishes w first t c now) (λ x. (is_some c.current ≡ true) × (x ≡ halt.Unfit (length c.pace.point.settled.items + 1) 0)) (λ x. Ends w first c now x)
       (λ t a. ends_faulty l later d more w funds g t a.0 a.1 a.2) (λ x a. subst (λ (y : Halt). Ends w first c now y) (sym a.1) (ends_faulty_left l later d more w funds g a.0)) e
+
+no_first : {A : Type 0} (left : List A) (s : A) (rest : List A) → left ≡ s ∷ rest → left ≡ [] → ⊥
+no_first left s rest e none = (let f = ap length (sym e ∙ none) in absurd (omega (arith, f)))
+
+pub only_ends : (old new : State) (x : Step) → Does old x new → old.left ≡ [] → x ≡ step.End
+only_ends old new (step.Line l) d none = absurd (no_first old.left d.0 d.1.0 d.1.1 none)
+only_ends old new step.Silent d none = absurd (no_first old.left d.0 d.1.0 d.1.1 none)
+only_ends old new (step.Need q) d none = absurd (no_first old.left d.0 d.1.0 d.1.1 none)
+only_ends old new (step.Fault l) d none = absurd (no_first old.left d.0 d.1.0 d.1.1 none)
+only_ends old new step.End d none = refl
+
+abbrev pub IsUntouched : State → Course → State → Course → Type 0
+IsUntouched first before m c = first.left ≡ [] → (m.left ≡ []) × (c ≡ before)
+
+module _ (first : State) (before : Course) (m new : State) (c : Course) (u : IsUntouched first before m c) where
+  pub no_line : (l : _) → Does m (step.Line l) new → first.left ≡ [] → ⊥
+  no_line l d none = (let e = only_ends m new (step.Line l) d (u none).0 in cc)
+
+  pub not_silent : Does m step.Silent new → first.left ≡ [] → ⊥
+  not_silent d none = (let e = only_ends m new step.Silent d (u none).0 in cc)
+
+  pub no_need : (q : Query) → Does m (step.Need q) new → first.left ≡ [] → ⊥
+  no_need q d none = (let e = only_ends m new (step.Need q) d (u none).0 in cc)
+
+  pub no_fault : (l : _) → Does m (step.Fault l) new → first.left ≡ [] → ⊥
+  no_fault l d none = (let e = only_ends m new (step.Fault l) d (u none).0 in cc)
+
+pub is_ended : (c : Course) (text : List ℕ) (b : Bool) (r : Result Text Halt) → IsEnded c text b r → is_some c.current ≡ false → IsOk r
+is_ended c text b (Ok t) h none = tt
+is_ended c text b (Err x) h none = absurd (let e = sym h.0 ∙ none in cc)

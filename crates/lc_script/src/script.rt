@@ -1,5 +1,5 @@
 //! The text of a script, from its bytes.
-ghost use Rattle.std.specs.Prelude.{◌≡◌, ◌^◌, ◌<◌, ◌≤◌, ℕ, List, [], length, map, MatchResult};
+ghost use Rattle.std.specs.Prelude.{◌≡◌, ◌^◌, ◌<◌, ◌≤◌, ℕ, List, [], length, map, false, is_some, IsOk, MatchResult};
 ghost use Rattle.lc_algebra.specs.Matrix.{Matrix};
 ghost use Rattle.lc_io.specs.Watchers.{hearing};
 ghost use Rattle.lc_eval.specs.Built.{built_calls};
@@ -19,7 +19,8 @@ use std::alloc::Global;
 use std::thread::Threads;
 
 /// The text that the bytes print as a script, with the rounds of the searches that it asks for. If they are no script it is one
-/// fault line, and a statement that is refused ends it with a fault line.
+/// fault line, and a statement that is refused ends it with a fault line. No bytes have a text, unless a record
+/// is left.
 ///
 /// There are 1 to 256 workers. The session has met no need, and the bytes ask for fewer than 70,000, as scripts of at most
 /// 1,048,576 bytes do.
@@ -37,9 +38,10 @@ pub fn script_text<R: Threads + Sync, V: Vault, W: Watcher, G: Gate + Sync>(
     requires ranged { IsRanged course.old }
     requires unmet { course.old.met ≡ 0 }
     requires few { (needs : List Matrix) → MeetsFirst built_calls bytes.now needs → length needs < 70000 }
-    ensures { (w : World) → Goes w [] [] course.old (around (V.contents vault.old) (V.faults vault.old) (map (hearing W.heard W.coming W.pauses) watchers.old.items)) → MatchResult result
+    ensures ends { (w : World) → Goes w [] [] course.old (around (V.contents vault.old) (V.faults vault.old) (map (hearing W.heard W.coming W.pauses) watchers.old.items)) → MatchResult result
         (λ t. Prints w bytes.now t course.new (around (V.contents vault.new) (V.faults vault.new) (map (hearing W.heard W.coming W.pauses) watchers.new.items)))
         (λ halt. EndsBefore w bytes.now course.new (around (V.contents vault.new) (V.faults vault.new) (map (hearing W.heard W.coming W.pauses) watchers.new.items)) halt) }
+    ensures nothing { bytes.now ≡ [] → is_some course.old.current ≡ false → IsOk result }
 {
     let script = match parse(alloc, bytes) {
         Ok(script) => script,

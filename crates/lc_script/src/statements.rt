@@ -1,5 +1,5 @@
 //! The statements of a script, one after another.
-ghost use Rattle.std.specs.Prelude.{◌≡◌, ◌+◌, ◌^◌, ◌<◌, ◌≤◌, ℕ, List, [], length, map, take, true, false, is_some, MatchResult};
+ghost use Rattle.std.specs.Prelude.{◌≡◌, ◌+◌, ◌^◌, ◌<◌, ◌≤◌, ℕ, List, [], length, map, take, true, false, is_some, IsOk, MatchResult};
 ghost use Rattle.lc_algebra.specs.Matrix.{Matrix};
 ghost use Rattle.lc_io.specs.Watchers.{hearing};
 ghost use Rattle.lc_parse.specs.Views.{statement_of};
@@ -50,7 +50,8 @@ pub(crate) fn ended(course: &Course, bytes: Vec<u8>, ends: bool) -> Result<Text,
     Ok(Text { bytes, ends })
 }
 
-/// The text of the statements of a machine that has done none, with the rounds of the searches that they ask for.
+/// The text of the statements of a machine that has done none, with the rounds of the searches that they ask for. With no
+/// statement, and no record that is left, there is a text.
 ///
 /// There are 1 to 256 workers. The session has met no need, and the statements ask for fewer than 70,000.
 pub(crate) fn text_of<R: Threads + Sync, V: Vault, W: Watcher, G: Gate + Sync>(
@@ -68,9 +69,10 @@ pub(crate) fn text_of<R: Threads + Sync, V: Vault, W: Watcher, G: Gate + Sync>(
     requires unmet { course.old.met ≡ 0 }
     requires unbound { machine.old.bindings ≡ [] }
     requires few { (n : ℕ) (needs : List Matrix) → Needs built_calls [] (take n (map statement_of machine.old.left)) needs → length needs < 70000 }
-    ensures { (w : World) → Goes w [] [] course.old (around (V.contents vault.old) (V.faults vault.old) (map (hearing W.heard W.coming W.pauses) watchers.old.items)) → MatchResult result
+    ensures ends { (w : World) → Goes w [] [] course.old (around (V.contents vault.old) (V.faults vault.old) (map (hearing W.heard W.coming W.pauses) watchers.old.items)) → MatchResult result
         (λ t. Finishes w (map statement_of machine.old.left) t course.new (around (V.contents vault.new) (V.faults vault.new) (map (hearing W.heard W.coming W.pauses) watchers.new.items)))
         (λ halt. Ends w (map statement_of machine.old.left) course.new (around (V.contents vault.new) (V.faults vault.new) (map (hearing W.heard W.coming W.pauses) watchers.new.items)) halt) }
+    ensures nothing { machine.old.left ≡ [] → is_some course.old.current ≡ false → IsOk result }
 {
     let mut bytes = Vec::new(alloc);
     'statements: loop {

@@ -1,4 +1,5 @@
 mod AskedLaws
+mod NoBytes
 mod CheckLaws
 mod EarlyEnds
 mod ScriptEnds

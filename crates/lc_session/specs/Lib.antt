@@ -2,3 +2,4 @@ pub mod Closing
 pub mod Ending
 pub mod Outcome
 pub mod Reply
+pub mod Texts

@@ -2,7 +2,7 @@
 ghost use Rattle.std.specs.Prelude.{◌≡◌, ◌+◌, ◌≤◌, length, IfOk, OnOk};
 ghost use Rattle.std.specs.Result.{IsErrOf};
 ghost use Rattle.std.specs.Io.KnownBytes.{Consumes, IsAtEnd};
-ghost use Rattle.lc_io.specs.Outside.{HasRisen, GaveFront, GaveLess};
+ghost use Rattle.lc_io.specs.Outside.{HasRisen, GaveFront, GaveLess, GaveSome};
 ghost use Rattle.lc_sessions.specs.Session.{most_bytes, GaveTooMuch};
 
 use lc_io::{ReadRefusal, Source, read_to_limit};
@@ -31,6 +31,7 @@ pub(crate) fn input<S: Source>(alloc: Global, source: &mut S) -> Result<Vec<u8>,
     ensures failed { IsErrOf result InputRefusal.Failed → HasRisen (S.faults source.old) (S.faults source.new) }
     ensures before { IsErrOf result InputRefusal.Failed → GaveLess (S.rest source.old) (S.rest source.new) (most_bytes + 1) }
     ensures front { IsErrOf result InputRefusal.NoMemory → GaveFront (S.rest source.old) (S.rest source.new) (most_bytes + 1) }
+    ensures kept { IsErrOf result InputRefusal.NoMemory → GaveSome (S.rest source.old) (S.rest source.new) (most_bytes + 1) }
     ensures count { (IsErrOf result InputRefusal.Failed → ⊥) → S.faults source.new ≡ S.faults source.old }
 {
     let bytes = match read_to_limit(alloc, source, MOST_BYTES + 1) {

@@ -8,7 +8,9 @@ mod scripts;
 mod session;
 mod status;
 mod summary;
+mod texts;
 
 pub use lc_ground::one_text;
 pub use session::run_session;
 pub use status::{Status, status_line};
+pub use texts::told_text;

@@ -1,5 +1,5 @@
 //! The sessions of `run` and `resume`.
-ghost use Rattle.std.specs.Prelude.{◌≡◌, ℕ, List, map, true, false, OnOk, OnErr, MatchResult};
+ghost use Rattle.std.specs.Prelude.{◌≡◌, ◌≢◌, ℕ, List, [], map, true, false, Some, OnOk, OnErr, MatchResult};
 ghost use Rattle.lc_io.specs.Vaults.{WhereTold, empty_slots};
 ghost use Rattle.lc_io.specs.Outside.{HasRisen};
 ghost use Rattle.lc_io.specs.Watchers.{hearing};
@@ -73,7 +73,8 @@ fn cleared<V: Vault>(vault: &mut V, keep: bool) -> Result<(), Failed>
     emptied(vault)
 }
 
-/// The session of `run`: reads a script, empties the slots if checkpoints are kept, and writes the text of the script.
+/// The session of `run`: reads a script, empties the slots if checkpoints are kept, and writes the text of the script. It
+/// doesn't end for want of memory if the source gives no byte.
 pub(crate) fn run<R: Threads + Sync, S: Source, K: Sink, V: Vault, W: Watcher, G: Gate + Sync>(
     rt: &R,
     alloc: Global,
@@ -86,10 +87,11 @@ pub(crate) fn run<R: Threads + Sync, S: Source, K: Sink, V: Vault, W: Watcher, G
 ) -> Status
     requires within { IsWithin asked }
     requires runs { asked.command ≡ Command.Run }
-    ensures { (args : List (List ℕ)) → options all_options args ≡ settings (settings_for asked) → IsSession built_calls args
+    ensures session { (args : List (List ℕ)) → options all_options args ≡ settings (settings_for asked) → IsSession built_calls args
         (outside_of (S.rest source.old) (S.faults source.old) (K.written sink.old) (K.faults sink.old) (around (V.contents vault.old) (V.faults vault.old) (map (hearing W.heard W.coming W.pauses) watchers.old.items)))
         (outside_of (S.rest source.new) (S.faults source.new) (K.written sink.new) (K.faults sink.new) (around (V.contents vault.new) (V.faults vault.new) (map (hearing W.heard W.coming W.pauses) watchers.new.items)))
         (ending_of result) }
+    ensures nothing { S.rest source.old ≡ Some [] → (told : ℕ) → result ≢ Status.NoMemory told }
 {
     let bytes = match input(alloc, source) {
         Ok(bytes) => bytes,

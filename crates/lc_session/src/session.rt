@@ -1,7 +1,9 @@
 // A session from the words and the bytes in to the bytes out.
-ghost use Rattle.std.specs.Prelude.{map};
+ghost use Rattle.std.specs.Prelude.{◌≡◌, ◌≢◌, ℕ, [], map, Some};
 ghost use Rattle.lc_io.specs.Watchers.{hearing};
 ghost use Rattle.lc_eval.specs.Built.{built_calls};
+ghost use Rattle.lc_sessions.specs.Options as line;
+ghost use Rattle.lc_sessions.specs.Options.{Settings, all_options, options, settings};
 ghost use Rattle.lc_sessions.specs.Session.{IsSession};
 ghost use Rattle.lc_arguments.specs.Asked.{words_of};
 ghost use Rattle.lc_rounds.specs.Way.{around};
@@ -28,10 +30,11 @@ fn session<R: Threads + Sync, S: Source, K: Sink, V: Vault, W: Watcher, G: Gate 
     watchers: &mut Vec<W>,
     gate: &G,
 ) -> Status
-    ensures { IsSession built_calls (words_of words.now)
+    ensures session { IsSession built_calls (words_of words.now)
         (outside_of (S.rest source.old) (S.faults source.old) (K.written sink.old) (K.faults sink.old) (around (V.contents vault.old) (V.faults vault.old) (map (hearing W.heard W.coming W.pauses) watchers.old.items)))
         (outside_of (S.rest source.new) (S.faults source.new) (K.written sink.new) (K.faults sink.new) (around (V.contents vault.new) (V.faults vault.new) (map (hearing W.heard W.coming W.pauses) watchers.new.items)))
         (ending_of result) }
+    ensures nothing { (asked : Settings) → options all_options (words_of words.now) ≡ settings asked → asked.command ≡ line.run → S.rest source.old ≡ Some [] → (told : ℕ) → result ≢ Status.NoMemory told }
 {
     let asked = match asked_by(words) {
         Ok(asked) => asked,
@@ -64,8 +67,9 @@ fn session<R: Threads + Sync, S: Source, K: Sink, V: Vault, W: Watcher, G: Gate 
 /// it proves its distance, or the first reason for which it is rejected. `summary seed=N`, after which
 /// there may be `workers=N` and `budget=N`, reads nothing, and writes the line of a code of length 48.
 ///
-/// Nothing is written unless the whole text is ready. The contract of a session is `IsSession` of
-/// `lc_sessions`: what is read, told, stored and written under each status, and when each of them comes.
+/// Nothing is written unless the whole text is ready. `run` of an empty script
+/// does not end for want of memory. The contract of a session is `IsSession` of `lc_sessions`: what is read,
+/// told, stored and written under each status, and when each of them comes.
 pub fn run_session<R: Threads + Sync, S: Source, K: Sink, V: Vault, G: Gate + Sync>(
     rt: &R,
     alloc: Global,
@@ -80,6 +84,8 @@ pub fn run_session<R: Threads + Sync, S: Source, K: Sink, V: Vault, G: Gate + Sy
         (outside_of (S.rest source.old) (S.faults source.old) (K.written sink.old) (K.faults sink.old) (around (V.contents vault.old) (V.faults vault.old) (map (hearing (λ w. heard w) (λ w. coming w) (λ w. pauses w)) watchers.old.items)))
         (outside_of (S.rest source.new) (S.faults source.new) (K.written sink.new) (K.faults sink.new) (around (V.contents vault.new) (V.faults vault.new) (map (hearing (λ w. heard w) (λ w. coming w) (λ w. pauses w)) watchers.new.items)))
         (ending_of result) }
+    // `run` does not end for want of memory if the source gives no byte.
+    ensures nothing { (asked : Settings) → options all_options (words_of words.now) ≡ settings asked → asked.command ≡ line.run → S.rest source.old ≡ Some [] → (told : ℕ) → result ≢ Status.NoMemory told }
 {
     session(rt, alloc, words, source, sink, vault, watchers, gate)
 }

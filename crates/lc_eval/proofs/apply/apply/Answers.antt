@@ -16,23 +16,23 @@ use Rattle.lc_eval.proofs.apply.apply.Goals as goal
 
 pub returns-in-RepetitionCode : goal.returns-in-RepetitionCode
 unfolding refusals_of
-returns-in-RepetitionCode c = rw c.in-RepetitionCode.is (made_applies c.args.place (bound.repetition_code c.in-RepetitionCode.n c.in-RepetitionCode.field.now) (length_refusals c.in-RepetitionCode.field.now c.in-RepetitionCode.n) c.in-RepetitionCode.field.now c.in-RepetitionCode.n IsConstant c.repetition.result c.made.result refl (λ n. n) (λ v h. h) c.repetition.ensures.code c.repetition.ensures.refused c.made.ensures)
+returns-in-RepetitionCode c = rw c.in-RepetitionCode.is (made_applies c.args.place (bound.repetition_code c.in-RepetitionCode.n c.in-RepetitionCode.field.now) (length_refusals c.in-RepetitionCode.field.now c.in-RepetitionCode.n) c.in-RepetitionCode.field.now c.in-RepetitionCode.n IsConstant c.repetition.result c.made.result refl (λ n. n) (λ v h. h) c.repetition.ensures.code c.repetition.ensures.refused c.made.ensures.is)
 
 pub returns-in-WholeSpaceCode : goal.returns-in-WholeSpaceCode
 unfolding refusals_of
-returns-in-WholeSpaceCode c = rw c.in-WholeSpaceCode.is (made_applies c.args.place (bound.whole_space_code c.in-WholeSpaceCode.n c.in-WholeSpaceCode.field.now) (length_refusals c.in-WholeSpaceCode.field.now c.in-WholeSpaceCode.n) c.in-WholeSpaceCode.field.now c.in-WholeSpaceCode.n IsAny c.whole_space.result c.made-in-WholeSpaceCode.result refl (λ n. n) (λ v h. h) c.whole_space.ensures.code c.whole_space.ensures.refused c.made-in-WholeSpaceCode.ensures)
+returns-in-WholeSpaceCode c = rw c.in-WholeSpaceCode.is (made_applies c.args.place (bound.whole_space_code c.in-WholeSpaceCode.n c.in-WholeSpaceCode.field.now) (length_refusals c.in-WholeSpaceCode.field.now c.in-WholeSpaceCode.n) c.in-WholeSpaceCode.field.now c.in-WholeSpaceCode.n IsAny c.whole_space.result c.made-in-WholeSpaceCode.result refl (λ n. n) (λ v h. h) c.whole_space.ensures.code c.whole_space.ensures.refused c.made-in-WholeSpaceCode.ensures.is)
 
 pub returns-in-NullCode : goal.returns-in-NullCode
 unfolding refusals_of
-returns-in-NullCode c = rw c.in-NullCode.is (made_applies c.args.place (bound.null_code c.in-NullCode.n c.in-NullCode.field.now) (length_refusals c.in-NullCode.field.now c.in-NullCode.n) c.in-NullCode.field.now c.in-NullCode.n IsZero c.null_code.result c.made-in-NullCode.result refl (λ n. n) (λ v h. h) c.null_code.ensures.code c.null_code.ensures.refused c.made-in-NullCode.ensures)
+returns-in-NullCode c = rw c.in-NullCode.is (made_applies c.args.place (bound.null_code c.in-NullCode.n c.in-NullCode.field.now) (length_refusals c.in-NullCode.field.now c.in-NullCode.n) c.in-NullCode.field.now c.in-NullCode.n IsZero c.null_code.result c.made-in-NullCode.result refl (λ n. n) (λ v h. h) c.null_code.ensures.code c.null_code.ensures.refused c.made-in-NullCode.ensures.is)
 
 pub returns-in-HammingCode : goal.returns-in-HammingCode
 unfolding refusals_of
-returns-in-HammingCode c = rw c.in-HammingCode.is (made_applies c.args.place (bound.hamming_code c.in-HammingCode.r c.in-HammingCode.field.now) (hamming_refusals c.in-HammingCode.field.now c.in-HammingCode.r) c.in-HammingCode.field.now (hamming_length (size c.in-HammingCode.field.now) c.in-HammingCode.r) (CheckedBy c.in-HammingCode.field.now (hamming_checks (size c.in-HammingCode.field.now) c.in-HammingCode.r)) c.hamming.result c.made-in-HammingCode.result refl (λ n. n) (λ v h. h) c.hamming.ensures.code c.hamming.ensures.refused c.made-in-HammingCode.ensures)
+returns-in-HammingCode c = rw c.in-HammingCode.is (made_applies c.args.place (bound.hamming_code c.in-HammingCode.r c.in-HammingCode.field.now) (hamming_refusals c.in-HammingCode.field.now c.in-HammingCode.r) c.in-HammingCode.field.now (hamming_length (size c.in-HammingCode.field.now) c.in-HammingCode.r) (CheckedBy c.in-HammingCode.field.now (hamming_checks (size c.in-HammingCode.field.now) c.in-HammingCode.r)) c.hamming.result c.made-in-HammingCode.result refl (λ n. n) (λ v h. h) c.hamming.ensures.code c.hamming.ensures.refused c.made-in-HammingCode.ensures.is)
 
 pub returns-in-ReedMullerCode : goal.returns-in-ReedMullerCode
 unfolding refusals_of
-returns-in-ReedMullerCode c = rw c.in-ReedMullerCode.is (made_applies c.args.place (bound.reed_muller_code c.in-ReedMullerCode.r c.in-ReedMullerCode.m) (reed_muller_refusals c.in-ReedMullerCode.r c.in-ReedMullerCode.m) Gf2 (2 ^ c.in-ReedMullerCode.m) (GeneratedBy Gf2 (2 ^ c.in-ReedMullerCode.m) (reed_muller_rows c.in-ReedMullerCode.r c.in-ReedMullerCode.m)) c.reed_muller.result c.made-in-ReedMullerCode.result refl (λ n. n) (λ v h. h) c.reed_muller.ensures.code c.reed_muller.ensures.refused c.made-in-ReedMullerCode.ensures)
+returns-in-ReedMullerCode c = rw c.in-ReedMullerCode.is (made_applies c.args.place (bound.reed_muller_code c.in-ReedMullerCode.r c.in-ReedMullerCode.m) (reed_muller_refusals c.in-ReedMullerCode.r c.in-ReedMullerCode.m) Gf2 (2 ^ c.in-ReedMullerCode.m) (GeneratedBy Gf2 (2 ^ c.in-ReedMullerCode.m) (reed_muller_rows c.in-ReedMullerCode.r c.in-ReedMullerCode.m)) c.reed_muller.result c.made-in-ReedMullerCode.result refl (λ n. n) (λ v h. h) c.reed_muller.ensures.code c.reed_muller.ensures.refused c.made-in-ReedMullerCode.ensures.is)
 
 pub returns-in_ok-code_value-in-BinaryGolayCode : goal.returns-in_ok-code_value-in-BinaryGolayCode
 unfolding refusals_of
@@ -56,62 +56,62 @@ pub returns-in-ExtendedCode : goal.returns-in-ExtendedCode
 unfolding refusals_of
 returns-in-ExtendedCode c =
     let C = c.in-ExtendedCode.code.now in
-    rw c.in-ExtendedCode.is (made_applies c.args.place (bound.extended_code C) (extended_refusals C) C.field (C.columns + 1) (InExtended C) c.extended.result c.made-in-ExtendedCode.result refl (λ n. n) (λ v h. h) c.extended.ensures.code c.extended.ensures.refused c.made-in-ExtendedCode.ensures)
+    rw c.in-ExtendedCode.is (made_applies c.args.place (bound.extended_code C) (extended_refusals C) C.field (C.columns + 1) (InExtended C) c.extended.result c.made-in-ExtendedCode.result refl (λ n. n) (λ v h. h) c.extended.ensures.code c.extended.ensures.refused c.made-in-ExtendedCode.ensures.is)
 
 pub returns-in-PuncturedCode : goal.returns-in-PuncturedCode
 unfolding refusals_of
 returns-in-PuncturedCode c =
     let C = c.in-PuncturedCode.code.now in
     let places = c.in-PuncturedCode.places.now in
-    rw c.in-PuncturedCode.is (made_applies c.args.place (bound.punctured_code C places) (deleted_refusals C places) C.field (C.columns - length places) (InPunctured C places) c.punctured.result c.made-in-PuncturedCode.result refl (λ n. n) (λ v h. h) c.punctured.ensures.code c.punctured.ensures.refused c.made-in-PuncturedCode.ensures)
+    rw c.in-PuncturedCode.is (made_applies c.args.place (bound.punctured_code C places) (deleted_refusals C places) C.field (C.columns - length places) (InPunctured C places) c.punctured.result c.made-in-PuncturedCode.result refl (λ n. n) (λ v h. h) c.punctured.ensures.code c.punctured.ensures.refused c.made-in-PuncturedCode.ensures.is)
 
 pub returns-in-ShortenedCode : goal.returns-in-ShortenedCode
 unfolding refusals_of
 returns-in-ShortenedCode c =
     let C = c.in-ShortenedCode.code.now in
     let places = c.in-ShortenedCode.places.now in
-    rw c.in-ShortenedCode.is (made_applies c.args.place (bound.shortened_code C places) (deleted_refusals C places) C.field (C.columns - length places) (InShortened C places) c.shortened.result c.made-in-ShortenedCode.result refl (λ n. n) (λ v h. h) c.shortened.ensures.code c.shortened.ensures.refused c.made-in-ShortenedCode.ensures)
+    rw c.in-ShortenedCode.is (made_applies c.args.place (bound.shortened_code C places) (deleted_refusals C places) C.field (C.columns - length places) (InShortened C places) c.shortened.result c.made-in-ShortenedCode.result refl (λ n. n) (λ v h. h) c.shortened.ensures.code c.shortened.ensures.refused c.made-in-ShortenedCode.ensures.is)
 
 pub returns-in-EvenWeightSubcode : goal.returns-in-EvenWeightSubcode
 unfolding refusals_of
 returns-in-EvenWeightSubcode c =
     let C = c.in-EvenWeightSubcode.code.now in
-    rw c.in-EvenWeightSubcode.is (made_applies c.args.place (bound.even_weight_subcode C) (even_weight_refusals C) C.field (C.columns) (InEvenWeight C) c.even_weight.result c.made-in-EvenWeightSubcode.result refl (λ n. n) (λ v h. h) c.even_weight.ensures.code c.even_weight.ensures.refused c.made-in-EvenWeightSubcode.ensures)
+    rw c.in-EvenWeightSubcode.is (made_applies c.args.place (bound.even_weight_subcode C) (even_weight_refusals C) C.field (C.columns) (InEvenWeight C) c.even_weight.result c.made-in-EvenWeightSubcode.result refl (λ n. n) (λ v h. h) c.even_weight.ensures.code c.even_weight.ensures.refused c.made-in-EvenWeightSubcode.ensures.is)
 
 pub returns-in-DirectSumCode : goal.returns-in-DirectSumCode
 unfolding refusals_of
 returns-in-DirectSumCode c =
     let C = c.in-DirectSumCode.a.now in
     let D = c.in-DirectSumCode.b.now in
-    rw c.in-DirectSumCode.is (made_applies c.args.place (bound.direct_sum_code C D) (direct_sum_refusals C D) C.field (C.columns + D.columns) (InDirectSum C D) c.direct_sum.result c.made-in-DirectSumCode.result refl (λ n. n) (λ v h. h) c.direct_sum.ensures.code c.direct_sum.ensures.refused c.made-in-DirectSumCode.ensures)
+    rw c.in-DirectSumCode.is (made_applies c.args.place (bound.direct_sum_code C D) (direct_sum_refusals C D) C.field (C.columns + D.columns) (InDirectSum C D) c.direct_sum.result c.made-in-DirectSumCode.result refl (λ n. n) (λ v h. h) c.direct_sum.ensures.code c.direct_sum.ensures.refused c.made-in-DirectSumCode.ensures.is)
 
 pub returns-in-UuvCode : goal.returns-in-UuvCode
 unfolding refusals_of
 returns-in-UuvCode c =
     let C = c.in-UuvCode.a.now in
     let D = c.in-UuvCode.b.now in
-    rw c.in-UuvCode.is (made_applies c.args.place (bound.uuv_code C D) (uuv_refusals C D) C.field (C.columns + D.columns) (InUuv C D) c.uuv.result c.made-in-UuvCode.result refl (λ n. n) (λ v h. h) c.uuv.ensures.code c.uuv.ensures.refused c.made-in-UuvCode.ensures)
+    rw c.in-UuvCode.is (made_applies c.args.place (bound.uuv_code C D) (uuv_refusals C D) C.field (C.columns + D.columns) (InUuv C D) c.uuv.result c.made-in-UuvCode.result refl (λ n. n) (λ v h. h) c.uuv.ensures.code c.uuv.ensures.refused c.made-in-UuvCode.ensures.is)
 
 pub returns-in-DirectProductCode : goal.returns-in-DirectProductCode
 unfolding refusals_of
 returns-in-DirectProductCode c =
     let C = c.in-DirectProductCode.a.now in
     let D = c.in-DirectProductCode.b.now in
-    rw c.in-DirectProductCode.is (made_applies c.args.place (bound.direct_product_code C D) (direct_product_refusals C D) C.field (C.columns * D.columns) (InDirectProduct C D) c.direct_product.result c.made-in-DirectProductCode.result refl (λ n. n) (λ v h. h) c.direct_product.ensures.code c.direct_product.ensures.refused c.made-in-DirectProductCode.ensures)
+    rw c.in-DirectProductCode.is (made_applies c.args.place (bound.direct_product_code C D) (direct_product_refusals C D) C.field (C.columns * D.columns) (InDirectProduct C D) c.direct_product.result c.made-in-DirectProductCode.result refl (λ n. n) (λ v h. h) c.direct_product.ensures.code c.direct_product.ensures.refused c.made-in-DirectProductCode.ensures.is)
 
 pub returns-in-IntersectionCode : goal.returns-in-IntersectionCode
 unfolding refusals_of
 returns-in-IntersectionCode c =
     let C = c.in-IntersectionCode.a.now in
     let D = c.in-IntersectionCode.b.now in
-    rw c.in-IntersectionCode.is (made_applies c.args.place (bound.intersection_code C D) (intersection_refusals C D) C.field (C.columns) (InIntersection C D) c.intersection.result c.made-in-IntersectionCode.result refl (λ n. n) (λ v h. h) c.intersection.ensures.code c.intersection.ensures.refused c.made-in-IntersectionCode.ensures)
+    rw c.in-IntersectionCode.is (made_applies c.args.place (bound.intersection_code C D) (intersection_refusals C D) C.field (C.columns) (InIntersection C D) c.intersection.result c.made-in-IntersectionCode.result refl (λ n. n) (λ v h. h) c.intersection.ensures.code c.intersection.ensures.refused c.made-in-IntersectionCode.ensures.is)
 
 pub returns-in-ConcatenatedCode : goal.returns-in-ConcatenatedCode
 unfolding refusals_of
 returns-in-ConcatenatedCode c =
     let C = c.in-ConcatenatedCode.outer.now in
     let D = c.in-ConcatenatedCode.inner.now in
-    rw c.in-ConcatenatedCode.is (made_applies c.args.place (bound.concatenated_code C D) (concatenated_refusals C D) D.field (C.columns * D.columns) (InConcatenated C D) c.concatenated.result c.made-in-ConcatenatedCode.result refl (λ n. n) (λ v h. h) c.concatenated.ensures.code c.concatenated.ensures.refused c.made-in-ConcatenatedCode.ensures)
+    rw c.in-ConcatenatedCode.is (made_applies c.args.place (bound.concatenated_code C D) (concatenated_refusals C D) D.field (C.columns * D.columns) (InConcatenated C D) c.concatenated.result c.made-in-ConcatenatedCode.result refl (λ n. n) (λ v h. h) c.concatenated.ensures.code c.concatenated.ensures.refused c.made-in-ConcatenatedCode.ensures.is)
 
 pub returns-in-Dimension : goal.returns-in-Dimension
 unfolding refusals_of

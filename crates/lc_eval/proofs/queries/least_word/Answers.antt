@@ -6,7 +6,7 @@ use Rattle.lc_eval.proofs.queries.least_word.Goals as goal
 pub returns-in-Err : goal.returns-in-Err
 returns-in-Err c =
     let words : c.deref.result.now ≡ map (λ row. clamped row.items) c.args.rows.now = c.deref.ensures.value ∙ c.in_ok-words.ensures in
-    least_refused c.args.place c.args.rows.now c.args.field.now c.deref.result.now c.in-Err.refusal c.refused_as.result words c.in-Err.ensures.refused c.refused_as.ensures
+    least_refused c.args.place c.args.rows.now c.args.field.now c.deref.result.now c.in-Err.refusal c.refused_as.result words c.in-Err.ensures.refused c.refused_as.ensures.is
 
 pub returns-then-has_too_many_words : goal.returns-then-has_too_many_words
 returns-then-has_too_many_words c =

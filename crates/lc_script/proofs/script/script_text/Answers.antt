@@ -1,19 +1,19 @@
 use Rattle.lc_script.proofs.ScriptLaws.{no_script_result, starved_first, by_script_result}
 use Rattle.lc_script.proofs.script.script_text.Goals as goal
 
-pub returns-in-Ok-fault_line : goal.returns-in-Ok-fault_line
-returns-in-Ok-fault_line g c w h =
+pub returns-in-Ok-fault_line-clause-ends : goal.returns-in-Ok-fault_line-clause-ends
+returns-in-Ok-fault_line-clause-ends g c w h =
     let a = c.in-Err-Fault in
     no_script_result w c.args.bytes.now (record { number = a.number; place = a.place }) c.in-Ok-fault_line.line.items c.ended.result c.args.course.now _ (rw a.field-0-is at a.ensures.fault) c.in-Ok-fault_line.ensures h c.ended.ensures
 
-pub returns-in-Err : goal.returns-in-Err
-returns-in-Err g c w h = starved_first w c.args.bytes.now c.args.course.now _ h
+pub returns-in-Err-clause-ends : goal.returns-in-Err-clause-ends
+returns-in-Err-clause-ends g c w h = starved_first w c.args.bytes.now c.args.course.now _ h
 
-pub returns-in-Err-NoMemory : goal.returns-in-Err-NoMemory
-returns-in-Err-NoMemory g c w h = starved_first w c.args.bytes.now c.args.course.now _ h
+pub returns-in-Err-NoMemory-clause-ends : goal.returns-in-Err-NoMemory-clause-ends
+returns-in-Err-NoMemory-clause-ends g c w h = starved_first w c.args.bytes.now c.args.course.now _ h
 
-pub returns-in_default : goal.returns-in_default
-returns-in_default g c w h = starved_first w c.args.bytes.now c.args.course.now _ h
+pub returns-in_default-clause-ends : goal.returns-in_default-clause-ends
+returns-in_default-clause-ends g c w h = starved_first w c.args.bytes.now c.args.course.now _ h
 
-pub returns : goal.returns
-returns g c w h = by_script_result w c.args.bytes.now c.in-Ok.script c.in-Ok-start.machine c.text_of.result c.text_of.new.course _ c.in-Ok.ensures.read c.in-Ok-start.ensures.start (c.text_of.ensures w h)
+pub returns-clause-ends : goal.returns-clause-ends
+returns-clause-ends g c w h = by_script_result w c.args.bytes.now c.in-Ok.script c.in-Ok-start.machine c.text_of.result c.text_of.new.course _ c.in-Ok.ensures.read c.in-Ok-start.ensures.start (c.text_of.ensures.ends w h)
