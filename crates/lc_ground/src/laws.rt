@@ -19,7 +19,8 @@ pub fn one_text()
     ensures { (budget : ℕ) (bytes text other : List ℕ) (ends end : Bool) → IsText built_calls budget bytes text ends → IsText built_calls budget bytes other end → (text ≡ other) × (ends ≡ end) }
 {}
 
-/// Each code that a script searches has a length of at most 255, and its rows are its reduced generator matrix.
+/// Each code that a script searches is over a field of at most 16 elements and has a length of at most 255, and its rows are its
+/// reduced generator matrix.
 pub fn needs_are_codes()
     ensures { (table : List Call) (bytes : List ℕ) (needs : List Matrix) → MeetsFirst table bytes needs → (i : ℕ) (C : Matrix) → slice_get needs i ≡ Some C → IsCodeOfRows C }
 {}
