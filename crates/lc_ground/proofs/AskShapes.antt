@@ -1,4 +1,4 @@
--- Each need of a script is a code of length at most 255 with reduced rows.
+-- Each need of a script is a code over a symbol field, of length at most 255, with reduced rows.
 --   evaluates_shaped, evaluates_all_shaped, evaluates_list_shaped      what expressions evaluate to, if the names have such values
 --   steps_shaped         what a statement binds or asks for
 --   needs_shaped         the needs of some statements

@@ -1,6 +1,7 @@
--- The codes among the values of a script have a length of at most 255 and reduced rows.
+-- The codes among the values of a script are over symbol fields and have a length of at most 255 and reduced rows.
 --   IsShaped v               if the value is a code, it is one of rows
 --   HaveShapes b, HaveQueryShapes b      so are the codes among the arguments of a bound call, and of a bound query
+--   IsAllowed f n            a code over f of length n may be made
 --   from_option, from_known  by cases on an option
 --   gives_shaped             a bound call that isn't refused gives such a value
 --   bind_shaped, bind_query_shaped       arguments that are such values bind a call of such codes
@@ -9,14 +10,15 @@ use Rattle.std.specs.Prelude.{MatchOption, IsTrue, ◌&&◌, nat_le, not}
 use Rattle.std.specs.List.{AllByRecursion}
 use Rattle.std.proofs.lemmas.Bool.{leb-true}
 use Rattle.lc_algebra.specs.declared.FieldName.{FieldName}
-use Rattle.lc_algebra.specs.Field.{size, is_symbol}
+use Rattle.lc_algebra.specs.declared.FieldName.TheVariants.{Gf2, Gf3}
+use Rattle.lc_algebra.specs.Field.{shape, shape_of, size, is_symbol}
 use Rattle.lc_algebra.specs.Matrix.{Matrix, AreRows, IsReduced}
 use Rattle.lc_constructions.specs.declared.refusal.CodeRefusal.{CodeRefusal}
 use Rattle.lc_constructions.specs.Code.{IsCode, is_length}
 use Rattle.lc_constructions.specs.Basic.{hamming_length}
 use Rattle.lc_constructions.specs.Alternant.{AlternantForm}
 use Rattle.lc_constructions.specs.Refusal.{refuse_if}
-use Rattle.lc_constructions.specs.Refusals.{columns_of, bad_length, matrix_refusals, length_refusals, hamming_refusals, reed_muller_refusals, cyclic_refusals, bch_refusals, goppa_refusals, form_refusals, alternant_refusals, extended_refusals, direct_sum_refusals, uuv_refusals, direct_product_refusals, degree_over, nested_refusals, concatenated_refusals}
+use Rattle.lc_constructions.specs.Refusals.{columns_of, too_large, bad_length, matrix_refusals, length_refusals, hamming_refusals, reed_muller_refusals, cyclic_refusals, bch_refusals, goppa_refusals, form_refusals, alternant_refusals, extended_refusals, direct_sum_refusals, uuv_refusals, direct_product_refusals, degree_over, nested_refusals, concatenated_refusals}
 use Rattle.lc_language.specs.declared.ValueCall.{ValueCall}
 use Rattle.lc_language.specs.declared.ValueCall.TheVariants.{Gf, GeneratorMatCode, CheckMatCode, RepetitionCode, WholeSpaceCode, NullCode, HammingCode, ReedMullerCode, GeneratorPolCode, CheckPolCode, BinaryGolayCode, TernaryGolayCode, ExtendedBinaryGolayCode, ExtendedTernaryGolayCode, BchCode, ReedSolomonCode, GoppaCode, AlternantCode, DualCode, ExtendedCode, PuncturedCode, ShortenedCode, EvenWeightSubcode, DirectSumCode, UuvCode, DirectProductCode, IntersectionCode, ConcatenatedCode, Dimension, WordLength, GeneratorMat, CheckMat, Weight, IsCodeword, Decode}
 use Rattle.lc_language.specs.declared.QueryCall.{QueryCall}
@@ -45,7 +47,11 @@ HaveShapes (extended_code C) = IsCodeOfRows C
 HaveShapes (punctured_code C places) = IsCodeOfRows C
 HaveShapes (shortened_code C places) = IsCodeOfRows C
 HaveShapes (even_weight_subcode C) = IsCodeOfRows C
+HaveShapes (direct_sum_code C D) = IsCodeOfRows C
+HaveShapes (uuv_code C D) = IsCodeOfRows C
+HaveShapes (direct_product_code C D) = IsCodeOfRows C
 HaveShapes (intersection_code C D) = IsCodeOfRows C
+HaveShapes (concatenated_code C D) = IsCodeOfRows D
 HaveShapes _ = Unit {0}
 
 abbrev pub HaveQueryShapes : BoundQuery → Type 0
@@ -88,42 +94,60 @@ short : (n : ℕ) → bad_length n ≡ None → n ≤ 255
 unfolding bad_length is_length
 short n e = leb-true n 255 (second_test (nat_le 1 n) (nat_le n 255) (by_test (nat_le 1 n && nat_le n 255) _ e))
 
-matrix_short : (f : FieldName) (rows : List (List ℕ)) → first_of (from_codes (matrix_refusals f rows)) ≡ None → columns_of rows ≤ 255
+over_symbols : (f : FieldName) → too_large f ≡ None → is_symbol f ≡ true
+unfolding too_large
+over_symbols f e = by_test (is_symbol f) _ e
+
+abbrev IsAllowed : FieldName → ℕ → Type 0
+IsAllowed f n = (n ≤ 255) × (is_symbol f ≡ true)
+
+allowed : (f : FieldName) (n : ℕ) → too_large f ≡ None → bad_length n ≡ None → IsAllowed f n
+allowed f n t e = (short n e, over_symbols f t)
+
+binary : is_symbol Gf2 ≡ true
+unfolding is_symbol size shape_of shape
+binary = refl
+
+ternary : is_symbol Gf3 ≡ true
+unfolding is_symbol size shape_of shape
+ternary = refl
+
+matrix_allowed : (f : FieldName) (rows : List (List ℕ)) → first_of (from_codes (matrix_refusals f rows)) ≡ None → IsAllowed f (columns_of rows)
 unfolding matrix_refusals
-matrix_short f rows e = short (columns_of rows) (none_refuses _ e).1.0
+matrix_allowed f rows e = let h = none_refuses _ e in allowed f (columns_of rows) h.0 h.1.0
 
-length_short : (f : FieldName) (n : ℕ) → first_of (from_codes (length_refusals f n)) ≡ None → n ≤ 255
+length_allowed : (f : FieldName) (n : ℕ) → first_of (from_codes (length_refusals f n)) ≡ None → IsAllowed f n
 unfolding length_refusals
-length_short f n e = short n (none_refuses _ e).1.0
+length_allowed f n e = let h = none_refuses _ e in allowed f n h.0 h.1.0
 
-cyclic_short : (f : FieldName) (x : List ℕ) (n : ℕ) → first_of (from_codes (cyclic_refusals f x n true)) ≡ None → n ≤ 255
+cyclic_allowed : (f : FieldName) (x : List ℕ) (n : ℕ) → first_of (from_codes (cyclic_refusals f x n true)) ≡ None → IsAllowed f n
 unfolding cyclic_refusals
-cyclic_short f x n e = short n (none_refuses _ e).1.0
+cyclic_allowed f x n e = let h = none_refuses _ e in allowed f n h.0 h.1.0
 
 nested_short : (C D : Matrix) (s : Option ℕ) → first_of (from_codes (nested_refusals C D s)) ≡ None → C.columns * D.columns ≤ 255
 unfolding nested_refusals
 nested_short C D None e = absurd (let f = (none_refuses _ e).0 in cc)
 nested_short C D (Some s) e = short (C.columns * D.columns) (none_refuses _ e).1.0
 
-hamming_short : (f : FieldName) (r : ℕ) → first_of (from_codes (hamming_refusals f r)) ≡ None → hamming_length (size f) r ≤ 255
+hamming_allowed : (f : FieldName) (r : ℕ) → first_of (from_codes (hamming_refusals f r)) ≡ None → IsAllowed f (hamming_length (size f) r)
 unfolding hamming_refusals
-hamming_short f r e = short (hamming_length (size f) r) (none_refuses _ e).1.1.0
+hamming_allowed f r e = let h = none_refuses _ e in allowed f (hamming_length (size f) r) h.0 h.1.1.0
 
 reed_muller_short : (r m : ℕ) → first_of (from_codes (reed_muller_refusals r m)) ≡ None → 2 ^ m ≤ 255
 unfolding reed_muller_refusals
 reed_muller_short r m e = short (2 ^ m) (none_refuses _ e).0
 
-bch_short : (f : FieldName) (n d : ℕ) → first_of (from_codes (bch_refusals f n d)) ≡ None → n ≤ 255
+bch_allowed : (f : FieldName) (n d : ℕ) → first_of (from_codes (bch_refusals f n d)) ≡ None → IsAllowed f n
 unfolding bch_refusals
-bch_short f n d e = short n (none_refuses _ e).1.0
+bch_allowed f n d e = let h = none_refuses _ e in allowed f n h.0 h.1.0
 
-goppa_short : (f K : FieldName) (g points : List ℕ) → first_of (from_codes (goppa_refusals f K g points)) ≡ None → length points ≤ 255
+goppa_allowed : (f K : FieldName) (g points : List ℕ) → first_of (from_codes (goppa_refusals f K g points)) ≡ None → IsAllowed f (length points)
 unfolding goppa_refusals
-goppa_short f K g points e = short (length points) (none_refuses _ e).1.1.0
+goppa_allowed f K g points e = let h = none_refuses _ e in allowed f (length points) h.0 h.1.1.0
 
-alternant_short : (f K : FieldName) (r : ℕ) (points multipliers : List ℕ) → first_of (from_codes (alternant_refusals f K r points multipliers)) ≡ None → length points ≤ 255
+alternant_allowed : (f K : FieldName) (r : ℕ) (points multipliers : List ℕ) → first_of (from_codes (alternant_refusals f K r points multipliers)) ≡ None → IsAllowed f (length points)
 unfolding alternant_refusals form_refusals
-alternant_short f K r points multipliers e = short (length points) (none_refuses _ e).1.1.0
+alternant_allowed f K r points multipliers e = let h = none_refuses _ e in allowed f (length points) h.0 h.1.1.0
 
 extended_short : (C : Matrix) → first_of (from_codes (extended_refusals C)) ≡ None → C.columns + 1 ≤ 255
 unfolding extended_refusals
@@ -149,11 +173,15 @@ symbols_few : (f : FieldName) → IsTrue (is_symbol f) → size f ≤ 16
 unfolding is_symbol
 symbols_few f h = leb-true (size f) 16 h
 
+solomon_allowed : (f : FieldName) (n : ℕ) → size f ≡ n + 1 → IsTrue (is_symbol f) → IsAllowed f n
+solomon_allowed f n e h = let few = symbols_few f h in (omega (arith, few, e), h)
+
 -- ---- the values that calls give
 
-code_shaped : (f : FieldName) (n : ℕ) (P : List ℕ → Type 0) (C : Matrix) → n ≤ 255 → IsCode f n P C → IsCodeOfRows C
+code_shaped : (f : FieldName) (n : ℕ) (P : List ℕ → Type 0) (C : Matrix) → IsAllowed f n → IsCode f n P C → IsCodeOfRows C
 code_shaped f n P C l h = record {
-  long = subst (λ (k : ℕ). k ≤ 255) (sym h.length_is) l;
+  symbol = subst (λ (g : FieldName). is_symbol g ≡ true) (sym h.over) l.1;
+  long = subst (λ (k : ℕ). k ≤ 255) (sym h.length_is) l.0;
   rows = subst (λ (g : FieldName). AreRows g C.columns C.rows) (sym h.over) (subst (λ (k : ℕ). AreRows f k C.rows) (sym h.length_is) h.generator.words);
   reduced = subst (λ (k : ℕ). IsReduced k C.rows) (sym h.length_is) h.generator.reduced;
 }
@@ -161,39 +189,39 @@ code_shaped f n P C l h = record {
 pub shaped_as : (v w : Value) → v ≡ w → IsShaped w → IsShaped v
 shaped_as v w e h = subst IsShaped (sym e) h
 
-made_shaped : (f : FieldName) (n : ℕ) (P : List ℕ → Type 0) (form : Option AlternantForm) (v : Value) → n ≤ 255 → IsCodeValue f n P form v → IsShaped v
+made_shaped : (f : FieldName) (n : ℕ) (P : List ℕ → Type 0) (form : Option AlternantForm) (v : Value) → IsAllowed f n → IsCodeValue f n P form v → IsShaped v
 made_shaped f n P form v l h = let (C, c, e) = h.code_is in shaped_as v (code C form) e (code_shaped f n P C l c)
 
 pub gives_shaped : (b : BoundCall) (v : Value) → HaveShapes b → refusal_of b ≡ None → Gives b v → IsShaped v
 unfolding refusal_of refusals_of
 gives_shaped (gf q) v h e g = shaped_as v _ g.2 tt
-gives_shaped (generator_mat_code rows f) v h e g = made_shaped _ _ _ _ v (matrix_short f rows e) g
-gives_shaped (check_mat_code rows f) v h e g = made_shaped _ _ _ _ v (matrix_short f rows e) g
-gives_shaped (repetition_code n f) v h e g = made_shaped _ _ _ _ v (length_short f n e) g
-gives_shaped (whole_space_code n f) v h e g = made_shaped _ _ _ _ v (length_short f n e) g
-gives_shaped (null_code n f) v h e g = made_shaped _ _ _ _ v (length_short f n e) g
-gives_shaped (hamming_code r f) v h e g = made_shaped _ _ _ _ v (hamming_short f r e) g
-gives_shaped (reed_muller_code r m) v h e g = made_shaped _ _ _ _ v (reed_muller_short r m e) g
-gives_shaped (generator_pol_code x n f) v h e g = made_shaped _ _ _ _ v (cyclic_short f x n e) g
-gives_shaped (check_pol_code x n f) v h e g = made_shaped _ _ _ _ v (cyclic_short f x n e) g
-gives_shaped binary_golay_code v h e g = made_shaped _ _ _ _ v (omega arith) g
-gives_shaped ternary_golay_code v h e g = made_shaped _ _ _ _ v (omega arith) g
-gives_shaped extended_binary_golay_code v h e g = made_shaped _ _ _ _ v (omega arith) g.2
-gives_shaped extended_ternary_golay_code v h e g = made_shaped _ _ _ _ v (omega arith) g.2
-gives_shaped (bch_code n b d f) v h e g = made_shaped _ _ _ _ v (bch_short f n d e) g.2
-gives_shaped (reed_solomon_code n d) v h e g = made_shaped _ _ _ _ v (let few = symbols_few g.0 g.2 in omega (arith, few, g.1)) g.3
-gives_shaped (goppa_code g points K f) v h e k = made_shaped _ _ _ _ v (goppa_short f K g points e) k
-gives_shaped (alternant_code r points multipliers K f) v h e g = made_shaped _ _ _ _ v (alternant_short f K r points multipliers e) g
-gives_shaped (dual_code C) v h e g = made_shaped _ _ _ _ v h.long g
-gives_shaped (extended_code C) v h e g = made_shaped _ _ _ _ v (extended_short C e) g
-gives_shaped (punctured_code C places) v h e g = made_shaped _ _ _ _ v (omega (arith, h.long)) g
-gives_shaped (shortened_code C places) v h e g = made_shaped _ _ _ _ v (omega (arith, h.long)) g
-gives_shaped (even_weight_subcode C) v h e g = made_shaped _ _ _ _ v h.long g
-gives_shaped (direct_sum_code C D) v h e g = made_shaped _ _ _ _ v (sum_short C D e) g
-gives_shaped (uuv_code C D) v h e g = made_shaped _ _ _ _ v (uuv_short C D e) g
-gives_shaped (direct_product_code C D) v h e g = made_shaped _ _ _ _ v (product_short C D e) g
-gives_shaped (intersection_code C D) v h e g = made_shaped _ _ _ _ v h.long g
-gives_shaped (concatenated_code C D) v h e g = made_shaped _ _ _ _ v (concatenated_short C D e) g
+gives_shaped (generator_mat_code rows f) v h e g = made_shaped _ _ _ _ v (matrix_allowed f rows e) g
+gives_shaped (check_mat_code rows f) v h e g = made_shaped _ _ _ _ v (matrix_allowed f rows e) g
+gives_shaped (repetition_code n f) v h e g = made_shaped _ _ _ _ v (length_allowed f n e) g
+gives_shaped (whole_space_code n f) v h e g = made_shaped _ _ _ _ v (length_allowed f n e) g
+gives_shaped (null_code n f) v h e g = made_shaped _ _ _ _ v (length_allowed f n e) g
+gives_shaped (hamming_code r f) v h e g = made_shaped _ _ _ _ v (hamming_allowed f r e) g
+gives_shaped (reed_muller_code r m) v h e g = made_shaped Gf2 _ _ _ v (reed_muller_short r m e, binary) g
+gives_shaped (generator_pol_code x n f) v h e g = made_shaped _ _ _ _ v (cyclic_allowed f x n e) g
+gives_shaped (check_pol_code x n f) v h e g = made_shaped _ _ _ _ v (cyclic_allowed f x n e) g
+gives_shaped binary_golay_code v h e g = made_shaped Gf2 _ _ _ v (omega arith, binary) g
+gives_shaped ternary_golay_code v h e g = made_shaped Gf3 _ _ _ v (omega arith, ternary) g
+gives_shaped extended_binary_golay_code v h e g = made_shaped Gf2 _ _ _ v (omega arith, binary) g.2
+gives_shaped extended_ternary_golay_code v h e g = made_shaped Gf3 _ _ _ v (omega arith, ternary) g.2
+gives_shaped (bch_code n b d f) v h e g = made_shaped _ _ _ _ v (bch_allowed f n d e) g.2
+gives_shaped (reed_solomon_code n d) v h e g = made_shaped _ _ _ _ v (solomon_allowed g.0 n g.1 g.2) g.3
+gives_shaped (goppa_code g points K f) v h e k = made_shaped _ _ _ _ v (goppa_allowed f K g points e) k
+gives_shaped (alternant_code r points multipliers K f) v h e g = made_shaped _ _ _ _ v (alternant_allowed f K r points multipliers e) g
+gives_shaped (dual_code C) v h e g = made_shaped _ _ _ _ v (h.long, h.symbol) g
+gives_shaped (extended_code C) v h e g = made_shaped _ _ _ _ v (extended_short C e, h.symbol) g
+gives_shaped (punctured_code C places) v h e g = made_shaped _ _ _ _ v (omega (arith, h.long), h.symbol) g
+gives_shaped (shortened_code C places) v h e g = made_shaped _ _ _ _ v (omega (arith, h.long), h.symbol) g
+gives_shaped (even_weight_subcode C) v h e g = made_shaped _ _ _ _ v (h.long, h.symbol) g
+gives_shaped (direct_sum_code C D) v h e g = made_shaped _ _ _ _ v (sum_short C D e, h.symbol) g
+gives_shaped (uuv_code C D) v h e g = made_shaped _ _ _ _ v (uuv_short C D e, h.symbol) g
+gives_shaped (direct_product_code C D) v h e g = made_shaped _ _ _ _ v (product_short C D e, h.symbol) g
+gives_shaped (intersection_code C D) v h e g = made_shaped _ _ _ _ v (h.long, h.symbol) g
+gives_shaped (concatenated_code C D) v h e g = made_shaped _ _ _ _ v (concatenated_short C D e, h.symbol) g
 gives_shaped (dimension C) v h e g = shaped_as v _ g tt
 gives_shaped (word_length C) v h e g = shaped_as v _ g tt
 gives_shaped (generator_mat C) v h e g = shaped_as v _ g tt
@@ -232,13 +260,13 @@ one_of P make in_a (v ∷ []) r f h e =
     some_is P (make a) r y (f v a h.0 x)
 one_of P make in_a (v ∷ w ∷ vs) r f h e = absurd (let g = e in cc)
 
-two_of : {A B R : Type 0} (P : R → Type 0) (make : A → B → R) (in_a : Value → Option A) (in_b : Value → Option B) (vs : List Value) (r : R) → ((v : Value) (a : A) (b : B) → IsShaped v → in_a v ≡ Some a → P (make a b)) → AreShaped vs → with_two make in_a in_b vs ≡ Some r → P r
+two_of : {A B R : Type 0} (P : R → Type 0) (make : A → B → R) (in_a : Value → Option A) (in_b : Value → Option B) (vs : List Value) (r : R) → ((v w : Value) (a : A) (b : B) → IsShaped v → IsShaped w → in_a v ≡ Some a → in_b w ≡ Some b → P (make a b)) → AreShaped vs → with_two make in_a in_b vs ≡ Some r → P r
 two_of P make in_a in_b [] r f h e = absurd (let g = e in cc)
 two_of P make in_a in_b (v ∷ []) r f h e = absurd (let g = e in cc)
 two_of P make in_a in_b (v ∷ w ∷ []) r f h e =
     let (a, x, y) = given_some (in_a v) (λ a. given (in_b w) (λ b. Some (make a b))) r e in
     let (b, z, t) = given_some (in_b w) (λ b. Some (make a b)) r y in
-    some_is P (make a b) r t (f v a b h.0 x)
+    some_is P (make a b) r t (f v w a b h.0 h.1.0 x z)
 two_of P make in_a in_b (v ∷ w ∷ x ∷ vs) r f h e = absurd (let g = e in cc)
 
 three_of : {A B C R : Type 0} (P : R → Type 0) (make : A → B → C → R) (in_a : Value → Option A) (in_b : Value → Option B) (in_c : Value → Option C) (vs : List Value) (r : R) → ((a : A) (b : B) (c : C) → P (make a b c)) → with_three make in_a in_b in_c vs ≡ Some r → P r
@@ -287,13 +315,13 @@ either_of P (Some s) p r f g e = f r e
 pub bind_shaped : (c : ValueCall) (vs : List Value) (b : BoundCall) → AreShaped vs → bind c vs ≡ Some b → HaveShapes b
 unfolding bind
 bind_shaped Gf vs b h e = one_of HaveShapes gf number_in vs b (λ v a s i. tt) h e
-bind_shaped GeneratorMatCode vs b h e = two_of HaveShapes generator_mat_code lists_in field_in vs b (λ v x y s i. tt) h e
-bind_shaped CheckMatCode vs b h e = two_of HaveShapes check_mat_code lists_in field_in vs b (λ v x y s i. tt) h e
-bind_shaped RepetitionCode vs b h e = two_of HaveShapes repetition_code number_in field_in vs b (λ v x y s i. tt) h e
-bind_shaped WholeSpaceCode vs b h e = two_of HaveShapes whole_space_code number_in field_in vs b (λ v x y s i. tt) h e
-bind_shaped NullCode vs b h e = two_of HaveShapes null_code number_in field_in vs b (λ v x y s i. tt) h e
-bind_shaped HammingCode vs b h e = two_of HaveShapes hamming_code number_in field_in vs b (λ v x y s i. tt) h e
-bind_shaped ReedMullerCode vs b h e = two_of HaveShapes reed_muller_code number_in number_in vs b (λ v x y s i. tt) h e
+bind_shaped GeneratorMatCode vs b h e = two_of HaveShapes generator_mat_code lists_in field_in vs b (λ v w x y s t i j. tt) h e
+bind_shaped CheckMatCode vs b h e = two_of HaveShapes check_mat_code lists_in field_in vs b (λ v w x y s t i j. tt) h e
+bind_shaped RepetitionCode vs b h e = two_of HaveShapes repetition_code number_in field_in vs b (λ v w x y s t i j. tt) h e
+bind_shaped WholeSpaceCode vs b h e = two_of HaveShapes whole_space_code number_in field_in vs b (λ v w x y s t i j. tt) h e
+bind_shaped NullCode vs b h e = two_of HaveShapes null_code number_in field_in vs b (λ v w x y s t i j. tt) h e
+bind_shaped HammingCode vs b h e = two_of HaveShapes hamming_code number_in field_in vs b (λ v w x y s t i j. tt) h e
+bind_shaped ReedMullerCode vs b h e = two_of HaveShapes reed_muller_code number_in number_in vs b (λ v w x y s t i j. tt) h e
 bind_shaped GeneratorPolCode vs b h e = three_of HaveShapes generator_pol_code numbers_in number_in field_in vs b (λ x y z. tt) e
 bind_shaped CheckPolCode vs b h e = three_of HaveShapes check_pol_code numbers_in number_in field_in vs b (λ x y z. tt) e
 bind_shaped BinaryGolayCode vs b h e = none_of HaveShapes binary_golay_code vs b tt e
@@ -301,34 +329,34 @@ bind_shaped TernaryGolayCode vs b h e = none_of HaveShapes ternary_golay_code vs
 bind_shaped ExtendedBinaryGolayCode vs b h e = none_of HaveShapes extended_binary_golay_code vs b tt e
 bind_shaped ExtendedTernaryGolayCode vs b h e = none_of HaveShapes extended_ternary_golay_code vs b tt e
 bind_shaped BchCode vs b h e = either_of HaveShapes (with_three (λ n d f. bch_code n 1 d f) number_in number_in field_in vs) (with_four bch_code number_in number_in number_in field_in vs) b (λ s k. three_of HaveShapes (λ n d f. bch_code n 1 d f) number_in number_in field_in vs s (λ x y z. tt) k) (λ s k. four_of HaveShapes bch_code number_in number_in number_in field_in vs s (λ w x y z. tt) k) e
-bind_shaped ReedSolomonCode vs b h e = two_of HaveShapes reed_solomon_code number_in number_in vs b (λ v x y s i. tt) h e
+bind_shaped ReedSolomonCode vs b h e = two_of HaveShapes reed_solomon_code number_in number_in vs b (λ v w x y s t i j. tt) h e
 bind_shaped GoppaCode vs b h e = four_of HaveShapes goppa_code numbers_in numbers_in field_in field_in vs b (λ w x y z. tt) e
 bind_shaped AlternantCode vs b h e = five_of HaveShapes alternant_code number_in numbers_in numbers_in field_in field_in vs b (λ v w x y z. tt) e
 bind_shaped DualCode vs b h e = one_of HaveShapes (λ C. dual_code C.code) code_in vs b (λ v C s i. in_code v C i s) h e
 bind_shaped ExtendedCode vs b h e = one_of HaveShapes (λ C. extended_code C.code) code_in vs b (λ v C s i. in_code v C i s) h e
-bind_shaped PuncturedCode vs b h e = two_of HaveShapes (λ C places. punctured_code C.code places) code_in numbers_in vs b (λ v C y s i. in_code v C i s) h e
-bind_shaped ShortenedCode vs b h e = two_of HaveShapes (λ C places. shortened_code C.code places) code_in numbers_in vs b (λ v C y s i. in_code v C i s) h e
+bind_shaped PuncturedCode vs b h e = two_of HaveShapes (λ C places. punctured_code C.code places) code_in numbers_in vs b (λ v w C y s t i j. in_code v C i s) h e
+bind_shaped ShortenedCode vs b h e = two_of HaveShapes (λ C places. shortened_code C.code places) code_in numbers_in vs b (λ v w C y s t i j. in_code v C i s) h e
 bind_shaped EvenWeightSubcode vs b h e = one_of HaveShapes (λ C. even_weight_subcode C.code) code_in vs b (λ v C s i. in_code v C i s) h e
-bind_shaped DirectSumCode vs b h e = two_of HaveShapes (λ C D. direct_sum_code C.code D.code) code_in code_in vs b (λ v x y s i. tt) h e
-bind_shaped UuvCode vs b h e = two_of HaveShapes (λ C D. uuv_code C.code D.code) code_in code_in vs b (λ v x y s i. tt) h e
-bind_shaped DirectProductCode vs b h e = two_of HaveShapes (λ C D. direct_product_code C.code D.code) code_in code_in vs b (λ v x y s i. tt) h e
-bind_shaped IntersectionCode vs b h e = two_of HaveShapes (λ C D. intersection_code C.code D.code) code_in code_in vs b (λ v C y s i. in_code v C i s) h e
-bind_shaped ConcatenatedCode vs b h e = two_of HaveShapes (λ C D. concatenated_code C.code D.code) code_in code_in vs b (λ v x y s i. tt) h e
+bind_shaped DirectSumCode vs b h e = two_of HaveShapes (λ C D. direct_sum_code C.code D.code) code_in code_in vs b (λ v w C D s t i j. in_code v C i s) h e
+bind_shaped UuvCode vs b h e = two_of HaveShapes (λ C D. uuv_code C.code D.code) code_in code_in vs b (λ v w C D s t i j. in_code v C i s) h e
+bind_shaped DirectProductCode vs b h e = two_of HaveShapes (λ C D. direct_product_code C.code D.code) code_in code_in vs b (λ v w C D s t i j. in_code v C i s) h e
+bind_shaped IntersectionCode vs b h e = two_of HaveShapes (λ C D. intersection_code C.code D.code) code_in code_in vs b (λ v w C D s t i j. in_code v C i s) h e
+bind_shaped ConcatenatedCode vs b h e = two_of HaveShapes (λ C D. concatenated_code C.code D.code) code_in code_in vs b (λ v w C D s t i j. in_code w D j t) h e
 bind_shaped Dimension vs b h e = one_of HaveShapes (λ C. dimension C.code) code_in vs b (λ v x s i. tt) h e
 bind_shaped WordLength vs b h e = one_of HaveShapes (λ C. word_length C.code) code_in vs b (λ v x s i. tt) h e
 bind_shaped GeneratorMat vs b h e = one_of HaveShapes (λ C. generator_mat C.code) code_in vs b (λ v x s i. tt) h e
 bind_shaped CheckMat vs b h e = one_of HaveShapes (λ C. check_mat C.code) code_in vs b (λ v x s i. tt) h e
 bind_shaped Weight vs b h e = one_of HaveShapes weight_of numbers_in vs b (λ v x s i. tt) h e
-bind_shaped IsCodeword vs b h e = two_of HaveShapes (λ C x. is_codeword C.code x) code_in numbers_in vs b (λ v x y s i. tt) h e
-bind_shaped Decode vs b h e = two_of HaveShapes (λ C x. decode C.code x) code_in numbers_in vs b (λ v x y s i. tt) h e
+bind_shaped IsCodeword vs b h e = two_of HaveShapes (λ C x. is_codeword C.code x) code_in numbers_in vs b (λ v w x y s t i j. tt) h e
+bind_shaped Decode vs b h e = two_of HaveShapes (λ C x. decode C.code x) code_in numbers_in vs b (λ v w x y s t i j. tt) h e
 
 pub bind_query_shaped : (c : QueryCall) (vs : List Value) (b : BoundQuery) → AreShaped vs → bind_query c vs ≡ Some b → HaveQueryShapes b
 unfolding bind_query
-bind_query_shaped AlgebraicDecode vs b h e = two_of HaveQueryShapes (λ C x. algebraic_decode C.code C.form x) code_in numbers_in vs b (λ v x y s i. tt) h e
-bind_query_shaped LeastWord vs b h e = two_of HaveQueryShapes least_word lists_in field_in vs b (λ v x y s i. tt) h e
+bind_query_shaped AlgebraicDecode vs b h e = two_of HaveQueryShapes (λ C x. algebraic_decode C.code C.form x) code_in numbers_in vs b (λ v w x y s t i j. tt) h e
+bind_query_shaped LeastWord vs b h e = two_of HaveQueryShapes least_word lists_in field_in vs b (λ v w x y s t i j. tt) h e
 bind_query_shaped MinimumDistance vs b h e = one_of HaveQueryShapes (λ C. minimum_distance C.code) code_in vs b (λ v C s i. in_code v C i s) h e
 bind_query_shaped Certificate vs b h e = one_of HaveQueryShapes (λ C. certificate C.code) code_in vs b (λ v C s i. in_code v C i s) h e
 bind_query_shaped ScanCertificate vs b h e = one_of HaveQueryShapes (λ C. scan_certificate C.code) code_in vs b (λ v C s i. in_code v C i s) h e
 bind_query_shaped WeightDistribution vs b h e = one_of HaveQueryShapes (λ C. weight_distribution C.code) code_in vs b (λ v x s i. tt) h e
-bind_query_shaped AlternantCertificate vs b h e = two_of HaveQueryShapes (λ C x. alternant_certificate C.code C.form x) code_in numbers_in vs b (λ v x y s i. tt) h e
-bind_query_shaped NearestWord vs b h e = two_of HaveQueryShapes (λ C x. nearest_word C.code x) code_in numbers_in vs b (λ v x y s i. tt) h e
+bind_query_shaped AlternantCertificate vs b h e = two_of HaveQueryShapes (λ C x. alternant_certificate C.code C.form x) code_in numbers_in vs b (λ v w x y s t i j. tt) h e
+bind_query_shaped NearestWord vs b h e = two_of HaveQueryShapes (λ C x. nearest_word C.code x) code_in numbers_in vs b (λ v w x y s t i j. tt) h e

@@ -1,7 +1,8 @@
-ghost use Rattle.std.specs.Prelude.{◌≡◌, ◌≤◌, ◌^◌, ℕ, Bool, List, length, Option, Some, slice_get};
+ghost use Rattle.std.specs.Prelude.{◌≡◌, ◌≤◌, ◌^◌, ◌⊎◌, ℕ, Bool, List, length, Option, Some, slice_get};
 ghost use Rattle.lc_algebra.specs.Matrix.{Matrix};
 ghost use Rattle.lc_io.specs.Vaults.{Slots};
 ghost use Rattle.lc_language.specs.declared.Call.{Call};
+ghost use Rattle.lc_language.specs.Query.{by_levels, by_scan, query_line};
 ghost use Rattle.lc_language.specs.Evaluation.{IsText};
 ghost use Rattle.lc_eval.specs.Built.{built_calls};
 ghost use Rattle.lc_sessions.specs.Options.{run, resume};
@@ -11,6 +12,7 @@ ghost use Rattle.lc_sessions.specs.Endings.{done};
 ghost use Rattle.lc_sessions.specs.Session.{Outside, most_bytes, IsSession};
 ghost use Rattle.lc_sessions.specs.Promises.{PrintsText};
 ghost use Rattle.lc_sessions.specs.Chain.{Chain, IsGround};
+ghost use Rattle.lc_certify.specs.Accepted.{SaysNone, IsAcceptedFor};
 ghost use Rattle.lc_ground.specs.Shapes.{IsCodeOfRows};
 
 /// Bytes print at most one text: whatever satisfies the definition of the text of a script is the same text,
@@ -19,9 +21,20 @@ pub fn one_text()
     ensures { (budget : ℕ) (bytes text other : List ℕ) (ends end : Bool) → IsText built_calls budget bytes text ends → IsText built_calls budget bytes other end → (text ≡ other) × (ends ≡ end) }
 {}
 
-/// Each code that a script searches has a length of at most 255, and its rows are its reduced generator matrix.
+/// Each code that a script searches is over a field of at most 16 elements and has a length of at most 255, and its rows are its
+/// reduced generator matrix.
 pub fn needs_are_codes()
     ensures { (table : List Call) (bytes : List ℕ) (needs : List Matrix) → MeetsFirst table bytes needs → (i : ℕ) (C : Matrix) → slice_get needs i ≡ Some C → IsCodeOfRows C }
+{}
+
+/// What a script prints for a certificate is accepted. For each code that a script searches, under every budget, the line that
+/// `Certificate` prints of it, and the one that `ScanCertificate` prints, either says that there is no certificate, or `check` answers
+/// to it that it is accepted, with the minimum distance of the code. A code without rows isn't searched: its line says that there is
+/// none.
+pub fn scripts_print_accepted_certificates()
+    ensures levels { (table : List Call) (bytes : List ℕ) (needs : List Matrix) → MeetsFirst table bytes needs → (i : ℕ) (C : Matrix) → slice_get needs i ≡ Some C → (budget : ℕ) → SaysNone (query_line by_levels C budget) ⊎ IsAcceptedFor C (query_line by_levels C budget) }
+    ensures scan { (table : List Call) (bytes : List ℕ) (needs : List Matrix) → MeetsFirst table bytes needs → (i : ℕ) (C : Matrix) → slice_get needs i ≡ Some C → (budget : ℕ) → SaysNone (query_line by_scan C budget) ⊎ IsAcceptedFor C (query_line by_scan C budget) }
+    ensures none { (C : Matrix) (budget : ℕ) → length C.rows ≡ 0 → SaysNone (query_line by_levels C budget) × SaysNone (query_line by_scan C budget) }
 {}
 
 /// What the laws of chains rest on holds of every script of at most 2^20 bytes, and every budget of at most 2^40 blocks: bytes are one

@@ -1,9 +1,12 @@
-//! Laws of the scripts that are made of the calls that are built: what they ask for, that their text is the only one, and what sessions
-//! that follow one another over the slots of a vault print.
+//! Laws of the scripts that are made of the calls that are built: what they ask for, that their text is the only one, that the
+//! certificates in it are accepted, and what sessions that follow one another over the slots of a vault print.
 //!
 //! Each function proves what its clauses say, and does nothing when it is run.
 #![tactic(auto)]
 
 mod laws;
 
-pub use laws::{chains_print_the_text, needs_are_codes, one_text, scripts_are_ground};
+pub use laws::{
+    chains_print_the_text, needs_are_codes, one_text, scripts_are_ground,
+    scripts_print_accepted_certificates,
+};

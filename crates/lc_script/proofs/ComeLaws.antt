@@ -10,7 +10,7 @@
 --   only_ends            a machine with no statement left answers that, and nothing else
 --   IsUntouched first before m c     if the machine had no statement, it has none and the session is as it was
 --   is_ended             there is a text if no record is left
-use Rattle.std.proofs.Common.{◌≡◌, ◌<◌, ◌+◌, ℕ, Bool, true, false, is_some, Result, Ok, Err, is_ok, is_err, IsOk, if◌then◌else◌, MatchResult, List, [], ◌∷◌, ◌++◌, length, map, take, sym, ap, subst, ◌∙◌, arith}
+use Rattle.std.proofs.Common.{◌≡◌, ◌<◌, ◌+◌, ℕ, Bool, true, false, is_some, Result, Ok, Err, is_ok, is_err, IsOk, if◌then◌else◌, MatchResult, List, [], ◌∷◌, ◌++◌, length, map, take, refl, sym, ap, subst, ◌∙◌, arith}
 use Rattle.std.proofs.lemmas.List.{length-append}
 use Rattle.lc_algebra.specs.Matrix.{Matrix}
 use Rattle.lc_enumeration.specs.Search.{Answer}
@@ -169,5 +169,5 @@ module _ (first : State) (before : Course) (m new : State) (c : Course) (u : IsU
   no_fault l d none = (let e = only_ends m new (step.Fault l) d (u none).0 in cc)
 
 pub is_ended : (c : Course) (text : List ℕ) (b : Bool) (r : Result Text Halt) → IsEnded c text b r → is_some c.current ≡ false → IsOk r
-is_ended c text b (Ok t) h none = tt
+is_ended c text b (Ok t) h none = refl
 is_ended c text b (Err x) h none = absurd (let e = sym h.0 ∙ none in cc)

@@ -4,13 +4,19 @@
 --   no_script, no_script_left      bytes that are no script
 --   starved_first        memory is refused before the first statement
 --   few_of, by_script_result, no_script_result       the same, of a machine and of a result
-use Rattle.std.proofs.Common.{Result, MatchResult, ◌≡◌, ◌<◌, ◌+◌, inl, inr, ⊎_elim, ℕ, true, false, is_some, List, [], ◌∷◌, ◌++◌, length, map, take, refl, sym, subst, ◌∙◌}
+--   no_statement         no bytes are the script of no statements
+use Rattle.std.proofs.Common.{Result, MatchResult, ◌≡◌, ◌<◌, ◌≤◌, ◌+◌, inl, inr, ⊎_elim, ℕ, true, false, is_some, List, [], ◌∷◌, ◌++◌, length, map, take, refl, sym, ap, subst, ◌∙◌, arith}
 use Rattle.lc_algebra.specs.Matrix.{Matrix}
 use Rattle.lc_grammar.specs.Tree as tree
-use Rattle.lc_grammar.specs.Grammar.{Reads, Fault, IsFault}
+use Rattle.std.proofs.lemmas.List.Elements.{All-from_recursion}
+use Rattle.lc_grammar.specs.Token.{script_end}
+use Rattle.lc_grammar.specs.Tree.{nesting}
+use Rattle.lc_grammar.specs.Grammar.{Reads, Fault, IsFault, deepest}
 use Rattle.lc_language.specs.Print.{fault_line}
 use Rattle.lc_parse.specs.Views.{statement_of, script_of}
 use Rattle.lc_parse.specs.declared.tree.Script.{Script}
+use Rattle.lc_parse.specs.declared.tree.Statement.{Statement}
+use Rattle.lc_parse.proofs.Outcomes.{nothing_scanned}
 use Rattle.lc_eval.specs.Built.{built_calls}
 use Rattle.lc_eval.specs.Machine.{State}
 use Rattle.lc_sessions.specs.Needs.{Needs, MeetsFirst}
@@ -84,3 +90,17 @@ pub no_script_result : (w : World) (bytes : List ℕ) (f : Fault) (line : List �
 no_script_result w bytes f line r c now fault is g h =
     ended_as r (λ t. (is_some c.current ≡ false) × (t.bytes.items ≡ line) × (t.ends ≡ true)) (λ t. Prints w bytes t c now) (λ x. (is_some c.current ≡ true) × (x ≡ halt.Unfit (length c.pace.point.settled.items + 1) 0)) (λ x. EndsBefore w bytes c now x)
     (λ t e. no_script w bytes f t c now fault e.0 g (e.1 ∙ is) e.2) (λ x e. subst (λ (y : Halt). EndsBefore w bytes c now y) (sym e.1) (no_script_left w bytes f c now fault e.0 g)) h
+
+none_of : (ss : List Statement) → map statement_of ss ≡ [] → ss ≡ []
+none_of [] e = refl
+none_of (s ∷ ss) e = (let n = ap length e in absurd (omega (arith, n)))
+
+pub no_statement : (bytes : List ℕ) (s : Script) (m : State) → bytes ≡ [] → ((ss : List tree.Statement) → Reads bytes ss → script_of s ≡ ss) → m ≡ record { bindings = []; left = s.statements.items } → m.left ≡ []
+no_statement bytes s m none readable is =
+    let scanned = nothing_scanned bytes none in
+    let reads : Reads bytes [] = record {
+      whole = scanned.1 ∙ ap (λ (b : List ℕ). script_end (length b)) (sym none);
+      script = scanned.0;
+      shallow = All-from_recursion (λ (t : tree.Statement). nesting t.expr ≤ deepest) [] tt;
+    } in
+    ap (λ (x : State). x.left) is ∙ none_of s.statements.items (readable [] reads)

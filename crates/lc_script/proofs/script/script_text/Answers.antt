@@ -1,4 +1,4 @@
-use Rattle.lc_script.proofs.ScriptLaws.{no_script_result, starved_first, by_script_result}
+use Rattle.lc_script.proofs.ScriptLaws.{no_script_result, starved_first, by_script_result, no_statement}
 use Rattle.lc_script.proofs.script.script_text.Goals as goal
 
 pub returns-in-Ok-fault_line-clause-ends : goal.returns-in-Ok-fault_line-clause-ends
@@ -17,3 +17,6 @@ returns-in_default-clause-ends g c w h = starved_first w c.args.bytes.now c.args
 
 pub returns-clause-ends : goal.returns-clause-ends
 returns-clause-ends g c w h = by_script_result w c.args.bytes.now c.in-Ok.script c.in-Ok-start.machine c.text_of.result c.text_of.new.course _ c.in-Ok.ensures.read c.in-Ok-start.ensures.start (c.text_of.ensures.ends w h)
+
+pub returns-clause-nothing : goal.returns-clause-nothing
+returns-clause-nothing g c none free = c.text_of.ensures.nothing (no_statement c.args.bytes.now c.in-Ok.script c.in-Ok-start.machine none c.in-Ok.ensures.readable c.in-Ok-start.ensures.start) free

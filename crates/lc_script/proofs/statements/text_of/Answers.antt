@@ -1,4 +1,4 @@
-use Rattle.std.proofs.Common.{◌∙◌, sym, ap, refl}
+use Rattle.std.proofs.Common.{◌∙◌, is_some, sym, ap, refl}
 use Rattle.lc_script.proofs.TextLaws.{need_rows}
 use Rattle.lc_script.proofs.ComeLaws.{at_first, added, after_line, after_silent, after_need, few_met, starved_here, starved_next, halts_here, whole_result, faulty_result, no_line, not_silent, no_need, no_fault, is_ended}
 use Rattle.lc_script.proofs.statements.text_of.Goals as goal
@@ -17,14 +17,14 @@ statements-preserved-in-Line g c =
     (
     after_line _ _ _ _ _ c.step.new.self _ _ _ c.statements.invariant.0 c.in-Line.line c.extend_from_slice.new.self.items (rw c.in-Line.is at c.in-Ok.ensures.does)
         (added c.extend_from_slice.result c.statements.bytes.items c.extend_from_slice.new.self.items c.in-Line.line.items c.deref.result.now _ (sym c.is_err.ensures.value ∙ c.if-is_err.false) c.extend_from_slice.ensures.items c.deref.ensures.value),
-    λ none. absurd (no_line _ _ _ c.step.new.self _ c.statements.invariant.1 c.in-Line.line (rw c.in-Line.is at c.in-Ok.ensures.does) none),
+    λ none. absurd (no_line c.args.machine.now c.args.course.now c.statements.machine c.step.new.self c.statements.course c.statements.invariant.1 c.in-Line.line (rw c.in-Line.is at c.in-Ok.ensures.does) none),
     )
 
 pub statements-preserved-in-Silent : goal.statements-preserved-in-Silent
 statements-preserved-in-Silent g c =
     (
     after_silent _ _ _ _ _ c.step.new.self _ _ _ c.statements.invariant.0 (rw c.in-Silent.is at c.in-Ok.ensures.does),
-    λ none. absurd (not_silent _ _ _ c.step.new.self _ c.statements.invariant.1 (rw c.in-Silent.is at c.in-Ok.ensures.does) none),
+    λ none. absurd (not_silent c.args.machine.now c.args.course.now c.statements.machine c.step.new.self c.statements.course c.statements.invariant.1 (rw c.in-Silent.is at c.in-Ok.ensures.does) none),
     )
 
 pub need_line-requires-clause-rows : goal.need_line-requires-clause-rows
@@ -47,7 +47,7 @@ statements-preserved g c =
     after_need _ _ _ _ _ c.step.new.self _ _ _ c.statements.invariant.0 c.in-Need.query c.need_line.new.course _ c.in-Ok-need_line.line.items c.extend_from_slice-in-Need.new.self.items (rw c.in-Need.is at c.in-Ok.ensures.does) c.in-Ok-need_line.ensures.goes
         (added c.extend_from_slice-in-Need.result c.statements.bytes.items c.extend_from_slice-in-Need.new.self.items c.in-Ok-need_line.line.items c.deref-in-Need.result.now _ (sym c.is_err-in-Need.ensures.value ∙ c.if-is_err-2.false) c.extend_from_slice-in-Need.ensures.items c.deref-in-Need.ensures.value)
         c.in-Ok-need_line.ensures.ranged c.in-Ok-need_line.ensures.same,
-    λ none. absurd (no_need _ _ _ c.step.new.self _ c.statements.invariant.1 c.in-Need.query (rw c.in-Need.is at c.in-Ok.ensures.does) none),
+    λ none. absurd (no_need c.args.machine.now c.args.course.now c.statements.machine c.step.new.self c.statements.course c.statements.invariant.1 c.in-Need.query (rw c.in-Need.is at c.in-Ok.ensures.does) none),
     )
 
 pub returns-then-is_err-3-clause-ends : goal.returns-then-is_err-3-clause-ends
@@ -63,19 +63,19 @@ pub returns-in-End-clause-ends : goal.returns-in-End-clause-ends
 returns-in-End-clause-ends g c w h = whole_result _ _ _ _ _ c.step.new.self _ _ _ c.statements.invariant.0 (rw c.in-End.is at c.in-Ok.ensures.does) w (sym h.of.budget) h c.ended-in-End.result c.ended-in-End.ensures
 
 pub returns-then-is_err-clause-nothing : goal.returns-then-is_err-clause-nothing
-returns-then-is_err-clause-nothing g c none _ = absurd (no_line _ _ _ c.step.new.self _ c.statements.invariant.1 c.in-Line.line (rw c.in-Line.is at c.in-Ok.ensures.does) none)
+returns-then-is_err-clause-nothing g c none _ = absurd (no_line c.args.machine.now c.args.course.now c.statements.machine c.step.new.self c.statements.course c.statements.invariant.1 c.in-Line.line (rw c.in-Line.is at c.in-Ok.ensures.does) none)
 
 pub returns-in-Err-clause-nothing : goal.returns-in-Err-clause-nothing
-returns-in-Err-clause-nothing g c none _ = absurd (no_need _ _ _ c.step.new.self _ c.statements.invariant.1 c.in-Need.query (rw c.in-Need.is at c.in-Ok.ensures.does) none)
+returns-in-Err-clause-nothing g c none _ = absurd (no_need c.args.machine.now c.args.course.now c.statements.machine c.step.new.self c.statements.course c.statements.invariant.1 c.in-Need.query (rw c.in-Need.is at c.in-Ok.ensures.does) none)
 
 pub returns-then-is_err-2-clause-nothing : goal.returns-then-is_err-2-clause-nothing
-returns-then-is_err-2-clause-nothing g c none _ = absurd (no_need _ _ _ c.step.new.self _ c.statements.invariant.1 c.in-Need.query (rw c.in-Need.is at c.in-Ok.ensures.does) none)
+returns-then-is_err-2-clause-nothing g c none _ = absurd (no_need c.args.machine.now c.args.course.now c.statements.machine c.step.new.self c.statements.course c.statements.invariant.1 c.in-Need.query (rw c.in-Need.is at c.in-Ok.ensures.does) none)
 
 pub returns-then-is_err-3-clause-nothing : goal.returns-then-is_err-3-clause-nothing
-returns-then-is_err-3-clause-nothing g c none _ = absurd (no_fault _ _ _ c.step.new.self _ c.statements.invariant.1 c.in-Fault.line (rw c.in-Fault.is at c.in-Ok.ensures.does) none)
+returns-then-is_err-3-clause-nothing g c none _ = absurd (no_fault c.args.machine.now c.args.course.now c.statements.machine c.step.new.self c.statements.course c.statements.invariant.1 c.in-Fault.line (rw c.in-Fault.is at c.in-Ok.ensures.does) none)
 
 pub returns-in-Fault-clause-nothing : goal.returns-in-Fault-clause-nothing
-returns-in-Fault-clause-nothing g c none _ = absurd (no_fault _ _ _ c.step.new.self _ c.statements.invariant.1 c.in-Fault.line (rw c.in-Fault.is at c.in-Ok.ensures.does) none)
+returns-in-Fault-clause-nothing g c none _ = absurd (no_fault c.args.machine.now c.args.course.now c.statements.machine c.step.new.self c.statements.course c.statements.invariant.1 c.in-Fault.line (rw c.in-Fault.is at c.in-Ok.ensures.does) none)
 
 pub returns-in-End-clause-nothing : goal.returns-in-End-clause-nothing
-returns-in-End-clause-nothing g c none free = is_ended _ _ _ c.ended-in-End.result c.ended-in-End.ensures (ap (λ b. is_some b.current) (c.statements.invariant.1 none).1 ∙ free)
+returns-in-End-clause-nothing g c none free = is_ended c.statements.course c.statements.bytes.items _ c.ended-in-End.result c.ended-in-End.ensures (ap (λ b. is_some b.current) (c.statements.invariant.1 none).1 ∙ free)
