@@ -3,7 +3,7 @@
 --   none_given           no byte is taken from it
 --   is_written           a session that has its text isn't out of memory
 --   runs                 the command that is asked for is `run`, if that is what the arguments say
-use Rattle.std.proofs.Common.{◌≡◌, ◌≢◌, inl, inr, ⊎_elim, ℕ, List, [], ◌∷◌, ◌++◌, length, Option, Some, None, Result, Ok, Err, IsOk, refl, sym, ap, subst, ◌∙◌, arith}
+use Rattle.std.proofs.Common.{◌≡◌, ◌≢◌, ⊎_elim, ℕ, List, [], ◌∷◌, ◌++◌, length, Option, Some, None, Result, Ok, Err, IsOk, refl, sym, ap, subst, ◌∙◌, arith}
 use Rattle.std.specs.Io.KnownBytes.{Consumes, Appends}
 use Rattle.lc_io.specs.Outside.{GaveSome, HasRisen, AppendsPart}
 use Rattle.lc_sessions.specs.Options.{Settings, Options, settings, run}
@@ -15,7 +15,7 @@ use Rattle.lc_arguments.specs.Asked.{command_for, settings_for}
 use Rattle.lc_script.specs.declared.statements.Text.{Text}
 use Rattle.lc_session.specs.declared.status.Status.{Status}
 use Rattle.lc_session.specs.declared.status.Status.TheVariants as status
-use Rattle.lc_session.specs.Closing.{IsClosed, Closes}
+use Rattle.lc_session.specs.Closing.{Closes}
 
 no_front : (bytes rest : List ℕ) → [] ≡ bytes ++ rest → bytes ≡ []
 no_front [] rest e = refl

@@ -32,10 +32,10 @@ pub fn told_text<K: Sink>(
 ) -> Option<Status>
     ensures { IsTold (text_asked help.now version.now (words_of words.now)) (K.written sink.old) (K.written sink.new) (K.faults sink.old) (K.faults sink.new) result }
 {
-    let [word] = words else {
+    if words.len() != 1 {
         return None;
-    };
-    let text = text_of(word.as_str(), help, version)?;
+    }
+    let text = text_of(words[0].as_str(), help, version)?;
     match write_whole(sink, text.as_bytes()) {
         Ok(()) => Some(Status::Done(0)),
         Err(_) => Some(Status::SinkFault),
