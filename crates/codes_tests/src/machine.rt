@@ -21,10 +21,7 @@ fn started(alloc: Global, script: &str) -> Result<Machine, AllocError> {
     let Ok(script) = parse(alloc, script.as_bytes()) else {
         return Err(AllocError);
     };
-    let Ok(machine) = Machine::start(alloc, script) else {
-        return Err(AllocError);
-    };
-    Ok(machine)
+    Ok(Machine::start(alloc, script))
 }
 
 // Appends what the next step prints. Returns whether another step may follow.

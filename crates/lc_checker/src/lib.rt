@@ -1,7 +1,7 @@
 //! The checker of certificates of a minimum distance.
 //!
-//! It shares with the search only the matrices and the order of the messages: it makes the generator matrix of each set anew and
-//! looks at each word that a certificate says was seen.
+//! It shares no code with the search but that of fields, words and matrices: it makes the generator matrix of each set anew and
+//! looks at each word that a certificate says was seen. The order of the messages is that of the definitions.
 #![tactic(auto)]
 
 mod bits;

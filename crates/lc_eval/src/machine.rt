@@ -73,17 +73,16 @@ impl Model for Machine {
 }
 
 impl Machine {
-    /// The machine at the first statement of the script, with no name bound. That takes no memory.
-    pub fn start(alloc: Global, script: Script) -> Result<Machine, NoMemory>
-        ensures start { IfOk result (λ m. m ≡ record { bindings = []; left = script.statements.items }) }
-        ensures always { IsOk result }
+    /// The machine at the first statement of the script, with no name bound.
+    pub fn start(alloc: Global, script: Script) -> Machine
+        ensures { result ≡ record { bindings = []; left = script.statements.items } }
     {
-        Ok(Machine {
+        Machine {
             script,
             next: 0,
             names: Names::new(alloc),
             stock: Stock::new(alloc),
-        })
+        }
     }
 
     /// Does one statement: evaluates its expression, and binds the value to the statement's name or answers the line that it

@@ -13,7 +13,7 @@ pub(crate) fn word_of(alloc: Global, list: &[u64]) -> Result<Word, NoMemory>
     ensures { IfOk result (λ w. w ≡ clamped list.now) }
 {
     let symbols: Vec<u8> = list.iter().map(|a| (*a).min(255) as u8).collect(alloc)?;
-    Ok(Word::from_slice(alloc, &symbols)?)
+    Ok(Word::from_vec(symbols))
 }
 
 /// The rows as words, as `word_of` makes them.
@@ -27,7 +27,7 @@ pub(crate) fn words_of(alloc: Global, rows: &[Vec<u64>]) -> Result<Vec<Word>, No
     Ok(words)
 }
 
-//// The symbols of a word as numbers.
+/// The symbols of a word as numbers.
 pub(crate) fn list_of(alloc: Global, symbols: &[u8]) -> Result<Vec<u64>, NoMemory>
     ensures { IfOk result (λ list. list.items ≡ symbols.now) }
 {

@@ -53,9 +53,7 @@ pub fn script_text<R: Threads + Sync, V: Vault, W: Watcher, G: Gate + Sync>(
         }
         Err(ParseRefusal::NoMemory) => return Err(Halt::Stop(Stop::NoMemory)),
     };
-    let Ok(mut machine) = Machine::start(alloc, script) else {
-        return Err(Halt::Stop(Stop::NoMemory));
-    };
+    let mut machine = Machine::start(alloc, script);
     text_of(
         rt,
         alloc,

@@ -1,4 +1,4 @@
-//! What is said of bytes as a certificate.
+//! Checks a certificate, and says what `check` prints of it.
 ghost use Rattle.std.specs.Prelude.{◌≡◌, ℕ, List, IfOk};
 ghost use Rattle.lc_formats.specs.Shape.{IsShaped};
 ghost use Rattle.lc_formats.specs.Check.{certificate_in, reads_as, reason_line};

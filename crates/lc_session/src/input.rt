@@ -1,4 +1,4 @@
-// The bytes of a script.
+//! What a session reads: a script or a certificate.
 ghost use Rattle.std.specs.Prelude.{◌≡◌, ◌+◌, ◌≤◌, length, IfOk, OnOk};
 ghost use Rattle.std.specs.Result.{IsErrOf};
 ghost use Rattle.std.specs.Io.KnownBytes.{Consumes, IsAtEnd};
@@ -8,21 +8,21 @@ ghost use Rattle.lc_sessions.specs.Session.{most_bytes, GaveTooMuch};
 use lc_io::{ReadRefusal, Source, read_to_limit};
 use std::alloc::Global;
 
-/// Why there is no script.
+/// Why nothing was read.
 #[derive(Drop)]
 pub(crate) enum InputRefusal {
     /// A read failed.
     Failed,
-    /// The source gave more than a script may have.
+    /// The source gave more than that.
     TooLong,
     /// Memory was refused.
     NoMemory,
 }
 
-/// The most bytes of a script.
+/// The most bytes of a script or a certificate.
 const MOST_BYTES: usize = 1_048_576;
 
-/// All that the source gives, unless that is more than a script may have.
+/// All that the source gives, unless that is more than a script or a certificate may have.
 pub(crate) fn input<S: Source>(alloc: Global, source: &mut S) -> Result<Vec<u8>, InputRefusal>
     ensures given { IfOk result (λ bytes. Consumes (S.rest source.old) (S.rest source.new) bytes.items) }
     ensures within { IfOk result (λ bytes. length bytes.items ≤ most_bytes) }

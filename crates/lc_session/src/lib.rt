@@ -1,4 +1,4 @@
-//! A session: the words of the command line, the bytes in and the bytes out.
+//! A session: the arguments of the command line, the bytes in and the bytes out.
 #![tactic(auto)]
 
 mod check;
@@ -10,7 +10,6 @@ mod status;
 mod summary;
 mod texts;
 
-pub use lc_ground::one_text;
 pub use session::run_session;
 pub use status::{Status, status_line};
 pub use texts::told_text;

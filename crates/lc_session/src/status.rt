@@ -1,4 +1,4 @@
-// How a session ends.
+//! How a session ends.
 ghost use Rattle.std.specs.Prelude.{◌≡◌, ◌++◌, IfOk, OnOk, decimal};
 ghost use Rattle.lc_sessions.specs.Endings.{ending_number, ending_line};
 ghost use Rattle.lc_session.specs.Ending.{ending_of};
@@ -15,7 +15,7 @@ use std::alloc::Global;
 pub enum Status {
     /// The whole text was written. The number is 1 if a fault line ends it, else 0.
     Done(u8),
-    /// The words of the command line are refused; the index of the first one that is, from 0.
+    /// The arguments of the command line are refused; the index of the first one that is, from 0.
     Usage(usize),
     /// Checkpoints are kept, and a watcher paused the session or its slice is used up.
     Paused {

@@ -12,11 +12,8 @@ returns-in-Err-clause-ends g c w h = starved_first w c.args.bytes.now c.args.cou
 pub returns-in-Err-NoMemory-clause-ends : goal.returns-in-Err-NoMemory-clause-ends
 returns-in-Err-NoMemory-clause-ends g c w h = starved_first w c.args.bytes.now c.args.course.now _ h
 
-pub returns-in_default-clause-ends : goal.returns-in_default-clause-ends
-returns-in_default-clause-ends g c w h = starved_first w c.args.bytes.now c.args.course.now _ h
-
 pub returns-clause-ends : goal.returns-clause-ends
-returns-clause-ends g c w h = by_script_result w c.args.bytes.now c.in-Ok.script c.in-Ok-start.machine c.text_of.result c.text_of.new.course _ c.in-Ok.ensures.read c.in-Ok-start.ensures.start (c.text_of.ensures.ends w h)
+returns-clause-ends g c w h = by_script_result w c.args.bytes.now c.in-Ok.script c.start-machine.result c.text_of.result c.text_of.new.course _ c.in-Ok.ensures.read c.start-machine.ensures (c.text_of.ensures.ends w h)
 
 pub returns-clause-nothing : goal.returns-clause-nothing
-returns-clause-nothing g c none free = c.text_of.ensures.nothing (no_statement c.args.bytes.now c.in-Ok.script c.in-Ok-start.machine none c.in-Ok.ensures.readable c.in-Ok-start.ensures.start) free
+returns-clause-nothing g c none free = c.text_of.ensures.nothing (no_statement c.args.bytes.now c.in-Ok.script c.start-machine.result none c.in-Ok.ensures.readable c.start-machine.ensures) free
