@@ -6,6 +6,7 @@ ghost use Rattle.std.specs.Prelude.{◌≡◌, ◌⊎◌, ◌+◌, ◌<◌, ◌�
 ghost use Rattle.lc_algebra.specs.Matrix.{Matrix};
 ghost use Rattle.lc_enumeration.specs.Search.{Answer};
 ghost use Rattle.lc_enumeration.specs.Records.{SessionStep};
+ghost use Rattle.lc_formats.specs.Checkpoint.{Checkpoint};
 ghost use Rattle.lc_io.specs.declared.watcher.Record.{Record};
 ghost use Rattle.lc_io.specs.Vaults.{Slots, in_slot, other, WhereTold};
 ghost use Rattle.lc_io.specs.Watchers.{Hearing};
@@ -18,9 +19,9 @@ ghost use Rattle.lc_language.specs.Evaluation.{Runs, IsText};
 ghost use Rattle.lc_sessions.specs.Options.{run, resume, Settings, settings, usage as refuses, all_options, options};
 ghost use Rattle.lc_sessions.specs.Needs.{Needs, IsNeeds, MeetsFirst, NoFault};
 ghost use Rattle.lc_sessions.specs.Answers.{RunsBy, IsTextBy, Settle, answers_of};
-ghost use Rattle.lc_sessions.specs.Slots.{slot_of, AreTrueSlots};
+ghost use Rattle.lc_sessions.specs.Slots.{slot_of, IsTrueCheckpoint};
 ghost use Rattle.lc_sessions.specs.Endings.{Ending, done, usage, no_memory};
-ghost use Rattle.lc_sessions.specs.Session.{Outside, Course, rounds_of, IsFresh, IsResumed, Fits, begin_with, Keeps, Tears, IsSession};
+ghost use Rattle.lc_sessions.specs.Session.{Outside, Course, rounds_of, IsFresh, GoesOnFrom, Fits, begin_with, Keeps, Tears, IsSession};
 ghost use Rattle.lc_sessions.specs.Promises.{IsAmple, IsAnswer, PrintsText, checkpoint_of, Holds};
 ghost use Rattle.lc_sessions.specs.Chain.{Chain, IsGround, HasBegun, TearsSo, GoesOn, ChainsAreTrue};
 
@@ -86,11 +87,11 @@ pub fn sessions_make_up_chains()
 {}
 
 /// If a session answered each need of its script by what its records and rounds settle, its text is the text
-/// of the script: always if it started afresh, and over true slots if it resumed.
+/// of the script: always if it started afresh, and if the checkpoint is true from which it resumed.
 pub fn sessions_that_start_truly_print_the_text()
     ensures fresh { (table : List Call) (asked : Settings) (course : Course) → IsGround table course.bytes asked.budget → NoFault course.bytes → IsFresh course → IsNeeds table course.bytes course.needs → (rounds_of asked course).is_stopped ≡ false
         → (answers : List Answer) → Settle asked.budget course.needs (rounds_of asked course).settled answers → IsTextBy table asked.budget course.bytes answers course.text course.is_faulty → IsText table asked.budget course.bytes course.text course.is_faulty }
-    ensures resumed { (table : List Call) (asked : Settings) (held : Option Slots) (course : Course) (slots : Slots) → IsGround table course.bytes asked.budget → NoFault course.bytes → held ≡ Some slots → AreTrueSlots table course.bytes asked.budget slots → IsResumed asked held course → Fits asked course
+    ensures resumed { (table : List Call) (asked : Settings) (held : Option Slots) (course : Course) (p : Checkpoint) → IsGround table course.bytes asked.budget → NoFault course.bytes → GoesOnFrom asked held course p → IsTrueCheckpoint table course.bytes asked.budget p → Fits asked course
         → IsNeeds table course.bytes course.needs → (rounds_of asked course).is_stopped ≡ false
         → (answers : List Answer) → Settle asked.budget course.needs (rounds_of asked course).settled answers → IsTextBy table asked.budget course.bytes answers course.text course.is_faulty → IsText table asked.budget course.bytes course.text course.is_faulty }
 {}
