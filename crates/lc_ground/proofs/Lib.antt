@@ -7,3 +7,4 @@ pub mod AskShapes
 pub mod RangeLaws
 pub mod BudgetLaws
 pub mod GroundLaws
+pub mod StoredLaws
