@@ -136,7 +136,7 @@ quiet_stands w needs C c now told done (Some current) h way of = inl (record {
   front = quiet_steps w needs c told done current h.0;
   stopped = starved w.origin told [] _ c.pace now way;
   of = of;
-  fitting = inl h.0.silent;
+  fitting = inl (refl, h.0.silent);
 })
 quiet_stands w needs C c now told done None h way of = inr (record {
   told = told;
@@ -276,7 +276,7 @@ starving w needs answers c now h = by (option_map settled_of c.current) h.stands
       front = quiet_steps w needs c h.told h.done current s;
       stopped = starved w.origin h.told [] _ c.pace now h.way;
       of = h.of;
-      fitting = inl s.silent;
+      fitting = inl (refl, s.silent);
     }
     by None s = record {
       told = h.told;

@@ -30,4 +30,4 @@ same_way o told p q now s w = record {
 
 -- memory is refused
 pub starved : (o : Origin) (told left : List SessionStep) (is_used_up : Bool) (pace : Pace) (now : Around) → IsOnItsWay o told pace now → HasStopped o told left is_used_up pace now NoMemory
-starved o told left is_used_up pace now w = record { count = w.count; is_paused = w.is_paused; heard = w.heard; stops = (w.stored, w.quiet) }
+starved o told left is_used_up pace now w = record { count = w.count; is_paused = w.is_paused; heard = w.heard; stops = (w.unpaused, w.stored, w.quiet) }

@@ -23,6 +23,7 @@ use Rattle.lc_checkpoint.specs.Seen.{settled_of}
 use Rattle.lc_sessions.specs.Answers.{Settle, HasWords}
 use Rattle.lc_rounds.specs.declared.pace.Pace.{Pace}
 use Rattle.lc_rounds.specs.declared.rounds.Stop.{Stop}
+use Rattle.lc_rounds.specs.declared.rounds.Stop.TheVariants.{NoMemory}
 use Rattle.lc_rounds.specs.Way.{Around, Origin, IsOnItsWay, HasStopped}
 use Rattle.lc_course.specs.Course.{Beginning, afresh, after, begins, Waits, Stands, AtNeed}
 use Rattle.lc_answers.specs.declared.course.Course.{Course}
@@ -102,13 +103,14 @@ Misfits (after version settled current) budget needs C =
     × (((s : Progress) × (slice_get settled (length needs) ≡ Some s) × (fits_settled (divisor_of C) C budget s.blocks (found_of s) ≡ false))
     ⊎ ((length settled ≡ length needs) × (fits C current.blocks (found_of current) ≡ false)))
 
+-- its records fit, unless memory was refused before they were looked at
 pub record Stops (w : World) (needs : List Matrix) (c : Course) (now : Around) (stop : Stop) : Type 0 where
   pub told : List SessionStep
   pub left : List SessionStep
   pub front : (rounds_from w needs).steps ≡ told ++ left
   pub stopped : HasStopped w.origin told left (rounds_from w needs).is_stopped c.pace now stop
   pub of : IsOf w c.pace
-  pub fitting : (told ≡ []) ⊎ (misfit divisor_of needs w.budget (begins w.beginning needs) ≡ None)
+  pub fitting : ((stop ≡ NoMemory) × (told ≡ [])) ⊎ (misfit divisor_of needs w.budget (begins w.beginning needs) ≡ None)
 
 -- a record is misfit, and no round was done
 pub record IsMisfit (w : World) (needs : List Matrix) (c : Course) (now : Around) (need told found : ℕ) : Type 0 where

@@ -1,8 +1,7 @@
 -- The records of a true checkpoint fit the needs that a session meets.
---   taken_true           over true slots the checkpoint that is taken is true
 --   record_fits, current_fits      the record of a settled need, and that of the current one
 --   needs_reach          a script has more needs than the checkpoint has settled
-use Rattle.std.proofs.Common.{◌≡◌, ◌≤◌, ◌<◌, ◌+◌, ⊎_elim, ℕ, zero, suc, Bool, true, false, ◌==◌, nat_lt, if◌then◌else◌, List, [], ◌∷◌, ◌++◌, length, take, Option, Some, None, refl, sym, ap, subst, ◌∙◌, arith}
+use Rattle.std.proofs.Common.{◌≡◌, ◌≤◌, ◌<◌, ◌+◌, ⊎_elim, ℕ, zero, suc, Bool, true, false, ◌==◌, nat_lt, if◌then◌else◌, List, [], ◌∷◌, ◌++◌, length, take, Some, refl, sym, ap, subst, ◌∙◌, arith}
 use Rattle.std.specs.Prelude.{slice_get}
 use Rattle.std.proofs.lemmas.Bool.{ltb-false}
 use Rattle.std.proofs.lemmas.Option.{slice_get_within}
@@ -14,35 +13,18 @@ use Rattle.lc_enumeration.specs.Search.{fits, fits_settled}
 use Rattle.lc_enumeration.specs.Records.{Progress, found_of, IsBestAt}
 use Rattle.lc_enumeration.specs.Truth.{IsSettled}
 use Rattle.lc_infoset.proofs.FittingLaws.{settled_fits, underway_fits}
-use Rattle.lc_formats.specs.Checkpoint.{Checkpoint, current_of, ReadCheckpoint, point, refused}
-use Rattle.lc_formats.specs.Truth.{divisor_in, IsTrueFor}
+use Rattle.lc_formats.specs.Checkpoint.{Checkpoint, current_of}
+use Rattle.lc_formats.specs.Truth.{divisor_in}
 use Rattle.lc_grammar.specs.Tree.{Statement}
 use Rattle.lc_grammar.specs.Grammar.{Reads, Fault, IsFault}
-use Rattle.lc_io.specs.Vaults.{Slots}
-use Rattle.lc_io.specs.declared.vault.Slot.TheVariants.{Zero, One}
 use Rattle.lc_language.specs.declared.Call.{Call}
 use Rattle.lc_language.specs.Value.{Binding}
 use Rattle.lc_language.specs.Evaluation.{Step, binds, prints, asks, counts, nears, fails}
 use Rattle.lc_sessions.specs.Needs.{NeedsOn, Needs, IsNeeds, MeetsFirst, OneScript, OneStep, NoFault}
-use Rattle.lc_sessions.specs.Slots.{takes, choice, later_of, chosen, IsTornOr, AreTrueSlots, IsTrueCheckpoint}
+use Rattle.lc_sessions.specs.Slots.{IsTrueCheckpoint}
 use Rattle.lc_sessions.proofs.NeedsLaws.{met_agree}
-use Rattle.lc_sessions.proofs.SessionChains.{chosen_is}
 use Rattle.lc_sessions.proofs.TrueSteps.{settled_reads, parts_of}
 use Rattle.lc_course.proofs.AskLaws.{met_rows}
-
-pub taken_true : (table : List Call) (bytes : List ℕ) (budget : ℕ) (slots : Slots) (p : Checkpoint) → AreTrueSlots table bytes budget slots → choice slots ≡ takes p → IsTrueCheckpoint table bytes budget p
-unfolding chosen later_of
-taken_true table bytes budget slots p both is = by _ _ both.0 both.1 (chosen_is slots p is)
-  where
-    by_turn : (less : Bool) (q r : Checkpoint) → IsTrueCheckpoint table bytes budget q → IsTrueCheckpoint table bytes budget r → (if less then Some r else Some q) ≡ Some p → IsTrueCheckpoint table bytes budget p
-    by_turn true q r h k e = subst (IsTrueCheckpoint table bytes budget) (let f = e in cc) k
-    by_turn false q r h k e = subst (IsTrueCheckpoint table bytes budget) (let f = e in cc) h
-
-    by : (a b : ReadCheckpoint) → IsTornOr Zero table bytes budget a → IsTornOr One table bytes budget b → later_of a b ≡ Some p → IsTrueCheckpoint table bytes budget p
-    by (refused r) (refused s) h k e = absurd (let f = e in cc)
-    by (refused r) (point q) h k e = subst (IsTrueCheckpoint table bytes budget) (let f = e in cc) k.0
-    by (point q) (refused s) h k e = subst (IsTrueCheckpoint table bytes budget) (let f = e in cc) h.0
-    by (point q) (point r) h k e = by_turn (nat_lt q.turn r.turn) q r h.0 k.0 e
 
 last_need : (needs : List Matrix) (C : Matrix) → slice_get (needs ++ C ∷ []) (length needs) ≡ Some C
 last_need [] C = refl

@@ -8,3 +8,4 @@ pub mod RangeLaws
 pub mod BudgetLaws
 pub mod GroundLaws
 pub mod CertificateLaws
+pub mod StoredLaws

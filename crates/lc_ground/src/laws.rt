@@ -1,5 +1,7 @@
-ghost use Rattle.std.specs.Prelude.{◌≡◌, ◌≤◌, ◌^◌, ◌⊎◌, ℕ, Bool, List, length, Option, Some, slice_get};
+ghost use Rattle.std.specs.Prelude.{◌≡◌, ◌<◌, ◌≤◌, ◌^◌, ◌⊎◌, ◌++◌, ℕ, Bool, true, List, [], ◌∷◌, length, Option, Some, slice_get};
 ghost use Rattle.lc_algebra.specs.Matrix.{Matrix};
+ghost use Rattle.lc_enumeration.specs.Records.{SessionStep};
+ghost use Rattle.lc_formats.specs.Checkpoint.{Checkpoint};
 ghost use Rattle.lc_io.specs.Vaults.{Slots};
 ghost use Rattle.lc_language.specs.declared.Call.{Call};
 ghost use Rattle.lc_language.specs.Query.{by_levels, by_scan, query_line};
@@ -7,10 +9,10 @@ ghost use Rattle.lc_language.specs.Evaluation.{IsText};
 ghost use Rattle.lc_eval.specs.Built.{built_calls};
 ghost use Rattle.lc_sessions.specs.Options.{run, resume};
 ghost use Rattle.lc_sessions.specs.Needs.{MeetsFirst};
-ghost use Rattle.lc_sessions.specs.Slots.{AreTrueSlots};
-ghost use Rattle.lc_sessions.specs.Endings.{done};
+ghost use Rattle.lc_sessions.specs.Slots.{turn_after, IsTrueCheckpoint, AreTrueSlots};
+ghost use Rattle.lc_sessions.specs.Endings.{Ending, done};
 ghost use Rattle.lc_sessions.specs.Session.{Outside, most_bytes, IsSession};
-ghost use Rattle.lc_sessions.specs.Promises.{PrintsText};
+ghost use Rattle.lc_sessions.specs.Promises.{PrintsText, StartsTruly, StoresTruly};
 ghost use Rattle.lc_sessions.specs.Chain.{Chain, IsGround};
 ghost use Rattle.lc_certify.specs.Accepted.{SaysNone, IsAcceptedFor};
 ghost use Rattle.lc_ground.specs.Shapes.{IsCodeOfRows};
@@ -53,4 +55,14 @@ pub fn chains_print_the_text()
     ensures run { (args : List (List ℕ)) (old new : Outside) (n : ℕ) (s : IsSession built_calls args old new (done n)) → s.asked.command ≡ run → PrintsText built_calls s.asked.budget s.course.bytes old.sink new.sink n }
     ensures resume { (args : List (List ℕ)) (old new : Outside) (n : ℕ) (s : IsSession built_calls args old new (done n)) (version : ℕ) (slots : Slots) → s.asked.command ≡ resume → old.vault ≡ Some slots → Chain built_calls s.course.bytes s.asked.budget version slots
         → PrintsText built_calls s.asked.budget s.course.bytes old.sink new.sink n }
+{}
+
+/// Sessions of scripts store true checkpoints. After a session of `run`, or of `resume` that took a true checkpoint, each slot is as it
+/// was, or empty, or holds a true checkpoint in the slot of its turn, but for one whose store failed. A true checkpoint has a turn below
+/// 2^58, and so has each record told.
+pub fn stored_slots_hold_true_checkpoints()
+    ensures stored { (args : List (List ℕ)) (old new : Outside) (ending : Ending) (s : IsSession built_calls args old new ending) → StartsTruly built_calls s.asked.command s.asked old.vault s.course → s.asked.keep ≡ true → StoresTruly built_calls s.course.bytes s.asked.budget old new }
+    ensures turn { (bytes : List ℕ) (budget : ℕ) → length bytes ≤ most_bytes → budget ≤ 2 ^ 40 → (p : Checkpoint) → IsTrueCheckpoint built_calls bytes budget p → p.turn < 2 ^ 58 }
+    ensures early { (args : List (List ℕ)) (old new : Outside) (ending : Ending) (s : IsSession built_calls args old new ending) → StartsTruly built_calls s.asked.command s.asked old.vault s.course
+        → (before : List SessionStep) (last : SessionStep) → s.course.told ≡ before ++ last ∷ [] → turn_after s.course.turn before < 2 ^ 58 }
 {}

@@ -141,6 +141,7 @@ module _ (o : Origin) (told : List SessionStep) (pace : Pace) (s : SearchState) 
         heard = subst (λ (ws : List Hearing). Kept pace.keep (records_of told) h.is_paused o.around.watchers ws) (sym same) h.heard;
         stops = (
           keep,
+          h.unpaused keep,
           some_left (next_step pace s) left,
           WhereTold-then o.around.vault old.vault new.vault _ _ _ (λ a b c p q. (q.0, q.1 ∙ ap (put slot q.0) p)) stored (subst (λ (t : ℕ). WhereTold old.vault new.vault (IsTorn (slot_of t))) h.turn torn),
           subst (λ (n : ℕ). HasRisen n new.faults) h.quiet risen,
@@ -153,6 +154,7 @@ module _ (o : Origin) (told : List SessionStep) (pace : Pace) (s : SearchState) 
     is_paused = h.is_paused;
     heard = subst (λ (w : Around). Kept now.keep (records_of told) h.is_paused o.around.watchers w.watchers) (sym same) (subst (λ (b : Bool). Kept b (records_of told) h.is_paused o.around.watchers old.watchers) (sym keep) h.heard);
     stops = (
+      (λ k. h.unpaused (sym keep ∙ k)),
       subst (λ (w : Around). Stored now.keep (point_of now.point).script now.point.budget o.turn told o.around.vault w.vault) (sym same)
           (subst (λ (b : Bool). Stored b (point_of now.point).script now.point.budget o.turn told o.around.vault old.vault) (sym keep)
           (subst (λ (digest : List ℕ). Stored pace.keep digest now.point.budget o.turn told o.around.vault old.vault) (sym script)

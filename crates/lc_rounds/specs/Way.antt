@@ -65,17 +65,18 @@ pub record IsOnItsWay (o : Origin) (told : List SessionStep) (pace : Pace) (now 
   pub stored : Stored pace.keep (point_of pace.point).script pace.point.budget o.turn told o.around.vault now.vault
   pub quiet : now.faults ≡ o.around.faults
 
--- how it stops: a watcher paused it or its slice is used up; the store of the next checkpoint failed; memory was refused
+-- how it stops: a watcher paused it or its slice is used up; the store of the next checkpoint failed; memory was refused. Only the
+-- first comes after a pause, if checkpoints are kept
 abbrev pub StopsAs : Origin → List SessionStep → List SessionStep → Bool → Bool → Pace → Around → Stop → Type 0
 StopsAs o told left is_used_up is_paused pace now Paused =
     (pace.keep ≡ true) × EndsAt told pace.last × ((is_paused ≡ true) ⊎ ((left ≡ []) × (is_used_up ≡ true)))
     × Stored true (point_of pace.point).script pace.point.budget o.turn told o.around.vault now.vault × (now.faults ≡ o.around.faults)
 StopsAs o told left is_used_up is_paused pace now VaultFault =
-    (pace.keep ≡ true) × ¬ (left ≡ [])
+    (pace.keep ≡ true) × (is_paused ≡ false) × ¬ (left ≡ [])
     × WhereTold o.around.vault now.vault (λ before after. IsTorn (slot_of (turn_after o.turn told)) (slots_after 2 (point_of pace.point).script pace.point.budget o.turn told before) after)
     × HasRisen o.around.faults now.faults
 StopsAs o told left is_used_up is_paused pace now NoMemory =
-    Stored pace.keep (point_of pace.point).script pace.point.budget o.turn told o.around.vault now.vault × (now.faults ≡ o.around.faults)
+    (pace.keep ≡ true → is_paused ≡ false) × Stored pace.keep (point_of pace.point).script pace.point.budget o.turn told o.around.vault now.vault × (now.faults ≡ o.around.faults)
 
 pub record HasStopped (o : Origin) (told left : List SessionStep) (is_used_up : Bool) (pace : Pace) (now : Around) (stop : Stop) : Type 0 where
   pub count : pace.told ≡ length told

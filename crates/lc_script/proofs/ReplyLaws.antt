@@ -2,9 +2,9 @@
 --   whole_met            the needs of a script are met by its session
 --   script_text_of       a text by the answers of the search is that of the script
 --   run_replies          what `run` prints
---   IsTaken, resumed     the checkpoint that `resume` takes
+--   resumed              the checkpoint that `resume` takes
 --   resume_replies       what `resume` prints
---   not_true             over true slots every record fits
+--   not_true             every record of a true checkpoint fits
 --   resume_unfit         a record that doesn't fit
 use Rattle.std.proofs.Common.{◌≡◌, ◌≤◌, ◌^◌, ◌⊎◌, inl, inr, ⊎_elim, ℕ, Bool, false, IsTrue, List, [], ◌∷◌, ◌++◌, length, Option, Some, refl, sym, ap, subst, ◌∙◌, arith}
 use Rattle.std.proofs.lemmas.Bool.{false≢true}
@@ -12,7 +12,7 @@ use Rattle.std.proofs.lemmas.List.{length-append}
 use Rattle.sha2.specs.Sha256.{sha256}
 use Rattle.lc_algebra.specs.Matrix.{Matrix}
 use Rattle.lc_algebra.specs.Divisor.{divisor_of}
-use Rattle.lc_enumeration.specs.Records.{SessionStep, SessionRounds, Progress, session_rounds}
+use Rattle.lc_enumeration.specs.Records.{SessionStep, SessionRounds, Start, Progress, session_rounds}
 use Rattle.lc_enumeration.specs.Fitting.{Misfit, misfit}
 use Rattle.lc_infoset.proofs.FittingLaws.{true_start_fits}
 use Rattle.lc_formats.specs.Checkpoint.{Checkpoint, current_of}
@@ -24,14 +24,14 @@ use Rattle.lc_eval.specs.Built.{built_calls}
 use Rattle.lc_sessions.specs.Options.{run, resume, Settings}
 use Rattle.lc_sessions.specs.Needs.{Needs, IsNeeds, MeetsFirst, OneScript, OneStep, NoFault}
 use Rattle.lc_sessions.specs.Answers.{Settle, answers_of}
-use Rattle.lc_sessions.specs.Slots.{next_turn, takes, is_for, AreTrueSlots, IsTrueCheckpoint}
-use Rattle.lc_sessions.specs.Session.{Outside, Finds, IsResumed, IsScriptText, Replies, Resumes}
+use Rattle.lc_sessions.specs.Slots.{next_turn, takes, is_for, IsTrueCheckpoint}
+use Rattle.lc_sessions.specs.Session.{Outside, Finds, GoesOnFrom, IsResumed, IsScriptText, Replies, Resumes}
 use Rattle.lc_sessions.specs.Endings.{unfit}
 use Rattle.lc_sessions.proofs.HonestLaws.{text_by_search}
 use Rattle.lc_sessions.proofs.AnswerLaws.{met_whole}
 use Rattle.lc_rounds.specs.Way.{Around}
 use Rattle.lc_course.specs.Course.{Beginning, afresh, after, begins}
-use Rattle.lc_course.proofs.TruthLaws.{taken_true, record_fits, current_fits, needs_reach}
+use Rattle.lc_course.proofs.TruthLaws.{record_fits, current_fits, needs_reach}
 use Rattle.lc_course.proofs.ScriptTruth.{fresh_answers, true_answers, start_true, rows_all}
 use Rattle.lc_answers.specs.declared.course.Course.{Course}
 use Rattle.lc_script.specs.declared.statements.Text.{Text}
@@ -64,13 +64,12 @@ module _ (bytes : List ℕ) (script : OneScript bytes) (one : OneStep built_call
     abbrev pub from : Beginning
     from = after p.version p.settled (current_of p)
 
-    pub resumed : (needs : List Matrix) (told left : List SessionStep) (is_paused : Bool) (text : List ℕ) (faulty : Bool) → IsResumed asked old.vault (course_of bytes from turn needs told left is_paused text faulty)
+    goes_from : (needs : List Matrix) (told left : List SessionStep) (is_paused : Bool) (text : List ℕ) (faulty : Bool) → GoesOnFrom asked old.vault (course_of bytes from turn needs told left is_paused text faulty) p
     unfolding start_of
-    resumed needs told left is_paused text faulty = (p, record { found = found; same = same_script; start = refl; turn = turns })
+    goes_from needs told left is_paused text faulty = record { found = found; same = same_script; start = refl; turn = turns }
 
-    -- over true slots the checkpoint is true
-    taken : (slots : Slots) → old.vault ≡ Some slots → AreTrueSlots built_calls bytes asked.budget slots → IsTrueCheckpoint built_calls bytes asked.budget p
-    taken slots told both = taken_true built_calls bytes asked.budget slots p both (subst (λ (o : Option Slots). Finds o (takes p)) told found)
+    pub resumed : (needs : List Matrix) (told left : List SessionStep) (is_paused : Bool) (text : List ℕ) (faulty : Bool) → IsResumed asked old.vault (course_of bytes from turn needs told left is_paused text faulty)
+    resumed needs told left is_paused text faulty = (p, goes_from needs told left is_paused text faulty)
 
     pub resume_replies : (t : Text) (c : Course) (now : Around) (h : Prints (world asked bytes from turn held old) bytes t c now) → asked.command ≡ resume → Replies built_calls asked.command asked old.vault (course_of bytes from turn h.needs h.told [] h.way.is_paused t.bytes.items t.ends)
     unfolding start_of
@@ -82,25 +81,25 @@ module _ (bytes : List ℕ) (script : OneScript bytes) (one : OneStep built_call
             settled = settled_so t c now from h;
             printed = h.prints_all;
             words = h.answered.words;
-            honest = λ slots told both.
-                let holds = taken slots told both in
+            honest = λ q goes holds.
+                let over = λ (s : Start). session_rounds divisor_of h.needs asked.budget asked.slice s in
+                let unstopped : (over (start_of h.needs q)).is_stopped ≡ false = subst (λ (s : Start). (over s).is_stopped ≡ false) goes.start (ap (λ (r : SessionRounds). r.is_stopped) h.rounds_are) in
+                let settled : Settle asked.budget h.needs (over (start_of h.needs q)).settled h.answers = subst (λ (s : Start). Settle asked.budget h.needs (over s).settled h.answers) goes.start (settled_so t c now from h) in
                 script_text_of t c now from h []
-                (true_answers built_calls bytes asked.budget h.needs asked.slice h.answers p script one small (whole_met bytes h.needs h.asks_all) (needs_reach built_calls bytes asked.budget script one p holds h.needs sound h.asks_all) holds (ap (λ (r : SessionRounds). r.is_stopped) h.rounds_are) (settled_so t c now from h));
+                (true_answers built_calls bytes asked.budget h.needs asked.slice h.answers q script one small (whole_met bytes h.needs h.asks_all) (needs_reach built_calls bytes asked.budget script one q holds h.needs sound h.asks_all) holds unstopped settled);
           },
         )
 
-    -- over true slots every record fits
+    -- every record of a true checkpoint fits
     not_true : (needs : List Matrix) (m : Misfit) → MeetsFirst built_calls bytes needs → misfit divisor_of needs asked.budget (begins from needs) ≡ Some m
         → ((before : List Matrix) × (C : Matrix) × (needs ≡ before ++ C ∷ []) × Misfits from asked.budget before C) ⊎ IsNeeds built_calls bytes needs
-        → (slots : Slots) → old.vault ≡ Some slots → ¬ AreTrueSlots built_calls bytes asked.budget slots
+        → ¬ IsTrueCheckpoint built_calls bytes asked.budget p
     unfolding start_of current_of
-    not_true needs m met first (inr all) slots told both =
-        let holds = taken slots told both in
+    not_true needs m met first (inr all) holds =
         let fits = true_start_fits divisor_of needs asked.budget (start_of needs p) (rows_all built_calls bytes needs met) (start_true built_calls bytes asked.budget needs p script one met (needs_reach built_calls bytes asked.budget script one p holds needs sound all) holds) in
         let e = sym first ∙ fits in
         cc
-    not_true needs m met first (inl (before, C, split, (uncut, which))) slots told both =
-        let holds = taken slots told both in
+    not_true needs m met first (inl (before, C, split, (uncut, which))) holds =
         let there : MeetsFirst built_calls bytes (before ++ C ∷ []) = subst (MeetsFirst built_calls bytes) split met in
         ⊎_elim (λ a. false≢true (sym a.2 ∙ record_fits built_calls bytes asked.budget script one p holds before C there a.0 a.1 uncut))
         (λ a. false≢true (sym a.1 ∙ current_fits built_calls bytes asked.budget script one p holds before C there a.0)) which
@@ -109,12 +108,14 @@ module _ (bytes : List ℕ) (script : OneScript bytes) (one : OneStep built_call
         → (((before : List Matrix) × (C : Matrix) × (needs ≡ before ++ C ∷ []) × (c.met ≡ length before) × Misfits from asked.budget before C) ⊎ ((c.met ≡ length needs) × IsNeeds built_calls bytes needs))
         → Resumes built_calls (unfit c.met told found_there) asked old.vault (course_of bytes from turn needs [] (rounds_from (world asked bytes from turn held old) needs).steps is_paused [] false)
     resume_unfit c now needs told found_there is_paused met h (inl (before, C, split, e, misfits)) = (
-      resumed needs [] (rounds_from (world asked bytes from turn held old) needs).steps is_paused [] false,
-      (h.first, inl ((let l = ap (λ (ns : List Matrix). length ns) split ∙ length-append before (C ∷ []) in omega (arith, l, e)), met)),
+      p,
+      goes_from needs [] (rounds_from (world asked bytes from turn held old) needs).steps is_paused [] false,
       not_true needs (record { need = c.met; told = told; found = found_there }) met h.first (inl (before, C, split, misfits)),
+      (h.first, inl ((let l = ap (λ (ns : List Matrix). length ns) split ∙ length-append before (C ∷ []) in omega (arith, l, e)), met)),
     )
     resume_unfit c now needs told found_there is_paused met h (inr (e, all)) = (
-      resumed needs [] (rounds_from (world asked bytes from turn held old) needs).steps is_paused [] false,
-      (h.first, inr all),
+      p,
+      goes_from needs [] (rounds_from (world asked bytes from turn held old) needs).steps is_paused [] false,
       not_true needs (record { need = c.met; told = told; found = found_there }) met h.first (inr all),
+      (h.first, inr all),
     )

@@ -1,6 +1,7 @@
 -- How a session of `run` or `resume` ends, from what its text and its searches did.
 --   IsReady              its searches start
 --   course_of            how it went
+--   fits_all             its records fit, unless memory was refused
 --   assembled            the contract of a session, from its parts
 --   paused_session, torn_session, starved_session, unfit_session      it ended before its script
 --   done_session, unwritten_session      it has its text
@@ -25,6 +26,7 @@ use Rattle.lc_sessions.specs.Session as session
 use Rattle.lc_sessions.specs.Session.{Outside, rounds_of, record_of, records_of, can_end, Accepts, WasRead, ReadsScript, Reads, Starts, Meets, begin_with, told_slots, Keeps, Tears, IsStarted, StoresIfKept, Stores, end_number, Replies, Judges, Replied, Writes, Counts, IsSession}
 use Rattle.lc_rounds.specs.Way.{Around, Stored}
 use Rattle.lc_rounds.specs.declared.pace.Pace.{Pace}
+use Rattle.lc_rounds.specs.declared.rounds.Stop.{Stop}
 use Rattle.lc_rounds.specs.declared.rounds.Stop.TheVariants.{Paused, VaultFault, NoMemory}
 use Rattle.lc_course.specs.Course.{Beginning, begins}
 use Rattle.lc_answers.specs.declared.course.Course.{Course}
@@ -112,6 +114,11 @@ stores_by args asked old source source_faults bytes held now course ending ready
     by true e k = f (keeps args asked old source source_faults bytes held now course ready same e k)
     by false e k = k ∙ ready.unkept e
 
+-- the records of a session that stops fit, unless memory was refused
+pub fits_all : {stop : Stop} {told : List SessionStep} {fits : Type 0} → ¬ (stop ≡ NoMemory) → ((stop ≡ NoMemory) × (told ≡ [])) ⊎ fits → fits
+fits_all other (inl e) = absurd (other e.0)
+fits_all other (inr f) = f
+
 heard_so : (asked : Settings) (keep p : Bool) (notes : List Record) (old new : _) → keep ≡ asked.keep → Kept keep notes p old new → Kept asked.keep notes p old new
 heard_so asked keep p notes old new e h = subst (λ (k : Bool). Kept k notes p old new) e h
 
@@ -167,12 +174,12 @@ module _ (args : List (List ℕ)) (asked : Settings) (old : Outside) (source : O
       let course = course_of bytes b turn needs h.told h.left s.is_paused [] false in
       let torn : WhereTold held now.vault (λ before after. IsTorn (slot_of (turn_after turn h.told)) (slots_after 2 (sha256 bytes) asked.budget turn h.told before) after) =
       subst (λ (n : ℕ). WhereTold held now.vault (λ before after. IsTorn (slot_of (turn_after turn h.told)) (slots_after 2 (sha256 bytes) n turn h.told before) after)) h.of.budget
-      (subst (λ (d : List ℕ). WhereTold held now.vault (λ before after. IsTorn (slot_of (turn_after turn h.told)) (slots_after 2 d c.pace.point.budget turn h.told before) after)) h.of.digest stops.2) in
+      (subst (λ (d : List ℕ). WhereTold held now.vault (λ before after. IsTorn (slot_of (turn_after turn h.told)) (slots_after 2 d c.pace.point.budget turn h.told before) after)) h.of.digest stops.3) in
       assembled args asked old same_outside bytes held ready b turn needs h.told h.left s.is_paused [] false (vault_fault c.pace.told)
-      (λ i e. cc) possible ready.read started met h.front (s.count, inl kept)
+      (λ i e. cc) possible ready.read started met h.front (s.count, inl kept, λ k. stops.1)
       (heard_so asked c.pace.keep s.is_paused (records_of h.told) old.watchers now.watchers h.of.keep s.heard)
-      (subst (λ (k : Bool). Stores k (vault_fault c.pace.told) asked course old.vault now.vault) (sym kept) (inr (is_started, stops.1, tears args asked old source source_faults bytes held now.vault course ready refl kept torn)))
-      tt refl (ready.quiet, refl, stops.3)
+      (subst (λ (k : Bool). Stores k (vault_fault c.pace.told) asked course old.vault now.vault) (sym kept) (inr (is_started, fits_all (λ e. cc) h.fitting, stops.2, tears args asked old source source_faults bytes held now.vault course ready refl kept torn)))
+      tt refl (ready.quiet, refl, stops.4)
 
   -- memory was refused
   pub starved_session : (needs : List Matrix) → MeetsFirst built_calls bytes needs → (h : Stops the_world needs c now NoMemory) → IsTrue (can_end (no_memory c.pace.told) asked.command)
@@ -183,10 +190,10 @@ module _ (args : List (List ℕ)) (asked : Settings) (old : Outside) (source : O
       let s = h.stopped in
       let stops = s.stops in
       assembled args asked old same_outside bytes held ready b turn needs h.told h.left s.is_paused [] false (no_memory c.pace.told)
-      (λ i e. cc) possible (inl ready.read) started met h.front s.count
+      (λ i e. cc) possible (inl ready.read) started met h.front (s.count, λ k. stops.0 (h.of.keep ∙ k))
       (heard_so asked c.pace.keep s.is_paused (records_of h.told) old.watchers now.watchers h.of.keep s.heard)
-      (kept_stored h.told s.is_paused needs h.left [] false (no_memory c.pace.told) h.of stops.0 (λ k. inr (is_started, k)))
-      tt refl (record { source = ready.quiet; sink = refl; vault = stops.1 })
+      (kept_stored h.told s.is_paused needs h.left [] false (no_memory c.pace.told) h.of stops.1 (λ k. inr (is_started, k)))
+      tt refl (record { source = ready.quiet; sink = refl; vault = stops.2 })
 
   -- the text is written
   pub done_session : (t : Text) (sink : Option (List ℕ)) (sink_faults : ℕ) (h : Prints the_world bytes t c now) → MeetsFirst built_calls bytes h.needs → IsTrue (can_end (done (end_number t.ends)) asked.command)

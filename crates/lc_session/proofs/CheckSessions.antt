@@ -111,7 +111,7 @@ module _ (args : List (List ℕ)) (workers budget number : ℕ) (accepted : opti
     started = record { start = refl; turn = refl };
     met = refl;
     rounds = no_rounds [];
-    ended = refl;
+    ended = (refl, λ e. refl);
     heard = Kept-none false now.watchers;
     stored = refl;
     replied = tt;

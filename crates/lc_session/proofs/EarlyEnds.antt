@@ -106,7 +106,7 @@ too_much args asked old source source_faults now accepted reading same calm hear
 pub unread : (args : List (List ℕ)) (asked : Settings) (old : Outside) (source : Option (List ℕ)) (source_faults : ℕ) (now : Around) → options all_options args ≡ settings asked → reads asked.command ≡ true → now.vault ≡ old.vault → now.faults ≡ old.vault_faults → now.watchers ≡ old.watchers
     → GaveFront old.source source (most_bytes + 1) → source_faults ≡ old.source_faults → IsSession built_calls args old (outside_of source source_faults old.sink old.sink_faults now) (no_memory 0)
 unread args asked old source source_faults now accepted reading same calm heard gave quiet =
-    early args asked old (outside_of source source_faults old.sink old.sink_faults now) [] (no_memory 0) accepted (λ i e. cc) refl (reads_by asked.command (no_memory 0) old.source source (none []) reading (inr (refl, gave))) (memory_starts asked old.vault [] asked.command) refl heard
+    early args asked old (outside_of source source_faults old.sink old.sink_faults now) [] (no_memory 0) accepted (λ i e. cc) refl (reads_by asked.command (no_memory 0) old.source source (none []) reading (inr (refl, gave))) (memory_starts asked old.vault [] asked.command) (refl, λ e. refl) heard
     (same_slots asked.keep (no_memory 0) asked (none []) old.vault now.vault same (λ e. inl (refl, e))) tt refl (record { source = quiet; sink = refl; vault = calm })
 
 -- ---- the vault
@@ -123,19 +123,19 @@ module _ (args : List (List ℕ)) (asked : Settings) (old : Outside) (source : O
 
   pub not_emptied : asked.command ≡ run → asked.keep ≡ true → WhereTold old.vault now.vault AreHalfEmptied → HasRisen old.vault_faults now.faults → IsSession built_calls args old final (vault_fault 0)
   not_emptied runs kept half risen =
-      early args asked old final bytes (vault_fault 0) accepted (λ i e. cc) (ap (can_end (vault_fault 0)) runs) (reads_so (vault_fault 0) run runs refl read) (starts_so (vault_fault 0) run runs (record { start = refl; turn = refl })) (refl, inl kept) heard
+      early args asked old final bytes (vault_fault 0) accepted (λ i e. cc) (ap (can_end (vault_fault 0)) runs) (reads_so (vault_fault 0) run runs refl read) (starts_so (vault_fault 0) run runs (record { start = refl; turn = refl })) (refl, inl kept, λ e. refl) heard
       (subst (λ (k : Bool). Stores k (vault_fault 0) asked (none bytes) old.vault now.vault) (sym kept) (inl (refl, subst (λ (x : Command). session.FailsFirst x old.vault now.vault) (sym runs) half)))
       tt refl (quiet, refl, risen)
 
   pub not_loaded : asked.command ≡ resume → now.vault ≡ old.vault → HasRisen old.vault_faults now.faults → IsSession built_calls args old final (vault_fault 0)
   not_loaded resumes same risen =
-      early args asked old final bytes (vault_fault 0) accepted (λ i e. cc) (ap (can_end (vault_fault 0)) resumes) (reads_so (vault_fault 0) resume resumes refl read) (starts_so (vault_fault 0) resume resumes (inl refl)) (refl, inr (resumes, refl)) heard
+      early args asked old final bytes (vault_fault 0) accepted (λ i e. cc) (ap (can_end (vault_fault 0)) resumes) (reads_so (vault_fault 0) resume resumes refl read) (starts_so (vault_fault 0) resume resumes (inl refl)) (refl, inr (resumes, refl), λ e. refl) heard
       (same_slots asked.keep (vault_fault 0) asked (none bytes) old.vault now.vault same (λ e. inl (refl, subst (λ (x : Command). session.FailsFirst x old.vault now.vault) (sym resumes) e)))
       tt refl (quiet, refl, risen)
 
   pub no_room : asked.command ≡ resume → now.vault ≡ old.vault → now.faults ≡ old.vault_faults → IsSession built_calls args old final (no_memory 0)
   no_room resumes same calm =
-      early args asked old final bytes (no_memory 0) accepted (λ i e. cc) refl (reads_so (no_memory 0) resume resumes refl (inl read)) (starts_so (no_memory 0) resume resumes (inl refl)) refl heard
+      early args asked old final bytes (no_memory 0) accepted (λ i e. cc) refl (reads_so (no_memory 0) resume resumes refl (inl read)) (starts_so (no_memory 0) resume resumes (inl refl)) (refl, λ e. refl) heard
       (same_slots asked.keep (no_memory 0) asked (none bytes) old.vault now.vault same (λ e. inl (refl, e))) tt refl (record { source = quiet; sink = refl; vault = calm })
 
   pub nothing_found : asked.command ≡ resume → now.vault ≡ old.vault → now.faults ≡ old.vault_faults → Finds old.vault nothing_stored → IsSession built_calls args old final no_checkpoint

@@ -1,7 +1,7 @@
 -- How sessions of `run` and `resume` end.
 --   run_ends             `run`, once it has emptied the slots
 --   resume_ends          `resume`, once it has taken a checkpoint
-use Rattle.std.proofs.Common.{◌≡◌, ◌≤◌, ◌^◌, ◌⊎◌, inl, inr, ℕ, Bool, true, false, IsTrue, Result, Ok, Err, List, [], ◌∷◌, ◌++◌, Option, None, refl, sym, ap, subst, ◌∙◌}
+use Rattle.std.proofs.Common.{◌≡◌, ◌≤◌, ◌^◌, ◌⊎◌, inl, inr, ℕ, Bool, true, false, IsTrue, Result, Ok, Err, List, [], Option, None, refl, sym, ap, subst, ◌∙◌}
 use Rattle.std.specs.Prelude.{MatchResult}
 use Rattle.sha2.specs.Sha256.{sha256}
 use Rattle.lc_algebra.specs.Matrix.{Matrix}
@@ -18,6 +18,7 @@ use Rattle.lc_sessions.specs.Endings.{Ending, done, paused, sink_fault, vault_fa
 use Rattle.lc_sessions.specs.Session as session
 use Rattle.lc_sessions.specs.Session.{Outside, IsFresh, IsResumed, MayBeResumed, Finds, can_end, Starts, Resumes, IsStarted, Judges, end_number, IsSession}
 use Rattle.lc_rounds.specs.Way.{Around}
+use Rattle.lc_rounds.specs.declared.rounds.Stop.{Stop}
 use Rattle.lc_rounds.specs.declared.rounds.Stop.TheVariants as stop
 use Rattle.lc_course.specs.Course.{afresh, after, begins}
 use Rattle.lc_course.proofs.FitLaws.{fits_anew}
@@ -28,7 +29,7 @@ use Rattle.lc_script.specs.declared.statements.Text.{Text}
 use Rattle.lc_answers.specs.Going.{World, rounds_from, IsMisfit}
 use Rattle.lc_script.specs.Text.{Prints, EndsBefore}
 use Rattle.lc_script.specs.Worlds.{outside_of, world}
-use Rattle.lc_script.proofs.SessionLaws.{IsReady, course_of, paused_session, torn_session, starved_session, unfit_session, done_session, unwritten_session}
+use Rattle.lc_script.proofs.SessionLaws.{IsReady, course_of, fits_all, paused_session, torn_session, starved_session, unfit_session, done_session, unwritten_session}
 use Rattle.lc_script.proofs.ReplyLaws.{whole_met, run_replies, resumed, resume_replies, resume_unfit}
 use Rattle.lc_session.specs.declared.status.Status.{Status}
 use Rattle.lc_session.specs.Ending.{ending_of}
@@ -116,14 +117,9 @@ module _ (args : List (List ℕ)) (asked : Settings) (old : Outside) (source : O
     taken_up : (needs : List Matrix) (told left : List SessionStep) (is_paused : Bool) (text : List ℕ) (faulty : Bool) → IsResumed asked old.vault (its_course needs told left is_paused text faulty)
     taken_up needs told left is_paused text faulty = resumed bytes script one sound asked small old held turn p found same_script turns needs told left is_paused text faulty
 
-    may_be : (needs : List Matrix) (told left : List SessionStep) (is_paused : Bool) → (told ≡ []) ⊎ (misfit divisor_of needs asked.budget (begins (after p.version p.settled (current_of p)) needs) ≡ None) → MayBeResumed asked old.vault (its_course needs told left is_paused [] false)
-    may_be needs told left is_paused (inl e) = inl e
-    may_be needs told left is_paused (inr e) = inr (taken_up needs told left is_paused [] false, e)
-
-    told_some : (told : List SessionStep) (fits : Type 0) → (before : List SessionStep) (last : SessionStep) → told ≡ before ++ last ∷ [] → (told ≡ []) ⊎ fits → fits
-    told_some told fits before last is (inr f) = f
-    told_some told fits [] last is (inl e) = absurd (let g = sym is ∙ e in cc)
-    told_some told fits (s ∷ before) last is (inl e) = absurd (let g = sym is ∙ e in cc)
+    may_be : (why : Stop) (needs : List Matrix) (told left : List SessionStep) (is_paused : Bool) → ((why ≡ stop.NoMemory) × (told ≡ [])) ⊎ (misfit divisor_of needs asked.budget (begins (after p.version p.settled (current_of p)) needs) ≡ None) → MayBeResumed asked old.vault (its_course needs told left is_paused [] false)
+    may_be why needs told left is_paused (inl e) = inl e.1
+    may_be why needs told left is_paused (inr e) = inr (taken_up needs told left is_paused [] false, e)
 
     starts_resumed : (ending : Ending) (course : session.Course) → Resumes built_calls ending asked old.vault course → Starts built_calls asked.command ending asked old.vault course
     starts_resumed ending course h = starts_so ending asked old.vault course resume resumes h
@@ -142,20 +138,19 @@ module _ (args : List (List ℕ)) (asked : Settings) (old : Outside) (source : O
 
     resume_halted : (x : Halt) (s : Status) → EndsBefore over bytes c now x → Closes (Err x) c old.sink sink old.sink_faults sink_faults s → IsSession built_calls args old final (ending_of s)
     resume_halted (halt.Stop stop.Paused) s h (is, same, calm) =
-        let stops = h.2.stopped.stops in
         ends_as s (paused c.pace.last.query c.pace.last.blocks) (ap ending_of is) same calm
         (paused_session args asked old source source_faults bytes held ready (after p.version p.settled (current_of p)) turn c now h.0 h.1 h.2 (can_so (paused c.pace.last.query c.pace.last.blocks) asked.command resume resumes refl)
         (starts_resumed (paused c.pace.last.query c.pace.last.blocks) (its_course h.0 h.2.told h.2.left h.2.stopped.is_paused [] false)
-        (taken_up h.0 h.2.told h.2.left h.2.stopped.is_paused [] false, told_some h.2.told _ stops.1.0 stops.1.1 stops.1.2 h.2.fitting)))
+        (taken_up h.0 h.2.told h.2.left h.2.stopped.is_paused [] false, fits_all (λ e. cc) h.2.fitting)))
     resume_halted (halt.Stop stop.VaultFault) s h (is, same, calm) =
         ends_as s (vault_fault c.pace.told) (ap ending_of is) same calm
         (torn_session args asked old source source_faults bytes held ready (after p.version p.settled (current_of p)) turn c now h.0 h.1 h.2 (can_so (vault_fault c.pace.told) asked.command resume resumes refl)
-        (starts_resumed (vault_fault c.pace.told) (its_course h.0 h.2.told h.2.left h.2.stopped.is_paused [] false) (may_be h.0 h.2.told h.2.left h.2.stopped.is_paused h.2.fitting))
+        (starts_resumed (vault_fault c.pace.told) (its_course h.0 h.2.told h.2.left h.2.stopped.is_paused [] false) (may_be stop.VaultFault h.0 h.2.told h.2.left h.2.stopped.is_paused h.2.fitting))
         (is_started_so asked old.vault (its_course h.0 h.2.told h.2.left h.2.stopped.is_paused [] false) resume resumes (taken_up h.0 h.2.told h.2.left h.2.stopped.is_paused [] false)))
     resume_halted (halt.Stop stop.NoMemory) s h (is, same, calm) =
         ends_as s (no_memory c.pace.told) (ap ending_of is) same calm
         (starved_session args asked old source source_faults bytes held ready (after p.version p.settled (current_of p)) turn c now h.0 h.1 h.2 (can_so (no_memory c.pace.told) asked.command resume resumes refl)
-        (starts_resumed (no_memory c.pace.told) (its_course h.0 h.2.told h.2.left h.2.stopped.is_paused [] false) (may_be h.0 h.2.told h.2.left h.2.stopped.is_paused h.2.fitting))
+        (starts_resumed (no_memory c.pace.told) (its_course h.0 h.2.told h.2.left h.2.stopped.is_paused [] false) (may_be stop.NoMemory h.0 h.2.told h.2.left h.2.stopped.is_paused h.2.fitting))
         (is_started_so asked old.vault (its_course h.0 h.2.told h.2.left h.2.stopped.is_paused [] false) resume resumes (taken_up h.0 h.2.told h.2.left h.2.stopped.is_paused [] false)))
     resume_halted (halt.Unfit told found_there) s h (is, same, calm) =
         ends_as s (unfit c.met told found_there) (ap ending_of is) same calm

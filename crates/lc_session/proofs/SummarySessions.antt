@@ -182,12 +182,12 @@ module _ (number budget : ℕ) (small : budget ≤ 2 ^ 40) (digest : List ℕ) (
             started = record { start = refl; turn = refl };
             met = met;
             rounds = h.front;
-            ended = s.count;
+            ended = (s.count, λ f. absurd (let g = f in cc));
             heard = heard_so c.pace.keep s.is_paused h.told h.of.keep s.heard;
-            stored = unkept c.pace.keep h.told _ _ h.of.keep s.stops.0;
+            stored = unkept c.pace.keep h.told _ _ h.of.keep s.stops.1;
             replied = tt;
             written = same;
-            counted = record { source = refl; sink = calm; vault = s.stops.1 };
+            counted = record { source = refl; sink = calm; vault = s.stops.2 };
           }
 
       never : (needs : List Matrix) (stop : Stop) → Stops the_world needs c now stop → (stop ≡ NoMemory → ⊥) → ⊥
@@ -236,4 +236,4 @@ module _ (number budget : ℕ) (small : budget ≤ 2 ^ 40) (digest : List ℕ) (
 pub summary_unstarted : (args : List (List ℕ)) (workers budget number : ℕ) (old : Outside) → options all_options args ≡ settings (record { command = summary; workers = workers; budget = budget; slice = None; keep = false; number = number }) → IsSession built_calls args old old (no_memory 0)
 summary_unstarted args workers budget number old accepted =
     let asked : Settings = record { command = summary; workers = workers; budget = budget; slice = None; keep = false; number = number } in
-    early args asked old old [] (no_memory 0) accepted (λ i e. cc) refl refl (record { start = refl; turn = refl }) refl refl refl tt refl (record { source = refl; sink = refl; vault = refl })
+    early args asked old old [] (no_memory 0) accepted (λ i e. cc) refl refl (record { start = refl; turn = refl }) (refl, λ e. refl) refl refl tt refl (record { source = refl; sink = refl; vault = refl })

@@ -300,7 +300,7 @@ used_first p needs version first known early = record {
 }
 
 -- which records are used is by the version of the checkpoint
-resumed_start : (table : List Call) (bytes : List ℕ) (budget version : ℕ) (needs front : List Matrix) (p : Checkpoint) → IsGround table bytes budget → IsVersion version → IsVersion p.version → p.version ≤ version → MeetsFirst table bytes needs → MeetsFirst table bytes front → IsTrueFor front (sha256 bytes) budget p
+pub resumed_start : (table : List Call) (bytes : List ℕ) (budget version : ℕ) (needs front : List Matrix) (p : Checkpoint) → IsGround table bytes budget → IsVersion version → IsVersion p.version → p.version ≤ version → MeetsFirst table bytes needs → MeetsFirst table bytes front → IsTrueFor front (sha256 bytes) budget p
     → (slice : Option ℕ) → AreTrueSteps version needs (sha256 bytes) budget (next_turn p.turn) (session_rounds (divisor_in version) needs budget slice (start_in (divisor_in version) needs p)).steps
 unfolding start_in used_start
 resumed_start table bytes budget version needs front p ground known kind l met met_front holds slice =
@@ -331,7 +331,7 @@ goes_truly : (version : ℕ) (table : List Call) (bytes : List ℕ) (budget : �
     → AreTrueSteps version needs (sha256 bytes) budget turn (session_rounds (divisor_in version) needs budget g.slice start).steps → AreTrueSteps version needs (sha256 bytes) budget turn told
 goes_truly version table bytes budget needs start told turn g all = true_front version needs (sha256 bytes) budget turn told g.left (subst (AreTrueSteps version needs (sha256 bytes) budget turn) g.rounds all)
 
-begun_truly : (table : List Call) (bytes : List ℕ) (budget version : ℕ) (needs : List Matrix) → IsGround table bytes budget → IsVersion version → MeetsFirst table bytes needs → (slice : Option ℕ) → AreTrueSteps version needs (sha256 bytes) budget 0 (session_rounds (divisor_in version) needs budget slice fresh_start).steps
+pub begun_truly : (table : List Call) (bytes : List ℕ) (budget version : ℕ) (needs : List Matrix) → IsGround table bytes budget → IsVersion version → MeetsFirst table bytes needs → (slice : Option ℕ) → AreTrueSteps version needs (sha256 bytes) budget 0 (session_rounds (divisor_in version) needs budget slice fresh_start).steps
 unfolding session_rounds fresh_start
 begun_truly table bytes budget version needs ground known met slice =
     true_from version needs (sha256 bytes) budget known (searches_end table bytes budget ground version needs met) slice [] None 0 needs refl (λ C at. starts_next version needs budget [] 0 tt (omega arith))

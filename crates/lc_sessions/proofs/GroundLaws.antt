@@ -2,7 +2,8 @@
 --   search_rises         its states rise
 --   settles_so           a search that is finished with an answer is settled by it
 --   ends_at_answer       so it ends at its answer, unless the slice stops it
---   early_enough         the turn of a true checkpoint of version 1
+--   turn_within          the turn of a true checkpoint
+--   early_enough, true_turn      that of version 1, and that of any version
 --   searches_end         the searches of a script
 use Rattle.std.proofs.Common.{◌≡◌, ◌+◌, ◌-◌, ◌≤◌, ◌<◌, ◌^◌, ⊎_elim, ℕ, zero, suc, Bool, true, false, List, [], ◌∷◌, find, length, refl, sym, ap, subst, ◌∙◌, arith}
 use Rattle.std.specs.Prelude.{Option, Some, None, if◌then◌else◌, ◌==◌, ◌&&◌, nat_le, slice_get, map, ◌*◌, Contains}
@@ -124,19 +125,33 @@ settled_within divisor budget (C ∷ needs) (s ∷ settled) small rows all =
     let sum_is = sum_by-append (λ x. x) (s.blocks ∷ []) (map (λ (t : Progress). t.blocks) settled) in
     omega (arith, small, one, rest, sum_is)
 
--- a true checkpoint of version 1 has a turn below 2^57
-pub early_enough : (table : List Call) (bytes : List ℕ) (budget : ℕ) (p : Checkpoint) → IsGround table bytes budget → p.version ≡ 1 → IsTrueCheckpoint table bytes budget p → p.turn < 2 ^ 57
-unfolding turn_allowance
-early_enough table bytes budget p ground first (needs, met, holds) =
+-- the turn of a true checkpoint
+pub turn_within : (table : List Call) (bytes : List ℕ) (budget : ℕ) (p : Checkpoint) → IsGround table bytes budget → IsTrueCheckpoint table bytes budget p → p.turn < 2 ^ 57 + turn_allowance p.version
+turn_within table bytes budget p ground (needs, met, holds) =
     let rows = ground.rows needs met in
     let parts = parts_of needs (sha256 bytes) budget p holds in
     let all = parts.settled in
     let sum_of = settled_within (divisor_in p.version) budget needs p.settled ground.small rows all in
     let here = blocks_within (divisor_in p.version parts.current.0) parts.current.0 budget (rows (length p.settled) parts.current.0 parts.current.1) in
-    let none : turn_allowance p.version ≡ 0 = ap turn_allowance first in
     let inside = slice_get_within needs (length p.settled) parts.current.0 parts.current.1 in
     let few = ground.few needs met in
-    omega (arith, holds.turn, sum_of, here, parts.current.3, none, inside, few, ground.small)
+    omega (arith, holds.turn, sum_of, here, parts.current.3, inside, few, ground.small)
+
+-- a true checkpoint of version 1 has a turn below 2^57
+pub early_enough : (table : List Call) (bytes : List ℕ) (budget : ℕ) (p : Checkpoint) → IsGround table bytes budget → p.version ≡ 1 → IsTrueCheckpoint table bytes budget p → p.turn < 2 ^ 57
+unfolding turn_allowance
+early_enough table bytes budget p ground first holds =
+    let none : turn_allowance p.version ≡ 0 = ap turn_allowance first in
+    let within = turn_within table bytes budget p ground holds in
+    omega (arith, within, none)
+
+-- one of any version has a turn below 2^58
+pub true_turn : (table : List Call) (bytes : List ℕ) (budget : ℕ) → IsGround table bytes budget → (p : Checkpoint) → IsTrueCheckpoint table bytes budget p → p.turn < 2 ^ 58
+unfolding turn_allowance
+true_turn table bytes budget ground p holds =
+    let within = turn_within table bytes budget p ground holds in
+    ⊎_elim (λ (e : p.version ≡ 1). let none : turn_allowance p.version ≡ 0 = ap turn_allowance e in omega (arith, within, none))
+    (λ (e : p.version ≡ 2). let some : turn_allowance p.version ≡ 2 ^ 57 = ap turn_allowance e in omega (arith, within, some)) holds.2.known
 
 -- what the searches of a script do, as chains need it
 pub searches_end : (table : List Call) (bytes : List ℕ) (budget : ℕ) → IsGround table bytes budget → (version : ℕ) (needs : List Matrix) → MeetsFirst table bytes needs → (i : ℕ) (C : Matrix) → slice_get needs i ≡ Some C → (slice : Option ℕ) (s : Progress) → IsBestAt C s → s.blocks ≤ answer_blocks (answer (divisor_in version C) C budget)

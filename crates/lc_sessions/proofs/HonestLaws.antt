@@ -3,7 +3,8 @@
 --   text_by_search       the text by the answers of the search is the text of the script
 --   fits_within          records that fit are no more than the needs
 --   used_settles         a session that goes on from the records used settles each need
---   fresh_text, resumed_text      the text of `run`, and that of `resume` over true slots
+--   chosen_true          over true slots the checkpoint that is taken is true
+--   fresh_text, resumed_text      the text of `run`, and that of `resume` from a true checkpoint
 use Rattle.std.proofs.Common.{◌≡◌, ◌+◌, ◌≤◌, ⊎_elim, ◌⊎◌, inl, inr, ℕ, zero, suc, Bool, true, false, List, [], ◌∷◌, length, drop, take, refl, sym, ap, subst, ◌∙◌, arith}
 use Rattle.std.specs.Prelude.{Option, Some, None, if◌then◌else◌, ◌==◌, nat_lt}
 use Rattle.sha2.specs.Sha256.{sha256}
@@ -14,7 +15,6 @@ use Rattle.lc_enumeration.specs.Records.{Progress, Start, fresh_start, found_of,
 use Rattle.lc_enumeration.specs.Fitting.{Misfit, misfit_at, count_current, too_many, misfit_from, misfit, first_divisible, start_before, used_start}
 use Rattle.lc_formats.specs.Checkpoint.{Checkpoint, ReadCheckpoint, point, refused, current_of, checkpoint_in}
 use Rattle.lc_formats.specs.Truth.{divisor_in, IsTrueFor, start_of}
-use Rattle.lc_formats.proofs.CheckpointRange.{checkpoint_ranged}
 use Rattle.lc_grammar.specs.Tree.{Statement}
 use Rattle.lc_grammar.specs.Grammar.{Reads, Fault, IsFault}
 use Rattle.lc_io.specs.declared.vault.Slot.TheVariants.{Zero, One}
@@ -25,14 +25,13 @@ use Rattle.lc_language.specs.Print.{fault_line}
 use Rattle.lc_language.specs.Evaluation.{Step, binds, prints, asks, counts, nears, fails, IsText}
 use Rattle.lc_sessions.specs.Needs.{NeedsOn, Needs, IsNeeds, MeetsFirst, OneScript, OneStep, NoFault}
 use Rattle.lc_sessions.specs.Answers.{RunsBy, IsTextBy, Settle, answers_of}
-use Rattle.lc_sessions.specs.Slots.{next_turn, takes, later_of, chosen, IsTornOr, AreTrueSlots, IsTrueCheckpoint}
+use Rattle.lc_sessions.specs.Slots.{next_turn, later_of, chosen, IsTornOr, AreTrueSlots, IsTrueCheckpoint}
 use Rattle.lc_sessions.specs.Options.{Settings}
-use Rattle.lc_sessions.specs.Session.{Course, rounds_of, Finds, IsResumed, IsFresh, Fits}
+use Rattle.lc_sessions.specs.Session.{Course, rounds_of, GoesOnFrom, IsFresh, Fits}
 use Rattle.lc_sessions.specs.Chain.{IsVersion, IsGround}
 use Rattle.lc_sessions.proofs.AnswerLaws.{answered_back, met_whole}
 use Rattle.lc_sessions.proofs.NeedsLaws.{met_agree}
 use Rattle.lc_sessions.proofs.GroundLaws.{searches_end, early_enough}
-use Rattle.lc_sessions.proofs.SessionChains.{chosen_is}
 use Rattle.lc_sessions.proofs.TrueSteps.{starts_next}
 use Rattle.lc_sessions.proofs.ChainLaws.{IsUsed, start_all, start_some, used_whole, used_first}
 use Rattle.lc_sessions.proofs.SettledNeeds.{AreAllSettled, session_settles, settled_answers}
@@ -148,24 +147,22 @@ taken_from (point q) (point r) p is = by_turn (nat_lt q.turn r.turn) is
     by_turn true e = inr (let f = e in cc)
     by_turn false e = inl (let f = e in cc)
 
--- over true slots it is true, and of a known version
-chosen_true : (table : List Call) (bytes : List ℕ) (budget : ℕ) (slots : Slots) (p : Checkpoint) → AreTrueSlots table bytes budget slots → chosen slots ≡ Some p → IsTrueCheckpoint table bytes budget p × IsVersion p.version
+-- over true slots it is true
+pub chosen_true : (table : List Call) (bytes : List ℕ) (budget : ℕ) (slots : Slots) (p : Checkpoint) → AreTrueSlots table bytes budget slots → chosen slots ≡ Some p → IsTrueCheckpoint table bytes budget p
 unfolding chosen
 chosen_true table bytes budget slots p both is =
     ⊎_elim
-    (λ (e : checkpoint_in slots.zero_slot ≡ point p). (let h : IsTornOr Zero table bytes budget (point p) = rw e at both.0 in (h.0, (checkpoint_ranged slots.zero_slot p e).known)))
-    (λ (e : checkpoint_in slots.one_slot ≡ point p). (let h : IsTornOr One table bytes budget (point p) = rw e at both.1 in (h.0, (checkpoint_ranged slots.one_slot p e).known)))
+    (λ (e : checkpoint_in slots.zero_slot ≡ point p). (let h : IsTornOr Zero table bytes budget (point p) = rw e at both.0 in h.0))
+    (λ (e : checkpoint_in slots.one_slot ≡ point p). (let h : IsTornOr One table bytes budget (point p) = rw e at both.1 in h.0))
     (taken_from (checkpoint_in slots.zero_slot) (checkpoint_in slots.one_slot) p is)
 
-pub resumed_text : (table : List Call) (asked : Settings) (held : Option Slots) (course : Course) (slots : Slots) → IsGround table course.bytes asked.budget → NoFault course.bytes → held ≡ Some slots → AreTrueSlots table course.bytes asked.budget slots → IsResumed asked held course → Fits asked course
+pub resumed_text : (table : List Call) (asked : Settings) (held : Option Slots) (course : Course) (p : Checkpoint) → IsGround table course.bytes asked.budget → NoFault course.bytes → GoesOnFrom asked held course p → IsTrueCheckpoint table course.bytes asked.budget p → Fits asked course
     → IsNeeds table course.bytes course.needs → (rounds_of asked course).is_stopped ≡ false
     → (answers : List Answer) → Settle asked.budget course.needs (rounds_of asked course).settled answers → IsTextBy table asked.budget course.bytes answers course.text course.is_faulty → IsText table asked.budget course.bytes course.text course.is_faulty
-resumed_text table asked held course slots ground sound told both (p, from) fits all unstopped answers settle by =
+resumed_text table asked held course p ground sound from (front, met_front, holds) fits all unstopped answers settle by =
     let met = whole_met table course.bytes course.needs all in
     let over = λ (t : Start). session_rounds divisor_of course.needs asked.budget asked.slice t in
-    let found : Finds (Some slots) (takes p) = subst (λ (h : Option Slots). Finds h (takes p)) told from.found in
-    let c = chosen_true table course.bytes asked.budget slots p both (chosen_is slots p found) in
     let few : length (start_of course.needs p).settled ≤ length course.needs = subst (λ (t : Start). length t.settled ≤ length course.needs) from.start (fits_within divisor_of course.needs asked.budget course.start fits) in
-    let settled = resumed_settles table course.bytes asked.budget course.needs c.0.0 p ground met c.0.1 c.0.2 c.1 asked.slice few (sym (ap (λ (t : Start). (over t).is_stopped) from.start) ∙ unstopped) in
+    let settled = resumed_settles table course.bytes asked.budget course.needs front p ground met met_front holds holds.known asked.slice few (sym (ap (λ (t : Start). (over t).is_stopped) from.start) ∙ unstopped) in
     let mine : Settle asked.budget course.needs (over (start_of course.needs p)).settled answers = subst (λ (t : Start). Settle asked.budget course.needs (over t).settled answers) from.start settle in
     text_by_search table asked.budget course.bytes course.needs answers course.text course.is_faulty ground.script ground.step sound all (by_search table course.bytes asked.budget course.needs (over (start_of course.needs p)).settled answers ground met settled mine) by

@@ -12,5 +12,6 @@ pub mod SessionChains
 pub mod ChainExamples
 pub mod SettledNeeds
 pub mod HonestLaws
+pub mod StoredTruly
 pub mod Headline
 pub mod GroundLaws

@@ -17,7 +17,7 @@ use Rattle.lc_sessions.specs.Options.{Command, run, resume, Settings}
 use Rattle.lc_sessions.specs.Needs.{MeetsFirst}
 use Rattle.lc_sessions.specs.Slots.{nothing_stored, takes, choice_among, chosen, choice, is_empty, slot_of, turn_after, slots_after, start_in}
 use Rattle.lc_sessions.specs.Endings.{Ending, done, usage, paused, source_fault, sink_fault, vault_fault, no_memory, no_checkpoint, damaged_checkpoint, other_script, rejected, too_long, unfit}
-use Rattle.lc_sessions.specs.Session.{Outside, Course, rounds_of, Finds, GoesOnFrom, IsResumed, IsFresh, Starts, Meets, begin_with, told_slots, Keeps, Tears, FailsFirst, IsStarted, Stores, StoresIfKept, IsSession}
+use Rattle.lc_sessions.specs.Session.{Outside, Course, rounds_of, Finds, GoesOnFrom, IsResumed, IsFresh, Fits, Starts, Meets, begin_with, told_slots, Keeps, Tears, FailsFirst, IsStarted, Stores, StoresIfKept, IsSession}
 use Rattle.lc_sessions.specs.Chain.{IsLeft, Leaves, Goes, Chain, HasBegun, TearsSo, GoesOn}
 
 pub chosen_is : (slots : Slots) (p : Checkpoint) → choice slots ≡ takes p → chosen slots ≡ Some p
@@ -77,7 +77,7 @@ resumed_torn table asked course held new version before n from so tears =
     let left = so k.0 k.1 k.2.0 k.2.1 in
     (k.0, k.1, (2, omega arith, resumed_leaves table asked course held version before k.0 n from (inr (k.2.0, subst (λ (s : Slots). IsLeft (in_slot at s) k.2.0) found left, k.2.1 ∙ ap (λ (s : Slots). put at k.2.0 s) found))))
 
-kept_stores : (keep : Bool) (ending : Ending) (asked : Settings) (course : Course) (old new : Option Slots) → keep ≡ true → Stores keep ending asked course old new → StoresIfKept ending asked course old new
+pub kept_stores : (keep : Bool) (ending : Ending) (asked : Settings) (course : Course) (old new : Option Slots) → keep ≡ true → Stores keep ending asked course old new → StoresIfKept ending asked course old new
 kept_stores true ending asked course old new is h = h
 kept_stores false ending asked course old new is h = absurd (let e = is in cc)
 
@@ -90,7 +90,7 @@ resume_by table source_fault asked course held new version before n so started s
 resume_by table sink_fault asked course held new version before n so started stored = resumed_kept table asked course held new version before n started.0 stored
 resume_by table (vault_fault told) asked course held new version before n so started stored =
     ⊎_elim (λ (e : (course.told ≡ []) × FailsFirst asked.command held new). unchanged table asked course held new version before n (subst (λ (c : Command). FailsFirst c held new) n.resumes e.1))
-    (λ (e : IsStarted asked.command asked held course × ¬ (course.left ≡ []) × Tears asked course held new). resumed_torn table asked course held new version before n (subst (λ (c : Command). IsStarted c asked held course) n.resumes e.0) so e.2) stored
+    (λ (e : IsStarted asked.command asked held course × Fits asked course × ¬ (course.left ≡ []) × Tears asked course held new). resumed_torn table asked course held new version before n (subst (λ (c : Command). IsStarted c asked held course) n.resumes e.0) so e.3) stored
 resume_by table (no_memory told) asked course held new version before n so started stored =
     ⊎_elim (λ (e : (course.told ≡ []) × (new ≡ held)). unchanged table asked course held new version before n e.1)
     (λ (e : IsStarted asked.command asked held course × Keeps asked course held new). resumed_kept table asked course held new version before n (subst (λ (c : Command). IsStarted c asked held course) n.resumes e.0) e.1) stored
@@ -155,7 +155,7 @@ run_by table source_fault asked course held new before f begun so stored = absur
 run_by table sink_fault asked course held new before f begun so stored = first_kept table asked course held new before f stored
 run_by table (vault_fault told) asked course held new before f begun so stored =
     ⊎_elim (λ (e : (course.told ≡ []) × FailsFirst asked.command held new). absurd (begun e.0))
-    (λ (e : IsStarted asked.command asked held course × ¬ (course.left ≡ []) × Tears asked course held new). first_torn table asked course held new before f so e.2) stored
+    (λ (e : IsStarted asked.command asked held course × Fits asked course × ¬ (course.left ≡ []) × Tears asked course held new). first_torn table asked course held new before f so e.3) stored
 run_by table (no_memory told) asked course held new before f begun so stored =
     ⊎_elim (λ (e : (course.told ≡ []) × (new ≡ held)). absurd (begun e.0)) (λ (e : IsStarted asked.command asked held course × Keeps asked course held new). first_kept table asked course held new before f e.1) stored
 run_by table no_checkpoint asked course held new before f begun so stored = absurd begun

@@ -142,6 +142,5 @@ completed table args old new (unfit query told found) s a =
     let read : WasRead old.source new.source s.course.bytes = subst (λ c. Reads c ending old.source new.source s.course) c s.read in
     let met : MeetsFirst table s.course.bytes s.course.needs = subst (λ c. Meets table s.asked c s.course) c s.met in
     let u : IsUsable table s.asked s.course.bytes old.vault = subst (λ (b : List ℕ). IsUsable table s.asked b old.vault) (gave_whole old.source new.source a.bytes s.course.bytes a.source read) (a.usable c) in
-    let from = started.0 in
-    let p_is : from.0 ≡ u.p = same_taken from.0 u.p (one_choice old.vault u.slots (takes u.p) (takes from.0) u.told u.taken from.1.found) in
-    absurd (none_unfit table s.asked s.course (record { need = query; told = told; found = found }) old.vault u (from.1.start ∙ ap (λ (p : Checkpoint). start_of s.course.needs p) p_is) met started.1)
+    let p_is : started.0 ≡ u.p = same_taken started.0 u.p (one_choice old.vault u.slots (takes u.p) (takes started.0) u.told u.taken started.1.found) in
+    absurd (none_unfit table s.asked s.course (record { need = query; told = told; found = found }) old.vault u (started.1.start ∙ ap (λ (p : Checkpoint). start_of s.course.needs p) p_is) met started.3)

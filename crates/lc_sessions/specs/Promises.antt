@@ -6,7 +6,11 @@
 --   PrintsText table budget bytes old new n      the sink took the text of the script under this budget, and n says whether a fault ends it
 --   checkpoint_of asked course turn step the bytes of the checkpoint of a step
 --   Holds old new slot bytes             the vault, if it tells its slots, holds these bytes in this slot
-use Rattle.std.specs.Prelude.{◌≡◌, ℕ, Bool, ◌≤◌, IsTrue, List, length, Option, Some, None, true, false}
+--   StartsTruly table command asked held course  a session of `run`, or one of `resume` whose checkpoint is true
+--   IsSameOrTrue slot table bytes budget before after    a slot is as it was, or a session stored in it without a fault: it is
+--                                        empty, or holds a true checkpoint
+--   StoresTruly table bytes budget old new       so are both slots, if the vault tells them, but for one whose store failed
+use Rattle.std.specs.Prelude.{◌≡◌, ◌⊎◌, ℕ, Bool, ◌≤◌, IsTrue, List, length, Option, Some, None, true, false}
 use Rattle.std.specs.Io.KnownBytes.{Appends}
 use Rattle.sha2.specs.Sha256.{sha256}
 use Rattle.lc_algebra.specs.Matrix.{Matrix}
@@ -17,14 +21,14 @@ use Rattle.lc_formats.specs.Checkpoint.{Checkpoint}
 use Rattle.lc_formats.specs.Truth.{start_of}
 use Rattle.lc_io.specs.declared.vault.Slot.{Slot}
 use Rattle.lc_io.specs.Outside.{HasRisen}
-use Rattle.lc_io.specs.Vaults.{Slots, in_slot, WhereTold}
+use Rattle.lc_io.specs.Vaults.{Slots, in_slot, other, WhereTold}
 use Rattle.lc_language.specs.declared.Call.{Call}
 use Rattle.lc_language.specs.Evaluation.{IsText}
-use Rattle.lc_sessions.specs.Options.{resume, Settings, settings, all_options, options}
+use Rattle.lc_sessions.specs.Options.{Command, run, resume, check, summary, Settings, settings, all_options, options}
 use Rattle.lc_sessions.specs.Needs.{IsNeeds, MeetsFirst}
-use Rattle.lc_sessions.specs.Slots.{stored_bytes, takes, choice, is_for}
+use Rattle.lc_sessions.specs.Slots.{stored_bytes, takes, choice, is_for, IsTrueCheckpoint, IsEmptyOrTrue}
 use Rattle.lc_sessions.specs.Endings.{Ending, done, usage, paused, source_fault, sink_fault, vault_fault, no_memory, no_checkpoint, damaged_checkpoint, other_script, rejected, too_long, unfit}
-use Rattle.lc_sessions.specs.Session.{most_bytes, end_number, Outside, Course}
+use Rattle.lc_sessions.specs.Session.{most_bytes, end_number, Outside, Course, GoesOnFrom}
 
 -- a checkpoint that a session of these arguments resumes: it is taken, it is for this script and budget, and its records fit
 pub record IsUsable (table : List Call) (asked : Settings) (bytes : List ℕ) (held : Option Slots) : Type 0 where
@@ -71,6 +75,23 @@ checkpoint_of asked course turn step = stored_bytes 2 (sha256 course.bytes) aske
 -- the vault, if it tells its slots, holds these bytes in this slot
 abbrev pub Holds : Option Slots → Option Slots → Slot → List ℕ → Type 0
 Holds old new slot bytes = WhereTold old new (λ before after. in_slot slot after ≡ bytes)
+
+-- a session of `run`, or one of `resume` whose checkpoint is true
+abbrev pub StartsTruly : List Call → Command → Settings → Option Slots → Course → Type 0
+StartsTruly table run asked held course = Unit {0}
+StartsTruly table resume asked held course = (p : Checkpoint) → GoesOnFrom asked held course p → IsTrueCheckpoint table course.bytes asked.budget p
+StartsTruly table check asked held course = ⊥
+StartsTruly table summary asked held course = ⊥
+
+-- a slot is as it was, or a session stored in it without a fault
+abbrev pub IsSameOrTrue : Slot → List Call → List ℕ → ℕ → Slots → Slots → Type 0
+IsSameOrTrue slot table bytes budget before after = (in_slot slot after ≡ in_slot slot before) ⊎ IsEmptyOrTrue slot table bytes budget (in_slot slot after)
+
+-- so are both slots, if the vault tells them, but for one whose store failed
+abbrev pub StoresTruly : List Call → List ℕ → ℕ → Outside → Outside → Type 0
+StoresTruly table bytes budget old new = WhereTold old.vault new.vault (λ before after.
+    ((slot : Slot) → IsSameOrTrue slot table bytes budget before after)
+    ⊎ (HasRisen old.vault_faults new.vault_faults × ((torn : Slot) × IsSameOrTrue (other torn) table bytes budget before after)))
 
 -- the sink took the text of the script under this budget
 pub record PrintsText (table : List Call) (budget : ℕ) (bytes : List ℕ) (old new : Option (List ℕ)) (n : ℕ) : Type 0 where

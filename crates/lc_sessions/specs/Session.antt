@@ -47,7 +47,7 @@ use Rattle.lc_language.specs.Evaluation.{IsText}
 use Rattle.lc_sessions.specs.Options.{Command, run, resume, check, summary, Settings, Options, settings, usage as refuses, options, all_options}
 use Rattle.lc_sessions.specs.Needs.{IsNeeds, MeetsFirst}
 use Rattle.lc_sessions.specs.Answers.{IsTextBy, Settle, HasWords}
-use Rattle.lc_sessions.specs.Slots.{slot_of, next_turn, turn_after, slots_after, AreTrueSlots, Choice, nothing_stored, none_decodes, takes, choice, is_for}
+use Rattle.lc_sessions.specs.Slots.{slot_of, next_turn, turn_after, slots_after, IsTrueCheckpoint, Choice, nothing_stored, none_decodes, takes, choice, is_for}
 use Rattle.lc_sessions.specs.Summary.{summary_code, summary_text}
 use Rattle.lc_sessions.specs.Endings.{Ending, done, usage, paused, source_fault, sink_fault, vault_fault, no_memory, no_checkpoint, damaged_checkpoint, other_script, rejected, too_long, unfit}
 
@@ -205,9 +205,8 @@ Resumes table (other_script script budget) asked held course =
 Resumes table (rejected reason) asked held course = ⊥
 Resumes table too_long asked held course = Unit {0}
 Resumes table (unfit query told found) asked held course =
-    IsResumed asked held course
+    (p : Checkpoint) × GoesOnFrom asked held course p × ¬ IsTrueCheckpoint table course.bytes asked.budget p
     × IsUnfit table asked course (record { need = query; told = told; found = found })
-    × ((slots : Slots) → held ≡ Some slots → ¬ AreTrueSlots table course.bytes asked.budget slots)
 
 -- a session that begins: its searches start afresh
 pub record IsFresh (course : Course) : Type 0 where
@@ -231,11 +230,15 @@ Meets table asked summary course = (course.needs ≡ []) ⊎ (course.needs ≡ s
 abbrev pub EndsAt : List SessionStep → ℕ → ℕ → Type 0
 EndsAt told query blocks = (before : List SessionStep) × (last : SessionStep) × (told ≡ before ++ last ∷ []) × (last.note.need ≡ query) × (last.note.blocks ≡ blocks)
 
--- all rounds were done, the slice stopped none, and if checkpoints are kept no watcher did
+-- if checkpoints are kept, no watcher paused the session at its last record
+abbrev pub IsUnpaused : Settings → Course → Type 0
+IsUnpaused asked course = asked.keep ≡ true → course.is_paused ≡ false
+
+-- all rounds were done, the slice stopped none, and no watcher paused the session
 pub record IsWhole (asked : Settings) (course : Course) : Type 0 where
   pub all : course.left ≡ []
   pub unstopped : (rounds_of asked course).is_stopped ≡ false
-  pub unpaused : asked.keep ≡ true → course.is_paused ≡ false
+  pub unpaused : IsUnpaused asked course
 
 -- checkpoints are kept, and a watcher paused the session at its last record, or the slice is used up and a round would follow
 pub record IsPaused (asked : Settings) (course : Course) (query blocks : ℕ) : Type 0 where
@@ -249,8 +252,8 @@ Ends (usage i) asked course = course.told ≡ []
 Ends (paused query blocks) asked course = IsPaused asked course query blocks
 Ends source_fault asked course = course.told ≡ []
 Ends sink_fault asked course = IsWhole asked course
-Ends (vault_fault told) asked course = (told ≡ length course.told) × ((asked.keep ≡ true) ⊎ ((asked.command ≡ resume) × (told ≡ 0)))
-Ends (no_memory told) asked course = told ≡ length course.told
+Ends (vault_fault told) asked course = (told ≡ length course.told) × ((asked.keep ≡ true) ⊎ ((asked.command ≡ resume) × (told ≡ 0))) × IsUnpaused asked course
+Ends (no_memory told) asked course = (told ≡ length course.told) × IsUnpaused asked course
 Ends no_checkpoint asked course = course.told ≡ []
 Ends damaged_checkpoint asked course = course.told ≡ []
 Ends (other_script script budget) asked course = course.told ≡ []
@@ -300,7 +303,7 @@ StoresIfKept (usage i) asked course old new = new ≡ old
 StoresIfKept (paused query blocks) asked course old new = Keeps asked course old new
 StoresIfKept source_fault asked course old new = new ≡ old
 StoresIfKept sink_fault asked course old new = Keeps asked course old new
-StoresIfKept (vault_fault told) asked course old new = ((course.told ≡ []) × FailsFirst asked.command old new) ⊎ (IsStarted asked.command asked old course × ¬ (course.left ≡ []) × Tears asked course old new)
+StoresIfKept (vault_fault told) asked course old new = ((course.told ≡ []) × FailsFirst asked.command old new) ⊎ (IsStarted asked.command asked old course × Fits asked course × ¬ (course.left ≡ []) × Tears asked course old new)
 StoresIfKept (no_memory told) asked course old new = ((course.told ≡ []) × (new ≡ old)) ⊎ (IsStarted asked.command asked old course × Keeps asked course old new)
 StoresIfKept no_checkpoint asked course old new = new ≡ old
 StoresIfKept damaged_checkpoint asked course old new = new ≡ old
@@ -320,13 +323,13 @@ pub record IsScriptText (table : List Call) (asked : Settings) (course : Course)
   pub truth : All (λ C. AnswerHolds C (answer (divisor_of C) C asked.budget)) course.needs
 
 -- what `resume` prints over any vault: the answers are those of the records used and the rounds done, and their words are there.
--- Over slots that sessions of a chain left it is the text of the script
+-- If the checkpoint that it took is true, it is the text of the script
 pub record IsResumedText (table : List Call) (asked : Settings) (held : Option Slots) (course : Course) : Type 0 where
   pub answers : List Answer
   pub settled : Settle asked.budget course.needs (rounds_of asked course).settled answers
   pub printed : IsTextBy table asked.budget course.bytes answers course.text course.is_faulty
   pub words : HasWords course.needs answers
-  pub honest : (slots : Slots) → held ≡ Some slots → AreTrueSlots table course.bytes asked.budget slots → IsScriptText table asked course
+  pub honest : (p : Checkpoint) → GoesOnFrom asked held course p → IsTrueCheckpoint table course.bytes asked.budget p → IsScriptText table asked course
 
 abbrev pub Replies : List Call → Command → Settings → Option Slots → Course → Type 0
 Replies table run asked held course = IsNeeds table course.bytes course.needs × IsScriptText table asked course

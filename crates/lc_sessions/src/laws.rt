@@ -6,6 +6,7 @@ ghost use Rattle.std.specs.Prelude.{◌≡◌, ◌⊎◌, ◌+◌, ◌<◌, ◌�
 ghost use Rattle.lc_algebra.specs.Matrix.{Matrix};
 ghost use Rattle.lc_enumeration.specs.Search.{Answer};
 ghost use Rattle.lc_enumeration.specs.Records.{SessionStep};
+ghost use Rattle.lc_formats.specs.Checkpoint.{Checkpoint};
 ghost use Rattle.lc_io.specs.declared.watcher.Record.{Record};
 ghost use Rattle.lc_io.specs.Vaults.{Slots, in_slot, other, WhereTold};
 ghost use Rattle.lc_io.specs.Watchers.{Hearing};
@@ -18,10 +19,10 @@ ghost use Rattle.lc_language.specs.Evaluation.{Runs, IsText};
 ghost use Rattle.lc_sessions.specs.Options.{run, resume, Settings, settings, usage as refuses, all_options, options};
 ghost use Rattle.lc_sessions.specs.Needs.{Needs, IsNeeds, MeetsFirst, NoFault};
 ghost use Rattle.lc_sessions.specs.Answers.{RunsBy, IsTextBy, Settle, answers_of};
-ghost use Rattle.lc_sessions.specs.Slots.{slot_of, AreTrueSlots};
+ghost use Rattle.lc_sessions.specs.Slots.{slot_of, turn_after, IsTrueCheckpoint, AreTrueSlots};
 ghost use Rattle.lc_sessions.specs.Endings.{Ending, done, usage, no_memory};
-ghost use Rattle.lc_sessions.specs.Session.{Outside, Course, rounds_of, IsFresh, IsResumed, Fits, begin_with, Keeps, Tears, IsSession};
-ghost use Rattle.lc_sessions.specs.Promises.{IsAmple, IsAnswer, PrintsText, checkpoint_of, Holds};
+ghost use Rattle.lc_sessions.specs.Session.{Outside, Course, rounds_of, IsFresh, GoesOnFrom, Fits, begin_with, Keeps, Tears, IsSession};
+ghost use Rattle.lc_sessions.specs.Promises.{IsAmple, IsAnswer, PrintsText, checkpoint_of, Holds, StartsTruly, StoresTruly};
 ghost use Rattle.lc_sessions.specs.Chain.{Chain, IsGround, HasBegun, TearsSo, GoesOn, ChainsAreTrue};
 
 /// A session goes by the settings that its arguments ask for. It ends with the index of a refused
@@ -36,20 +37,32 @@ pub fn sessions_answer_what_was_asked()
 /// What is in the slots after a session that keeps its checkpoints. The slot of the last turn holds the
 /// checkpoint of the last record told, and the other slot that of the record before it. After one
 /// record alone the other slot is as the session found it, and without a record both are. If a store
-/// failed, the checkpoint of the last record told is in the other slot.
+/// failed, the checkpoint of the last record told is in the other slot. Turns alternate between the slots
+/// below 2^60; those of a session of `run`, or over true slots, are below 2^58.
 pub fn slots_hold_the_last_checkpoints()
-    ensures last { (asked : Settings) (course : Course) (old new : Option Slots) (before : List SessionStep) (s : SessionStep) → course.told ≡ before ++ s ∷ [] → course.turn + length before ≤ 2 ^ 60 → Keeps asked course old new
-        → Holds old new (slot_of (course.turn + length before)) (checkpoint_of asked course (course.turn + length before) s) }
-    ensures one_before { (asked : Settings) (course : Course) (old new : Option Slots) (before : List SessionStep) (r s : SessionStep) → course.told ≡ (before ++ r ∷ []) ++ s ∷ [] → course.turn + length before + 1 ≤ 2 ^ 60 → Keeps asked course old new
-        → Holds old new (slot_of (course.turn + length before)) (checkpoint_of asked course (course.turn + length before) r) }
+    ensures last { (asked : Settings) (course : Course) (old new : Option Slots) (before : List SessionStep) (s : SessionStep) → course.told ≡ before ++ s ∷ [] → Keeps asked course old new → Holds old new (slot_of (turn_after course.turn before)) (checkpoint_of asked course (turn_after course.turn before) s) }
+    ensures one_before { (asked : Settings) (course : Course) (old new : Option Slots) (before : List SessionStep) (r s : SessionStep) → course.told ≡ (before ++ r ∷ []) ++ s ∷ [] → turn_after course.turn before < 2 ^ 60 → Keeps asked course old new
+        → Holds old new (slot_of (turn_after course.turn before)) (checkpoint_of asked course (turn_after course.turn before) r) }
     ensures alone { (asked : Settings) (course : Course) (old new : Option Slots) (s : SessionStep) → course.told ≡ s ∷ [] → Keeps asked course old new
         → WhereTold old new (λ before after. in_slot (other (slot_of course.turn)) after ≡ in_slot (other (slot_of course.turn)) (begin_with asked.command before)) }
     ensures none { (asked : Settings) (course : Course) (old new : Option Slots) → course.told ≡ [] → Keeps asked course old new → WhereTold old new (λ before after. after ≡ begin_with asked.command before) }
-    ensures last_torn { (asked : Settings) (course : Course) (old new : Option Slots) (before : List SessionStep) (s : SessionStep) → course.told ≡ before ++ s ∷ [] → course.turn + length before + 1 ≤ 2 ^ 60 → Tears asked course old new
-        → Holds old new (slot_of (course.turn + length before)) (checkpoint_of asked course (course.turn + length before) s) }
+    ensures last_torn { (asked : Settings) (course : Course) (old new : Option Slots) (before : List SessionStep) (s : SessionStep) → course.told ≡ before ++ s ∷ [] → turn_after course.turn before < 2 ^ 60 → Tears asked course old new
+        → Holds old new (slot_of (turn_after course.turn before)) (checkpoint_of asked course (turn_after course.turn before) s) }
     ensures none_torn { (asked : Settings) (course : Course) (old new : Option Slots) → course.told ≡ [] → Tears asked course old new
         → WhereTold old new (λ before after. in_slot (other (slot_of course.turn)) after ≡ in_slot (other (slot_of course.turn)) (begin_with asked.command before)) }
     ensures alternate { (turn : ℕ) → other (slot_of (turn + 1)) ≡ slot_of turn }
+    ensures turns { (turn : ℕ) (steps : List SessionStep) → turn + length steps ≤ 2 ^ 60 → turn_after turn steps ≡ turn + length steps }
+{}
+
+/// A session stores true checkpoints, if it is one of `run`, or one of `resume` that took a true checkpoint, as it does over true
+/// slots. Each slot is then as it was, or empty, or holds a true checkpoint in the slot of its turn, but for one whose store failed.
+/// A true checkpoint has a turn below 2^58, and so has each record told.
+pub fn stored_slots_hold_true_checkpoints()
+    ensures stored { (table : List Call) (args : List (List ℕ)) (old new : Outside) (ending : Ending) (s : IsSession table args old new ending) → IsGround table s.course.bytes s.asked.budget → StartsTruly table s.asked.command s.asked old.vault s.course → s.asked.keep ≡ true → StoresTruly table s.course.bytes s.asked.budget old new }
+    ensures turn { (table : List Call) (bytes : List ℕ) (budget : ℕ) → IsGround table bytes budget → (p : Checkpoint) → IsTrueCheckpoint table bytes budget p → p.turn < 2 ^ 58 }
+    ensures early { (table : List Call) (args : List (List ℕ)) (old new : Outside) (ending : Ending) (s : IsSession table args old new ending) → IsGround table s.course.bytes s.asked.budget → StartsTruly table s.asked.command s.asked old.vault s.course
+        → (before : List SessionStep) (last : SessionStep) → s.course.told ≡ before ++ last ∷ [] → turn_after s.course.turn before < 2 ^ 58 }
+    ensures taken { (table : List Call) (asked : Settings) (held : Option Slots) (course : Course) (slots : Slots) → held ≡ Some slots → AreTrueSlots table course.bytes asked.budget slots → StartsTruly table resume asked held course }
 {}
 
 /// The text of some statements is that by the answers of the search for their needs, and back. The needs of
@@ -86,11 +99,11 @@ pub fn sessions_make_up_chains()
 {}
 
 /// If a session answered each need of its script by what its records and rounds settle, its text is the text
-/// of the script: always if it started afresh, and over true slots if it resumed.
+/// of the script: always if it started afresh, and if the checkpoint is true from which it resumed.
 pub fn sessions_that_start_truly_print_the_text()
     ensures fresh { (table : List Call) (asked : Settings) (course : Course) → IsGround table course.bytes asked.budget → NoFault course.bytes → IsFresh course → IsNeeds table course.bytes course.needs → (rounds_of asked course).is_stopped ≡ false
         → (answers : List Answer) → Settle asked.budget course.needs (rounds_of asked course).settled answers → IsTextBy table asked.budget course.bytes answers course.text course.is_faulty → IsText table asked.budget course.bytes course.text course.is_faulty }
-    ensures resumed { (table : List Call) (asked : Settings) (held : Option Slots) (course : Course) (slots : Slots) → IsGround table course.bytes asked.budget → NoFault course.bytes → held ≡ Some slots → AreTrueSlots table course.bytes asked.budget slots → IsResumed asked held course → Fits asked course
+    ensures resumed { (table : List Call) (asked : Settings) (held : Option Slots) (course : Course) (p : Checkpoint) → IsGround table course.bytes asked.budget → NoFault course.bytes → GoesOnFrom asked held course p → IsTrueCheckpoint table course.bytes asked.budget p → Fits asked course
         → IsNeeds table course.bytes course.needs → (rounds_of asked course).is_stopped ≡ false
         → (answers : List Answer) → Settle asked.budget course.needs (rounds_of asked course).settled answers → IsTextBy table asked.budget course.bytes answers course.text course.is_faulty → IsText table asked.budget course.bytes course.text course.is_faulty }
 {}

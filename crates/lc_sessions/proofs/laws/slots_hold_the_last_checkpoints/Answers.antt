@@ -1,3 +1,4 @@
+use Rattle.lc_sessions.proofs.SlotsAfter.{turn_is}
 use Rattle.lc_sessions.proofs.StoredLaws.{last_stands, one_before_stands, alone_stands, none_stored, last_stands_torn, none_stored_torn, other_slot}
 use Rattle.lc_sessions.proofs.laws.slots_hold_the_last_checkpoints.Goals as goal
 
@@ -21,3 +22,6 @@ returns-clause-none_torn _ = none_stored_torn
 
 pub returns-clause-alternate : goal.returns-clause-alternate
 returns-clause-alternate _ = other_slot
+
+pub returns-clause-turns : goal.returns-clause-turns
+returns-clause-turns _ = turn_is

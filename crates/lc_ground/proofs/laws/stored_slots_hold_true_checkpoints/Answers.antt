@@ -1,0 +1,11 @@
+use Rattle.lc_ground.proofs.StoredLaws.{stores_truly, true_turn, tells_early}
+use Rattle.lc_ground.proofs.laws.stored_slots_hold_true_checkpoints.Goals as goal
+
+pub returns-clause-stored : goal.returns-clause-stored
+returns-clause-stored _ = stores_truly
+
+pub returns-clause-turn : goal.returns-clause-turn
+returns-clause-turn _ = true_turn
+
+pub returns-clause-early : goal.returns-clause-early
+returns-clause-early _ = tells_early

@@ -1,0 +1,15 @@
+use Rattle.lc_sessions.proofs.GroundLaws.{true_turn}
+use Rattle.lc_sessions.proofs.StoredTruly.{stores_truly, tells_early, taken_truly}
+use Rattle.lc_sessions.proofs.laws.stored_slots_hold_true_checkpoints.Goals as goal
+
+pub returns-clause-stored : goal.returns-clause-stored
+returns-clause-stored _ = stores_truly
+
+pub returns-clause-turn : goal.returns-clause-turn
+returns-clause-turn _ = true_turn
+
+pub returns-clause-early : goal.returns-clause-early
+returns-clause-early _ = tells_early
+
+pub returns-clause-taken : goal.returns-clause-taken
+returns-clause-taken _ = taken_truly
