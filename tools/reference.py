@@ -766,6 +766,11 @@ def least_word_line(rows, field):
     return f"least {weight_of(word)} word {text_of(list(word))}"
 
 
+@lru_cache(maxsize=16)
+def search_by_rows(size, length, rows, budget):
+    return search.search(size, length, [list(row) for row in rows], budget)
+
+
 class Session:
     """The budget of the searches of a script, and the records of those that are done."""
 
@@ -773,7 +778,7 @@ class Session:
         self.budget, self.searches, self.records = budget, 0, []
 
     def answer(self, code):
-        found, rounds = search.search(code.size, code.length, code.rows, self.budget)
+        found, rounds = search_by_rows(code.size, code.length, tuple(map(tuple, code.rows)), self.budget)
         self.records += [(self.searches, *record) for record in rounds]
         self.searches += 1
         return found

@@ -5,8 +5,10 @@ Stands beside the product and shares nothing with it: it lists the messages of e
 weight and place, and computes the bound anew at each end of a phase. Prints answers of some codes as a check by hand;
 `tools/reference.py` uses it for `MinimumDistance` and for certificates.
 """
+from functools import reduce
 from itertools import combinations, islice, product
 from math import comb
+from operator import xor
 
 from linear_algebra import Field
 
@@ -94,11 +96,24 @@ def words_of_level(field, n, rows, level):
             yield word
 
 
+def numbers_of_level(n, rows, level):
+    """The same over 2 elements, each word as a number of n bits, so that millions of words take seconds."""
+    numbers = [int("".join(map(str, row)), 2) for row in rows]
+    return (reduce(xor, support) for support in combinations(numbers, level))
+
+
 def bound(divisor, k, sets, levels, weight):
     if k in levels:
         return weight
     least = max(1, sum(max(0, w + 1 - (k - fresh)) for (fresh, _), w in zip(sets, levels)))
     return -(-least // divisor) * divisor
+
+
+def weighed(field, n, rows, level):
+    """The words of a level, how one of them is weighed, and how its symbols are read."""
+    if field.q == 2:
+        return numbers_of_level(n, rows, level), int.bit_count, lambda word: [int(bit) for bit in f"{word:0{n}b}"]
+    return words_of_level(field, n, rows, level), lambda word: sum(1 for a in word if a), list
 
 
 def search(q, n, rows, budget):
@@ -116,13 +131,13 @@ def search(q, n, rows, budget):
             if low >= best[0]:
                 return (True, low, best[0], best[2], blocks), records
             end = blocks + -(-comb(k, level) * (q - 1) ** (level - 1) // BLOCK)
-            words = words_of_level(field, n, systematic, level)
+            words, weigh, symbols = weighed(field, n, systematic, level)
             while blocks < min(end, budget, CUT):
                 last = min(end, budget, CUT, blocks + ROUND)
                 for place, word in enumerate(islice(words, (last - blocks) * BLOCK), blocks * BLOCK):
-                    weight = sum(1 for a in word if a)
+                    weight = weigh(word)
                     if weight < best[0]:
-                        best = (weight, place, word)
+                        best = (weight, place, symbols(word))
                 blocks = last
                 if blocks == end:
                     levels[j] = level
