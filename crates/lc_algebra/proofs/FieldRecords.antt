@@ -11,7 +11,7 @@ use Rattle.lc_algebra.specs.Embedding.{IsSubfield, embed}
 use Rattle.lc_algebra.specs.FieldLaws.{IsField, plain_product, IsReducedProduct, IsPrimitive, IsEmbedding}
 use Rattle.lc_algebra.proofs.FieldTests.{primitive_inside}
 use Rattle.lc_algebra.proofs.FieldLaws.{one_inside, add_inside, neg_inside, mul_inside, add_comm, add_assoc, add_zero, add_neg, mul_comm, mul_assoc, mul_one, mul_add, inverse_of}
-use Rattle.lc_algebra.proofs.PowerLaws.{power_order, logarithm, power_distinct}
+use Rattle.lc_algebra.proofs.PowerLaws.{power_order, logarithm, power_distinct, power_rest, pow_size, frobenius}
 use Rattle.lc_algebra.proofs.EmbeddingLaws.{embed_inside, embed_injective, embed_zero, embed_one, embed_add, embed_mul}
 use Rattle.lc_algebra.proofs.RemainderLaws.{product_is_remainder, told_by_remainder}
 
@@ -52,3 +52,5 @@ is_embedding small large s = record {
   sums = λ a b l m. embed_add small large a b s l m;
   products = λ a b l m. embed_mul small large a b s l m;
 }
+
+pub ruleset powers_of_primitive_laws = (is_primitive, power_rest, pow_size, frobenius)

@@ -129,5 +129,3 @@ frobenius f (suc a) b l m =
     let back : mul f (suc a) d ≡ b = cc (mul_assoc f (suc a) c b, i.one, one_mul f b m) in
     let sum : add f (suc a) b ≡ mul f (suc a) (add f 1 d) = cc (mul_add f (suc a) 1 d, mul_one f (suc a) l) in
     cc (mul_pow f (suc a) (add f 1 d) p, frobenius_one f d (mul_inside f c b), mul_add f (pow f (suc a) p) 1 (pow f d p), mul_one f (pow f (suc a) p) (pow_inside f (suc a) p), mul_pow f (suc a) d p)
-
-pub ruleset powers_of_primitive_laws = (power_rest, pow_size, frobenius)

@@ -26,7 +26,7 @@ pub fn product_is_remainder(field: FieldName)
 /// The powers of the chosen primitive element are the nonzero elements, each once, and their
 /// exponents count modulo the size less one. Each element to the power of the size is itself, and the
 /// power by the characteristic keeps sums. (MacWilliams and Sloane, chapter 4.)
-#[tactic(auto, using(crate::proofs::FieldRecords::is_primitive, crate::proofs::PowerLaws::powers_of_primitive_laws))]
+#[tactic(auto, using(crate::proofs::FieldRecords::powers_of_primitive_laws))]
 pub fn powers_of_primitive(field: FieldName)
     ensures primitive { IsPrimitive field (shape_of field).primitive }
     ensures exponents { (n : ℕ) → pow field (shape_of field).primitive (n % (size field - 1)) ≡ pow field (shape_of field).primitive n }

@@ -3,3 +3,4 @@ pub mod PartLaws
 pub mod RowLaws
 pub mod SetLaws
 pub mod TextLaws
+pub mod Opened

@@ -24,7 +24,7 @@ use Rattle.lc_formats.proofs.CertificateShaped.{certificate_shaped}
 use Rattle.lc_formats.specs.Check.{reads_as, refused_as, rows_at, field_at, fit, are_rows, certificate_over, way_in, distance_in, word_in, rows_in, parts_in, key_count, are_set_keys, is_beyond_limit, closed, field_in, is_version, object_in, data_in, certificate_in}
 use Rattle.lc_json.specs.Inside.{members_in}
 use Rattle.lc_certificate.specs.Reading.{IsRefusedAs, way_at, distance_at}
-use Rattle.lc_certificate.specs.Seen.{certificate_of}
+use Rattle.lc_certificate.specs.Seen.{proof_of, certificate_of}
 use Rattle.lc_certificate.specs.declared.certificate.Certificate as made
 use Rattle.lc_certificate.specs.declared.refusal.CertRefusal.{CertRefusal}
 use Rattle.lc_certificate.specs.declared.refusal.CertRefusal.TheVariants.{NotJson, Shape, Limit, NoMemory}
@@ -73,17 +73,20 @@ pub parts_way : (ms : Members) (f : FieldName) (rows : List (List ℕ)) (w : Lis
 unfolding distance_in way_at
 parts_way ms f rows w d h k m = with_word ms f rows w h k ∙ ap (distance_in ms (length w) (certificate_over f rows w)) (sym m)
 
-pub not_closed : (ms : Members) (c : Certificate) → ((member_count ms == key_count c.proof) && are_set_keys ms) ≡ false → closed ms (reads_as c) ≡ refused_as (shape 11)
-unfolding closed
-not_closed ms c e = ap (λ b. if not b then refused_as (shape 11) else (if is_beyond_limit c then refused_as limit else reads_as c)) e
+pub not_closed : (ms : Members) (c : made.Certificate) → ((member_count ms == key_count (proof_of c.basis_of)) && are_set_keys ms) ≡ false → closed ms (reads_as (certificate_of c)) ≡ refused_as (shape 11)
+unfolding closed certificate_of
+not_closed ms c e = ap (λ b. if not b then refused_as (shape 11) else (if is_beyond_limit (certificate_of c) then refused_as limit else reads_as (certificate_of c))) e
 
-pub beyond : (ms : Members) (c : Certificate) → ((member_count ms == key_count c.proof) && are_set_keys ms) ≡ true → is_beyond_limit c ≡ true → closed ms (reads_as c) ≡ refused_as limit
-unfolding closed
-beyond ms c e k = ap (λ b. if not b then refused_as (shape 11) else (if is_beyond_limit c then refused_as limit else reads_as c)) e ∙ ap (λ b. if b then refused_as limit else reads_as c) k
+-- a certificate whose keys are right is within the limits or beyond them
+with_keys : (ms : Members) (c : made.Certificate) → ((member_count ms == key_count (proof_of c.basis_of)) && are_set_keys ms) ≡ true → closed ms (reads_as (certificate_of c)) ≡ (if is_beyond_limit (certificate_of c) then refused_as limit else reads_as (certificate_of c))
+unfolding closed certificate_of
+with_keys ms c e = ap (λ b. if not b then refused_as (shape 11) else (if is_beyond_limit (certificate_of c) then refused_as limit else reads_as (certificate_of c))) e
 
-pub is_closed : (ms : Members) (c : Certificate) → ((member_count ms == key_count c.proof) && are_set_keys ms) ≡ true → is_beyond_limit c ≡ false → closed ms (reads_as c) ≡ reads_as c
-unfolding closed
-is_closed ms c e k = ap (λ b. if not b then refused_as (shape 11) else (if is_beyond_limit c then refused_as limit else reads_as c)) e ∙ ap (λ b. if b then refused_as limit else reads_as c) k
+pub beyond : (ms : Members) (c : made.Certificate) → ((member_count ms == key_count (proof_of c.basis_of)) && are_set_keys ms) ≡ true → is_beyond_limit (certificate_of c) ≡ true → closed ms (reads_as (certificate_of c)) ≡ refused_as limit
+beyond ms c e k = with_keys ms c e ∙ ap (λ b. if b then refused_as limit else reads_as (certificate_of c)) k
+
+pub is_closed : (ms : Members) (c : made.Certificate) → ((member_count ms == key_count (proof_of c.basis_of)) && are_set_keys ms) ≡ true → is_beyond_limit (certificate_of c) ≡ false → closed ms (reads_as (certificate_of c)) ≡ reads_as (certificate_of c)
+is_closed ms c e k = with_keys ms c e ∙ ap (λ b. if b then refused_as limit else reads_as (certificate_of c)) k
 
 pub no_object : (d : Data) → is_some (as_object d) ≡ false → object_in (as_object d) ≡ refused_as (shape 1)
 unfolding object_in

@@ -5,18 +5,18 @@
 --   rows_none, rows_no_array, rows_empty      what begins with no row is no rows
 --   rows_missing, rows_done      rows one of which doesn't fit are none, and those that all fit are some
 --   rows_found, rows_nowhere     the rows of an object
-use Rattle.std.proofs.Common.{◌≡◌, ◌≢◌, ℕ, ◌<◌, ◌≤◌, ◌==◌, ◌&&◌, false, nat_lt, nat_le, List, [], ◌∷◌, length, get_or, take, map, Option, Some, None, option_map, option_and_then, refl, sym, ap, ◌∙◌, arith}
+use Rattle.std.proofs.Common.{◌≡◌, ◌≢◌, ℕ, ◌<◌, ◌≤◌, ◌==◌, ◌&&◌, false, nat_lt, nat_le, List, [], ◌∷◌, length, get_or, take, map, codes, Option, Some, None, option_map, option_and_then, refl, sym, ap, ◌∙◌, arith}
 use Rattle.std.specs.List.{list_all}
 use Rattle.std.proofs.lemmas.Bool.{eq-eqb, le-leb}
 use Rattle.serde_json.specs.declared.value.Value.{Value}
-use Rattle.serde_json.specs.Data.{Data, Items}
-use Rattle.serde_json.specs.Find.{get, as_array}
+use Rattle.serde_json.specs.Data.{Data, Items, Members}
+use Rattle.serde_json.specs.Find.{get, get_member, as_array}
 use Rattle.serde_json.specs.View.{view, items_view}
 use Rattle.lc_algebra.specs.declared.FieldName.{FieldName}
 use Rattle.lc_algebra.specs.Field.{size}
 use Rattle.lc_constructions.specs.Refusals.{columns_of, are_elements}
 use Rattle.lc_formats.specs.Json.{plain_number, numbers_of, list_at, listed, each, provided}
-use Rattle.lc_formats.specs.Check.{fit, are_rows}
+use Rattle.lc_formats.specs.Check.{fit, are_rows, rows_at}
 use Rattle.lc_formats.proofs.ReadLaws.{each_length}
 use Rattle.lc_json.specs.Inside.{members_in}
 use Rattle.lc_json.proofs.EachLaws.{some_of, each_none, each_whole, each_provided, provided_same, provided_none, each_next, each_start}
@@ -111,14 +111,22 @@ rows_missing f n vs v us i w l h same z m e = rows_together f n vs v us l h same
 pub rows_done : (f : FieldName) (n : ℕ) (vs : List Value) (v : Value) (us : List Value) (i : ℕ) (rows : List (List ℕ)) → 1 ≤ length vs → Some (items_view us) ≡ as_array (view (get_or vs 0 v)) → length us ≡ n → n ≢ 0 → length vs ≤ i → each (map (λ x. provided (fit f n) (numbers_of (view x))) (take i vs)) ≡ Some rows → provided (are_rows f) (each (map numbers_of (map view vs))) ≡ Some rows
 rows_done f n vs v us i rows l h same z m e = rows_together f n vs v us l h same z ∙ each_whole (λ x. provided (fit f n) (numbers_of (view x))) vs i rows m e
 
-pub rows_found : (f : FieldName) (o : Option Items) (ds : List Data) → Some ds ≡ option_map listed o → provided (are_rows f) (option_and_then (λ es. each (map numbers_of (listed es))) o) ≡ provided (are_rows f) (each (map numbers_of ds))
-rows_found f None ds h = absurd cc
-rows_found f (Some es) ds h = ap (λ t. provided (are_rows f) (each (map numbers_of t))) (cc h)
+items_found : (f : FieldName) (o : Option Items) (ds : List Data) → Some ds ≡ option_map listed o → provided (are_rows f) (option_and_then (λ es. each (map numbers_of (listed es))) o) ≡ provided (are_rows f) (each (map numbers_of ds))
+items_found f None ds h = absurd cc
+items_found f (Some es) ds h = ap (λ t. provided (are_rows f) (each (map numbers_of t))) (cc h)
 
-pub rows_nowhere : (f : FieldName) (o : Option Items) → None ≡ option_map listed o → provided (are_rows f) (option_and_then (λ es. each (map numbers_of (listed es))) o) ≡ None
+items_nowhere : (f : FieldName) (o : Option Items) → None ≡ option_map listed o → provided (are_rows f) (option_and_then (λ es. each (map numbers_of (listed es))) o) ≡ None
 unfolding provided
-rows_nowhere f None h = refl
-rows_nowhere f (Some es) h = absurd cc
+items_nowhere f None h = refl
+items_nowhere f (Some es) h = absurd cc
+
+pub rows_found : (f : FieldName) (ms : Members) (ds : List Data) → Some ds ≡ option_map listed (option_and_then as_array (get_member (codes "rows") ms)) → provided (are_rows f) (rows_at ms) ≡ provided (are_rows f) (each (map numbers_of ds))
+unfolding rows_at
+rows_found f ms ds h = items_found f (option_and_then as_array (get_member (codes "rows") ms)) ds h
+
+pub rows_nowhere : (f : FieldName) (ms : Members) → None ≡ option_map listed (option_and_then as_array (get_member (codes "rows") ms)) → provided (are_rows f) (rows_at ms) ≡ None
+unfolding rows_at
+rows_nowhere f ms h = items_nowhere f (option_and_then as_array (get_member (codes "rows") ms)) h
 
 pub ruleset word_of_laws = (word_no_array, word_other_length, word_missing, word_done, each_next, each_start)
 

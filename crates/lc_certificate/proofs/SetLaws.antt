@@ -34,8 +34,11 @@ use Rattle.lc_formats.proofs.TestLaws.{rising_holds, rising_passes, places_hold}
 use Rattle.lc_formats.proofs.ReadLaws.{provided_inside, each_all, same_some}
 use Rattle.lc_json.specs.Inside.{members_in}
 use Rattle.lc_json.proofs.EachLaws.{none_first, each_none, each_more, each_whole, each_start}
+use Rattle.lc_certificate.specs.declared.certificate.SetClaim as made
+use Rattle.lc_certificate.specs.declared.certificate.Proof.TheVariants.{Scan}
 use Rattle.lc_certificate.specs.Reading.{way_at}
-use Rattle.lc_certificate.proofs.ListLaws.{all_whole, all_fails, all_mapped}
+use Rattle.lc_certificate.specs.Seen.{claim_of, proof_of}
+use Rattle.lc_certificate.proofs.ListLaws.{all_next, all_whole, all_fails, all_mapped}
 
 is_not : (b : Bool) → (b ≡ true → ⊥) → b ≡ false
 is_not true h = absurd (h refl)
@@ -215,13 +218,13 @@ search_by xs x (Err i) h = sym (is_not (is_member xs x) (λ e. not_member xs x i
 pub search_member : (xs : List ℕ) (x : ℕ) (r : Result ℕ ℕ) → IsStrictlyIncreasing xs → IsBinarySearchResult (λ y. nat_cmp y x) xs r → is_ok r ≡ is_member xs x
 search_member xs x r h b = search_by xs x r (searched xs x r b (rises_all xs h))
 
-pub part_fails : (claim : SetClaim) (i d : ℕ) → i < length claim.fresh → is_member claim.basis (get_or claim.fresh i d) ≡ false → fresh_in_basis claim ≡ false
-unfolding fresh_in_basis
-part_fails claim i d l e = all_fails (is_member claim.basis) claim.fresh i d l e
+pub part_fails : (claim : made.SetClaim) (i d : ℕ) → i < length claim.fresh.items → is_member claim.basis.items (get_or claim.fresh.items i d) ≡ false → fresh_in_basis (claim_of claim) ≡ false
+unfolding fresh_in_basis claim_of
+part_fails claim i d l e = all_fails (is_member claim.basis.items) claim.fresh.items i d l e
 
-pub part_whole : (claim : SetClaim) (i : ℕ) → length claim.fresh ≤ i → list_all (is_member claim.basis) (take i claim.fresh) ≡ true → fresh_in_basis claim ≡ true
-unfolding fresh_in_basis
-part_whole claim i l e = all_whole (is_member claim.basis) claim.fresh i l e
+pub part_whole : (claim : made.SetClaim) (i : ℕ) → length claim.fresh.items ≤ i → list_all (is_member claim.basis.items) (take i claim.fresh.items) ≡ true → fresh_in_basis (claim_of claim) ≡ true
+unfolding fresh_in_basis claim_of
+part_whole claim i l e = all_whole (is_member claim.basis.items) claim.fresh.items i l e
 
 pub parts_fail : {C : Type 0} (see : C → SetClaim) (cs : List C) (i : ℕ) (d : C) → i < length cs → fresh_in_basis (see (get_or cs i d)) ≡ false → list_all fresh_in_basis (map see cs) ≡ false
 parts_fail see cs i d l e = all_mapped fresh_in_basis see cs ∙ all_fails (λ c. fresh_in_basis (see c)) cs i d l e
@@ -269,8 +272,8 @@ pub scan_has_sets : (ms : Members) (n : ℕ) (make : Proof → Certificate) (o :
 unfolding way_in
 scan_has_sets ms n make o h e = ap (way_in ms n make) h ∙ ap (λ b. if b then refused_as (shape 8) else reads_as (make scan)) e
 
-pub scan_is : (ms : Members) (n : ℕ) (make : Proof → Certificate) (o : Option Bool) → o ≡ Some true → is_some (get_member (codes "sets") ms) ≡ false → way_in ms n make o ≡ reads_as (make scan)
-unfolding way_in
+pub scan_is : (ms : Members) (n : ℕ) (make : Proof → Certificate) (o : Option Bool) → o ≡ Some true → is_some (get_member (codes "sets") ms) ≡ false → way_in ms n make o ≡ reads_as (make (proof_of Scan))
+unfolding way_in proof_of
 scan_is ms n make o h e = ap (way_in ms n make) h ∙ ap (λ b. if b then refused_as (shape 8) else reads_as (make scan)) e
 
 pub levels_are : (ms : Members) (n : ℕ) (make : Proof → Certificate) (o : Option Bool) → o ≡ Some false → way_in ms n make o ≡ sets_in n make (sets_at ms)
@@ -292,9 +295,9 @@ pub ruleset sets_of_laws = (claims_none, claims_more, claims_whole, each_start)
 
 pub ruleset sets_at_laws = (sets_none, sets_empty, sets_others, sets_are)
 
-pub ruleset is_fresh_in_basis_laws = (part_fails, part_whole)
+pub ruleset is_fresh_in_basis_laws = (part_fails, part_whole, all_next)
 
-pub ruleset are_fresh_in_bases_laws = (parts_fail, parts_whole)
+pub ruleset are_fresh_in_bases_laws = (parts_fail, parts_whole, all_next)
 
 pub ruleset levels_at_laws = (no_sets, bad_sets, outside_basis, sets_read, bases_rise)
 

@@ -56,7 +56,7 @@ impl Certificate {
 }
 
 // The number of elements of a field.
-#[tactic(auto, unfolding(lc_algebra::specs::Field::size, lc_algebra::specs::Field::shape_of, lc_algebra::specs::Field::shape))]
+#[tactic(auto, unfolding(crate::proofs::Opened::sizes))]
 pub(crate) fn size_of(field: FieldName) -> u64
     ensures is { result ≡ size field }
     ensures most { result ≤ 256 }

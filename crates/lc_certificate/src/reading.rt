@@ -23,7 +23,7 @@ use serde_json::Value;
 use std::alloc::Global;
 
 // The symbol field of q elements.
-#[tactic(auto, unfolding(lc_formats::specs::Document::symbol_field, lc_constructions::specs::Cyclic::all_fields, lc_algebra::specs::Field::size, lc_algebra::specs::Field::is_symbol, lc_algebra::specs::Field::shape_of, lc_algebra::specs::Field::shape))]
+#[tactic(auto, unfolding(crate::proofs::Opened::symbol_fields))]
 fn symbol_field(q: u64) -> Option<FieldName>
     ensures is { result ≡ symbol_field q }
 {
@@ -126,7 +126,7 @@ fn set_total(proof: &Proof) -> usize
 }
 
 // Whether the length, the number of rows or the number of sets is above 255.
-#[tactic(auto, unfolding(lc_formats::specs::Check::is_beyond_limit, lc_formats::specs::Check::above, crate::specs::Seen::certificate_of))]
+#[tactic(auto, unfolding(crate::proofs::Opened::limits))]
 fn is_beyond_limit(cert: &Certificate) -> bool
     ensures is { result ≡ is_beyond_limit (certificate_of cert.now) }
 {
@@ -134,7 +134,7 @@ fn is_beyond_limit(cert: &Certificate) -> bool
 }
 
 // Checks that the object of a certificate has no other keys, and that the certificate is within the limits.
-#[tactic(auto, using(crate::proofs::PartLaws::check_closed_laws), unfolding(crate::specs::Seen::certificate_of))]
+#[tactic(auto, using(crate::proofs::PartLaws::check_closed_laws))]
 fn check_closed(object: &Value, cert: &Certificate) -> Result<(), CertRefusal>
     ensures is { IfOk result (λ _. closed (members_in (view object.now)) (reads_as (certificate_of cert.now)) ≡ reads_as (certificate_of cert.now)) }
     ensures refused { IfErr result (λ e. IsRefusedAs e (closed (members_in (view object.now)) (reads_as (certificate_of cert.now)))) }

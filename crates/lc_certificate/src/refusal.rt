@@ -21,7 +21,7 @@ pub enum CertRefusal {
 
 impl CertRefusal {
     /// The number of the refusal: 30 for `NotJson`, 31 for `Shape`, 32 for `Limit`; `NoMemory` has none, and gives 0.
-    #[tactic(auto, unfolding(crate::specs::Reading::number_of_refusal, lc_formats::specs::Certificate::reason_number))]
+    #[tactic(auto, unfolding(crate::proofs::Opened::numbers_of_refusals))]
     pub fn number(&self) -> u8
         ensures is { result ≡ number_of_refusal self.now }
     {

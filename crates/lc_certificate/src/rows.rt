@@ -82,7 +82,7 @@ fn rows_of(alloc: Global, field: FieldName, items: &[Value]) -> Result<Option<Ve
 }
 
 // The rows of an object.
-#[tactic(auto, using(crate::proofs::RowLaws::rows_at_laws), unfolding(lc_formats::specs::Check::rows_at))]
+#[tactic(auto, using(crate::proofs::RowLaws::rows_at_laws))]
 pub(crate) fn rows_at(
     alloc: Global,
     object: &Value,

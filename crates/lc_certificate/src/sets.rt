@@ -147,7 +147,7 @@ fn has(places: &[u64], place: u64) -> bool
 }
 
 // Whether each fresh coordinate of a set is in its basis. The basis rises.
-#[tactic(auto, using(crate::proofs::SetLaws::is_fresh_in_basis_laws, crate::proofs::ListLaws::all_next), unfolding(crate::specs::Seen::claim_of))]
+#[tactic(auto, using(crate::proofs::SetLaws::is_fresh_in_basis_laws))]
 fn is_fresh_in_basis(claim: &SetClaim) -> bool
     requires rises { IsStrictlyIncreasing claim.now.basis.items }
     ensures is { result ≡ fresh_in_basis (claim_of claim.now) }
@@ -161,7 +161,7 @@ fn is_fresh_in_basis(claim: &SetClaim) -> bool
 }
 
 // Whether the fresh coordinates of each set are in its basis. The bases rise.
-#[tactic(auto, using(crate::proofs::SetLaws::are_fresh_in_bases_laws, crate::proofs::ListLaws::all_next))]
+#[tactic(auto, using(crate::proofs::SetLaws::are_fresh_in_bases_laws))]
 fn are_fresh_in_bases(claims: &[SetClaim]) -> bool
     requires rise { All (λ claim. IsStrictlyIncreasing claim.basis.items) claims.now }
     ensures is { result ≡ list_all fresh_in_basis (map claim_of claims.now) }
@@ -220,7 +220,7 @@ fn levels_at(alloc: Global, object: &Value, n: u64) -> Result<Proof, CertRefusal
 }
 
 // How the distance is proved, as an object states it, for words of length n.
-#[tactic(auto, using(crate::proofs::SetLaws::proof_at_laws), unfolding(crate::specs::Seen::proof_of))]
+#[tactic(auto, using(crate::proofs::SetLaws::proof_at_laws))]
 pub(crate) fn proof_at(alloc: Global, object: &Value, n: u64) -> Result<Proof, CertRefusal>
     ensures is { IfOk result (λ p. (make : formats.Proof → formats.Certificate)
         → way_in (members_in (view object.now)) n make (way_at (members_in (view object.now))) ≡ reads_as (make (proof_of p))) }

@@ -40,7 +40,6 @@ fn push_rows(text: &mut Vec<u8>, rows: &[Word]) -> Result<(), NoMemory>
 }
 
 // A set as an object.
-#[tactic(auto, using(crate::proofs::TextLaws::claim_pieces), unfolding(crate::specs::Seen::claim_of))]
 fn push_claim(text: &mut Vec<u8>, claim: &SetClaim) -> Result<(), NoMemory>
     ensures { OnOk result (text.new.items ≡ text.old.items ++ compact_text (claim_json (claim_of claim.now))) }
 {

@@ -23,7 +23,7 @@ use Rattle.lc_formats.proofs.CheckpointRange.{checkpoint_ranged}
 use Rattle.lc_json.specs.Inside.{members_in}
 use Rattle.lc_checkpoint.specs.declared.checkpoint.Checkpoint as made
 use Rattle.lc_checkpoint.specs.declared.refusal.CheckpointRefusal.{CheckpointRefusal}
-use Rattle.lc_checkpoint.specs.Seen.{point_of}
+use Rattle.lc_checkpoint.specs.Seen.{settled_of, point_of}
 use Rattle.lc_checkpoint.specs.Reading.{current_from, current_in}
 
 none_of : (a b : Bool) → b ≡ false → (a && b) ≡ false
@@ -123,8 +123,8 @@ no_place budget ms h =
     ap (λ p. current_from (number_up_to 0 budget (number_at (codes "blocks") ms)) (number_up_to 1 255 (number_at (codes "weight") ms)) p) (sym h)
     ∙ no_place_from (number_up_to 0 budget (number_at (codes "blocks") ms)) (number_up_to 1 255 (number_at (codes "weight") ms))
 
-pub current_read : (budget : ℕ) (ms : Members) (b w p : ℕ) → Some b ≡ number_up_to 0 budget (number_at (codes "blocks") ms) → Some w ≡ number_up_to 1 255 (number_at (codes "weight") ms) → Some p ≡ number_up_to 0 (2 ^ 52 - 1) (number_at (codes "place") ms) → current_in budget ms ≡ Some (record { blocks = b; weight = w; place = p })
-unfolding current_in current_from
+pub current_read : (budget : ℕ) (ms : Members) (b w p : ℕ) → Some b ≡ number_up_to 0 budget (number_at (codes "blocks") ms) → Some w ≡ number_up_to 1 255 (number_at (codes "weight") ms) → Some p ≡ number_up_to 0 (2 ^ 52 - 1) (number_at (codes "place") ms) → current_in budget ms ≡ Some (settled_of (record { blocks = b; weight = w; place = p }))
+unfolding current_in current_from settled_of
 current_read budget ms b w p h k m = current_is _ _ _ (Some b) (Some w) (Some p) (sym h) (sym k) (sym m)
 
 -- the state, once its parts are there

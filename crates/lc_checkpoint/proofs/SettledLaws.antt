@@ -10,7 +10,7 @@ use Rattle.std.proofs.lemmas.Bool.{le-leb, lt-leb}
 use Rattle.std.proofs.lemmas.List.{map-append}
 use Rattle.serde_json.specs.declared.value.Value.{Value}
 use Rattle.serde_json.specs.Data.{Data, Members}
-use Rattle.serde_json.specs.Find.{get_member, as_array}
+use Rattle.serde_json.specs.Find.{get_member, as_number, as_u64, as_array}
 use Rattle.serde_json.specs.View.{view, items_view}
 use Rattle.lc_field.specs.declared.refusal.NoMemory.{NoMemory}
 use Rattle.lc_enumeration.specs.Records.{Progress}
@@ -35,7 +35,8 @@ of_length vs (Some ys) h e = not_three ys (λ k. h (sym (each_length (λ v. plai
 pub from_other : (vs : List Value) → length vs ≢ 3 → option_and_then triple_of (each (map (λ v. plain_number (view v)) vs)) ≡ None
 from_other vs l = of_length vs (each (map (λ v. plain_number (view v)) vs)) l refl
 
-pub from_none : (vs : List Value) (i : ℕ) (v : Value) → i < length vs → plain_number (view (get_or vs i v)) ≡ None → option_and_then triple_of (each (map (λ v. plain_number (view v)) vs)) ≡ None
+pub from_none : (vs : List Value) (i : ℕ) (v : Value) → i < length vs → option_and_then as_u64 (as_number (view (get_or vs i v))) ≡ None → option_and_then triple_of (each (map (λ v. plain_number (view v)) vs)) ≡ None
+unfolding plain_number
 from_none vs i v l e = ap (option_and_then triple_of) (each_none (λ w. plain_number (view w)) vs i v l e)
 
 each_three : (a b c : Option ℕ) (l w p : ℕ) → a ≡ Some l → b ≡ Some w → c ≡ Some p → each (a ∷ b ∷ c ∷ []) ≡ Some (l ∷ w ∷ p ∷ [])

@@ -63,7 +63,7 @@ fn script_at(object: &Value) -> Option<[u8; 32]>
 }
 
 // The blocks, the weight and the place that three values state.
-#[tactic(auto, using(crate::proofs::SettledLaws::triple_from_laws), unfolding(crate::specs::Seen::settled_of, lc_formats::specs::Json::plain_number))]
+#[tactic(auto, using(crate::proofs::SettledLaws::triple_from_laws))]
 fn triple_from(items: &[Value]) -> Option<Settled>
     ensures is { option_map settled_of result ≡ option_and_then triple_of (each (map (λ v. plain_number (view v)) items.now)) }
 {
@@ -98,7 +98,7 @@ fn triple_of(value: &Value) -> Option<Settled>
 }
 
 // Whether the numbers of a settled need are in range.
-#[tactic(auto, unfolding(lc_formats::specs::Checkpoint::is_in_range, crate::specs::Seen::settled_of))]
+#[tactic(auto, unfolding(crate::proofs::Opened::ranges))]
 fn is_in_range(budget: u64, settled: &Settled) -> bool
     ensures is { result ≡ is_in_range budget (settled_of settled.now) }
 {
@@ -158,7 +158,7 @@ fn done_at(alloc: Global, object: &Value, budget: u64) -> Result<Option<Vec<Sett
 }
 
 // How far the search of the current need is.
-#[tactic(auto, using(crate::proofs::PointLaws::current_at_laws), unfolding(crate::specs::Seen::settled_of))]
+#[tactic(auto, using(crate::proofs::PointLaws::current_at_laws))]
 fn current_at(object: &Value, budget: u64) -> Option<Settled>
     ensures is { option_map settled_of result ≡ current_in budget (members_in (view object.now)) }
 {
@@ -179,7 +179,7 @@ fn current_at(object: &Value, budget: u64) -> Option<Settled>
 }
 
 // The checkpoint of this version and budget that an object states.
-#[tactic(auto, using(crate::proofs::PointLaws::state_of_laws), unfolding(crate::specs::Seen::point_of))]
+#[tactic(auto, using(crate::proofs::PointLaws::state_of_laws))]
 fn state_of(
     alloc: Global,
     object: &Value,

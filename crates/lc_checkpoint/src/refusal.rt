@@ -21,7 +21,7 @@ pub enum CheckpointRefusal {
 
 impl CheckpointRefusal {
     /// The number of the refusal: 20 for `Damaged`, 21 for `Version`, 22 for `Shape`; `NoMemory` has none, and gives 0.
-    #[tactic(auto, unfolding(crate::specs::Reading::number_of_refusal, lc_formats::specs::Checkpoint::checkpoint_refusal_number))]
+    #[tactic(auto, unfolding(crate::proofs::Opened::numbers_of_refusals))]
     pub fn number(&self) -> u8
         ensures is { result ≡ number_of_refusal self.now }
     {

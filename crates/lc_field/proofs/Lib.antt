@@ -4,3 +4,4 @@ pub mod SumLaws
 pub mod PairLaws
 pub mod LogarithmLaws
 pub mod RootLaws
+pub mod Opened

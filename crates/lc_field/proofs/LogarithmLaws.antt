@@ -9,7 +9,8 @@ use Rattle.std.proofs.lemmas.Grind.{get_or_default_zero}
 use Rattle.std.proofs.lemmas.Bool.{cases_eq}
 use Rattle.lc_algebra.specs.declared.FieldName.{FieldName}
 use Rattle.lc_algebra.specs.Field.{shape_of, size, mul, pow, IsInverse}
-use Rattle.lc_algebra.proofs.PowerLaws.{pow_inside, pow_suc, pow_add, pow_mul, power_order, power_rest, logarithm}
+use Rattle.lc_algebra.proofs.FieldLaws.{zero_mul, mul_zero}
+use Rattle.lc_algebra.proofs.PowerLaws.{pow_inside, pow_zero, pow_suc, pow_add, pow_mul, power_order, power_rest, logarithm}
 use Rattle.lc_field.specs.Tables.{IsPowers, IsLogarithms}
 
 abbrev pub γ : FieldName → ℕ → ℕ
@@ -106,3 +107,7 @@ powers_step f old new n power next c e h g s =
     (rw (g, length-append old (power ∷ [])) (omega (arith, c)), cc (pow_suc f (shape_of f).primitive n, add-one n), λ k l. rw g (⊎_elim (λ d. let r : slice_index (old ++ power ∷ []) k ≡ power = get_or_push old power 0 k (c ∙ sym d) in cc) (λ d. get_or_append_left old (power ∷ []) 0 k (omega (arith, l, c, d)) ∙ h k (omega (arith, l, d))) (cases_eq k n)))
 
 pub ruleset logs_of_laws = (logs_more, logs_whole, pow_inside)
+
+pub ruleset mul_laws = (zero_mul, mul_zero)
+
+pub ruleset powers_of_laws = (pow_inside, pow_zero, pow_suc)

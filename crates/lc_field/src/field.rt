@@ -165,7 +165,7 @@ impl Field {
     /// The products of an element `c` of a symbol field with all elements, in their order: entry a is c times a. It scales a
     /// word by one look-up a symbol.
     #[inline]
-    #[tactic(auto, using(lc_algebra::proofs::FieldLaws::mul_inside), unfolding(lc_algebra::specs::Field::is_symbol))]
+    #[tactic(auto, unfolding(lc_algebra::specs::Field::is_symbol))]
     pub fn products_of(&self, c: u8) -> &[u8]
         requires symbol { IsTrue (is_symbol self.now) }
         requires element { c < size self.now }

@@ -62,7 +62,7 @@ impl Logarithms {
     }
 
     #[inline]
-    #[tactic(auto, using(lc_algebra::proofs::FieldLaws::zero_mul, lc_algebra::proofs::FieldLaws::mul_zero))]
+    #[tactic(auto, using(crate::proofs::LogarithmLaws::mul_laws))]
     pub(crate) fn mul(&self, a: u8, b: u8) -> u8
         requires first { a < size self.now }
         requires second { b < size self.now }
@@ -127,7 +127,7 @@ fn next_power(row: &Row, a: u8) -> u8
 }
 
 // The powers of the primitive element, twice round.
-#[tactic(auto, using(lc_algebra::proofs::PowerLaws::pow_inside, lc_algebra::proofs::PowerLaws::pow_zero, lc_algebra::proofs::PowerLaws::pow_suc))]
+#[tactic(auto, using(crate::proofs::LogarithmLaws::powers_of_laws))]
 fn powers_of(alloc: Global, row: &Row) -> Result<Vec<u8>, NoMemory>
     requires row { IsRow row.now }
     ensures { IfOk result (λ powers. IsPowers row.now.name powers.items) }

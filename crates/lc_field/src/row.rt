@@ -44,7 +44,7 @@ fn make_row(
 }
 
 // The row of the field of q elements, if there is such a field.
-#[tactic(auto, unfolding(lc_algebra::specs::Residue::digits, lc_algebra::specs::Residue::number, lc_algebra::specs::Residue::plus, lc_algebra::specs::Residue::minus, lc_algebra::specs::Residue::times, lc_algebra::specs::Residue::top, lc_algebra::specs::Residue::up, lc_algebra::specs::Residue::times_x, lc_algebra::specs::Residue::product, lc_algebra::specs::Field::shape, lc_algebra::specs::Field::shape_of, lc_algebra::specs::Field::size, lc_algebra::specs::Field::coefficients, lc_algebra::specs::Field::mul))]
+#[tactic(auto, unfolding(crate::proofs::Opened::table_of_fields))]
 pub(crate) fn row_of(q: u64) -> Option<Row>
     ensures row { IfSome result (λ r. IsRow r × (r.size ≡ q)) }
     ensures none { IsNone result → (f : FieldName) → size f ≢ q }

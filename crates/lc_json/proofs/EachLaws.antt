@@ -93,5 +93,3 @@ each_provided test g (x ∷ xs) = both_tested test (g x) (map g xs) (map (λ y. 
 
 pub each_more : {A X : Type 0} (f : A → Option X) (xs : List A) (i j : ℕ) (d : A) (ys zs : List X) (y : X) → i < length xs → each (map f (take i xs)) ≡ Some ys → f (get_or xs i d) ≡ Some y → j ≡ suc i → zs ≡ ys ++ y ∷ [] → each (map f (take j xs)) ≡ Some zs
 each_more f xs i j d ys zs y l e k same made = rw (same, made) (each_next f xs i d ys y l e k)
-
-pub ruleset numbers_of_laws = (each_none, each_next)

@@ -4,6 +4,7 @@
 --   number_found, number_missing       the number at a key
 --   listed_view, array_found           the items of an array, and of the one at a key
 --   list_found, list_missing           the numbers listed at a key
+--   plain_number_is                    the number that a value is
 --   numbers_are, no_numbers, numbers_missing, numbers_done      the numbers that a value lists, and that it lists none
 --   same_pointwise                     two texts that are the same
 --   members_counted, no_members_counted      how many members a value has
@@ -22,7 +23,7 @@ use Rattle.serde_json.specs.View.{view, items_view, members_of, members_view}
 use Rattle.lc_formats.specs.Text.{same_bytes}
 use Rattle.lc_formats.specs.Json.{json_in, number_at, numbers_of, list_at, listed, member_count, each, plain_number}
 use Rattle.lc_json.specs.Inside.{members_in}
-use Rattle.lc_json.proofs.EachLaws.{each_none, each_whole}
+use Rattle.lc_json.proofs.EachLaws.{each_none, each_next, each_whole}
 
 pub json_found : (bytes : List ℕ) (d : Data) → IsUtf8 bytes → read bytes ≡ Some d → json_in bytes ≡ Some d
 unfolding json_in
@@ -74,6 +75,10 @@ list_found k d e h = ap (option_and_then numbers_of) (inside k d (Some e) h)
 pub list_missing : (k : List ℕ) (d : Data) → None ≡ get k d → list_at k (members_in d) ≡ None
 unfolding list_at
 list_missing k d h = ap (option_and_then numbers_of) (inside k d None h)
+
+pub plain_number_is : (d : Data) → plain_number d ≡ option_and_then as_u64 (as_number d)
+unfolding plain_number
+plain_number_is d = refl
 
 map_map : (vs : List Value) → map plain_number (map view vs) ≡ map (λ v. plain_number (view v)) vs
 map_map [] = refl
@@ -130,7 +135,7 @@ pub ruleset read_laws = (json_found, json_missing)
 
 pub ruleset number_at_laws = (number_found, number_missing)
 
-pub ruleset numbers_of_laws = (numbers_are, no_numbers)
+pub ruleset numbers_of_laws = (plain_number_is, numbers_are, no_numbers, each_none, each_next)
 
 pub ruleset list_at_laws = (list_found, list_missing)
 

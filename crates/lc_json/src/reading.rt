@@ -61,7 +61,7 @@ pub fn array_at<'v>(object: &'v Value, key: &str) -> Option<&'v Vec<Value>>
 }
 
 /// The numbers that a value lists, if it is an array of whole numbers of 64 bits.
-#[tactic(auto, using(crate::proofs::InsideLaws::numbers_of_laws, crate::proofs::EachLaws::numbers_of_laws), unfolding(lc_formats::specs::Json::plain_number))]
+#[tactic(auto, using(crate::proofs::InsideLaws::numbers_of_laws))]
 pub fn numbers_of(alloc: Global, value: &Value) -> Result<Option<Vec<u64>>, NoMemory>
     ensures is { IfOk result (λ o. option_map (λ v. v.items) o ≡ numbers_of (view value.now)) }
 {

@@ -25,7 +25,7 @@ use Rattle.lc_algebra.specs.Polynomial.{value_at, poly_sum, poly_product, SamePo
 use Rattle.lc_algebra.proofs.FieldLaws.{zero_inside, mul_inside, add_comm, add_assoc, zero_add, add_zero, add_neg, mul_comm, mul_assoc, mul_one, neg_mul, mul_zero}
 use Rattle.lc_algebra.proofs.WordLaws.{fits_cons, fits_symbol}
 use Rattle.lc_poly.proofs.TrimLaws.{IsTrimmed}
-use Rattle.lc_algebra.proofs.PolynomialLaws.{index_sum, index_both, index_product_zero, index_product_suc, fits_product, same_product}
+use Rattle.lc_algebra.proofs.PolynomialLaws.{index_sum, index_both, index_product_zero, index_product_suc, fits_product, same_product, product_commutes, product_associates, product_sum, value_sum, value_product}
 
 pub taken_trimmed : (f : FieldName) (u : List ℕ) (n : ℕ) → Fits f u → n ≤ length u → (0 < n → 0 < slice_index u (n - 1)) → ((i : ℕ) → n ≤ i → slice_index u i ≡ 0) → IsTrimmed f u (take n u)
 taken_trimmed f u n h l leads zeros =
@@ -269,3 +269,7 @@ division_short f by m u h l k =
 
 pub written_back : (n : ℕ) (to items : List ℕ) → n ≡ length to → take n (to ++ drop (length to) items) ≡ to
 written_back n to items e = rw e (take-append-le (length to) to (drop (length to) items) (omega arith) ∙ take-length to)
+
+pub ruleset products_of_polynomials_laws = (product_commutes, product_associates, product_sum)
+
+pub ruleset values_of_polynomials_laws = (value_sum, value_product)

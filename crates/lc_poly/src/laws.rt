@@ -17,7 +17,7 @@ pub fn division_is_unique(field: FieldName)
 
 /// Products of polynomials commute, associate and distribute over sums, coefficient by coefficient.
 /// (MacWilliams and Sloane, chapter 4.)
-#[tactic(auto, using(lc_algebra::proofs::PolynomialLaws::product_commutes, lc_algebra::proofs::PolynomialLaws::product_associates, lc_algebra::proofs::PolynomialLaws::product_sum))]
+#[tactic(auto, using(crate::proofs::ListLaws::products_of_polynomials_laws))]
 pub fn products_of_polynomials(field: FieldName)
     ensures commutes { (u v : List ℕ) (i : ℕ) → slice_index (poly_product field u v) i ≡ slice_index (poly_product field v u) i }
     ensures associates { (u v w : List ℕ) (i : ℕ) → slice_index (poly_product field (poly_product field u v) w) i ≡ slice_index (poly_product field u (poly_product field v w)) i }
@@ -26,7 +26,7 @@ pub fn products_of_polynomials(field: FieldName)
 
 /// The value of a sum is the sum of the values, and that of a product their product.
 /// (MacWilliams and Sloane, chapter 4.)
-#[tactic(auto, using(lc_algebra::proofs::PolynomialLaws::value_sum, lc_algebra::proofs::PolynomialLaws::value_product))]
+#[tactic(auto, using(crate::proofs::ListLaws::values_of_polynomials_laws))]
 pub fn values_of_polynomials(field: FieldName)
     ensures sums { (u v : List ℕ) (x : ℕ) → value_at field (poly_sum field u v) x ≡ add field (value_at field u x) (value_at field v x) }
     ensures products { (u v : List ℕ) (x : ℕ) → value_at field (poly_product field u v) x ≡ mul field (value_at field u x) (value_at field v x) }

@@ -97,7 +97,7 @@ fn text_line(alloc: Global, text: &[u8]) -> Result<Vec<u8>, NoMemory>
 }
 
 /// The line of a truth value: `true` or `false`.
-#[tactic(auto, unfolding(lc_language::specs::Print::value_line, lc_language::specs::Print::value_text))]
+#[tactic(auto, unfolding(crate::proofs::Opened::lines_of_values))]
 pub fn truth_line(alloc: Global, holds: bool) -> Result<Vec<u8>, NoMemory>
     ensures { IfOk result (λ v. v.items ≡ value_line (truth holds)) }
 {
@@ -105,7 +105,7 @@ pub fn truth_line(alloc: Global, holds: bool) -> Result<Vec<u8>, NoMemory>
 }
 
 /// The line of a value that is absent: `none`.
-#[tactic(auto, unfolding(lc_language::specs::Print::value_line, lc_language::specs::Print::value_text))]
+#[tactic(auto, unfolding(crate::proofs::Opened::lines_of_values))]
 pub fn none_line(alloc: Global) -> Result<Vec<u8>, NoMemory>
     ensures { IfOk result (λ v. v.items ≡ value_line nothing) }
 {
