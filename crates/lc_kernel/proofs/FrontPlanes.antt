@@ -3,21 +3,18 @@
 --   zero_planes            those of the zero word
 --   front_planes_next      those of the sum of one entry more
 --   rows_pushed            the planes of one multiple more
---   below_four             what holds at 0, 1, 2 and 3
---   planewise_even, planewise_three, fronts_made      what a table keeps
+--   fronts_made            what a table keeps
 --   front_planes_put, front_planes_first, front_planes_same      the list of them
-use Rattle.std.proofs.Common.{◌≡◌, ℕ, zero, suc, ◌+◌, ◌-◌, ◌*◌, ◌/◌, ◌%◌, ◌<◌, ◌≤◌, Bool, true, false, List, [], ◌∷◌, ◌++◌, set, length, replicate, slice_index, slice_index_or, bit_xor, Contains, sym, ap, subst, ◌∙◌, ⊎_elim, arith, length-append}
+use Rattle.std.proofs.Common.{◌≡◌, ℕ, zero, suc, ◌+◌, ◌-◌, ◌*◌, ◌/◌, ◌%◌, ◌^◌, ◌<◌, ◌≤◌, List, [], ◌∷◌, ◌++◌, set, length, replicate, slice_index, slice_index_or, Contains, sym, ap, ◌∙◌, ⊎_elim, arith, length-append}
 use Rattle.std.proofs.Math.ListN.{get_or-append}
 use Rattle.std.proofs.Math.Seq.{get_or-append_seam}
-use Rattle.std.proofs.lemmas.Bool.{cases_Bool, cases_lt}
+use Rattle.std.proofs.lemmas.Bool.{cases_lt}
 use Rattle.std.proofs.lemmas.Nat.{div-mul-add, mod-mul-add}
 use Rattle.std.proofs.lemmas.Nat.Bits.{bit_at-zero}
 use Rattle.std.proofs.lemmas.List.{get_or-set_same, get_or-set_other}
 use Rattle.std.proofs.lemmas.List.Elements.{All-get_or}
 use Rattle.lc_algebra.specs.declared.FieldName.{FieldName}
-use Rattle.lc_algebra.specs.declared.FieldName.TheVariants.{Gf3}
-use Rattle.lc_algebra.specs.Field.{size, add, shape_of}
-use Rattle.std.specs.Int.{bit_at}
+use Rattle.lc_algebra.specs.Field.{size}
 use Rattle.lc_algebra.specs.Word.{IsWord, zero_word, word_sum, scale}
 use Rattle.lc_algebra.specs.Span.{AreIndependent}
 use Rattle.lc_algebra.specs.Matrix.{Matrix, AreRows}
@@ -28,51 +25,18 @@ use Rattle.lc_enumeration.specs.Message.{messages}
 use Rattle.lc_enumeration.specs.Search.{set_count, generator_at}
 use Rattle.lc_place.specs.Place.{SpotState, spot_message}
 use Rattle.lc_kernel.specs.Packed.{others, part_at}
-use Rattle.lc_kernel.specs.Planes.{plane, plane_at, trit_sum}
+use Rattle.lc_kernel.specs.Planes.{plane, plane_at, IsPlaneSum}
 use Rattle.lc_kernel.specs.Sums.{front_word}
-use Rattle.lc_kernel.specs.Fronts.{IsPlanewise, ArePlanes, AreRowPlanes, AreFrontPlanes, IsKept, HasFronts}
+use Rattle.lc_kernel.specs.Fronts.{ArePlanes, AreRowPlanes, AreFrontPlanes, IsKept, HasFronts}
 use Rattle.lc_kernel.proofs.MultipleLaws.{below_product}
-use Rattle.lc_kernel.proofs.PlaneLaws.{plane_none, plane_cons, plane_sum, zeros_at, trits, trit_low, trit_high}
+use Rattle.lc_kernel.proofs.PlaneLaws.{plane_none, plane_cons, zeros_at}
 use Rattle.lc_kernel.proofs.GridLaws.{restrict_fits}
-use Rattle.lc_kernel.proofs.TableLaws.{three_elements}
 use Rattle.lc_kernel.proofs.FrontLaws.{entries_are, generates, front_next, front_first, front_word_fits}
 
-plane_sum_at : (f : FieldName) (c j : ℕ) (cols u v : List ℕ) → (shape_of f).characteristic ≡ 2 → IsWord f c u → IsWord f c v → plane_at j cols (word_sum f u v) ≡ bit_xor (plane_at j cols u) (plane_at j cols v)
-plane_sum_at f c j cols u v two a b =
-    ap (plane j) (restrict_sum f cols u v (a.long ∙ sym b.long)) ∙ plane_sum f j (restrict cols u) (restrict cols v) two (length_restrict cols u ∙ sym (length_restrict cols v)) (restrict_fits f c cols u a) (restrict_fits f c cols v b)
-
-trits_at : (c i j : ℕ) (cols u v : List ℕ) → ((a b : ℕ) → a < 3 → b < 3 → trit_sum (bit_at a i) (bit_at a j) (bit_at b i) (bit_at b j) ≡ bit_at (add Gf3 a b) i) → IsWord Gf3 c u → IsWord Gf3 c v → plane_at i cols (word_sum Gf3 u v) ≡ trit_sum (plane_at i cols u) (plane_at j cols u) (plane_at i cols v) (plane_at j cols v)
-trits_at c i j cols u v f a b =
-    ap (plane i) (restrict_sum Gf3 cols u v (a.long ∙ sym b.long)) ∙ trits i j (restrict cols u) (restrict cols v) f (length_restrict cols u ∙ sym (length_restrict cols v)) (restrict_fits Gf3 c cols u a) (restrict_fits Gf3 c cols v b)
-
-four_places : (a b c d e f g h : ℕ) → a ≡ e → b ≡ f → c ≡ g → d ≡ h → trit_sum a b c d ≡ trit_sum e f g h
-four_places a b c d e f g h p q r s = ap (λ t. trit_sum t b c d) p ∙ ap (λ t. trit_sum e t c d) q ∙ ap (λ t. trit_sum e f t d) r ∙ ap (λ t. trit_sum e f g t) s
-
--- the two planes of a sum over 3 elements
-three_sum : (c : ℕ) (cols u v x y z : List ℕ) → IsWord Gf3 c u → IsWord Gf3 c v → ArePlanes cols 2 u x → ArePlanes cols 2 v y
-    → slice_index z 0 ≡ trit_sum (slice_index x 0) (slice_index x 1) (slice_index y 0) (slice_index y 1)
-    → slice_index z 1 ≡ trit_sum (slice_index x 1) (slice_index x 0) (slice_index y 1) (slice_index y 0)
-    → ArePlanes cols 2 (word_sum Gf3 u v) z
-three_sum c cols u v x y z a b h k low high zero l =
-    low ∙ four_places _ _ _ _ _ _ _ _ (h 0 (omega arith)) (h 1 (omega arith)) (k 0 (omega arith)) (k 1 (omega arith)) ∙ sym (trits_at c 0 1 cols u v trit_low a b)
-three_sum c cols u v x y z a b h k low high (suc zero) l =
-    high ∙ four_places _ _ _ _ _ _ _ _ (h 1 (omega arith)) (h 0 (omega arith)) (k 1 (omega arith)) (k 0 (omega arith)) ∙ sym (trits_at c 1 0 cols u v trit_high a b)
-three_sum c cols u v x y z a b h k low high (suc (suc p)) l = absurd (omega (arith, l))
-
-pub planes_sum : (f : FieldName) (n c : ℕ) (even : Bool) (cols u v x y z : List ℕ) → IsPlanewise f n even → IsWord f c u → IsWord f c v → ArePlanes cols n u x → ArePlanes cols n v y
-    → (even ≡ true → (j : ℕ) → j < 4 → slice_index z j ≡ bit_xor (slice_index x j) (slice_index y j))
-    → (even ≡ false → slice_index z 0 ≡ trit_sum (slice_index x 0) (slice_index x 1) (slice_index y 0) (slice_index y 1))
-    → (even ≡ false → slice_index z 1 ≡ trit_sum (slice_index x 1) (slice_index x 0) (slice_index y 1) (slice_index y 0))
-    → ArePlanes cols n (word_sum f u v) z
-planes_sum f n c even cols u v x y z w a b h k e low high p l =
-    ⊎_elim
-    (λ t. e t p (omega (arith, l, w.few)) ∙ ap (λ m. bit_xor m (slice_index y p)) (h p l) ∙ ap (bit_xor (plane_at p cols u)) (k p l) ∙ sym (plane_sum_at f c p cols u v (w.two t) a b))
-    (λ t.
-    let is = (w.three t).0 in
-    let two = (w.three t).1 in
-    let whole = three_sum c cols u v x y z (subst (λ g. IsWord g c u) is a) (subst (λ g. IsWord g c v) is b) (subst (λ m. ArePlanes cols m u x) two h) (subst (λ m. ArePlanes cols m v y) two k) (low t) (high t) p (omega (arith, l, two)) in
-    whole ∙ ap (λ g. plane_at p cols (word_sum g u v)) (sym is))
-    (cases_Bool even)
+pub planes_sum : (f : FieldName) (n c : ℕ) (cols u v x y z : List ℕ) → size f ≤ 2 ^ n → n ≤ 4 → IsWord f c u → IsWord f c v → IsPlaneSum f x y z → ArePlanes cols n u x → ArePlanes cols n v y → ArePlanes cols n (word_sum f u v) z
+planes_sum f n c cols u v x y z fits few a b sum h k p l =
+    sum.planes n (restrict cols u) (restrict cols v) fits few (length_restrict cols u ∙ sym (length_restrict cols v)) (restrict_fits f c cols u a) (restrict_fits f c cols v b) h k p l
+    ∙ ap (plane p) (sym (restrict_sum f cols u v (a.long ∙ sym b.long)))
 
 zeros_plane : (p n : ℕ) → plane p (zero_word n) ≡ 0
 zeros_plane p zero = plane_none p
@@ -81,14 +45,12 @@ zeros_plane p (suc n) = omega (arith, plane_cons p 0 (zero_word n), zeros_plane 
 pub zero_planes : (p n : ℕ) (cols : List ℕ) → plane_at p cols (zero_word n) ≡ 0
 zero_planes p n cols = ap (plane p) (restrict_zero cols n) ∙ zeros_plane p (length cols)
 
-pub front_planes_next : (C : Matrix) (s : SpotState) (n i : ℕ) (even : Bool) (rows : List (List ℕ)) (x y z : List ℕ) → AreRows C.field C.columns C.rows → AreIndependent C.field C.columns C.rows → s.set < set_count C → Contains (messages (length C.rows) (size C.field) (length s.support)) (spot_message s) → IsKept C s.set n even rows → i < length s.support
+pub front_planes_next : (C : Matrix) (s : SpotState) (n i : ℕ) (rows : List (List ℕ)) (x y z : List ℕ) → AreRows C.field C.columns C.rows → AreIndependent C.field C.columns C.rows → s.set < set_count C → Contains (messages (length C.rows) (size C.field) (length s.support)) (spot_message s) → IsKept C s.set n rows → i < length s.support
     → ArePlanes (part_at (others C s.set) 0) n (front_word C s i) x
     → y ≡ slice_index_or rows (slice_index s.support i * (size C.field - 1) + (slice_index s.coefficients i - 1)) []
-    → (even ≡ true → (j : ℕ) → j < 4 → slice_index z j ≡ bit_xor (slice_index x j) (slice_index y j))
-    → (even ≡ false → slice_index z 0 ≡ trit_sum (slice_index x 0) (slice_index x 1) (slice_index y 0) (slice_index y 1))
-    → (even ≡ false → slice_index z 1 ≡ trit_sum (slice_index x 1) (slice_index x 0) (slice_index y 1) (slice_index y 0))
+    → IsPlaneSum C.field x y z
     → ArePlanes (part_at (others C s.set) 0) n (front_word C s (i + 1)) z
-front_planes_next C s n i even rows x y z words free set_is message h l front row two low high =
+front_planes_next C s n i rows x y z words free set_is message h l front row added =
     let cols = part_at (others C s.set) 0 in
     let d = size C.field - 1 in
     let e = entries_are C s message in
@@ -110,7 +72,7 @@ front_planes_next C s n i even rows x y z words free set_is message h l front ro
     ∙ ap (λ t. plane_at p cols (scale C.field (t + 1) (slice_index_or G (index / d) []))) column
     ∙ ap (λ t. plane_at p cols (scale C.field (b - 1 + 1) (slice_index_or G t []))) place
     ∙ ap (λ t. plane_at p cols (scale C.field t (slice_index_or G a []))) same in
-    let sum = planes_sum C.field n C.columns even cols (front_word C s i) v x y z h.sums (front_word_fits C s i g) (IsWord_scale C.field C.columns b (slice_index_or G a []) row_word.long) front other two low high in
+    let sum = planes_sum C.field n C.columns cols (front_word C s i) v x y z h.fits h.few (front_word_fits C s i g) (IsWord_scale C.field C.columns b (slice_index_or G a []) row_word.long) added front other in
     let next : suc i ≡ i + 1 = omega arith in
     λ p m. sum p m ∙ ap (plane_at p cols) (sym (front_next C s i g e l)) ∙ ap (λ t. plane_at p cols (front_word C s t)) next
 
@@ -148,22 +110,6 @@ rows_pushed C j n i cols rows more x h made is = record {
       (cases_lt e i);
 }
 
--- what holds at 0, 1, 2 and 3
-pub below_four : (P : ℕ → Type 0) → P 0 → P 1 → P 2 → P 3 → (j : ℕ) → j < 4 → P j
-below_four P a b c d zero l = a
-below_four P a b c d (suc zero) l = b
-below_four P a b c d (suc (suc zero)) l = c
-below_four P a b c d (suc (suc (suc zero))) l = d
-below_four P a b c d (suc (suc (suc (suc j)))) l = absurd (omega (arith, l))
-
--- the fields whose sums have planes
-pub planewise_even : (f : FieldName) (n : ℕ) (even : Bool) → n ≤ 4 → even ≡ true → (shape_of f).characteristic ≡ 2 → IsPlanewise f n even
-planewise_even f n even few is two = record { few = few; two = λ e. two; three = λ e. absurd (cc (is, e)) }
-
-pub planewise_three : (f : FieldName) (n : ℕ) (even : Bool) → n ≤ 4 → even ≡ false → size f ≡ 3 → (size f ≡ 3 → n ≡ 2) → IsPlanewise f n even
-planewise_three f n even few is three planes = record { few = few; two = λ e. absurd (cc (is, e)); three = λ e. (three_elements f three, planes three) }
-
-pub fronts_made : (C : Matrix) (j n parts : ℕ) (kept even : Bool) (rows : List (List ℕ)) → (kept ≡ true → parts ≡ 1) → (kept ≡ true → IsPlanewise C.field n even) → (parts ≡ 1 → AreRowPlanes C j (part_at (others C j) 0) n (length C.rows * (size C.field - 1)) rows) → HasFronts C j n kept even parts rows
-fronts_made C j n parts kept even rows a b r = record { alone = a; sums = λ t. record { sums = b t; multiples = r (a t) } }
-
-pub ruleset keeps_laws = (planewise_even, planewise_three)
+-- what a table keeps
+pub fronts_made : (C : Matrix) (j n parts : ℕ) (rows : List (List ℕ)) → size C.field ≤ 2 ^ n → n ≤ 4 → (parts ≡ 1 → AreRowPlanes C j (part_at (others C j) 0) n (length C.rows * (size C.field - 1)) rows) → HasFronts C j n parts rows
+fronts_made C j n parts rows fits few r e = record { fits = fits; few = few; multiples = r e }

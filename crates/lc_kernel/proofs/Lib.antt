@@ -9,6 +9,7 @@ pub mod LeastLaws
 pub mod RunLaws
 pub mod TableLaws
 pub mod MultipleLaws
+pub mod FormulaLaws
 pub mod TailLaws
 pub mod FrontPlanes
 pub mod RowLaws

@@ -6,7 +6,7 @@
 --   block_planes                 the planes of a block of symbols, with zeros after them
 --   plane_mask                   a plane of a block of 64 symbols, by vectors
 --   added_next                   counts with one more of them added to
---   trits                        over 3 elements a plane of a sum, from two planes of each word
+--   three                        the size of the field of 3 elements
 --   apart_two, apart_three, apart_four      where a word differs from one of some words, by two, three or four planes
 use Rattle.std.proofs.Common.{◌≡◌, ◌≢◌, ◌⊎◌, ℕ, zero, suc, ◌+◌, ◌-◌, ◌*◌, ◌%◌, ◌^◌, ◌<◌, ◌≤◌, not, cond, ◌==◌, List, [], ◌∷◌, length, take, drop, set, map, replicate, slice_index, bit_and, bit_or, bit_xor, count_ones, refl, sym, ap, ◌∙◌, inl, inr, ⊎_elim, arith, w8}
 use Rattle.std.specs.Int.{bit_at}
@@ -21,8 +21,7 @@ use lib.Lanes.{zip2, mask_l, top}
 use mir.Val.{bits, hbits}
 use Rattle.lc_algebra.specs.declared.FieldName.{FieldName}
 use Rattle.lc_algebra.specs.declared.FieldName.TheVariants.{Gf3}
-use Rattle.lc_algebra.specs.Field.{size, add, neg, coefficients, shape_of, shape}
-use Rattle.lc_algebra.specs.Residue.{digits, number, plus}
+use Rattle.lc_algebra.specs.Field.{size, add, neg, shape_of, shape}
 use Rattle.lc_algebra.specs.Word.{Fits, word_sum, weight}
 use Rattle.lc_algebra.proofs.FieldLaws.{neg_inside, neg_add, neg_neg, subtract_zero}
 use Rattle.lc_algebra.proofs.WordLaws.{weight_cons, fits_head, fits_tail}
@@ -30,7 +29,7 @@ use Rattle.lc_algebra.specs.SpanLaws.{restrict}
 use Rattle.lc_algebra.proofs.ColumnLaws.{length_restrict, index_restrict}
 use Rattle.lc_field.proofs.SumLaws.{xor_add}
 use Rattle.lc_kernel.specs.Packed.{packed}
-use Rattle.lc_kernel.specs.Planes.{plane, plane_at, apart, bits_apart, trit_sum}
+use Rattle.lc_kernel.specs.Planes.{plane, plane_at, apart, bits_apart}
 
 pub plane_cons : (j a : ℕ) (u : List ℕ) → plane j (a ∷ u) ≡ plane j u * 2 + bit_at a j
 unfolding plane packed
@@ -248,75 +247,6 @@ added_next f first old i l h = record {
   left = λ t m. get_or-set_other old i t (slice_index old i + f i) 0 (λ e. omega (arith, e, m)) ∙ h.left t (omega (arith, m));
 }
 
--- planes of sums over 3 elements: bit 0 of a symbol says whether it is 1, and bit 1 whether it is 2
-or_small : (x y : ℕ) → x < 2 → y < 2 → bit_or x y < 2
-or_small x y l m = (or_bits x y l m).small
-
-or_step : (x y a b : ℕ) → a < 2 → b < 2 → bit_or (x * 2 + a) (y * 2 + b) ≡ bit_or x y * 2 + bit_or a b
-or_step x y a b l m = or_block 1 x y a b l m
-
-xor_step : (x y a b : ℕ) → a < 2 → b < 2 → bit_xor (x * 2 + a) (y * 2 + b) ≡ bit_xor x y * 2 + bit_xor a b
-xor_step x y a b l m = xor_block 1 x y a b l m
-
-trit_step : (x y z w a b c d : ℕ) → a < 2 → b < 2 → c < 2 → d < 2 → trit_sum (x * 2 + a) (y * 2 + b) (z * 2 + c) (w * 2 + d) ≡ trit_sum x y z w * 2 + trit_sum a b c d
-trit_step x y z w a b c d la lb lc ld =
-    let p = or_step x w a d la ld in
-    let q = or_step y z b c lb lc in
-    let r = or_step y w b d lb ld in
-    let s = xor_step (bit_or x w) (bit_or y z) (bit_or a d) (bit_or b c) (or_small a d la ld) (or_small b c lb lc) in
-    let t = xor_step (bit_or y w) (bit_xor (bit_or x w) (bit_or y z)) (bit_or b d) (bit_xor (bit_or a d) (bit_or b c)) (or_small b d lb ld) (xor_bits (bit_or a d) (bit_or b c) (or_small a d la ld) (or_small b c lb lc)).small in
-    ap (λ n. bit_xor n (bit_xor (bit_or (x * 2 + a) (w * 2 + d)) (bit_or (y * 2 + b) (z * 2 + c)))) r
-    ∙ ap (λ n. bit_xor (bit_or y w * 2 + bit_or b d) (bit_xor n (bit_or (y * 2 + b) (z * 2 + c)))) p
-    ∙ ap (λ n. bit_xor (bit_or y w * 2 + bit_or b d) (bit_xor (bit_or x w * 2 + bit_or a d) n)) q
-    ∙ ap (bit_xor (bit_or y w * 2 + bit_or b d)) s ∙ t
-
-pub trit_low : (a b : ℕ) → a < 3 → b < 3 → trit_sum (bit_at a 0) (bit_at a 1) (bit_at b 0) (bit_at b 1) ≡ bit_at (add Gf3 a b) 0
-unfolding add coefficients shape_of shape number plus digits
-trit_low zero zero l m = refl
-trit_low zero (suc zero) l m = refl
-trit_low zero (suc (suc zero)) l m = refl
-trit_low (suc zero) zero l m = refl
-trit_low (suc zero) (suc zero) l m = refl
-trit_low (suc zero) (suc (suc zero)) l m = refl
-trit_low (suc (suc zero)) zero l m = refl
-trit_low (suc (suc zero)) (suc zero) l m = refl
-trit_low (suc (suc zero)) (suc (suc zero)) l m = refl
-trit_low zero (suc (suc (suc b))) l m = absurd (omega (arith, m))
-trit_low (suc zero) (suc (suc (suc b))) l m = absurd (omega (arith, m))
-trit_low (suc (suc zero)) (suc (suc (suc b))) l m = absurd (omega (arith, m))
-trit_low (suc (suc (suc a))) b l m = absurd (omega (arith, l))
-
-pub trit_high : (a b : ℕ) → a < 3 → b < 3 → trit_sum (bit_at a 1) (bit_at a 0) (bit_at b 1) (bit_at b 0) ≡ bit_at (add Gf3 a b) 1
-unfolding add coefficients shape_of shape number plus digits
-trit_high zero zero l m = refl
-trit_high zero (suc zero) l m = refl
-trit_high zero (suc (suc zero)) l m = refl
-trit_high (suc zero) zero l m = refl
-trit_high (suc zero) (suc zero) l m = refl
-trit_high (suc zero) (suc (suc zero)) l m = refl
-trit_high (suc (suc zero)) zero l m = refl
-trit_high (suc (suc zero)) (suc zero) l m = refl
-trit_high (suc (suc zero)) (suc (suc zero)) l m = refl
-trit_high zero (suc (suc (suc b))) l m = absurd (omega (arith, m))
-trit_high (suc zero) (suc (suc (suc b))) l m = absurd (omega (arith, m))
-trit_high (suc (suc zero)) (suc (suc (suc b))) l m = absurd (omega (arith, m))
-trit_high (suc (suc (suc a))) b l m = absurd (omega (arith, l))
-
 pub three : size Gf3 ≡ 3
 unfolding size shape_of shape
 three = refl
-
--- plane i of a sum, from planes i and j of the words, where 0 and 1 are i and j
-pub trits : (i j : ℕ) (u v : List ℕ) → ((a b : ℕ) → a < 3 → b < 3 → trit_sum (bit_at a i) (bit_at a j) (bit_at b i) (bit_at b j) ≡ bit_at (add Gf3 a b) i) → length u ≡ length v → Fits Gf3 u → Fits Gf3 v → plane i (word_sum Gf3 u v) ≡ trit_sum (plane i u) (plane j u) (plane i v) (plane j v)
-unfolding word_sum
-trits i j [] [] f e h k = rw (plane_none i, plane_none j) refl
-trits i j [] (b ∷ v) f e h k = absurd (omega (arith, e))
-trits i j (a ∷ u) [] f e h k = absurd (omega (arith, e))
-trits i j (a ∷ u) (b ∷ v) f e h k =
-    let t = trits i j u v f (omega (arith, e)) (fits_tail Gf3 a u h) (fits_tail Gf3 b v k) in
-    let l : a < 3 = omega (arith, fits_head Gf3 a u h, three) in
-    let m : b < 3 = omega (arith, fits_head Gf3 b v k, three) in
-    let whole : plane i (add Gf3 a b ∷ word_sum Gf3 u v) ≡ trit_sum (plane i u * 2 + bit_at a i) (plane j u * 2 + bit_at a j) (plane i v * 2 + bit_at b i) (plane j v * 2 + bit_at b j) =
-    plane_cons i (add Gf3 a b) (word_sum Gf3 u v) ∙ ap (λ n. n * 2 + bit_at (add Gf3 a b) i) t ∙ ap (λ n. trit_sum (plane i u) (plane j u) (plane i v) (plane j v) * 2 + n) (sym (f a b l m))
-    ∙ sym (trit_step (plane i u) (plane j u) (plane i v) (plane j v) (bit_at a i) (bit_at a j) (bit_at b i) (bit_at b j) (bit_at-lt a i) (bit_at-lt a j) (bit_at-lt b i) (bit_at-lt b j)) in
-    rw (plane_cons i a u, plane_cons j a u, plane_cons i b v, plane_cons j b v) whole

@@ -12,7 +12,7 @@
 --   pair_of_heads, heads_less       how many these are
 --   pair_there, lists_there         the pair of a support, and how many lists of coefficients it has
 --   turned_at, turned_none    from a list of a support past the last one
-use Rattle.std.proofs.Common.{◌≡◌, ℕ, zero, suc, ◌+◌, ◌-◌, ◌*◌, ◌/◌, ◌%◌, ◌^◌, ◌<◌, ◌≤◌, Bool, true, false, List, [], ◌∷◌, ◌++◌, length, replicate, take, drop, Some, None, slice_get, slice_index, slice_index_or, set, bit_xor, count_ones, Contains, refl, sym, ap, subst, ◌∙◌, ⊎_elim, arith}
+use Rattle.std.proofs.Common.{◌≡◌, ℕ, zero, suc, ◌+◌, ◌-◌, ◌*◌, ◌/◌, ◌%◌, ◌^◌, ◌<◌, ◌≤◌, List, [], ◌∷◌, ◌++◌, length, replicate, take, drop, Some, None, slice_get, slice_index, slice_index_or, set, count_ones, Contains, refl, sym, ap, subst, ◌∙◌, ⊎_elim, arith}
 use Rattle.std.proofs.Math.Nat.{pow-suc, pow-zero, mod-lt, pow-le-pow_right, mul-le-mul_right, le-mul_of_pos_right}
 use Rattle.std.proofs.Math.ListN.{get_or-append}
 use Rattle.std.proofs.Math.Seq.{take-append_seam, get_or-append_seam, take-suc}
@@ -21,6 +21,7 @@ use Rattle.std.proofs.lemmas.List.{append_assoc, length-take-le, get_or-take, ge
 use Rattle.std.proofs.lemmas.List.Elements.{All-get_or}
 use Rattle.std.proofs.lemmas.Nat.{div-add-mod', div_below, div-mul-add, mod-mul-add}
 use Rattle.std.proofs.lemmas.Option.{get_or_from_slice_get, slice_get_within, slice_get_past, slice_get-get_or, none-some}
+use Rattle.lc_algebra.specs.declared.FieldName.{FieldName}
 use Rattle.lc_algebra.specs.Field.{size}
 use Rattle.lc_algebra.specs.Word.{IsWord, weight, scale, word_sum}
 use Rattle.lc_algebra.specs.Span.{AreIndependent}
@@ -37,7 +38,7 @@ use Rattle.lc_place.proofs.Supports.{next_support, support_next, support_shape, 
 use Rattle.lc_place.proofs.Messages.{message_of, message_part, message_next, next_leading, turned, leading_next, leading_shape, supports_are, from_contains, to_contains}
 use Rattle.lc_kernel.specs.Values.{IsSpotAt}
 use Rattle.lc_kernel.specs.Packed.{others, part_at, pair_of, AreStarts}
-use Rattle.lc_kernel.specs.Planes.{plane_at, bits_apart, trit_sum}
+use Rattle.lc_kernel.specs.Planes.{plane_at, bits_apart, IsPlaneSum}
 use Rattle.lc_kernel.specs.Least.{AreCounted}
 use Rattle.lc_kernel.specs.Sums.{front_word}
 use Rattle.lc_kernel.specs.Grid.{tail_pair, tail_count, tail_index, tails_in, AreTailPlanes, IsTailRun}
@@ -180,10 +181,10 @@ longer_message C j i e u some inside l h =
     let whole : i + rest ≡ length u = omega (arith, inside) in
     listed_message k q (length u) (e * (q - 1) ^ rest + 0) u _ h (rw whole at at)
 
-pub heads_grown : (C : Matrix) (j n i : ℕ) (even : Bool) (u : List ℕ) (rows heads new : List (List ℕ)) → AreRows C.field C.columns C.rows → AreIndependent C.field C.columns C.rows → j < set_count C → Contains (supports_from 0 (length C.rows) (length u)) u → IsKept C j n even rows → 1 ≤ i → i < length u → AreHeads C j u n i heads
-    → ((e : ℕ) → e < list_count C (i + 1) → IsGrown even (size C.field - 1) (slice_index u i) rows heads new e)
+pub heads_grown : (C : Matrix) (j n i : ℕ) (u : List ℕ) (rows heads new : List (List ℕ)) → AreRows C.field C.columns C.rows → AreIndependent C.field C.columns C.rows → j < set_count C → Contains (supports_from 0 (length C.rows) (length u)) u → IsKept C j n rows → 1 ≤ i → i < length u → AreHeads C j u n i heads
+    → ((e : ℕ) → e < list_count C (i + 1) → IsGrown C.field (size C.field - 1) (slice_index u i) rows heads new e)
     → AreHeads C j u n (i + 1) new
-heads_grown C j n i even u rows heads new words free set_is rises kept some inside h grown_is e p l m =
+heads_grown C j n i u rows heads new words free set_is rises kept some inside h grown_is e p l m =
     let q = size C.field in
     let d = q - 1 in
     let cols = part_at (others C j) 0 in
@@ -202,7 +203,7 @@ heads_grown C j n i even u rows heads new words free set_is rises kept some insi
     let front : ArePlanes cols n (front_word C t i) (slice_index_or heads (e / d) []) = λ z o. h (e / d) z small o ∙ ap (plane_at z cols) (sym before) in
     let entry : slice_index t.coefficients i ≡ e % d + 1 = ap (λ z. slice_index z i) whole ∙ ap (slice_index (a ++ ((e % d + 1) ∷ ones))) (sym long) ∙ get_or-append_seam a (e % d + 1) ones 0 in
     let row : slice_index u i * d + e % d ≡ slice_index u i * d + (slice_index t.coefficients i - 1) = omega (arith, entry) in
-    let next = front_planes_next C t n i even rows (slice_index_or heads (e / d) []) (slice_index_or rows (slice_index u i * d + e % d) []) (slice_index_or new e []) words free set_is message kept inside front (ap (λ z. slice_index_or rows z []) row) (grown_is e l).two (grown_is e l).low (grown_is e l).high in
+    let next = front_planes_next C t n i rows (slice_index_or heads (e / d) []) (slice_index_or rows (slice_index u i * d + e % d) []) (slice_index_or new e []) words free set_is message kept inside front (ap (λ z. slice_index_or rows z []) row) (grown_is e l) in
     let list = slice_index_or (leading_lists q (i + 1)) e [] in
     let last : SpotState = record { set = j; support = u; coefficients = list; room = 0 } in
     let after : front_word C t (i + 1) ≡ head_word C j u (i + 1) e = front_same C last t (i + 1) (i + 1) (omega arith) refl refl (take_whole list ones (i + 1) (long_list q (i + 1) e l)) in
@@ -219,8 +220,8 @@ first_list q l = refl
 one_one : (d x : ℕ) → x < d ^ (1 - 1) → x ≡ 0
 one_one d x l = omega (arith, l, pow-zero d)
 
-pub heads_first : (C : Matrix) (j n : ℕ) (even : Bool) (u : List ℕ) (rows new : List (List ℕ)) → AreRows C.field C.columns C.rows → AreIndependent C.field C.columns C.rows → j < set_count C → Contains (supports_from 0 (length C.rows) (length u)) u → IsKept C j n even rows → 1 ≤ length u → slice_index_or new 0 [] ≡ slice_index_or rows (slice_index u 0 * (size C.field - 1)) [] → AreHeads C j u n 1 new
-heads_first C j n even u rows new words free set_is rises kept some is x p l m =
+pub heads_first : (C : Matrix) (j n : ℕ) (u : List ℕ) (rows new : List (List ℕ)) → AreRows C.field C.columns C.rows → AreIndependent C.field C.columns C.rows → j < set_count C → Contains (supports_from 0 (length C.rows) (length u)) u → IsKept C j n rows → 1 ≤ length u → slice_index_or new 0 [] ≡ slice_index_or rows (slice_index u 0 * (size C.field - 1)) [] → AreHeads C j u n 1 new
+heads_first C j n u rows new words free set_is rises kept some is x p l m =
     let q = size C.field in
     let d = q - 1 in
     let cols = part_at (others C j) 0 in
@@ -478,38 +479,30 @@ listed_last C m p b n j y u phase h last none inside =
     none-some _ (sym next ∙ ap (slice_get (messages k q w)) there ∙ slice_get-get_or (messages k q w) (from + (n + 1)) (message_of [] []) room)
 
 -- one place of a growing list of heads
-pub grown_kept : (even : Bool) (d a e x : ℕ) (rows heads old new : List (List ℕ)) → slice_index_or new x [] ≡ slice_index_or old x [] → IsGrown even d a rows heads old x → IsGrown even d a rows heads new x
-grown_kept even d a e x rows heads old new same h = record {
-  two = λ t p l. ap (λ z. slice_index z p) same ∙ h.two t p l;
-  low = λ t. ap (λ z. slice_index z 0) same ∙ h.low t;
-  high = λ t. ap (λ z. slice_index z 1) same ∙ h.high t;
-}
+pub grown_kept : (f : FieldName) (d a x : ℕ) (rows heads old new : List (List ℕ)) → slice_index_or new x [] ≡ slice_index_or old x [] → IsGrown f d a rows heads old x → IsGrown f d a rows heads new x
+grown_kept f d a x rows heads old new same h = subst (IsPlaneSum f (slice_index_or heads (x / d) []) (slice_index_or rows (a * d + x % d) [])) (sym same) h
 
-pub grown_here : (even : Bool) (d a n : ℕ) (rows initial old : List (List ℕ)) (y z : List ℕ) → 0 < d → n < length old → ((x : ℕ) → x < n + 1 → slice_index_or old x [] ≡ slice_index_or initial x []) → y ≡ slice_index_or rows (a * d + n % d) []
-    → (even ≡ true → (p : ℕ) → p < 4 → slice_index z p ≡ bit_xor (slice_index (slice_index_or old (n / d) []) p) (slice_index y p))
-    → (even ≡ false → slice_index z 0 ≡ trit_sum (slice_index (slice_index_or old (n / d) []) 0) (slice_index (slice_index_or old (n / d) []) 1) (slice_index y 0) (slice_index y 1))
-    → (even ≡ false → slice_index z 1 ≡ trit_sum (slice_index (slice_index_or old (n / d) []) 1) (slice_index (slice_index_or old (n / d) []) 0) (slice_index y 1) (slice_index y 0))
-    → IsGrown even d a rows initial (set old n z) n
-grown_here even d a n rows initial old y z some inside left row two low high =
+pub grown_here : (f : FieldName) (d a n : ℕ) (rows initial old : List (List ℕ)) (y z : List ℕ) → 0 < d → n < length old → ((x : ℕ) → x < n + 1 → slice_index_or old x [] ≡ slice_index_or initial x []) → y ≡ slice_index_or rows (a * d + n % d) []
+    → IsPlaneSum f (slice_index_or old (n / d) []) y z
+    → IsGrown f d a rows initial (set old n z) n
+grown_here f d a n rows initial old y z some inside left row sum =
     let put : slice_index_or (set old n z) n [] ≡ z = get_or-set_same old n z [] inside in
     let below : n / d < n + 1 = div_below n d (n + 1) some (omega (arith, le-mul_of_pos_right (n + 1) some)) in
     let head : slice_index_or old (n / d) [] ≡ slice_index_or initial (n / d) [] = left (n / d) below in
-    let h = slice_index_or initial (n / d) [] in record {
-      two = λ t p l. ap (λ v. slice_index v p) put ∙ two t p l ∙ ap (λ v. bit_xor (slice_index v p) (slice_index y p)) head ∙ ap (λ v. bit_xor (slice_index h p) (slice_index v p)) row;
-      low = λ t. ap (λ v. slice_index v 0) put ∙ low t ∙ ap (λ v. trit_sum (slice_index v 0) (slice_index v 1) (slice_index y 0) (slice_index y 1)) head ∙ ap (λ v. trit_sum (slice_index h 0) (slice_index h 1) (slice_index v 0) (slice_index v 1)) row;
-      high = λ t. ap (λ v. slice_index v 1) put ∙ high t ∙ ap (λ v. trit_sum (slice_index v 1) (slice_index v 0) (slice_index y 1) (slice_index y 0)) head ∙ ap (λ v. trit_sum (slice_index h 1) (slice_index h 0) (slice_index v 1) (slice_index v 0)) row;
-    }
+    let first : IsPlaneSum f (slice_index_or initial (n / d) []) y z = subst (λ v. IsPlaneSum f v y z) head sum in
+    let second : IsPlaneSum f (slice_index_or initial (n / d) []) (slice_index_or rows (a * d + n % d) []) z = subst (λ v. IsPlaneSum f (slice_index_or initial (n / d) []) v z) row first in
+    subst (IsPlaneSum f (slice_index_or initial (n / d) []) (slice_index_or rows (a * d + n % d) [])) (sym put) second
 
 -- the heads from place n on, and those before
-pub record AreGrown (even : Bool) (d a : ℕ) (rows initial new : List (List ℕ)) (n many : ℕ) : Type 0 where
-  pub done : (x : ℕ) → n ≤ x → x < many → IsGrown even d a rows initial new x
+pub record AreGrown (f : FieldName) (d a : ℕ) (rows initial new : List (List ℕ)) (n many : ℕ) : Type 0 where
+  pub done : (x : ℕ) → n ≤ x → x < many → IsGrown f d a rows initial new x
   pub left : (x : ℕ) → x < n → slice_index_or new x [] ≡ slice_index_or initial x []
 
-pub grown_next : (even : Bool) (d a n many : ℕ) (rows initial old : List (List ℕ)) (z : List ℕ) → AreGrown even d a rows initial old (n + 1) many → IsGrown even d a rows initial (set old n z) n → AreGrown even d a rows initial (set old n z) n many
-grown_next even d a n many rows initial old z h here = record {
+pub grown_next : (f : FieldName) (d a n many : ℕ) (rows initial old : List (List ℕ)) (z : List ℕ) → AreGrown f d a rows initial old (n + 1) many → IsGrown f d a rows initial (set old n z) n → AreGrown f d a rows initial (set old n z) n many
+grown_next f d a n many rows initial old z h here = record {
   done = λ x l m. ⊎_elim
-      (λ o. subst (IsGrown even d a rows initial (set old n z)) (same x n o l) here)
-      (λ o. grown_kept even d a 0 x rows initial old (set old n z) (get_or-set_other old n x z [] (λ e. omega (arith, e, o))) (h.done x o m))
+      (λ o. subst (IsGrown f d a rows initial (set old n z)) (same x n o l) here)
+      (λ o. grown_kept f d a x rows initial old (set old n z) (get_or-set_other old n x z [] (λ e. omega (arith, e, o))) (h.done x o m))
       (cases_lt x (n + 1));
   left = λ x l. get_or-set_other old n x z [] (λ e. omega (arith, e, l)) ∙ h.left x (omega (arith, l));
 }

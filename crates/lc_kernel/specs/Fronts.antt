@@ -1,13 +1,11 @@
--- Sums of the first entries of a message by their planes: in characteristic 2, and over 3 elements.
---   IsPlanewise f n even           the n planes of a sum come from those of two words: in characteristic 2, if even is true, and else over 3 elements
+-- Sums of the first entries of a message by their planes.
 --   ArePlanes cols n w x           the first n numbers of a list are planes of a word at some columns
 --   AreRowPlanes C j cols n m rows      those of the first m nonzero multiples of the rows of set j
 --   AreFrontPlanes C s n m fronts  those of the sums of up to m entries, at the first part of the columns outside the basis
---   IsKept C j n even rows         what these sums need of set j
-use Rattle.std.specs.Prelude.{◌≡◌, ℕ, ◌+◌, ◌-◌, ◌*◌, ◌/◌, ◌%◌, ◌<◌, ◌≤◌, Bool, true, false, List, [], length, slice_index, slice_index_or}
-use Rattle.lc_algebra.specs.declared.FieldName.{FieldName}
-use Rattle.lc_algebra.specs.declared.FieldName.TheVariants.{Gf3}
-use Rattle.lc_algebra.specs.Field.{size, shape_of}
+--   IsKept C j n rows              what these sums need of set j
+--   HasFronts C j n parts rows     that, if all columns outside the basis are in one part
+use Rattle.std.specs.Prelude.{◌≡◌, ℕ, ◌+◌, ◌-◌, ◌*◌, ◌/◌, ◌%◌, ◌^◌, ◌<◌, ◌≤◌, List, [], length, slice_index, slice_index_or}
+use Rattle.lc_algebra.specs.Field.{size}
 use Rattle.lc_algebra.specs.Word.{scale}
 use Rattle.lc_algebra.specs.Matrix.{Matrix}
 use Rattle.lc_enumeration.specs.Search.{generator_at}
@@ -15,11 +13,6 @@ use Rattle.lc_place.specs.Place.{SpotState}
 use Rattle.lc_kernel.specs.Packed.{others, part_at}
 use Rattle.lc_kernel.specs.Planes.{plane_at}
 use Rattle.lc_kernel.specs.Sums.{front_word}
-
-pub record IsPlanewise (f : FieldName) (n : ℕ) (even : Bool) : Type 0 where
-  pub few : n ≤ 4
-  pub two : even ≡ true → (shape_of f).characteristic ≡ 2
-  pub three : even ≡ false → (f ≡ Gf3) × (n ≡ 2)
 
 abbrev pub ArePlanes : List ℕ → ℕ → List ℕ → List ℕ → Type 0
 ArePlanes cols n w x = (p : ℕ) → p < n → slice_index x p ≡ plane_at p cols w
@@ -31,11 +24,10 @@ pub record AreRowPlanes (C : Matrix) (j : ℕ) (cols : List ℕ) (n m : ℕ) (ro
 abbrev pub AreFrontPlanes : Matrix → SpotState → ℕ → ℕ → List (List ℕ) → Type 0
 AreFrontPlanes C s n m fronts = (i p : ℕ) → i ≤ m → p < n → slice_index (slice_index_or fronts i []) p ≡ plane_at p (part_at (others C s.set) 0) (front_word C s i)
 
-pub record IsKept (C : Matrix) (j n : ℕ) (even : Bool) (rows : List (List ℕ)) : Type 0 where
-  pub sums : IsPlanewise C.field n even
+pub record IsKept (C : Matrix) (j n : ℕ) (rows : List (List ℕ)) : Type 0 where
+  pub fits : size C.field ≤ 2 ^ n
+  pub few : n ≤ 4
   pub multiples : AreRowPlanes C j (part_at (others C j) 0) n (length C.rows * (size C.field - 1)) rows
 
--- of a table: whether it keeps planes of sums, and what it needs for that
-pub record HasFronts (C : Matrix) (j n : ℕ) (kept even : Bool) (parts : ℕ) (rows : List (List ℕ)) : Type 0 where
-  pub alone : kept ≡ true → parts ≡ 1
-  pub sums : kept ≡ true → IsKept C j n even rows
+abbrev pub HasFronts : Matrix → ℕ → ℕ → ℕ → List (List ℕ) → Type 0
+HasFronts C j n parts rows = parts ≡ 1 → IsKept C j n rows

@@ -31,4 +31,4 @@ pub record IsGrid (C : Matrix) (j n tails : ℕ) (ps : List GridPart) (starts : 
 
 pub record AreGrids (C : Matrix) (gs : List Grid) : Type 0 where
   pub each : (j : ℕ) (g : Grid) → slice_get gs j ≡ Some g → IsGrid C j g.planes g.tails g.parts.items g.starts.items
-  pub fronts : (j : ℕ) (g : Grid) → slice_get gs j ≡ Some g → HasFronts C j g.planes g.kept g.even (length g.parts.items) g.rows.items
+  pub fronts : (j : ℕ) (g : Grid) → slice_get gs j ≡ Some g → HasFronts C j g.planes (length g.parts.items) g.rows.items

@@ -3,16 +3,17 @@
 --   listed_spot C j u y         a spot of set j at support u, with list y of coefficients
 --   IsListedAt C m b n j u y    that spot is at message n of block b, in one of the first m sets
 --   head_word C j u i x         the word of the first i places of a support, with list x of i coefficients
---   IsGrown even d a rows heads new e      head e of one place more: the sum of a head and a multiple of row a
+--   IsGrown f d a rows heads new e      head e of one place more: the sum of a head and a multiple of row a
 --   AreHeads C j u n i heads    the n planes of these words, list by list, at the first part of the columns outside the basis
-use Rattle.std.specs.Prelude.{◌≡◌, ℕ, ◌+◌, ◌-◌, ◌*◌, ◌/◌, ◌%◌, ◌^◌, ◌<◌, ◌≤◌, Bool, true, false, List, [], length, slice_index, slice_index_or, bit_xor, Contains}
+use Rattle.std.specs.Prelude.{◌≡◌, ℕ, ◌+◌, ◌-◌, ◌*◌, ◌/◌, ◌%◌, ◌^◌, ◌<◌, ◌≤◌, List, [], length, slice_index, slice_index_or, Contains}
+use Rattle.lc_algebra.specs.declared.FieldName.{FieldName}
 use Rattle.lc_algebra.specs.Field.{size}
 use Rattle.lc_algebra.specs.Matrix.{Matrix}
 use Rattle.lc_enumeration.specs.Message.{supports_from, leading_lists}
 use Rattle.lc_place.specs.Place.{SpotState}
 use Rattle.lc_kernel.specs.Values.{IsSpotAt}
 use Rattle.lc_kernel.specs.Packed.{others, part_at}
-use Rattle.lc_kernel.specs.Planes.{plane_at, trit_sum}
+use Rattle.lc_kernel.specs.Planes.{plane_at, IsPlaneSum}
 use Rattle.lc_kernel.specs.Sums.{front_word}
 
 abbrev pub list_count : Matrix → ℕ → ℕ
@@ -33,7 +34,5 @@ head_word C j u i x = front_word C (record { set = j; support = u; coefficients 
 abbrev pub AreHeads : Matrix → ℕ → List ℕ → ℕ → ℕ → List (List ℕ) → Type 0
 AreHeads C j u n i heads = (x p : ℕ) → x < list_count C i → p < n → slice_index (slice_index_or heads x []) p ≡ plane_at p (part_at (others C j) 0) (head_word C j u i x)
 
-pub record IsGrown (even : Bool) (d a : ℕ) (rows heads new : List (List ℕ)) (e : ℕ) : Type 0 where
-  pub two : even ≡ true → (p : ℕ) → p < 4 → slice_index (slice_index_or new e []) p ≡ bit_xor (slice_index (slice_index_or heads (e / d) []) p) (slice_index (slice_index_or rows (a * d + e % d) []) p)
-  pub low : even ≡ false → slice_index (slice_index_or new e []) 0 ≡ trit_sum (slice_index (slice_index_or heads (e / d) []) 0) (slice_index (slice_index_or heads (e / d) []) 1) (slice_index (slice_index_or rows (a * d + e % d) []) 0) (slice_index (slice_index_or rows (a * d + e % d) []) 1)
-  pub high : even ≡ false → slice_index (slice_index_or new e []) 1 ≡ trit_sum (slice_index (slice_index_or heads (e / d) []) 1) (slice_index (slice_index_or heads (e / d) []) 0) (slice_index (slice_index_or rows (a * d + e % d) []) 1) (slice_index (slice_index_or rows (a * d + e % d) []) 0)
+abbrev pub IsGrown : FieldName → ℕ → ℕ → List (List ℕ) → List (List ℕ) → List (List ℕ) → ℕ → Type 0
+IsGrown f d a rows heads new e = IsPlaneSum f (slice_index_or heads (e / d) []) (slice_index_or rows (a * d + e % d) []) (slice_index_or new e [])

@@ -1,5 +1,4 @@
-//! The counts of a block of words by runs, over 3 elements and in characteristic 2, if at most 64 columns are outside
-//! the basis. The planes of the sums of the first entries of a message are kept from run to run, and come from those
+//! The counts of a block of words by runs, over more than 2 elements, if at most 64 columns are outside the basis. The planes of the sums of the first entries of a message are kept from run to run, and come from those
 //! of the rows.
 
 ghost use Rattle.std.specs.Prelude.{◌≡◌, ℕ, ◌+◌, ◌-◌, ◌*◌, ◌^◌, ◌<◌, ◌≤◌, ◌/◌, ◌%◌, ◌∷◌, [], Some, true, false, length, slice_get, slice_index, slice_index_or, bit_xor, IfOk};
@@ -13,12 +12,13 @@ ghost use Rattle.lc_kernel.specs.Kernel.{IsPlanOf};
 ghost use Rattle.lc_kernel.specs.Values.{IsSpotAt};
 ghost use Rattle.lc_kernel.specs.Packed.{others, part_at};
 ghost use Rattle.lc_kernel.specs.Grid.{tail_count, tail_index, IsTailRun};
-ghost use Rattle.lc_kernel.specs.Planes.{plane_at, trit_sum};
+ghost use Rattle.lc_kernel.specs.Planes.{plane_at};
 ghost use Rattle.lc_kernel.specs.Grids.{IsGrid};
 ghost use Rattle.lc_kernel.specs.Fronts.{AreRowPlanes, AreFrontPlanes, ArePlanes, IsKept, HasFronts};
 ghost use Rattle.lc_kernel.specs.Least.{AreCounted};
 ghost use Rattle.lc_kernel.specs.Sums.{front_word, AreMultiples, IsRoom};
 
+use crate::adders::sum_planes;
 use crate::grid::Grid;
 use crate::multiples::{multiple_of, nonzero};
 use crate::planes::{add_apart, pack};
@@ -60,32 +60,11 @@ pub(crate) fn row_planes(
     Ok(rows)
 }
 
-// Plane 0 or 1 of a sum over 3 elements: a and c are the same plane of the two words, b and d the other one.
-fn trits(a: u64, b: u64, c: u64, d: u64) -> u64
-    ensures is { result ≡ trit_sum a b c d }
-{
-    (b | d) ^ ((a | d) ^ (b | c))
-}
-
-/// The planes of a sum, from those of two words: in characteristic 2, if `even` is true, and else over 3 elements.
-pub(crate) fn sum_planes(even: bool, u: &[u64; 4], v: &[u64; 4]) -> [u64; 4]
-    ensures even { even ≡ true → (j : ℕ) → j < 4 → slice_index result j ≡ bit_xor (slice_index u.now j) (slice_index v.now j) }
-    ensures low { even ≡ false → slice_index result 0 ≡ trit_sum (slice_index u.now 0) (slice_index u.now 1) (slice_index v.now 0) (slice_index v.now 1) }
-    ensures high { even ≡ false → slice_index result 1 ≡ trit_sum (slice_index u.now 1) (slice_index u.now 0) (slice_index v.now 1) (slice_index v.now 0) }
-{
-    if even {
-        return [u[0] ^ v[0], u[1] ^ v[1], u[2] ^ v[2], u[3] ^ v[3]];
-    }
-    let low = trits(u[0], u[1], v[0], v[1]);
-    let high = trits(u[1], u[0], v[1], v[0]);
-    [low, high, 0, 0]
-}
-
 // The planes of the sum of the first i + 1 entries, from those of the first i.
 fn next_front(sets: &Sets, grid: &Grid, spot: &Spot, front: &[u64; 4], i: usize) -> [u64; 4]
     requires set { spot.now.set < set_count sets.now }
     requires message { Contains (messages (length sets.now.rows) (size sets.now.field) (length spot.now.support)) (spot_message spot.now) }
-    requires kept { IsKept sets.now spot.now.set grid.now.planes grid.now.even grid.now.rows.items }
+    requires kept { IsKept sets.now spot.now.set grid.now.planes grid.now.rows.items }
     requires entry { i < length spot.now.support }
     requires front { ArePlanes (part_at (others sets.now spot.now.set) 0) grid.now.planes (front_word sets.now spot.now i) front.now }
     ensures is { ArePlanes (part_at (others sets.now spot.now.set) 0) grid.now.planes (front_word sets.now spot.now (i + 1)) result }
@@ -96,7 +75,7 @@ fn next_front(sets: &Sets, grid: &Grid, spot: &Spot, front: &[u64; 4], i: usize)
     let coefficients = spot.coefficients();
     let row = support[i] * nonzero(sets);
     let element = coefficients[i] as usize - 1;
-    sum_planes(grid.even, front, &grid.rows[row + element])
+    sum_planes(sets.field(), front, &grid.rows[row + element])
 }
 
 // Makes the planes of the sums of the first `to` entries again, those of the first `from` being there.
@@ -110,7 +89,7 @@ fn refresh_planes(
 )
     requires set { spot.now.set < set_count sets.now }
     requires message { Contains (messages (length sets.now.rows) (size sets.now.field) (length spot.now.support)) (spot_message spot.now) }
-    requires kept { IsKept sets.now spot.now.set grid.now.planes grid.now.even grid.now.rows.items }
+    requires kept { IsKept sets.now spot.now.set grid.now.planes grid.now.rows.items }
     requires many { length fronts.old ≡ length sets.now.rows + 1 }
     requires fronts { AreFrontPlanes sets.now spot.now grid.now.planes from fronts.old }
     requires order { from ≤ to }
@@ -215,7 +194,7 @@ pub(crate) fn count_fronts(
     requires level { 3 ≤ length spot.old.support }
     requires grid { IsGrid sets.now spot.old.set grid.now.planes grid.now.tails grid.now.parts.items grid.now.starts.items }
     requires alone { length grid.now.parts.items ≡ 1 }
-    requires kept { IsKept sets.now spot.old.set grid.now.planes grid.now.even grid.now.rows.items }
+    requires kept { IsKept sets.now spot.old.set grid.now.planes grid.now.rows.items }
     requires many { length fronts.old ≡ length sets.now.rows + 1 }
     requires some { 0 < length counts.old }
     requires words { length counts.old ≡ length (block_words sets.now plan.now.m block) }
@@ -271,7 +250,7 @@ pub(crate) fn count_words(
     requires at { IsSpotAt sets.now plan.now.m block 0 spot.old }
     requires level { 3 ≤ length spot.old.support }
     requires grid { IsGrid sets.now spot.old.set grid.now.planes grid.now.tails grid.now.parts.items grid.now.starts.items }
-    requires kept { HasFronts sets.now spot.old.set grid.now.planes grid.now.kept grid.now.even (length grid.now.parts.items) grid.now.rows.items }
+    requires kept { HasFronts sets.now spot.old.set grid.now.planes (length grid.now.parts.items) grid.now.rows.items }
     requires multiples { AreMultiples sets.now multiples.now }
     requires room { IsRoom sets.now spot.old heads.old }
     requires many { length fronts.old ≡ length sets.now.rows + 1 }
@@ -283,7 +262,7 @@ pub(crate) fn count_words(
     ensures room { spot.new.room ≡ spot.old.room }
     ensures heads { IsRoom sets.now spot.new heads.new }
 {
-    if !grid.kept {
+    if grid.parts.len() != 1 {
         count_tails(sets, plan, block, grid, multiples, spot, heads, counts);
         return;
     }

@@ -1,7 +1,7 @@
 //! The table of an information set over more than 2 elements: the words that end messages, as bits.
 
-ghost use Rattle.std.specs.Prelude.{◌≡◌, ℕ, ◌+◌, ◌-◌, ◌*◌, ◌^◌, ◌<◌, ◌≤◌, ◌∷◌, [], Some, true, length, slice_get, slice_index, slice_index_or, IfOk};
-ghost use Rattle.lc_algebra.specs.Field.{size, shape_of};
+ghost use Rattle.std.specs.Prelude.{◌≡◌, ℕ, ◌+◌, ◌-◌, ◌*◌, ◌^◌, ◌<◌, ◌≤◌, ◌∷◌, [], Some, length, slice_get, slice_index, slice_index_or, IfOk};
+ghost use Rattle.lc_algebra.specs.Field.{size};
 ghost use Rattle.lc_algebra.specs.Word.{IsWord};
 ghost use Rattle.lc_enumeration.specs.Message.{supports_from};
 ghost use Rattle.lc_enumeration.specs.Search.{set_count};
@@ -10,7 +10,7 @@ ghost use Rattle.lc_kernel.specs.Planes.{plane_at};
 ghost use Rattle.lc_kernel.specs.Sums.{AreMultiples};
 ghost use Rattle.lc_kernel.specs.Grid.{tail_count, tail_word, tails_in, negative, AreTails, ArePlanesOf};
 ghost use Rattle.lc_kernel.specs.Grids.{AreGridParts, IsGrid};
-ghost use Rattle.lc_kernel.specs.Fronts.{IsPlanewise, AreRowPlanes, HasFronts};
+ghost use Rattle.lc_kernel.specs.Fronts.{AreRowPlanes, HasFronts};
 
 use crate::fronts::row_planes;
 use crate::multiples::{multiple_of, nonzero};
@@ -34,17 +34,14 @@ pub(crate) struct GridPart {
 }
 
 /// For one set: how many planes the symbols have, how many tails there are, the parts for the columns outside its
-/// basis, 64 columns each but the last, and for each row the index of its first pair. If there is one part, and the
-/// field is of characteristic 2 (`even`) or has 3 elements, it keeps also the planes of the nonzero multiples of its
-/// rows.
+/// basis, 64 columns each but the last, and for each row the index of its first pair. If there is one part, it keeps
+/// also the planes of the nonzero multiples of its rows.
 #[derive(Drop)]
 pub(crate) struct Grid {
     pub(crate) planes: usize,
     pub(crate) tails: usize,
     pub(crate) parts: Vec<GridPart>,
     pub(crate) starts: Vec<usize>,
-    pub(crate) kept: bool,
-    pub(crate) even: bool,
     pub(crate) rows: Vec<[u64; 4]>,
 }
 
@@ -245,7 +242,6 @@ fn grid_part(
 fn plane_count(sets: &Sets) -> usize
     ensures all { size sets.now.field ≤ 2 ^ result }
     ensures least { 2 ≤ result }
-    ensures three { size sets.now.field ≡ 3 → result ≡ 2 }
     ensures few { result ≤ 4 }
 {
     let size = sets.field().size();
@@ -269,7 +265,7 @@ pub(crate) fn grid_of(
     requires multiples { AreMultiples sets.now multiples.now }
     requires set { j < set_count sets.now }
     ensures is { IfOk result (λ o. (g : _) → o ≡ Some g → IsGrid sets.now j g.planes g.tails g.parts.items g.starts.items) }
-    ensures fronts { IfOk result (λ o. (g : _) → o ≡ Some g → HasFronts sets.now j g.planes g.kept g.even (length g.parts.items) g.rows.items) }
+    ensures fronts { IfOk result (λ o. (g : _) → o ≡ Some g → HasFronts sets.now j g.planes (length g.parts.items) g.rows.items) }
 {
     let _n = sets.length();
     let k = sets.dimension();
@@ -286,15 +282,11 @@ pub(crate) fn grid_of(
     let planes = plane_count(sets);
     let parts = parts_of(alloc, sets, j, &words, planes)?;
     let rows = rows_of(alloc, sets, multiples, j, &parts, planes)?;
-    let even = is_even(sets);
-    let kept = keeps(sets, planes, even, parts.len());
     Ok(Some(Grid {
         planes,
         tails,
         parts,
         starts,
-        kept,
-        even,
         rows,
     }))
 }
@@ -317,34 +309,6 @@ fn parts_of(
     let mut parts = Vec::new(alloc);
     push_parts(alloc, sets, j, &columns, words, planes, &mut parts)?;
     Ok(parts)
-}
-
-// Whether the field is of characteristic 2.
-fn is_even(sets: &Sets) -> bool
-    ensures is { result ≡ true → (shape_of sets.now.field).characteristic ≡ 2 }
-{
-    sets.field().characteristic() == 2
-}
-
-// Whether a set with so many parts keeps planes of sums.
-#[tactic(auto, using(crate::proofs::FrontPlanes::keeps_laws))]
-fn keeps(sets: &Sets, planes: usize, even: bool, parts: usize) -> bool
-    requires planes { planes ≤ 4 }
-    requires three { size sets.now.field ≡ 3 → planes ≡ 2 }
-    requires even { even ≡ true → (shape_of sets.now.field).characteristic ≡ 2 }
-    ensures alone { result ≡ true → parts ≡ 1 }
-    ensures sums { result ≡ true → IsPlanewise sets.now.field planes even }
-{
-    if parts != 1 {
-        return false;
-    }
-    if even {
-        return true;
-    }
-    if sets.field().size() != 3 {
-        return false;
-    }
-    true
 }
 
 // The planes of the nonzero multiples of the rows of set j, if there is one part.

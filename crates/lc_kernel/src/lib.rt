@@ -2,6 +2,7 @@
 //! Brouwer and Zimmermann, as Grassl describes it.)
 #![tactic(auto)]
 
+mod adders;
 mod block;
 mod counts;
 mod fronts;

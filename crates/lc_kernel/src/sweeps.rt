@@ -1,5 +1,4 @@
-//! The counts of a block of words by supports, over 3 elements and in characteristic 2, if at most 64 columns are
-//! outside the basis. The planes of the words of the first places of a support, with all lists of
+//! The counts of a block of words by supports, over more than 2 elements, if at most 64 columns are outside the basis. The planes of the words of the first places of a support, with all lists of
 //! coefficients, are its heads; they are kept from support to support.
 
 ghost use Rattle.std.specs.Prelude.{◌≡◌, ℕ, ◌+◌, ◌-◌, ◌*◌, ◌^◌, ◌<◌, ◌≤◌, ◌∷◌, [], Some, None, length, take, slice_get, slice_index, IfSome, IfNone};
@@ -17,7 +16,7 @@ ghost use Rattle.lc_kernel.specs.Fronts.{IsKept};
 ghost use Rattle.lc_kernel.specs.Least.{AreCounted};
 ghost use Rattle.lc_kernel.specs.Sweeps.{list_count, IsListedAt, AreHeads};
 
-use crate::fronts::sum_planes;
+use crate::adders::sum_planes;
 use crate::grid::Grid;
 use crate::multiples::nonzero;
 use crate::planes::add_heads;
@@ -26,6 +25,10 @@ use lc_place::{Plan, Spot};
 
 /// The most heads that a support has.
 pub(crate) const MOST_HEADS: usize = 1024;
+
+/// So many nonzero multiples of its heads are too many for a support: then most heads would be made for the words of
+/// other blocks.
+const TOO_MANY: usize = 4096;
 
 /// How many heads a support of a level of at least 3 has, if there aren't too many.
 pub(crate) fn head_count(sets: &Sets, level: usize) -> Option<usize>
@@ -40,6 +43,9 @@ pub(crate) fn head_count(sets: &Sets, level: usize) -> Option<usize>
         if many > MOST_HEADS {
             return None;
         }
+    }
+    if many * elements >= TOO_MANY {
+        return None;
     }
     Some(many)
 }
@@ -72,7 +78,7 @@ fn grow(
 )
     requires set { set < set_count sets.now }
     requires rises { Contains (supports_from 0 (length sets.now.rows) (length support.now)) support.now }
-    requires kept { IsKept sets.now set grid.now.planes grid.now.even grid.now.rows.items }
+    requires kept { IsKept sets.now set grid.now.planes grid.now.rows.items }
     requires some { 1 ≤ i }
     requires entry { i < length support.now }
     requires many { many ≡ list_count sets.now (i + 1) }
@@ -88,7 +94,7 @@ fn grow(
     while e > 0 {
         e -= 1;
         let sum = sum_planes(
-            grid.even,
+            sets.field(),
             &heads[e / elements],
             &grid.rows[row + e % elements],
         );
@@ -100,7 +106,7 @@ fn grow(
 fn make_heads(sets: &Sets, grid: &Grid, set: usize, support: &[usize], heads: &mut [[u64; 4]])
     requires set { set < set_count sets.now }
     requires rises { Contains (supports_from 0 (length sets.now.rows) (length support.now)) support.now }
-    requires kept { IsKept sets.now set grid.now.planes grid.now.even grid.now.rows.items }
+    requires kept { IsKept sets.now set grid.now.planes grid.now.rows.items }
     requires level { 3 ≤ length support.now }
     requires room { list_count sets.now (length support.now - 2) ≤ length heads.old }
     requires few { list_count sets.now (length support.now - 2) ≤ 1024 }
@@ -225,7 +231,7 @@ fn turn(
     requires phase { (p : ℕ) × IsInPhase (length sets.now.rows) (size sets.now.field) plan.now.m p block }
     requires set { set < set_count sets.now }
     requires at { IsListedAt sets.now plan.now.m block done set support.old list }
-    requires kept { IsKept sets.now set grid.now.planes grid.now.even grid.now.rows.items }
+    requires kept { IsKept sets.now set grid.now.planes grid.now.rows.items }
     requires some { 0 < count }
     requires end { list + count ≡ list_count sets.now (length support.old) }
     requires inside { done + count < length (block_words sets.now plan.now.m block) }
@@ -263,7 +269,7 @@ pub(crate) fn count_sweeps(
     requires level { 3 ≤ length spot.now.support }
     requires grid { IsGrid sets.now spot.now.set grid.now.planes grid.now.tails grid.now.parts.items grid.now.starts.items }
     requires alone { length grid.now.parts.items ≡ 1 }
-    requires kept { IsKept sets.now spot.now.set grid.now.planes grid.now.even grid.now.rows.items }
+    requires kept { IsKept sets.now spot.now.set grid.now.planes grid.now.rows.items }
     requires places { length support.old ≡ length spot.now.support }
     requires many { length heads.old ≡ list_count sets.now (length spot.now.support - 2) }
     requires few { length heads.old ≤ 1024 }

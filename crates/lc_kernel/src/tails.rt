@@ -245,7 +245,7 @@ pub(crate) fn by_tails(
     requires at { IsSpotAt sets.now plan.now.m block 0 spot.old }
     requires level { 3 ≤ length spot.old.support }
     requires grid { IsGrid sets.now spot.old.set grid.now.planes grid.now.tails grid.now.parts.items grid.now.starts.items }
-    requires kept { HasFronts sets.now spot.old.set grid.now.planes grid.now.kept grid.now.even (length grid.now.parts.items) grid.now.rows.items }
+    requires kept { HasFronts sets.now spot.old.set grid.now.planes (length grid.now.parts.items) grid.now.rows.items }
     requires multiples { AreMultiples sets.now multiples.now }
     requires room { IsRoom sets.now spot.old heads.old }
     requires many { length fronts.old ≡ length sets.now.rows + 1 }

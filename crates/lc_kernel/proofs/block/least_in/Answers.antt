@@ -27,8 +27,8 @@ by_tails-requires-clause-grid c =
 pub by_tails-requires-clause-kept : goal.by_tails-requires-clause-kept
 by_tails-requires-clause-kept c =
     let g = c.index-grids-set.result in
-    let fronts = one_of_all (λ j (x : Grid). HasFronts c.args.sets.now j x.planes x.kept x.even (length x.parts.items) x.rows.items) c.args.grids.now c.set-set.result g c.requires.grids.fronts (omega (arith, c.if-level-ge3.true)) c.index-grids-set.is in
-    subst (λ j. HasFronts c.args.sets.now j g.planes g.kept g.even (length g.parts.items) g.rows.items) c.set-set.ensures fronts
+    let fronts = one_of_all (λ j (x : Grid). HasFronts c.args.sets.now j x.planes (length x.parts.items) x.rows.items) c.args.grids.now c.set-set.result g c.requires.grids.fronts (omega (arith, c.if-level-ge3.true)) c.index-grids-set.is in
+    subst (λ j. HasFronts c.args.sets.now j g.planes (length g.parts.items) g.rows.items) c.set-set.ensures fronts
 
 pub by_runs-requires-clause-set : goal.by_runs-requires-clause-set
 by_runs-requires-clause-set c =

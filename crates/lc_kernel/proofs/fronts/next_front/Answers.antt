@@ -1,9 +1,10 @@
-use Rattle.std.proofs.Common.{◌≡◌, ◌+◌, ◌-◌, ◌*◌, ◌<◌, ◌≤◌, [], length, slice_index, slice_index_or, vec_len, refl, ap, ◌∙◌, arith}
+use Rattle.std.proofs.Common.{◌≡◌, ◌+◌, ◌-◌, ◌*◌, ◌<◌, ◌≤◌, [], length, slice_index, slice_index_or, vec_len, refl, sym, ap, subst, ◌∙◌, arith}
 use Rattle.std.proofs.Math.Nat.{mul-le-mul_right}
 use Rattle.std.proofs.lemmas.List.{get_or_default}
 use Rattle.lc_algebra.specs.Field.{size}
+use Rattle.lc_kernel.specs.Planes.{IsPlaneSum}
 use Rattle.lc_kernel.proofs.FrontLaws.{entries_are}
-use Rattle.lc_kernel.proofs.MultipleLaws.{below_product}
+use Rattle.lc_kernel.proofs.MultipleLaws.{below_product, symbol_size}
 use Rattle.lc_kernel.proofs.FrontPlanes.{front_planes_next}
 use Rattle.lc_kernel.proofs.fronts.next_front.Goals as goal
 
@@ -39,6 +40,9 @@ index-requires c =
     let room : slice_index s.support i * d + (slice_index s.coefficients i - 1) < vec_len c.args.grid.now.rows = omega (arith, inside, c.requires.kept.multiples.count, c.args.grid.now.rows.ok.0) in
     rw (c.support-support.ensures.places, c.coefficients-coefficients.ensures.entries, c.nonzero.ensures.is) room
 
+pub sum_planes-requires : goal.sum_planes-requires
+sum_planes-requires c = record { symbol = subst (λ g. size g ≤ 16) (sym c.field.ensures.is) (symbol_size c.args.sets.now c.field.ensures.symbol) }
+
 pub returns : goal.returns
 returns c =
     let C = c.args.sets.now in
@@ -52,5 +56,4 @@ returns c =
     let inside : place < length C.rows * d = below_product (length C.rows) d (slice_index s.support i) (slice_index s.coefficients i - 1) (e.row i c.requires.entry) (omega (arith, e.element i c.requires.entry, some)) in
     let at : slice_index c.support-support.result.now i * c.nonzero.result + (slice_index c.coefficients-coefficients.result.now i - 1) ≡ place = rw (c.support-support.ensures.places, c.coefficients-coefficients.ensures.entries, c.nonzero.ensures.is) refl in
     let row : c.index.result.now ≡ slice_index_or rows place [] = c.index.ensures ∙ ap (λ t. slice_index_or rows t c.index.result.now) at ∙ get_or_default rows place c.index.result.now [] (omega (arith, inside, c.requires.kept.multiples.count)) in
-    let sums = c.sum_planes.ensures in
-    record { is = front_planes_next C s c.args.grid.now.planes i c.args.grid.now.even rows c.args.front.now c.index.result.now c.sum_planes.result c.dimension-k.ensures.rows c.dimension-k.ensures.independent c.requires.set c.requires.message c.requires.kept c.requires.entry c.requires.front row sums.even sums.low sums.high }
+    record { is = front_planes_next C s c.args.grid.now.planes i rows c.args.front.now c.index.result.now c.sum_planes.result c.dimension-k.ensures.rows c.dimension-k.ensures.independent c.requires.set c.requires.message c.requires.kept c.requires.entry c.requires.front row (subst (λ g. IsPlaneSum g c.args.front.now c.index.result.now c.sum_planes.result) c.field.ensures.is c.sum_planes.ensures.is) }

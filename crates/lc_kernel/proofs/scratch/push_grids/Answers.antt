@@ -14,6 +14,6 @@ loop-j-preserved c =
       many = omega (arith, ap length c.in_ok-push.ensures.items, length-append gs (g ∷ []), c.loop-j.invariant.many);
       are = record {
         each = all_pushed (λ j (x : Grid). IsGrid C j x.planes x.tails x.parts.items x.starts.items) gs c.push.new.self.items g c.loop-j.invariant.are.each (rw c.loop-j.invariant.many (c.in_ok-grid.ensures.is g c.in-Some.is)) c.in_ok-push.ensures.items;
-        fronts = all_pushed (λ j (x : Grid). HasFronts C j x.planes x.kept x.even (length x.parts.items) x.rows.items) gs c.push.new.self.items g c.loop-j.invariant.are.fronts (rw c.loop-j.invariant.many (c.in_ok-grid.ensures.fronts g c.in-Some.is)) c.in_ok-push.ensures.items;
+        fronts = all_pushed (λ j (x : Grid). HasFronts C j x.planes (length x.parts.items) x.rows.items) gs c.push.new.self.items g c.loop-j.invariant.are.fronts (rw c.loop-j.invariant.many (c.in_ok-grid.ensures.fronts g c.in-Some.is)) c.in_ok-push.ensures.items;
       };
     }

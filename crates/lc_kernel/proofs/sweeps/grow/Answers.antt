@@ -1,9 +1,10 @@
-use Rattle.std.proofs.Common.{◌≡◌, ◌+◌, ◌-◌, ◌*◌, ◌/◌, ◌%◌, ◌<◌, ◌≤◌, [], length, slice_index, slice_index_or, set, vec_len, refl, ap, ◌∙◌, arith}
+use Rattle.std.proofs.Common.{◌≡◌, ◌+◌, ◌-◌, ◌*◌, ◌/◌, ◌%◌, ◌<◌, ◌≤◌, [], length, slice_index, slice_index_or, set, vec_len, refl, sym, ap, subst, ◌∙◌, arith}
 use Rattle.std.proofs.Math.Nat.{mod-lt, mul-le-mul_right}
 use Rattle.std.proofs.lemmas.List.{get_or_default}
 use Rattle.lc_algebra.specs.Field.{size}
+use Rattle.lc_kernel.specs.Planes.{IsPlaneSum}
 use Rattle.lc_kernel.specs.Sweeps.{IsGrown}
-use Rattle.lc_kernel.proofs.MultipleLaws.{below_product}
+use Rattle.lc_kernel.proofs.MultipleLaws.{below_product, symbol_size}
 use Rattle.lc_kernel.proofs.SweepLaws.{support_is, AreGrown, grown_here, grown_next, heads_grown}
 use Rattle.lc_kernel.proofs.sweeps.grow.Goals as goal
 
@@ -31,6 +32,9 @@ index-requires c =
     let room : slice_index u c.args.i * d + (c.loop-e.e - 1) % d < vec_len c.args.grid.now.rows = omega (arith, inside, c.requires.kept.multiples.count, c.args.grid.now.rows.ok.0) in
     rw c.nonzero-elements.ensures.is room
 
+pub sum_planes-sum-requires : goal.sum_planes-sum-requires
+sum_planes-sum-requires c = record { symbol = subst (λ g. size g ≤ 16) (sym c.field.ensures.is) (symbol_size c.args.sets.now c.field.ensures.symbol) }
+
 pub loop-e-preserved : goal.loop-e-preserved
 loop-e-preserved c =
     let C = c.args.sets.now in
@@ -39,7 +43,7 @@ loop-e-preserved c =
     let a = slice_index u c.args.i in
     let n = c.loop-e.e - 1 in
     let many = c.args.many in
-    let even = c.args.grid.now.even in
+    let f = C.field in
     let rows = c.args.grid.now.rows.items in
     let initial = c.args.heads.now in
     let old = c.loop-e.heads in
@@ -50,18 +54,18 @@ loop-e-preserved c =
     let inside = below_product (length C.rows) d a (n % d) row (mod-lt n some) in
     let at : a * c.nonzero-elements.result + n % c.nonzero-elements.result ≡ a * d + n % d = rw c.nonzero-elements.ensures.is refl in
     let row_is : c.index.result.now ≡ slice_index_or rows (a * d + n % d) [] = c.index.ensures ∙ ap (λ t. slice_index_or rows t c.index.result.now) at ∙ get_or_default rows (a * d + n % d) c.index.result.now [] (omega (arith, inside, c.requires.kept.multiples.count)) in
-    let sums = c.sum_planes-sum.ensures in
     let next : n + 1 ≡ c.loop-e.e = omega (arith, c.loop-e-test.true) in
-    let before : AreGrown even d a rows initial old (n + 1) many = rw next (record { done = c.loop-e.invariant.done; left = c.loop-e.invariant.left }) in
+    let before : AreGrown f d a rows initial old (n + 1) many = rw next (record { done = c.loop-e.invariant.done; left = c.loop-e.invariant.left }) in
     let divided : n / c.nonzero-elements.result ≡ n / d = ap (λ t. n / t) c.nonzero-elements.ensures.is in
-    let here : IsGrown even d a rows initial (set old n z) n = grown_here even d a n rows initial old c.index.result.now z some (omega (arith, next, c.loop-e.invariant.inside, c.requires.room, c.loop-e.auto.heads)) before.left row_is (rw divided at sums.even) (rw divided at sums.low) (rw divided at sums.high) in
-    let after = grown_next even d a n many rows initial old z before here in
+    let sum : IsPlaneSum f (slice_index_or old (n / c.nonzero-elements.result) []) c.index.result.now z = subst (λ g. IsPlaneSum g (slice_index_or old (n / c.nonzero-elements.result) []) c.index.result.now z) c.field.ensures.is c.sum_planes-sum.ensures.is in
+    let here : IsGrown f d a rows initial (set old n z) n = grown_here f d a n rows initial old c.index.result.now z some (omega (arith, next, c.loop-e.invariant.inside, c.requires.room, c.loop-e.auto.heads)) before.left row_is (subst (λ t. IsPlaneSum f (slice_index_or old t []) c.index.result.now z) divided sum) in
+    let after = grown_next f d a n many rows initial old z before here in
     record { inside = omega (arith, c.loop-e.invariant.inside); done = after.done; left = after.left }
 
 pub returns : goal.returns
 returns c =
     let C = c.args.sets.now in
     record {
-      heads = heads_grown C c.args.set c.args.grid.now.planes c.args.i c.args.grid.now.even c.args.support.now c.args.grid.now.rows.items c.args.heads.now c.loop-e.heads c.dimension-k.ensures.rows c.dimension-k.ensures.independent c.requires.set c.requires.rises c.requires.kept c.requires.some c.requires.entry c.requires.heads
+      heads = heads_grown C c.args.set c.args.grid.now.planes c.args.i c.args.support.now c.args.grid.now.rows.items c.args.heads.now c.loop-e.heads c.dimension-k.ensures.rows c.dimension-k.ensures.independent c.requires.set c.requires.rises c.requires.kept c.requires.some c.requires.entry c.requires.heads
           (λ e l. c.loop-e.invariant.done e (omega (arith, c.loop-e-test.false)) (omega (arith, l, c.requires.many)));
     }

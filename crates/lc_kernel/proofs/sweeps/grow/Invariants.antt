@@ -9,6 +9,6 @@ decreases-loop-e l = l.e
 abbrev pub invariant-loop-e : goal.invariant-loop-e
 invariant-loop-e l = record {
   inside : l.e ≤ l.many;
-  done : (x : ℕ) → l.e ≤ x → x < l.many → IsGrown l.grid.even (size l.sets.field - 1) (slice_index l.support l.fn.i) l.grid.rows.items l.initial.heads l.heads x;
+  done : (x : ℕ) → l.e ≤ x → x < l.many → IsGrown l.sets.field (size l.sets.field - 1) (slice_index l.support l.fn.i) l.grid.rows.items l.initial.heads l.heads x;
   left : (x : ℕ) → x < l.e → slice_index_or l.heads x [] ≡ slice_index_or l.initial.heads x [];
 }

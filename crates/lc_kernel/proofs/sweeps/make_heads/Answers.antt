@@ -43,7 +43,7 @@ loop-i-init c =
     let row_is : c.index.result.now ≡ slice_index_or rows (slice_index u 0 * d) [] = c.index.ensures ∙ ap (λ t. slice_index_or rows t c.index.result.now) at ∙ get_or_default rows (slice_index u 0 * d) c.index.result.now [] (omega (arith, inside, c.requires.kept.multiples.count)) in
     record {
       many = sym (pow-zero d);
-      heads = heads_first C c.args.set c.args.grid.now.planes c.args.grid.now.even u rows (set c.args.heads.now 0 c.index.result.now) c.dimension-k.ensures.rows c.dimension-k.ensures.independent c.requires.set c.requires.rises c.requires.kept (omega (arith, c.requires.level)) (get_or-set_same c.args.heads.now 0 c.index.result.now [] (omega (arith, some, c.requires.room)) ∙ row_is);
+      heads = heads_first C c.args.set c.args.grid.now.planes u rows (set c.args.heads.now 0 c.index.result.now) c.dimension-k.ensures.rows c.dimension-k.ensures.independent c.requires.set c.requires.rises c.requires.kept (omega (arith, c.requires.level)) (get_or-set_same c.args.heads.now 0 c.index.result.now [] (omega (arith, some, c.requires.room)) ∙ row_is);
     }
 
 pub overflow_mul-many : goal.overflow_mul-many

@@ -1,0 +1,7 @@
+use Rattle.std.proofs.Common.{refl}
+use Rattle.lc_kernel.proofs.FormulaLaws.{value, eleven_sum}
+use Rattle.lc_kernel.proofs.adders.sum_eleven.Goals as goal
+
+pub returns : goal.returns
+unfolding value
+returns c = record { is = eleven_sum c.args.u.now c.args.v.now _ refl }

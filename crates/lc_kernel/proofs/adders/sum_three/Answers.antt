@@ -1,0 +1,7 @@
+use Rattle.std.proofs.Common.{refl}
+use Rattle.lc_kernel.proofs.FormulaLaws.{value, three_sum}
+use Rattle.lc_kernel.proofs.adders.sum_three.Goals as goal
+
+pub returns : goal.returns
+unfolding value
+returns c = record { is = three_sum c.args.u.now c.args.v.now _ (rw (c.trits-low.ensures.is, c.trits-high.ensures.is) refl) }
