@@ -5,10 +5,11 @@
 --   gives f j e               whether it gives bit j of the sum of any two elements of f, from their bits
 --   value_small, value_none, value_same, value_step      values: of bits, of zeros, at the same planes, and bit by bit
 --   plane_of_sum              a formula that gives bit j of sums gives plane j of sums of words
---   sum_by_formulas           four such formulas
+--   below_four                what holds at 0, 1, 2 and 3
+--   AreFormulas f m a b c d, values, sum_by_formulas      four formulas that give the bits of sums, and the planes of sums by them
 --   even_sum                  in characteristic 2
 --   three_sum, five_sum, seven_sum, nine_sum, eleven_sum, thirteen_sum      over so many elements
---   field_of_size             the field of 3, 5, 7, 9, 11 or 13 elements
+--   sum_over                  sums over a field of as many elements
 --   last_field                a field of at most 16 elements that is none of the others has 13
 use Rattle.std.proofs.Common.{◌≡◌, ◌≢◌, ℕ, zero, suc, ◌+◌, ◌-◌, ◌*◌, ◌^◌, ◌<◌, ◌≤◌, Bool, true, ◌&&◌, ◌==◌, List, [], ◌∷◌, length, slice_index, bit_and, bit_or, bit_xor, refl, sym, ap, subst, ◌∙◌, ⊎_elim, arith, lit<}
 use Rattle.std.specs.Prelude.{nat_lt}
@@ -28,7 +29,7 @@ use Rattle.lc_algebra.specs.Word.{Fits, word_sum}
 use Rattle.lc_algebra.proofs.FieldTests.{below, below_each}
 use Rattle.lc_algebra.proofs.EmbeddingTests.{both_true, told_by_size}
 use Rattle.lc_algebra.proofs.WordLaws.{fits_head, fits_tail}
-use Rattle.lc_kernel.specs.Planes.{plane, HasPlanes, IsPlaneSum, trit_sum, digit_planes}
+use Rattle.lc_kernel.specs.Planes.{plane, HasPlanes, IsPlaneSum}
 use Rattle.lc_kernel.proofs.PlaneLaws.{plane_cons, plane_none, plane_sum}
 
 pub data Formula : Type 0 where

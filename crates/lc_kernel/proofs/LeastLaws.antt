@@ -1,12 +1,20 @@
 -- The least number of a list, one number more at a time, and the least value of some words.
---   least_taken, least_kept      one number more, which is less or isn't
+--   least_none, least_taken, least_kept      no number, and one number more, which is less or isn't
+--   rows_more                    numbers that are no less than another, by rows
 --   counts_value                 the least value of words, from the first of their least counts
 --   first_of, one_least          the first of the counts that is the least of them, and that there is one
-use Rattle.std.proofs.Common.{◌≡◌, ◌≢◌, ◌⊎◌, ℕ, ◌+◌, ◌*◌, ◌^◌, ◌<◌, ◌≤◌, List, [], length, slice_index, slice_index_or, refl, sym, ap, ◌∙◌, inl, inr, ⊎_elim, arith}
+--   least_same, below_same       the same of equal numbers
+--   below_none                   of no number
+--   beyond_none, none_below, found_below      that none is below the bound, and the first of the counts that is the least
+--   below_joined                 the first least number of some and of those after them
+--   below_whole, counted_first   the first of all, if all are below the bound, or by their counts
+--   least_value                  the least value of words, from the first of them that is least
+use Rattle.std.proofs.Common.{◌≡◌, ◌≢◌, ◌⊎◌, ℕ, ◌+◌, ◌-◌, ◌*◌, ◌^◌, ◌<◌, ◌≤◌, List, [], length, slice_index, slice_index_or, refl, sym, ap, ◌∙◌, inl, inr, ⊎_elim, arith}
 use Rattle.std.proofs.lemmas.Bool.{cases_lt}
 use Rattle.lc_algebra.specs.Word.{weight}
+use Rattle.lc_algebra.specs.SpanLaws.{restrict}
 use Rattle.lc_kernel.specs.Values.{IsLeastValue}
-use Rattle.lc_kernel.specs.Least.{IsLeastOr, IsFirstLeast}
+use Rattle.lc_kernel.specs.Least.{IsLeastOr, IsFirstLeast, IsFirstBelow, AreCounted}
 
 one_more : (i n : ℕ) → i < n + 1 → (i < n) ⊎ (i ≡ n)
 one_more i n l = ⊎_elim (λ a. inl a) (λ a. inr (omega (arith, a, l))) (cases_lt i n)
@@ -25,14 +33,26 @@ least_kept n f bound v h l = record {
   attained = λ a. let t = h.attained a in (t.0, omega (arith, t.1), t.2);
 }
 
-pub counts_value : (first : ℕ) (ws : List (List ℕ)) (counts : List ℕ) (level n least at : ℕ) → n ≤ 2 ^ 52 → ((i : ℕ) → i < n → weight (slice_index_or ws i []) ≡ level + slice_index counts i) → IsFirstLeast n (λ i. slice_index counts i) least at → IsLeastValue first ws n ((level + least) * 2 ^ 52 + (first + at))
-counts_value first ws counts level n least at few h l = record {
+pub least_none : (f : ℕ → ℕ) (bound : ℕ) → IsLeastOr 0 f bound bound
+least_none f bound = record { most = omega arith; low = λ i l. absurd (omega (arith, l)); attained = λ l. absurd (omega (arith, l)) }
+
+pub rows_more : (n T : ℕ) (f : ℕ → ℕ → ℕ) (v w : ℕ) → ((h t : ℕ) → h < n → t < T → v ≤ f h t) → IsLeastOr T (f n) v w → (h t : ℕ) → h < n + 1 → t < T → w ≤ f h t
+rows_more n T f v w low here h t l m = ⊎_elim
+    (λ a. omega (arith, low h t a m, here.most))
+    (λ a. rw a (here.low t m))
+    (one_more h n l)
+
+pub least_value : (first : ℕ) (ws : List (List ℕ)) (g : ℕ → ℕ) (level n least at : ℕ) → n ≤ 2 ^ 52 → ((i : ℕ) → i < n → weight (slice_index_or ws i []) ≡ level + g i) → IsFirstLeast n g least at → IsLeastValue first ws n ((level + least) * 2 ^ 52 + (first + at))
+least_value first ws g level n least at few h l = record {
   low = λ i m. ⊎_elim
       (λ a. omega (arith, l.first i a, h i m, l.inside, few))
       (λ a. omega (arith, l.low i m, h i m, a))
       (cases_lt i at);
   attained = (at, l.inside, ap (λ x. (level + x) * 2 ^ 52 + (first + at)) (sym l.is) ∙ ap (λ x. x * 2 ^ 52 + (first + at)) (sym (h at l.inside)));
 }
+
+pub counts_value : (first : ℕ) (ws : List (List ℕ)) (counts : List ℕ) (level n least at : ℕ) → n ≤ 2 ^ 52 → ((i : ℕ) → i < n → weight (slice_index_or ws i []) ≡ level + slice_index counts i) → IsFirstLeast n (λ i. slice_index counts i) least at → IsLeastValue first ws n ((level + least) * 2 ^ 52 + (first + at))
+counts_value first ws counts level n least at few h l = least_value first ws (λ i. slice_index counts i) level n least at few h l
 
 -- the first of the counts that is the least of them
 pub first_of : (counts : List ℕ) (least at : ℕ) → IsLeastOr (length counts) (λ i. slice_index counts i) 256 least → at < length counts → slice_index counts at ≡ least → ((i : ℕ) → i < at → slice_index counts i ≢ least) → IsFirstLeast (length counts) (λ i. slice_index counts i) least at
@@ -51,3 +71,118 @@ pub one_least : (counts : List ℕ) (least : ℕ) → 0 < length counts → ((i 
 one_least counts least some few h none =
     let t = h.attained (omega (arith, h.low 0 some, few 0 some)) in
     none t.0 t.1 t.2
+
+-- the same of equal numbers
+
+pub least_same : (n : ℕ) (f g : ℕ → ℕ) (bound v : ℕ) → ((i : ℕ) → i < n → f i ≡ g i) → IsLeastOr n f bound v → IsLeastOr n g bound v
+least_same n f g bound v same h = record {
+  most = h.most;
+  low = λ i l. omega (arith, h.low i l, same i l);
+  attained = λ l. let t = h.attained l in (t.0, t.1, sym (same t.0 t.1) ∙ t.2);
+}
+
+pub below_same : (n : ℕ) (f g : ℕ → ℕ) (bound v i : ℕ) → ((j : ℕ) → j < n → f j ≡ g j) → IsFirstBelow n f bound v i → IsFirstBelow n g bound v i
+below_same n f g bound v i same h = record {
+  most = h.most;
+  inside = h.inside;
+  low = λ j l. omega (arith, h.low j l, same j l);
+  is = λ l. let t = h.is l in (t.0, sym (same i t.0) ∙ t.1);
+  first = λ l j m. omega (arith, h.first l j m, same j (omega (arith, m, h.inside)));
+}
+
+-- the first least number
+
+pub beyond_none : (n : ℕ) (f : ℕ → ℕ) (bound : ℕ) → ((j : ℕ) → j < n → bound ≤ f j) → IsFirstBelow n f bound bound 0
+beyond_none n f bound low = record {
+  most = omega arith;
+  inside = omega arith;
+  low = low;
+  is = λ m. absurd (omega (arith, m));
+  first = λ m j o. absurd (omega (arith, m));
+}
+
+pub none_below : (n : ℕ) (f : ℕ → ℕ) (bound v : ℕ) → IsLeastOr n f bound v → bound ≤ v → IsFirstBelow n f bound bound 0
+none_below n f bound v h l = beyond_none n f bound (λ j m. omega (arith, h.low j m, l))
+
+pub below_none : (f : ℕ → ℕ) (bound : ℕ) → IsFirstBelow 0 f bound bound 0
+below_none f bound = none_below 0 f bound bound (least_none f bound) (omega arith)
+
+pub found_below : (n : ℕ) (f : ℕ → ℕ) (bound v at : ℕ) (counts : List ℕ) → IsLeastOr n f bound v → v < bound → ((i : ℕ) → i < n → slice_index counts i ≡ f i) → at ≤ n → (at < n → slice_index counts at ≡ v) → ((i : ℕ) → i < at → slice_index counts i ≢ v) → IsFirstBelow n f bound v at
+found_below n f bound v at counts h l counted inside is before =
+    let t = h.attained l in
+    let reached : at < n = ⊎_elim
+    (λ a. a)
+    (λ a. absurd (before t.0 (omega (arith, a, t.1)) (counted t.0 t.1 ∙ t.2)))
+    (cases_lt at n) in
+    record {
+      most = h.most;
+      inside = inside;
+      low = h.low;
+      is = λ _. (reached, sym (counted at reached) ∙ is reached);
+      first = λ _ j m. ⊎_elim
+          (λ a. a)
+          (λ a.
+          let short : j < n = omega (arith, m, inside) in
+          absurd (before j m (counted j short ∙ omega (arith, a, h.low j short))))
+          (cases_lt v (f j));
+    }
+
+after_all : (f : ℕ → ℕ) (a j : ℕ) → a ≤ j → f (a + (j - a)) ≡ f j
+after_all f a j l = ap f (omega (arith, l))
+
+pub below_joined : (a b : ℕ) (f : ℕ → ℕ) (bound v i w x p q : ℕ) → IsFirstBelow a f bound v i → IsFirstBelow b (λ j. f (a + j)) v w x → (w < v → (p ≡ w) × (q ≡ a + x)) → (v ≤ w → (p ≡ v) × (q ≡ i)) → IsFirstBelow (a + b) f bound p q
+below_joined a b f bound v i w x p q h k taken kept =
+    ⊎_elim
+    (λ l.
+    let is = taken l in
+    let found = k.is l in
+    let e = is.0 in
+    let at = is.1 in
+    record {
+      most = omega (arith, e, l, h.most);
+      inside = omega (arith, at, found.0);
+      low = λ j m. ⊎_elim
+          (λ o. omega (arith, h.low j o, e, l))
+          (λ o. omega (arith, k.low (j - a) (omega (arith, m, o)), after_all f a j o, e))
+          (cases_lt j a);
+      is = λ _. (omega (arith, at, found.0), ap f at ∙ found.1 ∙ sym e);
+      first = λ _ j m. ⊎_elim
+          (λ o. omega (arith, h.low j o, e, l))
+          (λ o. omega (arith, k.first l (j - a) (omega (arith, m, o, at)), after_all f a j o, e))
+          (cases_lt j a);
+    })
+    (λ l.
+    let is = kept l in
+    let e = is.0 in
+    let at = is.1 in
+    record {
+      most = omega (arith, e, h.most);
+      inside = omega (arith, at, h.inside);
+      low = λ j m. ⊎_elim
+          (λ o. omega (arith, h.low j o, e))
+          (λ o. omega (arith, k.low (j - a) (omega (arith, m, o)), after_all f a j o, e, l))
+          (cases_lt j a);
+      is = λ m.
+          let t = h.is (omega (arith, m, e)) in
+          (omega (arith, at, t.0), ap f at ∙ t.1 ∙ sym e);
+      first = λ m j o. omega (arith, h.first (omega (arith, m, e)) j (omega (arith, o, at)), e);
+    })
+    (cases_lt w v)
+
+pub below_whole : (n : ℕ) (f : ℕ → ℕ) (bound v i : ℕ) → 0 < n → ((j : ℕ) → j < n → f j < bound) → IsFirstBelow n f bound v i → IsFirstLeast n f v i
+below_whole n f bound v i some few h =
+    let less : v < bound = omega (arith, h.low 0 some, few 0 some) in
+    record { inside = (h.is less).0; is = (h.is less).1; low = h.low; first = h.first less }
+
+pub counted_first : (n : ℕ) (cols : List ℕ) (ws : List (List ℕ)) (counts : List ℕ) (v i : ℕ) → AreCounted cols ws 0 n counts → IsFirstLeast n (λ j. slice_index counts j) v i → IsFirstLeast n (λ j. weight (restrict cols (slice_index_or ws j []))) v i
+counted_first n cols ws counts v i counted h = record {
+  inside = h.inside;
+  is = sym (at i h.inside) ∙ h.is;
+  low = λ j l. omega (arith, h.low j l, at j l);
+  first = λ j l. omega (arith, h.first j l, at j (omega (arith, l, h.inside)));
+}
+  where
+    at : (j : ℕ) → j < n → slice_index counts j ≡ weight (restrict cols (slice_index_or ws j []))
+    at j l =
+        let plain : 0 + j ≡ j = omega arith in
+        counted j l ∙ ap (λ z. weight (restrict cols (slice_index_or ws z []))) plain

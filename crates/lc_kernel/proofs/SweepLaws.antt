@@ -2,9 +2,8 @@
 --   listed_start, listed_step, listed_turned      the spots with a support, from list to list, and with the next support
 --   heads_first, heads_grown, heads_kept      the heads of a support, from place to place
 --   listed_run                a word of a support as a run of one word
---   sweep_counted             the counts of words with one support
---   put_before, put_inside, put_after      numbers with a part put in place
---   added_head, head_of_word  counts after the words of one head
+--   sweep_below               the first least word with one support
+--   head_of_word              the head and the tail of a word
 --   list_first, list_more, list_small, lists_few      the index of a list of coefficients
 --   take_same, support_is     supports
 --   listed_last               no message comes after the last one
@@ -12,12 +11,11 @@
 --   pair_of_heads, heads_less       how many these are
 --   pair_there, lists_there         the pair of a support, and how many lists of coefficients it has
 --   turned_at, turned_none    from a list of a support past the last one
-use Rattle.std.proofs.Common.{◌≡◌, ℕ, zero, suc, ◌+◌, ◌-◌, ◌*◌, ◌/◌, ◌%◌, ◌^◌, ◌<◌, ◌≤◌, List, [], ◌∷◌, ◌++◌, length, replicate, take, drop, Some, None, slice_get, slice_index, slice_index_or, set, count_ones, Contains, refl, sym, ap, subst, ◌∙◌, ⊎_elim, arith}
+use Rattle.std.proofs.Common.{◌≡◌, ℕ, zero, suc, ◌+◌, ◌-◌, ◌*◌, ◌/◌, ◌%◌, ◌^◌, ◌<◌, ◌≤◌, List, [], ◌∷◌, ◌++◌, length, replicate, take, Some, None, slice_get, slice_index, slice_index_or, set, count_ones, Contains, refl, sym, ap, subst, ◌∙◌, ⊎_elim, arith}
 use Rattle.std.proofs.Math.Nat.{pow-suc, pow-zero, mod-lt, pow-le-pow_right, mul-le-mul_right, le-mul_of_pos_right}
-use Rattle.std.proofs.Math.ListN.{get_or-append}
 use Rattle.std.proofs.Math.Seq.{take-append_seam, get_or-append_seam, take-suc}
 use Rattle.std.proofs.lemmas.Bool.{cases_lt}
-use Rattle.std.proofs.lemmas.List.{append_assoc, length-take-le, get_or-take, get_or-drop, get_or-append_right, get_or-set_same, get_or-set_other, get_or_default}
+use Rattle.std.proofs.lemmas.List.{append_assoc, get_or-set_same, get_or-set_other, get_or_default}
 use Rattle.std.proofs.lemmas.List.Elements.{All-get_or}
 use Rattle.std.proofs.lemmas.Nat.{div-add-mod', div_below, div-mul-add, mod-mul-add}
 use Rattle.std.proofs.lemmas.Option.{get_or_from_slice_get, slice_get_within, slice_get_past, slice_get-get_or, none-some}
@@ -39,7 +37,7 @@ use Rattle.lc_place.proofs.Messages.{message_of, message_part, message_next, nex
 use Rattle.lc_kernel.specs.Values.{IsSpotAt}
 use Rattle.lc_kernel.specs.Packed.{others, part_at, pair_of, AreStarts}
 use Rattle.lc_kernel.specs.Planes.{plane_at, bits_apart, IsPlaneSum}
-use Rattle.lc_kernel.specs.Least.{AreCounted}
+use Rattle.lc_kernel.specs.Least.{IsFirstBelow}
 use Rattle.lc_kernel.specs.Sums.{front_word}
 use Rattle.lc_kernel.specs.Grid.{tail_pair, tail_count, tail_index, tails_in, AreTailPlanes, IsTailRun}
 use Rattle.lc_kernel.specs.Fronts.{ArePlanes, IsKept}
@@ -48,6 +46,7 @@ use Rattle.lc_kernel.proofs.FrontLaws.{entries_are, generates, front_same, front
 use Rattle.lc_kernel.proofs.FrontPlanes.{front_planes_next}
 use Rattle.lc_kernel.proofs.GridLaws.{tail_run_ones, tail_run_room}
 use Rattle.lc_kernel.proofs.TailLaws.{bits_of_run}
+use Rattle.lc_kernel.proofs.LeastLaws.{below_same}
 use Rattle.lc_kernel.proofs.PackLaws.{part_more, part_none, part_all}
 use Rattle.lc_kernel.proofs.RunLaws.{first_of_pair, second_of_pair, inside_level, pair_read, index_of_pair}
 use Rattle.lc_kernel.proofs.ListLaws.{one_list, leading_split, leading_pair, leading_there, listed_message, listed_along, listed_turn}
@@ -370,44 +369,11 @@ sweep_ones C m b n j y r count planes tails i u bits heads h l =
     let first : weight (restrict (part_at cols 0) w) ≡ count_ones (bits_apart planes (slice_index_or heads x []) bits tails e) = ap (λ z. weight (restrict (part_at cols 0) (slice_index_or (block_words C m b) z []))) (sym here) ∙ ones in
     omega (arith, first, part_more cols w 0, part_none cols w, part_all cols w (0 + 1) (omega (arith, h.wide)))
 
-pub sweep_counted : (C : Matrix) (m b n j y r count planes tails : ℕ) (u bits old new : List ℕ) (heads : List (List ℕ)) → IsSweep C m b n j y r count planes tails u bits heads
-    → ((i : ℕ) → i < count → slice_index old i ≡ 0)
-    → ((i : ℕ) → i < count → slice_index new i ≡ slice_index old i + count_ones (bits_apart planes (slice_index_or heads ((y + i) / tail_count C) []) bits tails (r * tail_count C + (y + i) % tail_count C)))
-    → AreCounted (others C j) (block_words C m b) n count new
-sweep_counted C m b n j y r count planes tails u bits old new heads h none added i l =
-    omega (arith, none i l, added i l, sweep_ones C m b n j y r count planes tails i u bits heads h l)
-
--- what a part of some counts leaves and puts
-
-pub put_before : (xs ys zs : List ℕ) (a i : ℕ) → a ≤ length xs → i < a → slice_index (take a xs ++ (ys ++ zs)) i ≡ slice_index xs i
-put_before xs ys zs a i l m = get_or-append (take a xs) (ys ++ zs) 0 i (omega (arith, m, length-take-le a xs l)) ∙ get_or-take a xs i 0 m
-
-pub put_inside : (xs ys zs : List ℕ) (a i : ℕ) → a ≤ length xs → a ≤ i → i < a + length ys → slice_index (take a xs ++ (ys ++ zs)) i ≡ slice_index ys (i - a)
-put_inside xs ys zs a i l m n = get_or-append_right (take a xs) (ys ++ zs) a i 0 (length-take-le a xs l) m ∙ get_or-append ys zs 0 (i - a) (omega (arith, m, n))
-
-pub put_after : (xs ys : List ℕ) (a k i : ℕ) → a ≤ length xs → length ys ≡ k → a + k ≤ i → slice_index (take a xs ++ (ys ++ drop k (drop a xs))) i ≡ slice_index xs i
-put_after xs ys a k i l e m =
-    let place : a + (k + (i - a - k)) ≡ i = omega (arith, m) in
-    get_or-append_right (take a xs) (ys ++ drop k (drop a xs)) a i 0 (length-take-le a xs l) (omega (arith, m))
-    ∙ get_or-append_right ys (drop k (drop a xs)) k (i - a) 0 e (omega (arith, m))
-    ∙ get_or-drop k (drop a xs) (i - a - k) 0 ∙ get_or-drop a xs (k + (i - a - k)) 0 ∙ ap (slice_index xs) place
-
--- counts after the words of one head
-pub record AreAddedTo (f : ℕ → ℕ) (first counts : List ℕ) (done : ℕ) : Type 0 where
-  pub before : (i : ℕ) → i < done → slice_index counts i ≡ slice_index first i + f i
-  pub after : (i : ℕ) → done ≤ i → slice_index counts i ≡ slice_index first i
-
-pub added_head : (f : ℕ → ℕ) (first old piece : List ℕ) (done end : ℕ) → done ≤ end → end ≤ length old → length piece ≡ end - done → AreAddedTo f first old done → ((j : ℕ) → j < end - done → slice_index piece j ≡ slice_index old (done + j) + f (done + j)) → AreAddedTo f first (take done old ++ (piece ++ drop (end - done) (drop done old))) end
-added_head f first old piece done end l m e h added = record {
-  before = λ i a. ⊎_elim
-      (λ o. put_before old piece (drop (end - done) (drop done old)) done i (omega (arith, l, m)) o ∙ h.before i o)
-      (λ o.
-      let place : done + (i - done) ≡ i = omega (arith, o) in
-      let old_is : slice_index old (done + (i - done)) ≡ slice_index first i = ap (slice_index old) place ∙ h.after i o in
-      put_inside old piece (drop (end - done) (drop done old)) done i (omega (arith, l, m)) o (omega (arith, a, e, l)) ∙ added (i - done) (omega (arith, a, o)) ∙ ap (λ z. z + f (done + (i - done))) old_is ∙ ap (λ z. slice_index first i + f z) place)
-      (cases_lt i done);
-  after = λ i a. put_after old piece done (end - done) i (omega (arith, l, m)) e (omega (arith, a, l)) ∙ h.after i (omega (arith, a, l));
-}
+pub sweep_below : (C : Matrix) (m b n j y r count planes tails bound v x : ℕ) (u bits : List ℕ) (heads : List (List ℕ)) → IsSweep C m b n j y r count planes tails u bits heads
+    → IsFirstBelow count (λ i. count_ones (bits_apart planes (slice_index_or heads ((y + i) / tail_count C) []) bits tails (r * tail_count C + (y + i) % tail_count C))) bound v x
+    → IsFirstBelow count (λ i. weight (restrict (others C j) (slice_index_or (block_words C m b) (n + i) []))) bound v x
+sweep_below C m b n j y r count planes tails bound v x u bits heads h f =
+    below_same count _ _ bound v x (λ i l. sym (sweep_ones C m b n j y r count planes tails i u bits heads h l)) f
 
 -- the head and the tail of a word of a run
 pub head_of_word : (n T j : ℕ) → n % T + j < T → ((n + j) / T ≡ n / T) × ((n + j) % T ≡ n % T + j)

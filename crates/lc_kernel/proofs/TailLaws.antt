@@ -5,29 +5,39 @@
 --   last_along      the last message of a run
 --   last_of_run     the spot at it
 --   last_fronts     its fronts are those of the run
-use Rattle.std.proofs.Common.{◌≡◌, ℕ, suc, ◌+◌, ◌-◌, ◌*◌, ◌/◌, ◌%◌, ◌^◌, ◌<◌, ◌≤◌, zero, List, [], ◌∷◌, ◌++◌, length, take, Some, Contains, slice_get, slice_index, slice_index_or, bit_or, bit_xor, count_ones, refl, sym, ap, subst, ◌∙◌, arith}
+--   outside_few     a word has at most 255 nonzero symbols outside a basis
+--   least_of_block  the least value of a block, from the first of its words that is least outside the basis
+use Rattle.std.proofs.Common.{◌≡◌, ℕ, suc, ◌+◌, ◌-◌, ◌*◌, ◌/◌, ◌%◌, ◌^◌, ◌<◌, ◌≤◌, zero, List, [], ◌∷◌, ◌++◌, length, take, Some, option_map, Contains, slice_get, slice_index, slice_index_or, bit_or, bit_xor, count_ones, refl, sym, ap, subst, ◌∙◌, arith}
 use Rattle.std.proofs.Math.Seq.{take-append_seam}
 use Rattle.std.proofs.lemmas.List.{length-take-le}
 use Rattle.std.proofs.lemmas.Nat.{div-mul-add, mod-mul-add}
 use Rattle.lc_algebra.specs.Field.{size}
-use Rattle.lc_algebra.specs.Matrix.{Matrix}
+use Rattle.lc_algebra.specs.Word.{weight}
+use Rattle.lc_algebra.specs.Span.{AreIndependent}
+use Rattle.lc_algebra.specs.Matrix.{Matrix, AreRows}
 use Rattle.lc_algebra.proofs.FieldLaws.{one_inside}
 use Rattle.lc_algebra.specs.SpanLaws.{restrict}
+use Rattle.lc_algebra.proofs.WordLaws.{weight_at_most_length}
+use Rattle.lc_algebra.proofs.ColumnLaws.{length_restrict}
 use Rattle.lc_enumeration.specs.Message.{messages, supports_from}
-use Rattle.lc_enumeration.specs.Plan.{blocks_before}
-use Rattle.lc_enumeration.specs.Search.{block_words}
-use Rattle.lc_place.specs.Place.{SpotState, spot_message}
+use Rattle.lc_enumeration.specs.Plan.{blocks_before, place_of, IsInPhase}
+use Rattle.lc_enumeration.specs.Search.{set_count, block_words, block_least, board_value}
+use Rattle.lc_enumeration.proofs.SearchLaws.{few_in_block}
+use Rattle.lc_place.specs.Place.{PlanSize, SpotState, spot_message}
 use Rattle.lc_place.proofs.Messages.{message_of, from_contains, to_contains}
-use Rattle.lc_kernel.specs.Values.{IsSpotAt}
-use Rattle.lc_kernel.specs.Packed.{part_at}
+use Rattle.lc_kernel.specs.Kernel.{IsPlanOf}
+use Rattle.lc_kernel.specs.Values.{IsSpotAt, IsLeastValue}
+use Rattle.lc_kernel.specs.Packed.{others, part_at}
 use Rattle.lc_kernel.specs.Planes.{plane_at, apart, bits_apart}
-use Rattle.lc_kernel.specs.Least.{AreCounted}
+use Rattle.lc_kernel.specs.Least.{IsFirstLeast, AreCounted}
 use Rattle.lc_kernel.specs.Sums.{front_word}
 use Rattle.lc_kernel.specs.Grid.{tail_pair, tail_count, tail_index, tail_word, tails_in, negative, AreTailPlanes, IsTailRun}
 use Rattle.lc_kernel.proofs.FrontLaws.{entries_are, front_same}
 use Rattle.lc_kernel.proofs.GridLaws.{tails_along, last_two, tail_run_ones, tail_run_room}
-use Rattle.lc_kernel.proofs.PackLaws.{part_more}
-use Rattle.lc_kernel.proofs.RunLaws.{support_parts}
+use Rattle.lc_kernel.proofs.PackLaws.{part_more, others_few}
+use Rattle.lc_kernel.proofs.RunLaws.{support_parts, block_weight}
+use Rattle.lc_kernel.proofs.ScanLaws.{block_value_of_words}
+use Rattle.lc_kernel.proofs.LeastLaws.{least_value}
 
 square : (e : ℕ) → e * suc e + e ≡ suc e * suc e - 1
 square e = omega arith
@@ -132,3 +142,17 @@ tails_counted C m b n start count planes part tails s head cols old new u bits h
     let ones = tail_run_ones C m b n start count i planes (bits_apart planes u bits tails (start + i)) s head (part_at cols part) h size_is l (λ a c at. bits_of_run C s.set planes (part_at cols part) head u bits tails (start + i) a c many t packed room at planes (omega arith)) in
     let more = part_more cols (slice_index_or (block_words C m b) (n + i) []) part in
     omega (arith, added i l, counted i l, ones, more)
+
+pub outside_few : (C : Matrix) (j : ℕ) (w : List ℕ) → C.columns ≤ 255 → weight (restrict (others C j) w) ≤ 255
+outside_few C j w l = omega (arith, weight_at_most_length (restrict (others C j) w), length_restrict (others C j) w, others_few C j, l)
+
+-- the least value of a block, from the first of its words that is least outside the basis
+pub least_of_block : (C : Matrix) (plan : PlanSize) (p b level n least at : ℕ) (s : SpotState) → IsPlanOf plan C → AreRows C.field C.columns C.rows → AreIndependent C.field C.columns C.rows → s.set < set_count C → IsInPhase (length C.rows) (size C.field) plan.m p b → b < 2 ^ 40 → IsSpotAt C plan.m b 0 s → level ≡ length s.support → n ≡ length (block_words C plan.m b) → IsFirstLeast n (λ i. weight (restrict (others C s.set) (slice_index_or (block_words C plan.m b) i []))) least at → option_map board_value (block_least C plan.m b) ≡ Some ((level + least) * 2 ^ 52 + (b * 4096 + at))
+unfolding place_of
+least_of_block C plan p b level n least at s h rows free set_is phase small spot e long first =
+    let ws = block_words C plan.m b in
+    let few = few_in_block C plan.m b in
+    let weights : (i : ℕ) → i < n → weight (slice_index_or ws i []) ≡ level + weight (restrict (others C s.set) (slice_index_or ws i [])) = λ i l. omega (arith, block_weight C plan p b i s h rows free set_is phase spot (omega (arith, l, long)), e) in
+    let value = least_value (b * 4096 + 0) ws (λ i. weight (restrict (others C s.set) (slice_index_or ws i []))) level n least at (omega (arith, few, long)) weights first in
+    let place : (level + least) * 2 ^ 52 + (b * 4096 + 0 + at) ≡ (level + least) * 2 ^ 52 + (b * 4096 + at) = omega arith in
+    block_value_of_words C plan.m p b ((level + least) * 2 ^ 52 + (b * 4096 + 0 + at)) phase small (subst (λ z. IsLeastValue (b * 4096 + 0) ws z ((level + least) * 2 ^ 52 + (b * 4096 + 0 + at))) long value) ∙ ap Some place

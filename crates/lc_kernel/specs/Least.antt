@@ -1,6 +1,7 @@
 -- The least of some counts.
 --   IsLeastOr n f bound v       v is the least of the bound and the numbers f 0 to f (n - 1)
 --   IsFirstLeast n f v i        number i is v, all are at least v, and those before it are greater
+--   IsFirstBelow n f bound v i      v is the least of the bound and these numbers, and if it is below the bound, i is the first index that has it
 --   AreCounted cols ws from n counts      the first n counts are the weights, at some columns, of the words from index from on
 use Rattle.std.specs.Prelude.{◌≡◌, ℕ, ◌+◌, ◌<◌, ◌≤◌, List, [], slice_index, slice_index_or}
 use Rattle.lc_algebra.specs.Word.{weight}
@@ -16,6 +17,13 @@ pub record IsFirstLeast (n : ℕ) (f : ℕ → ℕ) (v i : ℕ) : Type 0 where
   pub is : f i ≡ v
   pub low : (j : ℕ) → j < n → v ≤ f j
   pub first : (j : ℕ) → j < i → v < f j
+
+pub record IsFirstBelow (n : ℕ) (f : ℕ → ℕ) (bound v i : ℕ) : Type 0 where
+  pub most : v ≤ bound
+  pub inside : i ≤ n
+  pub low : (j : ℕ) → j < n → v ≤ f j
+  pub is : v < bound → (i < n) × (f i ≡ v)
+  pub first : v < bound → (j : ℕ) → j < i → v < f j
 
 abbrev pub AreCounted : List ℕ → List (List ℕ) → ℕ → ℕ → List ℕ → Type 0
 AreCounted cols ws from n counts = (i : ℕ) → i < n → slice_index counts i ≡ weight (restrict cols (slice_index_or ws (from + i) []))

@@ -1,8 +1,8 @@
 //! The planes of the sum of two words, from those of the words: many symbols at once, by the bits of their numbers.
 
-ghost use Rattle.std.specs.Prelude.{◌≡◌, ◌≤◌, ℕ, ◌<◌, slice_index, bit_and, bit_or, bit_xor};
+ghost use Rattle.std.specs.Prelude.{◌≡◌, ℕ, ◌<◌, ◌≤◌, slice_index, bit_xor};
 ghost use Rattle.lc_algebra.specs.declared.FieldName.TheVariants.{Gf3, Gf5, Gf7, Gf9, Gf11, Gf13};
-ghost use Rattle.lc_algebra.specs.Field.{size, shape_of};
+ghost use Rattle.lc_algebra.specs.Field.{size};
 ghost use Rattle.lc_kernel.specs.Planes.{IsPlaneSum, trit_sum, digit_planes};
 
 use lc_field::Field;

@@ -30,8 +30,8 @@ pub(crate) fn first_least(counts: &[u32]) -> (u32, usize)
     }
 }
 
-// The least of the counts and a bound.
-fn least_count(counts: &[u32], bound: u32) -> u32
+/// The least of the counts and a bound.
+pub(crate) fn least_count(counts: &[u32], bound: u32) -> u32
     ensures is { IsLeastOr (length counts.now) (λ i. slice_index counts.now i) bound result }
 {
     let mut least = bound;

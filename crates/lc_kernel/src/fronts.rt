@@ -1,10 +1,12 @@
-//! The counts of a block of words by runs, over more than 2 elements, if at most 64 columns are outside the basis. The planes of the sums of the first entries of a message are kept from run to run, and come from those
-//! of the rows.
+//! The counts of a block of words by runs, over more than 2 elements, if at most 64 columns are outside the basis. The
+//! planes of the sums of the first entries of a message are kept from run to run, and come from those of the rows.
 
-ghost use Rattle.std.specs.Prelude.{◌≡◌, ℕ, ◌+◌, ◌-◌, ◌*◌, ◌^◌, ◌<◌, ◌≤◌, ◌/◌, ◌%◌, ◌∷◌, [], Some, true, false, length, slice_get, slice_index, slice_index_or, bit_xor, IfOk};
+ghost use Rattle.std.specs.Prelude.{◌≡◌, ℕ, ◌+◌, ◌-◌, ◌*◌, ◌<◌, ◌≤◌, ◌/◌, ◌%◌, [], Some, length, slice_index, slice_index_or, IfOk};
 ghost use Rattle.std.specs.List.{Contains};
 ghost use Rattle.lc_algebra.specs.Field.{size};
-ghost use Rattle.lc_enumeration.specs.Message.{messages, supports_from};
+ghost use Rattle.lc_algebra.specs.Word.{weight};
+ghost use Rattle.lc_algebra.specs.SpanLaws.{restrict};
+ghost use Rattle.lc_enumeration.specs.Message.{messages};
 ghost use Rattle.lc_enumeration.specs.Plan.{IsInPhase};
 ghost use Rattle.lc_enumeration.specs.Search.{set_count, block_words};
 ghost use Rattle.lc_place.specs.Place.{spot_message};
@@ -12,18 +14,18 @@ ghost use Rattle.lc_kernel.specs.Kernel.{IsPlanOf};
 ghost use Rattle.lc_kernel.specs.Values.{IsSpotAt};
 ghost use Rattle.lc_kernel.specs.Packed.{others, part_at};
 ghost use Rattle.lc_kernel.specs.Grid.{tail_count, tail_index, IsTailRun};
-ghost use Rattle.lc_kernel.specs.Planes.{plane_at};
 ghost use Rattle.lc_kernel.specs.Grids.{IsGrid};
 ghost use Rattle.lc_kernel.specs.Fronts.{AreRowPlanes, AreFrontPlanes, ArePlanes, IsKept, HasFronts};
-ghost use Rattle.lc_kernel.specs.Least.{AreCounted};
+ghost use Rattle.lc_kernel.specs.Least.{IsFirstLeast, AreCounted};
 ghost use Rattle.lc_kernel.specs.Sums.{front_word, AreMultiples, IsRoom};
 
 use crate::adders::sum_planes;
+use crate::counts::first_least;
 use crate::grid::Grid;
 use crate::multiples::{multiple_of, nonzero};
 use crate::planes::{add_apart, pack};
 use crate::runs::pair_index;
-use crate::sweeps::{count_sweeps, head_count};
+use crate::sweeps::{head_count, least_sweeps};
 use crate::tails::{count_tails, pass, tail_of};
 use lc_field::NoMemory;
 use lc_infoset::Sets;
@@ -227,11 +229,22 @@ pub(crate) fn count_fronts(
     }
 }
 
-/// Counts the nonzero symbols, outside the basis, of the words of a block of a level of at least 3, from its
-/// first message on: by the planes of its heads if the table keeps them, support by support
-/// if a support hasn't too many, and else by the symbols of its heads.
+// The least of the counts of a block, and the first word that has it.
+fn first_counted(sets: &Sets, plan: &Plan, block: u64, set: usize, counts: &[u32]) -> (u32, usize)
+    requires some { 0 < length counts.now }
+    requires counted { AreCounted (others sets.now set) (block_words sets.now plan.now.m block) 0 (length counts.now) counts.now }
+    ensures is { IsFirstLeast (length counts.now) (λ i. weight (restrict (others sets.now set) (slice_index_or (block_words sets.now plan.now.m block) i []))) result.0 result.1 }
+    ensures few { result.0 ≤ 255 }
+{
+    let _n = sets.length();
+    first_least(counts)
+}
+
+/// The least number of nonzero symbols, outside the basis, of the words of a block of a level of at least 3, from its
+/// first message on, and the first word that has it: by the planes of its heads if the table keeps them, support by
+/// support if a support hasn't too many, and else by the symbols of its heads. There is a count for each word.
 #[tactic(auto, using(crate::proofs::SumLaws::room_kept))]
-pub(crate) fn count_words(
+pub(crate) fn least_words(
     sets: &Sets,
     plan: &Plan,
     block: u64,
@@ -243,7 +256,7 @@ pub(crate) fn count_words(
     places: &mut [usize],
     tops: &mut [[u64; 4]],
     counts: &mut [u32],
-)
+) -> (u32, usize)
     requires plan { IsPlanOf plan.now sets.now }
     requires phase { (p : ℕ) × IsInPhase (length sets.now.rows) (size sets.now.field) plan.now.m p block }
     requires set { spot.old.set < set_count sets.now }
@@ -257,21 +270,25 @@ pub(crate) fn count_words(
     requires places { length places.old ≡ length sets.now.rows }
     requires tops { length tops.old ≡ 1024 }
     requires some { 0 < length counts.old }
+    requires counts { length counts.old ≤ 4096 }
     requires words { length counts.old ≡ length (block_words sets.now plan.now.m block) }
-    ensures counted { AreCounted (others sets.now spot.old.set) (block_words sets.now plan.now.m block) 0 (length counts.old) counts.new }
+    ensures is { IsFirstLeast (length counts.old) (λ i. weight (restrict (others sets.now spot.old.set) (slice_index_or (block_words sets.now plan.now.m block) i []))) result.0 result.1 }
+    ensures few { result.0 ≤ 255 }
     ensures room { spot.new.room ≡ spot.old.room }
     ensures heads { IsRoom sets.now spot.new heads.new }
 {
+    let _n = sets.length();
+    let set = spot.set();
     if grid.parts.len() != 1 {
         count_tails(sets, plan, block, grid, multiples, spot, heads, counts);
-        return;
+        return first_counted(sets, plan, block, set, counts);
     }
     let level = spot.support().len();
     let Some(many) = head_count(sets, level) else {
         count_fronts(sets, plan, block, grid, spot, fronts, counts);
-        return;
+        return first_counted(sets, plan, block, set, counts);
     };
-    count_sweeps(
+    least_sweeps(
         sets,
         plan,
         block,
@@ -280,5 +297,5 @@ pub(crate) fn count_words(
         &mut places[..level],
         &mut tops[..many],
         counts,
-    );
+    )
 }

@@ -8,6 +8,7 @@ mod counts;
 mod fronts;
 mod grid;
 mod multiples;
+mod nearest;
 mod pairs;
 mod place;
 mod planes;

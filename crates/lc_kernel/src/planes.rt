@@ -1,6 +1,6 @@
 //! The bits of the symbols of words, as numbers, and where words differ.
 
-ghost use Rattle.std.specs.Prelude.{◌≡◌, ℕ, ◌+◌, ◌*◌, ◌/◌, ◌%◌, ◌^◌, ◌<◌, ◌≤◌, [], length, slice_index, slice_index_or, bit_or, bit_xor, count_ones};
+ghost use Rattle.std.specs.Prelude.{◌≡◌, ℕ, ◌+◌, ◌*◌, ◌/◌, ◌^◌, ◌<◌, ◌≤◌, length, slice_index, bit_or, bit_xor, count_ones};
 ghost use Rattle.lc_kernel.specs.Planes.{plane, plane_at, bits_apart};
 
 use std::simd::prelude::*;
@@ -134,98 +134,4 @@ pub(crate) fn add_apart(
     let eights = &bits[fourth..fourth + many];
     let [p, r, s, t] = *head;
     add_four(ones, twos, fours, eights, p, r, s, t, counts);
-}
-
-// The head and the tail of a word, from those after the last word: the tail may be the number of tails.
-#[inline]
-fn wrapped(head: usize, tail: usize, tails: usize) -> (usize, usize)
-    requires some { 0 < tails }
-    requires most { tail ≤ tails }
-    requires few { head ≤ 1024 }
-    ensures place { result.0 * tails + result.1 ≡ head * tails + tail }
-    ensures inside { result.1 < tails }
-{
-    if tail == tails {
-        return (head + 1, 0);
-    }
-    (head, tail)
-}
-
-// At how many symbols a word, whose planes are p and r, differs from another.
-#[inline]
-fn apart_by_two(p: u64, r: u64, one: u64, two: u64) -> u32
-    ensures is { result ≡ count_ones (bit_or (bit_xor r two) (bit_xor p one)) }
-    ensures few { result ≤ 64 }
-{
-    ((r ^ two) | (p ^ one)).count_ones()
-}
-
-// The same as `add_heads` by two planes, those of the tails alone.
-fn add_heads_two(ones: &[u64], twos: &[u64], heads: &[[u64; 4]], first: usize, counts: &mut [u32])
-    requires twos { length twos.now ≡ length ones.now }
-    requires some { 0 < length ones.now }
-    requires inside { first + length counts.old ≤ length heads.now * length ones.now }
-    requires few { length heads.now ≤ 1024 }
-    requires counts { (i : ℕ) → i < length counts.old → slice_index counts.old i ≤ 255 }
-    ensures is { (i : ℕ) → i < length counts.old → slice_index counts.new i ≡ slice_index counts.old i + count_ones (bit_or (bit_xor (slice_index (slice_index_or heads.now ((first + i) / length ones.now) []) 1) (slice_index twos.now ((first + i) % length ones.now))) (bit_xor (slice_index (slice_index_or heads.now ((first + i) / length ones.now) []) 0) (slice_index ones.now ((first + i) % length ones.now)))) }
-{
-    let tails = ones.len();
-    let mut head = first / tails;
-    let mut tail = first % tails;
-    for i in 0..counts.len() {
-        let (row, column) = wrapped(head, tail, tails);
-        let head_bits = &heads[row];
-        let many = apart_by_two(head_bits[0], head_bits[1], ones[column], twos[column]);
-        counts[i] += many;
-        head = row;
-        tail = column + 1;
-    }
-}
-
-/// Adds to each count the number of symbols at which a head differs from one of some words, the tails of the heads.
-/// The bits are as those of `add_apart`; count i is for head (`first` + i) / `tails`, and for word `start` +
-/// (`first` + i) % `tails`.
-pub(crate) fn add_heads(
-    planes: usize,
-    bits: &[u64],
-    words: usize,
-    start: usize,
-    tails: usize,
-    heads: &[[u64; 4]],
-    first: usize,
-    counts: &mut [u32],
-)
-    requires least { 2 ≤ planes }
-    requires most { planes ≤ 4 }
-    requires long { length bits.now ≡ planes * words }
-    requires some { 0 < tails }
-    requires room { start + tails ≤ words }
-    requires small { words ≤ 2 ^ 18 }
-    requires inside { first + length counts.old ≤ length heads.now * tails }
-    requires few { length heads.now ≤ 1024 }
-    requires counts { (i : ℕ) → i < length counts.old → slice_index counts.old i ≤ 255 }
-    ensures is { (i : ℕ) → i < length counts.old → slice_index counts.new i ≡ slice_index counts.old i + count_ones (bits_apart planes (slice_index_or heads.now ((first + i) / tails) []) bits.now words (start + (first + i) % tails)) }
-{
-    if planes == 2 {
-        let second = words + start;
-        let ones = &bits[start..start + tails];
-        let twos = &bits[second..second + tails];
-        add_heads_two(ones, twos, heads, first, counts);
-        return;
-    }
-    let mut done = 0;
-    while done < counts.len() {
-        let tail = (first + done) % tails;
-        let end = (done + (tails - tail)).min(counts.len());
-        let head = &heads[(first + done) / tails];
-        add_apart(
-            planes,
-            bits,
-            words,
-            start + tail,
-            head,
-            &mut counts[done..end],
-        );
-        done = end;
-    }
 }

@@ -33,9 +33,9 @@ pub struct Scratch {
     pub(crate) spot: Spot,
     // the zero word, and then the sums of the entries of a message but the last two
     pub(crate) heads: Vec<Word>,
-    // over 3 elements, and in characteristic 2, the planes of these sums
+    // the planes of these sums
     pub(crate) fronts: Vec<[u64; 4]>,
-    // for these fields too, a support, and the planes of the words of its first places
+    // a support, and the planes of the words of its first places
     pub(crate) places: Vec<usize>,
     pub(crate) tops: Vec<[u64; 4]>,
     pub(crate) counts: Vec<u32>,

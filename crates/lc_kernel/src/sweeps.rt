@@ -1,9 +1,12 @@
-//! The counts of a block of words by supports, over more than 2 elements, if at most 64 columns are outside the basis. The planes of the words of the first places of a support, with all lists of
-//! coefficients, are its heads; they are kept from support to support.
+//! The least words of blocks by supports, over more than 2 elements, if at most 64 columns are outside the basis. The
+//! planes of the words of the first places of a support, with all lists of coefficients, are its heads; they are kept
+//! from support to support.
 
-ghost use Rattle.std.specs.Prelude.{◌≡◌, ℕ, ◌+◌, ◌-◌, ◌*◌, ◌^◌, ◌<◌, ◌≤◌, ◌∷◌, [], Some, None, length, take, slice_get, slice_index, IfSome, IfNone};
+ghost use Rattle.std.specs.Prelude.{◌≡◌, ℕ, ◌+◌, ◌-◌, ◌*◌, ◌^◌, ◌<◌, ◌≤◌, ◌∷◌, [], Some, None, length, take, slice_get, slice_index, slice_index_or, IfSome, IfNone};
 ghost use Rattle.std.specs.List.{Contains};
 ghost use Rattle.lc_algebra.specs.Field.{size};
+ghost use Rattle.lc_algebra.specs.Word.{weight};
+ghost use Rattle.lc_algebra.specs.SpanLaws.{restrict};
 ghost use Rattle.lc_enumeration.specs.Message.{messages, supports_from, leading_lists};
 ghost use Rattle.lc_enumeration.specs.Plan.{IsInPhase};
 ghost use Rattle.lc_enumeration.specs.Search.{set_count, block_words};
@@ -13,21 +16,20 @@ ghost use Rattle.lc_kernel.specs.Packed.{others, part_at};
 ghost use Rattle.lc_kernel.specs.Grid.{tail_count};
 ghost use Rattle.lc_kernel.specs.Grids.{IsGrid};
 ghost use Rattle.lc_kernel.specs.Fronts.{IsKept};
-ghost use Rattle.lc_kernel.specs.Least.{AreCounted};
+ghost use Rattle.lc_kernel.specs.Least.{IsFirstBelow};
 ghost use Rattle.lc_kernel.specs.Sweeps.{list_count, IsListedAt, AreHeads};
 
 use crate::adders::sum_planes;
 use crate::grid::Grid;
 use crate::multiples::nonzero;
-use crate::planes::add_heads;
+use crate::nearest::{joined, nearest};
 use lc_infoset::Sets;
 use lc_place::{Plan, Spot};
 
 /// The most heads that a support has.
 pub(crate) const MOST_HEADS: usize = 1024;
 
-/// So many nonzero multiples of its heads are too many for a support: then most heads would be made for the words of
-/// other blocks.
+/// So many heads, times the nonzero elements, are too many: most of them would be made for the words of other blocks.
 const TOO_MANY: usize = 4096;
 
 /// How many heads a support of a level of at least 3 has, if there aren't too many.
@@ -123,9 +125,9 @@ fn make_heads(sets: &Sets, grid: &Grid, set: usize, support: &[usize], heads: &m
     }
 }
 
-// Counts the words of a block with one support, from one of its lists on, up to the end of the support
-// or of the block. Returns how many these are.
-fn count_support(
+// The least number of nonzero symbols, outside the basis, of words of a block with one support, one for each count,
+// from one of its lists on, and the first of them that has it: if it is below the bound.
+fn least_support(
     sets: &Sets,
     plan: &Plan,
     block: u64,
@@ -135,8 +137,9 @@ fn count_support(
     heads: &[[u64; 4]],
     list: usize,
     done: usize,
+    bound: u32,
     counts: &mut [u32],
-) -> usize
+) -> (u32, usize)
     requires phase { (p : ℕ) × IsInPhase (length sets.now.rows) (size sets.now.field) plan.now.m p block }
     requires set { set < set_count sets.now }
     requires at { IsListedAt sets.now plan.now.m block done set support.now list }
@@ -145,15 +148,9 @@ fn count_support(
     requires many { length heads.now ≡ list_count sets.now (length support.now - 2) }
     requires few { length heads.now ≤ 1024 }
     requires heads { AreHeads sets.now set support.now grid.now.planes (length support.now - 2) heads.now }
-    requires some { done < length counts.old }
-    requires words { length counts.old ≡ length (block_words sets.now plan.now.m block) }
-    requires counted { AreCounted (others sets.now set) (block_words sets.now plan.now.m block) 0 done counts.old }
-    requires rest { (i : ℕ) → done ≤ i → slice_index counts.old i ≡ 0 }
-    ensures counted { AreCounted (others sets.now set) (block_words sets.now plan.now.m block) 0 (done + result) counts.new }
-    ensures rest { (i : ℕ) → done + result ≤ i → slice_index counts.new i ≡ 0 }
-    ensures some { 0 < result }
-    ensures within { done + result ≤ length counts.old }
-    ensures end { done + result < length counts.old → list + result ≡ list_count sets.now (length support.now) }
+    requires lists { list + length counts.old ≤ list_count sets.now (length support.now) }
+    requires words { done + length counts.old ≤ length (block_words sets.now plan.now.m block) }
+    ensures is { IsFirstBelow (length counts.old) (λ i. weight (restrict (others sets.now set) (slice_index_or (block_words sets.now plan.now.m block) (done + i) []))) bound result.0 result.1 }
 {
     let _k = sets.dimension();
     let _n = sets.length();
@@ -162,10 +159,8 @@ fn count_support(
     let first = support[support.len() - 2];
     let last = support[support.len() - 1];
     let pair = grid.starts[first] + (last - first - 1);
-    let count = (heads.len() * tails - list).min(counts.len() - done);
-    let end = done + count;
     let part = &grid.parts[0];
-    add_heads(
+    nearest(
         grid.planes,
         part.bits.as_slice(),
         grid.tails,
@@ -173,9 +168,9 @@ fn count_support(
         tails,
         heads,
         list,
-        &mut counts[done..end],
-    );
-    count
+        bound,
+        counts,
+    )
 }
 
 // Goes to the next support among k places. Returns the first place that changed. None if there is no next
@@ -251,9 +246,21 @@ fn turn(
     }
 }
 
-/// Counts the nonzero symbols, outside the basis, of the words of a block of a level of at least 3, from its
-/// first message on, by the heads of its supports.
-pub(crate) fn count_sweeps(
+// How many words come up to the end of a support, from a list on, or to the end of the block, so many words on.
+fn words_left(lists: usize, list: usize, left: usize) -> usize
+    requires inside { list < lists }
+    requires some { 0 < left }
+    ensures some { 0 < result }
+    ensures within { result ≤ left }
+    ensures lists { list + result ≤ lists }
+    ensures end { result < left → list + result ≡ lists }
+{
+    (lists - list).min(left)
+}
+
+/// The least number of nonzero symbols, outside the basis, of the words of a block of a level of at least 3, from its
+/// first message on, and the first word that has it, by the heads of its supports. There is a count for each word.
+pub(crate) fn least_sweeps(
     sets: &Sets,
     plan: &Plan,
     block: u64,
@@ -262,7 +269,7 @@ pub(crate) fn count_sweeps(
     support: &mut [usize],
     heads: &mut [[u64; 4]],
     counts: &mut [u32],
-)
+) -> (u32, usize)
     requires phase { (p : ℕ) × IsInPhase (length sets.now.rows) (size sets.now.field) plan.now.m p block }
     requires set { spot.now.set < set_count sets.now }
     requires at { IsSpotAt sets.now plan.now.m block 0 spot.now }
@@ -274,26 +281,43 @@ pub(crate) fn count_sweeps(
     requires many { length heads.old ≡ list_count sets.now (length spot.now.support - 2) }
     requires few { length heads.old ≤ 1024 }
     requires some { 0 < length counts.old }
+    requires counts { length counts.old ≤ 4096 }
     requires words { length counts.old ≡ length (block_words sets.now plan.now.m block) }
-    ensures counted { AreCounted (others sets.now spot.now.set) (block_words sets.now plan.now.m block) 0 (length counts.old) counts.new }
+    ensures is { IsFirstBelow (length counts.old) (λ i. weight (restrict (others sets.now spot.now.set) (slice_index_or (block_words sets.now plan.now.m block) i []))) 256 result.0 result.1 }
 {
-    let _elements = nonzero(sets);
+    let elements = nonzero(sets);
     let set = spot.set();
     let mut list = list_of(sets, spot);
     support.copy_from_slice(spot.support());
-    counts.fill(0);
     make_heads(sets, grid, set, support, heads);
+    let lists = heads.len() * (elements * elements);
+    let mut least = 256;
+    let mut at = 0;
     let mut done = 0;
     loop {
-        let count = count_support(
-            sets, plan, block, grid, set, support, heads, list, done, counts,
+        let count = words_left(lists, list, counts.len() - done);
+        let (other, place) = least_support(
+            sets,
+            plan,
+            block,
+            grid,
+            set,
+            support,
+            heads,
+            list,
+            done,
+            least,
+            &mut counts[..count],
         );
+        let (best, index) = joined(least, at, other, place, done);
         if done + count >= counts.len() {
-            return;
+            return (best, index);
         }
         turn(
             sets, plan, block, grid, set, support, heads, list, done, count,
         );
+        least = best;
+        at = index;
         done += count;
         list = 0;
     }

@@ -20,8 +20,7 @@ ghost use Rattle.lc_kernel.specs.Fronts.{HasFronts};
 ghost use Rattle.lc_kernel.specs.Least.{AreCounted};
 ghost use Rattle.lc_kernel.specs.Sums.{front_word, AreMultiples, IsRoom};
 
-use crate::counts::first_least;
-use crate::fronts::count_words;
+use crate::fronts::least_words;
 use crate::grid::Grid;
 use crate::multiples::nonzero;
 use crate::planes::{add_apart, pack};
@@ -265,7 +264,7 @@ pub(crate) fn by_tails(
     let _n = sets.length();
     let level = spot.support().len() as u64;
     let len = plan.block_len(block) as usize;
-    count_words(
+    let (least, at) = least_words(
         sets,
         plan,
         block,
@@ -278,6 +277,5 @@ pub(crate) fn by_tails(
         tops,
         &mut counts[..len],
     );
-    let (least, at) = first_least(&counts[..len]);
     (level + least as u64) * 4_503_599_627_370_496 + (block * 4096 + at as u64)
 }

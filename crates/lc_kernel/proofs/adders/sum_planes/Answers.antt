@@ -1,4 +1,4 @@
-use Rattle.std.proofs.Common.{◌≡◌, sym, ap, ◌∙◌}
+use Rattle.std.proofs.Common.{sym, ap, ◌∙◌}
 use Rattle.lc_algebra.specs.declared.FieldName.TheVariants.{Gf3, Gf5, Gf7, Gf9, Gf11, Gf13}
 use Rattle.lc_algebra.specs.Field.{size, shape_of, shape}
 use Rattle.lc_kernel.proofs.FormulaLaws.{even_sum, sum_over, last_field}

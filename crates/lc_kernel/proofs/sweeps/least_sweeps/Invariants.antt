@@ -1,9 +1,11 @@
-use Rattle.std.proofs.Common.{◌≡◌, ℕ, ◌-◌, ◌<◌, ◌≤◌, length, slice_index}
+use Rattle.std.proofs.Common.{◌-◌, ◌<◌, length, [], slice_index_or}
+use Rattle.lc_algebra.specs.Word.{weight}
+use Rattle.lc_algebra.specs.SpanLaws.{restrict}
 use Rattle.lc_enumeration.specs.Search.{block_words}
 use Rattle.lc_kernel.specs.Packed.{others}
-use Rattle.lc_kernel.specs.Least.{AreCounted}
+use Rattle.lc_kernel.specs.Least.{IsFirstBelow}
 use Rattle.lc_kernel.specs.Sweeps.{IsListedAt, AreHeads}
-use Rattle.lc_kernel.proofs.sweeps.count_sweeps.Given as goal
+use Rattle.lc_kernel.proofs.sweeps.least_sweeps.Given as goal
 
 abbrev pub decreases-loop-counts : goal.decreases-loop-counts
 decreases-loop-counts l = length l.initial.counts - l.done
@@ -13,6 +15,5 @@ invariant-loop-counts l = record {
   inside : l.done < length l.initial.counts;
   at : IsListedAt l.sets l.plan.m l.block l.done l.set l.support l.list;
   heads : AreHeads l.sets l.set l.support l.grid.planes (length l.support - 2) l.heads;
-  counted : AreCounted (others l.sets l.set) (block_words l.sets l.plan.m l.block) 0 l.done l.counts;
-  rest : (i : ℕ) → l.done ≤ i → slice_index l.counts i ≡ 0;
+  first : IsFirstBelow l.done (λ i. weight (restrict (others l.sets l.set) (slice_index_or (block_words l.sets l.plan.m l.block) i []))) 256 l.least l.at;
 }

@@ -1,0 +1,417 @@
+//! Which of some words differs from another at the fewest symbols.
+
+ghost use Rattle.std.specs.Prelude.{◌≡◌, ◌≢◌, ℕ, ◌+◌, ◌*◌, ◌/◌, ◌%◌, ◌^◌, ◌<◌, ◌≤◌, [], true, length, slice_index, slice_index_or, bit_or, bit_xor, count_ones};
+ghost use Rattle.lc_kernel.specs.Planes.{bits_apart};
+ghost use Rattle.lc_kernel.specs.Least.{IsLeastOr, IsFirstBelow};
+
+use crate::counts::least_count;
+use crate::planes::add_apart;
+
+/// About how many words are looked at together.
+const TOGETHER: usize = 128;
+
+// The least of a bound and of the numbers of symbols at which a word, whose planes are p and r, differs from others.
+#[inline]
+fn row_two(ones: &[u64], twos: &[u64], p: u64, r: u64, bound: u32) -> u32
+    requires twos { length twos.now ≡ length ones.now }
+    ensures is { IsLeastOr (length ones.now) (λ i. count_ones (bit_or (bit_xor r (slice_index twos.now i)) (bit_xor p (slice_index ones.now i)))) bound result }
+{
+    let mut least = bound;
+    for i in 0..ones.len() {
+        let apart = (r ^ twos[i]) | (p ^ ones[i]);
+        let many = apart.count_ones();
+        if many < least {
+            least = many;
+        }
+    }
+    least
+}
+
+// The same by three planes.
+#[inline]
+fn row_three(ones: &[u64], twos: &[u64], fours: &[u64], p: u64, r: u64, s: u64, bound: u32) -> u32
+    requires twos { length twos.now ≡ length ones.now }
+    requires fours { length fours.now ≡ length ones.now }
+    ensures is { IsLeastOr (length ones.now) (λ i. count_ones (bit_or (bit_xor s (slice_index fours.now i)) (bit_or (bit_xor r (slice_index twos.now i)) (bit_xor p (slice_index ones.now i))))) bound result }
+{
+    let mut least = bound;
+    for i in 0..ones.len() {
+        let apart = (s ^ fours[i]) | ((r ^ twos[i]) | (p ^ ones[i]));
+        let many = apart.count_ones();
+        if many < least {
+            least = many;
+        }
+    }
+    least
+}
+
+// The same by four planes.
+#[inline]
+fn row_four(
+    ones: &[u64],
+    twos: &[u64],
+    fours: &[u64],
+    eights: &[u64],
+    head: &[u64; 4],
+    bound: u32,
+) -> u32
+    requires twos { length twos.now ≡ length ones.now }
+    requires fours { length fours.now ≡ length ones.now }
+    requires eights { length eights.now ≡ length ones.now }
+    ensures is { IsLeastOr (length ones.now) (λ i. count_ones (bit_or (bit_xor (slice_index head.now 3) (slice_index eights.now i)) (bit_or (bit_xor (slice_index head.now 2) (slice_index fours.now i)) (bit_or (bit_xor (slice_index head.now 1) (slice_index twos.now i)) (bit_xor (slice_index head.now 0) (slice_index ones.now i)))))) bound result }
+{
+    let mut least = bound;
+    for i in 0..ones.len() {
+        let low = (head[1] ^ twos[i]) | (head[0] ^ ones[i]);
+        let apart = (head[3] ^ eights[i]) | ((head[2] ^ fours[i]) | low);
+        let many = apart.count_ones();
+        if many < least {
+            least = many;
+        }
+    }
+    least
+}
+
+// A number that is no more than the number of symbols at which any of some heads differs from any of some words, their
+// tails, by two planes. It is the bound or less.
+fn rows_two(ones: &[u64], twos: &[u64], heads: &[[u64; 4]], bound: u32) -> u32
+    requires twos { length twos.now ≡ length ones.now }
+    ensures low { (h t : ℕ) → h < length heads.now → t < length ones.now → result ≤ count_ones (bit_or (bit_xor (slice_index (slice_index_or heads.now h []) 1) (slice_index twos.now t)) (bit_xor (slice_index (slice_index_or heads.now h []) 0) (slice_index ones.now t))) }
+{
+    let mut least = bound;
+    for row in 0..heads.len() {
+        let head = &heads[row];
+        least = row_two(ones, twos, head[0], head[1], least);
+    }
+    least
+}
+
+// The same by three planes.
+fn rows_three(ones: &[u64], twos: &[u64], fours: &[u64], heads: &[[u64; 4]], bound: u32) -> u32
+    requires twos { length twos.now ≡ length ones.now }
+    requires fours { length fours.now ≡ length ones.now }
+    ensures low { (h t : ℕ) → h < length heads.now → t < length ones.now → result ≤ count_ones (bit_or (bit_xor (slice_index (slice_index_or heads.now h []) 2) (slice_index fours.now t)) (bit_or (bit_xor (slice_index (slice_index_or heads.now h []) 1) (slice_index twos.now t)) (bit_xor (slice_index (slice_index_or heads.now h []) 0) (slice_index ones.now t)))) }
+{
+    let mut least = bound;
+    for row in 0..heads.len() {
+        let head = &heads[row];
+        least = row_three(ones, twos, fours, head[0], head[1], head[2], least);
+    }
+    least
+}
+
+// The same by four planes.
+fn rows_four(
+    ones: &[u64],
+    twos: &[u64],
+    fours: &[u64],
+    eights: &[u64],
+    heads: &[[u64; 4]],
+    bound: u32,
+) -> u32
+    requires twos { length twos.now ≡ length ones.now }
+    requires fours { length fours.now ≡ length ones.now }
+    requires eights { length eights.now ≡ length ones.now }
+    ensures low { (h t : ℕ) → h < length heads.now → t < length ones.now → result ≤ count_ones (bit_or (bit_xor (slice_index (slice_index_or heads.now h []) 3) (slice_index eights.now t)) (bit_or (bit_xor (slice_index (slice_index_or heads.now h []) 2) (slice_index fours.now t)) (bit_or (bit_xor (slice_index (slice_index_or heads.now h []) 1) (slice_index twos.now t)) (bit_xor (slice_index (slice_index_or heads.now h []) 0) (slice_index ones.now t))))) }
+{
+    let mut least = bound;
+    for row in 0..heads.len() {
+        least = row_four(ones, twos, fours, eights, &heads[row], least);
+    }
+    least
+}
+
+// The same for tails whose bits are as those of `add_apart`.
+fn rows_apart(
+    planes: usize,
+    bits: &[u64],
+    words: usize,
+    start: usize,
+    tails: usize,
+    heads: &[[u64; 4]],
+    bound: u32,
+) -> u32
+    requires least { 2 ≤ planes }
+    requires most { planes ≤ 4 }
+    requires long { length bits.now ≡ planes * words }
+    requires room { start + tails ≤ words }
+    requires small { words ≤ 2 ^ 18 }
+    ensures low { (h t : ℕ) → h < length heads.now → t < tails → result ≤ count_ones (bits_apart planes (slice_index_or heads.now h []) bits.now words (start + t)) }
+{
+    let second = words + start;
+    let ones = &bits[start..start + tails];
+    let twos = &bits[second..second + tails];
+    if planes == 2 {
+        return rows_two(ones, twos, heads, bound);
+    }
+    let third = words + second;
+    let fours = &bits[third..third + tails];
+    if planes == 3 {
+        return rows_three(ones, twos, fours, heads, bound);
+    }
+    let fourth = words + third;
+    let eights = &bits[fourth..fourth + tails];
+    rows_four(ones, twos, fours, eights, heads, bound)
+}
+
+// The head of the first of some words, given as those of `nearest`, and that of the first word after them: if they are
+// all words of some of the heads.
+fn heads_of(first: usize, many: usize, tails: usize, heads: usize) -> (usize, usize)
+    requires some { 0 < tails }
+    requires few { heads ≤ 1024 }
+    requires inside { first + many ≤ heads * tails }
+    requires start { first % tails ≡ 0 }
+    requires whole { many % tails ≡ 0 }
+    ensures start { result.0 ≡ first / tails }
+    ensures end { result.1 ≡ first / tails + many / tails }
+    ensures order { result.0 ≤ result.1 }
+    ensures within { result.1 ≤ heads }
+{
+    let from = first / tails;
+    let to = from + many / tails;
+    (from, to)
+}
+
+// Whether some words, given as those of `nearest`, are found to differ at no fewer symbols than a bound: if they are
+// all words of some heads.
+fn are_beyond(
+    planes: usize,
+    bits: &[u64],
+    words: usize,
+    start: usize,
+    tails: usize,
+    heads: &[[u64; 4]],
+    first: usize,
+    many: usize,
+    bound: u32,
+) -> bool
+    requires least { 2 ≤ planes }
+    requires most { planes ≤ 4 }
+    requires long { length bits.now ≡ planes * words }
+    requires some { 0 < tails }
+    requires room { start + tails ≤ words }
+    requires small { words ≤ 2 ^ 18 }
+    requires inside { first + many ≤ length heads.now * tails }
+    requires few { length heads.now ≤ 1024 }
+    ensures low { result ≡ true → (i : ℕ) → i < many → bound ≤ count_ones (bits_apart planes (slice_index_or heads.now ((first + i) / tails) []) bits.now words (start + (first + i) % tails)) }
+{
+    if first % tails != 0 {
+        return false;
+    }
+    if many % tails != 0 {
+        return false;
+    }
+    let (from, to) = heads_of(first, many, tails, heads.len());
+    let least = rows_apart(planes, bits, words, start, tails, &heads[from..to], bound);
+    if least >= bound {
+        return true;
+    }
+    false
+}
+
+// The first index of a count, or how many counts there are.
+fn place_of(counts: &[u32], count: u32) -> usize
+    ensures inside { result ≤ length counts.now }
+    ensures is { result < length counts.now → slice_index counts.now result ≡ count }
+    ensures before { (i : ℕ) → i < result → slice_index counts.now i ≢ count }
+{
+    match counts.iter().position(|other| *other == count) {
+        Some(at) => at,
+        None => counts.len(),
+    }
+}
+
+// The least number of symbols at which a head differs from words from one on, one for each count, and the first of
+// them at which it is so: if it is below the bound.
+fn first_below(
+    planes: usize,
+    bits: &[u64],
+    words: usize,
+    start: usize,
+    head: &[u64; 4],
+    bound: u32,
+    counts: &mut [u32],
+) -> (u32, usize)
+    requires least { 2 ≤ planes }
+    requires most { planes ≤ 4 }
+    requires long { length bits.now ≡ planes * words }
+    requires room { start + length counts.old ≤ words }
+    requires small { words ≤ 2 ^ 18 }
+    ensures is { IsFirstBelow (length counts.old) (λ i. count_ones (bits_apart planes head.now bits.now words (start + i))) bound result.0 result.1 }
+{
+    counts.fill(0);
+    add_apart(planes, bits, words, start, head, counts);
+    let least = least_count(counts, bound);
+    if least >= bound {
+        return (bound, 0);
+    }
+    (least, place_of(counts, least))
+}
+
+/// The better of two: the least of the first `done` words with its index, and that of the words after them.
+#[inline]
+pub(crate) fn joined(least: u32, at: usize, other: u32, place: usize, done: usize) -> (u32, usize)
+    requires room { done + place ≤ 2 ^ 20 }
+    ensures taken { other < least → (result.0 ≡ other) × (result.1 ≡ done + place) }
+    ensures kept { least ≤ other → (result.0 ≡ least) × (result.1 ≡ at) }
+{
+    if other < least {
+        return (other, done + place);
+    }
+    (least, at)
+}
+
+// The same as `nearest`, head by head.
+fn nearest_by_heads(
+    planes: usize,
+    bits: &[u64],
+    words: usize,
+    start: usize,
+    tails: usize,
+    heads: &[[u64; 4]],
+    first: usize,
+    bound: u32,
+    counts: &mut [u32],
+) -> (u32, usize)
+    requires least { 2 ≤ planes }
+    requires most { planes ≤ 4 }
+    requires long { length bits.now ≡ planes * words }
+    requires some { 0 < tails }
+    requires room { start + tails ≤ words }
+    requires small { words ≤ 2 ^ 18 }
+    requires inside { first + length counts.old ≤ length heads.now * tails }
+    requires few { length heads.now ≤ 1024 }
+    requires counts { length counts.old ≤ 4096 }
+    ensures is { IsFirstBelow (length counts.old) (λ i. count_ones (bits_apart planes (slice_index_or heads.now ((first + i) / tails) []) bits.now words (start + (first + i) % tails))) bound result.0 result.1 }
+{
+    let mut least = bound;
+    let mut at = 0;
+    let mut done = 0;
+    while done < counts.len() {
+        let tail = (first + done) % tails;
+        let end = (done + (tails - tail)).min(counts.len());
+        let head = &heads[(first + done) / tails];
+        let (other, place) = first_below(
+            planes,
+            bits,
+            words,
+            start + tail,
+            head,
+            least,
+            &mut counts[done..end],
+        );
+        let (best, index) = joined(least, at, other, place, done);
+        least = best;
+        at = index;
+        done = end;
+    }
+    (least, at)
+}
+
+// The same for a part of the words.
+fn nearest_in(
+    planes: usize,
+    bits: &[u64],
+    words: usize,
+    start: usize,
+    tails: usize,
+    heads: &[[u64; 4]],
+    first: usize,
+    bound: u32,
+    counts: &mut [u32],
+) -> (u32, usize)
+    requires least { 2 ≤ planes }
+    requires most { planes ≤ 4 }
+    requires long { length bits.now ≡ planes * words }
+    requires some { 0 < tails }
+    requires room { start + tails ≤ words }
+    requires small { words ≤ 2 ^ 18 }
+    requires inside { first + length counts.old ≤ length heads.now * tails }
+    requires few { length heads.now ≤ 1024 }
+    requires counts { length counts.old ≤ 4096 }
+    ensures is { IsFirstBelow (length counts.old) (λ i. count_ones (bits_apart planes (slice_index_or heads.now ((first + i) / tails) []) bits.now words (start + (first + i) % tails))) bound result.0 result.1 }
+{
+    let many = counts.len();
+    if are_beyond(planes, bits, words, start, tails, heads, first, many, bound) {
+        return (bound, 0);
+    }
+    nearest_by_heads(
+        planes, bits, words, start, tails, heads, first, bound, counts,
+    )
+}
+
+// How many of the words that are left are looked at together, from a tail of a head on: the rest of the head, or some
+// whole heads, or all words if these are less than a head's.
+fn part_len(tail: usize, tails: usize, left: usize) -> usize
+    requires tail { tail < tails }
+    requires few { tails ≤ 2 ^ 18 }
+    requires some { 0 < left }
+    ensures some { 0 < result }
+    ensures within { result ≤ left }
+{
+    if tail > 0 {
+        return (tails - tail).min(left);
+    }
+    let together = TOGETHER + tails - TOGETHER % tails;
+    if together <= left {
+        return together;
+    }
+    let whole = left - left % tails;
+    if whole > 0 {
+        return whole;
+    }
+    left
+}
+
+/// The least number of symbols at which a head differs from one of some words, its tails, and the first index for
+/// which it is so: if it is below the bound. There is an index for each count.
+///
+/// The bits are as those of `add_apart`; index i is for head (`first` + i) / `tails`, and for word `start` +
+/// (`first` + i) % `tails`.
+pub(crate) fn nearest(
+    planes: usize,
+    bits: &[u64],
+    words: usize,
+    start: usize,
+    tails: usize,
+    heads: &[[u64; 4]],
+    first: usize,
+    bound: u32,
+    counts: &mut [u32],
+) -> (u32, usize)
+    requires least { 2 ≤ planes }
+    requires most { planes ≤ 4 }
+    requires long { length bits.now ≡ planes * words }
+    requires some { 0 < tails }
+    requires room { start + tails ≤ words }
+    requires small { words ≤ 2 ^ 18 }
+    requires inside { first + length counts.old ≤ length heads.now * tails }
+    requires few { length heads.now ≤ 1024 }
+    requires counts { length counts.old ≤ 4096 }
+    ensures is { IsFirstBelow (length counts.old) (λ i. count_ones (bits_apart planes (slice_index_or heads.now ((first + i) / tails) []) bits.now words (start + (first + i) % tails))) bound result.0 result.1 }
+{
+    let mut least = bound;
+    let mut at = 0;
+    let mut done = 0;
+    while done < counts.len() {
+        let place = first + done;
+        let many = part_len(place % tails, tails, counts.len() - done);
+        let end = done + many;
+        let (other, index) = nearest_in(
+            planes,
+            bits,
+            words,
+            start,
+            tails,
+            heads,
+            place,
+            least,
+            &mut counts[done..end],
+        );
+        let (best, next) = joined(least, at, other, index, done);
+        least = best;
+        at = next;
+        done = end;
+    }
+    (least, at)
+}
