@@ -7,7 +7,7 @@ mod counts;
 mod fronts;
 mod grid;
 mod multiples;
-mod pairs;
+mod parts;
 mod place;
 mod planes;
 mod runs;

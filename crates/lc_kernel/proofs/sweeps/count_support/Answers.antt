@@ -11,7 +11,7 @@ use Rattle.lc_kernel.specs.Grids.{IsGridPart}
 use Rattle.lc_kernel.specs.Least.{AreCounted}
 use Rattle.lc_kernel.specs.Sweeps.{listed_spot}
 use Rattle.lc_kernel.proofs.GridLaws.{counted_joined}
-use Rattle.lc_kernel.proofs.PairLaws.{pairs_few}
+use Rattle.lc_kernel.proofs.SupportLaws.{pairs_few}
 use Rattle.lc_kernel.proofs.RunLaws.{pair_read}
 use Rattle.lc_kernel.proofs.TableLaws.{one_of_all}
 use Rattle.lc_kernel.proofs.SweepLaws.{IsSweep, sweep_counted, put_after, pair_there, lists_there}
