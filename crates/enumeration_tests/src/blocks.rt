@@ -291,3 +291,15 @@ fn blocks_without_tables(rt: HostRuntime) -> Result<(), Fail> {
     assert!(rt; shape_agrees(&rt, rt.alloc(), 16, &shape, 2, 3)?);
     Ok(())
 }
+
+// So many rows over 2 elements that the sums of three of them are too many for a table.
+#[test]
+fn blocks_with_sums_of_two_rows(rt: HostRuntime) -> Result<(), Fail> {
+    let shape = Shape {
+        length: 136,
+        dimension: 68,
+        columns: Columns::Dense,
+    };
+    assert!(rt; shape_agrees(&rt, rt.alloc(), 2, &shape, 2, 4)?);
+    Ok(())
+}

@@ -44,7 +44,7 @@ use Rattle.lc_kernel.specs.declared.grid.GridPart.{GridPart}
 use Rattle.lc_kernel.specs.Grid.{tail_pair, tail_count, tail_index, tail_word, tails_in, negative, AreTails, ArePlanesOf, AreTailPlanes, IsTailRun}
 use Rattle.lc_kernel.specs.Grids.{AreGridParts, IsGridPart}
 use Rattle.lc_kernel.proofs.MultipleLaws.{below_product}
-use Rattle.lc_kernel.proofs.PairLaws.{same_pair}
+use Rattle.lc_kernel.proofs.SupportLaws.{same_pair}
 use Rattle.lc_kernel.proofs.TableLaws.{all_pushed, part_cut, cut_inside}
 use Rattle.lc_kernel.proofs.FrontLaws.{entries_are, generates, front_next, front_same, front_word_is, front_word_fits, front_whole}
 use Rattle.lc_kernel.proofs.PlaneLaws.{ones_apart}

@@ -2,15 +2,17 @@
 --   least_none, least_taken, least_kept      no number, and one number more, which is less or isn't
 --   rows_more                    numbers that are no less than another, by rows
 --   counts_value                 the least value of words, from the first of their least counts
---   first_of, one_least          the first of the counts that is the least of them, and that there is one
+--   piece_taken, piece_kept      the least of the counts up to the end of a piece, which has a lesser one or hasn't
+--   first_after, one_least       the first of the counts that is the least of them, and that there is one
 --   least_same, below_same       the same of equal numbers
 --   below_none                   of no number
 --   beyond_none, none_below, found_below      that none is below the bound, and the first of the counts that is the least
 --   below_joined                 the first least number of some and of those after them
 --   below_whole, counted_first   the first of all, if all are below the bound, or by their counts
 --   least_value                  the least value of words, from the first of them that is least
-use Rattle.std.proofs.Common.{◌≡◌, ◌≢◌, ◌⊎◌, ℕ, ◌+◌, ◌-◌, ◌*◌, ◌^◌, ◌<◌, ◌≤◌, List, [], length, slice_index, slice_index_or, refl, sym, ap, ◌∙◌, inl, inr, ⊎_elim, arith}
+use Rattle.std.proofs.Common.{◌≡◌, ◌≢◌, ◌⊎◌, ℕ, ◌+◌, ◌-◌, ◌*◌, ◌^◌, ◌<◌, ◌≤◌, List, [], min, length, take, drop, slice_index, slice_index_or, refl, sym, ap, subst, ◌∙◌, inl, inr, ⊎_elim, arith}
 use Rattle.std.proofs.lemmas.Bool.{cases_lt}
+use Rattle.std.proofs.lemmas.List.{length-take-le, length-drop, get_or-take, get_or-drop}
 use Rattle.lc_algebra.specs.Word.{weight}
 use Rattle.lc_algebra.specs.SpanLaws.{restrict}
 use Rattle.lc_kernel.specs.Values.{IsLeastValue}
@@ -54,23 +56,72 @@ least_value first ws g level n least at few h l = record {
 pub counts_value : (first : ℕ) (ws : List (List ℕ)) (counts : List ℕ) (level n least at : ℕ) → n ≤ 2 ^ 52 → ((i : ℕ) → i < n → weight (slice_index_or ws i []) ≡ level + slice_index counts i) → IsFirstLeast n (λ i. slice_index counts i) least at → IsLeastValue first ws n ((level + least) * 2 ^ 52 + (first + at))
 counts_value first ws counts level n least at few h l = least_value first ws (λ i. slice_index counts i) level n least at few h l
 
--- the first of the counts that is the least of them
-pub first_of : (counts : List ℕ) (least at : ℕ) → IsLeastOr (length counts) (λ i. slice_index counts i) 256 least → at < length counts → slice_index counts at ≡ least → ((i : ℕ) → i < at → slice_index counts i ≢ least) → IsFirstLeast (length counts) (λ i. slice_index counts i) least at
-first_of counts least at h inside is before = record {
-  inside = inside;
-  is = is;
-  low = h.low;
-  first = λ i l. ⊎_elim
-      (λ a. a)
-      (λ a. absurd (before i l (omega (arith, a, h.low i (omega (arith, l, inside))))))
-      (cases_lt least (slice_index counts i));
+least_joined : (m n : ℕ) (f g : ℕ → ℕ) (bound v x : ℕ) → IsLeastOr m f bound v → IsLeastOr n g v x → ((i : ℕ) → i < n → g i ≡ f (m + i)) → IsLeastOr (m + n) f bound x
+least_joined m n f g bound v x h k same = record {
+  most = omega (arith, h.most, k.most);
+  low = λ i l. ⊎_elim
+      (λ a. omega (arith, h.low i a, k.most))
+      (λ a.
+      let j = i - m in
+      let inside : j < n = omega (arith, a, l) in
+      let place : m + j ≡ i = omega (arith, a) in
+      omega (arith, k.low j inside, same j inside, ap f place))
+      (cases_lt i m);
+  attained = λ l. ⊎_elim
+      (λ a. let t = k.attained a in (m + t.0, omega (arith, t.1), sym (same t.0 t.1) ∙ t.2))
+      (λ a. let e : v ≡ x = omega (arith, a, k.most) in let t = h.attained (omega (arith, e, l)) in (t.0, omega (arith, t.1), t.2 ∙ e))
+      (cases_lt x v);
 }
 
--- some count is the least of them
-pub one_least : (counts : List ℕ) (least : ℕ) → 0 < length counts → ((i : ℕ) → i < length counts → slice_index counts i ≤ 255) → IsLeastOr (length counts) (λ i. slice_index counts i) 256 least → ((i : ℕ) → i < length counts → slice_index counts i ≢ least) → ⊥
-one_least counts least some few h none =
+-- the least of the counts up to the end of a piece of at most 256
+pub piece_taken : (counts : List ℕ) (start end v x : ℕ) → start ≤ length counts → end ≡ min (length counts) (start + 256) → IsLeastOr start (λ i. slice_index counts i) 256 v → IsLeastOr (length (take (end - start) (drop start counts))) (λ i. slice_index (take (end - start) (drop start counts)) i) v x → IsLeastOr end (λ i. slice_index counts i) 256 x
+piece_taken counts start end v x l which h k =
+    let n = end - start in
+    let piece = take n (drop start counts) in
+    let long : length piece ≡ n = length-take-le n (drop start counts) (omega (arith, length-drop start counts, which)) in
+    let whole : start + length piece ≡ end = omega (arith, long, which, l) in
+    subst (λ z. IsLeastOr z (λ i. slice_index counts i) 256 x) whole (least_joined start (length piece) (λ i. slice_index counts i) (λ i. slice_index piece i) 256 v x h k (λ i m. get_or-take n (drop start counts) i 0 (omega (arith, m, long)) ∙ get_or-drop start counts i 0))
+
+pub piece_kept : (counts : List ℕ) (start end v x : ℕ) → start ≤ length counts → end ≡ min (length counts) (start + 256) → IsLeastOr start (λ i. slice_index counts i) 256 v → IsLeastOr (length (take (end - start) (drop start counts))) (λ i. slice_index (take (end - start) (drop start counts)) i) v x → v ≤ x → IsLeastOr end (λ i. slice_index counts i) 256 v
+piece_kept counts start end v x l which h k m =
+    let same : x ≡ v = omega (arith, k.most, m) in
+    subst (λ z. IsLeastOr end (λ i. slice_index counts i) 256 z) same (piece_taken counts start end v x l which h k)
+
+-- the first of the counts that is the least of them, if all before an index are greater
+pub first_after : (counts rest : List ℕ) (from least at : ℕ) → rest ≡ drop from counts → IsLeastOr (length counts) (λ i. slice_index counts i) 256 least → ((i : ℕ) → i < from → least < slice_index counts i) → at < length rest → slice_index rest at ≡ least → ((i : ℕ) → i < at → slice_index rest i ≢ least) → IsFirstLeast (length counts) (λ i. slice_index counts i) least (from + at)
+first_after counts rest from least at cut h greater inside is before =
+    let read : (i : ℕ) → slice_index rest i ≡ slice_index counts (from + i) = λ i. ap (λ z. slice_index z i) cut ∙ get_or-drop from counts i 0 in
+    let room : from + at < length counts = omega (arith, inside, ap length cut, length-drop from counts) in
+    record {
+      inside = room;
+      is = sym (read at) ∙ is;
+      low = h.low;
+      first = λ i l. ⊎_elim
+          (λ a. greater i a)
+          (λ a.
+          let j = i - from in
+          let place : from + j ≡ i = omega (arith, a) in
+          let here : slice_index rest j ≡ slice_index counts i = read j ∙ ap (slice_index counts) place in
+          ⊎_elim
+          (λ b. b)
+          (λ b. absurd (before j (omega (arith, l, place)) (omega (arith, b, here, h.low i (omega (arith, l, room))))))
+          (cases_lt least (slice_index counts i)))
+          (cases_lt i from);
+    }
+
+-- some count from such an index on is the least of them
+pub one_least : (counts rest : List ℕ) (from least : ℕ) → rest ≡ drop from counts → 0 < length counts → ((i : ℕ) → i < length counts → slice_index counts i ≤ 255) → IsLeastOr (length counts) (λ i. slice_index counts i) 256 least → ((i : ℕ) → i < from → least < slice_index counts i) → ((i : ℕ) → i < length rest → slice_index rest i ≢ least) → ⊥
+one_least counts rest from least cut some few h greater none =
     let t = h.attained (omega (arith, h.low 0 some, few 0 some)) in
-    none t.0 t.1 t.2
+    let i = t.0 in
+    ⊎_elim
+    (λ a. omega (arith, greater i a, t.2))
+    (λ a.
+    let j = i - from in
+    let place : from + j ≡ i = omega (arith, a) in
+    let read : slice_index rest j ≡ slice_index counts (from + j) = ap (λ z. slice_index z j) cut ∙ get_or-drop from counts j 0 in
+    none j (omega (arith, ap length cut, length-drop from counts, t.1, a)) (read ∙ ap (slice_index counts) place ∙ t.2))
+    (cases_lt i from)
 
 -- the same of equal numbers
 

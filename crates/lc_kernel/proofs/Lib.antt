@@ -4,7 +4,7 @@ pub mod ScanLaws
 pub mod PackLaws
 pub mod PlaneLaws
 pub mod GridLaws
-pub mod PairLaws
+pub mod SupportLaws
 pub mod LeastLaws
 pub mod RunLaws
 pub mod TableLaws

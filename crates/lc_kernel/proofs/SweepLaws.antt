@@ -486,7 +486,7 @@ heads_less d i w l m = pow-le-pow_right l (omega (arith, m))
 
 -- the pair of a support, and how many lists of coefficients it has
 
-pub pair_there : (C : Matrix) (j y : ℕ) (u starts : List ℕ) (first : ℕ) → AreStarts (length C.rows) starts → Contains (messages (length C.rows) (size C.field) (length u)) (spot_message (listed_spot C j u y)) → 3 ≤ length u → first ≡ slice_index_or starts (slice_index u (length u - 2)) first → slice_get (supports_from 0 (length C.rows) 2) (first + (slice_index u (length u - 1) - slice_index u (length u - 2) - 1)) ≡ Some (pair_of (listed_spot C j u y))
+pub pair_there : (C : Matrix) (j y : ℕ) (u starts : List ℕ) (first : ℕ) → AreStarts (length C.rows) 2 starts → Contains (messages (length C.rows) (size C.field) (length u)) (spot_message (listed_spot C j u y)) → 3 ≤ length u → first ≡ slice_index_or starts (slice_index u (length u - 2)) first → slice_get (supports_from 0 (length C.rows) 2) (first + (slice_index u (length u - 1) - slice_index u (length u - 2) - 1)) ≡ Some (pair_of (listed_spot C j u y))
 pair_there C j y u starts first h message level is =
     let s = listed_spot C j u y in
     let two : 2 ≤ length u = omega (arith, level) in

@@ -19,7 +19,7 @@ use Rattle.lc_kernel.specs.declared.grid.Grid.{Grid}
 use Rattle.lc_kernel.specs.declared.table.Table.{Table}
 use Rattle.lc_kernel.specs.Grids.{AreGrids}
 use Rattle.lc_infoset.specs.Bound.{set_at}
-use Rattle.lc_kernel.specs.declared.pairs.Part.{Part}
+use Rattle.lc_kernel.specs.declared.parts.Part.{Part}
 use Rattle.lc_kernel.specs.Packed.{others, part_at, IsPart}
 use Rattle.lc_kernel.specs.Tables.{AreParts, AreTables}
 use Rattle.lc_kernel.proofs.PackLaws.{two, outside_inside}
@@ -73,7 +73,7 @@ cut_inside C j start n cols e t l =
     let inside : start + t < length (others C j) = omega (arith, l, long, length-drop start cols, ap length e) in
     omega (arith, here, ap (λ z. slice_index z (start + t)) e, outside_inside C.columns (start + t) (set_at C j).basis inside)
 
-pub parts_pushed : (C : Matrix) (j start end : ℕ) (cols : List ℕ) (ps more : List Part) (p : Part) → cols ≡ others C j → start ≡ 64 * length ps → start ≤ length cols → end ≡ min (length cols) (start + 64) → AreParts C j ps → IsPart C j (take (end - start) (drop start cols)) p.rows.items p.sums.items → more ≡ ps ++ p ∷ [] → AreParts C j more
-parts_pushed C j start end cols ps more p e s l which h is made =
-    all_pushed (λ b (x : Part). IsPart C j (part_at (others C j) b) x.rows.items x.sums.items) ps more p h
-    (subst (λ z. IsPart C j z p.rows.items p.sums.items) (part_cut cols (length ps) start end s l which ∙ ap (λ z. part_at z (length ps)) e) is) made
+pub parts_pushed : (C : Matrix) (j t start end : ℕ) (cols : List ℕ) (ps more : List Part) (p : Part) → cols ≡ others C j → start ≡ 64 * length ps → start ≤ length cols → end ≡ min (length cols) (start + 64) → AreParts C j t ps → IsPart C j t (take (end - start) (drop start cols)) p.rows.items p.sums.items → more ≡ ps ++ p ∷ [] → AreParts C j t more
+parts_pushed C j t start end cols ps more p e s l which h is made =
+    all_pushed (λ b (x : Part). IsPart C j t (part_at (others C j) b) x.rows.items x.sums.items) ps more p h
+    (subst (λ z. IsPart C j t z p.rows.items p.sums.items) (part_cut cols (length ps) start end s l which ∙ ap (λ z. part_at z (length ps)) e) is) made

@@ -27,7 +27,7 @@ pub record IsGrid (C : Matrix) (j n tails : ℕ) (ps : List GridPart) (starts : 
   pub small : tails ≤ 2 ^ 18
   pub wide : length (others C j) ≤ 64 * length ps
   pub parts : AreGridParts C j n ps
-  pub first : AreStarts (length C.rows) starts
+  pub first : AreStarts (length C.rows) 2 starts
 
 pub record AreGrids (C : Matrix) (gs : List Grid) : Type 0 where
   pub each : (j : ℕ) (g : Grid) → slice_get gs j ≡ Some g → IsGrid C j g.planes g.tails g.parts.items g.starts.items

@@ -1,17 +1,19 @@
--- Words over 2 elements as numbers, and the sums of two rows of an information set.
+-- Words over 2 elements as numbers, and the sums of some rows of an information set.
 --   packed w                the number whose bits are the symbols of w, the first one the lowest
 --   outside n set           the columns below n that aren't in the set
 --   others C j              the columns outside the basis of set j
 --   part_at cols b          part b of some columns: 64 of them from 64 b on, or what is left
 --   bits_at cols w          the packed symbols of a word at some columns
---   EndsAt k a s            from index s on, the pairs of k rows are those of the rows from a on
---   ArePairsSoFar k rows sums      the sums of the pairs below an index
---   ArePairs k rows sums    the sums of two of k rows of bits, in the order of the pairs
---   AreStarts k starts      for each of k rows the index of its first pair
+--   row_sum rows u          the exclusive or of the rows at some places
+--   EndsAt k t a s          from index s on, the supports of t of k places are those of the places from a on
+--   AreStarts k t starts    for each of k places, and the one after them, the index of its first support of t places
+--   AreSumsSoFar k t rows sums      the sums of rows at the supports of t places below an index
+--   AreRowSums k t rows sums        the sums of t of k rows of bits, in the order of the supports
 --   AreRowBits C j cols rows      the bits of the rows of the generator of set j at some columns
---   IsPart C j cols rows sums      the rows of set j over 2 elements at some columns, and the sums of two
---   head_of s, pair_of s    the support of a message but its last two places, and these
-use Rattle.std.specs.Prelude.{◌≡◌, ℕ, ◌+◌, ◌-◌, ◌*◌, ◌<◌, not, List, [], ◌∷◌, length, take, drop, Some, filter, bit_xor, slice_get, slice_index, slice_index_or}
+--   IsPart C j t cols rows sums    the rows of set j over 2 elements at some columns, and the sums of t of them
+--   head_of t s, tail_of t s       the support of a message but its last t places, and these
+--   pair_of s               its last two places
+use Rattle.std.specs.Prelude.{◌≡◌, ℕ, ◌+◌, ◌-◌, ◌*◌, ◌<◌, ◌≤◌, not, List, [], ◌∷◌, length, take, drop, Some, filter, bit_xor, slice_get, slice_index, slice_index_or}
 use Rattle.lc_algebra.specs.declared.FieldName.TheVariants.{Gf2}
 use Rattle.lc_algebra.specs.Span.{below}
 use Rattle.lc_algebra.specs.Matrix.{Matrix}
@@ -38,33 +40,40 @@ part_at cols b = take 64 (drop (64 * b) cols)
 unfoldable pub bits_at : List ℕ → List ℕ → ℕ
 bits_at cols w = packed (restrict cols w)
 
-pub record EndsAt (k a s : ℕ) : Type 0 where
-  pub at : (x : ℕ) → slice_get (supports_from 0 k 2) (s + x) ≡ slice_get (supports_from a (k - a) 2) x
-  pub long : s + length (supports_from a (k - a) 2) ≡ length (supports_from 0 k 2)
+unfoldable pub row_sum : List ℕ → List ℕ → ℕ
+row_sum rows [] = 0
+row_sum rows (a ∷ u) = bit_xor (slice_index rows a) (row_sum rows u)
 
-pub record ArePairsSoFar (k : ℕ) (rows sums : List ℕ) : Type 0 where
-  pub sum : (r a b : ℕ) → r < length sums → slice_get (supports_from 0 k 2) r ≡ Some (a ∷ b ∷ []) → slice_index sums r ≡ bit_xor (slice_index rows a) (slice_index rows b)
+pub record EndsAt (k t a s : ℕ) : Type 0 where
+  pub at : (x : ℕ) → slice_get (supports_from 0 k t) (s + x) ≡ slice_get (supports_from a (k - a) t) x
+  pub long : s + length (supports_from a (k - a) t) ≡ length (supports_from 0 k t)
 
-pub record ArePairs (k : ℕ) (rows sums : List ℕ) : Type 0 where
+pub record AreStarts (k t : ℕ) (starts : List ℕ) : Type 0 where
+  pub firsts : length starts ≡ k + 1
+  pub first : (a : ℕ) → a ≤ k → EndsAt k t a (slice_index starts a)
+
+pub record AreSumsSoFar (k t : ℕ) (rows sums : List ℕ) : Type 0 where
+  pub sum : (r : ℕ) (u : List ℕ) → r < length sums → slice_get (supports_from 0 k t) r ≡ Some u → slice_index sums r ≡ row_sum rows u
+
+pub record AreRowSums (k t : ℕ) (rows sums : List ℕ) : Type 0 where
   pub count : length rows ≡ k
-  pub long : length sums ≡ length (supports_from 0 k 2)
-  pub sum : (r a b : ℕ) → slice_get (supports_from 0 k 2) r ≡ Some (a ∷ b ∷ []) → slice_index sums r ≡ bit_xor (slice_index rows a) (slice_index rows b)
-
-pub record AreStarts (k : ℕ) (starts : List ℕ) : Type 0 where
-  pub firsts : length starts ≡ k
-  pub first : (a : ℕ) → a < k → EndsAt k a (slice_index starts a)
+  pub long : length sums ≡ length (supports_from 0 k t)
+  pub sum : (r : ℕ) (u : List ℕ) → slice_get (supports_from 0 k t) r ≡ Some u → slice_index sums r ≡ row_sum rows u
 
 pub record AreRowBits (C : Matrix) (j : ℕ) (cols rows : List ℕ) : Type 0 where
   pub count : length rows ≡ length C.rows
   pub bits : (i : ℕ) → i < length C.rows → slice_index rows i ≡ bits_at cols (slice_index_or (generator_at C j) i [])
 
-pub record IsPart (C : Matrix) (j : ℕ) (cols rows sums : List ℕ) : Type 0 where
+pub record IsPart (C : Matrix) (j t : ℕ) (cols rows sums : List ℕ) : Type 0 where
   pub field : C.field ≡ Gf2
   pub bits : AreRowBits C j cols rows
-  pub pairs : ArePairs (length C.rows) rows sums
+  pub tails : AreRowSums (length C.rows) t rows sums
 
-abbrev pub head_of : SpotState → List ℕ
-head_of s = take (length s.support - 2) s.support
+abbrev pub head_of : ℕ → SpotState → List ℕ
+head_of t s = take (length s.support - t) s.support
+
+abbrev pub tail_of : ℕ → SpotState → List ℕ
+tail_of t s = drop (length s.support - t) s.support
 
 abbrev pub pair_of : SpotState → List ℕ
 pair_of s = slice_index s.support (length s.support - 2) ∷ slice_index s.support (length s.support - 1) ∷ []

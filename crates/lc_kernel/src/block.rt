@@ -47,7 +47,8 @@ pub fn least(sets: &Sets, plan: &Plan, block: u64, scratch: &mut Scratch) -> u64
     )
 }
 
-// The same in parts: by runs if its set has a table and its level is at least 2, and else message by message.
+// The same in parts: by runs if its set has a table with tails that its level can have, and else message by
+// message.
 #[tactic(auto, using(crate::proofs::SumLaws::room_kept))]
 fn least_in(
     sets: &Sets,
@@ -92,8 +93,11 @@ fn least_in(
             sets, plan, block, grid, multiples, spot, heads, fronts, places, tops, counts,
         );
     }
-    if level >= 2 && set < tables.len() {
-        return by_runs(sets, plan, block, &tables[set], spot, counts);
+    if set < tables.len() {
+        let table = &tables[set];
+        if level >= table.tail {
+            return by_runs(sets, plan, block, table, spot, counts);
+        }
     }
     scan(sets, plan, block, stack)
 }

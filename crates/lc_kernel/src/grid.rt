@@ -14,7 +14,7 @@ ghost use Rattle.lc_kernel.specs.Fronts.{AreRowPlanes, HasFronts};
 
 use crate::fronts::row_planes;
 use crate::multiples::{multiple_of, nonzero};
-use crate::pairs::pair_starts;
+use crate::parts::pair_starts;
 use crate::planes::{gather, plane_of};
 use crate::table::columns_outside;
 use lc_field::NoMemory;
@@ -117,7 +117,7 @@ fn push_row(
     requires multiples { AreMultiples sets.now multiples.now }
     requires set { j < set_count sets.now }
     requires row { a < length sets.now.rows }
-    requires first { EndsAt (length sets.now.rows) a first }
+    requires first { EndsAt (length sets.now.rows) 2 a first }
     requires tails { AreTails sets.now j (first * tail_count sets.now) words.old.items }
     ensures tails { IfOk result (λ _. AreTails sets.now j ((first + (length sets.now.rows - a - 1)) * tail_count sets.now) words.new.items) }
 {

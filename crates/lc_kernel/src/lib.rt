@@ -9,7 +9,7 @@ mod fronts;
 mod grid;
 mod multiples;
 mod nearest;
-mod pairs;
+mod parts;
 mod place;
 mod planes;
 mod runs;

@@ -1,5 +1,5 @@
 //! The least value of a block of words over 2 elements, by runs of messages that share all but their last
-//! two entries.
+//! entries: as many as the tails of the set's table have places, two or three.
 
 ghost use Rattle.std.specs.Prelude.{◌≡◌, ℕ, ◌+◌, ◌-◌, ◌*◌, ◌^◌, ◌<◌, ◌≤◌, Some, length, take, slice_get, slice_index, option_map};
 ghost use Rattle.std.specs.List.{Contains};
@@ -10,12 +10,12 @@ ghost use Rattle.lc_enumeration.specs.Search.{set_count, block_words, block_leas
 ghost use Rattle.lc_place.specs.Place.{spot_message};
 ghost use Rattle.lc_kernel.specs.Kernel.{IsPlanOf};
 ghost use Rattle.lc_kernel.specs.Values.{IsSpotAt};
-ghost use Rattle.lc_kernel.specs.Packed.{others, part_at, bits_at, pair_of, AreStarts};
+ghost use Rattle.lc_kernel.specs.Packed.{others, part_at, bits_at, tail_of, pair_of, AreStarts};
 ghost use Rattle.lc_kernel.specs.Tables.{IsTable};
 ghost use Rattle.lc_kernel.specs.Least.{AreCounted};
 ghost use Rattle.lc_kernel.specs.Sums.{front_word};
 
-use crate::counts::{add_ones, first_least};
+use crate::counts::{add_ones, first_least, put_ones};
 use crate::table::Table;
 use lc_infoset::Sets;
 use lc_place::{Plan, Spot};
@@ -24,9 +24,10 @@ use lc_place::{Plan, Spot};
 pub(crate) fn pair_index(sets: &Sets, starts: &[usize], spot: &Spot) -> usize
     requires message { Contains (messages (length sets.now.rows) (size sets.now.field) (length spot.now.support)) (spot_message spot.now) }
     requires level { 2 ≤ length spot.now.support }
-    requires starts { AreStarts (length sets.now.rows) starts.now }
+    requires starts { AreStarts (length sets.now.rows) 2 starts.now }
     ensures is { slice_get (supports_from 0 (length sets.now.rows) 2) result ≡ Some (pair_of spot.now) }
     ensures inside { result < length (supports_from 0 (length sets.now.rows) 2) }
+    ensures from { slice_index starts.now (slice_index spot.now.support (length spot.now.support - 2)) ≤ result }
 {
     let _k = sets.dimension();
     let _n = sets.length();
@@ -36,27 +37,46 @@ pub(crate) fn pair_index(sets: &Sets, starts: &[usize], spot: &Spot) -> usize
     starts[first] + (last - first - 1)
 }
 
-// The bits, in a part of the columns, of the word of the entries of a spot but the last two.
+// The index of the tail of a spot: of its last places, as many as the tails of the table have.
+fn tail_index(sets: &Sets, table: &Table, spot: &Spot) -> usize
+    requires message { Contains (messages (length sets.now.rows) (size sets.now.field) (length spot.now.support)) (spot_message spot.now) }
+    requires level { table.now.tail ≤ length spot.now.support }
+    requires table { IsTable sets.now spot.now.set table.now }
+    ensures is { slice_get (supports_from 0 (length sets.now.rows) table.now.tail) result ≡ Some (tail_of table.now.tail spot.now) }
+    ensures inside { result < length (supports_from 0 (length sets.now.rows) table.now.tail) }
+{
+    let _k = sets.dimension();
+    let _n = sets.length();
+    let pair = pair_index(sets, &table.pairs, spot);
+    if table.tail == 2 {
+        return pair;
+    }
+    let support = spot.support();
+    let first = support[support.len() - 3];
+    table.starts[first] + (pair - table.pairs[first + 1])
+}
+
+// The bits, in a part of the columns, of the word of the entries of a spot before its tail.
 fn head_bits(sets: &Sets, table: &Table, part: usize, spot: &Spot) -> u64
     requires set { spot.now.set < set_count sets.now }
     requires message { Contains (messages (length sets.now.rows) (size sets.now.field) (length spot.now.support)) (spot_message spot.now) }
-    requires level { 2 ≤ length spot.now.support }
-    requires table { IsTable sets.now spot.now.set table.now.parts.items table.now.starts.items }
+    requires level { table.now.tail ≤ length spot.now.support }
+    requires table { IsTable sets.now spot.now.set table.now }
     requires part { part < length table.now.parts.items }
-    ensures is { result ≡ bits_at (part_at (others sets.now spot.now.set) part) (front_word sets.now spot.now (length spot.now.support - 2)) }
+    ensures is { result ≡ bits_at (part_at (others sets.now spot.now.set) part) (front_word sets.now spot.now (length spot.now.support - table.now.tail)) }
 {
     let _k = sets.dimension();
     let _n = sets.length();
     let rows = table.parts[part].rows.as_slice();
     let mut bits = 0;
-    for i in 0..spot.support().len() - 2 {
+    for i in 0..spot.support().len() - table.tail {
         bits ^= rows[spot.support()[i]];
     }
     bits
 }
 
-// Adds to the counts of a run what a part of the columns has. The run's words begin at an offset of a block
-// and their pairs at an index.
+// Counts for a run what a part of the columns has: puts what the first part has in place of the old counts,
+// and adds what another has. The run's words begin at an offset of a block and their tails at an index.
 fn add_part(
     sets: &Sets,
     plan: &Plan,
@@ -71,13 +91,13 @@ fn add_part(
     requires phase { (p : ℕ) × IsInPhase (length sets.now.rows) (size sets.now.field) plan.now.m p block }
     requires set { spot.now.set < set_count sets.now }
     requires at { IsSpotAt sets.now plan.now.m block done spot.now }
-    requires level { 2 ≤ length spot.now.support }
-    requires table { IsTable sets.now spot.now.set table.now.parts.items table.now.starts.items }
+    requires level { table.now.tail ≤ length spot.now.support }
+    requires table { IsTable sets.now spot.now.set table.now }
     requires part { part < length table.now.parts.items }
-    requires start { slice_get (supports_from 0 (length sets.now.rows) 2) start ≡ Some (pair_of spot.now) }
-    requires pairs { start + length counts.old ≤ length (supports_from 0 (length sets.now.rows) 2) }
+    requires start { slice_get (supports_from 0 (length sets.now.rows) table.now.tail) start ≡ Some (tail_of table.now.tail spot.now) }
+    requires tails { start + length counts.old ≤ length (supports_from 0 (length sets.now.rows) table.now.tail) }
     requires words { done + length counts.old ≤ length (block_words sets.now plan.now.m block) }
-    requires counted { AreCounted (take (64 * part) (others sets.now spot.now.set)) (block_words sets.now plan.now.m block) done (length counts.old) counts.old }
+    requires counted { 0 < part → AreCounted (take (64 * part) (others sets.now spot.now.set)) (block_words sets.now plan.now.m block) done (length counts.old) counts.old }
     ensures counted { AreCounted (take (64 * (part + 1)) (others sets.now spot.now.set)) (block_words sets.now plan.now.m block) done (length counts.old) counts.new }
 {
     let _n = sets.length();
@@ -85,6 +105,10 @@ fn add_part(
     let prefix = head_bits(sets, table, part, spot);
     let sums = table.parts[part].sums.as_slice();
     let end = start + counts.len();
+    if part == 0 {
+        put_ones(&sums[start..end], prefix, counts);
+        return;
+    }
     add_ones(&sums[start..end], prefix, counts);
 }
 
@@ -102,14 +126,13 @@ fn count_run(
     requires phase { (p : ℕ) × IsInPhase (length sets.now.rows) (size sets.now.field) plan.now.m p block }
     requires set { spot.now.set < set_count sets.now }
     requires at { IsSpotAt sets.now plan.now.m block done spot.now }
-    requires level { 2 ≤ length spot.now.support }
-    requires table { IsTable sets.now spot.now.set table.now.parts.items table.now.starts.items }
-    requires start { slice_get (supports_from 0 (length sets.now.rows) 2) start ≡ Some (pair_of spot.now) }
-    requires pairs { start + length counts.old ≤ length (supports_from 0 (length sets.now.rows) 2) }
+    requires level { table.now.tail ≤ length spot.now.support }
+    requires table { IsTable sets.now spot.now.set table.now }
+    requires start { slice_get (supports_from 0 (length sets.now.rows) table.now.tail) start ≡ Some (tail_of table.now.tail spot.now) }
+    requires tails { start + length counts.old ≤ length (supports_from 0 (length sets.now.rows) table.now.tail) }
     requires words { done + length counts.old ≤ length (block_words sets.now plan.now.m block) }
     ensures counted { AreCounted (others sets.now spot.now.set) (block_words sets.now plan.now.m block) done (length counts.old) counts.new }
 {
-    counts.fill(0);
     for part in 0..table.parts.len() {
         add_part(sets, plan, block, table, part, spot, start, done, counts);
     }
@@ -127,10 +150,10 @@ fn next_head(
 )
     requires plan { IsPlanOf plan.now sets.now }
     requires at { IsSpotAt sets.now plan.now.m block from spot.old }
-    requires level { 2 ≤ length spot.old.support }
-    requires table { IsTable sets.now spot.old.set table.now.parts.items table.now.starts.items }
+    requires level { table.now.tail ≤ length spot.old.support }
+    requires table { IsTable sets.now spot.old.set table.now }
     requires later { from < done }
-    requires end { (r : ℕ) × (slice_get (supports_from 0 (length sets.now.rows) 2) r ≡ Some (pair_of spot.old)) × (r + (done - from) ≡ length (supports_from 0 (length sets.now.rows) 2)) }
+    requires end { (r : ℕ) × (slice_get (supports_from 0 (length sets.now.rows) table.now.tail) r ≡ Some (tail_of table.now.tail spot.old)) × (r + (done - from) ≡ length (supports_from 0 (length sets.now.rows) table.now.tail)) }
     requires inside { done < length (block_words sets.now plan.now.m block) }
     ensures at { IsSpotAt sets.now plan.now.m block done spot.new }
     ensures level { length spot.new.support ≡ length spot.old.support }
@@ -138,7 +161,7 @@ fn next_head(
     ensures room { spot.new.room ≡ spot.old.room }
 {
     let k = sets.dimension();
-    spot.to_last_pair(k);
+    spot.to_last_places(table.tail, k);
     let _first = plan.step(spot);
 }
 
@@ -156,19 +179,19 @@ fn one_run(
     requires phase { (p : ℕ) × IsInPhase (length sets.now.rows) (size sets.now.field) plan.now.m p block }
     requires set { spot.now.set < set_count sets.now }
     requires at { IsSpotAt sets.now plan.now.m block done spot.now }
-    requires level { 2 ≤ length spot.now.support }
-    requires table { IsTable sets.now spot.now.set table.now.parts.items table.now.starts.items }
+    requires level { table.now.tail ≤ length spot.now.support }
+    requires table { IsTable sets.now spot.now.set table.now }
     requires some { done < length counts.old }
     requires words { length counts.old ≡ length (block_words sets.now plan.now.m block) }
     requires counted { AreCounted (others sets.now spot.now.set) (block_words sets.now plan.now.m block) 0 done counts.old }
     ensures counted { AreCounted (others sets.now spot.now.set) (block_words sets.now plan.now.m block) 0 (done + result) counts.new }
     ensures some { 0 < result }
     ensures within { done + result ≤ length counts.old }
-    ensures end { done + result < length counts.old → (r : ℕ) × (slice_get (supports_from 0 (length sets.now.rows) 2) r ≡ Some (pair_of spot.now)) × (r + result ≡ length (supports_from 0 (length sets.now.rows) 2)) }
+    ensures end { done + result < length counts.old → (r : ℕ) × (slice_get (supports_from 0 (length sets.now.rows) table.now.tail) r ≡ Some (tail_of table.now.tail spot.now)) × (r + result ≡ length (supports_from 0 (length sets.now.rows) table.now.tail)) }
 {
-    let start = pair_index(sets, &table.starts, spot);
-    let pairs = table.parts[0].sums.len();
-    let count = (pairs - start).min(counts.len() - done);
+    let start = tail_index(sets, table, spot);
+    let tails = table.parts[0].sums.len();
+    let count = (tails - start).min(counts.len() - done);
     let end = done + count;
     count_run(
         sets,
@@ -183,7 +206,7 @@ fn one_run(
     count
 }
 
-// Counts the words of a block of a level of at least 2, from its first message on.
+// Counts the words of a block of a level that has tails, from its first message on.
 fn count_block(
     sets: &Sets,
     plan: &Plan,
@@ -196,8 +219,8 @@ fn count_block(
     requires phase { (p : ℕ) × IsInPhase (length sets.now.rows) (size sets.now.field) plan.now.m p block }
     requires set { spot.old.set < set_count sets.now }
     requires at { IsSpotAt sets.now plan.now.m block 0 spot.old }
-    requires level { 2 ≤ length spot.old.support }
-    requires table { IsTable sets.now spot.old.set table.now.parts.items table.now.starts.items }
+    requires level { table.now.tail ≤ length spot.old.support }
+    requires table { IsTable sets.now spot.old.set table.now }
     requires some { 0 < length counts.old }
     requires words { length counts.old ≡ length (block_words sets.now plan.now.m block) }
     ensures counted { AreCounted (others sets.now spot.old.set) (block_words sets.now plan.now.m block) 0 (length counts.old) counts.new }
@@ -222,7 +245,8 @@ fn count_block(
     }
 }
 
-/// The least value of a block of a level of at least 2, over 2 elements, from its first message on.
+/// The least value of a block over 2 elements, from its first message on. Its messages have at least as many
+/// entries as the tails of the table have places.
 pub(crate) fn by_runs(
     sets: &Sets,
     plan: &Plan,
@@ -235,8 +259,8 @@ pub(crate) fn by_runs(
     requires block { block < total plan.now.k plan.now.q plan.now.m }
     requires set { spot.old.set < set_count sets.now }
     requires at { IsSpotAt sets.now plan.now.m block 0 spot.old }
-    requires level { 2 ≤ length spot.old.support }
-    requires table { IsTable sets.now spot.old.set table.now.parts.items table.now.starts.items }
+    requires level { table.now.tail ≤ length spot.old.support }
+    requires table { IsTable sets.now spot.old.set table.now }
     requires room { length counts.old ≡ 4096 }
     ensures is { option_map board_value (block_least sets.now plan.now.m block) ≡ Some result }
     ensures room { spot.new.room ≡ spot.old.room }

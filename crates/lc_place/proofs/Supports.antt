@@ -5,18 +5,19 @@
 --   rising_tail, head_above    its tail rises too, above its head
 --   rising_from                the entries of a rising list grow at least by 1
 --   support_last, support_moved     the next support, from the last place that can move
+--   moved_to_end               a support whose places from one on have moved to the end
 --   IsSupport i k w s          s has w places, rising, from i to i + k - 1
 --   support_shape              each of the supports does
 --   length-supports            how many supports there are
 --   support_first              the first one is the first w places
 --   support_next               the support at the next place is the next support
 --   support_takes, support_leaves   whether the support at a place has the first place
-use Rattle.std.proofs.Common.{◌≡◌, ℕ, zero, suc, ◌+◌, ◌-◌, ◌<◌, ◌≤◌, true, false, cond, ltb, eqb, List, [], ◌∷◌, ◌++◌, map, length, get_or, Option, Some, None, refl, ap, sym, ◌∙◌, arith, length-append, ◌⊎◌, inl, inr}
+use Rattle.std.proofs.Common.{◌≡◌, ℕ, zero, suc, ◌+◌, ◌-◌, ◌<◌, ◌≤◌, true, false, cond, ltb, eqb, List, [], ◌∷◌, ◌++◌, map, length, take, drop, get_or, Option, Some, None, refl, ap, sym, ◌∙◌, arith, length-append, ◌⊎◌, inl, inr}
 use Rattle.std.specs.Prelude.{slice_get}
 use Rattle.std.specs.Option.{option_map}
 use Rattle.std.proofs.lemmas.Bool.{cases_lt}
 use Rattle.std.proofs.lemmas.Bool.Decides.{nat_tests}
-use Rattle.std.proofs.lemmas.List.{length-map}
+use Rattle.std.proofs.lemmas.List.{length-map, length-take-le, length-drop, get_or-take, get_or-drop, take-append-drop, ext_get_or}
 use Rattle.std.proofs.lemmas.Option.{slice_get-map, slice_get_within, slice_get_past, slice_get-get_or, none-some}
 use Rattle.lc_enumeration.specs.Message.{supports_from, numbers_from, choose}
 use Rattle.lc_place.proofs.Products.{get-append_left, get-append_right, map_part}
@@ -80,6 +81,18 @@ row_of_numbers i (suc n) (p ∷ t) e h =
 pub rising_from : (s : List ℕ) (u : ℕ) → IsRising s → u < length s → get_or s 0 0 + u ≤ get_or s u 0
 rising_from s zero r l = omega arith
 rising_from s (suc u) r l = omega (arith, rising_from s u r (omega arith), r u (omega arith))
+
+pub moved_to_end : (old new : List ℕ) (place k : ℕ) → place ≤ length old → length old - place ≤ k → length new ≡ length old → ((u : ℕ) → u < place → get_or new u 0 ≡ get_or old u 0) → ((u : ℕ) → place ≤ u → u < length old → get_or new u 0 ≡ k - (length old - u)) → new ≡ take place old ++ numbers_from (k - (length old - place)) (length old - place)
+moved_to_end old new place k l room many before after =
+    let n = length old - place in
+    let short : length (take place new) ≡ place = length-take-le place new (omega (arith, l, many)) in
+    let front : take place new ≡ take place old = ext_get_or 0 (take place new) (take place old) (short ∙ sym (length-take-le place old l)) (λ i m.
+    let inside : i < place = omega (arith, m, short) in
+    get_or-take place new i 0 inside ∙ before i inside ∙ sym (get_or-take place old i 0 inside)) in
+    let rest : drop place new ≡ numbers_from (k - n) n = row_of_numbers (k - n) n (drop place new) (length-drop place new ∙ omega (arith, many)) (λ u m.
+    let is : k - (length old - (place + u)) ≡ k - n + u = omega (arith, m, room, l) in
+    get_or-drop place new u 0 ∙ after (place + u) (omega arith) (omega (arith, m)) ∙ is) in
+    sym (take-append-drop place new) ∙ ap (λ x. x ++ drop place new) front ∙ ap (λ x. take place old ++ x) rest
 
 moved_head : (i k p : ℕ) (s t : List ℕ) → IsRising (p ∷ s) → p ≡ i → length t ≡ suc (length s) → p + suc (length s) < i + suc k → ((u : ℕ) → u < suc (length s) → get_or t u 0 ≡ p + 1 + u) → ((u : ℕ) → 0 < u → u < suc (length s) → i + suc k ≤ get_or (p ∷ s) u 0 + (suc (length s) - u)) → moved i k s (next_support (suc i) k s) ≡ Some t
 moved_head i k p s t r e many room new full =

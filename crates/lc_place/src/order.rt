@@ -1,6 +1,7 @@
 //! The two moves from a message to the next, on the lists of its coefficients and of its places.
 
-ghost use Rattle.std.specs.Prelude.{◌≡◌, ◌≢◌, ℕ, ◌+◌, ◌-◌, ◌<◌, ◌≤◌, length, slice_index, IfSome, MatchOption};
+ghost use Rattle.std.specs.Prelude.{◌≡◌, ◌≢◌, ℕ, ◌+◌, ◌-◌, ◌<◌, ◌≤◌, ◌++◌, length, take, slice_index, IfSome, MatchOption};
+ghost use Rattle.lc_enumeration.specs.Message.{numbers_from};
 
 /// The last place from 1 on at which a coefficient is below `top`; 0 if there is none. No coefficient is 0.
 pub(crate) fn last_below(coefficients: &[u8], top: u8) -> usize
@@ -87,5 +88,17 @@ pub(crate) fn move_on(support: &mut [usize], place: usize)
     for later in place..support.len() {
         column += 1;
         support[later] = column;
+    }
+}
+
+/// Moves the places from `place` on to the last ones below `k`.
+pub(crate) fn move_to_end(support: &mut [usize], place: usize, k: usize)
+    requires inside { place ≤ length support.old }
+    requires room { length support.old - place ≤ k }
+    ensures is { support.new ≡ take place support.old ++ numbers_from (k - (length support.old - place)) (length support.old - place) }
+{
+    let many = support.len();
+    for later in place..many {
+        support[later] = k - (many - later);
     }
 }

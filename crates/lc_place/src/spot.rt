@@ -1,8 +1,10 @@
 //! A spot: the message that a search has come to, and its information set.
 
 ghost use Rattle.std.specs.Prelude.{◌≡◌, ℕ, ◌-◌, ◌≤◌, ◌++◌, ◌∷◌, List, [], length, take, IfOk};
+ghost use Rattle.lc_enumeration.specs.Message.{numbers_from};
 
 use crate::NoMemory;
+use crate::order::move_to_end;
 use std::alloc::Global;
 use std::marker::Model;
 
@@ -46,19 +48,18 @@ impl Spot {
         })
     }
 
-    /// Moves the last two places to the last two of `k`, `k - 2` and `k - 1`, and leaves all else. There are at
-    /// least two places.
-    pub fn to_last_pair(&mut self, k: usize)
-        requires two { 2 ≤ length self.old.support }
-        requires places { 2 ≤ k }
-        ensures support { self.new.support ≡ take (length self.old.support - 2) self.old.support ++ (k - 2) ∷ (k - 1) ∷ [] }
+    /// Moves the last `count` places to the last ones of `k`, `k - count` to `k - 1`, and leaves all else. There are
+    /// at least `count` places.
+    pub fn to_last_places(&mut self, count: usize, k: usize)
+        requires some { count ≤ length self.old.support }
+        requires places { count ≤ k }
+        ensures support { self.new.support ≡ take (length self.old.support - count) self.old.support ++ numbers_from (k - count) count }
         ensures coefficients { self.new.coefficients ≡ self.old.coefficients }
         ensures set { self.new.set ≡ self.old.set }
         ensures room { self.new.room ≡ self.old.room }
     {
-        let level = self.support.len();
-        self.support[level - 2] = k - 2;
-        self.support[level - 1] = k - 1;
+        let place = self.support.len() - count;
+        move_to_end(self.support.as_mut_slice(), place, k);
     }
 
     /// Sets the last two coefficients to `top`, and leaves all else. There are at least two coefficients.

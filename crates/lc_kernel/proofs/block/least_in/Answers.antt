@@ -43,5 +43,5 @@ by_runs-requires-clause-at c =
 pub by_runs-requires-clause-table : goal.by_runs-requires-clause-table
 by_runs-requires-clause-table c =
     let t = c.index-tables-set.result in
-    let table = one_of_all (λ j (x : Table). IsTable c.args.sets.now j x.parts.items x.starts.items) c.args.tables.now c.set-set.result t c.requires.tables.each (omega (arith, c.if-set-tables.true)) c.index-tables-set.is in
-    subst (λ j. IsTable c.args.sets.now j t.parts.items t.starts.items) c.set-set.ensures table
+    let table = one_of_all (λ j (x : Table). IsTable c.args.sets.now j x) c.args.tables.now c.set-set.result t c.requires.tables.each (omega (arith, c.if-set-tables.true)) c.index-tables-set.is in
+    subst (λ j. IsTable c.args.sets.now j t) c.set-set.ensures table

@@ -1,6 +1,6 @@
 use Rattle.std.proofs.Common.{◌≡◌, ◌+◌, ◌-◌, ◌*◌, ◌∷◌, [], Some, length, ap, subst, ◌∙◌, arith}
 use Rattle.lc_kernel.specs.Grid.{tail_count, AreTails}
-use Rattle.lc_kernel.proofs.PairLaws.{pair_at, pairs_few}
+use Rattle.lc_kernel.proofs.SupportLaws.{pair_at, pairs_few}
 use Rattle.lc_kernel.proofs.grid.push_row.Goals as goal
 
 pub overflow_step-b : goal.overflow_step-b

@@ -1,8 +1,8 @@
-use Rattle.std.proofs.Common.{◌*◌, length, take}
+use Rattle.std.proofs.Common.{◌*◌, ◌<◌, length, take}
 use Rattle.lc_enumeration.specs.Search.{block_words}
 use Rattle.lc_kernel.specs.Packed.{others}
 use Rattle.lc_kernel.specs.Least.{AreCounted}
 use Rattle.lc_kernel.proofs.runs.count_run.Given as goal
 
 abbrev pub invariant-loop-part : goal.invariant-loop-part
-invariant-loop-part l = AreCounted (take (64 * l.part) (others l.sets l.spot.set)) (block_words l.sets l.plan.m l.block) l.done (length l.initial.counts) l.counts
+invariant-loop-part l = 0 < l.part → AreCounted (take (64 * l.part) (others l.sets l.spot.set)) (block_words l.sets l.plan.m l.block) l.done (length l.initial.counts) l.counts

@@ -2,7 +2,7 @@ use Rattle.std.proofs.Common.{length, arith}
 use Rattle.std.proofs.lemmas.Option.{slice_get_within}
 use Rattle.lc_enumeration.specs.Message.{supports_from}
 use Rattle.lc_kernel.specs.Packed.{pair_of}
-use Rattle.lc_kernel.proofs.PairLaws.{pairs_few}
+use Rattle.lc_kernel.proofs.SupportLaws.{pairs_few}
 use Rattle.lc_kernel.proofs.RunLaws.{pair_read, index_of_pair}
 use Rattle.lc_kernel.proofs.runs.pair_index.Goals as goal
 

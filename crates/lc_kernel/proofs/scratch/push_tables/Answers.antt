@@ -11,5 +11,5 @@ loop-j-preserved c =
     let C = c.args.sets.now in
     record {
       many = omega (arith, ap length c.in_ok-push.ensures.items, length-append ts (t ∷ []), c.loop-j.invariant.many);
-      are = record { each = all_pushed (λ j (x : Table). IsTable C j x.parts.items x.starts.items) ts c.push.new.self.items t c.loop-j.invariant.are.each (rw c.loop-j.invariant.many c.in_ok-table_of.ensures.is) c.in_ok-push.ensures.items };
+      are = record { each = all_pushed (λ j (x : Table). IsTable C j x) ts c.push.new.self.items t c.loop-j.invariant.are.each (rw c.loop-j.invariant.many c.in_ok-table_of.ensures.is) c.in_ok-push.ensures.items };
     }

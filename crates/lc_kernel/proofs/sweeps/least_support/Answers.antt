@@ -8,7 +8,7 @@ use Rattle.lc_kernel.specs.Packed.{others, part_at, pair_of}
 use Rattle.lc_kernel.specs.Grid.{tail_count, tails_in, AreTailPlanes}
 use Rattle.lc_kernel.specs.Grids.{IsGridPart}
 use Rattle.lc_kernel.specs.Sweeps.{listed_spot}
-use Rattle.lc_kernel.proofs.PairLaws.{pairs_few}
+use Rattle.lc_kernel.proofs.SupportLaws.{pairs_few}
 use Rattle.lc_kernel.proofs.RunLaws.{pair_read}
 use Rattle.lc_kernel.proofs.TableLaws.{one_of_all}
 use Rattle.lc_kernel.proofs.SweepLaws.{IsSweep, sweep_below, pair_there, lists_there}

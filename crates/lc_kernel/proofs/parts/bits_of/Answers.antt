@@ -2,7 +2,7 @@ use Rattle.std.proofs.Common.{◌≡◌, suc, ◌+◌, ◌-◌, ◌*◌, drop, s
 use Rattle.lc_algebra.specs.SpanLaws.{restrict}
 use Rattle.lc_kernel.specs.Packed.{packed, bits_at}
 use Rattle.lc_kernel.proofs.PackLaws.{pack_none, pack_step, pack_room, bit_small}
-use Rattle.lc_kernel.proofs.pairs.bits_of.Goals as goal
+use Rattle.lc_kernel.proofs.parts.bits_of.Goals as goal
 
 pub loop-t-init : goal.loop-t-init
 loop-t-init c = record { inside = omega arith; bits = pack_none c.args.columns.now c.args.word.now }

@@ -1,7 +1,7 @@
 use Rattle.std.proofs.Common.{◌≡◌, ◌≤◌, length, drop}
 use Rattle.lc_algebra.specs.SpanLaws.{restrict}
 use Rattle.lc_kernel.specs.Packed.{packed}
-use Rattle.lc_kernel.proofs.pairs.bits_of.Given as goal
+use Rattle.lc_kernel.proofs.parts.bits_of.Given as goal
 
 abbrev pub decreases-loop-t : goal.decreases-loop-t
 decreases-loop-t l = l.t
