@@ -4,7 +4,9 @@
 --   at_index, claims_long         the sets with their levels, at an index, and how many they are
 --   levels_long, claims_many      those of a search are as many as its sets
 --   claims_are, levels_are        they are the sets of the search, one after the other
-use Rattle.std.proofs.Common.{◌≡◌, ℕ, zero, suc, ◌+◌, ◌<◌, List, [], ◌∷◌, ◌++◌, length, map, slice_index_or, refl, sym, ap, ap₂, subst, ◌∙◌, arith}
+--   by_scan_is, by_levels_is      how the search proves its distance
+use Rattle.std.proofs.Common.{◌≡◌, ℕ, zero, suc, ◌+◌, ◌<◌, Vec, List, [], ◌∷◌, ◌++◌, length, map, slice_index_or, refl, sym, ap, ap₂, subst, ◌∙◌, arith}
+use Rattle.std.specs.declared.alloc.Global.{Global}
 use Rattle.std.proofs.lemmas.List.{map-append, length-map, get_or-map, ext_get_or}
 use Rattle.lc_algebra.specs.Span.{below}
 use Rattle.lc_algebra.specs.Matrix.{Matrix}
@@ -16,8 +18,13 @@ use Rattle.lc_infoset.proofs.BoundLaws.{index_below}
 use Rattle.lc_infoset.proofs.SetLaws.{count_is}
 use Rattle.lc_infoset.proofs.AnswerLaws.{levels_of}
 use Rattle.lc_formats.specs.Certificate.{SetClaim, levels}
-use Rattle.lc_language.specs.Query.{claims_at}
-use Rattle.lc_certify.specs.Claims.{claim_at}
+use Rattle.lc_certificate.specs.declared.certificate.SetClaim as made
+use Rattle.lc_certificate.specs.declared.certificate.Proof.TheVariants as proof
+use Rattle.lc_certificate.specs.Seen.{claim_of, proof_of as seen_proof}
+use Rattle.lc_language.specs.Query.{claims_at, proof_of}
+use Rattle.lc_certify.specs.declared.way.Way.{Way}
+use Rattle.lc_certify.specs.declared.way.Way.TheVariants as way
+use Rattle.lc_certify.specs.Claims.{kind_of, claim_at}
 
 pub claims_none : {X Y : Type 0} (see : X → Y) (h : ℕ → Y) (xs : List X) → xs ≡ [] → map see xs ≡ map h (below 0)
 unfolding below
@@ -71,3 +78,13 @@ claims_are C l =
 
 pub levels_are : (C : Matrix) (l : ℕ) (claims : List SetClaim) → claims ≡ map (claim_at C l) (below (set_count C)) → levels claims ≡ levels (claims_at (sets_of C) (levels_below C l))
 levels_are C l claims e = ap levels (e ∙ claims_are C l)
+
+pub by_scan_is : (w : Way) (C : Matrix) (l : ℕ) → w ≡ way.Scan → seen_proof proof.Scan ≡ proof_of (kind_of w) C l
+unfolding kind_of proof_of seen_proof
+by_scan_is w C l e = rw e refl
+
+pub by_levels_is : (w : Way) (C : Matrix) (l : ℕ) (claims : Vec made.SetClaim Global) → w ≡ way.Levels → map claim_of claims.items ≡ map (claim_at C l) (below (set_count C)) → seen_proof (proof.Levels claims) ≡ proof_of (kind_of w) C l
+unfolding kind_of proof_of seen_proof
+by_levels_is w C l claims e h = rw e (levels_are C l (map claim_of claims.items) h)
+
+pub ruleset proof_by_laws = (by_scan_is, by_levels_is)

@@ -6,3 +6,4 @@ pub mod NameLaws
 pub mod NewlineLaws
 pub mod ValidLaws
 pub mod AcceptedLaws
+pub mod Opened

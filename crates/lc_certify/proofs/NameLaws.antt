@@ -25,4 +25,4 @@ sixteen Gf13 n e s a b c d g h i j k = absurd (k e)
 sixteen Gf16 n e s a b c d g h i j k = refl
 sixteen _ n e s a b c d g h i j k = absurd (false≢true s)
 
-pub ruleset name_of_laws = (named, sixteen)
+pub ruleset name_laws = (named, sixteen)

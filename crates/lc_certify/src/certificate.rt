@@ -20,7 +20,7 @@ use lc_vec::Word;
 use std::alloc::Global;
 
 // The name of a field of symbols.
-#[tactic(auto, using(crate::proofs::NameLaws::name_of_laws), unfolding(lc_algebra::specs::Field::size, lc_algebra::specs::Field::shape_of, lc_algebra::specs::Field::shape))]
+#[tactic(auto, using(crate::proofs::NameLaws::name_laws), unfolding(crate::proofs::Opened::sizes))]
 fn name_of(field: &Field) -> FieldName
     requires symbol { IsTrue (is_symbol field.now) }
     ensures is { result ≡ field.now }
@@ -51,7 +51,7 @@ fn rows_of(alloc: Global, matrix: &Matrix) -> Result<Vec<Word>, NoMemory>
 }
 
 // How the search proves its distance.
-#[tactic(auto, using(crate::proofs::ClaimLaws::levels_are), unfolding(crate::specs::Claims::kind_of, lc_language::specs::Query::proof_of, lc_certificate::specs::Seen::proof_of))]
+#[tactic(auto, using(crate::proofs::ClaimLaws::proof_by_laws))]
 fn proof_by(alloc: Global, way: Way, search: &Search) -> Result<Proof, NoMemory>
     ensures is { IfOk result (λ p. seen_proof p ≡ proof_of (kind_of way) search.now.code search.now.progress.blocks) }
 {
@@ -70,7 +70,7 @@ fn proof_by(alloc: Global, way: Way, search: &Search) -> Result<Proof, NoMemory>
 /// `word` is a word of the code's length over its field, and `weight` is at least 1. In a search that has ended with an exact
 /// answer they are its best word and that word's weight, which is the distance; that the search has ended isn't tried. The
 /// certificate has the shape that a reader wants, and it is valid in such a search if it costs a checker at most 2^32 words.
-#[tactic(auto, unfolding(lc_certificate::specs::Seen::certificate_of, lc_language::specs::Query::certificate_of))]
+#[tactic(auto, unfolding(crate::proofs::Opened::certificates))]
 pub fn certificate_of(
     alloc: Global,
     way: Way,

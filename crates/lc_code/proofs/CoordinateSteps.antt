@@ -1,6 +1,7 @@
 -- How the coordinates of check rows are found, step by step.
 --   small_size             a symbol field has at most 16 elements
 --   degree_nonzero         the degree of a field is at least 1
+--   degree_divided         the degree over a field, by the degrees of the two
 --   form_length            a form has 1 to 255 points
 --   enough_all, enough_points      all checks, or as many as points, say enough
 --   entries_more           one entry of a check row more
@@ -48,6 +49,10 @@ degree_nonzero f =
     let e : size f ≡ 1 = ap (λ d. (shape_of f).characteristic ^ d) z ∙ pow-zero (shape_of f).characteristic in
     absurd (omega (arith, e, one_inside f)))
     (cases_lt 0 (shape_of f).degree)
+
+pub degree_divided : (f K : FieldName) → relative_degree f K ≡ (shape_of K).degree / (shape_of f).degree
+unfolding relative_degree
+degree_divided f K = refl
 
 pub length_bounds : (n : ℕ) → IsTrue (is_length n) → (1 ≤ n) × (n ≤ 255)
 unfolding is_length
@@ -214,6 +219,8 @@ expanded_words f form ts (suc j) e =
 
 pub symbols : (f : FieldName) (form : AlternantForm) (c : ℕ) (rows : List (List ℕ)) → length form.multipliers ≡ length form.points → AreExpandedChecks f form c rows → AreRows f (length form.points) rows
 symbols f form c rows e a = let (ts, t, q) = a.each in subst (AreRows f (length form.points)) (sym q) (expanded_words f form ts c e)
+
+pub ruleset relative_degree_laws = (degree_nonzero, degree_divided)
 
 pub ruleset enough_checks_laws = (enough_all, enough_points)
 

@@ -128,7 +128,7 @@ fn numbers(alloc: Global, field: &Field, locator: &Field) -> Result<Vec<u8>, NoM
 }
 
 // The degree of the locator field over the field.
-#[tactic(auto, using(crate::proofs::CoordinateSteps::degree_nonzero), unfolding(crate::specs::Coordinates::relative_degree))]
+#[tactic(auto, using(crate::proofs::CoordinateSteps::relative_degree_laws))]
 fn relative_degree(field: &Field, locator: &Field) -> u8
     ensures is { result ≡ relative_degree field.now locator.now }
 {

@@ -1,6 +1,7 @@
 -- The next information set, in the shape of the calls.
 --   told_member                    the test that a slice has a number
---   filter_none, filter_kept, filter_left, filter_more, filter_same      a filter of the numbers below c, one number more
+--   filter_none, filter_kept, filter_left, filter_first, filter_more, filter_same      a filter of the numbers below c, one
+--                                  number more
 --   member_at, not_member          what is one of some columns
 --   turned_none, turned_more       one column more, with its index
 --   order_inside, turn_inside      columns and rows that there are
@@ -49,6 +50,10 @@ filter_kept p c front now t e =
 pub filter_left : (p : ℕ → Bool) (c : ℕ) (front now : List ℕ) → p c ≡ false → now ≡ front ++ filter p (below c) → now ≡ front ++ filter p (below (c + 1))
 filter_left p c front now t e =
     e ∙ ap (λ xs. front ++ xs) (sym (append-nil (filter p (below c))) ∙ ap (λ b. filter p (below c) ++ cond b (c ∷ []) []) (sym t) ∙ sym (filter_next p c))
+
+pub filter_first : (p : ℕ → Bool) (now : List ℕ) → now ≡ [] → now ≡ filter p (below 0)
+unfolding below
+filter_first p now e = e
 
 pub filter_more : (p : ℕ → Bool) (c : ℕ) (now : List ℕ) → p c ≡ true → now ≡ filter p (below c) → now ++ c ∷ [] ≡ filter p (below (c + 1))
 filter_more p c now t e = filter_kept p c [] now t e
@@ -127,5 +132,7 @@ next_state C used order at pivots basis turn fresh e generator h free eo ep eb t
 pub ruleset next_set_laws = (order_inside, turn_inside, next_state)
 
 pub ruleset push_unused_laws = (filter_none, filter_kept, filter_left)
+
+pub ruleset rising_laws = (filter_first, turned_none)
 
 pub ruleset push_pivot_laws = (filter_more, filter_same, turned_more, member_at)

@@ -101,7 +101,7 @@ fn picked(alloc: Global, order: &[usize], at: &[usize]) -> Result<Vec<usize>, No
 }
 
 // The pivot columns below n, rising, and for each of them the index at which it is one of the pivots.
-#[tactic(auto, using(crate::proofs::NextLaws::turned_none), unfolding(lc_algebra::specs::Span::below))]
+#[tactic(auto, using(crate::proofs::NextLaws::rising_laws))]
 fn rising(alloc: Global, n: usize, pivots: &[usize]) -> Result<(Vec<usize>, Vec<usize>), NoMemory>
     ensures columns { IfOk result (λ p. p.0.items ≡ filter (is_member pivots.now) (below n)) }
     ensures turned { IfOk result (λ p. AreTurned p.0.items pivots.now p.1.items) }

@@ -11,6 +11,7 @@
 --   divisible_by, four_told, two_told, three_told, divisible_told      what is tested, for each divisor that is asked for
 --   binary_name, ternary_name, possible_four, possible_two, possible_three, possible_cases      over which fields these are
 --   divisor_four, divisor_two, divisor_three, divisor_odd, divisor_not_three, divisor_other      the divisor of the weights
+--   divisor_of_rows              that of a code is that of its rows
 use Rattle.std.proofs.Common.{◌≡◌, ◌≢◌, ℕ, zero, suc, ◌+◌, ◌*◌, ◌/◌, ◌%◌, ◌<◌, ◌≤◌, ◌⊎◌, inl, inr, ◌↔◌, ◌++◌, not, cond, ◌==◌, List, [], ◌∷◌, length, slice_index_or, All, AllPairs, Contains, refl, sym, ap, subst, ◌∙◌, ⊎_elim, arith}
 use Rattle.std.proofs.Math.Nat.{mod-add-mod, add-mod-mod, mul-mod_left, mul-mod_right, zero-mod}
 use Rattle.std.proofs.lemmas.Bool.{cases_lt}
@@ -21,8 +22,8 @@ use Rattle.lc_algebra.specs.Residue.{digits, number, plus, times, top, up, minus
 use Rattle.lc_algebra.specs.Field.{shape, shape_of, size, coefficients, add, mul}
 use Rattle.lc_algebra.specs.Word.{Fits, IsWord, word_sum, scale, weight, word_dot}
 use Rattle.lc_algebra.specs.Span.{InSpan}
-use Rattle.lc_algebra.specs.Matrix.{AreRows, IsOrthogonal}
-use Rattle.lc_algebra.specs.Divisor.{IsDivisible, possible_divisors, weight_divisor}
+use Rattle.lc_algebra.specs.Matrix.{Matrix, AreRows, IsOrthogonal}
+use Rattle.lc_algebra.specs.Divisor.{IsDivisible, possible_divisors, weight_divisor, divisor_of}
 use Rattle.lc_algebra.proofs.FieldLaws.{mul_zero, mul_inside}
 use Rattle.lc_algebra.proofs.WordLaws.{fits_head, fits_tail, weight_cons, weight_zero_word, weight_scale, zero_scale, scale_dot, dot_comm, dot_inside, IsWord_scale}
 use Rattle.lc_algebra.proofs.SpanLaws.{span_word, span_row, span_sum, dot_span, contains_head, contains_tail, contains_cases}
@@ -265,6 +266,12 @@ divisor_not_three f n rows s three = divisor_one f n rows (λ e. absurd (omega (
 
 pub divisor_other : (f : FieldName) (n : ℕ) (rows : List (List ℕ)) → size f ≢ 2 → size f ≢ 3 → weight_divisor f n rows ≡ 1
 divisor_other f n rows two three = divisor_one f n rows (λ e k. two e) (λ e k. two e) (λ e k. three e)
+
+pub divisor_of_rows : (C : Matrix) → divisor_of C ≡ weight_divisor C.field C.columns C.rows
+unfolding divisor_of
+divisor_of_rows C = refl
+
+pub ruleset divisor_laws = (divisor_of_rows, divisor_other)
 
 pub ruleset binary_divisor_laws = (possible_four, possible_two, divisor_four, divisor_two, divisor_odd)
 

@@ -13,7 +13,7 @@ impl Matrix {
     /// all are even; over 3 elements 3 if all are divisible by 3; else 1 (Ward, Divisible codes).
     ///
     /// The weights and dots of the rows alone determine it (MacWilliams and Sloane, chapter 19).
-    #[tactic(auto, using(crate::proofs::DivisibleLaws::divisor_other), unfolding(lc_algebra::specs::Divisor::divisor_of))]
+    #[tactic(auto, using(crate::proofs::DivisibleLaws::divisor_laws))]
     pub fn divisor(&self) -> u64
         ensures is { result ≡ divisor_of self.now }
     {

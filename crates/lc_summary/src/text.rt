@@ -10,7 +10,7 @@ use std::alloc::Global;
 
 /// The line of the summary of a seed: the line of the search of its code, without the newline, and the number of rounds that the
 /// search took: `summary seed 1 distance 8 word [..] blocks 77 rounds 1`. Refused only for want of memory.
-#[tactic(auto, unfolding(crate::specs::Line::summary_line, lc_sessions::specs::Summary::summary_text, lc_sessions::specs::Summary::without_newline, lc_formats::specs::Text::line))]
+#[tactic(auto, unfolding(crate::proofs::Opened::summary_texts))]
 pub fn summary_line(alloc: Global, seed: u64, line: &[u8], rounds: u64) -> Result<Vec<u8>, NoMemory>
     ensures is { IfOk result (λ text. text.items ≡ summary_line seed line.now rounds) }
     ensures summary { IfOk result (λ text. (budget : ℕ) → line.now ≡ query_line distance (summary_code seed) budget → rounds ≡ round_count (summary_code seed) budget → text.items ≡ summary_text seed budget) }

@@ -22,7 +22,7 @@ use Rattle.lc_constructions.specs.Coset.{syndrome}
 use Rattle.lc_field.proofs.SumLaws.{xor_add}
 use Rattle.lc_syndrome.specs.Syndrome.{syndrome_number, coset_count, unit, sum_number, unit_at, IsNumberedTo, IsNumbered}
 use Rattle.lc_algebra.proofs.ResidueLaws.{number_below}
-use Rattle.lc_syndrome.proofs.SyndromeLaws.{residues_fit, syndrome_word, zero_syndrome, sum_below}
+use Rattle.lc_syndrome.proofs.SyndromeLaws.{residues_fit, syndrome_word, syndrome_below, zero_syndrome, sum_below}
 use Rattle.lc_syndrome.proofs.LeadLaws.{syndrome_put}
 
 pub sum_none : (f : FieldName) (m a b : ℕ) → m ≡ 0 → sum_number f m a b ≡ 0
@@ -213,13 +213,13 @@ number_whole H m t a x l e =
     let k : m - t ≡ 0 = omega (arith, l) in
     e ∙ ap (λ j. number_from H j x) k
 
-pub ruleset of_symbol_laws = (entry_inside, entry_of)
+pub ruleset of_symbol_laws = (entry_inside, entry_of, syndrome_below)
 
-pub ruleset sum_laws = (xor_sum, xor_inside)
+pub ruleset sum_laws = (xor_sum, xor_inside, sum_below)
 
-pub ruleset of_laws = (begun_none, begun_more, begun_whole)
+pub ruleset of_laws = (begun_none, begun_more, begun_whole, syndrome_below)
 
-pub ruleset digit_sum_laws = (sum_none, sum_more)
+pub ruleset digit_sum_laws = (sum_none, sum_more, sum_below)
 
 pub ruleset unit_numbers_laws = (numbered_none, numbered_more)
 

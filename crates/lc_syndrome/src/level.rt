@@ -72,7 +72,7 @@ impl Level {
     }
 
     // Offers each nonzero symbol at a coordinate, unless each syndrome has its leader.
-    #[tactic(auto, using(crate::proofs::LevelLaws::symbols_tried), unfolding(lc_algebra::specs::Field::is_symbol))]
+    #[tactic(auto, unfolding(lc_algebra::specs::Field::is_symbol))]
     fn offer_at(
         &self,
         syndromes: &Syndromes,

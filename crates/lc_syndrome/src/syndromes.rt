@@ -74,7 +74,7 @@ impl Syndromes {
 
     /// The number of the syndrome of the word that has c at coordinate i and zeros elsewhere.
     #[inline]
-    #[tactic(auto, using(crate::proofs::NumberLaws::of_symbol_laws, crate::proofs::SyndromeLaws::syndrome_below))]
+    #[tactic(auto, using(crate::proofs::NumberLaws::of_symbol_laws))]
     pub(crate) fn of_symbol(&self, i: usize, c: u8) -> u32
         requires inside { i < self.now.columns }
         requires element { c < size self.now.field }
@@ -86,7 +86,7 @@ impl Syndromes {
 
     /// The number of the sum of the syndromes with these numbers.
     #[inline]
-    #[tactic(auto, using(crate::proofs::NumberLaws::sum_laws, crate::proofs::SyndromeLaws::sum_below))]
+    #[tactic(auto, using(crate::proofs::NumberLaws::sum_laws))]
     pub(crate) fn sum(&self, a: u32, b: u32) -> u32
         requires first { a < coset_count self.now }
         requires second { b < coset_count self.now }
@@ -100,7 +100,7 @@ impl Syndromes {
     }
 
     /// The number of the syndrome of a word: symbol by symbol in characteristic 2, in which sums are fast, else check by check.
-    #[tactic(auto, using(crate::proofs::NumberLaws::of_laws, crate::proofs::SyndromeLaws::syndrome_below))]
+    #[tactic(auto, using(crate::proofs::NumberLaws::of_laws))]
     pub(crate) fn of(&self, word: &[u8]) -> u32
         requires word { IsWord self.now.field self.now.columns word.now }
         ensures is { result ≡ syndrome_number self.now word.now }
@@ -118,7 +118,7 @@ impl Syndromes {
 }
 
 // The sum of two syndromes of m symbols, digit by digit.
-#[tactic(auto, using(crate::proofs::NumberLaws::digit_sum_laws, crate::proofs::SyndromeLaws::sum_below))]
+#[tactic(auto, using(crate::proofs::NumberLaws::digit_sum_laws))]
 fn digit_sum(field: &Field, m: usize, a: u32, b: u32) -> u32
     requires few { size field.now ^ m ≤ 2 ^ 20 }
     ensures is { result ≡ sum_number field.now m a b }
