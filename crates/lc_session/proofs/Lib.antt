@@ -5,3 +5,4 @@ mod ScriptEnds
 mod ScriptSessions
 mod SummarySessions
 mod CheckSessions
+mod Opened
