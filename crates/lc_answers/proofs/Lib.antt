@@ -3,3 +3,4 @@ pub mod RangeLaws
 pub mod RecordLaws
 pub mod NeedLaws
 pub mod StartLaws
+pub mod Opened

@@ -71,7 +71,7 @@ pub fn afresh(
 /// A session that starts from a checkpoint of its script and budget.
 ///
 /// The checkpoint is in range, and the slice is as for one that starts afresh.
-#[tactic(auto, unfolding(lc_checkpoint::specs::Seen::point_of, lc_sessions::specs::Slots::next_turn))]
+#[tactic(auto, unfolding(crate::proofs::Opened::points_and_turns))]
 pub fn resumed(keep: bool, slice: Option<u64>, point: Checkpoint) -> Course
     requires ranged { IsInRange (point_of point) }
     requires slice { IfSome slice (λ n. 0 < n) }

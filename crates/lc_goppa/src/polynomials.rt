@@ -21,7 +21,7 @@ pub(crate) fn is_goppa_polynomial(locator: &Field, list: &[u8]) -> bool
 }
 
 // The value at an element, by Horner's rule.
-#[tactic(auto, using(lc_poly::proofs::ListLaws::value_none, lc_poly::proofs::ListLaws::value_step, lc_algebra::proofs::FieldLaws::zero_inside))]
+#[tactic(auto, using(crate::proofs::GoppaLaws::value_laws))]
 pub(crate) fn value(field: &Field, list: &[u8], at: u8) -> u8
     requires list { Fits field.now list.now }
     requires element { at < size field.now }

@@ -7,3 +7,4 @@ mod ScriptEnds
 mod ScriptSessions
 mod SummarySessions
 mod CheckSessions
+mod Opened

@@ -97,7 +97,7 @@ fn push_number(text: &mut Vec<u8>, number: u64) -> Result<(), NoMemory>
 }
 
 // The line of the word with this index.
-#[tactic(auto, unfolding(lc_sessions::specs::Endings::ending_line, lc_sessions::specs::Endings::said))]
+#[tactic(auto, unfolding(crate::proofs::Opened::lines_of_endings))]
 fn usage_line(alloc: Global, index: u64) -> Result<Vec<u8>, NoMemory>
     ensures { IfOk result (λ line. line.items ≡ ending_line (ending_of (Status.Usage index))) }
 {
@@ -108,7 +108,7 @@ fn usage_line(alloc: Global, index: u64) -> Result<Vec<u8>, NoMemory>
 }
 
 // The line of a pause at these blocks of a query.
-#[tactic(auto, unfolding(lc_sessions::specs::Endings::ending_line, lc_sessions::specs::Endings::said))]
+#[tactic(auto, unfolding(crate::proofs::Opened::lines_of_endings))]
 fn pause_line(alloc: Global, query: u64, blocks: u64) -> Result<Vec<u8>, NoMemory>
     ensures { IfOk result (λ line. line.items ≡ ending_line (ending_of (Status.Paused query blocks))) }
 {
@@ -121,7 +121,7 @@ fn pause_line(alloc: Global, query: u64, blocks: u64) -> Result<Vec<u8>, NoMemor
 }
 
 // The line of a record that doesn't fit this query.
-#[tactic(auto, unfolding(lc_sessions::specs::Endings::ending_line, lc_sessions::specs::Endings::said))]
+#[tactic(auto, unfolding(crate::proofs::Opened::lines_of_endings))]
 fn unfit_line(alloc: Global, query: u64, _told: u64, _found: u64) -> Result<Vec<u8>, NoMemory>
     ensures { IfOk result (λ line. line.items ≡ ending_line (ending_of (Status.Unfit query _told _found))) }
 {
@@ -136,7 +136,7 @@ fn unfit_line(alloc: Global, query: u64, _told: u64, _found: u64) -> Result<Vec<
 /// query Q blocks L`, `source fault`, `sink fault`, `vault fault`, `no memory`, `no checkpoint`,
 /// `damaged checkpoint`, `checkpoint of another script or budget`, `rejected`, `input too long` or
 /// `checkpoint does not fit query Q`. Refused only for want of memory.
-#[tactic(auto, unfolding(lc_sessions::specs::Endings::ending_line, lc_sessions::specs::Endings::said))]
+#[tactic(auto, unfolding(crate::proofs::Opened::lines_of_endings))]
 pub fn status_line(alloc: Global, status: &Status) -> Result<Vec<u8>, NoMemory>
     ensures { IfOk result (λ line. line.items ≡ ending_line (ending_of status.now)) }
 {
