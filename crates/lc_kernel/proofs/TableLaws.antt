@@ -15,6 +15,7 @@ use Rattle.lc_algebra.specs.Field.{size}
 use Rattle.lc_algebra.specs.Matrix.{Matrix}
 use Rattle.lc_algebra.proofs.EmbeddingTests.{told_by_size}
 use Rattle.lc_place.proofs.Products.{get-append_left, get-append_right}
+use Rattle.lc_infoset.proofs.NextLaws.{filter_more, filter_same}
 use Rattle.lc_kernel.specs.declared.grid.Grid.{Grid}
 use Rattle.lc_kernel.specs.declared.table.Table.{Table}
 use Rattle.lc_kernel.specs.Grids.{AreGrids}
@@ -77,3 +78,5 @@ pub parts_pushed : (C : Matrix) (j t start end : ℕ) (cols : List ℕ) (ps more
 parts_pushed C j t start end cols ps more p e s l which h is made =
     all_pushed (λ b (x : Part). IsPart C j t (part_at (others C j) b) x.rows.items x.sums.items) ps more p h
     (subst (λ z. IsPart C j t z p.rows.items p.sums.items) (part_cut cols (length ps) start end s l which ∙ ap (λ z. part_at z (length ps)) e) is) made
+
+pub ruleset outside_laws = (filter_more, filter_same)

@@ -114,7 +114,7 @@ fn push_parts(
 }
 
 /// The columns below n that aren't in the set.
-#[tactic(auto, using(lc_infoset::proofs::NextLaws::filter_more, lc_infoset::proofs::NextLaws::filter_same))]
+#[tactic(auto, using(crate::proofs::TableLaws::outside_laws))]
 pub(crate) fn columns_outside(
     alloc: Global,
     n: usize,
