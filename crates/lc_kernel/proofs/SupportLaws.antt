@@ -9,7 +9,7 @@
 --   pairs_few, triples_few, tails_few      how many there are at most
 --   rows_are_sums              the sums of one row each are the rows
 --   sums_none, sums_more, sums_made      the sums at no support, at those that begin with a place, and at all
-use Rattle.std.proofs.Common.{◌≡◌, ℕ, zero, suc, ◌+◌, ◌-◌, ◌*◌, ◌<◌, ◌≤◌, List, [], ◌∷◌, ◌++◌, length, drop, bit_xor, get_or, slice_index, Some, refl, ap, sym, subst, ◌∙◌, arith, inl, inr, ⊎_elim, length-append}
+use Rattle.std.proofs.Common.{◌≡◌, ℕ, zero, suc, ◌+◌, ◌-◌, ◌*◌, ◌<◌, ◌≤◌, List, [], ◌∷◌, ◌++◌, length, drop, bit_xor, get_or, slice_index, Some, refl, ap, sym, subst, ◌∙◌, arith, ⊎_elim}
 use Rattle.std.specs.Prelude.{slice_get}
 use Rattle.std.specs.Int.Bits.{xor_zero_r}
 use Rattle.std.proofs.Math.ListN.{get_or-append}

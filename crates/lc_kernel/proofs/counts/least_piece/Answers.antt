@@ -1,4 +1,4 @@
-use Rattle.std.proofs.Common.{◌≡◌, length, arith}
+use Rattle.std.proofs.Common.{arith}
 use Rattle.lc_kernel.proofs.LeastLaws.{piece_taken, piece_kept}
 use Rattle.lc_kernel.proofs.counts.least_piece.Goals as goal
 

@@ -1,7 +1,7 @@
 use Rattle.std.proofs.Common.{◌≡◌, ◌+◌, ◌-◌, ◌<◌, suc, length, take, drop, bit_xor, slice_index, refl, sym, ap, subst, ◌∙◌, arith}
 use Rattle.std.proofs.lemmas.List.{length-take-le, length-drop, get_or-take, get_or-drop}
 use Rattle.lc_kernel.specs.Packed.{EndsAt}
-use Rattle.lc_kernel.proofs.SupportLaws.{ends_first, ends_more, sums_none, sums_more, sums_made}
+use Rattle.lc_kernel.proofs.SupportLaws.{ends_more, sums_more, sums_made}
 use Rattle.lc_kernel.proofs.parts.longer_sums.Goals as goal
 
 pub loop-a-preserved : goal.loop-a-preserved

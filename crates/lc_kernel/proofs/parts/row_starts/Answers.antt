@@ -1,4 +1,4 @@
-use Rattle.std.proofs.Common.{◌≡◌, ◌+◌, length, slice_index, arith}
+use Rattle.std.proofs.Common.{◌≡◌, ◌+◌, arith}
 use Rattle.lc_kernel.proofs.SupportLaws.{ends_one, starts_made}
 use Rattle.lc_kernel.proofs.parts.row_starts.Goals as goal
 

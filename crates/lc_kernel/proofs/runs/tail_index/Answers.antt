@@ -1,4 +1,4 @@
-use Rattle.std.proofs.Common.{◌≡◌, ◌-◌, ◌≤◌, length, slice_index, subst, arith}
+use Rattle.std.proofs.Common.{◌-◌, ◌≤◌, length, slice_index, subst, arith}
 use Rattle.std.proofs.lemmas.Option.{slice_get_within}
 use Rattle.lc_enumeration.specs.Message.{supports_from}
 use Rattle.lc_kernel.specs.Packed.{tail_of}
