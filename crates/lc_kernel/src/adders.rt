@@ -8,6 +8,7 @@ ghost use Rattle.lc_kernel.specs.Planes.{IsPlaneSum, trit_sum, digit_planes};
 use lc_field::Field;
 
 /// The planes of a sum, from those of two words, over a field of at most 16 elements.
+#[inline]
 pub(crate) fn sum_planes(field: &Field, u: &[u64; 4], v: &[u64; 4]) -> [u64; 4]
     requires symbol { size field.now ≤ 16 }
     ensures is { IsPlaneSum field.now u.now v.now result }
@@ -35,6 +36,7 @@ pub(crate) fn sum_planes(field: &Field, u: &[u64; 4], v: &[u64; 4]) -> [u64; 4]
 }
 
 // The same in characteristic 2.
+#[inline]
 fn sum_even(u: &[u64; 4], v: &[u64; 4]) -> [u64; 4]
     ensures is { (j : ℕ) → j < 4 → slice_index result j ≡ bit_xor (slice_index u.now j) (slice_index v.now j) }
 {
@@ -49,6 +51,7 @@ fn trits(a: u64, b: u64, c: u64, d: u64) -> u64
 }
 
 // The same over 3 elements.
+#[inline]
 fn sum_three(u: &[u64; 4], v: &[u64; 4]) -> [u64; 4]
     ensures is { IsPlaneSum Gf3 u.now v.now result }
 {

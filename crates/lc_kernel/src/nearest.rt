@@ -7,9 +7,6 @@ ghost use Rattle.lc_kernel.specs.Least.{IsLeastOr, IsFirstBelow};
 use crate::counts::least_count;
 use crate::planes::add_apart;
 
-/// About how many words are looked at together.
-const TOGETHER: usize = 128;
-
 // The least of a bound and of the numbers of symbols at which a word, whose planes are p and r, differs from others.
 #[inline]
 fn row_two(ones: &[u64], twos: &[u64], p: u64, r: u64, bound: u32) -> u32
@@ -340,6 +337,23 @@ fn nearest_in(
     )
 }
 
+// How many words are looked at together, of heads with so many tails each: some 100 to 200, of 8 heads at most.
+#[inline]
+fn together(tails: usize) -> usize
+    requires few { tails ≤ 2 ^ 18 }
+    ensures least { tails ≤ result }
+{
+    let two = tails + tails;
+    if tails <= 16 {
+        let four = two + two;
+        return four + four;
+    }
+    if tails < 100 {
+        return two;
+    }
+    tails
+}
+
 // How many of the words that are left are looked at together, from a tail of a head on: the rest of the head, or some
 // whole heads, or all words if these are less than a head's.
 fn part_len(tail: usize, tails: usize, left: usize) -> usize
@@ -352,9 +366,9 @@ fn part_len(tail: usize, tails: usize, left: usize) -> usize
     if tail > 0 {
         return (tails - tail).min(left);
     }
-    let together = TOGETHER + tails - TOGETHER % tails;
-    if together <= left {
-        return together;
+    let many = together(tails);
+    if many <= left {
+        return many;
     }
     let whole = left - left % tails;
     if whole > 0 {
