@@ -77,7 +77,7 @@ fn head_bits(sets: &Sets, table: &Table, part: usize, spot: &Spot) -> u64
 
 // Counts for a run what a part of the columns has: puts what the first part has in place of the old counts,
 // and adds what another has. The run's words begin at an offset of a block and their tails at an index.
-fn add_part(
+fn count_part(
     sets: &Sets,
     plan: &Plan,
     block: u64,
@@ -134,7 +134,7 @@ fn count_run(
     ensures counted { AreCounted (others sets.now spot.now.set) (block_words sets.now plan.now.m block) done (length counts.old) counts.new }
 {
     for part in 0..table.parts.len() {
-        add_part(sets, plan, block, table, part, spot, start, done, counts);
+        count_part(sets, plan, block, table, part, spot, start, done, counts);
     }
 }
 

@@ -10,7 +10,7 @@ use Rattle.lc_kernel.proofs.PackLaws.{others_few}
 use Rattle.lc_kernel.proofs.SupportLaws.{tails_few}
 use Rattle.lc_kernel.proofs.RunLaws.{run_at, part_counted, counted_few}
 use Rattle.lc_kernel.proofs.TableLaws.{one_of_all}
-use Rattle.lc_kernel.proofs.runs.add_part.Goals as goal
+use Rattle.lc_kernel.proofs.runs.count_part.Goals as goal
 
 pub add_ones-requires-clause-few : goal.add_ones-requires-clause-few
 add_ones-requires-clause-few c =
