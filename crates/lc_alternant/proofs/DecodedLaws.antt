@@ -7,13 +7,16 @@
 --   near_found, near_told      the errors of a word within the reach
 --   found_back           and that word, back from them
 --   decoded_some, decoded_far, decoded_none      what decoding answers
-use Rattle.std.proofs.Common.{◌≡◌, ℕ, ◌*◌, ◌/◌, ◌≤◌, Option, Some, None, List, length, map, take, sym, ap, ap₂, subst, ◌∙◌, arith}
+--   difference_is        a word less another is its sum with a multiple of the other
+use Rattle.std.proofs.Common.{◌≡◌, ℕ, ◌*◌, ◌/◌, ◌≤◌, Option, Some, None, List, length, map, take, refl, sym, ap, ap₂, subst, ◌∙◌, arith}
 use Rattle.std.proofs.Math.Nat.{mul-div-le}
 use Rattle.std.proofs.lemmas.List.{length-take}
 use Rattle.lc_algebra.specs.declared.FieldName.{FieldName}
+use Rattle.lc_algebra.specs.Field.{neg}
 use Rattle.lc_algebra.specs.Embedding.{embed}
-use Rattle.lc_algebra.specs.Word.{IsWord, difference}
+use Rattle.lc_algebra.specs.Word.{IsWord, word_sum, scale, difference}
 use Rattle.lc_algebra.specs.Matrix.{Matrix}
+use Rattle.lc_algebra.proofs.FieldLaws.{one_inside}
 use Rattle.lc_algebra.proofs.WordLaws.{IsWord_difference, weight_at_most_length}
 use Rattle.lc_algebra.proofs.DimensionLaws.{distinct_from_pairs}
 use Rattle.lc_constructions.specs.Alternant.{AlternantForm, IsForm, IsFormOf}
@@ -95,3 +98,9 @@ pub decoded_none : (C : Matrix) (form : AlternantForm) (x : List ℕ) (t : ℕ) 
 decoded_none C form x t o n h a e q = λ v k.
     let s : o ≡ Some v = q v (reach_whole C form x v t h a e k) in
     absurd (cc (n, s))
+
+pub difference_is : (f : FieldName) (u v : List ℕ) → difference f u v ≡ word_sum f u (scale f (neg f 1) v)
+unfolding difference
+difference_is f u v = refl
+
+pub ruleset distance_laws = (one_inside, difference_is)

@@ -68,7 +68,7 @@ fn is_within(code: &Code, word: &[u8], near: &[u8], t: usize, rest: &mut [u8]) -
 }
 
 // The number of coordinates at which two words of one length differ. The buffer has that length too.
-#[tactic(auto, using(lc_algebra::proofs::FieldLaws::one_inside), unfolding(lc_algebra::specs::Word::difference))]
+#[tactic(auto, using(crate::proofs::DecodedLaws::distance_laws))]
 fn distance(field: &Field, word: &[u8], near: &[u8], rest: &mut [u8]) -> usize
     requires word { Fits field.now word.now }
     requires near { Fits field.now near.now }
