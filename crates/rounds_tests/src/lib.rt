@@ -5,6 +5,8 @@
 #[cfg(test)]
 mod checkpoints;
 #[cfg(test)]
+mod gate;
+#[cfg(test)]
 mod sessions;
 #[cfg(test)]
 mod vaults;

@@ -1,7 +1,7 @@
 //! Sessions that keep nothing, over sources and sinks in memory, and what is said of statuses.
 ghost use Rattle.std.specs.Prelude.{◌≤◌};
 
-use crate::vaults::{Line, ends, says, words_of};
+use crate::vaults::{HAMMING, Line, ends, says, words_of};
 use lc_checker::Reason;
 use lc_io::{MemorySink, MemorySource, MemoryVault, OpenGate, Watcher};
 use lc_session::{Status, run_session};
@@ -98,15 +98,20 @@ fn the_longest_script_is_read(rt: HostRuntime) -> Result<(), Fail> {
     Ok(())
 }
 
-// Pieces, a call that fails, and what is written before the call if it is a write.
-const FAULTS: [(usize, u64, &[u8]); 7] = [
-    (1, 1, b""),
-    (1, 2, b"l"),
-    (1, 3, b"le"),
-    (1, 4, b"lea"),
-    (7, 1, b""),
-    (7, 2, b"least 2"),
-    (7, 3, b"least 2 word ["),
+// A script, pieces, a call that fails, and what is written before the call if it is a write.
+type Fault = (&'static [u8], usize, u64, &'static [u8]);
+
+static FAULTS: [Fault; 10] = [
+    (QUERY, 1, 1, b""),
+    (QUERY, 1, 2, b"l"),
+    (QUERY, 1, 3, b"le"),
+    (QUERY, 1, 4, b"lea"),
+    (QUERY, 4, 2, b"leas"),
+    (QUERY, 7, 1, b""),
+    (QUERY, 7, 2, b"least 2"),
+    (QUERY, 7, 3, b"least 2 word ["),
+    (HAMMING, 4, 2, b"dist"),
+    (HAMMING, 7, 4, b"distance 3 word [1,0,"),
 ];
 
 // Whether a session whose read of this number fails, in pieces of this length, writes nothing.
@@ -115,11 +120,11 @@ fn is_a_source_fault<R: Threads + Sync>(
     alloc: Global,
     words: &[String],
     piece: usize,
-    call: u64,
+    row: &Fault,
 ) -> Result<bool, Fail>
     requires { 1 ≤ piece }
 {
-    let mut source = MemorySource::new(alloc, QUERY, piece, &[call])?;
+    let mut source = MemorySource::new(alloc, row.0, piece, &[row.2])?;
     prints(rt, alloc, words, &mut source, b"", 4)
 }
 
@@ -130,13 +135,12 @@ fn is_a_sink_fault<R: Threads + Sync>(
     words: &[String],
     source: &mut MemorySource,
     piece: usize,
-    call: u64,
-    written: &[u8],
+    row: &Fault,
 ) -> Result<bool, Fail>
     requires { 1 ≤ piece }
 {
-    let mut sink = MemorySink::new(alloc, 64, piece, &[call])?;
-    Ok(ends_as(rt, alloc, words, source, &mut sink, 5)? && sink.bytes() == written)
+    let mut sink = MemorySink::new(alloc, 64, piece, &[row.2])?;
+    Ok(ends_as(rt, alloc, words, source, &mut sink, 5)? && sink.bytes() == row.3)
 }
 
 fn writes_the_front<R: Threads + Sync>(
@@ -144,23 +148,23 @@ fn writes_the_front<R: Threads + Sync>(
     alloc: Global,
     words: &[String],
     piece: usize,
-    call: u64,
-    written: &[u8],
+    row: &Fault,
 ) -> Result<bool, Fail>
     requires { 1 ≤ piece }
 {
-    let mut source = MemorySource::new(alloc, QUERY, 64, &[])?;
-    is_a_sink_fault(rt, alloc, words, &mut source, piece, call, written)
+    let mut source = MemorySource::new(alloc, row.0, 64, &[])?;
+    is_a_sink_fault(rt, alloc, words, &mut source, piece, row)
 }
 
 #[test]
 fn reads_and_writes_that_fail_end_a_session(rt: HostRuntime) -> Result<(), Fail> {
     let alloc = rt.alloc();
     let words = words_of(alloc, &["run"])?;
-    for (piece, call, written) in &FAULTS {
-        assert!(rt; 1 <= *piece);
-        assert!(rt; is_a_source_fault(&rt, alloc, &words, *piece, *call)?);
-        assert!(rt; writes_the_front(&rt, alloc, &words, *piece, *call, written)?);
+    for row in &FAULTS {
+        let piece = row.1;
+        assert!(rt; 1 <= piece);
+        assert!(rt; is_a_source_fault(&rt, alloc, &words, piece, row)?);
+        assert!(rt; writes_the_front(&rt, alloc, &words, piece, row)?);
     }
     Ok(())
 }
