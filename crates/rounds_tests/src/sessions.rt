@@ -119,11 +119,12 @@ fn is_a_source_fault<R: Threads + Sync>(
     rt: &R,
     alloc: Global,
     words: &[String],
+    piece: usize,
     row: &Fault,
 ) -> Result<bool, Fail>
-    requires { 1 ≤ row.1 }
+    requires { 1 ≤ piece }
 {
-    let mut source = MemorySource::new(alloc, row.0, row.1, &[row.2])?;
+    let mut source = MemorySource::new(alloc, row.0, piece, &[row.2])?;
     prints(rt, alloc, words, &mut source, b"", 4)
 }
 
@@ -133,11 +134,12 @@ fn is_a_sink_fault<R: Threads + Sync>(
     alloc: Global,
     words: &[String],
     source: &mut MemorySource,
+    piece: usize,
     row: &Fault,
 ) -> Result<bool, Fail>
-    requires { 1 ≤ row.1 }
+    requires { 1 ≤ piece }
 {
-    let mut sink = MemorySink::new(alloc, 64, row.1, &[row.2])?;
+    let mut sink = MemorySink::new(alloc, 64, piece, &[row.2])?;
     Ok(ends_as(rt, alloc, words, source, &mut sink, 5)? && sink.bytes() == row.3)
 }
 
@@ -145,12 +147,13 @@ fn writes_the_front<R: Threads + Sync>(
     rt: &R,
     alloc: Global,
     words: &[String],
+    piece: usize,
     row: &Fault,
 ) -> Result<bool, Fail>
-    requires { 1 ≤ row.1 }
+    requires { 1 ≤ piece }
 {
     let mut source = MemorySource::new(alloc, row.0, 64, &[])?;
-    is_a_sink_fault(rt, alloc, words, &mut source, row)
+    is_a_sink_fault(rt, alloc, words, &mut source, piece, row)
 }
 
 #[test]
@@ -158,9 +161,10 @@ fn reads_and_writes_that_fail_end_a_session(rt: HostRuntime) -> Result<(), Fail>
     let alloc = rt.alloc();
     let words = words_of(alloc, &["run"])?;
     for row in &FAULTS {
-        assert!(rt; 1 <= row.1);
-        assert!(rt; is_a_source_fault(&rt, alloc, &words, row)?);
-        assert!(rt; writes_the_front(&rt, alloc, &words, row)?);
+        let piece = row.1;
+        assert!(rt; 1 <= piece);
+        assert!(rt; is_a_source_fault(&rt, alloc, &words, piece, row)?);
+        assert!(rt; writes_the_front(&rt, alloc, &words, piece, row)?);
     }
     Ok(())
 }
