@@ -1,8 +1,9 @@
 -- Rows and columns of a place: place n is in row n / T and column n % T.
 --   row_of_place              the row and the column of a place
 --   place_after_rows          a place after some whole rows
+--   row_before, row_some        the row before a row, and that there is one
 --   row_there, row_below      a row of a place below n rows
-use Rattle.std.proofs.Common.{◌≡◌, ℕ, ◌+◌, ◌*◌, ◌/◌, ◌%◌, ◌<◌, ◌≤◌, sym, ap, subst, ◌∙◌, arith}
+use Rattle.std.proofs.Common.{◌≡◌, ℕ, zero, suc, ◌+◌, ◌-◌, ◌*◌, ◌/◌, ◌%◌, ◌<◌, ◌≤◌, sym, ap, subst, ◌∙◌, arith}
 use Rattle.std.proofs.Math.Nat.{le_of_mul-le-mul_right, mod-lt}
 use Rattle.std.proofs.lemmas.Nat.{div-mul-add, mod-mul-add, div_below, div-add-mod'}
 
@@ -21,3 +22,14 @@ pub place_after_rows : (a i T : ℕ) → 0 < T → a % T ≡ 0 → ((a + i) / T 
 place_after_rows a i T some none =
     let place : (a / T + i / T) * T + i % T ≡ a + i = omega (arith, none, div-add-mod' a T, div-add-mod' i T) in
     row_of_place (a / T + i / T) (i % T) (a + i) T (mod-lt i some) place
+
+pub row_before : (a T : ℕ) → 0 < a → 0 < T → (a - 1) * T + (T - 1) + 1 ≡ a * T
+row_before zero T l m = absurd (omega (arith, l))
+row_before (suc a) T l m =
+    let less : suc a - 1 ≡ a = omega arith in
+    let more : a * T + (T - 1) + 1 ≡ suc a * T = omega (arith, m) in
+    ap (λ z. z * T + (T - 1) + 1) less ∙ more
+
+pub row_some : (a t n T : ℕ) → a * T + t ≡ n → 0 < n → t ≡ 0 → 0 < a
+row_some zero t n T e l none = absurd (omega (arith, e, l, none))
+row_some (suc a) t n T e l none = omega arith

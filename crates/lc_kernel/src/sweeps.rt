@@ -68,6 +68,21 @@ fn list_of(sets: &Sets, spot: &Spot) -> usize
     list
 }
 
+// The row and the column of the place before a place, in rows of so many columns.
+#[inline]
+fn place_before(row: usize, column: usize, columns: usize) -> (usize, usize)
+    requires some { 0 < columns }
+    requires inside { column < columns }
+    requires later { column ≡ 0 → 0 < row }
+    ensures place { result.0 * columns + result.1 + 1 ≡ row * columns + column }
+    ensures inside { result.1 < columns }
+{
+    if column == 0 {
+        return (row - 1, columns - 1);
+    }
+    (row, column - 1)
+}
+
 // Makes the heads of one place more, from those of the first i.
 fn grow(
     sets: &Sets,
@@ -93,14 +108,15 @@ fn grow(
     let elements = nonzero(sets);
     let row = support[i] * elements;
     let mut e = many;
+    let mut head = many / elements;
+    let mut element = many % elements;
     while e > 0 {
         e -= 1;
-        let sum = sum_planes(
-            sets.field(),
-            &heads[e / elements],
-            &grid.rows[row + e % elements],
-        );
+        let (above, last) = place_before(head, element, elements);
+        let sum = sum_planes(sets.field(), &heads[above], &grid.rows[row + last]);
         heads[e] = sum;
+        head = above;
+        element = last;
     }
 }
 

@@ -1,4 +1,4 @@
-use Rattle.std.proofs.Common.{◌≡◌, ◌-◌, ◌<◌, ◌≤◌, ℕ, [], slice_index, slice_index_or}
+use Rattle.std.proofs.Common.{◌≡◌, ◌+◌, ◌-◌, ◌*◌, ◌<◌, ◌≤◌, ℕ, [], slice_index, slice_index_or}
 use Rattle.lc_algebra.specs.Field.{size}
 use Rattle.lc_kernel.specs.Sweeps.{IsGrown}
 use Rattle.lc_kernel.proofs.sweeps.grow.Given as goal
@@ -9,6 +9,8 @@ decreases-loop-e l = l.e
 abbrev pub invariant-loop-e : goal.invariant-loop-e
 invariant-loop-e l = record {
   inside : l.e ≤ l.many;
+  place : l.head * l.elements + l.element ≡ l.e;
+  low : l.element < l.elements;
   done : (x : ℕ) → l.e ≤ x → x < l.many → IsGrown l.sets.field (size l.sets.field - 1) (slice_index l.support l.fn.i) l.grid.rows.items l.initial.heads l.heads x;
   left : (x : ℕ) → x < l.e → slice_index_or l.heads x [] ≡ slice_index_or l.initial.heads x [];
 }

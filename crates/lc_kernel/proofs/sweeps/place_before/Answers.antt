@@ -1,0 +1,6 @@
+use Rattle.std.proofs.Common.{◌+◌, ◌*◌, ap, ◌∙◌, arith}
+use Rattle.lc_kernel.proofs.RowLaws.{row_before}
+use Rattle.lc_kernel.proofs.sweeps.place_before.Goals as goal
+
+pub returns-then-column-eq0-clause-place : goal.returns-then-column-eq0-clause-place
+returns-then-column-eq0-clause-place c = omega (arith, row_before c.args.row c.args.columns (c.requires.later c.if-column-eq0.true) c.requires.some, c.if-column-eq0.true)
