@@ -35,6 +35,7 @@ use Rattle.lc_infoset.proofs.AnswerLaws.{some_set, levels_of}
 use Rattle.lc_kernel.specs.Kernel.{IsPlanOf}
 use Rattle.lc_search.specs.State.{SearchState, first_state, answer_in, whole_plan}
 use Rattle.lc_search.proofs.EndLaws.{finished_is}
+use Rattle.lc_search.proofs.LevelLaws.{levels_few}
 
 pub symbol_few : (f : FieldName) → IsTrue (is_symbol f) → size f ≤ 16
 unfolding is_symbol
@@ -151,4 +152,4 @@ pub ruleset start_laws = (first_there, first_made)
 
 pub ruleset level_of_laws = (level_inside, level_at)
 
-pub ruleset bound_laws = (levels_counted, bound_here)
+pub ruleset bound_laws = (levels_counted, bound_here, levels_few)

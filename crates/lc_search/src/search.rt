@@ -132,7 +132,7 @@ impl Search {
     }
 
     // The lower bound on the minimum distance after the blocks that are done.
-    #[tactic(auto, using(crate::proofs::StateLaws::bound_laws, crate::proofs::LevelLaws::levels_few))]
+    #[tactic(auto, using(crate::proofs::StateLaws::bound_laws))]
     fn bound(&self) -> u64
         ensures is { result ≡ bound (divisor_of self.now.code) self.now.code self.now.progress.blocks self.now.progress.weight }
     {
