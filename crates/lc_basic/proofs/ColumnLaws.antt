@@ -8,7 +8,8 @@
 --   digit_columns                  entry i of all columns is that digit of their numbers
 --   digits_word                    these are words over the field
 --   checks_rows                    so the check matrix has words as rows
---   map_more, digits_first, digits_more, columns_more, checks_first, checks_more, checks_whole      the loops that write the digits and the rows
+--   map_more, digits_first, digits_more, power_first, columns_first, columns_more, checks_first, checks_more, checks_whole      the loops that
+--                                  write the digits and the rows
 use Rattle.std.proofs.Common.{◌≡◌, ℕ, zero, suc, ◌+◌, ◌-◌, ◌*◌, ◌/◌, ◌%◌, ◌^◌, ◌<◌, ◌≤◌, List, [], ◌∷◌, ◌++◌, map, length, replicate, flat_map, slice_index, slice_index_or, refl, sym, ap, subst, ◌∙◌, ⊎_elim, arith, add-zero, add-suc}
 use Rattle.std.proofs.Math.Nat.{pow-suc, pow-zero, one-le-pow, mul-add-div, mul-add-mod_self_left, pow-le-pow_right, mod-lt, mod-eq_of_lt, mul-le-mul_right}
 use Rattle.std.proofs.lemmas.Nat.{div-mul-add, pow-add, div_below}
@@ -239,6 +240,13 @@ pub digits_more : (q unit first v : ℕ) (old now new : List ℕ) → now ≡ ol
 unfolding digits_from
 digits_more q unit first v old now new a b =
     b ∙ ap (λ u. u ++ ((first + v) / unit % q) ∷ []) a ∙ append_assoc old (map (λ v. (first + v) / unit % q) (below v)) (((first + v) / unit % q) ∷ []) ∙ ap (λ u. old ++ u) (sym (map_more (λ v. (first + v) / unit % q) v))
+
+pub power_first : (q : ℕ) → 1 ≡ q ^ 0
+power_first q = sym (pow-zero q)
+
+pub columns_first : (q unit : ℕ) (now : List ℕ) → now ≡ [] → now ≡ digits_of q unit 0
+unfolding digits_of
+columns_first q unit now e = e
 
 pub columns_more : (q unit m first : ℕ) (now new : List ℕ) → first ≡ q ^ m → now ≡ digits_of q unit m → new ≡ now ++ digits_from q unit first first → new ≡ digits_of q unit (m + 1)
 unfolding digits_of

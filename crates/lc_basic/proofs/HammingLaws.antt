@@ -18,7 +18,7 @@ use Rattle.lc_constructions.specs.Code.{is_length}
 use Rattle.lc_constructions.specs.Refusal.{refuse_if, first_refusal}
 use Rattle.lc_constructions.specs.Refusals.{too_large, bad_length, bad_argument, hamming_refusals}
 use Rattle.lc_basic.specs.Column.{points}
-use Rattle.lc_basic.proofs.ColumnLaws.{power_points, length_points, points_more}
+use Rattle.lc_basic.proofs.ColumnLaws.{power_points, length_points, points_more, power_first, columns_first, columns_more}
 
 pub small_field : (f : FieldName) → IsTrue (is_symbol f) → size f ≤ 16
 unfolding is_symbol
@@ -98,3 +98,5 @@ pub ruleset check_hamming_laws = (small_field, hamming_too_large, hamming_few, h
 pub ruleset length_of_laws = (power_small, points_next, power_next, length_is, length_passed, length_least)
 
 pub ruleset power_laws = (power_next, power_positive)
+
+pub ruleset digits_of_laws = (power_first, columns_first, columns_more, power_next)

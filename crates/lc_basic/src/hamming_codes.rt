@@ -128,7 +128,7 @@ pub(crate) fn power(q: u64, e: u64) -> u64
 }
 
 // The digits that count units, of all columns of at most r digits.
-#[tactic(auto, using(crate::proofs::ColumnLaws::columns_more, crate::proofs::HammingLaws::power_next), unfolding(crate::specs::Column::digits_of))]
+#[tactic(auto, using(crate::proofs::HammingLaws::digits_of_laws))]
 fn digits_of(alloc: Global, q: u64, unit: u64, r: u64) -> Result<Word, NoMemory>
     requires least { 1 < q }
     requires most { q ≤ 16 }

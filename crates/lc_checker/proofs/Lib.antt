@@ -7,3 +7,4 @@ pub mod CheckLaws
 pub mod PackedLaws
 pub mod BlockLaws
 pub mod HeavyLaws
+pub mod Opened

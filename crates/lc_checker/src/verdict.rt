@@ -45,7 +45,7 @@ pub enum Reason {
 
 impl Reason {
     /// The number of the reason: 30 to 39 in the order of the cases.
-    #[tactic(auto, unfolding(crate::specs::Verdict::reason_of, lc_formats::specs::Certificate::reason_number))]
+    #[tactic(auto, unfolding(crate::proofs::Opened::number_of_reason))]
     pub fn number(&self) -> u8
         ensures is { result ≡ reason_number (reason_of self.now) }
     {
@@ -64,7 +64,7 @@ impl Reason {
     }
 
     /// The numbers that the reason carries: none, one, or the symbols of the lighter word.
-    #[tactic(auto, unfolding(crate::specs::Verdict::reason_of, lc_formats::specs::Certificate::reason_values))]
+    #[tactic(auto, unfolding(crate::proofs::Opened::values_of_reason))]
     pub fn values(&self, alloc: Global) -> Result<Vec<u64>, NoMemory>
         ensures are { IfOk result (λ values. values.items ≡ reason_values (reason_of self.now)) }
     {

@@ -32,6 +32,7 @@ use Rattle.lc_constructions.specs.Refusals.{degree_over}
 use Rattle.lc_constructions.specs.Concatenated.{IsExpansion, IsReplaced, IsReplacedWord}
 use Rattle.lc_constructions.proofs.LocatorLaws.{each_field}
 use Rattle.lc_constructions.proofs.ExpansionLaws.{passes, expansion_exists}
+use Rattle.lc_code.proofs.CoordinateSteps.{digit_inside, element_none, element_step}
 use Rattle.lc_combine.specs.Replaced.{power_multiples, outer_rows, AreReplaced}
 
 residues_of : (f : FieldName) (u : List ℕ) → Fits f u → Residues (size f) u
@@ -227,3 +228,5 @@ pub ruleset push_multiples_laws = (multiples_none, multiples_more, power_none, p
 pub ruleset replaced_word_laws = (word_none, word_more, word_whole)
 
 pub ruleset expansion_laws = (subfield_of_degree, expansion_found)
+
+pub ruleset value_laws = (digit_inside, element_none, element_step, zero_inside)

@@ -125,7 +125,7 @@ fn expansion(outer: &Field, inner: &Field, s: usize, a: u8) -> u16
 }
 
 // The value, at the primitive element, of the polynomial whose coefficients are the s digits of x.
-#[tactic(auto, using(lc_algebra::proofs::FieldLaws::zero_inside), unfolding(lc_algebra::specs::Polynomial::value_at, lc_algebra::specs::Residue::digits))]
+#[tactic(auto, using(crate::proofs::ReplacedLaws::value_laws))]
 fn value(outer: &Field, inner: &Field, s: usize, x: u16) -> u8
     requires subfield { IsSubfield inner.now outer.now }
     ensures is { result ≡ value_at outer.now (map (embed inner.now outer.now) (digits (size inner.now) s x)) (shape_of outer.now).primitive }

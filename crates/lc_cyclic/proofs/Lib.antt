@@ -6,3 +6,4 @@ pub mod CyclicRefusals
 pub mod GolayLaws
 pub mod BchDimension
 pub mod GeneratorLaws
+pub mod Opened

@@ -28,7 +28,7 @@ fn make_shape(characteristic: u8, degree: u8, size: u64) -> Shape
 }
 
 // The field with this index in the list of all eighteen, by rising size.
-#[tactic(auto, unfolding(lc_algebra::specs::Field::shape, lc_algebra::specs::Field::shape_of, lc_algebra::specs::Field::size, lc_constructions::specs::Cyclic::all_fields, crate::specs::Fields::field_number))]
+#[tactic(auto, unfolding(crate::proofs::Opened::shapes_of_fields))]
 fn shape_at(i: usize) -> Shape
     requires index { i < 18 }
     ensures characteristic { result.characteristic ≡ (shape_of (field_number i)).characteristic }

@@ -14,3 +14,4 @@ pub mod CyclicCalls
 pub mod MisfitLaws
 pub mod StockLaws
 pub mod DecodeLaws
+pub mod Opened

@@ -56,7 +56,7 @@ pub(crate) fn is_codeword(
 }
 
 // More cosets than a decoder keeps, n - k being this number.
-#[tactic(auto, unfolding(lc_language::specs::Evaluation::refuse_call, lc_language::specs::Refusal::refuse))]
+#[tactic(auto, unfolding(crate::proofs::Opened::refusals_of_calls))]
 fn too_many_cosets(alloc: Global, place: usize, n: usize) -> Result<Refused, NoMemory>
     ensures { IfOk result (λ r. refused (refused_of r) ≡ refuse_call place (refuse 15 (n ∷ []))) }
 {
@@ -96,7 +96,7 @@ pub(crate) fn decode(
 }
 
 // The line of a decoder's answer.
-#[tactic(auto, unfolding(lc_language::specs::Meaning::decoded, lc_language::specs::Print::value_line, lc_language::specs::Print::value_text))]
+#[tactic(auto, unfolding(crate::proofs::Opened::lines_of_values))]
 fn decoded_line(alloc: Global, decoded: Option<Word>) -> Result<Vec<u8>, NoMemory>
     ensures { IfOk result (λ l. l.items ≡ value_line (decoded_value decoded)) }
 {

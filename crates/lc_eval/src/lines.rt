@@ -9,7 +9,7 @@ use lc_print::{code_line, field_line, list_line, number_line, rows_line, truth_l
 use std::alloc::Global;
 
 // The line that a value prints.
-#[tactic(auto, unfolding(lc_language::specs::Print::value_line, lc_language::specs::Print::value_text))]
+#[tactic(auto, unfolding(crate::proofs::Opened::lines_of_values))]
 pub(crate) fn value_line(alloc: Global, value: &Value) -> Result<Vec<u8>, NoMemory>
     ensures { IfOk result (λ l. l.items ≡ value_line (value_of value.now)) }
 {

@@ -55,7 +55,7 @@ pub(crate) fn fault(alloc: Global, number: u8, place: usize) -> Refused
 }
 
 /// The refusal of a constructor of codes, at this place. If it carries no numbers it takes no memory.
-#[tactic(auto, unfolding(lc_language::specs::Refusal::refusal_from, lc_language::specs::Refusal::refuse, lc_language::specs::Evaluation::refuse_call))]
+#[tactic(auto, unfolding(crate::proofs::Opened::refusals_of_calls))]
 pub(crate) fn refused_as(alloc: Global, place: usize, refusal: CodeRefusal) -> Stop
     ensures is { IsMade (Err refusal) place (Err result) }
     ensures told { refusal ≢ CodeRefusal.NoMemory → refusal_values refusal ≡ [] → result ≢ Stop.NoMemory }

@@ -36,6 +36,7 @@ use Rattle.lc_kernel.specs.Kernel.{IsPlanOf}
 use Rattle.lc_search.proofs.LevelLaws.{levels_few}
 use Rattle.lc_search.specs.State.{SearchState, first_state, answer_in, whole_plan}
 use Rattle.lc_search.proofs.EndLaws.{finished_is}
+use Rattle.lc_search.proofs.LevelLaws.{levels_few}
 
 pub symbol_few : (f : FieldName) → IsTrue (is_symbol f) → size f ≤ 16
 unfolding is_symbol

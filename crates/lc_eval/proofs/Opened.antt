@@ -1,0 +1,16 @@
+-- Definitions that a proof opens together, under one name.
+--   refusals_of_calls      a refusal as the outcome of a call
+--   lines_of_values        the line of a value, a decoder's answer among them
+use Rattle.std.specs.Prelude.{⊤}
+use Rattle.lc_language.specs.Refusal.{refusal_from, refuse}
+use Rattle.lc_language.specs.Evaluation.{refuse_call}
+use Rattle.lc_language.specs.Meaning.{decoded}
+use Rattle.lc_language.specs.Print.{value_line, value_text}
+
+unfoldable pub refusals_of_calls : ⊤
+unfolding refusal_from refuse refuse_call
+refusals_of_calls = tt
+
+unfoldable pub lines_of_values : ⊤
+unfolding decoded value_line value_text
+lines_of_values = tt
