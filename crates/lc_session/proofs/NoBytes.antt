@@ -37,7 +37,7 @@ none_given old new limit none h =
 pub is_written : (r : Result Text Halt) (c : Course) (old new : Option (List ℕ)) (before now : ℕ) (s : Status) → IsOk r → Closes r c old new before now s → (told : ℕ) → s ≢ status.NoMemory told
 is_written (Ok t) c old new before now s ok h told e =
     ⊎_elim (λ (a : (s ≡ status.Done (end_number t.ends)) × Appends old new t.bytes.items × (now ≡ before)). (let f = sym a.0 ∙ e in cc))
-        (λ (a : (s ≡ status.SinkFault) × AppendsPart old new t.bytes.items × HasRisen before now). (let f = sym a.0 ∙ e in cc)) h
+    (λ (a : (s ≡ status.SinkFault) × AppendsPart old new t.bytes.items × HasRisen before now). (let f = sym a.0 ∙ e in cc)) h
 is_written (Err x) c old new before now s ok h told e = absurd (let f = ok in cc)
 
 pub runs : (a : Asked) (asked : Settings) (o : Options) → o ≡ settings (settings_for a) → o ≡ settings asked → asked.command ≡ run → command_for a.command ≡ run

@@ -13,19 +13,17 @@ pub returns-then-is_err-clause-ends : goal.returns-then-is_err-clause-ends
 returns-then-is_err-clause-ends g c w h = starved_here _ _ _ _ _ c.statements.machine _ _ _ c.statements.invariant.0 w h
 
 pub statements-preserved-in-Line : goal.statements-preserved-in-Line
-statements-preserved-in-Line g c =
-    (
-    after_line _ _ _ _ _ c.step.new.self _ _ _ c.statements.invariant.0 c.in-Line.line c.extend_from_slice.new.self.items (rw c.in-Line.is at c.in-Ok.ensures.does)
-        (added c.extend_from_slice.result c.statements.bytes.items c.extend_from_slice.new.self.items c.in-Line.line.items c.deref.result.now _ (sym c.is_err.ensures.value ∙ c.if-is_err.false) c.extend_from_slice.ensures.items c.deref.ensures.value),
-    λ none. absurd (no_line c.args.machine.now c.args.course.now c.statements.machine c.step.new.self c.statements.course c.statements.invariant.1 c.in-Line.line (rw c.in-Line.is at c.in-Ok.ensures.does) none),
-    )
+statements-preserved-in-Line g c = (
+  after_line _ _ _ _ _ c.step.new.self _ _ _ c.statements.invariant.0 c.in-Line.line c.extend_from_slice.new.self.items (rw c.in-Line.is at c.in-Ok.ensures.does)
+      (added c.extend_from_slice.result c.statements.bytes.items c.extend_from_slice.new.self.items c.in-Line.line.items c.deref.result.now _ (sym c.is_err.ensures.value ∙ c.if-is_err.false) c.extend_from_slice.ensures.items c.deref.ensures.value),
+  λ none. absurd (no_line c.args.machine.now c.args.course.now c.statements.machine c.step.new.self c.statements.course c.statements.invariant.1 c.in-Line.line (rw c.in-Line.is at c.in-Ok.ensures.does) none),
+)
 
 pub statements-preserved-in-Silent : goal.statements-preserved-in-Silent
-statements-preserved-in-Silent g c =
-    (
-    after_silent _ _ _ _ _ c.step.new.self _ _ _ c.statements.invariant.0 (rw c.in-Silent.is at c.in-Ok.ensures.does),
-    λ none. absurd (not_silent c.args.machine.now c.args.course.now c.statements.machine c.step.new.self c.statements.course c.statements.invariant.1 (rw c.in-Silent.is at c.in-Ok.ensures.does) none),
-    )
+statements-preserved-in-Silent g c = (
+  after_silent _ _ _ _ _ c.step.new.self _ _ _ c.statements.invariant.0 (rw c.in-Silent.is at c.in-Ok.ensures.does),
+  λ none. absurd (not_silent c.args.machine.now c.args.course.now c.statements.machine c.step.new.self c.statements.course c.statements.invariant.1 (rw c.in-Silent.is at c.in-Ok.ensures.does) none),
+)
 
 pub need_line-requires-clause-rows : goal.need_line-requires-clause-rows
 need_line-requires-clause-rows g c _ _ = need_rows c.statements.machine c.step.new.self c.in-Need.query (rw c.in-Need.is at c.in-Ok.ensures.does)
@@ -42,13 +40,12 @@ returns-then-is_err-2-clause-ends g c w h =
     starved_next _ _ _ _ _ c.step.new.self _ _ _ c.statements.invariant.0 c.in-Need.query c.need_line.new.course _ c.in-Ok-need_line.line.items (rw c.in-Need.is at c.in-Ok.ensures.does) c.in-Ok-need_line.ensures.goes w h
 
 pub statements-preserved : goal.statements-preserved
-statements-preserved g c =
-    (
-    after_need _ _ _ _ _ c.step.new.self _ _ _ c.statements.invariant.0 c.in-Need.query c.need_line.new.course _ c.in-Ok-need_line.line.items c.extend_from_slice-in-Need.new.self.items (rw c.in-Need.is at c.in-Ok.ensures.does) c.in-Ok-need_line.ensures.goes
-        (added c.extend_from_slice-in-Need.result c.statements.bytes.items c.extend_from_slice-in-Need.new.self.items c.in-Ok-need_line.line.items c.deref-in-Need.result.now _ (sym c.is_err-in-Need.ensures.value ∙ c.if-is_err-2.false) c.extend_from_slice-in-Need.ensures.items c.deref-in-Need.ensures.value)
-        c.in-Ok-need_line.ensures.ranged c.in-Ok-need_line.ensures.same,
-    λ none. absurd (no_need c.args.machine.now c.args.course.now c.statements.machine c.step.new.self c.statements.course c.statements.invariant.1 c.in-Need.query (rw c.in-Need.is at c.in-Ok.ensures.does) none),
-    )
+statements-preserved g c = (
+  after_need _ _ _ _ _ c.step.new.self _ _ _ c.statements.invariant.0 c.in-Need.query c.need_line.new.course _ c.in-Ok-need_line.line.items c.extend_from_slice-in-Need.new.self.items (rw c.in-Need.is at c.in-Ok.ensures.does) c.in-Ok-need_line.ensures.goes
+      (added c.extend_from_slice-in-Need.result c.statements.bytes.items c.extend_from_slice-in-Need.new.self.items c.in-Ok-need_line.line.items c.deref-in-Need.result.now _ (sym c.is_err-in-Need.ensures.value ∙ c.if-is_err-2.false) c.extend_from_slice-in-Need.ensures.items c.deref-in-Need.ensures.value)
+      c.in-Ok-need_line.ensures.ranged c.in-Ok-need_line.ensures.same,
+  λ none. absurd (no_need c.args.machine.now c.args.course.now c.statements.machine c.step.new.self c.statements.course c.statements.invariant.1 c.in-Need.query (rw c.in-Need.is at c.in-Ok.ensures.does) none),
+)
 
 pub returns-then-is_err-3-clause-ends : goal.returns-then-is_err-3-clause-ends
 returns-then-is_err-3-clause-ends g c w h = starved_here _ _ _ _ _ c.statements.machine _ _ _ c.statements.invariant.0 w h
