@@ -4,7 +4,7 @@
 --   top_plus, top_times          so does the last coefficient
 --   times_x_plus, times_x_times  so does multiplying by x
 --   product_plus, product_times, product_times_x      and the product, in its second factor
---   plus_product, times_product                       and in its first
+--   plus_product                 it keeps sums in its first factor too
 --   product_swap                 u (v w) is v (u w)
 --   zeros_plus_zeros, up_zeros, top_zeros, times_x_zeros, product_zeros      zeros stay
 --   length-up, length-times_x, length-product, residues_product              lengths, and residues come out

@@ -1,6 +1,6 @@
 -- The product of elements is the remainder of the plain product of their polynomials on division by the field's polynomial,
 -- and remainders are unique.
---   index-plus, index-times, index-long_plus      coefficients of sums and multiples
+--   index-plus, index-long_plus      coefficients of sums
 --   whole_multiple             moving up without letting go is times_x and the top multiple of the monic polynomial
 --   each_residue, residues_each      lists of residues, entry by entry
 --   remainder_of_product       product is a remainder of long_times, for residues modulo any p

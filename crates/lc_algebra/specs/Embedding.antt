@@ -1,12 +1,12 @@
--- A small field inside a larger one (MacWilliams and Sloane, chapter 4).
+-- A small field inside a larger one, and minimal polynomials over it (MacWilliams and Sloane, chapter 4).
 --   IsSubfield small large        equal characteristics, and the degree of the large field is a multiple of the small one's
 --   is_subfield small large       the same as a test
 --   first_from test i n           the least number from i to i + n - 1 that passes the test, and i + n where none does
 --   first_that test n             the least number below n that passes the test, and n where none does
 --   root small large              the least-numbered zero, in the large field, of the polynomial of the small one
 --   embed small large a           the element of the large field for a: the value of the polynomial of a at that root
---   minimal polynomials: IsMinimal small large a u      u is the monic polynomial of least degree over the small field that
---                                 has a as a zero in the large one
+--   IsMinimal small large a u     u is the monic polynomial of least degree over the small field that has a as a zero in the
+--                                 large one
 --   IsCyclotomicSet n q i xs      xs are the numbers i q^j modulo n, rising, each once
 use Rattle.std.specs.Prelude.{◌≡◌, ℕ, zero, suc, ◌*◌, ◌%◌, ◌^◌, ◌<◌, ◌↔◌, Bool, cond, ◌==◌, ◌&&◌, List, [], ◌∷◌, ◌++◌, length, map, Contains}
 use Rattle.std.specs.List.Sorted.{IsStrictlyIncreasing}

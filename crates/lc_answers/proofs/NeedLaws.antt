@@ -1,10 +1,13 @@
 -- The answer of one need of a session.
---   next_uncut, next_cut      the session goes on to a need, with or without what is left of the records
---   next_with            it is about to answer it
---   has_passed, has_not_passed      it passes over a settled need
+--   uncut_stands, cut_stands      how the records stand if the session goes on to a need, with or without what is left of them
+--   next_with            the session is about to answer the need
+--   answered_more        the answers of the needs so far, and that of one more
+--   has_passed, has_not_passed      it passes over a settled need; or the record of that need doesn't fit
+--   no_room              memory is refused before a search begins
 --   at_search            it begins a search
---   not_begun            the record of the current need doesn't fit
---   went_on, went_stopped      the search is answered, or the session stops
+--   went_on, went_stopped, went_starved      the search is answered; the session stops in it; memory is refused once it is answered
+--   starving             memory is refused between two needs
+--   passes_on, passes_not, begins_not, stops_so, starves_so, goes_so, anew, not_anew      the same, as the calls of the program say it
 use Rattle.std.proofs.Common.{◌≡◌, ◌≤◌, ◌<◌, ◌+◌, ◌⊎◌, inl, inr, ℕ, zero, suc, Bool, true, false, ◌==◌, ◌&&◌, ◌^◌, IfSome, nat_lt, is_some, Result, Ok, Err, is_err, is_ok, if◌then◌else◌, List, [], ◌∷◌, ◌++◌, length, map, take, All, Option, Some, None, option_map, unwrap_or, refl, sym, ap, subst, ◌∙◌, arith}
 use Rattle.std.specs.Prelude.{slice_get, slice_index_or, ◌-◌}
 use Rattle.std.proofs.lemmas.Option.{slice_get_within, slice_get-map, slice_get-get_or}

@@ -3,7 +3,7 @@
 --   turned_checks q r          row m holds the digits that count q^m, of all columns of at most r digits
 --   digits_prefix, digits_at   the digits of the columns before a block, and of its first column
 --   power_there, power_elsewhere       the digits of a power
---   turned_row, turned_rows, turned_places, turned_same      the rows are words, reduced, and those of the check matrix
+--   turned_row, turned_words, turned_places, turned_same      the rows are words, reduced, and those of the check matrix
 --   hamming_dimension          the dimension is the length less the number of checks
 use Rattle.std.proofs.Common.{◌≡◌, ◌≢◌, ℕ, zero, suc, ◌+◌, ◌-◌, ◌*◌, ◌/◌, ◌%◌, ◌^◌, ◌<◌, ◌≤◌, List, [], map, length, slice_index, slice_index_or, Contains, sym, ap, subst, ◌∙◌, ⊎_elim, arith, add-zero}
 use Rattle.std.proofs.Math.Nat.{one-le-pow, pow-le-pow_right, mod-eq_of_lt, mul-div_cancel_left, mul-mod_right, mul-le-mul_right, div_self}

@@ -1,8 +1,8 @@
 -- A worked round of two blocks and two actors, by evaluation of the definitions.
 --   first_steps     both actors draw, and the second reports 7
 --   whole_round     then the first reports 8 and draws once more, which puts it past the blocks, and the round ends
---   round_goes      each of these events is possible
---   drawn_and_told  a book after it drew 0 and reported 7, and what is pending after it
+--   resumed         a round that is killed and resumed starts anew
+--   held_blocks     the blocks that actors hold or have finished after the first steps
 --   least_of_all    the least of 9, 7 and 8
 use Rattle.std.proofs.Common.{◌≡◌, refl}
 use Rattle.std.specs.Prelude.{List, [], ◌∷◌, Some, None, true, false}

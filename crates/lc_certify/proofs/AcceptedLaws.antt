@@ -1,6 +1,6 @@
 -- What `check` says of the certificate of a search.
 --   told_accepted             a valid certificate that has the shape is accepted, and so is its line
---   none_said, line_cases     the line of a certificate says that there is none, or is the text of one that can be afforded
+--   none_with, line_cases     the line of a certificate says that there is none, or is the text of one that can be afforded
 --   printed                   the line that a query prints says none, or is accepted for the code
 use Rattle.std.proofs.Common.{◌≡◌, ℕ, ◌-◌, ◌^◌, ◌≤◌, ◌⊎◌, min, nat_lt, if◌then◌else◌, List, [], ◌∷◌, ◌++◌, length, codes, decimal, inl, inr, ⊎_elim, refl, sym, ap, subst, ◌∙◌, arith, append_assoc}
 use Rattle.std.proofs.lemmas.Bool.{cases_Bool, ltb-false}

@@ -1,6 +1,6 @@
 -- Counting as far as the greatest number of 64 bits.
 --   capped_product             a capped product of capped numbers is that of the numbers
---   choose_none_one, choose_none_more, choose_one, choose_next      the entries of a row of numbers of sets, from the row before
+--   choose_one, choose_none_more, choose_next      the entries of a row of numbers of sets, from the row before
 --   power_none, power_next     the powers of q - 1
 --   through_none, through_next the numbers of messages of the levels, level by level
 --   sum_whole, sum_step        the sum over the sets, set by set

@@ -4,7 +4,7 @@
 --   deleted_linear         deleting coordinates is linear
 --   punctured_words, punctured_members, punctured_code
 --   dot_without            deleting coordinates at which one word is 0 keeps the dot
---   filled                 a word, with 0 put in at the coordinates that were deleted
+--   filled_from            a word, with 0 put in at the coordinates that were deleted
 --   without_filled, filled_zero, filled_word
 --   shortened_words, shortened_members, shortened_code
 use Rattle.std.proofs.Common.{◌≡◌, ℕ, zero, suc, ◌+◌, ◌-◌, ◌<◌, ◌↔◌, Bool, true, false, cond, ◌==◌, List, [], ◌∷◌, ◌++◌, map, length, take, slice_index, slice_index_or, None, Contains, All, refl, sym, ap, subst, ◌∙◌, ⊎_elim, arith, add-one}

@@ -1,6 +1,6 @@
 -- A code is the dual of its dual (MacWilliams and Sloane, chapter 1).
 --   free_made, word_made, words_made      reduced rows have free columns, and a kernel word for each
---   rows_are_kernel        reduced rows are the kernel words of their kernel words
+--   kernel_at, free_turned, row_is_kernel_word      reduced rows are the kernel words of their kernel words
 --   dual_orthogonal        the words that have dot 0 with the rows of the dual code are those of the code
 --   all_left, all_right    what holds of the rows of two lists
 use Rattle.std.proofs.Common.{◌≡◌, ◌≢◌, ℕ, zero, suc, ◌+◌, ◌<◌, ◌≤◌, ◌↔◌, inl, inr, List, [], ◌∷◌, ◌++◌, length, set, slice_index, slice_index_or, All, refl, sym, ap, subst, ◌∙◌, ⊎_elim, arith}

@@ -6,7 +6,7 @@
 --   block_weight, word_weight      the weight of what a nonzero symbol, and a word, is replaced by
 --   concatenated_bound     the product of the bounds of the outer and the inner code
 --   related_at_most        a list of different things with different images in another list is no longer than that
---   power_of_power, same_exponent      powers of powers, and equal powers
+--   power_of_power, exponent_at_most      powers of powers; a lesser power has a lesser exponent
 --   concatenated_dimension
 use Rattle.std.proofs.Common.{◌≡◌, ℕ, zero, suc, ◌+◌, ◌*◌, ◌^◌, ◌<◌, ◌≤◌, List, [], ◌∷◌, ◌++◌, map, length, Contains, ◌==◌, Option, Some, None, is_none, refl, sym, ap, ap₂, subst, ◌∙◌, ⊎_elim, arith, true≢false, pow-suc, mul-le-mul_right}
 use Rattle.std.specs.Prelude.{IsTrue}

@@ -1,7 +1,8 @@
 -- Direct sums and the words u followed by u + v.
 --   left_linear, right_linear, twice_linear      a word followed by zeros, after zeros, and followed by itself
---   direct_sum_rows_words, direct_sum_words, direct_sum_members, direct_sum_code
---   uuv_rows_words, uuv_words, uuv_members, uuv_code
+--   direct_sum_words, uuv_words        the rows are words over the field
+--   direct_sum_members, uuv_members    the words of these rows are those of the direct sum, and those u followed by u + v
+--   direct_sum_code, uuv_code          so the code of the rows is the one that was asked for
 use Rattle.std.proofs.Common.{◌≡◌, ℕ, ◌+◌, ◌↔◌, List, [], ◌∷◌, ◌++◌, refl, sym, ap, ap₂, subst, ◌∙◌, arith}
 use Rattle.std.proofs.lemmas.List.{length-append}
 use Rattle.lc_algebra.specs.declared.FieldName.{FieldName}

@@ -3,7 +3,7 @@
 --   dual_closed, intersection_closed
 --   symbol_sum_of_sum, symbol_sum_of_multiple, extended_closed
 --   without_sum, without_scale, without_zero, punctured_closed, shortened_closed
---   parity_of_sum, even_weight_closed
+--   overlap, even_sum, even_multiple, even_weight_closed
 --   direct_sum_closed, uuv_closed
 --   span_of_both, direct_product_closed
 --   value_of_sum, value_of_multiple, replaced_sum, replaced_multiple, replaced_zero, concatenated_closed

@@ -1,7 +1,6 @@
 -- Which words the plain constructors put into their codes (GUAVA manual, "Generating Codes"; MacWilliams and Sloane, chapters 1 and 13).
--- Each fact is about a word w that has the code's length and fits its field.
+-- Each fact is about a word w that has the code's length and fits its field. That of a check matrix is CheckedBy of specs/Code.antt.
 --   GeneratedBy f n rows w       generator matrix: a sum of multiples of the rows
---   CheckedBy f rows w           check matrix: dot 0 with each row (specs/Code.antt)
 --   IsConstant w                 repetition code: all symbols are equal
 --   IsAny w                      whole space: no condition
 --   IsZero w                     null code: all symbols are 0

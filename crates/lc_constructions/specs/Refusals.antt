@@ -1,6 +1,6 @@
 -- For each constructor and combinator of codes the list of its refusals, in the order in which they are looked for. An entry is
--- the refusal if it applies, else None, and the call is refused with the first one (first_refusal). Golay codes, extended Golay
--- codes and dual codes are never refused.
+-- the refusal if it applies, else None, and the call is refused with the first one (first_refusal of specs/Refusal.antt). Golay
+-- codes, extended Golay codes and dual codes are never refused.
 --   columns_of rows               the length of a matrix is that of its first row; without rows it is 0
 --   are_elements f entries        each entry is below the size of the field
 --   have_elements f rows          so is each entry of each row

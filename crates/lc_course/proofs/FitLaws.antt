@@ -1,7 +1,7 @@
 -- Whether the records of a checkpoint fit, need by need.
---   fitting_length, fitting_more
+--   fitting_length, fitting_more      records that fit are as many as their needs; one more that fits may come after them
 --   misfit_past          the records that fit are passed over
---   fits_start           no record is misfit if all before the need fit, and the session starts anew there or its record fits
+--   fits_anew, fits_whole      no record is misfit if all before the need fit, and the session starts anew there or its record fits
 --   unfit_settled, unfit_current      the first record that doesn't fit
 --   unfit_end            more records than needs
 use Rattle.std.proofs.Common.{◌≡◌, ◌≤◌, ◌+◌, ℕ, zero, suc, Bool, true, false, if◌then◌else◌, List, [], ◌∷◌, ◌++◌, length, take, Option, Some, None, refl, sym, ap, subst, ◌∙◌, arith}

@@ -1,7 +1,7 @@
 -- The rounds of a session, need by need.
 --   drop_front, take_front, take_whole      fronts of lists
 --   ends_here            at the end of the needs these steps are all, and nothing stopped it
---   at_need, at_need_stopped      the steps once one more need is met, and whether the slice stopped it there
+--   at_need              the steps once one more need is met, and whether the slice stopped it there
 --   searched             if it didn't, the session goes on after that need
 --   next_is_this         what holds however the needs go on holds if this need is the next one
 use Rattle.std.proofs.Common.{◌≡◌, ◌≤◌, ◌<◌, ◌+◌, ℕ, zero, suc, Bool, true, false, cond, List, [], ◌∷◌, ◌++◌, length, map, drop, take, Option, Some, None, unwrap_or, refl, sym, ap, subst, ◌∙◌, arith}

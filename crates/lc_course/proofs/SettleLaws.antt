@@ -1,6 +1,5 @@
 -- The answers of needs, one more at the end.
 --   settled_more, words_more      one more need is settled, and its answer has its word
---   settled_length
 --   answer_word          the answer of a search that fits its code has its word
 use Rattle.std.proofs.Common.{◌≡◌, ℕ, suc, ◌-◌, Bool, true, false, ◌==◌, ◌&&◌, nat_le, if◌then◌else◌, List, [], ◌∷◌, ◌++◌, length, Option, Some, None, refl, sym, ap, subst, ◌∙◌}
 use Rattle.lc_algebra.specs.Matrix.{Matrix}

@@ -1,10 +1,10 @@
 -- The dimension of a BCH code: its length less the number of exponents of its zeros.
 --   zeros_conjugate        the zeros come with their powers by the size of the field
 --   bch_zeros              a word of the code is 0 at all of them
---   bch_multiples          so its words are the multiples of the polynomial with these zeros
---   bch_dimension          and its dimension is that of a cyclic code
---   power_of_own           a power of the size of a field with n + 1 elements is 1 modulo n
---   own_exponents          so each exponent below n is alone in its set
+--   zero_code_dimension    so the dimension is that of the cyclic code of the polynomial with these zeros
+--   bch_dimension          the same, of BCH codes
+--   exponents_apart        the exponents from b on are distinct
+--   power_of_own           a power of the size of a field with n + 1 elements is 1 modulo n, so each exponent is alone in its set
 --   reed_solomon_dimension
 use Rattle.std.proofs.Common.{◌≡◌, ◌≢◌, ℕ, zero, suc, ◌+◌, ◌-◌, ◌*◌, ◌%◌, ◌^◌, ◌<◌, ◌≤◌, ◌↔◌, ⊎_elim, List, [], ◌∷◌, map, length, Contains, All, AllPairs, refl, sym, ap, subst, ◌∙◌, arith, mod-lt, pow-suc}
 use Rattle.std.proofs.Math.Nat.{mul_comm, pow-zero, mod_self, mod-eq_of_lt, add-mul-mod_self_right}

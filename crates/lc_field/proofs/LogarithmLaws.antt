@@ -1,7 +1,7 @@
 -- Arithmetic by the tables of powers and logarithms.
 --   product_by_logs, inverse_by_logs, power_by_logs     what the tables give at the sum, the difference, the multiple of
 --                                                       logarithms
---   logs_first, logs_more     the table of logarithms, filled power by power
+--   logs_more                 the table of logarithms, filled power by power
 --   logs_whole                and whole, since each nonzero element is a power
 use Rattle.std.proofs.Common.{◌≡◌, ℕ, ◌+◌, ◌-◌, ◌*◌, ◌%◌, ◌<◌, ⊎_elim, List, length, slice_index, get_or, set, ◌≢◌, [], ◌∷◌, ◌++◌, length-append, add-one, mul_comm, arith, sym, ◌∙◌, ap, mod-lt}
 use Rattle.std.proofs.lemmas.List.{get_or-set_same, get_or-set_other, get_or_push, get_or_append_left, length-set}

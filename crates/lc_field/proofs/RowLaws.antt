@@ -1,5 +1,5 @@
 -- What is told of each row of the table of fields by computing.
---   size_most, characteristic_least, size_whole     bounds of the columns, and the size as a multiple
+--   size_most, characteristic_least     bounds of the columns
 --   next_test       the primitive element times each element, by the combination that the code makes
 --   next_power      the same, at a row of the code
 use Rattle.std.proofs.Common.{◌≡◌, ℕ, ◌*◌, ◌/◌, ◌%◌, ◌<◌, ◌≤◌, ◌==◌, true, refl, lit<, lit≤}

@@ -6,7 +6,7 @@
 --   lists_back               lists of numbers are read back
 --   rows_pass                rows of one length pass the test of a reader
 --   not_above                what isn't above the limit
---   set_members_back, sets_back      the sets of a certificate are read back
+--   set_members_back, sets_are_back      the sets of a certificate are read back
 --   parts_back                 the rules of the parts, for members that have what is written
 --   certificate_plain, certificate_shallow      its JSON value is a plain one, three deep
 --   reads_members            its members read as the certificate

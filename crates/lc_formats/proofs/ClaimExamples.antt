@@ -3,7 +3,7 @@
 --   reads_back                 its text, read
 --   accepted_form, accepted_short      it is accepted; so is a form without checks, of length 2
 --   other_multipliers, beyond_bound, equal_points, no_field      another code; a distance above the bound; refusals of the form
---   attained, not_the_weight   a word of weight r + 1, and one that has another weight
+--   attained                   a word of weight r + 1, and words that have another weight or aren't of the code
 --   accepted_pair              (u|u+v) of the whole plane and a repetition code: 2, the lesser of twice 1 and 2
 --   pair_bounds, place_bounds, extended_bounds, caps      the bounds of combined codes
 --   numbering                  a refused part has its number in the tree

@@ -1,6 +1,6 @@
 -- A certificate by construction that has the shape is read back from its text.
 --   claim_plain, claim_shallow, claim_deep      the value of a claim is a plain one, little deeper than the claim, and no less deep
---   kind_back                  the kind of a claim is read back
+--   pair_kind, place_kind      the kind of a claim is read back
 --   claim_back                 the members of a claim read as the claim
 --   claim_closed               the sets of its searches have no other keys
 --   within_limits              a certificate of the shape is within the limits

@@ -1,7 +1,7 @@
 -- What the tests of a reader of certificates say.
 --   all_holds, all_passes      a list passes a test exactly if each element has what the test tests
---   first_of, rest_of          the parts of a test of two
 --   rising_holds, rising_passes      numbers rise exactly if the test says so
+--   elements_hold, elements_pass      a list fits the field exactly if the test says so
 --   word_holds, word_passes    a list is a word over the field, of that length
 --   places_hold, places_pass   numbers rise and are below the length
 --   part_holds, part_passes    each fresh place is in the basis

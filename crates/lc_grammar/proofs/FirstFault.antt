@@ -1,7 +1,8 @@
--- The fault of the grammar is at the token at which their course stops; they are a script if it does not.
---   outcome bytes        what the course of the bytes' tokens comes to
---   fault_course, course_fault      the fault of the bytes is that outcome
---   script_outcome, outcome_script  the script of the bytes is that outcome
+-- The fault of the grammar is at the token at which the course of the tokens stops; they are a script if it doesn't stop.
+--   IsFaultOf all ending f          f is the first fault of the tokens
+--   fault_is_course, fault_of_course      the course of tokens comes to their first fault
+--   outcome_ending                  only at the script's end does it come to a script
+--   script_outcome, outcome_script  the script of the bytes is what the course of their tokens comes to
 use Rattle.std.proofs.Common.{◌≡◌, ℕ, zero, suc, ◌+◌, ◌<◌, ◌≤◌, max, Bool, true, false, ◌&&◌, nat_le, List, [], ◌∷◌, ◌++◌, length, take, drop, Option, Some, None, refl, sym, ap, ◌∙◌, subst, ◌⊎◌, inl, inr, append_assoc, arith, length-append, length-take}
 use Rattle.std.proofs.lemmas.Bool.{cases_lt}
 use Rattle.std.proofs.lemmas.Bool.Decides.{nat_tests}

@@ -1,5 +1,5 @@
 -- The words of the fronts of a message.
---   front_none, front_more      that of no entry is 0; that of an entry more is a multiple of a row more
+--   front_more                  that of an entry more is a multiple of a row more
 --   Entries C s                 what the entries of the message of a spot are
 --   entries_are                 each message of a level has such entries
 --   front_first, front_next     the words of the fronts of a spot's message, from its entries

@@ -2,7 +2,7 @@
 --   packed_sum, packed_ones, packed_small      a sum is an exclusive or, a weight is a number of ones; they fit their bits
 --   count_split                  what is counted in a list, by what passes a test
 --   weight_split                 the weight of a word, by its symbols in a set and outside it
---   message_symbols              a word has its message on the basis of its set
+--   symbols_of                   a word has its message on the basis of its set
 --   weight_of_word               the weight of a message's word: its level, and its symbols outside the basis
 --   part_none, part_more, part_all      the weight at some columns, part by part
 --   outside_inside, others_few      the columns outside a set are columns

@@ -1,6 +1,5 @@
 -- The words of a run: of messages over 2 elements that share all but their last t entries.
 --   support_parts              a support is its head and its last pair
---   head_same                  the fronts in a common head are the same
 --   all_ones                   all coefficients are 1
 --   bits_rest                  the bits of a word: those of a front, and the rows of its other entries
 --   run_word                   the bits of a word of a run: those of its head and of its tail

@@ -1,12 +1,15 @@
 -- When a call is refused, with which number, and which numbers the refusal carries.
--- What a constructor or a combinator of codes refuses is listed in `lc_constructions`.
+-- What a constructor or a combinator of codes refuses is listed in `lc_constructions`. Besides, a number that is the size of no field is
+-- refused with 1, and the least word of too many words with 16.
 --   Refusal                 the number, and the numbers that are printed after it
 --   when test r             the refusal, if the test passes
 --   first_of rs             the first refusal of some that are in order
 --   refusal_from e          a constructor's refusal as that of a call; from_codes rs those of a list
 --   word_refusals C x       of a list that should be a word of the length of C over its field: 12, then 3 with 2
---   Numbers beside those of `CodeRefusal`: 1 NotAField, 15 TooManyCosets (with n - k), 16 TooManyWords, 18 NoAlternant,
---   19 NotAttained (with the weight and r + 1), 47 NoDistribution (with k and n - k)
+--   coset_refusal C         15 with n - k: there are too many cosets
+--   no_form form            18: there is no alternant form
+--   not_attained C form x   19 with the weight and r + 1: x is no word of the code of weight r + 1
+--   no_distribution C       47 with k and n - k: the weight distribution isn't computed
 --   refusals_of b           the refusals of a bound call in its order; refusal_of b the first of them
 --   query_refusals_of b     those of a bound query; query_refusal_of b the first
 use Rattle.std.specs.Prelude.{ℕ, ◌+◌, ◌-◌, ◌^◌, Bool, true, not, nat_lt, ◌==◌, ◌&&◌, ◌||◌, if◌then◌else◌, List, [], ◌∷◌, ◌++◌, length, map, Option, Some, None, is_some, option_map}

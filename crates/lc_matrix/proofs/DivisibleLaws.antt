@@ -2,13 +2,13 @@
 -- and 19).
 --   IsQuadratic f d              modulo d, the weight of a sum is the sum of the weights and twice the dot
 --   IsDefinite f d               twice a nonzero element is no multiple of d
---   sum_mod, sums_mod            sums modulo d
+--   sum_mod                      sums modulo d
 --   weight_of_sum                the weight of a sum of two words
 --   binary_four, binary_two, ternary_three, four_definite, three_definite      over 2 elements modulo 4 and 2, over 3 modulo 3
 --   RowsDivided d rows, RowsOrthogonal f rows      d divides the weight of each row; two rows have dot 0
 --   words_divided, words_even    if so, d divides the weight of each word; 2 does if it divides those of the rows
 --   rows_divided, rows_apart     and conversely
---   divisible_by, four_told, two_told, three_told, divisible_told      what is tested, for each divisor that is asked for
+--   divisible_by, squares_told, two_told, divisible_told      what is tested, for each divisor that is asked for
 --   binary_name, ternary_name, possible_four, possible_two, possible_three, possible_cases      over which fields these are
 --   divisor_four, divisor_two, divisor_three, divisor_odd, divisor_not_three, divisor_other      the divisor of the weights
 --   divisor_of_rows              that of a code is that of its rows

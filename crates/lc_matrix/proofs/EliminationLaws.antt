@@ -3,7 +3,7 @@
 --                          column at which all rows from row r on are 0
 --   keeps_raised, raised_nonzero, keeps_lead, rows_unchanged, reduced_pushed      the same, in the shape of the calls
 --   raised_symbol, unit_symbol      the symbol of a row that another is added to, that is multiplied by its inverse
---   cleared_none, cleared_more, cleared_all, cleared_zero, cleared_kept      a column that is cleared row by row
+--   cleared_none, cleared_more, cleared_keeps, cleared_leads, cleared_zero      a column that is cleared row by row
 --   reduced_none, reduced_taken, reduced_left    one column of the order more
 use Rattle.std.proofs.Common.{◌≡◌, ◌≢◌, ℕ, ◌+◌, ◌<◌, ◌≤◌, List, [], ◌∷◌, ◌++◌, length, set, slice_index, slice_index_or, refl, sym, ap, subst, ◌∙◌, ⊎_elim, arith}
 use Rattle.std.proofs.lemmas.Bool.{cases_eq, cases_lt}

@@ -1,7 +1,7 @@
 -- The rows that a flat list of symbols holds.
 --   length_rows_of, row_at, row_read      how many rows there are, and where row i stands
 --   symbol_inside, entry_read             the symbol of row i at column c stands at i n + c
---   row_long, row_fits, row_word, words_of, flat_rows      rows of a list that fits the field are words over it
+--   row_long, row_fits, row_word, words_of      rows of a list that fits the field are words over it
 --   row_pushed, flat_pushed               a row put after the others
 --   row_set, flat_set                     row i written over
 --   written, row_added, row_scaled        what a write of a part leaves in the list, and which rows it holds then

@@ -4,7 +4,7 @@
 --   rank_is                its number of rows is the rank
 --   rest_none, rest_more, rest_told, in_span_made      a word less multiples of reduced rows
 --   rise, full             rising places: place i is at least i, and is i if there are as many as they may be
---   gap                    else there is a first place that is left out
+--   IsGap, gap_from        else there is a first place that is left out
 --   systematic_of          over a set whose columns are all taken: the systematic matrix
 --   dependent_of           if a column is left out, the columns are dependent
 --   echelon_made, systematic_made, dependent_made      the same, in the shape of the calls

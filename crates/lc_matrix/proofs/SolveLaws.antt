@@ -6,7 +6,7 @@
 --   dots_from_orthogonal, orthogonal_from_dots      a word w solves the system exactly if w and then -1 has dot 0 with
 --                          each augmented row
 -- The answer
---   length_solution_word, solution_at_place, solution_elsewhere      the solution, symbol by symbol
+--   length_solution_word, symbol_place, symbol_other, index_solution      the solution, symbol by symbol
 --   is_solution_word, solution_word_unique      the same as a record
 --   solution_of            if the last column is no place, the solution solves the system
 --   no_solution            if it is a place, nothing does

@@ -2,8 +2,9 @@
 --   refuse_end, refuse_first     the refusal of the end and of a first token
 --   number_found, name_ascii     the value of a number's digits; the text of a name
 --   within_first, within_rest    the first token and the others stand within the bytes
---   step_number .. step_deep     one token read
---   stuck_done                   what may not stand after an element
+--   too_deep                     the refusal of a sign that opens one level too many
+--   step_number .. step_no_target      one token read
+--   stuck_statement, stuck_element, stuck_expr      what may not come after a statement, after an element, or where an expression must come
 use Rattle.std.proofs.Common.{◌≡◌, ℕ, ◌^◌, ◌<◌, ◌≤◌, true, ◌&&◌, nat_le, List, [], ◌∷◌, ◌++◌, length, Option, Some, None, Result, Ok, Err, IfOk, IfErr, MatchOption, unwrap_or, refl, sym, ap, ◌∙◌, subst, arith}
 use Rattle.std.proofs.lemmas.Str.{IsUtf8-from_ascii}
 use Rattle.std.specs.Str.{IsUtf8}

@@ -1,7 +1,7 @@
 -- Steps of the scan, for the goals of `src/scan.rt`.
 --   number_from-grows     the value of digits is at least that of the digits before
 --   value_none, value_more, value_all, value_grows      the loop over digits
---   step_end .. step_token    what `scan_within` does with what stands at a place
+--   step_blank .. step_end    what `scan_within` does with what is at an offset
 --   Scans bytes ts at     the tokens before the place are ts
 --   Scans-none, -skip, -token, -end      the loop over the bytes
 use Rattle.std.proofs.Common.{◌≡◌, ℕ, zero, suc, ◌+◌, ◌-◌, ◌*◌, ◌^◌, ◌<◌, ◌≤◌, Bool, true, false, cond, ◌⊎◌, inl, inr, ◌==◌, ◌&&◌, not, nat_lt, List, [], ◌∷◌, ◌++◌, length, get_or, drop, Some, None, refl, sym, ap, ◌∙◌, append_assoc, length-drop, arith}

@@ -5,7 +5,7 @@
 --   NonzeroEntries q n u     u has n entries, each from 1 to q - 1
 --   nonzero_shape            each of the lists has them
 --   length-nonzero_lists, length-leading_lists      how many lists there are
---   nonzero_first, leading_first                    the first list has 1 everywhere
+--   nonzero_first            the first list has 1 everywhere
 --   nonzero_next             the list at the next place is the next list
 --   nonzero_digit            the first entry of the list at a place, and the place of the rest
 use Rattle.std.proofs.Common.{◌≡◌, ℕ, zero, suc, ◌+◌, ◌-◌, ◌*◌, ◌/◌, ◌%◌, ◌^◌, ◌<◌, ◌≤◌, cond, ltb, List, [], ◌∷◌, length, get_or, replicate, Option, Some, None, refl, ap, sym, ◌∙◌, arith, inl, inr}

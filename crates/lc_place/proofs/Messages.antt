@@ -2,10 +2,10 @@
 --   next_message k q m         the message after m; None after the last
 --   IsMessage k q w m          w places below k, rising, and as many elements from 1 to q - 1, the first one 1
 --   message_shape              each message is one
+--   leading_shape, leading_next, leading_first      the coefficients: what they are, the next ones, the first ones
 --   length-messages            how many there are
 --   message_at                 the message at a place, from its support and its coefficients
 --   message_next               the message at the next place is the next message
---   message_raised, message_moved, message_last      the next message, by what can rise or move
 --   from_contains, to_contains      between a place in a list and membership
 use Rattle.std.proofs.Common.{◌≡◌, ℕ, zero, suc, ◌+◌, ◌-◌, ◌*◌, ◌^◌, ◌<◌, ◌≤◌, List, [], ◌∷◌, length, get_or, replicate, Option, Some, None, refl, ap, sym, ◌∙◌, arith, inl, inr}
 use Rattle.std.specs.Prelude.{slice_get}

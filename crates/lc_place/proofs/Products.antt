@@ -6,8 +6,6 @@
 --   ProductPart f xs ys n z    z stands in row a and column b of the product, at place n
 --   product_part               each element of a product does
 --   product_at                 the element in row a and column b
---   product_next               in the same row the next element has the next column
---   product_turn               after the last column comes the first column of the next row
 use Rattle.std.proofs.Common.{◌≡◌, ℕ, zero, suc, ◌+◌, ◌-◌, ◌*◌, ◌<◌, List, [], ◌∷◌, ◌++◌, map, length, Some, refl, ap, sym, ◌∙◌, arith, length-append, inl, inr}
 use Rattle.std.specs.Prelude.{slice_get}
 use Rattle.std.specs.List.{flat_map}

@@ -1,6 +1,5 @@
 -- Division of polynomials: one quotient and one remainder, and what divides what.
 --   division_told              what is left in place of the dividend, without last zeros
---   first_zero                 a polynomial whose constant and other coefficients are 0
 --   division_unique            there is one pair of quotient and remainder
 --   divides_exactly            the remainder is 0 exactly if the divisor divides
 --   x_power_polynomial         x^n - 1 has no last zero

@@ -1,8 +1,8 @@
 -- The text of a script, statement by statement.
 --   on_line, on_silent, on_need      after a statement
---   whole, whole_asks    at the end of the script
---   faulty, faulty_asks  after a statement that fails
---   met_next             the needs with the one that a statement asks
+--   met_next, met_now    the needs that are met, with the one that a statement asks, and without
+--   IsWritten            what a script asks and prints
+--   whole, faulty        that is the text at the end of the script, and after a statement that fails
 --   halted               the session ends at a need
 --   even, finished_so    it has the text
 --   over, records_left   records are left at the end of the text

@@ -5,8 +5,8 @@
 --   small_places        the places of its words are below 2^52
 --   value_of_least      the value of the best is the least value
 --   block_after         the value of the least word of a block
+--   PairOf best x a     the value is that of x and gives its weight and its place, and x is no heavier than a
 --   blocks_after        the values of blocks, and the best of what is found in them
---   pair_of             the pair that a value stands for
 use Rattle.std.proofs.Common.{◌≡◌, ℕ, zero, suc, ◌+◌, ◌-◌, ◌*◌, ◌/◌, ◌%◌, ◌^◌, ◌<◌, ◌≤◌, min, Bool, true, false, cond, List, [], ◌∷◌, map, length, drop, option_map, flat_map, refl, sym, ap, ◌∙◌, subst, ⊎_elim, arith}
 use Rattle.std.specs.Prelude.{All, Contains, unwrap_or}
 use Rattle.std.proofs.lemmas.Bool.{cases_lt}

@@ -1,9 +1,8 @@
 -- Worked sessions, by evaluation of the definitions.
---   turns                        the turn after some turns, up to 2^60; the slots of some turns
+--   turns, slots                 the turn after some turns, up to 2^60; the slots of some turns
 --   stored                       three checkpoints from turn 5 on: the last two of them are left
 --   later                        the later of two checkpoints, slot Zero's if their turns are equal
 --   choices                      two empty slots, and a byte in slot Zero
---   starts                       where sessions start that resume checkpoints of both versions
 --   numbers, lines               the numbers of the endings, and lines that they print
 --   asks_nothing                 the empty script asks nothing
 --   asks_once, asks_twice        two statements that ask for the distance of the Hamming code, and the first of them alone

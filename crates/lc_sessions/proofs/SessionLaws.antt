@@ -3,7 +3,6 @@
 --   refused_exactly       refused arguments end the session with their index, or memory was refused; and no others do
 --   unsliced              without a slice no session is stopped by one
 --   completed             what is left when nothing fails, nothing pauses and the checkpoint is usable: the text, or no memory
---   never_source          over a source that didn't fail no session ends with a fault of it; and so on
 use Rattle.std.proofs.Common.{◌≡◌, ℕ, ◌<◌, ◌≤◌, refl, arith, ap, sym, subst, ◌∙◌, zero, suc, ⊎_elim, ◌⊎◌}
 use Rattle.std.specs.Prelude.{List, [], ◌∷◌, ◌++◌, true, false, Option, Some, None, length, drop, unwrap_or, ◌-◌, IsTrue}
 use Rattle.std.proofs.lemmas.List.{append-nil, length-append}

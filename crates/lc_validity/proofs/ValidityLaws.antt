@@ -1,6 +1,6 @@
 -- A valid certificate of the right shape proves its distance.
 --   set_of c claim             the level set of a claim
---   pairs_head, mapped_pairs, mapped_members      pairs and members of a list that was mapped
+--   pairs_head, all_mapped, mapped_pairs      pairs and elements of a list that was mapped
 --   seen_contains              the words of messages of the levels 1 to l are seen words
 --   unseen_lighter             a word of the code that is lighter than all seen words is no multiple of one
 --   claim_is_set, claims_are_sets      the claims of a valid certificate are level sets
