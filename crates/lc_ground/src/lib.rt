@@ -8,5 +8,5 @@ mod laws;
 
 pub use laws::{
     chains_print_the_text, needs_are_codes, one_text, scripts_are_ground,
-    scripts_print_accepted_certificates,
+    scripts_print_accepted_certificates, stored_slots_hold_true_checkpoints,
 };
