@@ -1,4 +1,4 @@
--- The answer of a call at its place.
+-- The answer of a call at its offset.
 --   first_from_codes              the first refusal of a constructor is that of the call
 --   Applying                      what a call with a known refusal, or without one, answers
 --   given                         a value is no refusal

@@ -1,5 +1,5 @@
 -- The rows of lists, and the elements of a list.
---   place_is                 the place of a tree is that of its expression
+--   place_is                 the offset of a tree is that of its expression
 --   number_fits, list_fits   a number, and a list of numbers, fit as their values do
 --   misfit_refused           another value is refused
 --   misfit_element           the fault of a list whose elements fit up to one, and that one doesn't

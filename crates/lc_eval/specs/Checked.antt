@@ -1,5 +1,5 @@
 -- The second argument of a call on a code, a list of numbers, as a word.
---   IsChecked C x place r        r is the list x as a word of the code's length over its field, or the refusal of x at this place,
+--   IsChecked C x place r        r is the list x as a word of the code's length over its field, or the refusal of x at this offset,
 --                                unless memory ran out
 use Rattle.std.specs.Prelude.{◌≡◌, ℕ, List, Some, None, Result, Ok, Err}
 use Rattle.lc_algebra.specs.Word.{IsWord}

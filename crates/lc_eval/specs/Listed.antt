@@ -1,6 +1,6 @@
 -- What the elements of a list so far make; the clauses of private functions alone speak of these.
 --   listed_of found              the numbers or the lists
---   ListsOn r found v place      r is these elements with the value v, or the fault 45 at the place where v doesn't fit, unless memory
+--   ListsOn r found v place      r is these elements with the value v, or the fault 45 at this offset if v doesn't fit, unless memory
 --                                ran out
 use Rattle.std.specs.Prelude.{◌≡◌, ℕ, Some, None, Result, Ok, Err}
 use Rattle.lc_language.specs.Value as language

@@ -1,4 +1,4 @@
--- What a constructor of codes answers, as the answer of a call at a place.
+-- What a constructor of codes answers, as the answer of a call at an offset.
 --   IsMade made place r       of a code: r is that answer, a value without an alternant form or a fault, unless memory ran out
 --   IsFormed made place r     of a code beside its alternant form: the value has this form
 use Rattle.std.specs.Prelude.{◌≡◌, ◌≢◌, ℕ, Some, None, Result, Ok, Err}

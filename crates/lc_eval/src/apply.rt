@@ -26,7 +26,7 @@ use lc_field::{Field, FieldRefusal, NoMemory};
 use std::alloc::Global;
 use std::rc::Rc;
 
-/// What a call gives of its arguments, or its refusal, at this place.
+/// What a call gives of its arguments, or its refusal, at this offset.
 pub(crate) fn apply(
     alloc: Global,
     stock: &mut Stock,
@@ -115,7 +115,7 @@ fn rows_value(alloc: Global, code: &Code) -> Result<Value, NoMemory>
     Ok(Value::Lists(Rc::new(alloc, rows)?))
 }
 
-/// A code, or its refusal at this place. A refusal that carries no numbers takes no memory.
+/// A code, or its refusal at this offset. A refusal that carries no numbers takes no memory.
 pub(crate) fn made(
     alloc: Global,
     place: usize,

@@ -27,7 +27,7 @@ use std::alloc::Global;
 use std::rc::Rc;
 
 /// The list, the second argument of a call on a code, as a word of the code's length with symbols of its field; or its refusal
-/// at this place.
+/// at this offset.
 pub(crate) fn checked(alloc: Global, place: usize, code: &Code, list: &[u64]) -> Result<Word, Stop>
     ensures { IsChecked code.now list.now place result }
 {

@@ -16,7 +16,7 @@ use lc_field::Field;
 use std::alloc::Global;
 use std::rc::Rc;
 
-/// A code with its alternant form, or its refusal at this place.
+/// A code with its alternant form, or its refusal at this offset.
 pub(crate) fn formed(
     alloc: Global,
     place: usize,

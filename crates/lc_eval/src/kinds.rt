@@ -27,7 +27,7 @@ fn is_kind(kind: Kind, value: &Value) -> bool
     }
 }
 
-// The place of the first argument whose value is not of its kind.
+// The offset of the first argument whose value is not of its kind.
 fn first_misfit(kinds: &[Kind], arguments: &[Expr], values: &[Value]) -> Option<usize>
     ensures { result ≡ evaluation.first_misfit kinds.now (trees_of arguments.now) (values_of values.now) }
 {

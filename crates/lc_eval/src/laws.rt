@@ -12,7 +12,7 @@ ghost use Rattle.lc_language.specs.Evaluation.{first_misfit};
 ghost use Rattle.lc_eval.specs.Names.{IsBound};
 
 /// Arguments in the number of one of a call's forms bind the call, unless one of them isn't of its kind: then the first such
-/// argument has a place, which is that of the fault.
+/// argument has an offset, which is that of the fault.
 #[tactic(auto, using(crate::proofs::MisfitLaws::misfits_are_arguments_laws))]
 pub fn misfits_are_arguments()
     ensures calls { (c : ValueCall) (es : Exprs) (vs : List Value) (kinds : List Kind) → signature_for (call.Value c) (count_of es) ≡ Some kinds → count_of es ≡ length vs → (bind c vs ≡ None) ↔ ((place : ℕ) × (first_misfit kinds es vs ≡ Some place)) }

@@ -23,7 +23,7 @@ pub(crate) enum Listed {
 }
 
 impl Listed {
-    // The same with one value more, which is that of the element at the place; a value that doesn't fit is refused there.
+    // The same with one value more, which is that of the element at the offset; a value that doesn't fit is refused there.
     pub(crate) fn with(self, alloc: Global, place: usize, value: &Value) -> Result<Listed, Stop>
         ensures { ListsOn result (listed_of self) (value_of value.now) place }
     {

@@ -53,7 +53,7 @@ fn line_of(alloc: Global, code: &Code) -> Result<Vec<u8>, NoMemory>
     }
 }
 
-/// What a query does of its arguments, or its refusal, at this place.
+/// What a query does of its arguments, or its refusal, at this offset.
 #[tactic(auto, using(crate::proofs::QueryLaws::answer_laws))]
 pub(crate) fn answer(alloc: Global, place: usize, query: BoundQuery<'_>) -> Result<Effect, Stop>
     ensures { AffectsOrFails result (QueriesTo place (bound_query_of query.entry)) }

@@ -25,7 +25,7 @@ pub(crate) const MISFIT: u8 = 45;
 /// A call with a number of arguments that it doesn't take.
 pub(crate) const WRONG_COUNT: u8 = 46;
 
-/// A fault: its number, its place in the script, and the numbers that are printed after it.
+/// A fault: its number, its offset in the script, and the numbers that are printed after it.
 #[derive(Drop)]
 pub(crate) struct Refused {
     pub(crate) number: u8,
@@ -42,7 +42,7 @@ pub(crate) enum Stop {
     NoMemory,
 }
 
-/// The fault with this number at this place, with no numbers after it.
+/// The fault with this number at this offset, with no numbers after it.
 #[tactic(auto, unfolding(lc_language::specs::Evaluation::refuse_at))]
 pub(crate) fn fault(alloc: Global, number: u8, place: usize) -> Refused
     ensures { refused (refused_of result) ≡ refuse_at number place }
@@ -54,7 +54,7 @@ pub(crate) fn fault(alloc: Global, number: u8, place: usize) -> Refused
     }
 }
 
-/// The refusal of a constructor of codes, at this place. If it carries no numbers it takes no memory.
+/// The refusal of a constructor of codes, at this offset. If it carries no numbers it takes no memory.
 #[tactic(auto, unfolding(crate::proofs::Opened::refusals_of_calls))]
 pub(crate) fn refused_as(alloc: Global, place: usize, refusal: CodeRefusal) -> Stop
     ensures is { IsMade (Err refusal) place (Err result) }
