@@ -1,4 +1,4 @@
--- Steps of the parser, for the goals of `src/parse.rt`.
+-- Steps of the parser, for the goals of `src/reading.rt`.
 --   refuse_end, refuse_first     the refusal of the end and of a first token
 --   number_found, name_ascii     the value of a number's digits; the text of a name
 --   within_first, within_rest    the first token and the others stand within the bytes
