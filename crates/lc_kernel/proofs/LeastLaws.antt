@@ -181,8 +181,8 @@ found_below n f bound v at counts h l counted inside is before =
 after_all : (f : ℕ → ℕ) (a j : ℕ) → a ≤ j → f (a + (j - a)) ≡ f j
 after_all f a j l = ap f (omega (arith, l))
 
-pub below_joined : (a b : ℕ) (f : ℕ → ℕ) (bound v i w x p q : ℕ) → IsFirstBelow a f bound v i → IsFirstBelow b (λ j. f (a + j)) v w x → (w < v → (p ≡ w) × (q ≡ a + x)) → (v ≤ w → (p ≡ v) × (q ≡ i)) → IsFirstBelow (a + b) f bound p q
-below_joined a b f bound v i w x p q h k taken kept =
+below_both : (a b : ℕ) (f : ℕ → ℕ) (bound v i w x p q : ℕ) → IsFirstBelow a f bound v i → IsFirstBelow b (λ j. f (a + j)) v w x → (w < v → (p ≡ w) × (q ≡ a + x)) → (v ≤ w → (p ≡ v) × (q ≡ i)) → IsFirstBelow (a + b) f bound p q
+below_both a b f bound v i w x p q h k taken kept =
     ⊎_elim
     (λ l.
     let is = taken l in
@@ -219,6 +219,9 @@ below_joined a b f bound v i w x p q h k taken kept =
       first = λ m j o. omega (arith, h.first (omega (arith, m, e)) j (omega (arith, o, at)), e);
     })
     (cases_lt w v)
+
+pub below_joined : (a b n : ℕ) (f : ℕ → ℕ) (bound v i w x p q : ℕ) → IsFirstBelow a f bound v i → IsFirstBelow b (λ j. f (a + j)) v w x → (w < v → (p ≡ w) × (q ≡ a + x)) → (v ≤ w → (p ≡ v) × (q ≡ i)) → a + b ≡ n → IsFirstBelow n f bound p q
+below_joined a b n f bound v i w x p q h k taken kept whole = subst (λ z. IsFirstBelow z f bound p q) whole (below_both a b f bound v i w x p q h k taken kept)
 
 pub below_whole : (n : ℕ) (f : ℕ → ℕ) (bound v i : ℕ) → 0 < n → ((j : ℕ) → j < n → f j < bound) → IsFirstBelow n f bound v i → IsFirstLeast n f v i
 below_whole n f bound v i some few h =

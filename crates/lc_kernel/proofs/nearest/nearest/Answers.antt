@@ -1,7 +1,6 @@
-use Rattle.std.proofs.Common.{◌≡◌, ℕ, ◌+◌, ◌-◌, ◌/◌, ◌%◌, ◌<◌, [], length, take, drop, count_ones, slice_index_or, ap, subst, arith}
+use Rattle.std.proofs.Common.{◌≡◌, ℕ, ◌+◌, ◌-◌, ◌/◌, ◌%◌, ◌<◌, [], length, take, drop, count_ones, slice_index_or, ap, arith}
 use Rattle.std.proofs.lemmas.List.{length-take, length-drop}
 use Rattle.lc_kernel.specs.Planes.{bits_apart}
-use Rattle.lc_kernel.specs.Least.{IsFirstBelow}
 use Rattle.lc_kernel.proofs.LeastLaws.{below_none, below_same, below_joined}
 use Rattle.lc_kernel.proofs.nearest.nearest.Goals as goal
 
@@ -30,6 +29,5 @@ loop-done-preserved c =
     let place : first + done + j ≡ first + (done + j) = omega arith in
     ap g place in
     let piece = below_same (length part) (λ j. g (first + done + j)) (λ j. f (done + j)) c.loop-done.least c.nearest_in-other.result.0 c.nearest_in-other.result.1 same c.nearest_in-other.ensures.is in
-    let next = below_joined done (length part) f c.args.bound c.loop-done.least c.loop-done.at c.nearest_in-other.result.0 c.nearest_in-other.result.1 c.joined-best.result.0 c.joined-best.result.1 c.loop-done.invariant.first piece c.joined-best.ensures.taken c.joined-best.ensures.kept in
     let whole : done + length part ≡ end = omega (arith, many) in
-    record { within = omega (arith, c.part_len-many.ensures.within, c.loop-done.auto.counts, c.loop-done-test.true); first = subst (λ z. IsFirstBelow z f c.args.bound c.joined-best.result.0 c.joined-best.result.1) whole next }
+    record { within = omega (arith, c.part_len-many.ensures.within, c.loop-done.auto.counts, c.loop-done-test.true); first = below_joined done (length part) end f c.args.bound c.loop-done.least c.loop-done.at c.nearest_in-other.result.0 c.nearest_in-other.result.1 c.joined-best.result.0 c.joined-best.result.1 c.loop-done.invariant.first piece c.joined-best.ensures.taken c.joined-best.ensures.kept whole }

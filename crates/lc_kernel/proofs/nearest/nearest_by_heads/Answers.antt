@@ -1,8 +1,7 @@
-use Rattle.std.proofs.Common.{◌≡◌, ℕ, ◌+◌, ◌-◌, ◌/◌, ◌%◌, ◌<◌, ◌≤◌, [], length, take, drop, count_ones, slice_index_or, sym, ap, subst, ◌∙◌, arith}
+use Rattle.std.proofs.Common.{◌≡◌, ℕ, ◌+◌, ◌-◌, ◌/◌, ◌%◌, ◌<◌, ◌≤◌, [], length, take, drop, count_ones, slice_index_or, sym, ap, ◌∙◌, arith}
 use Rattle.std.proofs.Math.Nat.{mod-lt}
 use Rattle.std.proofs.lemmas.List.{length-take, length-drop}
 use Rattle.lc_kernel.specs.Planes.{bits_apart}
-use Rattle.lc_kernel.specs.Least.{IsFirstBelow}
 use Rattle.lc_kernel.proofs.LeastLaws.{below_none, below_same, below_joined}
 use Rattle.lc_kernel.proofs.SweepLaws.{head_of_word}
 use Rattle.lc_kernel.proofs.nearest.nearest_by_heads.Goals as goal
@@ -39,6 +38,5 @@ loop-done-preserved c =
     ap (λ z. count_ones (bits_apart c.args.planes (slice_index_or c.args.heads.now x []) c.args.bits.now c.args.words z)) index
     ∙ ap (λ z. count_ones (bits_apart c.args.planes (slice_index_or c.args.heads.now z []) c.args.bits.now c.args.words (c.args.start + (first + (done + j)) % T))) row in
     let piece = below_same (length part) _ (λ j. f (done + j)) c.loop-done.least c.first_below-other.result.0 c.first_below-other.result.1 same c.first_below-other.ensures.is in
-    let next = below_joined done (length part) f c.args.bound c.loop-done.least c.loop-done.at c.first_below-other.result.0 c.first_below-other.result.1 c.joined-best.result.0 c.joined-best.result.1 c.loop-done.invariant.first piece c.joined-best.ensures.taken c.joined-best.ensures.kept in
     let whole : done + length part ≡ end = omega (arith, many, c.min-end.ensures, below, c.loop-done-test.true) in
-    record { within = omega (arith, c.min-end.ensures); first = subst (λ z. IsFirstBelow z f c.args.bound c.joined-best.result.0 c.joined-best.result.1) whole next }
+    record { within = omega (arith, c.min-end.ensures); first = below_joined done (length part) end f c.args.bound c.loop-done.least c.loop-done.at c.first_below-other.result.0 c.first_below-other.result.1 c.joined-best.result.0 c.joined-best.result.1 c.loop-done.invariant.first piece c.joined-best.ensures.taken c.joined-best.ensures.kept whole }
