@@ -2,21 +2,26 @@
 --   least_none, least_taken, least_kept      no number, and one number more, which is less or isn't
 --   rows_more                    numbers that are no less than another, by rows
 --   counts_value                 the least value of words, from the first of their least counts
+--   piece_long                   how long a piece of a list is
 --   piece_taken, piece_kept      the least of the counts up to the end of a piece, which has a lesser one or hasn't
 --   first_after, one_least       the first of the counts that is the least of them, and that there is one
 --   least_same, below_same       the same of equal numbers
 --   below_none                   of no number
 --   beyond_none, none_below, found_below      that none is below the bound, and the first of the counts that is the least
 --   below_joined                 the first least number of some and of those after them
+--   counted_least                the least of counts that began with zeros
+--   searched_none, searched_more, searched_all      the first least number of those that are looked at, piece by piece
+--   searched_room                the index of a number of a piece
 --   below_whole, counted_first   the first of all, if all are below the bound, or by their counts
 --   least_value                  the least value of words, from the first of them that is least
-use Rattle.std.proofs.Common.{◌≡◌, ◌≢◌, ◌⊎◌, ℕ, ◌+◌, ◌-◌, ◌*◌, ◌^◌, ◌<◌, ◌≤◌, List, [], min, length, take, drop, slice_index, slice_index_or, refl, sym, ap, subst, ◌∙◌, inl, inr, ⊎_elim, arith}
+use Rattle.std.proofs.Common.{◌≡◌, ◌≢◌, ◌⊎◌, ℕ, ◌+◌, ◌-◌, ◌*◌, ◌^◌, ◌<◌, ◌≤◌, List, [], min, length, take, drop, replicate, slice_index, slice_index_or, refl, sym, ap, subst, ◌∙◌, inl, inr, ⊎_elim, arith}
 use Rattle.std.proofs.lemmas.Bool.{cases_lt}
-use Rattle.std.proofs.lemmas.List.{length-take-le, length-drop, get_or-take, get_or-drop}
+use Rattle.std.proofs.lemmas.List.{length-replicate, length-take-le, length-drop, get_or-take, get_or-drop}
 use Rattle.lc_algebra.specs.Word.{weight}
 use Rattle.lc_algebra.specs.SpanLaws.{restrict}
 use Rattle.lc_kernel.specs.Values.{IsLeastValue}
 use Rattle.lc_kernel.specs.Least.{IsLeastOr, IsFirstLeast, IsFirstBelow, AreCounted}
+use Rattle.lc_kernel.proofs.PlaneLaws.{zeros_at}
 
 one_more : (i n : ℕ) → i < n + 1 → (i < n) ⊎ (i ≡ n)
 one_more i n l = ⊎_elim (λ a. inl a) (λ a. inr (omega (arith, a, l))) (cases_lt i n)
@@ -73,12 +78,15 @@ least_joined m n f g bound v x h k same = record {
       (cases_lt x v);
 }
 
+pub piece_long : {X : Type 0} (start end : ℕ) (xs : List X) → end ≤ length xs → length (take (end - start) (drop start xs)) ≡ end - start
+piece_long start end xs l = length-take-le (end - start) (drop start xs) (omega (arith, length-drop start xs, l))
+
 -- the least of the counts up to the end of a piece of at most 256
 pub piece_taken : (counts : List ℕ) (start end v x : ℕ) → start ≤ length counts → end ≡ min (length counts) (start + 256) → IsLeastOr start (λ i. slice_index counts i) 256 v → IsLeastOr (length (take (end - start) (drop start counts))) (λ i. slice_index (take (end - start) (drop start counts)) i) v x → IsLeastOr end (λ i. slice_index counts i) 256 x
 piece_taken counts start end v x l which h k =
     let n = end - start in
     let piece = take n (drop start counts) in
-    let long : length piece ≡ n = length-take-le n (drop start counts) (omega (arith, length-drop start counts, which)) in
+    let long : length piece ≡ n = piece_long start end counts (omega (arith, which)) in
     let whole : start + length piece ≡ end = omega (arith, long, which, l) in
     subst (λ z. IsLeastOr z (λ i. slice_index counts i) 256 x) whole (least_joined start (length piece) (λ i. slice_index counts i) (λ i. slice_index piece i) 256 v x h k (λ i m. get_or-take n (drop start counts) i 0 (omega (arith, m, long)) ∙ get_or-drop start counts i 0))
 
@@ -158,8 +166,30 @@ none_below n f bound v h l = beyond_none n f bound (λ j m. omega (arith, h.low 
 pub below_none : (f : ℕ → ℕ) (bound : ℕ) → IsFirstBelow 0 f bound bound 0
 below_none f bound = none_below 0 f bound bound (least_none f bound) (omega arith)
 
-pub found_below : (n : ℕ) (f : ℕ → ℕ) (bound v at : ℕ) (counts : List ℕ) → IsLeastOr n f bound v → v < bound → ((i : ℕ) → i < n → slice_index counts i ≡ f i) → at ≤ n → (at < n → slice_index counts at ≡ v) → ((i : ℕ) → i < at → slice_index counts i ≢ v) → IsFirstBelow n f bound v at
-found_below n f bound v at counts h l counted inside is before =
+-- counts that began with zeros, and the least of them
+pub record HaveLeast (n : ℕ) (f : ℕ → ℕ) (bound v : ℕ) (counts : List ℕ) : Type 0 where
+  pub counted : (i : ℕ) → i < n → slice_index counts i ≡ f i
+  pub least : IsLeastOr n f bound v
+
+pub counted_least : (n : ℕ) (f : ℕ → ℕ) (bound v : ℕ) (zeros counts : List ℕ) → zeros ≡ replicate n 0 → length counts ≡ length zeros → ((i : ℕ) → i < length zeros → slice_index counts i ≡ slice_index zeros i + f i) → IsLeastOr (length counts) (λ i. slice_index counts i) bound v → HaveLeast n f bound v counts
+counted_least n f bound v zeros counts none same added h = record {
+  counted = counted;
+  least = least_same n (λ i. slice_index counts i) f bound v counted (subst (λ z. IsLeastOr z (λ i. slice_index counts i) bound v) (same ∙ long) h);
+}
+  where
+    long : length zeros ≡ n
+    long = ap length none ∙ length-replicate n 0
+
+    plain : (m : ℕ) → 0 + m ≡ m
+    plain m = omega arith
+
+    counted : (i : ℕ) → i < n → slice_index counts i ≡ f i
+    counted i l = added i (omega (arith, l, long)) ∙ ap (λ z. z + f i) (ap (λ z. slice_index z i) none ∙ zeros_at n i) ∙ plain (f i)
+
+pub found_below : (n : ℕ) (f : ℕ → ℕ) (bound v at : ℕ) (counts : List ℕ) → HaveLeast n f bound v counts → v < bound → at ≤ n → (at < n → slice_index counts at ≡ v) → ((i : ℕ) → i < at → slice_index counts i ≢ v) → IsFirstBelow n f bound v at
+found_below n f bound v at counts here l inside is before =
+    let h = here.least in
+    let counted = here.counted in
     let t = h.attained l in
     let reached : at < n = ⊎_elim
     (λ a. a)
@@ -181,8 +211,8 @@ found_below n f bound v at counts h l counted inside is before =
 after_all : (f : ℕ → ℕ) (a j : ℕ) → a ≤ j → f (a + (j - a)) ≡ f j
 after_all f a j l = ap f (omega (arith, l))
 
-pub below_joined : (a b : ℕ) (f : ℕ → ℕ) (bound v i w x p q : ℕ) → IsFirstBelow a f bound v i → IsFirstBelow b (λ j. f (a + j)) v w x → (w < v → (p ≡ w) × (q ≡ a + x)) → (v ≤ w → (p ≡ v) × (q ≡ i)) → IsFirstBelow (a + b) f bound p q
-below_joined a b f bound v i w x p q h k taken kept =
+below_both : (a b : ℕ) (f : ℕ → ℕ) (bound v i w x p q : ℕ) → IsFirstBelow a f bound v i → IsFirstBelow b (λ j. f (a + j)) v w x → (w < v → (p ≡ w) × (q ≡ a + x)) → (v ≤ w → (p ≡ v) × (q ≡ i)) → IsFirstBelow (a + b) f bound p q
+below_both a b f bound v i w x p q h k taken kept =
     ⊎_elim
     (λ l.
     let is = taken l in
@@ -219,6 +249,31 @@ below_joined a b f bound v i w x p q h k taken kept =
       first = λ m j o. omega (arith, h.first (omega (arith, m, e)) j (omega (arith, o, at)), e);
     })
     (cases_lt w v)
+
+pub below_joined : (a b n : ℕ) (f : ℕ → ℕ) (bound v i w x p q : ℕ) → IsFirstBelow a f bound v i → IsFirstBelow b (λ j. f (a + j)) v w x → (w < v → (p ≡ w) × (q ≡ a + x)) → (v ≤ w → (p ≡ v) × (q ≡ i)) → a + b ≡ n → IsFirstBelow n f bound p q
+below_joined a b n f bound v i w x p q h k taken kept whole = subst (λ z. IsFirstBelow z f bound p q) whole (below_both a b f bound v i w x p q h k taken kept)
+
+-- numbers of which the first ones are looked at
+pub record IsSearched (n done : ℕ) (f : ℕ → ℕ) (bound v i : ℕ) : Type 0 where
+  pub within : done ≤ n
+  pub first : IsFirstBelow done f bound v i
+
+pub searched_none : (n : ℕ) (f : ℕ → ℕ) (bound : ℕ) → IsSearched n 0 f bound bound 0
+searched_none n f bound = record { within = omega arith; first = below_none f bound }
+
+pub searched_more : (n done end : ℕ) (f : ℕ → ℕ) (bound v i w x p q : ℕ) (counts : List ℕ) → length counts ≡ n → done ≤ end → end ≤ n → IsSearched n done f bound v i → IsFirstBelow (length (take (end - done) (drop done counts))) (λ j. f (done + j)) v w x → (w < v → (p ≡ w) × (q ≡ done + x)) → (v ≤ w → (p ≡ v) × (q ≡ i)) → IsSearched n end f bound p q
+searched_more n done end f bound v i w x p q counts long rises inside h k taken kept = record {
+  within = inside;
+  first = below_joined done _ end f bound v i w x p q h.first k taken kept (omega (arith, piece_long done end counts (omega (arith, long, inside)), rises));
+}
+
+pub searched_all : (n done : ℕ) (f : ℕ → ℕ) (bound v i : ℕ) → IsSearched n done f bound v i → n ≤ done → IsFirstBelow n f bound v i
+searched_all n done f bound v i h l =
+    let all : done ≡ n = omega (arith, h.within, l) in
+    subst (λ z. IsFirstBelow z f bound v i) all h.first
+
+pub searched_room : (n done end x : ℕ) (counts : List ℕ) → length counts ≡ n → done ≤ end → end ≤ n → x ≤ length (take (end - done) (drop done counts)) → done + x ≤ n
+searched_room n done end x counts long rises inside l = omega (arith, piece_long done end counts (omega (arith, long, inside)), rises, inside, l)
 
 pub below_whole : (n : ℕ) (f : ℕ → ℕ) (bound v i : ℕ) → 0 < n → ((j : ℕ) → j < n → f j < bound) → IsFirstBelow n f bound v i → IsFirstLeast n f v i
 below_whole n f bound v i some few h =

@@ -8,6 +8,7 @@
 --   added_next                   counts with one more of them added to
 --   three                        the size of the field of 3 elements
 --   apart_two, apart_three, apart_four      where a word differs from one of some words, by two, three or four planes
+--   by_planes                    the number of symbols at which they differ, by all planes
 use Rattle.std.proofs.Common.{◌≡◌, ◌≢◌, ◌⊎◌, ℕ, zero, suc, ◌+◌, ◌-◌, ◌*◌, ◌%◌, ◌^◌, ◌<◌, ◌≤◌, not, cond, ◌==◌, List, [], ◌∷◌, length, take, drop, set, map, replicate, slice_index, bit_and, bit_or, bit_xor, count_ones, refl, sym, ap, ◌∙◌, inl, inr, ⊎_elim, arith, w8}
 use Rattle.std.specs.Int.{bit_at}
 use Rattle.std.proofs.lemmas.Bool.{cases_lt, cases_eq, ne_eqb}
@@ -213,23 +214,39 @@ plane_mask ws j m long is =
 read_cut : (bits : List ℕ) (first n i : ℕ) → i < n → slice_index (take (first + n - first) (drop first bits)) i ≡ slice_index bits (first + i)
 read_cut bits first n i l = get_or-take (first + n - first) (drop first bits) i 0 (omega (arith, l)) ∙ get_or-drop first bits i 0
 
-pub apart_two : (head bits : List ℕ) (words start n i : ℕ) → i < n → bit_or (bit_xor (slice_index head 1) (slice_index (take (words + start + n - (words + start)) (drop (words + start) bits)) i)) (bit_xor (slice_index head 0) (slice_index (take (start + n - start) (drop start bits)) i)) ≡ bits_apart 2 head bits words (start + i)
+-- the number at an index of a part of the bits, and where a word differs there from another
+abbrev cut : List ℕ → ℕ → ℕ → ℕ → ℕ
+cut bits first n i = slice_index (take (first + n - first) (drop first bits)) i
+
+abbrev cut_two : List ℕ → List ℕ → ℕ → ℕ → ℕ → ℕ → ℕ
+cut_two head bits words start n i = bit_or (bit_xor (slice_index head 1) (cut bits (words + start) n i)) (bit_xor (slice_index head 0) (cut bits start n i))
+
+abbrev cut_three : List ℕ → List ℕ → ℕ → ℕ → ℕ → ℕ → ℕ
+cut_three head bits words start n i = bit_or (bit_xor (slice_index head 2) (cut bits (words + (words + start)) n i)) (cut_two head bits words start n i)
+
+abbrev cut_four : List ℕ → List ℕ → ℕ → ℕ → ℕ → ℕ → ℕ
+cut_four head bits words start n i = bit_or (bit_xor (slice_index head 3) (cut bits (words + (words + (words + start))) n i)) (cut_three head bits words start n i)
+
+pub apart_two : (head bits : List ℕ) (words start n i : ℕ) → i < n → cut_two head bits words start n i ≡ bits_apart 2 head bits words (start + i)
 apart_two head bits words start n i l =
-    let first : slice_index (take (start + n - start) (drop start bits)) i ≡ slice_index bits (0 * words + (start + i)) = read_cut bits start n i l ∙ ap (slice_index bits) (omega arith) in
-    let second : slice_index (take (words + start + n - (words + start)) (drop (words + start) bits)) i ≡ slice_index bits (1 * words + (start + i)) = read_cut bits (words + start) n i l ∙ ap (slice_index bits) (omega arith) in
-    ap (λ z. bit_or (bit_xor (slice_index head 1) z) (bit_xor (slice_index head 0) (slice_index (take (start + n - start) (drop start bits)) i))) second
+    let first : cut bits start n i ≡ slice_index bits (0 * words + (start + i)) = read_cut bits start n i l ∙ ap (slice_index bits) (omega arith) in
+    let second : cut bits (words + start) n i ≡ slice_index bits (1 * words + (start + i)) = read_cut bits (words + start) n i l ∙ ap (slice_index bits) (omega arith) in
+    ap (λ z. bit_or (bit_xor (slice_index head 1) z) (bit_xor (slice_index head 0) (cut bits start n i))) second
     ∙ ap (λ z. bit_or (bit_xor (slice_index head 1) (slice_index bits (1 * words + (start + i)))) (bit_xor (slice_index head 0) z)) first
     ∙ ap (bit_or (bit_xor (slice_index head 1) (slice_index bits (1 * words + (start + i))))) (sym (or_zero_r (bit_xor (slice_index head 0) (slice_index bits (0 * words + (start + i))))))
 
-pub apart_three : (head bits : List ℕ) (words start n i low : ℕ) → i < n → low ≡ bits_apart 2 head bits words (start + i) → bit_or (bit_xor (slice_index head 2) (slice_index (take (words + (words + start) + n - (words + (words + start))) (drop (words + (words + start)) bits)) i)) low ≡ bits_apart 3 head bits words (start + i)
-apart_three head bits words start n i low l is =
-    let third : slice_index (take (words + (words + start) + n - (words + (words + start))) (drop (words + (words + start)) bits)) i ≡ slice_index bits (2 * words + (start + i)) = read_cut bits (words + (words + start)) n i l ∙ ap (slice_index bits) (omega arith) in
-    ap (λ z. bit_or (bit_xor (slice_index head 2) z) low) third ∙ ap (bit_or (bit_xor (slice_index head 2) (slice_index bits (2 * words + (start + i))))) is
+pub apart_three : (head bits : List ℕ) (words start n i : ℕ) → i < n → cut_three head bits words start n i ≡ bits_apart 3 head bits words (start + i)
+apart_three head bits words start n i l =
+    let third : cut bits (words + (words + start)) n i ≡ slice_index bits (2 * words + (start + i)) = read_cut bits (words + (words + start)) n i l ∙ ap (slice_index bits) (omega arith) in
+    ap (λ z. bit_or (bit_xor (slice_index head 2) z) (cut_two head bits words start n i)) third ∙ ap (bit_or (bit_xor (slice_index head 2) (slice_index bits (2 * words + (start + i))))) (apart_two head bits words start n i l)
 
-pub apart_four : (head bits : List ℕ) (words start n i low : ℕ) → i < n → low ≡ bits_apart 3 head bits words (start + i) → bit_or (bit_xor (slice_index head 3) (slice_index (take (words + (words + (words + start)) + n - (words + (words + (words + start)))) (drop (words + (words + (words + start))) bits)) i)) low ≡ bits_apart 4 head bits words (start + i)
-apart_four head bits words start n i low l is =
-    let fourth : slice_index (take (words + (words + (words + start)) + n - (words + (words + (words + start)))) (drop (words + (words + (words + start))) bits)) i ≡ slice_index bits (3 * words + (start + i)) = read_cut bits (words + (words + (words + start))) n i l ∙ ap (slice_index bits) (omega arith) in
-    ap (λ z. bit_or (bit_xor (slice_index head 3) z) low) fourth ∙ ap (bit_or (bit_xor (slice_index head 3) (slice_index bits (3 * words + (start + i))))) is
+pub apart_four : (head bits : List ℕ) (words start n i : ℕ) → i < n → cut_four head bits words start n i ≡ bits_apart 4 head bits words (start + i)
+apart_four head bits words start n i l =
+    let fourth : cut bits (words + (words + (words + start))) n i ≡ slice_index bits (3 * words + (start + i)) = read_cut bits (words + (words + (words + start))) n i l ∙ ap (slice_index bits) (omega arith) in
+    ap (λ z. bit_or (bit_xor (slice_index head 3) z) (cut_three head bits words start n i)) fourth ∙ ap (bit_or (bit_xor (slice_index head 3) (slice_index bits (3 * words + (start + i))))) (apart_three head bits words start n i l)
+
+pub by_planes : (planes n apart words e : ℕ) (head bits : List ℕ) → planes ≡ n → apart ≡ bits_apart n head bits words e → count_ones apart ≡ count_ones (bits_apart planes head bits words e)
+by_planes planes n apart words e head bits all same = ap count_ones (same ∙ ap (λ z. bits_apart z head bits words e) (sym all))
 
 -- counts with one more of them added to
 pub record AreAdded (f : ℕ → ℕ) (first counts : List ℕ) (i : ℕ) : Type 0 where

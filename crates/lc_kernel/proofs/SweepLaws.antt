@@ -56,8 +56,8 @@ use Rattle.lc_kernel.proofs.ListLaws.{one_list, leading_split, leading_pair, lea
 at_level : (k q m p n w : ℕ) (x : Message) → w ≡ phase_level m p → slice_get (messages k q (phase_level m p)) n ≡ Some x → slice_get (messages k q w) n ≡ Some x
 at_level k q m p n w x e at = subst (λ z. slice_get (messages k q z) n ≡ Some x) (sym e) at
 
-pub listed_start : (C : Matrix) (m b n y : ℕ) (s : SpotState) → IsSpotAt C m b n s → 3 ≤ length s.support → slice_get (leading_lists (size C.field) (length s.support)) y ≡ Some s.coefficients → IsListedAt C m b n s.set s.support y
-listed_start C m b n y s at level here =
+listed_spot_at : (C : Matrix) (m b n y : ℕ) (s : SpotState) → IsSpotAt C m b n s → 3 ≤ length s.support → slice_get (leading_lists (size C.field) (length s.support)) y ≡ Some s.coefficients → IsListedAt C m b n s.set s.support y
+listed_spot_at C m b n y s at level here =
     let k = length C.rows in
     let q = size C.field in
     let w = length s.support in
@@ -79,6 +79,9 @@ listed_start C m b n y s at level here =
       inside = omega (arith, slice_get_within (leading_lists q w) y s.coefficients here, length-leading_lists q w);
       level = level;
     }
+
+pub listed_start : (C : Matrix) (m b n j y : ℕ) (u : List ℕ) (s : SpotState) → j ≡ s.set → u ≡ s.support → IsSpotAt C m b n s → 3 ≤ length s.support → slice_get (leading_lists (size C.field) (length s.support)) y ≡ Some s.coefficients → IsListedAt C m b n j u y
+listed_start C m b n j y u s set_is support_is at level here = rw (set_is, support_is) (listed_spot_at C m b n y s at level here)
 
 pub listed_step : (C : Matrix) (m b n i j y : ℕ) (u : List ℕ) → IsListedAt C m b n j u y → y + i < list_count C (length u) → IsListedAt C m b (n + i) j u (y + i)
 listed_step C m b n i j y u h l =

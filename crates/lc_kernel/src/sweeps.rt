@@ -312,18 +312,9 @@ pub(crate) fn least_sweeps(
     let mut done = 0;
     loop {
         let count = words_left(lists, list, counts.len() - done);
+        let part = &mut counts[..count];
         let (other, place) = least_support(
-            sets,
-            plan,
-            block,
-            grid,
-            set,
-            support,
-            heads,
-            list,
-            done,
-            least,
-            &mut counts[..count],
+            sets, plan, block, grid, set, support, heads, list, done, least, part,
         );
         let (best, index) = joined(least, at, other, place, done);
         if done + count >= counts.len() {

@@ -1,51 +1,35 @@
-use Rattle.std.proofs.Common.{◌≡◌, ◌+◌, ◌-◌, [], length, take, drop, count_ones, slice_index_or, sym, ap, ◌∙◌, arith}
-use Rattle.std.proofs.lemmas.List.{length-take, length-drop}
-use Rattle.lc_kernel.specs.Planes.{bits_apart}
-use Rattle.lc_kernel.proofs.PlaneLaws.{apart_two, apart_three, apart_four}
+use Rattle.std.proofs.Common.{◌≡◌, ◌+◌, ◌-◌, ◌*◌, ◌<◌, ◌≤◌, ℕ, List, [], slice_index_or, length, take, drop, arith}
+use Rattle.std.proofs.Math.Nat.{mul-le-mul_right}
+use Rattle.lc_kernel.proofs.PlaneLaws.{apart_two, apart_three, apart_four, by_planes}
+use Rattle.lc_kernel.proofs.LeastLaws.{piece_long}
 use Rattle.lc_kernel.proofs.nearest.rows_apart.Goals as goal
+
+-- a tail is among the numbers of the first plane of all tails
+tail_inside : (planes words start T t : ℕ) (bits : List ℕ) → 2 ≤ planes → length bits ≡ planes * words → start + T ≤ words → t < T → t < length (take (start + T - start) (drop start bits))
+tail_inside planes words start T t bits least long room l =
+    let some : 1 * words ≤ planes * words = mul-le-mul_right words (omega (arith, least)) in
+    omega (arith, piece_long start (start + T) bits (omega (arith, long, room, some)), l)
 
 pub returns-then-planes-eq2 : goal.returns-then-planes-eq2
 returns-then-planes-eq2 c = record {
   low = λ h t l m.
       let head = slice_index_or c.args.heads.now h [] in
-      let bits = c.args.bits.now in
-      let words = c.args.words in
-      let start = c.args.start in
-      let T = c.args.tails in
-      let ones = take (start + T - start) (drop start bits) in
-      let long : length ones ≡ T = omega (arith, length-take (start + T - start) (drop start bits), length-drop start bits, c.requires.long, c.requires.room, c.if-planes-eq2.true) in
-      let two = apart_two head bits words start T t m in
-      omega (arith, c.rows_two.ensures.low h t l (omega (arith, m, long)), ap count_ones (two ∙ ap (λ z. bits_apart z head bits words (start + t)) (sym c.if-planes-eq2.true)));
+      let apart = apart_two head c.args.bits.now c.args.words c.args.start c.args.tails t m in
+      omega (arith, c.rows_two.ensures.low h t l (tail_inside _ _ _ _ t _ c.requires.least c.requires.long c.requires.room m), by_planes c.args.planes 2 _ c.args.words (c.args.start + t) head c.args.bits.now c.if-planes-eq2.true apart);
 }
 
 pub returns-then-planes-eq3 : goal.returns-then-planes-eq3
 returns-then-planes-eq3 c = record {
   low = λ h t l m.
       let head = slice_index_or c.args.heads.now h [] in
-      let bits = c.args.bits.now in
-      let words = c.args.words in
-      let start = c.args.start in
-      let T = c.args.tails in
-      let ones = take (start + T - start) (drop start bits) in
-      let long : length ones ≡ T = omega (arith, length-take (start + T - start) (drop start bits), length-drop start bits, c.requires.long, c.requires.room, c.if-planes-eq3.true) in
-      let two = apart_two head bits words start T t m in
-      let three = apart_three head bits words start T t _ m two in
-      omega (arith, c.rows_three.ensures.low h t l (omega (arith, m, long)), ap count_ones (three ∙ ap (λ z. bits_apart z head bits words (start + t)) (sym c.if-planes-eq3.true)));
+      let apart = apart_three head c.args.bits.now c.args.words c.args.start c.args.tails t m in
+      omega (arith, c.rows_three.ensures.low h t l (tail_inside _ _ _ _ t _ c.requires.least c.requires.long c.requires.room m), by_planes c.args.planes 3 _ c.args.words (c.args.start + t) head c.args.bits.now c.if-planes-eq3.true apart);
 }
 
 pub returns : goal.returns
 returns c = record {
   low = λ h t l m.
       let head = slice_index_or c.args.heads.now h [] in
-      let bits = c.args.bits.now in
-      let words = c.args.words in
-      let start = c.args.start in
-      let T = c.args.tails in
-      let ones = take (start + T - start) (drop start bits) in
-      let planes : 4 ≡ c.args.planes = omega (arith, c.requires.least, c.requires.most, c.if-planes-eq2.false, c.if-planes-eq3.false) in
-      let long : length ones ≡ T = omega (arith, length-take (start + T - start) (drop start bits), length-drop start bits, c.requires.long, c.requires.room, planes) in
-      let two = apart_two head bits words start T t m in
-      let three = apart_three head bits words start T t _ m two in
-      let four = apart_four head bits words start T t _ m three in
-      omega (arith, c.rows_four.ensures.low h t l (omega (arith, m, long)), ap count_ones (four ∙ ap (λ z. bits_apart z head bits words (start + t)) planes));
+      let apart = apart_four head c.args.bits.now c.args.words c.args.start c.args.tails t m in
+      omega (arith, c.rows_four.ensures.low h t l (tail_inside _ _ _ _ t _ c.requires.least c.requires.long c.requires.room m), by_planes c.args.planes 4 _ c.args.words (c.args.start + t) head c.args.bits.now (omega (arith, c.requires.least, c.requires.most, c.if-planes-eq2.false, c.if-planes-eq3.false)) apart);
 }

@@ -1,10 +1,10 @@
-use Rattle.std.proofs.Common.{◌-◌, ◌<◌, length, [], slice_index_or}
+use Rattle.std.proofs.Common.{◌≡◌, ◌-◌, ◌<◌, length, [], slice_index_or}
 use Rattle.lc_algebra.specs.Word.{weight}
 use Rattle.lc_algebra.specs.SpanLaws.{restrict}
 use Rattle.lc_enumeration.specs.Search.{block_words}
 use Rattle.lc_kernel.specs.Packed.{others}
 use Rattle.lc_kernel.specs.Least.{IsFirstBelow}
-use Rattle.lc_kernel.specs.Sweeps.{IsListedAt, AreHeads}
+use Rattle.lc_kernel.specs.Sweeps.{list_count, IsListedAt, AreHeads}
 use Rattle.lc_kernel.proofs.sweeps.least_sweeps.Given as goal
 
 abbrev pub decreases-loop-counts : goal.decreases-loop-counts
@@ -14,6 +14,7 @@ abbrev pub invariant-loop-counts : goal.invariant-loop-counts
 invariant-loop-counts l = record {
   inside : l.done < length l.initial.counts;
   at : IsListedAt l.sets l.plan.m l.block l.done l.set l.support l.list;
+  lists : list_count l.sets (length l.support) ≡ l.lists;
   heads : AreHeads l.sets l.set l.support l.grid.planes (length l.support - 2) l.heads;
   first : IsFirstBelow l.done (λ i. weight (restrict (others l.sets l.set) (slice_index_or (block_words l.sets l.plan.m l.block) i []))) 256 l.least l.at;
 }
