@@ -1,1 +1,2 @@
 pub mod SymbolLaws
+pub mod PackLaws
