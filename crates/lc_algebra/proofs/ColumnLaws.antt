@@ -1,27 +1,33 @@
 -- The laws of sets of columns of a matrix over a field.
 --   index_restrict, length_restrict      the symbols of a word at the columns of a set
 --   restrict_sum, restrict_scale, restrict_zero      taking them is linear
+--   entry_of_column        the symbols of a column are entries of the rows
 --   column_word            a column of rows over the field is a word, one symbol for each row
 --   column_of_columns      the symbols of the columns at a row are the row's symbols on the set
+--   column_outside         a column is no sum of multiples of others at which a row with a 1 in it is 0
+--   unit_symbol            a combination has its coefficient at a column that is 1 in that row and 0 in the others
+--   column_inside          a column is a sum of multiples of columns that are 1 each in a row of their own, if it is 0 in all other
+--                          rows; both are of any rows with the same words
 --   relation_from_columns, columns_from_relation     columns are independent exactly where only zero coefficients
 --                          make each row's symbols on the set sum to 0
 --   relation_span          coefficients that do so for each row do so for each word of the rows
 --   independent_columns_shared      rows with the same words have the same independent sets of columns
 --   identity_columns       the columns of an identity are independent
 --   systematic_columns     rows with a systematic matrix on a set have independent columns there
-use Rattle.std.proofs.Common.{◌≡◌, ◌≢◌, ℕ, ◌<◌, if◌then◌else◌, List, [], ◌∷◌, map, length, slice_index, slice_index_or, All, refl, sym, ap, subst, ◌∙◌, arith}
-use Rattle.std.proofs.lemmas.List.{ext_get_or, get_or-map, length-map}
-use Rattle.std.proofs.lemmas.List.Elements.{All-head, All-tail, All-map, All-from_get_or}
-use Rattle.std.proofs.lemmas.Bool.{eq-eqb, ne_eqb}
+use Rattle.std.proofs.Common.{◌≡◌, ◌≢◌, ℕ, ◌<◌, ◌≤◌, if◌then◌else◌, List, [], ◌∷◌, map, length, take, slice_index, slice_index_or, All, Contains, refl, sym, ap, subst, ◌∙◌, ⊎_elim, arith}
+use Rattle.std.proofs.lemmas.List.{ext_get_or, get_or-map, get_or-take, get_or_past, length-map, length-take-le}
+use Rattle.std.proofs.lemmas.List.Elements.{All-head, All-tail, All-map, All-from_get_or, Contains-get_or}
+use Rattle.std.proofs.lemmas.Bool.{cases_lt, eq-eqb, ne_eqb}
 use Rattle.lc_algebra.specs.declared.FieldName.{FieldName}
+use Rattle.lc_algebra.specs.Field.{size}
 use Rattle.lc_algebra.specs.Word.{IsWord, zero_word, word_sum, scale, word_dot}
 use Rattle.lc_algebra.specs.Span.{combine, InSpan, SameSpan}
-use Rattle.lc_algebra.specs.Matrix.{column, AreRows, IsIdentityOn, IsSystematic, AreIndependentColumns}
+use Rattle.lc_algebra.specs.Matrix.{column, entry, AreRows, IsOrthogonal, IsIdentityOn, IsSystematic, AreIndependentColumns}
 use Rattle.lc_algebra.specs.SpanLaws.{restrict}
 use Rattle.lc_algebra.proofs.FieldLaws.{zero_inside, zero_add, mul_zero}
-use Rattle.lc_algebra.proofs.WordLaws.{length_scale, length_zero_word, index_scale, index_word_sum, index_zero_word, word_symbol, dot_sum, dot_scale, dot_zero}
-use Rattle.lc_algebra.proofs.SpanLaws.{span_word, span_row, length_combine, same_span_symmetric}
-use Rattle.lc_algebra.proofs.ReducedLaws.{index_combine, dot_unit}
+use Rattle.lc_algebra.proofs.WordLaws.{length_scale, length_zero_word, index_scale, index_word_sum, index_zero_word, word_symbol, dot_comm, dot_sum, dot_scale, dot_zero}
+use Rattle.lc_algebra.proofs.SpanLaws.{span_word, span_row, length_combine, combination_of_word, word_of_combination, dot_span, contains_map, same_span_symmetric}
+use Rattle.lc_algebra.proofs.ReducedLaws.{index_combine, dot_unit, dot_front}
 
 pub length_restrict : (set w : List ℕ) → length (restrict set w) ≡ length set
 length_restrict set w = length-map set (λ p. slice_index w p)
@@ -43,6 +49,9 @@ unfolding word_sum
 restrict_sum f [] u v e = refl
 restrict_sum f (p ∷ set) u v e = cc (index_word_sum f u v p e, restrict_sum f set u v e)
 
+pub entry_of_column : (rows : List (List ℕ)) (c j : ℕ) → j < length rows → slice_index (column rows c) j ≡ entry rows j c
+entry_of_column rows c j l = get_or-map (λ row. slice_index row c) rows j [] 0 l
+
 pub column_word : (f : FieldName) (n : ℕ) (rows : List (List ℕ)) (p : ℕ) → AreRows f n rows → IsWord f (length rows) (column rows p)
 column_word f n rows p r =
     let long : length (column rows p) ≡ length rows = length-map rows (λ row. slice_index row p) in
@@ -62,6 +71,65 @@ columns_are_rows f n rows set r = All-map (IsWord f (length rows)) (column rows)
 
 index_of_columns : (f : FieldName) (n : ℕ) (rows : List (List ℕ)) (set xs : List ℕ) (l : ℕ) → AreRows f n rows → l < length rows → slice_index (combine f (length rows) xs (map (column rows) set)) l ≡ word_dot f xs (restrict set (slice_index_or rows l []))
 index_of_columns f n rows set xs l r k = index_combine f (length rows) xs (map (column rows) set) l (columns_are_rows f n rows set r) ∙ ap (word_dot f xs) (column_of_columns rows set l k)
+
+pub column_outside : (f : FieldName) (n i p : ℕ) (set : List ℕ) (rows e : List (List ℕ)) → AreRows f n rows → AreRows f n e → SameSpan f n rows e → i < length e → entry e i p ≡ 1 → ((c : ℕ) → Contains set c → entry e i c ≡ 0) → InSpan f (length rows) (map (column rows) set) (column rows p) → ⊥
+column_outside f n i p set rows e r h same l one none s =
+    let k = length rows in
+    let cols = map (column rows) set in
+    let g = slice_index_or e i [] in
+    let cs = combination_of_word f n rows g ((same g).1 (span_row f n e h i [] l)) in
+    let symbol : (c : ℕ) → entry e i c ≡ word_dot f cs.0 (column rows c) = λ c. ap (λ w. slice_index w c) cs.2 ∙ index_combine f n cs.0 rows c r in
+    let orthogonal : IsOrthogonal f cols cs.0 = λ j d m.
+    let t = contains_map (column rows) set (slice_index_or cols j d) (Contains-get_or cols j d m) in
+    ap (λ v. word_dot f v cs.0) t.2 ∙ dot_comm f (column rows t.0) cs.0 ∙ sym (symbol t.0) ∙ none t.0 t.1 in
+    let nothing : entry e i p ≡ 0 = symbol p ∙ dot_comm f cs.0 (column rows p) ∙ dot_span f k cols cs.0 (column rows p) (columns_are_rows f n rows set r) orthogonal s in
+    omega (arith, nothing, one)
+
+pub unit_symbol : (f : FieldName) (n j p : ℕ) (e : List (List ℕ)) (cs : List ℕ) → AreRows f n e → IsWord f (length e) cs → j < length e → entry e j p ≡ 1 → ((r : ℕ) → r < length e → j ≢ r → entry e r p ≡ 0) → slice_index (combine f n cs e) p ≡ slice_index cs j
+unit_symbol f n j p e cs h is l one none =
+    let long : length (column e p) ≡ length e = length-map e (λ row. slice_index row p) in
+    index_combine f n cs e p h
+    ∙ dot_unit f cs (column e p) j is.fits (long ∙ sym is.long) (omega (arith, l, long)) (entry_of_column e p j l ∙ one)
+    (λ r m o. entry_of_column e p r (omega (arith, m, long)) ∙ none r (omega (arith, m, long)) (λ q. o (sym q)))
+
+pub column_inside : (f : FieldName) (n p : ℕ) (set : List ℕ) (rows e : List (List ℕ)) → AreRows f n rows → AreRows f n e → SameSpan f n rows e → length set ≤ length e → ((j : ℕ) → j < length set → entry e j (slice_index set j) ≡ 1) → ((j r : ℕ) → j < length set → r < length e → j ≢ r → entry e r (slice_index set j) ≡ 0) → ((j : ℕ) → length set ≤ j → j < length e → entry e j p ≡ 0) → InSpan f (length rows) (map (column rows) set) (column rows p)
+column_inside f n p set rows e r h same few leads clears after =
+    let k = length rows in
+    let i = length set in
+    let v = column e p in
+    let cols = map (column rows) set in
+    let long_v : length v ≡ length e = length-map e (λ row. slice_index row p) in
+    let is_v : IsWord f (length e) v = column_word f n e p h in
+    let zeros : (j : ℕ) → i ≤ j → slice_index v j ≡ 0 = λ j a. ⊎_elim
+    (λ b. entry_of_column e p j b ∙ after j a b)
+    (λ b. get_or_past v j 0 (omega (arith, b, long_v)))
+    (cases_lt j (length e)) in
+    let es = take i v in
+    let long_es : length es ≡ i = length-take-le i v (omega (arith, few, long_v)) in
+    let is : IsWord f (length cols) es = record {
+      long = long_es ∙ sym (length-map set (column rows));
+      fits = λ j b. let d : j < i = omega (arith, b, long_es) in subst (λ x. x < size f) (sym (get_or-take i v j 0 d)) (word_symbol f (length e) v is_v j);
+    } in
+    let word = combine f k es cols in
+    let long : length word ≡ k = length_combine f k es cols (columns_are_rows f n rows set r) in
+    let equal : word ≡ column rows p = ext_get_or 0 word (column rows p) (long ∙ sym (length-map rows (λ row. slice_index row p))) (λ a b.
+    let d : a < k = omega (arith, b, long) in
+    let row = slice_index_or rows a [] in
+    let cs = combination_of_word f n e row ((same row).0 (span_row f n rows r a [] d)) in
+    let long_cs : length (take i cs.0) ≡ i = length-take-le i cs.0 (omega (arith, cs.1.long, few)) in
+    let front : restrict set row ≡ take i cs.0 = ext_get_or 0 (restrict set row) (take i cs.0) (length_restrict set row ∙ sym long_cs) (λ j m.
+    let l : j < i = omega (arith, m, length_restrict set row) in
+    index_restrict set row j l
+    ∙ ap (λ w. slice_index w (slice_index set j)) cs.2
+    ∙ unit_symbol f n j (slice_index set j) e cs.0 h cs.1 (omega (arith, l, few)) (leads j l) (λ s o. clears j s l o)
+    ∙ sym (get_or-take i cs.0 j 0 l)) in
+    index_of_columns f n rows set es a r d
+    ∙ ap (word_dot f es) front
+    ∙ dot_comm f es (take i cs.0)
+    ∙ sym (dot_front f cs.0 v i zeros)
+    ∙ sym (ap (λ w. slice_index w p) cs.2 ∙ index_combine f n cs.0 e p h)
+    ∙ sym (entry_of_column rows p a d)) in
+    subst (InSpan f k cols) equal (word_of_combination f k cols es is)
 
 pub relation_from_columns : (f : FieldName) (n : ℕ) (rows : List (List ℕ)) (set xs : List ℕ) → AreRows f n rows → AreIndependentColumns f rows set → IsWord f (length set) xs → All (λ row. word_dot f xs (restrict set row) ≡ 0) rows → xs ≡ zero_word (length set)
 relation_from_columns f n rows set xs r h w z =

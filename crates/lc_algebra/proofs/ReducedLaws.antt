@@ -2,6 +2,7 @@
 -- Symbols of a combination
 --   index_combine          the symbol of a combination at a column is the dot of the coefficients and the column
 --   dot_nothing, dot_unit  the dot with what is zero term by term, and with a word that is 1 at one place and 0 elsewhere
+--   dot_front              the dot with a word that is 0 from a place on
 --   symbol_of_combination  where the rows are the identity on a set, a combination has its coefficients there
 -- Rows that are the identity on a set, one place for each row
 --   told_by_places         a word of the rows is told by its symbols on the set
@@ -18,12 +19,12 @@
 --   pivots_unique          two reduced matrices with the same words have the same places
 --   reduced_unique         and are equal
 --   echelon_unique, generator_unique       so the reduced matrix of some rows, or of a set of words, is one
-use Rattle.std.proofs.Common.{◌≡◌, ◌≢◌, ℕ, zero, suc, ◌<◌, ◌≤◌, if◌then◌else◌, ◌==◌, List, [], ◌∷◌, length, slice_index, slice_index_or, Contains, refl, sym, ap, subst, ◌∙◌, ⊎_elim, arith, zero-lt-suc}
+use Rattle.std.proofs.Common.{◌≡◌, ◌≢◌, ℕ, zero, suc, ◌<◌, ◌≤◌, if◌then◌else◌, ◌==◌, List, [], ◌∷◌, length, take, slice_index, slice_index_or, Contains, refl, sym, ap, subst, ◌∙◌, ⊎_elim, arith, zero-lt-suc}
 use Rattle.std.proofs.lemmas.List.{ext_get_or, get_or-map, length-map, get_or_default}
 use Rattle.std.proofs.lemmas.List.Elements.{All-head, All-tail}
 use Rattle.std.proofs.lemmas.Bool.{cases_lt, cases_eq, cases_order, eq-eqb, ne_eqb}
 use Rattle.lc_algebra.specs.declared.FieldName.{FieldName}
-use Rattle.lc_algebra.specs.Field.{size, mul}
+use Rattle.lc_algebra.specs.Field.{size, add, mul}
 use Rattle.lc_algebra.specs.Word.{Fits, IsWord, zero_word, scale, word_dot}
 use Rattle.lc_algebra.specs.Span.{combine, InSpan, SameSpan, AreIndependent}
 use Rattle.lc_algebra.specs.Matrix.{entry, column, AreRows, HasPivots, IsReduced, IsEchelon, IsReducedGenerator, IsIdentityOn, IsSystematic}
@@ -50,6 +51,13 @@ dot_nothing f (c ∷ cs) (u ∷ us) h =
     let a : mul f c u ≡ 0 = h 0 (zero-lt-suc (length us)) in
     let b : word_dot f cs us ≡ 0 = dot_nothing f cs us (λ i l. h (suc i) (omega (arith, l))) in
     cc (a, b, zero_add f 0 (zero_inside f))
+
+pub dot_front : (f : FieldName) (u v : List ℕ) (i : ℕ) → ((j : ℕ) → i ≤ j → slice_index v j ≡ 0) → word_dot f u v ≡ word_dot f (take i u) (take i v)
+unfolding word_dot
+dot_front f u v zero h = dot_nothing f u v (λ j l. ap (mul f (slice_index u j)) (h j (omega arith)) ∙ mul_zero f (slice_index u j))
+dot_front f [] v (suc i) h = refl
+dot_front f (a ∷ u) [] (suc i) h = refl
+dot_front f (a ∷ u) (b ∷ v) (suc i) h = ap (add f (mul f a b)) (dot_front f u v i (λ j l. h (suc j) (omega (arith, l))))
 
 pub dot_unit : (f : FieldName) (cs us : List ℕ) (j : ℕ) → Fits f cs → length us ≡ length cs → j < length us → slice_index us j ≡ 1 → ((i : ℕ) → i < length us → i ≢ j → slice_index us i ≡ 0) → word_dot f cs us ≡ slice_index cs j
 unfolding word_dot

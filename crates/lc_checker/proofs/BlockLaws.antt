@@ -16,9 +16,10 @@ use Rattle.lc_algebra.specs.Matrix.{Matrix, AreRows}
 use Rattle.lc_algebra.proofs.WordLaws.{weight_cons, fits_symbol, one_scale, IsWord_sum, length_scale}
 use Rattle.lc_formats.specs.Certificate.{is_lighter}
 use Rattle.lc_checker.specs.Walk.{row_of}
-use Rattle.lc_checker.specs.Packed.{packed}
+use Rattle.lc_vec.specs.Packed.{packed}
+use Rattle.lc_vec.proofs.PackLaws.{packed_sum, packed_ones, zero_packed}
 use Rattle.lc_checker.specs.Blocks.{block, AreBlocks, AreInBlocks}
-use Rattle.lc_checker.proofs.PackedLaws.{packed_sum, packed_ones, fits_drop, fits_two, zero_packed}
+use Rattle.lc_checker.proofs.PackedLaws.{fits_drop, fits_two}
 
 take_sum : (f : FieldName) (u v : List ℕ) (n : ℕ) → take n (word_sum f u v) ≡ word_sum f (take n u) (take n v)
 unfolding word_sum

@@ -8,20 +8,18 @@
 --   echelon_is                 the echelon rows of the definition are the reduced matrix
 use Rattle.std.proofs.Common.{◌≡◌, ◌≢◌, ℕ, zero, suc, ◌+◌, ◌<◌, ◌≤◌, ◌⊎◌, Bool, true, false, cond, ◌==◌, if◌then◌else◌, List, [], ◌∷◌, ◌++◌, map, find, filter, length, take, slice_index, slice_index_or, Contains, unwrap_or, refl, sym, ap, ap₂, subst, ◌∙◌, ⊎_elim, inl, inr, arith, append-nil}
 use Rattle.std.proofs.lemmas.Bool.{cases_Bool, cases_lt, cases_eq, true≢false}
-use Rattle.std.proofs.lemmas.List.{length-map, map-append, get_or_default, get_or-map, get_or_append_left, ext_get_or, get_or-take, get_or_past, length-take-le, take_all, take_more}
+use Rattle.std.proofs.lemmas.List.{length-map, map-append, get_or_default, get_or-map, get_or_append_left, ext_get_or, get_or-take, length-take-le, take_all, take_more}
 use Rattle.std.proofs.lemmas.List.Elements.{All-head, All-tail, Contains-get_or, Contains-append_cases, Contains-append_left, Contains-append_right, filter-append}
 use Rattle.std.proofs.Math.Seq.{get_or-append_seam}
 use Rattle.lc_algebra.specs.declared.FieldName.{FieldName}
-use Rattle.lc_algebra.specs.Field.{size, add, mul}
-use Rattle.lc_algebra.specs.Word.{IsWord, zero_word, word_dot}
-use Rattle.lc_algebra.specs.Span.{below, combine, InSpan, words, SameSpan, AreIndependent}
-use Rattle.lc_algebra.specs.Matrix.{column, entry, AreRows, HasPivots, IsEchelon, IsSystematic, IsIdentityOn, IsOrthogonal}
+use Rattle.lc_algebra.specs.Word.{IsWord, zero_word}
+use Rattle.lc_algebra.specs.Span.{below, InSpan, words, SameSpan, AreIndependent}
+use Rattle.lc_algebra.specs.Matrix.{column, entry, AreRows, HasPivots, IsEchelon, IsSystematic, IsIdentityOn}
 use Rattle.lc_algebra.specs.SpanLaws.{restrict}
-use Rattle.lc_algebra.proofs.FieldLaws.{mul_zero}
-use Rattle.lc_algebra.proofs.WordLaws.{IsWord_zero, word_symbol, dot_comm}
-use Rattle.lc_algebra.proofs.SpanLaws.{span_row, same_span, same_span_symmetric, same_span_transitive, contains_cases, contains_head, contains_tail, contains_map, map_contains, below_contains, contains_below, length_below, member_of_word, word_of_member, combination_of_word, word_of_combination, dot_span, length_combine}
-use Rattle.lc_algebra.proofs.ReducedLaws.{index_combine, dot_nothing, symbol_of_combination, identity_on_pivots, systematic_told, reduced_independent}
-use Rattle.lc_algebra.proofs.ColumnLaws.{column_word, column_of_columns, index_restrict, length_restrict}
+use Rattle.lc_algebra.proofs.WordLaws.{IsWord_zero}
+use Rattle.lc_algebra.proofs.SpanLaws.{span_row, same_span, same_span_symmetric, same_span_transitive, contains_cases, contains_head, contains_tail, contains_map, map_contains, below_contains, contains_below, length_below, member_of_word, word_of_member}
+use Rattle.lc_algebra.proofs.ReducedLaws.{identity_on_pivots, systematic_told, reduced_independent}
+use Rattle.lc_algebra.proofs.ColumnLaws.{index_restrict, length_restrict, column_outside, column_inside}
 use Rattle.lc_algebra.proofs.DimensionLaws.{dimension_unique}
 use Rattle.lc_algebra.proofs.DivisorLaws.{no_member}
 use Rattle.lc_enumeration.specs.InformationSet.{same_word, in_span, greedy, dimension, is_member, first_basis, unit_word, systematic, echelon_rows}
@@ -202,78 +200,25 @@ take_member i x ps few c =
     let l : j < i = omega (arith, m, length-take-le i ps few) in
     (j, l, sym (get_or-take i ps j 0 l) ∙ get_or_default (take i ps) j 0 x m ∙ c.2)
 
-columns_are : (f : FieldName) (n : ℕ) (rows : List (List ℕ)) → AreRows f n rows → AreVectors f (length rows) (column rows)
-columns_are f n rows r p = column_word f n rows p r
-
 pivot_free : (f : FieldName) (n i : ℕ) (ps : List ℕ) (rows e : List (List ℕ)) → Pivoted f n ps rows e → i < length ps → InSpan f (length rows) (map (column rows) (take i ps)) (column rows (slice_index ps i)) → ⊥
 pivot_free f n i ps rows e h l s =
-    let k = length rows in
     let inside : i < length e = omega (arith, l, h.pivots.count) in
-    let g = slice_index_or e i [] in
-    let cs = combination_of_word f n rows g ((h.same g).1 (span_row f n e h.words i [] inside)) in
-    let set = take i ps in
-    let symbol : (c : ℕ) → entry e i c ≡ word_dot f cs.0 (column rows c) = λ c. ap (λ w. slice_index w c) cs.2 ∙ index_combine f n cs.0 rows c h.original in
-    let orthogonal : IsOrthogonal f (map (column rows) set) cs.0 = each_contained (λ row. word_dot f row cs.0 ≡ 0) (map (column rows) set) (λ x m.
-    let t = contains_map (column rows) set x m in
-    let j = take_member i t.0 ps (omega (arith, l)) t.1 in
-    ap (λ v. word_dot f v cs.0) t.2 ∙ dot_comm f (column rows t.0) cs.0 ∙ sym (symbol t.0) ∙ ap (entry e i) (sym j.2) ∙ h.pivots.clears j.0 i (omega (arith, j.1, inside)) inside (λ q. omega (arith, q, j.1))) in
-    let c = slice_index ps i in
-    let nothing : entry e i c ≡ 0 = symbol c ∙ dot_comm f cs.0 (column rows c) ∙ dot_span f k (map (column rows) set) cs.0 (column rows c) (vectors_are_rows f k (column rows) set (columns_are f n rows h.original)) orthogonal s in
-    omega (arith, nothing, h.pivots.leads i inside)
-
-dot_front : (f : FieldName) (u v : List ℕ) (i : ℕ) → ((j : ℕ) → i ≤ j → slice_index v j ≡ 0) → word_dot f u v ≡ word_dot f (take i u) (take i v)
-unfolding word_dot
-dot_front f u v zero h = dot_nothing f u v (λ j l. ap (mul f (slice_index u j)) (h j (omega arith)) ∙ mul_zero f (slice_index u j))
-dot_front f [] v (suc i) h = refl
-dot_front f (a ∷ u) [] (suc i) h = refl
-dot_front f (a ∷ u) (b ∷ v) (suc i) h = ap (add f (mul f a b)) (dot_front f u v i (λ j l. h (suc j) (omega (arith, l))))
-
-entry_of_column : (rows : List (List ℕ)) (c j : ℕ) → j < length rows → slice_index (column rows c) j ≡ entry rows j c
-entry_of_column rows c j l = get_or-map (λ row. slice_index row c) rows j [] 0 l
+    column_outside f n i (slice_index ps i) (take i ps) rows e h.original h.words h.same inside (h.pivots.leads i inside) (λ c m.
+    let j = take_member i c ps (omega (arith, l)) m in
+    ap (entry e i) (sym j.2) ∙ h.pivots.clears j.0 i (omega (arith, j.1, inside)) inside (λ q. omega (arith, q, j.1))) s
 
 other_spanned : (f : FieldName) (n t i : ℕ) (ps : List ℕ) (rows e : List (List ℕ)) → Pivoted f n ps rows e → i ≤ length ps → ((j : ℕ) → i ≤ j → j < length ps → t < slice_index ps j) → InSpan f (length rows) (map (column rows) (take i ps)) (column rows t)
 other_spanned f n t i ps rows e h l above =
-    let k = length rows in
-    let v = column e t in
-    let set = take i ps in
-    let cols = map (column rows) set in
-    let many : length set ≡ i = length-take-le i ps l in
-    let long_v : length v ≡ length e = length-map e (λ row. slice_index row t) in
-    let is_v : IsWord f (length e) v = column_word f n e t h.words in
-    let zeros : (j : ℕ) → i ≤ j → slice_index v j ≡ 0 = λ j a. ⊎_elim
-    (λ b. entry_of_column e t j b ∙ h.pivots.before j t b (above j a (omega (arith, b, h.pivots.count))))
-    (λ b. get_or_past v j 0 (omega (arith, b, long_v)))
-    (cases_lt j (length e)) in
-    let es = take i v in
+    let many : length (take i ps) ≡ i = length-take-le i ps l in
     let enough : i ≤ length e = omega (arith, l, h.pivots.count) in
-    let long_es : length es ≡ i = length-take-le i v (omega (arith, enough, long_v)) in
-    let is : IsWord f (length cols) es = record {
-      long = long_es ∙ sym (length-map set (column rows) ∙ many);
-      fits = λ j b. let d : j < i = omega (arith, b, long_es) in subst (λ x. x < size f) (sym (get_or-take i v j 0 d)) (word_symbol f (length e) v is_v j);
-    } in
-    let are : AreRows f k cols = vectors_are_rows f k (column rows) set (columns_are f n rows h.original) in
-    let word = combine f k es cols in
-    let long_c : length (column rows t) ≡ k = length-map rows (λ row. slice_index row t) in
-    let same : word ≡ column rows t = ext_get_or 0 word (column rows t) (length_combine f k es cols are ∙ sym long_c) (λ r b.
-    let d : r < k = omega (arith, b, length_combine f k es cols are) in
-    let row = slice_index_or rows r [] in
-    let cs = combination_of_word f n e row ((h.same row).0 (span_row f n rows h.original r [] d)) in
-    let us = restrict set row in
-    let long_cs : length (take i cs.0) ≡ i = length-take-le i cs.0 (omega (arith, cs.1.long, enough)) in
-    let front : us ≡ take i cs.0 = ext_get_or 0 us (take i cs.0) (length_restrict set row ∙ many ∙ sym long_cs) (λ j a.
-    let b' : j < i = omega (arith, a, length_restrict set row, many) in
-    index_restrict set row j (omega (arith, b', many))
-    ∙ ap (slice_index row) (get_or-take i ps j 0 b')
-    ∙ ap (λ w. slice_index w (slice_index ps j)) cs.2
-    ∙ symbol_of_combination f n ps e cs.0 j h.words (sym h.pivots.count) (identity_on_pivots n ps e h.pivots) cs.1 (omega (arith, b', l))
-    ∙ sym (get_or-take i cs.0 j 0 b')) in
-    index_combine f k es cols r are
-    ∙ ap (word_dot f es) (column_of_columns rows set r d ∙ front)
-    ∙ dot_comm f es (take i cs.0)
-    ∙ sym (dot_front f cs.0 v i zeros)
-    ∙ sym (ap (λ w. slice_index w t) cs.2 ∙ index_combine f n cs.0 e t h.words)
-    ∙ sym (entry_of_column rows t r d)) in
-    subst (InSpan f k cols) same (word_of_combination f k cols es is)
+    column_inside f n t (take i ps) rows e h.original h.words h.same (omega (arith, many, enough))
+    (λ j a.
+    let b : j < i = omega (arith, a, many) in
+    ap (entry e j) (get_or-take i ps j 0 b) ∙ h.pivots.leads j (omega (arith, b, enough)))
+    (λ j r a d o.
+    let b : j < i = omega (arith, a, many) in
+    ap (entry e r) (get_or-take i ps j 0 b) ∙ h.pivots.clears j r (omega (arith, b, enough)) d o)
+    (λ j a b. h.pivots.before j t b (above j (omega (arith, a, many)) (omega (arith, b, h.pivots.count))))
 
 record IsAt (ps : List ℕ) (t i : ℕ) : Type 0 where
   pub few : i ≤ length ps

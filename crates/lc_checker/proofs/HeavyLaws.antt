@@ -11,7 +11,7 @@ use Rattle.std.proofs.lemmas.List.{get_or_default}
 use Rattle.std.proofs.lemmas.List.Elements.{Contains-append_cases}
 use Rattle.lc_algebra.specs.declared.FieldName.{FieldName}
 use Rattle.lc_algebra.specs.declared.FieldName.TheVariants.{Gf2}
-use Rattle.lc_algebra.specs.Field.{size, shape_of, shape}
+use Rattle.lc_algebra.specs.Field.{size}
 use Rattle.lc_algebra.specs.Word.{zero_word, word_sum, scale}
 use Rattle.lc_algebra.specs.Matrix.{Matrix}
 use Rattle.lc_algebra.proofs.FieldLaws.{one_inside}
@@ -21,6 +21,7 @@ use Rattle.lc_algebra.proofs.DivisorLaws.{no_member}
 use Rattle.lc_enumeration.specs.Message.{supports_from, numbers_from}
 use Rattle.lc_enumeration.proofs.SearchLaws.{numbers_within, within_numbers}
 use Rattle.lc_formats.specs.Certificate.{is_lighter}
+use Rattle.lc_vec.proofs.PackLaws.{two}
 use Rattle.lc_checker.specs.Walk.{row_of, words_along, support_words, words_over, level_words, words_from}
 use Rattle.lc_checker.specs.Heavy.{AreHeavy, AreMultiples}
 
@@ -76,10 +77,6 @@ heavy_step d C a i m l here later (suc j) s w z most c h =
     with_row d C (word_sum f a (scale f v.0 (row_of C.rows i))) i j m t.0 w b.0 b.1 most t.1 v.2)
     (λ x. later (suc j) s w z most x h)
     (Contains-append_cases (map front (supports_from (i + 1) k j)) (supports_from (i + 1) k (suc j)) s listed)
-
-two : size Gf2 ≡ 2
-unfolding size shape_of shape
-two = refl
 
 -- over 2 elements there is one sum with a row
 pub heavy_binary : (d : ℕ) (C : Matrix) (a : List ℕ) (i m : ℕ) → C.field ≡ Gf2 → i < length C.rows → is_lighter d (word_sum C.field a (scale C.field 1 (row_of C.rows i))) ≡ false → AreHeavy d C (word_sum C.field a (scale C.field 1 (row_of C.rows i))) (i + 1) (m - 1) → AreHeavy d C a (i + 1) m → AreHeavy d C a i m

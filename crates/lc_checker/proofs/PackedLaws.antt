@@ -1,91 +1,33 @@
--- Words over 2 elements as numbers of bits.
+-- Words over 2 elements as numbers of bits, and the sums of rows that a walk makes of them.
 --   binary_field               the field of 2 elements
---   packed_sum, packed_ones, packed_small      sums, weights and sizes of packed words
---   pack_none, pack_step, pack_room, bit_small, pack_all      a word packed symbol by symbol
+--   pack_none, pack_step, pack_room, pack_all      a word packed symbol by symbol
 --   support_single             over 2 elements a support has one word, the sum of its rows
 --   front_start, front_next    the packed sum of the rows at the places of a front, and of one place more
 --   front_within               the places of a front
 --   leaf_passed                a last place whose word isn't lighter is passed over
-use Rattle.std.proofs.Common.{◌≡◌, ℕ, zero, suc, ◌+◌, ◌-◌, ◌*◌, ◌^◌, ◌<◌, ◌≤◌, Bool, false, not, cond, ◌==◌, ◌&&◌, nat_lt, List, [], ◌∷◌, ◌++◌, find, take, drop, flat_map, length, bit_xor, count_ones, slice_index, Option, refl, sym, ap, ap₂, subst, ◌∙◌, arith, append-nil}
-use Rattle.std.proofs.Math.Nat.{pow-suc, pow-le-pow_right}
-use Rattle.std.proofs.Math.Seq.{drop-cons}
+use Rattle.std.proofs.Common.{◌≡◌, ℕ, zero, suc, ◌+◌, ◌-◌, ◌*◌, ◌^◌, ◌<◌, ◌≤◌, Bool, false, ◌&&◌, nat_lt, List, [], ◌∷◌, ◌++◌, find, take, drop, flat_map, length, bit_xor, count_ones, slice_index, Option, refl, sym, ap, ap₂, subst, ◌∙◌, arith, append-nil}
+use Rattle.std.proofs.Math.Nat.{pow-le-pow_right}
 use Rattle.std.proofs.lemmas.List.{length-drop, length-take-le, drop_all, get_or-take}
 use Rattle.std.proofs.lemmas.List.Concat.{flat_map-cons}
-use Rattle.std.proofs.lemmas.Nat.{xor_block, ones_cat}
-use lib.Count.{ones}
 use Rattle.lc_algebra.specs.declared.FieldName.{FieldName}
 use Rattle.lc_algebra.specs.declared.FieldName.TheVariants.{Gf2}
-use Rattle.lc_algebra.specs.Field.{size, add, coefficients, shape_of, shape}
-use Rattle.lc_algebra.specs.Residue.{digits, number, plus}
-use Rattle.lc_algebra.specs.Word.{IsWord, Fits, zero_word, word_sum, scale, weight}
+use Rattle.lc_algebra.specs.Field.{size}
+use Rattle.lc_algebra.specs.Word.{IsWord, Fits, zero_word, word_sum, scale}
 use Rattle.lc_algebra.specs.Matrix.{Matrix, AreRows}
 use Rattle.lc_algebra.proofs.EmbeddingTests.{told_by_size}
-use Rattle.lc_algebra.proofs.WordLaws.{weight_cons, fits_head, fits_tail, fits_symbol, one_scale, IsWord_zero, IsWord_sum, length_scale}
+use Rattle.lc_algebra.proofs.WordLaws.{fits_tail, one_scale, IsWord_zero, IsWord_sum, length_scale}
 use Rattle.lc_enumeration.specs.Message.{numbers_from}
 use Rattle.lc_formats.specs.Certificate.{is_lighter}
 use Rattle.lc_checker.specs.Walk.{row_of, words_along, support_words, words_over, found}
-use Rattle.lc_checker.specs.Packed.{packed, sum_over, front_bits, ArePacked}
+use Rattle.lc_vec.specs.Packed.{packed}
+use Rattle.lc_vec.proofs.PackLaws.{two, bit_small, packed_sum, packed_ones, packed_small, packed_nil, packed_drop, zero_packed}
+use Rattle.lc_checker.specs.Packed.{sum_over, front_bits, ArePacked}
 use Rattle.lc_checker.proofs.WalkLaws.{over_passed, over_whole}
-
-two : size Gf2 ≡ 2
-unfolding size shape_of shape
-two = refl
 
 pub binary_field : (f : FieldName) (q : ℕ) → q ≡ size f → q ≡ 2 → f ≡ Gf2
 binary_field f q e t = told_by_size f Gf2 (sym e ∙ t ∙ sym two)
 
-add_bits : (a b : ℕ) → a < 2 → b < 2 → add Gf2 a b ≡ bit_xor a b
-unfolding add coefficients shape_of shape number plus digits
-add_bits zero zero l m = refl
-add_bits zero (suc zero) l m = refl
-add_bits (suc zero) zero l m = refl
-add_bits (suc zero) (suc zero) l m = refl
-add_bits zero (suc (suc b)) l m = absurd (omega (arith, m))
-add_bits (suc zero) (suc (suc b)) l m = absurd (omega (arith, m))
-add_bits (suc (suc a)) b l m = absurd (omega (arith, l))
-
-bit_of : (u : List ℕ) (a : ℕ) → Fits Gf2 (a ∷ u) → a < 2
-bit_of u a h = omega (arith, fits_head Gf2 a u h, two)
-
-pub packed_sum : (u v : List ℕ) → length u ≡ length v → Fits Gf2 u → Fits Gf2 v → packed (word_sum Gf2 u v) ≡ bit_xor (packed u) (packed v)
-unfolding packed word_sum
-packed_sum [] [] e h i = refl
-packed_sum [] (b ∷ v) e h i = absurd (omega (arith, e))
-packed_sum (a ∷ u) [] e h i = absurd (omega (arith, e))
-packed_sum (a ∷ u) (b ∷ v) e h i =
-    let t = packed_sum u v (omega (arith, e)) (fits_tail Gf2 a u h) (fits_tail Gf2 b v i) in
-    let x = xor_block 1 (packed u) (packed v) a b (bit_of u a h) (bit_of v b i) in
-    let s = add_bits a b (bit_of u a h) (bit_of v b i) in
-    ap (λ z. z * 2 + add Gf2 a b) t ∙ ap (λ z. bit_xor (packed u) (packed v) * 2 + z) s ∙ sym x
-
-one_bit : (a : ℕ) → a < 2 → count_ones a ≡ cond (not (a == 0)) 1 0
-unfolding ones
-one_bit zero l = refl
-one_bit (suc zero) l = refl
-one_bit (suc (suc a)) l = absurd (omega (arith, l))
-
-pub packed_ones : (u : List ℕ) → Fits Gf2 u → count_ones (packed u) ≡ weight u
-unfolding packed
-packed_ones [] h = one_bit 0 (omega arith)
-packed_ones (a ∷ u) h =
-    let t = packed_ones u (fits_tail Gf2 a u h) in
-    let b = bit_of u a h in
-    ones_cat 1 (packed u) a b ∙ omega (arith, t, one_bit a b, weight_cons a u)
-
-packed_small : (u : List ℕ) → Fits Gf2 u → packed u < 2 ^ length u
-unfolding packed
-packed_small [] h = omega arith
-packed_small (a ∷ u) h = omega (arith, packed_small u (fits_tail Gf2 a u h), bit_of u a h, pow-suc 2 (length u))
-
 -- ---- packing
-
-packed_nil : packed [] ≡ 0
-unfolding packed
-packed_nil = refl
-
-packed_cons : (a : ℕ) (w : List ℕ) → packed (a ∷ w) ≡ packed w * 2 + a
-unfolding packed
-packed_cons a w = refl
 
 pub pack_none : (word : List ℕ) → 0 ≡ packed (drop (length word) word)
 pack_none word = sym (ap packed (drop_all (length word) word (omega arith)) ∙ packed_nil)
@@ -93,7 +35,7 @@ pack_none word = sym (ap packed (drop_all (length word) word (omega arith)) ∙ 
 pub pack_step : (word : List ℕ) (i bits : ℕ) → 0 < i → i ≤ length word → bits ≡ packed (drop i word) → bits * 2 + slice_index word (i - 1) ≡ packed (drop (i - 1) word)
 pack_step word i bits z l e =
     let back : suc (i - 1) ≡ i = omega (arith, z) in
-    sym (ap packed (drop-cons word (i - 1) 0 (omega (arith, l, z))) ∙ packed_cons (slice_index word (i - 1)) (drop (suc (i - 1)) word) ∙ ap (λ m. packed (drop m word) * 2 + slice_index word (i - 1)) back ∙ ap (λ x. x * 2 + slice_index word (i - 1)) (sym e))
+    sym (packed_drop word (i - 1) (omega (arith, l, z)) ∙ ap (λ m. packed (drop m word) * 2 + slice_index word (i - 1)) back ∙ ap (λ x. x * 2 + slice_index word (i - 1)) (sym e))
 
 pub fits_drop : (w : List ℕ) (i : ℕ) → Fits Gf2 w → Fits Gf2 (drop i w)
 fits_drop w zero h = h
@@ -105,9 +47,6 @@ pack_room word i bits h few z e =
     let rest = drop i word in
     let short : length rest ≤ 63 = omega (arith, length-drop i word, few, z) in
     omega (arith, e, packed_small rest (fits_drop word i h), pow-le-pow_right {n = 2} (omega arith) short)
-
-pub bit_small : (word : List ℕ) (i : ℕ) → Fits Gf2 word → slice_index word i < 2
-bit_small word i h = omega (arith, fits_symbol Gf2 word h i, two)
 
 pub pack_all : (word : List ℕ) (bits : ℕ) → bits ≡ packed (drop 0 word) → bits ≡ packed word
 pack_all word bits e = e
@@ -149,10 +88,6 @@ sum_word f n rows a [] r w h = w
 sum_word f n rows a (p ∷ s) r w h =
     let is : IsWord f n (row_of rows p) = r p [] (h 0 (omega arith)) in
     sum_word f n rows (word_sum f a (scale f 1 (row_of rows p))) s r (IsWord_sum f n a (scale f 1 (row_of rows p)) w.long (length_scale f 1 (row_of rows p) ∙ is.long)) (λ i l. h (suc i) (omega (arith, l)))
-
-pub zero_packed : (n : ℕ) → packed (zero_word n) ≡ 0
-zero_packed zero = packed_nil
-zero_packed (suc n) = packed_cons 0 (zero_word n) ∙ omega (arith, zero_packed n)
 
 pub front_start : (C : Matrix) (front : List ℕ) → front ≡ [] → 0 ≡ front_bits C front
 unfolding sum_over

@@ -1,5 +1,4 @@
 -- What a walk finds in the words of the messages of a level.
---   part_before, part_after, part_put      a list of words in two parts, and a word written into the second part
 --   flat_map_same              two maps that agree list the same
 --   found_first, passed_first  what is found in the first of two lists, or else in the second
 --   along_whole, along_first, along_found, along_passed, along_end      the words along a support, multiple by multiple
@@ -9,10 +8,9 @@
 --   sums_zero, Put, sums_put   the buffer of a walk
 use Rattle.std.proofs.Common.{◌≡◌, ℕ, zero, suc, ◌+◌, ◌-◌, ◌<◌, ◌≤◌, Bool, true, false, List, [], ◌∷◌, ◌++◌, set, map, find, flat_map, length, slice_index, slice_index_or, take, drop, Option, Some, None, refl, sym, ap, ap₂, subst, ◌∙◌, ⊎_elim, arith, append_assoc, append-nil}
 use Rattle.std.specs.Option.{option_or}
-use Rattle.std.proofs.Math.ListN.{get_or-append}
 use Rattle.std.proofs.Math.Seq.{drop-cons}
 use Rattle.std.proofs.lemmas.Bool.{cases_lt, cases_eq}
-use Rattle.std.proofs.lemmas.List.{get_or-append-add, get_or_default, get_or-set_same, get_or-set_other, get_or-take, length-set, length-drop}
+use Rattle.std.proofs.lemmas.List.{get_or-set_same, get_or-set_other, get_or-take, length-set, length-drop}
 use Rattle.std.proofs.lemmas.List.Concat.{flat_map-cons}
 use Rattle.std.proofs.lemmas.List.Folds.{find-append, flat_map-map}
 use Rattle.std.proofs.lemmas.Grind.{flat_map-append}
@@ -25,21 +23,6 @@ use Rattle.lc_enumeration.specs.Message.{supports_from, numbers_from}
 use Rattle.lc_place.proofs.Supports.{length-supports, choose_none}
 use Rattle.lc_formats.specs.Certificate.{is_lighter}
 use Rattle.lc_checker.specs.Walk.{row_of, words_along, multiples_from, support_words, words_over, level_words, words_from, found, AreSums}
-
-pub part_before : (ws a b : List (List ℕ)) (i : ℕ) (d : List ℕ) → ws ≡ a ++ b → i < length a → slice_index_or a i d ≡ slice_index_or ws i []
-part_before ws a b i d e l = get_or_default a i d [] l ∙ sym (get_or-append a b [] i l) ∙ ap (λ z. slice_index_or z i []) (sym e)
-
-pub part_after : (ws a b : List (List ℕ)) (i : ℕ) (d : List ℕ) → ws ≡ a ++ b → length a ≡ i → i < length ws → length b + i ≡ length ws → slice_index_or b 0 d ≡ slice_index_or ws i []
-part_after ws a b i d e m l n =
-    let at : length a + 0 ≡ i = omega (arith, m) in
-    get_or_default b 0 d [] (omega (arith, l, n)) ∙ sym (get_or-append-add a b 0 []) ∙ ap (λ j. slice_index_or (a ++ b) j []) at ∙ ap (λ z. slice_index_or z i []) (sym e)
-
-put_at : (a b : List (List ℕ)) (v : List ℕ) → a ++ set b 0 v ≡ set (a ++ b) (length a) v
-put_at [] b v = refl
-put_at (x ∷ a) b v = ap (λ z. x ∷ z) (put_at a b v)
-
-pub part_put : (ws a b : List (List ℕ)) (i : ℕ) (v : List ℕ) → ws ≡ a ++ b → length a ≡ i → a ++ set b 0 v ≡ set ws i v
-part_put ws a b i v e m = put_at a b v ∙ rw (m, e) refl
 
 pub flat_map_same : {X Y : Type 0} (g h : X → List Y) (xs : List X) → ((x : X) → g x ≡ h x) → flat_map g xs ≡ flat_map h xs
 flat_map_same g h [] e = refl

@@ -6,7 +6,7 @@ use Rattle.std.specs.Prelude.{◌≡◌, ℕ, ◌*◌, ◌<◌, ◌≤◌, List,
 use Rattle.lc_algebra.specs.declared.FieldName.TheVariants.{Gf2}
 use Rattle.lc_algebra.specs.Matrix.{Matrix, AreRows}
 use Rattle.lc_checker.specs.Walk.{row_of}
-use Rattle.lc_checker.specs.Packed.{packed}
+use Rattle.lc_vec.specs.Packed.{packed}
 
 abbrev pub block : List ℕ → ℕ → ℕ
 block w i = packed (take 64 (drop (64 * i) w))

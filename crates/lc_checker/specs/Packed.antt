@@ -1,18 +1,14 @@
--- Words over 2 elements as numbers of bits.
---   packed w              the number whose bits are the symbols of w, the first one the lowest
+-- The rows of a matrix over 2 elements as numbers of bits, and their sums.
 --   sum_over f rows a s   the sum of a and the rows at the places of s
 --   front_bits C front    the packed sum of the rows at the places of front
 --   ArePacked C bits      a matrix over 2 elements with at most 64 columns, and its packed rows
-use Rattle.std.specs.Prelude.{◌≡◌, ℕ, ◌+◌, ◌*◌, ◌<◌, List, [], ◌∷◌, length, slice_index}
+use Rattle.std.specs.Prelude.{◌≡◌, ℕ, ◌<◌, List, [], ◌∷◌, length, slice_index}
 use Rattle.lc_algebra.specs.declared.FieldName.{FieldName}
 use Rattle.lc_algebra.specs.declared.FieldName.TheVariants.{Gf2}
 use Rattle.lc_algebra.specs.Word.{zero_word, word_sum, scale}
 use Rattle.lc_algebra.specs.Matrix.{Matrix, AreRows}
+use Rattle.lc_vec.specs.Packed.{packed}
 use Rattle.lc_checker.specs.Walk.{row_of}
-
-unfoldable pub packed : List ℕ → ℕ
-packed [] = 0
-packed (a ∷ w) = packed w * 2 + a
 
 unfoldable pub sum_over : FieldName → List (List ℕ) → List ℕ → List ℕ → List ℕ
 sum_over f rows a [] = a

@@ -5,7 +5,8 @@ ghost use Rattle.lc_algebra.specs.declared.FieldName.TheVariants.{Gf2};
 ghost use Rattle.lc_algebra.specs.Word.{Fits};
 ghost use Rattle.lc_formats.specs.Certificate.{is_lighter};
 ghost use Rattle.lc_checker.specs.Walk.{AreSums, words_over, found};
-ghost use Rattle.lc_checker.specs.Packed.{packed, front_bits, ArePacked};
+ghost use Rattle.lc_vec.specs.Packed.{packed};
+ghost use Rattle.lc_checker.specs.Packed.{front_bits, ArePacked};
 
 use crate::walk::lighter_on;
 use lc_field::NoMemory;

@@ -3,31 +3,25 @@
 --   picked                       the columns at the chosen indexes of an order
 --   IsReducedFrom                the rows are reduced over the order, and have the words of the original ones
 --   pivot_outside                the column of a pivot is no sum of multiples of those of the earlier pivots
---   dot_front, symbol_of_row, front_symbol, passed_inside      any other column is
+--   passed_inside                any other column is
 --   greedy_rest, greedy_picked   so the greedy choice is that of the pivots
 --   distinct_indexes, turned_unit, turned_generator      the rows in the order of the set's columns are the generator matrix on it
-use Rattle.std.proofs.Common.{◌≡◌, ◌≢◌, ℕ, zero, suc, ◌+◌, ◌<◌, ◌≤◌, Bool, false, cond, ◌==◌, if◌then◌else◌, filter, List, [], ◌∷◌, ◌++◌, length, map, take, slice_index, slice_index_or, Contains, refl, sym, ap, subst, ◌∙◌, ⊎_elim, arith}
+use Rattle.std.proofs.Common.{◌≡◌, ◌≢◌, ℕ, suc, ◌+◌, ◌<◌, ◌≤◌, Bool, false, cond, ◌==◌, if◌then◌else◌, filter, List, [], ◌∷◌, ◌++◌, length, map, take, slice_index, slice_index_or, Contains, sym, ap, subst, ◌∙◌, ⊎_elim, arith}
 use Rattle.std.proofs.lemmas.Bool.{cases_Bool, cases_eq, cases_lt, eq-eqb, ne_eqb}
-use Rattle.std.proofs.lemmas.List.{ext_get_or, length-map, get_or-map, get_or_default, get_or-take, get_or_past, length-take, length-take-le, take_all, take_more, map-append}
+use Rattle.std.proofs.lemmas.List.{ext_get_or, length-map, get_or-map, get_or_default, get_or-take, length-take, length-take-le, take_all, take_more, map-append}
 use Rattle.lc_algebra.specs.declared.FieldName.{FieldName}
-use Rattle.lc_algebra.specs.Field.{size, add, mul}
-use Rattle.lc_algebra.specs.Word.{IsWord, word_dot}
-use Rattle.lc_algebra.specs.Span.{below, combine, InSpan, SameSpan}
-use Rattle.lc_algebra.specs.Matrix.{AreRows, IsOrthogonal, entry, column}
+use Rattle.lc_algebra.specs.Span.{below, InSpan, SameSpan}
+use Rattle.lc_algebra.specs.Matrix.{AreRows, entry, column}
 use Rattle.lc_algebra.specs.SpanLaws.{restrict}
-use Rattle.lc_algebra.proofs.FieldLaws.{mul_zero}
-use Rattle.lc_algebra.proofs.WordLaws.{word_symbol, dot_comm}
-use Rattle.lc_algebra.proofs.SpanLaws.{contains_map, span_row, length_combine, combination_of_word, word_of_combination, dot_span}
-use Rattle.lc_algebra.proofs.ReducedLaws.{index_combine, dot_nothing, dot_unit}
-use Rattle.lc_algebra.proofs.ColumnLaws.{column_word, column_of_columns, length_restrict, index_restrict}
+use Rattle.lc_algebra.proofs.SpanLaws.{contains_map, span_row}
+use Rattle.lc_algebra.proofs.ColumnLaws.{length_restrict, index_restrict, column_outside, column_inside}
 use Rattle.lc_algebra.proofs.DimensionLaws.{pairs_from_distinct, distinct_below}
 use Rattle.lc_enumeration.specs.InformationSet.{in_span, greedy, unit_word, systematic}
 use Rattle.lc_enumeration.proofs.MemberLaws.{in_span_true, true_in_span}
 use Rattle.lc_matrix.specs.Elimination.{IsReducedTo}
 use Rattle.lc_infoset.specs.Choice.{AreTurned}
-use Rattle.lc_infoset.proofs.BoundLaws.{all_from_members}
 use Rattle.lc_infoset.proofs.ExistLaws.{told_on_set, row_looked, length_systematic, length_unit, index_unit}
-use Rattle.lc_infoset.proofs.GreedyLaws.{vectors_are, columns_are, IsBasis}
+use Rattle.lc_infoset.proofs.GreedyLaws.{IsBasis}
 use Rattle.lc_infoset.proofs.SetLaws.{distinct_filter}
 
 abbrev pub picked : List ℕ → List ℕ → List ℕ
@@ -54,93 +48,29 @@ take_member i x at l =
 
 pub pivot_outside : (f : FieldName) (n i : ℕ) (order at : List ℕ) (rows e : List (List ℕ)) → IsReducedFrom f n order at rows e → i < length at → InSpan f (length rows) (map (column rows) (picked order (take i at))) (column rows (slice_index order (slice_index at i))) → ⊥
 pivot_outside f n i order at rows e h l s =
-    let k = length rows in
     let inside : i < length e = omega (arith, l, h.reduced.at_most) in
-    let g = slice_index_or e i [] in
-    let cs = combination_of_word f n rows g ((h.same g).1 (span_row f n e h.words i [] inside)) in
-    let set = picked order (take i at) in
-    let symbol : (c : ℕ) → entry e i c ≡ word_dot f cs.0 (column rows c) = λ c. ap (λ w. slice_index w c) cs.2 ∙ index_combine f n cs.0 rows c h.original in
-    let orthogonal : IsOrthogonal f (map (column rows) set) cs.0 = all_from_members (λ row. word_dot f row cs.0 ≡ 0) (map (column rows) set) (λ x m.
-    let t = contains_map (column rows) set x m in
-    let u = contains_map (slice_index order) (take i at) t.0 t.1 in
+    column_outside f n i (slice_index order (slice_index at i)) (picked order (take i at)) rows e h.original h.words h.same inside (h.reduced.leads i l) (λ c m.
+    let u = contains_map (slice_index order) (take i at) c m in
     let j = take_member i u.0 at u.1 in
-    let place : t.0 ≡ slice_index order (slice_index at j.0) = u.2 ∙ ap (slice_index order) (sym j.2.1) in
-    ap (λ v. word_dot f v cs.0) t.2 ∙ dot_comm f (column rows t.0) cs.0 ∙ sym (symbol t.0) ∙ ap (entry e i) place ∙ h.reduced.clears j.0 i j.2.0 inside (λ q. omega (arith, q, j.1))) in
-    let c = slice_index order (slice_index at i) in
-    let nothing : entry e i c ≡ 0 = symbol c ∙ dot_comm f cs.0 (column rows c) ∙ dot_span f k (map (column rows) set) cs.0 (column rows c) (vectors_are f k (column rows) set (columns_are f n rows h.original)) orthogonal s in
-    omega (arith, nothing, h.reduced.leads i l)
-
-pub dot_front : (f : FieldName) (u v : List ℕ) (i : ℕ) → ((j : ℕ) → i ≤ j → slice_index v j ≡ 0) → word_dot f u v ≡ word_dot f (take i u) (take i v)
-unfolding word_dot
-dot_front f u v zero h = dot_nothing f u v (λ j l. ap (mul f (slice_index u j)) (h j (omega arith)) ∙ mul_zero f (slice_index u j))
-dot_front f [] v (suc i) h = refl
-dot_front f (a ∷ u) [] (suc i) h = refl
-dot_front f (a ∷ u) (b ∷ v) (suc i) h = ap (add f (mul f a b)) (dot_front f u v i (λ j l. h (suc j) (omega (arith, l))))
-
-symbol_of_row : (f : FieldName) (n : ℕ) (rows : List (List ℕ)) (w cs : List ℕ) (c : ℕ) → AreRows f n rows → w ≡ combine f n cs rows → slice_index w c ≡ word_dot f cs (column rows c)
-symbol_of_row f n rows w cs c r e = ap (λ v. slice_index v c) e ∙ index_combine f n cs rows c r
-
-entry_of_column : (rows : List (List ℕ)) (c j : ℕ) → j < length rows → slice_index (column rows c) j ≡ entry rows j c
-entry_of_column rows c j l = get_or-map (λ row. slice_index row c) rows j [] 0 l
+    ap (entry e i) (u.2 ∙ ap (slice_index order) (sym j.2.1)) ∙ h.reduced.clears j.0 i j.2.0 inside (λ q. omega (arith, q, j.1))) s
 
 pick_is : (i j : ℕ) (order at : List ℕ) → i ≤ length at → j < i → slice_index (picked order (take i at)) j ≡ slice_index order (slice_index at j)
 pick_is i j order at l m =
     get_or-map (slice_index order) (take i at) j 0 0 (omega (arith, m, length-take-le i at l)) ∙ ap (slice_index order) (get_or-take i at j 0 m)
 
--- a word's symbols at the pivots are its coefficients
-front_symbol : (f : FieldName) (n i j : ℕ) (order at : List ℕ) (rows e : List (List ℕ)) (w cs : List ℕ) → IsReducedFrom f n order at rows e → i ≤ length at → j < i → IsWord f (length e) cs → w ≡ combine f n cs e → slice_index w (slice_index (picked order (take i at)) j) ≡ slice_index cs j
-front_symbol f n i j order at rows e w cs h l m is q =
-    let p = slice_index order (slice_index at j) in
-    let k : j < length at = omega (arith, l, m) in
-    let inside : j < length e = omega (arith, k, h.reduced.at_most) in
-    let us = column e p in
-    let long : length us ≡ length e = length-map e (λ row. slice_index row p) in
-    ap (slice_index w) (pick_is i j order at l m)
-    ∙ symbol_of_row f n e w cs p h.words q
-    ∙ dot_unit f cs us j is.fits (long ∙ sym is.long) (omega (arith, inside, long))
-    (entry_of_column e p j inside ∙ h.reduced.leads j k)
-    (λ a b o. entry_of_column e p a (omega (arith, b, long)) ∙ h.reduced.clears j a k (omega (arith, b, long)) (λ s. o (sym s)))
-
 pub passed_inside : (f : FieldName) (n t i : ℕ) (order at : List ℕ) (rows e : List (List ℕ)) → IsReducedFrom f n order at rows e → i ≤ length at → t < length order → ((j : ℕ) → i ≤ j → j < length at → t < slice_index at j) → InSpan f (length rows) (map (column rows) (picked order (take i at))) (column rows (slice_index order t))
 passed_inside f n t i order at rows e h l m above =
-    let k = length rows in
     let c = slice_index order t in
-    let v = column e c in
     let set = picked order (take i at) in
-    let cols = map (column rows) set in
     let many : length set ≡ i = length-map (take i at) (slice_index order) ∙ length-take-le i at l in
-    let long_v : length v ≡ length e = length-map e (λ row. slice_index row c) in
-    let is_v : IsWord f (length e) v = column_word f n e c h.words in
-    let zeros : (j : ℕ) → i ≤ j → slice_index v j ≡ 0 = λ j a. ⊎_elim
-    (λ b. entry_of_column e c j b ∙ ⊎_elim (λ d. h.reduced.before j t d (above j a d)) (λ d. h.reduced.below j t d b m) (cases_lt j (length at)))
-    (λ b. get_or_past v j 0 (omega (arith, b, long_v)))
-    (cases_lt j (length e)) in
-    let es = take i v in
-    let enough : i ≤ length e = omega (arith, l, h.reduced.at_most) in
-    let long_es : length es ≡ i = length-take-le i v (omega (arith, enough, long_v)) in
-    let is : IsWord f (length cols) es = record {
-      long = long_es ∙ sym (length-map set (column rows) ∙ many);
-      fits = λ j b. let d : j < i = omega (arith, b, long_es) in subst (λ x. x < size f) (sym (get_or-take i v j 0 d)) (word_symbol f (length e) v is_v j);
-    } in
-    let are : AreRows f k cols = vectors_are f k (column rows) set (columns_are f n rows h.original) in
-    let word = combine f k es cols in
-    let long_c : length (column rows c) ≡ k = length-map rows (λ row. slice_index row c) in
-    let same : word ≡ column rows c = ext_get_or 0 word (column rows c) (length_combine f k es cols are ∙ sym long_c) (λ r b.
-    let d : r < k = omega (arith, b, length_combine f k es cols are) in
-    let row = slice_index_or rows r [] in
-    let cs = combination_of_word f n e row ((h.same row).0 (span_row f n rows h.original r [] d)) in
-    let us = restrict set row in
-    let long_cs : length (take i cs.0) ≡ i = length-take-le i cs.0 (omega (arith, cs.1.long, enough)) in
-    let front : us ≡ take i cs.0 = ext_get_or 0 us (take i cs.0) (length_restrict set row ∙ many ∙ sym long_cs) (λ j a.
-    let b' : j < i = omega (arith, a, length_restrict set row, many) in
-    index_restrict set row j (omega (arith, b', many)) ∙ front_symbol f n i j order at rows e row cs.0 h l b' cs.1 cs.2 ∙ sym (get_or-take i cs.0 j 0 b')) in
-    index_combine f k es cols r are
-    ∙ ap (word_dot f es) (column_of_columns rows set r d ∙ front)
-    ∙ dot_comm f es (take i cs.0)
-    ∙ sym (dot_front f cs.0 v i zeros)
-    ∙ sym (symbol_of_row f n e row cs.0 c h.words cs.2)
-    ∙ sym (entry_of_column rows c r d)) in
-    subst (InSpan f k cols) same (word_of_combination f k cols es is)
+    column_inside f n c set rows e h.original h.words h.same (omega (arith, many, l, h.reduced.at_most))
+    (λ j a.
+    let b : j < i = omega (arith, a, many) in
+    ap (entry e j) (pick_is i j order at l b) ∙ h.reduced.leads j (omega (arith, b, l)))
+    (λ j r a d o.
+    let b : j < i = omega (arith, a, many) in
+    ap (entry e r) (pick_is i j order at l b) ∙ h.reduced.clears j r (omega (arith, b, l)) d o)
+    (λ j a b. ⊎_elim (λ d. h.reduced.before j t d (above j (omega (arith, a, many)) d)) (λ d. h.reduced.below j t d b m) (cases_lt j (length at)))
 
 pub record IsFollowed (t i : ℕ) (order at rest : List ℕ) : Type 0 where
   pub whole : t + length rest ≡ length order

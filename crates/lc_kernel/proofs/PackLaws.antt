@@ -1,30 +1,26 @@
--- Words over 2 elements as numbers.
---   packed_sum, packed_ones, packed_small      a sum is an exclusive or, a weight is a number of ones; they fit their bits
+-- The weight of a message's word off its set, and the bits of words over 2 elements there.
 --   count_split                  what is counted in a list, by what passes a test
 --   weight_split                 the weight of a word, by its symbols in a set and outside it
 --   symbols_of                   a word has its message on the basis of its set
 --   weight_of_word               the weight of a message's word: its level, and its symbols outside the basis
 --   part_none, part_more, part_all      the weight at some columns, part by part
 --   outside_inside, others_few      the columns outside a set are columns
---   pack_none, pack_step, pack_room, bit_small      the bits of a word, from its last column on
+--   pack_none, pack_step, pack_room      the bits of a word, from its last column on
 --   bits_none, bits_more         the bits of the word of an entry more
-use Rattle.std.proofs.Common.{◌≡◌, ◌⊎◌, ℕ, zero, suc, ◌+◌, ◌-◌, ◌*◌, ◌^◌, ◌<◌, ◌≤◌, Bool, not, cond, ◌==◌, if◌then◌else◌, List, [], ◌∷◌, length, take, drop, ◌++◌, filter, bit_xor, count_ones, count_by, slice_index, slice_index_or, Contains, refl, sym, ap, ◌∙◌, inl, inr, ⊎_elim, arith}
-use Rattle.std.proofs.Math.Nat.{pow-suc, pow-zero, one-le-pow}
-use Rattle.std.proofs.Math.Seq.{drop-cons, take-add}
+use Rattle.std.proofs.Common.{◌≡◌, ℕ, suc, ◌+◌, ◌-◌, ◌*◌, ◌^◌, ◌<◌, ◌≤◌, Bool, not, cond, if◌then◌else◌, List, [], ◌∷◌, length, take, drop, ◌++◌, filter, bit_xor, count_ones, count_by, slice_index, slice_index_or, Contains, refl, sym, ap, ◌∙◌, ⊎_elim, arith}
+use Rattle.std.proofs.Math.Nat.{pow-le-pow_right}
+use Rattle.std.proofs.Math.Seq.{take-add}
 use Rattle.std.proofs.lemmas.Bool.{cases_Bool, eq-eqb, ne_eqb}
 use Rattle.std.proofs.lemmas.List.{get_or_default, ext_get_or, drop_all, take_all, length-drop, get_or-drop}
 use Rattle.std.proofs.lemmas.List.Sums.{sum_by-append, length-filter, count_by-le-length}
-use Rattle.std.proofs.lemmas.Nat.{xor_block, ones_cat}
-use lib.Count.{ones}
 use Rattle.lc_algebra.specs.declared.FieldName.{FieldName}
 use Rattle.lc_algebra.specs.declared.FieldName.TheVariants.{Gf2}
-use Rattle.lc_algebra.specs.Field.{size, add, coefficients, shape_of, shape}
-use Rattle.lc_algebra.specs.Residue.{digits, number, plus}
-use Rattle.lc_algebra.specs.Word.{IsWord, Fits, zero_word, word_sum, scale, weight}
+use Rattle.lc_algebra.specs.Field.{size}
+use Rattle.lc_algebra.specs.Word.{IsWord, Fits, word_sum, scale, weight}
 use Rattle.lc_algebra.specs.Span.{below, combine, AreIndependent}
 use Rattle.lc_algebra.specs.Matrix.{Matrix, AreRows, IsIdentityOn, entry}
 use Rattle.lc_algebra.specs.SpanLaws.{restrict}
-use Rattle.lc_algebra.proofs.WordLaws.{weight_cons, fits_head, fits_tail, fits_symbol, one_scale}
+use Rattle.lc_algebra.proofs.WordLaws.{fits_symbol, one_scale}
 use Rattle.lc_algebra.proofs.SpanLaws.{contains_below, below_contains, length_below}
 use Rattle.lc_algebra.proofs.ColumnLaws.{index_restrict, length_restrict, restrict_sum, restrict_zero}
 use Rattle.lc_algebra.proofs.ReducedLaws.{symbol_of_combination}
@@ -47,64 +43,10 @@ use Rattle.lc_algebra.proofs.SpanLaws.{length_combine}
 use Rattle.std.proofs.lemmas.List.Elements.{All-get_or, Contains-get_or}
 use Rattle.lc_kernel.specs.Sums.{front_word}
 use Rattle.lc_kernel.proofs.FrontLaws.{entries_are, generates, front_first, front_next, front_whole, front_word_fits}
-use Rattle.lc_kernel.specs.Packed.{packed, outside, others, part_at, bits_at, AreRowBits}
-
-pub two : size Gf2 ≡ 2
-unfolding size shape_of shape
-two = refl
-
-bit_cases : (a : ℕ) → a < 2 → (a ≡ 0) ⊎ (a ≡ 1)
-bit_cases zero l = inl refl
-bit_cases (suc zero) l = inr refl
-bit_cases (suc (suc a)) l = absurd (omega (arith, l))
-
-add_bits : (a b : ℕ) → a < 2 → b < 2 → add Gf2 a b ≡ bit_xor a b
-unfolding add coefficients shape_of shape number plus digits
-add_bits zero zero l m = refl
-add_bits zero (suc zero) l m = refl
-add_bits (suc zero) zero l m = refl
-add_bits (suc zero) (suc zero) l m = refl
-add_bits zero (suc (suc b)) l m = absurd (omega (arith, m))
-add_bits (suc zero) (suc (suc b)) l m = absurd (omega (arith, m))
-add_bits (suc (suc a)) b l m = absurd (omega (arith, l))
-
-bit_of : (u : List ℕ) (a : ℕ) → Fits Gf2 (a ∷ u) → a < 2
-bit_of u a h = omega (arith, fits_head Gf2 a u h, two)
-
-pub packed_sum : (u v : List ℕ) → length u ≡ length v → Fits Gf2 u → Fits Gf2 v → packed (word_sum Gf2 u v) ≡ bit_xor (packed u) (packed v)
-unfolding packed word_sum
-packed_sum [] [] e h i = refl
-packed_sum [] (b ∷ v) e h i = absurd (omega (arith, e))
-packed_sum (a ∷ u) [] e h i = absurd (omega (arith, e))
-packed_sum (a ∷ u) (b ∷ v) e h i =
-    let t = packed_sum u v (omega (arith, e)) (fits_tail Gf2 a u h) (fits_tail Gf2 b v i) in
-    let x = xor_block 1 (packed u) (packed v) a b (bit_of u a h) (bit_of v b i) in
-    let s = add_bits a b (bit_of u a h) (bit_of v b i) in
-    ap (λ z. z * 2 + add Gf2 a b) t ∙ ap (λ z. bit_xor (packed u) (packed v) * 2 + z) s ∙ sym x
-
-one_bit : (a : ℕ) → a < 2 → count_ones a ≡ cond (not (a == 0)) 1 0
-unfolding ones
-one_bit zero l = refl
-one_bit (suc zero) l = refl
-one_bit (suc (suc a)) l = absurd (omega (arith, l))
-
-pub packed_ones : (u : List ℕ) → Fits Gf2 u → count_ones (packed u) ≡ weight u
-unfolding packed
-packed_ones [] h = one_bit 0 (omega arith)
-packed_ones (a ∷ u) h =
-    let t = packed_ones u (fits_tail Gf2 a u h) in
-    let b = bit_of u a h in
-    ones_cat 1 (packed u) a b ∙ omega (arith, t, one_bit a b, weight_cons a u)
-
-pub packed_small : (u : List ℕ) → Fits Gf2 u → packed u < 2 ^ length u
-unfolding packed
-packed_small [] h = omega arith
-packed_small (a ∷ u) h = omega (arith, packed_small u (fits_tail Gf2 a u h), bit_of u a h, pow-suc 2 (length u))
-
-pub pow_more : (m n : ℕ) → m ≤ n → 2 ^ m ≤ 2 ^ n
-pow_more zero n l = omega (arith, pow-zero 2, one-le-pow n 2 (omega arith))
-pow_more (suc m) zero l = absurd (omega (arith, l))
-pow_more (suc m) (suc n) l = omega (arith, pow_more m n (omega (arith, l)), pow-suc 2 m, pow-suc 2 n)
+use Rattle.lc_vec.specs.Packed.{packed}
+use Rattle.lc_vec.proofs.PackLaws.{packed_sum, packed_ones, packed_small, packed_nil, packed_drop, zero_packed}
+pub use Rattle.lc_vec.proofs.PackLaws.{two}
+use Rattle.lc_kernel.specs.Packed.{outside, others, part_at, bits_at, AreRowBits}
 
 count_split : {X : Type 0} (h p : X → Bool) (xs : List X) → count_by h xs ≡ count_by h (filter p xs) + count_by h (filter (λ x. not (p x)) xs)
 count_split h p [] = refl
@@ -180,14 +122,9 @@ pub tail_ones : (C : Matrix) (cols u : List ℕ) → C.field ≡ Gf2 → IsWord 
 unfolding bits_at
 tail_ones C cols u e h = ones_of_bits C.field (restrict cols u) e (restrict_fits C.field C.columns cols u h)
 
-zeros_packed : (n : ℕ) → packed (zero_word n) ≡ 0
-unfolding packed
-zeros_packed zero = refl
-zeros_packed (suc n) = omega (arith, zeros_packed n)
-
 pub bits_none : (C : Matrix) (cols : List ℕ) (s : SpotState) → AreRows C.field C.columns C.rows → AreIndependent C.field C.columns C.rows → s.set < set_count C → bits_at cols (front_word C s 0) ≡ 0
 unfolding bits_at
-bits_none C cols s rows free l = ap (λ w. packed (restrict cols w)) (front_first C s (generates C s.set rows free l)) ∙ ap packed (restrict_zero cols C.columns) ∙ zeros_packed (length cols)
+bits_none C cols s rows free l = ap (λ w. packed (restrict cols w)) (front_first C s (generates C s.set rows free l)) ∙ ap packed (restrict_zero cols C.columns) ∙ zero_packed (length cols)
 
 pub bits_more : (C : Matrix) (cols : List ℕ) (s : SpotState) (bits : List ℕ) (i : ℕ) → C.field ≡ Gf2 → AreRows C.field C.columns C.rows → AreIndependent C.field C.columns C.rows → s.set < set_count C → Contains (messages (length C.rows) (size C.field) (length s.support)) (spot_message s) → AreRowBits C s.set cols bits → i < length s.support → bits_at cols (front_word C s (suc i)) ≡ bit_xor (bits_at cols (front_word C s i)) (slice_index bits (slice_index s.support i))
 bits_more C cols s bits i e rows free l message b m =
@@ -225,13 +162,11 @@ pub outside_inside : (n t : ℕ) (set : List ℕ) → t < length (outside n set)
 outside_inside n t set l = contains_below n (slice_index (outside n set) t) (filter_passes (λ c. not (is_member set c)) (below n) (slice_index (outside n set) t) (Contains-get_or (outside n set) t 0 l)).member
 
 pub pack_none : (cols word : List ℕ) → 0 ≡ packed (drop (length cols) (restrict cols word))
-unfolding packed
-pack_none cols word = sym (ap packed (drop_all (length cols) (restrict cols word) (omega (arith, length_restrict cols word))))
+pack_none cols word = sym (ap packed (drop_all (length cols) (restrict cols word) (omega (arith, length_restrict cols word))) ∙ packed_nil)
 
 pub pack_step : (cols word : List ℕ) (t : ℕ) → t < length cols → packed (drop t (restrict cols word)) ≡ packed (drop (suc t) (restrict cols word)) * 2 + slice_index word (slice_index cols t)
-unfolding packed
 pack_step cols word t l =
-    ap packed (drop-cons (restrict cols word) t 0 (omega (arith, l, length_restrict cols word))) ∙ ap (λ x. packed (drop (suc t) (restrict cols word)) * 2 + x) (index_restrict cols word t l)
+    packed_drop (restrict cols word) t (omega (arith, l, length_restrict cols word)) ∙ ap (λ x. packed (drop (suc t) (restrict cols word)) * 2 + x) (index_restrict cols word t l)
 
 pub pack_room : (cols word : List ℕ) (t : ℕ) → Fits Gf2 word → length cols ≤ 64 → t < length cols → packed (drop (suc t) (restrict cols word)) < 2 ^ 63
 pack_room cols word t h few l =
@@ -239,8 +174,6 @@ pack_room cols word t h few l =
     let long : length (drop (suc t) R) ≡ length cols - suc t = length-drop (suc t) R ∙ ap (λ n. n - suc t) (length_restrict cols word) in
     let fits : Fits Gf2 (drop (suc t) R) = λ i m. rw (get_or-drop (suc t) R i 0) (rw (index_restrict cols word (suc t + i) (omega (arith, m, long, l))) (fits_symbol Gf2 word h (slice_index cols (suc t + i)))) in
     let small = packed_small (drop (suc t) R) fits in
-    let power = pow_more (length (drop (suc t) R)) 63 (omega (arith, long, few, l)) in
+    let short : length (drop (suc t) R) ≤ 63 = omega (arith, long, few, l) in
+    let power = pow-le-pow_right {n = 2} (omega arith) short in
     omega (arith, small, power)
-
-pub bit_small : (word : List ℕ) (i : ℕ) → Fits Gf2 word → slice_index word i < 2
-bit_small word i h = omega (arith, fits_symbol Gf2 word h i, two)

@@ -29,7 +29,7 @@ use Rattle.lc_algebra.proofs.WordLaws.{weight_cons, fits_head, fits_tail}
 use Rattle.lc_algebra.specs.SpanLaws.{restrict}
 use Rattle.lc_algebra.proofs.ColumnLaws.{length_restrict, index_restrict}
 use Rattle.lc_field.proofs.SumLaws.{xor_add}
-use Rattle.lc_kernel.specs.Packed.{packed}
+use Rattle.lc_vec.specs.Packed.{packed}
 use Rattle.lc_kernel.specs.Planes.{plane, plane_at, apart, bits_apart}
 
 pub plane_cons : (j a : ℕ) (u : List ℕ) → plane j (a ∷ u) ≡ plane j u * 2 + bit_at a j

@@ -1,5 +1,4 @@
 -- The sums of a stack, in the list that it keeps.
---   part_before, part_after, part_put      a list of words in two parts, and a word written into the second part
 --   front_put                    a sum put after the fronts before it
 --   front_room, room_kept, front_start      a list of zero words has room, also for another spot, and the front of no entry
 --   length_sums, sum_at          the words after the first
@@ -9,13 +8,12 @@
 --   set_below, level_some, code_message      the set, the level and the message of a spot of a plan
 --   written_whole                a list written whole over another
 --   stack_at                     a stack with the fronts of its message is at it
-use Rattle.std.proofs.Common.{◌≡◌, ℕ, zero, suc, ◌+◌, ◌-◌, ◌%◌, ◌<◌, ◌≤◌, List, [], ◌∷◌, ◌++◌, set, length, slice_index, slice_index_or, take, drop, Contains, refl, sym, ap, ◌∙◌, ⊎_elim, arith}
+use Rattle.std.proofs.Common.{◌≡◌, ℕ, zero, suc, ◌+◌, ◌-◌, ◌%◌, ◌<◌, ◌≤◌, List, [], ◌++◌, set, length, slice_index, slice_index_or, take, drop, Contains, refl, sym, ap, ◌∙◌, ⊎_elim, arith}
 use Rattle.std.proofs.lemmas.Bool.{cases_lt}
-use Rattle.std.proofs.Math.ListN.{get_or-append}
 use Rattle.std.proofs.Math.Seq.{take-append_seam}
 use Rattle.std.proofs.Math.Nat.{mod-eq_of_lt, mod-lt}
 use Rattle.std.proofs.lemmas.List.Elements.{All-get_or}
-use Rattle.std.proofs.lemmas.List.{get_or-append-add, get_or_default, get_or-set_same, get_or-set_other, length-set, length-map, length-drop, length-take-le, get_or-take, get_or-drop, get_or-map, ext_get_or}
+use Rattle.std.proofs.lemmas.List.{get_or_default, get_or-set_same, get_or-set_other, length-set, length-map, length-drop, length-take-le, get_or-take, get_or-drop, get_or-map, ext_get_or}
 use Rattle.lc_algebra.specs.Field.{size}
 use Rattle.lc_algebra.specs.Word.{IsWord, zero_word, word_sum, scale}
 use Rattle.lc_algebra.specs.Span.{below, AreIndependent}
@@ -30,21 +28,6 @@ use Rattle.lc_place.specs.Place.{PlanSize, SpotState, spot_message, IsFirstChang
 use Rattle.lc_kernel.specs.Kernel.{StackState, IsPlanOf, IsStackAt, top_sum}
 use Rattle.lc_kernel.specs.Sums.{AreFronts, IsRoom, sums_of}
 use Rattle.lc_kernel.proofs.FrontLaws.{entries_are, Generates, generates, front_first, front_next, front_word_is, front_same}
-
-pub part_before : (ws a b : List (List ℕ)) (i : ℕ) (d : List ℕ) → ws ≡ a ++ b → i < length a → slice_index_or a i d ≡ slice_index_or ws i []
-part_before ws a b i d e l = get_or_default a i d [] l ∙ sym (get_or-append a b [] i l) ∙ ap (λ z. slice_index_or z i []) (sym e)
-
-pub part_after : (ws a b : List (List ℕ)) (i : ℕ) (d : List ℕ) → ws ≡ a ++ b → length a ≡ i → i < length ws → length b + i ≡ length ws → slice_index_or b 0 d ≡ slice_index_or ws i []
-part_after ws a b i d e m l n =
-    let at : length a + 0 ≡ i = omega (arith, m) in
-    get_or_default b 0 d [] (omega (arith, l, n)) ∙ sym (get_or-append-add a b 0 []) ∙ ap (λ j. slice_index_or (a ++ b) j []) at ∙ ap (λ z. slice_index_or z i []) (sym e)
-
-put_at : (a b : List (List ℕ)) (v : List ℕ) → a ++ set b 0 v ≡ set (a ++ b) (length a) v
-put_at [] b v = refl
-put_at (x ∷ a) b v = ap (λ z. x ∷ z) (put_at a b v)
-
-pub part_put : (ws a b : List (List ℕ)) (i : ℕ) (v : List ℕ) → ws ≡ a ++ b → length a ≡ i → a ++ set b 0 v ≡ set ws i v
-part_put ws a b i v e m = put_at a b v ∙ rw (m, e) refl
 
 pub front_put : (C : Matrix) (s : SpotState) (i : ℕ) (ws vs : List (List ℕ)) → AreRows C.field C.columns C.rows → AreIndependent C.field C.columns C.rows → s.set < set_count C → Contains (messages (length C.rows) (size C.field) (length s.support)) (spot_message s) → i < length s.support → IsRoom C s ws → AreFronts C s i ws
     → vs ≡ set ws (i + 1) (word_sum C.field (slice_index_or ws i []) (scale C.field (slice_index s.coefficients i) (slice_index_or (generator_at C s.set) (slice_index s.support i) [])))

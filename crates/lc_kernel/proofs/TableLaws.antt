@@ -23,7 +23,8 @@ use Rattle.lc_infoset.specs.Bound.{set_at}
 use Rattle.lc_kernel.specs.declared.parts.Part.{Part}
 use Rattle.lc_kernel.specs.Packed.{others, part_at, IsPart}
 use Rattle.lc_kernel.specs.Tables.{AreParts, AreTables}
-use Rattle.lc_kernel.proofs.PackLaws.{two, outside_inside}
+use Rattle.lc_vec.proofs.PackLaws.{two}
+use Rattle.lc_kernel.proofs.PackLaws.{outside_inside}
 use Rattle.lc_kernel.proofs.PlaneLaws.{three}
 
 pub two_elements : (f : FieldName) → size f ≡ 2 → f ≡ Gf2

@@ -1,5 +1,4 @@
 -- Words over 2 elements as numbers, and the sums of some rows of an information set.
---   packed w                the number whose bits are the symbols of w, the first one the lowest
 --   outside n set           the columns below n that aren't in the set
 --   others C j              the columns outside the basis of set j
 --   part_at cols b          part b of some columns: 64 of them from 64 b on, or what is left
@@ -23,10 +22,7 @@ use Rattle.lc_enumeration.specs.InformationSet.{is_member}
 use Rattle.lc_enumeration.specs.Search.{generator_at}
 use Rattle.lc_infoset.specs.Bound.{set_at}
 use Rattle.lc_place.specs.Place.{SpotState}
-
-unfoldable pub packed : List ℕ → ℕ
-packed [] = 0
-packed (a ∷ w) = packed w * 2 + a
+use Rattle.lc_vec.specs.Packed.{packed}
 
 abbrev pub outside : ℕ → List ℕ → List ℕ
 outside n set = filter (λ c. not (is_member set c)) (below n)

@@ -14,7 +14,7 @@ use Rattle.lc_algebra.specs.declared.FieldName.{FieldName}
 use Rattle.lc_algebra.specs.Field.{size}
 use Rattle.lc_algebra.specs.Word.{Fits, word_sum}
 use Rattle.lc_algebra.specs.SpanLaws.{restrict}
-use Rattle.lc_kernel.specs.Packed.{packed}
+use Rattle.lc_vec.specs.Packed.{packed}
 
 unfoldable pub plane : ℕ → List ℕ → ℕ
 plane j w = packed (map (λ a. bit_at a j) w)

@@ -1,1 +1,3 @@
 pub mod SymbolLaws
+pub mod PackLaws
+pub mod PartLaws

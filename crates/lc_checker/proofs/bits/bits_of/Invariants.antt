@@ -1,5 +1,5 @@
 use Rattle.std.proofs.Common.{◌≡◌, ◌≤◌, drop, length}
-use Rattle.lc_checker.specs.Packed.{packed}
+use Rattle.lc_vec.specs.Packed.{packed}
 use Rattle.lc_checker.proofs.bits.bits_of.Given as goal
 
 abbrev pub invariant-loop-i : goal.invariant-loop-i

@@ -1,8 +1,9 @@
 use Rattle.std.proofs.Common.{◌+◌, ◌<◌, [], length, refl, sym, ap, ◌∙◌, arith}
 use Rattle.lc_algebra.specs.Field.{size}
 use Rattle.lc_algebra.proofs.WordLaws.{IsWord_scale}
+use Rattle.lc_vec.proofs.PartLaws.{part_before, part_after, part_put}
 use Rattle.lc_checker.specs.Walk.{row_of}
-use Rattle.lc_checker.proofs.WalkLaws.{part_before, part_after, part_put, sums_put}
+use Rattle.lc_checker.proofs.WalkLaws.{sums_put}
 use Rattle.lc_checker.proofs.HeavyLaws.{multiple_at}
 use Rattle.lc_checker.proofs.sums.put_multiple.Goals as goal
 

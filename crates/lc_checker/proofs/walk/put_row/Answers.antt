@@ -1,5 +1,6 @@
 use Rattle.std.proofs.Common.{◌+◌, ◌<◌, [], length, slice_index_or, refl, sym, ap, ◌∙◌, arith}
-use Rattle.lc_checker.proofs.WalkLaws.{part_before, part_after, part_put, sums_put}
+use Rattle.lc_vec.proofs.PartLaws.{part_before, part_after, part_put}
+use Rattle.lc_checker.proofs.WalkLaws.{sums_put}
 use Rattle.lc_checker.proofs.walk.put_row.Goals as goal
 
 pub put_sum-requires-clause-to : goal.put_sum-requires-clause-to

@@ -1,7 +1,9 @@
 use Rattle.std.proofs.Common.{◌≡◌, suc, ◌+◌, ◌-◌, ◌*◌, drop, slice_index, sym, ap, ◌∙◌, arith}
 use Rattle.lc_algebra.specs.SpanLaws.{restrict}
-use Rattle.lc_kernel.specs.Packed.{packed, bits_at}
-use Rattle.lc_kernel.proofs.PackLaws.{pack_none, pack_step, pack_room, bit_small}
+use Rattle.lc_vec.specs.Packed.{packed}
+use Rattle.lc_vec.proofs.PackLaws.{bit_small}
+use Rattle.lc_kernel.specs.Packed.{bits_at}
+use Rattle.lc_kernel.proofs.PackLaws.{pack_none, pack_step, pack_room}
 use Rattle.lc_kernel.proofs.parts.bits_of.Goals as goal
 
 pub loop-t-init : goal.loop-t-init

@@ -1,6 +1,6 @@
 use Rattle.std.proofs.Common.{◌≡◌, ◌≤◌, length, drop}
 use Rattle.lc_algebra.specs.SpanLaws.{restrict}
-use Rattle.lc_kernel.specs.Packed.{packed}
+use Rattle.lc_vec.specs.Packed.{packed}
 use Rattle.lc_kernel.proofs.parts.bits_of.Given as goal
 
 abbrev pub decreases-loop-t : goal.decreases-loop-t

@@ -1,5 +1,5 @@
 use Rattle.std.proofs.Common.{◌+◌, ◌<◌, length, refl, sym, ap, ◌∙◌, arith}
-use Rattle.lc_kernel.proofs.SumLaws.{part_before, part_after, part_put}
+use Rattle.lc_vec.proofs.PartLaws.{part_before, part_after, part_put}
 use Rattle.lc_kernel.proofs.stack.extend.Goals as goal
 
 pub put_added-requires-clause-to : goal.put_added-requires-clause-to
