@@ -4,6 +4,7 @@ pub mod FormLaws
 pub mod KernelLaws
 pub mod PlaceLaws
 pub mod RankLaws
+pub mod DualLaws
 pub mod SolveLaws
 pub mod SolutionLaws
 pub mod DivisibleLaws

@@ -19,7 +19,7 @@ use Rattle.lc_matrix.specs.Kernel.{IsFree, IsKernelWord, AreKernelWords}
 use Rattle.lc_matrix.proofs.PlaceLaws.{place_at, at_place, distinct_rising}
 use Rattle.lc_matrix.proofs.KernelLaws.{IsReducedAt, held, free_none, free_held, free_pushed, kernel_word_none, kernel_word_at, words_none, words_more, kernel_rows, kernel_identity, kernel_members}
 
-at_of_pivots : (n : ℕ) (ps : List ℕ) (e : List (List ℕ)) → HasPivots n ps e → IsReducedAt n ps e
+pub at_of_pivots : (n : ℕ) (ps : List ℕ) (e : List (List ℕ)) → HasPivots n ps e → IsReducedAt n ps e
 at_of_pivots n ps e h = record {
   at_most = omega (arith, h.count);
   inside = h.inside;
@@ -28,7 +28,7 @@ at_of_pivots n ps e h = record {
   below = λ j c l m k. absurd (omega (arith, l, m, h.count));
 }
 
-free_made : (ps : List ℕ) (n : ℕ) → (free : List ℕ) × IsFree ps n free
+pub free_made : (ps : List ℕ) (n : ℕ) → (free : List ℕ) × IsFree ps n free
 free_made ps zero = ([], free_none ps)
 free_made ps (suc n) =
     let t = free_made ps n in
@@ -47,7 +47,7 @@ word_made f n j ps rows b l o (suc i) m =
     let e : i + 1 ≡ suc i = omega arith in
     (w, subst (λ k. IsKernelWord f n ps rows j k w) e (kernel_word_at f n j i a ps rows t.0 w b t.1 m o refl refl))
 
-words_made : (f : FieldName) (n : ℕ) (ps : List ℕ) (rows : List (List ℕ)) (free : List ℕ) → IsReducedAt n ps rows → IsFree ps n free → (i : ℕ) → i ≤ length free → (kernel : List (List ℕ)) × AreKernelWords f n ps rows free i kernel
+pub words_made : (f : FieldName) (n : ℕ) (ps : List ℕ) (rows : List (List ℕ)) (free : List ℕ) → IsReducedAt n ps rows → IsFree ps n free → (i : ℕ) → i ≤ length free → (kernel : List (List ℕ)) × AreKernelWords f n ps rows free i kernel
 words_made f n ps rows free b o zero m = ([], words_none f n ps rows free [] refl)
 words_made f n ps rows free b o (suc i) m =
     let t = words_made f n ps rows free b o i (omega (arith, m)) in

@@ -2,6 +2,7 @@
 --   one_coset                words are in one coset exactly if their syndromes have one number
 --   leaders_of_checks        each syndrome of a word has a leader
 --   decoded                  a word less the leader with its syndrome is the word nearest to it
+--   parity_of_kernel         the kernel of a code's matrix is a parity-check matrix
 --   checked_by               the kernel of a code's matrix checks it
 --   rows_of_kernel           it has n - k rows
 --   few_syndromes            the checks have few syndromes if the number of cosets is not refused
@@ -22,11 +23,11 @@ use Rattle.lc_constructions.specs.Nearest.{IsNearest}
 use Rattle.lc_constructions.specs.Coset.{AreInOneCoset, syndrome, IsParityCheck, too_many_cosets}
 use Rattle.lc_constructions.proofs.CosetLaws.{leader_exists, leader_is_nearest, syndrome_once}
 use Rattle.lc_matrix.proofs.RankLaws.{rank_of_kernel}
+use Rattle.lc_matrix.proofs.DualLaws.{orthogonal_to_kernel}
 use Rattle.lc_syndrome.specs.Syndrome.{syndrome_number, coset_count}
 use Rattle.lc_syndrome.specs.Leading.{Leads, HasLeaders}
 use Rattle.lc_syndrome.specs.Checks.{checks_of, IsChecked}
 use Rattle.lc_syndrome.proofs.SyndromeLaws.{same_syndrome}
-use Rattle.lc_syndrome.proofs.DualLaws.{parity_of_kernel}
 
 orthogonal_difference : (f : FieldName) (rows : List (List ℕ)) (x y : List ℕ) → length x ≡ length y → syndrome f rows x ≡ syndrome f rows y → IsOrthogonal f rows (difference f x y)
 unfolding syndrome difference
@@ -68,6 +69,12 @@ nearest_of_leads C checks x e r p a h s =
 nearest_by_leader : (C H : Matrix) (x e : List ℕ) → AreRows C.field C.columns C.rows → IsChecked C H → IsWord C.field C.columns x → Leads H e → syndrome_number H e ≡ syndrome_number H x → IsNearest C x (difference C.field x e)
 nearest_by_leader C H x e r k a h s =
     nearest_of_leads C H.rows x e r k.parity a (subst (λ M. Leads M e) k.form h) (subst (λ M. syndrome_number M e ≡ syndrome_number M x) k.form s)
+
+parity_of_kernel : (C : Matrix) (checks : List (List ℕ)) → AreRows C.field C.columns C.rows → IsReduced C.columns C.rows → IsReducedGenerator C.field C.columns (IsOrthogonal C.field C.rows) checks → IsParityCheck C checks
+parity_of_kernel C checks r reduced g = record {
+  rows = g.words;
+  words = λ w a. let t = orthogonal_to_kernel C.field C.columns C.rows checks w r reduced g a in (t.1, t.0);
+}
 
 checked_by_kernel : (C H : Matrix) → AreRows C.field C.columns C.rows → IsReduced C.columns C.rows → H.field ≡ C.field → H.columns ≡ C.columns → IsReducedGenerator C.field C.columns (IsOrthogonal C.field C.rows) H.rows → IsChecked C H
 checked_by_kernel C H r reduced a b g = record {

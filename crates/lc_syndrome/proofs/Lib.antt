@@ -3,7 +3,6 @@ pub mod SymbolLaws
 pub mod LeadLaws
 pub mod GrowthLaws
 pub mod LevelLaws
-pub mod DualLaws
 pub mod CosetLaws
 pub mod DecodingLaws
 pub mod NumberLaws
