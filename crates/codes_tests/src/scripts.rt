@@ -1,90 +1,111 @@
 //! Scripts as they are read: trees, tokens and faults.
-use lc_parse::{ParseRefusal, TokenKind, parse, tokens};
-use std::alloc::{AllocError, Global};
+use lc_parse::{ParseRefusal, Script, Token, TokenKind, parse, tokens};
+use std::alloc::Global;
 use std::test::Fail;
 
-// The number and the place of the fault of a script, or 0 and 0 if it has none.
-fn fault_of(alloc: Global, bytes: &[u8]) -> Result<(u8, usize), AllocError> {
+// The number and the place of the fault of a script, or 0 and 0 if it has none. None if memory runs out.
+fn fault_of(alloc: Global, bytes: &[u8]) -> Option<(u8, usize)> {
     match parse(alloc, bytes) {
-        Ok(_) => Ok((0, 0)),
-        Err(ParseRefusal::Fault { number, place }) => Ok((number, place)),
-        Err(ParseRefusal::NoMemory) => Err(AllocError),
+        Ok(_) => Some((0, 0)),
+        Err(ParseRefusal::Fault { number, place }) => Some((number, place)),
+        Err(ParseRefusal::NoMemory) => None,
     }
 }
 
+// Texts, and the numbers and places of their faults.
+static FAULTS: [(&str, u8, usize); 27] = [
+    ("", 0, 0),
+    ("MinimumDistance(HammingCode(3,GF(2))", 41, 36),
+    ("x := 18446744073709551616;", 43, 5),
+    ("x := 018446744073709551615;", 0, 0),
+    ("$", 40, 0),
+    ("[[[[[[[[[[[[[[[[[[[[[[[[[[[[[[[[[", 42, 32),
+    (
+        "[[[[[[[[[[[[[[[[[[[[[[[[[[[[[[[[1]]]]]]]]]]]]]]]]]]]]]]]]]]]]]]]];",
+        0,
+        0,
+    ),
+    ("x : y;", 40, 2),
+    ("x :", 40, 2),
+    (";", 41, 0),
+    ("()", 41, 0),
+    ("x", 41, 1),
+    ("x :=", 41, 4),
+    ("x(", 41, 2),
+    ("x(1", 41, 3),
+    ("x(1,", 41, 4),
+    ("x(1)", 41, 4),
+    ("[", 41, 1),
+    ("[1,];", 41, 3),
+    ("x(,1);", 41, 2),
+    ("x(1];", 41, 3),
+    ("x;;", 41, 2),
+    ("1 := 2;", 41, 2),
+    ("x y;", 41, 2),
+    ("# a comment\n)", 41, 12),
+    ("# a comment", 0, 0),
+    ("f (1) ;\tg\r\n;", 0, 0),
+];
+
 #[test]
 fn faults_stand_at_the_first_place(rt: HostRuntime) -> Result<(), Fail> {
-    let cases: [(&str, u8, usize); 27] = [
-        ("", 0, 0),
-        ("MinimumDistance(HammingCode(3,GF(2))", 41, 36),
-        ("x := 18446744073709551616;", 43, 5),
-        ("x := 018446744073709551615;", 0, 0),
-        ("$", 40, 0),
-        ("[[[[[[[[[[[[[[[[[[[[[[[[[[[[[[[[[", 42, 32),
-        (
-            "[[[[[[[[[[[[[[[[[[[[[[[[[[[[[[[[1]]]]]]]]]]]]]]]]]]]]]]]]]]]]]]]];",
-            0,
-            0,
-        ),
-        ("x : y;", 40, 2),
-        ("x :", 40, 2),
-        (";", 41, 0),
-        ("()", 41, 0),
-        ("x", 41, 1),
-        ("x :=", 41, 4),
-        ("x(", 41, 2),
-        ("x(1", 41, 3),
-        ("x(1,", 41, 4),
-        ("x(1)", 41, 4),
-        ("[", 41, 1),
-        ("[1,];", 41, 3),
-        ("x(,1);", 41, 2),
-        ("x(1];", 41, 3),
-        ("x;;", 41, 2),
-        ("1 := 2;", 41, 2),
-        ("x y;", 41, 2),
-        ("# a comment\n)", 41, 12),
-        ("# a comment", 0, 0),
-        ("f (1) ;\tg\r\n;", 0, 0),
-    ];
-    for (text, number, place) in cases.iter() {
-        assert_eq!(rt;
-            fault_of(rt.alloc(), text.as_bytes())?,
-            (*number, *place),
-            "{text}"
-        );
+    for row in &FAULTS {
+        let fault = fault_of(rt.alloc(), row.0.as_bytes());
+        assert!(rt; fault == Some((row.1, row.2)), "{}", row.0);
     }
-    assert_eq!(rt; fault_of(rt.alloc(), &[255])?, (40, 0));
-    assert_eq!(rt;
-        fault_of(rt.alloc(), &[b'#', 255, b'\n', b'1', b';'])?,
-        (0, 0)
-    );
+    let lone = fault_of(rt.alloc(), &[255]);
+    let commented = fault_of(rt.alloc(), &[b'#', 255, b'\n', b'1', b';']);
+    assert!(rt; lone == Some((40, 0)) && commented == Some((0, 0)));
     Ok(())
+}
+
+// A token's kind, the place of its first byte, and the place after its last.
+type Row = (TokenKind, usize, usize);
+
+// The tokens of `C := f(3,[x_1]); # end`.
+static TOKENS: [Row; 11] = [
+    (TokenKind::Name, 0, 1),
+    (TokenKind::Assign, 2, 4),
+    (TokenKind::Name, 5, 6),
+    (TokenKind::Open, 6, 7),
+    (TokenKind::Number, 7, 8),
+    (TokenKind::Comma, 8, 9),
+    (TokenKind::OpenList, 9, 10),
+    (TokenKind::Name, 10, 13),
+    (TokenKind::CloseList, 13, 14),
+    (TokenKind::Close, 14, 15),
+    (TokenKind::End, 15, 16),
+];
+
+// Whether the token is as the row says.
+fn is_token(token: &Token, row: &Row) -> bool {
+    token.kind == row.0 && token.start == row.1 && token.end == row.2
+}
+
+// Whether the tokens are those of the rows.
+fn are_tokens(found: &[Token], rows: &[Row]) -> bool {
+    if found.len() != rows.len() {
+        return false;
+    }
+    for (token, row) in found.iter().zip(rows.iter()) {
+        if !is_token(token, row) {
+            return false;
+        }
+    }
+    true
+}
+
+// Whether the bytes have these tokens.
+fn has_tokens(alloc: Global, bytes: &[u8], rows: &[Row]) -> bool {
+    match tokens(alloc, bytes) {
+        Ok(found) => are_tokens(&found, rows),
+        Err(_) => false,
+    }
 }
 
 #[test]
 fn tokens_have_kinds_and_spans(rt: HostRuntime) -> Result<(), Fail> {
-    let found = tokens(rt.alloc(), b"C := f(3,[x_1]); # end")
-        .ok()
-        .ok_or("no tokens")?;
-    let wanted = [
-        (TokenKind::Name, 0usize, 1usize),
-        (TokenKind::Assign, 2, 4),
-        (TokenKind::Name, 5, 6),
-        (TokenKind::Open, 6, 7),
-        (TokenKind::Number, 7, 8),
-        (TokenKind::Comma, 8, 9),
-        (TokenKind::OpenList, 9, 10),
-        (TokenKind::Name, 10, 13),
-        (TokenKind::CloseList, 13, 14),
-        (TokenKind::Close, 14, 15),
-        (TokenKind::End, 15, 16),
-    ];
-    assert_eq!(rt; found.len(), wanted.len());
-    for (token, (kind, start, end)) in found.iter().zip(wanted.iter()) {
-        assert_eq!(rt; token.kind, *kind);
-        assert_eq!(rt; (token.start, token.end), (*start, *end));
-    }
+    assert!(rt; has_tokens(rt.alloc(), b"C := f(3,[x_1]); # end", &TOKENS));
     Ok(())
 }
 
@@ -112,26 +133,52 @@ const TREE: &str = "\
     Statement { target: None, expr: Expr { place: 72, node: Call(\"Decode\", [Expr { place: 79, node: Name(\"C\") }, Expr { place: 81, node: Name(\"y\") }]) } }, \
     Statement { target: None, expr: Expr { place: 85, node: Call(\"IsCodeword\", [Expr { place: 96, node: Name(\"C\") }, Expr { place: 98, node: Name(\"y\") }]) } }] }";
 
-#[test]
-fn a_script_has_its_spans(rt: HostRuntime) -> Result<(), Fail> {
-    let found = tokens(rt.alloc(), SCRIPT.as_bytes())
-        .ok()
-        .ok_or("no tokens")?;
-    let mut spans = String::new(rt.alloc());
-    for token in found.iter() {
+// The spans of the tokens, a space after each.
+fn spans_of(alloc: Global, found: &[Token]) -> Result<String, Fail> {
+    let mut spans = String::new(alloc);
+    for token in found {
         write!(spans, "{}-{} ", token.start, token.end)?;
     }
-    assert_eq!(rt; spans.as_str(), SPANS);
+    Ok(spans)
+}
+
+// Whether the tokens have these spans.
+fn are_spans(alloc: Global, found: &[Token], text: &str) -> Result<bool, Fail> {
+    let spans = spans_of(alloc, found)?;
+    Ok(spans.as_str() == text)
+}
+
+// Whether the tokens of the bytes have these spans.
+fn has_spans(alloc: Global, bytes: &[u8], text: &str) -> Result<bool, Fail> {
+    match tokens(alloc, bytes) {
+        Ok(found) => are_spans(alloc, &found, text),
+        Err(_) => Ok(false),
+    }
+}
+
+#[test]
+fn a_script_has_its_spans(rt: HostRuntime) -> Result<(), Fail> {
+    assert!(rt; has_spans(rt.alloc(), SCRIPT.as_bytes(), SPANS)?);
     Ok(())
+}
+
+// Whether this is the tree of the script.
+fn is_tree(alloc: Global, script: &Script, text: &str) -> Result<bool, Fail> {
+    let tree = format!(in alloc; "{script:?}")?;
+    Ok(tree.as_str() == text)
+}
+
+// Whether this is the tree of the script that the bytes are.
+fn has_tree(alloc: Global, bytes: &[u8], text: &str) -> Result<bool, Fail> {
+    match parse(alloc, bytes) {
+        Ok(script) => is_tree(alloc, &script, text),
+        Err(_) => Ok(false),
+    }
 }
 
 #[test]
 fn a_script_has_its_tree(rt: HostRuntime) -> Result<(), Fail> {
-    let script = parse(rt.alloc(), SCRIPT.as_bytes())
-        .ok()
-        .ok_or("no script")?;
-    let tree = format!(in rt.alloc(); "{script:?}")?;
-    assert_eq!(rt; tree.as_str(), TREE);
+    assert!(rt; has_tree(rt.alloc(), SCRIPT.as_bytes(), TREE)?);
     Ok(())
 }
 
@@ -147,6 +194,21 @@ fn next(seed: u64) -> u64 {
         .wrapping_add(1442695040888963407)
 }
 
+// Whether the bytes are a script. None if memory runs out, or if they are refused with another number than those of parsing, or at
+// no place of theirs.
+fn is_script(alloc: Global, bytes: &[u8]) -> Option<bool> {
+    match parse(alloc, bytes) {
+        Ok(_) => Some(true),
+        Err(ParseRefusal::Fault { number, place }) => {
+            if number < 40 || 43 < number || bytes.len() < place {
+                return None;
+            }
+            Some(false)
+        }
+        Err(ParseRefusal::NoMemory) => None,
+    }
+}
+
 #[test]
 fn any_bytes_are_parsed_or_refused(rt: HostRuntime) -> Result<(), Fail> {
     let mut seed = 1u64;
@@ -159,13 +221,9 @@ fn any_bytes_are_parsed_or_refused(rt: HostRuntime) -> Result<(), Fail> {
         }
         seed = next(seed);
         let len = ((seed >> 33) % 13) as usize;
-        match parse(rt.alloc(), &bytes[..len]) {
-            Ok(_) => read = true,
-            Err(ParseRefusal::Fault { number, place }) => {
-                assert!(rt; number >= 40 && number <= 43 && place <= len, "{bytes:?}");
-            }
-            Err(ParseRefusal::NoMemory) => return Err("no memory")?,
-        }
+        let answer = is_script(rt.alloc(), &bytes[..len]);
+        assert!(rt; answer.is_some(), "{bytes:?}");
+        read = read || answer == Some(true);
     }
     assert!(rt; read);
     Ok(())

@@ -8,6 +8,7 @@
 use Rattle.std.proofs.Common.{◌≡◌, ◌≢◌, ℕ, ◌<◌, ◌≤◌, ◌==◌, ◌&&◌, false, nat_lt, nat_le, List, [], ◌∷◌, length, get_or, take, map, codes, Option, Some, None, option_map, option_and_then, refl, sym, ap, ◌∙◌, arith}
 use Rattle.std.specs.List.{list_all}
 use Rattle.std.proofs.lemmas.Bool.{eq-eqb, le-leb}
+use Rattle.std.proofs.lemmas.Simd.{map-map}
 use Rattle.serde_json.specs.declared.value.Value.{Value}
 use Rattle.serde_json.specs.Data.{Data, Items, Members}
 use Rattle.serde_json.specs.Find.{get, get_member, as_array}
@@ -67,10 +68,6 @@ pub word_nowhere : (f : FieldName) (n : ℕ) (k : List ℕ) (d : Data) → None 
 unfolding list_at provided
 word_nowhere f n k d h = ap (λ o. provided (fit f n) (option_and_then numbers_of o)) (sym (get_inside k d) ∙ sym h)
 
-map_map : (vs : List Value) → map numbers_of (map view vs) ≡ map (λ v. numbers_of (view v)) vs
-map_map [] = refl
-map_map (v ∷ vs) = ap (λ t. numbers_of (view v) ∷ t) (map_map vs)
-
 pub rows_none : (f : FieldName) (vs : List Value) → length vs < 1 → provided (are_rows f) (each (map numbers_of (map view vs))) ≡ None
 unfolding each provided are_rows columns_of
 rows_none f [] l = refl
@@ -78,7 +75,7 @@ rows_none f (v ∷ vs) l = absurd (omega arith)
 
 -- the values that are read as rows
 rows_seen : (f : FieldName) (vs : List Value) → provided (are_rows f) (each (map numbers_of (map view vs))) ≡ provided (are_rows f) (each (map (λ v. numbers_of (view v)) vs))
-rows_seen f vs = ap (λ t. provided (are_rows f) (each t)) (map_map vs)
+rows_seen f vs = ap (λ t. provided (are_rows f) (each t)) (map-map numbers_of view vs)
 
 pub rows_no_array : (f : FieldName) (vs : List Value) (v : Value) → 1 ≤ length vs → None ≡ as_array (view (get_or vs 0 v)) → provided (are_rows f) (each (map numbers_of (map view vs))) ≡ None
 unfolding provided

@@ -20,6 +20,7 @@ use Rattle.std.proofs.lemmas.Bool.{and_parts, cases_lt, le-leb, false≢true}
 use Rattle.std.proofs.lemmas.List.{length-map, map-append, get_or_default}
 use Rattle.std.proofs.lemmas.List.Elements.{Contains-from_at, at_from_Contains, at_read, All-cons, All-head, All-tail}
 use Rattle.std.proofs.lemmas.List.Sorted.{searched}
+use Rattle.std.proofs.lemmas.Simd.{map-map}
 use Rattle.serde_json.specs.declared.value.Value.{Value}
 use Rattle.serde_json.specs.Data.{Data, null, boolean, number, string, array, object, Items, Members}
 use Rattle.serde_json.specs.Find.{get_member, as_array, as_object, as_str}
@@ -124,13 +125,9 @@ sets_none ms h = from_items (option_and_then as_array (get_member (codes "sets")
     from_items None k = refl
     from_items (Some es) k = absurd cc
 
-map_map : (vs : List Value) → map as_object (map view vs) ≡ map (λ v. as_object (view v)) vs
-map_map [] = refl
-map_map (v ∷ vs) = ap (λ t. as_object (view v) ∷ t) (map_map vs)
-
 sets_seen : (ms : Members) (vs : List Value) → Some (map view vs) ≡ option_map listed (option_and_then as_array (get_member (codes "sets") ms)) → sets_at ms ≡ provided (λ sets. nat_le 1 (length sets)) (each (map (λ v. as_object (view v)) vs))
 unfolding sets_at objects_in
-sets_seen ms vs h = seen_items (option_and_then as_array (get_member (codes "sets") ms)) (map view vs) h ∙ ap (λ t. provided (λ sets. nat_le 1 (length sets)) (each t)) (map_map vs)
+sets_seen ms vs h = seen_items (option_and_then as_array (get_member (codes "sets") ms)) (map view vs) h ∙ ap (λ t. provided (λ sets. nat_le 1 (length sets)) (each t)) (map-map as_object view vs)
 
 pub sets_empty : (ms : Members) (vs : List Value) → Some (map view vs) ≡ option_map listed (option_and_then as_array (get_member (codes "sets") ms)) → length vs ≡ 0 → sets_at ms ≡ None
 unfolding each provided

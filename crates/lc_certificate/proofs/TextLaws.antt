@@ -4,9 +4,9 @@
 --   claim_pieces                  the text of a set
 --   compact_lists, compact_claims      the JSON text of rows and of sets
 --   certificate_halves            the text of a certificate
---   five, six                     a text that grows by several pieces
 use Rattle.std.proofs.Common.{◌≡◌, refl, ℕ, ◌<◌, ◌≤◌, ◌-◌, List, [], ◌∷◌, ◌++◌, length, get_or, drop, take, map, flat_map, codes, decimal, rules, ◌∙◌, ap, append_assoc}
 use Rattle.std.proofs.lemmas.List.{length-map}
+use Rattle.std.proofs.lemmas.Simd.{map-map}
 use Rattle.std.specs.Fmt.{digits}
 use Rattle.json.specs.Print.{escape_byte}
 use Rattle.serde_json.specs.Data.{array}
@@ -17,20 +17,17 @@ use Rattle.lc_formats.specs.Json.{number_json, items, numbers_json}
 use Rattle.lc_formats.specs.Text.{bracketed, numbers_text, lists_text}
 use Rattle.lc_formats.specs.CertificateText.{claim_members, claim_json, way_text, with_sets, certificate_members, certificate_json, certificate_text}
 use Rattle.lc_formats.proofs.CertificateBack.{by}
-use Rattle.lc_json.proofs.ListTexts.{bracketed_none, bracketed_more, compact_items, compact_numbers}
+use Rattle.lc_formats.proofs.ListTexts.{bracketed_none, bracketed_more}
+use Rattle.lc_json.proofs.ListTexts.{compact_items, compact_numbers}
 use Rattle.lc_certificate.specs.Pieces.{front_text, claims_text, sets_text, head_text, tail_text}
 
 pub claims_none : {A : Type 0} (f : A → SetClaim) (xs : List A) → length xs < 1 → claims_text (map f xs) ≡ codes "[]"
 unfolding claims_text
 claims_none f xs l = bracketed_none (λ claim. compact_text (claim_json claim)) (map f xs) (rw (length-map xs f) l)
 
-map_map : {A B C : Type 0} (g : B → C) (f : A → B) (xs : List A) → map g (map f xs) ≡ map (λ y. g (f y)) xs
-map_map g f [] = refl
-map_map g f (x ∷ xs) = ap (λ t. g (f x) ∷ t) (map_map g f xs)
-
 pub claims_more : {A : Type 0} (f : A → SetClaim) (xs : List A) (d : A) → 1 ≤ length xs → claims_text (map f xs) ≡ codes "[" ++ (compact_text (claim_json (f (get_or xs 0 d))) ++ (flat_map (λ y. 44 ∷ compact_text (claim_json (f y))) (take (length xs - 1) (drop 1 xs)) ++ codes "]"))
 unfolding claims_text
-claims_more f xs d l = ap bracketed (map_map (λ claim. compact_text (claim_json claim)) f xs) ∙ bracketed_more (λ y. compact_text (claim_json (f y))) xs d l
+claims_more f xs d l = ap bracketed (map-map (λ claim. compact_text (claim_json claim)) f xs) ∙ bracketed_more (λ y. compact_text (claim_json (f y))) xs d l
 
 pub rows_none : (rows : List (List ℕ)) → length rows < 1 → lists_text rows ≡ codes "[]"
 unfolding lists_text
@@ -78,9 +75,3 @@ in_halves a b c d e t = search (rules, append_assoc)
 pub certificate_halves : (c : Certificate) → certificate_text c ≡ head_text c ++ tail_text c
 unfolding joined head_text tail_text
 certificate_halves c = pieces_by c c.proof ∙ in_halves (front_text c.proof) (codes ",\"distance\":") (decimal c.distance) (codes ",\"field\":") (decimal (size c.field)) (tail_text c)
-
-pub five : (t0 t1 t2 t3 t4 t5 : List ℕ) (a b c d e : List ℕ) → t1 ≡ t0 ++ a → t2 ≡ t1 ++ b → t3 ≡ t2 ++ c → t4 ≡ t3 ++ d → t5 ≡ t4 ++ e → t5 ≡ t0 ++ (a ++ (b ++ (c ++ (d ++ e))))
-five t0 t1 t2 t3 t4 t5 a b c d e p q r s t = search (rules, append_assoc)
-
-pub six : (t0 t1 t2 t3 t4 t5 t6 : List ℕ) (a b c d e f : List ℕ) → t1 ≡ t0 ++ a → t2 ≡ t1 ++ b → t3 ≡ t2 ++ c → t4 ≡ t3 ++ d → t5 ≡ t4 ++ e → t6 ≡ t5 ++ f → t6 ≡ t0 ++ (a ++ (b ++ (c ++ (d ++ (e ++ f)))))
-six t0 t1 t2 t3 t4 t5 t6 a b c d e f p q r s t u = search (rules, append_assoc)

@@ -8,6 +8,7 @@ use Rattle.std.proofs.Common.{◌≡◌, ◌≢◌, ℕ, suc, ◌<◌, ◌≤◌
 use Rattle.std.specs.Prelude.{if◌then◌else◌, Result, Ok, Err, IfOk}
 use Rattle.std.proofs.lemmas.Bool.{le-leb, lt-leb}
 use Rattle.std.proofs.lemmas.List.{map-append}
+use Rattle.std.proofs.lemmas.Simd.{map-map}
 use Rattle.serde_json.specs.declared.value.Value.{Value}
 use Rattle.serde_json.specs.Data.{Data, Members}
 use Rattle.serde_json.specs.Find.{get_member, as_number, as_u64, as_array}
@@ -72,18 +73,14 @@ pub settled_nowhere : (budget : ℕ) (d : Data) → None ≡ option_and_then tri
 unfolding settled_in provided
 settled_nowhere budget d h = ap (provided (is_in_range budget)) (sym h)
 
-map_map : (budget : ℕ) (vs : List Value) → map (settled_in budget) (map view vs) ≡ map (λ v. settled_in budget (view v)) vs
-map_map budget [] = refl
-map_map budget (v ∷ vs) = ap (λ t. settled_in budget (view v) ∷ t) (map_map budget vs)
-
 pub list_missing : (budget : ℕ) (vs : List Value) (i : ℕ) (v : Value) → i < length vs → None ≡ settled_in budget (view (get_or vs i v)) → each (map (settled_in budget) (map view vs)) ≡ None
-list_missing budget vs i v l e = ap each (map_map budget vs) ∙ each_none (λ w. settled_in budget (view w)) vs i v l (sym e)
+list_missing budget vs i v l e = ap each (map-map (settled_in budget) view vs) ∙ each_none (λ w. settled_in budget (view w)) vs i v l (sym e)
 
 pub list_more : {C : Type 0} (see : C → Progress) (budget : ℕ) (vs : List Value) (i j : ℕ) (v : Value) (cs ds : List C) (c : C) → i < length vs → each (map (λ w. settled_in budget (view w)) (take i vs)) ≡ Some (map see cs) → Some (see c) ≡ settled_in budget (view (get_or vs i v)) → j ≡ suc i → ds ≡ cs ++ c ∷ [] → each (map (λ w. settled_in budget (view w)) (take j vs)) ≡ Some (map see ds)
 list_more see budget vs i j v cs ds c l e k same made = each_more (λ w. settled_in budget (view w)) vs i j v (map see cs) (map see ds) (see c) l e (sym k) same (ap (map see) made ∙ map-append see cs (c ∷ []))
 
 pub list_whole : (budget : ℕ) (vs : List Value) (i : ℕ) (ys : List Progress) → length vs ≤ i → each (map (λ w. settled_in budget (view w)) (take i vs)) ≡ Some ys → each (map (settled_in budget) (map view vs)) ≡ Some ys
-list_whole budget vs i ys l e = ap each (map_map budget vs) ∙ each_whole (λ w. settled_in budget (view w)) vs i ys l e
+list_whole budget vs i ys l e = ap each (map-map (settled_in budget) view vs) ∙ each_whole (λ w. settled_in budget (view w)) vs i ys l e
 
 pub done_found : (budget : ℕ) (ms : Members) (ds : List Data) → Some ds ≡ option_map listed (option_and_then as_array (get_member (codes "done") ms)) → length ds ≤ 131072 → done_in budget ms ≡ each (map (settled_in budget) ds)
 unfolding done_in provided

@@ -4,9 +4,9 @@
 --   hex_stands               hexadecimal digits stand for themselves in a string
 --   body_halves              the text of a body
 --   text_is                  the text of a checkpoint
---   five, six                a text that grows by several pieces
 use Rattle.std.proofs.Common.{◌≡◌, refl, ℕ, zero, suc, ◌/◌, ◌%◌, ◌<◌, ◌≤◌, ◌-◌, List, [], ◌∷◌, ◌++◌, length, get_or, slice_index, drop, take, map, flat_map, codes, decimal, arith, rules, ◌∙◌, ap, append_assoc}
 use Rattle.std.proofs.lemmas.List.{length-map}
+use Rattle.std.proofs.lemmas.Simd.{map-map}
 use Rattle.sha2.specs.Sha256.{sha256}
 use Rattle.hex.specs.Hex.{encode_lower, encode_with, lower_digits, IsBytes}
 use Rattle.json.specs.Print.{escape_byte, escape}
@@ -16,20 +16,17 @@ use Rattle.lc_enumeration.specs.Records.{Progress}
 use Rattle.lc_formats.specs.Json.{number_json, items}
 use Rattle.lc_formats.specs.Text.{bracketed}
 use Rattle.lc_formats.specs.Checkpoint.{Checkpoint, settled_json, body_members, body_of, sealed, checkpoint_text}
-use Rattle.lc_json.proofs.ListTexts.{bracketed_none, bracketed_more, compact_items, compact_numbers}
+use Rattle.lc_formats.proofs.ListTexts.{bracketed_none, bracketed_more}
+use Rattle.lc_json.proofs.ListTexts.{compact_items, compact_numbers}
 use Rattle.lc_checkpoint.specs.Pieces.{settled_text, settled_list_text, front_text, back_text}
 
 pub settled_none : {A : Type 0} (f : A → Progress) (xs : List A) → length xs < 1 → settled_list_text (map f xs) ≡ codes "[]"
 unfolding settled_list_text
 settled_none f xs l = bracketed_none settled_text (map f xs) (rw (length-map xs f) l)
 
-map_map : {A B C : Type 0} (g : B → C) (f : A → B) (xs : List A) → map g (map f xs) ≡ map (λ y. g (f y)) xs
-map_map g f [] = refl
-map_map g f (x ∷ xs) = ap (λ t. g (f x) ∷ t) (map_map g f xs)
-
 pub settled_more : {A : Type 0} (f : A → Progress) (xs : List A) (d : A) → 1 ≤ length xs → settled_list_text (map f xs) ≡ codes "[" ++ (settled_text (f (get_or xs 0 d)) ++ (flat_map (λ y. 44 ∷ settled_text (f y)) (take (length xs - 1) (drop 1 xs)) ++ codes "]"))
 unfolding settled_list_text
-settled_more f xs d l = ap bracketed (map_map settled_text f xs) ∙ bracketed_more (λ y. settled_text (f y)) xs d l
+settled_more f xs d l = ap bracketed (map-map settled_text f xs) ∙ bracketed_more (λ y. settled_text (f y)) xs d l
 
 one_compact : (s : Progress) → compact_text (settled_json s) ≡ settled_text s
 unfolding settled_json settled_text
@@ -42,12 +39,6 @@ map_compact (s ∷ ss) = cc (one_compact s, map_compact ss)
 pub settled_compact : (ss : List Progress) → compact_text (array (items (map settled_json ss))) ≡ settled_list_text ss
 unfolding settled_list_text
 settled_compact ss = compact_items settled_json ss ∙ ap bracketed (map_compact ss)
-
-pub five : (t0 t1 t2 t3 t4 t5 a b c d e : List ℕ) → t1 ≡ t0 ++ a → t2 ≡ t1 ++ b → t3 ≡ t2 ++ c → t4 ≡ t3 ++ d → t5 ≡ t4 ++ e → t5 ≡ t0 ++ (a ++ (b ++ (c ++ (d ++ e))))
-five t0 t1 t2 t3 t4 t5 a b c d e p q r s t = search (rules, append_assoc)
-
-pub six : (t0 t1 t2 t3 t4 t5 t6 a b c d e f : List ℕ) → t1 ≡ t0 ++ a → t2 ≡ t1 ++ b → t3 ≡ t2 ++ c → t4 ≡ t3 ++ d → t5 ≡ t4 ++ e → t6 ≡ t5 ++ f → t6 ≡ t0 ++ (a ++ (b ++ (c ++ (d ++ (e ++ f)))))
-six t0 t1 t2 t3 t4 t5 t6 a b c d e f p q r s t u = search (rules, append_assoc)
 
 digit_stands : (n : ℕ) → n < 16 → escape_byte (slice_index lower_digits n) ≡ slice_index lower_digits n ∷ []
 unfolding escape_byte

@@ -1,5 +1,6 @@
 pub mod Evaluated
 pub mod JsonLaws
+pub mod ListTexts
 pub mod TestLaws
 pub mod ReadLaws
 pub mod CertificateBack

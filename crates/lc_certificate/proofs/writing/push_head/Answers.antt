@@ -2,7 +2,7 @@ use Rattle.std.proofs.Common.{◌++◌, codes, decimal, ap, ◌∙◌}
 use Rattle.lc_algebra.specs.Field.{size}
 use Rattle.lc_certificate.specs.Seen.{proof_of, certificate_of}
 use Rattle.lc_certificate.specs.Pieces.{front_text, head_text}
-use Rattle.lc_certificate.proofs.TextLaws.{five}
+use Rattle.lc_formats.proofs.ListTexts.{five}
 use Rattle.lc_certificate.proofs.writing.push_head.Goals as goal
 
 pub returns : goal.returns

@@ -2,7 +2,7 @@ use Rattle.std.proofs.Common.{◌++◌, codes, ap, ◌∙◌}
 use Rattle.lc_formats.specs.Text.{numbers_text, lists_text}
 use Rattle.lc_certificate.specs.Seen.{proof_of, certificate_of}
 use Rattle.lc_certificate.specs.Pieces.{sets_text, tail_text}
-use Rattle.lc_certificate.proofs.TextLaws.{six}
+use Rattle.lc_formats.proofs.ListTexts.{six}
 use Rattle.lc_certificate.proofs.writing.push_tail.Goals as goal
 
 pub returns : goal.returns

@@ -2,7 +2,7 @@ use Rattle.std.proofs.Common.{◌++◌, codes, decimal, ap, ◌∙◌}
 use Rattle.hex.specs.Hex.{encode_lower}
 use Rattle.lc_checkpoint.specs.Seen.{point_of}
 use Rattle.lc_checkpoint.specs.Pieces.{back_text}
-use Rattle.lc_checkpoint.proofs.TextLaws.{six}
+use Rattle.lc_formats.proofs.ListTexts.{six}
 use Rattle.lc_checkpoint.proofs.writing.push_back.Goals as goal
 
 pub returns : goal.returns

@@ -1,7 +1,7 @@
 use Rattle.std.proofs.Common.{◌++◌, codes, decimal, map, ap, ◌∙◌}
 use Rattle.lc_checkpoint.specs.Seen.{settled_of, point_of}
 use Rattle.lc_checkpoint.specs.Pieces.{settled_list_text, front_text}
-use Rattle.lc_checkpoint.proofs.TextLaws.{five}
+use Rattle.lc_formats.proofs.ListTexts.{five}
 use Rattle.lc_checkpoint.proofs.writing.push_front.Goals as goal
 
 pub returns : goal.returns

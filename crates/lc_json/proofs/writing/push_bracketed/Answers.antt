@@ -1,5 +1,5 @@
 use Rattle.std.proofs.Common.{arith, rules, append_assoc}
-use Rattle.lc_json.proofs.ListTexts.{bracketed_none, bracketed_more}
+use Rattle.lc_formats.proofs.ListTexts.{bracketed_none, bracketed_more}
 use Rattle.lc_json.proofs.writing.push_bracketed.Goals as goal
 
 pub returns-in_default-clause-is : goal.returns-in_default-clause-is

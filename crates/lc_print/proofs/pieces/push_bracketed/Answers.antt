@@ -1,5 +1,5 @@
 use Rattle.std.proofs.Common.{arith, rules, append_assoc}
-use Rattle.lc_print.proofs.ListTexts.{bracketed_none, bracketed_more}
+use Rattle.lc_formats.proofs.ListTexts.{bracketed_none, bracketed_more}
 use Rattle.lc_print.proofs.pieces.push_bracketed.Goals as goal
 
 pub returns-in_default : goal.returns-in_default
