@@ -5,11 +5,15 @@
 --   distinct_at_most       a list of different entries that all stand in another is no longer than that
 --   independent_tail       the rows after the first of independent rows are independent
 --   words_distinct         the list of words of independent rows has each word once
+--   exponent_at_most       of two powers of q the smaller one has the smaller exponent
 --   independent_at_most    independent rows are at most as many as any rows with the same words
 --   dimension_unique       independent rows with the same words are equally many
+--   all_words, length_all_words, all_words_contain      the list of all words of a length
+--   independent_few        independent rows are at most as many as their symbols
 use Rattle.std.proofs.Common.{◌≡◌, ◌≢◌, ℕ, zero, suc, ◌*◌, ◌^◌, ◌<◌, ◌≤◌, List, [], ◌∷◌, ◌++◌, map, length, AllPairs, Contains, IsPermutation, flat_map, remove, sym, ap, subst, ◌∙◌, ⊎_elim, arith, pow-suc, mul-le-mul_right}
 use Rattle.std.specs.Prelude.{⊤}
-use Rattle.std.proofs.Math.Nat.{pow-le-pow_right, one-le-pow}
+use Rattle.std.proofs.Math.Nat.{mul_comm, pow-zero, pow-le-pow_right, one-le-pow}
+use Rattle.std.proofs.lemmas.List.{length-map}
 use Rattle.std.proofs.lemmas.List.Elements.{All-head, All-tail, Contains-get_or, Contains-append_cases}
 use Rattle.std.proofs.lemmas.List.Edits.{length-remove}
 use Rattle.std.proofs.lemmas.List.Sorted.{IsPermutation-remove, Contains-permutation}
@@ -20,8 +24,8 @@ use Rattle.lc_algebra.specs.Word.{IsWord, zero_word, word_sum, scale}
 use Rattle.lc_algebra.specs.Span.{below, combine, InSpan, words, SameSpan, AreIndependent}
 use Rattle.lc_algebra.specs.Matrix.{AreRows}
 use Rattle.lc_algebra.proofs.FieldLaws.{zero_inside, one_inside}
-use Rattle.lc_algebra.proofs.WordLaws.{zero_scale, zero_sum, IsWord_zero, word_cons}
-use Rattle.lc_algebra.proofs.SpanLaws.{contains_head, contains_tail, contains_cases, contains_map, contains_flat_map, contains_below, combination_of_word, coefficients_unique, word_of_member, member_of_word, length_words}
+use Rattle.lc_algebra.proofs.WordLaws.{zero_scale, zero_sum, IsWord_zero, word_cons, word_head, word_tail}
+use Rattle.lc_algebra.proofs.SpanLaws.{contains_head, contains_tail, contains_cases, contains_map, contains_flat_map, contains_below, map_contains, flat_map_contains, below_contains, length_below, length_flat_map_even, span_word, combination_of_word, coefficients_unique, word_of_member, member_of_word, length_words}
 
 abbrev pub AreDistinct : {X : Type 0} → List X → Type 0
 AreDistinct [] = ⊤
@@ -104,7 +108,7 @@ words_distinct f n (g ∷ rows) r h =
     (first_told f n g rows c d u.0 v.0 r h (contains_below (size f) c a) (contains_below (size f) d b) (word_of_member f n rows u.0 u.1) (word_of_member f n rows v.0 v.1) (sym u.2 ∙ v.2)).0)
     (distinct_below (size f))
 
-exponent_at_most : (q k m : ℕ) → 1 < q → q ^ k ≤ q ^ m → k ≤ m
+pub exponent_at_most : (q k m : ℕ) → 1 < q → q ^ k ≤ q ^ m → k ≤ m
 exponent_at_most q k m h l =
     ⊎_elim
     (λ s.
@@ -123,3 +127,28 @@ independent_at_most f n rows others r h s =
 pub dimension_unique : (f : FieldName) (n : ℕ) (rows others : List (List ℕ)) → AreRows f n rows → AreRows f n others → AreIndependent f n rows → AreIndependent f n others → SameSpan f n rows others → length rows ≡ length others
 dimension_unique f n rows others r t h k s =
     omega (arith, independent_at_most f n rows others r h s, independent_at_most f n others rows t k (λ w. ((s w).1, (s w).0)))
+
+pub all_words : FieldName → ℕ → List (List ℕ)
+all_words f zero = [] ∷ []
+all_words f (suc k) = flat_map (λ c. map (λ u. c ∷ u) (all_words f k)) (below (size f))
+
+pub length_all_words : (f : FieldName) (k : ℕ) → length (all_words f k) ≡ size f ^ k
+unfolding all_words
+length_all_words f zero = sym (pow-zero (size f))
+length_all_words f (suc k) =
+    length_flat_map_even (λ c. map (λ u. c ∷ u) (all_words f k)) (length (all_words f k)) (λ c. length-map (all_words f k) (λ u. c ∷ u)) (below (size f))
+    ∙ ap (λ n. n * length (all_words f k)) (length_below (size f)) ∙ ap (λ n. size f * n) (length_all_words f k) ∙ mul_comm (size f) (size f ^ k) ∙ sym (pow-suc (size f) k)
+
+pub all_words_contain : (f : FieldName) (k : ℕ) (w : List ℕ) → IsWord f k w → Contains (all_words f k) w
+unfolding all_words
+all_words_contain f zero [] h = contains_head [] []
+all_words_contain f zero (a ∷ w) h = absurd (omega (arith, h.long))
+all_words_contain f (suc k) [] h = absurd (omega (arith, h.long))
+all_words_contain f (suc k) (a ∷ w) h =
+    flat_map_contains (λ c. map (λ u. c ∷ u) (all_words f k)) (below (size f)) a (a ∷ w) (below_contains (size f) a (word_head f (suc k) a w h))
+    (map_contains (λ u. a ∷ u) (all_words f k) w (all_words_contain f k w (word_tail f k a w h)))
+
+pub independent_few : (f : FieldName) (n : ℕ) (rows : List (List ℕ)) → AreRows f n rows → AreIndependent f n rows → length rows ≤ n
+independent_few f n rows r h =
+    let l : length (words f n rows) ≤ length (all_words f n) = distinct_at_most (words f n rows) (all_words f n) (words_distinct f n rows r h) (λ w c. all_words_contain f n w (span_word f n rows w r (word_of_member f n rows w c))) in
+    exponent_at_most (size f) (length rows) n (one_inside f) (omega (arith, l, length_words f n rows, length_all_words f n))

@@ -5,13 +5,14 @@
 --   each_of test fs, each_name   the test is passed by each field of a list; by each of the eighteen, and so by any
 --   both_true                    what an `and` tells of its parts
 --   told_by_size                 a field is told by its number of elements
+--   size_two, two_elements, has_two_elements      the field of 2 elements, and no other one, has 2 elements
 --   found_root, found_is_root    the root, found by a search that stops at it
 --   images small large r a n     what stands at the root r for a and the elements after it: n of them
 --   images_test small large xs   the images xs keep sums, products, distinctness and residues
 --   pair_test small large        that, where the embedding is proper
 --   pairs_test large             each small field passes it
 --   self_test                    each element stands for itself in its own field
-use Rattle.std.proofs.Common.{◌≡◌, ℕ, ◌⊎◌, inl, inr, ⊎_elim, Bool, true, false, not, cond, ◌&&◌, ◌||◌, ◌==◌, List, [], ◌∷◌, refl, sym, ap, ◌∙◌, true≢false, slice_index, zero-add, add-zero, suc-add, add-suc, ◌+◌, arith, zero, suc, ◌<◌, ◌++◌}
+use Rattle.std.proofs.Common.{◌≡◌, ◌≢◌, ℕ, ◌⊎◌, inl, inr, ⊎_elim, Bool, true, false, not, cond, ◌&&◌, ◌||◌, ◌==◌, List, [], ◌∷◌, refl, sym, ap, ◌∙◌, true≢false, slice_index, zero-add, add-zero, suc-add, add-suc, ◌+◌, arith, zero, suc, ◌<◌, ◌++◌}
 use Rattle.lc_algebra.specs.declared.FieldName.{FieldName}
 use Rattle.lc_algebra.specs.declared.FieldName.TheVariants.{Gf2, Gf3, Gf4, Gf5, Gf7, Gf8, Gf9, Gf11, Gf13, Gf16, Gf25, Gf27, Gf32, Gf64, Gf81, Gf128, Gf243, Gf256}
 use Rattle.lc_algebra.specs.Residue.{digits, number, plus, minus, times, top, up, times_x, product}
@@ -98,6 +99,16 @@ name_of_size Gf256 = refl
 -- a field is told by its number of elements
 pub told_by_size : (f g : FieldName) → size f ≡ size g → f ≡ g
 told_by_size f g e = cc (name_of_size f, name_of_size g)
+
+pub size_two : size Gf2 ≡ 2
+unfolding shape shape_of size
+size_two = refl
+
+pub two_elements : (f : FieldName) → size f ≡ 2 → f ≡ Gf2
+two_elements f e = told_by_size f Gf2 (e ∙ sym size_two)
+
+pub has_two_elements : ((f : FieldName) → size f ≢ 2) → ⊥
+has_two_elements none = none Gf2 size_two
 
 -- the search for a root that stops where it has found one
 unfoldable pub found_from : (ℕ → Bool) → ℕ → ℕ → ℕ

@@ -4,21 +4,22 @@
 --   variables_below               the variables from 0 on
 --   products_whole, products_rows      the products of the value list of 1 are the rows of the code
 --   monomials_rows                they are words
---   two_elements, some_two, binary_symbol, binary_is_symbol, binary_rows, binary_code      over the field of two elements
+--   binary_symbol, binary_is_symbol, binary_rows, binary_code      over the field of two elements
 --   long_power, short_power       when 2^m is a length
 --   reed_muller_long, reed_muller_high, reed_muller_fine      the first refusal
-use Rattle.std.proofs.Common.{◌≡◌, ◌≢◌, ℕ, zero, suc, ◌+◌, ◌-◌, ◌/◌, ◌%◌, ◌^◌, ◌<◌, ◌≤◌, ◌==◌, ◌&&◌, Bool, true, false, Some, None, nat_lt, if◌then◌else◌, List, [], ◌∷◌, ◌++◌, map, length, slice_index, slice_index_or, IsTrue, refl, sym, ap, subst, ◌∙◌, arith, add-zero}
+use Rattle.std.proofs.Common.{◌≡◌, ℕ, zero, suc, ◌+◌, ◌-◌, ◌/◌, ◌%◌, ◌^◌, ◌<◌, ◌≤◌, ◌==◌, ◌&&◌, Bool, true, false, Some, None, nat_lt, if◌then◌else◌, List, [], ◌∷◌, ◌++◌, map, length, slice_index, slice_index_or, IsTrue, refl, sym, ap, subst, ◌∙◌, arith, add-zero}
 use Rattle.std.specs.List.{list_all}
 use Rattle.std.proofs.Math.Nat.{one-le-pow, pow-le-pow_right}
 use Rattle.std.proofs.lemmas.List.{map-append, append_assoc, length-map, ext_get_or, get_or-map}
 use Rattle.std.proofs.lemmas.Simd.{map-map}
 use Rattle.std.proofs.lemmas.List.Elements.{All-map}
 use Rattle.lc_algebra.specs.declared.FieldName.{FieldName}
-use Rattle.lc_algebra.specs.declared.FieldName.TheVariants.{Gf2, Gf3, Gf4, Gf5, Gf7, Gf8, Gf9, Gf11, Gf13, Gf16, Gf25, Gf27, Gf32, Gf64, Gf81, Gf128, Gf243, Gf256}
+use Rattle.lc_algebra.specs.declared.FieldName.TheVariants.{Gf2}
 use Rattle.lc_algebra.specs.Field.{shape, shape_of, size, is_symbol}
 use Rattle.lc_algebra.specs.Word.{IsWord}
 use Rattle.lc_algebra.specs.Span.{below}
 use Rattle.lc_algebra.specs.Matrix.{Matrix, AreRows}
+use Rattle.lc_algebra.proofs.EmbeddingTests.{two_elements, has_two_elements}
 use Rattle.lc_algebra.proofs.SpanLaws.{length_below}
 use Rattle.lc_constructions.specs.Code.{IsCode}
 use Rattle.lc_constructions.specs.Basic.{GeneratedBy, subsets, monomial, reed_muller_rows}
@@ -155,31 +156,6 @@ pub monomials_rows : (r m : ℕ) → AreRows Gf2 (2 ^ m) (reed_muller_rows r m)
 unfolding reed_muller_rows
 monomials_rows r m = All-map (IsWord Gf2 (2 ^ m)) (monomial m) (subsets (below m) r) (λ k d l. monomial_word m (slice_index_or (subsets (below m) r) k d))
 
-pub two_elements : (f : FieldName) → size f ≡ 2 → f ≡ Gf2
-unfolding size shape shape_of
-two_elements Gf2 e = refl
-two_elements Gf3 e = absurd (omega (arith, e))
-two_elements Gf4 e = absurd (omega (arith, e))
-two_elements Gf5 e = absurd (omega (arith, e))
-two_elements Gf7 e = absurd (omega (arith, e))
-two_elements Gf8 e = absurd (omega (arith, e))
-two_elements Gf9 e = absurd (omega (arith, e))
-two_elements Gf11 e = absurd (omega (arith, e))
-two_elements Gf13 e = absurd (omega (arith, e))
-two_elements Gf16 e = absurd (omega (arith, e))
-two_elements Gf25 e = absurd (omega (arith, e))
-two_elements Gf27 e = absurd (omega (arith, e))
-two_elements Gf32 e = absurd (omega (arith, e))
-two_elements Gf64 e = absurd (omega (arith, e))
-two_elements Gf81 e = absurd (omega (arith, e))
-two_elements Gf128 e = absurd (omega (arith, e))
-two_elements Gf243 e = absurd (omega (arith, e))
-two_elements Gf256 e = absurd (omega (arith, e))
-
-pub some_two : ((f : FieldName) → size f ≢ 2) → ⊥
-unfolding size shape shape_of
-some_two h = h Gf2 refl
-
 binary_symbol : IsTrue (is_symbol Gf2)
 unfolding is_symbol size shape shape_of
 binary_symbol = refl
@@ -231,7 +207,7 @@ pub ruleset check_reed_muller_laws = (reed_muller_long, reed_muller_high, reed_m
 
 pub ruleset code_of_products_laws = (binary_is_symbol, binary_rows, binary_code)
 
-pub ruleset binary_laws = (two_elements, some_two)
+pub ruleset binary_laws = (two_elements, has_two_elements)
 
 pub ruleset places_laws = (few_points, short_power)
 

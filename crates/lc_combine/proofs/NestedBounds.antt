@@ -6,11 +6,11 @@
 --   block_weight, word_weight      the weight of what a nonzero symbol, and a word, is replaced by
 --   concatenated_bound     the product of the bounds of the outer and the inner code
 --   related_at_most        a list of different things with different images in another list is no longer than that
---   power_of_power, exponent_at_most      powers of powers; a lesser power has a lesser exponent
+--   power_of_power         a power of a power
 --   concatenated_dimension
 use Rattle.std.proofs.Common.{◌≡◌, ℕ, zero, suc, ◌+◌, ◌*◌, ◌^◌, ◌<◌, ◌≤◌, List, [], ◌∷◌, ◌++◌, map, length, Contains, ◌==◌, Option, Some, None, is_none, refl, sym, ap, ap₂, subst, ◌∙◌, ⊎_elim, arith, true≢false, pow-suc, mul-le-mul_right}
 use Rattle.std.specs.Prelude.{IsTrue}
-use Rattle.std.proofs.Math.Nat.{pow-zero, suc-mul, pow-le-pow_right, one-le-pow}
+use Rattle.std.proofs.Math.Nat.{pow-zero, suc-mul}
 use Rattle.std.proofs.lemmas.Nat.{pow-add}
 use Rattle.std.proofs.lemmas.Bool.{cases_lt, cases_eq, cases_Bool, eqb-true}
 use Rattle.lc_algebra.specs.Field.{shape_of, size, is_symbol}
@@ -23,7 +23,7 @@ use Rattle.lc_algebra.proofs.FieldLaws.{one_inside}
 use Rattle.lc_algebra.proofs.WordLaws.{fits_head, fits_tail, weight_zero_head, weight_other_head, weight_zero_word, zero_from_weight}
 use Rattle.lc_algebra.proofs.SpanLaws.{span_word, word_of_combination, coefficients_unique, contains_head, contains_tail, contains_cases, word_of_member, member_of_word, length_words}
 use Rattle.lc_algebra.proofs.ReducedLaws.{reduced_independent}
-use Rattle.lc_algebra.proofs.DimensionLaws.{AreDistinct, distinct_at_most, words_distinct}
+use Rattle.lc_algebra.proofs.DimensionLaws.{AreDistinct, distinct_at_most, words_distinct, exponent_at_most}
 use Rattle.lc_constructions.specs.Code.{IsCode}
 use Rattle.lc_constructions.specs.Concatenated.{IsReplaced, IsReplacedWord, InConcatenated}
 use Rattle.lc_constructions.specs.Refusal.{refuse_if, first_refusal}
@@ -135,17 +135,6 @@ power_of_power q s zero = let e : zero * s ≡ 0 = omega arith in pow-zero (q ^ 
 power_of_power q s (suc k) =
     let e : k * s + s ≡ suc k * s = omega (arith, suc-mul k s) in
     pow-suc (q ^ s) k ∙ ap (λ i. i * q ^ s) (power_of_power q s k) ∙ sym (pow-add q (k * s) s) ∙ ap (λ i. q ^ i) e
-
-exponent_at_most : (q k m : ℕ) → 1 < q → q ^ k ≤ q ^ m → k ≤ m
-exponent_at_most q k m h l =
-    ⊎_elim
-    (λ s.
-    let a : q ^ suc m ≤ q ^ k = pow-le-pow_right (omega (arith, h)) s in
-    let b : 1 ≤ q ^ m = one-le-pow m q (omega (arith, h)) in
-    let c : 2 * q ^ m ≤ q * q ^ m = mul-le-mul_right (q ^ m) h in
-    absurd (omega (arith, a, b, c, l, pow-suc q m)))
-    (λ s. s)
-    (cases_lt m k)
 
 pub concatenated_dimension : (C D E : Matrix) → IsTrue (is_symbol C.field) → AreRows C.field C.columns C.rows → IsReduced C.columns C.rows → AreRows D.field D.columns D.rows → IsReduced D.columns D.rows → first_refusal (concatenated_refusals C D) ≡ None → IsCode D.field (C.columns * D.columns) (InConcatenated C D) E → length E.rows ≡ length C.rows * length D.rows
 concatenated_dimension C D E s q p r o f c =

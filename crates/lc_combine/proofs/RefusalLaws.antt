@@ -2,7 +2,7 @@
 --   same_field                     fields of one size are one field
 --   extended_too_long, extended_fine                          extended codes
 --   deleted_bad, deleted_good, deleted_count, rising_all, rising_not      punctured and shortened codes
---   two_elements, even_not_binary, even_binary      words of even weight
+--   even_not_binary, even_binary      words of even weight
 --   common_of_fields, common_of_lengths, common_fine      words of both codes
 --   product_least, product_most, product_of_fields, product_too_long, product_fine      direct products
 --   sum_of_fields, sum_too_long, sum_fine                     direct sums
@@ -12,14 +12,13 @@ use Rattle.std.specs.List.{list_any}
 use Rattle.std.proofs.Math.Nat.{suc-mul, mul-le-mul}
 use Rattle.std.proofs.lemmas.Bool.{cases_Bool, cases_eq, cases_lt, and_parts, and_from, or_parts, eq-eqb, ne_eqb, le-leb, lt-ltb, ltb-true}
 use Rattle.lc_algebra.specs.declared.FieldName.{FieldName}
-use Rattle.lc_algebra.specs.declared.FieldName.TheVariants.{Gf2}
-use Rattle.lc_algebra.specs.Field.{shape, shape_of, size}
+use Rattle.lc_algebra.specs.Field.{size}
 use Rattle.lc_algebra.specs.Matrix.{Matrix}
 use Rattle.lc_algebra.specs.Word.{zero_word}
 use Rattle.lc_algebra.proofs.WordLaws.{length_zero_word}
 use Rattle.lc_algebra.proofs.SpanSearch.{contains_any}
 use Rattle.lc_constructions.proofs.WithoutLaws.{length_without_from, deleted_fine}
-use Rattle.lc_algebra.proofs.EmbeddingLaws.{told_by_size}
+use Rattle.lc_algebra.proofs.EmbeddingTests.{told_by_size, two_elements}
 use Rattle.lc_constructions.specs.declared.refusal.CodeRefusal.TheVariants.{BadLength, BadArgument, FieldsDiffer, LengthsDiffer, BadPositions}
 use Rattle.lc_constructions.specs.Code.{is_length}
 use Rattle.lc_constructions.specs.Refusal.{refuse_if, first_refusal}
@@ -89,13 +88,6 @@ rising_not xs i l m k =
     (λ t. absurd (omega (arith, k, rising_at xs t i l m)))
     (λ t. t)
     (cases_Bool (is_rising xs))
-
-two : size Gf2 ≡ 2
-unfolding shape shape_of size
-two = refl
-
-pub two_elements : (f : FieldName) → size f ≡ 2 → f ≡ Gf2
-two_elements f e = told_by_size f Gf2 (e ∙ sym two)
 
 pub even_not_binary : (C : Matrix) → size C.field ≢ 2 → first_refusal (even_weight_refusals C) ≡ Some (BadArgument 1)
 unfolding first_refusal refuse_if bad_argument even_weight_refusals

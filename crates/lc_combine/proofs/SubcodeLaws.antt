@@ -8,10 +8,11 @@ use Rattle.std.proofs.lemmas.List.Elements.{All-append, All-head, All-cons}
 use Rattle.lc_algebra.specs.declared.FieldName.{FieldName}
 use Rattle.lc_algebra.specs.declared.FieldName.TheVariants.{Gf2}
 use Rattle.lc_algebra.specs.Residue.{digits, number, plus}
-use Rattle.lc_algebra.specs.Field.{shape, shape_of, size, coefficients, add}
+use Rattle.lc_algebra.specs.Field.{shape, shape_of, coefficients, add}
 use Rattle.lc_algebra.specs.Word.{Fits, IsWord, weight, word_dot}
 use Rattle.lc_algebra.specs.Matrix.{Matrix, AreRows, IsReduced, IsOrthogonal}
 use Rattle.lc_algebra.proofs.FieldLaws.{one_inside, one_mul}
+use Rattle.lc_algebra.proofs.EmbeddingTests.{size_two}
 use Rattle.lc_algebra.proofs.WordLaws.{fits_head, fits_tail, fits_cons, weight_zero_head, weight_other_head}
 use Rattle.lc_constructions.specs.Code.{IsCode, CheckedBy}
 use Rattle.lc_constructions.specs.Combined.{InDual, InEvenWeight, InIntersection}
@@ -34,10 +35,6 @@ ones_word f n = record { long = length-replicate n 1; fits = ones_fit f n }
 sum_of_bits : (add Gf2 0 0 ≡ 0) × (add Gf2 0 1 ≡ 1) × (add Gf2 1 0 ≡ 1) × (add Gf2 1 1 ≡ 0)
 unfolding digits number plus shape shape_of coefficients add
 sum_of_bits = (refl, refl, refl, refl)
-
-size_two : size Gf2 ≡ 2
-unfolding shape shape_of size
-size_two = refl
 
 bit_added : (a m : ℕ) → m < 2 → add Gf2 1 m ≡ (1 + m) % 2
 bit_added a zero l = sum_of_bits.2

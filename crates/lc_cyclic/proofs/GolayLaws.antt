@@ -1,6 +1,6 @@
 -- The two Golay codes.
 --   binary_size, ternary_size      symbol fields have 2 and 3 elements
---   binary_field, ternary_field    the fields with so many elements
+--   ternary_field                  the field with 3 elements
 --   binary_symbol, ternary_symbol  are symbol fields
 --   binary_polynomial, ternary_polynomial, binary_divisor, ternary_divisor      the generator polynomials divide x^n - 1
 --   binary_dimension, ternary_dimension
@@ -11,7 +11,7 @@ use Rattle.lc_algebra.specs.declared.FieldName.TheVariants.{Gf2, Gf3}
 use Rattle.lc_algebra.specs.Field.{shape, shape_of, size, is_symbol}
 use Rattle.lc_algebra.specs.Polynomial.{x_power_minus_one, IsPolynomial, Divides}
 use Rattle.lc_algebra.specs.Matrix.{Matrix}
-use Rattle.lc_algebra.proofs.EmbeddingLaws.{told_by_size}
+use Rattle.lc_algebra.proofs.EmbeddingTests.{told_by_size, two_elements}
 use Rattle.lc_constructions.specs.Code.{IsCode}
 use Rattle.lc_constructions.specs.Cyclic.{all_fields, IsMultipleOf, binary_golay_generator, ternary_golay_generator}
 use Rattle.lc_constructions.specs.Refusals.{are_elements, is_size_of_symbol_field}
@@ -27,16 +27,9 @@ pub ternary_size : IsTrue (is_size_of_symbol_field 3)
 unfolding shape shape_of size is_symbol all_fields is_size_of_symbol_field
 ternary_size = refl
 
-size_two : size Gf2 ≡ 2
-unfolding shape shape_of size
-size_two = refl
-
 size_three : size Gf3 ≡ 3
 unfolding shape shape_of size
 size_three = refl
-
-pub binary_field : (f : FieldName) → size f ≡ 2 → f ≡ Gf2
-binary_field f e = told_by_size f Gf2 (e ∙ sym size_two)
 
 pub ternary_field : (f : FieldName) → size f ≡ 3 → f ≡ Gf3
 ternary_field f e = told_by_size f Gf3 (e ∙ sym size_three)
@@ -99,7 +92,7 @@ pub ruleset binary_golay_laws = (binary_symbol, binary_polynomial, binary_diviso
 
 pub ruleset ternary_golay_laws = (ternary_symbol, ternary_polynomial, ternary_divisor)
 
-pub ruleset binary_field_laws = (binary_size, binary_field)
+pub ruleset binary_field_laws = (binary_size, two_elements)
 
 pub ruleset ternary_field_laws = (ternary_size, ternary_field)
 

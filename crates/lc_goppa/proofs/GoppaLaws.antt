@@ -28,7 +28,6 @@ use Rattle.lc_constructions.specs.Refusals.{root_at}
 use Rattle.lc_constructions.proofs.InverseLaws.{inverse_is}
 use Rattle.lc_constructions.proofs.FormLaws.{goppa_is_form}
 use Rattle.lc_constructions.proofs.NearestLaws.{goppa_form_is_the_code}
-use Rattle.lc_poly.proofs.ListLaws.{value_none, value_step}
 use Rattle.lc_code.proofs.CodeLaws.{same_code}
 use Rattle.lc_goppa.specs.Form.{alternant_form}
 use Rattle.lc_goppa.proofs.PointLaws.{find_none, find_told}
@@ -111,8 +110,6 @@ pub goppa_form_told : (K : FieldName) (g xs ys zs : List ℕ) (r n : ℕ) (form 
 unfolding goppa_form
 goppa_form_told K g xs ys zs r n form e z h k d =
     e ∙ ap (λ u. alternant_form K xs u r) (z ∙ h) ∙ ap (λ m. alternant_form K xs (goppa_multipliers K g xs) m) (d ∙ ap (λ m. m - 1) k)
-
-pub ruleset value_laws = (value_none, value_step, zero_inside)
 
 pub ruleset goppa_laws = (goppa_code, refused_or_not)
 

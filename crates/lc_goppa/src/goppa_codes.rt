@@ -10,11 +10,11 @@ ghost use Rattle.lc_goppa.specs.Checked.{IsGoppaInput};
 
 use crate::alternant_codes::form_of;
 use crate::points::repeated_point;
-use crate::polynomials::{is_goppa_polynomial, root_at, value};
+use crate::polynomials::{is_goppa_polynomial, root_at};
 use crate::refusal::{are_elements, is_length, is_subfield};
 use lc_code::{Alternant, CodeRefusal, FormedCode, formed};
 use lc_field::{Field, NoMemory};
-use lc_poly::coefficient_count;
+use lc_poly::{coefficient_count, value};
 use std::alloc::Global;
 
 /// The Goppa code of the polynomial G with these coefficients, from the constant upwards, and these points: the words over `field`

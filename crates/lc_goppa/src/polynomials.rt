@@ -1,6 +1,5 @@
-//! Goppa polynomials, given by any list of their coefficients, and their values at points.
+//! Goppa polynomials, given by any list of their coefficients, and the points where they are 0.
 ghost use Rattle.std.specs.Prelude.{◌≡◌, ℕ, ◌<◌, length, slice_index, IsNone, IsTrue};
-ghost use Rattle.lc_algebra.specs.Field.{size};
 ghost use Rattle.lc_algebra.specs.Word.{Fits};
 ghost use Rattle.lc_algebra.specs.Polynomial.{value_at, trimmed};
 ghost use Rattle.lc_constructions.specs.Refusals.{is_goppa_polynomial, root_at};
@@ -8,7 +7,7 @@ ghost use Rattle.lc_constructions.specs.Refusals.{is_goppa_polynomial, root_at};
 use crate::refusal::are_elements;
 use lc_code::CodeRefusal;
 use lc_field::Field;
-use lc_poly::coefficient_count;
+use lc_poly::{coefficient_count, value};
 
 // Whether the list gives a polynomial over the locator field of degree 1 to 255.
 #[tactic(auto, unfolding(lc_constructions::specs::Refusals::is_goppa_polynomial))]
@@ -18,23 +17,6 @@ pub(crate) fn is_goppa_polynomial(locator: &Field, list: &[u8]) -> bool
 {
     let count = coefficient_count(list);
     are_elements(locator, list) && (2 <= count && count <= 256)
-}
-
-// The value at an element, by Horner's rule.
-#[tactic(auto, using(crate::proofs::GoppaLaws::value_laws))]
-pub(crate) fn value(field: &Field, list: &[u8], at: u8) -> u8
-    requires list { Fits field.now list.now }
-    requires element { at < size field.now }
-    ensures is { result ≡ value_at field.now list.now at }
-    ensures below { result < size field.now }
-{
-    let mut value = 0;
-    let mut place = list.len();
-    while place > 0 {
-        place -= 1;
-        value = field.add(list[place], field.mul(at, value));
-    }
-    value
 }
 
 // The refusal of the first point where the polynomial is 0, if there is one.

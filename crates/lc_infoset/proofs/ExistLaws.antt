@@ -1,6 +1,4 @@
 -- If the rows are independent on a set of as many columns, the matrix that is the identity on the set exists.
---   all_words, length_all_words, all_words_contain      the list of all words of a length
---   exponent_at_most, independent_few      independent words are at most as many as their length
 --   full_rank                    as many independent words as their length have every word in their span
 --   length_unit, index_unit, unit_is_word      the words with a single 1
 --   combine_restrict, restrict_word, restricted_rows      combinations of restricted rows
@@ -8,9 +6,8 @@
 --   is_unit, Looked, looked      the word of the rows that is a given unit word on the set
 --   length_systematic, row_looked      the rows of the matrix of these words
 --   systematic_from_square       it is systematic
-use Rattle.std.proofs.Common.{◌≡◌, ℕ, zero, suc, ◌*◌, ◌^◌, ◌<◌, ◌≤◌, Bool, true, false, ◌==◌, if◌then◌else◌, find, List, [], ◌∷◌, length, map, flat_map, slice_index, slice_index_or, Option, Some, None, unwrap_or, All, Contains, refl, sym, ap, subst, ◌∙◌, ⊎_elim, arith, pow-suc, mul-le-mul_right}
-use Rattle.std.proofs.Math.Nat.{mul_comm, pow-zero, pow-le-pow_right, one-le-pow}
-use Rattle.std.proofs.lemmas.Bool.{cases_lt, false≢true}
+use Rattle.std.proofs.Common.{◌≡◌, ℕ, ◌^◌, ◌<◌, ◌≤◌, Bool, true, false, ◌==◌, if◌then◌else◌, find, List, [], ◌∷◌, length, map, slice_index, slice_index_or, Option, Some, None, unwrap_or, All, Contains, refl, sym, ap, subst, ◌∙◌, ⊎_elim, arith}
+use Rattle.std.proofs.lemmas.Bool.{false≢true}
 use Rattle.std.proofs.lemmas.List.{ext_get_or, length-map, get_or-map}
 use Rattle.std.proofs.lemmas.List.Elements.{All-head, All-tail, All-cons}
 use Rattle.lc_algebra.specs.declared.FieldName.{FieldName}
@@ -20,52 +17,16 @@ use Rattle.lc_algebra.specs.Span.{below, combine, InSpan, words, AreIndependent}
 use Rattle.lc_algebra.specs.Matrix.{AreRows, IsSystematic, IsIdentityOn}
 use Rattle.lc_algebra.specs.SpanLaws.{restrict}
 use Rattle.lc_algebra.proofs.FieldLaws.{zero_inside, one_inside}
-use Rattle.lc_algebra.proofs.WordLaws.{length_scale, word_head, word_tail, word_symbol}
-use Rattle.lc_algebra.proofs.SpanLaws.{contains_head, contains_cases, map_contains, flat_map_contains, below_contains, length_below, length_flat_map_even, span_word, length_combine, combination_of_word, word_of_combination, coefficients_unique, word_of_member, member_of_word, length_words, span_decided, span_within}
+use Rattle.lc_algebra.proofs.WordLaws.{length_scale, word_symbol}
+use Rattle.lc_algebra.proofs.SpanLaws.{contains_cases, length_below, span_word, length_combine, combination_of_word, word_of_combination, coefficients_unique, word_of_member, member_of_word, length_words, span_decided, span_within}
 use Rattle.lc_algebra.proofs.ColumnLaws.{length_restrict, index_restrict, restrict_zero, restrict_scale, restrict_sum}
-use Rattle.lc_algebra.proofs.DimensionLaws.{AreDistinct, distinct_at_most, words_distinct}
+use Rattle.lc_algebra.proofs.DimensionLaws.{AreDistinct, distinct_at_most, words_distinct, all_words, length_all_words, all_words_contain}
 use Rattle.lc_algebra.proofs.ReducedLaws.{symbol_of_combination}
 use Rattle.lc_enumeration.specs.InformationSet.{same_word, unit_word, systematic}
 use Rattle.lc_enumeration.proofs.MemberLaws.{same_from_test, test_from_same}
 use Rattle.lc_infoset.proofs.BoundLaws.{index_below}
 use Rattle.lc_infoset.proofs.BestLaws.{find_passes}
 use Rattle.lc_infoset.proofs.AnswerLaws.{find_none}
-
-pub all_words : FieldName → ℕ → List (List ℕ)
-all_words f zero = [] ∷ []
-all_words f (suc k) = flat_map (λ c. map (λ u. c ∷ u) (all_words f k)) (below (size f))
-
-pub length_all_words : (f : FieldName) (k : ℕ) → length (all_words f k) ≡ size f ^ k
-unfolding all_words
-length_all_words f zero = sym (pow-zero (size f))
-length_all_words f (suc k) =
-    length_flat_map_even (λ c. map (λ u. c ∷ u) (all_words f k)) (length (all_words f k)) (λ c. length-map (all_words f k) (λ u. c ∷ u)) (below (size f))
-    ∙ ap (λ n. n * length (all_words f k)) (length_below (size f)) ∙ ap (λ n. size f * n) (length_all_words f k) ∙ mul_comm (size f) (size f ^ k) ∙ sym (pow-suc (size f) k)
-
-pub all_words_contain : (f : FieldName) (k : ℕ) (w : List ℕ) → IsWord f k w → Contains (all_words f k) w
-unfolding all_words
-all_words_contain f zero [] h = contains_head [] []
-all_words_contain f zero (a ∷ w) h = absurd (omega (arith, h.long))
-all_words_contain f (suc k) [] h = absurd (omega (arith, h.long))
-all_words_contain f (suc k) (a ∷ w) h =
-    flat_map_contains (λ c. map (λ u. c ∷ u) (all_words f k)) (below (size f)) a (a ∷ w) (below_contains (size f) a (word_head f (suc k) a w h))
-    (map_contains (λ u. a ∷ u) (all_words f k) w (all_words_contain f k w (word_tail f k a w h)))
-
-pub exponent_at_most : (q k m : ℕ) → 1 < q → q ^ k ≤ q ^ m → k ≤ m
-exponent_at_most q k m h l =
-    ⊎_elim
-    (λ s.
-    let a : q ^ suc m ≤ q ^ k = pow-le-pow_right (omega (arith, h)) s in
-    let b : 1 ≤ q ^ m = one-le-pow m q (omega (arith, h)) in
-    let c : 2 * q ^ m ≤ q * q ^ m = mul-le-mul_right (q ^ m) h in
-    absurd (omega (arith, a, b, c, l, pow-suc q m)))
-    (λ s. s)
-    (cases_lt m k)
-
-pub independent_few : (f : FieldName) (n : ℕ) (rows : List (List ℕ)) → AreRows f n rows → AreIndependent f n rows → length rows ≤ n
-independent_few f n rows r h =
-    let l : length (words f n rows) ≤ length (all_words f n) = distinct_at_most (words f n rows) (all_words f n) (words_distinct f n rows r h) (λ w c. all_words_contain f n w (span_word f n rows w r (word_of_member f n rows w c))) in
-    exponent_at_most (size f) (length rows) n (one_inside f) (omega (arith, l, length_words f n rows, length_all_words f n))
 
 pub full_rank : (f : FieldName) (k : ℕ) (rows : List (List ℕ)) (w : List ℕ) → AreRows f k rows → AreIndependent f k rows → length rows ≡ k → IsWord f k w → InSpan f k rows w
 full_rank f k rows w r h e is =

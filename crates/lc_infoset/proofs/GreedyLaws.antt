@@ -25,7 +25,7 @@ use Rattle.lc_algebra.proofs.FieldLaws.{inverse_of, mul_comm}
 use Rattle.lc_algebra.proofs.WordLaws.{length_zero_word, index_zero_word, zero_scale, zero_sum, sum_zero, sum_assoc, sum_negative, word_head, word_tail, IsWord_scale, dot_comm}
 use Rattle.lc_algebra.proofs.SpanLaws.{contains_head, contains_tail, contains_cases, map_contains, contains_map, contains_below, below_contains, span_word, span_zero, span_sum, span_scale, span_row, span_within, length_combine, word_of_combination, dot_span}
 use Rattle.lc_algebra.proofs.ColumnLaws.{column_word, index_restrict}
-use Rattle.lc_algebra.proofs.DimensionLaws.{AreDistinct, distinct_at_most, distinct_below}
+use Rattle.lc_algebra.proofs.DimensionLaws.{AreDistinct, distinct_at_most, distinct_below, independent_few}
 use Rattle.lc_algebra.proofs.ReducedLaws.{index_combine}
 use Rattle.lc_algebra.proofs.DivisorLaws.{no_member}
 use Rattle.lc_enumeration.specs.InformationSet.{InformationSet, in_span, is_member, greedy, first_basis, columns_in_order, with_fresh, next_set, sets_after, information_sets, systematic}
@@ -36,7 +36,7 @@ use Rattle.lc_infoset.proofs.BoundLaws.{all_from_members}
 use Rattle.lc_infoset.proofs.MultipleLaws.{inverse_multiple}
 use Rattle.lc_infoset.proofs.SetLaws.{filter_passes, distinct_filter, set_listed}
 use Rattle.lc_infoset.proofs.AnswerLaws.{filter_keeps}
-use Rattle.lc_infoset.proofs.ExistLaws.{independent_few, combine_restrict, restricted_rows, systematic_from_square}
+use Rattle.lc_infoset.proofs.ExistLaws.{combine_restrict, restricted_rows, systematic_from_square}
 
 pub span_contains : (f : FieldName) (n : ℕ) (rows : List (List ℕ)) (w : List ℕ) → AreRows f n rows → Contains rows w → InSpan f n rows w
 span_contains f n rows w r l = All-contains (InSpan f n rows) rows w (span_row f n rows r) l

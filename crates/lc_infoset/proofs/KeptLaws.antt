@@ -18,7 +18,7 @@ use Rattle.lc_algebra.specs.Span.{below, AreIndependent}
 use Rattle.lc_algebra.specs.Matrix.{Matrix, AreRows, column}
 use Rattle.lc_algebra.specs.Divisor.{possible_divisors, weight_divisor, divisor_of}
 use Rattle.lc_algebra.proofs.SpanLaws.{contains_cases, length_below}
-use Rattle.lc_algebra.proofs.DimensionLaws.{AreDistinct, distinct_append, distinct_from_pairs, distinct_at_most}
+use Rattle.lc_algebra.proofs.DimensionLaws.{AreDistinct, distinct_append, distinct_from_pairs, distinct_at_most, independent_few}
 use Rattle.lc_algebra.proofs.DivisorLaws.{divisor_is as greatest_divisor, divisor_positive, no_member}
 use Rattle.lc_enumeration.specs.InformationSet.{is_member, greedy, first_basis, columns_in_order, with_fresh, next_set, sets_after, information_sets, systematic}
 use Rattle.lc_enumeration.specs.Search.{sets_of, set_count, generator_at}
@@ -27,7 +27,6 @@ use Rattle.lc_infoset.specs.Kept.{SetState, set_state, IsKept}
 use Rattle.lc_infoset.proofs.BoundLaws.{all_from_members, place_inside}
 use Rattle.lc_infoset.proofs.SetLaws.{IsSetAfter, filter_passes, next_is, sets_are, count_is, set_listed}
 use Rattle.lc_infoset.proofs.AnswerLaws.{filter_keeps}
-use Rattle.lc_infoset.proofs.ExistLaws.{independent_few}
 use Rattle.lc_infoset.proofs.GreedyLaws.{first_basis_is, in_order, generators_are}
 
 pub dimension_few : (C : Matrix) (d : ℕ) (states : List SetState) → IsKept C d states → length C.rows ≤ C.columns

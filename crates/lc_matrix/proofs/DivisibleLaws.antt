@@ -9,7 +9,7 @@
 --   words_divided, words_even    if so, d divides the weight of each word; 2 does if it divides those of the rows
 --   rows_divided, rows_apart     and conversely
 --   divisible_by, squares_told, two_told, divisible_told      what is tested, for each divisor that is asked for
---   binary_name, ternary_name, possible_four, possible_two, possible_three, possible_cases      over which fields these are
+--   ternary_name, possible_four, possible_two, possible_three, possible_cases      over which fields these are
 --   divisor_four, divisor_two, divisor_three, divisor_odd, divisor_not_three, divisor_other      the divisor of the weights
 --   divisor_of_rows              that of a code is that of its rows
 use Rattle.std.proofs.Common.{◌≡◌, ◌≢◌, ℕ, zero, suc, ◌+◌, ◌*◌, ◌/◌, ◌%◌, ◌<◌, ◌≤◌, ◌⊎◌, inl, inr, ◌↔◌, ◌++◌, not, cond, ◌==◌, List, [], ◌∷◌, length, slice_index_or, All, AllPairs, Contains, refl, sym, ap, subst, ◌∙◌, ⊎_elim, arith}
@@ -28,7 +28,7 @@ use Rattle.lc_algebra.proofs.FieldLaws.{mul_zero, mul_inside}
 use Rattle.lc_algebra.proofs.WordLaws.{fits_head, fits_tail, weight_cons, weight_zero_word, weight_scale, zero_scale, scale_dot, dot_comm, dot_inside, IsWord_scale}
 use Rattle.lc_algebra.proofs.SpanLaws.{span_word, span_row, span_sum, dot_span, contains_head, contains_tail, contains_cases}
 use Rattle.lc_algebra.proofs.DivisorLaws.{multiple_from_mod, no_member, divisor_is, divisor_unique}
-use Rattle.lc_algebra.proofs.EmbeddingTests.{told_by_size}
+use Rattle.lc_algebra.proofs.EmbeddingTests.{told_by_size, two_elements}
 
 abbrev bit : ℕ → ℕ
 bit a = cond (not (a == 0)) 1 0
@@ -203,21 +203,17 @@ divisible_told Gf3 n d rows r l =
     (contains_cases 3 d [] l)
 divisible_told _ n d rows r l = absurd (no_member d l)
 
-binary_name : (f : FieldName) → size f ≡ 2 → f ≡ Gf2
-unfolding shape shape_of size
-binary_name f e = told_by_size f Gf2 e
-
 ternary_name : (f : FieldName) → size f ≡ 3 → f ≡ Gf3
 unfolding shape shape_of size
 ternary_name f e = told_by_size f Gf3 e
 
 pub possible_four : (f : FieldName) → size f ≡ 2 → Contains (possible_divisors f) 4
 unfolding possible_divisors
-possible_four f e = subst (λ g. Contains (possible_divisors g) 4) (sym (binary_name f e)) (contains_head 4 (2 ∷ []))
+possible_four f e = subst (λ g. Contains (possible_divisors g) 4) (sym (two_elements f e)) (contains_head 4 (2 ∷ []))
 
 pub possible_two : (f : FieldName) → size f ≡ 2 → Contains (possible_divisors f) 2
 unfolding possible_divisors
-possible_two f e = subst (λ g. Contains (possible_divisors g) 2) (sym (binary_name f e)) (contains_tail 4 2 (2 ∷ []) (contains_head 2 []))
+possible_two f e = subst (λ g. Contains (possible_divisors g) 2) (sym (two_elements f e)) (contains_tail 4 2 (2 ∷ []) (contains_head 2 []))
 
 pub possible_three : (f : FieldName) → size f ≡ 3 → Contains (possible_divisors f) 3
 unfolding possible_divisors

@@ -20,9 +20,10 @@ pub(crate) fn significant(list: &[u8]) -> usize
     count
 }
 
-// The value at an element, by Horner's rule from the last coefficient down.
+/// The value at an element of the polynomial with these coefficients, from the constant upwards, by Horner's rule from the last
+/// coefficient down. The element and each coefficient are below the field's size.
 #[tactic(auto, using(crate::proofs::ListLaws::value_none, crate::proofs::ListLaws::value_step))]
-pub(crate) fn value(field: &Field, coefficients: &[u8], at: u8) -> u8
+pub fn value(field: &Field, coefficients: &[u8], at: u8) -> u8
     requires coefficients { Fits field.now coefficients.now }
     requires element { at < size field.now }
     ensures is { result ≡ value_at field.now coefficients.now at }

@@ -9,6 +9,7 @@ pub mod laws;
 mod minimal_polynomial;
 mod poly;
 
+pub use arithmetic::value;
 pub use cyclotomic::cyclotomic_set;
 pub use divisors::{coefficient_count, divides_x_power_minus_one, trimmed};
 pub use minimal_polynomial::minimal;

@@ -22,6 +22,7 @@ use Rattle.lc_algebra.specs.Span.{below, InSpan}
 use Rattle.lc_algebra.specs.Matrix.{Matrix, AreRows, HasPivots, IsReduced, IsReducedGenerator, entry}
 use Rattle.lc_algebra.proofs.SpanLaws.{length_below, span_word}
 use Rattle.lc_algebra.proofs.ReducedLaws.{generator_unique}
+use Rattle.lc_algebra.proofs.EmbeddingTests.{size_two}
 use Rattle.lc_constructions.specs.Code.{IsCode}
 use Rattle.lc_constructions.specs.Basic.{GeneratedBy}
 use Rattle.lc_code.proofs.CodeLaws.{same_matrix}
@@ -52,10 +53,6 @@ row_long : (i word : ℕ) → length (summary_row i word) ≡ 48
 unfolding summary_row
 row_long i word = omega (arith, length-append (unit_word 24 i) (bits word), length_unit 24 i, length_bits word)
 
-two : size Gf2 ≡ 2
-unfolding size shape shape_of
-two = refl
-
 small_bit : (b : Bool) → (if b then 1 else 0) < 2
 small_bit true = omega arith
 small_bit false = omega arith
@@ -68,7 +65,7 @@ is_bit i word c l =
     ]
 
 row_is_word : (i word : ℕ) → IsWord Gf2 48 (summary_row i word)
-row_is_word i word = record { long = row_long i word; fits = λ c l. subst (λ n. slice_index (summary_row i word) c < n) (sym two) (is_bit i word c (omega (arith, l, row_long i word))) }
+row_is_word i word = record { long = row_long i word; fits = λ c l. subst (λ n. slice_index (summary_row i word) c < n) (sym size_two) (is_bit i word c (omega (arith, l, row_long i word))) }
 
 pub words_of_rows : (i : ℕ) (words : List ℕ) → AreRows Gf2 48 (summary_rows i words)
 unfolding summary_rows

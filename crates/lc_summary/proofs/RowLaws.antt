@@ -1,17 +1,14 @@
 -- The rows of a summary, as they are made.
 --   unit_first, unit_more, bits_first, bits_more, row_whole      the symbols of a row
 --   rows_first, rows_more, rows_whole                            the rows
---   two_elements, has_two_elements                               the field of 2 elements
-use Rattle.std.proofs.Common.{◌≡◌, ◌≢◌, ℕ, zero, suc, ◌+◌, ◌-◌, ◌/◌, ◌%◌, ◌^◌, ◌<◌, ◌≤◌, ◌==◌, Bool, true, false, List, [], ◌∷◌, ◌++◌, length, map, refl, sym, ap, ◌∙◌, arith}
+use Rattle.std.proofs.Common.{◌≡◌, ℕ, zero, suc, ◌+◌, ◌-◌, ◌/◌, ◌%◌, ◌^◌, ◌<◌, ◌≤◌, ◌==◌, Bool, true, false, List, [], ◌∷◌, ◌++◌, length, map, refl, sym, ap, ◌∙◌, arith}
 use Rattle.std.specs.Prelude.{if◌then◌else◌}
 use Rattle.std.proofs.lemmas.List.{append-nil, append_assoc, map-append}
 use Rattle.rand_pcg.specs.Lcg.{Lcg}
 use Rattle.rand_pcg.specs.Pcg.{pcg32, pcg32_of_seed}
 use Rattle.rand_core.specs.Pcg32Seed.{pcg32_seed}
-use Rattle.lc_algebra.specs.declared.FieldName.{FieldName}
-use Rattle.lc_algebra.specs.declared.FieldName.TheVariants.{Gf2, Gf3, Gf4, Gf5, Gf7, Gf8, Gf9, Gf11, Gf13, Gf16, Gf25, Gf27, Gf32, Gf64, Gf81, Gf128, Gf243, Gf256}
-use Rattle.lc_algebra.specs.Field.{shape, shape_of, size}
 use Rattle.lc_algebra.specs.Span.{below}
+use Rattle.lc_algebra.proofs.EmbeddingTests.{two_elements, has_two_elements}
 use Rattle.lc_enumeration.specs.InformationSet.{unit_word}
 use Rattle.lc_sessions.specs.Summary.{generator_words, seeded, summary_row, summary_rows}
 
@@ -70,33 +67,6 @@ unfolding generator_words summary_rows
 rows_whole whole rows i g l made =
     let none : 24 - i ≡ 0 = omega (arith, l) in
     sym (made ∙ ap (λ k. rows ++ summary_rows i (generator_words k g)) none ∙ append-nil rows)
-
--- ---- the field of 2 elements
-
-pub two_elements : (f : FieldName) → size f ≡ 2 → f ≡ Gf2
-unfolding size shape shape_of
-two_elements Gf2 e = refl
-two_elements Gf3 e = absurd (omega (arith, e))
-two_elements Gf4 e = absurd (omega (arith, e))
-two_elements Gf5 e = absurd (omega (arith, e))
-two_elements Gf7 e = absurd (omega (arith, e))
-two_elements Gf8 e = absurd (omega (arith, e))
-two_elements Gf9 e = absurd (omega (arith, e))
-two_elements Gf11 e = absurd (omega (arith, e))
-two_elements Gf13 e = absurd (omega (arith, e))
-two_elements Gf16 e = absurd (omega (arith, e))
-two_elements Gf25 e = absurd (omega (arith, e))
-two_elements Gf27 e = absurd (omega (arith, e))
-two_elements Gf32 e = absurd (omega (arith, e))
-two_elements Gf64 e = absurd (omega (arith, e))
-two_elements Gf81 e = absurd (omega (arith, e))
-two_elements Gf128 e = absurd (omega (arith, e))
-two_elements Gf243 e = absurd (omega (arith, e))
-two_elements Gf256 e = absurd (omega (arith, e))
-
-pub has_two_elements : ((f : FieldName) → size f ≢ 2) → ⊥
-unfolding size shape shape_of
-has_two_elements none = none Gf2 refl
 
 pub ruleset summary_row_laws = (unit_first, unit_more, bits_first, bits_more, row_whole)
 
