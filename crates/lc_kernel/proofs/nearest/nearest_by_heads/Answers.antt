@@ -1,6 +1,7 @@
 use Rattle.std.proofs.Common.{◌≡◌, ℕ, ◌+◌, ◌-◌, ◌/◌, ◌%◌, ◌<◌, ◌≤◌, [], length, take, drop, count_ones, slice_index_or, sym, ap, ◌∙◌, arith}
 use Rattle.std.proofs.Math.Nat.{mod-lt}
 use Rattle.lc_kernel.specs.Planes.{bits_apart}
+use Rattle.lc_kernel.specs.Halves.{symbols_apart}
 use Rattle.lc_kernel.proofs.LeastLaws.{below_same, piece_long, searched_none, searched_more, searched_all, searched_room}
 use Rattle.lc_kernel.proofs.SweepLaws.{head_of_word}
 use Rattle.lc_kernel.proofs.nearest.nearest_by_heads.Goals as goal
@@ -17,22 +18,22 @@ joined-best-requires c =
 pub loop-done-preserved : goal.loop-done-preserved
 loop-done-preserved c =
     let first = c.args.first in
-    let T = c.args.tails in
+    let T = c.args.halves.now.tails in
     let done = c.loop-done.done in
     let end = c.min-end.result in
     let old = c.loop-done.counts in
     let x = (first + done) / T in
     let tail = (first + done) % T in
-    let f : ℕ → ℕ = λ i. count_ones (bits_apart c.args.planes (slice_index_or c.args.heads.now ((first + i) / T) []) c.args.bits.now c.args.words (c.args.start + (first + i) % T)) in
-    let below : tail < T = mod-lt (first + done) c.requires.some in
+    let f : ℕ → ℕ = λ i. symbols_apart c.args.halves.now (first + i) in
+    let below : tail < T = mod-lt (first + done) c.requires.halves.some in
     let inside : end ≤ length old = omega (arith, c.min-end.ensures) in
-    let same : (j : ℕ) → j < length (take (end - done) (drop done old)) → count_ones (bits_apart c.args.planes (slice_index_or c.args.heads.now x []) c.args.bits.now c.args.words (c.args.start + tail + j)) ≡ f (done + j) = λ j l.
+    let same : (j : ℕ) → j < length (take (end - done) (drop done old)) → count_ones (bits_apart c.args.halves.now.planes (slice_index_or c.args.halves.now.heads.now x []) c.args.halves.now.bits.now c.args.halves.now.words (c.args.halves.now.start + tail + j)) ≡ f (done + j) = λ j l.
     let word = head_of_word (first + done) T j (omega (arith, l, piece_long done end old inside, c.min-end.ensures, below)) in
     let place : first + done + j ≡ first + (done + j) = omega arith in
-    let index : c.args.start + tail + j ≡ c.args.start + (first + (done + j)) % T = omega (arith, word.1, ap (λ z. z % T) place) in
+    let index : c.args.halves.now.start + tail + j ≡ c.args.halves.now.start + (first + (done + j)) % T = omega (arith, word.1, ap (λ z. z % T) place) in
     let row : x ≡ (first + (done + j)) / T = sym word.0 ∙ ap (λ z. z / T) place in
-    ap (λ z. count_ones (bits_apart c.args.planes (slice_index_or c.args.heads.now x []) c.args.bits.now c.args.words z)) index
-    ∙ ap (λ z. count_ones (bits_apart c.args.planes (slice_index_or c.args.heads.now z []) c.args.bits.now c.args.words (c.args.start + (first + (done + j)) % T))) row in
+    ap (λ z. count_ones (bits_apart c.args.halves.now.planes (slice_index_or c.args.halves.now.heads.now x []) c.args.halves.now.bits.now c.args.halves.now.words z)) index
+    ∙ ap (λ z. count_ones (bits_apart c.args.halves.now.planes (slice_index_or c.args.halves.now.heads.now z []) c.args.halves.now.bits.now c.args.halves.now.words (c.args.halves.now.start + (first + (done + j)) % T))) row in
     searched_more _ done end f _ _ _ _ _ _ _ old c.loop-done.auto.counts (omega (arith, c.min-end.ensures, below, c.loop-done-test.true)) (omega (arith, inside, c.loop-done.auto.counts)) c.loop-done.invariant (below_same _ _ (λ j. f (done + j)) _ _ _ same c.first_below-other.ensures.is) c.joined-best.ensures.taken c.joined-best.ensures.kept
 
 pub returns : goal.returns

@@ -14,22 +14,22 @@ pub returns-then-planes-eq2 : goal.returns-then-planes-eq2
 returns-then-planes-eq2 c = record {
   low = λ h t l m.
       let head = slice_index_or c.args.heads.now h [] in
-      let apart = apart_two head c.args.bits.now c.args.words c.args.start c.args.tails t m in
-      omega (arith, c.rows_two.ensures.low h t l (tail_inside _ _ _ _ t _ c.requires.least c.requires.long c.requires.room m), by_planes c.args.planes 2 _ c.args.words (c.args.start + t) head c.args.bits.now c.if-planes-eq2.true apart);
+      let apart = apart_two head c.args.halves.now.bits.now c.args.halves.now.words c.args.halves.now.start c.args.halves.now.tails t m in
+      omega (arith, c.rows_two.ensures.low h t l (tail_inside _ _ _ _ t _ c.requires.halves.least c.requires.halves.long c.requires.halves.room m), by_planes c.args.halves.now.planes 2 _ c.args.halves.now.words (c.args.halves.now.start + t) head c.args.halves.now.bits.now c.if-planes-eq2.true apart);
 }
 
 pub returns-then-planes-eq3 : goal.returns-then-planes-eq3
 returns-then-planes-eq3 c = record {
   low = λ h t l m.
       let head = slice_index_or c.args.heads.now h [] in
-      let apart = apart_three head c.args.bits.now c.args.words c.args.start c.args.tails t m in
-      omega (arith, c.rows_three.ensures.low h t l (tail_inside _ _ _ _ t _ c.requires.least c.requires.long c.requires.room m), by_planes c.args.planes 3 _ c.args.words (c.args.start + t) head c.args.bits.now c.if-planes-eq3.true apart);
+      let apart = apart_three head c.args.halves.now.bits.now c.args.halves.now.words c.args.halves.now.start c.args.halves.now.tails t m in
+      omega (arith, c.rows_three.ensures.low h t l (tail_inside _ _ _ _ t _ c.requires.halves.least c.requires.halves.long c.requires.halves.room m), by_planes c.args.halves.now.planes 3 _ c.args.halves.now.words (c.args.halves.now.start + t) head c.args.halves.now.bits.now c.if-planes-eq3.true apart);
 }
 
 pub returns : goal.returns
 returns c = record {
   low = λ h t l m.
       let head = slice_index_or c.args.heads.now h [] in
-      let apart = apart_four head c.args.bits.now c.args.words c.args.start c.args.tails t m in
-      omega (arith, c.rows_four.ensures.low h t l (tail_inside _ _ _ _ t _ c.requires.least c.requires.long c.requires.room m), by_planes c.args.planes 4 _ c.args.words (c.args.start + t) head c.args.bits.now (omega (arith, c.requires.least, c.requires.most, c.if-planes-eq2.false, c.if-planes-eq3.false)) apart);
+      let apart = apart_four head c.args.halves.now.bits.now c.args.halves.now.words c.args.halves.now.start c.args.halves.now.tails t m in
+      omega (arith, c.rows_four.ensures.low h t l (tail_inside _ _ _ _ t _ c.requires.halves.least c.requires.halves.long c.requires.halves.room m), by_planes c.args.halves.now.planes 4 _ c.args.halves.now.words (c.args.halves.now.start + t) head c.args.halves.now.bits.now (omega (arith, c.requires.halves.least, c.requires.halves.most, c.if-planes-eq2.false, c.if-planes-eq3.false)) apart);
 }
