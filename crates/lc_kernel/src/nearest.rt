@@ -1,8 +1,7 @@
 //! Which of some words differs from another at the fewest symbols.
 
 ghost use Rattle.std.specs.Prelude.{◌≡◌, ◌≢◌, ℕ, ◌+◌, ◌*◌, ◌/◌, ◌%◌, ◌^◌, ◌<◌, ◌≤◌, [], true, length, slice_index, slice_index_or, bit_or, bit_xor, count_ones};
-ghost use Rattle.lc_kernel.specs.Planes.{bits_apart};
-ghost use Rattle.lc_kernel.specs.Halves.{AreHalves, symbols_apart};
+ghost use Rattle.lc_kernel.specs.Halves.{AreHalves, tail_apart, symbols_apart};
 ghost use Rattle.lc_kernel.specs.Least.{IsLeastOr, IsFirstBelow};
 
 use crate::counts::least_count;
@@ -134,7 +133,7 @@ fn rows_four(
 // The same for the tails of some words, by all planes.
 fn rows_apart(halves: &Halves<'_>, heads: &[[u64; 4]], bound: u32) -> u32
     requires halves { AreHalves halves.now }
-    ensures low { (h t : ℕ) → h < length heads.now → t < halves.now.tails → result ≤ count_ones (bits_apart halves.now.planes (slice_index_or heads.now h []) halves.now.bits.now halves.now.words (halves.now.start + t)) }
+    ensures low { (h t : ℕ) → h < length heads.now → t < halves.now.tails → result ≤ tail_apart halves.now (slice_index_or heads.now h []) t }
 {
     let Halves {
         planes,
@@ -224,7 +223,7 @@ fn first_below(
 ) -> (u32, usize)
     requires halves { AreHalves halves.now }
     requires room { tail + length counts.old ≤ halves.now.tails }
-    ensures is { IsFirstBelow (length counts.old) (λ i. count_ones (bits_apart halves.now.planes head.now halves.now.bits.now halves.now.words (halves.now.start + tail + i))) bound result.0 result.1 }
+    ensures is { IsFirstBelow (length counts.old) (λ i. tail_apart halves.now head.now (tail + i)) bound result.0 result.1 }
 {
     counts.fill(0);
     let start = halves.start + tail;
