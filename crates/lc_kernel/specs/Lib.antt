@@ -9,3 +9,4 @@ pub mod Grid
 pub mod Fronts
 pub mod Sweeps
 pub mod Grids
+pub mod Halves

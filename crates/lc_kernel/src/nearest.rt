@@ -1,11 +1,23 @@
 //! Which of some words differs from another at the fewest symbols.
 
 ghost use Rattle.std.specs.Prelude.{◌≡◌, ◌≢◌, ℕ, ◌+◌, ◌*◌, ◌/◌, ◌%◌, ◌^◌, ◌<◌, ◌≤◌, [], true, length, slice_index, slice_index_or, bit_or, bit_xor, count_ones};
-ghost use Rattle.lc_kernel.specs.Planes.{bits_apart};
+ghost use Rattle.lc_kernel.specs.Halves.{AreHalves, tail_apart, symbols_apart};
 ghost use Rattle.lc_kernel.specs.Least.{IsLeastOr, IsFirstBelow};
 
 use crate::counts::least_count;
 use crate::planes::add_apart;
+
+/// Words as pairs of a head and a tail: word n has head n / `tails` and tail n % `tails`. The tails are given by bits, as
+/// the words of `add_apart`, from word `start` on.
+#[derive(Clone, Copy)]
+pub(crate) struct Halves<'a> {
+    pub(crate) planes: usize,
+    pub(crate) bits: &'a [u64],
+    pub(crate) words: usize,
+    pub(crate) start: usize,
+    pub(crate) tails: usize,
+    pub(crate) heads: &'a [[u64; 4]],
+}
 
 // The least of a bound and of the numbers of symbols at which a word, whose planes are p and r, differs from others.
 #[inline]
@@ -118,23 +130,19 @@ fn rows_four(
     least
 }
 
-// The same for tails whose bits are as those of `add_apart`.
-fn rows_apart(
-    planes: usize,
-    bits: &[u64],
-    words: usize,
-    start: usize,
-    tails: usize,
-    heads: &[[u64; 4]],
-    bound: u32,
-) -> u32
-    requires least { 2 ≤ planes }
-    requires most { planes ≤ 4 }
-    requires long { length bits.now ≡ planes * words }
-    requires room { start + tails ≤ words }
-    requires small { words ≤ 2 ^ 18 }
-    ensures low { (h t : ℕ) → h < length heads.now → t < tails → result ≤ count_ones (bits_apart planes (slice_index_or heads.now h []) bits.now words (start + t)) }
+// The same for the tails of some words, by all planes.
+fn rows_apart(halves: &Halves<'_>, heads: &[[u64; 4]], bound: u32) -> u32
+    requires halves { AreHalves halves.now }
+    ensures low { (h t : ℕ) → h < length heads.now → t < halves.now.tails → result ≤ tail_apart halves.now (slice_index_or heads.now h []) t }
 {
+    let Halves {
+        planes,
+        bits,
+        words,
+        start,
+        tails,
+        ..
+    } = *halves;
     let second = words + start;
     let ones = &bits[start..start + tails];
     let twos = &bits[second..second + tails];
@@ -151,8 +159,8 @@ fn rows_apart(
     rows_four(ones, twos, fours, eights, heads, bound)
 }
 
-// The head of the first of some words, given as those of `nearest`, and that of the first word after them: if they are
-// all words of some of the heads.
+// The head of the first of some words, and that of the first word after them: if they are all words of some of the
+// heads.
 fn heads_of(first: usize, many: usize, tails: usize, heads: usize) -> (usize, usize)
     requires some { 0 < tails }
     requires few { heads ≤ 1024 }
@@ -169,29 +177,15 @@ fn heads_of(first: usize, many: usize, tails: usize, heads: usize) -> (usize, us
     (from, to)
 }
 
-// Whether some words, given as those of `nearest`, are found to differ at no fewer symbols than a bound: if they are
+// Whether the heads of some words are found to differ from their tails at no fewer symbols than a bound: if they are
 // all words of some heads.
-fn are_beyond(
-    planes: usize,
-    bits: &[u64],
-    words: usize,
-    start: usize,
-    tails: usize,
-    heads: &[[u64; 4]],
-    first: usize,
-    many: usize,
-    bound: u32,
-) -> bool
-    requires least { 2 ≤ planes }
-    requires most { planes ≤ 4 }
-    requires long { length bits.now ≡ planes * words }
-    requires some { 0 < tails }
-    requires room { start + tails ≤ words }
-    requires small { words ≤ 2 ^ 18 }
-    requires inside { first + many ≤ length heads.now * tails }
-    requires few { length heads.now ≤ 1024 }
-    ensures low { result ≡ true → (i : ℕ) → i < many → bound ≤ count_ones (bits_apart planes (slice_index_or heads.now ((first + i) / tails) []) bits.now words (start + (first + i) % tails)) }
+fn are_beyond(halves: &Halves<'_>, first: usize, many: usize, bound: u32) -> bool
+    requires halves { AreHalves halves.now }
+    requires inside { first + many ≤ length halves.now.heads.now * halves.now.tails }
+    ensures low { result ≡ true → (i : ℕ) → i < many → bound ≤ symbols_apart halves.now (first + i) }
 {
+    let tails = halves.tails;
+    let heads = halves.heads;
     if first % tails != 0 {
         return false;
     }
@@ -199,7 +193,7 @@ fn are_beyond(
         return false;
     }
     let (from, to) = heads_of(first, many, tails, heads.len());
-    let least = rows_apart(planes, bits, words, start, tails, &heads[from..to], bound);
+    let least = rows_apart(halves, &heads[from..to], bound);
     if least >= bound {
         return true;
     }
@@ -218,26 +212,29 @@ fn place_of(counts: &[u32], count: u32) -> usize
     }
 }
 
-// The least number of symbols at which a head differs from words from one on, one for each count, and the first of
-// them at which it is so: if it is below the bound.
+// The least number of symbols at which a head differs from tails from one on, one for each count, and the first of
+// them for which it is so: if it is below the bound.
 fn first_below(
-    planes: usize,
-    bits: &[u64],
-    words: usize,
-    start: usize,
+    halves: &Halves<'_>,
+    tail: usize,
     head: &[u64; 4],
     bound: u32,
     counts: &mut [u32],
 ) -> (u32, usize)
-    requires least { 2 ≤ planes }
-    requires most { planes ≤ 4 }
-    requires long { length bits.now ≡ planes * words }
-    requires room { start + length counts.old ≤ words }
-    requires small { words ≤ 2 ^ 18 }
-    ensures is { IsFirstBelow (length counts.old) (λ i. count_ones (bits_apart planes head.now bits.now words (start + i))) bound result.0 result.1 }
+    requires halves { AreHalves halves.now }
+    requires room { tail + length counts.old ≤ halves.now.tails }
+    ensures is { IsFirstBelow (length counts.old) (λ i. tail_apart halves.now head.now (tail + i)) bound result.0 result.1 }
 {
     counts.fill(0);
-    add_apart(planes, bits, words, start, head, counts);
+    let start = halves.start + tail;
+    add_apart(
+        halves.planes,
+        halves.bits,
+        halves.words,
+        start,
+        head,
+        counts,
+    );
     let least = least_count(counts, bound);
     if least >= bound {
         return (bound, 0);
@@ -260,43 +257,26 @@ pub(crate) fn joined(least: u32, at: usize, other: u32, place: usize, done: usiz
 
 // The same as `nearest`, head by head.
 fn nearest_by_heads(
-    planes: usize,
-    bits: &[u64],
-    words: usize,
-    start: usize,
-    tails: usize,
-    heads: &[[u64; 4]],
+    halves: &Halves<'_>,
     first: usize,
     bound: u32,
     counts: &mut [u32],
 ) -> (u32, usize)
-    requires least { 2 ≤ planes }
-    requires most { planes ≤ 4 }
-    requires long { length bits.now ≡ planes * words }
-    requires some { 0 < tails }
-    requires room { start + tails ≤ words }
-    requires small { words ≤ 2 ^ 18 }
-    requires inside { first + length counts.old ≤ length heads.now * tails }
-    requires few { length heads.now ≤ 1024 }
+    requires halves { AreHalves halves.now }
+    requires inside { first + length counts.old ≤ length halves.now.heads.now * halves.now.tails }
     requires counts { length counts.old ≤ 4096 }
-    ensures is { IsFirstBelow (length counts.old) (λ i. count_ones (bits_apart planes (slice_index_or heads.now ((first + i) / tails) []) bits.now words (start + (first + i) % tails))) bound result.0 result.1 }
+    ensures is { IsFirstBelow (length counts.old) (λ i. symbols_apart halves.now (first + i)) bound result.0 result.1 }
 {
+    let tails = halves.tails;
     let mut least = bound;
     let mut at = 0;
     let mut done = 0;
     while done < counts.len() {
         let tail = (first + done) % tails;
         let end = (done + (tails - tail)).min(counts.len());
-        let head = &heads[(first + done) / tails];
-        let (other, place) = first_below(
-            planes,
-            bits,
-            words,
-            start + tail,
-            head,
-            least,
-            &mut counts[done..end],
-        );
+        let head = &halves.heads[(first + done) / tails];
+        let part = &mut counts[done..end];
+        let (other, place) = first_below(halves, tail, head, least, part);
         let (best, index) = joined(least, at, other, place, done);
         least = best;
         at = index;
@@ -306,35 +286,17 @@ fn nearest_by_heads(
 }
 
 // The same for a part of the words.
-fn nearest_in(
-    planes: usize,
-    bits: &[u64],
-    words: usize,
-    start: usize,
-    tails: usize,
-    heads: &[[u64; 4]],
-    first: usize,
-    bound: u32,
-    counts: &mut [u32],
-) -> (u32, usize)
-    requires least { 2 ≤ planes }
-    requires most { planes ≤ 4 }
-    requires long { length bits.now ≡ planes * words }
-    requires some { 0 < tails }
-    requires room { start + tails ≤ words }
-    requires small { words ≤ 2 ^ 18 }
-    requires inside { first + length counts.old ≤ length heads.now * tails }
-    requires few { length heads.now ≤ 1024 }
+fn nearest_in(halves: &Halves<'_>, first: usize, bound: u32, counts: &mut [u32]) -> (u32, usize)
+    requires halves { AreHalves halves.now }
+    requires inside { first + length counts.old ≤ length halves.now.heads.now * halves.now.tails }
     requires counts { length counts.old ≤ 4096 }
-    ensures is { IsFirstBelow (length counts.old) (λ i. count_ones (bits_apart planes (slice_index_or heads.now ((first + i) / tails) []) bits.now words (start + (first + i) % tails))) bound result.0 result.1 }
+    ensures is { IsFirstBelow (length counts.old) (λ i. symbols_apart halves.now (first + i)) bound result.0 result.1 }
 {
     let many = counts.len();
-    if are_beyond(planes, bits, words, start, tails, heads, first, many, bound) {
+    if are_beyond(halves, first, many, bound) {
         return (bound, 0);
     }
-    nearest_by_heads(
-        planes, bits, words, start, tails, heads, first, bound, counts,
-    )
+    nearest_by_heads(halves, first, bound, counts)
 }
 
 // How many words are looked at together, of heads with so many tails each: some 100 to 200, of 8 heads at most.
@@ -377,33 +339,20 @@ fn part_len(tail: usize, tails: usize, left: usize) -> usize
     left
 }
 
-/// The least number of symbols at which a head differs from one of some words, its tails, and the first index for
-/// which it is so: if it is below the bound. There is an index for each count.
-///
-/// The bits are as those of `add_apart`; index i is for head (`first` + i) / `tails`, and for word `start` +
-/// (`first` + i) % `tails`.
+/// The least number of symbols at which the head of a word differs from its tail, among some words, and the first index
+/// for which it is so: if it is below the bound. There is an index for each count; index i is for word `first` + i.
 pub(crate) fn nearest(
-    planes: usize,
-    bits: &[u64],
-    words: usize,
-    start: usize,
-    tails: usize,
-    heads: &[[u64; 4]],
+    halves: &Halves<'_>,
     first: usize,
     bound: u32,
     counts: &mut [u32],
 ) -> (u32, usize)
-    requires least { 2 ≤ planes }
-    requires most { planes ≤ 4 }
-    requires long { length bits.now ≡ planes * words }
-    requires some { 0 < tails }
-    requires room { start + tails ≤ words }
-    requires small { words ≤ 2 ^ 18 }
-    requires inside { first + length counts.old ≤ length heads.now * tails }
-    requires few { length heads.now ≤ 1024 }
+    requires halves { AreHalves halves.now }
+    requires inside { first + length counts.old ≤ length halves.now.heads.now * halves.now.tails }
     requires counts { length counts.old ≤ 4096 }
-    ensures is { IsFirstBelow (length counts.old) (λ i. count_ones (bits_apart planes (slice_index_or heads.now ((first + i) / tails) []) bits.now words (start + (first + i) % tails))) bound result.0 result.1 }
+    ensures is { IsFirstBelow (length counts.old) (λ i. symbols_apart halves.now (first + i)) bound result.0 result.1 }
 {
+    let tails = halves.tails;
     let mut least = bound;
     let mut at = 0;
     let mut done = 0;
@@ -411,17 +360,7 @@ pub(crate) fn nearest(
         let place = first + done;
         let many = part_len(place % tails, tails, counts.len() - done);
         let end = done + many;
-        let (other, index) = nearest_in(
-            planes,
-            bits,
-            words,
-            start,
-            tails,
-            heads,
-            place,
-            least,
-            &mut counts[done..end],
-        );
+        let (other, index) = nearest_in(halves, place, least, &mut counts[done..end]);
         let (best, next) = joined(least, at, other, index, done);
         least = best;
         at = next;

@@ -22,7 +22,7 @@ ghost use Rattle.lc_kernel.specs.Sweeps.{list_count, IsListedAt, AreHeads};
 use crate::adders::sum_planes;
 use crate::grid::Grid;
 use crate::multiples::nonzero;
-use crate::nearest::{joined, nearest};
+use crate::nearest::{Halves, joined, nearest};
 use lc_infoset::Sets;
 use lc_place::{Plan, Spot};
 
@@ -176,17 +176,15 @@ fn least_support(
     let last = support[support.len() - 1];
     let pair = grid.starts[first] + (last - first - 1);
     let part = &grid.parts[0];
-    nearest(
-        grid.planes,
-        part.bits.as_slice(),
-        grid.tails,
-        pair * tails,
+    let halves = Halves {
+        planes: grid.planes,
+        bits: part.bits.as_slice(),
+        words: grid.tails,
+        start: pair * tails,
         tails,
         heads,
-        list,
-        bound,
-        counts,
-    )
+    };
+    nearest(&halves, list, bound, counts)
 }
 
 // Goes to the next support among k places. Returns the first place that changed. None if there is no next

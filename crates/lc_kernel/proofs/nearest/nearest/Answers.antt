@@ -1,6 +1,6 @@
-use Rattle.std.proofs.Common.{◌≡◌, ◌+◌, ◌/◌, ◌%◌, ℕ, [], count_ones, slice_index_or, ap, arith}
-use Rattle.lc_kernel.specs.Planes.{bits_apart}
+use Rattle.std.proofs.Common.{◌≡◌, ◌+◌, ℕ, ap, arith}
 use Rattle.lc_kernel.specs.Least.{IsFirstBelow}
+use Rattle.lc_kernel.specs.Halves.{symbols_apart}
 use Rattle.lc_kernel.proofs.LeastLaws.{below_same, searched_none, searched_more, searched_all, searched_room}
 use Rattle.lc_kernel.proofs.nearest.nearest.Goals as goal
 
@@ -22,12 +22,9 @@ joined-best-requires c =
 
 pub loop-done-preserved : goal.loop-done-preserved
 loop-done-preserved c =
-    let first = c.args.first in
-    let T = c.args.tails in
     let done = c.loop-done.done in
-    let g : ℕ → ℕ = λ n. count_ones (bits_apart c.args.planes (slice_index_or c.args.heads.now (n / T) []) c.args.bits.now c.args.words (c.args.start + n % T)) in
-    let f : ℕ → ℕ = λ i. g (first + i) in
-    searched_more _ done (done + c.part_len-many.result) f _ _ _ _ _ _ _ _ c.loop-done.auto.counts (omega arith) (omega (arith, c.part_len-many.ensures.within, c.loop-done.auto.counts, c.loop-done-test.true)) c.loop-done.invariant (below_on _ first done g _ _ _ c.nearest_in-other.ensures.is) c.joined-best.ensures.taken c.joined-best.ensures.kept
+    let g : ℕ → ℕ = symbols_apart c.args.halves.now in
+    searched_more _ done (done + c.part_len-many.result) _ _ _ _ _ _ _ _ _ c.loop-done.auto.counts (omega arith) (omega (arith, c.part_len-many.ensures.within, c.loop-done.auto.counts, c.loop-done-test.true)) c.loop-done.invariant (below_on _ c.args.first done g _ _ _ c.nearest_in-other.ensures.is) c.joined-best.ensures.taken c.joined-best.ensures.kept
 
 pub returns : goal.returns
 returns c = record { is = searched_all _ _ _ _ _ _ c.loop-done.invariant (omega (arith, c.loop-done-test.false, c.loop-done.auto.counts)) }

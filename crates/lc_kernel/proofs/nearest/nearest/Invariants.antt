@@ -1,5 +1,5 @@
-use Rattle.std.proofs.Common.{◌+◌, ◌-◌, ◌/◌, ◌%◌, [], length, count_ones, slice_index_or}
-use Rattle.lc_kernel.specs.Planes.{bits_apart}
+use Rattle.std.proofs.Common.{◌+◌, ◌-◌, length}
+use Rattle.lc_kernel.specs.Halves.{symbols_apart}
 use Rattle.lc_kernel.proofs.LeastLaws.{IsSearched}
 use Rattle.lc_kernel.proofs.nearest.nearest.Given as goal
 
@@ -7,4 +7,4 @@ abbrev pub decreases-loop-done : goal.decreases-loop-done
 decreases-loop-done l = length l.initial.counts - l.done
 
 abbrev pub invariant-loop-done : goal.invariant-loop-done
-invariant-loop-done l = IsSearched (length l.initial.counts) l.done (λ i. count_ones (bits_apart l.planes (slice_index_or l.heads ((l.first + i) / l.tails) []) l.bits l.words (l.start + (l.first + i) % l.tails))) l.bound l.least l.at
+invariant-loop-done l = IsSearched (length l.initial.counts) l.done (λ i. symbols_apart l.halves (l.first + i)) l.bound l.least l.at

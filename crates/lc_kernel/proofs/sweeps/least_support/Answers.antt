@@ -1,4 +1,4 @@
-use Rattle.std.proofs.Common.{◌+◌, ◌-◌, ◌*◌, ◌≤◌, length, slice_index, sym, ap, subst, ◌∙◌, arith}
+use Rattle.std.proofs.Common.{rules, ◌+◌, ◌-◌, ◌*◌, ◌≤◌, length, slice_index, sym, ap, subst, ◌∙◌, arith}
 use Rattle.std.proofs.Math.Nat.{mul-le-mul_right}
 use Rattle.std.proofs.lemmas.Option.{slice_get_within}
 use Rattle.lc_enumeration.specs.Message.{supports_from}
@@ -36,8 +36,8 @@ overflow_add-pair c =
     let few = pairs_few (length C.rows) (omega (arith, c.dimension-k.ensures.is, c.dimension-k.ensures.most, c.length-n.ensures.is, c.length-n.ensures.most)) in
     omega (arith, few, slice_get_within (supports_from 0 (length C.rows) 2) _ (pair_of (listed_spot C c.args.set c.args.support.now c.args.list)) r)
 
-pub overflow_mul-pair : goal.overflow_mul-pair
-overflow_mul-pair c =
+pub overflow_mul-halves : goal.overflow_mul-halves
+overflow_mul-halves c =
     let C = c.args.sets.now in
     let r = pair_there C c.args.set c.args.list c.args.support.now c.args.grid.now.starts.items c.index.result.now c.requires.grid.first c.requires.at.at.message c.requires.at.level c.index.ensures in
     let few = pairs_few (length C.rows) (omega (arith, c.dimension-k.ensures.is, c.dimension-k.ensures.most, c.length-n.ensures.is, c.length-n.ensures.most)) in
@@ -47,21 +47,24 @@ overflow_mul-pair c =
     let pair_few : c.index.result.now + (slice_index c.args.support.now (length c.args.support.now - 1) - slice_index c.args.support.now (length c.args.support.now - 2) - 1) ≤ 65025 = omega (arith, few, below) in
     omega (arith, mul-le-mul_right (e * e) pair_few, square_few)
 
-pub nearest-requires-clause-long : goal.nearest-requires-clause-long
-nearest-requires-clause-long c =
+pub nearest-requires-clause-halves : goal.nearest-requires-clause-halves
+nearest-requires-clause-halves c =
     let C = c.args.sets.now in
     let j = c.args.set in
     let n = c.args.grid.now.planes in
     let part : IsGridPart C j (part_at (others C j) 0) n c.index-part.result.now.columns.items c.index-part.result.now.bits.items = one_of_all (λ b (x : GridPart). IsGridPart C j (part_at (others C j) b) n x.columns.items x.bits.items) c.args.grid.now.parts.items 0 c.index-part.result.now c.requires.grid.parts (omega (arith, c.requires.alone)) c.index-part.ensures in
-    ap length c.as_slice.ensures.value ∙ part.planes.long ∙ ap (λ z. n * z) (sym c.requires.grid.count)
-
-pub nearest-requires-clause-room : goal.nearest-requires-clause-room
-nearest-requires-clause-room c =
-    let C = c.args.sets.now in
     let r = pair_there C c.args.set c.args.list c.args.support.now c.args.grid.now.starts.items c.index.result.now c.requires.grid.first c.requires.at.at.message c.requires.at.level c.index.ensures in
     let below = slice_get_within (supports_from 0 (length C.rows) 2) _ (pair_of (listed_spot C c.args.set c.args.support.now c.args.list)) r in
     let rows : _ ≤ tails_in C = mul-le-mul_right (tail_count C) below in
-    rw c.nonzero-elements.ensures.is (omega (arith, rows, c.requires.grid.count))
+    record {
+      least = c.requires.grid.least;
+      most = c.requires.grid.few;
+      long = ap length c.as_slice.ensures.value ∙ part.planes.long ∙ ap (λ z. n * z) (sym c.requires.grid.count);
+      some = search rules;
+      room = rw c.nonzero-elements.ensures.is (omega (arith, rows, c.requires.grid.count));
+      small = c.requires.grid.small;
+      few = c.requires.few;
+    }
 
 pub nearest-requires-clause-inside : goal.nearest-requires-clause-inside
 nearest-requires-clause-inside c = omega (arith, lists_there c.args.sets.now (length c.args.support.now) (length c.args.heads.now) c.nonzero-elements.result c.requires.at.level c.requires.many c.nonzero-elements.ensures.is, c.requires.lists)
