@@ -4,7 +4,7 @@ use Rattle.lc_enumeration.specs.Message.{supports_from}
 use Rattle.lc_kernel.specs.Packed.{tail_of}
 use Rattle.lc_kernel.proofs.SupportLaws.{tails_few}
 use Rattle.lc_kernel.proofs.RunLaws.{TripleRead, IsTailAt, triple_read, tail_found}
-use Rattle.lc_kernel.proofs.runs.tail_index.Goals.{Else-table-eq2}
+use Rattle.lc_kernel.proofs.runs.tail_index.Goals.{Else-table-eq2, After-index-2}
 use Rattle.lc_kernel.proofs.runs.tail_index.Goals as goal
 
 -- what the code reads at the last three places of the spot
@@ -17,10 +17,10 @@ read c =
     triple_read c.args.sets.now s pairs r c.requires.table.pairs c.requires.message (omega (arith, c.requires.table.least, c.if-table-eq2.false, c.requires.level)) from
 
 -- the tail of the spot is where the code looks for it
-found : (c : goal.After-row_known-2-1) → IsTailAt c.args.sets.now c.args.spot.now c.args.table.now.tail c.pair_index-pair.result c.index.result.now c.index-2.result.now
-found c =
+found : (c : After-index-2) → TripleRead c.args.sets.now c.args.spot.now c.args.table.now.pairs.items c.pair_index-pair.result → IsTailAt c.args.sets.now c.args.spot.now c.args.table.now.tail c.pair_index-pair.result c.index.result.now c.index-2.result.now
+found c r =
     let table = c.args.table.now in
-    tail_found c.args.sets.now c.args.spot.now table.pairs.items table.starts.items c.support-support.result.now table.tail c.pair_index-pair.result c.index.result.now c.index-2.result.now c.requires.table.pairs c.requires.table.starts (omega (arith, c.requires.table.least, c.requires.table.most, c.if-table-eq2.false)) (read (goal.at.returns-clause-is c).Else-table-eq2) c.requires.level c.support-support.ensures.places c.pair_index-pair.ensures.is c.index.ensures c.index-2.ensures
+    tail_found c.args.sets.now c.args.spot.now table.pairs.items table.starts.items c.support-support.result.now table.tail c.pair_index-pair.result c.index.result.now c.index-2.result.now c.requires.table.pairs c.requires.table.starts (omega (arith, c.requires.table.least, c.requires.table.most, c.if-table-eq2.false)) r c.requires.level c.support-support.ensures.places c.pair_index-pair.ensures.is c.index.ensures c.index-2.ensures
 
 pub index-requires : goal.index-requires
 index-requires c =
@@ -38,17 +38,24 @@ index-requires-2 c =
     rw c.support-support.ensures.places (omega (arith, r.inside, c.requires.table.pairs.firsts, c.args.table.now.pairs.ok.0))
 
 pub overflow_sub-result : goal.overflow_sub-result
-overflow_sub-result c = (found c).after
+overflow_sub-result c =
+    let at = goal.at.overflow_sub-result c in
+    (found at.After-index-2 (read at.Else-table-eq2)).after
 
 pub overflow_add-result : goal.overflow_add-result
 overflow_add-result c =
+    let at = goal.at.overflow_add-result c in
     let C = c.args.sets.now in
     let table = c.args.table.now in
     let few = tails_few (length C.rows) table.tail c.requires.table.least c.requires.table.most (omega (arith, c.dimension-k.ensures.is, c.dimension-k.ensures.most, c.length-n.ensures.is, c.length-n.ensures.most)) in
-    omega (arith, few, slice_get_within (supports_from 0 (length C.rows) table.tail) _ (tail_of table.tail c.args.spot.now) (found c).is)
+    omega (arith, few, slice_get_within (supports_from 0 (length C.rows) table.tail) _ (tail_of table.tail c.args.spot.now) (found at.After-index-2 (read at.Else-table-eq2)).is)
 
 pub returns-clause-is : goal.returns-clause-is
-returns-clause-is c = (found c).is
+returns-clause-is c =
+    let at = goal.at.returns-clause-is c in
+    (found at.After-index-2 (read at.Else-table-eq2)).is
 
 pub returns-clause-inside : goal.returns-clause-inside
-returns-clause-inside c = slice_get_within (supports_from 0 (length c.args.sets.now.rows) c.args.table.now.tail) _ (tail_of c.args.table.now.tail c.args.spot.now) (found c).is
+returns-clause-inside c =
+    let at = goal.at.returns-clause-inside c in
+    slice_get_within (supports_from 0 (length c.args.sets.now.rows) c.args.table.now.tail) _ (tail_of c.args.table.now.tail c.args.spot.now) (found at.After-index-2 (read at.Else-table-eq2)).is
