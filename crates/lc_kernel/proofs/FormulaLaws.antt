@@ -9,7 +9,6 @@
 --   AreFormulas f m a b c d, values, sum_by_formulas      four formulas that give the bits of sums, and the planes of sums by them
 --   even_sum                  in characteristic 2
 --   three_sum, five_sum, seven_sum, nine_sum, eleven_sum, thirteen_sum      over so many elements
---   sum_over                  sums over a field of as many elements
 --   last_field                a field of at most 16 elements that is none of the others has 13
 use Rattle.std.proofs.Common.{◌≡◌, ◌≢◌, ℕ, zero, suc, ◌+◌, ◌-◌, ◌*◌, ◌^◌, ◌<◌, ◌≤◌, Bool, true, ◌&&◌, ◌==◌, List, [], ◌∷◌, length, slice_index, bit_and, bit_or, bit_xor, refl, sym, ap, subst, ◌∙◌, ⊎_elim, arith, lit<}
 use Rattle.std.specs.Prelude.{nat_lt}
@@ -170,18 +169,18 @@ pub record AreFormulas (f : FieldName) (m : ℕ) (a b c d : Formula) : Type 0 wh
   pub gives_c : gives f 2 c ≡ true
   pub gives_d : gives f 3 d ≡ true
 
-pub sum_by_formulas : (f : FieldName) (m : ℕ) (a b c d : Formula) (x y z : List ℕ) → AreFormulas f m a b c d → z ≡ values a b c d x y → IsPlaneSum f x y z
-sum_by_formulas f m a b c d x y z t made = record {
+pub sum_by_formulas : (f g : FieldName) (m : ℕ) (a b c d : Formula) (x y z : List ℕ) → size f ≡ size g → AreFormulas g m a b c d → z ≡ values a b c d x y → IsPlaneSum f x y z
+sum_by_formulas f g m a b c d x y z e t made = subst (λ h. IsPlaneSum h x y z) (sym (told_by_size f g e)) (record {
   planes = λ n u v most few long fu fv h k p l.
-      let four = below_four (λ q. slice_index (values a b c d x y) q ≡ plane q (word_sum f u v))
-      (at_plane f 0 m n a u v x y t.least most t.reads_a t.gives_a long fu fv h k)
-      (at_plane f 1 m n b u v x y t.least most t.reads_b t.gives_b long fu fv h k)
-      (at_plane f 2 m n c u v x y t.least most t.reads_c t.gives_c long fu fv h k)
-      (at_plane f 3 m n d u v x y t.least most t.reads_d t.gives_d long fu fv h k)
+      let four = below_four (λ q. slice_index (values a b c d x y) q ≡ plane q (word_sum g u v))
+      (at_plane g 0 m n a u v x y t.least most t.reads_a t.gives_a long fu fv h k)
+      (at_plane g 1 m n b u v x y t.least most t.reads_b t.gives_b long fu fv h k)
+      (at_plane g 2 m n c u v x y t.least most t.reads_c t.gives_c long fu fv h k)
+      (at_plane g 3 m n d u v x y t.least most t.reads_d t.gives_d long fu fv h k)
       p
       (omega (arith, l, few)) in
       ap (λ q. slice_index q p) made ∙ four;
-}
+})
 
 pub even_sum : (f : FieldName) (x y z : List ℕ) → (shape_of f).characteristic ≡ 2 → ((j : ℕ) → j < 4 → slice_index z j ≡ bit_xor (slice_index x j) (slice_index y j)) → IsPlaneSum f x y z
 even_sum f x y z two e = record {
@@ -204,39 +203,36 @@ three_formulas : AreFormulas Gf3 2 three_low three_high nothing nothing
 unfolding gives reads below value add size coefficients shape_of shape number plus digits
 three_formulas = record { least = lit< tt; reads_a = refl; reads_b = refl; reads_c = refl; reads_d = refl; gives_a = refl; gives_b = refl; gives_c = refl; gives_d = refl }
 
--- bit i of the sum of two numbers, and what it carries
+-- what the lowest i bits of the sum of two numbers carry, and bit i of the sum
 abbrev carried : ℕ → Formula
-carried zero = both (left 0) (right 0)
-carried (suc i) = either (both (left (suc i)) (right (suc i))) (both (unlike (left (suc i)) (right (suc i))) (carried i))
+carried zero = nothing
+carried (suc i) = either (both (left i) (right i)) (both (unlike (left i) (right i)) (carried i))
 
 abbrev summed : ℕ → Formula
-summed zero = unlike (left 0) (right 0)
-summed (suc i) = unlike (unlike (left (suc i)) (right (suc i))) (carried i)
+summed i = unlike (unlike (left i) (right i)) (carried i)
 
-abbrev five_over : Formula
-five_over = either (carried 2) (both (summed 2) (either (summed 1) (summed 0)))
+-- bit i of the sum of two numbers and of 3 more where a formula says so, and what its lowest bits carry, from the fours on
+abbrev plus_three_carry : Formula → ℕ → Formula
+plus_three_carry over zero = both over (either (summed 1) (summed 0))
+plus_three_carry over (suc i) = both (summed (suc (suc i))) (plus_three_carry over i)
 
-abbrev five_carry : Formula
-five_carry = both five_over (either (summed 1) (summed 0))
+abbrev plus_three : Formula → ℕ → Formula
+plus_three over zero = unlike (summed 0) over
+plus_three over (suc zero) = unlike (unlike (summed 1) over) (both (summed 0) over)
+plus_three over (suc (suc i)) = unlike (summed (suc (suc i))) (plus_three_carry over i)
 
-abbrev pub five_a : Formula
-five_a = unlike (summed 0) five_over
+abbrev pub five_bit : ℕ → Formula
+five_bit = plus_three (either (carried 3) (both (summed 2) (either (summed 1) (summed 0))))
 
-abbrev pub five_b : Formula
-five_b = unlike (unlike (summed 1) five_over) (both (summed 0) five_over)
-
-abbrev pub five_c : Formula
-five_c = unlike (summed 2) five_carry
-
-five_formulas : AreFormulas Gf5 3 five_a five_b five_c nothing
+five_formulas : AreFormulas Gf5 3 (five_bit 0) (five_bit 1) (five_bit 2) nothing
 unfolding gives reads below value add size coefficients shape_of shape number plus digits
 five_formulas = record { least = lit< tt; reads_a = refl; reads_b = refl; reads_c = refl; reads_d = refl; gives_a = refl; gives_b = refl; gives_c = refl; gives_d = refl }
 
 abbrev seven_carry : Formula
-seven_carry = both (summed 0) (carried 2)
+seven_carry = both (summed 0) (carried 3)
 
 abbrev seven_low : Formula
-seven_low = unlike (summed 0) (carried 2)
+seven_low = unlike (summed 0) (carried 3)
 
 abbrev seven_middle : Formula
 seven_middle = unlike (summed 1) seven_carry
@@ -261,7 +257,7 @@ unfolding gives reads below value add size coefficients shape_of shape number pl
 seven_formulas = record { least = lit< tt; reads_a = refl; reads_b = refl; reads_c = refl; reads_d = refl; gives_a = refl; gives_b = refl; gives_c = refl; gives_d = refl }
 
 abbrev eleven_over : Formula
-eleven_over = either (carried 3) (both (summed 3) (either (summed 2) (both (summed 1) (summed 0))))
+eleven_over = either (carried 4) (both (summed 3) (either (summed 2) (both (summed 1) (summed 0))))
 
 abbrev eleven_carry : Formula
 eleven_carry = both (summed 1) (both (summed 0) eleven_over)
@@ -282,25 +278,10 @@ eleven_formulas : AreFormulas Gf11 4 eleven_a eleven_b eleven_c eleven_d
 unfolding gives reads below value add size coefficients shape_of shape number plus digits
 eleven_formulas = record { least = lit< tt; reads_a = refl; reads_b = refl; reads_c = refl; reads_d = refl; gives_a = refl; gives_b = refl; gives_c = refl; gives_d = refl }
 
-abbrev thirteen_over : Formula
-thirteen_over = either (carried 3) (both (both (summed 3) (summed 2)) (either (summed 1) (summed 0)))
+abbrev pub thirteen_bit : ℕ → Formula
+thirteen_bit = plus_three (either (carried 4) (both (both (summed 3) (summed 2)) (either (summed 1) (summed 0))))
 
-abbrev thirteen_carry : Formula
-thirteen_carry = both thirteen_over (either (summed 1) (summed 0))
-
-abbrev pub thirteen_a : Formula
-thirteen_a = unlike (summed 0) thirteen_over
-
-abbrev pub thirteen_b : Formula
-thirteen_b = unlike (unlike (summed 1) thirteen_over) (both (summed 0) thirteen_over)
-
-abbrev pub thirteen_c : Formula
-thirteen_c = unlike (summed 2) thirteen_carry
-
-abbrev pub thirteen_d : Formula
-thirteen_d = unlike (summed 3) (both (summed 2) thirteen_carry)
-
-thirteen_formulas : AreFormulas Gf13 4 thirteen_a thirteen_b thirteen_c thirteen_d
+thirteen_formulas : AreFormulas Gf13 4 (thirteen_bit 0) (thirteen_bit 1) (thirteen_bit 2) (thirteen_bit 3)
 unfolding gives reads below value add size coefficients shape_of shape number plus digits
 thirteen_formulas = record { least = lit< tt; reads_a = refl; reads_b = refl; reads_c = refl; reads_d = refl; gives_a = refl; gives_b = refl; gives_c = refl; gives_d = refl }
 
@@ -348,33 +329,36 @@ nine_formulas = record { least = lit< tt; reads_a = refl; reads_b = refl; reads_
 
 -- sums over each field
 
-pub three_sum : (x y z : List ℕ) → z ≡ values three_low three_high nothing nothing x y → IsPlaneSum Gf3 x y z
-three_sum x y z made = sum_by_formulas Gf3 2 three_low three_high nothing nothing x y z three_formulas made
+pub three_sum : (f : FieldName) (x y z : List ℕ) → size f ≡ 3 → z ≡ values three_low three_high nothing nothing x y → IsPlaneSum f x y z
+unfolding size shape_of shape
+three_sum f x y z e made = sum_by_formulas f Gf3 2 three_low three_high nothing nothing x y z e three_formulas made
 
-pub five_sum : (x y z : List ℕ) → z ≡ values five_a five_b five_c nothing x y → IsPlaneSum Gf5 x y z
-five_sum x y z made = sum_by_formulas Gf5 3 five_a five_b five_c nothing x y z five_formulas made
+pub five_sum : (f : FieldName) (x y z : List ℕ) → size f ≡ 5 → z ≡ values (five_bit 0) (five_bit 1) (five_bit 2) nothing x y → IsPlaneSum f x y z
+unfolding size shape_of shape
+five_sum f x y z e made = sum_by_formulas f Gf5 3 (five_bit 0) (five_bit 1) (five_bit 2) nothing x y z e five_formulas made
 
-pub seven_sum : (x y z : List ℕ) → z ≡ values seven_a seven_b seven_c nothing x y → IsPlaneSum Gf7 x y z
-seven_sum x y z made = sum_by_formulas Gf7 3 seven_a seven_b seven_c nothing x y z seven_formulas made
+pub seven_sum : (f : FieldName) (x y z : List ℕ) → size f ≡ 7 → z ≡ values seven_a seven_b seven_c nothing x y → IsPlaneSum f x y z
+unfolding size shape_of shape
+seven_sum f x y z e made = sum_by_formulas f Gf7 3 seven_a seven_b seven_c nothing x y z e seven_formulas made
 
-pub nine_sum : (x y z : List ℕ) → z ≡ values nine_a nine_b nine_c nine_d x y → IsPlaneSum Gf9 x y z
-nine_sum x y z made = sum_by_formulas Gf9 4 nine_a nine_b nine_c nine_d x y z nine_formulas made
+pub nine_sum : (f : FieldName) (x y z : List ℕ) → size f ≡ 9 → z ≡ values nine_a nine_b nine_c nine_d x y → IsPlaneSum f x y z
+unfolding size shape_of shape
+nine_sum f x y z e made = sum_by_formulas f Gf9 4 nine_a nine_b nine_c nine_d x y z e nine_formulas made
 
-pub eleven_sum : (x y z : List ℕ) → z ≡ values eleven_a eleven_b eleven_c eleven_d x y → IsPlaneSum Gf11 x y z
-eleven_sum x y z made = sum_by_formulas Gf11 4 eleven_a eleven_b eleven_c eleven_d x y z eleven_formulas made
+pub eleven_sum : (f : FieldName) (x y z : List ℕ) → size f ≡ 11 → z ≡ values eleven_a eleven_b eleven_c eleven_d x y → IsPlaneSum f x y z
+unfolding size shape_of shape
+eleven_sum f x y z e made = sum_by_formulas f Gf11 4 eleven_a eleven_b eleven_c eleven_d x y z e eleven_formulas made
 
-pub thirteen_sum : (x y z : List ℕ) → z ≡ values thirteen_a thirteen_b thirteen_c thirteen_d x y → IsPlaneSum Gf13 x y z
-thirteen_sum x y z made = sum_by_formulas Gf13 4 thirteen_a thirteen_b thirteen_c thirteen_d x y z thirteen_formulas made
+pub thirteen_sum : (f : FieldName) (x y z : List ℕ) → size f ≡ 13 → z ≡ values (thirteen_bit 0) (thirteen_bit 1) (thirteen_bit 2) (thirteen_bit 3) x y → IsPlaneSum f x y z
+unfolding size shape_of shape
+thirteen_sum f x y z e made = sum_by_formulas f Gf13 4 (thirteen_bit 0) (thirteen_bit 1) (thirteen_bit 2) (thirteen_bit 3) x y z e thirteen_formulas made
 
 -- the fields
-
-pub sum_over : (f g : FieldName) (x y z : List ℕ) → size f ≡ size g → IsPlaneSum g x y z → IsPlaneSum f x y z
-sum_over f g x y z e h = subst (λ t. IsPlaneSum t x y z) (sym (told_by_size f g e)) h
 
 too_large : (n : ℕ) → 16 < n → n ≤ 16 → ⊥
 too_large n l m = omega (arith, l, m)
 
-pub last_field : (f : FieldName) → size f ≤ 16 → (shape_of f).characteristic ≢ 2 → size f ≢ 3 → size f ≢ 5 → size f ≢ 7 → size f ≢ 9 → size f ≢ 11 → f ≡ Gf13
+pub last_field : (f : FieldName) → size f ≤ 16 → (shape_of f).characteristic ≢ 2 → size f ≢ 3 → size f ≢ 5 → size f ≢ 7 → size f ≢ 9 → size f ≢ 11 → size f ≡ 13
 unfolding size shape_of shape
 last_field Gf2 s a b c d e f = absurd (a refl)
 last_field Gf3 s a b c d e f = absurd (b refl)

@@ -7,13 +7,13 @@
 --   tail_run_word, tail_run_pair, tail_run_ones      a word of a run, its tail, and its nonzero symbols
 --   tails_more, planes_none, planes_more, grid_parts_pushed      tails, planes and parts with one more
 --   cut_in_words                 some columns are inside the tails
---   planes_room, tail_run_room, counted_joined      what a run reads and writes
+--   planes_room, tail_run_room, counted_joined, run_joined      what a run reads and writes
 use Rattle.std.proofs.Common.{◌≡◌, ℕ, zero, suc, ◌+◌, ◌-◌, ◌*◌, ◌/◌, ◌%◌, ◌^◌, ◌<◌, ◌≤◌, List, [], ◌∷◌, ◌++◌, min, length, take, drop, map, Some, None, count_ones, slice_get, slice_index, slice_index_or, Contains, refl, sym, ap, subst, ◌∙◌, ⊎_elim, arith, mod-lt, length-append}
 use Rattle.std.specs.Option.{option_map}
 use Rattle.std.proofs.lemmas.Bool.{cases_lt}
 use Rattle.std.proofs.lemmas.Bool.Decides.{nat_tests}
 use Rattle.std.proofs.Math.Nat.{mul-le-mul_right}
-use Rattle.std.proofs.lemmas.List.{length-take-le, get_or-take, get_or-append_right}
+use Rattle.std.proofs.lemmas.List.{length-take, length-take-le, length-drop, get_or-take, get_or-append_right}
 use Rattle.std.proofs.lemmas.List.Elements.{All-get_or}
 use Rattle.std.proofs.lemmas.Nat.{div-mul-add, mod-mul-add, div_below, div-add-mod'}
 use Rattle.std.proofs.lemmas.Option.{get_or_from_slice_get, slice_get_within}
@@ -328,3 +328,9 @@ counted_joined cols ws done n old new after h l g e i m =
     let place : done + k ≡ 0 + i = omega (arith, a) in
     get_or-append_right front (new ++ after) done i 0 long a ∙ get_or-append new after 0 k inside ∙ g k (omega (arith, inside, e)) ∙ ap (λ z. weight (restrict cols (slice_index_or ws z []))) place)
     (cases_lt i done)
+
+-- the same, the run's counts being a piece of all
+pub run_joined : (cols : List ℕ) (ws : List (List ℕ)) (done n : ℕ) (old new after : List ℕ) → AreCounted cols ws 0 done old → done ≤ length old → n ≤ length old - done → AreCounted cols ws done (length (take (done + n - done) (drop done old))) new → length new ≡ length (take (done + n - done) (drop done old)) → AreCounted cols ws 0 (done + n) (take done old ++ (new ++ after))
+run_joined cols ws done n old new after h l room g e =
+    let many : length (take (done + n - done) (drop done old)) ≡ n = omega (arith, length-take (done + n - done) (drop done old), length-drop done old, l, room) in
+    counted_joined cols ws done n old new after h l (subst (λ z. AreCounted cols ws done z new) many g) (e ∙ many)

@@ -1,7 +1,6 @@
 -- The least number of a list, one number more at a time, and the least value of some words.
 --   least_none, least_taken, least_kept      no number, and one number more, which is less or isn't
 --   rows_more                    numbers that are no less than another, by rows
---   counts_value                 the least value of words, from the first of their least counts
 --   piece_long                   how long a piece of a list is
 --   piece_taken, piece_kept      the least of the counts up to the end of a piece, which has a lesser one or hasn't
 --   first_after, one_least       the first of the counts that is the least of them, and that there is one
@@ -57,9 +56,6 @@ least_value first ws g level n least at few h l = record {
       (cases_lt i at);
   attained = (at, l.inside, ap (λ x. (level + x) * 2 ^ 52 + (first + at)) (sym l.is) ∙ ap (λ x. x * 2 ^ 52 + (first + at)) (sym (h at l.inside)));
 }
-
-pub counts_value : (first : ℕ) (ws : List (List ℕ)) (counts : List ℕ) (level n least at : ℕ) → n ≤ 2 ^ 52 → ((i : ℕ) → i < n → weight (slice_index_or ws i []) ≡ level + slice_index counts i) → IsFirstLeast n (λ i. slice_index counts i) least at → IsLeastValue first ws n ((level + least) * 2 ^ 52 + (first + at))
-counts_value first ws counts level n least at few h l = least_value first ws (λ i. slice_index counts i) level n least at few h l
 
 least_joined : (m n : ℕ) (f g : ℕ → ℕ) (bound v x : ℕ) → IsLeastOr m f bound v → IsLeastOr n g v x → ((i : ℕ) → i < n → g i ≡ f (m + i)) → IsLeastOr (m + n) f bound x
 least_joined m n f g bound v x h k same = record {

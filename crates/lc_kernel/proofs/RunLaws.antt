@@ -5,12 +5,12 @@
 --   run_word                   the bits of a word of a run: those of its head and of its tail
 --   run_ones                   how many nonzero symbols a word of a run has in a part of the columns
 --   run_at, part_counted, counted_few      the counts of a run after one more part, and their bound
---   block_weight, runs_value      the weight of a word of a block, and the least value of a block, from its counts
+--   block_weight               the weight of a word of a block
 --   last_message, last_long, next_offset      the last message of a head, how long it is, and the one after it
 --   spot_next                  the spot after a step
 --   index_of_pair, index_of_triple      the index of a spot's last two places, and of its last three
 --   tail_found                 the index of the tail of a spot
-use Rattle.std.proofs.Common.{◌≡◌, ℕ, zero, suc, ◌+◌, ◌-◌, ◌*◌, ◌^◌, ◌<◌, ◌≤◌, Bool, if◌then◌else◌, List, [], ◌∷◌, ◌++◌, length, take, drop, replicate, get_or, bit_xor, count_ones, slice_get, slice_index, slice_index_or, Some, None, option_map, Contains, refl, sym, ap, subst, ◌∙◌, arith, length-append}
+use Rattle.std.proofs.Common.{◌≡◌, ℕ, zero, suc, ◌+◌, ◌-◌, ◌*◌, ◌<◌, ◌≤◌, Bool, if◌then◌else◌, List, [], ◌∷◌, ◌++◌, length, take, drop, replicate, get_or, bit_xor, count_ones, slice_get, slice_index, slice_index_or, Some, None, Contains, refl, sym, ap, subst, ◌∙◌, arith, length-append}
 use Rattle.std.specs.Int.Bits.{xor_assoc, xor_zero_r}
 use Rattle.std.proofs.Math.Seq.{get_or-append_seam, take-append_seam, drop-append_seam, drop-cons}
 use Rattle.std.proofs.lemmas.Nat.{xor_comm}
@@ -25,8 +25,8 @@ use Rattle.lc_algebra.proofs.ColumnLaws.{length_restrict}
 use Rattle.lc_algebra.specs.Span.{AreIndependent}
 use Rattle.lc_algebra.specs.Matrix.{Matrix, AreRows}
 use Rattle.lc_enumeration.specs.Message.{Message, messages, supports_from, numbers_from}
-use Rattle.lc_enumeration.specs.Plan.{phase_level, blocks_before, block_length, place_of, IsInPhase}
-use Rattle.lc_enumeration.specs.Search.{set_count, word_of, block_words, block_least, board_value}
+use Rattle.lc_enumeration.specs.Plan.{phase_level, blocks_before, block_length, IsInPhase}
+use Rattle.lc_enumeration.specs.Search.{set_count, word_of, block_words}
 use Rattle.lc_place.specs.Place.{PlanSize, SpotState, spot_message}
 use Rattle.lc_place.proofs.Coefficients.{length-numbers_from}
 use Rattle.lc_place.proofs.Supports.{support_shape}
@@ -34,15 +34,14 @@ use Rattle.lc_place.proofs.Messages.{message_of, message_shape, to_contains, fro
 use Rattle.lc_place.proofs.Runs.{support_of, message_of_support, message_along}
 use Rattle.lc_kernel.specs.Kernel.{IsPlanOf}
 use Rattle.lc_kernel.specs.Sums.{front_word}
-use Rattle.lc_kernel.specs.Values.{IsMessageOf, IsSpotAt, IsLeastValue}
+use Rattle.lc_kernel.specs.Values.{IsMessageOf, IsSpotAt}
 use Rattle.lc_kernel.specs.Packed.{others, part_at, bits_at, row_sum, head_of, tail_of, pair_of, AreStarts, AreRowBits, IsPart}
-use Rattle.lc_kernel.specs.Least.{IsFirstLeast, AreCounted}
+use Rattle.lc_kernel.specs.Least.{AreCounted}
 use Rattle.lc_kernel.proofs.FrontLaws.{entries_are, generates, front_word_is, front_word_fits, front_whole, front_same}
 use Rattle.lc_kernel.proofs.PackLaws.{two, weight_of_word, tail_ones, bits_more, part_more}
 use Rattle.lc_enumeration.proofs.SearchLaws.{few_in_block}
-use Rattle.lc_kernel.proofs.LeastLaws.{counts_value}
 use Rattle.lc_kernel.proofs.SupportLaws.{tail_pair, pair_at, tail_at, starts_rise, last_tail}
-use Rattle.lc_kernel.proofs.ScanLaws.{block_word, block_long, next_is, block_value_of_words}
+use Rattle.lc_kernel.proofs.ScanLaws.{block_word, block_long, next_is}
 
 pub support_parts : (s : List ℕ) → 2 ≤ length s → s ≡ take (length s - 2) s ++ slice_index s (length s - 2) ∷ slice_index s (length s - 1) ∷ []
 support_parts s l = sym (take-append-drop (length s - 2) s) ∙ ap (λ x. take (length s - 2) s ++ x) (tail_pair s l)
@@ -151,6 +150,12 @@ run_ones C cols t m p b n r j s rows sums prefix phase here h inside few =
     let read : slice_index_or (block_words C m b) (n + j) [] ≡ front_word C v w = get_or_from_slice_get (block_words C m b) (n + j) (word_of C m p (spot_message v)) [] word ∙ word_is in
     ap (λ z. weight (restrict cols z)) read ∙ sym (tail_ones C cols (front_word C v w) h.part.field (front_word_fits C v w (generates C s.set h.rows_are h.free h.set))) ∙ ap count_ones bits
 
+-- a place of a spot and the next one
+places_rise : (C : Matrix) (s : SpotState) (i j : ℕ) → Contains (messages (length C.rows) (size C.field) (length s.support)) (spot_message s) → suc i ≡ j → j < length s.support → (slice_index s.support i < slice_index s.support j) × (slice_index s.support j < length C.rows)
+places_rise C s i j message next l =
+    let t = entries_are C s message in
+    (subst (λ z. slice_index s.support i < slice_index s.support z) next (t.fitting.rises i (omega (arith, next, l))), t.row j l)
+
 -- the last two places of a spot, as the code reads them
 pub record PairRead (C : Matrix) (s : SpotState) (starts : List ℕ) : Type 0 where
   pub rises : slice_index s.support (length s.support - 2) < slice_index s.support (length s.support - 1)
@@ -159,24 +164,17 @@ pub record PairRead (C : Matrix) (s : SpotState) (starts : List ℕ) : Type 0 wh
 
 pub pair_read : (C : Matrix) (s : SpotState) (starts : List ℕ) → AreStarts (length C.rows) 2 starts → Contains (messages (length C.rows) (size C.field) (length s.support)) (spot_message s) → 2 ≤ length s.support → PairRead C s starts
 pair_read C s starts h message l =
-    let t = entries_are C s message in
-    let a = slice_index s.support (length s.support - 2) in
-    let next : suc (length s.support - 2) ≡ length s.support - 1 = omega (arith, l) in
-    let rises : a < slice_index s.support (length s.support - 1) = subst (λ z. a < slice_index s.support z) next (t.fitting.rises (length s.support - 2) (omega (arith, l))) in
-    let inside = t.row (length s.support - 1) (omega (arith, l)) in
+    let (rises, inside) = places_rise C s (length s.support - 2) (length s.support - 1) message (omega (arith, l)) (omega (arith, l)) in
     record { rises = rises; inside = inside; started = omega (arith, rises, inside, h.firsts) }
 
 pub index_of_pair : (C : Matrix) (s : SpotState) (starts : List ℕ) → AreStarts (length C.rows) 2 starts → Contains (messages (length C.rows) (size C.field) (length s.support)) (spot_message s) → 2 ≤ length s.support → slice_get (supports_from 0 (length C.rows) 2) (slice_index starts (slice_index s.support (length s.support - 2)) + (slice_index s.support (length s.support - 1) - slice_index s.support (length s.support - 2) - 1)) ≡ Some (pair_of s)
 index_of_pair C s starts h message l =
-    let t = entries_are C s message in
+    let p = pair_read C s starts h message l in
     let a = slice_index s.support (length s.support - 2) in
     let b = slice_index s.support (length s.support - 1) in
-    let next : suc (length s.support - 2) ≡ length s.support - 1 = omega (arith, l) in
-    let rises : a < b = subst (λ z. a < slice_index s.support z) next (t.fitting.rises (length s.support - 2) (omega (arith, l))) in
-    let inside : b < length C.rows = t.row (length s.support - 1) (omega (arith, l)) in
     let d = b - a - 1 in
-    let at = pair_at (length C.rows) a (slice_index starts a) d (h.first a (omega (arith, rises, inside))) (omega (arith, rises, inside)) in
-    let e : a + 1 + d ≡ b = omega (arith, rises) in
+    let at = pair_at (length C.rows) a (slice_index starts a) d (h.first a (omega (arith, p.rises, p.inside))) (omega (arith, p.rises, p.inside)) in
+    let e : a + 1 + d ≡ b = omega (arith, p.rises) in
     at ∙ ap (λ z. Some (a ∷ z ∷ [])) e
 
 -- the last three places of a spot, as the code reads them
@@ -186,12 +184,9 @@ pub record TripleRead (C : Matrix) (s : SpotState) (pairs : List ℕ) (r : ℕ) 
 
 pub triple_read : (C : Matrix) (s : SpotState) (pairs : List ℕ) (r : ℕ) → AreStarts (length C.rows) 2 pairs → Contains (messages (length C.rows) (size C.field) (length s.support)) (spot_message s) → 3 ≤ length s.support → slice_index pairs (slice_index s.support (length s.support - 2)) ≤ r → TripleRead C s pairs r
 triple_read C s pairs r h message l from =
-    let t = entries_are C s message in
     let a = slice_index s.support (length s.support - 3) in
     let b = slice_index s.support (length s.support - 2) in
-    let next : suc (length s.support - 3) ≡ length s.support - 2 = omega (arith, l) in
-    let rises : a < b = subst (λ z. a < slice_index s.support z) next (t.fitting.rises (length s.support - 3) (omega (arith, l))) in
-    let inside : b < length C.rows = t.row (length s.support - 2) (omega (arith, l)) in
+    let (rises, inside) = places_rise C s (length s.support - 3) (length s.support - 2) message (omega (arith, l)) (omega (arith, l)) in
     let first = starts_rise (length C.rows) 2 (a + 1) b (slice_index pairs (a + 1)) (slice_index pairs b) (h.first (a + 1) (omega (arith, rises, inside))) (h.first b (omega (arith, inside))) (omega (arith, rises)) in
     record { inside = omega (arith, rises, inside); after = omega (arith, first, from) }
 
@@ -349,20 +344,6 @@ block_weight C plan p b n s h rows free set_is phase spot l =
     let read : slice_index_or (block_words C plan.m b) n [] ≡ front_word C t w = get_or_from_slice_get (block_words C plan.m b) n (word_of C plan.m p u) [] word ∙ word_is in
     let weighs : weight (front_word C t w) ≡ w + weight (restrict (others C t.set) (front_word C t w)) = weight_of_word C t rows free set_is message (omega (arith, w_is, spot.level)) in
     ap weight read ∙ weighs ∙ ap (λ z. z + weight (restrict (others C s.set) (front_word C t w))) w_is ∙ ap (λ z. length s.support + weight (restrict (others C s.set) z)) (sym read)
-
--- the least value of a block, from its counts
-pub runs_value : (C : Matrix) (plan : PlanSize) (p b level least at : ℕ) (s : SpotState) (counts : List ℕ) → IsPlanOf plan C → AreRows C.field C.columns C.rows → AreIndependent C.field C.columns C.rows → s.set < set_count C → IsInPhase (length C.rows) (size C.field) plan.m p b → b < 2 ^ 40 → IsSpotAt C plan.m b 0 s → level ≡ length s.support → length counts ≡ length (block_words C plan.m b) → AreCounted (others C s.set) (block_words C plan.m b) 0 (length counts) counts → IsFirstLeast (length counts) (λ i. slice_index counts i) least at → option_map board_value (block_least C plan.m b) ≡ Some ((level + least) * 2 ^ 52 + (b * 4096 + at))
-unfolding place_of
-runs_value C plan p b level least at s counts h rows free set_is phase small spot e long counted first =
-    let ws = block_words C plan.m b in
-    let few = few_in_block C plan.m b in
-    let weights : (i : ℕ) → i < length counts → weight (slice_index_or ws i []) ≡ level + slice_index counts i = λ i l.
-    let z : 0 + i ≡ i = omega arith in
-    let count : slice_index counts i ≡ weight (restrict (others C s.set) (slice_index_or ws i [])) = counted i l ∙ ap (λ n. weight (restrict (others C s.set) (slice_index_or ws n []))) z in
-    omega (arith, block_weight C plan p b i s h rows free set_is phase spot (omega (arith, l, long)), count, e) in
-    let value = counts_value (b * 4096 + 0) ws counts level (length counts) least at (omega (arith, few, long)) weights first in
-    let place : (level + least) * 2 ^ 52 + (b * 4096 + 0 + at) ≡ (level + least) * 2 ^ 52 + (b * 4096 + at) = omega arith in
-    block_value_of_words C plan.m p b ((level + least) * 2 ^ 52 + (b * 4096 + 0 + at)) phase small (subst (λ n. IsLeastValue (b * 4096 + 0) ws n ((level + least) * 2 ^ 52 + (b * 4096 + 0 + at))) long value) ∙ ap Some place
 
 -- the spot after a step
 pub spot_next : (C : Matrix) (plan : PlanSize) (b n : ℕ) (s t : SpotState) (o : Bool) → IsPlanOf plan C → IsSpotAt C plan.m b n s → n + 1 < length (block_words C plan.m b) → ((i : ℕ) → slice_get (messages plan.k plan.q (length s.support)) i ≡ Some (spot_message s) → slice_get (messages plan.k plan.q (length s.support)) (i + 1) ≡ (if o then Some (spot_message t) else None)) → Contains (messages plan.k plan.q (length t.support)) (spot_message t) → length t.support ≡ length s.support → t.set ≡ s.set → IsSpotAt C plan.m b (n + 1) t

@@ -6,7 +6,7 @@
 --   same_phase, phase_same, length_of_code      a phase and a length of a plan are those of its code
 --   block_value                  the least value of all words is that of the block
 --   words_of_block, block_value_of_words      the same by the words of the block
---   spot_at                      a spot at the first message of a block
+--   first_of_block, spot_at      a spot at the first message of a block
 --   past_plan, past_block, at_word      the word at a place
 use Rattle.std.proofs.Common.{◌≡◌, ℕ, suc, ◌+◌, ◌-◌, ◌*◌, ◌/◌, ◌%◌, ◌^◌, ◌<◌, ◌≤◌, min, Bool, true, false, nat_lt, nat_le, ◌&&◌, if◌then◌else◌, List, [], ◌∷◌, length, take, drop, find, slice_get, slice_index_or, Some, None, option_map, Contains, refl, sym, ap, ◌∙◌, ⊎_elim, arith}
 use Rattle.std.proofs.Math.Nat.{mod-lt, mod-eq_of_lt}
@@ -29,7 +29,7 @@ use Rattle.lc_place.specs.Place.{PlanSize, SpotState, spot_message}
 use Rattle.lc_place.proofs.Messages.{length-messages}
 use Rattle.lc_place.proofs.Listing.{block_message}
 use Rattle.lc_kernel.specs.Kernel.{StackState, IsPlanOf, IsStackAt, top_sum}
-use Rattle.lc_kernel.specs.Values.{value_at, IsLeastValue, IsSpotAt, IsAtOffset}
+use Rattle.lc_kernel.specs.Values.{value_at, IsLeastValue, IsMessageOf, IsSpotAt, IsAtOffset}
 use Rattle.lc_kernel.proofs.FrontLaws.{entries_are, front_word_is, front_whole}
 use Rattle.lc_kernel.proofs.SumLaws.{length_partial, partial_at, set_below, level_some, code_message}
 
@@ -123,22 +123,28 @@ same_phase C plan p b h i = rw (h.dimension, h.field) i
 pub phase_same : (C : Matrix) (plan : PlanSize) (p b : ℕ) → IsPlanOf plan C → IsInPhase plan.k plan.q plan.m p b → IsInPhase (length C.rows) (size C.field) plan.m p b
 phase_same C plan p b h i = rw (← h.dimension, ← h.field) i
 
+-- a spot at the first message of a block
+first_of_block : (C : Matrix) (plan : PlanSize) (b : ℕ) (s : SpotState) → IsPlanOf plan C
+    → ((p : ℕ) → IsInPhase plan.k plan.q plan.m p b → slice_get (messages plan.k plan.q (phase_level plan.m p)) (4096 * (b - blocks_before plan.k plan.q plan.m p)) ≡ Some (spot_message s))
+    → ((p : ℕ) → IsInPhase plan.k plan.q plan.m p b → length s.support ≡ phase_level plan.m p)
+    → ((p : ℕ) → IsInPhase plan.k plan.q plan.m p b → s.set ≡ phase_set plan.m p)
+    → (p : ℕ) → IsInPhase (length C.rows) (size C.field) plan.m p b → IsMessageOf C plan.m b 0 s p
+first_of_block C plan b s h first level set_is p i =
+    let here = same_phase C plan p b h i in
+    let e = first p here in
+    let z : 4096 * (b - blocks_before (length C.rows) (size C.field) plan.m p) + 0 ≡ 4096 * (b - blocks_before (length C.rows) (size C.field) plan.m p) = omega arith in
+    record {
+      message = rw (z, ← h.dimension, ← h.field) e;
+      level = level p here;
+      set = set_is p here;
+    }
+
 pub offset_first : (C : Matrix) (plan : PlanSize) (b : ℕ) (s : StackState) → IsPlanOf plan C → IsStackAt C plan.m s
     → ((p : ℕ) → IsInPhase plan.k plan.q plan.m p b → slice_get (messages plan.k plan.q (phase_level plan.m p)) (4096 * (b - blocks_before plan.k plan.q plan.m p)) ≡ Some (spot_message s.spot))
     → ((p : ℕ) → IsInPhase plan.k plan.q plan.m p b → length s.spot.support ≡ phase_level plan.m p)
     → ((p : ℕ) → IsInPhase plan.k plan.q plan.m p b → s.spot.set ≡ phase_set plan.m p)
     → IsAtOffset C plan.m b 0 s
-offset_first C plan b s h at first level set_is = record {
-  at = at;
-  of_block = λ p i.
-      let e = first p (same_phase C plan p b h i) in
-      let z : 4096 * (b - blocks_before (length C.rows) (size C.field) plan.m p) + 0 ≡ 4096 * (b - blocks_before (length C.rows) (size C.field) plan.m p) = omega arith in
-      record {
-        message = rw (z, ← h.dimension, ← h.field) e;
-        level = level p (same_phase C plan p b h i);
-        set = set_is p (same_phase C plan p b h i);
-      };
-}
+offset_first C plan b s h at first level set_is = record { at = at; of_block = first_of_block C plan b s.spot h first level set_is }
 
 pub next_is : (o : Bool) (xs : List Message) (n : ℕ) (a : Message) → n < length xs → slice_get xs n ≡ (if o then Some a else None) → slice_get xs n ≡ Some a
 next_is true xs n a l e = e
@@ -230,14 +236,7 @@ spot_at C plan b s h first level set_is message found =
         set = below.0;
         level = level_some plan.m found.0 (length s.support) (level found.0 found.1);
         message = code_message C plan s h message;
-        of_block = λ p i.
-            let e = first p (same_phase C plan p b h i) in
-            let z : 4096 * (b - blocks_before (length C.rows) (size C.field) plan.m p) + 0 ≡ 4096 * (b - blocks_before (length C.rows) (size C.field) plan.m p) = omega arith in
-            record {
-              message = rw (z, ← h.dimension, ← h.field) e;
-              level = level p (same_phase C plan p b h i);
-              set = set_is p (same_phase C plan p b h i);
-            };
+        of_block = first_of_block C plan b s h first level set_is;
       },
       below.1,
     )

@@ -1,6 +1,7 @@
 -- The tables of the sets and their parts, as they are pushed.
 --   no_tables, no_grids          none
 --   all_pushed, one_of_all       what holds of each item of a list by its index holds of one more, and of an item that is read
+--   one_part, one_grid_part      a part of a table that is read
 --   three_elements               a field of 3 elements
 --   two_elements                 a field of 2 elements is that of the bits
 --   part_cut, cut_inside, parts_pushed      a part of the columns, as it is cut off, and the parts with one more
@@ -18,7 +19,8 @@ use Rattle.lc_place.proofs.Products.{get-append_left, get-append_right}
 use Rattle.lc_infoset.proofs.NextLaws.{filter_more, filter_same}
 use Rattle.lc_kernel.specs.declared.grid.Grid.{Grid}
 use Rattle.lc_kernel.specs.declared.table.Table.{Table}
-use Rattle.lc_kernel.specs.Grids.{AreGrids}
+use Rattle.lc_kernel.specs.declared.grid.GridPart.{GridPart}
+use Rattle.lc_kernel.specs.Grids.{IsGridPart, AreGridParts, AreGrids}
 use Rattle.lc_infoset.specs.Bound.{set_at}
 use Rattle.lc_kernel.specs.declared.parts.Part.{Part}
 use Rattle.lc_kernel.specs.Packed.{others, part_at, IsPart}
@@ -57,6 +59,12 @@ all_pushed P xs more x h is made i y at =
 
 pub one_of_all : {X : Type 0} (P : ℕ → X → Type 0) (xs : List X) (i : ℕ) (x : X) → ((j : ℕ) (y : X) → slice_get xs j ≡ Some y → P j y) → i < length xs → x ≡ slice_index_or xs i x → P i x
 one_of_all P xs i x h l e = h i x (slice_get-get_or xs i x l ∙ ap Some (sym e))
+
+pub one_part : (C : Matrix) (j t b : ℕ) (ps : List Part) (p : Part) → AreParts C j t ps → b < length ps → p ≡ slice_index_or ps b p → IsPart C j t (part_at (others C j) b) p.rows.items p.sums.items
+one_part C j t b ps p h l e = one_of_all (λ i (x : Part). IsPart C j t (part_at (others C j) i) x.rows.items x.sums.items) ps b p h l e
+
+pub one_grid_part : (C : Matrix) (j n b : ℕ) (ps : List GridPart) (p : GridPart) → AreGridParts C j n ps → b < length ps → p ≡ slice_index_or ps b p → IsGridPart C j (part_at (others C j) b) n p.columns.items p.bits.items
+one_grid_part C j n b ps p h l e = one_of_all (λ i (x : GridPart). IsGridPart C j (part_at (others C j) i) n x.columns.items x.bits.items) ps b p h l e
 
 pub part_cut : (cols : List ℕ) (b start end : ℕ) → start ≡ 64 * b → start ≤ length cols → end ≡ min (length cols) (start + 64) → take (end - start) (drop start cols) ≡ part_at cols b
 part_cut cols b start end e l which =

@@ -4,10 +4,11 @@
 --   last_tail       the last pair of nonzero elements
 --   last_along      the last message of a run
 --   last_of_run     the spot at it
+--   run_passed      the spot after a step from it
 --   last_fronts     its fronts are those of the run
 --   outside_few     a word has at most 255 nonzero symbols outside a basis
 --   least_of_block  the least value of a block, from the first of its words that is least outside the basis
-use Rattle.std.proofs.Common.{◌≡◌, ℕ, suc, ◌+◌, ◌-◌, ◌*◌, ◌/◌, ◌%◌, ◌^◌, ◌<◌, ◌≤◌, zero, List, [], ◌∷◌, ◌++◌, length, take, Some, option_map, Contains, slice_get, slice_index, slice_index_or, bit_or, bit_xor, count_ones, refl, sym, ap, subst, ◌∙◌, arith}
+use Rattle.std.proofs.Common.{◌≡◌, ℕ, suc, ◌+◌, ◌-◌, ◌*◌, ◌/◌, ◌%◌, ◌^◌, ◌<◌, ◌≤◌, zero, Bool, if◌then◌else◌, List, [], ◌∷◌, ◌++◌, length, take, Some, None, option_map, Contains, slice_get, slice_index, slice_index_or, bit_or, bit_xor, count_ones, refl, sym, ap, subst, ◌∙◌, arith}
 use Rattle.std.proofs.Math.Seq.{take-append_seam}
 use Rattle.std.proofs.lemmas.List.{length-take-le}
 use Rattle.std.proofs.lemmas.Nat.{div-mul-add, mod-mul-add}
@@ -35,7 +36,7 @@ use Rattle.lc_kernel.specs.Grid.{tail_pair, tail_count, tail_index, tail_word, t
 use Rattle.lc_kernel.proofs.FrontLaws.{entries_are, front_same}
 use Rattle.lc_kernel.proofs.GridLaws.{tails_along, last_two, tail_run_ones, tail_run_room}
 use Rattle.lc_kernel.proofs.PackLaws.{part_more, others_few}
-use Rattle.lc_kernel.proofs.RunLaws.{support_parts, block_weight}
+use Rattle.lc_kernel.proofs.RunLaws.{support_parts, block_weight, spot_next}
 use Rattle.lc_kernel.proofs.ScanLaws.{block_value_of_words}
 use Rattle.lc_kernel.proofs.LeastLaws.{least_value}
 
@@ -109,6 +110,11 @@ last_of_run C m b done count s last at h =
             set = h.set ∙ here.set;
           };
     }
+
+pub run_passed : (C : Matrix) (plan : PlanSize) (b done count : ℕ) (s last next : SpotState) (o : Bool) → IsPlanOf plan C → IsSpotAt C plan.m b done s → EndsRun C s last count → done + count < length (block_words C plan.m b) → ((i : ℕ) → slice_get (messages plan.k plan.q (length last.support)) i ≡ Some (spot_message last) → slice_get (messages plan.k plan.q (length last.support)) (i + 1) ≡ (if o then Some (spot_message next) else None)) → Contains (messages plan.k plan.q (length next.support)) (spot_message next) → length next.support ≡ length last.support → next.set ≡ last.set → IsSpotAt C plan.m b (done + count) next
+run_passed C plan b done count s last next o p at h inside after message level set_is =
+    let place : done + (count - 1) + 1 ≡ done + count = omega (arith, h.some) in
+    subst (λ z. IsSpotAt C plan.m b z next) place (spot_next C plan b (done + (count - 1)) last next o p (last_of_run C plan.m b done count s last at h) (omega (arith, inside, h.some)) after message level set_is)
 
 pub last_fronts : (C : Matrix) (s last : SpotState) (count i : ℕ) → EndsRun C s last count → i ≤ length s.support - 2 → front_word C last i ≡ front_word C s i
 last_fronts C s last count i h l =

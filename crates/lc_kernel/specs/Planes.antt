@@ -5,6 +5,8 @@
 --   apart n u v             the bits at which one of the first n planes of two words differ
 --   HasPlanes n w x         the first n numbers of a list are the planes of a word
 --   IsPlaneSum f x y z      z has the planes of the sum of any two words over f whose planes are x and y
+--   sum_carry n x y         what the lowest n bits of the sum of two numbers carry, at each place, from the bits of the numbers
+--   sum_bit n x y           bit n of that sum, at each place
 --   trit_sum a b c d        a plane of a sum over 3 elements, from the planes of two words: a and c are the same plane as that of the sum
 --   digit_planes a b c d    over 9 elements, from the four planes of a word: where the low digit to the base 3 of its symbols is 1
 --                           and 2, and where the high one is
@@ -35,6 +37,13 @@ HasPlanes n w x = (p : ℕ) → p < n → slice_index x p ≡ plane p w
 
 pub record IsPlaneSum (f : FieldName) (x y z : List ℕ) : Type 0 where
   pub planes : (n : ℕ) (u v : List ℕ) → size f ≤ 2 ^ n → n ≤ 4 → length u ≡ length v → Fits f u → Fits f v → HasPlanes n u x → HasPlanes n v y → HasPlanes n (word_sum f u v) z
+
+abbrev pub sum_carry : ℕ → List ℕ → List ℕ → ℕ
+sum_carry zero x y = 0
+sum_carry (suc n) x y = bit_or (bit_and (slice_index x n) (slice_index y n)) (bit_and (bit_xor (slice_index x n) (slice_index y n)) (sum_carry n x y))
+
+abbrev pub sum_bit : ℕ → List ℕ → List ℕ → ℕ
+sum_bit n x y = bit_xor (bit_xor (slice_index x n) (slice_index y n)) (sum_carry n x y)
 
 abbrev pub trit_sum : ℕ → ℕ → ℕ → ℕ → ℕ
 trit_sum a b c d = bit_xor (bit_or b d) (bit_xor (bit_or a d) (bit_or b c))

@@ -1,9 +1,9 @@
 //! The planes of the sum of two words, from those of the words: many symbols at once, by the bits of their numbers.
 
-ghost use Rattle.std.specs.Prelude.{◌≡◌, ℕ, ◌<◌, ◌≤◌, slice_index, bit_xor};
-ghost use Rattle.lc_algebra.specs.declared.FieldName.TheVariants.{Gf3, Gf5, Gf7, Gf9, Gf11, Gf13};
+ghost use Rattle.std.specs.Prelude.{◌≡◌, ℕ, ◌<◌, ◌≤◌, slice_index, bit_and, bit_or, bit_xor};
+ghost use Rattle.lc_algebra.specs.declared.FieldName.{FieldName};
 ghost use Rattle.lc_algebra.specs.Field.{size};
-ghost use Rattle.lc_kernel.specs.Planes.{IsPlaneSum, trit_sum, digit_planes};
+ghost use Rattle.lc_kernel.specs.Planes.{IsPlaneSum, sum_bit, sum_carry, trit_sum, digit_planes};
 
 use lc_field::Field;
 
@@ -53,23 +53,41 @@ fn trits(a: u64, b: u64, c: u64, d: u64) -> u64
 // The same over 3 elements.
 #[inline]
 fn sum_three(u: &[u64; 4], v: &[u64; 4]) -> [u64; 4]
-    ensures is { IsPlaneSum Gf3 u.now v.now result }
+    ensures is { (f : FieldName) → size f ≡ 3 → IsPlaneSum f u.now v.now result }
 {
     let low = trits(u[0], u[1], v[0], v[1]);
     let high = trits(u[1], u[0], v[1], v[0]);
     [low, high, 0, 0]
 }
 
+// The sum of three bits at each place: its low bit, and what it carries.
+#[inline]
+fn sum_bits(a: u64, b: u64, c: u64) -> (u64, u64)
+    ensures low { result.0 ≡ bit_xor (bit_xor a b) c }
+    ensures carried { result.1 ≡ bit_or (bit_and a b) (bit_and (bit_xor a b) c) }
+{
+    ((a ^ b) ^ c, (a & b) | ((a ^ b) & c))
+}
+
+// The lowest three bits of the sum of two numbers at each place, and what they carry.
+#[inline]
+fn sum_low(u: &[u64; 4], v: &[u64; 4]) -> (u64, u64, u64, u64)
+    ensures one { result.0 ≡ sum_bit 0 u.now v.now }
+    ensures two { result.1 ≡ sum_bit 1 u.now v.now }
+    ensures four { result.2 ≡ sum_bit 2 u.now v.now }
+    ensures carried { result.3 ≡ sum_carry 3 u.now v.now }
+{
+    let (one, first) = sum_bits(u[0], v[0], 0);
+    let (two, second) = sum_bits(u[1], v[1], first);
+    let (four, third) = sum_bits(u[2], v[2], second);
+    (one, two, four, third)
+}
+
 // The same over 5 elements: the sum of the numbers, and if that is at least 5, then 3 more without the eights.
 fn sum_five(u: &[u64; 4], v: &[u64; 4]) -> [u64; 4]
-    ensures is { IsPlaneSum Gf5 u.now v.now result }
+    ensures is { (f : FieldName) → size f ≡ 5 → IsPlaneSum f u.now v.now result }
 {
-    let one = u[0] ^ v[0];
-    let first = u[0] & v[0];
-    let two = (u[1] ^ v[1]) ^ first;
-    let second = (u[1] & v[1]) | ((u[1] ^ v[1]) & first);
-    let four = (u[2] ^ v[2]) ^ second;
-    let third = (u[2] & v[2]) | ((u[2] ^ v[2]) & second);
+    let (one, two, four, third) = sum_low(u, v);
     let over = third | (four & (two | one));
     let carry = over & (two | one);
     [one ^ over, (two ^ over) ^ (one & over), four ^ carry, 0]
@@ -77,14 +95,9 @@ fn sum_five(u: &[u64; 4], v: &[u64; 4]) -> [u64; 4]
 
 // The same over 7 elements: the sum of the numbers, and if that is at least 8, then 1 more without the eights; 7 is 0.
 fn sum_seven(u: &[u64; 4], v: &[u64; 4]) -> [u64; 4]
-    ensures is { IsPlaneSum Gf7 u.now v.now result }
+    ensures is { (f : FieldName) → size f ≡ 7 → IsPlaneSum f u.now v.now result }
 {
-    let one = u[0] ^ v[0];
-    let first = u[0] & v[0];
-    let two = (u[1] ^ v[1]) ^ first;
-    let second = (u[1] & v[1]) | ((u[1] ^ v[1]) & first);
-    let four = (u[2] ^ v[2]) ^ second;
-    let over = (u[2] & v[2]) | ((u[2] ^ v[2]) & second);
+    let (one, two, four, over) = sum_low(u, v);
     let low = one ^ over;
     let middle = two ^ (one & over);
     let high = four ^ (two & (one & over));
@@ -94,16 +107,10 @@ fn sum_seven(u: &[u64; 4], v: &[u64; 4]) -> [u64; 4]
 
 // The same over 11 elements: the sum of the numbers, and if that is at least 11, then 5 more without the sixteens.
 fn sum_eleven(u: &[u64; 4], v: &[u64; 4]) -> [u64; 4]
-    ensures is { IsPlaneSum Gf11 u.now v.now result }
+    ensures is { (f : FieldName) → size f ≡ 11 → IsPlaneSum f u.now v.now result }
 {
-    let one = u[0] ^ v[0];
-    let first = u[0] & v[0];
-    let two = (u[1] ^ v[1]) ^ first;
-    let second = (u[1] & v[1]) | ((u[1] ^ v[1]) & first);
-    let four = (u[2] ^ v[2]) ^ second;
-    let third = (u[2] & v[2]) | ((u[2] ^ v[2]) & second);
-    let eight = (u[3] ^ v[3]) ^ third;
-    let fourth = (u[3] & v[3]) | ((u[3] ^ v[3]) & third);
+    let (one, two, four, third) = sum_low(u, v);
+    let (eight, fourth) = sum_bits(u[3], v[3], third);
     let over = fourth | (eight & (four | (two & one)));
     let carry = two & (one & over);
     let last = (four & over) | carry;
@@ -117,16 +124,10 @@ fn sum_eleven(u: &[u64; 4], v: &[u64; 4]) -> [u64; 4]
 
 // The same over 13 elements: the sum of the numbers, and if that is at least 13, then 3 more without the sixteens.
 fn sum_thirteen(u: &[u64; 4], v: &[u64; 4]) -> [u64; 4]
-    ensures is { IsPlaneSum Gf13 u.now v.now result }
+    ensures is { (f : FieldName) → size f ≡ 13 → IsPlaneSum f u.now v.now result }
 {
-    let one = u[0] ^ v[0];
-    let first = u[0] & v[0];
-    let two = (u[1] ^ v[1]) ^ first;
-    let second = (u[1] & v[1]) | ((u[1] ^ v[1]) & first);
-    let four = (u[2] ^ v[2]) ^ second;
-    let third = (u[2] & v[2]) | ((u[2] ^ v[2]) & second);
-    let eight = (u[3] ^ v[3]) ^ third;
-    let fourth = (u[3] & v[3]) | ((u[3] ^ v[3]) & third);
+    let (one, two, four, third) = sum_low(u, v);
+    let (eight, fourth) = sum_bits(u[3], v[3], third);
     let over = fourth | ((eight & four) & (two | one));
     let carry = over & (two | one);
     [
@@ -150,7 +151,7 @@ fn digits(x: &[u64; 4]) -> [u64; 4]
 
 // The same over 9 elements: the sums of the digits to the base 3.
 fn sum_nine(u: &[u64; 4], v: &[u64; 4]) -> [u64; 4]
-    ensures is { IsPlaneSum Gf9 u.now v.now result }
+    ensures is { (f : FieldName) → size f ≡ 9 → IsPlaneSum f u.now v.now result }
 {
     let x = digits(u);
     let y = digits(v);

@@ -4,4 +4,4 @@ use Rattle.lc_kernel.proofs.adders.sum_three.Goals as goal
 
 pub returns : goal.returns
 unfolding value
-returns c = record { is = three_sum c.args.u.now c.args.v.now _ (rw (c.trits-low.ensures.is, c.trits-high.ensures.is) refl) }
+returns c = record { is = λ f e. three_sum f c.args.u.now c.args.v.now _ e (rw (c.trits-low.ensures.is, c.trits-high.ensures.is) refl) }

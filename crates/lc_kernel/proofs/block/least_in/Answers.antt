@@ -1,22 +1,27 @@
-use Rattle.std.proofs.Common.{length, subst, arith}
+use Rattle.std.proofs.Common.{◌<◌, length, subst, arith}
+use Rattle.lc_enumeration.specs.Search.{set_count}
 use Rattle.lc_kernel.specs.declared.grid.Grid.{Grid}
 use Rattle.lc_kernel.specs.declared.table.Table.{Table}
+use Rattle.lc_kernel.specs.Values.{IsSpotAt}
 use Rattle.lc_kernel.specs.Grids.{IsGrid}
 use Rattle.lc_kernel.specs.Fronts.{HasFronts}
 use Rattle.lc_kernel.specs.Tables.{IsTable}
 use Rattle.lc_kernel.proofs.ScanLaws.{spot_at}
 use Rattle.lc_kernel.proofs.TableLaws.{one_of_all}
+use Rattle.lc_kernel.proofs.block.least_in.Goals.{After-start_of}
 use Rattle.lc_kernel.proofs.block.least_in.Goals as goal
 
-pub by_tails-requires-clause-set : goal.by_tails-requires-clause-set
-by_tails-requires-clause-set c =
+-- the spot is at the first message of the block
+started : (c : After-start_of) → IsSpotAt c.args.sets.now c.args.plan.now.m c.args.block 0 c.start_of.new.spot × (c.start_of.new.spot.set < set_count c.args.sets.now)
+started c =
     let e = c.start_of.ensures in
-    (spot_at c.args.sets.now c.args.plan.now c.args.block c.start_of.new.spot c.requires.plan e.first e.level e.set e.message (c.phase_of-phase.ensures.found.0, c.phase_of-phase.ensures.found.1)).1
+    spot_at c.args.sets.now c.args.plan.now c.args.block c.start_of.new.spot c.requires.plan e.first e.level e.set e.message (c.phase_of-phase.ensures.found.0, c.phase_of-phase.ensures.found.1)
+
+pub by_tails-requires-clause-set : goal.by_tails-requires-clause-set
+by_tails-requires-clause-set c = (started (goal.at.by_tails-requires-clause-set c).After-start_of).1
 
 pub by_tails-requires-clause-at : goal.by_tails-requires-clause-at
-by_tails-requires-clause-at c =
-    let e = c.start_of.ensures in
-    (spot_at c.args.sets.now c.args.plan.now c.args.block c.start_of.new.spot c.requires.plan e.first e.level e.set e.message (c.phase_of-phase.ensures.found.0, c.phase_of-phase.ensures.found.1)).0
+by_tails-requires-clause-at c = (started (goal.at.by_tails-requires-clause-at c).After-start_of).0
 
 pub by_tails-requires-clause-grid : goal.by_tails-requires-clause-grid
 by_tails-requires-clause-grid c =
@@ -31,14 +36,10 @@ by_tails-requires-clause-kept c =
     subst (λ j. HasFronts c.args.sets.now j g.planes (length g.parts.items) g.rows.items) c.set-set.ensures fronts
 
 pub by_runs-requires-clause-set : goal.by_runs-requires-clause-set
-by_runs-requires-clause-set c =
-    let e = c.start_of.ensures in
-    (spot_at c.args.sets.now c.args.plan.now c.args.block c.start_of.new.spot c.requires.plan e.first e.level e.set e.message (c.phase_of-phase.ensures.found.0, c.phase_of-phase.ensures.found.1)).1
+by_runs-requires-clause-set c = (started (goal.at.by_runs-requires-clause-set c).After-start_of).1
 
 pub by_runs-requires-clause-at : goal.by_runs-requires-clause-at
-by_runs-requires-clause-at c =
-    let e = c.start_of.ensures in
-    (spot_at c.args.sets.now c.args.plan.now c.args.block c.start_of.new.spot c.requires.plan e.first e.level e.set e.message (c.phase_of-phase.ensures.found.0, c.phase_of-phase.ensures.found.1)).0
+by_runs-requires-clause-at c = (started (goal.at.by_runs-requires-clause-at c).After-start_of).0
 
 pub by_runs-requires-clause-table : goal.by_runs-requires-clause-table
 by_runs-requires-clause-table c =

@@ -1,16 +1,14 @@
 use Rattle.std.proofs.Common.{◌+◌, ◌-◌, ◌*◌, ◌≤◌, [], length, take, slice_index, slice_index_or, sym, ap, subst, ◌∙◌, arith}
 use Rattle.lc_enumeration.specs.Search.{block_words}
-use Rattle.lc_kernel.specs.declared.grid.GridPart.{GridPart}
 use Rattle.lc_kernel.specs.Packed.{others, part_at}
 use Rattle.lc_kernel.specs.Grid.{AreTailPlanes}
-use Rattle.lc_kernel.specs.Grids.{IsGridPart}
 use Rattle.lc_kernel.specs.Sums.{front_word}
 use Rattle.lc_kernel.specs.Least.{AreCounted}
 use Rattle.lc_kernel.proofs.GridLaws.{tail_run_room}
 use Rattle.lc_kernel.proofs.TailLaws.{tails_counted}
 use Rattle.lc_kernel.proofs.PackLaws.{part_none, part_all}
 use Rattle.lc_kernel.proofs.PlaneLaws.{zeros_at}
-use Rattle.lc_kernel.proofs.TableLaws.{one_of_all}
+use Rattle.lc_kernel.proofs.TableLaws.{one_grid_part}
 use Rattle.lc_kernel.proofs.fronts.count_front.Goals as goal
 
 pub add_apart-requires-clause-long : goal.add_apart-requires-clause-long
@@ -18,7 +16,7 @@ add_apart-requires-clause-long c =
     let C = c.args.sets.now in
     let j = c.args.spot.now.set in
     let n = c.args.grid.now.planes in
-    let part : IsGridPart C j (part_at (others C j) 0) n c.index-part.result.now.columns.items c.index-part.result.now.bits.items = one_of_all (λ b (x : GridPart). IsGridPart C j (part_at (others C j) b) n x.columns.items x.bits.items) c.args.grid.now.parts.items 0 c.index-part.result.now c.requires.grid.parts (omega (arith, c.requires.alone)) c.index-part.ensures in
+    let part = one_grid_part C j n 0 c.args.grid.now.parts.items c.index-part.result.now c.requires.grid.parts (omega (arith, c.requires.alone)) c.index-part.ensures in
     ap length c.as_slice-tails.ensures.value ∙ part.planes.long ∙ ap (λ z. n * z) (sym c.requires.grid.count)
 
 pub add_apart-requires-clause-room : goal.add_apart-requires-clause-room
@@ -37,7 +35,7 @@ returns c =
     let count = length c.args.counts.now in
     let head = front_word C s (length s.support - 2) in
     let zeros = c.fill.new.self in
-    let part : IsGridPart C j (part_at cols 0) n c.index-part.result.now.columns.items c.index-part.result.now.bits.items = one_of_all (λ b (x : GridPart). IsGridPart C j (part_at (others C j) b) n x.columns.items x.bits.items) c.args.grid.now.parts.items 0 c.index-part.result.now c.requires.grid.parts (omega (arith, c.requires.alone)) c.index-part.ensures in
+    let part = one_grid_part C j n 0 c.args.grid.now.parts.items c.index-part.result.now c.requires.grid.parts (omega (arith, c.requires.alone)) c.index-part.ensures in
     let planes : AreTailPlanes C j (part_at cols 0) n c.as_slice-tails.result.now = subst (AreTailPlanes C j (part_at cols 0) n) (sym c.as_slice-tails.ensures.value) part.planes in
     let none : AreCounted (take (64 * 0) cols) ws done count zeros = λ i l. ap (λ z. slice_index z i) (c.fill.ensures.after (λ y e. e)) ∙ zeros_at count i ∙ sym (part_none cols (slice_index_or ws (done + i) [])) in
     let whole : AreCounted (take (64 * (0 + 1)) cols) ws done count c.add_apart.new.counts = tails_counted C m c.args.block done c.args.start count n 0 c.args.grid.now.tails s head cols zeros c.add_apart.new.counts c.args.head.now c.as_slice-tails.result.now c.requires.run c.requires.grid.planes c.requires.grid.count planes c.requires.head

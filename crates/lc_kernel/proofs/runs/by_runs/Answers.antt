@@ -7,7 +7,10 @@ use Rattle.lc_kernel.specs.Least.{IsFirstLeast, AreCounted}
 use Rattle.lc_kernel.proofs.FrontLaws.{entries_are}
 use Rattle.lc_kernel.proofs.PackLaws.{others_few}
 use Rattle.lc_kernel.proofs.ScanLaws.{phase_same, words_of_block}
-use Rattle.lc_kernel.proofs.RunLaws.{counted_few, runs_value}
+use Rattle.lc_kernel.proofs.LeastLaws.{counted_first}
+use Rattle.lc_kernel.proofs.RunLaws.{counted_few}
+use Rattle.lc_kernel.proofs.TailLaws.{least_of_block}
+use Rattle.lc_kernel.proofs.runs.by_runs.Goals.{After-count_block}
 use Rattle.lc_kernel.proofs.runs.by_runs.Goals as goal
 
 pub count_block-requires-clause-words : goal.count_block-requires-clause-words
@@ -16,17 +19,22 @@ count_block-requires-clause-words c =
     let long = words_of_block c.args.sets.now c.args.plan.now found.0 c.args.block c.block_len-len.result c.requires.plan found.1 (c.block_len-len.ensures.exact found.0 found.1) in
     length-take-le c.block_len-len.result c.args.counts.now (omega (arith, c.block_len-len.ensures.few, c.requires.room)) ∙ sym long
 
-pub first_least-least-requires-clause-few : goal.first_least-least-requires-clause-few
-first_least-least-requires-clause-few c i l =
-    let C = c.args.sets.now in
-    let m = c.args.plan.now.m in
+-- the counts that the code searches are those that it made
+same_counts : (c : After-count_block) → take c.block_len-len.result (c.count_block.new.counts ++ drop c.block_len-len.result c.args.counts.now) ≡ c.count_block.new.counts
+same_counts c =
     let n = c.block_len-len.result in
     let old = c.args.counts.now in
     let new = c.count_block.new.counts in
     let long : length (take n old) ≡ n = length-take-le n old (omega (arith, c.block_len-len.ensures.few, c.requires.room)) in
-    let same : take n (new ++ drop n old) ≡ new = ap (λ z. take z (new ++ drop n old)) (sym (c.count_block.auto.counts ∙ long)) ∙ take-append_seam new (drop n old) in
-    let few : length (others C c.args.spot.now.set) ≤ 255 = omega (arith, others_few C c.args.spot.now.set, c.length-n.ensures.is, c.length-n.ensures.most) in
-    rw same (counted_few C m c.args.block 0 (length (take n old)) (others C c.args.spot.now.set) new few c.count_block.ensures.counted i (omega (arith, l, ap length same, c.count_block.auto.counts)))
+    ap (λ z. take z (new ++ drop n old)) (sym (c.count_block.auto.counts ∙ long)) ∙ take-append_seam new (drop n old)
+
+pub first_least-least-requires-clause-few : goal.first_least-least-requires-clause-few
+first_least-least-requires-clause-few c i l =
+    let C = c.args.sets.now in
+    let cols = others C c.args.spot.now.set in
+    let same = same_counts (goal.at.first_least-least-requires-clause-few c).After-count_block in
+    let few : length cols ≤ 255 = omega (arith, others_few C c.args.spot.now.set, c.length-n.ensures.is, c.length-n.ensures.most) in
+    rw same (counted_few C c.args.plan.now.m c.args.block 0 (length (take c.block_len-len.result c.args.counts.now)) cols c.count_block.new.counts few c.count_block.ensures.counted i (omega (arith, l, ap length same, c.count_block.auto.counts)))
 
 pub overflow_mul-result : goal.overflow_mul-result
 overflow_mul-result c =
@@ -55,5 +63,9 @@ returns-clause-is c =
     let small : b < 2 ^ 40 = omega (arith, c.requires.block, c.total-few.ensures.exact, c.total-few.ensures.few) in
     let words : length (block_words C plan.m b) ≡ n = words_of_block C plan found.0 b n c.requires.plan found.1 (c.block_len-len.ensures.exact found.0 found.1) in
     let long : length (take n old) ≡ n = length-take-le n old (omega (arith, c.block_len-len.ensures.few, c.requires.room)) in
-    let same : take n (new ++ drop n old) ≡ new = ap (λ z. take z (new ++ drop n old)) (sym (c.count_block.auto.counts ∙ long)) ∙ take-append_seam new (drop n old) in
-    runs_value C plan found.0 b (length c.support.result.now) c.first_least-least.result.0 c.first_least-least.result.1 c.args.spot.now new c.requires.plan c.dimension-k.ensures.rows c.dimension-k.ensures.independent c.requires.set phase small c.requires.at (ap length c.support.ensures.places) (c.count_block.auto.counts ∙ long ∙ sym words) (subst (λ x. AreCounted (others C c.args.spot.now.set) (block_words C plan.m b) 0 x new) (sym c.count_block.auto.counts) c.count_block.ensures.counted) (subst (λ x. IsFirstLeast (length x) (λ i. slice_index x i) c.first_least-least.result.0 c.first_least-least.result.1) same c.first_least-least.ensures.is)
+    let same = same_counts (goal.at.returns-clause-is c).After-count_block in
+    let cols = others C c.args.spot.now.set in
+    let ws = block_words C plan.m b in
+    let counted : AreCounted cols ws 0 (length new) new = subst (λ x. AreCounted cols ws 0 x new) (sym c.count_block.auto.counts) c.count_block.ensures.counted in
+    let first : IsFirstLeast (length new) (λ i. slice_index new i) c.first_least-least.result.0 c.first_least-least.result.1 = subst (λ x. IsFirstLeast (length x) (λ i. slice_index x i) c.first_least-least.result.0 c.first_least-least.result.1) same c.first_least-least.ensures.is in
+    least_of_block C plan found.0 b (length c.support.result.now) (length new) c.first_least-least.result.0 c.first_least-least.result.1 c.args.spot.now c.requires.plan c.dimension-k.ensures.rows c.dimension-k.ensures.independent c.requires.set phase small c.requires.at (ap length c.support.ensures.places) (c.count_block.auto.counts ∙ long ∙ sym words) (counted_first (length new) cols ws new c.first_least-least.result.0 c.first_least-least.result.1 counted first)

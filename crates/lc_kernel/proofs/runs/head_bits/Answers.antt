@@ -1,10 +1,9 @@
 use Rattle.std.proofs.Common.{◌≡◌, ◌+◌, ◌<◌, suc, length, bit_xor, slice_index, sym, ap, ◌∙◌, arith}
-use Rattle.lc_kernel.specs.declared.parts.Part.{Part}
-use Rattle.lc_kernel.specs.Packed.{others, part_at, bits_at, IsPart}
+use Rattle.lc_kernel.specs.Packed.{others, part_at, bits_at}
 use Rattle.lc_kernel.specs.Sums.{front_word}
 use Rattle.lc_kernel.proofs.FrontLaws.{entries_are}
 use Rattle.lc_kernel.proofs.PackLaws.{bits_none, bits_more}
-use Rattle.lc_kernel.proofs.TableLaws.{one_of_all}
+use Rattle.lc_kernel.proofs.TableLaws.{one_part}
 use Rattle.lc_kernel.proofs.runs.head_bits.Goals as goal
 
 pub loop-i-init : goal.loop-i-init
@@ -20,7 +19,7 @@ pub bounds-rows-support : goal.bounds-rows-support
 bounds-rows-support c =
     let t = entries_are c.args.sets.now c.args.spot.now c.requires.message in
     let inside : c.loop-i.i < length c.args.spot.now.support = omega (arith, c.loop-i-test.true, c.loop-i.auto.i-end, ap length c.support.ensures.places) in
-    let p : IsPart c.args.sets.now c.args.spot.now.set c.args.table.now.tail (part_at (others c.args.sets.now c.args.spot.now.set) c.args.part) c.index.result.now.rows.items c.index.result.now.sums.items = one_of_all (λ b (x : Part). IsPart c.args.sets.now c.args.spot.now.set c.args.table.now.tail (part_at (others c.args.sets.now c.args.spot.now.set) b) x.rows.items x.sums.items) c.args.table.now.parts.items c.args.part c.index.result.now c.requires.table.are c.requires.part c.index.ensures in
+    let p = one_part c.args.sets.now c.args.spot.now.set c.args.table.now.tail c.args.part c.args.table.now.parts.items c.index.result.now c.requires.table.are c.requires.part c.index.ensures in
     rw c.support-in-loop-i.ensures.places (omega (arith, t.row c.loop-i.i inside, p.tails.count, ap length c.as_slice-rows.ensures.value))
 
 pub loop-i-preserved : goal.loop-i-preserved
@@ -30,7 +29,7 @@ loop-i-preserved c =
     let i = c.loop-i.i in
     let cols = part_at (others C s.set) c.args.part in
     let inside : i < length s.support = omega (arith, c.loop-i-test.true, c.loop-i.auto.i-end, ap length c.support.ensures.places) in
-    let p : IsPart C s.set c.args.table.now.tail cols c.index.result.now.rows.items c.index.result.now.sums.items = one_of_all (λ b (x : Part). IsPart C s.set c.args.table.now.tail (part_at (others C s.set) b) x.rows.items x.sums.items) c.args.table.now.parts.items c.args.part c.index.result.now c.requires.table.are c.requires.part c.index.ensures in
+    let p = one_part c.args.sets.now c.args.spot.now.set c.args.table.now.tail c.args.part c.args.table.now.parts.items c.index.result.now c.requires.table.are c.requires.part c.index.ensures in
     let more = bits_more C cols s c.index.result.now.rows.items i c.requires.table.field c.dimension-k.ensures.rows c.dimension-k.ensures.independent c.requires.set c.requires.message p.bits inside in
     let step : suc i ≡ i + 1 = omega arith in
     let front = bits_at cols (front_word C s i) in

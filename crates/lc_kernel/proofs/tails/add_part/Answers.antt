@@ -1,17 +1,15 @@
 use Rattle.std.proofs.Common.{◌-◌, ◌*◌, ◌≤◌, length, take, drop, slice_index, refl, sym, ap, subst, ◌∙◌, arith}
 use Rattle.std.proofs.lemmas.List.{length-take}
 use Rattle.lc_algebra.specs.Word.{IsWord}
-use Rattle.lc_kernel.specs.declared.grid.GridPart.{GridPart}
 use Rattle.lc_kernel.specs.Planes.{plane_at}
 use Rattle.lc_kernel.specs.Packed.{others, part_at}
 use Rattle.lc_kernel.specs.Grid.{AreTailPlanes}
-use Rattle.lc_kernel.specs.Grids.{IsGridPart}
 use Rattle.lc_kernel.proofs.FrontLaws.{generates, front_word_fits}
 use Rattle.lc_kernel.proofs.GridLaws.{tail_run_room}
 use Rattle.lc_kernel.proofs.TailLaws.{tails_counted}
 use Rattle.lc_kernel.proofs.PackLaws.{others_few}
 use Rattle.lc_kernel.proofs.RunLaws.{counted_few}
-use Rattle.lc_kernel.proofs.TableLaws.{one_of_all, cut_inside}
+use Rattle.lc_kernel.proofs.TableLaws.{one_grid_part, cut_inside}
 use Rattle.lc_kernel.proofs.tails.add_part.Goals as goal
 
 pub pack-bits-requires-clause-few : goal.pack-bits-requires-clause-few
@@ -19,8 +17,7 @@ pack-bits-requires-clause-few c =
     let C = c.args.sets.now in
     let j = c.args.spot.now.set in
     let n = c.args.grid.now.planes in
-    let cols = part_at (others C j) c.args.part in
-    let part : IsGridPart C j cols n c.index-table.result.now.columns.items c.index-table.result.now.bits.items = one_of_all (λ b (x : GridPart). IsGridPart C j (part_at (others C j) b) n x.columns.items x.bits.items) c.args.grid.now.parts.items c.args.part c.index-table.result.now c.requires.grid.parts c.requires.part c.index-table.ensures in
+    let part = one_grid_part C j n c.args.part c.args.grid.now.parts.items c.index-table.result.now c.requires.grid.parts c.requires.part c.index-table.ensures in
     omega (arith, ap length (c.as_slice-columns.ensures.value ∙ part.columns_are), length-take 64 (drop (64 * c.args.part) (others C j)))
 
 pub pack-bits-requires-clause-inside : goal.pack-bits-requires-clause-inside
@@ -28,8 +25,7 @@ pack-bits-requires-clause-inside c t l =
     let C = c.args.sets.now in
     let j = c.args.spot.now.set in
     let n = c.args.grid.now.planes in
-    let cols = part_at (others C j) c.args.part in
-    let part : IsGridPart C j cols n c.index-table.result.now.columns.items c.index-table.result.now.bits.items = one_of_all (λ b (x : GridPart). IsGridPart C j (part_at (others C j) b) n x.columns.items x.bits.items) c.args.grid.now.parts.items c.args.part c.index-table.result.now c.requires.grid.parts c.requires.part c.index-table.ensures in
+    let part = one_grid_part C j n c.args.part c.args.grid.now.parts.items c.index-table.result.now c.requires.grid.parts c.requires.part c.index-table.ensures in
     let r = c.requires.run in
     let head : IsWord C.field C.columns c.args.head.now = rw r.head_is (front_word_fits C c.args.spot.now (length c.args.spot.now.support - 2) (generates C j r.rows_are r.free r.set)) in
     let columns = c.as_slice-columns.ensures.value ∙ part.columns_are in
@@ -41,8 +37,7 @@ add_apart-requires-clause-long c =
     let C = c.args.sets.now in
     let j = c.args.spot.now.set in
     let n = c.args.grid.now.planes in
-    let cols = part_at (others C j) c.args.part in
-    let part : IsGridPart C j cols n c.index-table.result.now.columns.items c.index-table.result.now.bits.items = one_of_all (λ b (x : GridPart). IsGridPart C j (part_at (others C j) b) n x.columns.items x.bits.items) c.args.grid.now.parts.items c.args.part c.index-table.result.now c.requires.grid.parts c.requires.part c.index-table.ensures in
+    let part = one_grid_part C j n c.args.part c.args.grid.now.parts.items c.index-table.result.now c.requires.grid.parts c.requires.part c.index-table.ensures in
     ap length c.as_slice-tails.ensures.value ∙ part.planes.long ∙ ap (λ z. n * z) (sym c.requires.grid.count)
 
 pub add_apart-requires-clause-room : goal.add_apart-requires-clause-room
@@ -60,7 +55,7 @@ returns c =
     let j = c.args.spot.now.set in
     let n = c.args.grid.now.planes in
     let cols = part_at (others C j) c.args.part in
-    let part : IsGridPart C j cols n c.index-table.result.now.columns.items c.index-table.result.now.bits.items = one_of_all (λ b (x : GridPart). IsGridPart C j (part_at (others C j) b) n x.columns.items x.bits.items) c.args.grid.now.parts.items c.args.part c.index-table.result.now c.requires.grid.parts c.requires.part c.index-table.ensures in
+    let part = one_grid_part C j n c.args.part c.args.grid.now.parts.items c.index-table.result.now c.requires.grid.parts c.requires.part c.index-table.ensures in
     let s = c.args.spot.now in
     let planes : AreTailPlanes C j cols n c.as_slice-tails.result.now = subst (AreTailPlanes C j cols n) (sym c.as_slice-tails.ensures.value) part.planes in
     let columns = c.as_slice-columns.ensures.value ∙ part.columns_are in
