@@ -37,7 +37,8 @@ use Rattle.lc_infoset.proofs.AnswerLaws.{levels_of}
 use Rattle.lc_search.proofs.LevelLaws.{levels_few}
 use Rattle.lc_formats.specs.Certificate.{Certificate, SetClaim, Proof, scan, levels, code_length, code_dimension, level_in, cost, words_through, seen_by, seen_words, span_divisor, claimed_sum, SetsHold, IsValid}
 use Rattle.lc_formats.proofs.CertificateBack.{mapped_all}
-use Rattle.lc_validity.proofs.DependentLaws.{independent_rows, set_systematic, echelon_systematic}
+use Rattle.lc_enumeration.proofs.DependentLaws.{independent_rows}
+use Rattle.lc_validity.proofs.DependentLaws.{set_systematic, echelon_systematic}
 use Rattle.lc_validity.proofs.ValidityLaws.{mapped_pairs}
 use Rattle.lc_language.specs.Query.{QueryKind, distance, by_levels, by_scan, claims_at, proof_of, certificate_of, word_at_place}
 use Rattle.lc_certify.specs.Claims.{claim_at}

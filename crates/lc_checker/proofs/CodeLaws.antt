@@ -1,132 +1,35 @@
 -- The code of a certificate: its dimension, its information sets and its generator matrices, of rows that may be dependent.
---   greedy_free, Spanned, greedy_spans     the greedy rule takes independent vectors, and enough to span all
 --   dimension_is               the dimension is the number of rows of the reduced matrix
 --   systematic_is              a matrix that is systematic on a set is the one of the definition
 --   greedy_append              the greedy rule on one order after another
 --   pivot_free, other_spanned  a column is a sum of multiples of the pivot columns before it exactly if it is no pivot
 --   greedy_pivots, basis_is    the first basis of all columns is that of the pivots
 --   echelon_is                 the echelon rows of the definition are the reduced matrix
-use Rattle.std.proofs.Common.{◌≡◌, ◌≢◌, ℕ, zero, suc, ◌+◌, ◌<◌, ◌≤◌, ◌⊎◌, Bool, true, false, cond, ◌==◌, if◌then◌else◌, List, [], ◌∷◌, ◌++◌, map, find, filter, length, take, slice_index, slice_index_or, Contains, unwrap_or, refl, sym, ap, ap₂, subst, ◌∙◌, ⊎_elim, inl, inr, arith, append-nil}
-use Rattle.std.proofs.lemmas.Bool.{cases_Bool, cases_lt, cases_eq, true≢false}
-use Rattle.std.proofs.lemmas.List.{length-map, map-append, get_or_default, get_or-map, get_or_append_left, ext_get_or, get_or-take, length-take-le, take_all, take_more}
-use Rattle.std.proofs.lemmas.List.Elements.{All-head, All-tail, Contains-get_or, Contains-append_cases, Contains-append_left, Contains-append_right, filter-append}
+use Rattle.std.proofs.Common.{◌≡◌, ◌≢◌, ℕ, zero, suc, ◌+◌, ◌<◌, ◌≤◌, Bool, true, false, cond, ◌==◌, if◌then◌else◌, List, [], ◌∷◌, ◌++◌, map, find, filter, length, take, slice_index, slice_index_or, Contains, unwrap_or, refl, sym, ap, ap₂, subst, ◌∙◌, ⊎_elim, arith, append-nil}
+use Rattle.std.proofs.lemmas.Bool.{cases_Bool, cases_lt, cases_eq}
+use Rattle.std.proofs.lemmas.List.{length-map, get_or_default, get_or-map, get_or_append_left, ext_get_or, get_or-take, length-take-le, take_all, take_more}
+use Rattle.std.proofs.lemmas.List.Elements.{filter-append}
 use Rattle.std.proofs.Math.Seq.{get_or-append_seam}
 use Rattle.lc_algebra.specs.declared.FieldName.{FieldName}
-use Rattle.lc_algebra.specs.Word.{IsWord, zero_word}
-use Rattle.lc_algebra.specs.Span.{below, InSpan, words, SameSpan, AreIndependent}
+use Rattle.lc_algebra.specs.Word.{zero_word}
+use Rattle.lc_algebra.specs.Span.{below, InSpan, words, SameSpan}
 use Rattle.lc_algebra.specs.Matrix.{column, entry, AreRows, HasPivots, IsEchelon, IsSystematic, IsIdentityOn}
 use Rattle.lc_algebra.specs.SpanLaws.{restrict}
-use Rattle.lc_algebra.proofs.WordLaws.{IsWord_zero}
-use Rattle.lc_algebra.proofs.SpanLaws.{span_row, same_span, same_span_symmetric, same_span_transitive, contains_cases, contains_head, contains_tail, contains_map, map_contains, below_contains, contains_below, length_below, member_of_word, word_of_member}
+use Rattle.lc_algebra.proofs.SpanLaws.{span_row, same_span_symmetric, same_span_transitive, length_below, member_of_word, word_of_member}
 use Rattle.lc_algebra.proofs.ReducedLaws.{identity_on_pivots, systematic_told, reduced_independent}
 use Rattle.lc_algebra.proofs.ColumnLaws.{index_restrict, length_restrict, column_outside, column_inside}
 use Rattle.lc_algebra.proofs.DimensionLaws.{dimension_unique}
-use Rattle.lc_algebra.proofs.DivisorLaws.{no_member}
 use Rattle.lc_enumeration.specs.InformationSet.{same_word, in_span, greedy, dimension, is_member, first_basis, unit_word, systematic, echelon_rows}
 use Rattle.lc_enumeration.proofs.MemberLaws.{same_from_test, test_from_same, in_span_true, true_in_span, member_true, true_member}
 use Rattle.lc_enumeration.proofs.PlanLaws.{find_only}
-use Rattle.lc_enumeration.proofs.GreedyLaws.{each_contained, span_of_member, span_wider, independent_last, AreVectors, vectors_are_rows}
+use Rattle.lc_enumeration.proofs.DependentLaws.{independent_rows}
 
 -- ---- the dimension
 
-greedy_free : (f : FieldName) (n : ℕ) (v : ℕ → List ℕ) (taken order : List ℕ) → AreVectors f n v → AreIndependent f n (map v taken) → AreIndependent f n (map v (greedy f n v taken order))
-unfolding greedy
-greedy_free f n v taken [] are free = free
-greedy_free f n v taken (i ∷ order) are free =
-    let goal = λ (b : Bool). AreIndependent f n (map v (cond b (greedy f n v taken order) (greedy f n v (taken ++ i ∷ []) order))) in
-    ⊎_elim
-    (λ e. subst goal (sym e) (greedy_free f n v taken order are free))
-    (λ e.
-    let out : InSpan f n (map v taken) (v i) → ⊥ = λ h. true≢false (sym (true_in_span f n (map v taken) (v i) h) ∙ e) in
-    subst goal (sym e) (greedy_free f n v (taken ++ i ∷ []) order are (subst (AreIndependent f n) (sym (map-append v taken (i ∷ []))) (independent_last f n (map v taken) (v i) (vectors_are_rows f n v taken are) (are i) free out))))
-    (cases_Bool (in_span f n (map v taken) (v i)))
-
-record Spanned (f : FieldName) (n : ℕ) (v : ℕ → List ℕ) (taken order set : List ℕ) : Type 0 where
-  pub keeps : (i : ℕ) → Contains taken i → Contains set i
-  pub within : (i : ℕ) → Contains set i → Contains taken i ⊎ Contains order i
-  pub spans : (i : ℕ) → Contains order i → InSpan f n (map v set) (v i)
-
-wider : (f : FieldName) (n : ℕ) (v : ℕ → List ℕ) (set others w : List ℕ) → AreVectors f n v → ((i : ℕ) → Contains set i → Contains others i) → InSpan f n (map v set) w → InSpan f n (map v others) w
-wider f n v set others w are h s = span_wider f n (map v set) (map v others) w (vectors_are_rows f n v others are) (λ x c. let t = contains_map v set x c in subst (Contains (map v others)) (sym t.2) (map_contains v others t.0 (h t.0 t.1))) s
-
-greedy_spans : (f : FieldName) (n : ℕ) (v : ℕ → List ℕ) (taken order : List ℕ) → AreVectors f n v → Spanned f n v taken order (greedy f n v taken order)
-unfolding greedy
-greedy_spans f n v taken [] are = record { keeps = λ i l. l; within = λ i l. inl l; spans = λ i l. absurd (no_member i l) }
-greedy_spans f n v taken (i ∷ order) are =
-    let goal = λ (b : Bool). Spanned f n v taken (i ∷ order) (cond b (greedy f n v taken order) (greedy f n v (taken ++ i ∷ []) order)) in
-    ⊎_elim
-    (λ e.
-    let r = greedy_spans f n v taken order are in
-    let set = greedy f n v taken order in
-    subst goal (sym e) (record {
-      keeps = r.keeps;
-      within = λ j l. ⊎_elim (λ m. inl m) (λ m. inr (contains_tail i j order m)) (r.within j l);
-      spans = λ j l. ⊎_elim
-          (λ s. subst (λ k. InSpan f n (map v set) (v k)) s (wider f n v taken set (v i) are r.keeps (in_span_true f n (map v taken) (v i) e)))
-          (λ m. r.spans j m) (contains_cases i j order l);
-    }))
-    (λ e.
-    let more = taken ++ i ∷ [] in
-    let r = greedy_spans f n v more order are in
-    let set = greedy f n v more order in
-    let added : Contains set i = r.keeps i (Contains-append_right taken (i ∷ []) i (contains_head i [])) in
-    subst goal (sym e) (record {
-      keeps = λ j l. r.keeps j (Contains-append_left taken (i ∷ []) j l);
-      within = λ j l. ⊎_elim
-          (λ m. ⊎_elim (λ s. inl s) (λ s. ⊎_elim (λ q. inr (subst (Contains (i ∷ order)) q (contains_head i order))) (λ q. absurd (no_member j q)) (contains_cases i j [] s)) (Contains-append_cases taken (i ∷ []) j m))
-          (λ m. inr (contains_tail i j order m))
-          (r.within j l);
-      spans = λ j l. ⊎_elim
-          (λ s. subst (λ k. InSpan f n (map v set) (v k)) s (span_of_member f n (map v set) (v i) (vectors_are_rows f n v set are) (map_contains v set i added)))
-          (λ m. r.spans j m) (contains_cases i j order l);
-    }))
-    (cases_Bool (in_span f n (map v taken) (v i)))
-
-no_rows_free : (f : FieldName) (n : ℕ) → AreIndependent f n []
-no_rows_free f n cs w e = nil cs w.long
-  where
-    nil : (cs : List ℕ) → length cs ≡ 0 → cs ≡ []
-    nil [] l = refl
-    nil (a ∷ cs) l = absurd (omega (arith, l))
-
--- a row, or the zero word past the end
-row_word : (f : FieldName) (n : ℕ) (rows : List (List ℕ)) (i : ℕ) → AreRows f n rows → IsWord f n (slice_index_or rows i (zero_word n))
-row_word f n [] i r = IsWord_zero f n
-row_word f n (g ∷ rows) zero r = All-head (IsWord f n) g rows r
-row_word f n (g ∷ rows) (suc i) r = row_word f n rows i (All-tail (IsWord f n) g rows r)
-
-map_same : {X Y : Type 0} (g h : X → Y) (xs : List X) → ((x : X) → Contains xs x → g x ≡ h x) → map g xs ≡ map h xs
-map_same g h [] e = refl
-map_same g h (x ∷ xs) e = ap₂ (λ y ys. y ∷ ys) (e x (contains_head x xs)) (map_same g h xs (λ y c. e y (contains_tail x y xs c)))
-
-greedy_same : (f : FieldName) (n : ℕ) (u v : ℕ → List ℕ) (taken order : List ℕ) → ((i : ℕ) → Contains taken i → u i ≡ v i) → ((i : ℕ) → Contains order i → u i ≡ v i) → greedy f n u taken order ≡ greedy f n v taken order
-unfolding greedy
-greedy_same f n u v taken [] t o = refl
-greedy_same f n u v taken (i ∷ order) t o =
-    let rest = λ (j : ℕ) (c : Contains order j). o j (contains_tail i j order c) in
-    let here = o i (contains_head i order) in
-    let more = λ (j : ℕ) (c : Contains (taken ++ i ∷ []) j). ⊎_elim (t j) (λ s. ⊎_elim (λ e. ap u (sym e) ∙ here ∙ ap v e) (λ a. absurd (no_member j a)) (contains_cases i j [] s)) (Contains-append_cases taken (i ∷ []) j c) in
-    ap (λ b. cond b (greedy f n u taken order) (greedy f n u (taken ++ i ∷ []) order)) (ap₂ (in_span f n) (map_same u v taken t) here)
-    ∙ ap₂ (λ x y. cond (in_span f n (map v taken) (v i)) x y) (greedy_same f n u v taken order t rest) (greedy_same f n u v (taken ++ i ∷ []) order more rest)
-
 pub dimension_is : (f : FieldName) (n : ℕ) (rows e : List (List ℕ)) → AreRows f n rows → IsEchelon f n rows e → dimension f n rows ≡ length e
-unfolding dimension
 dimension_is f n rows e r h =
-    let order = below (length rows) in
-    let v : ℕ → List ℕ = λ i. slice_index_or rows i (zero_word n) in
-    let are : AreVectors f n v = λ i. row_word f n rows i r in
-    let chosen = greedy f n v [] order in
-    let g = greedy_spans f n v [] order are in
-    let taken : AreRows f n (map v chosen) = vectors_are_rows f n v chosen are in
-    let same : SameSpan f n rows (map v chosen) = same_span f n rows (map v chosen) r taken
-    (λ k d l. subst (InSpan f n (map v chosen)) (get_or_default rows k (zero_word n) d l) (g.spans k (below_contains (length rows) k l)))
-    (each_contained (InSpan f n rows) (map v chosen) (λ w c.
-    let t = contains_map v chosen w c in
-    let inside : t.0 < length rows = ⊎_elim (λ a. absurd (no_member t.0 a)) (contains_below (length rows) t.0) (g.within t.0 t.1) in
-    subst (InSpan f n rows) (sym t.2) (span_of_member f n rows (v t.0) r (Contains-get_or rows t.0 (zero_word n) inside)))) in
-    ap length (greedy_same f n (λ i. slice_index_or rows i []) v [] order (λ i c. absurd (no_member i c)) (λ i c. get_or_default rows i [] (zero_word n) (contains_below (length rows) i c)))
-    ∙ sym (length-map chosen v)
-    ∙ dimension_unique f n (map v chosen) e taken h.words (greedy_free f n v [] order are (no_rows_free f n)) (reduced_independent f n e h.words h.reduced) (same_span_transitive f n (map v chosen) rows e (same_span_symmetric f n rows (map v chosen) same) h.same)
+    let t = independent_rows f n rows r in
+    sym t.many ∙ dimension_unique f n t.others e t.words h.words t.free (reduced_independent f n e h.words h.reduced) (same_span_transitive f n t.others rows e (same_span_symmetric f n rows t.others t.same) h.same)
 
 -- ---- systematic matrices
 

@@ -1,5 +1,6 @@
 pub mod BchExamples
 pub mod CodeExamples
+pub mod DependentLaws
 pub mod DistributionExamples
 pub mod DistributionLaws
 pub mod GreedyLaws

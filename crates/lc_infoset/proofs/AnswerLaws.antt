@@ -25,6 +25,7 @@ use Rattle.lc_enumeration.specs.Plan.{cut, phase_ends, blocks_before}
 use Rattle.lc_enumeration.specs.InformationSet.{information_sets, is_member}
 use Rattle.lc_enumeration.specs.Search.{no_word, sets_of, set_count, ranks_of, best, last_that, is_whole_below, level_below, levels_below, bound_sum, bound_of, bound, is_done, ends_of, answer_at, answer}
 use Rattle.lc_enumeration.specs.Truth.{AnswerHolds}
+use Rattle.lc_enumeration.proofs.DependentLaws.{map_same}
 use Rattle.lc_infoset.specs.Bound.{AreGenerators}
 use Rattle.lc_infoset.proofs.SetLaws.{filter_passes}
 use Rattle.lc_infoset.proofs.BestLaws.{FoundBy, find_passes, least_bound, best_word}
@@ -112,10 +113,6 @@ and_nothing false = refl
 and_same : (a b c : Bool) → (c ≡ true → a ≡ b) → (a && c) ≡ (b && c)
 and_same a b true h = ap (λ e. e && true) (h refl)
 and_same a b false h = and_nothing a ∙ sym (and_nothing b)
-
-map_same : {X Y : Type 0} (f g : X → Y) (xs : List X) → ((x : X) → Contains xs x → f x ≡ g x) → map f xs ≡ map g xs
-map_same f g [] h = refl
-map_same f g (x ∷ xs) h = ap (λ y. y ∷ map f xs) (h x (contains_head x xs)) ∙ ap (λ ys. g x ∷ ys) (map_same f g xs (λ y l. h y (contains_tail x y xs l)))
 
 abbrev pub ends_to : Matrix → ℕ → List ℕ
 ends_to C budget = filter (λ end. nat_le end budget) (ends_of C)

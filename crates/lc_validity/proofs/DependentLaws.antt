@@ -1,115 +1,38 @@
 -- Rows that may be dependent: what is known of the dimension, of information sets and of systematic matrices of independent rows
 -- holds of them too.
---   greedy_same                vectors that agree on the indices have the same greedy choice
---   greedy_free                the vectors that the greedy rule takes are independent
---   IndependentRows f n rows, independent_rows      as many independent rows as the dimension, with the same words
 --   find_shared                what is found first in two lists with the same members, if only one member passes
 --   systematic_shared          two lists of rows with the same words have the same systematic matrix
 --   column_holds, columns_shared      a column that is a sum of multiples of others is so for all rows with the same words
 --   greedy_agree, basis_shared so the first basis of the columns is the same
 --   set_systematic             k independent columns have a systematic matrix
 --   echelon_systematic         so has the first basis of all columns
-use Rattle.std.proofs.Common.{◌≡◌, ℕ, zero, suc, ◌+◌, ◌<◌, ◌≤◌, ◌⊎◌, Bool, true, false, cond, List, [], ◌∷◌, ◌++◌, map, find, filter, length, unwrap_or, slice_index, slice_index_or, All, Contains, Option, Some, None, inl, inr, ⊎_elim, refl, sym, ap, ap₂, subst, ◌∙◌, arith}
-use Rattle.std.proofs.lemmas.Bool.{cases_Bool, true≢false, false≢true}
-use Rattle.std.proofs.lemmas.List.{length-map, length-append, map-append, get_or_default, get_or-map, ext_get_or}
-use Rattle.std.proofs.lemmas.List.Elements.{All-head, All-tail, All-contains, Contains-get_or, Contains-append_cases}
+use Rattle.std.proofs.Common.{◌≡◌, ℕ, ◌+◌, ◌<◌, ◌≤◌, ◌⊎◌, Bool, true, false, List, [], ◌∷◌, ◌++◌, map, find, filter, length, unwrap_or, slice_index, slice_index_or, All, Contains, Option, Some, None, inl, inr, refl, sym, ap, ap₂, subst, ◌∙◌, arith}
+use Rattle.std.proofs.lemmas.Bool.{false≢true}
+use Rattle.std.proofs.lemmas.List.{length-map, length-append, get_or_default, get_or-map, ext_get_or}
+use Rattle.std.proofs.lemmas.List.Elements.{All-head, All-tail, All-contains, Contains-get_or}
 use Rattle.lc_algebra.specs.declared.FieldName.{FieldName}
 use Rattle.lc_algebra.specs.Field.{size, add, mul}
 use Rattle.lc_algebra.specs.Word.{IsWord, zero_word, word_sum, scale, word_dot}
 use Rattle.lc_algebra.specs.Span.{below, combine, InSpan, words, SameSpan, AreIndependent}
 use Rattle.lc_algebra.specs.Matrix.{column, AreRows, IsSystematic, AreIndependentColumns}
 use Rattle.lc_algebra.specs.SpanLaws.{restrict}
-use Rattle.lc_algebra.proofs.WordLaws.{IsWord_zero, length_scale, length_zero_word, index_zero_word, index_scale, index_word_sum, dot_zero, dot_sum, dot_scale}
-use Rattle.lc_algebra.proofs.SpanLaws.{span_word, same_span, same_span_symmetric, same_span_transitive, contains_cases, contains_head, contains_tail, contains_map, map_contains, below_contains, contains_below, combination_of_word, word_of_combination, word_of_member, member_of_word, length_combine}
+use Rattle.lc_algebra.proofs.WordLaws.{length_scale, length_zero_word, index_zero_word, index_scale, index_word_sum, dot_zero, dot_sum, dot_scale}
+use Rattle.lc_algebra.proofs.SpanLaws.{span_word, same_span_symmetric, same_span_transitive, map_contains, below_contains, contains_below, combination_of_word, word_of_combination, word_of_member, member_of_word, length_combine}
 use Rattle.lc_algebra.proofs.ReducedLaws.{index_combine}
 use Rattle.lc_algebra.proofs.ColumnLaws.{length_restrict, restrict_zero, restrict_scale, restrict_sum, column_word, column_of_columns, independent_columns_shared}
-use Rattle.lc_algebra.proofs.DivisorLaws.{no_member}
 use Rattle.lc_enumeration.specs.InformationSet.{same_word, in_span, greedy, dimension, is_member, first_basis, unit_word, systematic, echelon_rows}
 use Rattle.lc_enumeration.proofs.MemberLaws.{same_from_test, in_span_true, true_in_span}
-use Rattle.lc_enumeration.proofs.GreedyLaws.{each_contained, span_of_member, independent_last, AreVectors, vectors_are_rows}
+use Rattle.lc_enumeration.proofs.DependentLaws.{map_same, greedy_step, independent_rows}
+use Rattle.lc_enumeration.proofs.GreedyLaws.{span_of_member, vectors_are_rows}
 use Rattle.lc_infoset.proofs.ExistLaws.{full_rank, told_on_set, systematic_from_square}
-use Rattle.lc_infoset.proofs.GreedyLaws.{taken_none, greedy_is, spanning_square, HasColumns, IsBasis, first_basis_is}
+use Rattle.lc_infoset.proofs.GreedyLaws.{spanning_square, HasColumns, IsBasis, first_basis_is}
 use Rattle.lc_infoset.proofs.BestLaws.{FoundBy, find_passes}
 use Rattle.lc_infoset.proofs.AnswerLaws.{find_none}
-
-map_same : {X Y : Type 0} (g h : X → Y) (xs : List X) → ((x : X) → Contains xs x → g x ≡ h x) → map g xs ≡ map h xs
-map_same g h [] e = refl
-map_same g h (x ∷ xs) e = ap₂ (λ y ys. y ∷ ys) (e x (contains_head x xs)) (map_same g h xs (λ y c. e y (contains_tail x y xs c)))
 
 bool_same : (a b : Bool) → (a ≡ true → b ≡ true) → (b ≡ true → a ≡ true) → a ≡ b
 bool_same true b h k = sym (h refl)
 bool_same false true h k = k refl
 bool_same false false h k = refl
-
-greedy_step : (f : FieldName) (n m : ℕ) (u v : ℕ → List ℕ) (taken order : List ℕ) (i : ℕ) → in_span f n (map u taken) (u i) ≡ in_span f m (map v taken) (v i) → greedy f n u taken order ≡ greedy f m v taken order → greedy f n u (taken ++ i ∷ []) order ≡ greedy f m v (taken ++ i ∷ []) order → greedy f n u taken (i ∷ order) ≡ greedy f m v taken (i ∷ order)
-unfolding greedy
-greedy_step f n m u v taken order i same one two =
-    ap (λ b. cond b (greedy f n u taken order) (greedy f n u (taken ++ i ∷ []) order)) same
-    ∙ ap₂ (λ x y. cond (in_span f m (map v taken) (v i)) x y) one two
-
-pub greedy_same : (f : FieldName) (n : ℕ) (u v : ℕ → List ℕ) (taken order : List ℕ) → ((i : ℕ) → Contains taken i → u i ≡ v i) → ((i : ℕ) → Contains order i → u i ≡ v i) → greedy f n u taken order ≡ greedy f n v taken order
-unfolding greedy
-greedy_same f n u v taken [] t o = refl
-greedy_same f n u v taken (i ∷ order) t o =
-    let rest = λ (j : ℕ) (c : Contains order j). o j (contains_tail i j order c) in
-    let here = o i (contains_head i order) in
-    greedy_step f n n u v taken order i (ap₂ (in_span f n) (map_same u v taken t) here)
-    (greedy_same f n u v taken order t rest)
-    (greedy_same f n u v (taken ++ i ∷ []) order (λ j c. ⊎_elim (t j) (λ s. ⊎_elim (λ e. ap u (sym e) ∙ here ∙ ap v e) (λ a. absurd (no_member j a)) (contains_cases i j [] s)) (Contains-append_cases taken (i ∷ []) j c)) rest)
-
-pub greedy_free : (f : FieldName) (n : ℕ) (v : ℕ → List ℕ) (taken order : List ℕ) → AreVectors f n v → AreIndependent f n (map v taken) → AreIndependent f n (map v (greedy f n v taken order))
-unfolding greedy
-greedy_free f n v taken [] are free = free
-greedy_free f n v taken (i ∷ order) are free =
-    let goal = λ (b : Bool). AreIndependent f n (map v (cond b (greedy f n v taken order) (greedy f n v (taken ++ i ∷ []) order))) in
-    ⊎_elim
-    (λ e. subst goal (sym e) (greedy_free f n v taken order are free))
-    (λ e.
-    let out : InSpan f n (map v taken) (v i) → ⊥ = λ h. true≢false (sym (true_in_span f n (map v taken) (v i) h) ∙ e) in
-    subst goal (sym e) (greedy_free f n v (taken ++ i ∷ []) order are (subst (AreIndependent f n) (sym (map-append v taken (i ∷ []))) (independent_last f n (map v taken) (v i) (vectors_are_rows f n v taken are) (are i) free out))))
-    (cases_Bool (in_span f n (map v taken) (v i)))
-
-pub record IndependentRows (f : FieldName) (n : ℕ) (rows : List (List ℕ)) : Type 0 where
-  pub others : List (List ℕ)
-  pub words : AreRows f n others
-  pub free : AreIndependent f n others
-  pub same : SameSpan f n rows others
-  pub many : length others ≡ dimension f n rows
-
-row_or_zero : (f : FieldName) (n : ℕ) (rows : List (List ℕ)) (i : ℕ) → AreRows f n rows → IsWord f n (slice_index_or rows i (zero_word n))
-row_or_zero f n [] i r = IsWord_zero f n
-row_or_zero f n (g ∷ rows) zero r = All-head (IsWord f n) g rows r
-row_or_zero f n (g ∷ rows) (suc i) r = row_or_zero f n rows i (All-tail (IsWord f n) g rows r)
-
-no_rows_free : (f : FieldName) (n : ℕ) → AreIndependent f n []
-no_rows_free f n cs w e = nil cs w.long
-  where
-    nil : (cs : List ℕ) → length cs ≡ 0 → cs ≡ []
-    nil [] l = refl
-    nil (a ∷ cs) l = absurd (omega (arith, l))
-
-pub independent_rows : (f : FieldName) (n : ℕ) (rows : List (List ℕ)) → AreRows f n rows → IndependentRows f n rows
-unfolding dimension
-independent_rows f n rows r =
-    let m = length rows in
-    let v : ℕ → List ℕ = λ i. slice_index_or rows i (zero_word n) in
-    let are : AreVectors f n v = λ i. row_or_zero f n rows i r in
-    let chosen = greedy f n v [] (below m) in
-    let g = greedy_is f n v [] (below m) are (taken_none f n v) in
-    let chosen_rows : AreRows f n (map v chosen) = vectors_are_rows f n v chosen are in
-    let there : (i : ℕ) → i < m → InSpan f n (map v chosen) (v i) = λ i l. g.spans i (below_contains m i l) in
-    record {
-      others = map v chosen;
-      words = chosen_rows;
-      free = greedy_free f n v [] (below m) are (no_rows_free f n);
-      same = same_span f n rows (map v chosen) r chosen_rows
-          (λ k d l. subst (InSpan f n (map v chosen)) (get_or_default rows k (zero_word n) d l) (there k l))
-          (each_contained (InSpan f n rows) (map v chosen) (λ w c.
-          let t = contains_map v chosen w c in
-          let inside : t.0 < m = ⊎_elim (λ a. absurd (no_member t.0 a)) (contains_below m t.0) (g.within t.0 t.1) in
-          subst (InSpan f n rows) (sym t.2) (span_of_member f n rows (v t.0) r (Contains-get_or rows t.0 (zero_word n) inside))));
-      many = length-map chosen v ∙ ap length (greedy_same f n v (λ i. slice_index_or rows i []) [] (below m) (λ i c. absurd (no_member i c)) (λ i c. get_or_default rows i (zero_word n) [] (contains_below m i c)));
-    }
 
 pub find_shared : {X : Type 0} (p : X → Bool) (xs ys : List X) → ((x : X) → Contains xs x → Contains ys x) → ((x : X) → Contains ys x → Contains xs x) → ((x y : X) → Contains xs x → Contains xs y → p x ≡ true → p y ≡ true → x ≡ y) → find p xs ≡ find p ys
 find_shared {X} p xs ys h k one = from (find p xs) (find p ys) refl refl
