@@ -1,23 +1,15 @@
 //! Tests of codes from codes, by their lengths and dimensions.
-use lc_basic::{hamming, reed_muller, repetition};
+use crate::shapes::{Shape, dual, hamming_over, repetition_over, shape};
+use lc_basic::reed_muller;
 use lc_code::{Code, CodeRefusal};
 use lc_combine::{
     concatenated, direct_product, direct_sum, even_weight, extended, intersection, punctured,
     shortened, uuv,
 };
 use lc_cyclic::{binary_golay, reed_solomon, ternary_golay};
-use lc_field::{Field, NoMemory};
+use lc_field::NoMemory;
 use std::alloc::Global;
 use std::test::Fail;
-
-// A length and a dimension, or why there is no code.
-type Shape = Result<(usize, usize), CodeRefusal>;
-
-// The length and the dimension of the code, or why there is none.
-fn shape(code: Result<Code, CodeRefusal>) -> Shape {
-    let code = code?;
-    Ok((code.length(), code.dimension()))
-}
 
 // A code made from one code.
 #[derive(Clone, Copy)]
@@ -46,15 +38,8 @@ static CHANGES: [(Change, Shape); 5] = [
     (Change::Punctured(&[1, 1]), Err(CodeRefusal::BadPositions)),
 ];
 
-fn binary_hamming(alloc: Global) -> Result<Code, CodeRefusal> {
-    match Field::of(alloc, 2) {
-        Ok(field) => hamming(alloc, 3, &field),
-        Err(_) => Err(CodeRefusal::NoMemory),
-    }
-}
-
 fn changed_hamming(alloc: Global, change: Change) -> Shape {
-    let code = binary_hamming(alloc)?;
+    let code = hamming_over(alloc, 2, 3)?;
     shape(changed(alloc, &code, change))
 }
 
@@ -98,18 +83,6 @@ enum Part {
     Quaternary,
 }
 
-fn binary_repetition(alloc: Global, n: u64) -> Result<Code, CodeRefusal> {
-    match Field::of(alloc, 2) {
-        Ok(field) => repetition(alloc, n, &field),
-        Err(_) => Err(CodeRefusal::NoMemory),
-    }
-}
-
-fn dual(alloc: Global, code: Result<Code, CodeRefusal>) -> Result<Code, CodeRefusal> {
-    let code = code?;
-    Ok(code.dual(alloc)?)
-}
-
 fn quaternary(alloc: Global) -> Result<Code, CodeRefusal> {
     let formed = reed_solomon(alloc, 3, 2)?;
     Ok(formed.code)
@@ -117,8 +90,8 @@ fn quaternary(alloc: Global) -> Result<Code, CodeRefusal> {
 
 fn code_of(alloc: Global, part: Part) -> Result<Code, CodeRefusal> {
     match part {
-        Part::Repetition(n) => binary_repetition(alloc, n),
-        Part::Even(n) => dual(alloc, binary_repetition(alloc, n)),
+        Part::Repetition(n) => repetition_over(alloc, 2, n),
+        Part::Even(n) => dual(alloc, repetition_over(alloc, 2, n)),
         Part::ReedMuller(r) => reed_muller(alloc, r, 2),
         Part::Quaternary => quaternary(alloc),
     }

@@ -1,22 +1,12 @@
 //! Tests of what the contracts are meant to say, by values from outside; each call is seen to answer.
-use lc_basic::{
-    check_mat, generator_mat, hamming, null_code, reed_muller, repetition, whole_space,
-};
+use crate::shapes::{Shape, dual, hamming_over, repetition_over, shape};
+use lc_basic::{check_mat, generator_mat, null_code, reed_muller, repetition, whole_space};
 use lc_code::{Code, CodeRefusal};
 use lc_field::{Field, NoMemory};
 use lc_vec::Word;
 use std::alloc::Global;
 use std::test::Fail;
 use test_rows::{Rows, has_rows, words_of};
-
-// A length and a dimension, or why there is no code.
-type Shape = Result<(usize, usize), CodeRefusal>;
-
-// The length and the dimension of the code, or why there is none.
-fn shape(code: Result<Code, CodeRefusal>) -> Shape {
-    let code = code?;
-    Ok((code.length(), code.dimension()))
-}
 
 // Whether there is a code, and these are its rows.
 fn is_code(code: Result<Code, CodeRefusal>, rows: Rows) -> bool {
@@ -40,14 +30,6 @@ static HAMMING: [(u64, u64, Shape); 11] = [
     (16, 3, Err(CodeRefusal::BadLength)),
     (25, 0, Err(CodeRefusal::FieldTooLarge)),
 ];
-
-// The Hamming code with r checks over q elements.
-fn hamming_over(alloc: Global, q: u64, r: u64) -> Result<Code, CodeRefusal> {
-    match Field::of(alloc, q) {
-        Ok(field) => hamming(alloc, r, &field),
-        Err(_) => Err(CodeRefusal::NoMemory),
-    }
-}
 
 #[test]
 fn shapes_of_hamming_codes(rt: HostRuntime) -> Result<(), Fail> {
@@ -162,26 +144,12 @@ fn codes_of_a_length(rt: HostRuntime) -> Result<(), Fail> {
     Ok(())
 }
 
-// The dual of a code.
-fn dual(alloc: Global, code: Result<Code, CodeRefusal>) -> Result<Code, CodeRefusal> {
-    let code = code?;
-    Ok(code.dual(alloc)?)
-}
-
-// The ternary repetition code of length 4.
-fn ternary_repetition(alloc: Global) -> Result<Code, CodeRefusal> {
-    match Field::of(alloc, 3) {
-        Ok(field) => repetition(alloc, 4, &field),
-        Err(_) => Err(CodeRefusal::NoMemory),
-    }
-}
-
-// The rows of its dual.
+// The rows of the dual of the ternary repetition code of length 4.
 const DUAL: Rows = &[&[1, 0, 0, 2], &[0, 1, 0, 2], &[0, 0, 1, 2]];
 
 #[test]
 fn the_dual_of_a_repetition_code(rt: HostRuntime) -> Result<(), Fail> {
-    let code = dual(rt.alloc(), ternary_repetition(rt.alloc()));
+    let code = dual(rt.alloc(), repetition_over(rt.alloc(), 3, 4));
     assert!(rt; is_code(code, DUAL));
     Ok(())
 }
@@ -287,6 +255,11 @@ fn code_of(alloc: Global, q: u64, rows: Rows) -> Result<Code, CodeRefusal> {
     }
 }
 
+// The dual of the dual of the code of words over q elements.
+fn twice_dual(alloc: Global, q: u64, rows: Rows) -> Result<Code, CodeRefusal> {
+    dual(alloc, dual(alloc, code_of(alloc, q, rows)))
+}
+
 #[test]
 fn a_code_is_the_dual_of_its_dual(rt: HostRuntime) -> Result<(), Fail> {
     for row in &REDUCED {
@@ -295,11 +268,8 @@ fn a_code_is_the_dual_of_its_dual(rt: HostRuntime) -> Result<(), Fail> {
             "over {}",
             row.0
         );
-        let code = dual(
-            rt.alloc(),
-            dual(rt.alloc(), code_of(rt.alloc(), row.0, row.1)),
-        );
-        assert!(rt; is_code(code, row.2), "over {}", row.0);
+        let again = is_code(twice_dual(rt.alloc(), row.0, row.1), row.2);
+        assert!(rt; again, "over {}", row.0);
     }
     Ok(())
 }

@@ -10,3 +10,5 @@ mod combined;
 mod families;
 #[cfg(test)]
 mod forms;
+#[cfg(test)]
+mod shapes;
