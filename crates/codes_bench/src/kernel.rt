@@ -2,7 +2,6 @@
 
 ghost use Rattle.std.specs.Prelude.{◌≡◌, ◌≤◌, ◌<◌, IfOk};
 ghost use Rattle.lc_enumeration.specs.Plan.{total};
-ghost use Rattle.lc_enumeration.specs.Search.{set_count};
 ghost use Rattle.lc_kernel.specs.Kernel.{IsPlanOf};
 
 use crate::linear::sets_of;
@@ -66,16 +65,13 @@ fn level_rate<R: Clock + AllocGlobal>(
     })
 }
 
-/// The plan of the first `count` of these sets.
+/// The plan of the first `count` of these sets, at least one.
 pub(crate) fn plan_of(alloc: Global, sets: &Sets, count: usize) -> Result<Plan, Failure>
-    requires some { 1 ≤ count }
-    requires sets { count ≤ set_count sets.now }
     ensures is { IfOk result (λ p. IsPlanOf p sets.now) }
 {
     let size = u64::from(sets.field().size());
-    let _count = sets.count();
     let _n = sets.length();
-    if size < 2 || size > 16 {
+    if size < 2 || size > 16 || count == 0 || count > sets.count() {
         return Err(Failure::Refused);
     }
     Ok(Plan::build(alloc, sets.dimension(), size, count)?)
@@ -83,7 +79,6 @@ pub(crate) fn plan_of(alloc: Global, sets: &Sets, count: usize) -> Result<Plan, 
 
 // The rate over the blocks of a level of these sets, the first one alone, in words.
 fn least_by<R: Clock + AllocGlobal>(rt: &R, sets: &Sets, level: usize) -> Result<Rate, Failure> {
-    let _count = sets.count();
     let plan = plan_of(rt.alloc(), sets, 1)?;
     level_rate(rt, sets, &plan, level)
 }
