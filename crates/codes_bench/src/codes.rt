@@ -1,9 +1,13 @@
 //! BCH codes, direct products and concatenated codes.
+
+ghost use Rattle.std.specs.Prelude.{IfOk};
+ghost use Rattle.lc_constructions.specs.Alternant.{IsFormOf};
+
 use crate::rate::{Failure, Rate};
-use lc_basic::repetition;
-use lc_code::Code;
-use lc_combine::{concatenated, direct_product, direct_sum};
-use lc_cyclic::{bch, reed_solomon};
+use crate::words::random_code;
+use lc_code::{Code, FormedCode};
+use lc_combine::{concatenated, direct_product};
+use lc_cyclic::bch;
 use lc_field::Field;
 use std::alloc::{AllocGlobal, Global};
 use std::rt::Clock;
@@ -36,40 +40,12 @@ pub fn bch_rate<R: Clock + AllocGlobal>(rt: &R, q: u64, d: u64) -> Result<Rate, 
     bch_over(rt, &field, d)
 }
 
-// The direct sum of the code and a repetition code.
-fn and_repetition(alloc: Global, field: &Field, first: &Code, n: u64) -> Result<Code, Failure> {
-    let second = repetition(alloc, n, field)?;
-    Ok(direct_sum(alloc, first, &second)?)
-}
-
-// The direct sum of two repetition codes.
-fn two_repetitions(alloc: Global, field: &Field, n: u64, m: u64) -> Result<Code, Failure> {
-    let first = repetition(alloc, n, field)?;
-    and_repetition(alloc, field, &first, m)
-}
-
-// The direct sum of the code and two repetition codes of length 4.
-fn and_two_more(alloc: Global, field: &Field, first: &Code) -> Result<Code, Failure> {
-    let second = two_repetitions(alloc, field, 4, 4)?;
-    Ok(direct_sum(alloc, first, &second)?)
-}
-
-// The direct sum of four repetition codes, of length 17.
-fn four_repetitions(alloc: Global, field: &Field) -> Result<Code, Failure> {
-    let first = two_repetitions(alloc, field, 5, 4)?;
-    and_two_more(alloc, field, &first)
-}
-
-// A binary code of length 17 and dimension 4.
-fn inner_code(alloc: Global) -> Result<Code, Failure> {
-    let field = Field::of(alloc, 2)?;
-    four_repetitions(alloc, &field)
-}
-
-// The BCH code of length 15 and dimension 11.
-fn part_code(alloc: Global) -> Result<Code, Failure> {
-    let field = Field::of(alloc, 2)?;
-    Ok(bch(alloc, 15, 1, 3, &field)?.code)
+/// The BCH code over `q` elements of length `n` with design distance `d`, with its alternant form.
+pub(crate) fn bch_code(alloc: Global, q: u64, n: u64, d: u64) -> Result<FormedCode, Failure>
+    ensures formed { IfOk result (λ c. IsFormOf c.code c.form) }
+{
+    let field = Field::of(alloc, q)?;
+    Ok(bch(alloc, n, 1, d, &field)?)
 }
 
 // The rate of `direct_product` for the code and itself.
@@ -81,9 +57,9 @@ fn product_of<R: Clock + AllocGlobal>(rt: &R, part: &Code) -> Result<Rate, Failu
     rate_since(rt, &start)
 }
 
-/// The rate of `direct_product` for the BCH code of length 15 and dimension 11 and itself, in codes.
+/// The rate of `direct_product` for a pseudo-random binary code of length 15 and dimension 11 and itself, in codes.
 pub fn product_rate<R: Clock + AllocGlobal>(rt: &R) -> Result<Rate, Failure> {
-    let part = part_code(rt.alloc())?;
+    let part = random_code(rt.alloc(), 2, 15, 11)?;
     product_of(rt, &part)
 }
 
@@ -100,14 +76,14 @@ fn concatenated_of<R: Clock + AllocGlobal>(
     rate_since(rt, &start)
 }
 
-// The rate of `concatenated` for an outer code and the binary code of length 17.
+// The rate of `concatenated` for an outer code and a pseudo-random binary code of length 17 and dimension 4.
 fn concatenated_with<R: Clock + AllocGlobal>(rt: &R, outer: &Code) -> Result<Rate, Failure> {
-    let inner = inner_code(rt.alloc())?;
+    let inner = random_code(rt.alloc(), 2, 17, 4)?;
     concatenated_of(rt, outer, &inner)
 }
 
 /// The rate of `concatenated` for the Reed-Solomon code of length 15 and dimension 11 and a binary code of length 17, in codes.
 pub fn concatenated_rate<R: Clock + AllocGlobal>(rt: &R) -> Result<Rate, Failure> {
-    let outer = reed_solomon(rt.alloc(), 15, 5)?.code;
-    concatenated_with(rt, &outer)
+    let outer = bch_code(rt.alloc(), 16, 15, 5)?;
+    concatenated_with(rt, &outer.code)
 }

@@ -1,16 +1,15 @@
 //! Coset leaders, nearest words by them, and the algebraic decoder.
 
-ghost use Rattle.std.specs.Prelude.{◌≡◌, ◌<◌, length, IfOk};
+ghost use Rattle.std.specs.Prelude.{◌≡◌, ◌<◌, length};
 ghost use Rattle.lc_algebra.specs.Word.{Fits, IsWord};
 ghost use Rattle.lc_algebra.specs.Matrix.{AreRows};
 ghost use Rattle.lc_constructions.specs.Alternant.{IsFormOf};
 
-use crate::linear::{binary_code, rows};
+use crate::codes::bch_code;
 use crate::rate::{Failure, Rate};
+use crate::words::{random_code, rows};
 use lc_alternant::decode;
 use lc_code::FormedCode;
-use lc_cyclic::bch;
-use lc_field::Field;
 use lc_syndrome::Leaders;
 use lc_vec::{Word, fits};
 use std::alloc::{AllocError, AllocGlobal, Global};
@@ -31,7 +30,7 @@ const DECODED: usize = 2_000;
 
 /// The rate of `Leaders::build` for a binary code of length 255 with 2^20 cosets, in cosets.
 pub fn leaders_rate<R: Clock + AllocGlobal>(rt: &R) -> Result<Rate, Failure> {
-    let code = binary_code(rt.alloc(), 255, 235)?;
+    let code = random_code(rt.alloc(), 2, 255, 235)?;
     let start = Instant::now(rt)?;
     for _ in 0..BUILDS {
         let _leaders = Leaders::build(rt.alloc(), &code)?;
@@ -45,7 +44,7 @@ pub fn leaders_rate<R: Clock + AllocGlobal>(rt: &R) -> Result<Rate, Failure> {
 
 // The coset leaders of that code.
 fn leaders_of(alloc: Global) -> Result<Leaders, Failure> {
-    let code = binary_code(alloc, 255, 235)?;
+    let code = random_code(alloc, 2, 255, 235)?;
     Ok(Leaders::build(alloc, &code)?)
 }
 
@@ -90,14 +89,6 @@ fn nearest_by<R: Clock + AllocGlobal>(rt: &R, leaders: &Leaders) -> Result<Rate,
 pub fn nearest_rate<R: Clock + AllocGlobal>(rt: &R) -> Result<Rate, Failure> {
     let leaders = leaders_of(rt.alloc())?;
     nearest_by(rt, &leaders)
-}
-
-// The BCH code over `q` elements of length `n` with design distance `d`.
-fn bch_code(alloc: Global, q: u64, n: u64, d: u64) -> Result<FormedCode, Failure>
-    ensures formed { IfOk result (λ c. IsFormOf c.code c.form) }
-{
-    let field = Field::of(alloc, q)?;
-    Ok(bch(alloc, n, 1, d, &field)?)
 }
 
 // A word of length `n` that is 1 at every coordinate which, with `first` added, is a multiple of `step`, and else 0.

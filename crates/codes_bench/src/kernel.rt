@@ -4,13 +4,13 @@ ghost use Rattle.std.specs.Prelude.{◌≡◌, ◌≤◌, ◌<◌, IfOk};
 ghost use Rattle.lc_enumeration.specs.Plan.{total};
 ghost use Rattle.lc_kernel.specs.Kernel.{IsPlanOf};
 
-use crate::linear::rows;
+use crate::linear::sets_of;
 use crate::messages::first_block;
 use crate::rate::{Failure, Rate};
-use lc_field::Field;
+use crate::words::random_code;
+use lc_code::Code;
 use lc_infoset::Sets;
 use lc_kernel::{Scratch, least};
-use lc_matrix::Matrix;
 use lc_place::Plan;
 use std::alloc::{AllocGlobal, Global};
 use std::rt::Clock;
@@ -36,21 +36,6 @@ fn look(sets: &Sets, plan: &Plan, first: u64, scratch: &mut Scratch) -> (u64, u6
         block = if block + 1 < end { block + 1 } else { first };
     }
     (count, value)
-}
-
-// The information sets of a pseudo-random code of length `n` with `k` rows over `q` elements.
-#[tactic(auto, using(lc_algebra::proofs::ReducedLaws::reduced_independent))]
-fn sets_of(alloc: Global, q: u64, n: usize, k: usize) -> Result<Sets, Failure>
-    requires length { (1 ≤ n) × (n ≤ 255) }
-{
-    let field = Field::of(alloc, q)?;
-    let matrix = Matrix::from_rows(alloc, &field, n, &rows(alloc, &field, n, k)?)?;
-    let form = matrix.echelon(alloc)?;
-    let height = form.rows();
-    if !field.is_symbol() || height == 0 {
-        return Err(Failure::Refused);
-    }
-    Ok(Sets::build(alloc, &form)?)
 }
 
 // The rate over the blocks of a level, in words.
@@ -80,6 +65,30 @@ fn level_rate<R: Clock + AllocGlobal>(
     })
 }
 
+/// The plan of the first `count` of these sets, at least one.
+pub(crate) fn plan_of(alloc: Global, sets: &Sets, count: usize) -> Result<Plan, Failure>
+    ensures is { IfOk result (λ p. IsPlanOf p sets.now) }
+{
+    let size = u64::from(sets.field().size());
+    let _n = sets.length();
+    if size < 2 || size > 16 || count == 0 || count > sets.count() {
+        return Err(Failure::Refused);
+    }
+    Ok(Plan::build(alloc, sets.dimension(), size, count)?)
+}
+
+// The rate over the blocks of a level of these sets, the first one alone, in words.
+fn least_by<R: Clock + AllocGlobal>(rt: &R, sets: &Sets, level: usize) -> Result<Rate, Failure> {
+    let plan = plan_of(rt.alloc(), sets, 1)?;
+    level_rate(rt, sets, &plan, level)
+}
+
+// The same of a code.
+fn least_of<R: Clock + AllocGlobal>(rt: &R, code: &Code, level: usize) -> Result<Rate, Failure> {
+    let sets = sets_of(rt.alloc(), code)?;
+    least_by(rt, &sets, level)
+}
+
 /// The rate of `least` over the blocks of a level of a pseudo-random code of length `n` with `k` rows over
 /// `q` elements, in words.
 pub fn least_rate<R: Clock + AllocGlobal>(
@@ -89,23 +98,6 @@ pub fn least_rate<R: Clock + AllocGlobal>(
     k: usize,
     level: usize,
 ) -> Result<Rate, Failure> {
-    if n == 0 || n > 255 {
-        return Err(Failure::Refused);
-    }
-    let sets = sets_of(rt.alloc(), q, n, k)?;
-    let plan = plan_of(rt.alloc(), &sets)?;
-    level_rate(rt, &sets, &plan, level)
-}
-
-// The plan with one of these sets.
-fn plan_of(alloc: Global, sets: &Sets) -> Result<Plan, Failure>
-    ensures is { IfOk result (λ p. IsPlanOf p sets.now) }
-{
-    let size = u64::from(sets.field().size());
-    let _count = sets.count();
-    let _n = sets.length();
-    if size < 2 || size > 16 {
-        return Err(Failure::Refused);
-    }
-    Ok(Plan::build(alloc, sets.dimension(), size, 1)?)
+    let code = random_code(rt.alloc(), q, n, k)?;
+    least_of(rt, &code, level)
 }

@@ -3,6 +3,7 @@
 ghost use Rattle.std.specs.Prelude.{◌≡◌, ◌*◌, ◌≤◌, length, IfOk};
 
 use crate::rate::{Failure, Rate};
+use crate::words::step;
 use std::alloc::{AllocError, AllocGlobal, Global};
 use std::rt::Clock;
 use std::time::Instant;
@@ -15,10 +16,8 @@ const PASSES: u64 = 200_000;
 
 // The next of some pseudo-random numbers.
 fn next(state: &mut u64) -> u64 {
-    *state = state
-        .wrapping_mul(6_364_136_223_846_793_005)
-        .wrapping_add(1_442_695_040_888_963_407);
-    *state ^ (*state >> 29)
+    let number = step(state);
+    number ^ (number >> 29)
 }
 
 // The planes of a run: pseudo-random numbers.

@@ -1,18 +1,17 @@
 //! Sums of words, reduced echelon forms and information sets.
 
 ghost use Rattle.std.specs.Prelude.{◌≡◌, ◌<◌, ◌≤◌, length, IfOk};
-ghost use Rattle.lc_algebra.specs.Field.{size};
 ghost use Rattle.lc_algebra.specs.Word.{Fits, IsWord};
-ghost use Rattle.lc_algebra.specs.Span.{AreIndependent};
 ghost use Rattle.lc_algebra.specs.Matrix.{AreRows};
 
 use crate::rate::{Failure, Rate};
+use crate::words::{random_code, rows, symbols};
 use lc_code::Code;
 use lc_field::Field;
 use lc_infoset::Sets;
 use lc_matrix::Matrix;
-use lc_vec::{Word, add_scaled};
-use std::alloc::{AllocError, AllocGlobal, Global};
+use lc_vec::add_scaled;
+use std::alloc::{AllocGlobal, Global};
 use std::rt::Clock;
 use std::time::Instant;
 
@@ -30,21 +29,6 @@ const FORMS: u64 = 40;
 
 /// How often the information sets are built.
 const BUILDS: u64 = 40;
-
-// `n` pseudo-random symbols of the field, from a generator that goes on from `state`.
-fn symbols(alloc: Global, field: &Field, n: usize, state: &mut u64) -> Result<Vec<u8>, AllocError>
-    ensures word { IfOk result (λ symbols. IsWord field.now n symbols.items) }
-{
-    let q = u64::from(field.size());
-    let mut symbols = Vec::new(alloc);
-    for place in 0..n {
-        *state = state
-            .wrapping_mul(6_364_136_223_846_793_005)
-            .wrapping_add(1_442_695_040_888_963_407);
-        symbols.push(((*state >> 33) % q) as u8)?;
-    }
-    Ok(symbols)
-}
 
 // Adds multiples of a word to another, again and again.
 fn add_often(field: &Field, to: &mut [u8], from: &[u8])
@@ -88,67 +72,16 @@ pub fn add_scaled_rate<R: Clock + AllocGlobal>(rt: &R, q: u64) -> Result<Rate, F
     add_scaled_over(rt, &field)
 }
 
-// A pseudo-random word of length `n`.
-fn row(alloc: Global, field: &Field, n: usize, state: &mut u64) -> Result<Word, Failure>
-    ensures word { IfOk result (λ row. IsWord field.now n row) }
-{
-    let symbols = symbols(alloc, field, n, state)?;
-    Ok(Word::from_slice(alloc, &symbols)?)
-}
-
-/// Pseudo-random rows: `k` words of length `n`.
-pub(crate) fn rows(alloc: Global, field: &Field, n: usize, k: usize) -> Result<Vec<Word>, Failure>
-    ensures words { IfOk result (λ rows. AreRows field.now n rows.items) }
-{
-    let mut state = 1;
-    let mut rows = Vec::new(alloc);
-    for _ in 0..k {
-        if rows.push(row(alloc, field, n, &mut state)?).is_err() {
-            return Err(Failure::NoMemory);
-        }
-    }
-    Ok(rows)
-}
-
-// The code of `k` pseudo-random rows of length `n` over the field.
-fn code_over(alloc: Global, field: &Field, n: usize, k: usize) -> Result<Code, Failure>
-    requires length { (1 ≤ n) × (n ≤ 255) }
-    ensures some { IfOk result (λ c. 0 < length c.rows) }
-{
-    if !field.is_symbol() {
-        return Err(Failure::Refused);
-    }
-    let rows = rows(alloc, field, n, k)?;
-    let code = Code::from_rows(alloc, field, n, &rows)?;
-    if code.dimension() == 0 {
-        return Err(Failure::Refused);
-    }
-    Ok(code)
-}
-
-/// The binary code of `k` pseudo-random rows of length `n`, of dimension at least 1.
-pub(crate) fn binary_code(alloc: Global, n: usize, k: usize) -> Result<Code, Failure>
-    requires length { (1 ≤ n) × (n ≤ 255) }
-    ensures some { IfOk result (λ c. 0 < length c.rows) }
-{
-    let field = Field::of(alloc, 2)?;
-    code_over(alloc, &field, n, k)
-}
-
-// The matrix of pseudo-random rows over the field of `q` elements.
-fn matrix(alloc: Global, q: u64) -> Result<Matrix, Failure>
-    ensures columns { IfOk result (λ m. m.columns ≡ LENGTH) }
-{
-    let field = Field::of(alloc, q)?;
-    matrix_over(alloc, &field)
-}
-
-// The same over a field.
-fn matrix_over(alloc: Global, field: &Field) -> Result<Matrix, Failure>
-    ensures columns { IfOk result (λ m. m.columns ≡ LENGTH) }
-{
+// The matrix of pseudo-random rows over the field.
+fn matrix_over(alloc: Global, field: &Field) -> Result<Matrix, Failure> {
     let rows = rows(alloc, field, LENGTH, ROWS)?;
     Ok(Matrix::from_rows(alloc, field, LENGTH, &rows)?)
+}
+
+// The same over the field of `q` elements.
+fn matrix(alloc: Global, q: u64) -> Result<Matrix, Failure> {
+    let field = Field::of(alloc, q)?;
+    matrix_over(alloc, &field)
 }
 
 /// The rate of `Matrix::echelon` over the field of `q` elements, in rows of the matrix.
@@ -165,30 +98,32 @@ pub fn echelon_rate<R: Clock + AllocGlobal>(rt: &R, q: u64) -> Result<Rate, Fail
     })
 }
 
-// The reduced form of pseudo-random rows over the field of `q` elements.
+/// The information sets of a code of dimension at least 1.
 #[tactic(auto, using(lc_algebra::proofs::ReducedLaws::reduced_independent))]
-fn form(alloc: Global, q: u64) -> Result<Matrix, Failure>
-    ensures columns { IfOk result (λ m. m.columns ≡ LENGTH) }
-    ensures independent { IfOk result (λ m. AreIndependent m.field m.columns m.rows) }
-{
-    let matrix = matrix(alloc, q)?;
-    Ok(matrix.echelon(alloc)?)
-}
-
-/// The rate of `Sets::build` over the field of `q` elements, in codes.
-pub fn infosets_rate<R: Clock + AllocGlobal>(rt: &R, q: u64) -> Result<Rate, Failure> {
-    let form = form(rt.alloc(), q)?;
-    let height = form.rows();
-    if !form.field().is_symbol() || height == 0 {
+pub(crate) fn sets_of(alloc: Global, code: &Code) -> Result<Sets, Failure> {
+    let _symbol = code.field();
+    let _long = code.length();
+    if code.dimension() == 0 {
         return Err(Failure::Refused);
     }
+    Ok(Sets::build(alloc, code.matrix())?)
+}
+
+// The rate of `Sets::build` for the code.
+fn infosets_of<R: Clock + AllocGlobal>(rt: &R, code: &Code) -> Result<Rate, Failure> {
     let start = Instant::now(rt)?;
     for _ in 0..BUILDS {
-        let _sets = Sets::build(rt.alloc(), &form)?;
+        let _sets = sets_of(rt.alloc(), code)?;
     }
     Ok(Rate {
         count: BUILDS,
         what: "codes",
         elapsed: start.elapsed(rt)?,
     })
+}
+
+/// The rate of `Sets::build` over the field of `q` elements, in codes.
+pub fn infosets_rate<R: Clock + AllocGlobal>(rt: &R, q: u64) -> Result<Rate, Failure> {
+    let code = random_code(rt.alloc(), q, LENGTH, ROWS)?;
+    infosets_of(rt, &code)
 }

@@ -12,6 +12,7 @@ mod messages;
 mod rate;
 mod scripts;
 mod searches;
+mod words;
 
 use bench::{BENCHES, Bench, Decoder, Searches, bench_named};
 use rate::{Failure, Rate};
@@ -74,17 +75,25 @@ fn print_names<R: Runtime + AllocGlobal>(rt: &R) -> Result<(), Failure> {
     Ok(())
 }
 
-// Prints the line of the bench with a name, or the names of all.
-fn run<R: Runtime + AllocGlobal + Threads + Sync>(rt: &R) -> Result<(), Failure> {
-    let Some(word) = first_word(rt)? else {
-        return print_names(rt);
-    };
-    let Some(bench) = bench_named(&word) else {
+// Prints the line of the bench with a name.
+fn print_rate<R: Runtime + AllocGlobal + Threads + Sync>(
+    rt: &R,
+    word: &str,
+) -> Result<(), Failure> {
+    let Some(bench) = bench_named(word) else {
         return Err(Failure::Unknown);
     };
     let rate = measure(rt, bench)?;
     println!(rt; "{word}: {rate}")?;
     Ok(())
+}
+
+// Prints the line of the bench with a name, or the names of all.
+fn run<R: Runtime + AllocGlobal + Threads + Sync>(rt: &R) -> Result<(), Failure> {
+    match first_word(rt)? {
+        Some(word) => print_rate(rt, &word),
+        None => print_names(rt),
+    }
 }
 
 fn main(rt: HostRuntime) -> ExitCode {

@@ -55,6 +55,36 @@ fn list_often(plan: &Plan, spot: &mut Spot, block: u64) -> u64
     count
 }
 
+// The rate of `Plan::step` from a block, with the spot that it needs.
+fn steps_from<R: Clock>(rt: &R, plan: &Plan, spot: &mut Spot, block: u64) -> Result<Rate, Failure>
+    requires inside { block < total plan.now.k plan.now.q plan.now.m }
+    requires room { plan.now.k ≤ spot.old.room }
+{
+    let start = Instant::now(rt)?;
+    let count = list_often(plan, spot, block);
+    Ok(Rate {
+        count,
+        what: "messages",
+        elapsed: start.elapsed(rt)?,
+    })
+}
+
+// The rate of `Plan::step` over the messages of weight `width` of a plan for dimension `k`.
+fn steps_of<R: Clock + AllocGlobal>(
+    rt: &R,
+    plan: &Plan,
+    k: usize,
+    width: usize,
+) -> Result<Rate, Failure>
+    requires dimension { plan.now.k ≡ k }
+{
+    let Some(block) = first_block(plan, width) else {
+        return Err(Failure::Refused);
+    };
+    let mut spot = Spot::new(rt.alloc(), k)?;
+    steps_from(rt, plan, &mut spot, block)
+}
+
 /// The rate of `Plan::step` over the messages of weight `width` and length `k` over `q` elements.
 pub fn step_rate<R: Clock + AllocGlobal>(
     rt: &R,
@@ -66,15 +96,5 @@ pub fn step_rate<R: Clock + AllocGlobal>(
     requires field { (2 ≤ q) × (q ≤ 16) }
 {
     let plan = Plan::build(rt.alloc(), k, q, 1)?;
-    let mut spot = Spot::new(rt.alloc(), k)?;
-    let Some(block) = first_block(&plan, width) else {
-        return Err(Failure::Refused);
-    };
-    let start = Instant::now(rt)?;
-    let count = list_often(&plan, &mut spot, block);
-    Ok(Rate {
-        count,
-        what: "messages",
-        elapsed: start.elapsed(rt)?,
-    })
+    steps_of(rt, &plan, k, width)
 }

@@ -9,7 +9,7 @@ use std::time::Duration;
 use std::{fmt, io};
 
 /// Why a bench gave no rate.
-#[derive(Debug, Drop)]
+#[derive(Drop)]
 pub enum Failure {
     /// There is no bench with that name.
     Unknown,
@@ -81,7 +81,7 @@ impl From<ParseRefusal> for Failure {
 }
 
 /// How much was done in which time.
-#[derive(Debug, Drop)]
+#[derive(Drop)]
 pub struct Rate {
     /// how many were done
     pub count: u64,

@@ -1,12 +1,13 @@
 //! Rounds of searches, and whole searches by several workers.
 
-ghost use Rattle.std.specs.Prelude.{◌≡◌, ◌<◌, ◌≤◌, ◌^◌, length, IfOk};
+ghost use Rattle.std.specs.Prelude.{◌≤◌};
 
-use crate::linear::binary_code;
+use crate::codes::bch_code;
+use crate::kernel::plan_of;
 use crate::rate::{Failure, Rate};
+use crate::words::random_code;
 use lc_code::Code;
-use lc_cyclic::bch;
-use lc_field::{Field, NoMemory};
+use lc_field::NoMemory;
 use lc_infoset::Sets;
 use lc_io::OpenGate;
 use lc_place::Plan;
@@ -52,7 +53,7 @@ fn blocks_of(answer: Answer) -> u64 {
 }
 
 // How many rounds and blocks a search did, and in which time, its start not counted.
-#[derive(Drop)]
+#[derive(Clone, Copy, Drop)]
 struct Course {
     rounds: u64,
     blocks: u64,
@@ -78,16 +79,23 @@ fn time<R: Clock + AllocGlobal + Threads + Sync>(
     })
 }
 
+// The search of a code of dimension at least 1, at its start.
+fn start_of(alloc: Global, code: &Code) -> Result<Search, Failure> {
+    if code.dimension() == 0 {
+        return Err(Failure::Refused);
+    }
+    Ok(Search::start(alloc, code, BUDGET)?)
+}
+
 // Searches in rounds of as many blocks as there are workers.
 fn search_once<R: Clock + AllocGlobal + Threads + Sync>(
     rt: &R,
     code: &Code,
     workers: u32,
 ) -> Result<Course, Failure>
-    requires dimension { 0 < length code.now.rows }
     requires workers { (1 ≤ workers) × (workers ≤ 256) }
 {
-    let mut search = Search::start(rt.alloc(), code, BUDGET)?;
+    let mut search = start_of(rt.alloc(), code)?;
     time(rt, &mut search, workers, u64::from(workers))
 }
 
@@ -97,7 +105,6 @@ fn search_often<R: Clock + AllocGlobal + Threads + Sync>(
     code: &Code,
     workers: u32,
 ) -> Result<Rate, Failure>
-    requires dimension { 0 < length code.now.rows }
     requires workers { (1 ≤ workers) × (workers ≤ 256) }
 {
     let mut count: u64 = 0;
@@ -124,34 +131,11 @@ pub fn rounds_rate<R: Clock + AllocGlobal + Threads + Sync>(
     k: usize,
     workers: u32,
 ) -> Result<Rate, Failure> {
-    if n == 0 || n > 255 || workers == 0 || workers > 256 {
+    if workers == 0 || workers > 256 {
         return Err(Failure::Refused);
     }
-    let code = binary_code(rt.alloc(), n, k)?;
+    let code = random_code(rt.alloc(), 2, n, k)?;
     search_often(rt, &code, workers)
-}
-
-// The binary BCH code of length 63 and design distance 11.
-fn bch_code(alloc: Global) -> Result<Code, Failure>
-    ensures some { IfOk result (λ c. 0 < length c.rows) }
-{
-    let field = Field::of(alloc, 2)?;
-    let code = bch(alloc, 63, 1, 11, &field)?.code;
-    if code.dimension() == 0 {
-        return Err(Failure::Refused);
-    }
-    Ok(code)
-}
-
-// The plan of all these sets.
-fn plan_of(alloc: Global, sets: &Sets) -> Result<Plan, Failure> {
-    let size = u64::from(sets.field().size());
-    let count = sets.count();
-    let _n = sets.length();
-    if size < 2 || size > 16 || count == 0 || count > 255 {
-        return Err(Failure::Refused);
-    }
-    Ok(Plan::build(alloc, sets.dimension(), size, count)?)
 }
 
 // How many words the first blocks of a plan have.
@@ -163,9 +147,9 @@ fn words_below(plan: &Plan, blocks: u64) -> u64 {
     count
 }
 
-// How many words the first blocks of the plan of these sets have.
+// How many words the first blocks of the plan of all these sets have.
 fn words_of(alloc: Global, sets: &Sets, blocks: u64) -> Result<u64, Failure> {
-    let plan = plan_of(alloc, sets)?;
+    let plan = plan_of(alloc, sets, sets.count())?;
     Ok(words_below(&plan, blocks))
 }
 
@@ -175,10 +159,9 @@ fn search_of<R: Clock + AllocGlobal + Threads + Sync>(
     code: &Code,
     workers: u32,
 ) -> Result<Rate, Failure>
-    requires dimension { 0 < length code.now.rows }
     requires workers { (1 ≤ workers) × (workers ≤ 256) }
 {
-    let mut search = Search::start(rt.alloc(), code, BUDGET)?;
+    let mut search = start_of(rt.alloc(), code)?;
     let course = time(rt, &mut search, workers, u64::MAX)?;
     Ok(Rate {
         count: words_of(rt.alloc(), search.sets(), course.blocks)?,
@@ -195,6 +178,6 @@ pub fn search_rate<R: Clock + AllocGlobal + Threads + Sync>(
     if workers == 0 || workers > 256 {
         return Err(Failure::Refused);
     }
-    let code = bch_code(rt.alloc())?;
-    search_of(rt, &code, workers)
+    let formed = bch_code(rt.alloc(), 2, 63, 11)?;
+    search_of(rt, &formed.code, workers)
 }
