@@ -4,7 +4,9 @@ ghost use Rattle.lc_enumeration.specs.Plan.{total};
 ghost use Rattle.lc_kernel.specs.Kernel.{IsPlanOf};
 
 use crate::plain::{Sums, sums_over};
-use crate::shapes::{CHARACTERISTIC_2, CHARACTERISTIC_3, Columns, OTHER_PRIMES, Over, Shape, rows};
+use crate::shapes::{
+    CHARACTERISTIC_2, CHARACTERISTIC_3, Columns, OTHER_PRIMES, Over, Shape, code_over, rows,
+};
 use crate::tasks::{Task, code_does};
 use lc_code::Code;
 use lc_field::{Field, NoMemory};
@@ -15,7 +17,6 @@ use lc_vec::Word;
 use std::alloc::Global;
 use std::process::Abort;
 use std::test::Fail;
-use test_rows::are_words;
 
 // The element whose sum with another is zero.
 fn negative(sums: &Sums, a: u8) -> u8 {
@@ -89,7 +90,19 @@ fn shaped_rows(
     planted_rows(alloc, &sums_over(field), &words, spot, shape.dimension)
 }
 
-// The code of these rows.
+// The code of these rows over a field.
+fn planted_over(
+    rt: &impl Abort,
+    alloc: Global,
+    field: &Field,
+    shape: &Shape,
+    spot: &Spot,
+) -> Result<Code, Fail> {
+    let words = shaped_rows(alloc, field, shape, spot)?;
+    code_over(rt, alloc, field, shape.length, &words)
+}
+
+// The code of these rows over q elements.
 fn planted_code(
     rt: &impl Abort,
     alloc: Global,
@@ -98,10 +111,7 @@ fn planted_code(
     spot: &Spot,
 ) -> Result<Code, Fail> {
     let field = Field::of(alloc, q)?;
-    let words = shaped_rows(alloc, &field, shape, spot)?;
-    let n = shape.length;
-    assert!(rt; field.is_symbol() && 1 <= n && n <= 255 && are_words(&field, n, &words));
-    Ok(Code::from_rows(alloc, &field, n, &words)?)
+    planted_over(rt, alloc, &field, shape, spot)
 }
 
 // A planted word: the level, the block, counted from the first one of the level, and the offset.

@@ -80,13 +80,28 @@ pub(crate) fn rows(alloc: Global, field: &Field, shape: &Shape) -> Result<Vec<Wo
     Ok(words)
 }
 
+// The code of rows that are seen to be words of n symbols.
+pub(crate) fn code_over(
+    rt: &impl Abort,
+    alloc: Global,
+    field: &Field,
+    n: usize,
+    words: &[Word],
+) -> Result<Code, Fail> {
+    assert!(rt; field.is_symbol() && 1 <= n && n <= 255 && are_words(field, n, words));
+    Ok(Code::from_rows(alloc, field, n, words)?)
+}
+
+// The code of a shape over a field.
+fn shaped_over(rt: &impl Abort, alloc: Global, field: &Field, shape: &Shape) -> Result<Code, Fail> {
+    let words = rows(alloc, field, shape)?;
+    code_over(rt, alloc, field, shape.length, &words)
+}
+
 // The code of this shape over q elements.
 pub(crate) fn shaped(rt: &impl Abort, alloc: Global, q: u64, shape: &Shape) -> Result<Code, Fail> {
     let field = Field::of(alloc, q)?;
-    let words = rows(alloc, &field, shape)?;
-    let n = shape.length;
-    assert!(rt; field.is_symbol() && 1 <= n && n <= 255 && are_words(&field, n, &words));
-    Ok(Code::from_rows(alloc, &field, n, &words)?)
+    shaped_over(rt, alloc, &field, shape)
 }
 
 // A field, a dimension at which all messages are few, one at which a level has several blocks, the first such level, and what the

@@ -93,20 +93,22 @@ const RESUMED: [Row; 9] = [
     (GOLAY_BEFORE, GOLAY, GOLAY_TEXT, b""),
 ];
 
-// A vault with these bytes in slot zero.
-fn vault_with(alloc: Global, bytes: &[u8]) -> Result<MemoryVault, Fail> {
-    let mut vault = MemoryVault::new(alloc, 4096, &[])?;
-    if vault.store(Slot::Zero, bytes).is_err() {
-        return Err("the vault failed")?;
-    }
-    Ok(vault)
+// Whether `resume` ends so on this vault with the bytes in slot zero, and leaves the slots as they were.
+fn leaves_the_slots<R: Threads + Sync>(
+    rt: &R,
+    alloc: Global,
+    vault: &mut MemoryVault,
+    row: &Row,
+) -> Result<bool, Fail> {
+    let stored = vault.store(Slot::Zero, row.0).is_ok();
+    let ended = ends(rt, alloc, &["resume"], row.1, vault, row.2, row.3)?;
+    // without `keep=yes` nothing is stored
+    Ok(stored && ended && holds(vault, Slot::Zero, row.0) && holds(vault, Slot::One, b""))
 }
 
 fn is_resumed<R: Threads + Sync>(rt: &R, alloc: Global, row: &Row) -> Result<bool, Fail> {
-    let mut vault = vault_with(alloc, row.0)?;
-    let ended = ends(rt, alloc, &["resume"], row.1, &mut vault, row.2, row.3)?;
-    // without `keep=yes` nothing is stored
-    Ok(ended && holds(&mut vault, Slot::Zero, row.0) && holds(&mut vault, Slot::One, b""))
+    let mut vault = MemoryVault::new(alloc, 4096, &[])?;
+    leaves_the_slots(rt, alloc, &mut vault, row)
 }
 
 #[test]
@@ -123,15 +125,26 @@ const EARLIER: [(&[u8], &[u8], &[u8], &[u8]); 2] = [
     (EXTENDED, EXTENDED_BEFORE, EXTENDED_TEXT, EXTENDED_LAST),
 ];
 
+// Whether `resume` ends so on this vault with the bytes in slot zero, and stores the last checkpoint.
+fn stores_the_last<R: Threads + Sync>(
+    rt: &R,
+    alloc: Global,
+    vault: &mut MemoryVault,
+    row: &(&[u8], &[u8], &[u8], &[u8]),
+) -> Result<bool, Fail> {
+    let words = ["resume", "keep=yes"];
+    let stored = vault.store(Slot::Zero, row.1).is_ok();
+    let ended = ends(rt, alloc, &words, row.0, vault, row.2, b"")?;
+    Ok(stored && ended && holds(vault, Slot::One, row.3))
+}
+
 fn goes_on<R: Threads + Sync>(
     rt: &R,
     alloc: Global,
     row: &(&[u8], &[u8], &[u8], &[u8]),
 ) -> Result<bool, Fail> {
-    let mut vault = vault_with(alloc, row.1)?;
-    let words = ["resume", "keep=yes"];
-    let ended = ends(rt, alloc, &words, row.0, &mut vault, row.2, b"")?;
-    Ok(ended && holds(&mut vault, Slot::One, row.3))
+    let mut vault = MemoryVault::new(alloc, 4096, &[])?;
+    stores_the_last(rt, alloc, &mut vault, row)
 }
 
 #[test]

@@ -1,7 +1,6 @@
 //! The workers and the gate of a session: a round whose reports are held at the gate until its other blocks have come there.
-use crate::vaults::words_of;
-use lc_io::{Gate, MemorySink, MemorySource, MemoryVault, Watcher};
-use lc_session::run_session;
+use crate::vaults::{number_of, words_of};
+use lc_io::{Gate, MemorySink, MemorySource, NoMemory};
 use std::alloc::Global;
 use std::sync::atomic::{AtomicBool, AtomicU64, Ordering};
 use std::test::Fail;
@@ -75,39 +74,27 @@ impl Gate for WaitingGate {
     }
 }
 
-// Whether a session that passes this gate ends with 0.
-fn ends_well<R: Threads + Sync>(
-    rt: &R,
-    alloc: Global,
-    words: &[String],
-    source: &mut MemorySource,
-    sink: &mut MemorySink,
-    gate: &WaitingGate,
-) -> Result<bool, Fail> {
-    let mut vault = MemoryVault::new(alloc, 0, &[])?;
-    let mut watchers: Vec<Box<dyn Watcher>> = Vec::new(alloc);
-    let status = run_session(
-        rt,
-        alloc,
-        words,
-        source,
-        sink,
-        &mut vault,
-        &mut watchers,
-        gate,
-    );
-    Ok(status.number() == 0)
-}
-
+// Whether a session that passes this gate writes the text and ends with 0.
 fn writes_the_text<R: Threads + Sync>(
     rt: &R,
     alloc: Global,
     words: &[String],
     source: &mut MemorySource,
     gate: &WaitingGate,
-) -> Result<bool, Fail> {
+) -> Result<bool, NoMemory> {
     let mut sink = MemorySink::new(alloc, 256, 64, &[])?;
-    Ok(ends_well(rt, alloc, words, source, &mut sink, gate)? && sink.bytes() == TEXT)
+    Ok(number_of(rt, alloc, words, source, &mut sink, gate)? == 0 && sink.bytes() == TEXT)
+}
+
+// Whether it does so on the script.
+fn answers<R: Threads + Sync>(
+    rt: &R,
+    alloc: Global,
+    words: &[String],
+    gate: &WaitingGate,
+) -> Result<bool, NoMemory> {
+    let mut source = MemorySource::new(alloc, SCRIPT, 64, &[])?;
+    writes_the_text(rt, alloc, words, &mut source, gate)
 }
 
 // Whether two workers of a session come to a gate that holds this block.
@@ -116,19 +103,29 @@ fn is_passed_by_two<R: Threads + Sync>(
     alloc: Global,
     words: &[String],
     held: u64,
-) -> Result<bool, Fail> {
+) -> Result<bool, NoMemory> {
     let gate = WaitingGate::holding(held);
-    let mut source = MemorySource::new(alloc, SCRIPT, 64, &[])?;
-    Ok(writes_the_text(rt, alloc, words, &mut source, &gate)? && gate.is_met())
+    Ok(answers(rt, alloc, words, &gate)? && gate.is_met())
+}
+
+// Whether they come to each gate that holds a block of the round.
+fn are_passed_by_two<R: Threads + Sync>(
+    rt: &R,
+    alloc: Global,
+    words: &[String],
+) -> Result<bool, NoMemory> {
+    for held in FIRST..=LAST {
+        if !is_passed_by_two(rt, alloc, words, held)? {
+            return Ok(false);
+        }
+    }
+    Ok(true)
 }
 
 // A session that starts one worker, or passes another gate, fails for each of the blocks that are held.
 #[test]
 fn two_workers_come_to_the_gate_of_a_session(rt: HostRuntime) -> Result<(), Fail> {
-    let alloc = rt.alloc();
-    let words = words_of(alloc, &["run", "workers=2"])?;
-    for held in FIRST..=LAST {
-        assert!(rt; is_passed_by_two(&rt, alloc, &words, held)?, "{held}");
-    }
+    let words = words_of(rt.alloc(), &["run", "workers=2"])?;
+    assert!(rt; are_passed_by_two(&rt, rt.alloc(), &words)?);
     Ok(())
 }

@@ -1,39 +1,15 @@
 //! Sessions that keep nothing, over sources and sinks in memory, and what is said of statuses.
 ghost use Rattle.std.specs.Prelude.{◌≤◌};
 
-use crate::vaults::{HAMMING, Line, ends, says, words_of};
+use crate::vaults::{HAMMING, Line, Session, all_end, number_of, says, words_of};
 use lc_checker::Reason;
-use lc_io::{MemorySink, MemorySource, MemoryVault, OpenGate, Watcher};
-use lc_session::{Status, run_session};
+use lc_io::{MemorySink, MemorySource, MemoryVault, NoMemory, OpenGate};
+use lc_session::Status;
 use std::alloc::Global;
 use std::test::Fail;
 use std::thread::Threads;
 
 const QUERY: &[u8] = b"LeastWord([[1,1,0],[0,1,1]],GF(2));";
-
-// Whether a session that keeps nothing ends with a status of this number.
-fn ends_as<R: Threads + Sync>(
-    rt: &R,
-    alloc: Global,
-    words: &[String],
-    source: &mut MemorySource,
-    sink: &mut MemorySink,
-    number: u8,
-) -> Result<bool, Fail> {
-    let mut vault = MemoryVault::new(alloc, 0, &[])?;
-    let mut watchers: Vec<Box<dyn Watcher>> = Vec::new(alloc);
-    let status = run_session(
-        rt,
-        alloc,
-        words,
-        source,
-        sink,
-        &mut vault,
-        &mut watchers,
-        &OpenGate,
-    );
-    Ok(status.number() == number)
-}
 
 // Scripts and what they print.
 const SCRIPTS: [(&[u8], &[u8], u8); 4] = [
@@ -51,9 +27,9 @@ fn prints<R: Threads + Sync>(
     source: &mut MemorySource,
     text: &[u8],
     number: u8,
-) -> Result<bool, Fail> {
+) -> Result<bool, NoMemory> {
     let mut sink = MemorySink::new(alloc, 64, 5, &[])?;
-    Ok(ends_as(rt, alloc, words, source, &mut sink, number)? && sink.bytes() == text)
+    Ok(number_of(rt, alloc, words, source, &mut sink, &OpenGate)? == number && sink.bytes() == text)
 }
 
 fn is_answered<R: Threads + Sync>(
@@ -61,19 +37,41 @@ fn is_answered<R: Threads + Sync>(
     alloc: Global,
     words: &[String],
     row: &(&[u8], &[u8], u8),
-) -> Result<bool, Fail> {
+) -> Result<bool, NoMemory> {
     let mut source = MemorySource::new(alloc, row.0, 7, &[])?;
     prints(rt, alloc, words, &mut source, row.1, row.2)
 }
 
+fn are_answered<R: Threads + Sync>(
+    rt: &R,
+    alloc: Global,
+    words: &[String],
+) -> Result<bool, NoMemory> {
+    for row in &SCRIPTS {
+        if !is_answered(rt, alloc, words, row)? {
+            return Ok(false);
+        }
+    }
+    Ok(true)
+}
+
 #[test]
 fn scripts_are_answered(rt: HostRuntime) -> Result<(), Fail> {
-    let alloc = rt.alloc();
-    let words = words_of(alloc, &["run"])?;
-    for row in &SCRIPTS {
-        assert!(rt; is_answered(&rt, alloc, &words, row)?);
-    }
+    let words = words_of(rt.alloc(), &["run"])?;
+    assert!(rt; are_answered(&rt, rt.alloc(), &words)?);
     Ok(())
+}
+
+// Whether a session on this script, read at once, prints nothing and ends with a status of this number.
+fn ends_as<R: Threads + Sync>(
+    rt: &R,
+    alloc: Global,
+    words: &[String],
+    script: &[u8],
+    number: u8,
+) -> Result<bool, NoMemory> {
+    let mut source = MemorySource::new(alloc, script, 65_536, &[])?;
+    prints(rt, alloc, words, &mut source, b"", number)
 }
 
 // Whether a session on so many spaces ends with a status of this number.
@@ -83,18 +81,27 @@ fn spaces_end_as<R: Threads + Sync>(
     words: &[String],
     count: usize,
     number: u8,
-) -> Result<bool, Fail> {
+) -> Result<bool, NoMemory> {
     let spaces = vec![in alloc; b' '; count]?;
-    let mut source = MemorySource::new(alloc, &spaces, 65_536, &[])?;
-    prints(rt, alloc, words, &mut source, b"", number)
+    ends_as(rt, alloc, words, &spaces, number)
+}
+
+// Whether the longest script is read, and one that is longer is not.
+fn longest_is_read<R: Threads + Sync>(
+    rt: &R,
+    alloc: Global,
+    words: &[String],
+) -> Result<bool, NoMemory> {
+    Ok(
+        spaces_end_as(rt, alloc, words, 1_048_577, 12)?
+            && spaces_end_as(rt, alloc, words, 1_048_576, 0)?,
+    )
 }
 
 #[test]
 fn the_longest_script_is_read(rt: HostRuntime) -> Result<(), Fail> {
-    let alloc = rt.alloc();
-    let words = words_of(alloc, &["run"])?;
-    assert!(rt; spaces_end_as(&rt, alloc, &words, 1_048_577, 12)?);
-    assert!(rt; spaces_end_as(&rt, alloc, &words, 1_048_576, 0)?);
+    let words = words_of(rt.alloc(), &["run"])?;
+    assert!(rt; longest_is_read(&rt, rt.alloc(), &words)?);
     Ok(())
 }
 
@@ -121,7 +128,7 @@ fn is_a_source_fault<R: Threads + Sync>(
     words: &[String],
     piece: usize,
     row: &Fault,
-) -> Result<bool, Fail>
+) -> Result<bool, NoMemory>
     requires { 1 ≤ piece }
 {
     let mut source = MemorySource::new(alloc, row.0, piece, &[row.2])?;
@@ -136,11 +143,11 @@ fn is_a_sink_fault<R: Threads + Sync>(
     source: &mut MemorySource,
     piece: usize,
     row: &Fault,
-) -> Result<bool, Fail>
+) -> Result<bool, NoMemory>
     requires { 1 ≤ piece }
 {
     let mut sink = MemorySink::new(alloc, 64, piece, &[row.2])?;
-    Ok(ends_as(rt, alloc, words, source, &mut sink, 5)? && sink.bytes() == row.3)
+    Ok(number_of(rt, alloc, words, source, &mut sink, &OpenGate)? == 5 && sink.bytes() == row.3)
 }
 
 fn writes_the_front<R: Threads + Sync>(
@@ -149,55 +156,60 @@ fn writes_the_front<R: Threads + Sync>(
     words: &[String],
     piece: usize,
     row: &Fault,
-) -> Result<bool, Fail>
+) -> Result<bool, NoMemory>
     requires { 1 ≤ piece }
 {
     let mut source = MemorySource::new(alloc, row.0, 64, &[])?;
     is_a_sink_fault(rt, alloc, words, &mut source, piece, row)
 }
 
-#[test]
-fn reads_and_writes_that_fail_end_a_session(rt: HostRuntime) -> Result<(), Fail> {
-    let alloc = rt.alloc();
-    let words = words_of(alloc, &["run"])?;
+// Whether the faults of the table end a session.
+fn are_faults<R: Threads + Sync>(
+    rt: &R,
+    alloc: Global,
+    words: &[String],
+) -> Result<bool, NoMemory> {
     for row in &FAULTS {
         let piece = row.1;
-        assert!(rt; 1 <= piece);
-        assert!(rt; is_a_source_fault(&rt, alloc, &words, piece, row)?);
-        assert!(rt; writes_the_front(&rt, alloc, &words, piece, row)?);
+        if piece == 0
+            || !is_a_source_fault(rt, alloc, words, piece, row)?
+            || !writes_the_front(rt, alloc, words, piece, row)?
+        {
+            return Ok(false);
+        }
     }
+    Ok(true)
+}
+
+#[test]
+fn reads_and_writes_that_fail_end_a_session(rt: HostRuntime) -> Result<(), Fail> {
+    let words = words_of(rt.alloc(), &["run"])?;
+    assert!(rt; are_faults(&rt, rt.alloc(), &words)?);
     Ok(())
 }
 
 // Arguments that are refused, and what is said of the first that is.
-const REFUSED: [(&[&str], &[u8]); 6] = [
-    (&[], b"codes: word 0 refused\n"),
-    (&["run", "run"], b"codes: word 1 refused\n"),
-    (&["run", "slice=2"], b"codes: word 1 refused\n"),
-    (&["run", "keep=yes", "keep=no"], b"codes: word 2 refused\n"),
-    (&["check", "run"], b"codes: word 1 refused\n"),
-    (&["summary"], b"codes: word 1 refused\n"),
+const REFUSED: [Session; 6] = [
+    (&[], b"", b"codes: word 0 refused\n"),
+    (&["run", "run"], b"", b"codes: word 1 refused\n"),
+    (&["run", "slice=2"], b"", b"codes: word 1 refused\n"),
+    (
+        &["run", "keep=yes", "keep=no"],
+        b"",
+        b"codes: word 2 refused\n",
+    ),
+    (&["check", "run"], b"", b"codes: word 1 refused\n"),
+    (&["summary"], b"", b"codes: word 1 refused\n"),
 ];
-
-fn are_refused<R: Threads + Sync>(
-    rt: &R,
-    alloc: Global,
-    vault: &mut MemoryVault,
-    row: &(&[&str], &[u8]),
-) -> Result<bool, Fail> {
-    ends(rt, alloc, row.0, QUERY, vault, b"", row.1)
-}
 
 #[test]
 fn arguments_are_refused(rt: HostRuntime) -> Result<(), Fail> {
     let mut vault = MemoryVault::new(rt.alloc(), 0, &[])?;
-    for row in &REFUSED {
-        assert!(rt; are_refused(&rt, rt.alloc(), &mut vault, row)?);
-    }
+    assert!(rt; all_end(&rt, rt.alloc(), QUERY, &mut vault, &REFUSED)?);
     Ok(())
 }
 
-const STATUSES: [(Status, u8, Line); 12] = [
+const STATUSES: [(Status, u8, Line); 14] = [
     (Status::Done(0), 0, b""),
     (Status::Done(1), 1, b""),
     (Status::Usage(0), 2, b"codes: word 0 refused\n"),
@@ -215,6 +227,15 @@ const STATUSES: [(Status, u8, Line); 12] = [
     (Status::NoMemory { told: 3 }, 7, b"codes: no memory\n"),
     (Status::NoCheckpoint, 8, b"codes: no checkpoint\n"),
     (Status::DamagedCheckpoint, 9, b"codes: damaged checkpoint\n"),
+    (
+        Status::OtherScript {
+            script: [0; 32],
+            budget: 1,
+        },
+        10,
+        b"codes: checkpoint of another script or budget\n",
+    ),
+    (Status::Rejected(Reason::NotJson), 11, b"codes: rejected\n"),
     (Status::TooLong, 12, b"codes: input too long\n"),
     (
         Status::Unfit {
@@ -227,24 +248,23 @@ const STATUSES: [(Status, u8, Line); 12] = [
     ),
 ];
 
+// Whether a status has this number and this line.
+fn is_told(alloc: Global, status: &Status, number: u8, line: &[u8]) -> bool {
+    status.number() == number && says(alloc, status, line) == Ok(true)
+}
+
+// Whether this is so of all rows.
+fn are_told(alloc: Global) -> bool {
+    for (status, number, line) in &STATUSES {
+        if !is_told(alloc, status, *number, line) {
+            return false;
+        }
+    }
+    true
+}
+
 #[test]
 fn statuses_have_numbers_and_lines(rt: HostRuntime) -> Result<(), Fail> {
-    for (status, number, line) in &STATUSES {
-        assert!(rt; status.number() == *number && says(rt.alloc(), status, line)?);
-    }
-    let other = Status::OtherScript {
-        script: [0; 32],
-        budget: 1,
-    };
-    assert!(rt; other.number() == 10);
-    assert!(rt;
-        says(
-            rt.alloc(),
-            &other,
-            b"codes: checkpoint of another script or budget\n"
-        )?
-    );
-    let rejected = Status::Rejected(Reason::NotJson);
-    assert!(rt; rejected.number() == 11 && says(rt.alloc(), &rejected, b"codes: rejected\n")?);
+    assert!(rt; are_told(rt.alloc()));
     Ok(())
 }

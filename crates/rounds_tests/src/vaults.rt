@@ -1,5 +1,7 @@
 //! Sessions over a vault in memory: slices, calls that fail, and what goes on from there.
-use lc_io::{MemorySink, MemorySource, MemoryVault, OpenGate, Slot, Vault, Watcher};
+use lc_io::{
+    Gate, MemorySink, MemorySource, MemoryVault, NoMemory, OpenGate, Slot, Vault, Watcher,
+};
 use lc_session::{Status, run_session, status_line};
 use std::alloc::{AllocError, Global};
 use std::test::Fail;
@@ -7,6 +9,9 @@ use std::thread::Threads;
 
 // What is said of a status.
 pub(crate) type Line = &'static [u8];
+
+// The arguments of a session, its text, and what is said of its status.
+pub(crate) type Session = (&'static [&'static str], &'static [u8], Line);
 
 pub(crate) const HAMMING: &[u8] = b"MinimumDistance(HammingCode(3,GF(2)));";
 
@@ -25,8 +30,53 @@ pub(crate) fn words_of(alloc: Global, texts: &[&str]) -> Result<Vec<String>, All
     Ok(words)
 }
 
-pub(crate) fn says(alloc: Global, status: &Status, line: &[u8]) -> Result<bool, Fail> {
+pub(crate) fn says(
+    alloc: Global,
+    status: &Status,
+    line: &[u8],
+) -> Result<bool, lc_field::NoMemory> {
     Ok(status_line(alloc, status)?.as_slice() == line)
+}
+
+// How a session ends that no watcher hears.
+pub(crate) fn status_of<R: Threads + Sync, G: Gate + Sync>(
+    rt: &R,
+    alloc: Global,
+    words: &[String],
+    source: &mut MemorySource,
+    sink: &mut MemorySink,
+    vault: &mut MemoryVault,
+    gate: &G,
+) -> Status {
+    let mut watchers: Vec<Box<dyn Watcher>> = Vec::new(alloc);
+    run_session(rt, alloc, words, source, sink, vault, &mut watchers, gate)
+}
+
+// The number with which a session ends that keeps nothing and passes this gate.
+pub(crate) fn number_of<R: Threads + Sync, G: Gate + Sync>(
+    rt: &R,
+    alloc: Global,
+    words: &[String],
+    source: &mut MemorySource,
+    sink: &mut MemorySink,
+    gate: &G,
+) -> Result<u8, NoMemory> {
+    let mut vault = MemoryVault::new(alloc, 0, &[])?;
+    Ok(status_of(rt, alloc, words, source, sink, &mut vault, gate).number())
+}
+
+// Whether a session over this source and this sink ends with this line.
+fn ends_with<R: Threads + Sync>(
+    rt: &R,
+    alloc: Global,
+    words: &[String],
+    source: &mut MemorySource,
+    sink: &mut MemorySink,
+    vault: &mut MemoryVault,
+    line: &[u8],
+) -> Result<bool, lc_field::NoMemory> {
+    let status = status_of(rt, alloc, words, source, sink, vault, &OpenGate);
+    says(alloc, &status, line)
 }
 
 // Whether a session over this source ends with this text and this line.
@@ -40,18 +90,7 @@ fn gives<R: Threads + Sync>(
     line: &[u8],
 ) -> Result<bool, Fail> {
     let mut sink = MemorySink::new(alloc, 256, 256, &[])?;
-    let mut watchers: Vec<Box<dyn Watcher>> = Vec::new(alloc);
-    let status = run_session(
-        rt,
-        alloc,
-        words,
-        source,
-        &mut sink,
-        vault,
-        &mut watchers,
-        &OpenGate,
-    );
-    Ok(sink.bytes() == text && says(alloc, &status, line)?)
+    Ok(ends_with(rt, alloc, words, source, &mut sink, vault, line)? && sink.bytes() == text)
 }
 
 fn answers<R: Threads + Sync>(
@@ -81,6 +120,22 @@ pub(crate) fn ends<R: Threads + Sync>(
     answers(rt, alloc, &words, script, vault, text, line)
 }
 
+// Whether sessions on this script, one after another on one vault, end so.
+pub(crate) fn all_end<R: Threads + Sync>(
+    rt: &R,
+    alloc: Global,
+    script: &[u8],
+    vault: &mut MemoryVault,
+    sessions: &[Session],
+) -> Result<bool, Fail> {
+    for (texts, text, line) in sessions {
+        if !ends(rt, alloc, texts, script, vault, text, line)? {
+            return Ok(false);
+        }
+    }
+    Ok(true)
+}
+
 pub(crate) fn holds(vault: &mut MemoryVault, slot: Slot, wanted: &[u8]) -> bool {
     let mut buf = [0; 512];
     match vault.load(slot, &mut buf) {
@@ -90,7 +145,7 @@ pub(crate) fn holds(vault: &mut MemoryVault, slot: Slot, wanted: &[u8]) -> bool 
 }
 
 // The sessions of a chain, one after another on one vault.
-const CHAIN: [(&[&str], &[u8], Line); 5] = [
+const CHAIN: [Session; 5] = [
     (
         &["run", "slice=2", "keep=yes"],
         EMPTY,
@@ -113,101 +168,79 @@ const CHAIN: [(&[&str], &[u8], Line); 5] = [
 #[test]
 fn slices_end_with_the_text(rt: HostRuntime) -> Result<(), Fail> {
     let mut vault = MemoryVault::new(rt.alloc(), 512, &[])?;
-    for (words, text, line) in &CHAIN {
-        assert!(rt; ends(&rt, rt.alloc(), words, GOLAY, &mut vault, text, line)?);
-    }
+    assert!(rt; all_end(&rt, rt.alloc(), GOLAY, &mut vault, &CHAIN)?);
     Ok(())
 }
 
-// What `resume` prints after a session of which this call of the vault failed: the first two empty the slots, the others store the
-// six checkpoints.
-const AFTER_A_FAULT: [(u64, &[u8], Line); 8] = [
-    (1, EMPTY, b"codes: no checkpoint\n"),
-    (2, EMPTY, b"codes: no checkpoint\n"),
-    (3, EMPTY, b"codes: damaged checkpoint\n"),
-    (4, GOLAY_TEXT, b""),
-    (5, GOLAY_TEXT, b""),
-    (6, GOLAY_TEXT, b""),
-    (7, GOLAY_TEXT, b""),
-    (8, GOLAY_TEXT, b""),
-];
-
 const FAULT: &[u8] = b"codes: vault fault\n";
 
-fn goes_on_after<R: Threads + Sync>(
+// A session of which a call of the vault fails.
+const FAILING: Session = (&["run", "keep=yes"], EMPTY, FAULT);
+
+const RESUME: &[&str] = &["resume", "keep=yes"];
+
+// A call of the vault that fails in a session, and what `resume` prints after it: the first two empty the slots, the others store
+// the six checkpoints.
+const AFTER_A_FAULT: [(u64, [Session; 2]); 8] = [
+    (1, [FAILING, (RESUME, EMPTY, b"codes: no checkpoint\n")]),
+    (2, [FAILING, (RESUME, EMPTY, b"codes: no checkpoint\n")]),
+    (
+        3,
+        [FAILING, (RESUME, EMPTY, b"codes: damaged checkpoint\n")],
+    ),
+    (4, [FAILING, (RESUME, GOLAY_TEXT, b"")]),
+    (5, [FAILING, (RESUME, GOLAY_TEXT, b"")]),
+    (6, [FAILING, (RESUME, GOLAY_TEXT, b"")]),
+    (7, [FAILING, (RESUME, GOLAY_TEXT, b"")]),
+    (8, [FAILING, (RESUME, GOLAY_TEXT, b"")]),
+];
+
+// Whether sessions on a vault whose call of this number fails end so.
+fn survive<R: Threads + Sync>(
     rt: &R,
     alloc: Global,
     call: u64,
-    text: &[u8],
-    line: &[u8],
+    sessions: &[Session],
 ) -> Result<bool, Fail> {
     let mut vault = MemoryVault::new(alloc, 512, &[call])?;
-    let run = ["run", "keep=yes"];
-    let resume = ["resume", "keep=yes"];
-    Ok(
-        ends(rt, alloc, &run, GOLAY, &mut vault, EMPTY, FAULT)?
-            && ends(rt, alloc, &resume, GOLAY, &mut vault, text, line)?,
-    )
+    all_end(rt, alloc, GOLAY, &mut vault, sessions)
 }
 
 #[test]
 fn a_store_that_fails_leaves_the_other_slot(rt: HostRuntime) -> Result<(), Fail> {
-    for (call, text, line) in &AFTER_A_FAULT {
-        assert!(rt;
-            goes_on_after(&rt, rt.alloc(), *call, text, line)?,
-            "call {call}"
-        );
+    for (call, sessions) in &AFTER_A_FAULT {
+        assert!(rt; survive(&rt, rt.alloc(), *call, sessions)?, "call {call}");
     }
     Ok(())
 }
 
-// A session that pauses after two rounds, a session of which this load fails, and one that goes on.
-fn survives_a_load<R: Threads + Sync>(rt: &R, alloc: Global, call: u64) -> Result<bool, Fail> {
-    let mut vault = MemoryVault::new(alloc, 512, &[call])?;
-    let slice = ["run", "keep=yes", "slice=2"];
-    let paused = b"codes: paused at query 0 blocks 2\n";
-    let resume = ["resume", "keep=yes"];
-    Ok(
-        ends(rt, alloc, &slice, GOLAY, &mut vault, EMPTY, paused)?
-            && ends(rt, alloc, &resume, GOLAY, &mut vault, EMPTY, FAULT)?
-            && ends(rt, alloc, &resume, GOLAY, &mut vault, GOLAY_TEXT, b"")?,
-    )
-}
+// A session that pauses after two rounds, a session of which a load fails, and one that goes on.
+const LOADS: [Session; 3] = [
+    (
+        &["run", "keep=yes", "slice=2"],
+        EMPTY,
+        b"codes: paused at query 0 blocks 2\n",
+    ),
+    (RESUME, EMPTY, FAULT),
+    (RESUME, GOLAY_TEXT, b""),
+];
 
 #[test]
 fn a_load_that_fails_changes_no_slot(rt: HostRuntime) -> Result<(), Fail> {
     // the two slots are emptied by the calls 1 and 2, and the two checkpoints are stored by 3 and 4
     for call in [5, 6] {
-        assert!(rt; survives_a_load(&rt, rt.alloc(), call)?, "call {call}");
+        assert!(rt; survive(&rt, rt.alloc(), call, &LOADS)?, "call {call}");
     }
     Ok(())
 }
+
+// A session that keeps nothing, and one that does.
+const KEPT: [Session; 2] = [(&["run"], GOLAY_TEXT, b""), FAILING];
 
 #[test]
 fn a_session_that_keeps_nothing_leaves_the_slots(rt: HostRuntime) -> Result<(), Fail> {
     // each call of this vault fails
     let mut vault = MemoryVault::new(rt.alloc(), 512, &[1, 2, 3])?;
-    assert!(rt;
-        ends(
-            &rt,
-            rt.alloc(),
-            &["run"],
-            GOLAY,
-            &mut vault,
-            GOLAY_TEXT,
-            b""
-        )?
-    );
-    assert!(rt;
-        ends(
-            &rt,
-            rt.alloc(),
-            &["run", "keep=yes"],
-            GOLAY,
-            &mut vault,
-            EMPTY,
-            FAULT
-        )?
-    );
+    assert!(rt; all_end(&rt, rt.alloc(), GOLAY, &mut vault, &KEPT)?);
     Ok(())
 }

@@ -1,4 +1,5 @@
 //! The adapters over a reader, a writer and a folder that fail once and then answer, and that count how often they are asked.
+use crate::outside::{gives_pieces, takes_pieces};
 use lc_io::{
     Failed, FolderVault, ReaderSource, Sink, Slot, Source, Vault, WriterSink, write_whole,
 };
@@ -48,6 +49,12 @@ impl<T: Write> Write for Faltering<T> {
     }
 }
 
+// Whether a reader that fails at its second call gives these pieces as a source, and nothing for an empty buffer.
+fn is_source<R: Read>(reader: &mut R) -> bool {
+    let mut source = ReaderSource::new(reader);
+    gives_pieces(&mut source) && source.read(&mut []) == Ok(0)
+}
+
 #[test]
 fn a_source_asks_its_reader_once_a_call(rt: HostRuntime) -> Result<(), Fail> {
     let mut reader = Faltering {
@@ -56,59 +63,50 @@ fn a_source_asks_its_reader_once_a_call(rt: HostRuntime) -> Result<(), Fail> {
         failing: 2,
         calls: 0,
     };
-    let wanted = [
-        (Ok(2), b"ab."),
-        (Err(Failed), b"ab."),
-        (Ok(2), b"cd."),
-        (Ok(1), b"ed."),
-        (Ok(0), b"ed."),
-    ];
-    {
-        let mut source = ReaderSource::new(&mut reader);
-        let mut buf = [b'.'; 3];
-        for (answer, bytes) in wanted {
-            assert!(rt; source.read(&mut buf) == answer && &buf == bytes);
-        }
-        assert!(rt; source.read(&mut []) == Ok(0));
-    }
     // the end was asked for once, and for the empty buffer nothing
-    assert_eq!(rt; reader.calls, 5);
+    assert!(rt; is_source(&mut reader) && reader.calls == 5);
     Ok(())
+}
+
+// Whether a writer that fails at its second call takes these pieces as a sink, and an empty one.
+fn is_sink<W: Write>(writer: &mut W) -> bool {
+    let mut sink = WriterSink::new(writer);
+    takes_pieces(&mut sink) && sink.write(b"") == Ok(0)
+}
+
+// Whether a writer to these bytes is asked once a call.
+fn is_asked(taken: &mut [u8]) -> bool {
+    let mut writer = Faltering {
+        inner: taken,
+        most: 4,
+        failing: 2,
+        calls: 0,
+    };
+    is_sink(&mut writer) && writer.calls == 4
 }
 
 #[test]
 fn a_sink_asks_its_writer_once_a_call(rt: HostRuntime) -> Result<(), Fail> {
     let mut taken = [0; 6];
+    assert!(rt; is_asked(&mut taken) && &taken == b"leasle");
+    Ok(())
+}
+
+// Whether a writer to these bytes whose third call fails is asked three times.
+fn is_left(taken: &mut [u8]) -> bool {
     let mut writer = Faltering {
-        inner: taken.as_mut_slice(),
-        most: 4,
-        failing: 2,
+        inner: taken,
+        most: 2,
+        failing: 3,
         calls: 0,
     };
-    {
-        let mut sink = WriterSink::new(&mut writer);
-        for answer in [Ok(4), Err(Failed), Ok(2), Err(Failed)] {
-            assert!(rt; sink.write(b"least") == answer);
-        }
-        assert!(rt; sink.write(b"") == Ok(0));
-    }
-    assert_eq!(rt; writer.calls, 4);
-    assert_eq!(rt; &taken, b"leasle");
-    Ok(())
+    write_whole(&mut WriterSink::new(&mut writer), b"least 2 w") == Err(Failed) && writer.calls == 3
 }
 
 #[test]
 fn a_line_is_not_written_on_after_a_fault(rt: HostRuntime) -> Result<(), Fail> {
     let mut taken = [0; 9];
-    let mut writer = Faltering {
-        inner: taken.as_mut_slice(),
-        most: 2,
-        failing: 3,
-        calls: 0,
-    };
-    assert!(rt; write_whole(&mut WriterSink::new(&mut writer), b"least 2 w") == Err(Failed));
-    assert_eq!(rt; writer.calls, 3);
-    assert_eq!(rt; &taken, b"leas\0\0\0\0\0");
+    assert!(rt; is_left(&mut taken) && &taken == b"leas\0\0\0\0\0");
     Ok(())
 }
 

@@ -132,66 +132,128 @@ fn drawn(workers: &[Worker], number: usize) -> u64 {
     times
 }
 
+// Whether each number was drawn once.
+fn are_drawn_once(workers: &[Worker]) -> bool {
+    for number in 0..NUMBERS as usize {
+        if drawn(workers, number) != 1 {
+            return false;
+        }
+    }
+    true
+}
+
+// Whether all numbers were drawn, and the least value was reported.
+fn is_whole(closed: &RoundResult) -> bool {
+    closed.count() == NUMBERS && closed.claimed() == NUMBERS && closed.best() == least_value()
+}
+
+// Whether four workers draw each number once, and the board shows it when they and the root are gone.
+fn four_draw<R: Threads + Sync>(
+    rt: &R,
+    alloc: Global,
+    board: Board,
+    mut root: BoardSeat,
+) -> Result<bool, AllocError>
+    requires root { (root.table ≡ board.table) × (root.view.root ≡ true) × (root.view.made ≡ 1) }
+{
+    let mut workers = hire(alloc, &board, &mut root)?;
+    run(rt, &board, &mut workers);
+    let once = are_drawn_once(&workers);
+    let closed = close_all(alloc, board, root, workers)?;
+    Ok(once && is_whole(&closed))
+}
+
 #[test]
 fn four_threads_draw_each_number_once(rt: HostRuntime) -> Result<(), Fail> {
     let alloc = rt.alloc();
-    let Ok((board, mut root)) = Board::open(alloc, NUMBERS, u64::MAX) else {
-        panic!(rt; "no memory")
-    };
-    let mut workers = hire(alloc, &board, &mut root)?;
-    run(&rt, &board, &mut workers);
-    for number in 0..NUMBERS as usize {
-        assert!(rt; drawn(&workers, number) == 1);
+    match Board::open(alloc, NUMBERS, u64::MAX) {
+        Ok((board, root)) => assert!(rt; four_draw(&rt, alloc, board, root)?),
+        Err(_refused) => panic!(rt; "no memory"),
     }
-    let result = close_all(alloc, board, root, workers)?;
-    assert!(rt; result.count() == NUMBERS && result.claimed() == NUMBERS);
-    assert!(rt; result.best() == least_value());
     Ok(())
+}
+
+// Whether the answer of an event is this one, and then the next number and the least value are these.
+fn is_answered(
+    alloc: Global,
+    state: &mut RoundState,
+    event: Event,
+    answer: bool,
+    next: u64,
+    best: u64,
+) -> Result<bool, NoMemory>
+    ensures actors { length state.new.actors ≡ length state.old.actors }
+{
+    let done = state.step(alloc, event)?;
+    Ok(done == answer && state.next() == next && state.best() == best)
+}
+
+// Events of two actors, whether they are possible, the next number and the least value, and what each actor holds then.
+const ROUND: [(Event, bool, u64, u64, Option<u64>, Option<u64>); 9] = [
+    (Event::Claim(0), true, 1, 9, Some(0), None),
+    (Event::Claim(1), true, 2, 9, Some(0), Some(1)),
+    (Event::Claim(0), false, 2, 9, Some(0), Some(1)),
+    (Event::Report(1, 7), true, 2, 7, Some(0), None),
+    (Event::EndRound, false, 2, 7, Some(0), None),
+    (Event::Report(0, 8), true, 2, 7, None, None),
+    (Event::Claim(0), true, 3, 7, None, None),
+    (Event::EndRound, true, 3, 7, None, None),
+    (Event::Kill, false, 3, 7, None, None),
+];
+
+// Whether a round of two actors goes so.
+fn is_done(alloc: Global, state: &mut RoundState) -> Result<bool, NoMemory>
+    requires actors { length state.old.actors ≡ 2 }
+{
+    for (event, answer, next, best, first, second) in &ROUND {
+        if !is_answered(alloc, state, *event, *answer, *next, *best)?
+            || state.held(0) != *first
+            || state.held(1) != *second
+        {
+            return Ok(false);
+        }
+    }
+    Ok(state.ended())
 }
 
 #[test]
 fn a_round_does_what_its_table_says(rt: HostRuntime) -> Result<(), NoMemory> {
-    let alloc = rt.alloc();
-    let mut state = RoundState::new(alloc, 2, 9, 2)?;
-    let table = [
-        (Event::Claim(0), true, 1, 9, Some(0), None),
-        (Event::Claim(1), true, 2, 9, Some(0), Some(1)),
-        (Event::Claim(0), false, 2, 9, Some(0), Some(1)),
-        (Event::Report(1, 7), true, 2, 7, Some(0), None),
-        (Event::EndRound, false, 2, 7, Some(0), None),
-        (Event::Report(0, 8), true, 2, 7, None, None),
-        (Event::Claim(0), true, 3, 7, None, None),
-        (Event::EndRound, true, 3, 7, None, None),
-        (Event::Kill, false, 3, 7, None, None),
-    ];
-    for (event, answer, next, best, first, second) in table {
-        let done = state.step(alloc, event)?;
-        assert!(rt; done == answer && state.next() == next && state.best() == best);
-        assert!(rt; state.held(0) == first && state.held(1) == second);
-    }
-    assert!(rt; state.ended());
+    let mut state = RoundState::new(rt.alloc(), 2, 9, 2)?;
+    assert!(rt; is_done(rt.alloc(), &mut state)?);
     Ok(())
+}
+
+// Events of a round that is killed, whether they are possible, the next number and the least value, and what actor 1 holds then.
+const KILLED: [(Event, bool, u64, u64, Option<u64>); 8] = [
+    (Event::Claim(1), true, 1, 9, Some(0)),
+    (Event::Report(1, 4), true, 1, 4, None),
+    (Event::Claim(1), true, 2, 4, Some(1)),
+    (Event::Resume, false, 2, 4, Some(1)),
+    (Event::Kill, true, 2, 4, Some(1)),
+    (Event::Report(1, 3), false, 2, 4, Some(1)),
+    (Event::Resume, true, 0, 9, None),
+    (Event::Claim(2), false, 0, 9, None),
+];
+
+// Whether a round of two actors goes so, and has not ended.
+fn is_killed(alloc: Global, state: &mut RoundState) -> Result<bool, NoMemory>
+    requires actors { length state.old.actors ≡ 2 }
+{
+    for (event, answer, next, best, held) in &KILLED {
+        if !is_answered(alloc, state, *event, *answer, *next, *best)?
+            || state.held(1) != *held
+            || state.ended()
+        {
+            return Ok(false);
+        }
+    }
+    Ok(true)
 }
 
 #[test]
 fn a_killed_round_begins_again(rt: HostRuntime) -> Result<(), NoMemory> {
-    let alloc = rt.alloc();
-    let mut state = RoundState::new(alloc, 2, 9, 2)?;
-    let table = [
-        (Event::Claim(1), true, 1, 9, Some(0)),
-        (Event::Report(1, 4), true, 1, 4, None),
-        (Event::Claim(1), true, 2, 4, Some(1)),
-        (Event::Resume, false, 2, 4, Some(1)),
-        (Event::Kill, true, 2, 4, Some(1)),
-        (Event::Report(1, 3), false, 2, 4, Some(1)),
-        (Event::Resume, true, 0, 9, None),
-        (Event::Claim(2), false, 0, 9, None),
-    ];
-    for (event, answer, next, best, held) in table {
-        let done = state.step(alloc, event)?;
-        assert!(rt; done == answer && state.next() == next && state.best() == best);
-        assert!(rt; state.held(1) == held && !state.ended());
-    }
+    let mut state = RoundState::new(rt.alloc(), 2, 9, 2)?;
+    assert!(rt; is_killed(rt.alloc(), &mut state)?);
     Ok(())
 }
 

@@ -76,24 +76,35 @@ fn search_through<R: Threads + Sync>(
     run(rt, alloc, &mut search, 2, u64::MAX, gate)
 }
 
-// A body that does the blocks of a round one after another, or gives each worker blocks of its own beforehand, fails for one
-// of the blocks that are held.
-#[test]
-fn blocks_come_to_the_gate_while_another_is_held(rt: HostRuntime) -> Result<(), Fail> {
-    let alloc = rt.alloc();
-    let code = code_of(&rt, alloc, &BCH_63)?;
-    for held in FIRST..=LAST {
-        let gate = WaitingGate::holding(held);
-        let answer = search_through(&rt, alloc, &code, &gate)?;
-        assert!(rt; gate.met.load(Ordering::SeqCst), "{held}");
-        assert!(rt;
-            answer
+// Whether a search with two workers is so answered, and the other blocks come while the report of one is held.
+fn come_to_the_gate<R: Threads + Sync>(
+    rt: &R,
+    alloc: Global,
+    code: &Code,
+    held: u64,
+) -> Result<bool, NoMemory>
+    requires dimension { 0 < length code.now.rows }
+{
+    let gate = WaitingGate::holding(held);
+    let answer = search_through(rt, alloc, code, &gate)?;
+    Ok(
+        gate.met.load(Ordering::SeqCst)
+            && answer
                 == Answer::Exact {
                     weight: 7,
                     place: 8,
                     blocks: 2_331,
-                }
-        );
+                },
+    )
+}
+
+// A body that does the blocks of a round one after another, or gives each worker blocks of its own beforehand, fails for one
+// of the blocks that are held.
+#[test]
+fn blocks_come_to_the_gate_while_another_is_held(rt: HostRuntime) -> Result<(), Fail> {
+    let code = code_of(&rt, rt.alloc(), &BCH_63)?;
+    for held in FIRST..=LAST {
+        assert!(rt; come_to_the_gate(&rt, rt.alloc(), &code, held)?, "{held}");
     }
     Ok(())
 }

@@ -133,21 +133,35 @@ fn gives<R: Threads + Sync>(
     Ok(found == *answer)
 }
 
-// Whether each search gives its answer, with each number of workers.
+// Whether the search of a code gives its answer, with each number of workers.
+fn all_give<R: Threads + Sync>(
+    rt: &R,
+    alloc: Global,
+    code: &Code,
+    budget: u64,
+    answer: &Answer,
+) -> Result<bool, NoMemory>
+    requires dimension { 0 < length code.now.rows }
+    requires budget { budget ≤ 2 ^ 40 }
+{
+    for workers in &WORKERS {
+        if !gives(rt, alloc, code, budget, *workers, u64::MAX, answer)? {
+            return Ok(false);
+        }
+    }
+    Ok(true)
+}
+
+// Whether each search gives its answer.
 fn give<R: Threads + Sync + Abort>(
     rt: &R,
     alloc: Global,
     rows: &[(Shifts, u64, Answer)],
 ) -> Result<(), Fail> {
     for (shifts, budget, answer) in rows {
-        let code = code_of(rt, alloc, shifts)?;
         assert!(rt; *budget <= 1 << 40);
-        for workers in WORKERS {
-            assert!(rt;
-                gives(rt, alloc, &code, *budget, workers, u64::MAX, answer)?,
-                "{workers}"
-            );
-        }
+        let code = code_of(rt, alloc, shifts)?;
+        assert!(rt; all_give(rt, alloc, &code, *budget, answer)?);
     }
     Ok(())
 }
@@ -162,18 +176,34 @@ fn searches_end_at_the_distance(rt: HostRuntime) -> Result<(), Fail> {
     give(&rt, rt.alloc(), &DISTANCES)
 }
 
+// How many blocks a round does at most.
+const LIMITS: [u64; 4] = [1, 2, 255, 256];
+
+// Whether the search of a code gives its answer, with each of these limits.
+fn limits_give<R: Threads + Sync>(
+    rt: &R,
+    alloc: Global,
+    code: &Code,
+    budget: u64,
+    answer: &Answer,
+) -> Result<bool, NoMemory>
+    requires dimension { 0 < length code.now.rows }
+    requires budget { budget ≤ 2 ^ 40 }
+{
+    for limit in &LIMITS {
+        if !gives(rt, alloc, code, budget, 3, *limit, answer)? {
+            return Ok(false);
+        }
+    }
+    Ok(true)
+}
+
 #[test]
 fn limits_give_equal_answers(rt: HostRuntime) -> Result<(), Fail> {
-    let alloc = rt.alloc();
     let (shifts, budget, answer) = &BRACKETS[2];
-    let code = code_of(&rt, alloc, shifts)?;
     assert!(rt; *budget <= 1 << 40);
-    for limit in [1, 2, 255, 256] {
-        assert!(rt;
-            gives(&rt, alloc, &code, *budget, 3, limit, answer)?,
-            "{limit}"
-        );
-    }
+    let code = code_of(&rt, rt.alloc(), shifts)?;
+    assert!(rt; limits_give(&rt, rt.alloc(), &code, *budget, answer)?);
     Ok(())
 }
 
@@ -203,11 +233,12 @@ fn ends_at_the_cut<R: Threads + Sync>(
 
 #[test]
 fn a_plan_is_cut(rt: HostRuntime) -> Result<(), Fail> {
-    let alloc = rt.alloc();
-    let code = code_of(&rt, alloc, &BCH_255)?;
+    let code = code_of(&rt, rt.alloc(), &BCH_255)?;
     for workers in [1, 64, 256] {
-        let ends = ends_at_the_cut(&rt, alloc, &code, workers);
-        assert!(rt; ends == Ok(true), "{workers}");
+        assert!(rt;
+            ends_at_the_cut(&rt, rt.alloc(), &code, workers) == Ok(true),
+            "{workers}"
+        );
     }
     Ok(())
 }
@@ -256,68 +287,146 @@ const RECORDS: [(u64, u64, u64); 8] = [
     (3, 12, 9),
 ];
 
-#[test]
-fn rounds_tell_what_they_did(rt: HostRuntime) -> Result<(), Fail> {
-    let alloc = rt.alloc();
-    let code = code_of(&rt, alloc, &RESIDUES)?;
+// Whether the next round is the one of this record, and its workers passed the gate once for each block so far.
+fn is_next<R: Threads + Sync>(
+    rt: &R,
+    alloc: Global,
+    search: &mut Search,
+    gate: &CountingGate,
+    row: &(u64, u64, u64),
+) -> Result<bool, NoMemory> {
+    if search.finished().is_some() {
+        return Ok(false);
+    }
+    let record = search.round(rt, alloc, 2, 256, gate)?;
+    Ok(
+        is_record(&record, row.0, row.1, row.2, 11, 5)
+            && gate.reports.load(Ordering::Relaxed) == row.1,
+    )
+}
+
+// Whether the first rounds are those of the records, and end at level 4 of both sets.
+fn rounds_tell<R: Threads + Sync>(
+    rt: &R,
+    alloc: Global,
+    search: &mut Search,
+    gate: &CountingGate,
+) -> Result<bool, NoMemory> {
+    for row in &RECORDS {
+        if !is_next(rt, alloc, search, gate, row)? {
+            return Ok(false);
+        }
+    }
+    Ok(search.sets().count() == 2 && search.level_of(0) == 4 && search.level_of(1) == 4)
+}
+
+// Whether this is so of the rounds of a code.
+fn search_tells<R: Threads + Sync>(rt: &R, alloc: Global, code: &Code) -> Result<bool, NoMemory>
+    requires dimension { 0 < length code.now.rows }
+{
     let gate = CountingGate {
         reports: AtomicU64::new(0),
     };
-    let mut search = Search::start(alloc, &code, 100)?;
-    for (done, blocks, bound) in &RECORDS {
-        assert!(rt; search.finished().is_none());
-        let record = search.round(&rt, alloc, 2, 256, &gate)?;
-        assert!(rt; is_record(&record, *done, *blocks, *bound, 11, 5));
-        assert!(rt; gate.reports.load(Ordering::Relaxed) == *blocks);
-    }
-    assert!(rt; search.sets().count() == 2 && search.level_of(0) == 4 && search.level_of(1) == 4);
+    let mut search = Search::start(alloc, code, 100)?;
+    rounds_tell(rt, alloc, &mut search, &gate)
+}
+
+#[test]
+fn rounds_tell_what_they_did(rt: HostRuntime) -> Result<(), Fail> {
+    let code = code_of(&rt, rt.alloc(), &RESIDUES)?;
+    assert!(rt; search_tells(&rt, rt.alloc(), &code)?);
     Ok(())
 }
 
 // Records of the Hamming code, and the weight that is found if they don't fit.
 const UNFIT: [(u64, u64, u64, u64); 4] = [(0, 2, 0, 3), (2, 4, 0, 3), (1, 3, 4, 0), (0, 3, 1, 3)];
 
-#[test]
-fn records_that_fit_are_resumed(rt: HostRuntime) -> Result<(), Fail> {
-    let alloc = rt.alloc();
-    let code = code_of(&rt, alloc, &HAMMING)?;
-    for (blocks, weight, place, found) in UNFIT {
-        let refusal = ResumeRefusal::Unfit { found };
-        match Search::resume_at(alloc, &code, 2, blocks, weight, place) {
-            Ok(_search) => panic!(rt; "resumed"),
-            Err(refused) => assert!(rt; refused == refusal),
+// Why the search of a code with two blocks doesn't go on from a record. None if it does.
+fn refusal_of(
+    alloc: Global,
+    code: &Code,
+    blocks: u64,
+    weight: u64,
+    place: u64,
+) -> Option<ResumeRefusal>
+    requires dimension { 0 < length code.now.rows }
+    requires blocks { blocks ≤ 2 }
+{
+    match Search::resume_at(alloc, code, 2, blocks, weight, place) {
+        Ok(_search) => None,
+        Err(refused) => Some(refused),
+    }
+}
+
+// Whether records of a code that don't fit are refused.
+fn are_unfit(alloc: Global, code: &Code) -> bool
+    requires dimension { 0 < length code.now.rows }
+{
+    for (blocks, weight, place, found) in &UNFIT {
+        let refusal = ResumeRefusal::Unfit { found: *found };
+        if 2 < *blocks || refusal_of(alloc, code, *blocks, *weight, *place) != Some(refusal) {
+            return false;
         }
     }
-    let search = match Search::resume_at(alloc, &code, 2, 2, 3, 1) {
-        Ok(search) => search,
-        Err(_refused) => panic!(rt; "refused"),
-    };
-    assert!(rt;
-        search.finished()
-            == Some(Answer::Exact {
-                weight: 3,
-                place: 1,
-                blocks: 2
-            })
-    );
-    Ok(())
+    true
+}
+
+// Whether the search of a code goes on from its last record, and is answered at once.
+fn is_resumed(alloc: Global, code: &Code) -> bool
+    requires dimension { 0 < length code.now.rows }
+{
+    match Search::resume_at(alloc, code, 2, 2, 3, 1) {
+        Ok(search) => {
+            search.finished()
+                == Some(Answer::Exact {
+                    weight: 3,
+                    place: 1,
+                    blocks: 2,
+                })
+        }
+        Err(_refused) => false,
+    }
 }
 
 #[test]
-fn watchers_that_leave_are_dropped(rt: HostRuntime) -> Result<(), Fail> {
-    let alloc = rt.alloc();
-    let mut watchers = Vec::new(alloc);
-    watchers.push(MemoryWatcher::new(alloc, &[Advice::Go, Advice::Pause])?)?;
-    watchers.push(MemoryWatcher::new(alloc, &[])?)?;
-    watchers.push(MemoryWatcher::new(alloc, &[Advice::Go, Advice::Go])?)?;
+fn records_that_fit_are_resumed(rt: HostRuntime) -> Result<(), Fail> {
+    let code = code_of(&rt, rt.alloc(), &HAMMING)?;
+    assert!(rt; are_unfit(rt.alloc(), &code) && is_resumed(rt.alloc(), &code));
+    Ok(())
+}
+
+// A watcher that answers so, beside the others.
+fn add(
+    alloc: Global,
+    watchers: &mut Vec<MemoryWatcher>,
+    answers: &[Advice],
+) -> Result<(), lc_io::NoMemory> {
+    watchers.push(MemoryWatcher::new(alloc, answers)?)?;
+    Ok(())
+}
+
+// Whether one of three watchers leaves at the first record, and the others at the third; one pauses at the second.
+fn leave_in_turn(watchers: &mut Vec<MemoryWatcher>) -> bool {
     let note = Record {
         query: 0,
         blocks: 1,
         bound: 2,
         best: 3,
     };
-    assert!(rt; !tell(&mut watchers, &note) && watchers.len() == 2);
-    assert!(rt; tell(&mut watchers, &note) && watchers.len() == 2);
-    assert!(rt; !tell(&mut watchers, &note) && watchers.is_empty());
+    !tell(watchers, &note)
+        && watchers.len() == 2
+        && tell(watchers, &note)
+        && watchers.len() == 2
+        && !tell(watchers, &note)
+        && watchers.is_empty()
+}
+
+#[test]
+fn watchers_that_leave_are_dropped(rt: HostRuntime) -> Result<(), Fail> {
+    let mut watchers = Vec::new(rt.alloc());
+    add(rt.alloc(), &mut watchers, &[Advice::Go, Advice::Pause])?;
+    add(rt.alloc(), &mut watchers, &[])?;
+    add(rt.alloc(), &mut watchers, &[Advice::Go, Advice::Go])?;
+    assert!(rt; leave_in_turn(&mut watchers));
     Ok(())
 }

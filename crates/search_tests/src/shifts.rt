@@ -81,18 +81,36 @@ fn shifted(alloc: Global, shifts: &Shifts, by: usize) -> Result<Word, NoMemory> 
     Ok(Word::from_vec(symbols))
 }
 
+// The words of the shifts.
+fn words_of(alloc: Global, shifts: &Shifts) -> Result<Vec<Word>, NoMemory> {
+    let mut words = Vec::new(alloc);
+    for by in 0..shifts.dimension {
+        words.push(shifted(alloc, shifts, by)?)?;
+    }
+    Ok(words)
+}
+
+// The code of rows that are seen to be words of n symbols, of dimension at least 1.
+fn code_over(
+    rt: &impl Abort,
+    alloc: Global,
+    field: &Field,
+    n: usize,
+    words: &[Word],
+) -> Result<Code, Fail>
+    ensures some { IfOk result (λ c. 0 < length c.rows) }
+{
+    assert!(rt; field.is_symbol() && 1 <= n && n <= 255 && are_words(field, n, words));
+    let code = Code::from_rows(alloc, field, n, words)?;
+    assert!(rt; 1 <= code.dimension());
+    Ok(code)
+}
+
 // The code of the shifts, of dimension at least 1.
 pub(crate) fn code_of(rt: &impl Abort, alloc: Global, shifts: &Shifts) -> Result<Code, Fail>
     ensures some { IfOk result (λ c. 0 < length c.rows) }
 {
     let field = Field::of(alloc, 2)?;
-    let mut words = Vec::new(alloc);
-    for by in 0..shifts.dimension {
-        words.push(shifted(alloc, shifts, by)?)?;
-    }
-    let n = shifts.length;
-    assert!(rt; field.is_symbol() && 1 <= n && n <= 255 && are_words(&field, n, &words));
-    let code = Code::from_rows(alloc, &field, n, &words)?;
-    assert!(rt; 1 <= code.dimension());
-    Ok(code)
+    let words = words_of(alloc, shifts)?;
+    code_over(rt, alloc, &field, shifts.length, &words)
 }
