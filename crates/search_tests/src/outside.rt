@@ -111,7 +111,7 @@ fn line_is_read(alloc: Global, limit: usize, wanted: &[u8]) -> Result<bool, NoMe
     Ok(gives(alloc, &mut source, limit, wanted))
 }
 
-// How the line is refused whose first read fails.
+// Whether the line is refused if its first read fails.
 fn line_is_refused(alloc: Global) -> Result<bool, NoMemory> {
     let mut failing = MemorySource::new(alloc, LINE, 4, &[1])?;
     match read_to_limit(alloc, &mut failing, 22) {
@@ -152,7 +152,7 @@ fn is_taken(written: &mut Vec<u8>) -> bool {
     write_whole(&mut WriterSink::new(written), LINE) == Ok(())
 }
 
-// What the writes of two pieces and of nothing answer, if there is room for two bytes.
+// Whether a sink with room for two bytes takes the first of two pieces, and then nothing.
 fn is_full(room: &mut [u8]) -> bool {
     let mut sink = WriterSink::new(room);
     sink.write(b"ab") == Ok(2) && sink.write(b"cd") == Err(Failed) && sink.write(b"") == Ok(0)
@@ -259,17 +259,27 @@ fn fails_to_store<V: Vault>(vault: &mut V) -> bool {
     vault.load(Slot::One, &mut [0; 4]) == Ok(0) && vault.store(Slot::One, b"abc") == Err(Failed)
 }
 
+// Whether a vault of two files keeps two slots.
+fn are_kept(rt: HostRuntime, alloc: Global) -> Result<bool, NoMemory> {
+    let mut vault = FolderVault::new(rt, alloc, "outside.slot0", "outside.slot1")?;
+    Ok(keeps_two_slots(&mut vault))
+}
+
 #[test]
 fn a_folder_vault_keeps_two_files(rt: HostRuntime) -> Result<(), Fail> {
-    let mut vault = FolderVault::new(&rt, rt.alloc(), "outside.slot0", "outside.slot1")?;
-    assert!(rt; keeps_two_slots(&mut vault));
+    assert!(rt; are_kept(rt.clone()?, rt.alloc())?);
     fs::remove_file(&rt, "outside.slot0")?;
     Ok(())
 }
 
+// Whether a vault of two files in a folder that isn't there fails to store.
+fn are_missing(rt: HostRuntime, alloc: Global) -> Result<bool, NoMemory> {
+    let mut vault = FolderVault::new(rt, alloc, "no/slot0", "no/slot1")?;
+    Ok(fails_to_store(&mut vault))
+}
+
 #[test]
 fn a_folder_vault_without_a_folder_fails(rt: HostRuntime) -> Result<(), Fail> {
-    let mut vault = FolderVault::new(&rt, rt.alloc(), "no/slot0", "no/slot1")?;
-    assert!(rt; fails_to_store(&mut vault));
+    assert!(rt; are_missing(rt.clone()?, rt.alloc())?);
     Ok(())
 }

@@ -395,7 +395,7 @@ fn records_that_fit_are_resumed(rt: HostRuntime) -> Result<(), Fail> {
     Ok(())
 }
 
-// A watcher that answers so, beside the others.
+// Adds a watcher that answers so.
 fn add(
     alloc: Global,
     watchers: &mut Vec<MemoryWatcher>,
