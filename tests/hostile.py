@@ -80,6 +80,12 @@ def signals(checks, program):
     shutil.rmtree(folder, ignore_errors=True)
 
 
+def remove(folder):
+    """Removes a folder in which a session may just then store a checkpoint."""
+    while os.path.exists(folder):
+        shutil.rmtree(folder, ignore_errors=True)
+
+
 def folders(checks, program):
     folder = tempfile.mkdtemp(prefix="codes-")
     args = [program, "run", "keep=yes", "budget=1099511627776"]
@@ -87,7 +93,7 @@ def folders(checks, program):
     process.stdin.write(LONG)
     process.stdin.close()
     checks.that(first_record(process), "a record is told")
-    shutil.rmtree(folder)
+    remove(folder)
     process.wait()
     checks.that((process.returncode, process.stdout.read()) == (VAULT_FAULT, b""), "a folder that is gone: status %d" % process.returncode)
 
