@@ -4,16 +4,16 @@ use lc_code::{Code, CodeRefusal};
 use lc_field::Field;
 use std::alloc::Global;
 
-// A length and a dimension, or why there is no code.
+/// A length and a dimension, or why there is no code.
 pub type Shape = Result<(usize, usize), CodeRefusal>;
 
-// The length and the dimension of the code, or why there is none.
+/// The length and the dimension of a code, or why there is none.
 pub fn shape(code: Result<Code, CodeRefusal>) -> Shape {
     let code = code?;
     Ok((code.length(), code.dimension()))
 }
 
-// The Hamming code with r checks over q elements.
+/// The Hamming code with r checks over q elements. Refused as `hamming`, and with `NoMemory` too if there is no field of q elements.
 pub fn hamming_over(alloc: Global, q: u64, r: u64) -> Result<Code, CodeRefusal> {
     match Field::of(alloc, q) {
         Ok(field) => hamming(alloc, r, &field),
@@ -21,7 +21,8 @@ pub fn hamming_over(alloc: Global, q: u64, r: u64) -> Result<Code, CodeRefusal> 
     }
 }
 
-// The repetition code of length n over q elements.
+/// The repetition code of length n over q elements. Refused as `repetition`, and with `NoMemory` too if there is no field of q
+/// elements.
 pub fn repetition_over(alloc: Global, q: u64, n: u64) -> Result<Code, CodeRefusal> {
     match Field::of(alloc, q) {
         Ok(field) => repetition(alloc, n, &field),
@@ -29,7 +30,7 @@ pub fn repetition_over(alloc: Global, q: u64, n: u64) -> Result<Code, CodeRefusa
     }
 }
 
-// The dual of the code, or why there is no code.
+/// The dual of a code, or why there is no code.
 pub fn dual(alloc: Global, code: Result<Code, CodeRefusal>) -> Result<Code, CodeRefusal> {
     let code = code?;
     Ok(code.dual(alloc)?)
