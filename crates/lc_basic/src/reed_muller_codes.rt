@@ -15,8 +15,8 @@ use lc_field::{Field, FieldRefusal, NoMemory};
 use lc_vec::Word;
 use std::alloc::Global;
 
-/// The binary Reed-Muller code of order `r` in `m` variables: the value lists, over all places i, of the polynomials of degree at
-/// most `r`, where the bits of i are the variables (MacWilliams and Sloane, chapter 13; GUAVA manual, `ReedMullerCode`).
+/// The binary Reed-Muller code of order `r` in `m` variables: the value lists, over all coordinates i, of the polynomials of degree
+/// at most `r`, where the bits of i are the variables (MacWilliams and Sloane, chapter 13; GUAVA manual, `ReedMullerCode`).
 ///
 /// Its length is 2^m. Refused in this order: 2^m is above 255, BadLength; `r` is above `m`, BadArgument(1). Both may be any numbers.
 #[tactic(auto, using(lc_constructions::proofs::RefusalLaws::refused_or_not))]

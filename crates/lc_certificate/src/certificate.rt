@@ -12,7 +12,7 @@ use lc_vec::Word;
 pub struct SetClaim {
     /// The coordinates of the set, rising.
     pub basis: Vec<u64>,
-    /// Those of its coordinates that are in no other set, rising.
+    /// Those of its coordinates that the certificate counts as fresh, rising. In a valid certificate none is fresh in two sets.
     pub fresh: Vec<u64>,
     /// The level up to which all messages of the set were seen.
     pub level: u64,

@@ -168,9 +168,10 @@ fn certificate_from(alloc: Global, value: &Value) -> Result<Certificate, CertRef
     Ok(cert)
 }
 
-/// The certificate that the bytes are. Refused with `NotJson` exactly if they are no JSON value in UTF-8, else with `Shape` and
-/// the number of the first rule of shape that is broken, else with `Limit` if the length, the number of rows or the number of
-/// sets is above 255.
+/// The certificate that the bytes are. Refused with `NotJson` exactly if `lc_json::read` finds no value: they are no JSON in UTF-8,
+/// nest more than 127 deep, have a number that no float holds, or escape a surrogate without its pair; else with `Shape` and the
+/// number of the first rule of shape that is broken, else with `Limit` if the length, the number of rows or the number of sets is
+/// above 255.
 #[tactic(auto, using(crate::proofs::PartLaws::no_json, crate::proofs::PartLaws::json_is))]
 pub fn parse(alloc: Global, bytes: &[u8]) -> Result<Certificate, CertRefusal>
     ensures is { IfOk result (λ c. certificate_in bytes.now ≡ reads_as (certificate_of c)) }

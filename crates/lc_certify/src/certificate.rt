@@ -69,7 +69,7 @@ fn proof_by(alloc: Global, way: Way, search: &Search) -> Result<Proof, NoMemory>
 ///
 /// `word` is a word of the code's length over its field, and `weight` is at least 1. In a search that has ended with an exact
 /// answer they are its best word and that word's weight, which is the distance; that the search has ended isn't tried. The
-/// certificate has the shape that a reader wants, and it is valid in such a search if it costs a checker at most 2^32 words.
+/// certificate has the shape that a reader wants, and it is valid in such a search if its cost is at most 2^32.
 #[tactic(auto, unfolding(crate::proofs::Opened::certificates))]
 pub fn certificate_of(
     alloc: Global,

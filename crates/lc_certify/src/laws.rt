@@ -11,9 +11,9 @@ ghost use Rattle.lc_formats.specs.Shape.{IsShaped};
 ghost use Rattle.lc_language.specs.Query.{QueryKind, word_at_place, certificate_of, certificate_answer_line};
 ghost use Rattle.lc_certify.specs.Accepted.{IsSearchable, IsExactAt, SaysNone, IsAcceptedFor};
 
-/// What the queries for a certificate print is accepted. The certificate of an exact answer has the shape, and is valid if it
-/// costs a checker at most 2^32 words. So the line that such a query prints, for any searchable code and any budget, either says that
-/// there is none, or `check` answers to it that it is accepted, with the minimum distance of the code.
+/// What the queries for a certificate print is accepted. The certificate of an exact answer has the shape, and is valid if its cost
+/// is at most 2^32. So the line that such a query prints, for any searchable code and any budget, either says that there is none, or
+/// `check` answers to it that it is accepted, with the minimum distance of the code.
 pub fn printed_certificates_are_accepted()
     ensures shaped { (kind : QueryKind) (C : Matrix) (w : List ℕ) (d l : ℕ) → IsSearchable C → IsWord C.field C.columns w → IsExactAt C w d l → IsShaped (certificate_of kind C w d l) }
     ensures valid { (kind : QueryKind) (C : Matrix) (w : List ℕ) (d l : ℕ) → IsSearchable C → IsWord C.field C.columns w → IsExactAt C w d l → cost (certificate_of kind C w d l) ≤ 2 ^ 32 → IsValid (certificate_of kind C w d l) }

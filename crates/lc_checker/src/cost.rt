@@ -1,4 +1,4 @@
-//! How many words a checker must look at, counted as far as the greatest number of 64 bits.
+//! What a check costs, counted as far as the greatest number of 64 bits.
 
 ghost use Rattle.std.specs.Prelude.{◌≡◌, ℕ, ◌+◌, ◌-◌, ◌*◌, ◌^◌, ◌<◌, ◌≤◌, min, length, map, sum, IfOk};
 ghost use Rattle.lc_formats.specs.Certificate.{messages_through};

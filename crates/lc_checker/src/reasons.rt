@@ -47,7 +47,7 @@ pub(crate) fn word_reason(
     Ok(None)
 }
 
-// How many words the check looks at, or the greatest number of 64 bits if they are more.
+// The cost of the check, or the greatest number of 64 bits if it is more.
 pub(crate) fn cost(alloc: Global, cert: &Certificate, code: &Matrix) -> Result<u64, NoMemory>
     requires shaped { IsShaped (certificate_of cert.now) }
     requires code { IsCodeOf (certificate_of cert.now) code.now }

@@ -39,7 +39,7 @@ pub enum Reason {
     SeenLighter(Word),
     /// The bound that the levels give, which is below the distance.
     BoundShort(u64),
-    /// How many words the checker would look at, which is above 2^32; 2^64 - 1 if it is above that.
+    /// The cost of a check, as `checking_cost` gives it, which is above 2^32.
     TooCostly(u64),
 }
 

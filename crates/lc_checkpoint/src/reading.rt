@@ -246,9 +246,9 @@ fn point_from(alloc: Global, body: &Value) -> Result<Checkpoint, CheckpointRefus
 /// The checkpoint that the bytes are, of version 1 or 2.
 ///
 /// Refused with `Damaged` exactly if there are fewer than 65 or more than 4,194,304 bytes or they don't begin with the 64
-/// digits of the SHA-256 of the rest and a newline; else with `Shape` if the body is no JSON object with a whole number for
-/// its version, with `Version` if that is neither 1 nor 2, and with `Shape` if a key is missing or foreign, or a value is out
-/// of range.
+/// digits of the SHA-256 (FIPS 180-4) of the rest and a newline; else with `Shape` if the body is no JSON object with a whole
+/// number for its version, with `Version` if that is neither 1 nor 2, and with `Shape` if a key is missing or foreign, or a
+/// value is out of range.
 #[tactic(auto, using(crate::proofs::PointLaws::decode_laws))]
 pub fn decode(alloc: Global, bytes: &[u8]) -> Result<Checkpoint, CheckpointRefusal>
     ensures is { IfOk result (λ p. checkpoint_in bytes.now ≡ point (point_of p)) }

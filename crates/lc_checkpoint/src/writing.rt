@@ -91,8 +91,8 @@ fn body_of(alloc: Global, point: &Checkpoint) -> Result<Vec<u8>, NoMemory>
     Ok(body)
 }
 
-/// The text of the checkpoint: the digits of the SHA-256 of the body, a newline, and the body, compact JSON with its keys in
-/// rising order.
+/// The text of the checkpoint: the digits of the SHA-256 (FIPS 180-4) of the body, a newline, and the body, compact JSON with its
+/// keys in rising order.
 ///
 /// The version is 2, the numbers are in range, and the text has at most 4,194,304 bytes; with fewer than 70,000 settled needs
 /// it always has.

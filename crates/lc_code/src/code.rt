@@ -60,7 +60,8 @@ impl Code {
         })
     }
 
-    /// The code of all words that have dot 0 with each of the checks, which need not be independent.
+    /// The code of all words that have dot 0 with each of the checks, which need not be independent (MacWilliams and Sloane,
+    /// chapter 1).
     ///
     /// The field has at most 16 elements, `n` is 1 to 255, and the checks are words of `n` symbols of the field.
     #[tactic(auto, using(crate::proofs::CodeLaws::from_checks_laws))]
@@ -128,7 +129,7 @@ impl Code {
         self.matrix.row(i)
     }
 
-    /// The reduced generator matrix: the rows begin with 1, each with a 1 that is alone in its column, and rise.
+    /// The reduced generator matrix: each row begins with a 1 that is alone in its column, further right than in the row above.
     pub fn matrix(&self) -> &Matrix
         ensures is { result.now ≡ self.now }
         ensures rows { AreRows self.now.field self.now.columns self.now.rows }
@@ -138,7 +139,7 @@ impl Code {
     }
 
     /// The number that divides the weights of the code: over 2 elements 4 if all are divisible by 4, else 2 if all are even;
-    /// over 3 elements 3 if all are divisible by 3; else 1. No memory is taken.
+    /// over 3 elements 3 if all are divisible by 3; else 1 (Ward, Divisible codes). No memory is taken.
     pub fn divisor(&self) -> u64
         ensures is { result ≡ divisor_of self.now }
     {
@@ -163,7 +164,7 @@ impl Code {
         weight(buf) == 0
     }
 
-    /// The dual code: the words that have dot 0 with each word of the code.
+    /// The dual code: the words that have dot 0 with each word of the code (MacWilliams and Sloane, chapter 1).
     #[tactic(auto, using(crate::proofs::CodeLaws::dual_kept, crate::proofs::CodeLaws::dual_code))]
     pub fn dual(&self, alloc: Global) -> Result<Code, NoMemory>
         ensures code { IfOk result (λ c. IsCode self.now.field self.now.columns (InDual self.now) c) }

@@ -18,8 +18,9 @@ use lc_field::{Field, NoMemory};
 use lc_vec::{Word, add_scaled, scale};
 use std::alloc::Global;
 
-/// The concatenated code: each symbol of a word of the outer code, written as the sum of c_i γ^i with c_i in the smaller field, is
-/// replaced by the sum of c_i times row i of the inner code's reduced generator matrix (MacWilliams and Sloane, chapter 10).
+/// The concatenated code: each symbol of a word of the outer code, written as the sum of c_i γ^i with c_i in the smaller field and γ
+/// the primitive element of the outer field, is replaced by the sum of c_i times row i of the inner code's reduced generator matrix
+/// (MacWilliams and Sloane, chapter 10).
 ///
 /// Refused in this order: the size of the outer field isn't a power of the size of the inner one, FieldsDiffer; the dimension of
 /// the inner code isn't the exponent, InnerDimension of both; the product of the lengths is above 255, BadLength.

@@ -16,8 +16,8 @@ use std::alloc::Global;
 
 /// The BCH code of length `n` with design distance `d` over the field: the words whose polynomials are 0 at the powers `b` to
 /// `b + d - 2` of an element of order n, with their alternant form (MacWilliams and Sloane, chapters 7 and 9; GUAVA manual,
-/// `BCHCode`). The element lies in the locator field, the least field that contains the field and has an element of order n, and is
-/// the power (Q - 1) / n of its primitive element, where Q is its size. `b` counts modulo n.
+/// `BCHCode`). The element lies in the locator field, the least of the eighteen fields that contain the field and have an element of
+/// order n, and is the power (Q - 1) / n of its primitive element, where Q is its size. `b` counts modulo n.
 ///
 /// Refused in this order: the field has more than 16 elements, FieldTooLarge; `n` is 0 or above 255, BadLength; there is no locator
 /// field, NoRoot; `d` is below 2 or above n, BadDelta. `b` may be any number.

@@ -6,15 +6,15 @@
 --   Verdict                  accepted, or rejected for a reason
 --   code_dimension c         the dimension k of the span of the rows
 --   level_in c claim         the stated level, and k where it is above k
---   cost c                   how many words the checker must look at
---   seen_words c             these words: by levels those of each set in order, level by level; by scan the sums of multiples of
---                            the echelon rows, level by level
+--   cost c                   by levels how many words the checker must look at; by scan q ^ k over q elements
+--   seen_words c             the words that it looks at: by levels those of each set in order, level by level; by scan those of
+--                            the messages over the echelon rows, level by level, of which there are (q ^ k - 1) / (q - 1)
 --   first_lighter c          the first nonzero one of them that is lighter than the distance
 --   span_divisor c           the divisor of the weights of the span of the rows
 --   claimed_sum c claims     the rounded sum, which is the bound that the levels give: the least multiple of the divisor that is at
 --                            least 1 and at least the sum of level + 1 - (k - fresh columns)
 --   first_dependent c claims number    the number, from 1, of the first basis that is no information set
---   least_overlap c claims   the least place that is fresh in two sets
+--   least_overlap c claims   the least coordinate that is fresh in two sets
 --   verdict c                accepted, or the first reason in the checker's order
 --   IsValid c                the certificate proves its distance: what accepted says, each fact by itself
 use Rattle.std.specs.Prelude.{◌≡◌, ℕ, suc, ◌-◌, ◌^◌, ◌<◌, ◌≤◌, ◌⊎◌, min, max, Bool, not, nat_le, nat_lt, ◌==◌, ◌&&◌, ◌||◌, if◌then◌else◌, List, [], ◌∷◌, length, map, find, flat_map, sum, count_by, Option, Some, None, All, AllPairs, Any, Contains, ⊤}
@@ -175,7 +175,7 @@ verdict c =
     (or_else (when (not (weight c.word == c.distance)) (word_weight (weight c.word)))
     (set_reasons c c.proof (or_else (carrying seen_lighter (first_lighter c)) accepted))))
 
--- every basis is an information set, no place is fresh in two sets, and the levels reach the distance
+-- every basis is an information set, no coordinate is fresh in two sets, and the levels reach the distance
 abbrev pub SetsHold : Certificate → Proof → Type 0
 SetsHold c scan = ⊤
 SetsHold c (levels claims) =

@@ -62,7 +62,8 @@ pub fn search_bounds_the_distance()
 
 /// Every answer of a search is true, whatever the budget: an exact one is the minimum distance, a bracket
 /// contains it, and in both the word at the place is a nonzero word of the code with the weight. A budget
-/// of m (q^k - 1)/(q - 1) blocks gives an exact answer.
+/// of at least m (q^k - 1)/(q - 1) blocks for m sets, and at most 2^40, gives an exact answer if the code has a
+/// row and at most 255 columns.
 pub fn answers_are_true()
     ensures best { (C : Matrix) (l : ℕ) → AreRows C.field C.columns C.rows → AreIndependent C.field C.columns C.rows → 0 < length C.rows → HasWord C (best C (set_count C) l) }
     ensures done { (d : ℕ) (C : Matrix) (l : ℕ) → AreRows C.field C.columns C.rows → AreIndependent C.field C.columns C.rows → 0 < d → IsDivisible C.field C.columns C.rows d → 0 < length C.rows → is_done d C l ≡ true → IsDistance C.field C.columns C.rows (best C (set_count C) l).weight }
@@ -72,19 +73,20 @@ pub fn answers_are_true()
     ensures by_one { (C : Matrix) (budget : ℕ) → AreRows C.field C.columns C.rows → AreIndependent C.field C.columns C.rows → AnswerHolds C (answer 1 C budget) }
 {}
 
-/// The rounds of a search, from a best word at no more blocks than its answer has, end at the answer: each
-/// state on the way is the best after more blocks, and no more than the answer's; and if the slice doesn't
-/// stop them, the search is finished with its answer in the last one. If it does, the slice is used up and
-/// the search isn't finished.
+/// With a budget of at most 2^40 blocks, the rounds of a search of a code with a row, from a best word at no
+/// more blocks than its answer has, end at the answer: each state on the way is the best after more blocks,
+/// and no more than the answer's; and if the slice doesn't stop them, the search is finished with its answer
+/// in the last one. If it does, the slice is used up and the search isn't finished.
 pub fn rounds_end_at_the_answer()
     ensures underway { (d : ℕ) (C : Matrix) (budget : ℕ) (slice : Option ℕ) (s t : Progress) → 0 < length C.rows → budget ≤ 2 ^ 40 → IsUnderway d C budget s → Contains (rounds d C budget slice s).states t → IsUnderway d C budget t × (s.blocks < t.blocks) }
     ensures settled { (d : ℕ) (C : Matrix) (budget : ℕ) (slice : Option ℕ) (s : Progress) → 0 < length C.rows → budget ≤ 2 ^ 40 → IsUnderway d C budget s → (rounds d C budget slice s).is_stopped ≡ false → IsSettled d C budget (last_state s (rounds d C budget slice s).states) }
     ensures stopped { (d : ℕ) (C : Matrix) (budget : ℕ) (slice : Option ℕ) (s : Progress) → 0 < length C.rows → budget ≤ 2 ^ 40 → IsUnderway d C budget s → (rounds d C budget slice s).is_stopped ≡ true → (finished d C budget (last_state s (rounds d C budget slice s).states).blocks (found_of (last_state s (rounds d C budget slice s).states)) ≡ None) × ((rounds d C budget slice s).left ≡ Some 0) }
 {}
 
-/// A session from a true start goes through true steps, and at its end every need is settled with its
-/// answer, if the slice doesn't stop it. A fresh start is true, and so is one after a true step; so over
-/// any sessions, stops and resumptions every need is settled with its answer.
+/// With a budget of at most 2^40 blocks and needs that have a row, a session from a true start goes through
+/// true steps, and at its end every need is settled with its answer, if the slice doesn't stop it. A fresh
+/// start is true, and so is one after a true step; so over any sessions, stops and resumptions every need is
+/// settled with its answer.
 pub fn true_starts_have_true_steps()
     ensures steps { (divisor : Matrix → ℕ) (needs : List Matrix) (budget : ℕ) (slice : Option ℕ) (start : Start) (step : SessionStep) → All (λ (C : Matrix). 0 < length C.rows) needs → budget ≤ 2 ^ 40 → IsTrueStart divisor needs budget start → Contains (session_rounds divisor needs budget slice start).steps step → IsTrueStep divisor needs budget step }
     ensures settled { (divisor : Matrix → ℕ) (needs : List Matrix) (budget : ℕ) (slice : Option ℕ) (start : Start) → All (λ (C : Matrix). 0 < length C.rows) needs → budget ≤ 2 ^ 40 → IsTrueStart divisor needs budget start → (session_rounds divisor needs budget slice start).is_stopped ≡ false → AreSettled divisor budget needs (session_rounds divisor needs budget slice start).settled }

@@ -1,5 +1,5 @@
-//! The information sets of a search, and the lower bound on the minimum distance that whole levels of them
-//! give. The definitions are in `specs/` and in `lc_enumeration`; the laws are the contracts of the
+//! The information sets of a search, and the lower bound that whole levels give on the weights of words not
+//! seen. The definitions are in `specs/` and in `lc_enumeration`; the laws are the contracts of the
 //! functions of `laws`.
 #![tactic(auto)]
 

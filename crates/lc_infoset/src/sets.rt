@@ -164,7 +164,7 @@ impl Sets {
     }
 
     /// The number that divides the weights of the code: over 2 elements 4 if all are divisible by 4, else 2 if all are even;
-    /// over 3 elements 3 if all are divisible by 3; else 1.
+    /// over 3 elements 3 if all are divisible by 3; else 1 (Ward, Divisible codes).
     #[tactic(auto, using(crate::proofs::KeptLaws::divisor_laws))]
     pub fn divisor(&self) -> u64
         ensures is { result ≡ divisor_of self.now }

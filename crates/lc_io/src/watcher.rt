@@ -10,7 +10,8 @@ pub struct Record {
     pub query: u64,
     /// How many of its blocks are done.
     pub blocks: u64,
-    /// The lower bound on the distance after these blocks.
+    /// Each nonzero codeword of which no multiple was seen in these blocks has at least this weight.
+    /// The lesser of this and `best` is a lower bound on the minimum distance.
     pub bound: u64,
     /// The weight of the best word so far.
     pub best: u64,

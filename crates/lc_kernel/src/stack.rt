@@ -52,7 +52,7 @@ impl Model for Stack {
 }
 
 impl Stack {
-    /// A stack for messages of these sets, at none.
+    /// A stack for messages of these sets, which is at no message yet.
     pub fn new(alloc: Global, sets: &Sets) -> Result<Stack, NoMemory>
         ensures code { IfOk result (λ s. s.code ≡ sets.now) }
         ensures none { IfOk result (λ s. s.sums ≡ []) }
@@ -63,7 +63,7 @@ impl Stack {
         Stack::of(alloc, sets.code(), multiples)
     }
 
-    /// A stack for messages of the same sets, at none. It shares the multiples of their rows.
+    /// A stack for messages of the same sets, which is at no message yet. It shares the multiples of their rows.
     pub fn another(&self, alloc: Global) -> Result<Stack, NoMemory>
         ensures code { IfOk result (λ s. s.code ≡ self.now.code) }
         ensures none { IfOk result (λ s. s.sums ≡ []) }
@@ -74,7 +74,7 @@ impl Stack {
         Stack::of(alloc, &self.code, multiples)
     }
 
-    // A stack for messages of the sets of a code, at none.
+    // A stack for messages of the sets of a code, which is at no message yet.
     fn of(alloc: Global, code: &Matrix, multiples: Arc<Vec<Word>>) -> Result<Stack, NoMemory>
         requires multiples { AreMultiples code.now (arc_value multiples).items }
         ensures code { IfOk result (λ s. s.code ≡ code.now) }

@@ -86,7 +86,7 @@ fn scan(field: &Field, rows: &[Word], sum: &mut [u8], best: &mut Best)
 }
 
 /// The first nonzero word, by weight and then lexicographically, among the sums of multiples of
-/// the rows; None exactly where there is none, all rows being zero. The rows are words of `n` symbols of the field.
+/// the rows; None exactly if there is none, all rows being zero. The rows are words of `n` symbols of the field.
 ///
 /// All q^k sums of the k rows are made, so this is for few rows. Refused only for want of memory.
 pub fn least_word(

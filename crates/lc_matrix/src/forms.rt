@@ -13,7 +13,7 @@ use std::alloc::Global;
 
 impl Matrix {
     /// The reduced row echelon form: the one matrix with the same words whose rows begin with a 1 that is alone in its column,
-    /// at rising places, without zero rows (MacWilliams and Sloane, chapter 1; any textbook of linear algebra).
+    /// at rising columns, without zero rows (MacWilliams and Sloane, chapter 1; any textbook of linear algebra).
     pub fn echelon(&self, alloc: Global) -> Result<Matrix, NoMemory>
         ensures field { IfOk result (λ m. m.field ≡ self.now.field) }
         ensures columns { IfOk result (λ m. m.columns ≡ self.now.columns) }

@@ -204,8 +204,7 @@ pub fn certificate_bracket_line(alloc: Global, low: u64, high: u64) -> Result<Ve
     Ok(text)
 }
 
-/// What a query for a certificate prints if a checker would have to look at too many words:
-/// `certificate none cost 4294967297`, with their number.
+/// What a query for a certificate prints if a check would cost too much: `certificate none cost 4294967297`, with the cost.
 #[tactic(auto, unfolding(lc_language::specs::Query::no_certificate_line))]
 pub fn certificate_cost_line(alloc: Global, cost: u64) -> Result<Vec<u8>, NoMemory>
     ensures { IfOk result (λ v. v.items ≡ no_certificate_line (codes "cost") cost) }

@@ -32,7 +32,8 @@ pub enum Answer {
 pub struct RoundRecord {
     /// The blocks that are done after the round.
     pub blocks: u64,
-    /// The lower bound on the minimum distance after these blocks.
+    /// Each nonzero codeword of which no multiple was seen in these blocks has at least this weight. The lesser of this and `best`
+    /// is a lower bound on the minimum distance.
     pub bound: u64,
     /// The least weight found so far.
     pub best: u64,

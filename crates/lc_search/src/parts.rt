@@ -62,8 +62,8 @@ pub(crate) fn weight_at(
     Ok(Some(weight(word.symbols()) as u64))
 }
 
-/// The lower bound on the minimum distance if these levels are done, one for each set, and a word of this weight was found
-/// (Brouwer and Zimmermann).
+/// The bound if these levels are done, one for each set, and a word of this weight was found: each nonzero codeword of which no
+/// multiple was seen has at least this weight (Brouwer and Zimmermann).
 #[tactic(auto, using(crate::proofs::StateLaws::bound_whole, crate::proofs::StateLaws::all_below))]
 pub(crate) fn bound_of_levels(sets: &Sets, levels: &[u64], weight: u64) -> u64
     requires count { length levels.now ≡ set_count sets.now }

@@ -48,9 +48,9 @@ fn is_fit(blocks: u64, weight: u64, place: u64, found: u64) -> bool
 impl Search {
     /// A search of the code that has done `blocks` blocks and has the word of `weight` at `place` for its best.
     ///
-    /// The code has dimension at least 1, `budget` is at most 2^40, and `blocks` at most the budget. Refused if the record
-    /// doesn't fit the code: its place is 0 or below `blocks` times 4,096, there is a word, and it has this weight. That no
-    /// lighter word is among these blocks is not tried.
+    /// The code has dimension at least 1, `budget` is at most 2^40, and `blocks` at most the budget. Refused with `Unfit`
+    /// and the weight found unless the record fits: its place is 0 or below `blocks` times 4,096, there is a word, and it has
+    /// this weight. That no lighter word is among these blocks is not tried.
     pub fn resume_at(
         alloc: Global,
         code: &Code,

@@ -131,7 +131,8 @@ impl Search {
         Ok(word)
     }
 
-    // The lower bound on the minimum distance after the blocks that are done.
+    // The bound after the blocks that are done: each nonzero codeword of which no multiple was seen in them has at least this
+    // weight.
     #[tactic(auto, using(crate::proofs::StateLaws::bound_laws))]
     fn bound(&self) -> u64
         ensures is { result ≡ bound (divisor_of self.now.code) self.now.code self.now.progress.blocks self.now.progress.weight }
@@ -139,8 +140,8 @@ impl Search {
         bound_of_levels(&self.sets, &self.levels, self.weight)
     }
 
-    /// What the search answers: the minimum distance, if the lower bound after some whole phases has reached the weight of the
-    /// best word; else, if the budget is used up, the bracket from the bound to this weight. None if the search goes on. It
+    /// What the search answers: the minimum distance, if the bound after some whole phases has reached the weight of the best
+    /// word; else, if the budget is used up, the bracket from the bound to this weight. None if the search goes on. It
     /// takes no memory.
     pub fn finished(&self) -> Option<Answer>
         ensures is { option_map answer_of result ≡ answer_in self.now }

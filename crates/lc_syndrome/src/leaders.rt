@@ -43,7 +43,7 @@ impl Leaders {
     /// The leaders of the cosets of the code, which is kept as a copy.
     ///
     /// Refused with `TooManyCosets(n - k)` exactly if the code, of length n and dimension k over q elements, has more than 2^20
-    /// cosets, of which there are q^(n - k); then no memory is taken.
+    /// cosets, of which there are q^(n - k); then it never answers `NoMemory`.
     pub fn build(alloc: Global, code: &Code) -> Result<Leaders, SyndromeRefusal>
         ensures leaders { IfOk result (λ l. l ≡ code.now) }
         ensures refused { (m : ℕ) → IsErrOf result (refusal.TooManyCosets m) ↔ too_many_cosets code.now ≡ Some m }

@@ -130,7 +130,7 @@ pub fn weight(symbols: &[u8]) -> usize
     symbols.iter().filter(|a| **a != 0).count()
 }
 
-/// The sum of the products of the symbols of two words, place by place.
+/// The sum of the products of the symbols of two words, coordinate by coordinate.
 ///
 /// Both words have the same length, and their symbols are elements of the field.
 #[inline]
@@ -149,7 +149,7 @@ pub fn dot(field: &Field, a: &[u8], b: &[u8]) -> u8
     sum
 }
 
-/// The place of the first nonzero symbol, from 0; None exactly if all symbols are 0.
+/// The coordinate of the first nonzero symbol, from 0; None exactly if all symbols are 0.
 #[inline]
 pub fn first_nonzero(symbols: &[u8]) -> Option<usize>
     ensures is { result ≡ first_nonzero_of symbols.now }
