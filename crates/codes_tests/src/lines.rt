@@ -1,8 +1,9 @@
 //! Each line once, as a session prints it.
 use lc_field::NoMemory;
 use lc_print::{
-    bracket_line, code_line, distance_line, distance_none_line, fault_line, field_line, least_line,
-    least_none_line, list_line, none_line, number_line, rows_line, truth_line,
+    bracket_line, certificate_length_line, code_line, distance_line, distance_none_line,
+    fault_line, field_line, least_line, least_none_line, list_line, none_line, number_line,
+    rows_line, truth_line,
 };
 use lc_vec::Word;
 use std::alloc::{AllocError, Global};
@@ -80,6 +81,12 @@ fn lines_of_answers_and_faults(rt: HostRuntime) -> Result<(), Fail> {
     assert!(rt; is_line(least_none_line(alloc), b"least none\n"));
     assert!(rt; are_distances(alloc)?);
     assert!(rt; is_line(distance_none_line(alloc), b"distance none\n"));
+    assert!(rt;
+        is_line(
+            certificate_length_line(alloc, 1_048_577),
+            b"certificate none length 1048577\n"
+        )
+    );
     assert!(rt; is_line(fault_line(alloc, 8, 0, &[1, 2]), b"fault 8 at 0 with 1 2\n"));
     assert!(rt; is_line(fault_line(alloc, 44, 10, &[]), b"fault 44 at 10\n"));
     Ok(())

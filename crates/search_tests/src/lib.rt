@@ -14,3 +14,5 @@ mod outside;
 mod search;
 #[cfg(test)]
 mod shifts;
+#[cfg(test)]
+mod watching;
