@@ -1,3 +1,4 @@
 pub mod GolayExamples
 pub mod ExtendedGolayExamples
 pub mod GolaySessionExamples
+pub mod PlaneWeights
