@@ -12,6 +12,8 @@ two elements, a tenth of that over other fields. If it will take more than some 
 and others how far it is. `--quiet` leaves them out.
 """
 import json
+import math
+import re
 import sys
 import time
 from itertools import combinations, product
@@ -24,6 +26,7 @@ LONGEST = 255
 MOST_WORDS = 2**32
 WIDEST = 2**64 - 1
 INPUT_LIMIT = 2**20
+DEEPEST = 127
 
 
 class Rejected(Exception):
@@ -99,12 +102,47 @@ def are_columns(value, length):
     return is_numbers(value) and all(a < b for a, b in zip(value, value[1:])) and all(a < length for a in value)
 
 
+# a string, and an escape in one that is well formed: a surrogate only with its pair
+STRING = re.compile(r'"(?:[^"\\]|\\.)*"')
+ESCAPE = re.compile(r"\\(?:u[dD][89abAB]..\\u[dD][c-fC-F]..|u(?![dD][89a-fA-F])....|[^u])")
+
+
+def finite(digits):
+    """The float that the digits spell. One that is too large is refused."""
+    value = float(digits)
+    if not math.isfinite(value):
+        raise ValueError
+    return value
+
+
+def whole(digits):
+    """A number without a fraction and an exponent. One that is too large for a float is refused too, and `-0` is a float."""
+    value = finite(digits)
+    return value if digits == "-0" else int(digits)
+
+
+def no_constant(name):
+    raise ValueError
+
+
+def depth(text):
+    """How deep arrays and objects nest."""
+    deepest = level = 0
+    for sign in re.findall(r"[][{}]", STRING.sub("", text)):
+        level += 1 if sign in "[{" else -1
+        deepest = max(deepest, level)
+    return deepest
+
+
 def parsed(text):
-    """The value that the text is, by the rules of JSON alone: no NaN, no signs or zeros before numbers beyond them."""
+    """The value that the text is, by the rules of JSON and the limits of docs/FORMATS.md. Of two equal keys the last counts."""
     try:
-        return json.loads(text, parse_constant=lambda name: 1 / 0, parse_float=lambda digits: float(digits))
-    except (ValueError, RecursionError, ZeroDivisionError):
+        value = json.loads(text, parse_constant=no_constant, parse_float=finite, parse_int=whole)
+    except (ValueError, RecursionError):
         raise Rejected(30) from None
+    if depth(text) > DEEPEST or "\\" in ESCAPE.sub("", text):
+        raise Rejected(30)
+    return value
 
 
 def read(text):

@@ -5,12 +5,14 @@
     tools/compare_certificates.py --stored FOLDER
 
 PROGRAM is the path of `codes`. The certificates are those of some forty small codes, as tools/reference.py writes them, and
-COUNT altered ones: a key or a part of one changed, left out, repeated or added, or some bytes. Both must print the same line
+COUNT altered ones: a key or a part of one changed, left out, repeated or added, some bytes, or a number replaced by what
+readers of JSON take differently, such as `-0`. Both must print the same line
 and end with the same status. Prints each certificate on which they differ, and ends with 1 if there is one. The second form gives
 the certificates among the cases of a folder to check_certificate.py alone, and compares with the stored texts.
 """
 import copy
 import json
+import re
 import subprocess
 import sys
 from concurrent.futures import ThreadPoolExecutor
@@ -108,9 +110,25 @@ def altered_text(random, text):
     return "".join(text)
 
 
+# what readers of JSON take differently: `-0`, numbers too large for a float, deep nesting, surrogates without their pair
+ODD = ["-0", "-0.0", "0e0", "1.0", "1e400", "-1e400", "9" * 310, "1" + "0" * 400, '"\\ud800"', '"\\ud800\\udc00"', '"\\udc00\\ud800"',
+       '"\\\\ud800"', '["\\"[", "]"]', "[" * 200 + "]" * 200]
+
+
+def odd_text(random, line):
+    """A number replaced, or a key put before the others, which may come twice then."""
+    odd = random.choice([*ODD, *(("[" * n + "]" * n) for n in (124, 125, 126, 127, 128))])
+    if random.random() < 0.4:
+        return f'{{"{random.choice(("note", "distance", "word"))}":{odd},{line[1:]}'
+    number = random.choice(list(re.finditer(r"\d+", line)))
+    return line[: number.start()] + odd + line[number.end() :]
+
+
 def altered(random, line):
     if random.random() < 0.15:
         return altered_text(random, line)
+    if random.random() < 0.1:
+        return odd_text(random, line)
     parts = json.loads(line)
     for _ in range(1 if random.random() < 0.7 else 2):
         parts = altered_parts(random, parts) if parts else parts

@@ -22,7 +22,7 @@ MEANINGS = {
     2: "a code can't have this length",
     3: "an argument has a value that it can't have",
     4: "the polynomial doesn't divide x^n - 1",
-    5: "no field has an element of this order and contains the field of the code",
+    5: "none of the eighteen fields has an element of this order and contains the field of the code",
     6: "the design distance is out of range",
     7: "no field for codes has one element more than this length",
     8: "two points are equal",
@@ -201,7 +201,7 @@ def refusal(expr, fault, names):
     if name in BY_LISTS:
         return list_refusal(name, values, fault)
     if number == 5:
-        return f"no field of at most 256 elements that contains GF({values[-1].size}) has an element of order {values[0]}"
+        return f"among the eighteen fields none that contains GF({values[-1].size}) has an element of order {values[0]}"
     if number == 6:
         distance, least = (values[1], 1) if name == "ReedSolomonCode" else (values[-2], 2)
         if values[0] < least:
