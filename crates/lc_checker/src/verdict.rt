@@ -1,6 +1,6 @@
 //! What the checker says of a certificate.
 
-ghost use Rattle.std.specs.Prelude.{◌≡◌, ◌∷◌, [], IfOk};
+ghost use Rattle.std.specs.Prelude.{◌≡◌, ◌∷◌, [], IfOk, IsOk};
 ghost use Rattle.lc_formats.specs.Certificate.{reason_number, reason_values};
 ghost use Rattle.lc_checker.specs.Verdict.{reason_of};
 
@@ -63,10 +63,11 @@ impl Reason {
         }
     }
 
-    /// The numbers that the reason carries: none, one, or the symbols of the lighter word.
+    /// The numbers that the reason carries: none, one, or the symbols of the lighter word. If it carries none, no memory is taken.
     #[tactic(auto, unfolding(crate::proofs::Opened::values_of_reason))]
     pub fn values(&self, alloc: Global) -> Result<Vec<u64>, NoMemory>
         ensures are { IfOk result (λ values. values.items ≡ reason_values (reason_of self.now)) }
+        ensures none { reason_values (reason_of self.now) ≡ [] → IsOk result }
     {
         match self {
             Reason::Shape(rule) => one(alloc, *rule as u64),
@@ -93,6 +94,7 @@ fn one(alloc: Global, n: u64) -> Result<Vec<u64>, NoMemory>
 // The symbols as numbers.
 fn numbers(alloc: Global, symbols: &[u8]) -> Result<Vec<u64>, NoMemory>
     ensures are { IfOk result (λ values. values.items ≡ symbols.now) }
+    ensures none { symbols.now ≡ [] → IsOk result }
 {
     let mut values = Vec::with_capacity(alloc, symbols.len())?;
     for a in symbols {

@@ -11,7 +11,7 @@ use Rattle.lc_eval.specs.Built.{built_calls}
 use Rattle.lc_sessions.specs.Options.{Command, resume, Settings, Options, settings, usage as refuses, options, all_options}
 use Rattle.lc_sessions.specs.Needs.{MeetsFirst, OneStep}
 use Rattle.lc_sessions.specs.Slots.{AreTrueSlots}
-use Rattle.lc_sessions.specs.Endings.{usage, done, no_memory}
+use Rattle.lc_sessions.specs.Endings.{usage, done}
 use Rattle.lc_sessions.specs.Session.{Outside, most_bytes, Accepts, Reads, IsSession}
 use Rattle.lc_sessions.specs.Promises.{PrintsText}
 use Rattle.lc_sessions.specs.Chain.{Chain, IsGround}
@@ -49,11 +49,7 @@ chains_are_true bytes budget short small version slots chain = chains.chains_are
 -- ---- what a session read, and the budget that it was asked for
 
 small_budget : (args : List (List ℕ)) (o : Options) (asked : Settings) (old new : Outside) (n : ℕ) → options all_options args ≡ o → Accepts o asked old new (done n) → asked.budget ≤ 2 ^ 40
-small_budget args (refuses i) asked old new n e h = absurd (never i n h.1)
-  where
-    never : (i n : ℕ) → (done n ≡ usage i) ⊎ (done n ≡ no_memory 0) → ⊥
-    never i n (inl f) = (let g = f in cc)
-    never i n (inr f) = (let g = f in cc)
+small_budget args (refuses i) asked old new n e h = absurd (let ended : done n ≡ usage i = h.1 in cc)
 small_budget args (settings s) asked old new n e h = subst (λ (t : Settings). t.budget ≤ 2 ^ 40) (sym h.0) (options_small all_options args s e)
 
 short_script : (args : List (List ℕ)) (old new : Outside) (n : ℕ) (s : IsSession built_calls args old new (done n)) → s.asked.command ≡ resume → length s.course.bytes ≤ most_bytes

@@ -2,6 +2,7 @@
 --   read_whole           a session that told a record has read its script
 --   is_grounded          so the laws of stored slots rest on nothing
 --   stores_truly         the slots after a session
+--   stores_afresh        those after a session of `run` that emptied them
 --   true_turn            the turn of a true checkpoint is below 2^58
 --   tells_early          and so is that of a record told
 use Rattle.std.proofs.Common.{◌≡◌, ◌⊎◌, inl, inr, ◌≤◌, ◌<◌, ◌^◌, ℕ, true, List, [], ◌∷◌, ◌++◌, length, Option, refl, sym, subst, arith}
@@ -13,9 +14,10 @@ use Rattle.lc_sessions.specs.Options.{Command, run, resume, check, summary, Sett
 use Rattle.lc_sessions.specs.Slots.{turn_after, IsTrueCheckpoint}
 use Rattle.lc_sessions.specs.Endings.{Ending, done, usage, paused, source_fault, sink_fault, vault_fault, no_memory, no_checkpoint, damaged_checkpoint, other_script, rejected, too_long, unfit}
 use Rattle.lc_sessions.specs.Session.{Outside, Course, most_bytes, Accepts, ReadsScript, Reads, Ends, IsSession}
-use Rattle.lc_sessions.specs.Promises.{StartsTruly, StoresTruly}
+use Rattle.lc_sessions.specs.Promises.{StartsTruly, StoresTruly, StoresAfresh}
+use Rattle.lc_sessions.specs.Chain.{HasBegun}
 use Rattle.lc_sessions.proofs.GroundLaws as chains
-use Rattle.lc_sessions.proofs.StoredTruly.{IsGrounded, grounded_stores, grounded_early}
+use Rattle.lc_sessions.proofs.StoredTruly.{IsGrounded, grounded_stores, grounded_afresh, grounded_early}
 use Rattle.lc_ground.proofs.GroundLaws.{script_is_ground}
 use Rattle.lc_ground.proofs.BudgetLaws.{options_small}
 
@@ -42,14 +44,9 @@ reads_by resume ending asked held old new course truly r e = read_whole ending a
 reads_by check ending asked held old new course truly r e = absurd truly
 reads_by summary ending asked held old new course truly r e = absurd truly
 
-none_of : (told : List SessionStep) → 0 ≡ length told → told ≡ []
-none_of [] e = refl
-none_of (s ∷ told) e = absurd (omega (arith, e))
-
 -- refused arguments tell no record
-refused_silent : (ending : Ending) (i : ℕ) (asked : Settings) (course : Course) → (ending ≡ usage i) ⊎ (ending ≡ no_memory 0) → Ends ending asked course → course.told ≡ []
-refused_silent ending i asked course (inl e) ends = (let h : Ends (usage i) asked course = subst (λ (x : Ending). Ends x asked course) e ends in h)
-refused_silent ending i asked course (inr e) ends = (let h : Ends (no_memory 0) asked course = subst (λ (x : Ending). Ends x asked course) e ends in none_of course.told h.0)
+refused_silent : (ending : Ending) (i : ℕ) (asked : Settings) (course : Course) → ending ≡ usage i → Ends ending asked course → course.told ≡ []
+refused_silent ending i asked course e ends = subst (λ (x : Ending). Ends x asked course) e ends
 
 grounded_by : (args : List (List ℕ)) (o : Options) (asked : Settings) (old new : Outside) (ending : Ending) (course : Course) → options all_options args ≡ o → Accepts o asked old new ending → Ends ending asked course → (course.told ≡ []) ⊎ (length course.bytes ≤ most_bytes) → IsGrounded built_calls asked course
 grounded_by args (refuses i) asked old new ending course is h ends read = inl (refused_silent ending i asked course h.1 ends)
@@ -63,6 +60,11 @@ is_grounded args old new ending s truly =
 
 pub stores_truly : (args : List (List ℕ)) (old new : Outside) (ending : Ending) (s : IsSession built_calls args old new ending) → StartsTruly built_calls s.asked.command s.asked old.vault s.course → s.asked.keep ≡ true → StoresTruly built_calls s.course.bytes s.asked.budget old new
 stores_truly args old new ending s truly keeps = grounded_stores built_calls args old new ending s (is_grounded args old new ending s truly) truly keeps
+
+pub stores_afresh : (args : List (List ℕ)) (old new : Outside) (ending : Ending) (s : IsSession built_calls args old new ending) → s.asked.command ≡ run → s.asked.keep ≡ true → HasBegun ending s.course → StoresAfresh built_calls s.course.bytes s.asked.budget old new
+stores_afresh args old new ending s runs keeps begun =
+    let truly : StartsTruly built_calls s.asked.command s.asked old.vault s.course = subst (λ (c : Command). StartsTruly built_calls c s.asked old.vault s.course) (sym runs) tt in
+    grounded_afresh built_calls args old new ending s (is_grounded args old new ending s truly) runs keeps begun
 
 pub true_turn : (bytes : List ℕ) (budget : ℕ) → length bytes ≤ most_bytes → budget ≤ 2 ^ 40 → (p : Checkpoint) → IsTrueCheckpoint built_calls bytes budget p → p.turn < 2 ^ 58
 true_turn bytes budget short small p holds = chains.true_turn built_calls bytes budget (script_is_ground bytes budget short small) p holds

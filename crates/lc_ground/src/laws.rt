@@ -12,8 +12,8 @@ ghost use Rattle.lc_sessions.specs.Needs.{MeetsFirst};
 ghost use Rattle.lc_sessions.specs.Slots.{turn_after, IsTrueCheckpoint, AreTrueSlots};
 ghost use Rattle.lc_sessions.specs.Endings.{Ending, done};
 ghost use Rattle.lc_sessions.specs.Session.{Outside, most_bytes, IsSession};
-ghost use Rattle.lc_sessions.specs.Promises.{PrintsText, StartsTruly, StoresTruly};
-ghost use Rattle.lc_sessions.specs.Chain.{Chain, IsGround};
+ghost use Rattle.lc_sessions.specs.Promises.{PrintsText, StartsTruly, StoresTruly, StoresAfresh};
+ghost use Rattle.lc_sessions.specs.Chain.{Chain, IsGround, HasBegun};
 ghost use Rattle.lc_certify.specs.Accepted.{SaysNone, IsAcceptedFor};
 ghost use Rattle.lc_ground.specs.Shapes.{IsCodeOfRows};
 
@@ -58,10 +58,12 @@ pub fn chains_print_the_text()
 {}
 
 /// Sessions of scripts store true checkpoints. After a session of `run`, or of `resume` that took a true checkpoint, each slot is as it
-/// was, or empty, or holds a true checkpoint in the slot of its turn, but for one whose store failed. A true checkpoint has a turn below
-/// 2^58, and so has each record told.
+/// was, or empty, or holds a true checkpoint in the slot of its turn, but for one whose store failed. After a session of `run` that
+/// emptied the slots none is as it was: it finished or paused, or the sink failed, or it told a record. A true checkpoint has a turn
+/// below 2^58, and so has each record told.
 pub fn stored_slots_hold_true_checkpoints()
     ensures stored { (args : List (List ℕ)) (old new : Outside) (ending : Ending) (s : IsSession built_calls args old new ending) → StartsTruly built_calls s.asked.command s.asked old.vault s.course → s.asked.keep ≡ true → StoresTruly built_calls s.course.bytes s.asked.budget old new }
+    ensures afresh { (args : List (List ℕ)) (old new : Outside) (ending : Ending) (s : IsSession built_calls args old new ending) → s.asked.command ≡ run → s.asked.keep ≡ true → HasBegun ending s.course → StoresAfresh built_calls s.course.bytes s.asked.budget old new }
     ensures turn { (bytes : List ℕ) (budget : ℕ) → length bytes ≤ most_bytes → budget ≤ 2 ^ 40 → (p : Checkpoint) → IsTrueCheckpoint built_calls bytes budget p → p.turn < 2 ^ 58 }
     ensures early { (args : List (List ℕ)) (old new : Outside) (ending : Ending) (s : IsSession built_calls args old new ending) → StartsTruly built_calls s.asked.command s.asked old.vault s.course
         → (before : List SessionStep) (last : SessionStep) → s.course.told ≡ before ++ last ∷ [] → turn_after s.course.turn before < 2 ^ 58 }

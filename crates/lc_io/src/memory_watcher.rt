@@ -1,7 +1,7 @@
 // A watcher in memory.
-ghost use Rattle.std.specs.Prelude.{◌≡◌, ◌≤◌, [], Some, drop, IfOk, slice_get};
+ghost use Rattle.std.specs.Prelude.{◌≡◌, ◌≤◌, true, [], Some, drop, IfOk, slice_get};
 ghost use Rattle.std.specs.Option.{option_and_then};
-ghost use Rattle.lc_io.specs.Watchers.{AnswersFrom, HearsUnlessLeft, pauses_after};
+ghost use Rattle.lc_io.specs.Watchers.{AnswersFrom, HearsUnlessLeft, is_leave, pauses_after};
 
 use crate::{Advice, NoMemory, Record, Watcher};
 use std::alloc::Global;
@@ -60,8 +60,13 @@ impl Watcher for MemoryWatcher {
 
     ghost pauses = { λ w. w.pauses };
 
-    /// Keeps the record, unless the answer is Leave. Takes no memory.
-    fn told(&mut self, note: &Record) -> Advice {
+    /// Keeps the record, unless the answer is Leave; then what it has heard stays. Takes no memory.
+    fn told(&mut self, note: &Record) -> Advice
+        ensures coming { AnswersFrom (Some self.old.coming) result (Some self.new.coming) }
+        ensures heard { HearsUnlessLeft (Some self.old.heard) note.now result (Some self.new.heard) }
+        ensures pauses { self.new.pauses ≡ pauses_after self.old.pauses result }
+        ensures left { is_leave result ≡ true → self.new.heard ≡ self.old.heard }
+    {
         if self.given == self.answers.len() {
             return Advice::Leave;
         }

@@ -7,7 +7,7 @@
 --   block_value                  the least value of all words is that of the block
 --   words_of_block, block_value_of_words      the same by the words of the block
 --   first_of_block, spot_at      a spot at the first message of a block
---   past_plan, past_block, at_word      the word at a place
+--   past_plan, past_block, at_word, word_there      the word at a place
 use Rattle.std.proofs.Common.{◌≡◌, ℕ, suc, ◌+◌, ◌-◌, ◌*◌, ◌/◌, ◌%◌, ◌^◌, ◌<◌, ◌≤◌, min, Bool, true, false, nat_lt, nat_le, ◌&&◌, if◌then◌else◌, List, [], ◌∷◌, length, take, drop, find, slice_get, slice_index_or, Some, None, option_map, Contains, refl, sym, ap, ◌∙◌, ⊎_elim, arith}
 use Rattle.std.proofs.Math.Nat.{mod-lt, mod-eq_of_lt}
 use Rattle.std.proofs.lemmas.Bool.{cases_lt}
@@ -212,6 +212,12 @@ pub at_word : (C : Matrix) (plan : PlanSize) (place p : ℕ) (s : StackState) �
 unfolding word_at
 at_word C plan place p s h i o =
     word_at_offset C plan.m p (place / 4096) (place % 4096) s (phase_same C plan p (place / 4096) h i) (mod-lt place (omega arith)) o
+
+pub word_there : (C : Matrix) (plan : PlanSize) (place p : ℕ) → IsPlanOf plan C → IsInPhase plan.k plan.q plan.m p (place / 4096) → place % 4096 < block_length plan.k plan.q plan.m p (place / 4096) → ¬ (word_at C plan.m place ≡ None)
+unfolding word_at
+word_there C plan place p h i l none =
+    let long : length (block_words C plan.m (place / 4096)) ≡ block_length plan.k plan.q plan.m p (place / 4096) = rw (h.dimension, h.field) (block_long C plan.m p (place / 4096) (phase_same C plan p (place / 4096) h i)) in
+    none-some _ (sym none ∙ slice_get-get_or (block_words C plan.m (place / 4096)) (place % 4096) [] (omega (arith, l, long)))
 
 pub length_of_code : (C : Matrix) (plan : PlanSize) (p b : ℕ) → IsPlanOf plan C → block_length plan.k plan.q plan.m p b ≡ block_length (length C.rows) (size C.field) plan.m p b
 length_of_code C plan p b h = rw (h.dimension, h.field) refl

@@ -1,6 +1,6 @@
 //! The word at a place.
 
-ghost use Rattle.std.specs.Prelude.{◌≡◌, IfOk};
+ghost use Rattle.std.specs.Prelude.{◌≡◌, IfOk, IsOk, None};
 ghost use Rattle.lc_enumeration.specs.Search.{word_at as word_at_place};
 ghost use Rattle.lc_kernel.specs.Kernel.{IsPlanOf};
 
@@ -12,7 +12,7 @@ use lc_vec::Word;
 use std::alloc::Global;
 
 /// The word at a place: its block times 4,096 plus its offset in the block. None exactly if the plan has no
-/// such block, or the block no such word.
+/// such block, or the block no such word, and then no memory is taken.
 ///
 /// The plan is one of these sets.
 pub fn word_at(
@@ -23,6 +23,7 @@ pub fn word_at(
 ) -> Result<Option<Word>, NoMemory>
     requires plan { IsPlanOf plan.now sets.now }
     ensures at { IfOk result (λ w. w ≡ word_at_place sets.now plan.now.m place) }
+    ensures none { word_at_place sets.now plan.now.m place ≡ None → IsOk result }
 {
     let block = place / 4096;
     let offset = place % 4096;

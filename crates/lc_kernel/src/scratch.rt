@@ -185,3 +185,8 @@ fn moves_to_a_thread<T: Send>(_value: &T) {}
 fn scratch_moves_to_a_thread(scratch: &Scratch) {
     moves_to_a_thread(scratch);
 }
+
+// So is a stack.
+fn stack_moves_to_a_thread(stack: &Stack) {
+    moves_to_a_thread(stack);
+}

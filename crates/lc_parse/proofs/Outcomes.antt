@@ -103,10 +103,14 @@ token_fault (ScriptEnd p) end e is h = absurd (cc)
 token_fault (BadToken p) end e is h = let same : e ≡ refusal.Fault 40 p = cc in rw (same, ← is) (refl, refl)
 token_fault (TooWide p) end e is h = let same : e ≡ refusal.Fault 43 p = cc in rw (same, ← is) (refl, refl)
 
+-- tokens up to the end of the script are not refused
+pub whole_unrefused : (ending : Ending) (end : language.Ending) (e : ParseRefusal) (n : ℕ) → ending_of ending ≡ end → IsTokenRefusal ending (Some e) → end ≡ language.script_end n → ⊥
+whole_unrefused (ScriptEnd p) end e n is h whole = absurd (cc)
+whole_unrefused (BadToken p) end e n is h whole = absurd (cc)
+whole_unrefused (TooWide p) end e n is h whole = absurd (cc)
+
 pub token_readable : {T : Type 0} (ending : Ending) (end : language.Ending) (e : ParseRefusal) (n : ℕ) (P : T → Type 0) → ending_of ending ≡ end → IsTokenRefusal ending (Some e) → end ≡ language.script_end n → IsReadAs (Err e) P
-token_readable (ScriptEnd p) end e n P is h whole = absurd (cc)
-token_readable (BadToken p) end e n P is h whole = absurd (cc)
-token_readable (TooWide p) end e n P is h whole = absurd (cc)
+token_readable ending end e n P is h whole = absurd (whole_unrefused ending end e n is h whole)
 
 pub token_faulty : (T : Type 0) (ending : Ending) (end : language.Ending) (e : ParseRefusal) (f : Fault) → ending_of ending ≡ end → IsTokenRefusal ending (Some e) → TokenFault end f → IsFaultAs {T = T} (Err e) f
 token_faulty T (ScriptEnd p) end e f is h fault_is = absurd (cc)

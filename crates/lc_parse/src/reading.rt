@@ -333,7 +333,8 @@ fn statements(source: &Source<'_>, tokens: &[Token]) -> Result<Vec<Statement>, P
 /// The tokens of a script, in order: the kind of each, the offset of its first byte and the offset after its
 /// last one, so that its text is `bytes[start..end]`. Spaces, tabs, carriage returns, newlines and comments
 /// from `#` to before the next newline separate tokens. Refuses with the number 40 a byte that begins
-/// no token, with 43 a number above 2^64 - 1, whichever comes first, and if memory runs out.
+/// no token, with 43 a number above 2^64 - 1, whichever comes first, and if memory runs out, which no bytes
+/// never do.
 pub fn tokens(alloc: Global, bytes: &[u8]) -> Result<Vec<Token>, ParseRefusal>
     // What it returns are the script's tokens, up to its end.
     ensures read { IfOk result (λ v. ((scan bytes.now).ending ≡ script_end (length bytes.now)) × (v.items ≡ (scan bytes.now).tokens)) }
@@ -342,6 +343,8 @@ pub fn tokens(alloc: Global, bytes: &[u8]) -> Result<Vec<Token>, ParseRefusal>
 
     ensures fault { IfErr result (λ e. IsRefusedAs e (TokenFault (scan bytes.now).ending)) }
     ensures faulty { (f : Fault) → TokenFault (scan bytes.now).ending f → IsFaultAs result f }
+    // No bytes have no tokens, for which no memory is asked.
+    ensures nothing { bytes.now ≡ [] → IsOk result }
 {
     let (tokens, ending) = scan(alloc, bytes)?;
     match token_refusal(ending) {

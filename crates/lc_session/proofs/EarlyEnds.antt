@@ -158,7 +158,7 @@ pub refused_words : (args : List (List ℕ)) (old : Outside) (i : ℕ) → optio
 refused_words args old i e = record {
   asked = any_settings;
   course = none [];
-  accepted = subst (λ (o : Options). Accepts o any_settings old old (usage i)) (sym e) (refl, inl refl);
+  accepted = subst (λ (o : Options). Accepts o any_settings old old (usage i)) (sym e) (refl, refl);
   possible = refl;
   read = refl;
   started = record { start = refl; turn = refl };

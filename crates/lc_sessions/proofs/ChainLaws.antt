@@ -27,7 +27,7 @@ use Rattle.lc_algebra.proofs.DivisorLaws.{divisor_positive}
 use Rattle.lc_enumeration.specs.Search.{answer}
 use Rattle.lc_enumeration.specs.Records.{Progress, Start, SessionStep, found_of, fresh_start, no_steps, session_from, session_rounds, IsBestAt}
 use Rattle.lc_enumeration.specs.Fitting.{first_divisible, start_before, used_start}
-use Rattle.lc_formats.specs.Checkpoint.{Checkpoint, ReadCheckpoint, point, refused, damaged, current_of, checkpoint_in}
+use Rattle.lc_formats.specs.Checkpoint.{Checkpoint, CheckpointRefusal, ReadCheckpoint, point, refused, damaged, current_of, checkpoint_in}
 use Rattle.lc_formats.proofs.Evaluated.{checkpoint_computes}
 use Rattle.lc_enumeration.specs.Truth.{answer_blocks, IsSettled}
 use Rattle.lc_formats.specs.Truth.{divisor_in, turn_allowance, IsTrueFor}
@@ -78,7 +78,7 @@ kept_steps table bytes budget version needs ground known met (s ∷ rest) turn s
 kept_left : (table : List Call) (bytes : List ℕ) (budget version : ℕ) (at : Slot) (held : List ℕ) (slots : Slots) → AreKept table bytes budget version slots → IsLeft (in_slot at slots) held → AreKept table bytes budget version (put at held slots)
 kept_left table bytes budget version at held slots all left =
     kept_put table bytes budget version at held slots all
-    (⊎_elim (λ (e : held ≡ in_slot at slots). subst (λ (b : List ℕ). IsKept table bytes budget version at (checkpoint_in b)) (sym e) (all at)) (λ (e : checkpoint_in held ≡ refused damaged). rw e tt) left)
+    (⊎_elim (λ (e : held ≡ in_slot at slots). subst (λ (b : List ℕ). IsKept table bytes budget version at (checkpoint_in b)) (sym e) (all at)) (λ (e : (r : CheckpointRefusal) × (checkpoint_in held ≡ refused r)). rw e.1 tt) left)
 
 kept_leaves : (table : List Call) (bytes : List ℕ) (budget version : ℕ) (needs : List Matrix) → IsGround table bytes budget → IsVersion version → MeetsFirst table bytes needs → (told : List SessionStep) (turn : ℕ) (before after : Slots) → AreKept table bytes budget version before
     → AreTrueSteps version needs (sha256 bytes) budget turn told → Leaves version (sha256 bytes) budget turn told before after → AreKept table bytes budget version after

@@ -15,3 +15,4 @@ pub mod HonestLaws
 pub mod StoredTruly
 pub mod Headline
 pub mod GroundLaws
+pub mod SaidLaws

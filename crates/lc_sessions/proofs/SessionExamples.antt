@@ -184,7 +184,7 @@ unfolding settings_of
 no_words = record {
   asked = settings_of run;
   course = nothing_done;
-  accepted = rw reads_none (refl, inl refl);
+  accepted = rw reads_none (refl, refl);
   possible = refl;
   read = refl;
   started = record { start = refl; turn = refl };

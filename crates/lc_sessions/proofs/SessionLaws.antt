@@ -1,6 +1,6 @@
 -- What follows from the contract of a session.
 --   asks_for              accepted arguments ask for these settings
---   refused_exactly       refused arguments end the session with their index, or memory was refused; and no others do
+--   refused_exactly       refused arguments end the session with their index, and no others do
 --   unsliced              without a slice no session is stopped by one
 --   completed             what is left when nothing fails, nothing pauses and the checkpoint is usable: the text, or no memory
 use Rattle.std.proofs.Common.{◌≡◌, ℕ, ◌<◌, ◌≤◌, refl, arith, ap, sym, subst, ◌∙◌, zero, suc, ⊎_elim, ◌⊎◌}
@@ -27,11 +27,11 @@ pub asks_for : (table : List Call) (args : List (List ℕ)) (old new : Outside) 
 asks_for table args old new ending asked s is = (rw is at s.accepted).0
 
 only_refused : (o : Options) (asked : Settings) (old new : Outside) (ending : Ending) (i : ℕ) → Accepts o asked old new ending → ending ≡ usage i → o ≡ refuses i
-only_refused (refuses j) asked old new ending i a is = ⊎_elim (λ (e : ending ≡ usage j). let same : usage j ≡ usage i = sym e ∙ is in cc) (λ (e : ending ≡ no_memory 0). absurd (let same : no_memory 0 ≡ usage i = sym e ∙ is in cc)) a.1
+only_refused (refuses j) asked old new ending i a is = (let same : usage j ≡ usage i = sym a.1 ∙ is in cc)
 only_refused (settings s) asked old new ending i a is = absurd (a.1 i is)
 
 pub refused_exactly : (table : List Call) (args : List (List ℕ)) (old new : Outside) (ending : Ending) (i : ℕ) (s : IsSession table args old new ending)
-    → (options all_options args ≡ refuses i → (ending ≡ usage i) ⊎ (ending ≡ no_memory 0)) × (ending ≡ usage i → options all_options args ≡ refuses i)
+    → (options all_options args ≡ refuses i → ending ≡ usage i) × (ending ≡ usage i → options all_options args ≡ refuses i)
 refused_exactly table args old new ending i s = (λ is. (rw is at s.accepted).1, λ is. only_refused (options all_options args) s.asked old new ending i s.accepted is)
 
 unsliced_step : (answer : Option Answer) (next : Progress) (rest : Rounds) → (rest.is_stopped ≡ false) × (rest.left ≡ None)

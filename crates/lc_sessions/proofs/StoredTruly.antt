@@ -4,6 +4,7 @@
 --   steps_same           a slot that they are stored in is empty or true
 --   IsGrounded           what is asked of the script: nothing, as long as no record is told
 --   stores_truly         the slots after a session
+--   stores_afresh        those after a session of `run` that emptied them
 --   same_stores          those of a session that stored nothing
 --   tells_early          its turns are below 2^58
 --   taken_truly          over true slots `resume` takes a true checkpoint
@@ -18,7 +19,7 @@ use Rattle.lc_formats.specs.Truth.{divisor_in, IsTrueFor, start_of}
 use Rattle.lc_io.specs.declared.vault.Slot.{Slot}
 use Rattle.lc_io.specs.declared.vault.Slot.TheVariants.{Zero, One}
 use Rattle.lc_io.specs.Outside.{HasRisen}
-use Rattle.lc_io.specs.Vaults.{Slots, empty_slots, other, put, WhereTold}
+use Rattle.lc_io.specs.Vaults.{Slots, empty_slots, in_slot, other, put, WhereTold}
 use Rattle.lc_io.proofs.SlotLaws.{WhereTold-map, WhereTold-refl}
 use Rattle.lc_language.specs.declared.Call.{Call}
 use Rattle.lc_sessions.specs.Options.{Command, run, resume, check, summary, Settings}
@@ -26,8 +27,8 @@ use Rattle.lc_sessions.specs.Needs.{MeetsFirst}
 use Rattle.lc_sessions.specs.Slots.{slot_of, next_turn, turn_after, point_of, stored_bytes, slots_after, takes, start_in, IsTrueCheckpoint, IsEmptyOrTrue, AreTrueSlots}
 use Rattle.lc_sessions.specs.Endings.{Ending, done, usage, paused, source_fault, sink_fault, vault_fault, no_memory, no_checkpoint, damaged_checkpoint, other_script, rejected, too_long, unfit}
 use Rattle.lc_sessions.specs.Session.{Outside, Course, rounds_of, Finds, GoesOnFrom, IsResumed, IsFresh, Starts, Meets, Ends, begin_with, told_slots, Keeps, Tears, AreHalfEmptied, FailsFirst, StoresIfKept, Counts, IsSession}
-use Rattle.lc_sessions.specs.Promises.{StartsTruly, IsSameOrTrue, StoresTruly}
-use Rattle.lc_sessions.specs.Chain.{IsGround}
+use Rattle.lc_sessions.specs.Promises.{StartsTruly, IsSameOrTrue, StoresTruly, StoresAfresh}
+use Rattle.lc_sessions.specs.Chain.{IsGround, HasBegun}
 use Rattle.lc_sessions.proofs.TrueSteps.{AreTrueSteps, true_front}
 use Rattle.lc_sessions.proofs.GroundLaws.{true_turn}
 use Rattle.lc_sessions.proofs.ChainLaws.{begun_truly, resumed_start}
@@ -203,6 +204,56 @@ stores_so table asked course old new truly (Did.failed risen h) = fails_same tab
 stores_so table asked course old new truly (Did.tore risen h) =
     WhereTold-map old.vault new.vault _ _ (λ before after is. inr (risen, (slot_of (turn_after course.turn course.told), beside table course.bytes asked.budget (slot_of (turn_after course.turn course.told)) is.0 before (told_slots asked course before) after (told_same table asked course truly before) is.1))) h
 
+-- ---- the slots after a session of `run` that emptied them
+
+told_afresh : (table : List Call) (asked : Settings) (course : Course) → (course.told ≡ []) ⊎ DoesTruly table asked course → asked.command ≡ run → (before : Slots) → AreSameOrTrue table course.bytes asked.budget empty_slots (told_slots asked course before)
+told_afresh table asked course truly runs before =
+    subst (λ (c : Command). AreSameOrTrue table course.bytes asked.budget empty_slots (slots_after 2 (sha256 course.bytes) asked.budget course.turn course.told (begin_with c before))) (sym runs) (by truly)
+  where
+    by : (course.told ≡ []) ⊎ DoesTruly table asked course → AreSameOrTrue table course.bytes asked.budget empty_slots (slots_after 2 (sha256 course.bytes) asked.budget course.turn course.told empty_slots)
+    by (inl e) = subst (λ (l : List SessionStep). AreSameOrTrue table course.bytes asked.budget empty_slots (slots_after 2 (sha256 course.bytes) asked.budget course.turn l empty_slots)) (sym e) (same_slots table course.bytes asked.budget empty_slots)
+    by (inr h) = steps_same table course.bytes asked.budget course.needs h.ground h.met course.told course.turn empty_slots empty_slots (same_slots table course.bytes asked.budget empty_slots) h.steps
+
+empty_or_true : (slot : Slot) (table : List Call) (bytes : List ℕ) (budget : ℕ) (after : Slots) → IsSameOrTrue slot table bytes budget empty_slots after → IsEmptyOrTrue slot table bytes budget (in_slot slot after)
+empty_or_true Zero table bytes budget after (inl e) = inl e
+empty_or_true Zero table bytes budget after (inr h) = h
+empty_or_true One table bytes budget after (inl e) = inl e
+empty_or_true One table bytes budget after (inr h) = h
+
+module _ (table : List Call) (asked : Settings) (course : Course) (old new : Outside) (truly : (course.told ≡ []) ⊎ DoesTruly table asked course) (runs : asked.command ≡ run) where
+  kept_afresh : Keeps asked course old.vault new.vault → StoresAfresh table course.bytes asked.budget old new
+  kept_afresh h = WhereTold-map old.vault new.vault _ _ (λ before after is. inl (λ slot.
+      empty_or_true slot table course.bytes asked.budget after (subst (AreSameOrTrue table course.bytes asked.budget empty_slots) (sym is) (told_afresh table asked course truly runs before) slot))) h
+
+  torn_afresh : HasRisen old.vault_faults new.vault_faults → Tears asked course old.vault new.vault → StoresAfresh table course.bytes asked.budget old new
+  torn_afresh risen h =
+      let at = slot_of (turn_after course.turn course.told) in
+      WhereTold-map old.vault new.vault _ _ (λ before after is. inr (
+        risen,
+        (
+          at,
+          empty_or_true (other at) table course.bytes asked.budget after
+              (beside table course.bytes asked.budget at is.0 empty_slots (told_slots asked course before) after (told_afresh table asked course truly runs before) is.1),
+        ),
+      )) h
+
+  afresh_so : (ending : Ending) → HasBegun ending course → StoresIfKept ending asked course old.vault new.vault → Counts ending old new → StoresAfresh table course.bytes asked.budget old new
+  afresh_so (done n) begun h c = kept_afresh h
+  afresh_so (usage i) begun h c = absurd begun
+  afresh_so (paused query blocks) begun h c = kept_afresh h
+  afresh_so source_fault begun h c = absurd begun
+  afresh_so sink_fault begun h c = kept_afresh h
+  afresh_so (vault_fault told) begun (inl h) c = absurd (begun h.0)
+  afresh_so (vault_fault told) begun (inr h) c = torn_afresh c.2 h.3
+  afresh_so (no_memory told) begun (inl h) c = absurd (begun h.0)
+  afresh_so (no_memory told) begun (inr h) c = kept_afresh h.1
+  afresh_so no_checkpoint begun h c = absurd begun
+  afresh_so damaged_checkpoint begun h c = absurd begun
+  afresh_so (other_script script budget) begun h c = absurd begun
+  afresh_so (rejected reason) begun h c = absurd begun
+  afresh_so too_long begun h c = absurd begun
+  afresh_so (unfit query told found) begun h c = absurd begun
+
 -- ---- sessions
 
 truly_so : (table : List Call) (args : List (List ℕ)) (old new : Outside) (ending : Ending) (s : IsSession table args old new ending) → IsGrounded table s.asked s.course → StartsTruly table s.asked.command s.asked old.vault s.course → (s.course.told ≡ []) ⊎ DoesTruly table s.asked s.course
@@ -211,6 +262,11 @@ truly_so table args old new ending s ground truly = does_truly table ending s.as
 pub grounded_stores : (table : List Call) (args : List (List ℕ)) (old new : Outside) (ending : Ending) (s : IsSession table args old new ending) → IsGrounded table s.asked s.course → StartsTruly table s.asked.command s.asked old.vault s.course → s.asked.keep ≡ true → StoresTruly table s.course.bytes s.asked.budget old new
 grounded_stores table args old new ending s ground truly keeps =
     stores_so table s.asked s.course old new (truly_so table args old new ending s ground truly) (did_so ending s.asked s.course old new (kept_stores s.asked.keep ending s.asked s.course old.vault new.vault keeps s.stored) s.counted)
+
+pub grounded_afresh : (table : List Call) (args : List (List ℕ)) (old new : Outside) (ending : Ending) (s : IsSession table args old new ending) → IsGrounded table s.asked s.course → s.asked.command ≡ run → s.asked.keep ≡ true → HasBegun ending s.course → StoresAfresh table s.course.bytes s.asked.budget old new
+grounded_afresh table args old new ending s ground runs keeps begun =
+    let truly : StartsTruly table s.asked.command s.asked old.vault s.course = subst (λ (c : Command). StartsTruly table c s.asked old.vault s.course) (sym runs) tt in
+    afresh_so table s.asked s.course old new (truly_so table args old new ending s ground truly) runs ending begun (kept_stores s.asked.keep ending s.asked s.course old.vault new.vault keeps s.stored) s.counted
 
 some_told : (before : List SessionStep) (s : SessionStep) → before ++ s ∷ [] ≡ [] → ⊥
 some_told [] s e = (let f = e in cc)
@@ -231,6 +287,9 @@ grounded_early table args old new ending s ground truly before last told =
 
 pub stores_truly : (table : List Call) (args : List (List ℕ)) (old new : Outside) (ending : Ending) (s : IsSession table args old new ending) → IsGround table s.course.bytes s.asked.budget → StartsTruly table s.asked.command s.asked old.vault s.course → s.asked.keep ≡ true → StoresTruly table s.course.bytes s.asked.budget old new
 stores_truly table args old new ending s ground truly keeps = grounded_stores table args old new ending s (inr ground) truly keeps
+
+pub stores_afresh : (table : List Call) (args : List (List ℕ)) (old new : Outside) (ending : Ending) (s : IsSession table args old new ending) → IsGround table s.course.bytes s.asked.budget → s.asked.command ≡ run → s.asked.keep ≡ true → HasBegun ending s.course → StoresAfresh table s.course.bytes s.asked.budget old new
+stores_afresh table args old new ending s ground runs keeps begun = grounded_afresh table args old new ending s (inr ground) runs keeps begun
 
 pub tells_early : (table : List Call) (args : List (List ℕ)) (old new : Outside) (ending : Ending) (s : IsSession table args old new ending) → IsGround table s.course.bytes s.asked.budget → StartsTruly table s.asked.command s.asked old.vault s.course
     → (before : List SessionStep) (last : SessionStep) → s.course.told ≡ before ++ last ∷ [] → turn_after s.course.turn before < 2 ^ 58

@@ -1,6 +1,6 @@
 -- Sessions that follow one another over the two slots of a vault, all with one script and one budget.
---   IsLeft slot before after             what a store that failed, or was cut short, may leave in a slot of these bytes: bytes that no
---                                        seal fits, or the bytes that were there
+--   IsLeft before after                  what a store that failed, or was cut short, may leave in a slot of these bytes: bytes that are
+--                                        no checkpoint, or the bytes that were there
 --   Leaves version digest budget turn told before after      a session whose first checkpoint has this turn stored those of these
 --                                        steps; a store after them may have failed
 --   Goes version table bytes budget needs start told        these are the first steps of a session from a start on
@@ -18,7 +18,7 @@ use Rattle.sha2.specs.Sha256.{sha256}
 use Rattle.lc_algebra.specs.Matrix.{Matrix}
 use Rattle.lc_enumeration.specs.Search.{answer}
 use Rattle.lc_enumeration.specs.Records.{Progress, Start, fresh_start, SessionStep, rounds, last_state, session_rounds, IsBestAt}
-use Rattle.lc_formats.specs.Checkpoint.{Checkpoint, point, refused, damaged, checkpoint_text, checkpoint_in}
+use Rattle.lc_formats.specs.Checkpoint.{Checkpoint, CheckpointRefusal, point, refused, checkpoint_text, checkpoint_in}
 use Rattle.lc_enumeration.specs.Truth.{answer_blocks, IsSettled}
 use Rattle.lc_formats.specs.Truth.{divisor_in}
 use Rattle.lc_io.specs.Vaults.{Slots, empty_slots, in_slot, put}
@@ -30,7 +30,7 @@ use Rattle.lc_sessions.specs.Needs.{MeetsFirst, OneScript, OneStep}
 use Rattle.lc_sessions.specs.Slots.{slot_of, next_turn, turn_after, slots_after, chosen, start_in, IsTrueCheckpoint, AreTrueSlots}
 
 abbrev pub IsLeft : List ℕ → List ℕ → Type 0
-IsLeft before after = (after ≡ before) ⊎ (checkpoint_in after ≡ refused damaged)
+IsLeft before after = (after ≡ before) ⊎ ((r : CheckpointRefusal) × (checkpoint_in after ≡ refused r))
 
 abbrev pub IsVersion : ℕ → Type 0
 IsVersion version = (version ≡ 1) ⊎ (version ≡ 2)

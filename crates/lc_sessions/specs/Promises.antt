@@ -10,6 +10,7 @@
 --   IsSameOrTrue slot table bytes budget before after    a slot is as it was, or a session stored in it without a fault: it is
 --                                        empty, or holds a true checkpoint
 --   StoresTruly table bytes budget old new       so are both slots, if the vault tells them, but for one whose store failed
+--   StoresAfresh table bytes budget old new      each slot is empty or holds a true checkpoint, but for one whose store failed
 use Rattle.std.specs.Prelude.{◌≡◌, ◌⊎◌, ℕ, Bool, ◌≤◌, IsTrue, List, length, Option, Some, None, true, false}
 use Rattle.std.specs.Io.KnownBytes.{Appends}
 use Rattle.sha2.specs.Sha256.{sha256}
@@ -92,6 +93,12 @@ abbrev pub StoresTruly : List Call → List ℕ → ℕ → Outside → Outside 
 StoresTruly table bytes budget old new = WhereTold old.vault new.vault (λ before after.
     ((slot : Slot) → IsSameOrTrue slot table bytes budget before after)
     ⊎ (HasRisen old.vault_faults new.vault_faults × ((torn : Slot) × IsSameOrTrue (other torn) table bytes budget before after)))
+
+-- a session of `run` that emptied the slots: each is empty, or holds a true checkpoint, but for one whose store failed
+abbrev pub StoresAfresh : List Call → List ℕ → ℕ → Outside → Outside → Type 0
+StoresAfresh table bytes budget old new = WhereTold old.vault new.vault (λ before after.
+    ((slot : Slot) → IsEmptyOrTrue slot table bytes budget (in_slot slot after))
+    ⊎ (HasRisen old.vault_faults new.vault_faults × ((torn : Slot) × IsEmptyOrTrue (other torn) table bytes budget (in_slot (other torn) after))))
 
 -- the sink took the text of the script under this budget
 pub record PrintsText (table : List Call) (budget : ℕ) (bytes : List ℕ) (old new : Option (List ℕ)) (n : ℕ) : Type 0 where

@@ -124,10 +124,9 @@ can_end (rejected reason) command = checks command
 can_end too_long command = reads command
 can_end (unfit query told found) command = resumes command
 
--- refused arguments end the session with their index, and only these do; memory may be refused before they are read. Then all is as
--- it was
+-- refused arguments end the session with their index, and only these do. Then all is as it was
 abbrev pub Accepts : Options → Settings → Outside → Outside → Ending → Type 0
-Accepts (refuses i) asked old new ending = (new ≡ old) × ((ending ≡ usage i) ⊎ (ending ≡ no_memory 0))
+Accepts (refuses i) asked old new ending = (new ≡ old) × (ending ≡ usage i)
 Accepts (settings s) asked old new ending = (asked ≡ s) × ((i : ℕ) → ¬ (ending ≡ usage i))
 
 -- the source was read to its end

@@ -3,11 +3,15 @@
 //! Each function proves what its clauses say, and does nothing when it is run.
 
 ghost use Rattle.std.specs.Prelude.{◌≡◌, ◌⊎◌, ◌+◌, ◌<◌, ◌≤◌, ◌^◌, ◌++◌, ℕ, Bool, true, false, List, [], ◌∷◌, length, Option, Some, Contains};
+ghost use Rattle.std.specs.Io.KnownBytes.{Appends};
 ghost use Rattle.lc_algebra.specs.Matrix.{Matrix};
 ghost use Rattle.lc_enumeration.specs.Search.{Answer};
 ghost use Rattle.lc_enumeration.specs.Records.{SessionStep};
+ghost use Rattle.lc_formats.specs.Certificate.{Reason, accepted, rejected as rejects};
+ghost use Rattle.lc_formats.specs.Check.{certificate_in, verdict_of, check_text};
 ghost use Rattle.lc_formats.specs.Checkpoint.{Checkpoint};
 ghost use Rattle.lc_io.specs.declared.watcher.Record.{Record};
+ghost use Rattle.lc_io.specs.Outside.{HasRisen};
 ghost use Rattle.lc_io.specs.Vaults.{Slots, in_slot, other, WhereTold};
 ghost use Rattle.lc_io.specs.Watchers.{Hearing};
 ghost use Rattle.lc_io.specs.Told.{Kept};
@@ -16,22 +20,42 @@ ghost use Rattle.lc_grammar.specs.Grammar.{Reads};
 ghost use Rattle.lc_language.specs.declared.Call.{Call};
 ghost use Rattle.lc_language.specs.Value.{Binding};
 ghost use Rattle.lc_language.specs.Evaluation.{Runs, IsText};
-ghost use Rattle.lc_sessions.specs.Options.{run, resume, Settings, settings, usage as refuses, all_options, options};
+ghost use Rattle.lc_sessions.specs.Options.{run, resume, check, summary, Settings, settings, usage as refuses, all_options, options};
 ghost use Rattle.lc_sessions.specs.Needs.{Needs, IsNeeds, MeetsFirst, NoFault};
 ghost use Rattle.lc_sessions.specs.Answers.{RunsBy, IsTextBy, Settle, answers_of};
-ghost use Rattle.lc_sessions.specs.Slots.{slot_of, turn_after, IsTrueCheckpoint, AreTrueSlots};
-ghost use Rattle.lc_sessions.specs.Endings.{Ending, done, usage, no_memory};
+ghost use Rattle.lc_sessions.specs.Slots.{slot_of, turn_after, takes, choice, IsTrueCheckpoint, AreTrueSlots};
+ghost use Rattle.lc_sessions.specs.Endings.{Ending, done, usage, paused, vault_fault, no_memory, other_script, rejected};
+ghost use Rattle.lc_sessions.specs.Summary.{summary_text};
 ghost use Rattle.lc_sessions.specs.Session.{Outside, Course, rounds_of, IsFresh, GoesOnFrom, Fits, begin_with, Keeps, Tears, IsSession};
-ghost use Rattle.lc_sessions.specs.Promises.{IsAmple, IsAnswer, PrintsText, checkpoint_of, Holds, StartsTruly, StoresTruly};
+ghost use Rattle.lc_sessions.specs.Promises.{IsAmple, IsAnswer, PrintsText, checkpoint_of, Holds, StartsTruly, StoresTruly, StoresAfresh};
 ghost use Rattle.lc_sessions.specs.Chain.{Chain, IsGround, HasBegun, TearsSo, GoesOn, ChainsAreTrue};
 
 /// A session goes by the settings that its arguments ask for. It ends with the index of a refused
-/// argument exactly if one is refused, unless memory is refused first. If nothing fails or stops it,
+/// argument exactly if one is refused. If nothing fails or stops it,
 /// it answers what was asked, unless memory is refused.
 pub fn sessions_answer_what_was_asked()
     ensures settings { (table : List Call) (args : List (List ℕ)) (old new : Outside) (ending : Ending) (asked : Settings) (s : IsSession table args old new ending) → options all_options args ≡ settings asked → s.asked ≡ asked }
-    ensures usage { (table : List Call) (args : List (List ℕ)) (old new : Outside) (ending : Ending) (i : ℕ) (s : IsSession table args old new ending) → (options all_options args ≡ refuses i → (ending ≡ usage i) ⊎ (ending ≡ no_memory 0)) × (ending ≡ usage i → options all_options args ≡ refuses i) }
+    ensures usage { (table : List Call) (args : List (List ℕ)) (old new : Outside) (ending : Ending) (i : ℕ) (s : IsSession table args old new ending) → (options all_options args ≡ refuses i → ending ≡ usage i) × (ending ≡ usage i → options all_options args ≡ refuses i) }
     ensures complete { (table : List Call) (args : List (List ℕ)) (old new : Outside) (ending : Ending) (s : IsSession table args old new ending) → IsAmple table args old new s.asked s.course → IsAnswer ending }
+{}
+
+/// What a session says of itself is what it did. One that is paused, or that a fault of the vault or want of memory ends, wrote
+/// nothing; it names the last round that it told, or how many. If the checkpoint is of another script or budget, it names those of
+/// the checkpoint that was found. Without keep the vault is as it was. What `check` writes is the line of the bytes that it read,
+/// and its status is their verdict; what `summary` writes is the line of its number, and it reads nothing. A session that finishes
+/// met no fault.
+pub fn sessions_say_what_they_did()
+    ensures paused { (table : List Call) (args : List (List ℕ)) (old new : Outside) (query blocks : ℕ) (s : IsSession table args old new (paused query blocks))
+        → ((before : List SessionStep) × (last : SessionStep) × (s.course.told ≡ before ++ last ∷ []) × (last.note.need ≡ query) × (last.note.blocks ≡ blocks)) × (s.asked.keep ≡ true) × (new.sink ≡ old.sink) }
+    ensures vault_fault { (table : List Call) (args : List (List ℕ)) (old new : Outside) (told : ℕ) (s : IsSession table args old new (vault_fault told)) → (told ≡ length s.course.told) × HasRisen old.vault_faults new.vault_faults × (new.sink ≡ old.sink) }
+    ensures no_memory { (table : List Call) (args : List (List ℕ)) (old new : Outside) (told : ℕ) (s : IsSession table args old new (no_memory told)) → (told ≡ length s.course.told) × (new.sink ≡ old.sink) }
+    ensures other_script { (table : List Call) (args : List (List ℕ)) (old new : Outside) (script : List ℕ) (budget : ℕ) (s : IsSession table args old new (other_script script budget)) (slots : Slots) → old.vault ≡ Some slots
+        → (p : Checkpoint) × (choice slots ≡ takes p) × (script ≡ p.script) × (budget ≡ p.budget) }
+    ensures unkept { (table : List Call) (args : List (List ℕ)) (old new : Outside) (ending : Ending) (s : IsSession table args old new ending) → s.asked.keep ≡ false → new.vault ≡ old.vault }
+    ensures accepted { (table : List Call) (args : List (List ℕ)) (old new : Outside) (n : ℕ) (s : IsSession table args old new (done n)) → s.asked.command ≡ check → (verdict_of (certificate_in s.course.bytes) ≡ accepted) × Appends old.sink new.sink (check_text s.course.bytes) }
+    ensures rejected { (table : List Call) (args : List (List ℕ)) (old new : Outside) (reason : Reason) (s : IsSession table args old new (rejected reason)) → (verdict_of (certificate_in s.course.bytes) ≡ rejects reason) × Appends old.sink new.sink (check_text s.course.bytes) }
+    ensures summary { (table : List Call) (args : List (List ℕ)) (old new : Outside) (n : ℕ) (s : IsSession table args old new (done n)) → s.asked.command ≡ summary → Appends old.sink new.sink (summary_text s.asked.number s.asked.budget) × (new.source ≡ old.source) }
+    ensures unfailed { (table : List Call) (args : List (List ℕ)) (old new : Outside) (n : ℕ) (s : IsSession table args old new (done n)) → (new.source_faults ≡ old.source_faults) × (new.sink_faults ≡ old.sink_faults) × (new.vault_faults ≡ old.vault_faults) }
 {}
 
 /// What is in the slots after a session that keeps its checkpoints. The slot of the last turn holds the
@@ -56,9 +80,11 @@ pub fn slots_hold_the_last_checkpoints()
 
 /// A session stores true checkpoints, if it is one of `run`, or one of `resume` that took a true checkpoint, as it does over true
 /// slots. Each slot is then as it was, or empty, or holds a true checkpoint in the slot of its turn, but for one whose store failed.
+/// After a session of `run` that emptied the slots none is as it was: it finished or paused, or the sink failed, or it told a record.
 /// A true checkpoint has a turn below 2^58, and so has each record told.
 pub fn stored_slots_hold_true_checkpoints()
     ensures stored { (table : List Call) (args : List (List ℕ)) (old new : Outside) (ending : Ending) (s : IsSession table args old new ending) → IsGround table s.course.bytes s.asked.budget → StartsTruly table s.asked.command s.asked old.vault s.course → s.asked.keep ≡ true → StoresTruly table s.course.bytes s.asked.budget old new }
+    ensures afresh { (table : List Call) (args : List (List ℕ)) (old new : Outside) (ending : Ending) (s : IsSession table args old new ending) → IsGround table s.course.bytes s.asked.budget → s.asked.command ≡ run → s.asked.keep ≡ true → HasBegun ending s.course → StoresAfresh table s.course.bytes s.asked.budget old new }
     ensures turn { (table : List Call) (bytes : List ℕ) (budget : ℕ) → IsGround table bytes budget → (p : Checkpoint) → IsTrueCheckpoint table bytes budget p → p.turn < 2 ^ 58 }
     ensures early { (table : List Call) (args : List (List ℕ)) (old new : Outside) (ending : Ending) (s : IsSession table args old new ending) → IsGround table s.course.bytes s.asked.budget → StartsTruly table s.asked.command s.asked old.vault s.course
         → (before : List SessionStep) (last : SessionStep) → s.course.told ≡ before ++ last ∷ [] → turn_after s.course.turn before < 2 ^ 58 }

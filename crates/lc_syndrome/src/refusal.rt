@@ -1,5 +1,5 @@
 //! Why there is no table of coset leaders.
-ghost use Rattle.std.specs.Prelude.{◌≡◌, IfOk};
+ghost use Rattle.std.specs.Prelude.{◌≡◌, [], IfOk, IsOk};
 ghost use Rattle.lc_syndrome.specs.Refusal.{refusal_number, refusal_values};
 ghost use Rattle.lc_syndrome.specs.declared.refusal.SyndromeRefusal.TheVariants as refusal;
 
@@ -27,10 +27,11 @@ impl SyndromeRefusal {
         }
     }
 
-    /// The numbers that the refusal carries, in the order in which they are printed.
+    /// The numbers that the refusal carries, in the order in which they are printed. If it carries none, no memory is taken.
     #[tactic(auto, unfolding(crate::specs::Refusal::refusal_values))]
     pub fn values(&self, alloc: Global) -> Result<Vec<u64>, FieldMemory>
         ensures are { IfOk result (λ values. values.items ≡ refusal_values self.now) }
+        ensures none { refusal_values self.now ≡ [] → IsOk result }
     {
         match *self {
             SyndromeRefusal::TooManyCosets(checks) => Ok(vec![in alloc; checks as u64]?),

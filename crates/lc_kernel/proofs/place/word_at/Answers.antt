@@ -1,24 +1,38 @@
-use Rattle.std.proofs.Common.{◌≤◌, ◌/◌, ◌%◌, sym, ap, ◌∙◌, Some, arith}
+use Rattle.std.proofs.Common.{◌≤◌, ◌<◌, ◌/◌, ◌%◌, sym, ap, ◌∙◌, Some, arith}
 use Rattle.lc_enumeration.specs.Plan.{total, block_length}
-use Rattle.lc_kernel.proofs.ScanLaws.{past_plan, past_block, at_word}
+use Rattle.lc_kernel.proofs.ScanLaws.{past_plan, past_block, at_word, word_there}
 use Rattle.lc_kernel.proofs.place.word_at.Goals as goal
 
-pub returns-then-block-total : goal.returns-then-block-total
-returns-then-block-total c =
+pub returns-then-block-total-clause-at : goal.returns-then-block-total-clause-at
+returns-then-block-total-clause-at c =
     let plan = c.args.plan.now in
     let past : total plan.k plan.q plan.m ≤ c.args.place / 4096 = omega (arith, c.total.ensures.exact, c.if-block-total.true) in
-    record { at = sym (past_plan c.args.sets.now plan c.args.place c.requires.plan past) }
+    sym (past_plan c.args.sets.now plan c.args.place c.requires.plan past)
 
-pub returns-then-offset-block_len : goal.returns-then-offset-block_len
-returns-then-offset-block_len c =
+pub returns-then-offset-block_len-clause-at : goal.returns-then-offset-block_len-clause-at
+returns-then-offset-block_len-clause-at c =
     let plan = c.args.plan.now in
     let found = c.phase_of-phase.ensures.found in
     let past : block_length plan.k plan.q plan.m found.0 (c.args.place / 4096) ≤ c.args.place % 4096 = omega (arith, c.block_len.ensures.exact found.0 found.1, c.if-offset-block_len.true) in
-    record { at = sym (past_block c.args.sets.now plan c.args.place found.0 c.requires.plan found.1 past) }
+    sym (past_block c.args.sets.now plan c.args.place found.0 c.requires.plan found.1 past)
 
-pub returns : goal.returns
-returns c =
+pub returns-in_err-stack-clause-none : goal.returns-in_err-stack-clause-none
+returns-in_err-stack-clause-none c = λ none.
+    let plan = c.args.plan.now in
+    let found = c.phase_of-phase.ensures.found in
+    let inside : c.args.place % 4096 < block_length plan.k plan.q plan.m found.0 (c.args.place / 4096) = omega (arith, c.block_len.ensures.exact found.0 found.1, c.if-offset-block_len.false) in
+    absurd (word_there c.args.sets.now plan c.args.place found.0 c.requires.plan found.1 inside none)
+
+pub returns-in_err-copy-clause-none : goal.returns-in_err-copy-clause-none
+returns-in_err-copy-clause-none c = λ none.
+    let plan = c.args.plan.now in
+    let found = c.phase_of-phase.ensures.found in
+    let inside : c.args.place % 4096 < block_length plan.k plan.q plan.m found.0 (c.args.place / 4096) = omega (arith, c.block_len.ensures.exact found.0 found.1, c.if-offset-block_len.false) in
+    absurd (word_there c.args.sets.now plan c.args.place found.0 c.requires.plan found.1 inside none)
+
+pub returns-clause-at : goal.returns-clause-at
+returns-clause-at c =
     let plan = c.args.plan.now in
     let found = c.phase_of-phase.ensures.found in
     let word = c.in_ok-copy.ensures.same ∙ c.top.ensures.is in
-    record { at = ap Some word ∙ sym (at_word c.args.sets.now plan c.args.place found.0 c.go_to.new.self c.requires.plan found.1 c.go_to.ensures.at) }
+    ap Some word ∙ sym (at_word c.args.sets.now plan c.args.place found.0 c.go_to.new.self c.requires.plan found.1 c.go_to.ensures.at)

@@ -1,9 +1,12 @@
 use Rattle.lc_sessions.proofs.GroundLaws.{true_turn}
-use Rattle.lc_sessions.proofs.StoredTruly.{stores_truly, tells_early, taken_truly}
+use Rattle.lc_sessions.proofs.StoredTruly.{stores_truly, stores_afresh, tells_early, taken_truly}
 use Rattle.lc_sessions.proofs.laws.stored_slots_hold_true_checkpoints.Goals as goal
 
 pub returns-clause-stored : goal.returns-clause-stored
 returns-clause-stored _ = stores_truly
+
+pub returns-clause-afresh : goal.returns-clause-afresh
+returns-clause-afresh _ = stores_afresh
 
 pub returns-clause-turn : goal.returns-clause-turn
 returns-clause-turn _ = true_turn
