@@ -7,7 +7,7 @@ use Rattle.std.proofs.Common.{◌≡◌, ℕ, refl}
 use Rattle.std.specs.Prelude.{[], ◌∷◌, ◌++◌, map, codes, Some, List, replicate, Option}
 use Rattle.serde_json.specs.Data.{Data, Members, no_members, member, object, array, string, null}
 use Rattle.lc_algebra.specs.declared.FieldName.TheVariants.{Gf2}
-use Rattle.lc_formats.specs.Certificate.{scan, shape as broken, accepted, word_weight, seen_lighter, not_json, levels, limit}
+use Rattle.lc_formats.specs.Certificate.{scan, shape as broken, accepted, word_weight, seen_lighter, not_json, part_refused, claim_short, levels, limit}
 use Rattle.lc_formats.specs.Json.{number_json, items, numbers_json}
 use Rattle.lc_formats.specs.Check.{reason_line, line_of_verdict, reads_as, refused_as, data_in}
 use Rattle.lc_formats.proofs.Evaluated.{algebra_computes, certificate_computes, reading_computes}
@@ -56,7 +56,7 @@ pub accepted_line : line_of_verdict 3 accepted ≡ codes "accepted distance 3" +
 unfolding algebra_computes certificate_computes reading_computes
 accepted_line = refl
 
-pub rejected_line : map reason_line (not_json ∷ word_weight 3 ∷ seen_lighter (1 ∷ 0 ∷ 1 ∷ []) ∷ []) ≡ (codes "rejected 30" ++ 10 ∷ []) ∷ (codes "rejected 34 with 3" ++ 10 ∷ []) ∷ (codes "rejected 37 with 1 0 1" ++ 10 ∷ []) ∷ []
+pub rejected_line : map reason_line (not_json ∷ word_weight 3 ∷ seen_lighter (1 ∷ 0 ∷ 1 ∷ []) ∷ part_refused 4 1 ∷ claim_short 3 ∷ []) ≡ (codes "rejected 30" ++ 10 ∷ []) ∷ (codes "rejected 34 with 3" ++ 10 ∷ []) ∷ (codes "rejected 37 with 1 0 1" ++ 10 ∷ []) ∷ (codes "rejected 48 with 4 1" ++ 10 ∷ []) ∷ (codes "rejected 49 with 3" ++ 10 ∷ []) ∷ []
 unfolding algebra_computes certificate_computes reading_computes
 rejected_line = refl
 

@@ -5,6 +5,7 @@
 --   other_multipliers, beyond_bound, equal_points, no_field      another code; a distance above the bound; refusals of the form
 --   attained                   a word of weight r + 1, and words that have another weight or aren't of the code
 --   accepted_pair              (u|u+v) of the whole plane and a repetition code: 2, the lesser of twice 1 and 2
+--   subcodes                   rows of the code, a row outside it, a row of another length
 --   pair_bounds, place_bounds, extended_bounds, caps      the bounds of combined codes
 --   numbering                  a refused part has its number in the tree
 use Rattle.std.proofs.Common.{◌≡◌, ℕ, refl, ◌∙◌}
@@ -19,7 +20,7 @@ use Rattle.lc_enumeration.specs.InformationSet.{in_span}
 use Rattle.lc_enumeration.proofs.MemberLaws.{in_span_true, true_in_span}
 use Rattle.lc_formats.specs.Certificate.{Certificate, scan, accepted, rejected, word_not_in_code, claim_short, part_refused}
 use Rattle.lc_formats.specs.Claim.{Claim, search, alternant, pair, uuv, direct_sum, product, puncture, shorten, Built, tree, built_text, form_certificate}
-use Rattle.lc_formats.specs.ClaimMeaning.{code_with, refused_at, capped, form_of, pair_bound, place_bound, extended_bound, HasOutcome, IsTreeVerdict, not_attained}
+use Rattle.lc_formats.specs.ClaimMeaning.{code_with, refused_at, capped, form_of, subcode_refusal, pair_bound, place_bound, extended_bound, HasOutcome, IsTreeVerdict, not_attained}
 use Rattle.lc_formats.specs.Document.{document_in, document}
 use Rattle.lc_formats.proofs.Plainly.{document_plainly}
 use Rattle.lc_formats.proofs.CodeTests.{is_uuv, uuv_holds, uuv_passes, is_alternant, alternant_holds, alternant_passes, code_from_test}
@@ -110,7 +111,11 @@ pub pair_bounds : pair_bound uuv 3 4 ∷ pair_bound uuv 2 5 ∷ pair_bound direc
 unfolding claim_computes
 pair_bounds = refl
 
-pub place_bounds : place_bound puncture 3 2 ∷ place_bound puncture 3 5 ∷ place_bound shorten 3 5 ∷ [] ≡ 1 ∷ 1 ∷ 3 ∷ []
+pub subcodes : map (subcode_refusal (code reed_solomon)) (reed_solomon ∷ ((1 ∷ 0 ∷ 0 ∷ 0 ∷ []) ∷ []) ∷ ((1 ∷ 0 ∷ 3 ∷ []) ∷ []) ∷ []) ≡ None ∷ Some 33 ∷ Some 12 ∷ []
+unfolding claim_computes
+subcodes = refl
+
+pub place_bounds : place_bound puncture 5 2 ∷ place_bound puncture 3 5 ∷ place_bound shorten 3 5 ∷ [] ≡ 3 ∷ 1 ∷ 3 ∷ []
 unfolding claim_computes
 place_bounds = refl
 

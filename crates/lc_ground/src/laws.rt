@@ -59,8 +59,8 @@ pub fn chains_print_the_text()
 
 /// Sessions of scripts store true checkpoints. After a session of `run`, or of `resume` that took a true checkpoint, each slot is as it
 /// was, or empty, or holds a true checkpoint in the slot of its turn, but for one whose store failed. After a session of `run` that
-/// emptied the slots none is as it was: it finished or paused, or the sink failed, or it told a record. A true checkpoint has a turn
-/// below 2^58, and so has each record told.
+/// emptied the slots (it finished or paused, or the sink failed, or it told a record) each is empty or holds a true checkpoint, but
+/// for one whose store failed. A true checkpoint has a turn below 2^58, and so has each record told.
 pub fn stored_slots_hold_true_checkpoints()
     ensures stored { (args : List (List ℕ)) (old new : Outside) (ending : Ending) (s : IsSession built_calls args old new ending) → StartsTruly built_calls s.asked.command s.asked old.vault s.course → s.asked.keep ≡ true → StoresTruly built_calls s.course.bytes s.asked.budget old new }
     ensures afresh { (args : List (List ℕ)) (old new : Outside) (ending : Ending) (s : IsSession built_calls args old new ending) → s.asked.command ≡ run → s.asked.keep ≡ true → HasBegun ending s.course → StoresAfresh built_calls s.course.bytes s.asked.budget old new }

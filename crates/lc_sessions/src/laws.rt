@@ -80,8 +80,8 @@ pub fn slots_hold_the_last_checkpoints()
 
 /// A session stores true checkpoints, if it is one of `run`, or one of `resume` that took a true checkpoint, as it does over true
 /// slots. Each slot is then as it was, or empty, or holds a true checkpoint in the slot of its turn, but for one whose store failed.
-/// After a session of `run` that emptied the slots none is as it was: it finished or paused, or the sink failed, or it told a record.
-/// A true checkpoint has a turn below 2^58, and so has each record told.
+/// After a session of `run` that emptied the slots (it finished or paused, or the sink failed, or it told a record) each is empty or
+/// holds a true checkpoint, but for one whose store failed. A true checkpoint has a turn below 2^58, and so has each record told.
 pub fn stored_slots_hold_true_checkpoints()
     ensures stored { (table : List Call) (args : List (List ℕ)) (old new : Outside) (ending : Ending) (s : IsSession table args old new ending) → IsGround table s.course.bytes s.asked.budget → StartsTruly table s.asked.command s.asked old.vault s.course → s.asked.keep ≡ true → StoresTruly table s.course.bytes s.asked.budget old new }
     ensures afresh { (table : List Call) (args : List (List ℕ)) (old new : Outside) (ending : Ending) (s : IsSession table args old new ending) → IsGround table s.course.bytes s.asked.budget → s.asked.command ≡ run → s.asked.keep ≡ true → HasBegun ending s.course → StoresAfresh table s.course.bytes s.asked.budget old new }

@@ -18,17 +18,13 @@ returns-then-offset-block_len-clause-at c =
 
 pub returns-in_err-stack-clause-none : goal.returns-in_err-stack-clause-none
 returns-in_err-stack-clause-none c = λ none.
-    let plan = c.args.plan.now in
     let found = c.phase_of-phase.ensures.found in
-    let inside : c.args.place % 4096 < block_length plan.k plan.q plan.m found.0 (c.args.place / 4096) = omega (arith, c.block_len.ensures.exact found.0 found.1, c.if-offset-block_len.false) in
-    absurd (word_there c.args.sets.now plan c.args.place found.0 c.requires.plan found.1 inside none)
+    absurd (word_there c.args.sets.now c.args.plan.now c.args.place found.0 c.requires.plan found.1 (omega (arith, c.block_len.ensures.exact found.0 found.1, c.if-offset-block_len.false)) none)
 
 pub returns-in_err-copy-clause-none : goal.returns-in_err-copy-clause-none
 returns-in_err-copy-clause-none c = λ none.
-    let plan = c.args.plan.now in
     let found = c.phase_of-phase.ensures.found in
-    let inside : c.args.place % 4096 < block_length plan.k plan.q plan.m found.0 (c.args.place / 4096) = omega (arith, c.block_len.ensures.exact found.0 found.1, c.if-offset-block_len.false) in
-    absurd (word_there c.args.sets.now plan c.args.place found.0 c.requires.plan found.1 inside none)
+    absurd (word_there c.args.sets.now c.args.plan.now c.args.place found.0 c.requires.plan found.1 (omega (arith, c.block_len.ensures.exact found.0 found.1, c.if-offset-block_len.false)) none)
 
 pub returns-clause-at : goal.returns-clause-at
 returns-clause-at c =
