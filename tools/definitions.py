@@ -57,7 +57,7 @@ class Module:
             if line.startswith("use "):
                 add_import(line, self.imports, self.aliases)
             elif line.startswith("-- "):
-                comment = line[3:]
+                comment = line.lstrip("- ")
             elif line.startswith(("pub ", "unfoldable ", "abbrev ")):
                 name = STARTS.match(line).group(2) if STARTS.match(line) else ""
                 is_mutual = name == "mutual"
@@ -126,9 +126,12 @@ def all_modules(crates):
     return found
 
 
-def built_calls():
-    text = read(os.path.join(ROOT, "crates", "lc_eval", "specs", "Built.antt"))
-    return set(NAME.findall(re.search(r"^built_calls = (.*)$", text, re.M).group(1)))
+def built_calls(modules):
+    """The calls that `built_calls` lists; it lists those that give a value by the name of their list."""
+    text = "\n".join(modules[("lc_eval", "Built")].definitions["built_calls"].text)
+    if "value_calls" in text:
+        text += "\n".join(modules[("lc_language", "Calls")].definitions["value_calls"].text)
+    return set(NAME.findall(text))
 
 
 def every_call(crates):
@@ -142,13 +145,13 @@ def every_call(crates):
 
 
 def bound_of(calls, modules):
-    """The bound calls that these calls are bound to: `bind Name vs = ..` names them."""
-    bound = modules[("lc_language", "Bound")]
-    made = {name for name, whole in bound.makes.items() if whole in ("BoundCall", "BoundQuery")}
-    lines = bound.definitions["bind"].text + bound.definitions["bind_query"].text
+    """The bound calls that these calls are bound to: `value_forms call.Name = ..` names them."""
+    table = modules[("lc_language", "Calls")]
+    made = {name for name, whole in table.makes.items() if whole in ("BoundCall", "BoundQuery")}
+    lines = table.definitions["value_forms"].text + table.definitions["query_forms"].text
     found = set()
     for line in lines:
-        case = re.match(r"bind(?:_query)? (\w+) vs = (.*)$", line)
+        case = re.match(r"(?:value|query)_forms \w+\.(\w+) = (.*)$", line)
         if case and case.group(1) in calls:
             found |= made & set(NAME.findall(case.group(2)))
     return found
@@ -158,7 +161,7 @@ class Sources:
     def __init__(self):
         self.crates = crates_in_order()
         self.modules = all_modules(self.crates)
-        calls = every_call(self.crates) - built_calls()
+        calls = every_call(self.crates) - built_calls(self.modules)
         self.unbuilt = calls | bound_of(calls, self.modules)
 
     def resolve(self, name, imports, aliases, here=None):
@@ -201,7 +204,7 @@ class Sources:
         for line in own.text:
             if line.strip().startswith("--"):
                 continue
-            case = re.match(r"\s*" + re.escape(own.name) + r"\s+\(?([A-Za-z]\w*)", line)
+            case = re.match(r"\s*" + re.escape(own.name) + r"\s+\(?(?:[a-z]\w*\.)?([A-Za-z]\w*)", line)
             if case and case.group(1) in self.unbuilt:
                 continue
             kept.append(line)

@@ -10,12 +10,11 @@ use Rattle.lc_grammar.specs.Tree.{Expr, Exprs, number, name, call, list, count_o
 use Rattle.lc_grammar.specs.Grammar.{Reads}
 use Rattle.lc_language.specs.declared.Call.{Call}
 use Rattle.lc_language.specs.declared.Call.TheVariants.{Query}
-use Rattle.lc_language.specs.Calls.{signature_for}
+use Rattle.lc_language.specs.Calls.{signature_for, BoundQuery, algebraic_decode, least_word, minimum_distance, certificate, scan_certificate, weight_distribution, alternant_certificate, nearest_word, bind_query}
 use Rattle.lc_language.specs.declared.QueryCall.{QueryCall}
 use Rattle.lc_language.specs.declared.Kind.{Kind}
 use Rattle.lc_language.specs.Value.{Binding}
 use Rattle.lc_language.specs.Query.{QueryKind, query_line, near_line}
-use Rattle.lc_language.specs.Bound.{BoundQuery, algebraic_decode, least_word, minimum_distance, certificate, scan_certificate, weight_distribution, alternant_certificate, nearest_word, bind_query}
 use Rattle.lc_language.specs.Evaluation.{Outcome, gives, refused, Outcomes, all_give, one_refused, refuse_at, refuse_call, Evaluates, EvaluatesAll, Assigns, Step, binds, prints, asks, counts, nears, fails, AsksOf, NearsOf, Queries, QueriesTo, QueriesAll, query_of, fail_with, StepsAsQuery, StepsOf, Steps}
 use Rattle.lc_sessions.specs.Needs.{NeedsOn, Needs, MeetsFirst}
 

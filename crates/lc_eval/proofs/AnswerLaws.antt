@@ -14,11 +14,11 @@ use Rattle.lc_algebra.specs.declared.FieldName.{FieldName}
 use Rattle.lc_constructions.specs.Code.{IsCode}
 use Rattle.lc_constructions.specs.declared.refusal.CodeRefusal.{CodeRefusal}
 use Rattle.lc_constructions.specs.Refusal.{first_refusal, IsRefusedAs}
-use Rattle.lc_language.specs.Bound.{BoundCall}
+use Rattle.lc_language.specs.Calls.{BoundCall, refusals_of, refusal_of, Gives, IsNotDivisor}
 use Rattle.lc_language.specs.Value as language
 use Rattle.lc_language.specs.Value.{code}
-use Rattle.lc_language.specs.Refusal.{Refusal, first_of, refusal_from, from_codes, refusals_of, refusal_of}
-use Rattle.lc_language.specs.Meaning.{Gives, IsNotDivisor, Made}
+use Rattle.lc_language.specs.Refusal.{Refusal, first_of, refusal_from, from_codes}
+use Rattle.lc_language.specs.Meaning.{Made}
 use Rattle.lc_language.specs.Evaluation.{Outcome, gives, refused, refuse_at, refuse_call, AppliesTo}
 use Rattle.lc_eval.specs.declared.values.Value.{Value}
 use Rattle.lc_eval.specs.declared.refusals.Stop.{Stop}

@@ -15,10 +15,9 @@ use Rattle.lc_constructions.specs.declared.refusal.CodeRefusal.{CodeRefusal}
 use Rattle.lc_constructions.specs.Refusal.{first_refusal, IsRefusedAs}
 use Rattle.lc_constructions.specs.Refusals.{columns_of, matrix_refusals}
 use Rattle.lc_constructions.specs.Cyclic.{all_fields}
-use Rattle.lc_language.specs.Bound.{BoundCall, gf, generator_mat_code, check_mat_code}
+use Rattle.lc_language.specs.Calls.{BoundCall, gf, generator_mat_code, check_mat_code, refusals_of, refusal_of, Gives, IsNotDivisor}
 use Rattle.lc_language.specs.Value.{field, code}
-use Rattle.lc_language.specs.Refusal.{refuse, when, first_of, from_codes, refusals_of, refusal_of}
-use Rattle.lc_language.specs.Meaning.{Gives, IsNotDivisor}
+use Rattle.lc_language.specs.Refusal.{refuse, when, first_of, from_codes}
 use Rattle.lc_language.specs.Evaluation.{gives, refused, refuse_at, refuse_call, AppliesTo}
 use Rattle.lc_eval.specs.declared.values.Value.{Value}
 use Rattle.lc_eval.specs.declared.refusals.Refused.{Refused}

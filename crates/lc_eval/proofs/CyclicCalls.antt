@@ -17,11 +17,11 @@ use Rattle.lc_constructions.specs.declared.refusal.CodeRefusal.{CodeRefusal}
 use Rattle.lc_constructions.specs.declared.refusal.CodeRefusal.TheVariants.{BadLength, BadArgument, FieldTooLarge, NotADivisor, NoMemory}
 use Rattle.lc_constructions.specs.Refusal.{refusal_number, refusal_values, refuse_if, first_refusal, IsRefusedAs}
 use Rattle.lc_constructions.specs.Refusals.{are_elements, too_large, bad_length, bad_argument, DividesPowerLess, cyclic_refusals, extended_refusals}
-use Rattle.lc_language.specs.Bound.{BoundCall, generator_pol_code, check_pol_code, extended_binary_golay_code, extended_ternary_golay_code}
+use Rattle.lc_language.specs.Calls.{BoundCall, generator_pol_code, check_pol_code, extended_binary_golay_code, extended_ternary_golay_code, refusals_of, refusal_of, Gives, IsNotDivisor}
 use Rattle.lc_language.specs.Value as language
 use Rattle.lc_language.specs.Value.{code}
-use Rattle.lc_language.specs.Refusal.{Refusal, refuse, refusal_from, from_codes, refusals_of, refusal_of}
-use Rattle.lc_language.specs.Meaning.{Gives, IsNotDivisor, IsExtendedGolay}
+use Rattle.lc_language.specs.Refusal.{Refusal, refuse, refusal_from, from_codes}
+use Rattle.lc_language.specs.Meaning.{IsExtendedGolay}
 use Rattle.lc_language.specs.Evaluation.{Outcome, gives, refused, refuse_at, refuse_call, AppliesTo}
 use Rattle.lc_eval.specs.declared.values.Value.{Value}
 use Rattle.lc_eval.specs.declared.refusals.Stop.{Stop}

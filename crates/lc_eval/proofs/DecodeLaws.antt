@@ -21,10 +21,10 @@ use Rattle.lc_constructions.specs.declared.refusal.CodeRefusal.TheVariants.{Leng
 use Rattle.lc_constructions.specs.Refusal.{refuse_if}
 use Rattle.lc_constructions.specs.Refusals.{are_elements}
 use Rattle.lc_basic.proofs.HammingLaws.{small_field}
-use Rattle.lc_language.specs.Bound.{is_codeword, decode, algebraic_decode}
+use Rattle.lc_language.specs.Calls.{is_codeword, decode, algebraic_decode, refusals_of, refusal_of, query_refusals_of, query_refusal_of}
 use Rattle.lc_language.specs.Value.{Value, CodeValue, numbers, truth}
 use Rattle.lc_language.specs.Print.{value_line}
-use Rattle.lc_language.specs.Refusal.{refuse, when, first_of, refusal_from, from_codes, word_refusals, coset_refusal, no_form, refusals_of, refusal_of, query_refusals_of, query_refusal_of}
+use Rattle.lc_language.specs.Refusal.{refuse, when, first_of, refusal_from, from_codes, word_refusals, coset_refusal, no_form}
 use Rattle.lc_language.specs.Meaning.{decoded}
 use Rattle.lc_language.specs.Evaluation.{gives, refused, refuse_at, refuse_call, AppliesTo, prints, fails, fail_with, QueriesTo}
 use Rattle.lc_eval.specs.declared.refusals.Refused.{Refused}

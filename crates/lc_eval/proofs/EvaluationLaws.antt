@@ -11,17 +11,16 @@ use Rattle.lc_language.specs.declared.Kind.{Kind}
 use Rattle.lc_grammar.specs.Tree as tree
 use Rattle.lc_grammar.specs.Tree.{count_of}
 use Rattle.lc_language.specs.Value as language
-use Rattle.lc_language.specs.Bound as bound
-use Rattle.lc_language.specs.Bound.{bind, bind_query}
-use Rattle.lc_language.specs.Calls.{signatures, signature_for}
+use Rattle.lc_language.specs.Calls as bound
+use Rattle.lc_language.specs.Calls.{bind, bind_query, signatures, signature_for}
 use Rattle.lc_language.specs.Evaluation as evaluation
 use Rattle.lc_language.specs.Evaluation.{Outcome, Outcomes, gives, refused, all_give, one_refused, refuse_at, misfit_place, Evaluates, EvaluatesAll, GoesOn, Joins, Applies, AppliesTo, CallGives, Step, fails, fail_with, QueriesAll, QueriesTo, StepsAsQuery}
 use Rattle.lc_parse.specs.declared.tree.Expr.{Expr}
 use Rattle.lc_parse.specs.Views.{all_of, tree_of, trees_of}
-use Rattle.lc_eval.specs.Built.{built_calls, value_call_of, query_call_of, call_of, forms_of, IsRowOf, IsAsked}
+use Rattle.lc_eval.specs.Built.{built_calls, query_call_of, call_of, forms_of, IsRowOf, IsAsked}
 use Rattle.lc_eval.specs.declared.calls.Call.{Call}
 use Rattle.lc_eval.specs.declared.calls.Call.TheVariants as call
-use Rattle.lc_eval.specs.declared.calls.ValueCall.{ValueCall}
+use Rattle.lc_language.specs.declared.ValueCall.{ValueCall}
 use Rattle.lc_eval.specs.declared.calls.QueryCall.{QueryCall}
 use Rattle.lc_eval.specs.declared.calls.Row.{Row}
 use Rattle.lc_eval.specs.declared.values.Value.{Value}
@@ -104,28 +103,28 @@ module _ (env : List language.Binding) (place : ℕ) (x : List ℕ) (es : List E
       by_call (call.Query c) is = call_is (call.Query c) (refused r) f is h
 
   module _ (c : ValueCall) (f : IsRowOf x row) (is : row.call ≡ call.Value c) where
-    signature_at : (o : Option (List Kind)) → Takes row es o → signature_for (language_call.Value (value_call_of c)) (count_of (trees_of es)) ≡ o
+    signature_at : (o : Option (List Kind)) → Takes row es o → signature_for (language_call.Value c) (count_of (trees_of es)) ≡ o
     signature_at o t = signature_is row (call_of (call.Value c)) es o (ap (λ k. signatures (call_of k)) (sym is) ∙ f.forms) t
 
     pub wrong_count : (r : evaluation.Refused) → Takes row es None → refused r ≡ refuse_at 46 place → Evaluates built_calls env (tree.call place x (trees_of es)) (refused r)
     wrong_count r t h = call_is (call.Value c) (refused r) f is (let s = signature_at None t in rw s h)
 
-    counted : (kinds : List Kind) (os : Outcomes) (o : Outcome) → Takes row es (Some kinds) → EvaluatesAll built_calls env (trees_of es) os → Applies (value_call_of c) place kinds (trees_of es) os o → Evaluates built_calls env (tree.call place x (trees_of es)) o
+    counted : (kinds : List Kind) (os : Outcomes) (o : Outcome) → Takes row es (Some kinds) → EvaluatesAll built_calls env (trees_of es) os → Applies c place kinds (trees_of es) os o → Evaluates built_calls env (tree.call place x (trees_of es)) o
     counted kinds os o t e h = call_is (call.Value c) o f is (let s = signature_at (Some kinds) t in rw s (os, e, h))
 
     pub arguments_fault : (kinds : List Kind) (s : Stop) → Takes row es (Some kinds) → AnswersAll (Err s) (EvaluatesAll built_calls env (trees_of es)) → Answers (Err s) (Evaluates built_calls env (tree.call place x (trees_of es)))
     arguments_fault kinds (stop.Refused r) t e = counted kinds (one_refused (refused_of r)) (refused (refused_of r)) t e refl
     arguments_fault kinds stop.NoMemory t e = tt
 
-    applies_bound : (kinds : List Kind) (vs : List language.Value) (b : bound.BoundCall) (o : Outcome) → Takes row es (Some kinds) → EvaluatesAll built_calls env (trees_of es) (all_give vs) → bind (value_call_of c) vs ≡ Some b → AppliesTo place b o → Evaluates built_calls env (tree.call place x (trees_of es)) o
+    applies_bound : (kinds : List Kind) (vs : List language.Value) (b : bound.BoundCall) (o : Outcome) → Takes row es (Some kinds) → EvaluatesAll built_calls env (trees_of es) (all_give vs) → bind c vs ≡ Some b → AppliesTo place b o → Evaluates built_calls env (tree.call place x (trees_of es)) o
     applies_bound kinds vs b o t e h a = counted kinds (all_give vs) o t e (rw h a)
 
-    pub call_bound : (kinds : List Kind) (vs : List language.Value) (b : bound.BoundCall) (r : Result Value Stop) → Takes row es (Some kinds) → EvaluatesAll built_calls env (trees_of es) (all_give vs) → bind (value_call_of c) vs ≡ Some b → Answers r (AppliesTo place b) → Answers r (Evaluates built_calls env (tree.call place x (trees_of es)))
+    pub call_bound : (kinds : List Kind) (vs : List language.Value) (b : bound.BoundCall) (r : Result Value Stop) → Takes row es (Some kinds) → EvaluatesAll built_calls env (trees_of es) (all_give vs) → bind c vs ≡ Some b → Answers r (AppliesTo place b) → Answers r (Evaluates built_calls env (tree.call place x (trees_of es)))
     call_bound kinds vs b (Ok v) t e h a = applies_bound kinds vs b (gives (value_of v)) t e h a
     call_bound kinds vs b (Err (stop.Refused r)) t e h a = applies_bound kinds vs b (refused (refused_of r)) t e h a
     call_bound kinds vs b (Err stop.NoMemory) t e h a = tt
 
-    pub call_misfit : (kinds : List Kind) (vs : List language.Value) (s : Stop) → Takes row es (Some kinds) → EvaluatesAll built_calls env (trees_of es) (all_give vs) → bind (value_call_of c) vs ≡ None → IsStop s (refuse_at 45 (misfit_place place kinds (trees_of es) vs)) → Answers (Err s) (Evaluates built_calls env (tree.call place x (trees_of es)))
+    pub call_misfit : (kinds : List Kind) (vs : List language.Value) (s : Stop) → Takes row es (Some kinds) → EvaluatesAll built_calls env (trees_of es) (all_give vs) → bind c vs ≡ None → IsStop s (refuse_at 45 (misfit_place place kinds (trees_of es) vs)) → Answers (Err s) (Evaluates built_calls env (tree.call place x (trees_of es)))
     call_misfit kinds vs (stop.Refused r) t e h a = counted kinds (all_give vs) (refused (refused_of r)) t e (rw h a)
     call_misfit kinds vs stop.NoMemory t e h a = tt
 

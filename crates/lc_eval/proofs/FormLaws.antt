@@ -20,10 +20,9 @@ use Rattle.lc_code.specs.declared.alternant.FormedCode.{FormedCode}
 use Rattle.lc_code.proofs.CodeLaws.{same_code}
 use Rattle.lc_cyclic.proofs.BchLaws.{zeros_modulo}
 use Rattle.lc_goppa.specs.Form.{alternant_form}
-use Rattle.lc_language.specs.Bound.{BoundCall, bch_code, reed_solomon_code, goppa_code, alternant_code}
+use Rattle.lc_language.specs.Calls.{BoundCall, bch_code, reed_solomon_code, goppa_code, alternant_code, refusals_of, Gives}
 use Rattle.lc_language.specs.Value.{code}
-use Rattle.lc_language.specs.Refusal.{from_codes, refusals_of}
-use Rattle.lc_language.specs.Meaning.{Gives}
+use Rattle.lc_language.specs.Refusal.{from_codes}
 use Rattle.lc_language.specs.Evaluation.{AppliesTo}
 use Rattle.lc_eval.specs.declared.values.Value.{Value}
 use Rattle.lc_eval.specs.declared.refusals.Stop.{Stop}

@@ -2,12 +2,14 @@
 --   misfit_first, misfit_later, misfit_none_kinds, misfit_none_elements, misfit_none_values      the first argument is not of its kind,
 --                                or is; or there is none
 --   count_is                     the number of arguments
-use Rattle.std.proofs.Common.{◌≡◌, ℕ, Bool, true, false, List, [], ◌∷◌, length, Option, Some, None, refl, sym, ap, ◌∙◌, arith}
+--   kind_told, mapped_told       a value is of a kind exactly if it is read as one
+--   four_values, five_values     the values of four arguments, and of five
+use Rattle.std.proofs.Common.{◌≡◌, ◌<◌, ◌≤◌, ℕ, Bool, true, false, List, slice_index_or, [], ◌∷◌, length, Option, Some, None, is_some, option_map, refl, sym, ap, subst, ◌∙◌, arith}
 use Rattle.lc_language.specs.declared.Kind.{Kind}
 use Rattle.lc_grammar.specs.Tree as tree
 use Rattle.lc_grammar.specs.Tree.{place_of, count_of}
 use Rattle.lc_language.specs.Value as language
-use Rattle.lc_language.specs.Value.{is_kind}
+use Rattle.lc_language.specs.Value.{Meant, read, is_kind}
 use Rattle.lc_language.specs.Evaluation.{first_misfit}
 use Rattle.lc_parse.specs.declared.tree.Expr.{Expr}
 use Rattle.lc_parse.specs.Views.{tree_of, trees_of}
@@ -53,3 +55,31 @@ pub count_is : (es : List Expr) → count_of (trees_of es) ≡ length es
 unfolding count_of
 count_is [] = refl
 count_is (e ∷ es) = let l = count_is es in omega (arith, l)
+
+pub kind_told : (kind other : Kind) (v : language.Value) (b : Bool) → kind ≡ other → b ≡ is_some (read other v) → b ≡ is_kind kind v
+unfolding is_kind
+kind_told kind other v b e h = subst (λ k. b ≡ is_some (read k v)) (sym e) h
+
+some_mapped : {A B : Type 0} (f : A → B) (r : Option A) → is_some r ≡ is_some (option_map f r)
+some_mapped f None = refl
+some_mapped f (Some a) = refl
+
+pub mapped_told : {A : Type 0} (kind other : Kind) (v : language.Value) (f : A → Meant other) (r : Option A) (b : Bool) → kind ≡ other → b ≡ is_some r → option_map f r ≡ read other v → b ≡ is_kind kind v
+mapped_told kind other v f r b e h k = kind_told kind other v b e (h ∙ some_mapped f r ∙ ap is_some k)
+
+pub four_values : (vs : List Value) (a b c d : Value) → 4 ≤ length vs → length vs < 5 → a ≡ slice_index_or vs 0 a → b ≡ slice_index_or vs 1 b → c ≡ slice_index_or vs 2 c → d ≡ slice_index_or vs 3 d → value_of a ∷ value_of b ∷ value_of c ∷ value_of d ∷ [] ≡ values_of vs
+four_values [] a b c d l s i j k m = absurd (omega (arith, l, s))
+four_values (u ∷ []) a b c d l s i j k m = absurd (omega (arith, l, s))
+four_values (u ∷ v ∷ []) a b c d l s i j k m = absurd (omega (arith, l, s))
+four_values (u ∷ v ∷ w ∷ []) a b c d l s i j k m = absurd (omega (arith, l, s))
+four_values (u ∷ v ∷ w ∷ x ∷ []) a b c d l s i j k m = cc
+four_values (u ∷ v ∷ w ∷ x ∷ y ∷ vs) a b c d l s i j k m = absurd (omega (arith, l, s))
+
+pub five_values : (vs : List Value) (a b c d e : Value) → 5 ≤ length vs → length vs < 6 → a ≡ slice_index_or vs 0 a → b ≡ slice_index_or vs 1 b → c ≡ slice_index_or vs 2 c → d ≡ slice_index_or vs 3 d → e ≡ slice_index_or vs 4 e → value_of a ∷ value_of b ∷ value_of c ∷ value_of d ∷ value_of e ∷ [] ≡ values_of vs
+five_values [] a b c d e l s i j k m n = absurd (omega (arith, l, s))
+five_values (u ∷ []) a b c d e l s i j k m n = absurd (omega (arith, l, s))
+five_values (u ∷ v ∷ []) a b c d e l s i j k m n = absurd (omega (arith, l, s))
+five_values (u ∷ v ∷ w ∷ []) a b c d e l s i j k m n = absurd (omega (arith, l, s))
+five_values (u ∷ v ∷ w ∷ x ∷ []) a b c d e l s i j k m n = absurd (omega (arith, l, s))
+five_values (u ∷ v ∷ w ∷ x ∷ y ∷ []) a b c d e l s i j k m n = cc
+five_values (u ∷ v ∷ w ∷ x ∷ y ∷ z ∷ vs) a b c d e l s i j k m n = absurd (omega (arith, l, s))

@@ -1,7 +1,9 @@
 -- Definitions that a proof opens together, under one name.
 --   refusals_of_calls      a refusal as the outcome of a call
 --   lines_of_values        the line of a value, a decoder's answer among them
+--   bound_calls, bound_queries      the forms of calls, and what they make of values
 use Rattle.std.specs.Prelude.{⊤}
+use Rattle.lc_language.specs.Calls.{value_forms, query_forms, bind, bind_query}
 use Rattle.lc_language.specs.Refusal.{refusal_from, refuse}
 use Rattle.lc_language.specs.Evaluation.{refuse_call}
 use Rattle.lc_language.specs.Meaning.{decoded}
@@ -14,3 +16,11 @@ refusals_of_calls = tt
 unfoldable pub lines_of_values : ⊤
 unfolding decoded value_line value_text
 lines_of_values = tt
+
+unfoldable pub bound_calls : ⊤
+unfolding value_forms bind
+bound_calls = tt
+
+unfoldable pub bound_queries : ⊤
+unfolding query_forms bind_query
+bound_queries = tt

@@ -24,8 +24,8 @@ use Rattle.lc_constructions.specs.declared.refusal.CodeRefusal.{CodeRefusal}
 use Rattle.lc_constructions.specs.Refusal.{first_refusal, IsRefusedAs}
 use Rattle.lc_constructions.specs.Refusals.{columns_of, matrix_refusals}
 use Rattle.lc_basic.proofs.HammingLaws.{power_next}
-use Rattle.lc_language.specs.Bound.{least_word, minimum_distance, certificate, scan_certificate}
-use Rattle.lc_language.specs.Refusal.{Refusal, refuse, when, first_of, refusal_from, from_codes, query_refusals_of, query_refusal_of}
+use Rattle.lc_language.specs.Calls.{least_word, minimum_distance, certificate, scan_certificate, query_refusals_of, query_refusal_of}
+use Rattle.lc_language.specs.Refusal.{Refusal, refuse, when, first_of, refusal_from, from_codes}
 use Rattle.lc_language.specs.Print.{distance_none_line}
 use Rattle.lc_algebra.specs.Divisor.{divisor_of}
 use Rattle.lc_formats.specs.Text.{line}

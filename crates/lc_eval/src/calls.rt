@@ -1,59 +1,31 @@
-//! The calls that are built: the table of their names and of the kinds of their arguments, and calls with their arguments.
+//! The calls that are built: the table of their names and of the kinds of their arguments, calls with their arguments, what each
+//! stands for in the definitions of the language, and what it gives.
 //!
-//! A call is added by its variant of `ValueCall` or `QueryCall`, its row in the table, and its variant of `BoundCall` or
-//! `BoundQuery` with its arm in the function for the number of its arguments, as `with_two`, or in `bind_query`.
+//! A call that gives a value is added by its row in the table, its variant of `BoundCall` with what it stands for, its arm in the
+//! function for the number of its arguments, as `with_two`, and its arm in `apply`.
 ghost use Rattle.std.specs.Prelude.{◌≡◌, ◌==◌, map, find, nat_eq, [], ◌∷◌, option_map, length, None, Some, MatchOption};
 ghost use Rattle.std.specs.Cmp.Lexicographic.{pointwise};
-ghost use Rattle.lc_language.specs.Calls.{name_of, one, signatures, call_named};
-ghost use Rattle.lc_language.specs.Bound as language;
-ghost use Rattle.lc_eval.specs.Built.{value_call_of, query_call_of, call_of, built_calls, bound_of, bound_query_of, forms_of, IsRowOf};
-ghost use Rattle.lc_eval.specs.Value.{value_of, values_of};
+ghost use Rattle.lc_language.specs.Calls.{name_of, signatures, call_named};
+ghost use Rattle.lc_language.specs.Calls as language;
+ghost use Rattle.lc_eval.specs.Built.{query_call_of, call_of, built_calls, forms_of, IsRowOf};
+ghost use Rattle.lc_language.specs.Evaluation.{AppliesTo};
+ghost use Rattle.lc_eval.specs.Applied.{Answers};
+ghost use Rattle.lc_eval.specs.Value.{value_of, values_of, rows_of};
 
 use crate::code_value::CodeValue;
+use crate::cyclic::{
+    check_pol_code, extended_binary_golay_code, extended_ternary_golay_code, generator_pol_code,
+};
+use crate::decoding::{decode, is_codeword};
+use crate::forms::{alternant_code, formed, goppa_code};
+use crate::made::{check_mat_code, code_value, generator_mat_code, gf, made, nonzero, rows_value};
+use crate::refusals::Stop;
+use crate::stock::Stock;
 use crate::values::Value;
 use lc_code::Code;
 use lc_field::Field;
-use lc_language::Kind;
-
-/// The calls that give a value.
-#[derive(Clone, Copy)]
-pub(crate) enum ValueCall {
-    Gf,
-    GeneratorMatCode,
-    CheckMatCode,
-    RepetitionCode,
-    WholeSpaceCode,
-    NullCode,
-    HammingCode,
-    ReedMullerCode,
-    GeneratorPolCode,
-    CheckPolCode,
-    BinaryGolayCode,
-    TernaryGolayCode,
-    ExtendedBinaryGolayCode,
-    ExtendedTernaryGolayCode,
-    BchCode,
-    ReedSolomonCode,
-    GoppaCode,
-    AlternantCode,
-    DualCode,
-    ExtendedCode,
-    PuncturedCode,
-    ShortenedCode,
-    EvenWeightSubcode,
-    DirectSumCode,
-    UuvCode,
-    DirectProductCode,
-    IntersectionCode,
-    ConcatenatedCode,
-    Dimension,
-    WordLength,
-    GeneratorMat,
-    CheckMat,
-    Weight,
-    IsCodeword,
-    Decode,
-}
+use lc_language::{Kind, ValueCall};
+use std::alloc::Global;
 
 /// The calls that are statements of their own.
 #[derive(Clone, Copy)]
@@ -82,218 +54,58 @@ pub(crate) struct Row {
     pub(crate) forms: &'static [&'static [Kind]],
 }
 
+// Rows, each of a call, its name and the kinds of its arguments in each of its forms.
+macro_rules! rows {
+    ($($call:expr => $name:literal $([$($kind:ident),*])+;)*) => {
+        [$(Row { call: $call, name: $name, forms: &[$(&[$(Kind::$kind),*]),+] }),*]
+    };
+}
+
 // The built calls, in the order of the table of all calls.
-static TABLE: [Row; 40] = [
-    Row {
-        call: Call::Value(ValueCall::Gf),
-        name: "GF",
-        forms: &[&[Kind::Number]],
-    },
-    Row {
-        call: Call::Value(ValueCall::GeneratorMatCode),
-        name: "GeneratorMatCode",
-        forms: &[&[Kind::Lists, Kind::Field]],
-    },
-    Row {
-        call: Call::Value(ValueCall::CheckMatCode),
-        name: "CheckMatCode",
-        forms: &[&[Kind::Lists, Kind::Field]],
-    },
-    Row {
-        call: Call::Value(ValueCall::RepetitionCode),
-        name: "RepetitionCode",
-        forms: &[&[Kind::Number, Kind::Field]],
-    },
-    Row {
-        call: Call::Value(ValueCall::WholeSpaceCode),
-        name: "WholeSpaceCode",
-        forms: &[&[Kind::Number, Kind::Field]],
-    },
-    Row {
-        call: Call::Value(ValueCall::NullCode),
-        name: "NullCode",
-        forms: &[&[Kind::Number, Kind::Field]],
-    },
-    Row {
-        call: Call::Value(ValueCall::HammingCode),
-        name: "HammingCode",
-        forms: &[&[Kind::Number, Kind::Field]],
-    },
-    Row {
-        call: Call::Value(ValueCall::ReedMullerCode),
-        name: "ReedMullerCode",
-        forms: &[&[Kind::Number, Kind::Number]],
-    },
-    Row {
-        call: Call::Value(ValueCall::GeneratorPolCode),
-        name: "GeneratorPolCode",
-        forms: &[&[Kind::Numbers, Kind::Number, Kind::Field]],
-    },
-    Row {
-        call: Call::Value(ValueCall::CheckPolCode),
-        name: "CheckPolCode",
-        forms: &[&[Kind::Numbers, Kind::Number, Kind::Field]],
-    },
-    Row {
-        call: Call::Value(ValueCall::BinaryGolayCode),
-        name: "BinaryGolayCode",
-        forms: &[&[]],
-    },
-    Row {
-        call: Call::Value(ValueCall::TernaryGolayCode),
-        name: "TernaryGolayCode",
-        forms: &[&[]],
-    },
-    Row {
-        call: Call::Value(ValueCall::ExtendedBinaryGolayCode),
-        name: "ExtendedBinaryGolayCode",
-        forms: &[&[]],
-    },
-    Row {
-        call: Call::Value(ValueCall::ExtendedTernaryGolayCode),
-        name: "ExtendedTernaryGolayCode",
-        forms: &[&[]],
-    },
-    Row {
-        call: Call::Value(ValueCall::BchCode),
-        name: "BCHCode",
-        forms: &[
-            &[Kind::Number, Kind::Number, Kind::Field],
-            &[Kind::Number, Kind::Number, Kind::Number, Kind::Field],
-        ],
-    },
-    Row {
-        call: Call::Value(ValueCall::ReedSolomonCode),
-        name: "ReedSolomonCode",
-        forms: &[&[Kind::Number, Kind::Number]],
-    },
-    Row {
-        call: Call::Value(ValueCall::GoppaCode),
-        name: "GoppaCode",
-        forms: &[&[Kind::Numbers, Kind::Numbers, Kind::Field, Kind::Field]],
-    },
-    Row {
-        call: Call::Value(ValueCall::AlternantCode),
-        name: "AlternantCode",
-        forms: &[&[
-            Kind::Number,
-            Kind::Numbers,
-            Kind::Numbers,
-            Kind::Field,
-            Kind::Field,
-        ]],
-    },
-    Row {
-        call: Call::Value(ValueCall::DualCode),
-        name: "DualCode",
-        forms: &[&[Kind::Code]],
-    },
-    Row {
-        call: Call::Value(ValueCall::ExtendedCode),
-        name: "ExtendedCode",
-        forms: &[&[Kind::Code]],
-    },
-    Row {
-        call: Call::Value(ValueCall::PuncturedCode),
-        name: "PuncturedCode",
-        forms: &[&[Kind::Code, Kind::Numbers]],
-    },
-    Row {
-        call: Call::Value(ValueCall::ShortenedCode),
-        name: "ShortenedCode",
-        forms: &[&[Kind::Code, Kind::Numbers]],
-    },
-    Row {
-        call: Call::Value(ValueCall::EvenWeightSubcode),
-        name: "EvenWeightSubcode",
-        forms: &[&[Kind::Code]],
-    },
-    Row {
-        call: Call::Value(ValueCall::DirectSumCode),
-        name: "DirectSumCode",
-        forms: &[&[Kind::Code, Kind::Code]],
-    },
-    Row {
-        call: Call::Value(ValueCall::UuvCode),
-        name: "UUVCode",
-        forms: &[&[Kind::Code, Kind::Code]],
-    },
-    Row {
-        call: Call::Value(ValueCall::DirectProductCode),
-        name: "DirectProductCode",
-        forms: &[&[Kind::Code, Kind::Code]],
-    },
-    Row {
-        call: Call::Value(ValueCall::IntersectionCode),
-        name: "IntersectionCode",
-        forms: &[&[Kind::Code, Kind::Code]],
-    },
-    Row {
-        call: Call::Value(ValueCall::ConcatenatedCode),
-        name: "ConcatenatedCode",
-        forms: &[&[Kind::Code, Kind::Code]],
-    },
-    Row {
-        call: Call::Value(ValueCall::Dimension),
-        name: "Dimension",
-        forms: &[&[Kind::Code]],
-    },
-    Row {
-        call: Call::Value(ValueCall::WordLength),
-        name: "WordLength",
-        forms: &[&[Kind::Code]],
-    },
-    Row {
-        call: Call::Value(ValueCall::GeneratorMat),
-        name: "GeneratorMat",
-        forms: &[&[Kind::Code]],
-    },
-    Row {
-        call: Call::Value(ValueCall::CheckMat),
-        name: "CheckMat",
-        forms: &[&[Kind::Code]],
-    },
-    Row {
-        call: Call::Value(ValueCall::Weight),
-        name: "Weight",
-        forms: &[&[Kind::Numbers]],
-    },
-    Row {
-        call: Call::Value(ValueCall::IsCodeword),
-        name: "IsCodeword",
-        forms: &[&[Kind::Code, Kind::Numbers]],
-    },
-    Row {
-        call: Call::Value(ValueCall::Decode),
-        name: "Decode",
-        forms: &[&[Kind::Code, Kind::Numbers]],
-    },
-    Row {
-        call: Call::Query(QueryCall::AlgebraicDecode),
-        name: "AlgebraicDecode",
-        forms: &[&[Kind::Code, Kind::Numbers]],
-    },
-    Row {
-        call: Call::Query(QueryCall::LeastWord),
-        name: "LeastWord",
-        forms: &[&[Kind::Lists, Kind::Field]],
-    },
-    Row {
-        call: Call::Query(QueryCall::MinimumDistance),
-        name: "MinimumDistance",
-        forms: &[&[Kind::Code]],
-    },
-    Row {
-        call: Call::Query(QueryCall::Certificate),
-        name: "Certificate",
-        forms: &[&[Kind::Code]],
-    },
-    Row {
-        call: Call::Query(QueryCall::ScanCertificate),
-        name: "ScanCertificate",
-        forms: &[&[Kind::Code]],
-    },
-];
+static TABLE: &[Row] = &rows! {
+    Call::Value(ValueCall::Gf) => "GF" [Number];
+    Call::Value(ValueCall::GeneratorMatCode) => "GeneratorMatCode" [Lists, Field];
+    Call::Value(ValueCall::CheckMatCode) => "CheckMatCode" [Lists, Field];
+    Call::Value(ValueCall::RepetitionCode) => "RepetitionCode" [Number, Field];
+    Call::Value(ValueCall::WholeSpaceCode) => "WholeSpaceCode" [Number, Field];
+    Call::Value(ValueCall::NullCode) => "NullCode" [Number, Field];
+    Call::Value(ValueCall::HammingCode) => "HammingCode" [Number, Field];
+    Call::Value(ValueCall::ReedMullerCode) => "ReedMullerCode" [Number, Number];
+    Call::Value(ValueCall::GeneratorPolCode) => "GeneratorPolCode" [Numbers, Number, Field];
+    Call::Value(ValueCall::CheckPolCode) => "CheckPolCode" [Numbers, Number, Field];
+    Call::Value(ValueCall::BinaryGolayCode) => "BinaryGolayCode" [];
+    Call::Value(ValueCall::TernaryGolayCode) => "TernaryGolayCode" [];
+    Call::Value(ValueCall::ExtendedBinaryGolayCode) => "ExtendedBinaryGolayCode" [];
+    Call::Value(ValueCall::ExtendedTernaryGolayCode) => "ExtendedTernaryGolayCode" [];
+    Call::Value(ValueCall::BchCode) => "BCHCode"
+        [Number, Number, Field] [Number, Number, Number, Field];
+    Call::Value(ValueCall::ReedSolomonCode) => "ReedSolomonCode" [Number, Number];
+    Call::Value(ValueCall::GoppaCode) => "GoppaCode" [Numbers, Numbers, Field, Field];
+    Call::Value(ValueCall::AlternantCode) => "AlternantCode"
+        [Number, Numbers, Numbers, Field, Field];
+    Call::Value(ValueCall::DualCode) => "DualCode" [Code];
+    Call::Value(ValueCall::ExtendedCode) => "ExtendedCode" [Code];
+    Call::Value(ValueCall::PuncturedCode) => "PuncturedCode" [Code, Numbers];
+    Call::Value(ValueCall::ShortenedCode) => "ShortenedCode" [Code, Numbers];
+    Call::Value(ValueCall::EvenWeightSubcode) => "EvenWeightSubcode" [Code];
+    Call::Value(ValueCall::DirectSumCode) => "DirectSumCode" [Code, Code];
+    Call::Value(ValueCall::UuvCode) => "UUVCode" [Code, Code];
+    Call::Value(ValueCall::DirectProductCode) => "DirectProductCode" [Code, Code];
+    Call::Value(ValueCall::IntersectionCode) => "IntersectionCode" [Code, Code];
+    Call::Value(ValueCall::ConcatenatedCode) => "ConcatenatedCode" [Code, Code];
+    Call::Value(ValueCall::Dimension) => "Dimension" [Code];
+    Call::Value(ValueCall::WordLength) => "WordLength" [Code];
+    Call::Value(ValueCall::GeneratorMat) => "GeneratorMat" [Code];
+    Call::Value(ValueCall::CheckMat) => "CheckMat" [Code];
+    Call::Value(ValueCall::Weight) => "Weight" [Numbers];
+    Call::Value(ValueCall::IsCodeword) => "IsCodeword" [Code, Numbers];
+    Call::Value(ValueCall::Decode) => "Decode" [Code, Numbers];
+    Call::Query(QueryCall::AlgebraicDecode) => "AlgebraicDecode" [Code, Numbers];
+    Call::Query(QueryCall::LeastWord) => "LeastWord" [Lists, Field];
+    Call::Query(QueryCall::MinimumDistance) => "MinimumDistance" [Code];
+    Call::Query(QueryCall::Certificate) => "Certificate" [Code];
+    Call::Query(QueryCall::ScanCertificate) => "ScanCertificate" [Code];
+};
 
 // The rows of all built calls.
 fn table() -> &'static [Row]
@@ -301,7 +113,7 @@ fn table() -> &'static [Row]
     ensures names { map (λ row. row.name.now) result.now ≡ map name_of built_calls }
     ensures forms { map forms_of result.now ≡ map signatures built_calls }
 {
-    &TABLE
+    TABLE
 }
 
 // The row with this name.
@@ -335,6 +147,16 @@ impl Row {
             None => None,
         }
     }
+}
+
+/// What a call that gives a value stands for in the definitions of the language.
+pub(crate) trait Means {
+    ghost meaning: { Self → language.BoundCall };
+}
+
+/// What a query stands for in the definitions of the language.
+pub(crate) trait Asks {
+    ghost asked: { Self → language.BoundQuery };
 }
 
 /// A call that gives a value, with its arguments.
@@ -376,6 +198,48 @@ pub(crate) enum BoundCall<'a> {
     Decode(&'a Code, &'a [u64]),
 }
 
+impl Means for BoundCall<'_> {
+    ghost use Rattle.lc_eval.specs.declared.calls.BoundCall.TheVariants as BoundCall;
+
+    ghost meaning = { elim [
+      | BoundCall.Gf q ↦ language.gf q
+      | BoundCall.GeneratorMatCode rows f ↦ language.generator_mat_code (rows_of rows.now) f.now
+      | BoundCall.CheckMatCode rows f ↦ language.check_mat_code (rows_of rows.now) f.now
+      | BoundCall.RepetitionCode n f ↦ language.repetition_code n f.now
+      | BoundCall.WholeSpaceCode n f ↦ language.whole_space_code n f.now
+      | BoundCall.NullCode n f ↦ language.null_code n f.now
+      | BoundCall.HammingCode r f ↦ language.hamming_code r f.now
+      | BoundCall.ReedMullerCode r m ↦ language.reed_muller_code r m
+      | BoundCall.GeneratorPolCode x n f ↦ language.generator_pol_code x.now n f.now
+      | BoundCall.CheckPolCode x n f ↦ language.check_pol_code x.now n f.now
+      | BoundCall.BinaryGolayCode ↦ language.binary_golay_code
+      | BoundCall.TernaryGolayCode ↦ language.ternary_golay_code
+      | BoundCall.ExtendedBinaryGolayCode ↦ language.extended_binary_golay_code
+      | BoundCall.ExtendedTernaryGolayCode ↦ language.extended_ternary_golay_code
+      | BoundCall.BchCode n c d f ↦ language.bch_code n c d f.now
+      | BoundCall.ReedSolomonCode n d ↦ language.reed_solomon_code n d
+      | BoundCall.GoppaCode g x K f ↦ language.goppa_code g.now x.now K.now f.now
+      | BoundCall.AlternantCode r x y K f ↦ language.alternant_code r x.now y.now K.now f.now
+      | BoundCall.DualCode C ↦ language.dual_code C.now
+      | BoundCall.ExtendedCode C ↦ language.extended_code C.now
+      | BoundCall.PuncturedCode C x ↦ language.punctured_code C.now x.now
+      | BoundCall.ShortenedCode C x ↦ language.shortened_code C.now x.now
+      | BoundCall.EvenWeightSubcode C ↦ language.even_weight_subcode C.now
+      | BoundCall.DirectSumCode C D ↦ language.direct_sum_code C.now D.now
+      | BoundCall.UuvCode C D ↦ language.uuv_code C.now D.now
+      | BoundCall.DirectProductCode C D ↦ language.direct_product_code C.now D.now
+      | BoundCall.IntersectionCode C D ↦ language.intersection_code C.now D.now
+      | BoundCall.ConcatenatedCode C D ↦ language.concatenated_code C.now D.now
+      | BoundCall.Dimension C ↦ language.dimension C.now
+      | BoundCall.WordLength C ↦ language.word_length C.now
+      | BoundCall.GeneratorMat C ↦ language.generator_mat C.now
+      | BoundCall.CheckMat C ↦ language.check_mat C.now
+      | BoundCall.Weight x ↦ language.weight_of x.now
+      | BoundCall.IsCodeword C x ↦ language.is_codeword C.now x.now
+      | BoundCall.Decode C x ↦ language.decode C.now x.now
+    ] };
+}
+
 /// A query with its arguments.
 pub(crate) enum BoundQuery<'a> {
     AlgebraicDecode(&'a CodeValue, &'a [u64]),
@@ -385,10 +249,22 @@ pub(crate) enum BoundQuery<'a> {
     ScanCertificate(&'a Code),
 }
 
+impl Asks for BoundQuery<'_> {
+    ghost use Rattle.lc_eval.specs.declared.calls.BoundQuery.TheVariants as BoundQuery;
+
+    ghost asked = { elim [
+      | BoundQuery.AlgebraicDecode C x ↦ language.algebraic_decode C.now.code C.now.form x.now
+      | BoundQuery.LeastWord rows f ↦ language.least_word (rows_of rows.now) f.now
+      | BoundQuery.MinimumDistance C ↦ language.minimum_distance C.now
+      | BoundQuery.Certificate C ↦ language.certificate C.now
+      | BoundQuery.ScanCertificate C ↦ language.scan_certificate C.now
+    ] };
+}
+
 /// The call with these arguments; None if they are not of its kinds.
-#[tactic(auto, unfolding(lc_language::specs::Bound::bind))]
+#[tactic(auto, unfolding(crate::proofs::Opened::bound_calls))]
 pub(crate) fn bind(call: ValueCall, arguments: &[Value]) -> Option<BoundCall<'_>>
-    ensures { option_map bound_of result ≡ language.bind (value_call_of call) (values_of arguments.now) }
+    ensures { option_map ⟦<BoundCall<'static> as Means>⟧.meaning result ≡ language.bind call (values_of arguments.now) }
 {
     match arguments {
         [] => with_none(call),
@@ -402,9 +278,9 @@ pub(crate) fn bind(call: ValueCall, arguments: &[Value]) -> Option<BoundCall<'_>
 }
 
 // The call without arguments.
-#[tactic(auto, unfolding(lc_language::specs::Bound::bind))]
+#[tactic(auto, unfolding(crate::proofs::Opened::bound_calls))]
 fn with_none(call: ValueCall) -> Option<BoundCall<'static>>
-    ensures { option_map bound_of result ≡ language.bind (value_call_of call) ([]) }
+    ensures { option_map ⟦<BoundCall<'static> as Means>⟧.meaning result ≡ language.bind call ([]) }
 {
     match call {
         ValueCall::BinaryGolayCode => Some(BoundCall::BinaryGolayCode),
@@ -416,9 +292,9 @@ fn with_none(call: ValueCall) -> Option<BoundCall<'static>>
 }
 
 // The call with one argument.
-#[tactic(auto, unfolding(lc_language::specs::Bound::bind))]
+#[tactic(auto, unfolding(crate::proofs::Opened::bound_calls))]
 fn with_one<'a>(call: ValueCall, a: &'a Value) -> Option<BoundCall<'a>>
-    ensures { option_map bound_of result ≡ language.bind (value_call_of call) (value_of a.now ∷ []) }
+    ensures { option_map ⟦<BoundCall<'static> as Means>⟧.meaning result ≡ language.bind call (value_of a.now ∷ []) }
 {
     match call {
         ValueCall::Gf => Some(BoundCall::Gf(a.number()?)),
@@ -435,9 +311,9 @@ fn with_one<'a>(call: ValueCall, a: &'a Value) -> Option<BoundCall<'a>>
 }
 
 // The call with two arguments.
-#[tactic(auto, unfolding(lc_language::specs::Bound::bind))]
+#[tactic(auto, unfolding(crate::proofs::Opened::bound_calls))]
 fn with_two<'a>(call: ValueCall, a: &'a Value, b: &'a Value) -> Option<BoundCall<'a>>
-    ensures { option_map bound_of result ≡ language.bind (value_call_of call) (value_of a.now ∷ value_of b.now ∷ []) }
+    ensures { option_map ⟦<BoundCall<'static> as Means>⟧.meaning result ≡ language.bind call (value_of a.now ∷ value_of b.now ∷ []) }
 {
     match call {
         ValueCall::GeneratorMatCode => Some(BoundCall::GeneratorMatCode(a.lists()?, b.field()?)),
@@ -474,14 +350,14 @@ fn with_two<'a>(call: ValueCall, a: &'a Value, b: &'a Value) -> Option<BoundCall
 }
 
 // The call with three arguments.
-#[tactic(auto, unfolding(lc_language::specs::Bound::bind))]
+#[tactic(auto, unfolding(crate::proofs::Opened::bound_calls))]
 fn with_three<'a>(
     call: ValueCall,
     a: &'a Value,
     b: &'a Value,
     c: &'a Value,
 ) -> Option<BoundCall<'a>>
-    ensures { option_map bound_of result ≡ language.bind (value_call_of call) (value_of a.now ∷ value_of b.now ∷ value_of c.now ∷ []) }
+    ensures { option_map ⟦<BoundCall<'static> as Means>⟧.meaning result ≡ language.bind call (value_of a.now ∷ value_of b.now ∷ value_of c.now ∷ []) }
 {
     match call {
         ValueCall::GeneratorPolCode => Some(BoundCall::GeneratorPolCode(
@@ -500,7 +376,7 @@ fn with_three<'a>(
 }
 
 // The call with four arguments.
-#[tactic(auto, unfolding(lc_language::specs::Bound::bind))]
+#[tactic(auto, unfolding(crate::proofs::Opened::bound_calls))]
 fn with_four<'a>(
     call: ValueCall,
     a: &'a Value,
@@ -508,7 +384,7 @@ fn with_four<'a>(
     c: &'a Value,
     d: &'a Value,
 ) -> Option<BoundCall<'a>>
-    ensures { option_map bound_of result ≡ language.bind (value_call_of call) (value_of a.now ∷ value_of b.now ∷ value_of c.now ∷ value_of d.now ∷ []) }
+    ensures { option_map ⟦<BoundCall<'static> as Means>⟧.meaning result ≡ language.bind call (value_of a.now ∷ value_of b.now ∷ value_of c.now ∷ value_of d.now ∷ []) }
 {
     match call {
         ValueCall::GoppaCode => Some(BoundCall::GoppaCode(
@@ -528,7 +404,7 @@ fn with_four<'a>(
 }
 
 // The call with five arguments.
-#[tactic(auto, unfolding(lc_language::specs::Bound::bind))]
+#[tactic(auto, unfolding(crate::proofs::Opened::bound_calls))]
 fn with_five<'a>(
     call: ValueCall,
     a: &'a Value,
@@ -537,7 +413,7 @@ fn with_five<'a>(
     d: &'a Value,
     e: &'a Value,
 ) -> Option<BoundCall<'a>>
-    ensures { option_map bound_of result ≡ language.bind (value_call_of call) (value_of a.now ∷ value_of b.now ∷ value_of c.now ∷ value_of d.now ∷ value_of e.now ∷ []) }
+    ensures { option_map ⟦<BoundCall<'static> as Means>⟧.meaning result ≡ language.bind call (value_of a.now ∷ value_of b.now ∷ value_of c.now ∷ value_of d.now ∷ value_of e.now ∷ []) }
 {
     match call {
         ValueCall::AlternantCode => Some(BoundCall::AlternantCode(
@@ -551,10 +427,84 @@ fn with_five<'a>(
     }
 }
 
+/// What a call gives of its arguments, or its refusal, at this offset.
+pub(crate) fn apply(
+    alloc: Global,
+    stock: &mut Stock,
+    place: usize,
+    call: BoundCall<'_>,
+) -> Result<Value, Stop>
+    ensures { Answers result (AppliesTo place (⟦<BoundCall<'static> as Means>⟧.meaning call.entry)) }
+{
+    match call {
+        BoundCall::Gf(q) => gf(alloc, stock, place, q),
+        BoundCall::GeneratorMatCode(rows, field) => generator_mat_code(alloc, place, rows, field),
+        BoundCall::CheckMatCode(rows, field) => check_mat_code(alloc, place, rows, field),
+        BoundCall::RepetitionCode(n, field) => {
+            made(alloc, place, lc_basic::repetition(alloc, n, field))
+        }
+        BoundCall::WholeSpaceCode(n, field) => {
+            made(alloc, place, lc_basic::whole_space(alloc, n, field))
+        }
+        BoundCall::NullCode(n, field) => made(alloc, place, lc_basic::null_code(alloc, n, field)),
+        BoundCall::HammingCode(r, field) => made(alloc, place, lc_basic::hamming(alloc, r, field)),
+        BoundCall::ReedMullerCode(r, m) => made(alloc, place, lc_basic::reed_muller(alloc, r, m)),
+        BoundCall::GeneratorPolCode(list, n, field) => {
+            generator_pol_code(alloc, place, list, n, field)
+        }
+        BoundCall::CheckPolCode(list, n, field) => check_pol_code(alloc, place, list, n, field),
+        BoundCall::BinaryGolayCode => Ok(code_value(alloc, lc_cyclic::binary_golay(alloc)?)?),
+        BoundCall::TernaryGolayCode => Ok(code_value(alloc, lc_cyclic::ternary_golay(alloc)?)?),
+        BoundCall::ExtendedBinaryGolayCode => extended_binary_golay_code(alloc, place),
+        BoundCall::ExtendedTernaryGolayCode => extended_ternary_golay_code(alloc, place),
+        BoundCall::BchCode(n, b, d, field) => {
+            formed(alloc, place, lc_cyclic::bch(alloc, n, b, d, field))
+        }
+        BoundCall::ReedSolomonCode(n, d) => {
+            formed(alloc, place, lc_cyclic::reed_solomon(alloc, n, d))
+        }
+        BoundCall::GoppaCode(list, points, locator, field) => {
+            goppa_code(alloc, place, list, points, locator, field)
+        }
+        BoundCall::AlternantCode(r, points, multipliers, locator, field) => {
+            alternant_code(alloc, place, r, points, multipliers, locator, field)
+        }
+        BoundCall::DualCode(code) => Ok(code_value(alloc, code.dual(alloc)?)?),
+        BoundCall::ExtendedCode(code) => made(alloc, place, lc_combine::extended(alloc, code)),
+        BoundCall::PuncturedCode(code, places) => {
+            made(alloc, place, lc_combine::punctured(alloc, code, places))
+        }
+        BoundCall::ShortenedCode(code, places) => {
+            made(alloc, place, lc_combine::shortened(alloc, code, places))
+        }
+        BoundCall::EvenWeightSubcode(code) => {
+            made(alloc, place, lc_combine::even_weight(alloc, code))
+        }
+        BoundCall::DirectSumCode(a, b) => made(alloc, place, lc_combine::direct_sum(alloc, a, b)),
+        BoundCall::UuvCode(a, b) => made(alloc, place, lc_combine::uuv(alloc, a, b)),
+        BoundCall::DirectProductCode(a, b) => {
+            made(alloc, place, lc_combine::direct_product(alloc, a, b))
+        }
+        BoundCall::IntersectionCode(a, b) => {
+            made(alloc, place, lc_combine::intersection(alloc, a, b))
+        }
+        BoundCall::ConcatenatedCode(outer, inner) => {
+            made(alloc, place, lc_combine::concatenated(alloc, outer, inner))
+        }
+        BoundCall::Dimension(code) => Ok(Value::Number(code.dimension() as u64)),
+        BoundCall::WordLength(code) => Ok(Value::Number(code.length() as u64)),
+        BoundCall::GeneratorMat(code) => Ok(rows_value(alloc, code)?),
+        BoundCall::CheckMat(code) => Ok(rows_value(alloc, &code.dual(alloc)?)?),
+        BoundCall::Weight(list) => Ok(Value::Number(nonzero(list) as u64)),
+        BoundCall::IsCodeword(code, list) => is_codeword(alloc, place, code, list),
+        BoundCall::Decode(code, list) => decode(alloc, stock, place, code, list),
+    }
+}
+
 /// The query with these arguments; None if they are not of its kinds.
-#[tactic(auto, unfolding(lc_language::specs::Bound::bind_query))]
+#[tactic(auto, unfolding(crate::proofs::Opened::bound_queries))]
 pub(crate) fn bind_query(call: QueryCall, arguments: &[Value]) -> Option<BoundQuery<'_>>
-    ensures { option_map bound_query_of result ≡ language.bind_query (query_call_of call) (values_of arguments.now) }
+    ensures { option_map ⟦<BoundQuery<'static> as Asks>⟧.asked result ≡ language.bind_query (query_call_of call) (values_of arguments.now) }
 {
     match call {
         QueryCall::AlgebraicDecode => {

@@ -1,9 +1,9 @@
 //! What the calls give that make a cyclic code by its polynomial, or an extended Golay code.
-ghost use Rattle.lc_language.specs.Bound as bound;
+ghost use Rattle.lc_language.specs.Calls as bound;
 ghost use Rattle.lc_language.specs.Evaluation.{AppliesTo};
 ghost use Rattle.lc_eval.specs.Applied.{Answers};
 
-use crate::apply::made;
+use crate::made::made;
 use crate::refusals::Stop;
 use crate::rows::word_of;
 use crate::values::Value;

@@ -1,6 +1,6 @@
 //! The words of a code that are near to a list of symbols.
 ghost use Rattle.std.specs.Prelude.{◌≡◌, ℕ, ◌∷◌, [], IfOk, Some, None};
-ghost use Rattle.lc_language.specs.Bound as bound;
+ghost use Rattle.lc_language.specs.Calls as bound;
 ghost use Rattle.lc_language.specs.Value as language;
 ghost use Rattle.lc_language.specs.Meaning.{decoded as decoded_value};
 ghost use Rattle.lc_language.specs.Print.{value_line};

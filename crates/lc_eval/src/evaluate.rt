@@ -7,8 +7,7 @@ ghost use Rattle.lc_eval.specs.Built.{built_calls};
 ghost use Rattle.lc_eval.specs.Applied.{Answers};
 ghost use Rattle.lc_eval.specs.Evaluated.{AnswersAll};
 
-use crate::apply::apply;
-use crate::calls::{Call, bind, row_named};
+use crate::calls::{Call, apply, bind, row_named};
 use crate::kinds::misfit;
 use crate::lists::Listed;
 use crate::names::Names;

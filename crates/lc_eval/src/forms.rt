@@ -1,7 +1,7 @@
 //! What the calls give that make a code with its alternant form.
 ghost use Rattle.std.specs.Prelude.{◌≡◌, IfOk};
 ghost use Rattle.lc_constructions.specs.Alternant.{IsFormOf};
-ghost use Rattle.lc_language.specs.Bound as bound;
+ghost use Rattle.lc_language.specs.Calls as bound;
 ghost use Rattle.lc_language.specs.Evaluation.{AppliesTo};
 ghost use Rattle.lc_eval.specs.Applied.{Answers};
 ghost use Rattle.lc_eval.specs.Made.{IsFormed};

@@ -14,7 +14,6 @@ use lc_parse::Expr;
 use std::alloc::Global;
 
 // Whether the value is of the kind.
-#[tactic(auto, unfolding(lc_language::specs::Value::is_kind))]
 fn is_kind(kind: Kind, value: &Value) -> bool
     ensures { result ≡ language.is_kind kind (value_of value.now) }
 {

@@ -5,9 +5,8 @@ ghost use Rattle.lc_language.specs.declared.Call.TheVariants as call;
 ghost use Rattle.lc_language.specs.declared.ValueCall.{ValueCall};
 ghost use Rattle.lc_language.specs.declared.QueryCall.{QueryCall};
 ghost use Rattle.lc_language.specs.declared.Kind.{Kind};
-ghost use Rattle.lc_language.specs.Calls.{signature_for};
+ghost use Rattle.lc_language.specs.Calls.{signature_for, bind, bind_query};
 ghost use Rattle.lc_language.specs.Value.{Value, Binding, value_named};
-ghost use Rattle.lc_language.specs.Bound.{bind, bind_query};
 ghost use Rattle.lc_language.specs.Evaluation.{first_misfit};
 ghost use Rattle.lc_eval.specs.Names.{IsBound};
 

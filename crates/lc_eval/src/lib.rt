@@ -1,7 +1,6 @@
 //! The statement machine: it does the statements of a script one after another, and answers what each prints.
 #![tactic(auto)]
 
-mod apply;
 mod calls;
 mod code_value;
 mod cyclic;
@@ -13,6 +12,7 @@ mod laws;
 mod lines;
 mod lists;
 mod machine;
+mod made;
 mod names;
 mod queries;
 mod refusals;

@@ -1,15 +1,14 @@
 //! The calls that stand only as whole statements.
 ghost use Rattle.std.specs.Prelude.{◌≡◌, ◌^◌, nat_lt, length, IfOk};
 ghost use Rattle.lc_algebra.specs.Field.{size};
-ghost use Rattle.lc_language.specs.Bound as bound;
+ghost use Rattle.lc_language.specs.Calls as bound;
 ghost use Rattle.lc_language.specs.Query.{query_line};
 ghost use Rattle.lc_language.specs.Evaluation.{QueriesTo, AsksOf};
-ghost use Rattle.lc_eval.specs.Built.{bound_query_of};
 ghost use Rattle.lc_eval.specs.Value.{rows_of};
 ghost use Rattle.lc_eval.specs.Evaluated.{AffectsOrFails, kind_of};
 ghost use Rattle.lc_eval.specs.Least.{IsLeastLine};
 
-use crate::calls::BoundQuery;
+use crate::calls::{Asks, BoundQuery};
 use crate::decoding::algebraic_decode;
 use crate::machine::{Query, QueryKind};
 use crate::refusals::{Stop, TOO_MANY_WORDS, fault, refused_as};
@@ -56,7 +55,7 @@ fn line_of(alloc: Global, code: &Code) -> Result<Vec<u8>, NoMemory>
 /// What a query does of its arguments, or its refusal, at this offset.
 #[tactic(auto, using(crate::proofs::QueryLaws::answer_laws))]
 pub(crate) fn answer(alloc: Global, place: usize, query: BoundQuery<'_>) -> Result<Effect, Stop>
-    ensures { AffectsOrFails result (QueriesTo place (bound_query_of query.entry)) }
+    ensures { AffectsOrFails result (QueriesTo place (⟦<BoundQuery<'static> as Asks>⟧.asked query.entry)) }
 {
     match query {
         BoundQuery::LeastWord(rows, field) => least_word(alloc, place, rows, field),

@@ -17,15 +17,13 @@ use Rattle.lc_language.specs.declared.QueryCall.{QueryCall}
 use Rattle.lc_language.specs.declared.Kind.{Kind}
 use Rattle.lc_language.specs.Value as value
 use Rattle.lc_language.specs.Value.{Value, Binding, value_named}
-use Rattle.lc_language.specs.Calls.{call_named, signature_for}
+use Rattle.lc_language.specs.Calls.{call_named, signature_for, BoundCall, bind, BoundQuery, algebraic_decode, least_word, minimum_distance, certificate, scan_certificate, weight_distribution, alternant_certificate, nearest_word, bind_query, refusal_of, query_refusal_of, Gives, IsNotDivisor}
 use Rattle.lc_language.specs.Query.{QueryKind, query_line, near_line}
-use Rattle.lc_language.specs.Bound.{BoundCall, bind, BoundQuery, algebraic_decode, least_word, minimum_distance, certificate, scan_certificate, weight_distribution, alternant_certificate, nearest_word, bind_query}
-use Rattle.lc_language.specs.Refusal.{refusal_of, query_refusal_of}
-use Rattle.lc_language.specs.Meaning.{Gives, IsNotDivisor}
 use Rattle.lc_language.specs.Evaluation.{Outcome, gives, refused, Outcomes, all_give, one_refused, refuse_at, refuse_call, misfit_place, Listed, nothing_yet, all_numbers, all_lists, listed_with, list_value, ListGoesOn, AppliesTo, Applies, CallGives, Joins, GoesOn, Evaluates, EvaluatesAll, EvaluatesList, Step, binds, prints, asks, counts, nears, fails, AsksOf, Queries, QueriesTo, QueriesAll, query_of, fail_with, Assigns, StepsAsQuery, StepsOf, Steps}
 use Rattle.lc_sessions.specs.Needs.{NeedsOn, Needs, MeetsFirst}
 use Rattle.lc_ground.specs.Shapes.{IsCodeOfRows}
-use Rattle.lc_ground.proofs.ShapeLaws.{IsShaped, AreShaped, HaveShapes, HaveQueryShapes, from_option, from_known, gives_shaped, bind_shaped, bind_query_shaped}
+use Rattle.lc_ground.proofs.ShapeLaws.{IsShaped, AreShaped, from_option, from_known}
+use Rattle.lc_ground.proofs.CallLaws.{GivesShaped, HaveQueryShapes, bind_shaped, bind_query_shaped}
 
 abbrev IsGiven : Outcome → Type 0
 IsGiven (gives v) = IsShaped v
@@ -65,13 +63,13 @@ list_shaped nothing_yet = tt
 list_shaped (all_numbers found) = tt
 list_shaped (all_lists found) = tt
 
-call_given : (place : ℕ) (b : BoundCall) (o : Outcome) → HaveShapes b → AppliesTo place b o → IsGiven o
+call_given : (place : ℕ) (b : BoundCall) (o : Outcome) → GivesShaped b → AppliesTo place b o → IsGiven o
 unfolding refuse_call
 call_given place b o h k =
     from_known (refusal_of b) ((IsNotDivisor b × (o ≡ refuse_at 4 place)) ⊎ (¬ IsNotDivisor b × ((v : Value) × Gives b v × (o ≡ gives v)))) (λ r. o ≡ refuse_call place r) (IsGiven o)
     (λ unrefused c. ⊎_elim
     (λ (d : IsNotDivisor b × (o ≡ refuse_at 4 place)). refused_at 4 place o d.1)
-    (λ (d : ¬ IsNotDivisor b × ((v : Value) × Gives b v × (o ≡ gives v))). given_as o (gives d.1.0) d.1.2 (gives_shaped b d.1.0 h unrefused d.1.1))
+    (λ (d : ¬ IsNotDivisor b × ((v : Value) × Gives b v × (o ≡ gives v))). given_as o (gives d.1.0) d.1.2 (h d.1.0 unrefused d.1.1))
     c)
     (λ r e. given_as o _ e tt) k
 

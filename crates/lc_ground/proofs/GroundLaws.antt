@@ -3,7 +3,7 @@
 --   script_is_ground     the ground of a script
 --   chains_are_true      chains leave true slots
 --   resumed_prints       a session over the slots of a chain prints the text of the script
-use Rattle.std.proofs.Common.{◌≡◌, ◌⊎◌, inl, inr, ◌≤◌, ◌<◌, ◌^◌, ℕ, List, length, Some, refl, sym, subst, arith}
+use Rattle.std.proofs.Common.{◌≡◌, ◌≤◌, ◌<◌, ◌^◌, ℕ, List, length, Some, refl, sym, subst, arith}
 use Rattle.lc_algebra.specs.Matrix.{Matrix}
 use Rattle.lc_parse.proofs.Outcomes.{one_script}
 use Rattle.lc_io.specs.Vaults.{Slots}
@@ -19,7 +19,7 @@ use Rattle.lc_sessions.proofs.ChainLaws as chains
 use Rattle.lc_sessions.proofs.Headline.{resume_prints}
 use Rattle.lc_course.proofs.AskLaws.{met_rows}
 use Rattle.lc_needs.proofs.NeedLaws.{met_long}
-use Rattle.lc_ground.proofs.OneValue.{built_one}
+use Rattle.lc_ground.proofs.CallLaws.{built_one}
 use Rattle.lc_ground.proofs.OneText.{steps_one}
 use Rattle.lc_ground.proofs.AskShapes.{met_shaped}
 use Rattle.lc_ground.proofs.RangeLaws.{true_read_back}

@@ -1,8 +1,9 @@
 pub mod AtMostOne
 pub mod OneNearest
 pub mod OneValue
-pub mod OneText
 pub mod ShapeLaws
+pub mod CallLaws
+pub mod OneText
 pub mod AskShapes
 pub mod RangeLaws
 pub mod BudgetLaws

@@ -17,8 +17,8 @@ use Rattle.lc_algebra.specs.Span.{InSpan}
 use Rattle.lc_algebra.specs.Matrix.{Matrix}
 use Rattle.lc_algebra.proofs.WordLaws.{length_scale, length_sums, no_later_antisymmetric, length_zero_word, length_difference, IsWord_zero, fits_symbol, sum_comm, sum_assoc, sum_negative, zero_sum, difference_back}
 use Rattle.lc_constructions.specs.Nearest.{IsNearest}
-use Rattle.lc_language.specs.Bound.{decode}
-use Rattle.lc_language.specs.Refusal.{refusal_of, refusals_of, word_refusals, from_codes, first_of}
+use Rattle.lc_language.specs.Calls.{decode, refusal_of, refusals_of}
+use Rattle.lc_language.specs.Refusal.{word_refusals, from_codes, first_of}
 use Rattle.lc_ground.proofs.AtMostOne.{One}
 
 pub span_lengths : (f : FieldName) (n : ℕ) (rows : List (List ℕ)) (u v : List ℕ) → InSpan f n rows u → InSpan f n rows v → length u ≡ length v

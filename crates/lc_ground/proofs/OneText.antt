@@ -6,8 +6,7 @@
 --   runs_one                     statements have one text
 --   text_one                     and so have bytes
 --   one_text                     by the calls that are built
-use Rattle.std.proofs.Common.{◌≡◌, ℕ, ◌⊎◌, Bool, true, false, cond, List, [], ◌∷◌, ◌++◌, Option, Some, None, refl, sym, ap, subst, ◌∙◌, ⊎_elim}
-use Rattle.std.specs.Prelude.{find}
+use Rattle.std.proofs.Common.{◌≡◌, ℕ, ◌⊎◌, Bool, true, List, [], ◌∷◌, ◌++◌, Option, Some, None, refl, sym, ap, subst, ◌∙◌, ⊎_elim}
 use Rattle.std.specs.List.{AllByRecursion}
 use Rattle.lc_parse.proofs.Outcomes.{one_script, one_fault, no_both}
 use Rattle.lc_language.specs.declared.Call.{Call}
@@ -19,30 +18,20 @@ use Rattle.lc_grammar.specs.Tree.{Expr, Exprs, number, name, call, list, none, m
 use Rattle.lc_grammar.specs.Grammar.{Reads, Fault, IsFault}
 use Rattle.lc_language.specs.Value as value
 use Rattle.lc_language.specs.Value.{Value, Binding, value_named}
-use Rattle.lc_language.specs.Calls.{call_named, signature_for}
-use Rattle.lc_language.specs.Bound.{BoundCall, bind, bind_query}
-use Rattle.lc_language.specs.Refusal.{refusal_of, query_refusal_of}
-use Rattle.lc_language.specs.Meaning.{Gives, IsNotDivisor}
+use Rattle.lc_language.specs.Calls.{call_named, signature_for, BoundCall, bind, bind_query, refusal_of, query_refusal_of, Gives, IsNotDivisor}
 use Rattle.lc_language.specs.Print.{fault_line}
 use Rattle.lc_language.specs.Query.{query_line, distribution_line, near_line}
 use Rattle.lc_language.specs.Evaluation.{Outcome, gives, refused, Outcomes, all_give, one_refused, refuse_at, refuse_call, misfit_place, Listed, nothing_yet, listed_with, list_value, ListGoesOn, AppliesTo, Applies, CallGives, Joins, GoesOn, Evaluates, EvaluatesAll, EvaluatesList, Step, binds, prints, asks, counts, nears, fails, Queries, fail_with, QueriesTo, QueriesAll, as_query, query_of, Assigns, StepsAsQuery, StepsOf, Steps, Prints, Runs, IsText}
 use Rattle.lc_eval.specs.Built.{built_calls}
 use Rattle.lc_ground.proofs.AtMostOne.{One, Both, one_value, one_option, one_known, one_either, one_some}
-use Rattle.lc_ground.proofs.OneValue.{IsOneValued, IsOneAnswered, IsDeterminate, built_one}
+use Rattle.lc_ground.proofs.ShapeLaws.{found_in}
+use Rattle.lc_ground.proofs.CallLaws.{IsOneValued, IsOneAnswered, IsDeterminate, built_one}
 
 -- ---- the calls of a table
 
-picked : (P : Call → Type 0) (b : Bool) (d c : Call) (r : Option Call) → P d → (r ≡ Some c → P c) → cond b (Some d) r ≡ Some c → P c
-picked P true d c r p h e = let same : d ≡ c = cc in subst P same p
-picked P false d c r p h e = h e
-
-found_one : (P : Call → Type 0) (test : Call → Bool) (table : List Call) (c : Call) → AllByRecursion P table → find test table ≡ Some c → P c
-found_one P test [] c h e = absurd (cc)
-found_one P test (d ∷ table) c h e = picked P (test d) d c (find test table) h.0 (λ k. found_one P test table c h.1 k) e
-
 pub named_one : (P : Call → Type 0) (table : List Call) (x : List ℕ) (c : Call) → AllByRecursion P table → call_named table x ≡ Some c → P c
 unfolding call_named
-named_one P table x c h e = found_one P _ table c h e
+named_one P table x c h e = found_in P _ table c h e
 
 -- ---- expressions
 

@@ -5,7 +5,7 @@
 --   stores_afresh        those after a session of `run` that emptied them
 --   true_turn            the turn of a true checkpoint is below 2^58
 --   tells_early          and so is that of a record told
-use Rattle.std.proofs.Common.{◌≡◌, ◌⊎◌, inl, inr, ◌≤◌, ◌<◌, ◌^◌, ℕ, true, List, [], ◌∷◌, ◌++◌, length, Option, refl, sym, subst, arith}
+use Rattle.std.proofs.Common.{◌≡◌, ◌⊎◌, inl, inr, ◌≤◌, ◌<◌, ◌^◌, ℕ, true, List, [], ◌∷◌, ◌++◌, length, Option, refl, sym, subst}
 use Rattle.lc_enumeration.specs.Records.{SessionStep}
 use Rattle.lc_formats.specs.Checkpoint.{Checkpoint}
 use Rattle.lc_io.specs.Vaults.{Slots}

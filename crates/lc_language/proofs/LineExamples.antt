@@ -16,7 +16,7 @@ use Rattle.lc_language.specs.declared.ValueCall.{ValueCall}
 use Rattle.lc_language.specs.declared.ValueCall.TheVariants.{Gf, HammingCode, RepetitionCode}
 use Rattle.lc_language.specs.declared.QueryCall.{QueryCall}
 use Rattle.lc_language.specs.declared.QueryCall.TheVariants.{LeastWord}
-use Rattle.lc_language.specs.Bound.{bind, bind_query}
+use Rattle.lc_language.specs.Calls.{bind, value_forms, bind_query, query_forms, refusals_of, refusal_of, query_refusals_of, query_refusal_of}
 use Rattle.lc_grammar.specs.declared.TokenKind.TheVariants.{Name, Assign, Open, Close, Number, End}
 use Rattle.lc_language.specs.Value.{Value, number, field, numbers, lists, truth, nothing, number_in, field_in, numbers_in, lists_in, code_in}
 use Rattle.lc_formats.specs.Text.{bracketed, numbers_text, lists_text, line, spaced, with_values}
@@ -25,7 +25,7 @@ use Rattle.lc_grammar.specs.Token.{is_blank, is_letter, is_digit, is_name_byte, 
 use Rattle.lc_constructions.specs.Code.{is_length}
 use Rattle.lc_constructions.specs.Refusal.{refusal_number, refusal_values, refuse_if}
 use Rattle.lc_constructions.specs.Refusals.{columns_of, are_elements, have_elements, are_equally_long, too_large, bad_length, bad_argument, matrix_refusals, length_refusals, hamming_refusals}
-use Rattle.lc_language.specs.Refusal.{Refusal, refuse, when, first_of, refusal_from, from_codes, refusals_of, refusal_of, query_refusals_of, query_refusal_of}
+use Rattle.lc_language.specs.Refusal.{Refusal, refuse, when, first_of, refusal_from, from_codes}
 
 -- the refusal of a call with these arguments
 unfoldable pub call_refusal : ValueCall → List Value → Option Refusal
@@ -55,21 +55,21 @@ unfolding is_blank is_letter is_digit is_name_byte number_from number_of widest 
 bad_byte = refl
 
 pub not_a_field : call_refusal Gf (number 6 ∷ []) ≡ Some (refuse 1 [])
-unfolding shape shape_of size is_symbol below refuse when first_of refusal_number refusal_values refuse_if refusal_from from_codes is_length too_large bad_length bad_argument are_elements have_elements are_equally_long columns_of matrix_refusals length_refusals hamming_refusals all_fields hamming_length refusals_of refusal_of query_refusals_of query_refusal_of bind bind_query call_refusal query_refusal number_in field_in numbers_in lists_in code_in
+unfolding shape shape_of size is_symbol below refuse when first_of refusal_number refusal_values refuse_if refusal_from from_codes is_length too_large bad_length bad_argument are_elements have_elements are_equally_long columns_of matrix_refusals length_refusals hamming_refusals all_fields hamming_length refusals_of refusal_of query_refusals_of query_refusal_of bind value_forms bind_query query_forms call_refusal query_refusal number_in field_in numbers_in lists_in code_in
 not_a_field = refl
 
 pub short_hamming : call_refusal HammingCode (number 1 ∷ field Gf2 ∷ []) ≡ Some (refuse 3 (1 ∷ []))
-unfolding shape shape_of size is_symbol below refuse when first_of refusal_number refusal_values refuse_if refusal_from from_codes is_length too_large bad_length bad_argument are_elements have_elements are_equally_long columns_of matrix_refusals length_refusals hamming_refusals all_fields hamming_length refusals_of refusal_of query_refusals_of query_refusal_of bind bind_query call_refusal query_refusal number_in field_in numbers_in lists_in code_in
+unfolding shape shape_of size is_symbol below refuse when first_of refusal_number refusal_values refuse_if refusal_from from_codes is_length too_large bad_length bad_argument are_elements have_elements are_equally_long columns_of matrix_refusals length_refusals hamming_refusals all_fields hamming_length refusals_of refusal_of query_refusals_of query_refusal_of bind value_forms bind_query query_forms call_refusal query_refusal number_in field_in numbers_in lists_in code_in
 short_hamming = refl
 
 pub large_field : call_refusal HammingCode (number 2 ∷ field Gf25 ∷ []) ≡ Some (refuse 17 [])
-unfolding shape shape_of size is_symbol below refuse when first_of refusal_number refusal_values refuse_if refusal_from from_codes is_length too_large bad_length bad_argument are_elements have_elements are_equally_long columns_of matrix_refusals length_refusals hamming_refusals all_fields hamming_length refusals_of refusal_of query_refusals_of query_refusal_of bind bind_query call_refusal query_refusal number_in field_in numbers_in lists_in code_in
+unfolding shape shape_of size is_symbol below refuse when first_of refusal_number refusal_values refuse_if refusal_from from_codes is_length too_large bad_length bad_argument are_elements have_elements are_equally_long columns_of matrix_refusals length_refusals hamming_refusals all_fields hamming_length refusals_of refusal_of query_refusals_of query_refusal_of bind value_forms bind_query query_forms call_refusal query_refusal number_in field_in numbers_in lists_in code_in
 large_field = refl
 
 pub long_repetition : map (λ n. call_refusal RepetitionCode (number n ∷ field Gf2 ∷ [])) (0 ∷ 1 ∷ 255 ∷ 256 ∷ []) ≡ Some (refuse 2 []) ∷ None ∷ None ∷ Some (refuse 2 []) ∷ []
-unfolding shape shape_of size is_symbol below refuse when first_of refusal_number refusal_values refuse_if refusal_from from_codes is_length too_large bad_length bad_argument are_elements have_elements are_equally_long columns_of matrix_refusals length_refusals hamming_refusals all_fields hamming_length refusals_of refusal_of query_refusals_of query_refusal_of bind bind_query call_refusal query_refusal number_in field_in numbers_in lists_in code_in
+unfolding shape shape_of size is_symbol below refuse when first_of refusal_number refusal_values refuse_if refusal_from from_codes is_length too_large bad_length bad_argument are_elements have_elements are_equally_long columns_of matrix_refusals length_refusals hamming_refusals all_fields hamming_length refusals_of refusal_of query_refusals_of query_refusal_of bind value_forms bind_query query_forms call_refusal query_refusal number_in field_in numbers_in lists_in code_in
 long_repetition = refl
 
 pub too_large_entry : query_refusal LeastWord (lists ((1 ∷ 2 ∷ []) ∷ []) ∷ field Gf2 ∷ []) ≡ Some (refuse 3 (1 ∷ []))
-unfolding shape shape_of size is_symbol below refuse when first_of refusal_number refusal_values refuse_if refusal_from from_codes is_length too_large bad_length bad_argument are_elements have_elements are_equally_long columns_of matrix_refusals length_refusals hamming_refusals all_fields hamming_length refusals_of refusal_of query_refusals_of query_refusal_of bind bind_query call_refusal query_refusal number_in field_in numbers_in lists_in code_in
+unfolding shape shape_of size is_symbol below refuse when first_of refusal_number refusal_values refuse_if refusal_from from_codes is_length too_large bad_length bad_argument are_elements have_elements are_equally_long columns_of matrix_refusals length_refusals hamming_refusals all_fields hamming_length refusals_of refusal_of query_refusals_of query_refusal_of bind value_forms bind_query query_forms call_refusal query_refusal number_in field_in numbers_in lists_in code_in
 too_large_entry = refl

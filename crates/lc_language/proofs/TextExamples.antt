@@ -14,9 +14,8 @@ use Rattle.lc_grammar.specs.Tree.{Exprs, number, name, call, list, none, more, S
 use Rattle.lc_language.specs.Value as value
 use Rattle.lc_language.specs.Value.{number_in, field_in, numbers_in, lists_in, code_in, is_kind, value_named}
 use Rattle.lc_formats.specs.Text.{same_bytes, line}
-use Rattle.lc_language.specs.Calls.{value_name, query_name, name_of, one, value_signatures, query_signatures, signatures, all_calls, call_named, signature_for}
-use Rattle.lc_language.specs.Bound.{bind}
-use Rattle.lc_language.specs.Refusal.{first_of, refusals_of, refusal_of}
+use Rattle.lc_language.specs.Calls.{value_name, query_name, name_of, value_forms, query_forms, signatures, all_calls, value_calls, query_calls, call_named, signature_for, bind, refusals_of, refusal_of}
+use Rattle.lc_language.specs.Refusal.{first_of}
 use Rattle.lc_language.specs.Print.{value_text, value_line}
 use Rattle.lc_language.specs.Evaluation.{gives, all_give, one_refused, refuse_at, first_misfit, listed_with, list_value, Evaluates, EvaluatesAll, prints, fails, fail_with, Steps, IsText}
 
@@ -29,16 +28,16 @@ unfolding value_named
 unassigned = refl
 
 pub unknown : Evaluates all_calls [] (call 0 (codes "Foo") none) (refuse_at 44 0)
-unfolding same_bytes value_name query_name name_of all_calls call_named
+unfolding same_bytes value_name query_name name_of all_calls value_calls query_calls call_named
 unknown = refl
 
 -- a query's place is looked at before the count of its arguments
 pub misplaced : Evaluates all_calls [] (call 5 (codes "LeastWord") none) (refuse_at 45 5)
-unfolding same_bytes value_name query_name name_of all_calls call_named
+unfolding same_bytes value_name query_name name_of all_calls value_calls query_calls call_named
 misplaced = refl
 
 pub miscounted : Evaluates all_calls [] (call 0 (codes "Weight") none) (refuse_at 46 0)
-unfolding same_bytes value_name query_name name_of one value_signatures query_signatures signatures all_calls call_named signature_for count_of
+unfolding same_bytes value_name query_name name_of value_forms query_forms signatures all_calls value_calls query_calls call_named signature_for count_of
 miscounted = refl
 
 -- Weight(GF(6,y));  and  Weight(y, z) .. the first fault from the left
@@ -51,7 +50,7 @@ weight_of elements = record { target = None; expr = call 0 (codes "Weight") (mor
 
 -- Weight([0,5]);
 pub printed_weight : Steps all_calls [] (weight_of (more (number 8 0) (more (number 10 5) none))) (prints (codes "1" ++ 10 ∷ []))
-unfolding decimal_digits same_bytes value_name query_name name_of one value_signatures query_signatures signatures all_calls call_named signature_for count_of is_kind first_misfit listed_with list_value refuse_at first_of refusals_of refusal_of bind value_text line value_line fail_with number_in field_in numbers_in lists_in code_in
+unfolding decimal_digits same_bytes value_name query_name name_of value_forms query_forms signatures all_calls value_calls query_calls call_named signature_for count_of is_kind first_misfit listed_with list_value refuse_at first_of refusals_of refusal_of bind value_text line value_line fail_with number_in field_in numbers_in lists_in code_in
 printed_weight =
     let list_gives : Evaluates all_calls [] (list 7 (more (number 8 0) (more (number 10 5) none))) (gives (value.numbers (0 ∷ 5 ∷ []))) =
     (gives (value.number 0), refl, (gives (value.number 5), refl, refl)) in
@@ -59,7 +58,7 @@ printed_weight =
 
 -- Weight([1,[2]]);
 pub misfit_element : Steps all_calls [] (weight_of (more (number 8 1) (more (list 10 (more (number 11 2) none)) none))) (fails (record { number = 45; place = 10; values = [] }))
-unfolding same_bytes value_name query_name name_of one value_signatures query_signatures signatures all_calls call_named signature_for count_of place_of_expr listed_with list_value refuse_at fail_with
+unfolding same_bytes value_name query_name name_of value_forms query_forms signatures all_calls value_calls query_calls call_named signature_for count_of place_of_expr listed_with list_value refuse_at fail_with
 misfit_element =
     let two_gives : Evaluates all_calls [] (list 10 (more (number 11 2) none)) (gives (value.numbers (2 ∷ []))) = (gives (value.number 2), refl, refl) in
     let list_gives : Evaluates all_calls [] (list 7 (more (number 8 1) (more (list 10 (more (number 11 2) none)) none))) (refuse_at 45 10) =

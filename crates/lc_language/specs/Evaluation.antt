@@ -19,7 +19,7 @@
 --   Steps table env s step       what the statement s does
 --   Runs table budget env ss text ends      the text of the statements, and whether a fault ends it
 --   IsText table budget bytes text ends     the text of a script
-use Rattle.std.specs.Prelude.{◌≡◌, ℕ, ◌<◌, ◌⊎◌, Bool, true, false, IsTrue, List, [], ◌∷◌, ◌++◌, length, Option, Some, None, MatchOption}
+use Rattle.std.specs.Prelude.{◌≡◌, ℕ, ◌<◌, ◌⊎◌, Bool, true, false, List, [], ◌∷◌, ◌++◌, length, Option, Some, None, MatchOption}
 use Rattle.lc_algebra.specs.declared.FieldName.{FieldName}
 use Rattle.lc_algebra.specs.Word.{weight}
 use Rattle.lc_algebra.specs.Span.{InSpan, IsLeast}
@@ -33,12 +33,11 @@ use Rattle.lc_grammar.specs.Tree.{Expr, Exprs, number, name, call, list, none, m
 use Rattle.lc_grammar.specs.Grammar.{Reads, Fault, IsFault}
 use Rattle.lc_language.specs.Value as value
 use Rattle.lc_language.specs.Value.{Value, is_kind, Binding, value_named}
-use Rattle.lc_language.specs.Calls.{call_named, signature_for}
-use Rattle.lc_language.specs.Bound.{BoundCall, bind, BoundQuery, algebraic_decode, least_word, minimum_distance, certificate, scan_certificate, weight_distribution, alternant_certificate, nearest_word, bind_query}
-use Rattle.lc_language.specs.Refusal.{Refusal, refusal_of, query_refusal_of}
+use Rattle.lc_language.specs.Calls.{call_named, signature_for, BoundCall, bind, BoundQuery, algebraic_decode, least_word, minimum_distance, certificate, scan_certificate, weight_distribution, alternant_certificate, nearest_word, bind_query, refusal_of, query_refusal_of, Gives, IsNotDivisor}
+use Rattle.lc_language.specs.Refusal.{Refusal}
 use Rattle.lc_constructions.specs.Refusals.{columns_of}
 use Rattle.lc_constructions.specs.Nearest.{IsDecoded}
-use Rattle.lc_language.specs.Meaning.{Gives, IsNotDivisor, decoded}
+use Rattle.lc_language.specs.Meaning.{decoded}
 use Rattle.lc_language.specs.Print.{value_line, fault_line, least_line, least_none_line}
 use Rattle.lc_language.specs.Query.{QueryKind, distance, by_levels, by_scan, query_line, form_line, distribution_line, near_line}
 

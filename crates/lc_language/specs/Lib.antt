@@ -1,6 +1,6 @@
-pub mod Bound
 pub mod Calls
 pub mod Evaluation
+pub mod Forms
 pub mod Meaning
 pub mod Print
 pub mod Query

@@ -5,10 +5,12 @@
 --                     list is both a list of numbers and a list of lists
 --   CodeValue        a code with its alternant form, if it has one
 --   code_in v         the code that the value is
+--   Meant kind        what a value of the kind stands for: a number, a field, a list, or a code
+--   read kind v       what the value stands for, if it is of the kind
 --   is_kind kind v    whether the value is of the kind
 --   Binding           a name and the value that it was assigned
 --   value_named x env     the value that a name was assigned last
-use Rattle.std.specs.Prelude.{ℕ, Bool, true, false, List, [], ◌∷◌, Option, Some, None, is_some, if◌then◌else◌}
+use Rattle.std.specs.Prelude.{ℕ, Bool, List, [], ◌∷◌, Option, Some, None, is_some, if◌then◌else◌}
 use Rattle.lc_algebra.specs.declared.FieldName.{FieldName}
 use Rattle.lc_algebra.specs.Matrix.{Matrix}
 use Rattle.lc_constructions.specs.Alternant.{AlternantForm}
@@ -51,12 +53,22 @@ unfoldable pub code_in : Value → Option CodeValue
 code_in (code C form) = Some (record { code = C; form = form })
 code_in _ = None
 
+abbrev pub Meant : Kind → Type 0
+Meant Number = ℕ
+Meant Field = FieldName
+Meant Numbers = List ℕ
+Meant Lists = List (List ℕ)
+Meant Code = CodeValue
+
+abbrev pub read : (kind : Kind) → Value → Option (Meant kind)
+read Number v = number_in v
+read Field v = field_in v
+read Numbers v = numbers_in v
+read Lists v = lists_in v
+read Code v = code_in v
+
 unfoldable pub is_kind : Kind → Value → Bool
-is_kind Number v = is_some (number_in v)
-is_kind Field v = is_some (field_in v)
-is_kind Numbers v = is_some (numbers_in v)
-is_kind Lists v = is_some (lists_in v)
-is_kind Code v = is_some (code_in v)
+is_kind kind v = is_some (read kind v)
 
 pub record Binding : Type 0 where
   pub name : List ℕ

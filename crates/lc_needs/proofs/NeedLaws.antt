@@ -22,7 +22,7 @@ use Rattle.lc_language.specs.declared.QueryCall.TheVariants.{AlgebraicDecode, Le
 use Rattle.lc_language.specs.declared.Kind.{Kind}
 use Rattle.lc_language.specs.declared.Kind.TheVariants.{Numbers, Lists, Field, Code}
 use Rattle.lc_language.specs.Value.{Binding}
-use Rattle.lc_language.specs.Calls.{query_name, name_of, query_signatures, one, signatures, call_named, signature_for}
+use Rattle.lc_language.specs.Calls.{query_name, name_of, query_forms, signatures, call_named, signature_for}
 use Rattle.lc_language.specs.Query.{QueryKind}
 use Rattle.lc_language.specs.Evaluation.{Outcome, Outcomes, gives, refused, refuse_at, Step, binds, prints, asks, counts, nears, fails, fail_with, as_query, Evaluates, EvaluatesAll, QueriesAll, Assigns, StepsOf, StepsAsQuery, Steps}
 use Rattle.lc_sessions.specs.Needs.{NeedsOn, Needs, IsNeeds, MeetsFirst}
@@ -48,7 +48,7 @@ one_form : (kinds found : List Kind) (n : ℕ) → find (λ (ks : List Kind). le
 one_form kinds found n e = eqb-true (length kinds) n (only (length kinds == n) kinds found e)
 
 pub query_long : (c : QueryCall) (n : ℕ) (kinds : List Kind) → signature_for (Query c) n ≡ Some kinds → 13 ≤ length (query_name c) + 2 * n
-unfolding signature_for signatures query_signatures one query_name
+unfolding signature_for signatures query_forms query_name
 query_long AlgebraicDecode n kinds e = (let l = one_form (Code ∷ Numbers ∷ []) kinds n e in omega (arith, l))
 query_long LeastWord n kinds e = (let l = one_form (Lists ∷ Field ∷ []) kinds n e in omega (arith, l))
 query_long MinimumDistance n kinds e = (let l = one_form (Code ∷ []) kinds n e in omega (arith, l))

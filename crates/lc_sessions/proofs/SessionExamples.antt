@@ -37,9 +37,8 @@ use Rattle.lc_io.specs.Told.{Kept}
 use Rattle.lc_language.specs.declared.Call.{Call}
 use Rattle.lc_language.specs.Value as value
 use Rattle.lc_language.specs.Value.{Binding, value_named, number_in, field_in, numbers_in, lists_in, code_in, is_kind}
-use Rattle.lc_language.specs.Calls.{all_calls, call_named, value_name, query_name, name_of, one, query_signatures, signatures, signature_for}
-use Rattle.lc_language.specs.Bound.{bind_query}
-use Rattle.lc_language.specs.Refusal.{first_of, query_refusals_of, query_refusal_of}
+use Rattle.lc_language.specs.Calls.{all_calls, value_calls, query_calls, call_named, value_name, query_name, name_of, query_forms, signatures, signature_for, bind_query, query_refusals_of, query_refusal_of}
+use Rattle.lc_language.specs.Refusal.{first_of}
 use Rattle.lc_language.specs.Query.{distance}
 use Rattle.lc_language.specs.Evaluation.{asks, gives, all_give, first_misfit, Steps}
 use Rattle.lc_language.proofs.TextExamples.{text_of_nothing}
@@ -133,7 +132,7 @@ abbrev pub bound_to_hamming : List Binding
 bound_to_hamming = record { name = codes "C"; value = value.code hamming None } ∷ []
 
 asks_once : Steps all_calls bound_to_hamming ask (asks distance hamming)
-unfolding same_bytes value_name query_name name_of one query_signatures signatures all_calls call_named signature_for count_of is_kind first_misfit value_named bind_query first_of query_refusals_of query_refusal_of number_in field_in numbers_in lists_in code_in
+unfolding same_bytes value_name query_name name_of query_forms signatures all_calls value_calls query_calls call_named signature_for count_of is_kind first_misfit value_named bind_query first_of query_refusals_of query_refusal_of number_in field_in numbers_in lists_in code_in
 asks_once = (all_give (value.code hamming None ∷ []), (gives (value.code hamming None), refl, (all_give [], refl, refl)), inr (omega arith, refl))
 
 pub asks_twice : Needs all_calls bound_to_hamming (ask ∷ ask ∷ []) (hamming ∷ hamming ∷ [])

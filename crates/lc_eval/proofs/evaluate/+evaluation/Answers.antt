@@ -2,7 +2,7 @@ use Rattle.std.proofs.Common.{sym}
 use Rattle.std.proofs.lemmas.Result.{err_from_is_err_and}
 use Rattle.lc_language.specs.Evaluation.{EvaluatesList, nothing_yet}
 use Rattle.lc_parse.specs.Views.{trees_of}
-use Rattle.lc_eval.specs.Built.{built_calls, bound_of}
+use Rattle.lc_eval.specs.Built.{built_calls}
 use Rattle.lc_eval.specs.Value.{values_of}
 use Rattle.lc_eval.proofs.ListLaws.{misfit_element}
 use Rattle.lc_eval.proofs.EvaluationLaws.{evaluated_more, evaluated_fault, wrong_count, arguments_fault, call_bound, call_misfit}
@@ -32,7 +32,7 @@ call-returns-in_err-values t c =
 pub call-returns-in-Some-bind : goal.call-returns-in-Some-bind
 call-returns-in-Some-bind t c =
     let binds = rw c.deref.ensures.value at c.in-Some-bind.ensures in
-    call_bound c.args.names.now c.args.place c.args.name.now c.args.arguments.now c.in-Some.row.now c.in-Value.call c.in-Some.ensures c.in-Value.is c.in-Some-kinds.kinds.now (values_of c.in_ok-values.values.items) (bound_of c.in-Some-bind.bound) c.apply.result (sym c.in-Some-kinds.ensures) c.in_ok-values.ensures (sym binds) c.apply.ensures
+    call_bound c.args.names.now c.args.place c.args.name.now c.args.arguments.now c.in-Some.row.now c.in-Value.call c.in-Some.ensures c.in-Value.is c.in-Some-kinds.kinds.now (values_of c.in_ok-values.values.items) _ c.apply.result (sym c.in-Some-kinds.ensures) c.in_ok-values.ensures (sym binds) c.apply.ensures
 
 pub call-returns : goal.call-returns
 call-returns t c =

@@ -3,7 +3,7 @@ use Rattle.std.proofs.lemmas.Result.{err_from_is_err_and}
 use Rattle.lc_grammar.specs.Tree as tree
 use Rattle.lc_language.specs.Evaluation.{QueriesTo, StepsAsQuery}
 use Rattle.lc_parse.specs.Views.{trees_of}
-use Rattle.lc_eval.specs.Built.{built_calls, query_call_of, bound_query_of}
+use Rattle.lc_eval.specs.Built.{built_calls, query_call_of}
 use Rattle.lc_eval.specs.Value.{values_of}
 use Rattle.lc_eval.proofs.EvaluationLaws.{query_count, query_fault, query_bound, query_misfit}
 use Rattle.lc_eval.proofs.StatementLaws.{affects_map}
@@ -20,9 +20,9 @@ returns-in_err-values c =
 pub returns-in-Some-bind_query : goal.returns-in-Some-bind_query
 returns-in-Some-bind_query c =
     let binds = rw c.deref.ensures.value at c.in-Some-bind_query.ensures in
-    λ x. affects_map c.answer.result (QueriesTo c.args.place (bound_query_of c.in-Some-bind_query.query))
+    λ x. affects_map c.answer.result (QueriesTo c.args.place _)
     (StepsAsQuery built_calls c.args.names.now (query_call_of c.args.call) (tree.call c.args.place x (trees_of c.args.arguments.now)))
-    (λ step q. query_bound c.args.names.now c.args.place c.args.arguments.now c.args.row.now c.args.call c.requires.row c.in-Some.kinds.now (values_of c.in_ok-values.values.items) (bound_query_of c.in-Some-bind_query.query) step (sym c.in-Some.ensures) c.in_ok-values.ensures (sym binds) q x)
+    (λ step q. query_bound c.args.names.now c.args.place c.args.arguments.now c.args.row.now c.args.call c.requires.row c.in-Some.kinds.now (values_of c.in_ok-values.values.items) _ step (sym c.in-Some.ensures) c.in_ok-values.ensures (sym binds) q x)
     c.answer.ensures
 
 pub returns : goal.returns

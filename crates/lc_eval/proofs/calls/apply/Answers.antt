@@ -6,13 +6,13 @@ use Rattle.lc_constructions.specs.Basic.{GeneratedBy, IsConstant, IsAny, IsZero,
 use Rattle.lc_constructions.specs.Combined.{InExtended, InPunctured, InShortened, InEvenWeight, InDirectSum, InUuv, InDirectProduct, InIntersection}
 use Rattle.lc_constructions.specs.Concatenated.{InConcatenated}
 use Rattle.lc_constructions.specs.Refusals.{length_refusals, hamming_refusals, reed_muller_refusals, extended_refusals, deleted_refusals, even_weight_refusals, direct_sum_refusals, uuv_refusals, direct_product_refusals, intersection_refusals, concatenated_refusals}
-use Rattle.lc_language.specs.Bound as bound
+use Rattle.lc_language.specs.Calls as bound
 use Rattle.lc_language.specs.Value.{number}
-use Rattle.lc_language.specs.Refusal.{refusals_of}
+use Rattle.lc_language.specs.Calls.{refusals_of}
 use Rattle.lc_eval.specs.Value.{value_of}
 use Rattle.lc_eval.proofs.AnswerLaws.{made_applies, never_refused}
 use Rattle.lc_eval.proofs.FormLaws.{bch_applies, reed_solomon_applies}
-use Rattle.lc_eval.proofs.apply.apply.Goals as goal
+use Rattle.lc_eval.proofs.calls.apply.Goals as goal
 
 pub returns-in-RepetitionCode : goal.returns-in-RepetitionCode
 unfolding refusals_of
