@@ -1,7 +1,9 @@
 -- Worked values, calls, refusals, lists, texts, slots, certificates and the summary's input, by evaluation of the definitions.
 --   empty_lists, asked_lists, last_value       the empty list is of both kinds; a name has its last value
 --   named, forms                               calls by their names; the two forms of BCHCode
---   reed_muller, reed_solomon, bch, goppa, alternant, positions, pairs, concatenated, decoded, algebraic, many_words      refusals
+--   reed_muller, reed_solomon, bch, goppa, alternant, positions, pairs, concatenated, decoded, algebraic, many_words, nearest_refused,
+--   uncounted
+--                                              refusals; 47 of too many words
 --   listed_values, mixed_lists, made_lists     one element more, of lists of both kinds; elements that don't fit; the lists
 --   misfits                                    the first argument that is of another kind
 --   least                                      the lines of LeastWord, and distance none
@@ -17,6 +19,7 @@ use Rattle.lc_algebra.specs.Embedding.{is_subfield, first_from, first_that}
 use Rattle.lc_algebra.specs.Span.{below}
 use Rattle.lc_constructions.specs.Cyclic.{put_on, trimmed, all_fields, locator_field}
 use Rattle.lc_enumeration.specs.InformationSet.{is_member}
+use Rattle.lc_enumeration.specs.Distribution.{distribution_refusal}
 use Rattle.lc_language.specs.declared.Call.TheVariants.{Value as Value_, Query}
 use Rattle.lc_language.specs.declared.ValueCall.{ValueCall}
 use Rattle.lc_language.specs.declared.ValueCall.TheVariants.{Gf, ReedMullerCode, BchCode, ReedSolomonCode, GoppaCode, AlternantCode, PuncturedCode, UuvCode, ConcatenatedCode, Decode}
@@ -32,7 +35,7 @@ use Rattle.lc_constructions.specs.Code.{is_length}
 use Rattle.lc_constructions.specs.Coset.{too_many_cosets}
 use Rattle.lc_constructions.specs.Refusal.{refusal_number, refusal_values, refuse_if}
 use Rattle.lc_constructions.specs.Refusals.{columns_of, are_elements, have_elements, are_equally_long, is_rising, too_large, bad_length, bad_argument, not_subfield, first_index, repeated_point, root_at, fields_differ, lengths_differ, matrix_refusals, bch_refusals, is_size_of_symbol_field, reed_solomon_refusals, is_goppa_polynomial, goppa_refusals, form_refusals, alternant_refusals, reed_muller_refusals, deleted_refusals, uuv_refusals, degree_over, nested_refusals, concatenated_refusals}
-use Rattle.lc_language.specs.Refusal.{Refusal, refuse, when, first_of, refusal_from, from_codes, word_refusals, coset_refusal, no_form}
+use Rattle.lc_language.specs.Refusal.{Refusal, refuse, when, first_of, refusal_from, from_codes, word_refusals, coset_refusal, no_form, no_distribution}
 use Rattle.lc_language.specs.Print.{least_line, least_none_line, distance_none_line}
 use Rattle.lc_language.specs.Evaluation.{first_misfit, nothing_yet, all_numbers, all_lists, listed_with, list_value}
 
@@ -115,6 +118,14 @@ algebraic = refl
 pub many_words : map (λ n. query_refusal LeastWord (lists (replicate n (1 ∷ [])) ∷ field Gf2 ∷ [])) (0 ∷ 16 ∷ 17 ∷ []) ≡ Some (refuse 2 []) ∷ None ∷ Some (refuse 16 []) ∷ []
 unfolding shape shape_of size is_symbol below refuse when first_of refusal_number refusal_values refuse_if refusal_from from_codes is_length too_large bad_length bad_argument are_elements have_elements are_equally_long columns_of lengths_differ matrix_refusals all_fields locator_field residues number_of_residues plus minus times top up times_x product coefficients add mul value_at put_on trimmed is_subfield first_from first_that first_index repeated_point root_at not_subfield fields_differ is_rising deleted_refusals uuv_refusals degree_over nested_refusals concatenated_refusals word_refusals too_many_cosets coset_refusal no_form bch_refusals is_size_of_symbol_field reed_solomon_refusals reed_muller_refusals is_goppa_polynomial goppa_refusals form_refusals alternant_refusals refusals_of refusal_of query_refusals_of query_refusal_of bind value_forms bind_query query_forms call_refusal query_refusal number_in field_in numbers_in lists_in code_in
 many_words = refl
+
+pub nearest_refused : map (query_refusal NearestWord) ((repetition 2 ∷ numbers (1 ∷ 0 ∷ []) ∷ []) ∷ (repetition 2 ∷ numbers (1 ∷ []) ∷ []) ∷ (repetition 2 ∷ numbers (1 ∷ 2 ∷ []) ∷ []) ∷ []) ≡ None ∷ Some (refuse 12 []) ∷ Some (refuse 3 (2 ∷ [])) ∷ []
+unfolding shape shape_of size is_symbol below refuse when first_of refusal_number refusal_values refuse_if refusal_from from_codes is_length too_large bad_length bad_argument are_elements have_elements are_equally_long columns_of lengths_differ matrix_refusals all_fields locator_field residues number_of_residues plus minus times top up times_x product coefficients add mul value_at put_on trimmed is_subfield first_from first_that first_index repeated_point root_at not_subfield fields_differ is_rising deleted_refusals uuv_refusals degree_over nested_refusals concatenated_refusals word_refusals too_many_cosets coset_refusal no_form bch_refusals is_size_of_symbol_field reed_solomon_refusals reed_muller_refusals is_goppa_polynomial goppa_refusals form_refusals alternant_refusals refusals_of refusal_of query_refusals_of query_refusal_of bind value_forms bind_query query_forms call_refusal query_refusal number_in field_in numbers_in lists_in code_in
+nearest_refused = refl
+
+pub uncounted : map (query_refusal WeightDistribution) ((code_of Gf2 50 (replicate 25 []) ∷ []) ∷ (code_of Gf2 49 (replicate 24 []) ∷ []) ∷ (code_of Gf2 64 (replicate 40 []) ∷ []) ∷ (code_of Gf2 63 (replicate 40 []) ∷ []) ∷ []) ≡ Some (refuse 47 (25 ∷ 25 ∷ [])) ∷ None ∷ Some (refuse 47 (40 ∷ 24 ∷ [])) ∷ None ∷ []
+unfolding shape shape_of size is_symbol below refuse when first_of refusal_number refusal_values refuse_if refusal_from from_codes is_length too_large bad_length bad_argument are_elements have_elements are_equally_long columns_of lengths_differ matrix_refusals all_fields locator_field residues number_of_residues plus minus times top up times_x product coefficients add mul value_at put_on trimmed is_subfield first_from first_that first_index repeated_point root_at not_subfield fields_differ is_rising deleted_refusals uuv_refusals degree_over nested_refusals concatenated_refusals word_refusals too_many_cosets coset_refusal no_form bch_refusals is_size_of_symbol_field reed_solomon_refusals reed_muller_refusals is_goppa_polynomial goppa_refusals form_refusals alternant_refusals refusals_of refusal_of query_refusals_of query_refusal_of bind value_forms bind_query query_forms call_refusal query_refusal number_in field_in numbers_in lists_in code_in no_distribution distribution_refusal
+uncounted = refl
 
 -- elements with their places
 abbrev pub at : List ℕ → tree.Exprs
