@@ -1,9 +1,8 @@
 -- Worked values, calls, refusals, lists, texts, slots, certificates and the summary's input, by evaluation of the definitions.
 --   empty_lists, asked_lists, last_value       the empty list is of both kinds; a name has its last value
 --   named, forms                               calls by their names; the two forms of BCHCode
---   reed_muller, reed_solomon, bch, goppa, alternant, positions, pairs, concatenated, decoded, algebraic, many_words, nearest_refused,
---   uncounted
---                                              refusals; 47 of too many words
+--   reed_muller, reed_solomon, bch, goppa, alternant, positions, pairs, concatenated, decoded, algebraic, many_words      refusals
+--   nearest_refused, uncounted                 a word of another length, or with a symbol that is none; too many words to count
 --   listed_values, mixed_lists, made_lists     one element more, of lists of both kinds; elements that don't fit; the lists
 --   misfits                                    the first argument that is of another kind
 --   least                                      the lines of LeastWord, and distance none
