@@ -10,7 +10,8 @@ use Rattle.lc_grammar.specs.Tree.{Expr, Exprs, number, name, call, list, count_o
 use Rattle.lc_grammar.specs.Grammar.{Reads}
 use Rattle.lc_language.specs.declared.Call.{Call}
 use Rattle.lc_language.specs.declared.Call.TheVariants.{Query}
-use Rattle.lc_language.specs.Calls.{signature_for, BoundQuery, algebraic_decode, least_word, minimum_distance, certificate, scan_certificate, weight_distribution, alternant_certificate, nearest_word, bind_query}
+use Rattle.lc_language.specs.Calls as bound
+use Rattle.lc_language.specs.Calls.{signature_for, BoundQuery, bind_query}
 use Rattle.lc_language.specs.declared.QueryCall.{QueryCall}
 use Rattle.lc_language.specs.declared.Kind.{Kind}
 use Rattle.lc_language.specs.Value.{Binding}
@@ -43,16 +44,16 @@ by_asks kind C step h =
     ⊎_elim (λ (a : (length C.rows ≡ 0) × (step ≡ prints (query_line kind C 0))). told step (prints (query_line kind C 0)) a.1 tt) (λ (a : (0 < length C.rows) × (step ≡ asks kind C)). told step (asks kind C) a.1 a.0) h
 
 by_query : (b : BoundQuery) (step : Step) → Queries b step → HasRows step
-by_query (algebraic_decode C None x) step h = absurd h
-by_query (algebraic_decode C (Some form) x) step h = told step _ h.2 tt
-by_query (least_word rows f) step h = ⊎_elim (λ a. told step _ a.2 tt) (λ a. told step _ a.1 tt) h
-by_query (minimum_distance C) step h = by_asks _ C step h
-by_query (certificate C) step h = by_asks _ C step h
-by_query (scan_certificate C) step h = by_asks _ C step h
-by_query (weight_distribution C) step h = told step _ h tt
-by_query (alternant_certificate C None x) step h = absurd h
-by_query (alternant_certificate C (Some form) x) step h = told step _ h tt
-by_query (nearest_word C x) step h = ⊎_elim (λ (a : (length C.rows ≡ 0) × (step ≡ prints (near_line C x 0))). told step _ a.1 tt) (λ (a : (0 < length C.rows) × (step ≡ nears C x)). told step _ a.1 tt) h
+by_query (bound.algebraic_decode C None x) step h = absurd h
+by_query (bound.algebraic_decode C (Some form) x) step h = told step _ h.2 tt
+by_query (bound.least_word rows f) step h = ⊎_elim (λ a. told step _ a.2 tt) (λ a. told step _ a.1 tt) h
+by_query (bound.minimum_distance C) step h = by_asks _ C step h
+by_query (bound.certificate C) step h = by_asks _ C step h
+by_query (bound.scan_certificate C) step h = by_asks _ C step h
+by_query (bound.weight_distribution C) step h = told step _ h tt
+by_query (bound.alternant_certificate C None x) step h = absurd h
+by_query (bound.alternant_certificate C (Some form) x) step h = told step _ h tt
+by_query (bound.nearest_word C x) step h = ⊎_elim (λ (a : (length C.rows ≡ 0) × (step ≡ prints (near_line C x 0))). told step _ a.1 tt) (λ (a : (0 < length C.rows) × (step ≡ nears C x)). told step _ a.1 tt) h
 
 by_all : (c : QueryCall) (place : ℕ) (kinds : List Kind) (es : Exprs) (os : Outcomes) (step : Step) → QueriesAll c place kinds es os step → HasRows step
 by_all c place kinds es (one_refused r) step h = told step (fails r) h tt

@@ -8,7 +8,7 @@ use Rattle.std.specs.Prelude.{◌≡◌, ℕ, List, [], ◌∷◌, ◌++◌, map
 use Rattle.lc_language.specs.declared.Call as language
 use Rattle.lc_language.specs.declared.Call.TheVariants.{Value, Query}
 use Rattle.lc_language.specs.declared.QueryCall as language_query
-use Rattle.lc_language.specs.declared.QueryCall.TheVariants.{AlgebraicDecode, LeastWord, MinimumDistance, Certificate, ScanCertificate}
+use Rattle.lc_language.specs.declared.QueryCall.TheVariants as query
 use Rattle.lc_language.specs.declared.Kind.{Kind}
 use Rattle.lc_language.specs.Calls.{value_calls, call_named, signatures}
 use Rattle.lc_eval.specs.declared.calls.QueryCall.{QueryCall}
@@ -18,18 +18,18 @@ use Rattle.lc_eval.specs.declared.calls.Call.TheVariants as call
 use Rattle.lc_eval.specs.declared.calls.Row.{Row}
 
 abbrev pub query_call_of : QueryCall → language_query.QueryCall
-query_call_of q.AlgebraicDecode = AlgebraicDecode
-query_call_of q.LeastWord = LeastWord
-query_call_of q.MinimumDistance = MinimumDistance
-query_call_of q.Certificate = Certificate
-query_call_of q.ScanCertificate = ScanCertificate
+query_call_of q.AlgebraicDecode = query.AlgebraicDecode
+query_call_of q.LeastWord = query.LeastWord
+query_call_of q.MinimumDistance = query.MinimumDistance
+query_call_of q.Certificate = query.Certificate
+query_call_of q.ScanCertificate = query.ScanCertificate
 
 abbrev pub call_of : Call → language.Call
 call_of (call.Value c) = Value c
 call_of (call.Query c) = Query (query_call_of c)
 
 unfoldable pub built_calls : List language.Call
-built_calls = map Value value_calls ++ Query AlgebraicDecode ∷ Query LeastWord ∷ Query MinimumDistance ∷ Query Certificate ∷ Query ScanCertificate ∷ []
+built_calls = map Value value_calls ++ Query query.AlgebraicDecode ∷ Query query.LeastWord ∷ Query query.MinimumDistance ∷ Query query.Certificate ∷ Query query.ScanCertificate ∷ []
 
 abbrev pub forms_of : Row → List (List Kind)
 forms_of row = map (λ kinds. kinds.now) row.forms.now

@@ -17,7 +17,8 @@ use Rattle.lc_language.specs.declared.QueryCall.{QueryCall}
 use Rattle.lc_language.specs.declared.Kind.{Kind}
 use Rattle.lc_language.specs.Value as value
 use Rattle.lc_language.specs.Value.{Value, Binding, value_named}
-use Rattle.lc_language.specs.Calls.{call_named, signature_for, BoundCall, bind, BoundQuery, algebraic_decode, least_word, minimum_distance, certificate, scan_certificate, weight_distribution, alternant_certificate, nearest_word, bind_query, refusal_of, query_refusal_of, Gives, IsNotDivisor}
+use Rattle.lc_language.specs.Calls as bound
+use Rattle.lc_language.specs.Calls.{call_named, signature_for, BoundCall, bind, BoundQuery, bind_query, refusal_of, query_refusal_of, Gives, IsNotDivisor}
 use Rattle.lc_language.specs.Query.{QueryKind, query_line, near_line}
 use Rattle.lc_language.specs.Evaluation.{Outcome, gives, refused, Outcomes, all_give, one_refused, refuse_at, refuse_call, misfit_place, Listed, nothing_yet, all_numbers, all_lists, listed_with, list_value, ListGoesOn, AppliesTo, Applies, CallGives, Joins, GoesOn, Evaluates, EvaluatesAll, EvaluatesList, Step, binds, prints, asks, counts, nears, fails, AsksOf, Queries, QueriesTo, QueriesAll, query_of, fail_with, Assigns, StepsAsQuery, StepsOf, Steps}
 use Rattle.lc_sessions.specs.Needs.{NeedsOn, Needs, MeetsFirst}
@@ -144,16 +145,16 @@ by_asks kind C step shaped h =
     ⊎_elim (λ (a : (length C.rows ≡ 0) × (step ≡ prints (query_line kind C 0))). told step (prints (query_line kind C 0)) a.1 tt) (λ (a : (0 < length C.rows) × (step ≡ asks kind C)). told step (asks kind C) a.1 shaped) h
 
 by_query : (b : BoundQuery) (step : Step) → HaveQueryShapes b → Queries b step → HasShape step
-by_query (algebraic_decode C None x) step s h = absurd h
-by_query (algebraic_decode C (Some form) x) step s h = told step _ h.2 tt
-by_query (least_word rows f) step s h = ⊎_elim (λ a. told step _ a.2 tt) (λ a. told step _ a.1 tt) h
-by_query (minimum_distance C) step s h = by_asks _ C step s h
-by_query (certificate C) step s h = by_asks _ C step s h
-by_query (scan_certificate C) step s h = by_asks _ C step s h
-by_query (weight_distribution C) step s h = told step _ h tt
-by_query (alternant_certificate C None x) step s h = absurd h
-by_query (alternant_certificate C (Some form) x) step s h = told step _ h tt
-by_query (nearest_word C x) step s h = ⊎_elim (λ (a : (length C.rows ≡ 0) × (step ≡ prints (near_line C x 0))). told step _ a.1 tt) (λ (a : (0 < length C.rows) × (step ≡ nears C x)). told step _ a.1 tt) h
+by_query (bound.algebraic_decode C None x) step s h = absurd h
+by_query (bound.algebraic_decode C (Some form) x) step s h = told step _ h.2 tt
+by_query (bound.least_word rows f) step s h = ⊎_elim (λ a. told step _ a.2 tt) (λ a. told step _ a.1 tt) h
+by_query (bound.minimum_distance C) step s h = by_asks _ C step s h
+by_query (bound.certificate C) step s h = by_asks _ C step s h
+by_query (bound.scan_certificate C) step s h = by_asks _ C step s h
+by_query (bound.weight_distribution C) step s h = told step _ h tt
+by_query (bound.alternant_certificate C None x) step s h = absurd h
+by_query (bound.alternant_certificate C (Some form) x) step s h = told step _ h tt
+by_query (bound.nearest_word C x) step s h = ⊎_elim (λ (a : (length C.rows ≡ 0) × (step ≡ prints (near_line C x 0))). told step _ a.1 tt) (λ (a : (0 < length C.rows) × (step ≡ nears C x)). told step _ a.1 tt) h
 
 by_all : (c : QueryCall) (place : ℕ) (kinds : List Kind) (es : Exprs) (os : Outcomes) (step : Step) → AreGiven os → QueriesAll c place kinds es os step → HasShape step
 by_all c place kinds es (one_refused r) step s h = told step (fails r) h tt

@@ -1,6 +1,7 @@
 -- What holds of each call: that it gives one value, or as a statement does one thing; and that the codes that it gives or asks for are
 -- over symbol fields and have a length of at most 255 and reduced rows, if the codes among its arguments are such.
 --   gives_one, queries_one   a call that isn't refused gives one value; a query does one thing
+--   length_allowed, sum_short, ..      by each list of refusals: a code that isn't refused is over a symbol field, and at most 255 long
 --   GivesShaped b            the value of a bound call that isn't refused is shaped
 --   calls_shaped             so it is in every form of a call
 --   HaveQueryShapes b        the code of a query that a search answers is one of rows
@@ -8,14 +9,21 @@
 --   IsDeterminate c          whatever its arguments, the call gives one value, or does one thing
 --   built_one                the calls that are built are such
 --   bind_shaped, bind_query_shaped       shaped arguments bind a call, and a query, of which this holds
-use Rattle.std.proofs.Common.{◌≡◌, Bool, List, [], ◌∷◌, None, Some, sym, ap, ◌∙◌, arith}
+use Rattle.std.proofs.Common.{◌≡◌, ◌≤◌, ◌+◌, ◌*◌, ◌^◌, ℕ, Bool, true, List, [], ◌∷◌, length, Option, None, Some, sym, ap, ◌∙◌, arith}
+use Rattle.std.specs.Prelude.{IsTrue}
 use Rattle.std.specs.List.{AllByRecursion}
+use Rattle.std.proofs.lemmas.Bool.{leb-true}
+use Rattle.lc_algebra.specs.declared.FieldName.{FieldName}
 use Rattle.lc_algebra.specs.declared.FieldName.TheVariants.{Gf2, Gf3}
-use Rattle.lc_algebra.specs.Field.{size}
+use Rattle.lc_algebra.specs.Field.{size, is_symbol}
+use Rattle.lc_algebra.specs.Matrix.{Matrix}
 use Rattle.lc_algebra.proofs.EmbeddingTests.{told_by_size}
 use Rattle.lc_constructions.specs.Code.{InCode, IsCode}
 use Rattle.lc_constructions.specs.Combined.{InDual}
 use Rattle.lc_constructions.specs.Nearest.{IsNearest}
+use Rattle.lc_constructions.specs.Refusals.{columns_of, matrix_refusals, length_refusals, hamming_refusals, reed_muller_refusals, cyclic_refusals, bch_refusals, goppa_refusals, form_refusals, alternant_refusals, extended_refusals, direct_sum_refusals, uuv_refusals, direct_product_refusals, degree_over, nested_refusals, concatenated_refusals}
+use Rattle.lc_constructions.specs.Basic.{hamming_length}
+use Rattle.lc_language.specs.Refusal.{first_of, from_codes}
 use Rattle.lc_language.specs.declared.Call.{Call}
 use Rattle.lc_language.specs.declared.Call.TheVariants.{Value as Value_, Query}
 use Rattle.lc_language.specs.declared.ValueCall.{ValueCall}
@@ -32,7 +40,7 @@ use Rattle.lc_ground.specs.Shapes.{IsCodeOfRows}
 use Rattle.lc_ground.proofs.AtMostOne.{One, one_value, one_some}
 use Rattle.lc_ground.proofs.OneNearest.{nearest_one}
 use Rattle.lc_ground.proofs.OneValue.{code_one, made_one, extended_golay_one, bch_one, reed_solomon_one, same_truth, prints_least_one, asks_one, nears_one, decoded_by_form}
-use Rattle.lc_ground.proofs.ShapeLaws.{IsShaped, AreShaped, InForms, bound_shaped, shaped_as, made_shaped, binary, ternary, matrix_allowed, length_allowed, cyclic_allowed, hamming_allowed, reed_muller_short, bch_allowed, solomon_allowed, goppa_allowed, alternant_allowed, extended_short, sum_short, uuv_short, product_short, concatenated_short}
+use Rattle.lc_ground.proofs.ShapeLaws.{IsShaped, AreShaped, InForms, bound_shaped, shaped_as, made_shaped, IsAllowed, none_refuses, allowed, short, binary, ternary}
 
 pub gives_one : (b : BoundCall) → refusal_of b ≡ None → One (Gives b)
 gives_one (bound.gf q) r = one_some (λ f. size f ≡ q) (λ f v. v ≡ field f) (λ f g a b. told_by_size f g (a ∙ sym b)) (λ f. one_value (field f))
@@ -81,6 +89,72 @@ queries_one (bound.weight_distribution C) = one_value (counts C)
 queries_one (bound.alternant_certificate C None x) = λ s t h k. absurd h
 queries_one (bound.alternant_certificate C (Some form) x) = one_value (prints (form_line C form x))
 queries_one (bound.nearest_word C x) = nears_one C x
+
+-- ---- codes that aren't refused are short, and over symbol fields
+
+matrix_allowed : (f : FieldName) (rows : List (List ℕ)) → first_of (from_codes (matrix_refusals f rows)) ≡ None → IsAllowed f (columns_of rows)
+unfolding matrix_refusals
+matrix_allowed f rows e = let h = none_refuses _ e in allowed f (columns_of rows) h.0 h.1.0
+
+length_allowed : (f : FieldName) (n : ℕ) → first_of (from_codes (length_refusals f n)) ≡ None → IsAllowed f n
+unfolding length_refusals
+length_allowed f n e = let h = none_refuses _ e in allowed f n h.0 h.1.0
+
+cyclic_allowed : (f : FieldName) (x : List ℕ) (n : ℕ) → first_of (from_codes (cyclic_refusals f x n true)) ≡ None → IsAllowed f n
+unfolding cyclic_refusals
+cyclic_allowed f x n e = let h = none_refuses _ e in allowed f n h.0 h.1.0
+
+nested_short : (C D : Matrix) (s : Option ℕ) → first_of (from_codes (nested_refusals C D s)) ≡ None → C.columns * D.columns ≤ 255
+unfolding nested_refusals
+nested_short C D None e = absurd (let f = (none_refuses _ e).0 in cc)
+nested_short C D (Some s) e = short (C.columns * D.columns) (none_refuses _ e).1.0
+
+hamming_allowed : (f : FieldName) (r : ℕ) → first_of (from_codes (hamming_refusals f r)) ≡ None → IsAllowed f (hamming_length (size f) r)
+unfolding hamming_refusals
+hamming_allowed f r e = let h = none_refuses _ e in allowed f (hamming_length (size f) r) h.0 h.1.1.0
+
+reed_muller_short : (r m : ℕ) → first_of (from_codes (reed_muller_refusals r m)) ≡ None → 2 ^ m ≤ 255
+unfolding reed_muller_refusals
+reed_muller_short r m e = short (2 ^ m) (none_refuses _ e).0
+
+bch_allowed : (f : FieldName) (n d : ℕ) → first_of (from_codes (bch_refusals f n d)) ≡ None → IsAllowed f n
+unfolding bch_refusals
+bch_allowed f n d e = let h = none_refuses _ e in allowed f n h.0 h.1.0
+
+goppa_allowed : (f K : FieldName) (g points : List ℕ) → first_of (from_codes (goppa_refusals f K g points)) ≡ None → IsAllowed f (length points)
+unfolding goppa_refusals
+goppa_allowed f K g points e = let h = none_refuses _ e in allowed f (length points) h.0 h.1.1.0
+
+alternant_allowed : (f K : FieldName) (r : ℕ) (points multipliers : List ℕ) → first_of (from_codes (alternant_refusals f K r points multipliers)) ≡ None → IsAllowed f (length points)
+unfolding alternant_refusals form_refusals
+alternant_allowed f K r points multipliers e = let h = none_refuses _ e in allowed f (length points) h.0 h.1.1.0
+
+extended_short : (C : Matrix) → first_of (from_codes (extended_refusals C)) ≡ None → C.columns + 1 ≤ 255
+unfolding extended_refusals
+extended_short C e = short (C.columns + 1) (none_refuses _ e).0
+
+sum_short : (C D : Matrix) → first_of (from_codes (direct_sum_refusals C D)) ≡ None → C.columns + D.columns ≤ 255
+unfolding direct_sum_refusals
+sum_short C D e = short (C.columns + D.columns) (none_refuses _ e).1.0
+
+uuv_short : (C D : Matrix) → first_of (from_codes (uuv_refusals C D)) ≡ None → C.columns + D.columns ≤ 255
+unfolding uuv_refusals
+uuv_short C D e = short (C.columns + D.columns) (none_refuses _ e).1.1.0
+
+product_short : (C D : Matrix) → first_of (from_codes (direct_product_refusals C D)) ≡ None → C.columns * D.columns ≤ 255
+unfolding direct_product_refusals
+product_short C D e = short (C.columns * D.columns) (none_refuses _ e).1.0
+
+concatenated_short : (C D : Matrix) → first_of (from_codes (concatenated_refusals C D)) ≡ None → C.columns * D.columns ≤ 255
+unfolding concatenated_refusals
+concatenated_short C D e = nested_short C D (degree_over (size D.field) (size C.field)) e
+
+symbols_few : (f : FieldName) → IsTrue (is_symbol f) → size f ≤ 16
+unfolding is_symbol
+symbols_few f h = leb-true (size f) 16 h
+
+solomon_allowed : (f : FieldName) (n : ℕ) → size f ≡ n + 1 → IsTrue (is_symbol f) → IsAllowed f n
+solomon_allowed f n e h = let few = symbols_few f h in (omega (arith, few, e), h)
 
 -- ---- shapes
 

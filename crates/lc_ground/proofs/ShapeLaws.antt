@@ -1,13 +1,14 @@
 -- Values of a script whose codes are over symbol fields and have a length of at most 255 and reduced rows.
 --   IsShaped v               if the value is a code, it is one of rows
---   IsAllowed f n            a code over f of length n may be made; length_allowed, sum_short, ..      so it may, if it isn't refused
+--   none_refuses             the refusals of what isn't refused
+--   IsAllowed f n            a code over f of length n may be made; allowed, short      so it may, if it isn't refused
 --   from_option, from_known  by cases on an option
 --   made_shaped, shaped_as   a code's value, and a value that is told, are shaped
 --   ForAny, ForAll, InForms  what holds of all that a form of a call makes of shaped values, and so do several
 --   found_in                 what holds of all holds of the one that is found
 --   bound_shaped             holds of what is bound
-use Rattle.std.proofs.Common.{◌≡◌, ◌≤◌, ◌+◌, ◌*◌, ◌^◌, ℕ, Bool, true, false, List, [], ◌∷◌, length, Option, Some, None, refl, sym, subst, arith}
-use Rattle.std.specs.Prelude.{MatchOption, find, cond, ◌==◌, IsTrue, ◌&&◌, nat_le, not}
+use Rattle.std.proofs.Common.{◌≡◌, ◌≤◌, ℕ, Bool, true, false, List, [], ◌∷◌, length, Option, Some, None, refl, sym, subst}
+use Rattle.std.specs.Prelude.{MatchOption, find, cond, ◌==◌, ◌&&◌, nat_le, not}
 use Rattle.std.specs.List.{AllByRecursion}
 use Rattle.std.proofs.lemmas.Bool.{leb-true}
 use Rattle.lc_algebra.specs.declared.FieldName.{FieldName}
@@ -16,10 +17,9 @@ use Rattle.lc_algebra.specs.Field.{shape, shape_of, size, is_symbol}
 use Rattle.lc_algebra.specs.Matrix.{Matrix, AreRows, IsReduced}
 use Rattle.lc_constructions.specs.declared.refusal.CodeRefusal.{CodeRefusal}
 use Rattle.lc_constructions.specs.Code.{IsCode, is_length}
-use Rattle.lc_constructions.specs.Basic.{hamming_length}
 use Rattle.lc_constructions.specs.Alternant.{AlternantForm}
 use Rattle.lc_constructions.specs.Refusal.{refuse_if}
-use Rattle.lc_constructions.specs.Refusals.{columns_of, too_large, bad_length, matrix_refusals, length_refusals, hamming_refusals, reed_muller_refusals, cyclic_refusals, bch_refusals, goppa_refusals, form_refusals, alternant_refusals, extended_refusals, direct_sum_refusals, uuv_refusals, direct_product_refusals, degree_over, nested_refusals, concatenated_refusals}
+use Rattle.lc_constructions.specs.Refusals.{too_large, bad_length}
 use Rattle.lc_language.specs.declared.Kind.{Kind}
 use Rattle.lc_language.specs.declared.Kind.TheVariants.{Number, Field, Numbers, Lists, Code}
 use Rattle.lc_language.specs.Forms.{Takes, Form, given, filled, form_for, bound}
@@ -52,10 +52,10 @@ from_known (Some a) P Q R f g h = g a h
 
 -- ---- what isn't refused
 
-abbrev AllNone : List (Option CodeRefusal) → Type 0
+abbrev pub AllNone : List (Option CodeRefusal) → Type 0
 AllNone rs = AllByRecursion (λ (r : Option CodeRefusal). r ≡ None) rs
 
-none_refuses : (rs : List (Option CodeRefusal)) → first_of (from_codes rs) ≡ None → AllNone rs
+pub none_refuses : (rs : List (Option CodeRefusal)) → first_of (from_codes rs) ≡ None → AllNone rs
 unfolding first_of from_codes
 none_refuses [] e = tt
 none_refuses (None ∷ rs) e = (refl, none_refuses rs e)
@@ -70,7 +70,7 @@ second_test : (a b : Bool) → a && b ≡ true → b ≡ true
 second_test true b e = e
 second_test false b e = absurd (let f = e in cc)
 
-short : (n : ℕ) → bad_length n ≡ None → n ≤ 255
+pub short : (n : ℕ) → bad_length n ≡ None → n ≤ 255
 unfolding bad_length is_length
 short n e = leb-true n 255 (second_test (nat_le 1 n) (nat_le n 255) (by_test (nat_le 1 n && nat_le n 255) _ e))
 
@@ -78,10 +78,10 @@ over_symbols : (f : FieldName) → too_large f ≡ None → is_symbol f ≡ true
 unfolding too_large
 over_symbols f e = by_test (is_symbol f) _ e
 
-abbrev IsAllowed : FieldName → ℕ → Type 0
+abbrev pub IsAllowed : FieldName → ℕ → Type 0
 IsAllowed f n = (n ≤ 255) × (is_symbol f ≡ true)
 
-allowed : (f : FieldName) (n : ℕ) → too_large f ≡ None → bad_length n ≡ None → IsAllowed f n
+pub allowed : (f : FieldName) (n : ℕ) → too_large f ≡ None → bad_length n ≡ None → IsAllowed f n
 allowed f n t e = (short n e, over_symbols f t)
 
 pub binary : is_symbol Gf2 ≡ true
@@ -91,70 +91,6 @@ binary = refl
 pub ternary : is_symbol Gf3 ≡ true
 unfolding is_symbol size shape_of shape
 ternary = refl
-
-pub matrix_allowed : (f : FieldName) (rows : List (List ℕ)) → first_of (from_codes (matrix_refusals f rows)) ≡ None → IsAllowed f (columns_of rows)
-unfolding matrix_refusals
-matrix_allowed f rows e = let h = none_refuses _ e in allowed f (columns_of rows) h.0 h.1.0
-
-pub length_allowed : (f : FieldName) (n : ℕ) → first_of (from_codes (length_refusals f n)) ≡ None → IsAllowed f n
-unfolding length_refusals
-length_allowed f n e = let h = none_refuses _ e in allowed f n h.0 h.1.0
-
-pub cyclic_allowed : (f : FieldName) (x : List ℕ) (n : ℕ) → first_of (from_codes (cyclic_refusals f x n true)) ≡ None → IsAllowed f n
-unfolding cyclic_refusals
-cyclic_allowed f x n e = let h = none_refuses _ e in allowed f n h.0 h.1.0
-
-nested_short : (C D : Matrix) (s : Option ℕ) → first_of (from_codes (nested_refusals C D s)) ≡ None → C.columns * D.columns ≤ 255
-unfolding nested_refusals
-nested_short C D None e = absurd (let f = (none_refuses _ e).0 in cc)
-nested_short C D (Some s) e = short (C.columns * D.columns) (none_refuses _ e).1.0
-
-pub hamming_allowed : (f : FieldName) (r : ℕ) → first_of (from_codes (hamming_refusals f r)) ≡ None → IsAllowed f (hamming_length (size f) r)
-unfolding hamming_refusals
-hamming_allowed f r e = let h = none_refuses _ e in allowed f (hamming_length (size f) r) h.0 h.1.1.0
-
-pub reed_muller_short : (r m : ℕ) → first_of (from_codes (reed_muller_refusals r m)) ≡ None → 2 ^ m ≤ 255
-unfolding reed_muller_refusals
-reed_muller_short r m e = short (2 ^ m) (none_refuses _ e).0
-
-pub bch_allowed : (f : FieldName) (n d : ℕ) → first_of (from_codes (bch_refusals f n d)) ≡ None → IsAllowed f n
-unfolding bch_refusals
-bch_allowed f n d e = let h = none_refuses _ e in allowed f n h.0 h.1.0
-
-pub goppa_allowed : (f K : FieldName) (g points : List ℕ) → first_of (from_codes (goppa_refusals f K g points)) ≡ None → IsAllowed f (length points)
-unfolding goppa_refusals
-goppa_allowed f K g points e = let h = none_refuses _ e in allowed f (length points) h.0 h.1.1.0
-
-pub alternant_allowed : (f K : FieldName) (r : ℕ) (points multipliers : List ℕ) → first_of (from_codes (alternant_refusals f K r points multipliers)) ≡ None → IsAllowed f (length points)
-unfolding alternant_refusals form_refusals
-alternant_allowed f K r points multipliers e = let h = none_refuses _ e in allowed f (length points) h.0 h.1.1.0
-
-pub extended_short : (C : Matrix) → first_of (from_codes (extended_refusals C)) ≡ None → C.columns + 1 ≤ 255
-unfolding extended_refusals
-extended_short C e = short (C.columns + 1) (none_refuses _ e).0
-
-pub sum_short : (C D : Matrix) → first_of (from_codes (direct_sum_refusals C D)) ≡ None → C.columns + D.columns ≤ 255
-unfolding direct_sum_refusals
-sum_short C D e = short (C.columns + D.columns) (none_refuses _ e).1.0
-
-pub uuv_short : (C D : Matrix) → first_of (from_codes (uuv_refusals C D)) ≡ None → C.columns + D.columns ≤ 255
-unfolding uuv_refusals
-uuv_short C D e = short (C.columns + D.columns) (none_refuses _ e).1.1.0
-
-pub product_short : (C D : Matrix) → first_of (from_codes (direct_product_refusals C D)) ≡ None → C.columns * D.columns ≤ 255
-unfolding direct_product_refusals
-product_short C D e = short (C.columns * D.columns) (none_refuses _ e).1.0
-
-pub concatenated_short : (C D : Matrix) → first_of (from_codes (concatenated_refusals C D)) ≡ None → C.columns * D.columns ≤ 255
-unfolding concatenated_refusals
-concatenated_short C D e = nested_short C D (degree_over (size D.field) (size C.field)) e
-
-symbols_few : (f : FieldName) → IsTrue (is_symbol f) → size f ≤ 16
-unfolding is_symbol
-symbols_few f h = leb-true (size f) 16 h
-
-pub solomon_allowed : (f : FieldName) (n : ℕ) → size f ≡ n + 1 → IsTrue (is_symbol f) → IsAllowed f n
-solomon_allowed f n e h = let few = symbols_few f h in (omega (arith, few, e), h)
 
 -- ---- the values that calls give
 

@@ -33,7 +33,8 @@ use Rattle.lc_grammar.specs.Tree.{Expr, Exprs, number, name, call, list, none, m
 use Rattle.lc_grammar.specs.Grammar.{Reads, Fault, IsFault}
 use Rattle.lc_language.specs.Value as value
 use Rattle.lc_language.specs.Value.{Value, is_kind, Binding, value_named}
-use Rattle.lc_language.specs.Calls.{call_named, signature_for, BoundCall, bind, BoundQuery, algebraic_decode, least_word, minimum_distance, certificate, scan_certificate, weight_distribution, alternant_certificate, nearest_word, bind_query, refusal_of, query_refusal_of, Gives, IsNotDivisor}
+use Rattle.lc_language.specs.Calls as bound
+use Rattle.lc_language.specs.Calls.{call_named, signature_for, BoundCall, bind, BoundQuery, bind_query, refusal_of, query_refusal_of, Gives, IsNotDivisor}
 use Rattle.lc_language.specs.Refusal.{Refusal}
 use Rattle.lc_constructions.specs.Refusals.{columns_of}
 use Rattle.lc_constructions.specs.Nearest.{IsDecoded}
@@ -162,16 +163,16 @@ NearsOf C x step = ((length C.rows ≡ 0) × (step ≡ prints (near_line C x 0))
 
 -- what a query does as a statement that isn't refused. A code without an alternant form is refused before
 abbrev pub Queries : BoundQuery → Step → Type 0
-Queries (algebraic_decode C None x) step = ⊥
-Queries (algebraic_decode C (Some form) x) step = (o : Option (List ℕ)) × IsDecoded C form x o × (step ≡ prints (value_line (decoded o)))
-Queries (least_word rows f) step = PrintsLeast rows f step
-Queries (minimum_distance C) step = AsksOf distance C step
-Queries (certificate C) step = AsksOf by_levels C step
-Queries (scan_certificate C) step = AsksOf by_scan C step
-Queries (weight_distribution C) step = step ≡ counts C
-Queries (alternant_certificate C None x) step = ⊥
-Queries (alternant_certificate C (Some form) x) step = step ≡ prints (form_line C form x)
-Queries (nearest_word C x) step = NearsOf C x step
+Queries (bound.algebraic_decode C None x) step = ⊥
+Queries (bound.algebraic_decode C (Some form) x) step = (o : Option (List ℕ)) × IsDecoded C form x o × (step ≡ prints (value_line (decoded o)))
+Queries (bound.least_word rows f) step = PrintsLeast rows f step
+Queries (bound.minimum_distance C) step = AsksOf distance C step
+Queries (bound.certificate C) step = AsksOf by_levels C step
+Queries (bound.scan_certificate C) step = AsksOf by_scan C step
+Queries (bound.weight_distribution C) step = step ≡ counts C
+Queries (bound.alternant_certificate C None x) step = ⊥
+Queries (bound.alternant_certificate C (Some form) x) step = step ≡ prints (form_line C form x)
+Queries (bound.nearest_word C x) step = NearsOf C x step
 
 unfoldable pub fail_with : Outcome → Step
 fail_with (gives v) = prints (value_line v)

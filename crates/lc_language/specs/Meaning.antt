@@ -1,7 +1,12 @@
--- What a bound call gives that isn't refused.
---   Made f n P v            v is the code over f of length n of the words that meet P, with no alternant form
---   MadeWith f n P form v   .. with this form
---   decoded o               a decoder's answer as a value: the word, or nothing
+-- Values that calls give. Which call gives which is in `Calls`.
+--   IsCodeValue f n P form v      v is the code over f of length n of the words that meet P, with this alternant form or none
+--   Made f n P v                  v is such a code with no alternant form
+--   MadeWith f n P form v         v is such a code with this form
+--   IsGolay f n g v, IsExtendedGolay f n g v      a Golay code with the generator polynomial g, and its extension
+--   IsBch f n b d v               the BCH code over f of length n with d - 1 zeros from b on, in the least field that holds f and an
+--                                 element of order n; b counts modulo n
+--   IsReedSolomon n d v           the Reed-Solomon code of length n, over n + 1 elements, with the designed distance d
+--   decoded o                     a decoder's answer as a value: the word, or nothing
 use Rattle.std.specs.Prelude.{◌≡◌, ℕ, ◌+◌, ◌%◌, IsTrue, List, Option, Some, None}
 use Rattle.lc_algebra.specs.declared.FieldName.{FieldName}
 use Rattle.lc_algebra.specs.Field.{size, is_symbol}
@@ -27,7 +32,6 @@ IsGolay f n g v = Made f n (IsMultipleOf f n g) v
 abbrev pub IsExtendedGolay : FieldName → ℕ → List ℕ → Value → Type 0
 IsExtendedGolay f n g v = (C : Matrix) × IsCode f n (IsMultipleOf f n g) C × Made f (n + 1) (InExtended C) v
 
--- a BCH code lies in the least field that holds f and an element of order n; b counts modulo n
 abbrev pub IsBch : FieldName → ℕ → ℕ → ℕ → Value → Type 0
 IsBch f n b d v = (K : FieldName) × (locator_field f n ≡ Some K) × MadeWith f n (IsBchWord f K n (b % n) d) (bch_form K n (b % n) d) v
 

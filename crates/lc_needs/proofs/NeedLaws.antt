@@ -18,7 +18,7 @@ use Rattle.lc_grammar.specs.Grammar.{Reads, IsStatement, IsScript}
 use Rattle.lc_language.specs.declared.Call.{Call}
 use Rattle.lc_language.specs.declared.Call.TheVariants.{Value as Value_, Query}
 use Rattle.lc_language.specs.declared.QueryCall.{QueryCall}
-use Rattle.lc_language.specs.declared.QueryCall.TheVariants.{AlgebraicDecode, LeastWord, MinimumDistance, Certificate, ScanCertificate, WeightDistribution, AlternantCertificate, NearestWord}
+use Rattle.lc_language.specs.declared.QueryCall.TheVariants as query
 use Rattle.lc_language.specs.declared.Kind.{Kind}
 use Rattle.lc_language.specs.declared.Kind.TheVariants.{Numbers, Lists, Field, Code}
 use Rattle.lc_language.specs.Value.{Binding}
@@ -49,14 +49,14 @@ one_form kinds found n e = eqb-true (length kinds) n (only (length kinds == n) k
 
 pub query_long : (c : QueryCall) (n : ℕ) (kinds : List Kind) → signature_for (Query c) n ≡ Some kinds → 13 ≤ length (query_name c) + 2 * n
 unfolding signature_for signatures query_forms query_name
-query_long AlgebraicDecode n kinds e = (let l = one_form (Code ∷ Numbers ∷ []) kinds n e in omega (arith, l))
-query_long LeastWord n kinds e = (let l = one_form (Lists ∷ Field ∷ []) kinds n e in omega (arith, l))
-query_long MinimumDistance n kinds e = (let l = one_form (Code ∷ []) kinds n e in omega (arith, l))
-query_long Certificate n kinds e = (let l = one_form (Code ∷ []) kinds n e in omega (arith, l))
-query_long ScanCertificate n kinds e = (let l = one_form (Code ∷ []) kinds n e in omega (arith, l))
-query_long WeightDistribution n kinds e = (let l = one_form (Code ∷ []) kinds n e in omega (arith, l))
-query_long AlternantCertificate n kinds e = (let l = one_form (Code ∷ Numbers ∷ []) kinds n e in omega (arith, l))
-query_long NearestWord n kinds e = (let l = one_form (Code ∷ Numbers ∷ []) kinds n e in omega (arith, l))
+query_long query.AlgebraicDecode n kinds e = (let l = one_form (Code ∷ Numbers ∷ []) kinds n e in omega (arith, l))
+query_long query.LeastWord n kinds e = (let l = one_form (Lists ∷ Field ∷ []) kinds n e in omega (arith, l))
+query_long query.MinimumDistance n kinds e = (let l = one_form (Code ∷ []) kinds n e in omega (arith, l))
+query_long query.Certificate n kinds e = (let l = one_form (Code ∷ []) kinds n e in omega (arith, l))
+query_long query.ScanCertificate n kinds e = (let l = one_form (Code ∷ []) kinds n e in omega (arith, l))
+query_long query.WeightDistribution n kinds e = (let l = one_form (Code ∷ []) kinds n e in omega (arith, l))
+query_long query.AlternantCertificate n kinds e = (let l = one_form (Code ∷ Numbers ∷ []) kinds n e in omega (arith, l))
+query_long query.NearestWord n kinds e = (let l = one_form (Code ∷ Numbers ∷ []) kinds n e in omega (arith, l))
 
 abbrev is_ask : Step → Bool
 is_ask (asks kind C) = true
