@@ -9,7 +9,6 @@ use lc_combine::{
 use lc_cyclic::{binary_golay, reed_solomon, ternary_golay};
 use lc_field::NoMemory;
 use std::alloc::Global;
-use std::test::Fail;
 
 // A code made from one code.
 #[derive(Clone, Copy)]
@@ -44,12 +43,11 @@ fn changed_hamming(alloc: Global, change: Change) -> Shape {
 }
 
 #[test]
-fn codes_from_a_hamming_code(rt: HostRuntime) -> Result<(), Fail> {
+fn codes_from_a_hamming_code(rt: HostRuntime) {
     for row in &CHANGES {
         let made = changed_hamming(rt.alloc(), row.0);
         assert!(rt; made == row.1);
     }
-    Ok(())
 }
 
 // The length, the dimension and the divisor of the extended code.
@@ -63,11 +61,10 @@ fn extended_shape(
 
 // Both extended Golay codes are self-dual, so their weights have a divisor (MacWilliams and Sloane, chapter 19).
 #[test]
-fn extended_golay_codes(rt: HostRuntime) -> Result<(), Fail> {
+fn extended_golay_codes(rt: HostRuntime) {
     let binary = extended_shape(rt.alloc(), binary_golay(rt.alloc()));
     let ternary = extended_shape(rt.alloc(), ternary_golay(rt.alloc()));
     assert!(rt; binary == Ok((24, 12, 4)) && ternary == Ok((12, 6, 3)));
-    Ok(())
 }
 
 // A code that others are made from.
@@ -175,10 +172,9 @@ static PAIRS: [(Part, Part, Way, Shape); 7] = [
 ];
 
 #[test]
-fn codes_from_two_codes(rt: HostRuntime) -> Result<(), Fail> {
+fn codes_from_two_codes(rt: HostRuntime) {
     for row in &PAIRS {
         let made = of_two(rt.alloc(), row.0, row.1, row.2);
         assert!(rt; made == row.3);
     }
-    Ok(())
 }

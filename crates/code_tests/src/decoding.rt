@@ -8,7 +8,6 @@ use lc_cyclic::{bch, reed_solomon};
 use lc_field::Field;
 use lc_goppa::{alternant, goppa};
 use std::alloc::Global;
-use std::test::Fail;
 use test_rows::is_word;
 
 // A received word, and the word to which it is decoded: no symbols if there is none.
@@ -57,12 +56,11 @@ static REED_SOLOMON: [(u64, u64, Row); 17] = [
 ];
 
 #[test]
-fn words_of_reed_solomon_codes(rt: HostRuntime) -> Result<(), Fail> {
+fn words_of_reed_solomon_codes(rt: HostRuntime) {
     for row in &REED_SOLOMON {
         let right = reed_solomon_row(rt.alloc(), row.0, row.1, row.2);
         assert!(rt; right == Ok(true), "{} and {}", row.0, row.1);
     }
-    Ok(())
 }
 
 // The same for the binary BCH code of length 15 and design distance d.
@@ -91,12 +89,11 @@ static BCH: [Row; 7] = [
 ];
 
 #[test]
-fn words_of_a_bch_code(rt: HostRuntime) -> Result<(), Fail> {
+fn words_of_a_bch_code(rt: HostRuntime) {
     for row in &BCH {
         let right = bch_row(rt.alloc(), 7, *row);
         assert!(rt; right == Ok(true));
     }
-    Ok(())
 }
 
 // The same for the binary Goppa code of 1 + x + x^2 whose points are all elements of the field of 8.
@@ -131,12 +128,11 @@ static GOPPA: [Row; 3] = [
 ];
 
 #[test]
-fn words_of_a_goppa_code(rt: HostRuntime) -> Result<(), Fail> {
+fn words_of_a_goppa_code(rt: HostRuntime) {
     for row in &GOPPA {
         let right = goppa_decodes(rt.alloc(), *row);
         assert!(rt; right == Ok(true));
     }
-    Ok(())
 }
 
 // The same for the alternant code over 5 elements with multipliers 1, all points and r checks.
@@ -159,10 +155,9 @@ static ALTERNANT: [(u64, Row); 4] = [
 ];
 
 #[test]
-fn words_of_alternant_codes(rt: HostRuntime) -> Result<(), Fail> {
+fn words_of_alternant_codes(rt: HostRuntime) {
     for row in &ALTERNANT {
         let right = alternant_row(rt.alloc(), row.0, row.1);
         assert!(rt; right == Ok(true), "{} checks", row.0);
     }
-    Ok(())
 }

@@ -5,7 +5,6 @@ use lc_code::{Code, CodeRefusal};
 use lc_field::{Field, NoMemory};
 use lc_vec::Word;
 use std::alloc::Global;
-use std::test::Fail;
 use test_rows::{Rows, has_rows, words_of};
 
 // Whether there is a code, and these are its rows.
@@ -32,12 +31,11 @@ static HAMMING: [(u64, u64, Shape); 11] = [
 ];
 
 #[test]
-fn shapes_of_hamming_codes(rt: HostRuntime) -> Result<(), Fail> {
+fn shapes_of_hamming_codes(rt: HostRuntime) {
     for row in &HAMMING {
         let made = shape(hamming_over(rt.alloc(), row.0, row.1));
         assert!(rt; made == row.2, "{} checks over {}", row.1, row.0);
     }
-    Ok(())
 }
 
 // The size of the field, the number of checks, and the rows of the Hamming code, as tools/linear_algebra.py prints them.
@@ -56,12 +54,11 @@ static HAMMING_ROWS: [(u64, u64, Rows); 2] = [
 ];
 
 #[test]
-fn rows_of_hamming_codes(rt: HostRuntime) -> Result<(), Fail> {
+fn rows_of_hamming_codes(rt: HostRuntime) {
     for row in &HAMMING_ROWS {
         let is_right = is_code(hamming_over(rt.alloc(), row.0, row.1), row.2);
         assert!(rt; is_right, "{} checks over {}", row.1, row.0);
     }
-    Ok(())
 }
 
 // The order, the number of variables, and the length and the dimension of the Reed-Muller code.
@@ -77,12 +74,11 @@ static REED_MULLER: [(u64, u64, Shape); 8] = [
 ];
 
 #[test]
-fn shapes_of_reed_muller_codes(rt: HostRuntime) -> Result<(), Fail> {
+fn shapes_of_reed_muller_codes(rt: HostRuntime) {
     for row in &REED_MULLER {
         let made = shape(reed_muller(rt.alloc(), row.0, row.1));
         assert!(rt; made == row.2, "order {}, {} variables", row.0, row.1);
     }
-    Ok(())
 }
 
 // The rows of the Reed-Muller code of order 1 in 3 variables.
@@ -94,9 +90,8 @@ const REED_MULLER_ROWS: Rows = &[
 ];
 
 #[test]
-fn rows_of_reed_muller_codes(rt: HostRuntime) -> Result<(), Fail> {
+fn rows_of_reed_muller_codes(rt: HostRuntime) {
     assert!(rt; is_code(reed_muller(rt.alloc(), 1, 3), REED_MULLER_ROWS));
-    Ok(())
 }
 
 // The size of the field, a length, and whether the codes of that length are refused.
@@ -136,22 +131,20 @@ fn have_length_over(alloc: Global, q: u64, n: u64, refusal: Option<CodeRefusal>)
 }
 
 #[test]
-fn codes_of_a_length(rt: HostRuntime) -> Result<(), Fail> {
+fn codes_of_a_length(rt: HostRuntime) {
     for row in &LENGTHS {
         let is_right = have_length_over(rt.alloc(), row.0, row.1, row.2);
         assert!(rt; is_right, "{} over {}", row.1, row.0);
     }
-    Ok(())
 }
 
 // The rows of the dual of the ternary repetition code of length 4.
 const DUAL: Rows = &[&[1, 0, 0, 2], &[0, 1, 0, 2], &[0, 0, 1, 2]];
 
 #[test]
-fn the_dual_of_a_repetition_code(rt: HostRuntime) -> Result<(), Fail> {
+fn the_dual_of_a_repetition_code(rt: HostRuntime) {
     let code = dual(rt.alloc(), repetition_over(rt.alloc(), 3, 4));
     assert!(rt; is_code(code, DUAL));
-    Ok(())
 }
 
 // The size of the field, rows, and the length and the dimension of the code that they generate, or why there is none.
@@ -199,21 +192,22 @@ fn have_shape_over(
 }
 
 // The same over q elements.
-fn have_shape_of(alloc: Global, q: u64, rows: Rows, expected: Shape) -> Result<bool, Fail> {
-    let field = Field::of(alloc, q)?;
-    Ok(have_shape_over(alloc, rows, &field, expected)?)
+fn have_shape_of(alloc: Global, q: u64, rows: Rows, expected: Shape) -> bool {
+    match Field::of(alloc, q) {
+        Ok(field) => have_shape_over(alloc, rows, &field, expected) == Ok(true),
+        Err(_refusal) => false,
+    }
 }
 
 #[test]
-fn codes_by_a_matrix(rt: HostRuntime) -> Result<(), Fail> {
+fn codes_by_a_matrix(rt: HostRuntime) {
     for row in &MATRICES {
         assert!(rt;
-            have_shape_of(rt.alloc(), row.0, row.1, row.2)?,
+            have_shape_of(rt.alloc(), row.0, row.1, row.2),
             "over {}",
             row.0
         );
     }
-    Ok(())
 }
 
 // The size of the field, rows, and those of the reduced generator matrix of their words, as tools/linear_algebra.py prints them.
@@ -261,7 +255,7 @@ fn twice_dual(alloc: Global, q: u64, rows: Rows) -> Result<Code, CodeRefusal> {
 }
 
 #[test]
-fn a_code_is_the_dual_of_its_dual(rt: HostRuntime) -> Result<(), Fail> {
+fn a_code_is_the_dual_of_its_dual(rt: HostRuntime) {
     for row in &REDUCED {
         assert!(rt;
             is_code(code_of(rt.alloc(), row.0, row.1), row.2),
@@ -271,5 +265,4 @@ fn a_code_is_the_dual_of_its_dual(rt: HostRuntime) -> Result<(), Fail> {
         let again = is_code(twice_dual(rt.alloc(), row.0, row.1), row.2);
         assert!(rt; again, "over {}", row.0);
     }
-    Ok(())
 }

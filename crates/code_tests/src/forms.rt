@@ -4,7 +4,6 @@ use lc_cyclic::{bch, binary_golay, check_pol, generator_pol, reed_solomon, terna
 use lc_field::{Field, NoMemory};
 use lc_goppa::{alternant, goppa};
 use std::alloc::Global;
-use std::test::Fail;
 
 // The dimension of the code, or why there is none.
 fn dimension(code: Result<Code, CodeRefusal>) -> Result<usize, CodeRefusal> {
@@ -55,12 +54,11 @@ static PRIMITIVE: [(u64, u64, usize); 24] = [
 ];
 
 #[test]
-fn dimensions_of_primitive_codes(rt: HostRuntime) -> Result<(), Fail> {
+fn dimensions_of_primitive_codes(rt: HostRuntime) {
     for row in &PRIMITIVE {
         let k = bch_dimension(rt.alloc(), 2, row.0, 1, row.1);
         assert!(rt; k == Ok(row.2), "{} {}", row.0, row.1);
     }
-    Ok(())
 }
 
 // The size of the field, the length, the first exponent, the design distance, and the dimension of the BCH code or why there is
@@ -81,12 +79,11 @@ static BCH: [(u64, u64, u64, u64, Result<usize, CodeRefusal>); 12] = [
 ];
 
 #[test]
-fn dimensions_of_bch_codes(rt: HostRuntime) -> Result<(), Fail> {
+fn dimensions_of_bch_codes(rt: HostRuntime) {
     for row in &BCH {
         let k = bch_dimension(rt.alloc(), row.0, row.1, row.2, row.3);
         assert!(rt; k == row.4, "{} over {}", row.1, row.0);
     }
-    Ok(())
 }
 
 // The length, the design distance, and the dimension of the Reed-Solomon code or why there is none.
@@ -107,12 +104,11 @@ static REED_SOLOMON: [(u64, u64, Result<usize, CodeRefusal>); 13] = [
 ];
 
 #[test]
-fn dimensions_of_reed_solomon_codes(rt: HostRuntime) -> Result<(), Fail> {
+fn dimensions_of_reed_solomon_codes(rt: HostRuntime) {
     for row in &REED_SOLOMON {
         let k = formed_dimension(reed_solomon(rt.alloc(), row.0, row.1));
         assert!(rt; k == row.2, "{} {}", row.0, row.1);
     }
-    Ok(())
 }
 
 // The size of the field, the length, the coefficients of a polynomial, and the dimension of the code that it generates or why there is
@@ -150,12 +146,11 @@ fn check_dimension(alloc: Global, q: u64, n: u64, list: &[u8]) -> Result<usize, 
 }
 
 #[test]
-fn dimensions_by_generator_polynomials(rt: HostRuntime) -> Result<(), Fail> {
+fn dimensions_by_generator_polynomials(rt: HostRuntime) {
     for row in &CYCLIC {
         let k = generator_dimension(rt.alloc(), row.0, row.1, row.2);
         assert!(rt; k == row.3, "{} over {}", row.1, row.0);
     }
-    Ok(())
 }
 
 // The dimension of the code that a polynomial checks, if that of the code that it generates is known.
@@ -165,12 +160,11 @@ fn checked(n: u64, k: Result<usize, CodeRefusal>) -> Result<usize, CodeRefusal> 
 }
 
 #[test]
-fn dimensions_by_check_polynomials(rt: HostRuntime) -> Result<(), Fail> {
+fn dimensions_by_check_polynomials(rt: HostRuntime) {
     for row in &CYCLIC {
         let k = check_dimension(rt.alloc(), row.0, row.1, row.2);
         assert!(rt; k == checked(row.1, row.3), "{} over {}", row.1, row.0);
     }
-    Ok(())
 }
 
 // The dimension of a code that only memory can fail.
@@ -182,11 +176,10 @@ fn made_dimension(code: Result<Code, NoMemory>) -> Option<usize> {
 }
 
 #[test]
-fn dimensions_of_golay_codes(rt: HostRuntime) -> Result<(), Fail> {
+fn dimensions_of_golay_codes(rt: HostRuntime) {
     let binary = made_dimension(binary_golay(rt.alloc()));
     let ternary = made_dimension(ternary_golay(rt.alloc()));
     assert!(rt; binary == Some(12) && ternary == Some(6));
-    Ok(())
 }
 
 // A Goppa polynomial, points in the field of 8 elements, and the dimension of the binary Goppa code or why there is none. The first is
@@ -225,12 +218,11 @@ fn goppa_dimension(alloc: Global, list: &[u8], points: &[u8]) -> Result<usize, C
 }
 
 #[test]
-fn dimensions_of_goppa_codes(rt: HostRuntime) -> Result<(), Fail> {
+fn dimensions_of_goppa_codes(rt: HostRuntime) {
     for row in &GOPPA {
         let k = goppa_dimension(rt.alloc(), row.0, row.1);
         assert!(rt; k == row.2, "{} points", row.1.len());
     }
-    Ok(())
 }
 
 // The dimension of the alternant code over 5 elements with multipliers 1, or why there is none.
@@ -242,8 +234,7 @@ fn alternant_dimension(alloc: Global, r: u64, points: &[u8]) -> Result<usize, Co
 }
 
 #[test]
-fn the_dimension_of_an_alternant_code(rt: HostRuntime) -> Result<(), Fail> {
+fn the_dimension_of_an_alternant_code(rt: HostRuntime) {
     let k = alternant_dimension(rt.alloc(), 2, &[0, 1, 2, 3, 4]);
     assert!(rt; k == Ok(3));
-    Ok(())
 }

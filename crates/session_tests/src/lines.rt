@@ -36,7 +36,7 @@ fn line_of_rows(alloc: Global) -> Result<Vec<u8>, NoMemory> {
 }
 
 #[test]
-fn lines_of_values(rt: HostRuntime) -> Result<(), Fail> {
+fn lines_of_values(rt: HostRuntime) {
     let alloc = rt.alloc();
     assert!(rt; is_line(rows_line(alloc, &[]), b"[]\n"));
     assert!(rt; is_line(line_of_rows(alloc), b"[[1,0],[0,1]]\n"));
@@ -48,7 +48,6 @@ fn lines_of_values(rt: HostRuntime) -> Result<(), Fail> {
     assert!(rt; is_line(truth_line(alloc, true), b"true\n"));
     assert!(rt; is_line(truth_line(alloc, false), b"false\n"));
     assert!(rt; is_line(none_line(alloc), b"none\n"));
-    Ok(())
 }
 
 // The line of a least word.

@@ -48,7 +48,7 @@ static FAULTS: [(&str, u8, usize); 27] = [
 ];
 
 #[test]
-fn faults_stand_at_the_first_place(rt: HostRuntime) -> Result<(), Fail> {
+fn faults_stand_at_the_first_place(rt: HostRuntime) {
     for row in &FAULTS {
         let fault = fault_of(rt.alloc(), row.0.as_bytes());
         assert!(rt; fault == Some((row.1, row.2)), "{}", row.0);
@@ -56,7 +56,6 @@ fn faults_stand_at_the_first_place(rt: HostRuntime) -> Result<(), Fail> {
     let lone = fault_of(rt.alloc(), &[255]);
     let commented = fault_of(rt.alloc(), &[b'#', 255, b'\n', b'1', b';']);
     assert!(rt; lone == Some((40, 0)) && commented == Some((0, 0)));
-    Ok(())
 }
 
 // A token's kind, the place of its first byte, and the place after its last.
@@ -104,9 +103,8 @@ fn has_tokens(alloc: Global, bytes: &[u8], rows: &[Row]) -> bool {
 }
 
 #[test]
-fn tokens_have_kinds_and_spans(rt: HostRuntime) -> Result<(), Fail> {
+fn tokens_have_kinds_and_spans(rt: HostRuntime) {
     assert!(rt; has_tokens(rt.alloc(), b"C := f(3,[x_1]); # end", &TOKENS));
-    Ok(())
 }
 
 // A script of six statements, and what `tools/script_tree.py` prints for it: the spans of its tokens, and its tree.
@@ -210,7 +208,7 @@ fn is_script(alloc: Global, bytes: &[u8]) -> Option<bool> {
 }
 
 #[test]
-fn any_bytes_are_parsed_or_refused(rt: HostRuntime) -> Result<(), Fail> {
+fn any_bytes_are_parsed_or_refused(rt: HostRuntime) {
     let mut seed = 1u64;
     let mut read = false;
     for _ in 0..100000 {
@@ -226,5 +224,4 @@ fn any_bytes_are_parsed_or_refused(rt: HostRuntime) -> Result<(), Fail> {
         read = read || answer == Some(true);
     }
     assert!(rt; read);
-    Ok(())
 }

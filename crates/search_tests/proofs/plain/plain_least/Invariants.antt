@@ -1,7 +1,7 @@
 use Rattle.std.proofs.Common.{◌≡◌, length, Contains}
 use Rattle.lc_enumeration.specs.Message.{messages}
 use Rattle.lc_place.specs.Place.{spot_message}
-use Rattle.enumeration_tests.proofs.plain.plain_least.Given as goal
+use Rattle.search_tests.proofs.plain.plain_least.Given as goal
 
 abbrev pub invariant-loop-offset : goal.invariant-loop-offset
 invariant-loop-offset l = record {
