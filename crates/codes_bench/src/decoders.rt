@@ -9,7 +9,7 @@ use crate::codes::bch_code;
 use crate::rate::{Failure, Rate};
 use crate::words::{random_code, rows};
 use lc_alternant::decode;
-use lc_code::FormedCode;
+use lc_code::{Code, FormedCode};
 use lc_syndrome::Leaders;
 use lc_vec::{Word, fits};
 use std::alloc::{AllocError, AllocGlobal, Global};
@@ -28,18 +28,23 @@ const PASSES: u64 = 20_000;
 /// How many words are decoded by the algebraic decoder.
 const DECODED: usize = 2_000;
 
-/// The rate of `Leaders::build` for a binary code of length 255 with 2^20 cosets, in cosets.
-pub fn leaders_rate<R: Clock + AllocGlobal>(rt: &R) -> Result<Rate, Failure> {
-    let code = random_code(rt.alloc(), 2, 255, 235)?;
+// The rate of `Leaders::build` for a code with 2^20 cosets.
+fn leaders_by<R: Clock + AllocGlobal>(rt: &R, code: &Code) -> Result<Rate, Failure> {
     let start = Instant::now(rt)?;
     for _ in 0..BUILDS {
-        let _leaders = Leaders::build(rt.alloc(), &code)?;
+        let _leaders = Leaders::build(rt.alloc(), code)?;
     }
     Ok(Rate {
         count: BUILDS * (1 << 20),
         what: "cosets",
         elapsed: start.elapsed(rt)?,
     })
+}
+
+/// The rate of `Leaders::build` for a binary code of length 255 with 2^20 cosets, in cosets.
+pub fn leaders_rate<R: Clock + AllocGlobal>(rt: &R) -> Result<Rate, Failure> {
+    let code = random_code(rt.alloc(), 2, 255, 235)?;
+    leaders_by(rt, &code)
 }
 
 // The coset leaders of that code.

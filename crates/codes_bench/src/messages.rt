@@ -18,13 +18,10 @@ const PASSES: u64 = 20;
 pub(crate) fn first_block(plan: &Plan, level: usize) -> Option<u64>
     ensures { IfSome result (λ b. b < total plan.now.k plan.now.q plan.now.m) }
 {
-    let mut block = 0;
-    while block < plan.total() {
-        let phase = plan.phase_of(block);
-        if phase.level >= level {
+    for block in 0..plan.total() {
+        if plan.phase_of(block).level >= level {
             return Some(block);
         }
-        block = phase.end;
     }
     None
 }

@@ -141,7 +141,10 @@ pub fn rounds_rate<R: Clock + AllocGlobal + Threads + Sync>(
 // How many words the first blocks of a plan have.
 fn words_below(plan: &Plan, blocks: u64) -> u64 {
     let mut count: u64 = 0;
-    for block in 0..blocks.min(plan.total()) {
+    for block in 0..plan.total() {
+        if blocks <= block {
+            break;
+        }
         count = count.saturating_add(plan.block_len(block));
     }
     count

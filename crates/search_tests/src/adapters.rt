@@ -56,7 +56,7 @@ fn is_source<R: Read>(reader: &mut R) -> bool {
 }
 
 #[test]
-fn a_source_asks_its_reader_once_a_call(rt: HostRuntime) -> Result<(), Fail> {
+fn a_source_asks_its_reader_once_a_call(rt: HostRuntime) {
     let mut reader = Faltering {
         inner: b"abcde".as_slice(),
         most: 2,
@@ -65,7 +65,6 @@ fn a_source_asks_its_reader_once_a_call(rt: HostRuntime) -> Result<(), Fail> {
     };
     // the end was asked for once, and for the empty buffer nothing
     assert!(rt; is_source(&mut reader) && reader.calls == 5);
-    Ok(())
 }
 
 // Whether a writer that fails at its second call takes these pieces as a sink, and an empty one.
@@ -86,10 +85,9 @@ fn is_asked(taken: &mut [u8]) -> bool {
 }
 
 #[test]
-fn a_sink_asks_its_writer_once_a_call(rt: HostRuntime) -> Result<(), Fail> {
+fn a_sink_asks_its_writer_once_a_call(rt: HostRuntime) {
     let mut taken = [0; 6];
     assert!(rt; is_asked(&mut taken) && &taken == b"leasle");
-    Ok(())
 }
 
 // Whether a writer to these bytes whose third call fails is asked three times.
@@ -104,10 +102,9 @@ fn is_left(taken: &mut [u8]) -> bool {
 }
 
 #[test]
-fn a_line_is_not_written_on_after_a_fault(rt: HostRuntime) -> Result<(), Fail> {
+fn a_line_is_not_written_on_after_a_fault(rt: HostRuntime) {
     let mut taken = [0; 9];
     assert!(rt; is_left(&mut taken) && &taken == b"leas\0\0\0\0\0");
-    Ok(())
 }
 
 // The folder of the tests, of which the call with the number `failing` fails. Opening and renaming count.

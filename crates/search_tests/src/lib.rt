@@ -1,18 +1,36 @@
-//! Tests of the outside, of boards and of searches, by values from outside. They stand here so that no crate is proved twice, once
-//! with its tests.
+//! Tests of information sets, plans and the kernel, of the outside, of boards and of searches, by values from outside. They stand
+//! here so that no crate is proved twice, once with its tests.
 #![tactic(auto)]
 
 #[cfg(test)]
 mod adapters;
 #[cfg(test)]
+mod blocks;
+#[cfg(test)]
 mod board;
 #[cfg(test)]
 mod gate;
 #[cfg(test)]
+mod infosets;
+#[cfg(test)]
+mod kernel;
+#[cfg(test)]
 mod outside;
+#[cfg(test)]
+mod plain;
+#[cfg(test)]
+mod plan;
+#[cfg(test)]
+mod planted;
 #[cfg(test)]
 mod search;
 #[cfg(test)]
+mod shapes;
+#[cfg(test)]
 mod shifts;
+#[cfg(test)]
+mod stack;
+#[cfg(test)]
+mod tasks;
 #[cfg(test)]
 mod watching;

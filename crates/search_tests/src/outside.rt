@@ -138,13 +138,12 @@ fn a_source_is_read_to_its_end_or_the_limit(rt: HostRuntime) -> Result<(), Fail>
 }
 
 #[test]
-fn a_reader_is_a_source(rt: HostRuntime) -> Result<(), Fail> {
+fn a_reader_is_a_source(rt: HostRuntime) {
     let mut source = ReaderSource::new(b"abc".as_slice());
     let mut buf = [0; 2];
     for (answer, bytes) in [(Ok(2), b"ab"), (Ok(1), b"cb"), (Ok(0), b"cb")] {
         assert!(rt; source.read(&mut buf) == answer && &buf == bytes);
     }
-    Ok(())
 }
 
 // Whether the line is written to a vector.
@@ -159,11 +158,10 @@ fn is_full(room: &mut [u8]) -> bool {
 }
 
 #[test]
-fn a_writer_is_a_sink(rt: HostRuntime) -> Result<(), Fail> {
+fn a_writer_is_a_sink(rt: HostRuntime) {
     let mut written = Vec::new(rt.alloc());
     assert!(rt; is_taken(&mut written) && written.as_slice() == LINE);
     assert!(rt; is_full(&mut [0; 2]));
-    Ok(())
 }
 
 // The first four calls of a session of which the fourth one fails, and two stores that don't fit.

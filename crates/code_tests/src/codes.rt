@@ -1,0 +1,189 @@
+//! Tests of what the contracts are meant to say, by values from outside; each call is seen to answer.
+use lc_code::{Code, CodeRefusal};
+use lc_field::{Field, NoMemory};
+use lc_vec::{Word, fits};
+use std::alloc::Global;
+use test_rows::{Rows, are_words, generated, has_rows, words_of};
+
+// Refusals, their numbers, and how many values each carries.
+static REFUSALS: [(CodeRefusal, u8, usize); 5] = [
+    (CodeRefusal::BadLength, 2, 0),
+    (CodeRefusal::RepeatedPoint(1, 2), 8, 2),
+    (CodeRefusal::BadPositions, 13, 0),
+    (CodeRefusal::InnerDimension(1, 2), 14, 2),
+    (CodeRefusal::FieldTooLarge, 17, 0),
+];
+
+// Whether the refusal has this number and carries so many values.
+fn is_numbered(
+    alloc: Global,
+    refusal: &CodeRefusal,
+    number: u8,
+    count: usize,
+) -> Result<bool, NoMemory> {
+    let values = refusal.values(alloc)?;
+    Ok(refusal.number() == number && values.len() == count)
+}
+
+#[test]
+fn numbers_of_refusals(rt: HostRuntime) {
+    for row in &REFUSALS {
+        assert!(rt;
+            is_numbered(rt.alloc(), &row.0, row.1, row.2) == Ok(true),
+            "{}",
+            row.1
+        );
+    }
+}
+
+// The size of a field, a length, and rows or checks of a code.
+type Given = (u64, usize, Rows);
+
+// The code over q elements of checks that are words of n symbols. Refuses with BadLength if they aren't, or if there is no such code.
+fn checked_by(alloc: Global, q: u64, n: usize, checks: &[Word]) -> Result<Code, CodeRefusal> {
+    let Ok(field) = Field::of(alloc, q) else {
+        return Err(CodeRefusal::BadLength);
+    };
+    if !field.is_symbol() || n < 1 || n > 255 || !are_words(&field, n, checks) {
+        return Err(CodeRefusal::BadLength);
+    }
+    Ok(Code::from_checks(alloc, &field, n, checks)?)
+}
+
+// The code of the checks that are given.
+fn checked(alloc: Global, given: &Given) -> Result<Code, CodeRefusal> {
+    let words = words_of(alloc, given.2)?;
+    checked_by(alloc, given.0, given.1, &words)
+}
+
+// The size of the field, the length, rows, and those of the reduced generator matrix of their words and of the dual code, as
+// tools/linear_algebra.py prints them.
+static CODES: [(Given, Rows, Rows); 7] = [
+    (
+        (
+            2,
+            5,
+            &[&[1, 1, 0, 1, 0], &[0, 1, 1, 0, 1], &[1, 0, 1, 1, 1]],
+        ),
+        &[&[1, 0, 1, 1, 1], &[0, 1, 1, 0, 1]],
+        &[&[1, 0, 0, 1, 0], &[0, 1, 0, 1, 1], &[0, 0, 1, 0, 1]],
+    ),
+    (
+        (3, 3, &[&[1, 2, 0], &[2, 1, 1]]),
+        &[&[1, 2, 0], &[0, 0, 1]],
+        &[&[1, 1, 0]],
+    ),
+    (
+        (4, 4, &[&[0, 2, 3, 1], &[2, 1, 0, 3], &[2, 3, 3, 2]]),
+        &[&[1, 0, 1, 0], &[0, 1, 2, 3]],
+        &[&[1, 0, 1, 3], &[0, 1, 0, 2]],
+    ),
+    (
+        (9, 4, &[&[3, 4, 5, 0], &[6, 8, 7, 1]]),
+        &[&[1, 3, 8, 0], &[0, 0, 0, 1]],
+        &[&[1, 0, 8, 0], &[0, 1, 5, 0]],
+    ),
+    (
+        (16, 4, &[&[0, 7, 9, 2], &[5, 1, 0, 14]]),
+        &[&[1, 0, 14, 5], &[0, 1, 3, 12]],
+        &[&[1, 0, 9, 15], &[0, 1, 2, 3]],
+    ),
+    ((5, 2, &[]), &[], &[&[1, 0], &[0, 1]]),
+    ((7, 1, &[&[3]]), &[&[1]], &[]),
+];
+
+// Whether the dual of the code has these rows.
+fn is_dual(alloc: Global, code: &Code, rows: Rows) -> Result<bool, NoMemory> {
+    let dual = code.dual(alloc)?;
+    Ok(has_rows(&dual, rows))
+}
+
+// Whether the code has these rows, its dual those, and the dual's dual the rows again.
+fn are_duals(alloc: Global, code: &Code, rows: Rows, others: Rows) -> Result<bool, NoMemory> {
+    let dual = code.dual(alloc)?;
+    Ok(has_rows(code, rows) && has_rows(&dual, others) && is_dual(alloc, &dual, rows)?)
+}
+
+// Whether the code of these rows has the reduced rows, and its dual the others.
+fn has_dual(alloc: Global, given: &Given, reduced: Rows, others: Rows) -> bool {
+    match generated(alloc, given.0, given.1, given.2) {
+        Ok(code) => are_duals(alloc, &code, reduced, others) == Ok(true),
+        Err(_refusal) => false,
+    }
+}
+
+#[test]
+fn codes_and_duals(rt: HostRuntime) {
+    for row in &CODES {
+        assert!(rt; has_dual(rt.alloc(), &row.0, row.1, row.2), "over {}", row.0.0);
+    }
+}
+
+// Whether a copy of the code has these rows, and length n.
+fn is_copied(alloc: Global, code: &Code, rows: Rows, n: usize) -> Result<bool, NoMemory> {
+    let copy = code.copy(alloc)?;
+    Ok(has_rows(&copy, rows) && copy.length() == n)
+}
+
+// Whether the code of these checks, and a copy of it, has these rows.
+fn is_checked(alloc: Global, given: &Given, rows: Rows) -> bool {
+    match checked(alloc, given) {
+        Ok(code) => is_copied(alloc, &code, rows, given.1) == Ok(true),
+        Err(_refusal) => false,
+    }
+}
+
+#[test]
+fn codes_of_checks(rt: HostRuntime) {
+    for row in &CODES {
+        assert!(rt; is_checked(rt.alloc(), &row.0, row.2), "over {}", row.0.0);
+    }
+}
+
+// Whether the word, if it is one, is in the code; the buffer holds something else before.
+fn holds(alloc: Global, code: &Code, word: &[u8]) -> Result<bool, NoMemory> {
+    let mut buf = vec![in alloc; 1u8; code.length()]?;
+    if word.len() != code.length() || !fits(code.field(), word) {
+        return Ok(false);
+    }
+    Ok(code.contains(word, &mut buf))
+}
+
+// The size of the field, the length, rows, a word, and whether it is in their code, as tools/linear_algebra.py prints it.
+static MEMBERS: [(Given, &[u8], bool); 8] = [
+    ((3, 3, &[&[1, 2, 0], &[2, 1, 1]]), &[2, 1, 2], true),
+    ((3, 3, &[&[1, 2, 0], &[2, 1, 1]]), &[2, 2, 0], false),
+    ((9, 4, &[&[3, 4, 5, 0], &[6, 8, 7, 1]]), &[3, 4, 5, 8], true),
+    (
+        (9, 4, &[&[3, 4, 5, 0], &[6, 8, 7, 1]]),
+        &[3, 4, 0, 8],
+        false,
+    ),
+    (
+        (16, 4, &[&[0, 7, 9, 2], &[5, 1, 0, 14]]),
+        &[1, 1, 13, 9],
+        true,
+    ),
+    (
+        (16, 4, &[&[0, 7, 9, 2], &[5, 1, 0, 14]]),
+        &[1, 1, 13, 8],
+        false,
+    ),
+    ((2, 2, &[]), &[0, 0], true),
+    ((2, 2, &[]), &[0, 1], false),
+];
+
+// Whether the word is in the code of these rows exactly if it is to be.
+fn is_member(alloc: Global, given: &Given, word: &[u8], expected: bool) -> bool {
+    match generated(alloc, given.0, given.1, given.2) {
+        Ok(code) => holds(alloc, &code, word) == Ok(expected),
+        Err(_refusal) => false,
+    }
+}
+
+#[test]
+fn members_of_codes(rt: HostRuntime) {
+    for row in &MEMBERS {
+        assert!(rt; is_member(rt.alloc(), &row.0, row.1, row.2), "over {}", row.0.0);
+    }
+}
