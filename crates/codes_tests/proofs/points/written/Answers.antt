@@ -2,7 +2,7 @@ use Rattle.std.proofs.Common.{◌≡◌, ◌<◌, rules, arith, length, map}
 use Rattle.std.proofs.lemmas.List.{length-map}
 use Rattle.lc_formats.proofs.CheckpointSize.{text_fits}
 use Rattle.lc_checkpoint.specs.Seen.{settled_of, point_of}
-use Rattle.session_tests.proofs.points.written.Goals as goal
+use Rattle.codes_tests.proofs.points.written.Goals as goal
 
 pub encode-requires : goal.encode-requires
 unfolding point_of
