@@ -1,4 +1,5 @@
 //! Tests of what the contracts are meant to say, by values from outside; each call is seen to answer.
+use crate::matrices::{FORMS, Given};
 use lc_code::{Code, CodeRefusal};
 use lc_field::{Field, NoMemory};
 use lc_vec::{Word, fits};
@@ -36,9 +37,6 @@ fn numbers_of_refusals(rt: HostRuntime) {
     }
 }
 
-// The size of a field, a length, and rows or checks of a code.
-type Given = (u64, usize, Rows);
-
 // The code over q elements of checks that are words of n symbols. Refuses with BadLength if they aren't, or if there is no such code.
 fn checked_by(alloc: Global, q: u64, n: usize, checks: &[Word]) -> Result<Code, CodeRefusal> {
     let Ok(field) = Field::of(alloc, q) else {
@@ -56,42 +54,6 @@ fn checked(alloc: Global, given: &Given) -> Result<Code, CodeRefusal> {
     checked_by(alloc, given.0, given.1, &words)
 }
 
-// The size of the field, the length, rows, and those of the reduced generator matrix of their words and of the dual code, as
-// tools/linear_algebra.py prints them.
-static CODES: [(Given, Rows, Rows); 7] = [
-    (
-        (
-            2,
-            5,
-            &[&[1, 1, 0, 1, 0], &[0, 1, 1, 0, 1], &[1, 0, 1, 1, 1]],
-        ),
-        &[&[1, 0, 1, 1, 1], &[0, 1, 1, 0, 1]],
-        &[&[1, 0, 0, 1, 0], &[0, 1, 0, 1, 1], &[0, 0, 1, 0, 1]],
-    ),
-    (
-        (3, 3, &[&[1, 2, 0], &[2, 1, 1]]),
-        &[&[1, 2, 0], &[0, 0, 1]],
-        &[&[1, 1, 0]],
-    ),
-    (
-        (4, 4, &[&[0, 2, 3, 1], &[2, 1, 0, 3], &[2, 3, 3, 2]]),
-        &[&[1, 0, 1, 0], &[0, 1, 2, 3]],
-        &[&[1, 0, 1, 3], &[0, 1, 0, 2]],
-    ),
-    (
-        (9, 4, &[&[3, 4, 5, 0], &[6, 8, 7, 1]]),
-        &[&[1, 3, 8, 0], &[0, 0, 0, 1]],
-        &[&[1, 0, 8, 0], &[0, 1, 5, 0]],
-    ),
-    (
-        (16, 4, &[&[0, 7, 9, 2], &[5, 1, 0, 14]]),
-        &[&[1, 0, 14, 5], &[0, 1, 3, 12]],
-        &[&[1, 0, 9, 15], &[0, 1, 2, 3]],
-    ),
-    ((5, 2, &[]), &[], &[&[1, 0], &[0, 1]]),
-    ((7, 1, &[&[3]]), &[&[1]], &[]),
-];
-
 // Whether the dual of the code has these rows.
 fn is_dual(alloc: Global, code: &Code, rows: Rows) -> Result<bool, NoMemory> {
     let dual = code.dual(alloc)?;
@@ -104,7 +66,7 @@ fn are_duals(alloc: Global, code: &Code, rows: Rows, others: Rows) -> Result<boo
     Ok(has_rows(code, rows) && has_rows(&dual, others) && is_dual(alloc, &dual, rows)?)
 }
 
-// Whether the code of these rows has the reduced rows, and its dual the others.
+// Whether the code of these rows has the reduced rows, and its dual those of the kernel.
 fn has_dual(alloc: Global, given: &Given, reduced: Rows, others: Rows) -> bool {
     match generated(alloc, given.0, given.1, given.2) {
         Ok(code) => are_duals(alloc, &code, reduced, others) == Ok(true),
@@ -114,7 +76,7 @@ fn has_dual(alloc: Global, given: &Given, reduced: Rows, others: Rows) -> bool {
 
 #[test]
 fn codes_and_duals(rt: HostRuntime) {
-    for row in &CODES {
+    for row in &FORMS {
         assert!(rt; has_dual(rt.alloc(), &row.0, row.1, row.2), "over {}", row.0.0);
     }
 }
@@ -135,7 +97,7 @@ fn is_checked(alloc: Global, given: &Given, rows: Rows) -> bool {
 
 #[test]
 fn codes_of_checks(rt: HostRuntime) {
-    for row in &CODES {
+    for row in &FORMS {
         assert!(rt; is_checked(rt.alloc(), &row.0, row.2), "over {}", row.0.0);
     }
 }

@@ -6,7 +6,7 @@ use std::alloc::Global;
 use test_rows::{Rows, matrix_of};
 
 // The size of a field, a number of columns, and rows.
-type Given = (u64, usize, Rows);
+pub(crate) type Given = (u64, usize, Rows);
 
 // The matrix that is given.
 fn given_matrix(alloc: Global, given: &Given) -> Result<Matrix, FieldRefusal> {
@@ -26,8 +26,9 @@ fn has_rows(matrix: &Matrix, rows: Rows) -> bool {
     true
 }
 
-// A matrix, and the rows of its reduced form and of its kernel.
-static FORMS: [(Given, Rows, Rows); 10] = [
+// A matrix, and the rows of its reduced form and of its kernel, as tools/linear_algebra.py prints them. They are the generator matrix
+// of its code and that of the dual code.
+pub(crate) static FORMS: [(Given, Rows, Rows); 11] = [
     (
         (
             2,
@@ -65,7 +66,8 @@ static FORMS: [(Given, Rows, Rows); 10] = [
     ),
     ((4, 1, &[&[0], &[3], &[2]]), &[&[1]], &[]),
     ((4, 1, &[&[0]]), &[], &[&[1]]),
-    ((2, 0, &[&[], &[]]), &[], &[]),
+    ((5, 2, &[]), &[], &[&[1, 0], &[0, 1]]),
+    ((7, 1, &[&[3]]), &[&[1]], &[]),
 ];
 
 // Whether the reduced matrix has these rows.
@@ -115,6 +117,11 @@ fn forms_over_fields(rt: HostRuntime) {
         let is_right = has_forms(rt.alloc(), &row.0, row.1, row.2);
         assert!(rt; is_right, "over {}, {} columns", row.0.0, row.0.1);
     }
+}
+
+#[test]
+fn forms_without_columns(rt: HostRuntime) {
+    assert!(rt; has_forms(rt.alloc(), &(2, 0, &[&[], &[]]), &[], &[]));
 }
 
 // A matrix, a set of columns, and the rows of the matrix that is the identity there; none, if there is no such matrix.

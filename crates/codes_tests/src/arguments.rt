@@ -64,16 +64,9 @@ fn refused_command_lines(rt: HostRuntime) -> Result<(), Fail> {
 }
 
 #[test]
-fn accepted_command_lines(rt: HostRuntime) -> Result<(), Fail> {
-    let cases: [(&str, Asked); 7] = [
+fn accepted_runs(rt: HostRuntime) -> Result<(), Fail> {
+    let cases: [(&str, Asked); 4] = [
         ("run", PLAIN),
-        (
-            "check",
-            Asked {
-                command: Command::Check,
-                ..PLAIN
-            },
-        ),
         (
             "run budget=0 workers=256",
             Asked {
@@ -89,6 +82,24 @@ fn accepted_command_lines(rt: HostRuntime) -> Result<(), Fail> {
                 ..PLAIN
             },
         ),
+        ("run keep=no", PLAIN),
+    ];
+    for (line, asked) in &cases {
+        assert!(rt; asked_in(rt.alloc(), line)? == Ok(*asked));
+    }
+    Ok(())
+}
+
+#[test]
+fn accepted_commands(rt: HostRuntime) -> Result<(), Fail> {
+    let cases: [(&str, Asked); 3] = [
+        (
+            "check",
+            Asked {
+                command: Command::Check,
+                ..PLAIN
+            },
+        ),
         (
             "resume slice=3 keep=yes",
             Asked {
@@ -98,7 +109,6 @@ fn accepted_command_lines(rt: HostRuntime) -> Result<(), Fail> {
                 ..PLAIN
             },
         ),
-        ("run keep=no", PLAIN),
         (
             "summary workers=4 seed=18446744073709551615",
             Asked {

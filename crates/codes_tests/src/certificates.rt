@@ -41,7 +41,7 @@ fn certificates_are_written_back(rt: HostRuntime) -> Result<(), Fail> {
 
 #[test]
 fn broken_certificates(rt: HostRuntime) {
-    let cases: [(&str, u8, u32); 14] = [
+    let cases: [(&str, u8, u32); 8] = [
         (HAMMING, 0, 0),
         ("", 30, 0),
         ("{\"by\":\"levels\",\"distance\":3,\"field\":2,\"ro", 30, 0),
@@ -50,6 +50,15 @@ fn broken_certificates(rt: HostRuntime) {
         ("{\"version\":1}", 31, 3),
         ("{\"version\":1,\"field\":6}", 31, 3),
         ("{\"version\":1,\"field\":3,\"rows\":[[0,3]]}", 31, 4),
+    ];
+    for (text, number, rule) in &cases {
+        assert!(rt; refusal_of(rt.alloc(), *text) == (*number, *rule));
+    }
+}
+
+#[test]
+fn certificates_of_broken_proofs(rt: HostRuntime) {
+    let cases: [(&str, u8, u32); 6] = [
         (
             "{\"version\":1,\"field\":3,\"rows\":[[0,2]],\"word\":[0]}",
             31,
