@@ -66,7 +66,7 @@ pub column_of_columns : (rows : List (List ℕ)) (set : List ℕ) (l : ℕ) → 
 column_of_columns rows [] l k = refl
 column_of_columns rows (p ∷ set) l k = cc (get_or-map (λ row. slice_index row p) rows l [] 0 k, column_of_columns rows set l k)
 
-columns_are_rows : (f : FieldName) (n : ℕ) (rows : List (List ℕ)) (set : List ℕ) → AreRows f n rows → AreRows f (length rows) (map (column rows) set)
+pub columns_are_rows : (f : FieldName) (n : ℕ) (rows : List (List ℕ)) (set : List ℕ) → AreRows f n rows → AreRows f (length rows) (map (column rows) set)
 columns_are_rows f n rows set r = All-map (IsWord f (length rows)) (column rows) set (λ k d l. column_word f n rows (slice_index_or set k d) r)
 
 index_of_columns : (f : FieldName) (n : ℕ) (rows : List (List ℕ)) (set xs : List ℕ) (l : ℕ) → AreRows f n rows → l < length rows → slice_index (combine f (length rows) xs (map (column rows) set)) l ≡ word_dot f xs (restrict set (slice_index_or rows l []))

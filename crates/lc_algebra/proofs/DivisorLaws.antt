@@ -10,8 +10,10 @@
 --   divisor_is, divisor_positive   the divisor of the weights is the greatest of them, and at least 1
 --   is_positive, divisor_at_most, divisor_unique      there is no other
 --   divisible_shared, divisor_shared      rows with the same words have the same
---   rounded_is, rounded_above, rounded_within, rounded_one      rounding up gives the least multiple; no weight that is a multiple lies between
-use Rattle.std.proofs.Common.{◌≡◌, ℕ, suc, ◌+◌, ◌-◌, ◌*◌, ◌/◌, ◌%◌, ◌<◌, ◌≤◌, Bool, true, ◌==◌, ◌++◌, List, [], ◌∷◌, find, unwrap_or, cond, Some, Contains, refl, sym, ap, subst, ◌∙◌, ⊎_elim, arith}
+--   rounded_is, rounded_within, rounded_one      rounding up gives the least multiple; no weight that is a multiple lies between
+--   divisors_small, divisor_some      divisors are 1 to 4
+--   rounded_made           the weight that rounding up a sum gives
+use Rattle.std.proofs.Common.{◌≡◌, ℕ, suc, ◌+◌, ◌-◌, ◌*◌, ◌/◌, ◌%◌, ◌<◌, ◌≤◌, Bool, true, ◌==◌, ◌++◌, List, [], ◌∷◌, find, unwrap_or, cond, Some, Contains, refl, sym, ap, subst, ◌∙◌, ⊎_elim, arith, max}
 use Rattle.std.specs.List.{list_all}
 use Rattle.std.proofs.Math.Nat.{mul-one, mod-add-div', mul-mod_left, lt-div-mul-add, mul-le-mul_right}
 use Rattle.std.proofs.lemmas.Nat.{div_below}
@@ -22,8 +24,9 @@ use Rattle.lc_algebra.specs.declared.FieldName.{FieldName}
 use Rattle.lc_algebra.specs.declared.FieldName.TheVariants.{Gf2, Gf3}
 use Rattle.lc_algebra.specs.Word.{weight}
 use Rattle.lc_algebra.specs.Span.{words, SameSpan}
-use Rattle.lc_algebra.specs.Divisor.{IsDivisible, possible_divisors, divides_weights, weight_divisor, IsWeightDivisor, rounded, IsLeastMultiple}
+use Rattle.lc_algebra.specs.Divisor.{IsDivisible, possible_divisors, divides_weights, weight_divisor, IsWeightDivisor, rounded, IsLeastMultiple, divisor_of}
 use Rattle.lc_algebra.proofs.SpanLaws.{contains_head, contains_tail, contains_cases, word_of_member, member_of_word}
+use Rattle.lc_algebra.specs.Matrix.{Matrix}
 
 pub multiple_from_mod : (n d : ℕ) → n % d ≡ 0 → n ≡ n / d * d
 multiple_from_mod n d h = omega (arith, mod-add-div' n d, h)
@@ -141,9 +144,6 @@ rounded_is d t p =
       least = λ m h. mul-le-mul_right d (omega (arith, div_below (t + (d - 1)) d (suc m) p (omega (arith, h, p))));
     }
 
-pub rounded_above : (d t : ℕ) → 0 < d → t ≤ rounded d t
-rounded_above d t p = (rounded_is d t p).reaches
-
 pub rounded_within : (d t w : ℕ) → 0 < d → ((m : ℕ) × (w ≡ m * d)) → t ≤ w → rounded d t ≤ w
 rounded_within d t w p m h = subst (λ v. rounded d t ≤ v) (sym m.1) ((rounded_is d t p).least m.0 (subst (λ v. t ≤ v) m.1 h))
 
@@ -151,3 +151,19 @@ pub rounded_one : (t : ℕ) → rounded 1 t ≡ t
 rounded_one t =
     let r = rounded_is 1 t (omega arith) in
     omega (arith, r.reaches, subst (λ v. rounded 1 t ≤ v) (mul-one t) (r.least t (omega arith)))
+
+pub divisors_small : (f : FieldName) (d : ℕ) → Contains (possible_divisors f) d → d ≤ 4
+unfolding possible_divisors
+divisors_small Gf2 d l = ⊎_elim (λ e. omega (arith, e)) (λ m. ⊎_elim (λ e. omega (arith, e)) (λ o. absurd (no_member d o)) (contains_cases 2 d [] m)) (contains_cases 4 d (2 ∷ []) l)
+divisors_small Gf3 d l = ⊎_elim (λ e. omega (arith, e)) (λ o. absurd (no_member d o)) (contains_cases 3 d [] l)
+divisors_small _ d l = absurd (no_member d l)
+
+pub divisor_some : (C : Matrix) → 1 ≤ divisor_of C
+unfolding divisor_of
+divisor_some C = divisor_positive C.field C.columns C.rows
+
+pub rounded_made : (d s t r : ℕ) → s ≡ t → r ≡ (max s 1 + (d - 1)) / d * d → r ≡ rounded d (max 1 t)
+unfolding rounded
+rounded_made d s t r e q =
+    let same : max s 1 ≡ max 1 t = omega (arith, e) in
+    q ∙ ap (λ m. (m + (d - 1)) / d * d) same

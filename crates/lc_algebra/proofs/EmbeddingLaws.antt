@@ -10,13 +10,15 @@
 --   embed_neg                 negatives
 use Rattle.std.proofs.Common.{◌≡◌, ℕ, ◌%◌, ◌<◌, ◌⊎◌, inl, inr, ⊎_elim, Bool, true, false, not, ◌&&◌, ◌||◌, ◌==◌, slice_index, List, [], ◌∷◌, refl, subst, arith, Decides}
 use Rattle.std.proofs.lemmas.Bool.Decides.{Decides-eqb, Decides-and}
+use Rattle.std.proofs.lemmas.Bool.{and_parts}
 use Rattle.lc_algebra.specs.declared.FieldName.{FieldName}
 use Rattle.lc_algebra.specs.Field.{shape_of, size, coefficients, add, neg, mul}
 use Rattle.lc_algebra.specs.Polynomial.{value_at}
 use Rattle.lc_algebra.specs.Embedding.{IsSubfield, is_subfield, root, embed}
 use Rattle.lc_algebra.proofs.FieldTests.{below, below_each, positive, above_one_characteristic, characteristic_inside}
-use Rattle.lc_algebra.proofs.FieldLaws.{zero_inside, add_inside, neg_inside, mul_inside, add_neg, negative_unique}
-use Rattle.lc_algebra.proofs.EmbeddingTests.{both_true, each_name, told_by_size, is_proper, sum_kept, product_kept, told_apart, keeps_test, images_test, images, image_at, found_root, found_is_root, pair_when, pair_test, pairs_test, self_from, self_test}
+use Rattle.lc_algebra.proofs.FieldLaws.{add_inside, neg_inside, mul_inside, add_neg, negative_unique}
+use Rattle.lc_algebra.proofs.EmbeddingTests.{each_name, told_by_size, is_proper, sum_kept, product_kept, told_apart, keeps_test, images_test, images, image_at, found_root, found_is_root, pair_when, pair_test, pairs_test, self_from, self_test}
+use Rattle.lc_algebra.proofs.PolynomialLaws.{value_inside}
 pub use Rattle.lc_algebra.proofs.EmbeddingTests.{told_by_size}
 
 pub decides_subfield : (small large : FieldName) → Decides (is_subfield small large) (IsSubfield small large)
@@ -24,11 +26,6 @@ unfolding is_subfield
 decides_subfield small large =
     let d = Decides-and ((shape_of small).characteristic == (shape_of large).characteristic) ((shape_of large).degree % (shape_of small).degree == 0) (Decides-eqb (shape_of small).characteristic (shape_of large).characteristic) (Decides-eqb ((shape_of large).degree % (shape_of small).degree) 0) in
     ((λ e. let s = d.0 e in record { characteristic = s.0; degree = s.1 }), (λ s. d.1 (s.characteristic, s.degree)))
-
-value_inside : (f : FieldName) (u : List ℕ) (x : ℕ) → value_at f u x < size f
-unfolding value_at
-value_inside f [] x = zero_inside f
-value_inside f (c ∷ u) x = add_inside f c (mul f x (value_at f u x))
 
 pub embed_inside : (small large : FieldName) (a : ℕ) → embed small large a < size large
 unfolding embed
@@ -71,7 +68,7 @@ proper_images small large p =
 proper_parts : (small large : FieldName) → is_proper small large ≡ true → (below (λ a. slice_index (pictures small large) a == a) (shape_of small).characteristic ≡ true) × (below (λ a. below (λ b. keeps_test small large (pictures small large) a b) (size small)) (size small) ≡ true)
 unfolding images_test
 proper_parts small large p =
-    both_true (below (λ a. slice_index (pictures small large) a == a) (shape_of small).characteristic) (below (λ a. below (λ b. keeps_test small large (pictures small large) a b) (size small)) (size small)) (proper_images small large p)
+    and_parts (below (λ a. slice_index (pictures small large) a == a) (shape_of small).characteristic) (below (λ a. below (λ b. keeps_test small large (pictures small large) a b) (size small)) (size small)) (proper_images small large p)
 
 proper_residue : (small large : FieldName) → is_proper small large ≡ true → (a : ℕ) → a < (shape_of small).characteristic → embed small large a ≡ a
 proper_residue small large p a l =
@@ -86,8 +83,8 @@ proper_keeps small large p a b l m =
     let xs = pictures small large in
     let row = below_each (λ a. below (λ b. keeps_test small large xs a b) (size small)) (size small) (proper_parts small large p).1 a l in
     let pair = below_each (λ b. keeps_test small large xs a b) (size small) row b m in
-    let (first, rest) = both_true (sum_kept small large xs a b) (product_kept small large xs a b && told_apart xs a b) pair in
-    let (second, third) = both_true (product_kept small large xs a b) (told_apart xs a b) rest in
+    let (first, rest) = and_parts (sum_kept small large xs a b) (product_kept small large xs a b && told_apart xs a b) pair in
+    let (second, third) = and_parts (product_kept small large xs a b) (told_apart xs a b) rest in
     (first, second, third)
 
 proper_add : (small large : FieldName) → is_proper small large ≡ true → (a b : ℕ) → a < size small → b < size small → embed small large (add small a b) ≡ add large (embed small large a) (embed small large b)

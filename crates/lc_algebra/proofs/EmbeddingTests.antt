@@ -3,7 +3,6 @@
 --   is_proper small large        the small field lies in the large one, and is another field
 --   names                        the eighteen fields
 --   each_of test fs, each_name   the test is passed by each field of a list; by each of the eighteen, and so by any
---   both_true                    what an `and` tells of its parts
 --   told_by_size                 a field is told by its number of elements
 --   size_two, two_elements, has_two_elements      the field of 2 elements, and no other one, has 2 elements
 --   found_root, found_is_root    the root, found by a search that stops at it
@@ -12,11 +11,14 @@
 --   pair_test small large        that, where the embedding is proper
 --   pairs_test large             each small field passes it
 --   self_test                    each element stands for itself in its own field
-use Rattle.std.proofs.Common.{◌≡◌, ◌≢◌, ℕ, ◌⊎◌, inl, inr, ⊎_elim, Bool, true, false, not, cond, ◌&&◌, ◌||◌, ◌==◌, List, [], ◌∷◌, refl, sym, ap, ◌∙◌, true≢false, slice_index, zero-add, add-zero, suc-add, add-suc, ◌+◌, arith, zero, suc, ◌<◌, ◌++◌}
+--   size_three, binary_symbols   the elements of the two least fields
+use Rattle.std.proofs.Common.{◌≡◌, ◌≢◌, ℕ, ◌⊎◌, inl, inr, ⊎_elim, Bool, true, false, not, cond, ◌&&◌, ◌||◌, ◌==◌, List, [], ◌∷◌, refl, sym, ap, ◌∙◌, slice_index, zero-add, add-zero, suc-add, add-suc, ◌+◌, arith, zero, suc, ◌<◌, ◌++◌, subst}
+use Rattle.std.specs.Prelude.{IsTrue}
+use Rattle.std.proofs.lemmas.Bool.{and_parts}
 use Rattle.lc_algebra.specs.declared.FieldName.{FieldName}
 use Rattle.lc_algebra.specs.declared.FieldName.TheVariants.{Gf2, Gf3, Gf4, Gf5, Gf7, Gf8, Gf9, Gf11, Gf13, Gf16, Gf25, Gf27, Gf32, Gf64, Gf81, Gf128, Gf243, Gf256}
 use Rattle.lc_algebra.specs.Residue.{digits, number, plus, minus, times, top, up, times_x, product}
-use Rattle.lc_algebra.specs.Field.{shape, shape_of, size, coefficients, add, mul}
+use Rattle.lc_algebra.specs.Field.{shape, shape_of, size, coefficients, add, mul, is_symbol}
 use Rattle.lc_algebra.specs.Polynomial.{value_at}
 use Rattle.lc_algebra.specs.Embedding.{is_subfield, first_from, first_that, root}
 use Rattle.lc_algebra.proofs.FieldTests.{below}
@@ -35,15 +37,11 @@ abbrev IsOneOf : FieldName → List FieldName → Type 0
 IsOneOf f [] = ⊥
 IsOneOf f (g ∷ gs) = (f ≡ g) ⊎ IsOneOf f gs
 
-pub both_true : (a b : Bool) → (a && b) ≡ true → (a ≡ true) × (b ≡ true)
-both_true true b e = (refl, e)
-both_true false b e = absurd (true≢false (sym e))
-
 each_of_one : (test : FieldName → Bool) (f : FieldName) (fs : List FieldName) → each_of test fs ≡ true → IsOneOf f fs → test f ≡ true
 unfolding each_of
 each_of_one test f [] e o = absurd o
 each_of_one test f (g ∷ gs) e o =
-    let (first, rest) = both_true (test g) (each_of test gs) e in
+    let (first, rest) = and_parts (test g) (each_of test gs) e in
     ⊎_elim (λ h. ap test h ∙ first) (λ h. each_of_one test f gs rest h) o
 
 one_of_names : (f : FieldName) → IsOneOf f names
@@ -214,3 +212,11 @@ self_test Gf81 = refl
 self_test Gf128 = refl
 self_test Gf243 = refl
 self_test Gf256 = refl
+
+pub size_three : size Gf3 ≡ 3
+unfolding shape shape_of size
+size_three = refl
+
+pub binary_symbols : (f : FieldName) → f ≡ Gf2 → IsTrue (is_symbol f)
+unfolding is_symbol size shape shape_of
+binary_symbols f e = subst (λ g. IsTrue (is_symbol g)) (sym e) refl

@@ -10,12 +10,14 @@
 --   inverses          inverse_of, inverse_nonzero, inverse_unique, no_zero_divisors, mul_nonzero
 use Rattle.std.proofs.Common.{◌≡◌, ℕ, zero, suc, ◌+◌, ◌-◌, ◌^◌, ◌<◌, ◌⊎◌, inl, inr, true, ◌==◌, List, length, replicate, refl, sym, ap, ◌∙◌, subst, arith, true≢false, ◌≢◌, zero-add, add-zero, suc-add, add-suc, ⊎_elim}
 use Rattle.std.proofs.lemmas.Bool.Decides.{Decides-eqb}
+use Rattle.std.proofs.lemmas.Bool.{or_cases}
 use Rattle.lc_algebra.specs.declared.FieldName.{FieldName}
 use Rattle.lc_algebra.specs.Residue.{number, plus, minus, product}
 use Rattle.lc_algebra.specs.Field.{shape_of, size, coefficients, add, neg, mul, pow, IsInverse}
 use Rattle.lc_algebra.proofs.ResidueLaws.{Residues, plus_comm, plus_assoc, plus_zero, plus_minus, length-plus, length-minus, length-digits, residues_plus, residues_minus, residues_digits, digits-number, number-digits, number_below, digits_zero}
 use Rattle.lc_algebra.proofs.ProductLaws.{length-product, residues_product, product_plus, product_swap}
-use Rattle.lc_algebra.proofs.FieldTests.{above_one, below_each, either_true, powers, stands, each_stands, positive, length-lower, times_one_test, order_test, members_test}
+pub use Rattle.lc_algebra.proofs.FieldTests.{above_one as one_inside, order_test as power_order}
+use Rattle.lc_algebra.proofs.FieldTests.{below_each, powers, stands, each_stands, positive, length-lower, times_one_test, members_test}
 
 -- coefficients
 
@@ -76,9 +78,6 @@ unfolding coefficients
 coefficients_zero f = digits_zero (shape_of f).characteristic (shape_of f).degree
 
 -- inside
-
-pub one_inside : (f : FieldName) → 1 < size f
-one_inside = above_one
 
 pub zero_inside : (f : FieldName) → 0 < size f
 zero_inside f = omega (arith, one_inside f)
@@ -229,9 +228,6 @@ unfolding pow
 pow_add f a zero n = cc (zero-add n, one_mul f (pow f a n) (pow_inside f a n))
 pow_add f a (suc m) n = cc (suc-add m n, pow_add f a m n, mul_assoc f a (pow f a m) (pow f a n))
 
-pub power_order : (f : FieldName) → pow f (shape_of f).primitive (size f - 1) ≡ 1
-power_order = order_test
-
 -- each item of the list of powers is a power
 standing_power : (f : FieldName) (n m a : ℕ) → stands a (powers f n (pow f (shape_of f).primitive m)) ≡ true → (k : ℕ) × (k < n) × (pow f (shape_of f).primitive (m + k) ≡ a)
 unfolding stands powers
@@ -240,7 +236,7 @@ standing_power f (suc n) m a e =
     ⊎_elim
     (λ h. (0, omega arith, cc (add-zero m, (Decides-eqb a (pow f (shape_of f).primitive m)).0 h)))
     (λ h. let r = standing_power f n (suc m) a (cc (pow_suc f (shape_of f).primitive m)) in (suc r.0, omega arith, cc (r.2, suc-add m r.0, add-suc m r.0)))
-    (either_true (a == pow f (shape_of f).primitive m) _ e)
+    (or_cases (a == pow f (shape_of f).primitive m) _ e)
 
 -- each nonzero element is a power of the primitive one
 pub logarithm : (f : FieldName) (a : ℕ) → 0 < a → a < size f → (n : ℕ) × (n < size f - 1) × (pow f (shape_of f).primitive n ≡ a)

@@ -1,6 +1,6 @@
 -- What is told of each of the eighteen fields by computing with its elements.
 --   below test n, below_each        the test is passed by each number below n
---   either_true, second_false       what an `or` tells of its parts
+--   second_false       what an `or` with a false first part tells of the second
 --   positive, above_one_characteristic, characteristic_inside      the characteristic
 --   above_one                       the size
 --   length-lower, residues_lower    the polynomial that is divided by has the field's degree, and residues for coefficients
@@ -14,7 +14,7 @@
 --   order_least_test                no power between is 1
 --   primitive_positive, primitive_inside      it is a nonzero element
 --   frobenius_test                  the power by the characteristic keeps sums with 1
-use Rattle.std.proofs.Common.{◌≡◌, ℕ, zero, suc, ◌-◌, ◌<◌, Bool, true, false, ◌&&◌, ◌||◌, ◌==◌, List, [], ◌∷◌, length, refl, lit<, ◌++◌, replicate, lit≤, ◌≤◌, true≢false, ◌⊎◌, inl, inr}
+use Rattle.std.proofs.Common.{◌≡◌, ℕ, zero, suc, ◌-◌, ◌<◌, Bool, true, false, ◌&&◌, ◌||◌, ◌==◌, List, [], ◌∷◌, length, refl, lit<, ◌++◌, replicate, lit≤, ◌≤◌, true≢false, ◌⊎◌}
 use Rattle.std.proofs.lemmas.Bool.Decides.{Decides-below_and}
 use Rattle.lc_algebra.specs.declared.FieldName.{FieldName}
 use Rattle.lc_algebra.specs.declared.FieldName.TheVariants.{Gf2, Gf3, Gf4, Gf5, Gf7, Gf8, Gf9, Gf11, Gf13, Gf16, Gf25, Gf27, Gf32, Gf64, Gf81, Gf128, Gf243, Gf256}
@@ -29,10 +29,6 @@ below test (suc n) = test n && below test n
 pub below_each : (test : ℕ → Bool) (n : ℕ) → below test n ≡ true → (k : ℕ) → k < n → test k ≡ true
 unfolding below
 below_each test n = (Decides-below_and test (λ k. test k ≡ true) (below test) (λ k. ((λ e. e), (λ e. e))) refl (λ m. refl) n).0
-
-pub either_true : (a b : Bool) → (a || b) ≡ true → (a ≡ true) ⊎ (b ≡ true)
-either_true true b e = inl refl
-either_true false b e = inr e
 
 pub second_false : (a b : Bool) → (a || b) ≡ false → b ≡ false
 second_false true b e = absurd (true≢false e)

@@ -20,3 +20,4 @@ pub mod DivisorExamples
 pub mod PlaneExamples
 pub mod RemainderLaws
 pub mod FieldRecords
+pub mod CommonLaws

@@ -10,7 +10,6 @@
 --   logarithm                   each nonzero element is a power of the primitive element
 --   power_distinct              its powers below size - 1 are distinct
 --   power_rest                  its exponents count modulo size - 1
---   power_product               products of its powers
 --   order_divides               a nonzero element to the size - 1 is 1
 --   pow_size                    every element to the size is itself
 --   frobenius                   the power by the characteristic keeps sums
@@ -97,9 +96,6 @@ power_rest f n =
     let m = size f - 1 in
     let whole : n % m + m * (n / m) ≡ n = mod-add-div n m in
     cc (pow_add f g (n % m) (m * (n / m)), pow_mul f g m (n / m), power_order f, one_pow f (n / m), mul_one f (pow f g (n % m)) (pow_inside f g (n % m)))
-
-pub power_product : (f : FieldName) (i j : ℕ) → mul f (pow f (shape_of f).primitive i) (pow f (shape_of f).primitive j) ≡ pow f (shape_of f).primitive ((i + j) % (size f - 1))
-power_product f i j = cc (pow_add f (shape_of f).primitive i j, power_rest f (i + j))
 
 pub order_divides : (f : FieldName) (a : ℕ) → 0 < a → a < size f → pow f a (size f - 1) ≡ 1
 order_divides f a o l =

@@ -4,7 +4,6 @@
 --   top_plus, top_times          so does the last coefficient
 --   times_x_plus, times_x_times  so does multiplying by x
 --   product_plus, product_times, product_times_x      and the product, in its second factor
---   plus_product                 it keeps sums in its first factor too
 --   product_swap                 u (v w) is v (u w)
 --   zeros_plus_zeros, up_zeros, top_zeros, times_x_zeros, product_zeros      zeros stay
 --   length-up, length-times_x, length-product, residues_product              lengths, and residues come out
@@ -135,18 +134,6 @@ product_zeros p m (c ∷ u) =
     cc (product_zeros p m u, times_none p c (length m), times_x_zeros p m, zeros_plus_zeros p (length m))
 
 -- the product in its first factor
-
-pub plus_product : (p : ℕ) (m u v w : List ℕ) → length u ≡ length v → length w ≡ length m → product p m (plus p u v) w ≡ plus p (product p m u w) (product p m v w)
-unfolding product plus
-plus_product p m [] [] w e f = sym (zeros_plus_zeros p (length m))
-plus_product p m [] (d ∷ v) w e f = cc
-plus_product p m (c ∷ u) [] w e f = cc
-plus_product p m (c ∷ u) (d ∷ v) w e f =
-    let a = product p m u w in
-    let b = product p m v w in
-    let same : length a ≡ length b = length-product p m u w f ∙ sym (length-product p m v w f) in
-    let rest : product p m (plus p u v) w ≡ plus p a b = plus_product p m u v w (omega arith) f in
-    cc (plus_times p c d w, times_x_plus p m a b same, plus_middle p (times p c w) (times p d w) (times_x p m a) (times_x p m b))
 
 -- two factors change places
 

@@ -21,7 +21,7 @@ use Rattle.lc_algebra.proofs.FieldLaws.{coefficients_mul, coefficients_fit, told
 
 -- coefficients of sums and multiples
 
-index-zeros : (n i : ℕ) → slice_index (replicate n 0) i ≡ 0
+pub index-zeros : (n i : ℕ) → slice_index (replicate n 0) i ≡ 0
 index-zeros zero i = refl
 index-zeros (suc n) zero = refl
 index-zeros (suc n) (suc i) = index-zeros n i

@@ -5,7 +5,7 @@
 --   plus_zero, plus_minus        the zero polynomial; a polynomial and its negative
 --   times_plus, plus_times       multiples of sums, sums of multiples
 --   times_times, times_swap      multiples of multiples
---   times_zero, times_one, times_none, times_rest      multiples by 0, by 1, of zeros, by a residue
+--   times_zero, times_one, times_none      multiples by 0, by 1, of zeros, by a residue
 --   sum_of_rests, rest_sum_first, rest_sum_second      residues of sums
 --   length-plus, ..              lengths
 --   residues_plus, ..            what the operations give are residues
@@ -100,11 +100,6 @@ times_times p c d (a ∷ u) = cc (times_times p c d u, rest_times_times c d a p)
 
 pub times_swap : (p c d : ℕ) (u : List ℕ) → times p c (times p d u) ≡ times p d (times p c u)
 times_swap p c d u = cc (times_times p c d u, times_times p d c u, mul_comm c d)
-
-pub times_rest : (p c : ℕ) (u : List ℕ) → times p (c % p) u ≡ times p c u
-unfolding times
-times_rest p c [] = refl
-times_rest p c (a ∷ u) = cc (times_rest p c u, mul-mod_first c a p)
 
 pub times_none : (p c : ℕ) (n : ℕ) → times p c (replicate n 0) ≡ replicate n 0
 unfolding times

@@ -33,8 +33,11 @@
 --   words_apart            two words are at least the minimum distance apart
 --   words_at_distance      and some word is that far from the zero word
 --   distance_shared, least_shared      rows with the same words have the same distance and the same first word
-use Rattle.std.proofs.Common.{◌≡◌, ◌≢◌, ℕ, zero, suc, ◌*◌, ◌^◌, ◌<◌, ◌≤◌, ◌⊎◌, ◌↔◌, List, [], ◌∷◌, map, length, set, slice_index_or, All, Contains, flat_map, swap, remove, IsPermutation, refl, sym, ap, subst, ◌∙◌, inl, inr, ⊎_elim, arith, zero-lt-suc, pow-suc}
-use Rattle.std.proofs.lemmas.List.{length-append, length-map, length-set, get_or-set_same, get_or-set_other, get_or_default}
+--   combine_cons, combine_none, combine_append      combinations, by their coefficients
+--   combine_is_word, span_of_member      they are words; each row is one of them
+--   index_below            the numbers below n, by their places
+use Rattle.std.proofs.Common.{◌≡◌, ◌≢◌, ℕ, zero, suc, ◌*◌, ◌^◌, ◌<◌, ◌≤◌, ◌⊎◌, ◌↔◌, List, [], ◌∷◌, map, length, set, slice_index_or, All, Contains, flat_map, swap, remove, IsPermutation, refl, sym, ap, subst, ◌∙◌, inl, inr, ⊎_elim, arith, zero-lt-suc, pow-suc, ◌+◌, ◌++◌, ◌-◌}
+use Rattle.std.proofs.lemmas.List.{length-append, length-map, length-set, get_or-set_same, get_or-set_other, get_or_default, get_or_append_left}
 use Rattle.std.proofs.lemmas.List.Elements.{All-cons, All-head, All-tail, All-contains, All-from_get_or, Contains-get_or, Contains-append_left, Contains-append_right, Contains-append_cases}
 use Rattle.std.proofs.lemmas.List.Sorted.{IsPermutation-sym, IsPermutation-swap, IsPermutation-remove, All-permutation}
 use Rattle.std.proofs.lemmas.Bool.{cases_lt, cases_eq}
@@ -45,8 +48,9 @@ use Rattle.lc_algebra.specs.Span.{below, combine, InSpan, words, SameSpan, AreIn
 use Rattle.lc_algebra.specs.Matrix.{AreRows, IsOrthogonal}
 use Rattle.lc_algebra.specs.SpanLaws.{AddsMultiples, ScalesRows}
 use Rattle.std.proofs.Math.Nat.{pow-zero}
+use Rattle.std.proofs.Math.Seq.{get_or-append_seam}
 use Rattle.lc_algebra.proofs.FieldLaws.{one_inside, zero_inside, add_inside, mul_inside, zero_add, mul_comm, mul_zero, inverse_of}
-use Rattle.lc_algebra.proofs.WordLaws.{length_word_sum, length_sums, length_scale, difference_self, same_from_difference, IsWord_difference, length_zero_word, IsWord_zero, IsWord_scale, IsWord_sum, word_head, word_tail, word_cons, sum_exchange, multiple_undone, zero_sum, sum_zero, scale_sum, sum_scale, scale_scale, one_scale, zero_scale, scale_zero, sum_dot, scale_dot, dot_sum, dot_scale, zero_dot, dot_zero, positive_weight, weight_zero_word, difference_zero, no_later_antisymmetric, no_later_weight}
+use Rattle.lc_algebra.proofs.WordLaws.{length_word_sum, length_sums, length_scale, difference_self, same_from_difference, IsWord_difference, length_zero_word, IsWord_zero, IsWord_scale, IsWord_sum, word_head, word_tail, word_cons, sum_exchange, multiple_undone, zero_sum, sum_zero, scale_sum, sum_scale, scale_scale, one_scale, zero_scale, scale_zero, sum_dot, scale_dot, dot_sum, dot_scale, zero_dot, dot_zero, positive_weight, weight_zero_word, difference_zero, no_later_antisymmetric, no_later_weight, sum_assoc}
 
 pub span_word : (f : FieldName) (n : ℕ) (rows : List (List ℕ)) (w : List ℕ) → AreRows f n rows → InSpan f n rows w → IsWord f n w
 span_word f n [] w r h = rw h (IsWord_zero f n)
@@ -448,3 +452,41 @@ distance_shared f n rows others d s p = record {
 
 pub least_shared : (f : FieldName) (n : ℕ) (rows others : List (List ℕ)) (w : List ℕ) → SameSpan f n rows others → IsLeast f n rows w → IsLeast f n others w
 least_shared f n rows others w s p = record { inside = (s w).0 p.inside; nonzero = p.nonzero; first = λ v h k. p.first v ((s v).1 h) k }
+
+pub combine_cons : (f : FieldName) (n c : ℕ) (cs g : List ℕ) (rows : List (List ℕ)) → combine f n (c ∷ cs) (g ∷ rows) ≡ word_sum f (scale f c g) (combine f n cs rows)
+unfolding combine
+combine_cons f n c cs g rows = refl
+
+pub combine_none : (f : FieldName) (n : ℕ) (rows : List (List ℕ)) → combine f n [] rows ≡ zero_word n
+unfolding combine
+combine_none f n [] = refl
+combine_none f n (g ∷ rows) = refl
+
+pub combine_is_word : (f : FieldName) (n : ℕ) (cs : List ℕ) (rows : List (List ℕ)) → AreRows f n rows → IsWord f n (combine f n cs rows)
+unfolding combine
+combine_is_word f n [] rows r = IsWord_zero f n
+combine_is_word f n (c ∷ cs) [] r = IsWord_zero f n
+combine_is_word f n (c ∷ cs) (g ∷ rows) r =
+    let tail = All-tail (IsWord f n) g rows r in
+    IsWord_sum f n (scale f c g) (combine f n cs rows) (length_scale f c g ∙ (All-head (IsWord f n) g rows r).long) (length_combine f n cs rows tail)
+
+pub combine_append : (f : FieldName) (n : ℕ) (ds es : List ℕ) (xs ys : List (List ℕ)) → length ds ≡ length xs → AreRows f n ys → combine f n (ds ++ es) (xs ++ ys) ≡ word_sum f (combine f n ds xs) (combine f n es ys)
+unfolding combine
+combine_append f n [] es [] ys l r = sym (zero_sum f n (combine f n es ys) (combine_is_word f n es ys r))
+combine_append f n [] es (x ∷ xs) ys l r = absurd (omega (arith, l))
+combine_append f n (d ∷ ds) es [] ys l r = absurd (omega (arith, l))
+combine_append f n (d ∷ ds) es (x ∷ xs) ys l r =
+    ap (word_sum f (scale f d x)) (combine_append f n ds es xs ys (omega (arith, l)) r)
+    ∙ sym (sum_assoc f (scale f d x) (combine f n ds xs) (combine f n es ys))
+
+pub span_of_member : (f : FieldName) (n : ℕ) (rows : List (List ℕ)) (w : List ℕ) → AreRows f n rows → Contains rows w → InSpan f n rows w
+span_of_member f n rows w r c = All-contains (InSpan f n rows) rows w (span_row f n rows r) c
+
+pub index_below : (n i d : ℕ) → i < n → slice_index_or (below n) i d ≡ i
+unfolding below
+index_below zero i d l = absurd (omega (arith, l))
+index_below (suc n) i d l =
+    ⊎_elim
+    (λ m. get_or_append_left (below n) (n ∷ []) d i (omega (arith, m, length_below n)) ∙ index_below n i d m)
+    (λ m. let e : i ≡ n = omega (arith, l, m) in subst (λ k. slice_index_or (below n ++ n ∷ []) k d ≡ i) (length_below n ∙ sym e) (get_or-append_seam (below n) n [] d ∙ sym e))
+    (cases_lt i n)

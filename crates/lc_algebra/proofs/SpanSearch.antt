@@ -2,11 +2,10 @@
 --   any_contains, contains_any      a test finds something in a list exactly if some entry passes it
 --   distance_from_words    the minimum distance, from a test of every word
 --   at_most_test, at_most_from_test, test_from_at_most      the lexicographic order as a test
---   no_later_test, no_later_from_test, test_from_no_later   and that by weight first
+--   no_later_test, no_later_from_test   and that by weight first
 --   least_from_words       the first nonzero word, from a test of every word
 --   IsFirstOf, first_of         a list of words of one length has a first nonzero one, or only zero ones
 --   least_exists           rows with a nonzero word have a first nonzero word
---   distance_exists        and a minimum distance
 --   holds_below, holds_below_at   a test of each number below n
 --   pivots_test, pivots_from_test      whether some places are the pivots of a matrix
 use Rattle.std.proofs.Common.{◌≡◌, ◌≢◌, ℕ, zero, suc, ◌<◌, ◌⊎◌, Bool, true, false, not, ◌&&◌, ◌||◌, ◌==◌, nat_lt, nat_le, List, [], ◌∷◌, length, slice_index, Contains, refl, sym, ap, subst, ◌∙◌, inl, inr, ⊎_elim, arith}
@@ -19,22 +18,14 @@ use Rattle.lc_algebra.specs.Word.{zero_word, weight, ComesNoLater, AtMost}
 use Rattle.lc_algebra.specs.Span.{InSpan, words, IsDistance, IsLeast}
 use Rattle.lc_algebra.specs.Matrix.{entry, AreRows, HasPivots}
 use Rattle.lc_algebra.proofs.WordLaws.{zero_from_weight, no_later_reflexive, no_later_transitive, no_later_total}
-use Rattle.lc_algebra.proofs.SpanLaws.{span_word, contains_head, contains_tail, contains_cases, word_of_member, member_of_word, least_distance}
-
-true_or : (b d : Bool) → b ≡ true → (b || d) ≡ true
-true_or true d e = refl
-true_or false d e = absurd (false≢true e)
-
-or_true : (b d : Bool) → d ≡ true → (b || d) ≡ true
-or_true true d e = refl
-or_true false d e = e
+use Rattle.lc_algebra.proofs.SpanLaws.{span_word, contains_head, contains_tail, contains_cases, word_of_member, member_of_word}
 
 pub contains_any : {X : Type 0} (test : X → Bool) (xs : List X) (x : X) → Contains xs x → test x ≡ true → list_any test xs ≡ true
 contains_any test [] x c h = absurd (omega (arith, c.1))
 contains_any test (y ∷ xs) x c h =
     ⊎_elim
-    (λ e. true_or (test y) (list_any test xs) (ap test e ∙ h))
-    (λ t. or_true (test y) (list_any test xs) (contains_any test xs x t h))
+    (λ e. or_left (test y) (list_any test xs) (ap test e ∙ h))
+    (λ t. or_right (test y) (list_any test xs) (contains_any test xs x t h))
     (contains_cases y x xs c)
 
 pub any_contains : {X : Type 0} (test : X → Bool) (xs : List X) → list_any test xs ≡ true → (x : X) × Contains xs x × (test x ≡ true)
@@ -87,10 +78,6 @@ no_later_from_test u v h =
     (λ l. inl (ltb-true (weight u) (weight v) l))
     (λ t. let s = and_parts (weight u == weight v) (at_most_test u v) t in inr (eqb-true (weight u) (weight v) s.0, at_most_from_test u v s.1))
     (or_cases (nat_lt (weight u) (weight v)) ((weight u == weight v) && at_most_test u v) h)
-
-pub test_from_no_later : (u v : List ℕ) → ComesNoLater u v → no_later_test u v ≡ true
-test_from_no_later u v (inl l) = or_left (nat_lt (weight u) (weight v)) ((weight u == weight v) && at_most_test u v) (lt-ltb (weight u) (weight v) l)
-test_from_no_later u v (inr t) = or_right (nat_lt (weight u) (weight v)) ((weight u == weight v) && at_most_test u v) (and_from (weight u == weight v) (at_most_test u v) (eq-eqb (weight u) (weight v) t.0) (test_from_at_most u v t.1))
 
 pub least_from_words : (f : FieldName) (n : ℕ) (rows : List (List ℕ)) (w : List ℕ) → Contains (words f n rows) w → 0 < weight w → list_all (λ v. (weight v == 0) || no_later_test w v) (words f n rows) ≡ true → IsLeast f n rows w
 least_from_words f n rows w c p h =
@@ -159,9 +146,6 @@ least_exists f n rows r =
     ))
     (λ none. inr (λ w h. zero_from_weight n w (span_word f n rows w r h).long (none w (member_of_word f n rows w h))))
     (first_of n (words f n rows) (λ v c. (span_word f n rows v r (word_of_member f n rows v c)).long))
-
-pub distance_exists : (f : FieldName) (n : ℕ) (rows : List (List ℕ)) → AreRows f n rows → ((d : ℕ) × IsDistance f n rows d) ⊎ ((w : List ℕ) → InSpan f n rows w → w ≡ zero_word n)
-distance_exists f n rows r = ⊎_elim (λ t. inl (weight t.0, least_distance f n rows t.0 t.1)) inr (least_exists f n rows r)
 
 abbrev pub holds_below : ℕ → (ℕ → Bool) → Bool
 holds_below zero test = true

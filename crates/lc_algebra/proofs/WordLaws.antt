@@ -21,16 +21,21 @@
 --   distance_turned, distance_zero, distance_triangle, difference_between      the distance is a metric
 --   dot_inside, dot_comm, dot_sum, sum_dot, dot_scale, scale_dot, dot_zero, zero_dot      the dot is bilinear and symmetric
 -- Order
---   at_most_reflexive, at_most_transitive, at_most_total, at_most_antisymmetric, at_most_decided
---   no_later_reflexive, no_later_transitive, no_later_total, no_later_antisymmetric, no_later_decided
+--   at_most_reflexive, at_most_transitive, at_most_total, at_most_antisymmetric
+--   no_later_reflexive, no_later_transitive, no_later_total, no_later_antisymmetric
 --   no_later_weight        what comes no later is no heavier
-use Rattle.std.proofs.Common.{◌≡◌, ℕ, zero, suc, ◌+◌, ◌<◌, ◌≤◌, ◌⊎◌, ◌↔◌, false, cond, not, ◌==◌, List, [], ◌∷◌, length, slice_index, refl, sym, ap, ◌∙◌, inl, inr, ⊎_elim, arith, zero-lt-suc}
+--   sum_fits, fits_none, fits_one, weight_nil      sums, the empty word and the word 1
+--   ones_word, ones_fit    the word of ones
+--   residues_fit           symbols are residues below the size of the field
+--   dot_cons, fits_take, fits_drop      the dot and the symbols, from the first symbol on
+use Rattle.std.proofs.Common.{◌≡◌, ℕ, zero, suc, ◌+◌, ◌<◌, ◌≤◌, ◌⊎◌, ◌↔◌, false, cond, not, ◌==◌, List, [], ◌∷◌, length, slice_index, refl, sym, ap, ◌∙◌, inl, inr, ⊎_elim, arith, zero-lt-suc, replicate, take, drop}
 use Rattle.std.proofs.lemmas.List.{ext_get_or, length-replicate}
 use Rattle.std.proofs.lemmas.List.Sums.{sum_by-cons, count_by-le-length}
-use Rattle.std.proofs.lemmas.Bool.{cases_lt, cases_eq, cases_order, ne_eqb}
+use Rattle.std.proofs.lemmas.Bool.{cases_lt, cases_order, ne_eqb}
 use Rattle.lc_algebra.specs.declared.FieldName.{FieldName}
 use Rattle.lc_algebra.specs.Field.{size, add, neg, mul}
 use Rattle.lc_algebra.specs.Word.{Fits, IsWord, zero_word, word_sum, scale, difference, weight, word_dot, distance, AtMost, ComesNoLater}
+use Rattle.lc_algebra.proofs.ResidueLaws.{Residues}
 use Rattle.lc_algebra.proofs.FieldLaws.{one_inside, zero_inside, add_inside, neg_inside, mul_inside, add_comm, add_assoc, zero_add, add_neg, mul_comm, mul_assoc, mul_add, add_mul, one_mul, zero_mul, mul_zero, neg_one_mul, neg_neg, mul_nonzero, subtract_zero}
 
 pub length_word_sum : (f : FieldName) (u v : List ℕ) → length u ≡ length v → length (word_sum f u v) ≡ length v
@@ -353,21 +358,6 @@ at_most_antisymmetric (a ∷ u) (b ∷ v) e (inr h) (inr k) =
     let t : u ≡ v = at_most_antisymmetric u v (omega (arith, e)) h.1 k.1 in
     cc (h.0, t)
 
-pub at_most_decided : (u v : List ℕ) → AtMost u v ⊎ (AtMost u v → ⊥)
-at_most_decided [] v = inl tt
-at_most_decided (a ∷ u) [] = inr (λ h. h)
-at_most_decided (a ∷ u) (b ∷ v) =
-    ⊎_elim
-    (λ p. inl (inl p))
-    (λ q. ⊎_elim
-    (λ p. ⊎_elim
-    (λ h. inl (inr (p, h)))
-    (λ n. inr (λ s. ⊎_elim (λ l. omega (arith, l, q)) (λ r. n r.1) s))
-    (at_most_decided u v))
-    (λ n. inr (λ s. ⊎_elim (λ l. omega (arith, l, q)) (λ r. n r.0) s))
-    (cases_eq a b))
-    (cases_lt a b)
-
 pub no_later_reflexive : (u : List ℕ) → ComesNoLater u u
 no_later_reflexive u = inr (refl, at_most_reflexive u)
 
@@ -389,19 +379,6 @@ no_later_antisymmetric u v e (inl h) (inl k) = absurd (omega (arith, h, k))
 no_later_antisymmetric u v e (inl h) (inr k) = absurd (omega (arith, h, k.0))
 no_later_antisymmetric u v e (inr h) (inl k) = absurd (omega (arith, h.0, k))
 no_later_antisymmetric u v e (inr h) (inr k) = at_most_antisymmetric u v e h.1 k.1
-
-pub no_later_decided : (u v : List ℕ) → ComesNoLater u v ⊎ (ComesNoLater u v → ⊥)
-no_later_decided u v =
-    ⊎_elim
-    (λ p. inl (inl p))
-    (λ q. ⊎_elim
-    (λ p. ⊎_elim
-    (λ h. inl (inr (p, h)))
-    (λ n. inr (λ s. ⊎_elim (λ l. omega (arith, l, q)) (λ r. n r.1) s))
-    (at_most_decided u v))
-    (λ n. inr (λ s. ⊎_elim (λ l. omega (arith, l, q)) (λ r. n r.0) s))
-    (cases_eq (weight u) (weight v)))
-    (cases_lt (weight u) (weight v))
 
 pub no_later_weight : (u v : List ℕ) → ComesNoLater u v → weight u ≤ weight v
 no_later_weight u v (inl h) = omega (arith, h)
@@ -425,3 +402,43 @@ difference_between f n u v w l q m =
 pub distance_triangle : (f : FieldName) (n : ℕ) (u v w : List ℕ) → IsWord f n u → IsWord f n v → IsWord f n w → distance f u w ≤ distance f u v + distance f v w
 distance_triangle f n u v w p q r =
     omega (arith, weight_sum_at_most f (difference f u v) (difference f v w), ap weight (difference_between f n u v w p.long q r.long))
+
+pub sum_fits : (f : FieldName) (u v : List ℕ) → Fits f (word_sum f u v)
+unfolding word_sum
+sum_fits f [] v = λ i l. absurd (omega (arith, l))
+sum_fits f (a ∷ u) [] = λ i l. absurd (omega (arith, l))
+sum_fits f (a ∷ u) (b ∷ v) = fits_cons f (add f a b) (word_sum f u v) (add_inside f a b) (sum_fits f u v)
+
+pub fits_none : (K : FieldName) → Fits K []
+fits_none K = λ i l. absurd (omega (arith, l))
+
+pub fits_one : (K : FieldName) → Fits K (1 ∷ [])
+fits_one K = fits_cons K 1 [] (one_inside K) (fits_none K)
+
+pub weight_nil : weight [] ≡ 0
+weight_nil = refl
+
+pub ones_fit : (f : FieldName) (n : ℕ) → Fits f (replicate n 1)
+ones_fit f zero = λ i l. absurd (omega (arith, l))
+ones_fit f (suc n) = fits_cons f 1 (replicate n 1) (one_inside f) (ones_fit f n)
+
+pub ones_word : (f : FieldName) (n : ℕ) → IsWord f n (replicate n 1)
+ones_word f n = record { long = length-replicate n 1; fits = ones_fit f n }
+
+pub residues_fit : (f : FieldName) (u : List ℕ) → Fits f u → Residues (size f) u
+residues_fit f [] h = tt
+residues_fit f (a ∷ u) h = (fits_head f a u h, residues_fit f u (fits_tail f a u h))
+
+pub dot_cons : (f : FieldName) (a b : ℕ) (us vs : List ℕ) → word_dot f (a ∷ us) (b ∷ vs) ≡ add f (mul f a b) (word_dot f us vs)
+unfolding word_dot
+dot_cons f a b us vs = refl
+
+pub fits_take : (f : FieldName) (k : ℕ) (u : List ℕ) → Fits f u → Fits f (take k u)
+fits_take f zero u h = λ i l. absurd (omega (arith, l))
+fits_take f (suc k) [] h = h
+fits_take f (suc k) (a ∷ u) h = fits_cons f a (take k u) (fits_head f a u h) (fits_take f k u (fits_tail f a u h))
+
+pub fits_drop : (f : FieldName) (k : ℕ) (u : List ℕ) → Fits f u → Fits f (drop k u)
+fits_drop f zero u h = h
+fits_drop f (suc k) [] h = h
+fits_drop f (suc k) (a ∷ u) h = fits_drop f k u (fits_tail f a u h)

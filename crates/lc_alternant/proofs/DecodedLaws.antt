@@ -2,7 +2,6 @@
 --   reach_half           twice the number of errors that are corrected is at most the number of checks
 --   reach_few            and that number is at most 255
 --   reach_whole, reach_within      a word of the code is within half of the checks if and only if it is within the reach
---   pointed_form         a form has points and multipliers
 --   few_zeros, few_told  the values of a key polynomial are 0 at few points
 --   near_found, near_told      the errors of a word within the reach
 --   found_back           and that word, back from them
@@ -23,7 +22,7 @@ use Rattle.lc_constructions.specs.Alternant.{AlternantForm, IsForm, IsFormOf}
 use Rattle.lc_constructions.specs.Nearest.{IsWithin, IsDecoded}
 use Rattle.lc_constructions.proofs.AlternantLaws.{embedded_length, embedded_fits}
 use Rattle.lc_code.proofs.CoordinateSteps.{form_length}
-use Rattle.lc_alternant.specs.Checks.{AreSyndromes, IsPointed, IsReach}
+use Rattle.lc_alternant.specs.Checks.{AreSyndromes, IsReach}
 use Rattle.lc_alternant.specs.Key.{AreKeyValues}
 use Rattle.lc_alternant.specs.Chosen.{chosen, HasSums, IsZeroBut}
 use Rattle.lc_alternant.proofs.KeyPolynomials.{few_chosen}
@@ -42,9 +41,6 @@ reach_whole C form x u t h a e w =
 
 reach_within : (C : Matrix) (form : AlternantForm) (x u : List ℕ) (t : ℕ) → IsReach form t → IsWithin C x t u → IsWithin C x (form.r / 2) u
 reach_within C form x u t e w = (w.0, omega (arith, w.1, e))
-
-pub pointed_form : (f : FieldName) (form : AlternantForm) → IsForm f form → IsPointed form.locator form.points form.multipliers
-pointed_form f form h = record { points = h.points; distinct = h.distinct; count = h.count; multipliers = h.multipliers; nonzero = h.nonzero }
 
 pub few_zeros : (f : FieldName) (form : AlternantForm) (t : ℕ) (s vs : List ℕ) → IsForm f form → AreKeyValues form.locator t s form.points vs → length s ≡ 2 * t → length (chosen vs form.points) ≤ length (take t s)
 few_zeros f form t s vs h k e = omega (arith, few_chosen form.locator t s form.points vs h.points (distinct_from_pairs form.points h.distinct) k, length-take t s, e)

@@ -2,12 +2,12 @@
 --   last_within          a search has at most its budget of blocks
 --   none_left_over       a session without a slice goes on without one
 --   record_ranged        the record of a search is in range
-use Rattle.std.proofs.Common.{◌≡◌, ◌≤◌, ◌<◌, ◌-◌, ◌*◌, ◌^◌, min, ℕ, zero, suc, Bool, true, false, ◌==◌, ◌&&◌, ◌||◌, nat_lt, is_some, Option, Some, None, refl, ⊎_elim, arith}
-use Rattle.std.proofs.lemmas.Bool.{and_parts, or_cases, ltb-true, eqb-true}
+use Rattle.std.proofs.Common.{◌≡◌, ◌≤◌, ◌<◌, ◌-◌, ◌*◌, ◌^◌, min, ℕ, zero, suc, Bool, true, false, ◌==◌, ◌&&◌, ◌||◌, Option, Some, None, refl, arith}
 use Rattle.lc_algebra.specs.Matrix.{Matrix, AreRows}
 use Rattle.lc_algebra.specs.Span.{AreIndependent}
-use Rattle.lc_enumeration.specs.Search.{Answer, Found, finished, fits, set_count, word_at, weight_at}
+use Rattle.lc_enumeration.specs.Search.{Answer, finished, fits, set_count}
 use Rattle.lc_enumeration.specs.Records.{Progress, Rounds, found_of, progress_of, within_slice, end_of_phase, round_length, after_round, is_used_up, state_first, no_round, less_slice, rounds_within, rounds, last_state}
+use Rattle.lc_enumeration.proofs.SearchLaws.{fitting_place_small}
 use Rattle.lc_formats.specs.Checkpoint.{IsProgress}
 use Rattle.lc_search.proofs.FitLaws.{fitting_word}
 use Rattle.lc_search.proofs.StateLaws.{light_word}
@@ -65,12 +65,6 @@ pub none_left_over : (d : ℕ) (C : Matrix) (budget : ℕ) (s : Progress) → (r
 unfolding rounds
 none_left_over d C budget s = none_within (suc (budget - s.blocks)) d C budget s
 
-near : (C : Matrix) (l : ℕ) (x : Found) → fits C l x ≡ true → l ≤ 2 ^ 40 → x.place < 2 ^ 52
-unfolding fits
-near C l x t few =
-    let a = and_parts ((x.place == 0) || nat_lt x.place (l * 4096)) (is_some (word_at C (set_count C) x.place) && (weight_at C x.place == x.weight)) t in
-    ⊎_elim (λ z. omega (arith, eqb-true x.place 0 z)) (λ z. omega (arith, ltb-true x.place (l * 4096) z, few)) (or_cases (x.place == 0) (nat_lt x.place (l * 4096)) a.0)
-
 pub record_ranged : (C : Matrix) (budget : ℕ) (s : Progress) → AreRows C.field C.columns C.rows → AreIndependent C.field C.columns C.rows → C.columns ≤ 255 → 1 ≤ set_count C → fits C s.blocks (found_of s) ≡ true → s.blocks ≤ budget → budget ≤ 2 ^ 40 → IsProgress budget s
 unfolding found_of
 record_ranged C budget s rows free long some f few small =
@@ -80,5 +74,5 @@ record_ranged C budget s rows free long some f few small =
       done = few;
       nonzero = omega (arith, h.nonzero);
       light = omega (arith, light, h.word.3);
-      near = near C s.blocks (found_of s) f (omega (arith, few, small));
+      near = fitting_place_small C s.blocks (found_of s) f (omega (arith, few, small));
     }

@@ -6,25 +6,10 @@
 use Rattle.std.proofs.Common.{◌≡◌, ◌⊎◌, ℕ, suc, Bool, true, false, not, ◌&&◌, ◌==◌, List, [], ◌∷◌, ◌++◌, length, Option, Some, None, inl, inr, refl, sym, ap, ◌∙◌, arith}
 use Rattle.std.specs.Prelude.{if◌then◌else◌}
 use Rattle.std.specs.List.{list_any, after_first}
-use Rattle.std.proofs.lemmas.Bool.Decides.{nat_tests}
 use Rattle.lc_formats.specs.Text.{same_bytes}
+use Rattle.lc_formats.proofs.ByteLaws.{same_from_bytes}
 use Rattle.lc_sessions.specs.Options.{Command, CommandRow, Key, Settings, Options, settings, usage, row, row_named, all_options, options, options_from, settings_of, key_named, key_text, same_key, put_key}
 use Rattle.lc_arguments.specs.Asked.{is_equals, name_of}
-
-head_same : (a b : ℕ) (t : Bool) → ((a == b) && t) ≡ true → (a ≡ b) × (t ≡ true)
-head_same a b true e = (grind (arith, nat_tests, e), refl)
-head_same a b false e = absurd (grind (arith, nat_tests, e))
-
-pub same_is : (u v : List ℕ) → same_bytes u v ≡ true → u ≡ v
-unfolding same_bytes
-same_is [] [] e = refl
-same_is [] (b ∷ v) e = absurd cc
-same_is (a ∷ u) [] e = absurd cc
-same_is (a ∷ u) (b ∷ v) e =
-    let h = head_same a b (same_bytes u v) e in
-    let rest = same_is u v h.1 in
-    let first = h.0 in
-    cc
 
 chosen_key : (t : Bool) (k key : Key) (o : Option Key) → (if t then Some k else o) ≡ Some key → ((t ≡ true) × (k ≡ key)) ⊎ (o ≡ Some key)
 chosen_key true k key o e = inl (refl, cc)
@@ -35,7 +20,7 @@ unfolding key_named
 named_text [] text key e = absurd cc
 named_text (k ∷ keys) text key e =
     elim (chosen_key (same_bytes (key_text k) text) k key (key_named keys text) e) [
-      | inl h ↦ ap key_text (sym h.1) ∙ same_is (key_text k) text h.0
+      | inl h ↦ ap key_text (sym h.1) ∙ same_from_bytes (key_text k) text h.0
       | inr h ↦ named_text keys text key h
     ]
 
@@ -88,10 +73,6 @@ after_row words o = elim o as (λ _. Options) [ None ↦ usage 0 | Some r ↦ op
 first_argument : (word : List ℕ) (words : List (List ℕ)) → options all_options (word ∷ words) ≡ after_row words (row_named all_options word)
 unfolding options
 first_argument word words = refl
-
-pub no_word : options all_options [] ≡ usage 0
-unfolding options
-no_word = refl
 
 pub unknown_word : (word : List ℕ) (words : List (List ℕ)) → row_named all_options word ≡ None → options all_options (word ∷ words) ≡ usage 0
 unknown_word word words e = first_argument word words ∙ ap (after_row words) e

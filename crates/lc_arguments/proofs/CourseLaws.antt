@@ -6,16 +6,17 @@
 use Rattle.std.proofs.Common.{◌≡◌, ◌⊎◌, inl, inr, Result, ℕ, suc, ◌+◌, ◌^◌, String, string_bytes, ◌<◌, ◌≤◌, Bool, true, false, List, [], ◌∷◌, ◌++◌, length, drop, take, get_or, map, Option, Some, None, refl, sym, ap, subst, ◌∙◌, arith}
 use Rattle.std.specs.Prelude.{if◌then◌else◌, is_some, option_map, ◌||◌, IfSome, MatchOption, MatchResult}
 use Rattle.std.specs.List.{list_any, after_first}
-use Rattle.std.proofs.lemmas.List.{drop_all, at_drop_more, get_or-map, take_more, take_all, take-append-drop, length-take-le, append-nil, append_assoc, map-append, length-append, length-map}
+use Rattle.std.proofs.lemmas.List.{drop_all, at_drop_more, get_or-map, take_more, take-append-drop, length-take-le, append-nil, append_assoc, map-append, length-append, length-map}
 use Rattle.lc_formats.specs.Text.{same_bytes}
 use Rattle.lc_sessions.specs.Options.{Command, run, resume, check, summary, Key, workers, budget, slice, keep, seed, Settings, Options, settings, usage, row_named, all_options, options, options_from, checked, settings_of, key_named, key_text, same_key, place_of_key, put_key, number_within, yes_or_no}
+use Rattle.lc_sessions.proofs.OptionExamples.{no_words}
 use Rattle.lc_grammar.specs.Token.{widest}
 use Rattle.lc_arguments.specs.declared.request.Asked.{Asked}
 use Rattle.lc_arguments.specs.declared.request.Command as asked
 use Rattle.lc_arguments.specs.declared.request.Command.TheVariants as command
 use Rattle.lc_arguments.specs.Asked.{words_of, command_for, row_of, keys_of, settings_for, CanKeep, AreWithin, IsWithin, is_equals, name_of, place_named, IsCourse, IsRefusedAfter}
 use Rattle.lc_arguments.proofs.NumberLaws.{in_range}
-use Rattle.lc_arguments.proofs.ArgumentLaws.{no_word, unknown_word, first_word, named_text, taken_key, refused_sign, refused_name, refused_again, refused_value}
+use Rattle.lc_arguments.proofs.ArgumentLaws.{unknown_word, first_word, named_text, taken_key, refused_sign, refused_name, refused_again, refused_value}
 
 -- ---- the first argument with a name
 
@@ -269,9 +270,6 @@ module _ (c : Command) (before : List (List ℕ)) (a : Asked) (course : IsCourse
 pub taken_more : {A : Type 0} (arguments : List (String A)) (i : ℕ) (d : String A) (argument : List ℕ) → i < length arguments → argument ≡ string_bytes (get_or arguments i d) → words_of (take i arguments) ++ argument ∷ [] ≡ words_of (take (i + 1) arguments)
 taken_more arguments i d argument l e = ap (λ t. words_of (take i arguments) ++ t ∷ []) e ∙ sym (map-append string_bytes (take i arguments) (get_or arguments i d ∷ [])) ∙ ap words_of (sym (take_more arguments i d l))
 
-pub taken_all : {A : Type 0} (arguments : List (String A)) (i : ℕ) → length arguments ≤ i → words_of (take i arguments) ≡ words_of arguments
-taken_all arguments i l = ap words_of (take_all i arguments l)
-
 split_there : {A : Type 0} (arguments : List (String A)) (i : ℕ) (d : String A) (argument : List ℕ) → i < length arguments → argument ≡ string_bytes (get_or arguments i d) → words_of (take i arguments) ++ argument ∷ words_of (drop (i + 1) arguments) ≡ words_of arguments
 split_there arguments i d argument l e =
     append_cons (words_of (take i arguments)) argument (words_of (drop (i + 1) arguments))
@@ -297,7 +295,7 @@ not_summary command.Summary (inr (inl h)) e = absurd cc
 not_summary command.Summary (inr (inr h)) e = absurd cc
 
 pub none_given : {A : Type 0} (words : List (String A)) → length words ≡ 0 → options all_options (words_of words) ≡ usage 0
-none_given [] e = no_word
+none_given [] e = no_words
 none_given (w ∷ ws) e = absurd (omega (arith, e))
 
 pub unknown_given : {A : Type 0} (words : List (String A)) (w : String A) (ws : List (String A)) (name : List ℕ) → words ≡ w ∷ ws → name ≡ string_bytes w → None ≡ row_named all_options name → options all_options (words_of words) ≡ usage 0

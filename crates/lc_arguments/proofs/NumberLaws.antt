@@ -7,17 +7,11 @@ use Rattle.std.proofs.Common.{◌≡◌, ℕ, ◌+◌, ◌^◌, ◌<◌, ◌≤�
 use Rattle.std.specs.Prelude.{codes, nat_le, if◌then◌else◌, option_and_then, slice_index}
 use Rattle.std.specs.List.{list_all}
 use Rattle.std.proofs.lemmas.Bool.Decides.{nat_tests}
+use Rattle.std.proofs.lemmas.Bool.{and_right, and_left}
+use Rattle.std.proofs.lemmas.Option.{cond_some}
 use Rattle.lc_grammar.specs.Token.{is_digit, number_of, widest}
 use Rattle.lc_formats.specs.Text.{same_bytes}
 use Rattle.lc_sessions.specs.Options.{number_in, number_within, yes_or_no}
-
-and_left : (x y : Bool) → x ≡ false → (x && y) ≡ false
-and_left false y e = refl
-and_left true y e = absurd cc
-
-and_right : (x y : Bool) → y ≡ false → (x && y) ≡ false
-and_right false y e = refl
-and_right true y e = e
 
 abbrev is_plain : List ℕ → Bool
 is_plain text = (length text == 1) || not (slice_index text 0 == 48)
@@ -84,14 +78,10 @@ within_is low high n text t e h l m =
     let b : nat_le n high ≡ true = grind (arith, nat_tests, m) in
     sym (within_by low high n text true (ap number_in (sym e) ∙ sym h) (rw (a, b) refl))
 
-some_of : (n m : ℕ) (b : Bool) → (if b then Some n else None) ≡ Some m → (b ≡ true) × (n ≡ m)
-some_of n m true e = (refl, cc)
-some_of n m false e = absurd cc
-
 range_of : (low high m : ℕ) (o : Option ℕ) → option_and_then (λ n. if nat_le low n && nat_le n high then Some n else None) o ≡ Some m → (low ≤ m) × (m ≤ high)
 range_of low high m None e = absurd cc
 range_of low high m (Some n) e =
-    let both = some_of n m (nat_le low n && nat_le n high) e in
+    let both = cond_some (nat_le low n && nat_le n high) n m e in
     let test : (nat_le low m && nat_le m high) ≡ true = ap (λ k. nat_le low k && nat_le k high) (sym both.1) ∙ both.0 in
     (grind (arith, nat_tests, test), grind (arith, nat_tests, test))
 

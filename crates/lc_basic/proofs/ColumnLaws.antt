@@ -1,7 +1,7 @@
 -- The check matrix of a Hamming code, digit by digit of the numbers of its columns.
 --   points_power, length_points    (q - 1) points + 1 is q^r: the number of points is (q^r - 1) / (q - 1)
 --   points_more                    more digits, more points
---   map_constant, map_below, flat_below, map_flat, index_below      maps over lists of numbers
+--   map_constant, map_below, flat_below      maps over lists of numbers
 --   length_lists, length_columns   how many lists and columns there are
 --   below_product                  the numbers below q m are the c m + v
 --   digit_row, digit_list          entry i of all lists is that digit of their numbers
@@ -13,7 +13,7 @@
 use Rattle.std.proofs.Common.{◌≡◌, ℕ, zero, suc, ◌+◌, ◌-◌, ◌*◌, ◌/◌, ◌%◌, ◌^◌, ◌<◌, ◌≤◌, List, [], ◌∷◌, ◌++◌, map, length, replicate, flat_map, slice_index, slice_index_or, refl, sym, ap, subst, ◌∙◌, ⊎_elim, arith, add-zero, add-suc}
 use Rattle.std.proofs.Math.Nat.{pow-suc, pow-zero, one-le-pow, mul-add-div, mul-add-mod_self_left, pow-le-pow_right, mod-lt, mod-eq_of_lt, mul-le-mul_right}
 use Rattle.std.proofs.lemmas.Nat.{div-mul-add, pow-add, div_below}
-use Rattle.std.proofs.lemmas.List.{map-append, length-map, get_or_append_left, get_or_push, length-append, replicate-append-replicate, append_assoc, append-nil}
+use Rattle.std.proofs.lemmas.List.{map-append, length-map, length-append, replicate-append-replicate, append_assoc, append-nil}
 use Rattle.std.proofs.lemmas.List.Elements.{All-map}
 use Rattle.std.proofs.lemmas.Simd.{map-map}
 use Rattle.std.proofs.lemmas.Grind.{flat_map-append}
@@ -24,7 +24,8 @@ use Rattle.lc_algebra.specs.Word.{IsWord}
 use Rattle.lc_algebra.specs.Span.{below}
 use Rattle.lc_algebra.specs.Matrix.{AreRows}
 use Rattle.lc_algebra.proofs.FieldLaws.{zero_inside, one_inside}
-use Rattle.lc_algebra.proofs.SpanLaws.{length_below, length_flat_map_even}
+use Rattle.lc_algebra.proofs.SpanLaws.{length_below, length_flat_map_even, index_below}
+use Rattle.lc_algebra.proofs.CommonLaws.{map_flat_map}
 use Rattle.lc_constructions.specs.Basic.{all_lists, hamming_columns, hamming_checks, hamming_length}
 use Rattle.lc_constructions.proofs.HammingLaws.{columns_none, columns_step}
 use Rattle.lc_basic.specs.Column.{points, digits_from, digits_of, checks_part}
@@ -78,21 +79,6 @@ unfolding below
 flat_below h g zero e = refl
 flat_below h g (suc n) e =
     flat_map-append h (below n) (n ∷ []) ∙ ap (λ u. u ++ flat_map h (n ∷ [])) (flat_below h g n (λ v l. e v (omega (arith, l)))) ∙ ap (λ u. flat_map g (below n) ++ (u ++ [])) (e n (omega arith)) ∙ sym (flat_map-append g (below n) (n ∷ []))
-
-map_flat : {X Y Z : Type 0} (k : Y → Z) (h : X → List Y) (xs : List X) → map k (flat_map h xs) ≡ flat_map (λ x. map k (h x)) xs
-map_flat k h [] = refl
-map_flat k h (x ∷ xs) = map-append k (h x) (flat_map h xs) ∙ ap (λ u. map k (h x) ++ u) (map_flat k h xs)
-
-pub index_below : (n k d : ℕ) → k < n → slice_index_or (below n) k d ≡ k
-unfolding below
-index_below zero k d l = absurd (omega (arith, l))
-index_below (suc n) k d l =
-    ⊎_elim
-    (λ m. get_or_append_left (below n) (n ∷ []) d k (omega (arith, m, length_below n)) ∙ index_below n k d m)
-    (λ m.
-    let e : length (below n) ≡ k = omega (arith, l, m, length_below n) in
-    get_or_push (below n) n d k e ∙ omega (arith, l, m))
-    (cases_lt k n)
 
 pub length_lists : (q r : ℕ) → length (all_lists q r) ≡ q ^ r
 unfolding all_lists
@@ -148,9 +134,9 @@ unfolding all_lists
 digit_list q zero i e l s = absurd (omega (arith, s))
 digit_list q (suc r) i e l s =
     let here : map (λ u. slice_index u i) (flat_map (λ c. map (λ u. c ∷ u) (all_lists q r)) (below q)) ≡ flat_map (λ c. map (λ v. (c * q ^ r + v) / q ^ e % q) (below (q ^ r))) (below q) =
-    map_flat (λ u. slice_index u i) (λ c. map (λ u. c ∷ u) (all_lists q r)) (below q) ∙ flat_below (λ c. map (λ u. slice_index u i) (map (λ u. c ∷ u) (all_lists q r))) (λ c. map (λ v. (c * q ^ r + v) / q ^ e % q) (below (q ^ r))) q (λ c k. digit_row q r i e c l k (omega (arith, s)) (λ j t. digit_list q r j e l t)) in
+    map_flat_map (λ u. slice_index u i) (λ c. map (λ u. c ∷ u) (all_lists q r)) (below q) ∙ flat_below (λ c. map (λ u. slice_index u i) (map (λ u. c ∷ u) (all_lists q r))) (λ c. map (λ v. (c * q ^ r + v) / q ^ e % q) (below (q ^ r))) q (λ c k. digit_row q r i e c l k (omega (arith, s)) (λ j t. digit_list q r j e l t)) in
     let there : map (λ v. v / q ^ e % q) (below (q ^ suc r)) ≡ flat_map (λ c. map (λ v. (c * q ^ r + v) / q ^ e % q) (below (q ^ r))) (below q) =
-    ap (λ k. map (λ v. v / q ^ e % q) (below k)) (power_step q r) ∙ ap (map (λ v. v / q ^ e % q)) (below_product q (q ^ r)) ∙ map_flat (λ v. v / q ^ e % q) (λ c. map (λ v. c * q ^ r + v) (below (q ^ r))) (below q) ∙ flat_below (λ c. map (λ v. v / q ^ e % q) (map (λ v. c * q ^ r + v) (below (q ^ r)))) (λ c. map (λ v. (c * q ^ r + v) / q ^ e % q) (below (q ^ r))) q (λ c k. map-map (λ v. v / q ^ e % q) (λ v. c * q ^ r + v) (below (q ^ r))) in
+    ap (λ k. map (λ v. v / q ^ e % q) (below k)) (power_step q r) ∙ ap (map (λ v. v / q ^ e % q)) (below_product q (q ^ r)) ∙ map_flat_map (λ v. v / q ^ e % q) (λ c. map (λ v. c * q ^ r + v) (below (q ^ r))) (below q) ∙ flat_below (λ c. map (λ v. v / q ^ e % q) (map (λ v. c * q ^ r + v) (below (q ^ r)))) (λ c. map (λ v. (c * q ^ r + v) / q ^ e % q) (below (q ^ r))) q (λ c k. map-map (λ v. v / q ^ e % q) (λ v. c * q ^ r + v) (below (q ^ r))) in
     here ∙ sym there
 
 block_zero : (q e m : ℕ) → 1 < q → m < e → digits_from q (q ^ e) (q ^ m) (q ^ m) ≡ replicate (q ^ m) 0

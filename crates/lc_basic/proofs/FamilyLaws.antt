@@ -10,8 +10,8 @@ use Rattle.lc_algebra.specs.declared.FieldName.{FieldName}
 use Rattle.lc_algebra.specs.Field.{size}
 use Rattle.lc_algebra.specs.Word.{IsWord, zero_word, word_sum, scale}
 use Rattle.lc_algebra.specs.Matrix.{Matrix, AreRows}
-use Rattle.lc_algebra.proofs.FieldLaws.{one_inside, add_zero, mul_one}
-use Rattle.lc_algebra.proofs.WordLaws.{index_word_sum, index_scale, index_zero_word, length_word_sum, length_scale, length_zero_word, word_symbol}
+use Rattle.lc_algebra.proofs.FieldLaws.{add_zero, mul_one}
+use Rattle.lc_algebra.proofs.WordLaws.{index_word_sum, index_scale, index_zero_word, length_word_sum, length_scale, length_zero_word, word_symbol, ones_word}
 use Rattle.lc_constructions.specs.Code.{IsCode, CheckedBy}
 use Rattle.lc_constructions.specs.Basic.{GeneratedBy, IsConstant, IsAny, IsZero}
 use Rattle.lc_code.proofs.CodeLaws.{same_code}
@@ -31,12 +31,6 @@ length_ones n = length-replicate n 1
 
 pub index_ones : (n i : ℕ) → i < n → slice_index (ones n) i ≡ 1
 index_ones n i l = get_or-replicate n i 1 0 l
-
-pub ones_word : (f : FieldName) (n : ℕ) → IsWord f n (ones n)
-ones_word f n = record {
-  long = length_ones n;
-  fits = λ i l. subst (λ a. a < size f) (sym (index_ones n i (omega (arith, l, length_ones n)))) (one_inside f);
-}
 
 pub ones_rows : (f : FieldName) (n : ℕ) (rows : List (List ℕ)) → rows ≡ ones n ∷ [] → AreRows f n rows
 ones_rows f n rows e = subst (AreRows f n) (sym e) (one_row f n (ones n) (ones_word f n))

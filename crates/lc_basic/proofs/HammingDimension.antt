@@ -17,12 +17,12 @@ use Rattle.lc_algebra.specs.Word.{IsWord}
 use Rattle.lc_algebra.specs.Span.{below, SameSpan}
 use Rattle.lc_algebra.specs.Matrix.{Matrix, AreRows, HasPivots, IsEchelon, entry}
 use Rattle.lc_algebra.proofs.FieldLaws.{one_inside}
-use Rattle.lc_algebra.proofs.SpanLaws.{length_below, contains_below, below_contains, map_contains, contains_map, span_same_members}
+use Rattle.lc_algebra.proofs.SpanLaws.{length_below, contains_below, below_contains, map_contains, contains_map, span_same_members, index_below}
 use Rattle.lc_constructions.specs.Code.{IsCode, CheckedBy}
 use Rattle.lc_constructions.specs.Basic.{hamming_columns, hamming_checks, hamming_length}
 use Rattle.lc_matrix.proofs.RankLaws.{rank_of_kernel}
 use Rattle.lc_basic.specs.Column.{points, digits_from, digits_of}
-use Rattle.lc_basic.proofs.ColumnLaws.{points_more, length_points, power_step, index_below, length_digits, digits_zero, digit_columns, digits_word, checks_rows}
+use Rattle.lc_basic.proofs.ColumnLaws.{points_more, length_points, power_step, length_digits, digits_zero, digit_columns, digits_word, checks_rows}
 
 turned_checks : ℕ → ℕ → List (List ℕ)
 turned_checks q r = map (λ m. digits_of q (q ^ m) r) (below r)

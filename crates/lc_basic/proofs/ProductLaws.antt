@@ -4,10 +4,10 @@
 --   variables_below               the variables from 0 on
 --   products_whole, products_rows      the products of the value list of 1 are the rows of the code
 --   monomials_rows                they are words
---   binary_symbol, binary_is_symbol, binary_rows, binary_code      over the field of two elements
+--   binary_rows, binary_code      over the field of two elements
 --   long_power, short_power       when 2^m is a length
 --   reed_muller_long, reed_muller_high, reed_muller_fine      the first refusal
-use Rattle.std.proofs.Common.{◌≡◌, ℕ, zero, suc, ◌+◌, ◌-◌, ◌/◌, ◌%◌, ◌^◌, ◌<◌, ◌≤◌, ◌==◌, ◌&&◌, Bool, true, false, Some, None, nat_lt, if◌then◌else◌, List, [], ◌∷◌, ◌++◌, map, length, slice_index, slice_index_or, IsTrue, refl, sym, ap, subst, ◌∙◌, arith, add-zero}
+use Rattle.std.proofs.Common.{◌≡◌, ℕ, zero, suc, ◌+◌, ◌-◌, ◌/◌, ◌%◌, ◌^◌, ◌<◌, ◌≤◌, ◌==◌, ◌&&◌, Bool, true, false, Some, None, nat_lt, if◌then◌else◌, List, [], ◌∷◌, ◌++◌, map, length, slice_index, slice_index_or, refl, sym, ap, subst, ◌∙◌, arith, add-zero}
 use Rattle.std.specs.List.{list_all}
 use Rattle.std.proofs.Math.Nat.{one-le-pow, pow-le-pow_right}
 use Rattle.std.proofs.lemmas.List.{map-append, append_assoc, length-map, ext_get_or, get_or-map}
@@ -15,12 +15,13 @@ use Rattle.std.proofs.lemmas.Simd.{map-map}
 use Rattle.std.proofs.lemmas.List.Elements.{All-map}
 use Rattle.lc_algebra.specs.declared.FieldName.{FieldName}
 use Rattle.lc_algebra.specs.declared.FieldName.TheVariants.{Gf2}
-use Rattle.lc_algebra.specs.Field.{shape, shape_of, size, is_symbol}
+use Rattle.lc_algebra.specs.Field.{shape, shape_of, size}
 use Rattle.lc_algebra.specs.Word.{IsWord}
 use Rattle.lc_algebra.specs.Span.{below}
 use Rattle.lc_algebra.specs.Matrix.{Matrix, AreRows}
-use Rattle.lc_algebra.proofs.EmbeddingTests.{two_elements, has_two_elements}
-use Rattle.lc_algebra.proofs.SpanLaws.{length_below}
+use Rattle.lc_algebra.proofs.EmbeddingTests.{two_elements, has_two_elements, binary_symbols}
+use Rattle.lc_algebra.proofs.SpanLaws.{length_below, index_below}
+use Rattle.lc_algebra.proofs.CommonLaws.{small_bit}
 use Rattle.lc_constructions.specs.Code.{IsCode}
 use Rattle.lc_constructions.specs.Basic.{GeneratedBy, subsets, monomial, reed_muller_rows}
 use Rattle.lc_constructions.specs.declared.refusal.CodeRefusal.TheVariants.{BadLength, BadArgument}
@@ -30,7 +31,7 @@ use Rattle.lc_constructions.specs.Refusals.{bad_length, bad_argument, reed_mulle
 use Rattle.lc_basic.specs.Column.{points}
 use Rattle.lc_basic.specs.Product.{variables, times_all, times_part, products}
 use Rattle.lc_basic.proofs.FamilyLaws.{ones, length_ones, index_ones}
-use Rattle.lc_basic.proofs.ColumnLaws.{map_below, map_inside, map_more, index_below, points_more}
+use Rattle.lc_basic.proofs.ColumnLaws.{map_below, map_inside, map_more, points_more}
 
 length_times : (values vs : List ℕ) → length (times_all values vs) ≡ length values
 unfolding times_all
@@ -141,27 +142,16 @@ products_whole m r n values a b =
 pub products_rows : (m r n : ℕ) (values : List ℕ) (old rows : List (List ℕ)) → n ≡ 2 ^ m → values ≡ ones n → old ≡ [] → rows ≡ old ++ products values 0 m r → rows ≡ reed_muller_rows r m
 products_rows m r n values old rows a b c e = e ∙ ap (λ u. u ++ products values 0 m r) c ∙ products_whole m r n values a b
 
-bit_inside : (b : Bool) → (if b then 1 else 0) < 2
-bit_inside true = omega arith
-bit_inside false = omega arith
-
 monomial_word : (m : ℕ) (vs : List ℕ) → IsWord Gf2 (2 ^ m) (monomial m vs)
 unfolding monomial size shape shape_of
 monomial_word m vs = record {
   long = length-map (below (2 ^ m)) (λ place. if list_all (λ v. place / 2 ^ v % 2 == 1) vs then 1 else 0) ∙ length_below (2 ^ m);
-  fits = λ i l. map_inside 2 (λ place. if list_all (λ v. place / 2 ^ v % 2 == 1) vs then 1 else 0) (below (2 ^ m)) (omega arith) (λ place. bit_inside (list_all (λ v. place / 2 ^ v % 2 == 1) vs)) i;
+  fits = λ i l. map_inside 2 (λ place. if list_all (λ v. place / 2 ^ v % 2 == 1) vs then 1 else 0) (below (2 ^ m)) (omega arith) (λ place. small_bit (list_all (λ v. place / 2 ^ v % 2 == 1) vs)) i;
 }
 
 pub monomials_rows : (r m : ℕ) → AreRows Gf2 (2 ^ m) (reed_muller_rows r m)
 unfolding reed_muller_rows
 monomials_rows r m = All-map (IsWord Gf2 (2 ^ m)) (monomial m) (subsets (below m) r) (λ k d l. monomial_word m (slice_index_or (subsets (below m) r) k d))
-
-binary_symbol : IsTrue (is_symbol Gf2)
-unfolding is_symbol size shape shape_of
-binary_symbol = refl
-
-pub binary_is_symbol : (f : FieldName) → f ≡ Gf2 → IsTrue (is_symbol f)
-binary_is_symbol f e = subst (λ g. IsTrue (is_symbol g)) (sym e) binary_symbol
 
 pub binary_rows : (f : FieldName) (n r m : ℕ) (rows : List (List ℕ)) → f ≡ Gf2 → n ≡ 2 ^ m → rows ≡ reed_muller_rows r m → AreRows f n rows
 binary_rows f n r m rows a b c =
@@ -205,7 +195,7 @@ reed_muller_fine r m l e = rw (short_length m l, e) refl
 
 pub ruleset check_reed_muller_laws = (reed_muller_long, reed_muller_high, reed_muller_fine)
 
-pub ruleset code_of_products_laws = (binary_is_symbol, binary_rows, binary_code)
+pub ruleset code_of_products_laws = (binary_symbols, binary_rows, binary_code)
 
 pub ruleset binary_laws = (two_elements, has_two_elements)
 

@@ -22,30 +22,28 @@ use Rattle.lc_algebra.specs.Span.{below, combine, SameSpan, AreIndependent}
 use Rattle.lc_algebra.specs.Matrix.{Matrix, AreRows, entry, column}
 use Rattle.lc_algebra.proofs.FieldLaws.{mul_one, mul_zero, zero_mul}
 use Rattle.lc_algebra.proofs.WordLaws.{length_zero_word, index_zero_word, word_symbol}
-use Rattle.lc_algebra.proofs.SpanLaws.{length_below, span_word}
+use Rattle.lc_algebra.proofs.SpanLaws.{length_below, span_word, index_below}
 use Rattle.lc_algebra.proofs.ReducedLaws.{index_combine, reduced_independent}
 use Rattle.lc_algebra.proofs.DimensionLaws.{dimension_unique}
+use Rattle.lc_algebra.proofs.ColumnLaws.{entry_of_column}
 use Rattle.lc_constructions.specs.Code.{IsCode}
 use Rattle.lc_constructions.specs.Basic.{GeneratedBy, subsets, monomial, reed_muller_rows}
 use Rattle.lc_enumeration.specs.Message.{choose}
+use Rattle.lc_enumeration.proofs.ChooseLaws.{choose_next, choose_nothing}
 use Rattle.lc_matrix.proofs.PlaceLaws.{dot_single, past_end}
 use Rattle.lc_basic.specs.Product.{variables}
-use Rattle.lc_basic.proofs.ColumnLaws.{index_below}
 use Rattle.lc_basic.proofs.ProductLaws.{variables_below, monomials_rows}
 
 -- independence
-
-column_entry : (rows : List (List ℕ)) (j p : ℕ) → j < length rows → slice_index (column rows p) j ≡ entry rows j p
-column_entry rows j p l = get_or-map (λ row. slice_index row p) rows j [] 0 l
 
 coefficient_zero : (f : FieldName) (n : ℕ) (rows : List (List ℕ)) (cs : List ℕ) (i p : ℕ) → AreRows f n rows → IsWord f (length rows) cs → combine f n cs rows ≡ zero_word n → i < length rows → entry rows i p ≡ 1 → ((j : ℕ) → j < i → entry rows j p ≡ 0) → ((j : ℕ) → i < j → slice_index cs j ≡ 0) → slice_index cs i ≡ 0
 coefficient_zero f n rows cs i p r w z l one before after =
     let us = column rows p in
     let rest : (j : ℕ) → j ≢ i → mul f (slice_index cs j) (slice_index us j) ≡ 0 = λ j o. ⊎_elim
-    (λ k. ap (mul f (slice_index cs j)) (column_entry rows j p (omega (arith, k, l)) ∙ before j k) ∙ mul_zero f (slice_index cs j))
+    (λ k. ap (mul f (slice_index cs j)) (entry_of_column rows p j (omega (arith, k, l)) ∙ before j k) ∙ mul_zero f (slice_index cs j))
     (λ k. ap (λ c. mul f c (slice_index us j)) (after j (⊎_elim (λ m. m) (λ m. absurd (o (omega (arith, k, m)))) (cases_lt i j))) ∙ zero_mul f (slice_index us j))
     (cases_lt j i) in
-    let here : slice_index us i ≡ 1 = column_entry rows i p l ∙ one in
+    let here : slice_index us i ≡ 1 = entry_of_column rows p i l ∙ one in
     let sum : word_dot f cs us ≡ slice_index cs i = dot_single f cs us i rest ∙ ap (mul f (slice_index cs i)) here ∙ mul_one f (slice_index cs i) (word_symbol f (length rows) cs w i) in
     sym sum ∙ sym (index_combine f n cs rows p r) ∙ ap (λ v. slice_index v p) z ∙ index_zero_word n p
 
@@ -188,18 +186,9 @@ unfolding choose
 within_none zero = within_zero 0
 within_none (suc r) = omega (arith, within_more 0 r, within_none r)
 
-choose_next : (n k : ℕ) → choose (suc n) (suc k) ≡ choose n k + choose n (suc k)
-unfolding choose
-choose_next n k = refl
-
-choose_none : (n : ℕ) → choose n 0 ≡ 1
-unfolding choose
-choose_none zero = refl
-choose_none (suc n) = refl
-
 within_pascal : (n r : ℕ) → parts_within (suc n) (suc r) ≡ parts_within n r + parts_within n (suc r)
 within_pascal n zero =
-    omega (arith, within_more (suc n) 0, within_zero (suc n), within_zero n, within_more n 0, choose_next n 0, choose_none n)
+    omega (arith, within_more (suc n) 0, within_zero (suc n), within_zero n, within_more n 0, choose_next n 0, choose_nothing n)
 within_pascal n (suc r) =
     omega (arith, within_more (suc n) (suc r), within_pascal n r, within_more n r, within_more n (suc r), choose_next n (suc r))
 

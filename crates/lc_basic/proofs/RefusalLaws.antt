@@ -3,10 +3,9 @@
 --   length_too_large, length_bad, length_fine      the first refusal of a length
 --   matrix_too_large, matrix_bad_length, matrix_uneven, matrix_no_elements, matrix_fine      the first refusal of a matrix
 --   matrix_rows                    a matrix that isn't refused has words as rows
-use Rattle.std.proofs.Common.{◌≡◌, ℕ, ◌<◌, ◌↔◌, true, false, Bool, ◌==◌, IsTrue, Some, None, nat_lt, List, length, slice_index, slice_index_or, All, refl, sym, subst, ◌∙◌, ⊎_elim, true≢false}
+use Rattle.std.proofs.Common.{◌≡◌, ℕ, ◌<◌, ◌↔◌, true, false, Bool, ◌==◌, IsTrue, Some, None, nat_lt, List, length, slice_index, slice_index_or, All, refl, sym, ◌∙◌, ⊎_elim, true≢false}
 use Rattle.std.specs.List.{list_all}
-use Rattle.std.proofs.lemmas.List.Sums.{AllPass-from_list_all, list_all-from_AllPass}
-use Rattle.std.proofs.lemmas.List.{get_or_default}
+use Rattle.std.proofs.lemmas.List.Sums.{AllPass-from_list_all}
 use Rattle.std.proofs.lemmas.Bool.{cases_Bool}
 use Rattle.std.proofs.lemmas.Bool.Decides.{Decides-eqb, Decides-ltb}
 use Rattle.lc_algebra.specs.declared.FieldName.{FieldName}
@@ -17,6 +16,7 @@ use Rattle.lc_constructions.specs.declared.refusal.CodeRefusal.TheVariants.{BadL
 use Rattle.lc_constructions.specs.Code.{is_length}
 use Rattle.lc_constructions.specs.Refusal.{refuse_if, first_refusal}
 use Rattle.lc_constructions.specs.Refusals.{columns_of, are_elements, have_elements, are_equally_long, too_large, bad_length, bad_argument, length_refusals, matrix_refusals}
+use Rattle.lc_constructions.proofs.RefusalLaws.{rows_fit_elements}
 
 elements_fit : (f : FieldName) (rows : List (List ℕ)) → have_elements f rows ≡ true → All (Fits f) rows
 unfolding have_elements are_elements
@@ -24,17 +24,10 @@ elements_fit f rows h k d l i m =
     (Decides-ltb (slice_index (slice_index_or rows k d) i) (size f)).0
     (AllPass-from_list_all (λ a. nat_lt a (size f)) (slice_index_or rows k d) (AllPass-from_list_all (list_all (λ a. nat_lt a (size f))) rows h k d l) i 0 m)
 
-fits_elements : (f : FieldName) (rows : List (List ℕ)) → All (Fits f) rows → have_elements f rows ≡ true
-unfolding have_elements are_elements
-fits_elements f rows h =
-    list_all-from_AllPass (list_all (λ a. nat_lt a (size f))) rows (λ k d l.
-    list_all-from_AllPass (λ a. nat_lt a (size f)) (slice_index_or rows k d) (λ i e m.
-    (Decides-ltb (slice_index_or (slice_index_or rows k d) i e) (size f)).1 (subst (λ a. a < size f) (get_or_default (slice_index_or rows k d) i 0 e m) (h k d l i m))))
-
 pub elements_told : (f : FieldName) (rows : List (List ℕ)) (b : Bool) → IsTrue b ↔ All (Fits f) rows → have_elements f rows ≡ b
 elements_told f rows b h =
     ⊎_elim
-    (λ t. fits_elements f rows (h.0 t) ∙ sym t)
+    (λ t. rows_fit_elements f rows (h.0 t) ∙ sym t)
     (λ t. ⊎_elim (λ s. absurd (true≢false (sym (h.1 (elements_fit f rows s)) ∙ t))) (λ s. s ∙ sym t) (cases_Bool (have_elements f rows)))
     (cases_Bool b)
 

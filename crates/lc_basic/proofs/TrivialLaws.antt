@@ -4,21 +4,18 @@
 --   zero_generator                 no rows are the reduced matrix of a null code
 --   repetition_dimension, null_dimension      so these have dimension 1 and 0
 --   whole_dimension                and the whole space, the kernel of no rows, has dimension n
-use Rattle.std.proofs.Common.{◌≡◌, ℕ, zero, suc, ◌≤◌, [], ◌∷◌, length, slice_index, refl, sym, ap, subst, arith}
+use Rattle.std.proofs.Common.{◌≡◌, ℕ, zero, ◌≤◌, [], ◌∷◌, length, slice_index, refl, sym, ap, subst, arith}
 use Rattle.lc_algebra.specs.declared.FieldName.{FieldName}
 use Rattle.lc_algebra.specs.Word.{IsWord}
 use Rattle.lc_algebra.specs.Matrix.{Matrix, entry, AreRows, IsReduced, IsEchelon, IsReducedGenerator, IsOrthogonal}
-use Rattle.lc_algebra.proofs.WordLaws.{IsWord_zero}
+use Rattle.lc_algebra.proofs.WordLaws.{IsWord_zero, ones_word}
 use Rattle.lc_algebra.proofs.SpanLaws.{span_word, same_span_reflexive}
 use Rattle.lc_algebra.proofs.ReducedLaws.{generator_unique}
+use Rattle.lc_algebra.proofs.CommonLaws.{zero_at}
 use Rattle.lc_constructions.specs.Code.{IsCode}
 use Rattle.lc_constructions.specs.Basic.{IsConstant, IsAny, IsZero}
 use Rattle.lc_matrix.proofs.RankLaws.{rank_of_kernel}
-use Rattle.lc_basic.proofs.FamilyLaws.{ones, index_ones, one_row, no_rows, ones_word, ones_constant, zero_is}
-
-zero_at : (i : ℕ) → slice_index (0 ∷ []) i ≡ 0
-zero_at zero = refl
-zero_at (suc i) = refl
+use Rattle.lc_basic.proofs.FamilyLaws.{ones, index_ones, one_row, no_rows, ones_constant, zero_is}
 
 reduced_ones : (n : ℕ) → 1 ≤ n → IsReduced n (ones n ∷ [])
 reduced_ones n a = record {

@@ -5,7 +5,7 @@
 --   whole          a root that took in all other seats has all books
 use Rattle.std.proofs.Common.{◌≡◌, ◌≢◌, ℕ, zero, suc, ◌+◌, ◌^◌, ◌<◌, ◌≤◌, min, Bool, true, false, cond, eqb, ltb, leb, List, [], ◌∷◌, ◌++◌, length, get_or, set, map, refl, sym, ap, ◌∙◌, subst, ⊎_elim, arith, length-append, append_assoc, le-leb}
 use Rattle.std.specs.Prelude.{sum_by, count_by, flat_map, All}
-use Rattle.std.proofs.lemmas.Bool.{cases_lt, le-ltb, lt-leb, true≢false}
+use Rattle.std.proofs.lemmas.Bool.{cases_lt, le-ltb, lt-leb, true≢false, false_from_ne_true}
 use Rattle.std.proofs.lemmas.Bool.Decides.{nat_tests}
 use Rattle.std.proofs.lemmas.List.{map-append, append-nil, get_or_append_left, get_or_push}
 use Rattle.std.proofs.lemmas.List.Elements.{All-nil, All-cons, All-head, All-tail, All-push, All-append, All-map, All-weaker}
@@ -27,10 +27,6 @@ sum_map g f (x ∷ xs) = sum_by-cons g (f x) (map f xs) ∙ ap (λ n. g (f x) + 
 sum_length : {A : Type 0} (xs : List A) → sum_by (λ _. 1) xs ≡ length xs
 sum_length [] = refl
 sum_length {A} (x ∷ xs) = let s = sum_by-cons (λ (_ : A). 1) x xs in let r = sum_length xs in omega arith
-
-not_true : (b : Bool) → (b ≡ true → ⊥) → b ≡ false
-not_true true n = absurd (n refl)
-not_true false n = refl
 
 both : {b : Bool} → b ≡ true → b ≡ false → ⊥
 both t f = true≢false (sym t ∙ f)
@@ -77,7 +73,7 @@ each_snoc P views w others mine j u e = ⊎_elim (λ (x : get_elem? views j ≡ 
 
 -- another seat than the root's is no root
 pub no_other_root : (views : List View) (i j : ℕ) (v u : View) → count_by (λ v. v.root) views ≡ 1 → get_elem? views i ≡ some v → v.root ≡ true → j ≢ i → get_elem? views j ≡ some u → u.root ≡ false
-no_other_root views i j v u one at r n at' = not_true u.root (λ t.
+no_other_root views i j v u one at r n at' = false_from_ne_true u.root (λ t.
     let s = two_le_sum (λ (v : View). cond v.root 1 0) views i j v u (λ k. n (sym k)) at at' in
     let a = one_if v.root r in let b = one_if u.root t in
     absurd (omega arith))

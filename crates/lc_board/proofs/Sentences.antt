@@ -1,12 +1,13 @@
 -- What follows from the rule of a board.
 --   seat_says, rule_says      the sentences
 --   actors_are_seats          the actors of the machine are what the books say
-use Rattle.std.proofs.Common.{◌≡◌, ◌≢◌, ℕ, suc, ◌+◌, ◌<◌, ◌≤◌, Bool, true, false, cond, List, [], ◌∷◌, ◌++◌, length, get_or, map, drop, Option, Some, None, refl, sym, ap, ◌∙◌, subst, inl, inr, ⊎_elim, ◌⊎◌, arith, length-append}
+use Rattle.std.proofs.Common.{◌≡◌, ◌≢◌, ℕ, suc, ◌+◌, ◌<◌, ◌≤◌, Bool, true, false, cond, List, [], ◌∷◌, ◌++◌, length, get_or, map, drop, Some, None, refl, sym, ap, ◌∙◌, subst, inl, inr, ⊎_elim, ◌⊎◌, arith, length-append}
 use Rattle.std.specs.Prelude.{count_by, All, Contains, slice_index}
 use Rattle.std.proofs.lemmas.Bool.{cases_eq, cases_lt, lt-ltb, le-ltb}
 use Rattle.std.proofs.lemmas.List.{append-nil, get_or_default, get_or_append_left, get_or_push}
 use Rattle.std.proofs.lemmas.List.Elements.{All-nil, All-append, All-map, All-weaker, All-contains, Contains-append_left, Contains-push, Contains-push_cases, Contains-get_or}
 use Rattle.std.proofs.lemmas.List.Sums.{sum_by-cons}
+use Rattle.std.proofs.lemmas.Option.{same_Some}
 use mathlib.Core.Option.{some}
 use lib.ListN.{get_elem?}
 use Rattle.lc_board.specs.Counting.{StandOnce, least}
@@ -119,13 +120,6 @@ rest_dropped : (ps : List (ℕ × ℕ)) (rest : List ℕ) → drop (length ps) (
 rest_dropped [] rest = refl
 rest_dropped (p ∷ ps) rest = rest_dropped ps rest
 
-Some-injective : (x y : ℕ) → Some x ≡ Some y → x ≡ y
-Some-injective x y e = ap (λ (o : Option ℕ). value_or o) e
-  where
-    value_or : Option ℕ → ℕ
-    value_or None = 0
-    value_or (Some x) = x
-
 in_front : (count : ℕ) (R : List ℕ) (x : ℕ) → All (λ x. x < count) R → Contains R x → x < count
 in_front count R x low c = All-contains (λ x. x < count) R x low c
 
@@ -156,7 +150,7 @@ actor_says count b (y ∷ []) short is ib =
     (λ (l : y < count). subst (λ (a : Actor). IsActor count b a) (sym (ap (λ (c : Bool). cond {A = Actor} c (record { held = Some y; past = false; finished = b.reported }) (record { held = None; past = true; finished = b.reported })) (lt-ltb y count l)))
     (record {
       held = λ x. (
-        (λ e. subst (λ (x : ℕ). Contains b.drawn x × (x < count) × (Contains R x → ⊥)) (Some-injective y x e) (own, l, fresh)),
+        (λ e. subst (λ (x : ℕ). Contains b.drawn x × (x < count) × (Contains R x → ⊥)) (same_Some y x e) (own, l, fresh)),
         (λ h. ⊎_elim (λ (c : Contains R x). absurd (h.2 c)) (λ (e : y ≡ x). ap (λ (n : ℕ). Some n) e) (found x h.0)),
       );
       past = (

@@ -97,7 +97,7 @@ no_object (string s) e = refl
 no_object (array ds) e = refl
 no_object (object ms) e = absurd (false≢true (sym e))
 
-members_there : (d : Data) → is_some (as_object d) ≡ true → as_object d ≡ Some (members_in d)
+pub members_there : (d : Data) → is_some (as_object d) ≡ true → as_object d ≡ Some (members_in d)
 members_there null e = absurd (false≢true e)
 members_there (boolean b) e = absurd (false≢true e)
 members_there (number n) e = absurd (false≢true e)

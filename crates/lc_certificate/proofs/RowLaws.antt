@@ -7,7 +7,7 @@
 --   rows_found, rows_nowhere     the rows of an object
 use Rattle.std.proofs.Common.{◌≡◌, ◌≢◌, ℕ, ◌<◌, ◌≤◌, ◌==◌, ◌&&◌, false, nat_lt, nat_le, List, [], ◌∷◌, length, get_or, take, map, codes, Option, Some, None, option_map, option_and_then, refl, sym, ap, ◌∙◌, arith}
 use Rattle.std.specs.List.{list_all}
-use Rattle.std.proofs.lemmas.Bool.{eq-eqb, le-leb}
+use Rattle.std.proofs.lemmas.Bool.{eq-eqb, le-leb, ne_eqb}
 use Rattle.std.proofs.lemmas.Simd.{map-map}
 use Rattle.serde_json.specs.declared.value.Value.{Value}
 use Rattle.serde_json.specs.Data.{Data, Items, Members}
@@ -30,16 +30,13 @@ pub word_no_array : (f : FieldName) (n : ℕ) (d : Data) → None ≡ as_array d
 unfolding provided
 word_no_array f n d h = ap (provided (fit f n)) (no_numbers d h)
 
-not_equal : (m n : ℕ) → m ≢ n → (m == n) ≡ false
-not_equal m n h = grind arith
-
 same_long : (f : FieldName) (n : ℕ) (row : List ℕ) → length row ≡ n → fit f n row ≡ are_elements f row
 unfolding fit
 same_long f n row l = ap (λ b. b && are_elements f row) (eq-eqb (length row) n l)
 
 other_long : (f : FieldName) (n : ℕ) (row : List ℕ) → length row ≢ n → fit f n row ≡ false
 unfolding fit
-other_long f n row l = ap (λ b. b && are_elements f row) (not_equal (length row) n l)
+other_long f n row l = ap (λ b. b && are_elements f row) (ne_eqb (length row) n l)
 
 read_length : (vs : List Value) (d : Data) (row : List ℕ) → Some (items_view vs) ≡ as_array d → numbers_of d ≡ Some row → length row ≡ length vs
 read_length vs d row h e = each_length (λ v. plain_number (view v)) vs row (sym (numbers_are vs d h) ∙ e)

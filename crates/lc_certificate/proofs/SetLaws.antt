@@ -1,5 +1,4 @@
 -- Sets, as a reader takes them.
---   rising_all, rising_not       numbers that rise, and one that doesn't
 --   places_pass, places_fail, places_nowhere      the places at a key pass the test or don't
 --   no_basis, no_fresh, no_level, set_read      what lacks a part is no set, and what has all three is one
 --   bases_rise, seen_rise, read_rise      the bases of sets that were read rise
@@ -11,45 +10,36 @@
 --   way_found, way_nowhere       the word at `by`
 --   no_way, scan_has_sets, scan_is, levels_are      how the distance is proved
 --   no_sets, bad_sets, outside_basis, sets_read      the rules of sets
-use Rattle.std.proofs.Common.{◌≡◌, ◌≢◌, ⊎_elim, unwrap_or, ℕ, suc, zero, ◌+◌, ◌-◌, ◌<◌, ◌≤◌, ◌==◌, ◌&&◌, Bool, true, false, nat_le, List, [], ◌∷◌, ◌++◌, length, slice_index, get_or, take, map, codes, All, Contains, Option, Some, None, option_map, option_and_then, is_some, refl, sym, ap, subst, ◌∙◌, arith}
+use Rattle.std.proofs.Common.{◌≡◌, ◌≢◌, ⊎_elim, unwrap_or, ℕ, suc, zero, ◌+◌, ◌-◌, ◌<◌, ◌≤◌, ◌==◌, ◌&&◌, Bool, true, false, nat_le, List, [], ◌∷◌, ◌++◌, length, get_or, take, map, codes, All, Contains, Option, Some, None, option_map, option_and_then, is_some, refl, sym, ap, subst, ◌∙◌, arith}
 use Rattle.std.specs.Prelude.{⊤, if◌then◌else◌, is_ok, Result, Ok, Err, MatchResult}
 use Rattle.std.specs.Ordering.{nat_cmp}
 use Rattle.std.specs.List.{list_all}
 use Rattle.std.specs.List.Sorted.{IsStrictlyIncreasing, IsBinarySearchResult}
-use Rattle.std.proofs.lemmas.Bool.{and_parts, cases_lt, le-leb, false≢true}
+use Rattle.std.proofs.lemmas.Bool.{and_parts, cases_lt, le-leb, false≢true, false_from_ne_true}
 use Rattle.std.proofs.lemmas.List.{length-map, map-append, get_or_default}
 use Rattle.std.proofs.lemmas.List.Elements.{Contains-from_at, at_from_Contains, at_read, All-cons, All-head, All-tail}
 use Rattle.std.proofs.lemmas.List.Sorted.{searched}
 use Rattle.std.proofs.lemmas.Simd.{map-map}
+use Rattle.std.proofs.lemmas.Option.{same_Some}
 use Rattle.serde_json.specs.declared.value.Value.{Value}
 use Rattle.serde_json.specs.Data.{Data, null, boolean, number, string, array, object, Items, Members}
 use Rattle.serde_json.specs.Find.{get_member, as_array, as_object, as_str}
 use Rattle.serde_json.specs.View.{view}
-use Rattle.lc_constructions.specs.Refusals.{is_rising}
 use Rattle.lc_enumeration.specs.InformationSet.{is_member}
 use Rattle.lc_enumeration.proofs.MemberLaws.{member_true, true_member}
 use Rattle.lc_formats.specs.Certificate.{Certificate, SetClaim, Proof, scan, levels, shape}
 use Rattle.lc_formats.specs.Json.{number_at, list_at, listed, each, provided, member_count}
 use Rattle.lc_formats.specs.Check.{reads_as, refused_as, is_scan, are_places, claim_in, sets_at, fresh_in_basis, levels_in, sets_in, way_in, are_set_keys}
-use Rattle.lc_formats.proofs.TestLaws.{rising_holds, rising_passes, places_hold}
-use Rattle.lc_formats.proofs.ReadLaws.{provided_inside, each_all, same_some}
+use Rattle.lc_formats.proofs.TestLaws.{places_hold}
+use Rattle.lc_formats.proofs.ReadLaws.{provided_inside, each_all}
 use Rattle.lc_json.specs.Inside.{members_in}
-use Rattle.lc_json.proofs.EachLaws.{none_first, each_none, each_more, each_whole, each_start}
+use Rattle.lc_json.proofs.EachLaws.{none_first, each_none, each_more, each_whole, each_start, each_of_none, each_cons}
 use Rattle.lc_certificate.specs.declared.certificate.SetClaim as made
 use Rattle.lc_certificate.specs.declared.certificate.Proof.TheVariants.{Scan}
 use Rattle.lc_certificate.specs.Reading.{way_at}
 use Rattle.lc_certificate.specs.Seen.{claim_of, proof_of}
 use Rattle.lc_certificate.proofs.ListLaws.{all_next, all_whole, all_fails, all_mapped}
-
-is_not : (b : Bool) → (b ≡ true → ⊥) → b ≡ false
-is_not true h = absurd (h refl)
-is_not false h = refl
-
-pub rising_all : (xs : List ℕ) → ((j : ℕ) → 0 < j → j < length xs → slice_index xs (j - 1) < slice_index xs j) → is_rising xs ≡ true
-rising_all xs h = rising_passes xs (λ k m. subst (λ j. slice_index xs j < slice_index xs (k + 1)) {x = k + 1 - 1} {y = k} (omega arith) (h (k + 1) (omega arith) m))
-
-pub rising_not : (xs : List ℕ) (i : ℕ) → 0 < i → i < length xs → slice_index xs i ≤ slice_index xs (i - 1) → is_rising xs ≡ false
-rising_not xs i p l h = is_not (is_rising xs) (λ e. omega (arith, h, subst (λ j. slice_index xs (i - 1) < slice_index xs j) {x = i - 1 + 1} {y = i} (omega (arith, p)) (rising_holds xs e (i - 1) (omega (arith, p, l)))))
+use Rattle.lc_certificate.proofs.PartLaws.{members_there}
 
 pub no_basis : (n : ℕ) (ms : Members) → None ≡ provided (are_places n) (list_at (codes "basis") ms) → claim_in n ms ≡ None
 unfolding claim_in
@@ -78,7 +68,7 @@ basis_from n ms (Some basis) h claim e = subst IsStrictlyIncreasing (from_fresh 
   where
     from_level : (fresh : List ℕ) → Some fresh ≡ provided (are_places n) (list_at (codes "fresh") ms) → (o : Option ℕ) → number_at (codes "level") ms ≡ o → basis ≡ claim.basis
     from_level fresh k None m = absurd (cc (no_level n ms basis fresh (sym h) k (sym m), e))
-    from_level fresh k (Some level) m = ap (λ c. c.basis) (same_some (record { basis = basis; fresh = fresh; level = level }) claim (sym (set_read n ms basis fresh level (sym h) k (sym m)) ∙ e))
+    from_level fresh k (Some level) m = ap (λ c. c.basis) (same_Some (record { basis = basis; fresh = fresh; level = level }) claim (sym (set_read n ms basis fresh level (sym h) k (sym m)) ∙ e))
 
     from_fresh : (o : Option (List ℕ)) → provided (are_places n) (list_at (codes "fresh") ms) ≡ o → basis ≡ claim.basis
     from_fresh None k = absurd (cc (no_fresh n ms basis (sym h) (sym k), e))
@@ -134,14 +124,6 @@ unfolding each provided
 sets_empty ms [] h l = sets_seen ms [] h
 sets_empty ms (v ∷ vs) h l = absurd (omega (arith, l))
 
-object_inside : (d : Data) → is_some (as_object d) ≡ true → as_object d ≡ Some (members_in d)
-object_inside null e = absurd (false≢true e)
-object_inside (boolean b) e = absurd (false≢true e)
-object_inside (number n) e = absurd (false≢true e)
-object_inside (string s) e = absurd (false≢true e)
-object_inside (array ds) e = absurd (false≢true e)
-object_inside (object ms) e = refl
-
 no_object : (d : Data) → is_some (as_object d) ≡ false → as_object d ≡ None
 no_object null e = refl
 no_object (boolean b) e = refl
@@ -150,25 +132,16 @@ no_object (string s) e = refl
 no_object (array ds) e = refl
 no_object (object ms) e = absurd (false≢true (sym e))
 
-each_first : {X : Type 0} (o : Option X) (x : X) (rest : List (Option X)) (xs : List X) → o ≡ Some x → each rest ≡ Some xs → each (o ∷ rest) ≡ Some (x ∷ xs)
-unfolding each
-each_first o x rest xs e k = ap (λ p. each (p ∷ rest)) e ∙ ap (option_map (λ more. x ∷ more)) k
-
 all_objects : (vs : List Value) → list_all (λ v. is_some (as_object (view v))) vs ≡ true → each (map (λ v. as_object (view v)) vs) ≡ Some (map (λ v. members_in (view v)) vs)
 unfolding each
 all_objects [] e = refl
 all_objects (v ∷ vs) e =
     let s = and_parts (is_some (as_object (view v))) (list_all (λ w. is_some (as_object (view w))) vs) e in
-    each_first (as_object (view v)) (members_in (view v)) (map (λ w. as_object (view w)) vs) (map (λ w. members_in (view w)) vs) (object_inside (view v) s.0) (all_objects vs s.1)
-
-each_second : {X : Type 0} (o : Option X) (rest : List (Option X)) → each rest ≡ None → each (o ∷ rest) ≡ None
-unfolding each
-each_second None rest e = refl
-each_second (Some x) rest e = ap (option_map (λ more. x ∷ more)) e
+    each_cons (members_in (view v)) (as_object (view v)) (map (λ w. as_object (view w)) vs) (map (λ w. members_in (view w)) vs) (members_there (view v) s.0) (all_objects vs s.1)
 
 split_objects : (o : Option Members) (b : Bool) (rest : List (Option Members)) → is_some o ≡ b → (b ≡ true → each rest ≡ None) → each (o ∷ rest) ≡ None
 split_objects None b rest e h = none_first rest
-split_objects (Some ms) b rest e h = each_second (Some ms) rest (h (sym e))
+split_objects (Some ms) b rest e h = each_of_none (Some ms) rest (h (sym e))
 
 not_all_objects : (vs : List Value) → list_all (λ v. is_some (as_object (view v))) vs ≡ false → each (map (λ v. as_object (view v)) vs) ≡ None
 not_all_objects [] e = absurd (false≢true (sym e))
@@ -210,7 +183,7 @@ not_member xs x i below above c =
 
 search_by : (xs : List ℕ) (x : ℕ) (r : Result ℕ ℕ) → MatchResult r (λ i. (i < length xs) × (get_or xs i 0 ≡ x)) (λ i. (i ≤ length xs) × ((k : ℕ) → k < i → get_or xs k 0 < x) × ((k : ℕ) → i ≤ k → k < length xs → x < get_or xs k 0)) → is_ok r ≡ is_member xs x
 search_by xs x (Ok i) h = sym (found_member xs x i h.0 h.1)
-search_by xs x (Err i) h = sym (is_not (is_member xs x) (λ e. not_member xs x i h.1 h.2 (true_member xs x e)))
+search_by xs x (Err i) h = sym (false_from_ne_true (is_member xs x) (λ e. not_member xs x i h.1 h.2 (true_member xs x e)))
 
 pub search_member : (xs : List ℕ) (x : ℕ) (r : Result ℕ ℕ) → IsStrictlyIncreasing xs → IsBinarySearchResult (λ y. nat_cmp y x) xs r → is_ok r ≡ is_member xs x
 search_member xs x r h b = search_by xs x r (searched xs x r b (rises_all xs h))

@@ -21,7 +21,7 @@ use serde_json::Value;
 use std::alloc::Global;
 
 // Whether each coordinate is below the next one.
-#[tactic(auto, using(crate::proofs::SetLaws::rising_all, crate::proofs::SetLaws::rising_not))]
+#[tactic(auto, using(lc_constructions::proofs::RisingLaws::is_rising_laws))]
 fn is_rising(places: &[u64]) -> bool
     ensures is { result ≡ is_rising places.now }
 {

@@ -105,7 +105,7 @@ bracket_none : (kind : QueryKind) (C : Matrix) (low l : ℕ) (x : Found) → Say
 unfolding certificate_answer_line line
 bracket_none kind C low l x = record { begins = ((codes " between " ++ (decimal low ++ (codes " and " ++ decimal x.weight))) ++ 10 ∷ [], simp append_assoc) }
 
-empty_none : (kind : QueryKind) (C : Matrix) → SaysNone (certificate_answer_line kind C no_word)
+pub empty_none : (kind : QueryKind) (C : Matrix) → SaysNone (certificate_answer_line kind C no_word)
 unfolding certificate_answer_line line
 empty_none kind C = record { begins = (10 ∷ [], refl) }
 

@@ -10,13 +10,11 @@ use Rattle.std.specs.declared.alloc.Global.{Global}
 use Rattle.std.proofs.lemmas.List.{map-append, length-map, get_or-map, ext_get_or}
 use Rattle.lc_algebra.specs.Span.{below}
 use Rattle.lc_algebra.specs.Matrix.{Matrix}
-use Rattle.lc_algebra.proofs.SpanLaws.{length_below}
+use Rattle.lc_algebra.proofs.SpanLaws.{length_below, index_below}
 use Rattle.lc_enumeration.specs.InformationSet.{InformationSet}
 use Rattle.lc_enumeration.specs.Search.{sets_of, set_count, level_below, levels_below}
 use Rattle.lc_infoset.specs.Bound.{set_at}
-use Rattle.lc_infoset.proofs.BoundLaws.{index_below}
-use Rattle.lc_infoset.proofs.SetLaws.{count_is}
-use Rattle.lc_infoset.proofs.AnswerLaws.{levels_of}
+use Rattle.lc_infoset.proofs.SetLaws.{count_is, levels_are as levels_of}
 use Rattle.lc_formats.specs.Certificate.{SetClaim, levels}
 use Rattle.lc_certificate.specs.declared.certificate.SetClaim as made
 use Rattle.lc_certificate.specs.declared.certificate.Proof.TheVariants as proof

@@ -15,11 +15,10 @@ use Rattle.lc_algebra.specs.Field.{is_symbol}
 use Rattle.lc_algebra.specs.Word.{IsWord}
 use Rattle.lc_algebra.specs.Span.{below}
 use Rattle.lc_algebra.specs.Matrix.{Matrix, AreRows, column}
-use Rattle.lc_algebra.proofs.SpanLaws.{length_below}
+use Rattle.lc_algebra.proofs.SpanLaws.{length_below, index_below as place_below}
 use Rattle.lc_enumeration.specs.InformationSet.{InformationSet, is_member, greedy, first_basis, columns_in_order, with_fresh, next_set, sets_after, information_sets}
 use Rattle.lc_enumeration.specs.Search.{sets_of, set_count, levels_below}
 use Rattle.lc_matrix.proofs.PlaceLaws.{index_below}
-use Rattle.lc_infoset.proofs.BoundLaws.{index_below as place_below}
 use Rattle.lc_infoset.proofs.SetLaws.{next_is}
 use Rattle.lc_search.proofs.LevelLaws.{levels_few}
 use Rattle.lc_formats.specs.Certificate.{Certificate, code_length}

@@ -17,7 +17,7 @@ use Rattle.lc_algebra.specs.Word.{IsWord, weight}
 use Rattle.lc_algebra.specs.Span.{below, combine, InSpan, SameSpan, AreIndependent, IsWeightBound, IsDistance}
 use Rattle.lc_algebra.specs.Matrix.{Matrix, AreRows, AreIndependentColumns}
 use Rattle.lc_algebra.specs.Divisor.{weight_divisor, divisor_of, rounded}
-use Rattle.lc_algebra.proofs.SpanLaws.{contains_map, map_contains, contains_flat_map, contains_below, length_below, word_of_combination, span_word}
+use Rattle.lc_algebra.proofs.SpanLaws.{contains_map, map_contains, contains_flat_map, contains_below, length_below, word_of_combination, span_word, index_below}
 use Rattle.lc_algebra.proofs.ColumnLaws.{systematic_columns}
 use Rattle.lc_algebra.proofs.DimensionLaws.{dimension_unique}
 use Rattle.lc_algebra.proofs.DivisorLaws.{divisor_is, divisor_positive}
@@ -28,16 +28,15 @@ use Rattle.lc_enumeration.specs.Truth.{HasWord}
 use Rattle.lc_enumeration.proofs.MemberLaws.{true_member}
 use Rattle.lc_enumeration.proofs.SearchLaws.{numbers_within}
 use Rattle.lc_infoset.specs.Bound.{set_at}
-use Rattle.lc_infoset.proofs.BoundLaws.{all_from_members, index_below}
-use Rattle.lc_infoset.proofs.SetLaws.{count_is}
+use Rattle.lc_infoset.proofs.SetLaws.{count_is, levels_are}
 use Rattle.lc_infoset.proofs.SearchBound.{message_word}
 use Rattle.lc_infoset.proofs.SearchTruth.{search_generator, search_dimension, sets_apart, done_is_distance, best_is_word}
 use Rattle.lc_infoset.proofs.BestLaws.{find_passes}
-use Rattle.lc_infoset.proofs.AnswerLaws.{levels_of}
 use Rattle.lc_search.proofs.LevelLaws.{levels_few}
 use Rattle.lc_formats.specs.Certificate.{Certificate, SetClaim, Proof, scan, levels, code_length, code_dimension, level_in, cost, words_through, seen_by, seen_words, span_divisor, claimed_sum, SetsHold, IsValid}
 use Rattle.lc_formats.proofs.CertificateBack.{mapped_all}
 use Rattle.lc_enumeration.proofs.DependentLaws.{independent_rows}
+use Rattle.lc_enumeration.proofs.GreedyLaws.{each_contained}
 use Rattle.lc_validity.proofs.DependentLaws.{set_systematic, echelon_systematic}
 use Rattle.lc_validity.proofs.ValidityLaws.{mapped_pairs}
 use Rattle.lc_language.specs.Query.{QueryKind, distance, by_levels, by_scan, claims_at, proof_of, certificate_of, word_at_place}
@@ -80,7 +79,7 @@ valid_from c few r inside weighs least holds = record {
   affordable = few;
   inside = inside;
   attains = weighs;
-  seen = all_from_members (λ w. 0 < weight w → c.distance ≤ weight w) (seen_words c) (λ w m. least w (seen_inside c c.proof w r holds m));
+  seen = each_contained (λ w. 0 < weight w → c.distance ≤ weight w) (seen_words c) (λ w m. least w (seen_inside c c.proof w r holds m));
   sets = holds;
 }
 
@@ -88,7 +87,7 @@ valid_from c few r inside weighs least holds = record {
 
 pub claims_each : (C : Matrix) (l : ℕ) (P : SetClaim → Type 0) → ((j : ℕ) → j < set_count C → P (claim_at C l j)) → All P (claims_at (sets_of C) (levels_below C l))
 claims_each C l P h =
-    subst (All P) (claims_are C l) (mapped_all (claim_at C l) P (below (set_count C)) (all_from_members (λ j. P (claim_at C l j)) (below (set_count C)) (λ j c. h j (contains_below (set_count C) j c))))
+    subst (All P) (claims_are C l) (mapped_all (claim_at C l) P (below (set_count C)) (each_contained (λ j. P (claim_at C l j)) (below (set_count C)) (λ j c. h j (contains_below (set_count C) j c))))
 
 pub claims_apart : (C : Matrix) (l : ℕ) → AllPairs (λ one other. (place : ℕ) → Contains one.fresh place → ¬ Contains other.fresh place) (claims_at (sets_of C) (levels_below C l))
 claims_apart C l =
@@ -127,7 +126,7 @@ level_or_sum C l done =
 
 pub whole_level : (C : Matrix) (l k : ℕ) → Contains (levels_below C l) k → Any (λ claim. k ≤ claim.level) (claims_at (sets_of C) (levels_below C l))
 whole_level C l k c =
-    let t = contains_map (level_below C l) (below (set_count C)) k (subst (λ ws. Contains ws k) (levels_of C l) c) in
+    let t = contains_map (level_below C l) (below (set_count C)) k (subst (λ ws. Contains ws k) (levels_are C l) c) in
     let s = subst (λ xs. Contains xs (claim_at C l t.0)) (claims_are C l) (map_contains (claim_at C l) (below (set_count C)) t.0 t.1) in
     (s.0, claim_at C l t.0, s.1, s.2, omega (arith, t.2))
 

@@ -1,7 +1,7 @@
 -- Words over 2 elements in blocks of 64 symbols.
 --   block_bits, block_short, block_cut      one block
 --   sum_blocks                 the sum of two words
---   ones_start, ones_more, ones_few, light_then, light_else      the weight, block by block
+--   ones_more, ones_few, light_then, light_else      the weight, block by block
 --   zero_blocks, zero_start    blocks that are all 0
 --   next_blocks, next_word, light_is      a word and one row more, and whether it is light
 use Rattle.std.proofs.Common.{◌≡◌, ℕ, zero, suc, ◌+◌, ◌-◌, ◌*◌, ◌^◌, ◌<◌, ◌≤◌, min, Bool, not, cond, ◌==◌, ◌&&◌, nat_lt, List, [], ◌∷◌, take, drop, length, replicate, bit_xor, count_ones, slice_index, slice_index_or, refl, sym, ap, ap₂, subst, ◌∙◌, ⊎_elim, arith}
@@ -13,7 +13,7 @@ use Rattle.lc_algebra.specs.declared.FieldName.TheVariants.{Gf2}
 use Rattle.lc_algebra.specs.Field.{size, add}
 use Rattle.lc_algebra.specs.Word.{IsWord, Fits, zero_word, word_sum, scale, weight}
 use Rattle.lc_algebra.specs.Matrix.{Matrix, AreRows}
-use Rattle.lc_algebra.proofs.WordLaws.{weight_cons, fits_symbol, one_scale, IsWord_sum, length_scale}
+use Rattle.lc_algebra.proofs.WordLaws.{weight_cons, fits_symbol, one_scale, IsWord_sum, length_scale, weight_nil}
 use Rattle.lc_formats.specs.Certificate.{is_lighter}
 use Rattle.lc_checker.specs.Walk.{row_of}
 use Rattle.lc_vec.specs.Packed.{packed}
@@ -93,9 +93,6 @@ sum_blocks m sum row result long each u v e h k a b = record {
   each = λ i l. each i l ∙ ap₂ bit_xor (a.each i l) (b.each i l) ∙ sym (block_sum u v i e h k);
 }
 
-weight_nil : weight [] ≡ 0
-weight_nil = refl
-
 take_nil : (n : ℕ) → take {A = ℕ} n [] ≡ []
 take_nil zero = refl
 take_nil (suc n) = refl
@@ -118,9 +115,6 @@ weight_parts (suc a) b (x ∷ w) =
     let two : weight (take (suc a + b) (x ∷ w)) ≡ cond (not (x == 0)) 1 0 + weight (take (a + b) w) = ap (λ n. weight (take n (x ∷ w))) next ∙ weight_cons x (take (a + b) w) in
     let three : weight (take b (drop (suc a) (x ∷ w))) ≡ weight (take b (drop a w)) = refl in
     omega (arith, one, two, three, weight_parts a b w)
-
-pub ones_start : (w : List ℕ) → 0 ≡ weight (take (64 * 0) w)
-ones_start w = refl
 
 -- the weight of one block more
 pub ones_more : (m i ones n : ℕ) (bits w : List ℕ) → Fits Gf2 w → i < m → AreBlocks m bits w → ones ≡ weight (take (64 * i) w) → n ≡ count_ones (slice_index bits i) → ones + n ≡ weight (take (64 * (i + 1)) w)

@@ -8,7 +8,7 @@
 --   LevelsShaped, levels_shaped, scan_cost, levels_cost, scan_reasons, levels_reasons, claims_at      by the way of the proof
 --   verdict_word, verdict_set, verdict_seen, verdict_clear      the verdict
 --   accepted_exactly           a certificate is accepted exactly if it is valid
-use Rattle.std.proofs.Common.{◌≡◌, ℕ, zero, suc, ◌+◌, ◌^◌, ◌<◌, ◌≤◌, ◌↔◌, min, max, Bool, true, false, not, List, [], ◌∷◌, ◌++◌, map, sum, find, length, drop, slice_index_or, All, Option, Some, None, IfSome, IsSome, is_some, IsTrue, refl, sym, ap, ap₂, subst, ◌∙◌, arith}
+use Rattle.std.proofs.Common.{◌≡◌, ℕ, suc, ◌+◌, ◌^◌, ◌<◌, ◌≤◌, ◌↔◌, min, max, Bool, true, false, not, List, [], ◌∷◌, ◌++◌, map, sum, find, length, drop, slice_index_or, All, Option, Some, None, IfSome, IsSome, is_some, IsTrue, refl, sym, ap, ap₂, subst, ◌∙◌, arith}
 use Rattle.std.specs.Option.{option_or}
 use Rattle.std.proofs.Math.Seq.{drop-cons}
 use Rattle.std.proofs.lemmas.Bool.{lt-ltb, le-ltb, eq-eqb, ne_eqb, le-leb, lt-leb, false≢true}
@@ -23,17 +23,19 @@ use Rattle.lc_algebra.specs.Divisor.{divisor_of, rounded}
 use Rattle.lc_algebra.proofs.SpanLaws.{same_span_transitive}
 use Rattle.lc_algebra.proofs.ColumnLaws.{independent_columns_shared}
 use Rattle.lc_algebra.proofs.ReducedLaws.{reduced_at_most}
+use Rattle.lc_algebra.proofs.CommonLaws.{same_test, drop_whole}
 use Rattle.lc_enumeration.specs.InformationSet.{in_span, is_member, systematic, echelon_rows}
 use Rattle.lc_enumeration.specs.Search.{bound_sum}
 use Rattle.lc_enumeration.proofs.MemberLaws.{in_span_true, true_in_span}
 use Rattle.lc_formats.specs.Certificate.{Certificate, SetClaim, scan, levels, Reason, Verdict, accepted, rejected, too_costly, word_not_in_code, word_weight, set_not_information, fresh_overlap, bound_short, seen_lighter, code_length, code_dimension, level_in, messages_through, cost, cost_of, cost_reason, words_through, seen_by, seen_words, is_lighter, first_lighter, span_divisor, claimed_sum, first_dependent, least_overlap, reaches, or_else, when, carrying, set_reasons, verdict, IsValid}
 use Rattle.lc_formats.specs.Shape.{IsShaped, IsShapedSet, AreShapedSets}
-use Rattle.lc_formats.proofs.VerdictLaws.{else_accepted, sets_hold, accepted_is_valid, valid_is_accepted}
+use Rattle.lc_formats.proofs.VerdictLaws.{else_accepted, sets_hold, accepted_is_valid, valid_is_accepted, carrying_none}
 use Rattle.lc_checker.specs.Cost.{capped}
 use Rattle.lc_checker.specs.Walk.{words_from}
 use Rattle.lc_checker.specs.Sets.{IsMatrixOf, IsCodeOf, IsSetOf, word_reasons}
 use Rattle.lc_checker.proofs.CodeLaws.{dimension_is, systematic_is, echelon_is}
 use Rattle.lc_checker.proofs.MessageLaws.{through_is}
+use Rattle.lc_checker.proofs.HeavyLaws.{next}
 
 pub code_dimension_is : (c : Certificate) (C : Matrix) → IsCodeOf c C → code_dimension c ≡ length C.rows
 unfolding code_dimension
@@ -41,11 +43,6 @@ code_dimension_is c C h = dimension_is c.field (code_length c) c.rows C.rows h.r
 
 pub dimension_few : (c : Certificate) (C : Matrix) → IsShaped c → IsCodeOf c C → length C.rows ≤ 255
 dimension_few c C s h = omega (arith, reduced_at_most (code_length c) C.rows h.echelon.reduced, s.few_columns)
-
-same_test : (a b : Bool) → (a ≡ true → b ≡ true) → (b ≡ true → a ≡ true) → a ≡ b
-same_test true b h k = sym (h refl)
-same_test false true h k = k refl
-same_test false false h k = refl
 
 -- ---- the cost and the word
 
@@ -116,16 +113,11 @@ bound_less c M k s claims b h e q t z l =
     let same = sum_is c M k s claims h e z in
     rw (e, sym (levels_are c k claims e), sym q ∙ t, lt-leb c.distance (claimed_sum c claims) (omega (arith, l, same))) (ap (λ x. Some (bound_short x)) same)
 
-carrying_nothing : {X : Type 0} (r : X → Reason) (o : Option X) → carrying r o ≡ None → o ≡ None
-unfolding carrying
-carrying_nothing r None e = refl
-carrying_nothing r (Some x) e = absurd cc
-
 pub sets_are : (c : Certificate) (C : Matrix) (claims : List SetClaim) → IsCodeOf c C → ((later : Verdict) → set_reasons c (levels claims) later ≡ later) → All (IsSetOf C) claims
 unfolding set_reasons
 sets_are c C claims h e =
     let one = else_accepted (carrying set_not_information (first_dependent c 1 claims)) _ (e accepted) in
-    let holds = sets_hold c 1 claims h.rows (carrying_nothing set_not_information (first_dependent c 1 claims) one.0) in
+    let holds = sets_hold c 1 claims h.rows (carrying_none set_not_information (first_dependent c 1 claims) one.0) in
     λ k d l.
     let t = holds k d l in
     record {
@@ -172,15 +164,6 @@ pub levels_seen : (c : Certificate) (claims : List SetClaim) → c.proof ≡ lev
 unfolding first_lighter seen_words
 levels_seen c claims e = ap (λ p. find (is_lighter c.distance) (seen_by c p)) (sym e)
 
-next : (i : ℕ) → suc i ≡ i + 1
-next i = omega arith
-
-past : {X : Type 0} (xs : List X) (i : ℕ) → length xs ≤ i → drop i xs ≡ []
-past [] zero l = refl
-past [] (suc i) l = refl
-past (x ∷ xs) zero l = absurd (omega (arith, l))
-past (x ∷ xs) (suc i) l = past xs i (omega (arith, l))
-
 abbrev pub words_of_set : Certificate → SetClaim → List (List ℕ)
 words_of_set c claim = words_through c.field (code_length c) (systematic c.field (code_length c) c.rows claim.basis) (code_dimension c) (level_in c claim)
 
@@ -210,7 +193,7 @@ sets_passed c g xs i t d o l h e =
     h ∙ ap (find (is_lighter t)) (seen_more c g xs i d l) ∙ find-append (is_lighter t) (words_of_set c (g (slice_index_or xs i d))) (seen_by c (levels (drop (i + 1) (map g xs)))) ∙ ap (λ a. option_or a later) (sym e)
 
 pub sets_end : (c : Certificate) (claims : List SetClaim) (i t : ℕ) (o : Option (List ℕ)) → length claims ≤ i → o ≡ find (is_lighter t) (seen_by c (levels (drop i claims))) → None ≡ o
-sets_end c claims i t o l h = sym (h ∙ ap (λ cs. find (is_lighter t) (seen_by c (levels cs))) (past claims i l) ∙ ap (find (is_lighter t)) (seen_nil c))
+sets_end c claims i t o l h = sym (h ∙ ap (λ cs. find (is_lighter t) (seen_by c (levels cs))) (drop_whole claims i l) ∙ ap (find (is_lighter t)) (seen_nil c))
 
 -- ---- the verdict
 
@@ -233,10 +216,6 @@ verdict_seen c w h k e = sym (verdict_parts c ∙ h _ ∙ k (or_else (carrying s
 pub verdict_clear : (c : Certificate) → ((later : Verdict) → word_reasons c later ≡ later) → ((later : Verdict) → set_reasons c c.proof later ≡ later) → None ≡ first_lighter c → accepted ≡ verdict c
 unfolding or_else carrying
 verdict_clear c h k e = sym (verdict_parts c ∙ h _ ∙ k (or_else (carrying seen_lighter (first_lighter c)) accepted) ∙ ap (λ o. or_else (carrying seen_lighter o) accepted) (sym e))
-
-pub nothing_else : (later : Verdict) → or_else None later ≡ later
-unfolding or_else
-nothing_else later = refl
 
 pub accepted_exactly : (c : Certificate) (v : Verdict) → IsShaped c → v ≡ verdict c → (v ≡ accepted) ↔ IsValid c
 accepted_exactly c v h e = ((λ a. accepted_is_valid c h (sym e ∙ a)), (λ a. e ∙ valid_is_accepted c h a))

@@ -7,9 +7,8 @@
 --   echelon_is                 the echelon rows of the definition are the reduced matrix
 use Rattle.std.proofs.Common.{◌≡◌, ◌≢◌, ℕ, zero, suc, ◌+◌, ◌<◌, ◌≤◌, Bool, true, false, cond, ◌==◌, if◌then◌else◌, List, [], ◌∷◌, ◌++◌, map, find, filter, length, take, slice_index, slice_index_or, Contains, unwrap_or, refl, sym, ap, ap₂, subst, ◌∙◌, ⊎_elim, arith, append-nil}
 use Rattle.std.proofs.lemmas.Bool.{cases_Bool, cases_lt, cases_eq}
-use Rattle.std.proofs.lemmas.List.{length-map, get_or_default, get_or-map, get_or_append_left, ext_get_or, get_or-take, length-take-le, take_all, take_more}
+use Rattle.std.proofs.lemmas.List.{length-map, get_or_default, get_or-map, ext_get_or, get_or-take, length-take-le, take_all, take_more}
 use Rattle.std.proofs.lemmas.List.Elements.{filter-append}
-use Rattle.std.proofs.Math.Seq.{get_or-append_seam}
 use Rattle.lc_algebra.specs.declared.FieldName.{FieldName}
 use Rattle.lc_algebra.specs.Word.{zero_word}
 use Rattle.lc_algebra.specs.Span.{below, InSpan, words, SameSpan}
@@ -23,6 +22,8 @@ use Rattle.lc_enumeration.specs.InformationSet.{same_word, in_span, greedy, dime
 use Rattle.lc_enumeration.proofs.MemberLaws.{same_from_test, test_from_same, in_span_true, true_in_span, member_true, true_member}
 use Rattle.lc_enumeration.proofs.PlanLaws.{find_only}
 use Rattle.lc_enumeration.proofs.DependentLaws.{independent_rows}
+use Rattle.lc_enumeration.proofs.GreedyLaws.{index_unit, length_unit}
+use Rattle.lc_matrix.proofs.PlaceLaws.{index_below}
 
 -- ---- the dimension
 
@@ -32,23 +33,6 @@ dimension_is f n rows e r h =
     sym t.many ∙ dimension_unique f n t.others e t.words h.words t.free (reduced_independent f n e h.words h.reduced) (same_span_transitive f n t.others rows e (same_span_symmetric f n rows t.others t.same) h.same)
 
 -- ---- systematic matrices
-
-length_unit : (k i : ℕ) → length (unit_word k i) ≡ k
-unfolding unit_word
-length_unit k i = length-map (below k) (λ j. if i == j then 1 else 0) ∙ length_below k
-
-index_below : (n i : ℕ) → i < n → slice_index (below n) i ≡ i
-unfolding below
-index_below zero i l = absurd (omega (arith, l))
-index_below (suc n) i l =
-    ⊎_elim
-    (λ m. get_or_append_left (below n) (n ∷ []) 0 i (omega (arith, m, length_below n)) ∙ index_below n i m)
-    (λ m. let e : i ≡ length (below n) = omega (arith, m, l, length_below n) in ap (slice_index (below n ++ n ∷ [])) e ∙ get_or-append_seam (below n) n [] 0 ∙ omega (arith, m, l))
-    (cases_lt i n)
-
-index_unit : (k i j : ℕ) → j < k → slice_index (unit_word k i) j ≡ (if i == j then 1 else 0)
-unfolding unit_word
-index_unit k i j l = get_or-map (λ j. if i == j then 1 else 0) (below k) j 0 0 (omega (arith, l, length_below k)) ∙ ap (λ m. if i == m then 1 else 0) (index_below k j l)
 
 unit_there : (set : List ℕ) (e : List (List ℕ)) (i : ℕ) → IsIdentityOn set e → i < length e → restrict set (slice_index_or e i []) ≡ unit_word (length set) i
 unit_there set e i h l =

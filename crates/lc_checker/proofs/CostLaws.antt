@@ -11,12 +11,9 @@ use Rattle.std.proofs.lemmas.Bool.{cases_lt}
 use Rattle.std.proofs.lemmas.List.{map-append}
 use Rattle.std.proofs.lemmas.List.Sums.{sum_by-cons, sum_by_push}
 use Rattle.lc_enumeration.specs.Message.{choose, message_count, numbers_from}
-use Rattle.lc_place.proofs.Counting.{choose_more}
+use Rattle.lc_place.proofs.Counting.{choose_more, product_over}
 use Rattle.lc_formats.specs.Certificate.{messages_through}
 use Rattle.lc_checker.specs.Cost.{capped, choose_entry, through_entry}
-
-product_over : (a b s : ℕ) → s ≤ a → 1 ≤ b → s ≤ a * b
-product_over a b s l m = omega (arith, le-mul_of_pos_right {m = b} a m)
 
 product_turned : (a b s : ℕ) → s ≤ b → 1 ≤ a → s ≤ a * b
 product_turned a b s l m = omega (arith, le-mul_of_pos_right {m = a} b m)
@@ -70,7 +67,7 @@ power_next q e a l c =
     let up : e + 1 ≡ suc e = omega arith in
     rw (c, up) (both ∙ ap (λ x. min x (2 ^ 64 - 1)) (sym (pow-suc (q - 1) e)))
 
-numbers_last : (i n : ℕ) → numbers_from i (suc n) ≡ numbers_from i n ++ (i + n) ∷ []
+pub numbers_last : (i n : ℕ) → numbers_from i (suc n) ≡ numbers_from i n ++ (i + n) ∷ []
 unfolding numbers_from
 numbers_last i zero = let e : i ≡ i + 0 = omega arith in ap (λ m. m ∷ []) e
 numbers_last i (suc n) = let e : suc i + n ≡ i + suc n = omega arith in ap (λ ms. i ∷ ms) (numbers_last (suc i) n ∙ ap (λ m. numbers_from (suc i) n ++ m ∷ []) e)
@@ -118,7 +115,3 @@ sum_whole g xs i t whole few l h = omega (arith, few, h, ap (λ ys. sum (map g y
     past [] (suc i) l = refl
     past (x ∷ xs) zero l = absurd (omega (arith, l))
     past (x ∷ xs) (suc i) l = past xs i (omega (arith, l))
-
-pub mapped : {X Y Z : Type 0} (g : Y → Z) (h : X → Y) (xs : List X) → map g (map h xs) ≡ map (λ x. g (h x)) xs
-mapped g h [] = refl
-mapped g h (x ∷ xs) = ap (λ ys. g (h x) ∷ ys) (mapped g h xs)

@@ -1,11 +1,12 @@
 -- Sums that aren't lighter than a distance: what a walk knows that keeps no order.
+--   along_cons                the sums along one place more
 --   heavy_end, heavy_step     row by row
 --   heavy_binary              over 2 elements there is one sum with a row
 --   heavy_none                no sum of no rows
 --   none_found                if all sums of up to m rows are heavy, no word of the levels 1 to m is lighter
 --   firsts_found              it is enough that those whose first coefficient is 1 are
 --   multiple_at               a multiple of a row in the list of multiples
-use Rattle.std.proofs.Common.{◌≡◌, ℕ, zero, suc, ◌+◌, ◌-◌, ◌*◌, ◌<◌, ◌≤◌, Bool, false, List, [], ◌∷◌, ◌++◌, map, find, flat_map, length, slice_index_or, Contains, None, refl, sym, ap, ap₂, subst, ◌∙◌, ⊎_elim, arith, mul_comm}
+use Rattle.std.proofs.Common.{◌≡◌, ℕ, zero, suc, ◌+◌, ◌-◌, ◌*◌, ◌<◌, ◌≤◌, Bool, false, List, [], ◌∷◌, ◌++◌, map, find, length, slice_index_or, Contains, None, refl, sym, ap, ap₂, subst, ◌∙◌, ⊎_elim, arith, mul_comm, flat_map}
 use Rattle.std.proofs.lemmas.Nat.{mul-add-lt, div-mul-add, mod-mul-add}
 use Rattle.std.proofs.lemmas.List.{get_or_default}
 use Rattle.std.proofs.lemmas.List.Elements.{Contains-append_cases}
@@ -18,29 +19,29 @@ use Rattle.lc_algebra.proofs.FieldLaws.{one_inside}
 use Rattle.lc_algebra.proofs.WordLaws.{weight_zero_word}
 use Rattle.lc_algebra.proofs.SpanLaws.{contains_head, contains_tail, contains_cases, contains_map, contains_flat_map, flat_map_contains}
 use Rattle.lc_algebra.proofs.DivisorLaws.{no_member}
+use Rattle.lc_algebra.proofs.EmbeddingTests.{size_two}
 use Rattle.lc_enumeration.specs.Message.{supports_from, numbers_from}
 use Rattle.lc_enumeration.proofs.SearchLaws.{numbers_within, within_numbers}
 use Rattle.lc_formats.specs.Certificate.{is_lighter}
-use Rattle.lc_vec.proofs.PackLaws.{two}
 use Rattle.lc_checker.specs.Walk.{row_of, words_along, support_words, words_over, level_words, words_from}
 use Rattle.lc_checker.specs.Heavy.{AreHeavy, AreMultiples}
+
+pub along_cons : (f : FieldName) (rows : List (List ℕ)) (a : List ℕ) (p : ℕ) (s : List ℕ) → words_along f rows a (p ∷ s) ≡ flat_map (λ c. words_along f rows (word_sum f a (scale f c (row_of rows p))) s) (numbers_from 1 (size f - 1))
+unfolding words_along
+along_cons f rows a p s = refl
 
 supports_none : (i j : ℕ) → 0 < j → supports_from i 0 j ≡ []
 unfolding supports_from
 supports_none i zero l = absurd (omega (arith, l))
 supports_none i (suc j) l = refl
 
-supports_more : (i k j : ℕ) → supports_from i (suc k) (suc j) ≡ map (λ s. i ∷ s) (supports_from (suc i) k j) ++ supports_from (suc i) k (suc j)
+pub supports_more : (i k j : ℕ) → supports_from i (suc k) (suc j) ≡ map (λ s. i ∷ s) (supports_from (suc i) k j) ++ supports_from (suc i) k (suc j)
 unfolding supports_from
 supports_more i k j = refl
 
 no_support : (i k : ℕ) (s : List ℕ) → Contains (supports_from i k 0) s → [] ≡ s
 unfolding supports_from
 no_support i k s c = ⊎_elim (λ e. e) (λ x. absurd (no_member s x)) (contains_cases [] s [] c)
-
-along_more : (f : FieldName) (rows : List (List ℕ)) (a s : List ℕ) (p : ℕ) → words_along f rows a (p ∷ s) ≡ flat_map (λ c. words_along f rows (word_sum f a (scale f c (row_of rows p))) s) (numbers_from 1 (size f - 1))
-unfolding words_along
-along_more f rows a s p = refl
 
 along_none : (f : FieldName) (rows : List (List ℕ)) (a s w : List ℕ) → [] ≡ s → Contains (words_along f rows a s) w → a ≡ w
 unfolding words_along
@@ -51,7 +52,7 @@ heavy_end d C a i m past j s w z l c h =
     let none : length C.rows - i ≡ 0 = omega (arith, past) in
     absurd (no_member s (subst (λ xs. Contains xs s) (ap (λ k. supports_from i k j) none ∙ supports_none i j z) c))
 
-next : (i : ℕ) → suc i ≡ i + 1
+pub next : (i : ℕ) → suc i ≡ i + 1
 next i = omega arith
 
 -- a sum with row i, and perhaps later ones
@@ -71,7 +72,7 @@ heavy_step d C a i m l here later (suc j) s w z most c h =
     ⊎_elim
     (λ x.
     let t = contains_map front (supports_from (i + 1) k j) s x in
-    let v = contains_flat_map (λ e. words_along f C.rows (word_sum f a (scale f e (row_of C.rows i))) t.0) (numbers_from 1 (size f - 1)) w (subst (λ u. Contains u w) (ap (words_along f C.rows a) t.2 ∙ along_more f C.rows a t.0 i) h) in
+    let v = contains_flat_map (λ e. words_along f C.rows (word_sum f a (scale f e (row_of C.rows i))) t.0) (numbers_from 1 (size f - 1)) w (subst (λ u. Contains u w) (ap (words_along f C.rows a) t.2 ∙ along_cons f C.rows a i t.0) h) in
     let r = numbers_within 1 (size f - 1) v.0 v.1 in
     let b = here v.0 (omega (arith, r.0)) (omega (arith, r.1)) in
     with_row d C (word_sum f a (scale f v.0 (row_of C.rows i))) i j m t.0 w b.0 b.1 most t.1 v.2)
@@ -83,7 +84,7 @@ pub heavy_binary : (d : ℕ) (C : Matrix) (a : List ℕ) (i m : ℕ) → C.field
 heavy_binary d C a i m binary l here later rest =
     heavy_step d C a i m l
     (λ c z few.
-    let one : 1 ≡ c = omega (arith, z, few, ap size binary, two) in (
+    let one : 1 ≡ c = omega (arith, z, few, ap size binary, size_two) in (
       subst (λ e. is_lighter d (word_sum C.field a (scale C.field e (row_of C.rows i))) ≡ false) one here,
       subst (λ e. AreHeavy d C (word_sum C.field a (scale C.field e (row_of C.rows i))) (i + 1) (m - 1)) one later,
     ))
@@ -110,7 +111,7 @@ supported d C j [] w z c heavy h = ap (is_lighter d) (sym (⊎_elim (λ e. e) (�
 supported d C j (p ∷ s) w z c heavy h =
     let f = C.field in
     heavy j (p ∷ s) w z (omega arith) c
-    (subst (λ xs. Contains xs w) (sym (along_more f C.rows (zero_word C.columns) s p))
+    (subst (λ xs. Contains xs w) (sym (along_cons f C.rows (zero_word C.columns) p s))
     (flat_map_contains (λ e. words_along f C.rows (word_sum f (zero_word C.columns) (scale f e (row_of C.rows p))) s) (numbers_from 1 (size f - 1)) 1 w
     (within_numbers 1 (size f - 1) 1 (omega arith) (omega (arith, one_inside f))) h))
 

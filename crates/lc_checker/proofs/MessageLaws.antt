@@ -6,41 +6,32 @@
 --   level_is                   the words of the messages of a level
 --   through_is                 the words of the levels 1 to w
 use Rattle.std.proofs.Common.{◌≡◌, ℕ, zero, suc, ◌+◌, ◌-◌, ◌<◌, ◌≤◌, ◌⊎◌, List, [], ◌∷◌, ◌++◌, map, flat_map, length, slice_index_or, Contains, refl, sym, ap, ap₂, subst, ◌∙◌, ⊎_elim, inl, inr, arith}
-use Rattle.std.proofs.lemmas.List.{map-append}
 use Rattle.std.proofs.lemmas.List.Concat.{flat_map-cons}
 use Rattle.std.proofs.lemmas.List.Elements.{All-head, All-tail, Contains-append_cases}
 use Rattle.std.proofs.lemmas.Bool.{eq-eqb, ne_eqb}
+use Rattle.std.proofs.lemmas.Simd.{map-map}
 use Rattle.lc_algebra.specs.declared.FieldName.{FieldName}
 use Rattle.lc_algebra.specs.Field.{size}
 use Rattle.lc_algebra.specs.Word.{IsWord, zero_word, word_sum, scale}
 use Rattle.lc_algebra.specs.Span.{combine}
 use Rattle.lc_algebra.specs.Matrix.{AreRows}
 use Rattle.lc_algebra.proofs.WordLaws.{IsWord_zero, IsWord_scale, IsWord_sum, length_scale, zero_sum, sum_zero, sum_assoc, zero_scale}
-use Rattle.lc_algebra.proofs.SpanLaws.{contains_head, contains_tail, contains_cases, contains_map, contains_flat_map}
+use Rattle.lc_algebra.proofs.SpanLaws.{contains_head, contains_tail, contains_cases, contains_map, contains_flat_map, combine_cons, combine_is_word}
 use Rattle.lc_algebra.proofs.DivisorLaws.{no_member}
-use Rattle.lc_enumeration.proofs.GreedyLaws.{combine_is_word}
+use Rattle.lc_algebra.proofs.CommonLaws.{map_flat_map}
 use Rattle.lc_enumeration.specs.Message.{Message, supports_from, supports, numbers_from, nonzero_lists, leading_lists, messages, vector_from, vector_of}
+use Rattle.lc_enumeration.proofs.DependentLaws.{map_same}
+use Rattle.lc_place.proofs.Vectors.{vector_nil}
 use Rattle.lc_formats.specs.Certificate.{words_through}
 use Rattle.lc_checker.specs.Walk.{row_of, words_along, support_words, words_over, level_words, words_from}
-use Rattle.lc_checker.proofs.WalkLaws.{flat_map_same}
+use Rattle.lc_checker.proofs.WalkLaws.{flat_map_same, words_none}
+use Rattle.lc_checker.proofs.HeavyLaws.{supports_more, along_cons}
 
 abbrev multiples_sum : FieldName → ℕ → (ℕ → List ℕ) → List ℕ → List ℕ → List ℕ
 multiples_sum f n row (p ∷ s) (c ∷ u) = word_sum f (scale f c (row p)) (multiples_sum f n row s u)
 multiples_sum f n row _ _ = zero_word n
 
 -- ---- lists
-
-map_flat_map : {X Y Z : Type 0} (g : Y → Z) (h : X → List Y) (xs : List X) → map g (flat_map h xs) ≡ flat_map (λ x. map g (h x)) xs
-map_flat_map g h [] = refl
-map_flat_map g h (x ∷ xs) = ap (map g) (flat_map-cons h x xs) ∙ map-append g (h x) (flat_map h xs) ∙ ap (λ ys. map g (h x) ++ ys) (map_flat_map g h xs) ∙ sym (flat_map-cons (λ x. map g (h x)) x xs)
-
-map_map : {X Y Z : Type 0} (g : Y → Z) (h : X → Y) (xs : List X) → map g (map h xs) ≡ map (λ x. g (h x)) xs
-map_map g h [] = refl
-map_map g h (x ∷ xs) = ap (λ ys. g (h x) ∷ ys) (map_map g h xs)
-
-map_members : {X Y : Type 0} (g h : X → Y) (xs : List X) → ((x : X) → Contains xs x → g x ≡ h x) → map g xs ≡ map h xs
-map_members g h [] e = refl
-map_members g h (x ∷ xs) e = ap₂ (λ y ys. y ∷ ys) (e x (contains_head x xs)) (map_members g h xs (λ y c. e y (contains_tail x y xs c)))
 
 flat_map_members : {X Y : Type 0} (g h : X → List Y) (xs : List X) → ((x : X) → Contains xs x → g x ≡ h x) → flat_map g xs ≡ flat_map h xs
 flat_map_members g h [] e = refl
@@ -51,10 +42,6 @@ flat_map_members g h (x ∷ xs) e = flat_map-cons g x xs ∙ ap₂ (λ a b. a ++
 record Shape (i w : ℕ) (s : List ℕ) : Type 0 where
   pub many : length s ≡ w
   pub low : (p : ℕ) (t : List ℕ) → s ≡ p ∷ t → i ≤ p
-
-supports_cases : (i k w : ℕ) → supports_from i (suc k) (suc w) ≡ map (λ s. i ∷ s) (supports_from (suc i) k w) ++ supports_from (suc i) k (suc w)
-unfolding supports_from
-supports_cases i k w = refl
 
 supports_nothing : (i k : ℕ) → supports_from i k 0 ≡ [] ∷ []
 unfolding supports_from
@@ -75,7 +62,7 @@ first_or_later i k w s c =
     ⊎_elim
     (λ a. let t = contains_map (λ (u : List ℕ). i ∷ u) (supports_from (suc i) k w) s a in inl (t.0, t.1, t.2))
     (λ b. inr b)
-    (Contains-append_cases (map (λ s. i ∷ s) (supports_from (suc i) k w)) (supports_from (suc i) k (suc w)) s (subst (λ xs. Contains xs s) (supports_cases i k w) c))
+    (Contains-append_cases (map (λ s. i ∷ s) (supports_from (suc i) k w)) (supports_from (suc i) k (suc w)) s (subst (λ xs. Contains xs s) (supports_more i k w) c))
 
 supports_shape : (i k w : ℕ) (s : List ℕ) → Contains (supports_from i k w) s → Shape i w s
 supports_shape i k zero s c =
@@ -94,10 +81,6 @@ supports_shape i (suc k) (suc w) s c =
 
 -- ---- combinations
 
-vector_past : (i k : ℕ) → vector_from i (suc k) [] [] ≡ 0 ∷ vector_from (suc i) k [] []
-unfolding vector_from
-vector_past i k = refl
-
 vector_at : (i k c : ℕ) (s u : List ℕ) → vector_from i (suc k) (i ∷ s) (c ∷ u) ≡ c ∷ vector_from (suc i) k s u
 unfolding vector_from
 vector_at i k c s u = rw (eq-eqb i i refl) refl
@@ -105,14 +88,6 @@ vector_at i k c s u = rw (eq-eqb i i refl) refl
 vector_before : (i k p c : ℕ) (s u : List ℕ) → suc i ≤ p → vector_from i (suc k) (p ∷ s) (c ∷ u) ≡ 0 ∷ vector_from (suc i) k (p ∷ s) (c ∷ u)
 unfolding vector_from
 vector_before i k p c s u l = rw (ne_eqb i p (λ e. omega (arith, l, e))) refl
-
-vector_nothing : (i : ℕ) (s u : List ℕ) → vector_from i 0 s u ≡ []
-unfolding vector_from
-vector_nothing i s u = refl
-
-combine_cons : (f : FieldName) (n c : ℕ) (cs g : List ℕ) (rows : List (List ℕ)) → combine f n (c ∷ cs) (g ∷ rows) ≡ word_sum f (scale f c g) (combine f n cs rows)
-unfolding combine
-combine_cons f n c cs g rows = refl
 
 combine_past : (f : FieldName) (n : ℕ) (cs g : List ℕ) (rows : List (List ℕ)) → AreRows f n (g ∷ rows) → combine f n (0 ∷ cs) (g ∷ rows) ≡ combine f n cs rows
 combine_past f n cs g rows r =
@@ -147,7 +122,7 @@ combine_sparse f n i row (g ∷ rest) s [] r h c =
     let e = only_one s (subst (λ xs. Contains xs s) (supports_nothing i (suc (length rest))) c) in
     let there : Contains (supports_from (suc i) (length rest) 0) [] = subst (λ xs. Contains xs []) (sym (supports_nothing (suc i) (length rest))) (contains_head [] []) in
     ap (λ t. combine f n (vector_from i (suc (length rest)) t []) (g ∷ rest)) e
-    ∙ ap (λ v. combine f n v (g ∷ rest)) (vector_past i (length rest))
+    ∙ ap (λ v. combine f n v (g ∷ rest)) (vector_nil i (length rest))
     ∙ combine_past f n (vector_from (suc i) (length rest) [] []) g rest r
     ∙ combine_sparse f n (suc i) row rest [] [] (All-tail (IsWord f n) g rest r) (row_later i row g rest h) there
     ∙ sym (ap (λ t. multiples_sum f n row t []) e)
@@ -172,16 +147,8 @@ lists_nothing : (q : ℕ) → nonzero_lists q 0 ≡ [] ∷ []
 unfolding nonzero_lists
 lists_nothing q = refl
 
-along_cons : (f : FieldName) (rows : List (List ℕ)) (a : List ℕ) (p : ℕ) (s : List ℕ) → words_along f rows a (p ∷ s) ≡ flat_map (λ c. words_along f rows (word_sum f a (scale f c (row_of rows p))) s) (numbers_from 1 (size f - 1))
-unfolding words_along
-along_cons f rows a p s = refl
-
-along_nil : (f : FieldName) (rows : List (List ℕ)) (a : List ℕ) → words_along f rows a [] ≡ a ∷ []
-unfolding words_along
-along_nil f rows a = refl
-
 along_is : (f : FieldName) (n : ℕ) (rows : List (List ℕ)) (a s : List ℕ) → IsWord f n a → ((p : ℕ) → Contains s p → IsWord f n (row_of rows p)) → map (λ u. word_sum f a (multiples_sum f n (row_of rows) s u)) (nonzero_lists (size f) (length s)) ≡ words_along f rows a s
-along_is f n rows a [] w h = ap (map (λ u. word_sum f a (multiples_sum f n (row_of rows) [] u))) (lists_nothing (size f)) ∙ ap (λ x. x ∷ []) (sum_zero f n a w) ∙ sym (along_nil f rows a)
+along_is f n rows a [] w h = ap (map (λ u. word_sum f a (multiples_sum f n (row_of rows) [] u))) (lists_nothing (size f)) ∙ ap (λ x. x ∷ []) (sum_zero f n a w) ∙ sym (words_none f rows a)
 along_is f n rows a (p ∷ s) w h =
     let value = λ (u : List ℕ). word_sum f a (multiples_sum f n (row_of rows) (p ∷ s) u) in
     let next = λ (c : ℕ). word_sum f a (scale f c (row_of rows p)) in
@@ -189,8 +156,8 @@ along_is f n rows a (p ∷ s) w h =
     ap (map value) (lists_more (size f) (length s))
     ∙ map_flat_map value (λ c. map (λ u. c ∷ u) (nonzero_lists (size f) (length s))) (numbers_from 1 (size f - 1))
     ∙ flat_map_same (λ c. map value (map (λ u. c ∷ u) (nonzero_lists (size f) (length s)))) (λ c. words_along f rows (next c) s) (numbers_from 1 (size f - 1)) (λ c.
-    map_map value (λ u. c ∷ u) (nonzero_lists (size f) (length s))
-    ∙ map_members (λ u. value (c ∷ u)) (λ u. word_sum f (next c) (multiples_sum f n (row_of rows) s u)) (nonzero_lists (size f) (length s)) (λ u l. sym (sum_assoc f a (scale f c (row_of rows p)) (multiples_sum f n (row_of rows) s u)))
+    map-map value (λ u. c ∷ u) (nonzero_lists (size f) (length s))
+    ∙ map_same (λ u. value (c ∷ u)) (λ u. word_sum f (next c) (multiples_sum f n (row_of rows) s u)) (nonzero_lists (size f) (length s)) (λ u l. sym (sum_assoc f a (scale f c (row_of rows p)) (multiples_sum f n (row_of rows) s u)))
     ∙ along_is f n rows (next c) s (is_next c) (λ q l. h q (contains_tail p q s l)))
     ∙ sym (along_cons f rows a p s)
 
@@ -261,8 +228,8 @@ support_is f n rows (suc w) s r c = first s c (supports_shape 0 (length rows) (s
         let many : length s ≡ w = omega (arith, h.many) in
         let value = λ (u : List ℕ). combine f n (vector_of (length rows) (record { support = p ∷ s; coefficients = u })) rows in
         ap (map value) (leading_more (size f) w)
-        ∙ map_map value (λ u. 1 ∷ u) (nonzero_lists (size f) w)
-        ∙ map_members (λ u. value (1 ∷ u)) (λ u. word_sum f a (multiples_sum f n (row_of rows) s u)) (nonzero_lists (size f) w) (λ u d.
+        ∙ map-map value (λ u. 1 ∷ u) (nonzero_lists (size f) w)
+        ∙ map_same (λ u. value (1 ∷ u)) (λ u. word_sum f a (multiples_sum f n (row_of rows) s u)) (nonzero_lists (size f) w) (λ u d.
         combined f n rows (suc w) (p ∷ s) (1 ∷ u) r c (ap suc (lists_length (size f) w u d))
         ∙ ap (λ x. word_sum f x (multiples_sum f n (row_of rows) s u)) (sym (zero_sum f n (scale f 1 (row_of rows p)) (IsWord_scale f n 1 (row_of rows p) (inside p (contains_head p s)).long))))
         ∙ ap (λ m. map (λ u. word_sum f a (multiples_sum f n (row_of rows) s u)) (nonzero_lists (size f) m)) (sym many)
@@ -275,7 +242,7 @@ level_is f n rows w r =
     let value = λ (m : Message). combine f n (vector_of (length rows) m) rows in
     map_flat_map value (λ s. map (λ u. record { support = s; coefficients = u }) (leading_lists (size f) w)) (supports_from 0 (length rows) w)
     ∙ flat_map_members (λ s. map value (map (λ u. record { support = s; coefficients = u }) (leading_lists (size f) w))) (λ s. support_words f n rows ([] ++ s)) (supports_from 0 (length rows) w) (λ s c.
-    map_map value (λ u. record { support = s; coefficients = u }) (leading_lists (size f) w) ∙ support_is f n rows w s r c)
+    map-map value (λ u. record { support = s; coefficients = u }) (leading_lists (size f) w) ∙ support_is f n rows w s r c)
 
 pub through_is : (f : FieldName) (n k : ℕ) (rows : List (List ℕ)) (w : ℕ) → AreRows f n rows → k ≡ length rows → words_through f n rows k w ≡ words_from f n rows 1 w
 unfolding words_through words_from

@@ -14,18 +14,19 @@ use Rattle.lc_algebra.specs.declared.FieldName.TheVariants.{Gf2}
 use Rattle.lc_algebra.specs.Field.{size}
 use Rattle.lc_algebra.specs.Word.{IsWord, Fits, zero_word, word_sum, scale}
 use Rattle.lc_algebra.specs.Matrix.{Matrix, AreRows}
-use Rattle.lc_algebra.proofs.EmbeddingTests.{told_by_size}
+use Rattle.lc_algebra.proofs.EmbeddingTests.{told_by_size, size_two}
 use Rattle.lc_algebra.proofs.WordLaws.{fits_tail, one_scale, IsWord_zero, IsWord_sum, length_scale}
 use Rattle.lc_enumeration.specs.Message.{numbers_from}
 use Rattle.lc_formats.specs.Certificate.{is_lighter}
 use Rattle.lc_checker.specs.Walk.{row_of, words_along, support_words, words_over, found}
 use Rattle.lc_vec.specs.Packed.{packed}
-use Rattle.lc_vec.proofs.PackLaws.{two, bit_small, packed_sum, packed_ones, packed_small, packed_nil, packed_drop, zero_packed}
+use Rattle.lc_vec.proofs.PackLaws.{bit_small, packed_sum, packed_ones, packed_small, packed_nil, packed_drop, zero_packed}
 use Rattle.lc_checker.specs.Packed.{sum_over, front_bits, ArePacked}
-use Rattle.lc_checker.proofs.WalkLaws.{over_passed, over_whole}
+use Rattle.lc_checker.proofs.WalkLaws.{over_passed, over_whole, words_none}
+use Rattle.lc_checker.proofs.HeavyLaws.{along_cons}
 
 pub binary_field : (f : FieldName) (q : ℕ) → q ≡ size f → q ≡ 2 → f ≡ Gf2
-binary_field f q e t = told_by_size f Gf2 (sym e ∙ t ∙ sym two)
+binary_field f q e t = told_by_size f Gf2 (sym e ∙ t ∙ sym size_two)
 
 -- ---- packing
 
@@ -55,19 +56,11 @@ pack_all word bits e = e
 
 numbers_one : (f : FieldName) → f ≡ Gf2 → numbers_from 1 (size f - 1) ≡ 1 ∷ []
 unfolding numbers_from
-numbers_one f e = let one : size f - 1 ≡ 1 = omega (arith, ap size e, two) in ap (numbers_from 1) one
-
-along_nil : (f : FieldName) (rows : List (List ℕ)) (a : List ℕ) → words_along f rows a [] ≡ a ∷ []
-unfolding words_along
-along_nil f rows a = refl
-
-along_cons : (f : FieldName) (rows : List (List ℕ)) (a : List ℕ) (p : ℕ) (s : List ℕ) → words_along f rows a (p ∷ s) ≡ flat_map (λ c. words_along f rows (word_sum f a (scale f c (row_of rows p))) s) (numbers_from 1 (size f - 1))
-unfolding words_along
-along_cons f rows a p s = refl
+numbers_one f e = let one : size f - 1 ≡ 1 = omega (arith, ap size e, size_two) in ap (numbers_from 1) one
 
 along_single : (f : FieldName) (rows : List (List ℕ)) (a s : List ℕ) → f ≡ Gf2 → words_along f rows a s ≡ sum_over f rows a s ∷ []
 unfolding sum_over
-along_single f rows a [] e = along_nil f rows a
+along_single f rows a [] e = words_none f rows a
 along_single f rows a (p ∷ s) e =
     let g = λ (c : ℕ). words_along f rows (word_sum f a (scale f c (row_of rows p))) s in
     along_cons f rows a p s ∙ ap (flat_map g) (numbers_one f e) ∙ flat_map-cons g 1 [] ∙ append-nil (g 1) ∙ along_single f rows (word_sum f a (scale f 1 (row_of rows p))) s e

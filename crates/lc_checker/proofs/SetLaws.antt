@@ -1,5 +1,4 @@
 -- The sets of a certificate, one after another.
---   told_member                the test that a slice has a number
 --   member_some, member_other, member_none      whether a number is one of a list, entry by entry
 --   counted                    how many of a list that was mapped pass a test
 --   set_short, set_told        whether a basis is an information set
@@ -8,41 +7,33 @@
 --   overlap_start, overlap_found, overlap_passed, overlap_none      the least place that is fresh in two sets, place by place
 --   bound_more, bound_end      the sum over the sets, set by set
 --   divisor_some, divisor_small      the divisor is 1 to 4
---   rounded_made               the rounded sum in the shape of the call
-use Rattle.std.proofs.Common.{◌≡◌, ℕ, zero, suc, ◌+◌, ◌-◌, ◌*◌, ◌/◌, ◌<◌, ◌≤◌, ◌↔◌, max, Bool, true, false, cond, if◌then◌else◌, nat_lt, ◌==◌, ◌||◌, List, [], ◌∷◌, ◌++◌, map, find, count_by, length, drop, slice_index_or, All, Contains, Option, Some, None, IsSome, is_some, refl, sym, ap, ap₂, subst, ◌∙◌, ⊎_elim, arith}
-use Rattle.std.specs.List.{list_any}
+use Rattle.std.proofs.Common.{◌≡◌, ℕ, zero, suc, ◌+◌, ◌-◌, ◌*◌, ◌/◌, ◌<◌, ◌≤◌, ◌↔◌, Bool, true, false, cond, if◌then◌else◌, nat_lt, ◌==◌, ◌||◌, List, [], ◌∷◌, ◌++◌, map, find, count_by, length, drop, slice_index_or, All, Option, Some, None, IsSome, is_some, refl, sym, ap, ap₂, subst, ◌∙◌, ⊎_elim, arith}
 use Rattle.std.proofs.Math.Seq.{drop-cons}
-use Rattle.std.proofs.lemmas.Bool.{cases_Bool, eqb-true, eq-eqb, ne_eqb, lt-ltb, le-ltb, true≢false}
+use Rattle.std.proofs.lemmas.Bool.{eq-eqb, ne_eqb, lt-ltb, le-ltb}
 use Rattle.std.proofs.lemmas.List.{length-map, get_or-map}
 use Rattle.std.proofs.lemmas.List.Elements.{Contains-append_cases}
 use Rattle.std.proofs.lemmas.List.Sums.{sum_by-cons}
-use Rattle.lc_algebra.specs.declared.FieldName.{FieldName}
-use Rattle.lc_algebra.specs.declared.FieldName.TheVariants.{Gf2, Gf3}
 use Rattle.lc_algebra.specs.Span.{below}
 use Rattle.lc_algebra.specs.Matrix.{Matrix, AreIndependentColumns}
-use Rattle.lc_algebra.specs.Divisor.{possible_divisors, weight_divisor, divisor_of, rounded}
-use Rattle.lc_algebra.proofs.DivisorLaws.{no_member, divisor_positive, divisor_is as greatest_divisor}
+use Rattle.lc_algebra.specs.Divisor.{possible_divisors, weight_divisor, divisor_of}
+use Rattle.lc_algebra.proofs.DivisorLaws.{no_member, divisor_positive, divisor_is as greatest_divisor, divisors_small, rounded_made}
 use Rattle.lc_algebra.proofs.SpanLaws.{contains_cases, same_span_symmetric}
-use Rattle.lc_algebra.proofs.SpanSearch.{any_contains}
 use Rattle.lc_algebra.proofs.ColumnLaws.{independent_columns_shared}
+use Rattle.lc_algebra.proofs.CommonLaws.{same_test, drop_whole}
 use Rattle.lc_enumeration.specs.Message.{numbers_from}
 use Rattle.lc_enumeration.specs.InformationSet.{is_member}
 use Rattle.lc_enumeration.specs.Search.{bound_sum}
-use Rattle.lc_enumeration.proofs.MemberLaws.{member_true, true_member, some_passes}
-use Rattle.lc_formats.specs.Certificate.{Certificate, SetClaim, code_length, code_dimension, is_information_set, first_dependent, least_overlap}
+use Rattle.lc_formats.specs.Certificate.{Certificate, SetClaim, code_length, is_information_set, first_dependent, least_overlap}
 use Rattle.lc_formats.specs.Shape.{IsShapedSet}
 use Rattle.lc_formats.proofs.VerdictLaws.{set_holds, set_passes}
+use Rattle.lc_matrix.proofs.DivisibleLaws.{divisor_of_rows}
 use Rattle.lc_checker.specs.Sets.{IsCodeOf}
-use Rattle.lc_checker.proofs.CodeLaws.{dimension_is}
+use Rattle.lc_checker.proofs.CheckLaws.{code_dimension_is}
+use Rattle.lc_checker.proofs.CostLaws.{numbers_last}
+use Rattle.lc_checker.proofs.WalkLaws.{numbers_more}
+use Rattle.lc_checker.proofs.HeavyLaws.{next}
 
 -- ---- members and counts
-
-pub told_member : (b : Bool) (columns : List ℕ) (c : ℕ) → b ≡ list_any (λ d. d == c) columns → b ≡ is_member columns c
-told_member b columns c e =
-    e ∙ ⊎_elim
-    (λ t. t ∙ sym (let m = any_contains (λ d. d == c) columns t in member_true columns c (subst (Contains columns) (eqb-true m.0 c m.2) m.1)))
-    (λ t. t ∙ ⊎_elim (λ u. absurd (true≢false (sym (some_passes (λ d. d == c) columns c (true_member columns c u) (eq-eqb c c refl)) ∙ t))) (λ u. sym u) (cases_Bool (is_member columns c)))
-    (cases_Bool (list_any (λ d. d == c) columns))
 
 member_cons : (x c : ℕ) (xs : List ℕ) → is_member (x ∷ xs) c ≡ (c == x) || is_member xs c
 unfolding is_member
@@ -51,9 +42,6 @@ member_cons x c xs = refl
 member_nil : (c : ℕ) → is_member [] c ≡ false
 unfolding is_member
 member_nil c = refl
-
-next : (i : ℕ) → suc i ≡ i + 1
-next i = omega arith
 
 member_more : {X : Type 0} (g : X → ℕ) (xs : List X) (i k : ℕ) (d : X) → i < length xs → is_member (map g (drop i xs)) k ≡ (k == g (slice_index_or xs i d)) || is_member (map g (drop (i + 1) xs)) k
 member_more g xs i k d l = ap (λ ys. is_member (map g ys) k) (drop-cons xs i d l) ∙ member_cons (g (slice_index_or xs i d)) k (map g (drop (suc i) xs)) ∙ ap (λ m. (k == g (slice_index_or xs i d)) || is_member (map g (drop m xs)) k) (next i)
@@ -64,14 +52,8 @@ member_some g xs i k d b l e h = sym (h ∙ member_more g xs i k d l ∙ ap (λ 
 pub member_other : {X : Type 0} (g : X → ℕ) (xs : List X) (i k : ℕ) (d : X) (b : Bool) → i < length xs → (k ≡ g (slice_index_or xs i d) → ⊥) → b ≡ is_member (map g (drop i xs)) k → b ≡ is_member (map g (drop (i + 1) xs)) k
 member_other g xs i k d b l e h = h ∙ member_more g xs i k d l ∙ ap (λ t. t || is_member (map g (drop (i + 1) xs)) k) (ne_eqb k (g (slice_index_or xs i d)) e)
 
-past : {X : Type 0} (xs : List X) (i : ℕ) → length xs ≤ i → drop i xs ≡ []
-past [] zero l = refl
-past [] (suc i) l = refl
-past (x ∷ xs) zero l = absurd (omega (arith, l))
-past (x ∷ xs) (suc i) l = past xs i (omega (arith, l))
-
 pub member_none : {X : Type 0} (g : X → ℕ) (xs : List X) (i k : ℕ) (b : Bool) → length xs ≤ i → b ≡ is_member (map g (drop i xs)) k → false ≡ b
-member_none g xs i k b l h = sym (h ∙ ap (λ ys. is_member (map g ys) k) (past xs i l) ∙ member_nil k)
+member_none g xs i k b l h = sym (h ∙ ap (λ ys. is_member (map g ys) k) (drop_whole xs i l) ∙ member_nil k)
 
 pub counted : {X Y : Type 0} (test : Y → Bool) (h : X → Y) (xs : List X) → count_by test (map h xs) ≡ count_by (λ x. test (h x)) xs
 counted test h [] = refl
@@ -79,18 +61,9 @@ counted test h (x ∷ xs) = sum_by-cons (λ y. cond (test y) 1 0) (h x) (map h x
 
 -- ---- information sets
 
-code_dimension_is : (c : Certificate) (C : Matrix) → IsCodeOf c C → code_dimension c ≡ length C.rows
-unfolding code_dimension
-code_dimension_is c C h = dimension_is c.field (code_length c) c.rows C.rows h.rows h.echelon
-
 test_false : (b : Bool) → (b ≡ true → ⊥) → false ≡ b
 test_false true h = absurd (h refl)
 test_false false h = refl
-
-same_test : (a b : Bool) → (a ≡ true → b ≡ true) → (b ≡ true → a ≡ true) → a ≡ b
-same_test true b h k = sym (h refl)
-same_test false true h k = k refl
-same_test false false h k = refl
 
 pub set_short : (c : Certificate) (C : Matrix) (basis : List ℕ) → IsCodeOf c C → (length basis ≡ length C.rows → ⊥) → false ≡ is_information_set c basis
 set_short c C basis h out = test_false (is_information_set c basis) (λ t. out ((set_holds c basis h.rows t).0 ∙ code_dimension_is c C h))
@@ -132,23 +105,14 @@ pub dependent_passed : {X : Type 0} (c : Certificate) (h : X → SetClaim) (xs :
 dependent_passed c h xs i d b o l t e q = q ∙ dependent_more c h xs i d l ∙ ap (λ z. if z then first_dependent c (i + 1 + 1) (drop (i + 1) (map h xs)) else Some (i + 1)) (sym t ∙ e)
 
 pub dependent_none : (c : Certificate) (claims : List SetClaim) (i : ℕ) (o : Option ℕ) → length claims ≤ i → o ≡ first_dependent c (i + 1) (drop i claims) → None ≡ o
-dependent_none c claims i o l q = sym (q ∙ ap (first_dependent c (i + 1)) (past claims i l) ∙ dependent_nil c (i + 1))
+dependent_none c claims i o l q = sym (q ∙ ap (first_dependent c (i + 1)) (drop_whole claims i l) ∙ dependent_nil c (i + 1))
 
 -- ---- fresh places
-
-numbers_last : (i n : ℕ) → numbers_from i (suc n) ≡ numbers_from i n ++ (i + n) ∷ []
-unfolding numbers_from
-numbers_last i zero = let e : i ≡ i + 0 = omega arith in ap (λ m. m ∷ []) e
-numbers_last i (suc n) = let e : suc i + n ≡ i + suc n = omega arith in ap (λ ms. i ∷ ms) (numbers_last (suc i) n ∙ ap (λ m. numbers_from (suc i) n ++ m ∷ []) e)
 
 below_is : (n : ℕ) → below n ≡ numbers_from 0 n
 unfolding below numbers_from
 below_is zero = refl
 below_is (suc n) = let e : n ≡ 0 + n = omega arith in ap₂ (λ xs m. xs ++ m ∷ []) (below_is n) e ∙ sym (numbers_last 0 n)
-
-numbers_more : (i m k : ℕ) → m ≡ suc k → numbers_from i m ≡ i ∷ numbers_from (i + 1) k
-unfolding numbers_from
-numbers_more i m k e = rw e (ap (λ d. i ∷ numbers_from d k) (next i))
 
 numbers_none : (i m : ℕ) → m ≡ 0 → numbers_from i m ≡ []
 unfolding numbers_from
@@ -190,31 +154,15 @@ bound_more g h xs i k s v whole d l e q =
     omega (arith, e, q, parts)
 
 pub bound_end : {X : Type 0} (g h : X → ℕ) (xs : List X) (i k s whole : ℕ) → length xs ≤ i → s + bound_sum k (map g (drop i xs)) (map h (drop i xs)) ≡ whole → s ≡ whole
-bound_end g h xs i k s whole l q = omega (arith, q, ap (λ ys. bound_sum k (map g ys) (map h ys)) (past xs i l) ∙ bound_nil k)
-
-each_small : (f : FieldName) (d : ℕ) → Contains (possible_divisors f) d → d ≤ 4
-unfolding possible_divisors
-each_small Gf2 d l = ⊎_elim (λ e. omega (arith, e)) (λ m. ⊎_elim (λ e. omega (arith, e)) (λ o. absurd (no_member d o)) (contains_cases 2 d [] m)) (contains_cases 4 d (2 ∷ []) l)
-each_small Gf3 d l = ⊎_elim (λ e. omega (arith, e)) (λ o. absurd (no_member d o)) (contains_cases 3 d [] l)
-each_small _ d l = absurd (no_member d l)
-
-divisor_is : (C : Matrix) → divisor_of C ≡ weight_divisor C.field C.columns C.rows
-unfolding divisor_of
-divisor_is C = refl
+bound_end g h xs i k s whole l q = omega (arith, q, ap (λ ys. bound_sum k (map g ys) (map h ys)) (drop_whole xs i l) ∙ bound_nil k)
 
 pub divisor_some : (C : Matrix) (d : ℕ) → d ≡ divisor_of C → 1 ≤ d
-divisor_some C d e = omega (arith, e, divisor_is C, divisor_positive C.field C.columns C.rows)
+divisor_some C d e = omega (arith, e, divisor_of_rows C, divisor_positive C.field C.columns C.rows)
 
 pub divisor_small : (C : Matrix) (d : ℕ) → d ≡ divisor_of C → d ≤ 4
 divisor_small C d e =
     let w = weight_divisor C.field C.columns C.rows in
-    let small : w ≤ 4 = ⊎_elim (λ l. each_small C.field w l) (λ l. ⊎_elim (λ e. omega (arith, e)) (λ o. absurd (no_member w o)) (contains_cases 1 w [] l)) (Contains-append_cases (possible_divisors C.field) (1 ∷ []) w (greatest_divisor C.field C.columns C.rows).possible) in
-    omega (arith, e, divisor_is C, small)
-
-pub rounded_made : (d s t r : ℕ) → s ≡ t → r ≡ (max s 1 + (d - 1)) / d * d → r ≡ rounded d (max 1 t)
-unfolding rounded
-rounded_made d s t r e q =
-    let same : max s 1 ≡ max 1 t = omega (arith, e) in
-    q ∙ ap (λ m. (m + (d - 1)) / d * d) same
+    let small : w ≤ 4 = ⊎_elim (λ l. divisors_small C.field w l) (λ l. ⊎_elim (λ e. omega (arith, e)) (λ o. absurd (no_member w o)) (contains_cases 1 w [] l)) (Contains-append_cases (possible_divisors C.field) (1 ∷ []) w (greatest_divisor C.field C.columns C.rows).possible) in
+    omega (arith, e, divisor_of_rows C, small)
 
 pub ruleset claimed_sum_laws = (divisor_some, divisor_small, rounded_made)

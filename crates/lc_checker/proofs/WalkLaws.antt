@@ -20,9 +20,11 @@ use Rattle.lc_algebra.specs.Word.{IsWord, zero_word, word_sum, scale}
 use Rattle.lc_algebra.specs.Matrix.{Matrix}
 use Rattle.lc_algebra.proofs.WordLaws.{IsWord_zero, IsWord_sum, length_scale}
 use Rattle.lc_enumeration.specs.Message.{supports_from, numbers_from}
-use Rattle.lc_place.proofs.Supports.{length-supports, choose_none}
+use Rattle.lc_enumeration.proofs.ChooseLaws.{choose_none}
+use Rattle.lc_place.proofs.Supports.{length-supports}
 use Rattle.lc_formats.specs.Certificate.{is_lighter}
 use Rattle.lc_checker.specs.Walk.{row_of, words_along, multiples_from, support_words, words_over, level_words, words_from, found, AreSums}
+use Rattle.lc_checker.proofs.HeavyLaws.{next}
 
 pub flat_map_same : {X Y : Type 0} (g h : X → List Y) (xs : List X) → ((x : X) → g x ≡ h x) → flat_map g xs ≡ flat_map h xs
 flat_map_same g h [] e = refl
@@ -50,7 +52,7 @@ found_one : (test : List ℕ → Bool) (w : List ℕ) → found (test w) w ≡ f
 unfolding found
 found_one test w = refl
 
-words_none : (f : FieldName) (rows : List (List ℕ)) (a : List ℕ) → words_along f rows a [] ≡ a ∷ []
+pub words_none : (f : FieldName) (rows : List (List ℕ)) (a : List ℕ) → words_along f rows a [] ≡ a ∷ []
 unfolding words_along
 words_none f rows a = refl
 
@@ -68,13 +70,10 @@ words_start : (f : FieldName) (rows : List (List ℕ)) (a s : List ℕ) (p : ℕ
 unfolding words_along multiples_from
 words_start f rows a s p = refl
 
-next : (d : ℕ) → suc d ≡ d + 1
-next d = omega arith
-
 pub along_first : (f : FieldName) (rows : List (List ℕ)) (d depth : ℕ) (a s : List ℕ) → depth < length s → find (is_lighter d) (words_along f rows a (drop depth s)) ≡ find (is_lighter d) (multiples_from f rows a (slice_index s depth) (drop (depth + 1) s) 1)
 along_first f rows d depth a s l = ap (find (is_lighter d)) (ap (words_along f rows a) (drop-cons s depth 0 l) ∙ words_start f rows a (drop (suc depth) s) (slice_index s depth) ∙ ap (λ m. multiples_from f rows a (slice_index s depth) (drop m s) 1) (next depth))
 
-numbers_more : (c m k : ℕ) → m ≡ suc k → numbers_from c m ≡ c ∷ numbers_from (c + 1) k
+pub numbers_more : (c m k : ℕ) → m ≡ suc k → numbers_from c m ≡ c ∷ numbers_from (c + 1) k
 unfolding numbers_from
 numbers_more c m k e = rw e (ap (λ d. c ∷ numbers_from d k) (next c))
 

@@ -9,11 +9,12 @@
 --   read_ranged              what was read is in range
 use Rattle.std.proofs.Common.{◌≡◌, ℕ, suc, zero, ◌-◌, ◌^◌, ◌<◌, ◌≤◌, ◌==◌, ◌&&◌, ◌||◌, Bool, true, false, not, nat_le, List, [], ◌∷◌, ◌++◌, length, get_or, take, drop, codes, Option, Some, None, option_map, option_and_then, refl, sym, ap, ◌∙◌, arith}
 use Rattle.std.specs.Prelude.{if◌then◌else◌, Result, Ok, Err, IfOk}
-use Rattle.std.proofs.lemmas.Bool.{le-leb, lt-leb, and_from}
+use Rattle.std.proofs.lemmas.Bool.{le-leb, lt-leb, and_from, and_right}
 use Rattle.sha2.specs.Sha256.{sha256}
 use Rattle.hex.specs.Hex.{encode_lower}
 use Rattle.serde_json.specs.Data.{Data, null, boolean, number, string, array, object, Members}
 use Rattle.serde_json.specs.Find.{get_member, as_str}
+use Rattle.lc_algebra.proofs.CommonLaws.{and_regrouped}
 use Rattle.lc_enumeration.specs.Records.{Progress}
 use Rattle.lc_formats.specs.Text.{same_bytes}
 use Rattle.lc_formats.specs.Json.{number_at, provided, member_count, json_in}
@@ -26,14 +27,6 @@ use Rattle.lc_checkpoint.specs.declared.refusal.CheckpointRefusal.{CheckpointRef
 use Rattle.lc_checkpoint.specs.Seen.{settled_of, point_of}
 use Rattle.lc_checkpoint.specs.Reading.{current_from, current_in}
 
-none_of : (a b : Bool) → b ≡ false → (a && b) ≡ false
-none_of true b e = e
-none_of false b e = refl
-
-both_of : (a b c : Bool) → (a && (b && c)) ≡ ((a && b) && c)
-both_of true b c = refl
-both_of false b c = refl
-
 and_yes : (a : Bool) → (a && true) ≡ a
 and_yes true = refl
 and_yes false = refl
@@ -44,7 +37,7 @@ whole_short bytes l = ap (λ b. b && (nat_le (length bytes) 4194304 && same_byte
 
 pub whole_long : (bytes : List ℕ) → 4194304 < length bytes → is_whole bytes ≡ false
 unfolding is_whole
-whole_long bytes l = none_of (nat_le 65 (length bytes)) (nat_le (length bytes) 4194304 && same_bytes bytes (sealed (drop 65 bytes))) (ap (λ b. b && same_bytes bytes (sealed (drop 65 bytes))) (lt-leb (length bytes) 4194304 l))
+whole_long bytes l = and_right (nat_le 65 (length bytes)) (nat_le (length bytes) 4194304 && same_bytes bytes (sealed (drop 65 bytes))) (ap (λ b. b && same_bytes bytes (sealed (drop 65 bytes))) (lt-leb (length bytes) 4194304 l))
 
 split_same : (ds xs : List ℕ) (n : ℕ) → length ds ≡ n → n < length xs → same_bytes xs (ds ++ 10 ∷ drop (suc n) xs) ≡ (same_bytes (take n xs) ds && (get_or xs n 0 == 10))
 unfolding same_bytes
@@ -53,7 +46,7 @@ split_same [] (x ∷ xs) zero e l = ap (λ b. (x == 10) && b) (same_itself xs) �
 split_same [] (x ∷ xs) (suc n) e l = absurd (omega (arith, e))
 split_same (d ∷ ds) [] n e l = absurd (omega (arith, l))
 split_same (d ∷ ds) (x ∷ xs) zero e l = absurd (omega (arith, e))
-split_same (d ∷ ds) (x ∷ xs) (suc n) e l = ap (λ b. (x == d) && b) (split_same ds xs n (omega (arith, e)) (omega (arith, l))) ∙ both_of (x == d) (same_bytes (take n xs) ds) (get_or xs n 0 == 10)
+split_same (d ∷ ds) (x ∷ xs) (suc n) e l = ap (λ b. (x == d) && b) (split_same ds xs n (omega (arith, e)) (omega (arith, l))) ∙ and_regrouped (x == d) (same_bytes (take n xs) ds) (get_or xs n 0 == 10)
 
 pub whole_test : (bytes seal : List ℕ) → 65 ≤ length bytes → length bytes ≤ 4194304 → seal ≡ encode_lower (sha256 (drop 65 bytes)) → is_whole bytes ≡ (same_bytes (take 64 bytes) seal && (get_or bytes 64 0 == 10))
 unfolding is_whole sealed
@@ -79,7 +72,7 @@ ranged_low low high n o h l = ap (number_up_to low high) (sym h) ∙ ap (λ b. i
 
 pub ranged_high : (low high n : ℕ) (o : Option ℕ) → Some n ≡ o → high < n → number_up_to low high o ≡ None
 unfolding number_up_to provided
-ranged_high low high n o h l = ap (number_up_to low high) (sym h) ∙ ap (λ b. if b then Some n else None) (none_of (nat_le low n) (nat_le n high) (lt-leb n high l))
+ranged_high low high n o h l = ap (number_up_to low high) (sym h) ∙ ap (λ b. if b then Some n else None) (and_right (nat_le low n) (nat_le n high) (lt-leb n high l))
 
 pub ranged_nowhere : (low high : ℕ) (o : Option ℕ) → None ≡ o → number_up_to low high o ≡ None
 unfolding number_up_to provided

@@ -3,7 +3,7 @@
 use Rattle.std.proofs.Common.{◌≡◌, ◌≢◌, ℕ, ◌==◌, ◌&&◌, true, false, List, length, Some, None, Result, Ok, Err, is_err, refl, sym, ap, ◌∙◌, ⊎_elim, arith}
 use Rattle.std.specs.Prelude.{if◌then◌else◌, MatchResult}
 use Rattle.std.specs.Result.{result_ok}
-use Rattle.std.proofs.lemmas.Bool.{cases_eq, eq-eqb, false≢true}
+use Rattle.std.proofs.lemmas.Bool.{cases_eq, eq-eqb, false≢true, ne_eqb}
 use Rattle.hex.specs.declared.error.FromHexError.{FromHexError}
 use Rattle.hex.specs.Hex.{encode_lower, decode_of, decode_sized}
 use Rattle.hex.proofs.HexLemmas.{decode_of-ok, decode_sized-ok, decode_sized-twice}
@@ -16,14 +16,11 @@ ok_is : (r : Result (List ℕ) FromHexError) (bytes : List ℕ) → result_ok r 
 ok_is (Ok x) bytes e = ap Ok (cc e)
 ok_is (Err x) bytes e = absurd cc
 
-not_equal : (m n : ℕ) → m ≢ n → (m == n) ≡ false
-not_equal m n h = grind arith
-
 same_test : (s : List ℕ) (bytes : List ℕ) → length bytes ≡ 32 → ((length bytes == 32) && same_bytes s (encode_lower bytes)) ≡ same_bytes s (encode_lower bytes)
 same_test s bytes l = ap (λ b. b && same_bytes s (encode_lower bytes)) (eq-eqb (length bytes) 32 l)
 
 other_test : (s : List ℕ) (bytes : List ℕ) → length bytes ≢ 32 → ((length bytes == 32) && same_bytes s (encode_lower bytes)) ≡ false
-other_test s bytes l = ap (λ b. b && same_bytes s (encode_lower bytes)) (not_equal (length bytes) 32 l)
+other_test s bytes l = ap (λ b. b && same_bytes s (encode_lower bytes)) (ne_eqb (length bytes) 32 l)
 
 none_sized : (s : List ℕ) → length s ≢ 64 → (r : Result (List ℕ) FromHexError) → decode_sized s 32 ≡ r → result_ok r ≡ None
 none_sized s h (Ok bytes) e = absurd (h (decode_sized-ok s 32 bytes e))

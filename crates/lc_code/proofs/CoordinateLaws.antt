@@ -1,5 +1,4 @@
 -- The words of an alternant form are those that have dot 0 with the expanded checks.
---   value_word_sum, value_multiple, value_zeros      values of sums, multiples and zeros
 --   gathered_value         the value of a combination of rows is the sum of the values of the rows
 --   elements_again         elements that are made of their coordinates
 --   check_elements         the entries of a check row are elements
@@ -16,19 +15,19 @@ use Rattle.lc_algebra.specs.declared.FieldName.{FieldName}
 use Rattle.lc_algebra.specs.Field.{shape_of, size, is_symbol, add, mul, pow}
 use Rattle.lc_algebra.specs.Polynomial.{value_at}
 use Rattle.lc_algebra.specs.Embedding.{IsSubfield, embed}
-use Rattle.lc_algebra.specs.Word.{Fits, IsWord, zero_word, word_sum, scale, word_dot}
+use Rattle.lc_algebra.specs.Word.{Fits, IsWord, zero_word, scale, word_dot}
 use Rattle.lc_algebra.specs.Span.{below, combine}
 use Rattle.lc_algebra.specs.Matrix.{Matrix, AreRows, IsOrthogonal, column}
 use Rattle.lc_algebra.proofs.ResidueLaws.{length-digits}
-use Rattle.lc_algebra.proofs.FieldLaws.{zero_inside, zero_add, mul_zero, mul_add, mul_swap, mul_inside}
-use Rattle.lc_algebra.proofs.EmbeddingLaws.{embed_zero}
-use Rattle.lc_algebra.proofs.WordLaws.{fits_head, fits_tail, fits_cons, length_scale, length_zero_word, zero_from_weight, weight_at_most_length, IsWord_zero, IsWord_sum, index_zero_word, same_words, add_exchange, dot_comm}
-use Rattle.lc_algebra.proofs.SpanLaws.{length_combine, length_below}
+use Rattle.lc_algebra.proofs.FieldLaws.{mul_inside}
+use Rattle.lc_algebra.proofs.WordLaws.{fits_head, fits_tail, fits_cons, length_scale, length_zero_word, zero_from_weight, weight_at_most_length, index_zero_word, same_words, dot_comm}
+use Rattle.lc_algebra.proofs.SpanLaws.{length_below, combine_is_word}
 use Rattle.lc_algebra.proofs.ReducedLaws.{index_combine}
 use Rattle.lc_matrix.proofs.PlaceLaws.{index_below}
 use Rattle.lc_constructions.specs.Code.{IsCode, CheckedBy}
 use Rattle.lc_constructions.specs.Alternant.{AlternantForm, IsForm, check_row, syndrome_at, IsAlternantWord}
 use Rattle.lc_constructions.proofs.AlternantLaws.{embedded_sum, embedded_scale, embedded_length, light_alternant, syndrome_of_zero}
+use Rattle.lc_constructions.proofs.ClosedLaws.{value_of_sum, value_of_zeros, value_of_multiple}
 use Rattle.lc_code.specs.Coordinates.{relative_degree, coordinates, element_of, IsNumbering, coordinate_row, expanded_rows, AreExpandedChecks, IsEnough}
 use Rattle.lc_code.proofs.CoordinateTests.{fits_digits, zero_coordinates}
 use Rattle.lc_code.proofs.CodeLaws.{same_code}
@@ -57,47 +56,21 @@ all_told P g n h m k =
     let l : m < length (map g (below n)) = omega (arith, k, length-map (below n) g, length_below n) in
     subst P (get_or-map g (below n) m 0 [] (omega (arith, k, length_below n)) ∙ ap g (index_below n m k)) (h m [] l)
 
-value_word_sum : (K : FieldName) (x : ℕ) (u v : List ℕ) → length u ≡ length v → value_at K (word_sum K u v) x ≡ add K (value_at K u x) (value_at K v x)
-unfolding value_at word_sum
-value_word_sum K x [] [] e = sym (zero_add K 0 (zero_inside K))
-value_word_sum K x [] (b ∷ v) e = absurd (omega (arith, e))
-value_word_sum K x (a ∷ u) [] e = absurd (omega (arith, e))
-value_word_sum K x (a ∷ u) (b ∷ v) e =
-    cc (value_word_sum K x u v (omega (arith, e)), mul_add K x (value_at K u x) (value_at K v x), add_exchange K a b (mul K x (value_at K u x)) (mul K x (value_at K v x)))
-
-value_multiple : (K : FieldName) (x c : ℕ) (u : List ℕ) → value_at K (scale K c u) x ≡ mul K c (value_at K u x)
-unfolding value_at scale
-value_multiple K x c [] = sym (mul_zero K c)
-value_multiple K x c (a ∷ u) =
-    cc (value_multiple K x c u, mul_swap K x c (value_at K u x), mul_add K c a (mul K x (value_at K u x)))
-
-value_zeros : (f K : FieldName) (x n : ℕ) → IsSubfield f K → value_at K (map (embed f K) (zero_word n)) x ≡ 0
-unfolding value_at
-value_zeros f K x zero s = refl
-value_zeros f K x (suc n) s = cc (value_zeros f K x n s, embed_zero f K s, mul_zero K x, zero_add K 0 (zero_inside K))
-
-combined_word : (f : FieldName) (n : ℕ) (z : List ℕ) (rows : List (List ℕ)) → AreRows f n rows → IsWord f n (combine f n z rows)
-unfolding combine
-combined_word f n [] rows r = IsWord_zero f n
-combined_word f n (c ∷ z) [] r = IsWord_zero f n
-combined_word f n (c ∷ z) (g ∷ rows) r =
-    IsWord_sum f n (scale f c g) (combine f n z rows) (length_scale f c g ∙ (All-head (IsWord f n) g rows r).long) (length_combine f n z rows (All-tail (IsWord f n) g rows r))
-
 gathered_value : (f K : FieldName) (n x : ℕ) (z : List ℕ) (rows : List (List ℕ)) → IsSubfield f K → AreRows f n rows → Fits f z → value_at K (map (embed f K) (combine f n z rows)) x ≡ word_dot K (map (embed f K) z) (map (λ row. value_at K (map (embed f K) row) x) rows)
 unfolding combine word_dot
-gathered_value f K n x [] rows s r h = value_zeros f K x n s
-gathered_value f K n x (c ∷ z) [] s r h = value_zeros f K x n s
+gathered_value f K n x [] rows s r h = value_of_zeros f K n x s
+gathered_value f K n x (c ∷ z) [] s r h = value_of_zeros f K n x s
 gathered_value f K n x (c ∷ z) (g ∷ rows) s r h =
     let g_word = All-head (IsWord f n) g rows r in
     let rest = All-tail (IsWord f n) g rows r in
     let v = combine f n z rows in
-    let v_word = combined_word f n z rows rest in
+    let v_word = combine_is_word f n z rows rest in
     let l = fits_head f c z h in
     let g_scaled : IsWord f n (scale f c g) = record { long = length_scale f c g ∙ g_word.long; fits = scaled_fits f c g } in
     let e : length (map (embed f K) (scale f c g)) ≡ length (map (embed f K) v) = embedded_length f K (scale f c g) ∙ g_scaled.long ∙ sym v_word.long ∙ sym (embedded_length f K v) in
     ap (λ u. value_at K u x) (embedded_sum f K (scale f c g) v s g_scaled.fits v_word.fits)
-    ∙ value_word_sum K x (map (embed f K) (scale f c g)) (map (embed f K) v) e
-    ∙ ap₂ (λ a b. add K a b) (ap (λ u. value_at K u x) (embedded_scale f K c g s l g_word.fits) ∙ value_multiple K x (embed f K c) (map (embed f K) g)) (gathered_value f K n x z rows s rest (fits_tail f c z h))
+    ∙ value_of_sum K (map (embed f K) (scale f c g)) (map (embed f K) v) x e
+    ∙ ap₂ (λ a b. add K a b) (ap (λ u. value_at K u x) (embedded_scale f K c g s l g_word.fits) ∙ value_of_multiple K (embed f K c) (map (embed f K) g) x) (gathered_value f K n x z rows s rest (fits_tail f c z h))
 
 elements_again : (f K : FieldName) (ts hs : List ℕ) → IsNumbering f K ts → Fits K hs → map (λ row. value_at K (map (embed f K) row) (shape_of K).primitive) (map (λ h. coordinates f K (slice_index ts h)) hs) ≡ hs
 unfolding element_of
@@ -126,11 +99,11 @@ coordinates_vanish f K ts hs w s t u h k =
     let rows = map (λ h. coordinates f K (slice_index ts h)) hs in
     let r = coordinate_words f K ts hs in
     let v = combine f n w rows in
-    let vw = combined_word f n w rows r in
+    let vw = combine_is_word f n w rows r in
     let e : value_at K (map (embed f K) v) (shape_of K).primitive ≡ word_dot K (map (embed f K) w) hs = gathered_value f K n (shape_of K).primitive w rows t r k ∙ ap (λ u. word_dot K (map (embed f K) w) u) (elements_again f K ts hs u h) in
     let d : (i : ℕ) → slice_index v i ≡ word_dot f (coordinate_row f (relative_degree f K) ts i hs) w = λ i. index_combine f n w rows i r ∙ ap (λ u. word_dot f w u) (coordinate_column f K ts i hs) ∙ dot_comm f w (coordinate_row f (relative_degree f K) ts i hs) in (
       (λ z i l. sym (d i) ∙ ap (λ u. slice_index u i) (zero_coordinates f K v s t vw (e ∙ z)) ∙ index_zero_word n i),
-      (λ z. let o : v ≡ zero_word n = all_zero f n v vw (λ i l. d i ∙ z i l) in sym e ∙ ap (λ u. value_at K (map (embed f K) u) (shape_of K).primitive) o ∙ value_zeros f K (shape_of K).primitive n t),
+      (λ z. let o : v ≡ zero_word n = all_zero f n v vw (λ i l. d i ∙ z i l) in sym e ∙ ap (λ u. value_at K (map (embed f K) u) (shape_of K).primitive) o ∙ value_of_zeros f K n (shape_of K).primitive t),
     )
 
 all_split : (P : List ℕ → Type 0) (us vs : List (List ℕ)) → All P (us ++ vs) → All P us × All P vs

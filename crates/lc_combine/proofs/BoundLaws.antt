@@ -20,10 +20,10 @@ use Rattle.lc_constructions.specs.Code.{IsCode, InCode}
 use Rattle.lc_constructions.specs.Combined.{symbol_sum, without_from, without, InDual, InExtended, InPunctured, InShortened, InDirectSum, InUuv}
 use Rattle.lc_constructions.specs.Refusal.{first_refusal}
 use Rattle.lc_constructions.specs.Refusals.{deleted_refusals}
+use Rattle.lc_constructions.proofs.ClosedLaws.{symbol_sum_of_zero}
 use Rattle.lc_code.proofs.CodeLaws.{same_code}
 use Rattle.lc_combine.specs.Rows.{punctured_rows}
 use Rattle.lc_combine.proofs.GeneratedLaws.{image_span, span_image, image_rows}
-use Rattle.lc_combine.proofs.ExtendedLaws.{sum_of_zeros}
 use Rattle.lc_combine.proofs.DeletedLaws.{deleted_linear, shortened_members}
 
 pub weight_append : (u v : List ℕ) → weight (u ++ v) ≡ weight u + weight v
@@ -104,7 +104,7 @@ extended_bound C E n d r c p =
     (λ m. omega (arith, a, p u cu m))
     (λ m.
     let z : u ≡ zero_word C.columns = zero_from_weight C.columns u (span_word f C.columns C.rows u r cu).long (omega (arith, m)) in
-    let o : weight (neg f (symbol_sum f u) ∷ []) ≡ 0 = ap (λ x. weight (x ∷ [])) (ap (λ v. neg f (symbol_sum f v)) z ∙ ap (neg f) (sum_of_zeros f C.columns) ∙ neg_zero f) in
+    let o : weight (neg f (symbol_sum f u) ∷ []) ≡ 0 = ap (λ x. weight (x ∷ [])) (ap (λ v. neg f (symbol_sum f v)) z ∙ ap (neg f) (symbol_sum_of_zero f C.columns) ∙ neg_zero f) in
     absurd (omega (arith, a, o, m, l)))
     (cases_lt 0 (weight u)))
 

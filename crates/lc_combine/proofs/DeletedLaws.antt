@@ -1,5 +1,4 @@
 -- Punctured and shortened codes.
---   kept, taken            the first symbol of a word, by whether its coordinate is deleted
 --   nothing_kept, symbol_left, symbol_kept      a word without coordinates, symbol by symbol from the left
 --   deleted_linear         deleting coordinates is linear
 --   punctured_words, punctured_members, punctured_code
@@ -28,20 +27,12 @@ use Rattle.lc_constructions.specs.Combined.{InDual, without_from, without, InPun
 use Rattle.lc_constructions.specs.Refusal.{first_refusal}
 use Rattle.lc_constructions.specs.Refusals.{deleted_refusals}
 use Rattle.lc_constructions.proofs.ClosedLaws.{without_sum, without_scale, without_zero}
-use Rattle.lc_constructions.proofs.WithoutLaws.{length_without, deleted_fine, deleted_length}
+use Rattle.lc_constructions.proofs.WithoutLaws.{length_without, deleted_fine, deleted_length, kept, taken}
 use Rattle.lc_matrix.proofs.PlaceLaws.{at_place}
 use Rattle.lc_combine.specs.Rows.{punctured_rows}
 use Rattle.lc_combine.proofs.GeneratedLaws.{IsLinear, image_rows, image_span, span_image, generated_by, checked_by}
 use Rattle.lc_combine.proofs.SumLaws.{shaped}
 use Rattle.lc_combine.proofs.DualLaws.{dual_orthogonal}
-
-kept : (i : ℕ) (coordinates : List ℕ) (a : ℕ) (w : List ℕ) → list_any (λ p. i == p) coordinates ≡ false → without_from i coordinates (a ∷ w) ≡ a ∷ without_from (suc i) coordinates w
-unfolding without_from
-kept i coordinates a w e = rw e refl
-
-taken : (i : ℕ) (coordinates : List ℕ) (a : ℕ) (w : List ℕ) → list_any (λ p. i == p) coordinates ≡ true → without_from i coordinates (a ∷ w) ≡ without_from (suc i) coordinates w
-unfolding without_from
-taken i coordinates a w e = rw e refl
 
 is_one : (i : ℕ) (coordinates : List ℕ) → Contains coordinates i → list_any (λ p. i == p) coordinates ≡ true
 is_one i coordinates c = contains_any (λ p. i == p) coordinates i c (eq-eqb i i refl)

@@ -1,5 +1,5 @@
 -- The dimensions of direct sums and of the words u followed by u + v.
---   combine_append, combine_image      combinations of two lists of rows, and of images
+--   combine_image      combinations of images
 --   zero_parted            both parts of a zero word are zero
 --   independent_parts      rows are independent if a zero combination of both lists has zero coefficients
 --   sum_dimension, uuv_dimension
@@ -7,11 +7,11 @@ use Rattle.std.proofs.Common.{◌≡◌, ℕ, zero, suc, ◌+◌, ◌↔◌, Lis
 use Rattle.std.proofs.lemmas.List.{length-append, length-map, take-append-drop}
 use Rattle.std.proofs.lemmas.List.Elements.{All-head, All-tail}
 use Rattle.lc_algebra.specs.declared.FieldName.{FieldName}
-use Rattle.lc_algebra.specs.Word.{Fits, IsWord, zero_word, word_sum, scale, weight}
+use Rattle.lc_algebra.specs.Word.{IsWord, zero_word, word_sum, scale, weight}
 use Rattle.lc_algebra.specs.Span.{combine, InSpan, SameSpan, AreIndependent}
 use Rattle.lc_algebra.specs.Matrix.{Matrix, AreRows, IsReduced}
-use Rattle.lc_algebra.proofs.WordLaws.{fits_head, fits_tail, fits_cons, IsWord_scale, IsWord_sum, zero_sum, sum_assoc, weight_zero_word, zero_from_weight}
-use Rattle.lc_algebra.proofs.SpanLaws.{span_word}
+use Rattle.lc_algebra.proofs.WordLaws.{IsWord_scale, IsWord_sum, zero_sum, weight_zero_word, zero_from_weight, fits_take, fits_drop}
+use Rattle.lc_algebra.proofs.SpanLaws.{span_word, combine_append, combine_is_word}
 use Rattle.lc_algebra.proofs.ReducedLaws.{reduced_independent}
 use Rattle.lc_algebra.proofs.DimensionLaws.{dimension_unique}
 use Rattle.lc_constructions.specs.Code.{IsCode}
@@ -20,17 +20,8 @@ use Rattle.lc_constructions.proofs.ClosedLaws.{zero_parts}
 use Rattle.lc_combine.specs.Rows.{left_rows, right_rows, twice_rows, direct_sum_rows, uuv_rows}
 use Rattle.lc_combine.proofs.GeneratedLaws.{IsLinear}
 use Rattle.lc_combine.proofs.SumLaws.{left_linear, right_linear, twice_linear, both, added, over, direct_sum_words, direct_sum_members, uuv_words, uuv_members}
-use Rattle.lc_combine.proofs.ReplacedLaws.{combine_word}
 use Rattle.lc_combine.proofs.DualLaws.{all_right}
 use Rattle.lc_combine.proofs.BoundLaws.{weight_append}
-
-pub combine_append : (f : FieldName) (n : ℕ) (cs bs : List ℕ) (xs ys : List (List ℕ)) → length cs ≡ length xs → AreRows f n ys → combine f n (cs ++ bs) (xs ++ ys) ≡ word_sum f (combine f n cs xs) (combine f n bs ys)
-unfolding combine
-combine_append f n [] bs [] ys e r = sym (zero_sum f n (combine f n bs ys) (combine_word f n bs ys r))
-combine_append f n [] bs (x ∷ xs) ys e r = absurd (omega (arith, e))
-combine_append f n (a ∷ cs) bs [] ys e r = absurd (omega (arith, e))
-combine_append f n (a ∷ cs) bs (x ∷ xs) ys e r =
-    ap (word_sum f (scale f a x)) (combine_append f n cs bs xs ys (omega (arith, e)) r) ∙ sym (sum_assoc f (scale f a x) (combine f n cs xs) (combine f n bs ys))
 
 pub combine_image : (f : FieldName) (n m : ℕ) (h : List ℕ → List ℕ) (cs : List ℕ) (rows : List (List ℕ)) → IsLinear f n m h → AreRows f n rows → combine f m cs (map h rows) ≡ h (combine f n cs rows)
 unfolding combine
@@ -40,22 +31,12 @@ combine_image f n m h (a ∷ cs) [] s r = sym s.zero
 combine_image f n m h (a ∷ cs) (g ∷ rows) s r =
     let w = All-head (IsWord f n) g rows r in
     let t = All-tail (IsWord f n) g rows r in
-    ap₂ (word_sum f) (sym (s.multiples a g w)) (combine_image f n m h cs rows s t) ∙ sym (s.sums (scale f a g) (combine f n cs rows) (IsWord_scale f n a g w.long) (combine_word f n cs rows t))
+    ap₂ (word_sum f) (sym (s.multiples a g w)) (combine_image f n m h cs rows s t) ∙ sym (s.sums (scale f a g) (combine f n cs rows) (IsWord_scale f n a g w.long) (combine_is_word f n cs rows t))
 
 pub zero_parted : (n m : ℕ) (u v : List ℕ) → length u ≡ n → length v ≡ m → u ++ v ≡ zero_word (n + m) → (u ≡ zero_word n) × (v ≡ zero_word m)
 zero_parted n m u v a b e =
     let w : weight u + weight v ≡ 0 = sym (weight_append u v) ∙ ap (λ x. weight x) e ∙ weight_zero_word (n + m) in
     (zero_from_weight n u a (omega (arith, w)), zero_from_weight m v b (omega (arith, w)))
-
-pub fits_take : (f : FieldName) (k : ℕ) (u : List ℕ) → Fits f u → Fits f (take k u)
-fits_take f zero u h = λ i l. absurd (omega (arith, l))
-fits_take f (suc k) [] h = h
-fits_take f (suc k) (a ∷ u) h = fits_cons f a (take k u) (fits_head f a u h) (fits_take f k u (fits_tail f a u h))
-
-pub fits_drop : (f : FieldName) (k : ℕ) (u : List ℕ) → Fits f u → Fits f (drop k u)
-fits_drop f zero u h = h
-fits_drop f (suc k) [] h = h
-fits_drop f (suc k) (a ∷ u) h = fits_drop f k u (fits_tail f a u h)
 
 pub length_taken : (k l : ℕ) (u : List ℕ) → length u ≡ k + l → (length (take k u) ≡ k) × (length (drop k u) ≡ l)
 length_taken zero l u e = (refl, omega (arith, e))
@@ -95,8 +76,8 @@ sum_dimension C D E k r p s q c =
     let free : AreIndependent f (n + m) (direct_sum_rows C D) = independent_parts f (n + m) (left_rows m C.rows) (right_rows n D.rows) (all_right (IsWord f (n + m)) (left_rows m C.rows) (right_rows n D.rows) words) (λ cs bs wa wb z.
     let u = combine f n cs C.rows in
     let v = combine f m bs D.rows in
-    let wu = combine_word f n cs C.rows r in
-    let wv = combine_word f m bs D.rows t in
+    let wu = combine_is_word f n cs C.rows r in
+    let wv = combine_is_word f m bs D.rows t in
     let both_zero = zero_parted n m u v wu.long wv.long (sym (both f n m u v wu wv) ∙ sym (ap₂ (word_sum f) (combine_image f n (n + m) left cs C.rows (left_linear f n m) r) (combine_image f m (n + m) right bs D.rows (right_linear f n m) t)) ∙ z) in
     let x = reduced_independent f n C.rows r p cs (subst (λ i. IsWord f i cs) a wa) both_zero.0 in
     let y = reduced_independent f m D.rows t q bs (subst (λ i. IsWord f i bs) b wb) both_zero.1 in
@@ -118,8 +99,8 @@ uuv_dimension C D E k h r p s q c0 =
     let free : AreIndependent f (n + n) (uuv_rows C D) = independent_parts f (n + n) (twice_rows C.rows) (right_rows n D.rows) (all_right (IsWord f (n + n)) (twice_rows C.rows) (right_rows n D.rows) words) (λ cs bs wa wb z.
     let u = combine f n cs C.rows in
     let v = combine f n bs D.rows in
-    let wu = combine_word f n cs C.rows r in
-    let wv = combine_word f n bs D.rows t in
+    let wu = combine_is_word f n cs C.rows r in
+    let wv = combine_is_word f n bs D.rows t in
     let long : length (word_sum f u v) ≡ n = (IsWord_sum f n u v wu.long wv.long).long in
     let both_zero = zero_parted n n u (word_sum f u v) wu.long long (sym (added f n u v wu wv) ∙ sym (ap₂ (word_sum f) (combine_image f n (n + n) twice cs C.rows (twice_linear f n) r) (combine_image f n (n + n) right bs D.rows (right_linear f n n) t)) ∙ z) in
     let zero_v : v ≡ zero_word n = sym (ap (λ x. word_sum f x v) both_zero.0 ∙ zero_sum f n v wv) ∙ both_zero.1 in

@@ -3,20 +3,20 @@
 --   extended_linear        extending is linear
 --   extended_words         extended rows are words
 --   extended_members, extended_code      their words are the extended words
-use Rattle.std.proofs.Common.{◌≡◌, ℕ, zero, suc, ◌+◌, ◌<◌, ◌↔◌, List, [], ◌∷◌, ◌++◌, length, drop, slice_index, refl, sym, ap, subst, ◌∙◌, arith, add-one}
+use Rattle.std.proofs.Common.{◌≡◌, ℕ, zero, ◌+◌, ◌<◌, ◌↔◌, List, [], ◌∷◌, ◌++◌, length, drop, slice_index, refl, sym, ap, subst, ◌∙◌, arith, add-one}
 use Rattle.std.proofs.lemmas.List.{drop_all}
 use Rattle.std.proofs.Math.Seq.{drop-cons}
 use Rattle.lc_algebra.specs.declared.FieldName.{FieldName}
-use Rattle.lc_algebra.specs.Field.{size, add, neg, mul}
+use Rattle.lc_algebra.specs.Field.{size, add, neg}
 use Rattle.lc_algebra.specs.Word.{IsWord, zero_word, word_sum, scale}
 use Rattle.lc_algebra.specs.Span.{InSpan}
 use Rattle.lc_algebra.specs.Matrix.{Matrix, AreRows}
-use Rattle.lc_algebra.proofs.FieldLaws.{zero_inside, neg_inside, add_inside, zero_add, add_zero, add_assoc, neg_zero, mul_neg}
+use Rattle.lc_algebra.proofs.FieldLaws.{zero_inside, neg_inside, add_inside, zero_add, add_zero, add_assoc, neg_zero}
 use Rattle.lc_algebra.proofs.WordLaws.{fits_cons}
 use Rattle.lc_constructions.specs.Code.{IsCode}
 use Rattle.lc_constructions.specs.Basic.{GeneratedBy}
 use Rattle.lc_constructions.specs.Combined.{symbol_sum, InExtended}
-use Rattle.lc_constructions.proofs.ClosedLaws.{sum_parts, scale_parts, zero_parts, symbol_sum_of_sum, symbol_sum_of_multiple, neg_of_sum}
+use Rattle.lc_constructions.proofs.ClosedLaws.{sum_parts, scale_parts, zero_parts, last_sum, last_scale, symbol_sum_of_zero}
 use Rattle.lc_combine.specs.Rows.{extended_rows}
 use Rattle.lc_combine.proofs.GeneratedLaws.{IsLinear, image_rows, image_span, span_image, generated_by}
 use Rattle.lc_combine.proofs.SumLaws.{word_append, shaped}
@@ -49,31 +49,12 @@ last f u = neg f (symbol_sum f u) ∷ []
 pub one_symbol : (f : FieldName) (a : ℕ) → a < size f → IsWord f 1 (a ∷ [])
 one_symbol f a l = record { long = refl; fits = fits_cons f a [] l (λ i m. absurd (omega (arith, m))) }
 
-one_sum : (f : FieldName) (a b : ℕ) → word_sum f (a ∷ []) (b ∷ []) ≡ add f a b ∷ []
-unfolding word_sum
-one_sum f a b = refl
-
-one_multiple : (f : FieldName) (c a : ℕ) → scale f c (a ∷ []) ≡ mul f c a ∷ []
-unfolding scale
-one_multiple f c a = refl
-
-pub sum_of_zeros : (f : FieldName) (n : ℕ) → symbol_sum f (zero_word n) ≡ 0
-unfolding symbol_sum
-sum_of_zeros f zero = refl
-sum_of_zeros f (suc n) = ap (add f 0) (sum_of_zeros f n) ∙ zero_add f 0 (zero_inside f)
-
-last_sum : (f : FieldName) (u v : List ℕ) → length u ≡ length v → word_sum f (last f u) (last f v) ≡ last f (word_sum f u v)
-last_sum f u v e = one_sum f (neg f (symbol_sum f u)) (neg f (symbol_sum f v)) ∙ ap (λ x. x ∷ []) (sym (ap (neg f) (symbol_sum_of_sum f u v e) ∙ neg_of_sum f (symbol_sum f u) (symbol_sum f v)))
-
-last_multiple : (f : FieldName) (c : ℕ) (u : List ℕ) → scale f c (last f u) ≡ last f (scale f c u)
-last_multiple f c u = one_multiple f c (neg f (symbol_sum f u)) ∙ ap (λ x. x ∷ []) (mul_neg f c (symbol_sum f u) ∙ sym (ap (neg f) (symbol_sum_of_multiple f c u)))
-
 pub extended_linear : (f : FieldName) (n : ℕ) → IsLinear f n (n + 1) (λ u. u ++ neg f (symbol_sum f u) ∷ [])
 extended_linear f n = record {
   word = λ u a. word_append f n 1 u (last f u) a (one_symbol f (neg f (symbol_sum f u)) (neg_inside f (symbol_sum f u)));
-  zero = ap (λ x. zero_word n ++ x ∷ []) (ap (neg f) (sum_of_zeros f n) ∙ neg_zero f) ∙ zero_parts n 1;
+  zero = ap (λ x. zero_word n ++ x ∷ []) (ap (neg f) (symbol_sum_of_zero f n) ∙ neg_zero f) ∙ zero_parts n 1;
   sums = λ u v a b. sym (sum_parts f u v (last f u) (last f v) (a.long ∙ sym b.long) ∙ ap (λ t. word_sum f u v ++ t) (last_sum f u v (a.long ∙ sym b.long)));
-  multiples = λ c u a. sym (scale_parts f c u (last f u) ∙ ap (λ t. scale f c u ++ t) (last_multiple f c u));
+  multiples = λ c u a. sym (scale_parts f c u (last f u) ∙ ap (λ t. scale f c u ++ t) (last_scale f c u));
 }
 
 pub extended_words : (C : Matrix) (g : FieldName) (k : ℕ) (rows : List (List ℕ)) → g ≡ C.field → k ≡ C.columns + 1 → AreRows C.field C.columns C.rows → rows ≡ extended_rows C.field C.rows → AreRows g k rows

@@ -30,8 +30,8 @@ use Rattle.lc_constructions.specs.Refusal.{refuse_if, first_refusal}
 use Rattle.lc_constructions.specs.Refusals.{degree_over, nested_refusals, concatenated_refusals}
 use Rattle.lc_constructions.proofs.ExpansionLaws.{expansion_exists}
 use Rattle.lc_combine.proofs.ReplacedLaws.{subfield_of_degree, power_of_degree}
-use Rattle.lc_combine.proofs.ConcatenatedLaws.{IsNested, replaced_word_once, replaced_is_word, row_word, zeros}
-use Rattle.lc_constructions.proofs.ClosedLaws.{replaced_zero}
+use Rattle.lc_combine.proofs.ConcatenatedLaws.{IsNested, replaced_word_once, replaced_is_word, row_word}
+use Rattle.lc_constructions.proofs.ClosedLaws.{replaced_zero, word_zero_replaced}
 use Rattle.lc_combine.proofs.BoundLaws.{weight_append, bound_of_words}
 
 parts_same : (u v x y : List ℕ) → length u ≡ length v → u ++ x ≡ v ++ y → (u ≡ v) × (x ≡ y)
@@ -108,7 +108,7 @@ concatenated_bound C D E n d e s q r o f c x y =
     (λ k.
     let word = span_word C.field C.columns C.rows u q cu in
     let z : u ≡ zero_word C.columns = zero_from_weight C.columns u word.long (omega (arith, k)) in
-    let v : w ≡ zero_word (C.columns * D.columns) = replaced_word_once C D u w (zero_word (C.columns * D.columns)) nested p (subst (λ i. IsReplacedWord C D i (zero_word (C.columns * D.columns))) (sym z) (zeros C D C.columns (subfield_of_degree D.field C.field (length D.rows) nested.1) r)) in
+    let v : w ≡ zero_word (C.columns * D.columns) = replaced_word_once C D u w (zero_word (C.columns * D.columns)) nested p (subst (λ i. IsReplacedWord C D i (zero_word (C.columns * D.columns))) (sym z) (word_zero_replaced C D C.columns (subfield_of_degree D.field C.field (length D.rows) nested.1) r)) in
     absurd (omega (arith, l, ap (λ i. weight i) v, weight_zero_word (C.columns * D.columns))))
     (cases_lt 0 (weight u)))
 

@@ -1,23 +1,20 @@
 -- When concatenated codes are refused.
---   small_field            a symbol field has at most 16 elements
 --   power_first, power_next, power_most, none_more      its powers up to the eighth, one by one
 --   degree_found, degree_at, degree_none      the exponent that the loop finds
 --   no_power, other_dimension, nested_too_long, nested_fine      the first refusal
 use Rattle.std.proofs.Common.{◌≡◌, ◌≢◌, ℕ, zero, suc, ◌+◌, ◌-◌, ◌*◌, ◌^◌, ◌<◌, ◌≤◌, Bool, true, false, ◌==◌, List, [], ◌∷◌, length, Some, None, refl, sym, ap, ◌∙◌, ⊎_elim, arith}
-use Rattle.std.specs.Prelude.{IsTrue, find}
+use Rattle.std.specs.Prelude.{find}
 use Rattle.std.proofs.Math.Nat.{pow-suc, pow-zero, mul-le-mul, pow-le-pow_left, pow-le-pow_right}
-use Rattle.std.proofs.lemmas.Bool.{cases_eq, eq-eqb, ne_eqb, leb-true}
-use Rattle.lc_algebra.specs.declared.FieldName.{FieldName}
-use Rattle.lc_algebra.specs.Field.{size, is_symbol}
+use Rattle.std.proofs.lemmas.Bool.{cases_eq, eq-eqb, ne_eqb}
+use Rattle.lc_algebra.specs.Field.{size}
 use Rattle.lc_algebra.specs.Matrix.{Matrix}
+use Rattle.lc_algebra.proofs.CommonLaws.{find_here, find_later}
 use Rattle.lc_constructions.specs.declared.refusal.CodeRefusal.TheVariants.{BadLength, FieldsDiffer, InnerDimension}
 use Rattle.lc_constructions.specs.Refusal.{refuse_if, first_refusal}
 use Rattle.lc_constructions.specs.Refusals.{bad_length, degree_over, nested_refusals, concatenated_refusals}
-use Rattle.lc_combine.proofs.RefusalLaws.{long_length, short_length}
-
-pub small_field : (f : FieldName) → IsTrue (is_symbol f) → size f ≤ 16
-unfolding is_symbol
-small_field f s = leb-true (size f) 16 s
+use Rattle.lc_constructions.proofs.RefusalLaws.{long_length}
+use Rattle.lc_code.proofs.CoordinateSteps.{small_size}
+use Rattle.lc_combine.proofs.RefusalLaws.{short_length}
 
 pub power_first : (q : ℕ) → 1 ≡ q ^ (1 - 1)
 power_first q = sym (pow-zero q)
@@ -49,25 +46,19 @@ unfoldable from : ℕ → ℕ → List ℕ
 from k zero = []
 from k (suc n) = k ∷ from (suc k) n
 
-head_found : (p : ℕ → Bool) (x : ℕ) (xs : List ℕ) → p x ≡ true → find p (x ∷ xs) ≡ Some x
-head_found p x xs e = rw e refl
-
-head_passed : (p : ℕ → Bool) (x : ℕ) (xs : List ℕ) → p x ≡ false → find p (x ∷ xs) ≡ find p xs
-head_passed p x xs e = rw e refl
-
 find_from : (p : ℕ → Bool) (k n s : ℕ) → k ≤ s → s < k + n → p s ≡ true → ((j : ℕ) → k ≤ j → j < s → p j ≡ false) → find p (from k n) ≡ Some s
 unfolding from
 find_from p k zero s a b e h = absurd (omega (arith, a, b))
 find_from p k (suc n) s a b e h =
     ⊎_elim
-    (λ q. head_found p k (from (suc k) n) (ap p q ∙ e) ∙ ap (λ x. Some x) q)
-    (λ q. head_passed p k (from (suc k) n) (h k (omega arith) (omega (arith, a, q))) ∙ find_from p (suc k) n s (omega (arith, a, q)) (omega (arith, b)) e (λ j x y. h j (omega (arith, x)) y))
+    (λ q. find_here p k (from (suc k) n) (ap p q ∙ e) ∙ ap (λ x. Some x) q)
+    (λ q. find_later p k (from (suc k) n) (h k (omega arith) (omega (arith, a, q))) ∙ find_from p (suc k) n s (omega (arith, a, q)) (omega (arith, b)) e (λ j x y. h j (omega (arith, x)) y))
     (cases_eq k s)
 
 find_none : (p : ℕ → Bool) (k n : ℕ) → ((j : ℕ) → k ≤ j → j < k + n → p j ≡ false) → find p (from k n) ≡ None
 unfolding from
 find_none p k zero h = refl
-find_none p k (suc n) h = head_passed p k (from (suc k) n) (h k (omega arith) (omega arith)) ∙ find_none p (suc k) n (λ j x y. h j (omega (arith, x)) (omega (arith, y)))
+find_none p k (suc n) h = find_later p k (from (suc k) n) (h k (omega arith) (omega arith)) ∙ find_none p (suc k) n (λ j x y. h j (omega (arith, x)) (omega (arith, y)))
 
 degrees : (q Q : ℕ) → degree_over q Q ≡ find (λ s. q ^ s == Q) (from 1 8)
 unfolding degree_over from
@@ -103,6 +94,8 @@ nested_too_long C D s e d l = nested C D s e ∙ (rw (eq-eqb (length D.rows) s d
 pub nested_fine : (C D : Matrix) (s : ℕ) → degree_over (size D.field) (size C.field) ≡ Some s → length D.rows ≡ s → 1 ≤ C.columns * D.columns → C.columns * D.columns ≤ 255 → first_refusal (concatenated_refusals C D) ≡ None
 unfolding first_refusal refuse_if bad_length nested_refusals
 nested_fine C D s e d a l = nested C D s e ∙ (rw (eq-eqb (length D.rows) s d, short_length (C.columns * D.columns) a l) refl)
+
+pub ruleset check_concatenated_laws = (no_power, small_size)
 
 pub ruleset check_nested_laws = (other_dimension, nested_too_long, nested_fine)
 

@@ -20,18 +20,18 @@ use Rattle.lc_algebra.specs.Word.{IsWord, zero_word, word_sum, scale, weight, wo
 use Rattle.lc_algebra.specs.Span.{combine, InSpan, SameSpan, AreIndependent, IsWeightBound}
 use Rattle.lc_algebra.specs.Matrix.{Matrix, AreRows, IsReduced, column}
 use Rattle.lc_algebra.proofs.FieldLaws.{zero_mul}
-use Rattle.lc_algebra.proofs.WordLaws.{IsWord_zero, IsWord_sum, length_scale, index_scale, index_zero_word, index_word_sum, same_words, dot_comm, weight_zero_head, weight_other_head, zero_from_weight}
-use Rattle.lc_algebra.proofs.SpanLaws.{span_within, combination_of_word, word_of_combination, length_flat_map_even}
+use Rattle.lc_algebra.proofs.WordLaws.{IsWord_zero, IsWord_sum, length_scale, index_scale, index_zero_word, index_word_sum, same_words, dot_comm, weight_zero_head, weight_other_head, zero_from_weight, dot_cons, fits_take, fits_drop}
+use Rattle.lc_algebra.proofs.SpanLaws.{span_within, combination_of_word, word_of_combination, length_flat_map_even, combine_append, combine_is_word}
 use Rattle.lc_algebra.proofs.ColumnLaws.{column_word}
 use Rattle.lc_algebra.proofs.ReducedLaws.{index_combine, reduced_independent}
 use Rattle.lc_algebra.proofs.DimensionLaws.{dimension_unique}
 use Rattle.lc_constructions.specs.Code.{IsCode}
 use Rattle.lc_constructions.specs.Combined.{tensor, InDirectProduct}
 use Rattle.lc_constructions.proofs.ClosedLaws.{zero_parts}
-use Rattle.lc_combine.proofs.ReplacedLaws.{combine_word}
-use Rattle.lc_combine.proofs.ProductLaws.{sized, tensor_right, pairs_rows, product_members, over}
+use Rattle.lc_combine.proofs.ProductLaws.{sized, tensor_right, pairs_rows, product_members}
 use Rattle.lc_combine.proofs.BoundLaws.{weight_append, bound_of_words}
-use Rattle.lc_combine.proofs.DimensionLaws.{combine_append, combine_image, length_taken, fits_take, fits_drop, same_rows}
+use Rattle.lc_combine.proofs.DimensionLaws.{combine_image, length_taken, same_rows}
+use Rattle.lc_combine.proofs.SumLaws.{over}
 
 abbrev pairs : FieldName → List (List ℕ) → List (List ℕ) → List (List ℕ)
 pairs f gs hs = flat_map (λ u. map (tensor f u) hs) gs
@@ -66,10 +66,6 @@ unfolding word_dot
 dot_none f [] = (refl, refl)
 dot_none f (a ∷ us) = (refl, refl)
 
-dot_more : (f : FieldName) (a b : ℕ) (us vs : List ℕ) → word_dot f (a ∷ us) (b ∷ vs) ≡ add f (mul f a b) (word_dot f us vs)
-unfolding word_dot
-dot_more f a b us vs = refl
-
 index_tensors : (f : FieldName) (n m : ℕ) (gs vs : List (List ℕ)) (p q : ℕ) → AreRows f n gs → AreRows f m vs → q < m → slice_index (tensors f (n * m) gs vs) (p * m + q) ≡ word_dot f (column gs p) (column vs q)
 unfolding tensors
 index_tensors f n m [] vs p q r s l = index_zero_word (n * m) (p * m + q) ∙ sym (dot_none f (column vs q)).0
@@ -79,7 +75,7 @@ index_tensors f n m (g ∷ gs) (v ∷ vs) p q r s l =
     let rv = All-tail (IsWord f m) v vs s in
     let long = (All-head (IsWord f m) v vs s).long in
     let same : length (tensor f g v) ≡ length (tensors f (n * m) gs vs) = (sized f n m g v (All-head (IsWord f n) g gs r).long long).long ∙ sym (tensors_word f n m gs vs rg rv).long in
-    index_word_sum f (tensor f g v) (tensors f (n * m) gs vs) (p * m + q) same ∙ ap₂ (add f) (index_tensor f m g v p q long l) (index_tensors f n m gs vs p q rg rv l) ∙ sym (dot_more f (slice_index g p) (slice_index v q) (column gs p) (column vs q))
+    index_word_sum f (tensor f g v) (tensors f (n * m) gs vs) (p * m + q) same ∙ ap₂ (add f) (index_tensor f m g v p q long l) (index_tensors f n m gs vs p q rg rv l) ∙ sym (dot_cons f (slice_index g p) (slice_index v q) (column gs p) (column vs q))
 
 -- ---- combinations of products of rows
 
@@ -98,7 +94,7 @@ length_parts f m k (g ∷ gs) hs cs = ap suc (length_parts f m k gs hs (drop k c
 parts_words : (f : FieldName) (m : ℕ) (hs xs : List (List ℕ)) → AreRows f m hs → AreRows f m (parts f m hs xs)
 unfolding parts
 parts_words f m hs [] r = λ k d l. absurd (omega (arith, l))
-parts_words f m hs (x ∷ xs) r = All-cons (IsWord f m) (combine f m x hs) (map (λ c. combine f m c hs) xs) (combine_word f m x hs r) (parts_words f m hs xs r)
+parts_words f m hs (x ∷ xs) r = All-cons (IsWord f m) (combine f m x hs) (map (λ c. combine f m c hs) xs) (combine_is_word f m x hs r) (parts_words f m hs xs r)
 
 split : (k n : ℕ) → suc n * k ≡ k + n * k
 split k n = omega (arith, suc-mul n k)
@@ -200,16 +196,16 @@ product_bound C D E k d e x r s c y z =
     let at : i ≡ i / m * m + q = omega (arith, mod-add-div i m, mul_comm m (i / m)) in
     let cs : IsWord f (length gs) (column vs q) = subst (λ j. IsWord f j (column vs q)) long (column_word f m vs q words) in
     let u = combine f n (column vs q) gs in
-    let word : IsWord f n u = combine_word f n (column vs q) gs r in
+    let word : IsWord f n u = combine_is_word f n (column vs q) gs r in
     let told : (p : ℕ) → slice_index u p ≡ slice_index w (p * m + q) = λ p. index_combine f n (column vs q) gs p r ∙ dot_comm f (column vs q) (column gs p) ∙ sym (symbol p q below) in
     let heavy : d ≤ weight u = y u (word_of_combination f n gs (column vs q) cs) (some_weight u (i / m) (omega (arith, nonzero, told (i / m), ap (slice_index w) at))) in
     let parts_heavy : (p : ℕ) → p < length u → 0 < slice_index u p → e ≤ weight (block m p w) = λ p b c.
     let bs : IsWord f (length vs) (column gs p) = subst (λ j. IsWord f j (column gs p)) (sym long) (column_word f n gs p r) in
     let v = combine f m (column gs p) vs in
-    let equal : v ≡ block m p w = same_words v (block m p w) ((combine_word f m (column gs p) vs words).long ∙ sym (length_block m n w p whole (omega (arith, b, word.long)))) (λ j.
+    let equal : v ≡ block m p w = same_words v (block m p w) ((combine_is_word f m (column gs p) vs words).long ∙ sym (length_block m n w p whole (omega (arith, b, word.long)))) (λ j.
     ⊎_elim
     (λ o. index_combine f m (column gs p) vs j words ∙ sym (symbol p j o) ∙ sym (index_block m p w j o))
-    (λ o. get_or_past v j 0 (omega (arith, o, (combine_word f m (column gs p) vs words).long)) ∙ sym (get_or_past (block m p w) j 0 (omega (arith, o, length_block m n w p whole (omega (arith, b, word.long))))))
+    (λ o. get_or_past v j 0 (omega (arith, o, (combine_is_word f m (column gs p) vs words).long)) ∙ sym (get_or_past (block m p w) j 0 (omega (arith, o, length_block m n w p whole (omega (arith, b, word.long))))))
     (cases_lt j m)) in
     let there : InSpan f m D.rows v = span_within f m vs D.rows v t each (word_of_combination f m vs (column gs p) bs) in
     let positive_block : 0 < weight (block m p w) = some_weight (block m p w) q (omega (arith, c, told p, index_block m p w q below)) in
@@ -257,7 +253,7 @@ product_independent f n m gs hs r s free others cs c z =
     let zero_column : (q : ℕ) → q < m → column vs q ≡ zero_word (length vs) = λ q l.
     let bs : IsWord f (length gs) (column vs q) = subst (λ i. IsWord f i (column vs q)) long (column_word f m vs q words) in
     let u = combine f n (column vs q) gs in
-    let e : u ≡ zero_word n = same_words u (zero_word n) ((combine_word f n (column vs q) gs r).long ∙ sym (IsWord_zero f n).long) (λ p.
+    let e : u ≡ zero_word n = same_words u (zero_word n) ((combine_is_word f n (column vs q) gs r).long ∙ sym (IsWord_zero f n).long) (λ p.
     index_combine f n (column vs q) gs p r ∙ dot_comm f (column vs q) (column gs p) ∙ sym (index_tensors f n m gs vs p q r words l) ∙ ap (λ i. slice_index i (p * m + q)) nothing ∙ index_zero_word N (p * m + q) ∙ sym (index_zero_word n p)) in
     free (column vs q) bs e ∙ ap (λ i. zero_word i) (sym long) in
     zero_chunks f m k gs hs cs refl others word (columns_zero f m vs words zero_column) ∙ ap (λ i. zero_word i) (sym (length_pairs f gs hs))

@@ -1,17 +1,15 @@
 -- The first refusal of each combinator.
---   same_field                     fields of one size are one field
 --   extended_too_long, extended_fine                          extended codes
---   deleted_bad, deleted_good, deleted_count, rising_all, rising_not      punctured and shortened codes
+--   deleted_bad, deleted_good, deleted_count      punctured and shortened codes
 --   even_not_binary, even_binary      words of even weight
 --   common_of_fields, common_of_lengths, common_fine      words of both codes
 --   product_least, product_most, product_of_fields, product_too_long, product_fine      direct products
 --   sum_of_fields, sum_too_long, sum_fine                     direct sums
 --   uuv_of_fields, uuv_of_lengths, uuv_too_long, uuv_fine     the words u followed by u + v
-use Rattle.std.proofs.Common.{◌≡◌, ◌≢◌, ℕ, zero, suc, ◌+◌, ◌*◌, ◌-◌, ◌<◌, ◌≤◌, true, false, not, ◌==◌, nat_le, nat_lt, ◌||◌, List, [], ◌∷◌, length, slice_index, Contains, Some, None, refl, sym, subst, ◌∙◌, ⊎_elim, arith, true≢false}
+use Rattle.std.proofs.Common.{◌≡◌, ◌≢◌, ℕ, zero, suc, ◌+◌, ◌*◌, ◌-◌, ◌<◌, ◌≤◌, true, false, not, ◌==◌, nat_le, ◌||◌, List, [], ◌∷◌, length, Contains, Some, None, refl, sym, ◌∙◌, ⊎_elim, arith, true≢false}
 use Rattle.std.specs.List.{list_any}
 use Rattle.std.proofs.Math.Nat.{suc-mul, mul-le-mul}
-use Rattle.std.proofs.lemmas.Bool.{cases_Bool, cases_eq, cases_lt, and_parts, and_from, or_parts, eq-eqb, ne_eqb, le-leb, lt-ltb, ltb-true}
-use Rattle.lc_algebra.specs.declared.FieldName.{FieldName}
+use Rattle.std.proofs.lemmas.Bool.{cases_eq, cases_lt, or_parts, eq-eqb, ne_eqb, le-leb}
 use Rattle.lc_algebra.specs.Field.{size}
 use Rattle.lc_algebra.specs.Matrix.{Matrix}
 use Rattle.lc_algebra.specs.Word.{zero_word}
@@ -23,13 +21,7 @@ use Rattle.lc_constructions.specs.declared.refusal.CodeRefusal.TheVariants.{BadL
 use Rattle.lc_constructions.specs.Code.{is_length}
 use Rattle.lc_constructions.specs.Refusal.{refuse_if, first_refusal}
 use Rattle.lc_constructions.specs.Refusals.{bad_length, bad_argument, fields_differ, lengths_differ, is_rising, extended_refusals, deleted_refusals, even_weight_refusals, direct_sum_refusals, uuv_refusals, direct_product_refusals, intersection_refusals}
-
-pub same_field : (f g : FieldName) → size f ≡ size g → f ≡ g
-same_field f g e = told_by_size f g e
-
-pub long_length : (n : ℕ) → 255 < n → is_length n ≡ false
-unfolding is_length
-long_length n l = grind (arith, l)
+use Rattle.lc_constructions.proofs.RefusalLaws.{long_length}
 
 pub short_length : (n : ℕ) → 1 ≤ n → n ≤ 255 → is_length n ≡ true
 unfolding is_length
@@ -59,35 +51,6 @@ deleted_count C coordinates e =
     let high : (q : ℕ) → Contains coordinates q → q < 0 + length (zero_word n) = λ q c. ⊎_elim (λ l. omega (arith, l, length_zero_word n)) (λ l. absurd (true≢false (sym (contains_any (nat_le n) coordinates q c (le-leb n q l)) ∙ t.1))) (cases_lt q n) in
     let most = length_without_from 0 coordinates (zero_word n) t.0 (λ q c. omega arith) high in
     ⊎_elim (λ k. absurd (true≢false (sym (eq-eqb (length coordinates) n k) ∙ o))) (λ k. omega (arith, k, most, length_zero_word n)) (cases_eq (length coordinates) n)
-
-later : (a : ℕ) (xs : List ℕ) (j : ℕ) → 0 < j → slice_index (a ∷ xs) j < slice_index (a ∷ xs) (suc j) → slice_index xs (j - 1) < slice_index xs j
-later a xs zero l h = absurd (omega (arith, l))
-later a xs (suc j) l h = let e : suc j - 1 ≡ j = omega arith in rw e h
-
-rising_at : (xs : List ℕ) → is_rising xs ≡ true → (j : ℕ) → 0 < j → j < length xs → slice_index xs (j - 1) < slice_index xs j
-unfolding is_rising
-rising_at [] r j l m = absurd (omega (arith, m))
-rising_at (a ∷ []) r j l m = absurd (omega (arith, l, m))
-rising_at (a ∷ b ∷ xs) r zero l m = absurd (omega (arith, l))
-rising_at (a ∷ b ∷ xs) r (suc zero) l m = ltb-true a b (and_parts (nat_lt a b) (is_rising (b ∷ xs)) r).0
-rising_at (a ∷ b ∷ xs) r (suc (suc j)) l m =
-    let t = rising_at (b ∷ xs) (and_parts (nat_lt a b) (is_rising (b ∷ xs)) r).1 (suc j) (omega arith) (omega (arith, m)) in
-    let e : suc j - 1 ≡ j = omega arith in
-    let d : suc (suc j) - 1 ≡ suc j = omega arith in
-    rw d (subst (λ k. slice_index (b ∷ xs) k < slice_index (b ∷ xs) (suc j)) e t)
-
-pub rising_all : (xs : List ℕ) → ((j : ℕ) → 0 < j → j < length xs → slice_index xs (j - 1) < slice_index xs j) → is_rising xs ≡ true
-unfolding is_rising
-rising_all [] h = refl
-rising_all (a ∷ []) h = refl
-rising_all (a ∷ b ∷ xs) h = and_from (nat_lt a b) (is_rising (b ∷ xs)) (lt-ltb a b (h 1 (omega arith) (omega arith))) (rising_all (b ∷ xs) (λ j l m. later a (b ∷ xs) j l (let e : suc j - 1 ≡ j = omega arith in subst (λ k. slice_index (a ∷ b ∷ xs) k < slice_index (a ∷ b ∷ xs) (suc j)) e (h (suc j) (omega arith) (omega (arith, m))))))
-
-pub rising_not : (xs : List ℕ) (i : ℕ) → 0 < i → i < length xs → slice_index xs i ≤ slice_index xs (i - 1) → is_rising xs ≡ false
-rising_not xs i l m k =
-    ⊎_elim
-    (λ t. absurd (omega (arith, k, rising_at xs t i l m)))
-    (λ t. t)
-    (cases_Bool (is_rising xs))
 
 pub even_not_binary : (C : Matrix) → size C.field ≢ 2 → first_refusal (even_weight_refusals C) ≡ Some (BadArgument 1)
 unfolding first_refusal refuse_if bad_argument even_weight_refusals
@@ -160,16 +123,14 @@ pub ruleset check_extended_laws = (extended_too_long, extended_fine)
 
 pub ruleset check_even_weight_laws = (two_elements, even_not_binary, even_binary)
 
-pub ruleset check_direct_product_laws = (same_field, product_of_fields, product_too_long, product_fine, product_least)
+pub ruleset check_direct_product_laws = (told_by_size, product_of_fields, product_too_long, product_fine, product_least)
 
 pub ruleset product_laws = (product_least, product_most)
 
-pub ruleset check_intersection_laws = (same_field, common_of_fields, common_of_lengths, common_fine)
+pub ruleset check_intersection_laws = (told_by_size, common_of_fields, common_of_lengths, common_fine)
 
 pub ruleset check_deleted_laws = (deleted_bad, deleted_good, deleted_count)
 
-pub ruleset is_rising_laws = (rising_all, rising_not)
+pub ruleset check_direct_sum_laws = (told_by_size, sum_of_fields, sum_too_long, sum_fine)
 
-pub ruleset check_direct_sum_laws = (same_field, sum_of_fields, sum_too_long, sum_fine)
-
-pub ruleset check_uuv_laws = (same_field, uuv_of_fields, uuv_of_lengths, uuv_too_long, uuv_fine)
+pub ruleset check_uuv_laws = (told_by_size, uuv_of_fields, uuv_of_lengths, uuv_too_long, uuv_fine)

@@ -7,14 +7,13 @@
 --   word_none, word_more, word_whole      a word with each symbol replaced, from the left
 --   power_none, power_more      the multiples by the powers of the primitive element
 --   multiples_none, multiples_more, rows_none, rows_more, rows_whole      the words that are replaced, one by one
-use Rattle.std.proofs.Common.{◌≡◌, ◌≢◌, ℕ, suc, ◌+◌, ◌-◌, ◌/◌, ◌%◌, ◌^◌, ◌<◌, ◌≤◌, Bool, true, false, not, ◌==◌, ◌||◌, List, [], ◌∷◌, ◌++◌, map, length, take, drop, slice_index, slice_index_or, Option, Some, None, is_some, refl, sym, ap, subst, ◌∙◌, ⊎_elim, arith, add-one, true≢false}
+use Rattle.std.proofs.Common.{◌≡◌, ◌≢◌, ℕ, suc, ◌+◌, ◌-◌, ◌/◌, ◌%◌, ◌^◌, ◌<◌, ◌≤◌, Bool, true, not, ◌==◌, ◌||◌, List, [], ◌∷◌, ◌++◌, map, length, take, drop, slice_index, slice_index_or, Option, Some, None, is_some, refl, sym, ap, subst, ◌∙◌, ⊎_elim, arith, add-one, true≢false}
 use Rattle.std.specs.Prelude.{IsTrue, find}
 use Rattle.std.specs.List.{list_all}
 use Rattle.std.proofs.Math.Seq.{take-suc, drop-cons}
 use Rattle.std.proofs.lemmas.Bool.{cases_Bool, eqb-true}
 use Rattle.std.proofs.lemmas.List.{append-nil, append_assoc, map-append, take_all, drop_all}
 use Rattle.std.proofs.lemmas.Grind.{flat_map-append}
-use Rattle.std.proofs.lemmas.List.Elements.{All-head, All-tail}
 use Rattle.lc_algebra.specs.declared.FieldName.{FieldName}
 use Rattle.lc_algebra.specs.Residue.{digits, number}
 use Rattle.lc_algebra.specs.Field.{shape, shape_of, size, is_symbol, pow}
@@ -24,9 +23,11 @@ use Rattle.lc_algebra.specs.Word.{Fits, IsWord, zero_word, word_sum, scale}
 use Rattle.lc_algebra.specs.Span.{below, combine}
 use Rattle.lc_algebra.specs.Matrix.{Matrix, AreRows}
 use Rattle.lc_algebra.proofs.FieldLaws.{zero_inside, pow_zero, pow_suc}
-use Rattle.lc_algebra.proofs.WordLaws.{fits_head, fits_tail, fits_cons, IsWord_zero, IsWord_scale, IsWord_sum, one_scale, scale_scale, zero_sum, sum_zero, sum_assoc}
+use Rattle.lc_algebra.proofs.WordLaws.{fits_cons, IsWord_zero, IsWord_scale, IsWord_sum, one_scale, scale_scale, zero_sum, sum_zero, sum_assoc, residues_fit}
 use Rattle.lc_algebra.proofs.ResidueLaws.{Residues, length-digits, residues_digits, digits-number, number_below}
 use Rattle.lc_algebra.proofs.EmbeddingLaws.{decides_subfield}
+use Rattle.lc_algebra.proofs.CommonLaws.{find_here, find_later}
+use Rattle.lc_algebra.proofs.SpanLaws.{combine_is_word, combine_none as combine_end}
 use Rattle.lc_constructions.specs.Cyclic.{all_fields}
 use Rattle.lc_constructions.specs.Refusals.{degree_over}
 use Rattle.lc_constructions.specs.Concatenated.{IsExpansion, IsReplaced, IsReplacedWord}
@@ -34,10 +35,6 @@ use Rattle.lc_constructions.proofs.LocatorLaws.{each_field}
 use Rattle.lc_constructions.proofs.ExpansionLaws.{passes, expansion_exists}
 use Rattle.lc_code.proofs.CoordinateSteps.{digit_inside, element_none, element_step}
 use Rattle.lc_combine.specs.Replaced.{power_multiples, outer_rows, AreReplaced}
-
-residues_of : (f : FieldName) (u : List ℕ) → Fits f u → Residues (size f) u
-residues_of f [] h = tt
-residues_of f (a ∷ u) h = (fits_head f a u h, residues_of f u (fits_tail f a u h))
 
 fits_of : (f : FieldName) (u : List ℕ) → Residues (size f) u → Fits f u
 fits_of f [] h = λ i l. absurd (omega (arith, l))
@@ -62,18 +59,12 @@ subfield_of_degree f K s e =
     let h : (not (is_some (degree_over (size f) (size K))) || is_subfield f K) ≡ true = passes (subfield_test K) all_fields f (passes (λ K. list_all (subfield_test K) all_fields) all_fields K all_subfields (each_field K)) (each_field f) in
     (decides_subfield f K).0 (tested (degree_over (size f) (size K)) s (is_subfield f K) e h)
 
-here : (p : ℕ → Bool) (x : ℕ) (xs : List ℕ) → p x ≡ true → find p (x ∷ xs) ≡ Some x
-here p x xs e = rw e refl
-
-later : (p : ℕ → Bool) (x : ℕ) (xs : List ℕ) → p x ≡ false → find p (x ∷ xs) ≡ find p xs
-later p x xs e = rw e refl
-
 found_passes : (p : ℕ → Bool) (xs : List ℕ) (s : ℕ) → find p xs ≡ Some s → p s ≡ true
 found_passes p [] s e = absurd (true≢false (sym (ap is_some e)))
 found_passes p (x ∷ xs) s e =
     ⊎_elim
-    (λ t. let k : x ≡ s = cc (sym (here p x xs t) ∙ e) in subst (λ y. p y ≡ true) k t)
-    (λ t. found_passes p xs s (sym (later p x xs t) ∙ e))
+    (λ t. let k : x ≡ s = cc (sym (find_here p x xs t) ∙ e) in subst (λ y. p y ≡ true) k t)
+    (λ t. found_passes p xs s (sym (find_later p x xs t) ∙ e))
     (cases_Bool (p x))
 
 pub power_of_degree : (q Q s : ℕ) → degree_over q Q ≡ Some s → q ^ s ≡ Q
@@ -84,25 +75,16 @@ pub expansion_found : (f K : FieldName) (s a : ℕ) → degree_over (size f) (si
 expansion_found f K s a e t l n =
     let (cs, w, h) = expansion_exists f K s a t e l in
     let y = number (size f) cs in
-    let k : digits (size f) s y ≡ cs = subst (λ m. digits (size f) m y ≡ cs) w.long (digits-number (size f) cs (residues_of f cs w.fits)) in
-    let b : y < size K = subst (λ m. y < m) (power_of_degree (size f) (size K) s e) (subst (λ m. y < size f ^ m) w.long (number_below (size f) cs (residues_of f cs w.fits))) in
+    let k : digits (size f) s y ≡ cs = subst (λ m. digits (size f) m y ≡ cs) w.long (digits-number (size f) cs (residues_fit f cs w.fits)) in
+    let b : y < size K = subst (λ m. y < m) (power_of_degree (size f) (size K) s e) (subst (λ m. y < size f ^ m) w.long (number_below (size f) cs (residues_fit f cs w.fits))) in
     n y b (ap (λ u. value_at K (map (embed f K) u) (shape_of K).primitive) k ∙ sym h)
 
 -- ---- the sum of the multiples of the rows
 
-pub combine_word : (f : FieldName) (n : ℕ) (cs : List ℕ) (rows : List (List ℕ)) → AreRows f n rows → IsWord f n (combine f n cs rows)
-unfolding combine
-combine_word f n [] rows r = IsWord_zero f n
-combine_word f n (c ∷ cs) [] r = IsWord_zero f n
-combine_word f n (c ∷ cs) (g ∷ rows) r =
-    let a = All-head (IsWord f n) g rows r in
-    let t = combine_word f n cs rows (All-tail (IsWord f n) g rows r) in
-    IsWord_sum f n (scale f c g) (combine f n cs rows) (IsWord_scale f n c g a.long).long t.long
-
 pub combine_none : (f : FieldName) (n q k x : ℕ) (u : List ℕ) (rows : List (List ℕ)) → AreRows f n rows → u ≡ zero_word n → word_sum f u (combine f n (digits q (k - 0) x) rows) ≡ combine f n (digits q k x) rows
 combine_none f n q k x u rows r e =
     let z : k - 0 ≡ k = omega arith in
-    ap (λ m. word_sum f u (combine f n (digits q m x) rows)) z ∙ ap (λ v. word_sum f v (combine f n (digits q k x) rows)) e ∙ zero_sum f n (combine f n (digits q k x) rows) (combine_word f n (digits q k x) rows r)
+    ap (λ m. word_sum f u (combine f n (digits q m x) rows)) z ∙ ap (λ v. word_sum f v (combine f n (digits q k x) rows)) e ∙ zero_sum f n (combine f n (digits q k x) rows) (combine_is_word f n (digits q k x) rows r)
 
 pub zero_is_word : (f : FieldName) (n : ℕ) (u : List ℕ) → u ≡ zero_word n → IsWord f n u
 zero_is_word f n u e = subst (IsWord f n) (sym e) (IsWord_zero f n)
@@ -126,10 +108,6 @@ combine_next f g n q t x u new row rows whole a b l r e h =
 pub combine_word_next : (f g : FieldName) (n c : ℕ) (u new row : List ℕ) → g ≡ f → IsWord f n u → IsWord f n row → new ≡ word_sum g u (scale g c row) → IsWord f n new
 combine_word_next f g n c u new row a w r e =
     subst (IsWord f n) (sym (e ∙ ap (λ y. word_sum y u (scale y c row)) a)) (IsWord_sum f n u (scale f c row) w.long (IsWord_scale f n c row r.long).long)
-
-combine_end : (f : FieldName) (n : ℕ) (rows : List (List ℕ)) → combine f n [] rows ≡ zero_word n
-unfolding combine
-combine_end f n rows = refl
 
 no_digits : (q x : ℕ) → digits q 0 x ≡ []
 unfolding digits

@@ -3,19 +3,18 @@
 --   even_checks, even_members, even_code
 --   common_checks, common_members, common_code
 use Rattle.std.proofs.Common.{◌≡◌, ℕ, zero, suc, ◌+◌, ◌%◌, ◌<◌, ◌↔◌, List, [], ◌∷◌, ◌++◌, length, replicate, refl, sym, ap, subst, ◌∙◌, arith}
-use Rattle.std.proofs.lemmas.List.{length-replicate}
 use Rattle.std.proofs.lemmas.List.Elements.{All-append, All-head, All-cons}
 use Rattle.lc_algebra.specs.declared.FieldName.{FieldName}
 use Rattle.lc_algebra.specs.declared.FieldName.TheVariants.{Gf2}
-use Rattle.lc_algebra.specs.Residue.{digits, number, plus}
-use Rattle.lc_algebra.specs.Field.{shape, shape_of, coefficients, add}
+use Rattle.lc_algebra.specs.Field.{add}
 use Rattle.lc_algebra.specs.Word.{Fits, IsWord, weight, word_dot}
 use Rattle.lc_algebra.specs.Matrix.{Matrix, AreRows, IsReduced, IsOrthogonal}
-use Rattle.lc_algebra.proofs.FieldLaws.{one_inside, one_mul}
+use Rattle.lc_algebra.proofs.FieldLaws.{one_mul}
 use Rattle.lc_algebra.proofs.EmbeddingTests.{size_two}
-use Rattle.lc_algebra.proofs.WordLaws.{fits_head, fits_tail, fits_cons, weight_zero_head, weight_other_head}
+use Rattle.lc_algebra.proofs.WordLaws.{fits_head, fits_tail, weight_zero_head, weight_other_head, ones_word}
 use Rattle.lc_constructions.specs.Code.{IsCode, CheckedBy}
 use Rattle.lc_constructions.specs.Combined.{InDual, InEvenWeight, InIntersection}
+use Rattle.lc_constructions.proofs.ClosedLaws.{sum_of_bits}
 use Rattle.lc_combine.proofs.GeneratedLaws.{rows_append, checked_by}
 use Rattle.lc_combine.proofs.SumLaws.{shaped}
 use Rattle.lc_combine.proofs.DualLaws.{dual_orthogonal, all_left, all_right}
@@ -24,17 +23,6 @@ use Rattle.lc_combine.proofs.DualLaws.{dual_orthogonal, all_left, all_right}
 
 abbrev ones : ℕ → List ℕ
 ones n = replicate n 1
-
-ones_fit : (f : FieldName) (n : ℕ) → Fits f (ones n)
-ones_fit f zero = λ i l. absurd (omega (arith, l))
-ones_fit f (suc n) = fits_cons f 1 (ones n) (one_inside f) (ones_fit f n)
-
-ones_word : (f : FieldName) (n : ℕ) → IsWord f n (ones n)
-ones_word f n = record { long = length-replicate n 1; fits = ones_fit f n }
-
-sum_of_bits : (add Gf2 0 0 ≡ 0) × (add Gf2 0 1 ≡ 1) × (add Gf2 1 0 ≡ 1) × (add Gf2 1 1 ≡ 0)
-unfolding digits number plus shape shape_of coefficients add
-sum_of_bits = (refl, refl, refl, refl)
 
 bit_added : (a m : ℕ) → m < 2 → add Gf2 1 m ≡ (1 + m) % 2
 bit_added a zero l = sum_of_bits.2

@@ -108,7 +108,7 @@ fn leave(places: &[u64], n: usize) -> bool
 }
 
 // Whether each coordinate is below the next one.
-#[tactic(auto, using(crate::proofs::RefusalLaws::is_rising_laws))]
+#[tactic(auto, using(lc_constructions::proofs::RisingLaws::is_rising_laws))]
 fn is_rising(places: &[u64]) -> bool
     ensures is { result ≡ is_rising places.now }
 {
@@ -157,7 +157,7 @@ pub(crate) fn check_uuv(a: &Code, b: &Code) -> Result<(), CodeRefusal>
 }
 
 // Checks an outer and an inner code.
-#[tactic(auto, using(crate::proofs::NestedLaws::no_power, crate::proofs::NestedLaws::small_field))]
+#[tactic(auto, using(crate::proofs::NestedLaws::check_concatenated_laws))]
 pub(crate) fn check_concatenated(outer: &Code, inner: &Code) -> Result<(), CodeRefusal>
     ensures is { IsChecked result (first_refusal (concatenated_refusals outer.now inner.now)) }
     ensures degree { IfOk result (λ _. degree_over (size inner.now.field) (size outer.now.field) ≡ Some (length inner.now.rows)) }

@@ -25,6 +25,7 @@ use Rattle.lc_algebra.proofs.FieldLaws.{mul_swap, zero_inside, neg_zero, zero_ad
 use Rattle.lc_algebra.proofs.EmbeddingLaws.{embed_zero}
 use Rattle.lc_algebra.proofs.WordLaws.{IsWord_zero, IsWord_sum, IsWord_scale, scale_zero, fits_head, fits_tail, weight_zero_head, weight_other_head, weight_zero_word, zero_scale, one_scale, index_word_sum, index_scale, index_zero_word, sum_exchange, sum_assoc, zero_sum, scale_sum, dot_sum, dot_scale, dot_zero, add_exchange}
 use Rattle.lc_algebra.proofs.SpanLaws.{length_combine, combine_sum, combine_scale, span_word, span_zero, span_sum, span_scale}
+use Rattle.lc_algebra.proofs.EmbeddingTests.{size_two}
 use Rattle.lc_constructions.specs.Code.{InCode, IsClosed}
 use Rattle.lc_constructions.specs.Combined.{InDual, InIntersection, symbol_sum, InExtended, without_from, without, InPunctured, InShortened, InEvenWeight, InDirectSum, InUuv, tensor, InDirectProduct}
 use Rattle.lc_constructions.specs.Concatenated.{IsReplaced, IsReplacedWord, InConcatenated}
@@ -83,7 +84,7 @@ unfolding symbol_sum scale
 symbol_sum_of_multiple f c [] = sym (mul_zero f c)
 symbol_sum_of_multiple f c (a ∷ u) = cc (symbol_sum_of_multiple f c u, mul_add f c a (symbol_sum f u))
 
-symbol_sum_of_zero : (f : FieldName) (n : ℕ) → symbol_sum f (zero_word n) ≡ 0
+pub symbol_sum_of_zero : (f : FieldName) (n : ℕ) → symbol_sum f (zero_word n) ≡ 0
 unfolding symbol_sum
 symbol_sum_of_zero f zero = refl
 symbol_sum_of_zero f (suc n) = ap (add f 0) (symbol_sum_of_zero f n) ∙ zero_add f 0 (zero_inside f)
@@ -91,21 +92,21 @@ symbol_sum_of_zero f (suc n) = ap (add f 0) (symbol_sum_of_zero f n) ∙ zero_ad
 pub neg_of_sum : (f : FieldName) (a b : ℕ) → neg f (add f a b) ≡ add f (neg f a) (neg f b)
 neg_of_sum f a b = cc (neg_one_mul f a, neg_one_mul f b, neg_one_mul f (add f a b), mul_add f (neg f 1) a b)
 
-one_sum : (f : FieldName) (a b : ℕ) → word_sum f (a ∷ []) (b ∷ []) ≡ add f a b ∷ []
+pub one_sum : (f : FieldName) (a b : ℕ) → word_sum f (a ∷ []) (b ∷ []) ≡ add f a b ∷ []
 unfolding word_sum
 one_sum f a b = refl
 
-single_scale : (f : FieldName) (c a : ℕ) → scale f c (a ∷ []) ≡ mul f c a ∷ []
+pub single_scale : (f : FieldName) (c a : ℕ) → scale f c (a ∷ []) ≡ mul f c a ∷ []
 unfolding scale
 single_scale f c a = refl
 
 abbrev last : FieldName → List ℕ → List ℕ
 last f u = neg f (symbol_sum f u) ∷ []
 
-last_sum : (f : FieldName) (u v : List ℕ) → length u ≡ length v → word_sum f (last f u) (last f v) ≡ last f (word_sum f u v)
+pub last_sum : (f : FieldName) (u v : List ℕ) → length u ≡ length v → word_sum f (last f u) (last f v) ≡ last f (word_sum f u v)
 last_sum f u v e = one_sum f (neg f (symbol_sum f u)) (neg f (symbol_sum f v)) ∙ ap (λ x. x ∷ []) (sym (ap (neg f) (symbol_sum_of_sum f u v e) ∙ neg_of_sum f (symbol_sum f u) (symbol_sum f v)))
 
-last_scale : (f : FieldName) (c : ℕ) (u : List ℕ) → scale f c (last f u) ≡ last f (scale f c u)
+pub last_scale : (f : FieldName) (c : ℕ) (u : List ℕ) → scale f c (last f u) ≡ last f (scale f c u)
 last_scale f c u = single_scale f c (neg f (symbol_sum f u)) ∙ ap (λ x. x ∷ []) (mul_neg f c (symbol_sum f u) ∙ sym (ap (neg f) (symbol_sum_of_multiple f c u)))
 
 last_zero : (f : FieldName) (n : ℕ) → last f (zero_word n) ≡ zero_word 1
@@ -248,13 +249,9 @@ uuv_closed C D r s k h =
 
 -- ---- words of even weight
 
-sum_of_bits : (add Gf2 0 0 ≡ 0) × (add Gf2 0 1 ≡ 1) × (add Gf2 1 0 ≡ 1) × (add Gf2 1 1 ≡ 0)
+pub sum_of_bits : (add Gf2 0 0 ≡ 0) × (add Gf2 0 1 ≡ 1) × (add Gf2 1 0 ≡ 1) × (add Gf2 1 1 ≡ 0)
 unfolding digits number plus shape shape_of coefficients add
 sum_of_bits = (refl, refl, refl, refl)
-
-size_two : size Gf2 ≡ 2
-unfolding shape shape_of size
-size_two = refl
 
 -- the weight of a sum is that of both less twice the number of common ones
 overlap : (u v : List ℕ) → length u ≡ length v → Fits Gf2 u → Fits Gf2 v → (k : ℕ) × (weight (word_sum Gf2 u v) + 2 * k ≡ weight u + weight v)
@@ -334,7 +331,7 @@ unfolding value_at scale
 value_of_multiple K c [] x = sym (mul_zero K c)
 value_of_multiple K c (a ∷ u) x = cc (value_of_multiple K c u x, mul_add K c a (mul K x (value_at K u x)), mul_swap K c x (value_at K u x))
 
-value_of_zeros : (f K : FieldName) (n x : ℕ) → IsSubfield f K → value_at K (map (embed f K) (zero_word n)) x ≡ 0
+pub value_of_zeros : (f K : FieldName) (n x : ℕ) → IsSubfield f K → value_at K (map (embed f K) (zero_word n)) x ≡ 0
 unfolding value_at
 value_of_zeros f K zero x s = refl
 value_of_zeros f K (suc n) x s = cc (embed_zero f K s, value_of_zeros f K n x s, mul_zero K x, zero_add K 0 (zero_inside K))
@@ -375,7 +372,7 @@ replaced_multiple C D c a v s l (cs, w, e, h) =
 pub replaced_zero : (C D : Matrix) → IsSubfield D.field C.field → AreRows D.field D.columns D.rows → IsReplaced C D 0 (zero_word D.columns)
 replaced_zero C D s r = (zero_word (length D.rows), IsWord_zero D.field (length D.rows), sym (value_of_zeros D.field C.field (length D.rows) (shape_of C.field).primitive s), sym (combine_zeros D.field D.columns D.rows r))
 
-word_sum_replaced : (C D : Matrix) (u x w z : List ℕ) → IsSubfield D.field C.field → AreRows D.field D.columns D.rows → length u ≡ length x → IsReplacedWord C D u w → IsReplacedWord C D x z → IsReplacedWord C D (word_sum C.field u x) (word_sum D.field w z)
+pub word_sum_replaced : (C D : Matrix) (u x w z : List ℕ) → IsSubfield D.field C.field → AreRows D.field D.columns D.rows → length u ≡ length x → IsReplacedWord C D u w → IsReplacedWord C D x z → IsReplacedWord C D (word_sum C.field u x) (word_sum D.field w z)
 unfolding word_sum
 word_sum_replaced C D [] [] w z s r e p q = ap₂ (word_sum D.field) p q
 word_sum_replaced C D [] (b ∷ x) w z s r e p q = absurd (omega (arith, e))
@@ -390,13 +387,13 @@ word_sum_replaced C D (a ∷ u) (b ∷ x) w z s r e (v, (rest, i, j, k)) (y, (ot
   ),
 )
 
-word_multiple_replaced : (C D : Matrix) (c : ℕ) (u w : List ℕ) → IsSubfield D.field C.field → c < size D.field → IsReplacedWord C D u w → IsReplacedWord C D (scale C.field (embed D.field C.field c) u) (scale D.field c w)
+pub word_multiple_replaced : (C D : Matrix) (c : ℕ) (u w : List ℕ) → IsSubfield D.field C.field → c < size D.field → IsReplacedWord C D u w → IsReplacedWord C D (scale C.field (embed D.field C.field c) u) (scale D.field c w)
 unfolding scale
 word_multiple_replaced C D c [] w s l p = ap (scale D.field c) p
 word_multiple_replaced C D c (a ∷ u) w s l (v, (rest, i, j, k)) =
     (scale D.field c v, (scale D.field c rest, replaced_multiple C D c a v s l i, word_multiple_replaced C D c u rest s l j, ap (scale D.field c) k ∙ scale_parts D.field c v rest))
 
-word_zero_replaced : (C D : Matrix) (m : ℕ) → IsSubfield D.field C.field → AreRows D.field D.columns D.rows → IsReplacedWord C D (zero_word m) (zero_word (m * D.columns))
+pub word_zero_replaced : (C D : Matrix) (m : ℕ) → IsSubfield D.field C.field → AreRows D.field D.columns D.rows → IsReplacedWord C D (zero_word m) (zero_word (m * D.columns))
 word_zero_replaced C D zero s r = ap (λ k. zero_word k) (zero-mul D.columns)
 word_zero_replaced C D (suc m) s r =
     (zero_word D.columns, (zero_word (m * D.columns), replaced_zero C D s r, word_zero_replaced C D m s r, ap (λ k. zero_word k) (omega (arith, suc-mul m D.columns)) ∙ sym (zero_parts D.columns (m * D.columns))))

@@ -46,7 +46,7 @@ unfoldable all_distinct : List ℕ → Bool
 all_distinct [] = true
 all_distinct (x ∷ xs) = not (list_any (λ y. x == y) xs) && all_distinct xs
 
-not_true : (b : Bool) → not b ≡ true → b ≡ false
+pub not_true : (b : Bool) → not b ≡ true → b ≡ false
 not_true true h = absurd (true≢false (sym h))
 not_true false h = refl
 

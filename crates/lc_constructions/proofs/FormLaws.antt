@@ -109,7 +109,7 @@ positive_map h [] p i m = absurd (omega (arith, m))
 positive_map h (i ∷ is) p zero m = p i
 positive_map h (i ∷ is) p (suc k) m = positive_map h is p k (omega (arith, m))
 
-root_order : (K : FieldName) (n : ℕ) → 1 ≤ n → (size K - 1) % n ≡ 0 → HasOrder K (root_of_unity K n) n
+pub root_order : (K : FieldName) (n : ℕ) → 1 ≤ n → (size K - 1) % n ≡ 0 → HasOrder K (root_of_unity K n) n
 unfolding root_of_unity
 root_order K n l d = primitive_power K n l d
 
@@ -161,7 +161,7 @@ reed_solomon_is_bch f d w =
     let e = root_is_primitive f in
     ((λ h. subst P (sym e) h), (λ h. subst P e h))
 
-own_subfield : (f : FieldName) → IsSubfield f f
+pub own_subfield : (f : FieldName) → IsSubfield f f
 own_subfield f = record { characteristic = refl; degree = mod_self (shape_of f).degree }
 
 pub reed_solomon_form_of : (f : FieldName) (n d : ℕ) (C : Matrix) → IsTrue (is_symbol f) → size f ≡ n + 1 → IsTrue (is_length n) → IsCode f n (IsReedSolomonWord f d) C → IsFormOf C (bch_form f n 1 d)

@@ -20,8 +20,8 @@ use Rattle.lc_algebra.specs.Field.{size, add, neg, mul, pow, IsInverse}
 use Rattle.lc_algebra.specs.Polynomial.{value_at, poly_sum, poly_scale, poly_product, SamePolynomial, IsPolynomial}
 use Rattle.lc_algebra.specs.Embedding.{embed}
 use Rattle.lc_algebra.specs.Word.{Fits, word_dot}
-use Rattle.lc_algebra.proofs.FieldLaws.{zero_inside, one_inside, neg_inside, mul_inside, add_comm, add_assoc, zero_add, add_zero, add_neg, neg_neg, neg_zero, mul_comm, mul_assoc, mul_swap, mul_add, mul_neg, neg_mul, neg_one_mul, mul_zero, one_mul, no_zero_divisors}
-use Rattle.lc_algebra.proofs.WordLaws.{dot_inside, fits_cons, fits_symbol, add_exchange}
+use Rattle.lc_algebra.proofs.FieldLaws.{zero_inside, neg_inside, mul_inside, add_comm, add_assoc, zero_add, add_zero, add_neg, neg_neg, neg_zero, mul_comm, mul_assoc, mul_swap, mul_add, mul_neg, neg_mul, neg_one_mul, mul_zero, one_mul, no_zero_divisors}
+use Rattle.lc_algebra.proofs.WordLaws.{dot_inside, fits_cons, fits_symbol, add_exchange, fits_one, fits_none}
 use Rattle.lc_algebra.proofs.SpanLaws.{contains_head, contains_tail}
 use Rattle.lc_algebra.proofs.PolynomialLaws.{index_sum, index_multiple, index_both, fits_sum, fits_multiple, fits_product, product_inside, product_same, same_product, zeros_product, product_sum, multiple_product, sum_product, product_commutes, product_associates, value_inside, low_product, lowered, fits_lowered, index_lowered, value_from_lowered, step_lowered}
 use Rattle.lc_constructions.specs.Alternant.{inverse, check_row, goppa_multipliers, goppa_sum, IsGoppaWord}
@@ -30,12 +30,6 @@ use Rattle.lc_constructions.proofs.InverseLaws.{inverse_is}
 use Rattle.lc_constructions.proofs.ClosedLaws.{neg_of_sum}
 
 -- ---- fractions
-
-fits_none : (K : FieldName) → Fits K []
-fits_none K = λ i l. absurd (omega (arith, l))
-
-fits_one : (K : FieldName) → Fits K (1 ∷ [])
-fits_one K = fits_cons K 1 [] (one_inside K) (fits_none K)
 
 abbrev minus_point : FieldName → ℕ → List ℕ
 minus_point K a = neg K a ∷ 1 ∷ []

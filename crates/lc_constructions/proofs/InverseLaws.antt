@@ -12,11 +12,11 @@ use Rattle.lc_constructions.specs.Alternant.{inverse}
 abbrev Finds : (ℕ → Bool) → ℕ → ℕ → Type 0
 Finds test start count = (test (first_from test start count) ≡ true) × (first_from test start count < start + count)
 
-stops : (test : ℕ → Bool) (start count : ℕ) → test start ≡ true → first_from test start (suc count) ≡ start
+pub stops : (test : ℕ → Bool) (start count : ℕ) → test start ≡ true → first_from test start (suc count) ≡ start
 unfolding first_from
 stops test start count e = rw e refl
 
-goes_on : (test : ℕ → Bool) (start count : ℕ) → test start ≡ false → first_from test start (suc count) ≡ first_from test (suc start) count
+pub goes_on : (test : ℕ → Bool) (start count : ℕ) → test start ≡ false → first_from test start (suc count) ≡ first_from test (suc start) count
 unfolding first_from
 goes_on test start count e = rw e refl
 

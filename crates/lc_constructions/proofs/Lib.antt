@@ -16,3 +16,4 @@ pub mod CosetLaws
 pub mod CosetExamples
 pub mod CheckLaws
 pub mod AlternantLaws
+pub mod RisingLaws

@@ -5,8 +5,8 @@
 --   find_passes, find_first, find_nothing      what is found in a list of rising fields
 --   locator_is             the field that the test finds is the least one, and the least one is found
 --   no_locator             none is found exactly if there is none
-use Rattle.std.proofs.Common.{◌≡◌, ℕ, ◌-◌, ◌%◌, ◌<◌, ◌≤◌, ◌↔◌, Bool, true, false, ◌==◌, ◌&&◌, nat_lt, List, [], ◌∷◌, map, find, Option, Some, None, is_some, Contains, refl, sym, ap, subst, ◌∙◌, ⊎_elim, arith, true≢false}
-use Rattle.std.proofs.lemmas.Bool.{cases_Bool, and_parts, eqb-true, eq-eqb, ltb-true}
+use Rattle.std.proofs.Common.{◌≡◌, ℕ, ◌-◌, ◌%◌, ◌<◌, ◌≤◌, ◌↔◌, Bool, true, ◌==◌, ◌&&◌, nat_lt, List, [], ◌∷◌, map, find, Option, Some, None, is_some, Contains, refl, sym, ap, subst, ◌∙◌, ⊎_elim, arith, true≢false}
+use Rattle.std.proofs.lemmas.Bool.{cases_Bool, and_parts, eqb-true, eq-eqb, ltb-true, and_from}
 use Rattle.lc_algebra.specs.declared.FieldName.{FieldName}
 use Rattle.lc_algebra.specs.declared.FieldName.TheVariants.{Gf2, Gf3, Gf4, Gf5, Gf7, Gf8, Gf9, Gf11, Gf13, Gf16, Gf25, Gf27, Gf32, Gf64, Gf81, Gf128, Gf243, Gf256}
 use Rattle.lc_algebra.specs.Field.{shape, shape_of, size, HasOrder}
@@ -15,6 +15,7 @@ use Rattle.lc_algebra.proofs.EmbeddingLaws.{decides_subfield}
 use Rattle.lc_algebra.proofs.EmbeddingTests.{told_by_size}
 use Rattle.lc_algebra.proofs.OrderLaws.{primitive_power, order_of_element}
 use Rattle.lc_algebra.proofs.SpanLaws.{contains_cases, map_contains}
+use Rattle.lc_algebra.proofs.CommonLaws.{find_here, find_later}
 use Rattle.lc_constructions.specs.Cyclic.{all_fields, IsLocatorField, locator_field}
 use Rattle.lc_constructions.specs.Refusals.{is_rising}
 
@@ -42,15 +43,10 @@ each_field Gf256 = (17, omega arith, refl)
 abbrev holds : FieldName → ℕ → FieldName → Bool
 holds f n K = is_subfield f K && ((size K - 1) % n == 0)
 
-both : (x y : Bool) → x ≡ true → y ≡ true → (x && y) ≡ true
-both true true h k = refl
-both true false h k = k
-both false y h k = h
-
 pub holds_order : (f : FieldName) (n : ℕ) (K : FieldName) → 1 ≤ n → (holds f n K ≡ true) ↔ (IsSubfield f K × ((b : ℕ) × HasOrder K b n))
 holds_order f n K l = (
   (λ h. let t = and_parts (is_subfield f K) ((size K - 1) % n == 0) h in ((decides_subfield f K).0 t.0, (_, primitive_power K n l (eqb-true ((size K - 1) % n) 0 t.1)))),
-  (λ h. both (is_subfield f K) ((size K - 1) % n == 0) ((decides_subfield f K).1 h.0) (eq-eqb ((size K - 1) % n) 0 (order_of_element K h.1.0 n h.1.1))),
+  (λ h. and_from (is_subfield f K) ((size K - 1) % n == 0) ((decides_subfield f K).1 h.0) (eq-eqb ((size K - 1) % n) 0 (order_of_element K h.1.0 n h.1.1))),
 )
 
 rising_fields : is_rising (map size all_fields) ≡ true
@@ -73,12 +69,6 @@ rising_tail a (x ∷ xs) h = (and_parts (nat_lt a x) (is_rising (x ∷ xs)) h).1
 some_is_none : {X : Type 0} (x : X) → Some x ≡ None → ⊥
 some_is_none x h = true≢false (ap is_some h)
 
-found_here : (p : FieldName → Bool) (x : FieldName) (xs : List FieldName) → p x ≡ true → find p (x ∷ xs) ≡ Some x
-found_here p x xs e = rw e refl
-
-found_later : (p : FieldName → Bool) (x : FieldName) (xs : List FieldName) → p x ≡ false → find p (x ∷ xs) ≡ find p xs
-found_later p x xs e = rw e refl
-
 some_same : (x y : FieldName) → Some x ≡ Some y → x ≡ y
 some_same x y h = cc h
 
@@ -86,8 +76,8 @@ pub find_passes : (p : FieldName → Bool) (xs : List FieldName) (K : FieldName)
 find_passes p [] K h = absurd (some_is_none K (sym h))
 find_passes p (x ∷ xs) K h =
     ⊎_elim
-    (λ e. subst (λ y. p y ≡ true) (some_same x K (sym (found_here p x xs e) ∙ h)) e)
-    (λ e. find_passes p xs K (sym (found_later p x xs e) ∙ h))
+    (λ e. subst (λ y. p y ≡ true) (some_same x K (sym (find_here p x xs e) ∙ h)) e)
+    (λ e. find_passes p xs K (sym (find_later p x xs e) ∙ h))
     (cases_Bool (p x))
 
 pub find_first : (p : FieldName → Bool) (xs : List FieldName) (K L : FieldName) → is_rising (map size xs) ≡ true → find p xs ≡ Some K → Contains xs L → p L ≡ true → size K ≤ size L
@@ -95,14 +85,14 @@ find_first p [] K L r h c t = absurd (some_is_none K (sym h))
 find_first p (x ∷ xs) K L r h c t =
     ⊎_elim
     (λ e.
-    let s : x ≡ K = some_same x K (sym (found_here p x xs e) ∙ h) in
+    let s : x ≡ K = some_same x K (sym (find_here p x xs e) ∙ h) in
     ⊎_elim
     (λ q. omega (arith, ap size s, ap size q))
     (λ k. omega (arith, ap size s, rising_head (size x) (map size xs) (size L) r (map_contains size xs L k)))
     (contains_cases x L xs c))
     (λ e. ⊎_elim
     (λ q. absurd (true≢false (sym t ∙ ap p (sym q) ∙ e)))
-    (λ k. find_first p xs K L (rising_tail (size x) (map size xs) r) (sym (found_later p x xs e) ∙ h) k t)
+    (λ k. find_first p xs K L (rising_tail (size x) (map size xs) r) (sym (find_later p x xs e) ∙ h) k t)
     (contains_cases x L xs c))
     (cases_Bool (p x))
 
@@ -110,10 +100,10 @@ pub find_nothing : (p : FieldName → Bool) (xs : List FieldName) (L : FieldName
 find_nothing p [] L h c t = omega (arith, c.1)
 find_nothing p (x ∷ xs) L h c t =
     ⊎_elim
-    (λ e. some_is_none x (sym (found_here p x xs e) ∙ h))
+    (λ e. some_is_none x (sym (find_here p x xs e) ∙ h))
     (λ e. ⊎_elim
     (λ q. true≢false (sym t ∙ ap p (sym q) ∙ e))
-    (λ k. find_nothing p xs L (sym (found_later p x xs e) ∙ h) k t)
+    (λ k. find_nothing p xs L (sym (find_later p x xs e) ∙ h) k t)
     (contains_cases x L xs c))
     (cases_Bool (p x))
 

@@ -160,7 +160,7 @@ word_cancels f n x u v a b c e =
     λ w k. sym (sum_assoc f m x w) ∙ ap (λ t. word_sum f t w) (sum_comm f m x ∙ sum_negative f n x a.long) ∙ zero_sum f n w k in
     sym (back u b) ∙ ap (λ t. word_sum f m t) e ∙ back v c
 
-same_error : (f : FieldName) (n : ℕ) (x u v : List ℕ) → IsWord f n x → IsWord f n u → IsWord f n v → difference f x u ≡ difference f x v → u ≡ v
+pub same_error : (f : FieldName) (n : ℕ) (x u v : List ℕ) → IsWord f n x → IsWord f n u → IsWord f n v → difference f x u ≡ difference f x v → u ≡ v
 same_error f n x u v a b c e =
     let p : word_sum f (difference f x u) (word_sum f u v) ≡ word_sum f x v = sym (sum_assoc f (difference f x u) u v) ∙ ap (λ t. word_sum f t v) (difference_back f n x u a b.long) in
     let q : word_sum f (difference f x v) (word_sum f u v) ≡ word_sum f x u = ap (λ t. word_sum f (difference f x v) t) (sum_comm f u v) ∙ sym (sum_assoc f (difference f x v) v u) ∙ ap (λ t. word_sum f t u) (difference_back f n x v a c.long) in

@@ -12,10 +12,9 @@
 --   product_inside, no_single_product, product_outside       a sum of products that isn't one; a word that is no such sum
 use Rattle.std.proofs.Common.{◌+◌, ap, Some, ◌≡◌, ℕ, zero, suc, ◌<◌, Bool, true, false, not, nat_lt, ◌==◌, ◌&&◌, List, [], ◌∷◌, ◌++◌, length, map, flat_map, slice_index, slice_index_or, All, Contains, refl, sym, subst, ◌∙◌, arith, true≢false}
 use Rattle.std.specs.List.{list_any, list_all}
-use Rattle.std.proofs.lemmas.List.Elements.{All-contains}
 use Rattle.std.proofs.lemmas.List.Sums.{AllPass-from_list_all}
 use Rattle.std.proofs.lemmas.List.{append-nil, length-append, get_or_append_left, get_or-append-add}
-use Rattle.lc_constructions.proofs.ExpansionLaws.{expansion_once}
+use Rattle.lc_constructions.proofs.ExpansionLaws.{expansion_once, passes}
 use Rattle.std.proofs.lemmas.Bool.{and_parts, eqb-true, eq-eqb, ltb-true}
 use Rattle.lc_algebra.specs.declared.FieldName.TheVariants.{Gf2, Gf3, Gf4, Gf5, Gf8, Gf9, Gf16}
 use Rattle.lc_algebra.specs.Residue.{digits, number, plus, minus, times, top, up, times_x, product}
@@ -55,9 +54,6 @@ same_from_test (a ∷ u) (b ∷ v) h = let t = and_parts (a == b) (same_list u v
 
 absent : (w : List ℕ) (ws : List (List ℕ)) → list_any (same_list w) ws ≡ false → Contains ws w → ⊥
 absent w ws h c = true≢false (sym (contains_any (same_list w) ws w c (same_itself w)) ∙ h)
-
-each_of : {X : Type 0} (test : X → Bool) (xs : List X) (x : X) → list_all test xs ≡ true → Contains xs x → test x ≡ true
-each_of test xs x h c = All-contains (λ y. test y ≡ true) xs x (AllPass-from_list_all test xs h) c
 
 abbrev listed : Matrix → List (List ℕ)
 listed C = words C.field C.columns C.rows
@@ -106,7 +102,7 @@ unfolding digits number plus minus times top up times_x product shape shape_of s
 dual_test = refl
 
 pub dual_inside : InDual pairs (1 ∷ 1 ∷ 1 ∷ [])
-dual_inside v h = eqb-true (word_dot Gf2 v (1 ∷ 1 ∷ 1 ∷ [])) 0 (each_of (λ v. word_dot Gf2 v (1 ∷ 1 ∷ 1 ∷ []) == 0) (listed pairs) v dual_test (in_list pairs v h))
+dual_inside v h = eqb-true (word_dot Gf2 v (1 ∷ 1 ∷ 1 ∷ [])) 0 (passes (λ v. word_dot Gf2 v (1 ∷ 1 ∷ 1 ∷ []) == 0) (listed pairs) v dual_test (in_list pairs v h))
 
 pair_word : InCode pairs (1 ∷ 1 ∷ 0 ∷ [])
 unfolding digits number plus minus times top up times_x product shape shape_of size coefficients add mul word_sum scale below words
@@ -166,7 +162,7 @@ pub shortened_outside : InShortened plane (0 ∷ []) (0 ∷ 2 ∷ []) → ⊥
 shortened_outside (u, h, z, e) =
     clash (slice_index u 0 == 0) (same_list (0 ∷ 2 ∷ []) (without (0 ∷ []) u)) (eq-eqb (slice_index u 0) 0 (z 0 0 (omega arith)))
     (subst (λ w. same_list (0 ∷ 2 ∷ []) w ≡ true) e (same_itself (0 ∷ 2 ∷ [])))
-    (each_of (shortens (0 ∷ 2 ∷ [])) (listed plane) u shortened_test (in_list plane u h))
+    (passes (shortens (0 ∷ 2 ∷ [])) (listed plane) u shortened_test (in_list plane u h))
 
 pub even_outside : InEvenWeight mixed (1 ∷ 0 ∷ 0 ∷ []) → ⊥
 even_outside h = let t : ◌≡◌ {A = ℕ} 1 0 = h.1 in omega (arith, t)
@@ -249,8 +245,8 @@ unfolding digits number plus minus times top up times_x product shape shape_of s
 product_outside (rows, h, s) =
     let x : List ℕ = 1 ∷ 0 ∷ 1 ∷ 0 ∷ [] in
     let here : (k : ℕ) (d : List ℕ) → k < length rows → Contains (tensors twins square) (slice_index_or rows k d) = λ k d l. tensor_listed twins square (slice_index_or rows k d) (h k d l) in
-    let r : AreRows Gf2 4 rows = λ k d l. bit_word (slice_index_or rows k d) (each_of is_bit_word (tensors twins square) (slice_index_or rows k d) bit_words (here k d l)) in
-    let o : IsOrthogonal Gf2 rows x = λ k d l. eqb-true (word_dot Gf2 (slice_index_or rows k d) x) 0 (each_of (λ row. word_dot Gf2 row x == 0) (tensors twins square) (slice_index_or rows k d) checked_words (here k d l)) in
+    let r : AreRows Gf2 4 rows = λ k d l. bit_word (slice_index_or rows k d) (passes is_bit_word (tensors twins square) (slice_index_or rows k d) bit_words (here k d l)) in
+    let o : IsOrthogonal Gf2 rows x = λ k d l. eqb-true (word_dot Gf2 (slice_index_or rows k d) x) 0 (passes (λ row. word_dot Gf2 row x == 0) (tensors twins square) (slice_index_or rows k d) checked_words (here k d l)) in
     let t : ◌≡◌ {A = ℕ} 1 0 = dot_span Gf2 4 rows x (1 ∷ 0 ∷ 0 ∷ 1 ∷ []) r o s in
     omega (arith, t)
 
@@ -300,5 +296,5 @@ no_halves v e =
 -- (1, 2, 1) replaces 7, and the two symbols of a word of the outer code are equal
 pub concatenated_outside : InConcatenated nines plane (1 ∷ 2 ∷ 1 ∷ 0 ∷ 0 ∷ 0 ∷ []) → ⊥
 concatenated_outside (u, c, r) =
-    let (v, e) = halves u (1 ∷ 2 ∷ 1 ∷ 0 ∷ 0 ∷ 0 ∷ []) (each_of is_double (listed nines) u doubles (in_list nines u c)) r in
+    let (v, e) = halves u (1 ∷ 2 ∷ 1 ∷ 0 ∷ 0 ∷ 0 ∷ []) (passes is_double (listed nines) u doubles (in_list nines u c)) r in
     no_halves v e

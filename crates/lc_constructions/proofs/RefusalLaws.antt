@@ -1,11 +1,13 @@
 -- How results of constructors answer refusals.
---   refused_here, refused_later      the first refusal of a list whose first entry is a test
+--   refused_later                    the first refusal of a list whose first test fails
 --   refuses_first, refuses_nothing   the result is the refusal; there is no refusal
 --   refused_or_not                   both of these
 --   refused_exactly                  an error other than NoMemory is the result exactly if it is the refusal
 --   decided                          a test is another one that decides the same
 --   elements_fit, fits_elements, elements_told      the test for elements of a field decides whether a word fits it
-use Rattle.std.proofs.Common.{◌≡◌, ℕ, ◌<◌, nat_lt, Bool, true, false, List, ◌∷◌, slice_index, slice_index_or, Option, Some, None, is_none, Result, Ok, Err, is_ok, ◌≢◌, ◌↔◌, IsTrue, subst, refl, sym, ap, ◌∙◌, true≢false}
+--   rows_fit_elements                so does that for rows
+--   long_length                      no length is above 255
+use Rattle.std.proofs.Common.{◌≡◌, ℕ, ◌<◌, nat_lt, Bool, true, false, List, ◌∷◌, slice_index, slice_index_or, Option, Some, None, is_none, Result, Ok, Err, is_ok, ◌≢◌, ◌↔◌, IsTrue, subst, refl, sym, ap, ◌∙◌, true≢false, All, arith}
 use Rattle.std.proofs.lemmas.List.Sums.{AllPass-from_list_all, list_all-from_AllPass}
 use Rattle.std.proofs.lemmas.List.{get_or_default}
 use Rattle.std.proofs.lemmas.Bool.Decides.{Decides-ltb}
@@ -13,14 +15,12 @@ use Rattle.lc_algebra.specs.declared.FieldName.{FieldName}
 use Rattle.lc_algebra.specs.Field.{size}
 use Rattle.lc_algebra.specs.Word.{Fits}
 use Rattle.std.specs.Result.{IsErrOf}
+use Rattle.std.specs.List.{list_all}
 use Rattle.lc_constructions.specs.declared.refusal.CodeRefusal.{CodeRefusal}
 use Rattle.lc_constructions.specs.declared.refusal.CodeRefusal.TheVariants.{NoMemory}
 use Rattle.lc_constructions.specs.Refusal.{refuse_if, first_refusal, IsRefusedAs, RefusesFirst}
-use Rattle.lc_constructions.specs.Refusals.{are_elements}
-
-pub refused_here : (b : Bool) (r : CodeRefusal) (rs : List (Option CodeRefusal)) → b ≡ true → first_refusal (refuse_if b r ∷ rs) ≡ Some r
-unfolding first_refusal refuse_if
-refused_here b r rs h = rw h refl
+use Rattle.lc_constructions.specs.Refusals.{are_elements, have_elements}
+use Rattle.lc_constructions.specs.Code.{is_length}
 
 pub refused_later : (b : Bool) (r : CodeRefusal) (rs : List (Option CodeRefusal)) → b ≡ false → first_refusal (refuse_if b r ∷ rs) ≡ first_refusal rs
 unfolding first_refusal refuse_if
@@ -55,3 +55,14 @@ pub elements_told : (f : FieldName) (xs : List ℕ) (b : Bool) → IsTrue b ↔ 
 elements_told f xs b h = decided b (are_elements f xs) (Fits f xs) h (elements_fit f xs) (fits_elements f xs)
 
 pub ruleset refused_or_not = (refuses_first, refuses_nothing)
+
+pub rows_fit_elements : (f : FieldName) (rows : List (List ℕ)) → All (Fits f) rows → have_elements f rows ≡ true
+unfolding have_elements are_elements
+rows_fit_elements f rows h =
+    list_all-from_AllPass (list_all (λ a. nat_lt a (size f))) rows (λ k d l.
+    list_all-from_AllPass (λ a. nat_lt a (size f)) (slice_index_or rows k d) (λ i e m.
+    (Decides-ltb (slice_index_or (slice_index_or rows k d) i e) (size f)).1 (subst (λ a. a < size f) (get_or_default (slice_index_or rows k d) i 0 e m) (h k d l i m))))
+
+pub long_length : (n : ℕ) → 255 < n → is_length n ≡ false
+unfolding is_length
+long_length n l = grind (arith, l)

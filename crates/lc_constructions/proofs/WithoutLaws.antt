@@ -26,11 +26,11 @@ no_match i coordinates h =
     (λ t. t)
     (cases_Bool (list_any (λ p. i == p) coordinates))
 
-kept : (i : ℕ) (coordinates : List ℕ) (a : ℕ) (w : List ℕ) → list_any (λ p. i == p) coordinates ≡ false → without_from i coordinates (a ∷ w) ≡ a ∷ without_from (suc i) coordinates w
+pub kept : (i : ℕ) (coordinates : List ℕ) (a : ℕ) (w : List ℕ) → list_any (λ p. i == p) coordinates ≡ false → without_from i coordinates (a ∷ w) ≡ a ∷ without_from (suc i) coordinates w
 unfolding without_from
 kept i coordinates a w e = rw e refl
 
-taken : (i : ℕ) (coordinates : List ℕ) (a : ℕ) (w : List ℕ) → list_any (λ p. i == p) coordinates ≡ true → without_from i coordinates (a ∷ w) ≡ without_from (suc i) coordinates w
+pub taken : (i : ℕ) (coordinates : List ℕ) (a : ℕ) (w : List ℕ) → list_any (λ p. i == p) coordinates ≡ true → without_from i coordinates (a ∷ w) ≡ without_from (suc i) coordinates w
 unfolding without_from
 taken i coordinates a w e = rw e refl
 
@@ -81,7 +81,7 @@ unfolding first_refusal refuse_if
 not_refused true h = absurd (true≢false (ap is_some h))
 not_refused false h = refl
 
-not_not : (b : Bool) → not b ≡ false → b ≡ true
+pub not_not : (b : Bool) → not b ≡ false → b ≡ true
 not_not true h = refl
 not_not false h = absurd (true≢false h)
 

@@ -3,10 +3,10 @@
 --   ends_here            at the end of the needs these steps are all, and nothing stopped it
 --   at_need              the steps once one more need is met, and whether the slice stopped it there
 --   searched             if it didn't, the session goes on after that need
---   next_is_this         what holds however the needs go on holds if this need is the next one
 use Rattle.std.proofs.Common.{◌≡◌, ◌≤◌, ◌<◌, ◌+◌, ℕ, zero, suc, Bool, true, false, cond, List, [], ◌∷◌, ◌++◌, length, map, drop, take, Option, Some, None, unwrap_or, refl, sym, ap, subst, ◌∙◌, arith}
 use Rattle.std.proofs.lemmas.List.{append-nil, append_assoc, length-append}
 use Rattle.lc_algebra.specs.Matrix.{Matrix}
+use Rattle.lc_algebra.proofs.CommonLaws.{drop_whole}
 use Rattle.lc_enumeration.specs.Records.{Progress, Start, SessionStep, SessionRounds, first_progress, rounds, last_state, step_of, no_steps, steps_first, session_from, session_rounds}
 use Rattle.lc_course.specs.Course.{GoesSo, state_at, states_at, steps_at, start_next}
 
@@ -15,12 +15,6 @@ drop_front [] ys zero e = refl
 drop_front [] ys (suc n) e = absurd (omega (arith, e))
 drop_front (x ∷ xs) ys zero e = absurd (omega (arith, e))
 drop_front (x ∷ xs) ys (suc n) e = drop_front xs ys n (omega (arith, e))
-
-pub drop_whole : {A : Type 0} (xs : List A) (n : ℕ) → length xs ≤ n → drop n xs ≡ []
-drop_whole [] zero l = refl
-drop_whole [] (suc n) l = refl
-drop_whole (x ∷ xs) zero l = absurd (omega (arith, l))
-drop_whole (x ∷ xs) (suc n) l = drop_whole xs n (omega (arith, l))
 
 pub take_front : {A : Type 0} (xs ys : List A) (n : ℕ) → n ≡ length xs → take n (xs ++ ys) ≡ xs
 take_front [] ys zero e = refl
@@ -109,6 +103,3 @@ searched divisor budget begin slice needs C told now left goes e unstopped more 
     let on : goal (needs ++ C ∷ more) = through divisor budget begin slice needs C told now left more goes e ∙ ap (λ (b : Bool). steps_first steps (cond b (no_steps now.settled r.left true) (session_from divisor more budget r.left next.settled None))) unstopped in
     subst goal (sym (append_assoc needs (C ∷ []) more)) on
     ∙ ap (steps_first steps) (sym (after_front divisor budget needs C more now.settled (last_state (state_at C now) r.states) r.left e))
-
-pub next_is_this : (divisor : Matrix → ℕ) (budget : ℕ) (begin : List Matrix → Start) (slice : Option ℕ) (needs : List Matrix) (C : Matrix) (told : List SessionStep) (now : Start) (left : Option ℕ) → GoesSo divisor budget begin slice needs [] told now left → GoesSo divisor budget begin slice needs (C ∷ []) told now left
-next_is_this divisor budget begin slice needs C told now left goes more = goes (C ∷ more)

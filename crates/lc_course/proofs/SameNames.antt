@@ -1,7 +1,6 @@
 -- What statements print depends on the values of names alone.
 --   AreSame env other            each name has the same value by two lists of bindings
 --   evaluates_same, steps_same   so an expression has the same outcome, and a statement does the same
---   runs_same                    and statements print the same
 --   needs_same, runs_by_same     ask the same needs, and print the same by the same answers
 use Rattle.std.proofs.Common.{◌≡◌, ℕ, Bool, if◌then◌else◌, List, [], ◌∷◌, Option, Some, None, ap, subst}
 use Rattle.std.specs.Prelude.{MatchOption}
@@ -16,7 +15,7 @@ use Rattle.lc_algebra.specs.Matrix.{Matrix}
 use Rattle.lc_enumeration.specs.Search.{Answer}
 use Rattle.lc_sessions.specs.Needs.{NeedsOn, Needs}
 use Rattle.lc_sessions.specs.Answers.{PrintsBy, RunsBy}
-use Rattle.lc_language.specs.Evaluation.{Outcome, gives, refused, Outcomes, refuse_at, Listed, nothing_yet, listed_with, ListGoesOn, Applies, GoesOn, CallGives, Evaluates, EvaluatesAll, EvaluatesList, Step, binds, prints, asks, counts, nears, fails, fail_with, QueriesAll, query_of, StepsAsQuery, StepsOf, Steps, Prints, Runs}
+use Rattle.lc_language.specs.Evaluation.{Outcome, gives, refused, Outcomes, refuse_at, Listed, nothing_yet, listed_with, ListGoesOn, Applies, GoesOn, CallGives, Evaluates, EvaluatesAll, EvaluatesList, Step, binds, prints, asks, counts, nears, fails, fail_with, QueriesAll, query_of, StepsAsQuery, StepsOf, Steps}
 
 abbrev pub AreSame : List Binding → List Binding → Type 0
 AreSame env other = (x : List ℕ) → value_named x env ≡ value_named x other
@@ -81,19 +80,6 @@ module _ (table : List Call) (env other : List Binding) (same : AreSame env othe
 more_same : (env other : List Binding) (b : Binding) → AreSame env other → AreSame (b ∷ env) (b ∷ other)
 unfolding value_named
 more_same env other b same x = ap (λ (r : Option Value). if same_bytes x b.name then Some b.value else r) (same x)
-
-prints_same : (budget : ℕ) (env other : List Binding) (step : Step) (later : List Binding → List ℕ → Bool → Type 0) → AreSame env other → ((one two : List Binding) → AreSame one two → (text : List ℕ) (ends : Bool) → later one text ends → later two text ends) → (text : List ℕ) (ends : Bool) → Prints budget env step later text ends → Prints budget other step later text ends
-prints_same budget env other (binds b) later same f text ends h = f (b ∷ env) (b ∷ other) (more_same env other b same) text ends h
-prints_same budget env other (prints l) later same f text ends h = (h.0, f env other same h.0 ends h.1, h.2)
-prints_same budget env other (asks kind C) later same f text ends h = (h.0, f env other same h.0 ends h.1, h.2)
-prints_same budget env other (counts C) later same f text ends h = (h.0, f env other same h.0 ends h.1, h.2)
-prints_same budget env other (nears C x) later same f text ends h = (h.0, f env other same h.0 ends h.1, h.2)
-prints_same budget env other (fails r) later same f text ends h = h
-
-pub runs_same : (table : List Call) (budget : ℕ) (ss : List Statement) (env other : List Binding) → AreSame env other → (text : List ℕ) (ends : Bool) → Runs table budget env ss text ends → Runs table budget other ss text ends
-runs_same table budget [] env other same text ends h = h
-runs_same table budget (s ∷ ss) env other same text ends h =
-    (h.0, steps_same table env other same s h.0 h.1, prints_same budget env other h.0 (λ later. Runs table budget later ss) same (λ one two is t e k. runs_same table budget ss one two is t e k) text ends h.2)
 
 -- ---- the needs of statements, and their text by given answers
 

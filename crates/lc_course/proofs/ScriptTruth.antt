@@ -11,6 +11,7 @@ use Rattle.std.proofs.lemmas.List.Elements.{All-nil, All-cons}
 use Rattle.sha2.specs.Sha256.{sha256}
 use Rattle.lc_algebra.specs.Matrix.{Matrix}
 use Rattle.lc_algebra.specs.Divisor.{divisor_of}
+use Rattle.lc_algebra.proofs.DivisorLaws.{divisor_some}
 use Rattle.lc_enumeration.specs.Search.{Answer, answer, finished}
 use Rattle.lc_enumeration.specs.Records.{Progress, Start, found_of, fresh_start, session_rounds, IsBestAt}
 use Rattle.lc_enumeration.specs.Fitting.{used_start}
@@ -27,9 +28,8 @@ use Rattle.lc_sessions.proofs.NeedsLaws.{met_agree}
 use Rattle.lc_sessions.proofs.TrueSteps as steps
 use Rattle.lc_sessions.proofs.TrueSteps.{parts_of}
 use Rattle.lc_course.proofs.AskLaws.{HaveRows, met_rows}
-use Rattle.lc_course.proofs.TruthLaws.{divisor_some}
 
-some_same : {X : Type 0} {a b : X} → Some a ≡ Some b → a ≡ b
+pub some_same : {X : Type 0} {a b : X} → Some a ≡ Some b → a ≡ b
 some_same e = cc
 
 pub answers_are : (budget : ℕ) (needs : List Matrix) (states : List Progress) (answers : List Answer) → AreSettled divisor_of budget needs states → Settle budget needs states answers → answers ≡ answers_of needs budget

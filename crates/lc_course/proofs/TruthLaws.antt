@@ -8,7 +8,7 @@ use Rattle.std.proofs.lemmas.Option.{slice_get_within}
 use Rattle.sha2.specs.Sha256.{sha256}
 use Rattle.lc_algebra.specs.Matrix.{Matrix}
 use Rattle.lc_algebra.specs.Divisor.{divisor_of}
-use Rattle.lc_algebra.proofs.DivisorLaws.{divisor_positive}
+use Rattle.lc_algebra.proofs.DivisorLaws.{divisor_some}
 use Rattle.lc_enumeration.specs.Search.{fits, fits_settled}
 use Rattle.lc_enumeration.specs.Records.{Progress, found_of, IsBestAt}
 use Rattle.lc_enumeration.specs.Truth.{IsSettled}
@@ -29,10 +29,6 @@ use Rattle.lc_course.proofs.AskLaws.{met_rows}
 last_need : (needs : List Matrix) (C : Matrix) → slice_get (needs ++ C ∷ []) (length needs) ≡ Some C
 last_need [] C = refl
 last_need (D ∷ needs) C = last_need needs C
-
-pub divisor_some : (C : Matrix) → 1 ≤ divisor_of C
-unfolding divisor_of
-divisor_some C = divisor_positive C.field C.columns C.rows
 
 -- a need that a session of version 1 searched without a divisor has none
 same_divisor : (version : ℕ) (C : Matrix) → 1 ≤ divisor_of C → ((version == 1) ≡ true → nat_lt 1 (divisor_of C) ≡ false) → divisor_in version C ≡ divisor_of C

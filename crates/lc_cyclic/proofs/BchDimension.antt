@@ -19,12 +19,12 @@ use Rattle.lc_algebra.specs.Word.{Fits}
 use Rattle.lc_algebra.specs.Matrix.{Matrix}
 use Rattle.lc_algebra.proofs.FieldLaws.{add_neg, mul_zero}
 use Rattle.lc_algebra.proofs.PowerLaws.{pow_inside, one_pow, pow_mul}
-use Rattle.lc_algebra.proofs.OrderLaws.{power_of_rest, distinct_powers, primitive_power, order_of_element}
+use Rattle.lc_algebra.proofs.OrderLaws.{power_of_rest, distinct_powers, order_of_element}
 use Rattle.lc_algebra.proofs.SpanLaws.{contains_head, contains_tail, contains_cases, contains_map, map_contains}
 use Rattle.lc_algebra.proofs.DimensionLaws.{AreDistinct, distinct_from_pairs, distinct_map}
 use Rattle.lc_constructions.specs.Code.{IsCode}
 use Rattle.lc_constructions.specs.Cyclic.{IsLocatorField, root_of_unity, exponents_from, value_in, HasZeros, IsMultipleOf, IsBchWord, IsReedSolomonWord}
-use Rattle.lc_constructions.proofs.FormLaws.{reed_solomon_is_bch}
+use Rattle.lc_constructions.proofs.FormLaws.{reed_solomon_is_bch, root_order}
 use Rattle.lc_poly.proofs.MinimalLaws.{value_x_power, embedded_x_power}
 use Rattle.lc_poly.proofs.DivisionLaws.{x_power_fits}
 use Rattle.lc_poly.proofs.ConjugateLaws.{conjugate_zero}
@@ -103,14 +103,10 @@ module _ (small large : FieldName) (n root : ℕ) (es xs : List ℕ) (sub : IsSu
       )) c in
       omega (arith, generator_dimension small n g C order.positive p d code, e, length-map xs (pow large root))
 
-primitive_order : (f : FieldName) (n : ℕ) → 1 ≤ n → (size f - 1) % n ≡ 0 → HasOrder f (root_of_unity f n) n
-unfolding root_of_unity
-primitive_order f n l e = primitive_power f n l e
-
 pub bch_dimension : (small large : FieldName) (n b d : ℕ) (xs : List ℕ) (C : Matrix) → 1 ≤ n → IsLocatorField small n large → AllPairs (λ x y. x ≢ y) xs → ((k : ℕ) → Contains xs k ↔ IsZeroExponent (size small) n (exponents_from b (d - 1)) k) → IsCode small n (IsBchWord small large n b d) C → length C.rows ≡ n - length xs
 bch_dimension small large n b d xs C l h apart told c =
     let (root, o) = h.order in
-    let order : HasOrder large (root_of_unity large n) n = primitive_order large n l (order_of_element large root n o) in
+    let order : HasOrder large (root_of_unity large n) n = root_order large n l (order_of_element large root n o) in
     zero_code_dimension small large n (root_of_unity large n) (exponents_from b (d - 1)) xs h.subfield order (distinct_from_pairs xs apart) told C c
 
 -- ---- Reed-Solomon codes
@@ -148,7 +144,7 @@ reed_solomon_dimension f n d C e l m c =
     let k : size f - 1 ≡ n = omega (arith, e) in
     let es = exponents_from 1 (d - 1) in
     let own : IsSubfield f f = record { characteristic = refl; degree = mod_self (shape_of f).degree } in
-    let order : HasOrder f (root_of_unity f n) n = primitive_order f n (omega (arith, l, m)) (ap (λ y. y % n) k ∙ mod_self n) in
+    let order : HasOrder f (root_of_unity f n) n = root_order f n (omega (arith, l, m)) (ap (λ y. y % n) k ∙ mod_self n) in
     let told : (x : ℕ) → Contains es x ↔ IsZeroExponent (size f) n es x = λ x. (
       (λ a. let r = exponent_range 1 (d - 1) x a in (x, a, (0, sym (power_of_own (size f) n x 0 e ∙ mod-eq_of_lt (omega (arith, r.1, l, m)))))),
       (λ h.

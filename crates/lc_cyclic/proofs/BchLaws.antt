@@ -9,9 +9,10 @@
 --   turned_power, zeros_modulo, whole_code      zeros at the powers from b on are those from b modulo n on
 --   same_locator, kept_locator, kept_form      the locator field of the form that is kept
 --   bch_refused_large, bch_refused_length, bch_refused_root, bch_refused_delta, bch_accepted      the first refusal
-use Rattle.std.proofs.Common.{◌≡◌, ◌≢◌, ◌↔◌, ℕ, suc, ◌+◌, ◌-◌, ◌*◌, ◌/◌, ◌%◌, ◌≤◌, true, false, nat_lt, ◌||◌, List, [], ◌∷◌, ◌++◌, map, length, Option, Some, None, is_some, option_map, refl, sym, ap, ap₂, subst, ◌∙◌, arith, true≢false}
+use Rattle.std.proofs.Common.{◌≡◌, ◌≢◌, ◌↔◌, ℕ, suc, ◌+◌, ◌-◌, ◌*◌, ◌/◌, ◌%◌, ◌≤◌, true, false, nat_lt, ◌||◌, List, [], ◌∷◌, ◌++◌, map, length, Option, Some, None, is_some, option_map, refl, sym, ap, ap₂, subst, ◌∙◌, arith}
 use Rattle.std.proofs.Math.Nat.{mod-add-div}
 use Rattle.std.proofs.lemmas.List.{map-append, length-map}
+use Rattle.std.proofs.lemmas.Option.{same_Some, none-some}
 use Rattle.lc_algebra.specs.declared.FieldName.{FieldName}
 use Rattle.lc_algebra.specs.Field.{size, is_symbol, mul, pow}
 use Rattle.lc_algebra.specs.Span.{below}
@@ -62,22 +63,16 @@ form_told K n b d x form e q p m r =
     ap (λ k. form_from k form.points form.multipliers form.r) e ∙ ap (λ u. form_from K u form.multipliers form.r) p2 ∙ ap (λ u. form_from K (map (pow K (root_of_unity K n)) (below n)) u form.r) m2
     ∙ ap (form_from K (map (pow K (root_of_unity K n)) (below n)) (map (λ i. pow K (root_of_unity K n) (i * b)) (below n))) r
 
-none_is_some : {X : Type 0} (x : X) → None ≡ Some x → ⊥
-none_is_some x h = true≢false (sym (ap is_some h))
-
-some_same : {X : Type 0} (x y : X) → Some x ≡ Some y → x ≡ y
-some_same x y h = cc h
-
 sized : (o : Option FieldName) (q : ℕ) (K : FieldName) → option_map size o ≡ Some q → size K ≡ q → o ≡ Some K
-sized None q K h e = absurd (none_is_some q h)
-sized (Some L) q K h e = ap Some (told_by_size L K (some_same (size L) q h ∙ sym e))
+sized None q K h e = absurd (none-some q h)
+sized (Some L) q K h e = ap Some (told_by_size L K (same_Some (size L) q h ∙ sym e))
 
 pub locator_told : (f K : FieldName) (n q : ℕ) → 1 ≤ n → option_map size (locator_field f n) ≡ Some q → size K ≡ q → IsLocatorField f n K
 locator_told f K n q l h e = (locator_is f n K l).0 (sized (locator_field f n) q K h e)
 
 there : (o : Option FieldName) (q : ℕ) → option_map size o ≡ Some q → ((K : FieldName) → size K ≡ q → ⊥) → ⊥
-there None q h k = none_is_some q h
-there (Some L) q h k = k L (some_same (size L) q h)
+there None q h k = none-some q h
+there (Some L) q h k = k L (same_Some (size L) q h)
 
 pub locator_there : (f : FieldName) (n q : ℕ) → option_map size (locator_field f n) ≡ Some q → ((K : FieldName) → size K ≢ q) → ⊥
 locator_there f n q h k = there (locator_field f n) q h k
@@ -111,10 +106,10 @@ bch_refused_length f n d a b = rw (a, b) refl
 
 not_found : (o : Option FieldName) → None ≡ option_map size o → is_some o ≡ false
 not_found None h = refl
-not_found (Some K) h = absurd (none_is_some (size K) h)
+not_found (Some K) h = absurd (none-some (size K) h)
 
 found : (o : Option FieldName) (q : ℕ) → Some q ≡ option_map size o → is_some o ≡ true
-found None q h = absurd (none_is_some q (sym h))
+found None q h = absurd (none-some q (sym h))
 found (Some K) q h = refl
 
 pub bch_refused_root : (f : FieldName) (n d : ℕ) → is_symbol f ≡ true → is_length n ≡ true → None ≡ option_map size (locator_field f n) → first_refusal (bch_refusals f n d) ≡ Some NoRoot

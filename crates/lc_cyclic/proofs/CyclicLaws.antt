@@ -23,7 +23,7 @@ use Rattle.lc_algebra.specs.Polynomial.{poly_sum, poly_scale, poly_product, x_po
 use Rattle.lc_algebra.specs.Span.{below, combine, InSpan, SameSpan, AreIndependent}
 use Rattle.lc_algebra.specs.Matrix.{Matrix, AreRows, column}
 use Rattle.lc_algebra.proofs.FieldLaws.{zero_inside, mul_inside, mul_zero, add_zero, zero_add, add_comm, add_assoc, add_neg, neg_one_mul}
-use Rattle.lc_algebra.proofs.WordLaws.{fits_symbol, same_words, index_zero_word, IsWord_zero}
+use Rattle.lc_algebra.proofs.WordLaws.{fits_symbol, same_words, index_zero_word, IsWord_zero, dot_cons}
 use Rattle.lc_algebra.proofs.SpanLaws.{span_word, word_of_combination, combination_of_word, length_combine, length_below}
 use Rattle.lc_algebra.proofs.ReducedLaws.{index_combine, reduced_independent}
 use Rattle.lc_algebra.proofs.DimensionLaws.{dimension_unique}
@@ -117,10 +117,6 @@ dot_none : (f : FieldName) (us : List ℕ) → word_dot f [] us ≡ 0
 unfolding word_dot
 dot_none f us = refl
 
-dot_cons : (f : FieldName) (c : ℕ) (cs : List ℕ) (a : ℕ) (us : List ℕ) → word_dot f (c ∷ cs) (a ∷ us) ≡ add f (mul f c a) (word_dot f cs us)
-unfolding word_dot
-dot_cons f c cs a us = refl
-
 from_more : (g : List ℕ) (n i k p : ℕ) → column (rows_from g n i (suc k)) p ≡ slice_index (shifted g n i) p ∷ column (rows_from g n (suc i) k) p
 unfolding rows_from exponents_from
 from_more g n i k p = refl
@@ -135,7 +131,7 @@ dot_later f g n i k p [] e l = dot_none f (column (rows_from g n i k) p)
 dot_later f g n i zero p (c ∷ cs) e l = absurd (omega (arith, e))
 dot_later f g n i (suc k) p (c ∷ cs) e l =
     ap (word_dot f (c ∷ cs)) (from_more g n i k p ∙ ap (λ a. a ∷ column (rows_from g n (suc i) k) p) (shifted_before g n i p l))
-    ∙ dot_cons f c cs 0 (column (rows_from g n (suc i) k) p) ∙ cc (mul_zero f c, dot_later f g n (suc i) k p cs (omega (arith, e)) (omega (arith, l)), zero_add f 0 (zero_inside f))
+    ∙ dot_cons f c 0 cs (column (rows_from g n (suc i) k) p) ∙ cc (mul_zero f c, dot_later f g n (suc i) k p cs (omega (arith, e)) (omega (arith, l)), zero_add f 0 (zero_inside f))
 
 dot_shifts : (f : FieldName) (g : List ℕ) (n i k j : ℕ) (cs : List ℕ) → length cs ≡ k → word_dot f cs (column (rows_from g n i k) (i + j)) ≡ slice_index (poly_product f cs g) j
 dot_shifts f g n i k j [] e = dot_none f (column (rows_from g n i k) (i + j)) ∙ sym (no_product f g j)
@@ -144,14 +140,14 @@ dot_shifts f g n i (suc k) zero (c ∷ cs) e =
     let D = word_dot f cs (column (rows_from g n (suc i) k) (i + 0)) in
     let z : D ≡ 0 = dot_later f g n (suc i) k (i + 0) cs (omega (arith, e)) (omega arith) in
     ap (word_dot f (c ∷ cs)) (from_more g n i k (i + 0) ∙ ap (λ a. a ∷ column (rows_from g n (suc i) k) (i + 0)) (shifted_after g n i 0))
-    ∙ dot_cons f c cs (slice_index g 0) (column (rows_from g n (suc i) k) (i + 0))
+    ∙ dot_cons f c (slice_index g 0) cs (column (rows_from g n (suc i) k) (i + 0))
     ∙ ap (add f (mul f c (slice_index g 0))) z ∙ add_zero f (mul f c (slice_index g 0)) (mul_inside f c (slice_index g 0)) ∙ sym (index_product_zero f c cs g)
 dot_shifts f g n i (suc k) (suc j) (c ∷ cs) e =
     let p = i + suc j in
     let d : p ≡ suc i + j = omega arith in
     let rest : word_dot f cs (column (rows_from g n (suc i) k) p) ≡ slice_index (poly_product f cs g) j = ap (λ q. word_dot f cs (column (rows_from g n (suc i) k) q)) d ∙ dot_shifts f g n (suc i) k j cs (omega (arith, e)) in
     ap (word_dot f (c ∷ cs)) (from_more g n i k p ∙ ap (λ a. a ∷ column (rows_from g n (suc i) k) p) (shifted_after g n i (suc j)))
-    ∙ dot_cons f c cs (slice_index g (suc j)) (column (rows_from g n (suc i) k) p)
+    ∙ dot_cons f c (slice_index g (suc j)) cs (column (rows_from g n (suc i) k) p)
     ∙ ap (add f (mul f c (slice_index g (suc j)))) rest ∙ sym (index_product_suc f c cs g j)
 
 pub combine_shifts : (f : FieldName) (g : List ℕ) (n k : ℕ) (cs : List ℕ) → Fits f g → k + length g ≤ suc n → length cs ≡ k → SamePolynomial (combine f n cs (shifts g n k)) (poly_product f cs g)

@@ -12,16 +12,11 @@ use Rattle.lc_algebra.specs.declared.FieldName.TheVariants.{Gf2}
 use Rattle.lc_algebra.specs.Field.{shape_of, size, is_symbol}
 use Rattle.lc_algebra.specs.Embedding.{is_subfield}
 use Rattle.lc_algebra.proofs.FieldLaws.{zero_inside}
+use Rattle.lc_algebra.proofs.CommonLaws.{find_here, find_later, and_regrouped}
 use Rattle.lc_constructions.specs.Cyclic.{all_fields, locator_field}
 use Rattle.lc_constructions.specs.Refusals.{is_size_of_symbol_field}
 use Rattle.lc_cyclic.specs.Fields.{field_number, holds_root}
 use Rattle.lc_code.proofs.CoordinateSteps.{degree_nonzero}
-
-find_here : (p : FieldName → Bool) (x : FieldName) (xs : List FieldName) → p x ≡ true → find p (x ∷ xs) ≡ Some x
-find_here p x xs e = rw e refl
-
-find_later : (p : FieldName → Bool) (x : FieldName) (xs : List FieldName) → p x ≡ false → find p (x ∷ xs) ≡ find p xs
-find_later p x xs e = rw e refl
 
 find_at : (p : FieldName → Bool) (xs : List FieldName) (i : ℕ) (d : FieldName) → i < length xs → p (slice_index_or xs i d) ≡ true → ((k : ℕ) → k < i → p (slice_index_or xs k d) ≡ false) → find p xs ≡ Some (slice_index_or xs i d)
 find_at p [] i d l t h = absurd (omega (arith, l))
@@ -53,15 +48,11 @@ is_locator_for f n i = holds_root (shape_of f).characteristic (shape_of f).degre
 turned : (a b : ℕ) → (a == b) ≡ (b == a)
 turned a b = grind arith
 
-nested : (a b c : Bool) → (a && (b && c)) ≡ ((a && b) && c)
-nested true b c = refl
-nested false b c = refl
-
 same_test : (f : FieldName) (n : ℕ) (K : FieldName) → holds_root (shape_of f).characteristic (shape_of f).degree n (shape_of K).characteristic (shape_of K).degree (size K) ≡ (is_subfield f K && ((size K - 1) % n == 0))
 unfolding holds_root is_subfield
 same_test f n K =
     ap (λ t. t && (((shape_of K).degree % (shape_of f).degree == 0) && ((size K - 1) % n == 0))) (turned (shape_of K).characteristic (shape_of f).characteristic)
-    ∙ nested ((shape_of f).characteristic == (shape_of K).characteristic) ((shape_of K).degree % (shape_of f).degree == 0) ((size K - 1) % n == 0)
+    ∙ and_regrouped ((shape_of f).characteristic == (shape_of K).characteristic) ((shape_of K).degree % (shape_of f).degree == 0) ((size K - 1) % n == 0)
 
 pub locator_found : (f : FieldName) (n i q : ℕ) → i < 18 → q ≡ size (field_number i) → is_locator_for f n i ≡ true → ((k : ℕ) → k < i → is_locator_for f n k ≡ false) → Some q ≡ option_map size (locator_field f n)
 unfolding field_number locator_field

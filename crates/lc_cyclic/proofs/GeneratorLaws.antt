@@ -1,6 +1,6 @@
 -- The generator polynomial of a BCH code, one zero after another.
 --   value_none, value_step      Horner's rule in the locator field
---   one_fits, generator_none      without zeros it is 1
+--   generator_none      without zeros it is 1
 --   generator_kept         a zero that it has
 --   generator_more         a zero that it lacks: times the minimal polynomial
 --   generator_divides      it divides x^n - 1
@@ -12,13 +12,13 @@ use Rattle.std.proofs.lemmas.List.{drop_more}
 use Rattle.std.proofs.lemmas.List.Elements.{All-contains}
 use Rattle.lc_algebra.specs.declared.FieldName.{FieldName}
 use Rattle.lc_algebra.specs.Field.{add, neg, mul, pow}
-use Rattle.lc_algebra.specs.Word.{Fits}
 use Rattle.lc_algebra.specs.Polynomial.{value_at, trimmed, put_on, poly_product, x_power_minus_one, IsPolynomial, Divides}
 use Rattle.lc_algebra.specs.Embedding.{IsSubfield, embed, IsMinimal}
 use Rattle.lc_algebra.specs.Matrix.{Matrix}
-use Rattle.lc_algebra.proofs.FieldLaws.{add_neg, mul_zero, zero_mul, one_inside, zero_inside}
+use Rattle.lc_algebra.proofs.FieldLaws.{add_neg, mul_zero, zero_mul, zero_inside}
 use Rattle.lc_algebra.proofs.PowerLaws.{one_pow, pow_mul}
 use Rattle.lc_algebra.proofs.PolynomialLaws.{fits_product, product_commutes, product_same}
+use Rattle.lc_algebra.proofs.WordLaws.{fits_one}
 use Rattle.lc_constructions.specs.Code.{IsCode}
 use Rattle.lc_constructions.specs.Cyclic.{IsLocatorField, root_of_unity, value_in, exponents_from, IsMultipleOf, IsBchWord}
 use Rattle.lc_constructions.proofs.FormLaws.{all_exponents, contains_exponents}
@@ -54,12 +54,8 @@ trimmed_one : trimmed (1 ∷ []) ≡ 1 ∷ []
 unfolding trimmed put_on
 trimmed_one = refl
 
-pub one_fits : (f : FieldName) → Fits f (1 ∷ [])
-one_fits f zero l = one_inside f
-one_fits f (suc i) l = absurd (omega (arith, l))
-
 one_is_polynomial : (f : FieldName) → IsPolynomial f (1 ∷ [])
-one_is_polynomial f = record { fits = one_fits f; leads = λ l. omega arith }
+one_is_polynomial f = record { fits = fits_one f; leads = λ l. omega arith }
 
 pub generator_none : (f K : FieldName) (x b : ℕ) (g : List ℕ) → g ≡ trimmed (1 ∷ []) → IsGenerator f K x b 0 g
 generator_none f K x b g e =

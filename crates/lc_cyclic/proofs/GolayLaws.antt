@@ -1,7 +1,5 @@
 -- The two Golay codes.
---   binary_size, ternary_size      symbol fields have 2 and 3 elements
---   ternary_field                  the field with 3 elements
---   binary_symbol, ternary_symbol  are symbol fields
+--   binary_size, ternary_size, ternary_symbol      their fields have 2 and 3 elements, and are symbol fields
 --   binary_polynomial, ternary_polynomial, binary_divisor, ternary_divisor      the generator polynomials divide x^n - 1
 --   binary_dimension, ternary_dimension
 use Rattle.std.proofs.Common.{◌≡◌, [], ◌∷◌, length, slice_index, refl, sym, ap, subst, ◌∙◌, arith}
@@ -11,12 +9,13 @@ use Rattle.lc_algebra.specs.declared.FieldName.TheVariants.{Gf2, Gf3}
 use Rattle.lc_algebra.specs.Field.{shape, shape_of, size, is_symbol}
 use Rattle.lc_algebra.specs.Polynomial.{x_power_minus_one, IsPolynomial, Divides}
 use Rattle.lc_algebra.specs.Matrix.{Matrix}
-use Rattle.lc_algebra.proofs.EmbeddingTests.{told_by_size, two_elements}
+use Rattle.lc_algebra.proofs.EmbeddingTests.{two_elements, binary_symbols}
 use Rattle.lc_constructions.specs.Code.{IsCode}
 use Rattle.lc_constructions.specs.Cyclic.{all_fields, IsMultipleOf, binary_golay_generator, ternary_golay_generator}
 use Rattle.lc_constructions.specs.Refusals.{are_elements, is_size_of_symbol_field}
 use Rattle.lc_constructions.proofs.RefusalLaws.{elements_fit}
 use Rattle.lc_constructions.proofs.MembershipExamples.{binary_golay_divides, ternary_golay_divides}
+use Rattle.lc_matrix.proofs.DivisibleLaws.{ternary_name}
 use Rattle.lc_cyclic.proofs.CyclicLaws.{generator_dimension}
 
 pub binary_size : IsTrue (is_size_of_symbol_field 2)
@@ -27,23 +26,9 @@ pub ternary_size : IsTrue (is_size_of_symbol_field 3)
 unfolding shape shape_of size is_symbol all_fields is_size_of_symbol_field
 ternary_size = refl
 
-size_three : size Gf3 ≡ 3
-unfolding shape shape_of size
-size_three = refl
-
-pub ternary_field : (f : FieldName) → size f ≡ 3 → f ≡ Gf3
-ternary_field f e = told_by_size f Gf3 (e ∙ sym size_three)
-
-two_symbols : IsTrue (is_symbol Gf2)
-unfolding shape shape_of size is_symbol
-two_symbols = refl
-
 three_symbols : IsTrue (is_symbol Gf3)
 unfolding shape shape_of size is_symbol
 three_symbols = refl
-
-pub binary_symbol : (f : FieldName) → f ≡ Gf2 → IsTrue (is_symbol f)
-binary_symbol f e = subst (λ g. IsTrue (is_symbol g)) (sym e) two_symbols
 
 pub ternary_symbol : (f : FieldName) → f ≡ Gf3 → IsTrue (is_symbol f)
 ternary_symbol f e = subst (λ g. IsTrue (is_symbol g)) (sym e) three_symbols
@@ -88,12 +73,12 @@ binary_dimension C c = generator_dimension Gf2 23 binary_golay_generator C (omeg
 pub ternary_dimension : (C : Matrix) → IsCode Gf3 11 (IsMultipleOf Gf3 11 ternary_golay_generator) C → length C.rows ≡ 6
 ternary_dimension C c = generator_dimension Gf3 11 ternary_golay_generator C (omega arith) ternary_generator ternary_divides c
 
-pub ruleset binary_golay_laws = (binary_symbol, binary_polynomial, binary_divisor)
+pub ruleset binary_golay_laws = (binary_symbols, binary_polynomial, binary_divisor)
 
 pub ruleset ternary_golay_laws = (ternary_symbol, ternary_polynomial, ternary_divisor)
 
 pub ruleset binary_field_laws = (binary_size, two_elements)
 
-pub ruleset ternary_field_laws = (ternary_size, ternary_field)
+pub ruleset ternary_field_laws = (ternary_size, ternary_name)
 
 pub ruleset dimensions_of_golay_codes_laws = (binary_dimension, ternary_dimension)

@@ -12,7 +12,6 @@ use Rattle.std.proofs.lemmas.Bool.{cases_Bool, and_parts, eqb-true, leb-true}
 use Rattle.lc_algebra.specs.declared.FieldName.{FieldName}
 use Rattle.lc_algebra.specs.declared.FieldName.TheVariants.{Gf2}
 use Rattle.lc_algebra.specs.Field.{shape, shape_of, size, is_symbol}
-use Rattle.lc_algebra.specs.Embedding.{IsSubfield}
 use Rattle.lc_algebra.specs.Matrix.{Matrix}
 use Rattle.lc_algebra.proofs.SpanSearch.{any_contains}
 use Rattle.lc_constructions.specs.declared.refusal.CodeRefusal.TheVariants.{BadDelta, NoFieldOfLength}
@@ -21,7 +20,7 @@ use Rattle.lc_constructions.specs.Cyclic.{all_fields, IsBchWord, IsReedSolomonWo
 use Rattle.lc_constructions.specs.Alternant.{AlternantForm, IsForm, IsAlternantWord, bch_form}
 use Rattle.lc_constructions.specs.Refusal.{refuse_if, first_refusal}
 use Rattle.lc_constructions.specs.Refusals.{is_size_of_symbol_field, reed_solomon_refusals}
-use Rattle.lc_constructions.proofs.FormLaws.{bch_is_form, reed_solomon_is_bch}
+use Rattle.lc_constructions.proofs.FormLaws.{bch_is_form, reed_solomon_is_bch, own_subfield}
 use Rattle.lc_code.proofs.CodeLaws.{same_code}
 use Rattle.lc_cyclic.proofs.FieldLaws.{any_nowhere}
 use Rattle.lc_cyclic.proofs.BchLaws.{bch_code}
@@ -67,9 +66,6 @@ small_length n l m = grind (arith, l, m)
 small_symbol : (f : FieldName) → size f ≤ 16 → IsTrue (is_symbol f)
 unfolding is_symbol
 small_symbol f l = grind (arith, l)
-
-own_subfield : (f : FieldName) → IsSubfield f f
-own_subfield f = record { characteristic = refl; degree = mod_self (shape_of f).degree }
 
 own_order : (f : FieldName) (n : ℕ) → size f ≡ n + 1 → (size f - 1) % n ≡ 0
 own_order f n e = let d : size f - 1 ≡ n = omega (arith, e) in ap (λ m. m % n) d ∙ mod_self n

@@ -14,11 +14,11 @@ use Rattle.lc_algebra.specs.Word.{IsWord, zero_word}
 use Rattle.lc_algebra.specs.Span.{below, InSpan, SameSpan, AreIndependent}
 use Rattle.lc_algebra.specs.Matrix.{AreRows}
 use Rattle.lc_algebra.proofs.WordLaws.{IsWord_zero}
-use Rattle.lc_algebra.proofs.SpanLaws.{same_span, contains_cases, contains_head, contains_tail, contains_map, map_contains, below_contains, contains_below}
+use Rattle.lc_algebra.proofs.SpanLaws.{same_span, contains_cases, contains_head, contains_tail, contains_map, map_contains, below_contains, contains_below, span_of_member}
 use Rattle.lc_algebra.proofs.DivisorLaws.{no_member}
 use Rattle.lc_enumeration.specs.InformationSet.{in_span, greedy, dimension}
 use Rattle.lc_enumeration.proofs.MemberLaws.{in_span_true, true_in_span}
-use Rattle.lc_enumeration.proofs.GreedyLaws.{each_contained, span_of_member, span_wider, independent_last, AreVectors, vectors_are_rows}
+use Rattle.lc_enumeration.proofs.GreedyLaws.{each_contained, span_wider, independent_last, AreVectors, vectors_are_rows}
 
 pub map_same : {X Y : Type 0} (g h : X → Y) (xs : List X) → ((x : X) → Contains xs x → g x ≡ h x) → map g xs ≡ map h xs
 map_same g h [] e = refl
@@ -57,8 +57,8 @@ pub record Spanned (f : FieldName) (n : ℕ) (v : ℕ → List ℕ) (taken order
   pub within : (i : ℕ) → Contains set i → Contains taken i ⊎ Contains order i
   pub spans : (i : ℕ) → Contains order i → InSpan f n (map v set) (v i)
 
-wider : (f : FieldName) (n : ℕ) (v : ℕ → List ℕ) (set others w : List ℕ) → AreVectors f n v → ((i : ℕ) → Contains set i → Contains others i) → InSpan f n (map v set) w → InSpan f n (map v others) w
-wider f n v set others w are h s = span_wider f n (map v set) (map v others) w (vectors_are_rows f n v others are) (λ x c. let t = contains_map v set x c in subst (Contains (map v others)) (sym t.2) (map_contains v others t.0 (h t.0 t.1))) s
+pub set_wider : (f : FieldName) (n : ℕ) (v : ℕ → List ℕ) (set others w : List ℕ) → AreVectors f n v → ((i : ℕ) → Contains set i → Contains others i) → InSpan f n (map v set) w → InSpan f n (map v others) w
+set_wider f n v set others w are h s = span_wider f n (map v set) (map v others) w (vectors_are_rows f n v others are) (λ x c. let t = contains_map v set x c in subst (Contains (map v others)) (sym t.2) (map_contains v others t.0 (h t.0 t.1))) s
 
 pub greedy_spans : (f : FieldName) (n : ℕ) (v : ℕ → List ℕ) (taken order : List ℕ) → AreVectors f n v → Spanned f n v taken order (greedy f n v taken order)
 unfolding greedy
@@ -73,7 +73,7 @@ greedy_spans f n v taken (i ∷ order) are =
       keeps = r.keeps;
       within = λ j l. ⊎_elim (λ m. inl m) (λ m. inr (contains_tail i j order m)) (r.within j l);
       spans = λ j l. ⊎_elim
-          (λ s. subst (λ k. InSpan f n (map v set) (v k)) s (wider f n v taken set (v i) are r.keeps (in_span_true f n (map v taken) (v i) e)))
+          (λ s. subst (λ k. InSpan f n (map v set) (v k)) s (set_wider f n v taken set (v i) are r.keeps (in_span_true f n (map v taken) (v i) e)))
           (λ m. r.spans j m) (contains_cases i j order l);
     }))
     (λ e.

@@ -1,7 +1,6 @@
 -- Independence, and the vectors that the greedy rule takes.
 --   each_contained             what holds of each member holds of all
---   span_of_member, span_wider      each row is a word of the rows; the words of some of the rows are words of all
---   combine_append             combinations of two lists of rows, one after the other
+--   span_wider                 the words of some of the rows are words of all
 --   opposite                   two words whose sum is zero
 --   last_split                 a list that isn't empty, before its last entry
 --   independent_last           independent rows, and a row after them that is none of their words, are independent
@@ -10,47 +9,28 @@
 --   vectors_are_rows           so are those of some indices
 --   greedy_few                 the greedy rule takes no more than there are
 --   greedy_independent, greedy_whole      it takes all exactly if they are independent
-use Rattle.std.proofs.Common.{◌≡◌, ℕ, zero, suc, ◌+◌, ◌<◌, ◌≤◌, ◌⊎◌, Bool, true, false, cond, List, [], ◌∷◌, ◌++◌, map, length, All, Contains, refl, sym, ap, ap₂, subst, ◌∙◌, ⊎_elim, inl, inr, arith, append_assoc, append-nil}
+--   length_unit, index_unit    the words with a single 1
+use Rattle.std.proofs.Common.{if◌then◌else◌, ◌≡◌, ℕ, zero, suc, ◌+◌, ◌<◌, ◌≤◌, ◌⊎◌, Bool, true, false, cond, List, [], ◌∷◌, ◌++◌, map, length, All, Contains, refl, sym, ap, ap₂, subst, ◌∙◌, ⊎_elim, inl, inr, arith, append_assoc, append-nil, ◌==◌, slice_index}
 use Rattle.std.proofs.lemmas.Bool.{cases_Bool, cases_lt, true≢false}
-use Rattle.std.proofs.lemmas.List.{length-append, map-append}
-use Rattle.std.proofs.lemmas.List.Elements.{All-contains, All-head, All-tail, All-cons, Contains-get_or, Contains-append_left, Contains-append_right, Contains-append_cases}
+use Rattle.std.proofs.lemmas.List.{length-append, map-append, length-map, get_or-map}
+use Rattle.std.proofs.lemmas.List.Elements.{All-cons, Contains-get_or, Contains-append_left, Contains-append_right, Contains-append_cases}
 use Rattle.lc_algebra.specs.declared.FieldName.{FieldName}
 use Rattle.lc_algebra.specs.Field.{size, neg, mul}
 use Rattle.lc_algebra.specs.Word.{Fits, IsWord, zero_word, word_sum, scale}
-use Rattle.lc_algebra.specs.Span.{combine, InSpan, SameSpan, AreIndependent}
+use Rattle.lc_algebra.specs.Span.{combine, InSpan, SameSpan, AreIndependent, below}
 use Rattle.lc_algebra.specs.Matrix.{AreRows}
 use Rattle.lc_algebra.proofs.FieldLaws.{inverse_of, mul_comm}
-use Rattle.lc_algebra.proofs.WordLaws.{IsWord_zero, IsWord_scale, IsWord_sum, length_scale, fits_head, fits_tail, fits_cons, sum_comm, sum_assoc, zero_sum, sum_zero, sum_negative, zero_scale, one_scale, scale_scale}
-use Rattle.lc_algebra.proofs.SpanLaws.{span_zero, span_scale, span_row, span_within, same_span, word_of_combination, length_combine, contains_cases, contains_head, contains_tail, contains_map}
+use Rattle.lc_algebra.proofs.WordLaws.{IsWord_scale, fits_head, fits_tail, fits_cons, sum_comm, sum_assoc, zero_sum, sum_zero, sum_negative, zero_scale, one_scale, scale_scale}
+use Rattle.lc_algebra.proofs.SpanLaws.{span_zero, span_scale, span_within, same_span, word_of_combination, contains_cases, contains_head, contains_tail, contains_map, length_below, index_below, combine_append, combine_is_word, span_of_member}
 use Rattle.lc_algebra.proofs.DimensionLaws.{independent_at_most}
-use Rattle.lc_enumeration.specs.InformationSet.{in_span, greedy}
+use Rattle.lc_enumeration.specs.InformationSet.{in_span, greedy, unit_word}
 use Rattle.lc_enumeration.proofs.MemberLaws.{in_span_true, true_in_span}
 
 pub each_contained : {X : Type 0} (P : X → Type 0) (xs : List X) → ((x : X) → Contains xs x → P x) → All P xs
 each_contained P xs h = λ k d l. h _ (Contains-get_or xs k d l)
 
-pub span_of_member : (f : FieldName) (n : ℕ) (rows : List (List ℕ)) (w : List ℕ) → AreRows f n rows → Contains rows w → InSpan f n rows w
-span_of_member f n rows w r c = All-contains (InSpan f n rows) rows w (span_row f n rows r) c
-
 pub span_wider : (f : FieldName) (n : ℕ) (rows others : List (List ℕ)) (w : List ℕ) → AreRows f n others → ((x : List ℕ) → Contains rows x → Contains others x) → InSpan f n rows w → InSpan f n others w
 span_wider f n rows others w r h i = span_within f n rows others w r (each_contained (InSpan f n others) rows (λ x c. span_of_member f n others x r (h x c))) i
-
-pub combine_is_word : (f : FieldName) (n : ℕ) (cs : List ℕ) (rows : List (List ℕ)) → AreRows f n rows → IsWord f n (combine f n cs rows)
-unfolding combine
-combine_is_word f n [] rows r = IsWord_zero f n
-combine_is_word f n (c ∷ cs) [] r = IsWord_zero f n
-combine_is_word f n (c ∷ cs) (g ∷ rows) r =
-    let tail = All-tail (IsWord f n) g rows r in
-    IsWord_sum f n (scale f c g) (combine f n cs rows) (length_scale f c g ∙ (All-head (IsWord f n) g rows r).long) (length_combine f n cs rows tail)
-
-pub combine_append : (f : FieldName) (n : ℕ) (ds es : List ℕ) (xs ys : List (List ℕ)) → length ds ≡ length xs → AreRows f n ys → combine f n (ds ++ es) (xs ++ ys) ≡ word_sum f (combine f n ds xs) (combine f n es ys)
-unfolding combine
-combine_append f n [] es [] ys l r = sym (zero_sum f n (combine f n es ys) (combine_is_word f n es ys r))
-combine_append f n [] es (x ∷ xs) ys l r = absurd (omega (arith, l))
-combine_append f n (d ∷ ds) es [] ys l r = absurd (omega (arith, l))
-combine_append f n (d ∷ ds) es (x ∷ xs) ys l r =
-    ap (word_sum f (scale f d x)) (combine_append f n ds es xs ys (omega (arith, l)) r)
-    ∙ sym (sum_assoc f (scale f d x) (combine f n ds xs) (combine f n es ys))
 
 pub opposite : (f : FieldName) (n : ℕ) (u v : List ℕ) → IsWord f n u → IsWord f n v → word_sum f u v ≡ zero_word n → v ≡ scale f (neg f 1) u
 opposite f n u v h k e =
@@ -178,3 +158,11 @@ greedy_whole f n vector taken (i ∷ order) v free =
     (in_span_true f n (map vector taken) (vector i) e)))
     (λ e. subst rest (sym e) (greedy_whole f n vector (taken ++ i ∷ []) order v (subst (λ set. AreIndependent f n (map vector set)) (sym (append_assoc taken (i ∷ []) order)) free) ∙ omega (arith, length-append taken (i ∷ []))))
     (cases_Bool (in_span f n (map vector taken) (vector i)))
+
+pub length_unit : (k i : ℕ) → length (unit_word k i) ≡ k
+unfolding unit_word
+length_unit k i = length-map (below k) (λ j. if i == j then 1 else 0) ∙ length_below k
+
+pub index_unit : (k i j : ℕ) → j < k → slice_index (unit_word k i) j ≡ (if i == j then 1 else 0)
+unfolding unit_word
+index_unit k i j l = get_or-map (λ j. if i == j then 1 else 0) (below k) j 0 0 (omega (arith, l, length_below k)) ∙ ap (λ j. if i == j then 1 else 0) (index_below k j 0 l)

@@ -14,3 +14,4 @@ pub mod ReedMullerExamples
 pub mod ReedMullerSessionExamples
 pub mod SearchExamples
 pub mod SearchLaws
+pub mod ChooseLaws

@@ -1,29 +1,20 @@
 -- The tests for members of a list of numbers and for equal words, and what they test.
---   some_passes                       a list with a member that passes passes
 --   member_true, true_member          a number is in a list exactly if the test says so
 --   same_from_test, same_itself, test_from_same      two words are equal exactly if the test says so
 --   in_span_true, true_in_span        a word is one of the rows' words exactly if the test says so
-use Rattle.std.proofs.Common.{◌≡◌, ℕ, Bool, true, ◌==◌, List, [], ◌∷◌, Contains, refl, sym, ap, subst, ◌∙◌, ⊎_elim}
+--   told_member                       so does the test that asks each entry for the number
+use Rattle.std.proofs.Common.{◌≡◌, ℕ, Bool, true, ◌==◌, List, [], ◌∷◌, Contains, refl, sym, ap, subst, ◌∙◌, ⊎_elim, ◌≢◌}
 use Rattle.std.specs.List.{list_any}
-use Rattle.std.proofs.lemmas.Bool.{and_parts, and_from, or_left, or_right, eqb-true, eq-eqb, false≢true}
+use Rattle.std.proofs.lemmas.Bool.{and_parts, and_from, eqb-true, eq-eqb, false≢true, cases_Bool, true≢false}
 use Rattle.lc_algebra.specs.declared.FieldName.{FieldName}
 use Rattle.lc_algebra.specs.Span.{InSpan, words}
-use Rattle.lc_algebra.proofs.SpanLaws.{contains_cases, word_of_member, member_of_word}
-use Rattle.lc_algebra.proofs.SpanSearch.{any_contains}
-use Rattle.lc_algebra.proofs.DivisorLaws.{no_member}
+use Rattle.lc_algebra.proofs.SpanLaws.{word_of_member, member_of_word}
+use Rattle.lc_algebra.proofs.SpanSearch.{any_contains, contains_any}
 use Rattle.lc_enumeration.specs.InformationSet.{is_member, same_word, in_span}
-
-pub some_passes : {X : Type 0} (test : X → Bool) (xs : List X) (x : X) → Contains xs x → test x ≡ true → list_any test xs ≡ true
-some_passes test [] x l t = absurd (no_member x l)
-some_passes test (y ∷ xs) x l t =
-    ⊎_elim
-    (λ e. or_left (test y) (list_any test xs) (ap test e ∙ t))
-    (λ r. or_right (test y) (list_any test xs) (some_passes test xs x r t))
-    (contains_cases y x xs l)
 
 pub member_true : (set : List ℕ) (c : ℕ) → Contains set c → is_member set c ≡ true
 unfolding is_member
-member_true set c l = some_passes (λ d. c == d) set c l (eq-eqb c c refl)
+member_true set c l = contains_any (λ d. c == d) set c l (eq-eqb c c refl)
 
 pub true_member : (set : List ℕ) (c : ℕ) → is_member set c ≡ true → Contains set c
 unfolding is_member
@@ -54,4 +45,11 @@ in_span_true f n rows w h =
 
 pub true_in_span : (f : FieldName) (n : ℕ) (rows : List (List ℕ)) (w : List ℕ) → InSpan f n rows w → in_span f n rows w ≡ true
 unfolding in_span
-true_in_span f n rows w i = some_passes (same_word w) (words f n rows) w (member_of_word f n rows w i) (same_itself w)
+true_in_span f n rows w i = contains_any (same_word w) (words f n rows) w (member_of_word f n rows w i) (same_itself w)
+
+pub told_member : (b : Bool) (columns : List ℕ) (c : ℕ) → b ≡ list_any (λ d. d == c) columns → b ≡ is_member columns c
+told_member b columns c e =
+    e ∙ ⊎_elim
+    (λ t. t ∙ sym (let m = any_contains (λ d. d == c) columns t in member_true columns c (subst (Contains columns) (eqb-true m.0 c m.2) m.1)))
+    (λ t. t ∙ ⊎_elim (λ u. absurd (true≢false (sym (contains_any (λ d. d == c) columns c (true_member columns c u) (eq-eqb c c refl)) ∙ t))) (λ u. sym u) (cases_Bool (is_member columns c)))
+    (cases_Bool (list_any (λ d. d == c) columns))

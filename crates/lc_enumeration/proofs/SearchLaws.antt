@@ -8,8 +8,9 @@
 --   beats_is_less                  on the board the order is that of the values
 --   beats_itself, beats_through, beats_back, beaten_both      beating is a total order
 --   least_is, least_in_is, least_one      the least of some founds is the one that no other beats
-use Rattle.std.proofs.Common.{◌≡◌, ℕ, zero, suc, ◌+◌, ◌-◌, ◌*◌, ◌/◌, ◌%◌, ◌^◌, ◌<◌, ◌≤◌, ◌↔◌, ◌⊎◌, true, false, nat_lt, List, [], ◌∷◌, length, map, take, drop, option_map, slice_index_or, slice_get, Some, None, Contains, unwrap_or, is_some, Option, refl, sym, ap, subst, ◌∙◌, inl, inr, ⊎_elim, arith}
-use Rattle.std.proofs.lemmas.Bool.{cases_lt, cases_Bool, false≢true}
+--   fitting_place_small                  the place of a found word that fits what was searched
+use Rattle.std.proofs.Common.{◌≡◌, ℕ, zero, suc, ◌+◌, ◌-◌, ◌*◌, ◌/◌, ◌%◌, ◌^◌, ◌<◌, ◌≤◌, ◌↔◌, ◌⊎◌, true, false, nat_lt, List, [], ◌∷◌, length, map, take, drop, option_map, slice_index_or, slice_get, Some, None, Contains, unwrap_or, is_some, Option, refl, sym, ap, subst, ◌∙◌, inl, inr, ⊎_elim, arith, ◌==◌, ◌&&◌, ◌||◌}
+use Rattle.std.proofs.lemmas.Bool.{cases_lt, cases_Bool, false≢true, and_parts, or_cases, ltb-true, eqb-true}
 use Rattle.std.proofs.lemmas.Bool.Decides.{nat_tests}
 use Rattle.std.proofs.lemmas.Nat.{div-mul-add, mod-mul-add}
 use Rattle.std.proofs.Math.Nat.{mod-add-div', mod-lt}
@@ -19,7 +20,7 @@ use Rattle.lc_algebra.specs.Word.{weight}
 use Rattle.lc_algebra.specs.Matrix.{Matrix}
 use Rattle.lc_enumeration.specs.Message.{numbers_from, messages}
 use Rattle.lc_enumeration.specs.Plan.{place_of, phase_of, phase_level, blocks_before, block_messages, IsInPhase}
-use Rattle.lc_enumeration.specs.Search.{Found, word_of, block_words, word_at, beats, found_along, found_in_block, found_from, board_value, least_of, least_in}
+use Rattle.lc_enumeration.specs.Search.{Found, word_of, block_words, word_at, beats, found_along, found_in_block, found_from, board_value, least_of, least_in, fits, set_count, weight_at}
 use Rattle.lc_enumeration.specs.Truth.{IsAtPlace, IsFoundBetween, IsLeastOf}
 use Rattle.lc_enumeration.proofs.PlanLaws.{phase_is}
 use Rattle.lc_algebra.proofs.SpanLaws.{contains_head, contains_tail, contains_cases, contains_flat_map, flat_map_contains}
@@ -169,3 +170,9 @@ pub least_one : (founds : List Found) (x y : Found) → IsLeastOf founds x → I
 least_one founds x y a b =
     let e = beaten_both x y (b.unbeaten x a.one) (a.unbeaten y b.one) in
     ap (λ w. record { weight = w; place = x.place }) e.0 ∙ ap (λ p. record { weight = y.weight; place = p }) e.1
+
+pub fitting_place_small : (C : Matrix) (l : ℕ) (x : Found) → fits C l x ≡ true → l ≤ 2 ^ 40 → x.place < 2 ^ 52
+unfolding fits
+fitting_place_small C l x t few =
+    let a = and_parts ((x.place == 0) || nat_lt x.place (l * 4096)) (is_some (word_at C (set_count C) x.place) && (weight_at C x.place == x.weight)) t in
+    ⊎_elim (λ z. omega (arith, eqb-true x.place 0 z)) (λ z. omega (arith, ltb-true x.place (l * 4096) z, few)) (or_cases (x.place == 0) (nat_lt x.place (l * 4096)) a.0)

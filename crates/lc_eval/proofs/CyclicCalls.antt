@@ -5,6 +5,7 @@
 --   extended_binary_applies, extended_ternary_applies      an extended Golay code: it isn't refused
 use Rattle.std.proofs.Common.{◌≡◌, ◌≢◌, ℕ, ◌+◌, ◌↔◌, ◌⊎◌, inl, inr, Bool, true, false, not, ◌==◌, ◌||◌, List, [], ◌∷◌, length, Option, Some, None, is_none, option_map, Result, Ok, Err, IfOk, IsTrue, refl, sym, ap, ap₂, subst, ◌∙◌, ⊎_elim, true≢false, arith}
 use Rattle.std.proofs.lemmas.Bool.{cases_Bool, cases_eq}
+use Rattle.std.proofs.lemmas.Option.{none-some}
 use Rattle.lc_algebra.specs.declared.FieldName.{FieldName}
 use Rattle.lc_algebra.specs.declared.FieldName.TheVariants.{Gf2, Gf3}
 use Rattle.lc_algebra.specs.Field.{size, is_symbol}
@@ -23,6 +24,7 @@ use Rattle.lc_language.specs.Value.{code}
 use Rattle.lc_language.specs.Refusal.{Refusal, refuse, refusal_from, from_codes}
 use Rattle.lc_language.specs.Meaning.{IsExtendedGolay}
 use Rattle.lc_language.specs.Evaluation.{Outcome, gives, refused, refuse_at, refuse_call, AppliesTo}
+use Rattle.lc_code.proofs.CoordinateSteps.{small_size}
 use Rattle.lc_eval.specs.declared.values.Value.{Value}
 use Rattle.lc_eval.specs.declared.refusals.Stop.{Stop}
 use Rattle.lc_eval.specs.declared.refusals.Stop.TheVariants as stop
@@ -32,7 +34,6 @@ use Rattle.lc_eval.specs.Made.{IsMade}
 use Rattle.lc_eval.specs.Rows.{clamped}
 use Rattle.lc_eval.proofs.AnswerLaws.{Applying, first_as, given, always}
 use Rattle.lc_eval.proofs.RowLaws.{elements_same, row_kept, none_here}
-use Rattle.lc_basic.proofs.HammingLaws.{small_field}
 use Rattle.lc_cyclic.proofs.CyclicRefusals.{cyclic_large}
 
 -- ---- numbers as symbols
@@ -43,14 +44,14 @@ not_elements f x y n d e h = rw (e, h) refl
 
 kept : (f : FieldName) (x : List ℕ) → IsTrue (is_symbol f) → are_elements f x ≡ true → clamped x ≡ x
 unfolding are_elements
-kept f x s h = row_kept (size f) x (small_field f s) (elements_same f x (small_field f s) ∙ h)
+kept f x s h = row_kept (size f) x (small_size f s) (elements_same f x (small_size f s) ∙ h)
 
 pub cyclic_same : (f : FieldName) (x : List ℕ) (n : ℕ) (d : Bool) → first_refusal (cyclic_refusals f (clamped x) n d) ≡ first_refusal (cyclic_refusals f x n d)
 cyclic_same f x n d =
     ⊎_elim
     (λ (s : is_symbol f ≡ true). ⊎_elim
     (λ (e : are_elements f x ≡ true). ap (λ (u : List ℕ). first_refusal (cyclic_refusals f u n d)) (kept f x s e))
-    (λ (e : are_elements f x ≡ false). not_elements f (clamped x) x n d (elements_same f x (small_field f s) ∙ e) e)
+    (λ (e : are_elements f x ≡ false). not_elements f (clamped x) x n d (elements_same f x (small_size f s) ∙ e) e)
     (cases_Bool (are_elements f x)))
     (λ (s : is_symbol f ≡ false). cyclic_large f (clamped x) n d s ∙ sym (cyclic_large f x n d s))
     (cases_Bool (is_symbol f))
@@ -104,9 +105,6 @@ either_way made F D h k =
     let no : D → ⊥ = λ y. k true (h true ((λ t. y), (λ z. refl))) in
     k false (h false ((λ t. absurd (true≢false (sym t))), (λ y. absurd (no y))))
 
-none_some : {X : Type 0} (x : X) → None ≡ Some x → ⊥
-none_some x h = true≢false (ap is_none h)
-
 same_list : (u v : List ℕ) → (u ≡ v) ⊎ (u ≢ v)
 same_list [] [] = inl refl
 same_list [] (b ∷ v) = inr (λ e. let t : length {A = ℕ} [] ≡ length (b ∷ v) = ap (λ (w : List ℕ). length w) e in omega (arith, t))
@@ -140,9 +138,9 @@ record IsCyclicCall (b : BoundCall) (F : Bool → Option CodeRefusal) (D : Type 
 cyclic_given : (place : ℕ) (b : BoundCall) (F : Bool → Option CodeRefusal) (D : Type 0) (C : Matrix) (result : Result Value Stop) → IsCyclicCall b F D → Refused {T = Matrix} (Ok C) F D → (F true ≡ None → Gives b (code C None)) → Answers result (λ o. o ≡ gives (code C None)) → Answers result (AppliesTo place b)
 unfolding first_refusal refuse_if
 cyclic_given place b F D C result s h g k =
-    let last : Last F = ⊎_elim (λ (x : Before F). absurd (either_way {T = Matrix} (Ok C) F D h (λ d y. none_some x.0 (sym y ∙ x.1 d)))) (λ (l : Last F). l) s.split in
+    let last : Last F = ⊎_elim (λ (x : Before F). absurd (either_way {T = Matrix} (Ok C) F D h (λ d y. none-some x.0 (sym y ∙ x.1 d)))) (λ (l : Last F). l) s.split in
     let fine : F true ≡ None = last true in
-    let divides : IsNotDivisor b → ⊥ = λ m. let no = (s.divides fine).0 m in none_some NotADivisor (sym (h false ((λ t. absurd (true≢false (sym t))), (λ y. absurd (no y)))) ∙ last false) in
+    let divides : IsNotDivisor b → ⊥ = λ m. let no = (s.divides fine).0 m in none-some NotADivisor (sym (h false ((λ t. absurd (true≢false (sym t))), (λ y. absurd (no y)))) ∙ last false) in
     always place b result (code C None) (s.first ∙ ap (option_map refusal_from) fine) divides (g fine) k
 
 applies_as : (place : ℕ) (b : BoundCall) (r : Option Refusal) (o : Outcome) → refusal_of b ≡ r → Applying place b r o → AppliesTo place b o
@@ -164,7 +162,7 @@ refused_last : (place : ℕ) (b : BoundCall) (F : Bool → Option CodeRefusal) (
 unfolding first_refusal refuse_if
 refused_last place b F D x o s last h m k =
     let fine : F true ≡ None = last true in
-    let no : D → ⊥ = λ y. none_some x (sym fine ∙ h true ((λ t. y), (λ z. refl)) m) in
+    let no : D → ⊥ = λ y. none-some x (sym fine ∙ h true ((λ t. y), (λ z. refl)) m) in
     let refused : F false ≡ Some x = h false ((λ t. absurd (true≢false (sym t))), (λ y. absurd (no y))) m in
     let same : x ≡ NotADivisor = some_same x NotADivisor (sym refused ∙ last false) in
     let told : o ≡ refuse_at 4 place = k ∙ ap (λ y. refuse_call place (refusal_from y)) same ∙ last_number place in
@@ -236,7 +234,7 @@ extended_golay_applies place b f n g C (Err x) (Ok v) e d give l c y r k = absur
 extended_golay_applies place b f n g C (Err x) (Err stop.NoMemory) e d give l c y r k = tt
 extended_golay_applies place b f n g C (Err x) (Err (stop.Refused w)) e d give l c y r k =
     let long : is_length (C.columns + 1) ≡ true = rw c.length_is l in
-    absurd (none_some x (sym (extended_fine C long) ∙ r k.0))
+    absurd (none-some x (sym (extended_fine C long) ∙ r k.0))
 
 pub extended_binary_applies : (place : ℕ) (C : Matrix) (made : Result Matrix CodeRefusal) (result : Result Value Stop)
     → IsCode Gf2 23 (IsMultipleOf Gf2 23 binary_golay_generator) C → IfOk made (λ D. IsCode C.field (C.columns + 1) (InExtended C) D) → IsRefusedAs made (first_refusal (extended_refusals C))

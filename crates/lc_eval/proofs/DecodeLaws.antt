@@ -20,13 +20,13 @@ use Rattle.lc_constructions.specs.Alternant.{AlternantForm}
 use Rattle.lc_constructions.specs.declared.refusal.CodeRefusal.TheVariants.{LengthsDiffer, BadArgument}
 use Rattle.lc_constructions.specs.Refusal.{refuse_if}
 use Rattle.lc_constructions.specs.Refusals.{are_elements}
-use Rattle.lc_basic.proofs.HammingLaws.{small_field}
 use Rattle.lc_language.specs.Calls.{is_codeword, decode, algebraic_decode, refusals_of, refusal_of, query_refusals_of, query_refusal_of}
 use Rattle.lc_language.specs.Value.{Value, CodeValue, numbers, truth}
 use Rattle.lc_language.specs.Print.{value_line}
 use Rattle.lc_language.specs.Refusal.{refuse, when, first_of, refusal_from, from_codes, word_refusals, coset_refusal, no_form}
 use Rattle.lc_language.specs.Meaning.{decoded}
 use Rattle.lc_language.specs.Evaluation.{gives, refused, refuse_at, refuse_call, AppliesTo, prints, fails, fail_with, QueriesTo}
+use Rattle.lc_code.proofs.CoordinateSteps.{small_size}
 use Rattle.lc_eval.specs.declared.refusals.Refused.{Refused}
 use Rattle.lc_eval.specs.declared.refusals.Stop.{Stop}
 use Rattle.lc_eval.specs.declared.refusals.Stop.TheVariants as stop
@@ -64,11 +64,11 @@ fits_told f w false h =
     (cases_Bool (list_all (λ a. nat_lt a (size f)) w))
 
 entries_told : (f : FieldName) (x w : List ℕ) (b : Bool) → IsTrue (is_symbol f) → w ≡ clamped x → IsTrue b ↔ Fits f w → are_elements f x ≡ b
-entries_told f x w b s e h = sym (elements_same f x (small_field f s)) ∙ subst (λ u. are_elements f u ≡ b) e (fits_told f w b h)
+entries_told f x w b s e h = sym (elements_same f x (small_size f s)) ∙ subst (λ u. are_elements f u ≡ b) e (fits_told f w b h)
 
 kept_told : (f : FieldName) (x : List ℕ) → IsTrue (is_symbol f) → are_elements f (clamped x) ≡ true → clamped x ≡ x
 unfolding are_elements
-kept_told f x s h = row_kept (size f) x (small_field f s) h
+kept_told f x s h = row_kept (size f) x (small_size f s) h
 
 pub list_long : (place : ℕ) (C : Matrix) (x : List ℕ) (s : Stop) → length x ≢ C.columns → IsMade (Err LengthsDiffer) place (Err s) → IsChecked C x place (Err s)
 list_long place C x (stop.Refused r) h m = (refusal_from LengthsDiffer, uneven C x h, m.1)

@@ -5,6 +5,7 @@
 --   misfits_told, query_misfits_told      so arguments that don't bind a call have a first one that is not of its kind
 use Rattle.std.proofs.Common.{◌≡◌, ◌↔◌, ℕ, Bool, true, false, not, cond, ◌&&◌, ◌==◌, List, [], ◌∷◌, length, find, Option, Some, None, is_some, refl, sym, ap, subst, ◌∙◌, true≢false, arith}
 use Rattle.std.proofs.lemmas.Bool.Decides.{nat_tests}
+use Rattle.lc_constructions.proofs.ExpansionLaws.{not_true}
 use Rattle.lc_grammar.specs.Tree.{Exprs, none, more, count_of, place_of}
 use Rattle.lc_language.specs.declared.Call.TheVariants.{Value as Value_, Query}
 use Rattle.lc_language.specs.declared.ValueCall.{ValueCall}
@@ -73,14 +74,10 @@ some_there : (o : Option ℕ) → is_some o ≡ true → (p : ℕ) × (o ≡ Som
 some_there None h = absurd (true≢false (sym h))
 some_there (Some p) h = (p, refl)
 
-not_false : (b : Bool) → not b ≡ true → b ≡ false
-not_false true h = absurd (true≢false (sym h))
-not_false false h = refl
-
 misfit_iff : {R : Type 0} (made : Option R) (o : Option ℕ) (b : Bool) → is_some made ≡ b → is_some o ≡ not b → (made ≡ None) ↔ ((place : ℕ) × (o ≡ Some place))
 misfit_iff made o b h k = (
   (λ e. let f : b ≡ false = sym h ∙ ap is_some e in some_there o (k ∙ ap not f)),
-  (λ p. none_there made (h ∙ not_false b (sym k ∙ ap is_some p.1))),
+  (λ p. none_there made (h ∙ not_true b (sym k ∙ ap is_some p.1))),
 )
 
 pub misfits_told : (c : ValueCall) (es : Exprs) (vs : List Value) (kinds : List Kind) → signature_for (Value_ c) (count_of es) ≡ Some kinds → count_of es ≡ length vs → (bind c vs ≡ None) ↔ ((place : ℕ) × (first_misfit kinds es vs ≡ Some place))

@@ -2,33 +2,24 @@
 --   named_value                  the value of a name
 --   bound_anew                   a name that is bound
 --   bound_means                  it has the new value, and every other name the one that it had
-use Rattle.std.proofs.Common.{◌≡◌, ◌≢◌, ◌↔◌, ℕ, ◌==◌, Bool, true, false, cond, if◌then◌else◌, List, [], ◌∷◌, map, Option, Some, None, option_map, option_copied, MatchOption, String, string_bytes, nat_eq, refl, sym, ap, ap₂, subst, ◌∙◌, ⊎_elim, true≢false}
-use Rattle.std.proofs.lemmas.Bool.{cases_Bool, and_parts}
-use Rattle.std.proofs.lemmas.Bool.Decides.{Decides-eqb}
+use Rattle.std.proofs.Common.{◌≡◌, ◌≢◌, ◌↔◌, ℕ, ◌==◌, Bool, true, false, cond, if◌then◌else◌, List, [], ◌∷◌, map, Option, Some, None, option_map, option_copied, MatchOption, String, string_bytes, refl, sym, ap, subst, ◌∙◌, ⊎_elim, true≢false}
+use Rattle.std.proofs.lemmas.Bool.{cases_Bool}
 use Rattle.std.specs.Borrow.{Bor}
 use Rattle.std.specs.BTreeMap.{BTreeMap, UpdatesBy, get_by_text, is_at}
 use Rattle.std.specs.Map.{lookup}
 use Rattle.std.specs.Ordering.{nat_cmp, is_eq}
 use Rattle.std.specs.String.{string_cmp}
-use Rattle.std.specs.Cmp.Lexicographic.{slice_cmp, pointwise, nat_list_eq_equiv}
+use Rattle.std.specs.Cmp.Lexicographic.{slice_cmp}
 use Rattle.std.proofs.lemmas.Map.Text.{btree_map_updates_text, is_eq-slice_cmp}
 use Rattle.lc_formats.specs.Text.{same_bytes}
 use Rattle.lc_formats.proofs.CheckpointBack.{same_itself}
+use Rattle.lc_formats.proofs.ByteLaws.{same_pointwise, same_from_bytes}
 use Rattle.lc_language.specs.Value as language
 use Rattle.lc_language.specs.Value.{Binding, value_named}
 use Rattle.lc_eval.specs.declared.values.Value.{Value}
 use Rattle.lc_eval.specs.Value.{value_of}
 use Rattle.lc_eval.specs.Names.{bindings_of, IsBound}
-
-same_pointwise : (u v : List ℕ) → pointwise nat_eq u v ≡ same_bytes u v
-unfolding same_bytes
-same_pointwise [] [] = refl
-same_pointwise [] (b ∷ v) = refl
-same_pointwise (a ∷ u) [] = refl
-same_pointwise (a ∷ u) (b ∷ v) = rw (same_pointwise u v) refl
-
-same_turned : (u v : List ℕ) → pointwise nat_eq u v ≡ same_bytes v u
-same_turned u v = nat_list_eq_equiv.symm u v ∙ same_pointwise v u
+use Rattle.lc_eval.proofs.TableLaws.{same_swapped}
 
 pick : (b : Bool) (v : Value) (o : Option Value) (r : Option language.Value) → option_map value_of o ≡ r → option_map value_of (cond b (Some v) o) ≡ (if b then Some (value_of v) else r)
 pick true v o r e = refl
@@ -53,18 +44,9 @@ pub bound_anew : {Y : Type 0} (old new : BTreeMap (String Y) Value) (key : Strin
 unfolding value_named
 bound_anew old new key v u x =
     sym (value_in x new) ∙ ap (option_map value_of) (btree_map_updates_text (string_bytes key) old new (Some v) u x)
-    ∙ (rw (same_turned (string_bytes key) x) (pick (same_bytes x (string_bytes key)) v (get_by_text old x) (value_named x (bindings_of old)) (value_in x old)))
+    ∙ (rw (same_swapped (string_bytes key) x) (pick (same_bytes x (string_bytes key)) v (get_by_text old x) (value_named x (bindings_of old)) (value_in x old)))
 
 -- ---- names after an assignment
-
-bytes_told : (u v : List ℕ) → same_bytes u v ≡ true → u ≡ v
-unfolding same_bytes
-bytes_told [] [] h = refl
-bytes_told [] (b ∷ v) h = absurd (true≢false (sym h))
-bytes_told (a ∷ u) [] h = absurd (true≢false (sym h))
-bytes_told (a ∷ u) (b ∷ v) h =
-    let p = and_parts (a == b) (same_bytes u v) h in
-    ap₂ (λ (c : ℕ) (w : List ℕ). c ∷ w) ((Decides-eqb a b).0 p.0) (bytes_told u v p.1)
 
 named_first : (b : Binding) (old : List Binding) → value_named b.name (b ∷ old) ≡ Some b.value
 unfolding value_named
@@ -74,7 +56,7 @@ named_later : (b : Binding) (old : List Binding) (x : List ℕ) → x ≢ b.name
 unfolding value_named
 named_later b old x n =
     ⊎_elim
-    (λ (t : same_bytes x b.name ≡ true). absurd (n (bytes_told x b.name t)))
+    (λ (t : same_bytes x b.name ≡ true). absurd (n (same_from_bytes x b.name t)))
     (λ (t : same_bytes x b.name ≡ false). rw t refl)
     (cases_Bool (same_bytes x b.name))
 
@@ -86,7 +68,7 @@ bound_means b old new = (
   (λ h. (h b.name ∙ named_first b old, λ x n. h x ∙ named_later b old x n)),
   (λ h x.
       ⊎_elim
-      (λ (t : same_bytes x b.name ≡ true). let e : x ≡ b.name = bytes_told x b.name t in rw e (h.0 ∙ sym (named_first b old)))
+      (λ (t : same_bytes x b.name ≡ true). let e : x ≡ b.name = same_from_bytes x b.name t in rw e (h.0 ∙ sym (named_first b old)))
       (λ (t : same_bytes x b.name ≡ false). let n = differs x b.name t in h.1 x n ∙ sym (named_later b old x n))
       (cases_Bool (same_bytes x b.name))),
 )

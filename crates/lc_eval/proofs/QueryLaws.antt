@@ -2,7 +2,6 @@
 --   first_stays, first_behind     the first refusal of two lists, one after the other
 --   fails_so                     a fault of a call is that of the statement
 --   words_next, words_many, words_few      whether there are too many words
---   rows_at                      the rows of a code
 --   least_refused                a matrix that is refused
 --   least_many                   too many words
 --   least_told                   the line
@@ -12,6 +11,7 @@ use Rattle.std.proofs.Common.{◌≡◌, ℕ, ◌+◌, ◌*◌, ◌^◌, ◌<◌
 use Rattle.std.proofs.Math.Nat.{pow-le-pow_right}
 use Rattle.std.proofs.lemmas.List.{length-map}
 use Rattle.std.proofs.lemmas.Bool.Decides.{nat_tests, Decides-ltb}
+use Rattle.std.proofs.lemmas.Grind.{pow_more}
 use Rattle.lc_algebra.specs.declared.FieldName.{FieldName}
 use Rattle.lc_algebra.specs.Field.{size}
 use Rattle.lc_algebra.specs.Span.{InSpan}
@@ -23,7 +23,6 @@ use Rattle.lc_constructions.specs.Basic.{GeneratedBy}
 use Rattle.lc_constructions.specs.declared.refusal.CodeRefusal.{CodeRefusal}
 use Rattle.lc_constructions.specs.Refusal.{first_refusal, IsRefusedAs}
 use Rattle.lc_constructions.specs.Refusals.{columns_of, matrix_refusals}
-use Rattle.lc_basic.proofs.HammingLaws.{power_next}
 use Rattle.lc_language.specs.Calls.{least_word, minimum_distance, certificate, scan_certificate, query_refusals_of, query_refusal_of}
 use Rattle.lc_language.specs.Refusal.{Refusal, refuse, when, first_of, refusal_from, from_codes}
 use Rattle.lc_language.specs.Print.{distance_none_line}
@@ -46,7 +45,7 @@ use Rattle.lc_eval.proofs.RowLaws.{clamped_each, columns_same, clamped_refusals,
 -- ---- how many words
 
 pub words_next : (q i words new : ℕ) → words ≡ q ^ i → new ≡ words * q → new ≡ q ^ (i + 1)
-words_next q i words new e n = n ∙ ap (λ m. m * q) e ∙ sym (power_next q i)
+words_next q i words new e n = n ∙ ap (λ m. m * q) e ∙ sym (pow_more q i)
 
 pub words_many : (s q i k words : ℕ) → q ≡ s → 1 < q → i < k → words ≡ s ^ i → 65536 < words * q → true ≡ nat_lt (2 ^ 16) (s ^ k)
 words_many s q i k words p l h e m =
@@ -59,9 +58,6 @@ pub words_few : (q i k words : ℕ) → i ≡ k → words ≡ q ^ i → words �
 words_few q i k words h e m =
     let n : q ^ k ≤ 65536 = subst (λ j. q ^ j ≤ 65536) h (omega (arith, e, m)) in
     grind (arith, nat_tests, n)
-
-pub rows_at : (f g : FieldName) (n m : ℕ) (rows others : List (List ℕ)) → f ≡ g → n ≡ m → rows ≡ others → AreRows g m others → AreRows f n rows
-rows_at f g n m rows others p q r h = rw (p, q, r) h
 
 -- ---- the refusals
 

@@ -9,7 +9,7 @@ use Rattle.std.proofs.Common.{◌≡◌, ℕ, ◌<◌, ◌≤◌, min, Bool, tru
 use Rattle.std.specs.List.{list_all}
 use Rattle.std.proofs.lemmas.List.{length-map}
 use Rattle.std.proofs.lemmas.List.Sums.{AllPass-from_list_all}
-use Rattle.std.proofs.lemmas.Bool.{cases_Bool}
+use Rattle.std.proofs.lemmas.Bool.{cases_Bool, and_parts}
 use Rattle.std.proofs.lemmas.Bool.Decides.{nat_tests, Decides-ltb, Decides-eqb}
 use Rattle.lc_algebra.specs.declared.FieldName.{FieldName}
 use Rattle.lc_algebra.specs.Field.{size, is_symbol}
@@ -19,6 +19,7 @@ use Rattle.lc_constructions.specs.declared.refusal.CodeRefusal.TheVariants.{BadL
 use Rattle.lc_constructions.specs.Code.{is_length}
 use Rattle.lc_constructions.specs.Refusal.{refuse_if, first_refusal}
 use Rattle.lc_constructions.specs.Refusals.{columns_of, are_elements, have_elements, are_equally_long, too_large, bad_length, bad_argument, matrix_refusals}
+use Rattle.lc_formats.proofs.CertificateBack.{symbol_size}
 use Rattle.lc_eval.specs.Rows.{clamped, clamped_rows}
 
 pub clamped_each : (rows : List (Vec ℕ Global)) → map (λ row. clamped row.items) rows ≡ clamped_rows (map (λ row. row.items) rows)
@@ -41,10 +42,6 @@ unfolding are_equally_long
 even_same rows = rw (columns_same rows) (lengths_same (columns_of rows) rows)
 
 -- ---- entries
-
-small : (f : FieldName) → is_symbol f ≡ true → size f ≤ 16
-unfolding is_symbol
-small f h = grind (arith, nat_tests, h)
 
 symbol_same : (q a : ℕ) → q ≤ 16 → nat_lt (min a 255) q ≡ nat_lt a q
 symbol_same q a h = grind (arith, nat_tests)
@@ -70,7 +67,7 @@ refused_first f rows others h = rw h refl
 
 refused_later : (f : FieldName) (rows : List (List ℕ)) → is_symbol f ≡ true → first_refusal (matrix_refusals f (clamped_rows rows)) ≡ first_refusal (matrix_refusals f rows)
 unfolding matrix_refusals
-refused_later f rows h = rw (columns_same rows, even_same rows, entries_same f rows (small f h)) refl
+refused_later f rows h = rw (columns_same rows, even_same rows, entries_same f rows (symbol_size f h)) refl
 
 pub clamped_refusals : (f : FieldName) (rows : List (List ℕ)) → first_refusal (matrix_refusals f (clamped_rows rows)) ≡ first_refusal (matrix_refusals f rows)
 clamped_refusals f rows = ⊎_elim (λ t. refused_later f rows t) (λ t. refused_first f (clamped_rows rows) rows t) (cases_Bool (is_symbol f))
@@ -94,10 +91,6 @@ fine f rows h =
     let d = none_here (have_elements f rows) (BadArgument 1) [] c.1 in
     record { symbol = a.0; even = c.0; elements = d.0 }
 
-and_parts : (a b : Bool) → (a && b) ≡ true → (a ≡ true) × (b ≡ true)
-and_parts true b h = (refl, h)
-and_parts false b h = absurd (true≢false (sym h))
-
 pub row_kept : (q : ℕ) (u : List ℕ) → q ≤ 16 → list_all (λ a. nat_lt a q) (clamped u) ≡ true → clamped u ≡ u
 row_kept q [] s h = refl
 row_kept q (a ∷ u) s h =
@@ -114,7 +107,7 @@ rows_kept f (row ∷ rows) s h =
     rw (row_kept (size f) row s p.0, rows_kept f rows s p.1) refl
 
 pub fine_same : (f : FieldName) (rows : List (List ℕ)) → first_refusal (matrix_refusals f (clamped_rows rows)) ≡ None → clamped_rows rows ≡ rows
-fine_same f rows h = let p = fine f (clamped_rows rows) h in rows_kept f rows (small f p.symbol) p.elements
+fine_same f rows h = let p = fine f (clamped_rows rows) h in rows_kept f rows (symbol_size f p.symbol) p.elements
 
 pub fine_rows : (f : FieldName) (rows : List (List ℕ)) → first_refusal (matrix_refusals f rows) ≡ None → AreRows f (columns_of rows) rows
 unfolding have_elements are_elements are_equally_long

@@ -12,7 +12,7 @@ use Rattle.lc_language.specs.Calls.{name_of, signatures, call_named}
 use Rattle.lc_eval.specs.Built.{built_calls, call_of, forms_of, IsRowOf}
 use Rattle.lc_eval.specs.declared.calls.Row.{Row}
 
-same_swapped : (u v : List ℕ) → pointwise nat_eq u v ≡ same_bytes v u
+pub same_swapped : (u v : List ℕ) → pointwise nat_eq u v ≡ same_bytes v u
 unfolding same_bytes
 same_swapped [] [] = refl
 same_swapped [] (b ∷ v) = refl

@@ -4,7 +4,7 @@
 --   goppa_points, form_multipliers      the list that a refusal names
 use Rattle.std.proofs.Common.{◌≡◌, ℕ, ◌≤◌, min, Bool, true, false, nat_lt, nat_le, ◌&&◌, ◌||◌, List, [], ◌∷◌, length, Some, refl, sym, ◌∙◌, ⊎_elim, true≢false, arith}
 use Rattle.std.specs.List.{list_all}
-use Rattle.std.proofs.lemmas.Bool.{cases_Bool, and_parts}
+use Rattle.std.proofs.lemmas.Bool.{cases_Bool, and_parts, or_parts}
 use Rattle.std.proofs.lemmas.Bool.Decides.{nat_tests}
 use Rattle.lc_algebra.specs.declared.FieldName.{FieldName}
 use Rattle.lc_algebra.specs.Field.{size, is_symbol}
@@ -30,10 +30,6 @@ wide_all q (a ∷ u) s h = wide_first q a (has_wide u) (list_all (λ b. nat_lt b
 pub wide_outside : (f : FieldName) (u : List ℕ) → has_wide u ≡ true → are_elements f u ≡ false
 unfolding are_elements
 wide_outside f u h = wide_all (size f) u (size_most f) h
-
-or_parts : (a b : Bool) → (a || b) ≡ false → (a ≡ false) × (b ≡ false)
-or_parts true b h = absurd (true≢false h)
-or_parts false b h = (refl, h)
 
 pub narrow_kept : (u : List ℕ) → has_wide u ≡ false → clamped u ≡ u
 narrow_kept [] h = refl

@@ -4,13 +4,14 @@
 --   embed_is                   the value at the zero is what the element stands for
 use Rattle.std.proofs.Common.{◌≡◌, ℕ, zero, suc, ◌-◌, ◌/◌, ◌%◌, ◌<◌, Bool, true, ◌==◌, cond, ◌&&◌, nat_lt, refl, arith}
 use Rattle.std.proofs.lemmas.Bool.Decides.{Decides-eqb, Decides-ltb}
+use Rattle.std.proofs.lemmas.Bool.{and_parts}
 use Rattle.lc_algebra.specs.declared.FieldName.{FieldName}
 use Rattle.lc_algebra.specs.declared.FieldName.TheVariants.{Gf2}
 use Rattle.lc_algebra.specs.Residue.{digits, number, plus, minus, times, top, up, times_x, product}
 use Rattle.lc_algebra.specs.Field.{shape, shape_of, size, coefficients, add, mul}
 use Rattle.lc_algebra.specs.Polynomial.{value_at}
 use Rattle.lc_algebra.specs.Embedding.{IsSubfield, is_subfield, first_from, first_that, root, embed}
-use Rattle.lc_algebra.proofs.EmbeddingTests.{names, each_of, each_name, both_true}
+use Rattle.lc_algebra.proofs.EmbeddingTests.{names, each_of, each_name}
 use Rattle.lc_algebra.proofs.EmbeddingLaws.{decides_subfield}
 use Rattle.lc_field.specs.Roots.{root_by_size}
 
@@ -33,7 +34,7 @@ root_both small large s =
     let h : is_subfield small large ≡ true = (decides_subfield small large).1 s in
     let t : test small large ≡ true = root_test small large in
     let u : ((told small large == root small large) && nat_lt (told small large) (size large)) ≡ true = rw h at t in
-    let (a, b) = both_true _ _ u in
+    let (a, b) = and_parts _ _ u in
     ((Decides-eqb (told small large) (root small large)).0 a, (Decides-ltb (told small large) (size large)).0 b)
 
 pub root_is : (small large : FieldName) (s l n p : ℕ) → IsSubfield small large → s ≡ (shape_of small).degree → l ≡ (shape_of large).degree → n ≡ size small → p ≡ (shape_of large).characteristic → root_by_size s l n p ≡ root small large

@@ -1,8 +1,8 @@
 -- What is told of each row of the table of fields by computing.
---   size_most, characteristic_least     bounds of the columns
+--   size_most     bounds of the columns
 --   next_test       the primitive element times each element, by the combination that the code makes
 --   next_power      the same, at a row of the code
-use Rattle.std.proofs.Common.{◌≡◌, ℕ, ◌*◌, ◌/◌, ◌%◌, ◌<◌, ◌≤◌, ◌==◌, true, refl, lit<, lit≤}
+use Rattle.std.proofs.Common.{◌≡◌, ℕ, ◌*◌, ◌/◌, ◌%◌, ◌<◌, ◌≤◌, ◌==◌, true, refl, lit≤}
 use Rattle.std.proofs.lemmas.Bool.Decides.{Decides-eqb}
 use Rattle.lc_algebra.specs.declared.FieldName.{FieldName}
 use Rattle.lc_algebra.specs.declared.FieldName.TheVariants.{Gf2}
@@ -17,11 +17,6 @@ pub size_most : (f : FieldName) → size f ≤ 256
 unfolding shape shape_of size
 size_most Gf2 = lit≤ tt
 size_most _ = lit≤ tt
-
-pub characteristic_least : (f : FieldName) → 1 < (shape_of f).characteristic
-unfolding shape shape_of
-characteristic_least Gf2 = lit< tt
-characteristic_least _ = lit< tt
 
 abbrev next : FieldName → ℕ → ℕ
 next f a =

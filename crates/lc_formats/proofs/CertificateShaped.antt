@@ -12,7 +12,7 @@ use Rattle.std.proofs.Common.{◌≡◌, ℕ, ◌^◌, ◌<◌, ◌≤◌, Bool,
 use Rattle.std.specs.Prelude.{⊤, codes}
 use Rattle.std.specs.List.{list_all}
 use Rattle.std.specs.List.Sorted.{IsStrictlyIncreasing}
-use Rattle.std.proofs.lemmas.Bool.{and_parts, leb-true, ltb-false, false≢true}
+use Rattle.std.proofs.lemmas.Bool.{and_parts, leb-true, ltb-false, or_parts}
 use Rattle.std.proofs.lemmas.Option.{option_and_then_some}
 use Rattle.serde_json.specs.Data.{Data, Items, Members}
 use Rattle.serde_json.specs.Find.{get_member, as_array, as_object, as_str}
@@ -51,10 +51,6 @@ either_way : (b : Bool) (x y : CertificateRead) → (b ≡ true → IsShapedRead
 either_way true x y h k = h refl
 either_way false x y h k = k refl
 
-pub or_false : (a b : Bool) → (a || b) ≡ false → (a ≡ false) × (b ≡ false)
-or_false true b e = absurd (false≢true (sym e))
-or_false false b e = (refl, e)
-
 pub is_below_limit : (n : ℕ) → above n ≡ false → n ≤ longest
 unfolding above
 is_below_limit n e = ltb-false longest n e
@@ -89,8 +85,8 @@ limited_sets n (levels claims) h l = (h.0, l, h.1)
 pub limited : (c : Certificate) → HasRules c → is_beyond_limit c ≡ false → IsShaped c
 unfolding is_beyond_limit code_length
 limited c h e =
-    let s = or_false (above (length c.word)) (above (length c.rows) || above (set_total c.proof)) e in
-    let t = or_false (above (length c.rows)) (above (set_total c.proof)) s.1 in
+    let s = or_parts (above (length c.word)) (above (length c.rows) || above (set_total c.proof)) e in
+    let t = or_parts (above (length c.rows)) (above (set_total c.proof)) s.1 in
     record {
       field_fits = h.parts.symbol;
       has_rows = h.parts.some_rows;

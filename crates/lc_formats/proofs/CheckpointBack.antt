@@ -139,7 +139,7 @@ checkpoint_back p h short =
     ∙ ap body_in (json_back (object (body_members p)) (body_plain p h) (omega (arith, body_shallow p)))
     ∙ body_back p h
 
-too_long : (bytes : List ℕ) → 4194304 < length bytes → checkpoint_in bytes ≡ refused damaged
+pub too_long : (bytes : List ℕ) → 4194304 < length bytes → checkpoint_in bytes ≡ refused damaged
 unfolding checkpoint_in is_whole
 too_long bytes l = ap (λ b. if nat_le 65 (length bytes) && (b && same_bytes bytes (sealed (drop 65 bytes))) then body_in (json_in (drop 65 bytes)) else refused damaged) (lt-leb (length bytes) 4194304 l) ∙ ap (λ b. if b then body_in (json_in (drop 65 bytes)) else refused damaged) (and-false (nat_le 65 (length bytes)))
 

@@ -13,13 +13,12 @@
 --   at_the_ends                the greatest numbers that are in range
 --   numbers                    the numbers of the refusals
 use Rattle.std.proofs.Common.{◌≡◌, refl, ◌∙◌, arith}
-use Rattle.std.proofs.lemmas.Bool.{ltb-true}
+use Rattle.std.proofs.lemmas.Bool.{ltb-true, and_parts}
 use Rattle.std.proofs.lemmas.Str.{IsUtf8-from_ascii, is_utf8-from_IsUtf8}
 use Rattle.std.specs.Prelude.{ℕ, zero, suc, Bool, true, nat_lt, if◌then◌else◌, List, [], ◌∷◌, ◌++◌, map, drop, codes, replicate}
 use Rattle.std.specs.List.{list_all}
 use Rattle.std.specs.Str.{IsAscii}
 use Rattle.serde_json.specs.Read.{read}
-use Rattle.lc_algebra.proofs.EmbeddingTests.{both_true}
 use Rattle.lc_formats.specs.Json.{json_in}
 use Rattle.lc_formats.specs.Checkpoint.{ReadCheckpoint, Checkpoint, body_of, checkpoint_text, damaged, other_version, shape, checkpoint_refusal_number, point, refused, is_whole, body_in, checkpoint_in}
 use Rattle.lc_formats.proofs.Evaluated.{checkpoint_computes}
@@ -35,25 +34,25 @@ pub writes : checkpoint_text halfway ≡ codes "d1cb175f5f984c0819aba1788ed89299
 unfolding checkpoint_computes
 writes = refl
 
-unfoldable plainly : List ℕ → ReadCheckpoint
+unfoldable pub plainly : List ℕ → ReadCheckpoint
 plainly bytes = (if is_whole bytes then body_in (read (drop 65 bytes)) else refused damaged)
 
 abbrev below_128 : List ℕ → Bool
 below_128 bytes = list_all (λ b. nat_lt b 128) bytes
 
-ascii : (bytes : List ℕ) → below_128 bytes ≡ true → IsAscii bytes
+pub ascii : (bytes : List ℕ) → below_128 bytes ≡ true → IsAscii bytes
 ascii [] e i = omega arith
-ascii (b ∷ bytes) e zero = ltb-true _ _ (both_true _ _ e).0
-ascii (b ∷ bytes) e (suc i) = ascii bytes (both_true _ _ e).1 i
+ascii (b ∷ bytes) e zero = ltb-true _ _ (and_parts _ _ e).0
+ascii (b ∷ bytes) e (suc i) = ascii bytes (and_parts _ _ e).1 i
 
-reads_plainly : (bytes : List ℕ) → below_128 (drop 65 bytes) ≡ true → checkpoint_in bytes ≡ plainly bytes
+pub reads_plainly : (bytes : List ℕ) → below_128 (drop 65 bytes) ≡ true → checkpoint_in bytes ≡ plainly bytes
 unfolding json_in checkpoint_in plainly
 reads_plainly bytes e = rw (is_utf8-from_IsUtf8 _ (IsUtf8-from_ascii _ (ascii _ e))) refl
 
 all_read_plainly : (texts : List (List ℕ)) → list_all (λ text. below_128 (drop 65 text)) texts ≡ true → map checkpoint_in texts ≡ map plainly texts
 all_read_plainly [] e = refl
 all_read_plainly (text ∷ texts) e =
-    let parts = both_true (below_128 (drop 65 text)) (list_all (λ other. below_128 (drop 65 other)) texts) e in
+    let parts = and_parts (below_128 (drop 65 text)) (list_all (λ other. below_128 (drop 65 other)) texts) e in
     cc (reads_plainly text parts.0, all_read_plainly texts parts.1)
 
 pub reads : checkpoint_in (codes "d1cb175f5f984c0819aba1788ed89299cbd63a57881e84b7438d7d15fe490869" ++ 10 ∷ codes "{\"blocks\":2,\"budget\":1048576,\"done\":[[2,3,0]],\"place\":0,\"script\":\"abababababababababababababababababababababababababababababababab\",\"turn\":3,\"version\":2,\"weight\":7}") ≡ point halfway

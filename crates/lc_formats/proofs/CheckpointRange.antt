@@ -7,7 +7,7 @@
 use Rattle.std.proofs.Common.{◌≡◌, ℕ, ◌-◌, ◌^◌, ◌≤◌, ◌⊎◌, Bool, true, false, not, nat_le, nat_lt, ◌==◌, ◌&&◌, ◌||◌, if◌then◌else◌, List, map, length, drop, All, Option, Some, None, Result, Ok, Err, option_map, option_and_then, inl, inr, ⊎_elim, refl, subst, arith}
 use Rattle.std.specs.Prelude.{⊤, codes}
 use Rattle.std.specs.Result.{result_ok}
-use Rattle.std.proofs.lemmas.Bool.{and_parts, leb-true, ltb-true, eqb-true}
+use Rattle.std.proofs.lemmas.Bool.{and_parts, leb-true, ltb-true, eqb-true, or_cases}
 use Rattle.std.proofs.lemmas.Option.{option_and_then_some}
 use Rattle.hex.specs.Hex.{encode_lower, decode_of, IsBytes}
 use Rattle.hex.proofs.HexLemmas.{decode_of-ok}
@@ -18,7 +18,6 @@ use Rattle.lc_formats.specs.Text.{same_bytes}
 use Rattle.lc_formats.specs.Json.{number_at, listed, each, numbers_of, provided, member_count, json_in}
 use Rattle.lc_formats.specs.Checkpoint.{Checkpoint, current_of, IsProgress, IsInRange, ReadCheckpoint, point, refused, damaged, other_version, is_whole, number_up_to, triple_of, is_in_range, settled_in, digest_in, script_in, done_in, state_in, point_or_shape, versioned, body_in, checkpoint_in}
 use Rattle.lc_formats.proofs.ReadLaws.{provided_inside, each_all, each_length}
-use Rattle.lc_formats.proofs.VerdictLaws.{or_cases}
 
 number_ranged : (low high : ℕ) (o : Option ℕ) (n : ℕ) → number_up_to low high o ≡ Some n → (low ≤ n) × (n ≤ high)
 unfolding number_up_to

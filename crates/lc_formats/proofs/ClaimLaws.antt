@@ -5,7 +5,7 @@
 --   verdict_one                a certificate by construction has one verdict
 --   accepted_tree, valid_tree_accepted      it is accepted exactly if it is valid
 use Rattle.std.proofs.Common.{◌≡◌, ℕ, suc, ◌+◌, ◌*◌, ◌-◌, not, nat_lt, ◌==◌, List, length, Option, Some, None, unwrap_or, refl, sym, ap, ap₂, subst, ◌∙◌}
-use Rattle.std.proofs.lemmas.Bool.{eqb-true, eq-eqb, ltb-false, le-ltb}
+use Rattle.std.proofs.lemmas.Bool.{eqb-true, eq-eqb, ltb-false, le-ltb, not_from_true}
 use Rattle.lc_algebra.specs.declared.FieldName.{FieldName}
 use Rattle.lc_algebra.specs.Word.{weight}
 use Rattle.lc_algebra.specs.Span.{InSpan}
@@ -16,11 +16,12 @@ use Rattle.lc_constructions.specs.Alternant.{IsAlternantWord}
 use Rattle.lc_constructions.specs.Combined.{InExtended}
 use Rattle.lc_constructions.specs.Concatenated.{InConcatenated}
 use Rattle.lc_constructions.specs.Refusals.{concatenated_refusals, deleted_refusals, extended_refusals}
+use Rattle.lc_constructions.proofs.WithoutLaws.{not_not}
 use Rattle.lc_enumeration.proofs.MemberLaws.{in_span_true, true_in_span}
 use Rattle.lc_formats.specs.Certificate.{Verdict, accepted, rejected, code_length, when, word_not_in_code, word_weight, part_refused, claim_short}
 use Rattle.lc_formats.specs.Claim.{Claim, search, alternant, pair, concat, subcode, at_places, extend, Built, claim_total}
 use Rattle.lc_formats.specs.ClaimMeaning.{capped, Outcome, code_with, refused_at, HasOwn, Follows, search_refusal, first_number, field_of_size, form_refusal, form_of, in_code, subcode_refusal, pair_refusals, pair_length, InPair, pair_bound, InPlaced, place_bound, extended_bound, HasOutcome, IsValidTree, tree_reasons, verdict_after, IsTreeVerdict}
-use Rattle.lc_formats.proofs.VerdictLaws.{else_accepted, accepted_else, when_not, not_when, not_false, not_true}
+use Rattle.lc_formats.proofs.VerdictLaws.{else_accepted, accepted_else, when_not, not_when}
 
 same_rows : (f : FieldName) (n : ℕ) (P : List ℕ → Type 0) (C D : Matrix) → IsCode f n P C → IsCode f n P D → C.rows ≡ D.rows
 same_rows f n P C D h k = generator_unique f n P C.rows D.rows h.generator k.generator
@@ -84,8 +85,8 @@ accepted_after b (code_with C bound) h e =
       code = C;
       bound = bound;
       denotes = h;
-      inside = in_span_true C.field C.columns C.rows b.word (not_false _ (when_not _ _ one.0));
-      attains = eqb-true (weight b.word) b.distance (not_false _ (when_not _ _ two.0));
+      inside = in_span_true C.field C.columns C.rows b.word (not_not _ (when_not _ _ one.0));
+      attains = eqb-true (weight b.word) b.distance (not_not _ (when_not _ _ two.0));
       reaches = ltb-false bound b.distance (when_not _ _ three.0);
     }
 accepted_after b (refused_at number refusal) h e = absurd (apart e)
@@ -102,7 +103,7 @@ valid_tree_accepted b t = (
   code_with t.code t.bound,
   t.denotes,
   sym
-      (accepted_else (when (not (in_code t.code b.word)) word_not_in_code) _ (not_when _ _ (not_true _ (true_in_span t.code.field t.code.columns t.code.rows b.word t.inside)))
-      (accepted_else (when (not (weight b.word == b.distance)) (word_weight (weight b.word))) _ (not_when _ _ (not_true _ (eq-eqb (weight b.word) b.distance t.attains)))
+      (accepted_else (when (not (in_code t.code b.word)) word_not_in_code) _ (not_when _ _ (not_from_true _ (true_in_span t.code.field t.code.columns t.code.rows b.word t.inside)))
+      (accepted_else (when (not (weight b.word == b.distance)) (word_weight (weight b.word))) _ (not_when _ _ (not_from_true _ (eq-eqb (weight b.word) b.distance t.attains)))
       (accepted_else (when (nat_lt t.bound b.distance) (claim_short t.bound)) accepted (not_when _ _ (le-ltb t.bound b.distance t.reaches)) refl))),
 )

@@ -1,11 +1,10 @@
 -- That some rows are the reduced generator matrix of a set of words, from tests over all words of their length; for worked examples.
---   lists_contain              each word is in the list of all words
 --   is_code_test f n ps rows test      the tests: the rows are words, reduced with their leading entries at ps, and a word of length n
 --                              is one of their words exactly if it passes the test
 --   code_from_test             then they are that of the words of which the test tests
 --   is_uuv C D, uuv_holds, uuv_passes      the test of a word (u|u+v)
 --   is_alternant f form, alternant_holds, alternant_passes      the test of an alternant word
-use Rattle.std.proofs.Common.{◌≡◌, ℕ, zero, suc, Bool, true, false, not, ◌==◌, ◌&&◌, ◌||◌, List, [], ◌∷◌, map, Contains, refl, arith, ◌++◌}
+use Rattle.std.proofs.Common.{◌≡◌, ℕ, Bool, true, false, not, ◌==◌, ◌&&◌, ◌||◌, List, [], ◌∷◌, refl, ◌++◌}
 use Rattle.std.specs.List.{list_all, list_any}
 use Rattle.std.proofs.lemmas.Bool.{and_parts, eqb-true, eq-eqb, false≢true}
 use Rattle.std.proofs.lemmas.List.Elements.{All-contains}
@@ -14,9 +13,8 @@ use Rattle.lc_algebra.specs.Field.{size}
 use Rattle.lc_algebra.specs.Word.{IsWord, word_sum}
 use Rattle.lc_algebra.specs.Span.{below, words}
 use Rattle.lc_algebra.specs.Matrix.{Matrix, AreRows}
-use Rattle.lc_algebra.proofs.WordLaws.{word_head, word_tail}
-use Rattle.lc_algebra.proofs.SpanLaws.{span_word, flat_map_contains, map_contains, below_contains, contains_below, contains_head}
-use Rattle.lc_algebra.proofs.SpanSearch.{pivots_test, pivots_from_test}
+use Rattle.lc_algebra.proofs.SpanLaws.{span_word, below_contains, contains_below}
+use Rattle.lc_algebra.proofs.SpanSearch.{pivots_test, pivots_from_test, contains_any}
 use Rattle.lc_constructions.specs.Basic.{all_lists}
 use Rattle.lc_constructions.specs.Code.{IsCode}
 use Rattle.lc_constructions.specs.Alternant.{AlternantForm, syndrome_at, IsAlternantWord}
@@ -25,18 +23,12 @@ use Rattle.lc_enumeration.proofs.MemberLaws.{in_span_true, true_in_span}
 use Rattle.lc_algebra.proofs.SpanLaws.{word_of_member, member_of_word}
 use Rattle.lc_algebra.proofs.SpanSearch.{any_contains}
 use Rattle.lc_constructions.specs.Combined.{InUuv}
+use Rattle.lc_constructions.proofs.ExpansionLaws.{each_list}
 use Rattle.lc_enumeration.specs.InformationSet.{same_word}
-use Rattle.lc_enumeration.proofs.MemberLaws.{some_passes, same_from_test, test_from_same}
+use Rattle.lc_enumeration.proofs.MemberLaws.{same_from_test, test_from_same}
 use Rattle.lc_formats.specs.Check.{fit}
 use Rattle.lc_formats.proofs.TestLaws.{all_holds, all_passes, word_holds}
 use Rattle.lc_enumeration.proofs.GreedyLaws.{each_contained}
-
-pub lists_contain : (f : FieldName) (n : ℕ) (w : List ℕ) → IsWord f n w → Contains (all_lists (size f) n) w
-unfolding all_lists
-lists_contain f zero [] h = contains_head [] []
-lists_contain f zero (a ∷ w) h = absurd (omega (arith, h.long))
-lists_contain f (suc n) [] h = absurd (omega (arith, h.long))
-lists_contain f (suc n) (a ∷ w) h = flat_map_contains (λ c. map (λ u. c ∷ u) (all_lists (size f) n)) (below (size f)) a (a ∷ w) (below_contains (size f) a (word_head f (suc n) a w h)) (map_contains (λ u. a ∷ u) (all_lists (size f) n) w (lists_contain f n w (word_tail f n a w h)))
 
 abbrev pub is_code_test : FieldName → ℕ → List ℕ → List (List ℕ) → (List ℕ → Bool) → Bool
 is_code_test f n ps rows test = list_all (fit f n) rows && (pivots_test n ps rows && list_all (λ w. (not (in_span f n rows w) || test w) && (not (test w) || in_span f n rows w)) (all_lists (size f) n))
@@ -51,7 +43,7 @@ code_from_test f n ps rows test P holds passes e =
     let one = and_parts (list_all (fit f n) rows) (pivots_test n ps rows && list_all both (all_lists (size f) n)) e in
     let two = and_parts (pivots_test n ps rows) (list_all both (all_lists (size f) n)) one.1 in
     let words : AreRows f n rows = all_holds (fit f n) (IsWord f n) (word_holds f n) rows one.0 in
-    let at : (w : List ℕ) → IsWord f n w → both w ≡ true = λ w h. All-contains (λ v. both v ≡ true) (all_lists (size f) n) w (all_holds both (λ v. both v ≡ true) (λ v k. k) (all_lists (size f) n) two.1) (lists_contain f n w h) in
+    let at : (w : List ℕ) → IsWord f n w → both w ≡ true = λ w h. All-contains (λ v. both v ≡ true) (all_lists (size f) n) w (all_holds both (λ v. both v ≡ true) (λ v k. k) (all_lists (size f) n) two.1) (each_list f n w h) in
     record {
       over = refl;
       length_is = refl;
@@ -94,5 +86,5 @@ unfolding is_uuv
 uuv_passes C D w h =
     let u = h.0 in
     let v = h.1.0 in
-    some_passes (λ u. list_any (λ v. same_word w (u ++ word_sum C.field u v)) (words D.field D.columns D.rows)) (words C.field C.columns C.rows) u (member_of_word C.field C.columns C.rows u h.1.1)
-    (some_passes (λ v. same_word w (u ++ word_sum C.field u v)) (words D.field D.columns D.rows) v (member_of_word D.field D.columns D.rows v h.1.2) (test_from_same w (u ++ word_sum C.field u v) h.1.3))
+    contains_any (λ u. list_any (λ v. same_word w (u ++ word_sum C.field u v)) (words D.field D.columns D.rows)) (words C.field C.columns C.rows) u (member_of_word C.field C.columns C.rows u h.1.1)
+    (contains_any (λ v. same_word w (u ++ word_sum C.field u v)) (words D.field D.columns D.rows) v (member_of_word D.field D.columns D.rows v h.1.2) (test_from_same w (u ++ word_sum C.field u v) h.1.3))

@@ -5,9 +5,9 @@
 --   claim_closed               the sets of its searches have no other keys
 --   within_limits              a certificate of the shape is within the limits
 --   document_back              its text reads as the certificate
-use Rattle.std.proofs.Common.{◌≡◌, ℕ, zero, suc, ◌+◌, ◌^◌, ◌<◌, ◌≤◌, Bool, true, false, not, nat_le, nat_lt, ◌==◌, ◌&&◌, ◌||◌, if◌then◌else◌, List, [], ◌∷◌, map, length, find, codes, All, Some, option_map, option_and_then, unwrap_or, refl, sym, ap, ◌∙◌, arith}
+use Rattle.std.proofs.Common.{◌≡◌, ℕ, zero, suc, ◌+◌, ◌^◌, ◌<◌, ◌≤◌, true, false, not, nat_le, nat_lt, ◌==◌, ◌&&◌, ◌||◌, if◌then◌else◌, List, [], ◌∷◌, map, length, find, codes, All, Some, option_map, option_and_then, unwrap_or, refl, sym, ap, ◌∙◌, arith}
 use Rattle.std.specs.List.{list_all, list_any}
-use Rattle.std.proofs.lemmas.Bool.{and_from, le-leb, le-ltb}
+use Rattle.std.proofs.lemmas.Bool.{and_from, le-leb, le-ltb, or_from}
 use Rattle.std.proofs.lemmas.List.{length-map}
 use Rattle.std.proofs.lemmas.List.Elements.{All-head, All-tail}
 use Rattle.serde_json.specs.Data.{object, string, depth, members_depth}
@@ -17,6 +17,7 @@ use Rattle.lc_algebra.specs.Word.{Fits}
 use Rattle.lc_constructions.specs.Code.{longest}
 use Rattle.lc_constructions.specs.Cyclic.{all_fields}
 use Rattle.lc_constructions.specs.Refusals.{are_elements, have_elements}
+use Rattle.lc_constructions.proofs.RefusalLaws.{rows_fit_elements, fits_elements}
 use Rattle.lc_formats.specs.Text.{same_bytes}
 use Rattle.lc_formats.specs.Certificate.{Certificate, SetClaim, Proof, scan, levels, code_length, shape as broken, limit}
 use Rattle.lc_formats.specs.CertificateText.{claim_members, claim_json, way_text, with_sets}
@@ -26,7 +27,7 @@ use Rattle.lc_formats.specs.Shape.{AreShapedSets, IsShaped}
 use Rattle.lc_formats.specs.Check.{rows_at, field_at, parts_in, key_count, are_set_keys, sets_at, set_total, is_beyond_limit, above, is_version}
 use Rattle.lc_formats.specs.Document.{of_pair, of_places, kind_text, all_kinds, kind_at, object_at, with_keys, bytes_at, symbol_field, search_of, claim_of_kind, claim_from, part_keys, all_of, are_closed, is_long, is_tree_beyond_limit, document, no_document, tree_closed, tree_distance_in, built_over, tree_word_in, is_tree_word, tree_claim_in, tree_field_in, either_version, document_of, document_in, AreBytes, IsShapedClaim, IsShapedTree}
 use Rattle.lc_formats.proofs.JsonLaws.{IsPlain, plain_items, plain_numbers, items_shallow, numbers_shallow, numbers_back, json_back}
-use Rattle.lc_formats.proofs.TestLaws.{all_passes, elements_pass}
+use Rattle.lc_formats.proofs.TestLaws.{all_passes}
 use Rattle.lc_formats.proofs.CertificateBack.{mapped_all, provided_some, symbol_size, symbols_small, field_back, lists_back, not_above, few, by, rows_plain, word_plain, set_plain, set_shallow, objects_back, keys_of_sets, parts_back}
 
 small_entries : (entries : List ℕ) → AreBytes entries → IsPlain (numbers_json entries)
@@ -134,10 +135,6 @@ unfolding claim_members_of rows_json rows_at list_at number_at number_json with_
 search_back c h scan s = ap (search_of (claim_members_of (search (by c scan)))) (parts_back (claim_members_of (search (by c scan))) c scan h s (lists_back c.rows) (numbers_back c.word) refl refl refl)
 search_back c h (levels claims) s = ap (search_of (claim_members_of (search (by c (levels claims))))) (parts_back (claim_members_of (search (by c (levels claims)))) c (levels claims) h s (lists_back c.rows) (numbers_back c.word) refl refl (search_sets c claims s))
 
-have_back : (f : FieldName) (rows : List (List ℕ)) → All (Fits f) rows → have_elements f rows ≡ true
-unfolding have_elements
-have_back f rows a = all_passes (are_elements f) (Fits f) (elements_pass f) rows a
-
 pub claim_back : (most : ℕ) (f : FieldName) (claim : Claim) → is_symbol f ≡ true → IsShapedClaim f claim → claim_depth claim ≤ most → claim_from most f (claim_members_of claim) ≡ Some claim
 unfolding claim_from claim_depth claim_of_kind claim_members_of kind_at all_kinds kind_text pair_text place_text same_bytes object_at with_keys provided member_count number_at number_json list_at bytes_at rows_json rows_at symbol_field
 claim_back zero f claim s h l = absurd (omega (arith, l, some_claim claim))
@@ -165,7 +162,7 @@ claim_back (suc most) f (subcode of rows) s h l =
     let ms = claim_members_of (subcode of rows) in
     ap (λ o. with_keys 3 ms (option_and_then (λ x. option_map (subcode x) (provided (have_elements f) (rows_at ms))) o)) (claim_back most f of s h.0 (omega (arith, l)))
     ∙ ap (λ o. with_keys 3 ms (option_map (subcode of) (provided (have_elements f) o))) (lists_back rows)
-    ∙ ap (λ o. with_keys 3 ms (option_map (subcode of) o)) (provided_some (have_elements f) rows (have_back f rows (λ k d l. (h.2 k d l).1)))
+    ∙ ap (λ o. with_keys 3 ms (option_map (subcode of) o)) (provided_some (have_elements f) rows (rows_fit_elements f rows (λ k d l. (h.2 k d l).1)))
 claim_back (suc most) f (at_places kind of places) s h l =
     let ms = claim_members_of (at_places kind of places) in
     let part = λ (g : FieldName) (key : List ℕ). option_and_then (claim_from most g) (object_at key ms) in
@@ -200,32 +197,29 @@ unfolding set_total
 within_sets n scan s = omega arith
 within_sets n (levels claims) s = s.1
 
-neither : (a b : Bool) → a ≡ false → b ≡ false → (a || b) ≡ false
-neither a b e d = ap (λ x. x || b) e ∙ d
-
 rows_within : (f : FieldName) (rows : List (List ℕ)) → All (λ row. (length row ≤ longest) × Fits f row) rows → list_any (λ row. above (length row)) rows ≡ false
 rows_within f [] a = refl
 rows_within f (row ∷ rows) a =
-    neither (above (length row)) (list_any (λ row. above (length row)) rows)
+    or_from (above (length row)) (list_any (λ row. above (length row)) rows)
     (not_above (length row) (All-head (λ row. (length row ≤ longest) × Fits f row) row rows a).0)
     (rows_within f rows (All-tail (λ row. (length row ≤ longest) × Fits f row) row rows a))
 
 claim_within : (f : FieldName) (claim : Claim) → IsShapedClaim f claim → is_long claim ≡ false
 unfolding is_long is_beyond_limit code_length
 claim_within f (search c) h = few (length c.word) (length c.rows) (set_total c.proof) h.1.few_columns h.1.few_rows (within_sets (length c.word) c.proof h.1.sets_fit)
-claim_within f (alternant locator points multipliers r) h = neither (above (length points)) (above (length multipliers)) (not_above (length points) h.1.0) (not_above (length multipliers) h.2.0)
-claim_within f (pair kind left right) h = neither (is_long left) (is_long right) (claim_within f left h.0) (claim_within f right h.1)
-claim_within f (concat large outer inner) h = neither (is_long outer) (is_long inner) (claim_within h.0 outer h.3) (claim_within f inner h.4)
-claim_within f (subcode of rows) h = neither (is_long of) _ (claim_within f of h.0) (neither (above (length rows)) _ (not_above (length rows) h.1) (rows_within f rows h.2))
-claim_within f (at_places kind of places) h = neither (is_long of) (above (length places)) (claim_within f of h.0) (not_above (length places) h.1)
+claim_within f (alternant locator points multipliers r) h = or_from (above (length points)) (above (length multipliers)) (not_above (length points) h.1.0) (not_above (length multipliers) h.2.0)
+claim_within f (pair kind left right) h = or_from (is_long left) (is_long right) (claim_within f left h.0) (claim_within f right h.1)
+claim_within f (concat large outer inner) h = or_from (is_long outer) (is_long inner) (claim_within h.0 outer h.3) (claim_within f inner h.4)
+claim_within f (subcode of rows) h = or_from (is_long of) _ (claim_within f of h.0) (or_from (above (length rows)) _ (not_above (length rows) h.1) (rows_within f rows h.2))
+claim_within f (at_places kind of places) h = or_from (is_long of) (above (length places)) (claim_within f of h.0) (not_above (length places) h.1)
 claim_within f (extend of) h = claim_within f of h
 
 pub within_limits : (b : Built) → IsShapedTree b → is_tree_beyond_limit b ≡ false
 unfolding is_tree_beyond_limit
 within_limits b h =
-    neither (above (length b.word)) _ (not_above (length b.word) h.few_columns)
-    (neither (is_long b.claim) _ (claim_within b.field b.claim h.claims_fit)
-    (neither (nat_lt 1024 (claim_total b.claim)) (nat_lt 32 (claim_depth b.claim)) (le-ltb 1024 (claim_total b.claim) h.few_claims) (le-ltb 32 (claim_depth b.claim) h.shallow)))
+    or_from (above (length b.word)) _ (not_above (length b.word) h.few_columns)
+    (or_from (is_long b.claim) _ (claim_within b.field b.claim h.claims_fit)
+    (or_from (nat_lt 1024 (claim_total b.claim)) (nat_lt 32 (claim_depth b.claim)) (le-ltb 1024 (claim_total b.claim) h.few_claims) (le-ltb 32 (claim_depth b.claim) h.shallow)))
 
 built_plain : (b : Built) → IsShapedTree b → IsPlain (object (built_members b))
 unfolding built_members number_json
@@ -243,7 +237,7 @@ deep_enough b = omega (arith, claim_deep b.claim)
 
 tree_word_back : (f : FieldName) (word : List ℕ) → 1 ≤ length word → Fits f word → is_tree_word f word ≡ true
 unfolding is_tree_word
-tree_word_back f word some fits = and_from (nat_le 1 (length word)) (are_elements f word) (le-leb 1 (length word) some) (elements_pass f word fits)
+tree_word_back f word some fits = and_from (nat_le 1 (length word)) (are_elements f word) (le-leb 1 (length word) some) (fits_elements f word fits)
 
 tree_back : (b : Built) → IsShapedTree b → document_of (Some (object (built_members b))) ≡ document (tree b)
 unfolding built_members document_of either_version is_version field_at number_at number_json provided tree_field_in tree_claim_in tree_word_in tree_distance_in tree_closed built_over object_at list_at all_of member_count

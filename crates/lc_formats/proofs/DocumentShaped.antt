@@ -7,8 +7,8 @@
 --   document_shaped            a document that bytes read as has the shape
 use Rattle.std.proofs.Common.{◌≡◌, ℕ, zero, suc, ◌-◌, ◌^◌, ◌<◌, ◌≤◌, Bool, true, false, not, nat_le, nat_lt, ◌==◌, ◌&&◌, ◌||◌, if◌then◌else◌, List, [], ◌∷◌, length, codes, All, Option, Some, None, option_map, option_and_then, refl, subst, arith}
 use Rattle.std.specs.List.{list_all, list_any}
-use Rattle.std.proofs.lemmas.Bool.{and_parts, leb-true, ltb-false}
-use Rattle.std.proofs.lemmas.Option.{option_and_then_some}
+use Rattle.std.proofs.lemmas.Bool.{and_parts, leb-true, ltb-false, or_parts}
+use Rattle.std.proofs.lemmas.Option.{option_and_then_some, same_Some}
 use Rattle.std.proofs.lemmas.List.Elements.{All-cons, All-head, All-tail}
 use Rattle.serde_json.specs.Data.{Data, Members, null, boolean, number, string, array, object, members_depth}
 use Rattle.serde_json.specs.Find.{get_member, as_object}
@@ -17,19 +17,20 @@ use Rattle.lc_algebra.specs.Field.{size, is_symbol}
 use Rattle.lc_algebra.specs.Word.{Fits}
 use Rattle.lc_constructions.specs.Code.{longest}
 use Rattle.lc_constructions.specs.Refusals.{are_elements, have_elements}
+use Rattle.lc_constructions.proofs.RefusalLaws.{elements_fit}
 use Rattle.lc_formats.specs.Certificate.{Certificate, Reason, limit, shape as broken}
 use Rattle.lc_formats.specs.Claim.{Claim, search, alternant, pair, concat, subcode, at_places, extend, Built, Document, plain, tree, claim_total, claim_depth}
 use Rattle.lc_formats.specs.Json.{number_at, listed, plain_number, numbers_of, list_at, provided, member_count, json_in}
 use Rattle.lc_formats.specs.Shape.{IsShaped}
 use Rattle.lc_formats.specs.Check.{CertificateRead, reads_as, refused_as, rows_at, field_at, parts_in, key_count, above, is_version, data_in}
 use Rattle.lc_formats.specs.Document.{Kind, of_search, of_form, of_pair, of_concat, of_subcode, of_places, of_extend, kind_at, object_at, with_keys, bytes_at, symbol_field, search_of, claim_of_kind, claim_from, all_of, are_closed, is_long, is_tree_beyond_limit, DocumentRead, document, no_document, plain_read, tree_closed, tree_distance_in, built_over, tree_word_in, is_tree_word, tree_claim_in, tree_field_in, either_version, document_of, document_in, IsShapedClaim, IsShapedTree}
-use Rattle.lc_formats.proofs.TestLaws.{all_holds, elements_hold}
-use Rattle.lc_formats.proofs.ReadLaws.{AreFit, MembersFit, json_fits, number_fits, member_fits, object_fits, listed_fit, whole_fits, same_some, provided_inside, each_all}
-use Rattle.lc_formats.proofs.CertificateShaped.{HasRules, HasRulesOver, parts_ruled, limited, or_false, is_below_limit, field_found, data_shaped}
+use Rattle.lc_formats.proofs.TestLaws.{all_holds}
+use Rattle.lc_formats.proofs.ReadLaws.{AreFit, MembersFit, json_fits, number_fits, member_fits, object_fits, listed_fit, whole_fits, provided_inside, each_all}
+use Rattle.lc_formats.proofs.CertificateShaped.{HasRules, HasRulesOver, parts_ruled, limited, is_below_limit, field_found, data_shaped}
 
 pub map_some : {X Y : Type 0} (g : X → Y) (o : Option X) (y : Y) (P : Y → Type 0) → ((x : X) → o ≡ Some x → P (g x)) → option_map g o ≡ Some y → P y
 map_some g None y P h e = absurd cc
-map_some g (Some x) y P h e = subst P (same_some (g x) y e) (h x refl)
+map_some g (Some x) y P h e = subst P (same_Some (g x) y e) (h x refl)
 
 numbers_fit : (d : Data) (u : List ℕ) → AreFit d → numbers_of d ≡ Some u → All (λ n. n < 2 ^ 64) u
 unfolding numbers_of plain_number
@@ -64,11 +65,11 @@ bytes_ruled key ms u e = all_holds (λ a. nat_le a 255) (λ a. a ≤ 255) (λ a 
 search_ruled : (f : FieldName) (ms : Members) (r : CertificateRead) (claim : Claim) → HasRulesOver f r → search_of ms r ≡ Some claim → HasClaimRules f claim
 unfolding search_of
 search_ruled f ms (refused_as r) claim h e = absurd cc
-search_ruled f ms (reads_as c) claim h e = subst (HasClaimRules f) (same_some (search c) claim (keys_inside (key_count c.proof - 1) ms (Some (search c)) claim e)) (h c refl)
+search_ruled f ms (reads_as c) claim h e = subst (HasClaimRules f) (same_Some (search c) claim (keys_inside (key_count c.proof - 1) ms (Some (search c)) claim e)) (h c refl)
 
 rows_ruled : (f : FieldName) (ms : Members) (rows : List (List ℕ)) → provided (have_elements f) (rows_at ms) ≡ Some rows → All (Fits f) rows
 unfolding have_elements
-rows_ruled f ms rows e = all_holds (are_elements f) (Fits f) (elements_hold f) rows (provided_inside (have_elements f) (rows_at ms) rows e).passes
+rows_ruled f ms rows e = all_holds (are_elements f) (Fits f) (elements_fit f) rows (provided_inside (have_elements f) (rows_at ms) rows e).passes
 
 abbrev PartsRuled : (FieldName → List ℕ → Option Claim) → Type 0
 PartsRuled part = (g : FieldName) (key : List ℕ) (claim : Claim) → is_symbol g ≡ true → part g key ≡ Some claim → HasClaimRules g claim
@@ -118,27 +119,27 @@ claim_ruled (suc most) f ms claim s fits e =
 rows_limited : (f : FieldName) (rows : List (List ℕ)) → All (Fits f) rows → list_any (λ row. above (length row)) rows ≡ false → All (λ row. (length row ≤ longest) × Fits f row) rows
 rows_limited f [] a e = λ k d l. absurd (omega (arith, l))
 rows_limited f (row ∷ rows) a e =
-    let s = or_false (above (length row)) (list_any (λ row. above (length row)) rows) e in
+    let s = or_parts (above (length row)) (list_any (λ row. above (length row)) rows) e in
     All-cons (λ row. (length row ≤ longest) × Fits f row) row rows (is_below_limit (length row) s.0, All-head (Fits f) row rows a) (rows_limited f rows (All-tail (Fits f) row rows a) s.1)
 
 pub claim_limited : (f : FieldName) (claim : Claim) → HasClaimRules f claim → is_long claim ≡ false → IsShapedClaim f claim
 unfolding is_long
 claim_limited f (search c) h e = (h.0, limited c h.1 e)
 claim_limited f (alternant locator points multipliers r) h e =
-    let s = or_false (above (length points)) (above (length multipliers)) e in
+    let s = or_parts (above (length points)) (above (length multipliers)) e in
     (h.0, (is_below_limit (length points) s.0, h.1), (is_below_limit (length multipliers) s.1, h.2), h.3)
 claim_limited f (pair kind left right) h e =
-    let s = or_false (is_long left) (is_long right) e in
+    let s = or_parts (is_long left) (is_long right) e in
     (claim_limited f left h.0 s.0, claim_limited f right h.1 s.1)
 claim_limited f (concat large outer inner) h e =
-    let s = or_false (is_long outer) (is_long inner) e in
+    let s = or_parts (is_long outer) (is_long inner) e in
     (h.0, h.1, h.2, claim_limited h.0 outer h.3 s.0, claim_limited f inner h.4 s.1)
 claim_limited f (subcode of rows) h e =
-    let s = or_false (is_long of) (above (length rows) || list_any (λ row. above (length row)) rows) e in
-    let t = or_false (above (length rows)) (list_any (λ row. above (length row)) rows) s.1 in
+    let s = or_parts (is_long of) (above (length rows) || list_any (λ row. above (length row)) rows) e in
+    let t = or_parts (above (length rows)) (list_any (λ row. above (length row)) rows) s.1 in
     (claim_limited f of h.0 s.0, is_below_limit (length rows) t.0, rows_limited f rows h.1 t.1)
 claim_limited f (at_places kind of places) h e =
-    let s = or_false (is_long of) (above (length places)) e in
+    let s = or_parts (is_long of) (above (length places)) e in
     (claim_limited f of h.0 s.0, is_below_limit (length places) s.1, h.1)
 claim_limited f (extend of) h e = claim_limited f of h e
 
@@ -174,9 +175,9 @@ closed_tree ms b h =
 tree_limited : (f : FieldName) (claim : Claim) (word : List ℕ) (d : ℕ) → is_symbol f ≡ true → HasClaimRules f claim → 1 ≤ length word → Fits f word → 1 ≤ d → d < 2 ^ 64 → is_tree_beyond_limit (built_over f claim word d) ≡ false → IsShapedTree (built_over f claim word d)
 unfolding is_tree_beyond_limit built_over
 tree_limited f claim word d s rules some fits positive small e =
-    let one = or_false (above (length word)) (is_long claim || (nat_lt 1024 (claim_total claim) || nat_lt 32 (claim_depth claim))) e in
-    let two = or_false (is_long claim) (nat_lt 1024 (claim_total claim) || nat_lt 32 (claim_depth claim)) one.1 in
-    let three = or_false (nat_lt 1024 (claim_total claim)) (nat_lt 32 (claim_depth claim)) two.1 in
+    let one = or_parts (above (length word)) (is_long claim || (nat_lt 1024 (claim_total claim) || nat_lt 32 (claim_depth claim))) e in
+    let two = or_parts (is_long claim) (nat_lt 1024 (claim_total claim) || nat_lt 32 (claim_depth claim)) one.1 in
+    let three = or_parts (nat_lt 1024 (claim_total claim)) (nat_lt 32 (claim_depth claim)) two.1 in
     record {
       field_fits = s;
       claims_fit = claim_limited f claim rules two.0;
@@ -201,7 +202,7 @@ unfolding tree_word_in is_tree_word
 word_of_tree ms f claim s rules fits None e = refused_document (broken 5)
 word_of_tree ms f claim s rules fits (Some word) e =
     let p = and_parts (nat_le 1 (length word)) (are_elements f word) (provided_inside (is_tree_word f) (list_at (codes "word") ms) word e).passes in
-    distance_of_tree ms f claim word s rules fits (leb-true 1 (length word) p.0) (elements_hold f word p.1) (provided (nat_le 1) (number_at (codes "distance") ms)) refl
+    distance_of_tree ms f claim word s rules fits (leb-true 1 (length word) p.0) (elements_fit f word p.1) (provided (nat_le 1) (number_at (codes "distance") ms)) refl
 
 claim_of_tree : (ms : Members) (f : FieldName) → is_symbol f ≡ true → MembersFit ms → (o : Option Claim) → option_and_then (claim_from (members_depth ms) f) (object_at (codes "claim") ms) ≡ o → AreShapedReads (tree_claim_in ms f o)
 unfolding tree_claim_in
@@ -217,10 +218,10 @@ field_of_tree ms fits (Some f) e = claim_of_tree ms f (field_found (number_at (c
 
 version_shaped : (d : Data) (o : Option Members) → AreFit d → as_object d ≡ o → AreShapedReads (either_version d o)
 unfolding either_version
-version_shaped d None fits e = plain_shaped (data_in (Some d)) (data_shaped (Some d) (λ x same. subst AreFit (same_some d x same) fits))
+version_shaped d None fits e = plain_shaped (data_in (Some d)) (data_shaped (Some d) (λ x same. subst AreFit (same_Some d x same) fits))
 version_shaped d (Some ms) fits e =
     either_document (is_version 2 ms) (tree_field_in ms (field_at ms)) (plain_read (data_in (Some d))) (λ k. field_of_tree ms (object_fits d ms fits e) (field_at ms) refl)
-    (λ k. plain_shaped (data_in (Some d)) (data_shaped (Some d) (λ x same. subst AreFit (same_some d x same) fits)))
+    (λ k. plain_shaped (data_in (Some d)) (data_shaped (Some d) (λ x same. subst AreFit (same_Some d x same) fits)))
 
 document_of_shaped : (o : Option Data) → ((d : Data) → o ≡ Some d → AreFit d) → AreShapedReads (document_of o)
 unfolding document_of

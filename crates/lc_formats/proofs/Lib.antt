@@ -21,3 +21,4 @@ pub mod ClaimExamples
 pub mod DocumentExamples
 pub mod CheckpointExamples
 pub mod TruthExamples
+pub mod ByteLaws

@@ -1,7 +1,7 @@
 -- Bytes of ASCII need no test for UTF-8, so that worked examples on bytes compute quickly.
 --   json_plainly               the JSON value that they are
 --   certificate_plainly, check_plainly, document_plainly      the certificate, the line of `check`, the document that they are
---   certificates_plainly, checks_plainly, documents_plainly      those of several texts
+--   checks_plainly, documents_plainly      those of several texts
 use Rattle.std.proofs.Common.{◌≡◌, ℕ, true, if◌then◌else◌, List, [], ◌∷◌, map, Option, None, refl, ap}
 use Rattle.std.specs.List.{list_all}
 use Rattle.std.proofs.lemmas.Bool.{and_parts}
@@ -37,9 +37,6 @@ each_plainly f g h [] e = refl
 each_plainly f g h (text ∷ texts) e =
     let parts = and_parts (are_ascii text) (list_all are_ascii texts) e in
     cc (h text parts.0, each_plainly f g h texts parts.1)
-
-pub certificates_plainly : (texts : List (List ℕ)) → list_all are_ascii texts ≡ true → map certificate_in texts ≡ map (λ text. data_in (read text)) texts
-certificates_plainly texts e = each_plainly certificate_in (λ text. data_in (read text)) certificate_plainly texts e
 
 pub checks_plainly : (texts : List (List ℕ)) → list_all are_ascii texts ≡ true → map check_text texts ≡ map (λ text. line_of_data (read text)) texts
 checks_plainly texts e = each_plainly check_text (λ text. line_of_data (read text)) check_plainly texts e

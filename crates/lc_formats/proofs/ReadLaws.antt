@@ -13,7 +13,7 @@ use Rattle.std.specs.declared.cmp.Ordering.{Ordering}
 use Rattle.std.specs.declared.cmp.Ordering.TheVariants.{Less, Equal, Greater}
 use Rattle.std.specs.Cmp.Lexicographic.{slice_cmp}
 use Rattle.std.proofs.lemmas.Bool.{and_parts, ltb-true}
-use Rattle.std.proofs.lemmas.Option.{option_and_then_some}
+use Rattle.std.proofs.lemmas.Option.{option_and_then_some, same_Some}
 use Rattle.std.proofs.lemmas.List.Elements.{All-cons, All-head, All-tail}
 use Rattle.fast_float.specs.Text.{scan, digits_of, with_sign}
 use Rattle.json.specs.Json as json
@@ -141,13 +141,10 @@ pub member_fits : (k : List ℕ) (ms : Members) (d : Data) → MembersFit ms →
 member_fits k no_members d h e = absurd cc
 member_fits k (member l e ms) d h same = member_chosen (slice_cmp nat_cmp k l) k d e ms h.0 (λ rest. member_fits k ms d h.1 rest) same
 
-same_number : (m n : ℕ) → Some m ≡ Some n → m ≡ n
-same_number m n e = cc e
-
 pub whole_fits : (d : Data) (n : ℕ) → AreFit d → option_and_then as_u64 (as_number d) ≡ Some n → n < 2 ^ 64
 whole_fits null n h e = absurd cc
 whole_fits (boolean b) n h e = absurd cc
-whole_fits (number (unsigned m)) n h e = omega (arith, h, same_number m n e)
+whole_fits (number (unsigned m)) n h e = omega (arith, h, same_Some m n e)
 whole_fits (number (negative z)) n h e = absurd cc
 whole_fits (number (float x)) n h e = absurd cc
 whole_fits (string s) n h e = absurd cc
@@ -202,9 +199,6 @@ provided_inside test (Some y) x e =
     let k = kept (test y) y x e in
     record { there = ap Some k.1; passes = ap test (sym k.1) ∙ k.0 }
 
-pub same_some : {Y : Type 0} (x y : Y) → Some x ≡ Some y → x ≡ y
-same_some x y e = cc e
-
 some_first : {Y : Type 0} (first : Option Y) (rest : Option (List Y)) (ys : List Y) → option_and_then (λ y. option_map (λ more. y ∷ more) rest) first ≡ Some ys → (y : Y) × ((more : List Y) × (first ≡ Some y) × (rest ≡ Some more) × (ys ≡ y ∷ more))
 some_first None rest ys e = absurd cc
 some_first (Some y) None ys e = absurd cc
@@ -217,14 +211,14 @@ each_cons (Some y) xs = refl
 
 pub each_all : {X Y : Type 0} (take : X → Option Y) (Q : X → Type 0) (P : Y → Type 0) → ((x : X) (y : Y) → Q x → take x ≡ Some y → P y) → (xs : List X) (ys : List Y) → All Q xs → each (map take xs) ≡ Some ys → All P ys
 unfolding each
-each_all take Q P h [] ys a e = subst (All P) (same_some [] ys e) (λ k d l. absurd (omega (arith, l)))
+each_all take Q P h [] ys a e = subst (All P) (same_Some [] ys e) (λ k d l. absurd (omega (arith, l)))
 each_all take Q P h (x ∷ xs) ys a e =
     let s = some_first (take x) (each (map take xs)) ys (sym (each_cons (take x) (map take xs)) ∙ e) in
     subst (All P) (sym s.1.3) (All-cons P s.0 s.1.0 (h x s.0 (All-head Q x xs a) s.1.1) (each_all take Q P h xs s.1.0 (All-tail Q x xs a) s.1.2))
 
 pub each_length : {X Y : Type 0} (take : X → Option Y) (xs : List X) (ys : List Y) → each (map take xs) ≡ Some ys → length ys ≡ length xs
 unfolding each
-each_length take [] ys e = ap length (sym (same_some [] ys e))
+each_length take [] ys e = ap length (sym (same_Some [] ys e))
 each_length take (x ∷ xs) ys e =
     let s = some_first (take x) (each (map take xs)) ys (sym (each_cons (take x) (map take xs)) ∙ e) in
     ap length s.1.3 ∙ ap suc (each_length take xs s.1.0 s.1.2)

@@ -1,7 +1,6 @@
 -- What the tests of a reader of certificates say.
 --   all_holds, all_passes      a list passes a test exactly if each element has what the test tests
 --   rising_holds, rising_passes      numbers rise exactly if the test says so
---   elements_hold, elements_pass      a list fits the field exactly if the test says so
 --   word_holds, word_passes    a list is a word over the field, of that length
 --   places_hold, places_pass   numbers rise and are below the length
 --   part_holds, part_passes    each fresh place is in the basis
@@ -11,9 +10,9 @@ use Rattle.std.specs.List.Sorted.{IsStrictlyIncreasing}
 use Rattle.std.proofs.lemmas.Bool.{and_parts, and_from, eqb-true, eq-eqb, ltb-true, lt-ltb}
 use Rattle.std.proofs.lemmas.List.Elements.{All-cons, All-head, All-tail}
 use Rattle.lc_algebra.specs.declared.FieldName.{FieldName}
-use Rattle.lc_algebra.specs.Field.{size}
-use Rattle.lc_algebra.specs.Word.{IsWord, Fits}
+use Rattle.lc_algebra.specs.Word.{IsWord}
 use Rattle.lc_constructions.specs.Refusals.{is_rising, are_elements}
+use Rattle.lc_constructions.proofs.RefusalLaws.{elements_fit, fits_elements}
 use Rattle.lc_enumeration.specs.InformationSet.{is_member}
 use Rattle.lc_enumeration.proofs.MemberLaws.{member_true, true_member}
 use Rattle.lc_formats.specs.Certificate.{SetClaim}
@@ -46,24 +45,15 @@ rising_passes [] h = refl
 rising_passes (a ∷ []) h = refl
 rising_passes (a ∷ b ∷ rest) h = and_from (nat_lt a b) (is_rising (b ∷ rest)) (lt-ltb a b (h 0 (omega arith))) (rising_passes (b ∷ rest) (λ k l. subst (λ j. slice_index (b ∷ rest) k < slice_index (a ∷ b ∷ rest) j) (sym (next k)) (h (suc k) (omega (arith, l)))))
 
-pub elements_hold : (f : FieldName) (w : List ℕ) → are_elements f w ≡ true → Fits f w
-unfolding are_elements
-elements_hold f w e i l = all_holds (λ a. nat_lt a (size f)) (λ a. a < size f) (λ a h. ltb-true a (size f) h) w e i 0 l
-
-pub elements_pass : (f : FieldName) (w : List ℕ) → Fits f w → are_elements f w ≡ true
-unfolding are_elements
-elements_pass f [] h = refl
-elements_pass f (a ∷ w) h = and_from (nat_lt a (size f)) (are_elements f w) (lt-ltb a (size f) (h 0 (omega arith))) (elements_pass f w (λ i l. h (suc i) (omega (arith, l))))
-
 pub word_holds : (f : FieldName) (n : ℕ) (w : List ℕ) → fit f n w ≡ true → IsWord f n w
 unfolding fit
 word_holds f n w e =
     let s = and_parts (length w == n) (are_elements f w) e in
-    record { long = eqb-true (length w) n s.0; fits = elements_hold f w s.1 }
+    record { long = eqb-true (length w) n s.0; fits = elements_fit f w s.1 }
 
 pub word_passes : (f : FieldName) (n : ℕ) (w : List ℕ) → IsWord f n w → fit f n w ≡ true
 unfolding fit
-word_passes f n w h = and_from (length w == n) (are_elements f w) (eq-eqb (length w) n h.long) (elements_pass f w h.fits)
+word_passes f n w h = and_from (length w == n) (are_elements f w) (eq-eqb (length w) n h.long) (fits_elements f w h.fits)
 
 pub places_hold : (n : ℕ) (places : List ℕ) → are_places n places ≡ true → IsStrictlyIncreasing places × All (λ place. place < n) places
 unfolding are_places

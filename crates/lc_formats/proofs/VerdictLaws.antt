@@ -7,7 +7,7 @@
 --   reaches_holds, reaches_passes      whether the levels reach the distance
 --   accepted_is_valid, valid_is_accepted, rejected_is_not_valid, not_valid_is_rejected
 use Rattle.std.proofs.Common.{◌≡◌, ℕ, zero, suc, ◌+◌, ◌^◌, ◌<◌, ◌≤◌, ◌⊎◌, min, Bool, true, false, not, nat_le, nat_lt, ◌==◌, ◌&&◌, ◌||◌, cond, if◌then◌else◌, List, [], ◌∷◌, length, map, find, count_by, slice_index_or, All, AllPairs, Any, Contains, Option, Some, None, inl, inr, ⊎_elim, refl, sym, ap, subst, ◌∙◌, arith}
-use Rattle.std.proofs.lemmas.Bool.{and_parts, and_from, or_left, or_right, eqb-true, eq-eqb, ltb-true, ltb-false, lt-ltb, le-ltb, leb-true, le-leb, false≢true, cases_Bool, cases_lt}
+use Rattle.std.proofs.lemmas.Bool.{and_parts, and_from, or_left, or_right, eqb-true, eq-eqb, ltb-true, ltb-false, lt-ltb, le-ltb, leb-true, le-leb, false≢true, cases_Bool, cases_lt, or_cases, false_from_ne_true, not_from_true}
 use Rattle.std.proofs.lemmas.List.Elements.{All-cons, All-head, All-tail, All-contains, Contains-get_or}
 use Rattle.std.proofs.lemmas.List.Sums.{sum_by-cons}
 use Rattle.lc_algebra.specs.Word.{IsWord, weight}
@@ -15,6 +15,7 @@ use Rattle.lc_algebra.specs.Span.{AreIndependent, below}
 use Rattle.lc_algebra.specs.Matrix.{column, AreRows, AreIndependentColumns}
 use Rattle.lc_algebra.proofs.SpanLaws.{contains_cases, contains_head, contains_tail, contains_map, map_contains, below_contains}
 use Rattle.lc_algebra.proofs.ColumnLaws.{column_word}
+use Rattle.lc_constructions.proofs.WithoutLaws.{not_not}
 use Rattle.lc_enumeration.specs.InformationSet.{in_span, greedy, is_member}
 use Rattle.lc_enumeration.proofs.MemberLaws.{in_span_true, true_in_span, member_true, true_member}
 use Rattle.lc_enumeration.proofs.GreedyLaws.{greedy_independent, greedy_whole}
@@ -41,7 +42,7 @@ pub not_when : (b : Bool) (r : Reason) → b ≡ false → when b r ≡ None
 unfolding when
 not_when b r e = rw e refl
 
-carrying_none : {X : Type 0} (r : X → Reason) (o : Option X) → carrying r o ≡ None → o ≡ None
+pub carrying_none : {X : Type 0} (r : X → Reason) (o : Option X) → carrying r o ≡ None → o ≡ None
 unfolding carrying
 carrying_none r None e = refl
 carrying_none r (Some x) e = absurd cc
@@ -49,17 +50,6 @@ carrying_none r (Some x) e = absurd cc
 none_carrying : {X : Type 0} (r : X → Reason) (o : Option X) → o ≡ None → carrying r o ≡ None
 unfolding carrying
 none_carrying r o e = rw e refl
-
-pub not_false : (b : Bool) → not b ≡ false → b ≡ true
-not_false true e = refl
-not_false false e = absurd (false≢true (sym e))
-
-pub not_true : (b : Bool) → b ≡ true → not b ≡ false
-not_true b e = rw e refl
-
-false_from : (b : Bool) → (b ≡ true → ⊥) → b ≡ false
-false_from true h = absurd (h refl)
-false_from false h = refl
 
 chosen_none : {X : Type 0} (b : Bool) (x : X) (rest : Option X) → cond b (Some x) rest ≡ None → (b ≡ false) × (rest ≡ None)
 chosen_none true x rest e = absurd cc
@@ -131,7 +121,7 @@ not_lighter d w e l =
 
 heavy_enough : (d : ℕ) (w : List ℕ) → (0 < weight w → d ≤ weight w) → is_lighter d w ≡ false
 unfolding is_lighter
-heavy_enough d w h = false_from (nat_lt 0 (weight w) && nat_lt (weight w) d) (λ e.
+heavy_enough d w h = false_from_ne_true (nat_lt 0 (weight w) && nat_lt (weight w) d) (λ e.
     let s = and_parts (nat_lt 0 (weight w)) (nat_lt (weight w) d) e in
     omega (arith, ltb-true (weight w) d s.1, h (ltb-true 0 (weight w) s.0)))
 
@@ -176,7 +166,7 @@ none_counted : (claims : List SetClaim) (place : ℕ) → ((claim : SetClaim) �
 none_counted [] place h = refl
 none_counted (s ∷ claims) place h =
     counted_cons s claims place
-    ∙ omega (arith, ap one_if (false_from (is_member s.fresh place) (λ e. h s (contains_head s claims) (true_member s.fresh place e))), none_counted claims place (λ claim c. h claim (contains_tail s claim claims c)))
+    ∙ omega (arith, ap one_if (false_from_ne_true (is_member s.fresh place) (λ e. h s (contains_head s claims) (true_member s.fresh place e))), none_counted claims place (λ claim c. h claim (contains_tail s claim claims c)))
 
 apart_tail : (s : SetClaim) (claims : List SetClaim) → AreApart (s ∷ claims) → AreApart claims
 apart_tail s claims a i j d l m = a (suc i) (suc j) d (omega (arith, l)) (omega (arith, m))
@@ -204,10 +194,6 @@ unfolding least_overlap
 overlap_passes c claims a = passes_none (λ place. nat_lt 1 (count_by (λ claim. is_member claim.fresh place) claims)) (below (code_length c)) (λ k d l. le-ltb 1 _ (counts_from_apart claims _ a))
 
 -- ---- levels
-
-pub or_cases : (a b : Bool) → (a || b) ≡ true → (a ≡ true) ⊎ (b ≡ true)
-or_cases true b e = inl refl
-or_cases false b e = inr e
 
 whole_level : (c : Certificate) (claims : List SetClaim) → is_member (map (level_in c) claims) (code_dimension c) ≡ true → Any (λ claim. code_dimension c ≤ claim.level) claims
 unfolding level_in
@@ -246,7 +232,7 @@ proof_holds c (levels claims) later h s e =
       (
         sets_hold c 1 claims h.rows_fit (carrying_none set_not_information (first_dependent c 1 claims) one.0),
         overlap_holds c claims s.2 (carrying_none fresh_overlap (least_overlap c claims) two.0),
-        reaches_holds c claims (not_false (reaches c claims) (when_not (not (reaches c claims)) (bound_short (claimed_sum c claims)) three.0)),
+        reaches_holds c claims (not_not (reaches c claims) (when_not (not (reaches c claims)) (bound_short (claimed_sum c claims)) three.0)),
       ),
       three.1,
     )
@@ -257,7 +243,7 @@ proof_passes c scan later h s e = e
 proof_passes c (levels claims) later h s e =
     accepted_else (carrying set_not_information (first_dependent c 1 claims)) _ (none_carrying set_not_information (first_dependent c 1 claims) (sets_pass c 1 claims h.rows_fit s.0))
     (accepted_else (carrying fresh_overlap (least_overlap c claims)) _ (none_carrying fresh_overlap (least_overlap c claims) (overlap_passes c claims s.1))
-    (accepted_else (when (not (reaches c claims)) (bound_short (claimed_sum c claims))) later (not_when (not (reaches c claims)) (bound_short (claimed_sum c claims)) (not_true (reaches c claims) (reaches_passes c claims s.2))) e))
+    (accepted_else (when (not (reaches c claims)) (bound_short (claimed_sum c claims))) later (not_when (not (reaches c claims)) (bound_short (claimed_sum c claims)) (not_from_true (reaches c claims) (reaches_passes c claims s.2))) e))
 
 pub accepted_is_valid : (c : Certificate) → IsShaped c → verdict c ≡ accepted → IsValid c
 unfolding verdict cost_reason
@@ -269,8 +255,8 @@ accepted_is_valid c h e =
     let five = else_accepted (carrying seen_lighter (first_lighter c)) accepted four.1 in
     record {
       affordable = ltb-false (2 ^ 32) (cost c) (when_not _ _ one.0);
-      inside = in_span_true c.field (code_length c) c.rows c.word (not_false _ (when_not _ _ two.0));
-      attains = eqb-true (weight c.word) c.distance (not_false _ (when_not _ _ three.0));
+      inside = in_span_true c.field (code_length c) c.rows c.word (not_not _ (when_not _ _ two.0));
+      attains = eqb-true (weight c.word) c.distance (not_not _ (when_not _ _ three.0));
       seen = lighter_holds c (carrying_none seen_lighter (first_lighter c) five.0);
       sets = four.0;
     }
@@ -279,8 +265,8 @@ pub valid_is_accepted : (c : Certificate) → IsShaped c → IsValid c → verdi
 unfolding verdict cost_reason
 valid_is_accepted c h v =
     accepted_else (cost_reason (cost c)) _ (not_when _ _ (le-ltb (2 ^ 32) (cost c) v.affordable))
-    (accepted_else (when (not (in_span c.field (code_length c) c.rows c.word)) word_not_in_code) _ (not_when _ _ (not_true _ (true_in_span c.field (code_length c) c.rows c.word v.inside)))
-    (accepted_else (when (not (weight c.word == c.distance)) (word_weight (weight c.word))) _ (not_when _ _ (not_true _ (eq-eqb (weight c.word) c.distance v.attains)))
+    (accepted_else (when (not (in_span c.field (code_length c) c.rows c.word)) word_not_in_code) _ (not_when _ _ (not_from_true _ (true_in_span c.field (code_length c) c.rows c.word v.inside)))
+    (accepted_else (when (not (weight c.word == c.distance)) (word_weight (weight c.word))) _ (not_when _ _ (not_from_true _ (eq-eqb (weight c.word) c.distance v.attains)))
     (proof_passes c c.proof (or_else (carrying seen_lighter (first_lighter c)) accepted) h v.sets
     (accepted_else (carrying seen_lighter (first_lighter c)) accepted (none_carrying seen_lighter (first_lighter c) (lighter_passes c v.seen)) refl))))
 

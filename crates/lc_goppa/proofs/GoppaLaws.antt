@@ -7,10 +7,10 @@
 --   goppa_fine             what isn't refused has a form
 --   goppa_form_told        the form of given multipliers is that of the Goppa code
 --   goppa_code             the code of a Goppa form is the Goppa code
-use Rattle.std.proofs.Common.{◌≡◌, ◌≢◌, ℕ, zero, suc, ◌+◌, ◌-◌, ◌<◌, Bool, true, false, ◌==◌, List, [], ◌∷◌, ◌++◌, length, map, take, find, slice_index, Contains, AllPairs, Some, None, option_map, refl, sym, ap, ap₂, subst, ◌∙◌, arith}
+use Rattle.std.proofs.Common.{◌≡◌, ◌≢◌, ℕ, zero, suc, ◌+◌, ◌-◌, ◌<◌, Bool, true, ◌==◌, List, [], ◌∷◌, ◌++◌, length, map, take, find, slice_index, Contains, AllPairs, Some, None, option_map, refl, sym, ap, ap₂, subst, ◌∙◌, arith}
 use Rattle.std.specs.Prelude.{IsTrue}
 use Rattle.std.proofs.Math.Seq.{take-suc}
-use Rattle.std.proofs.lemmas.Bool.{eq-eqb, ne_eqb}
+use Rattle.std.proofs.lemmas.Bool.{eq-eqb}
 use Rattle.std.proofs.lemmas.List.{map-append, take_all, get_or_default}
 use Rattle.lc_algebra.specs.declared.FieldName.{FieldName}
 use Rattle.lc_algebra.specs.Field.{size, is_symbol, add, mul, IsInverse}
@@ -21,6 +21,7 @@ use Rattle.lc_algebra.specs.Span.{below}
 use Rattle.lc_algebra.specs.Matrix.{Matrix}
 use Rattle.lc_algebra.proofs.FieldLaws.{zero_inside, mul_zero, zero_add, inverse_unique}
 use Rattle.lc_algebra.proofs.PolynomialLaws.{value_inside}
+use Rattle.lc_algebra.proofs.CommonLaws.{positive_not_zero}
 use Rattle.lc_constructions.specs.declared.refusal.CodeRefusal.TheVariants.{RootAt}
 use Rattle.lc_constructions.specs.Code.{is_length, IsCode}
 use Rattle.lc_constructions.specs.Alternant.{AlternantForm, IsForm, inverse, IsAlternantWord, goppa_multipliers, goppa_form, IsGoppaWord}
@@ -52,19 +53,16 @@ value_trimmed K (a ∷ u) x = value_put_on K a (trimmed u) x ∙ value_more K a 
 abbrev is_root : FieldName → List ℕ → List ℕ → ℕ → Bool
 is_root K g xs i = value_at K g (slice_index xs i) == 0
 
-positive_value : (a : ℕ) → 0 < a → (a == 0) ≡ false
-positive_value a p = ne_eqb a 0 (λ e. omega (arith, p, e))
-
 pub root_told : (K : FieldName) (g xs : List ℕ) (i v : ℕ) → i < length xs → v ≡ value_at K g (slice_index xs i) → v ≡ 0 → ((k : ℕ) → k < i → 0 < value_at K g (slice_index xs k)) → Some (RootAt i) ≡ root_at K g xs
 unfolding root_at
 root_told K g xs i v l e z h =
-    let t : find (is_root K g xs) (below (length xs)) ≡ Some i = find_told (is_root K g xs) (length xs) i l (eq-eqb (value_at K g (slice_index xs i)) 0 (sym e ∙ z)) (λ k q. positive_value (value_at K g (slice_index xs k)) (h k q)) in
+    let t : find (is_root K g xs) (below (length xs)) ≡ Some i = find_told (is_root K g xs) (length xs) i l (eq-eqb (value_at K g (slice_index xs i)) 0 (sym e ∙ z)) (λ k q. positive_not_zero (value_at K g (slice_index xs k)) (h k q)) in
     sym (ap (λ o. option_map (λ i. RootAt i) o) t)
 
 pub root_none : (K : FieldName) (g xs : List ℕ) → ((k : ℕ) → k < length xs → 0 < value_at K g (slice_index xs k)) → None ≡ root_at K g xs
 unfolding root_at
 root_none K g xs h =
-    let t : find (is_root K g xs) (below (length xs)) ≡ None = find_none (is_root K g xs) (length xs) (λ k q. positive_value (value_at K g (slice_index xs k)) (h k q)) in
+    let t : find (is_root K g xs) (below (length xs)) ≡ None = find_none (is_root K g xs) (length xs) (λ k q. positive_not_zero (value_at K g (slice_index xs k)) (h k q)) in
     sym (ap (λ o. option_map (λ i. RootAt i) o) t)
 
 inverted_value : (K : FieldName) (g : List ℕ) (x v b : ℕ) → v ≡ value_at K g x → 0 < v → IsInverse K v b → b ≡ inverse K (value_at K (trimmed g) x)

@@ -4,22 +4,17 @@
 --   index_told             the first index of a point
 --   repeated_told, repeated_none      the first point that an earlier one is equal to
 --   all_apart              points are distinct if each is the first of its kind
-use Rattle.std.proofs.Common.{◌≡◌, ◌≢◌, ℕ, zero, suc, ◌+◌, ◌<◌, ◌≤◌, Bool, true, false, ◌==◌, nat_lt, List, [], ◌∷◌, ◌++◌, length, find, slice_index, AllPairs, Some, None, is_some, option_map, refl, sym, ap, subst, ◌∙◌, ⊎_elim, arith, true≢false}
+use Rattle.std.proofs.Common.{◌≡◌, ◌≢◌, ℕ, zero, suc, ◌+◌, ◌<◌, ◌≤◌, Bool, true, false, ◌==◌, nat_lt, List, [], ◌∷◌, ◌++◌, length, find, slice_index, AllPairs, Some, None, option_map, refl, sym, ap, subst, ◌∙◌, ⊎_elim, arith}
 use Rattle.std.proofs.lemmas.Bool.{cases_Bool, cases_lt, cases_eq, eq-eqb, ne_eqb}
 use Rattle.std.proofs.lemmas.Bool.Decides.{Decides-ltb}
 use Rattle.std.proofs.lemmas.List.{get_or_default}
+use Rattle.std.proofs.lemmas.Option.{none-some}
 use Rattle.lc_algebra.specs.Embedding.{first_from, first_that}
 use Rattle.lc_algebra.specs.Span.{below}
+use Rattle.lc_algebra.proofs.CommonLaws.{find_here, find_later}
 use Rattle.lc_constructions.specs.declared.refusal.CodeRefusal.TheVariants.{RepeatedPoint}
 use Rattle.lc_constructions.specs.Refusals.{first_index, repeated_point}
-
-stops : (test : ℕ → Bool) (start count : ℕ) → test start ≡ true → first_from test start (suc count) ≡ start
-unfolding first_from
-stops test start count e = rw e refl
-
-goes_on : (test : ℕ → Bool) (start count : ℕ) → test start ≡ false → first_from test start (suc count) ≡ first_from test (suc start) count
-unfolding first_from
-goes_on test start count e = rw e refl
+use Rattle.lc_constructions.proofs.InverseLaws.{goes_on, stops}
 
 above : (a b : ℕ) → a ≤ b → (b ≡ a → ⊥) → suc a ≤ b
 above a b l n = ⊎_elim (λ m. m) (λ m. absurd (n (omega (arith, l, m)))) (cases_lt a b)
@@ -34,17 +29,8 @@ first_told test start (suc count) i l m t h =
     goes_on test start count (h start (omega arith) (omega (arith, d))) ∙ first_told test (suc start) count i d (omega (arith, m)) t (λ k a b. h k (omega (arith, a)) b))
     (cases_eq i start)
 
-find_here : (p : ℕ → Bool) (x : ℕ) (xs : List ℕ) → p x ≡ true → find p (x ∷ xs) ≡ Some x
-find_here p x xs e = rw e refl
-
-find_later : (p : ℕ → Bool) (x : ℕ) (xs : List ℕ) → p x ≡ false → find p (x ∷ xs) ≡ find p xs
-find_later p x xs e = rw e refl
-
-none_is_some : {X : Type 0} (x : X) → None ≡ Some x → ⊥
-none_is_some x h = true≢false (sym (ap is_some h))
-
 find_before : (p : ℕ → Bool) (xs ys : List ℕ) (x : ℕ) → find p xs ≡ Some x → find p (xs ++ ys) ≡ Some x
-find_before p [] ys x h = absurd (none_is_some x h)
+find_before p [] ys x h = absurd (none-some x h)
 find_before p (a ∷ xs) ys x h =
     ⊎_elim
     (λ e. find_here p a (xs ++ ys) e ∙ sym (find_here p a xs e) ∙ h)
@@ -55,7 +41,7 @@ find_last : (p : ℕ → Bool) (xs ys : List ℕ) → find p xs ≡ None → fin
 find_last p [] ys h = refl
 find_last p (a ∷ xs) ys h =
     ⊎_elim
-    (λ e. absurd (none_is_some a (sym h ∙ find_here p a xs e)))
+    (λ e. absurd (none-some a (sym h ∙ find_here p a xs e)))
     (λ e. find_later p a (xs ++ ys) e ∙ find_last p xs ys (sym (find_later p a xs e) ∙ h))
     (cases_Bool (p a))
 

@@ -4,6 +4,7 @@ use Rattle.std.proofs.Common.{◌≡◌, ◌≤◌, ◌^◌, ℕ, suc, Bool, tru
 use Rattle.std.specs.Prelude.{option_map, option_and_then, is_some, if◌then◌else◌, ◌&&◌, ◌==◌, not, nat_le}
 use Rattle.std.specs.List.{list_any, before_first, after_first}
 use Rattle.std.proofs.lemmas.Bool.{and_parts, leb-true}
+use Rattle.std.proofs.lemmas.Option.{cond_some}
 use Rattle.lc_sessions.specs.Options.{Command, run, resume, check, summary, Key, workers, budget, slice, keep, seed, CommandRow, Settings, settings_of, number_in, number_within, yes_or_no, put_key, key_named, row_named, same_key, place_of_key, Options, settings, usage, checked, options_from, options}
 
 mapped : {A B : Type 0} (o : Option A) (f : A → B) (r : B) → option_map f o ≡ Some r → (a : A) × (o ≡ Some a) × (f a ≡ r)
@@ -14,15 +15,11 @@ chained : {A B : Type 0} (o : Option A) (f : A → Option B) (r : B) → option_
 chained None f r e = absurd (let g = e in cc)
 chained (Some a) f r e = (a, refl, e)
 
-tested : (b : Bool) (n m : ℕ) → (if b then Some n else None) ≡ Some m → (b ≡ true) × (n ≡ m)
-tested true n m e = (refl, (let f = e in cc))
-tested false n m e = absurd (let f = e in cc)
-
 within : (low high n : ℕ) (text : List ℕ) → number_within low high text ≡ Some n → n ≤ high
 unfolding number_within
 within low high n text e =
     let (m, x, y) = chained (number_in text) (λ k. if nat_le low k && nat_le k high then Some k else None) n e in
-    let (t, same) = tested (nat_le low m && nat_le m high) m n y in
+    let (t, same) = cond_some (nat_le low m && nat_le m high) m n y in
     let few = leb-true m high (and_parts (nat_le low m) (nat_le m high) t).1 in
     omega (arith, few, same)
 

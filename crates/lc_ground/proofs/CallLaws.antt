@@ -12,7 +12,6 @@
 use Rattle.std.proofs.Common.{◌≡◌, ◌≤◌, ◌+◌, ◌*◌, ◌^◌, ℕ, Bool, true, List, [], ◌∷◌, length, Option, None, Some, sym, ap, ◌∙◌, arith}
 use Rattle.std.specs.Prelude.{IsTrue}
 use Rattle.std.specs.List.{AllByRecursion}
-use Rattle.std.proofs.lemmas.Bool.{leb-true}
 use Rattle.lc_algebra.specs.declared.FieldName.{FieldName}
 use Rattle.lc_algebra.specs.declared.FieldName.TheVariants.{Gf2, Gf3}
 use Rattle.lc_algebra.specs.Field.{size, is_symbol}
@@ -35,6 +34,7 @@ use Rattle.lc_language.specs.Calls as bound
 use Rattle.lc_language.specs.Calls.{BoundCall, BoundQuery, value_forms, query_forms, refusals_of, refusal_of, Gives, bind, bind_query}
 use Rattle.lc_language.specs.Query.{distance, by_levels, by_scan, form_line}
 use Rattle.lc_language.specs.Evaluation.{prints, counts, Queries}
+use Rattle.lc_code.proofs.CoordinateSteps.{small_size}
 use Rattle.lc_eval.specs.Built.{built_calls}
 use Rattle.lc_ground.specs.Shapes.{IsCodeOfRows}
 use Rattle.lc_ground.proofs.AtMostOne.{One, one_value, one_some}
@@ -149,12 +149,8 @@ concatenated_short : (C D : Matrix) → first_of (from_codes (concatenated_refus
 unfolding concatenated_refusals
 concatenated_short C D e = nested_short C D (degree_over (size D.field) (size C.field)) e
 
-symbols_few : (f : FieldName) → IsTrue (is_symbol f) → size f ≤ 16
-unfolding is_symbol
-symbols_few f h = leb-true (size f) 16 h
-
 solomon_allowed : (f : FieldName) (n : ℕ) → size f ≡ n + 1 → IsTrue (is_symbol f) → IsAllowed f n
-solomon_allowed f n e h = let few = symbols_few f h in (omega (arith, few, e), h)
+solomon_allowed f n e h = let few = small_size f h in (omega (arith, few, e), h)
 
 -- ---- shapes
 

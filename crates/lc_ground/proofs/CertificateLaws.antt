@@ -14,7 +14,7 @@ use Rattle.lc_language.specs.Query.{QueryKind, by_levels, by_scan, certificate_a
 use Rattle.lc_sessions.specs.Needs.{MeetsFirst}
 use Rattle.lc_course.proofs.AskLaws.{met_rows}
 use Rattle.lc_certify.specs.Accepted.{IsSearchable, SaysNone, IsAcceptedFor}
-use Rattle.lc_certify.proofs.AcceptedLaws.{printed}
+use Rattle.lc_certify.proofs.AcceptedLaws.{printed, empty_none}
 use Rattle.lc_ground.proofs.AskShapes.{met_shaped}
 use Rattle.lc_ground.proofs.RangeLaws.{need_is_code}
 
@@ -45,12 +45,8 @@ none_answered : (C : Matrix) (budget : ℕ) → length C.rows ≡ 0 → answer (
 unfolding answer
 none_answered C budget e = rw e refl
 
-none_said : (kind : QueryKind) (C : Matrix) → SaysNone (certificate_answer_line kind C no_word)
-unfolding certificate_answer_line line
-none_said kind C = record { begins = (10 ∷ [], refl) }
-
 none_line : (kind : QueryKind) (C : Matrix) (budget : ℕ) → length C.rows ≡ 0 → SaysNone (certificate_answer_line kind C (answer (divisor_of C) C budget))
-none_line kind C budget e = subst (λ (a : Answer). SaysNone (certificate_answer_line kind C a)) (sym (none_answered C budget e)) (none_said kind C)
+none_line kind C budget e = subst (λ (a : Answer). SaysNone (certificate_answer_line kind C a)) (sym (none_answered C budget e)) (empty_none kind C)
 
 pub no_rows : (C : Matrix) (budget : ℕ) → length C.rows ≡ 0 → SaysNone (query_line by_levels C budget) × SaysNone (query_line by_scan C budget)
 unfolding query_line

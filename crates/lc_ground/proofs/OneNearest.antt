@@ -1,13 +1,9 @@
 -- A list that is a word has at most one nearest word in a code, whatever its rows are.
---   span_lengths             the words of some rows are of one length
 --   span_fits, span_short    they have symbols of the field, and are no longer than the code
 --   nearest_one              so two nearest words are one, if decoding isn't refused
-use Rattle.std.proofs.Common.{◌≡◌, ℕ, zero, suc, nat_lt, ⊎_elim, true≢false, is_some, ◌<◌, ◌≤◌, ◌==◌, true, false, List, [], ◌∷◌, length, take, slice_index, None, refl, sym, ap, subst, ◌∙◌, arith}
+use Rattle.std.proofs.Common.{◌≡◌, ℕ, ⊎_elim, true≢false, is_some, ◌<◌, ◌≤◌, ◌==◌, true, false, List, [], ◌∷◌, length, take, None, refl, sym, ap, subst, ◌∙◌, arith}
 use Rattle.std.proofs.lemmas.Bool.{cases_Bool, eqb-true}
-use Rattle.std.proofs.lemmas.Bool.Decides.{Decides-ltb}
 use Rattle.std.proofs.lemmas.List.{get_or-take, length-take-le}
-use Rattle.std.proofs.lemmas.List.Sums.{AllPass-from_list_all}
-use Rattle.lc_algebra.proofs.FieldLaws.{add_inside}
 use Rattle.lc_constructions.specs.Refusal.{refuse_if}
 use Rattle.lc_constructions.specs.Refusals.{are_elements}
 use Rattle.lc_algebra.specs.declared.FieldName.{FieldName}
@@ -15,31 +11,20 @@ use Rattle.lc_algebra.specs.Field.{size, add, neg}
 use Rattle.lc_algebra.specs.Word.{Fits, IsWord, word_sum, scale, difference}
 use Rattle.lc_algebra.specs.Span.{InSpan}
 use Rattle.lc_algebra.specs.Matrix.{Matrix}
-use Rattle.lc_algebra.proofs.WordLaws.{length_scale, length_sums, no_later_antisymmetric, length_zero_word, length_difference, IsWord_zero, fits_symbol, sum_comm, sum_assoc, sum_negative, zero_sum, difference_back}
+use Rattle.lc_algebra.proofs.WordLaws.{length_scale, no_later_antisymmetric, length_zero_word, length_difference, IsWord_zero, fits_symbol, sum_fits}
+use Rattle.lc_algebra.proofs.SpanLaws.{span_lengths}
 use Rattle.lc_constructions.specs.Nearest.{IsNearest}
+use Rattle.lc_constructions.proofs.NearestLaws.{same_error}
+use Rattle.lc_constructions.proofs.RefusalLaws.{elements_fit}
 use Rattle.lc_language.specs.Calls.{decode, refusal_of, refusals_of}
 use Rattle.lc_language.specs.Refusal.{word_refusals, from_codes, first_of}
 use Rattle.lc_ground.proofs.AtMostOne.{One}
 
-pub span_lengths : (f : FieldName) (n : ℕ) (rows : List (List ℕ)) (u v : List ℕ) → InSpan f n rows u → InSpan f n rows v → length u ≡ length v
-span_lengths f n [] u v p q = ap (λ (w : List ℕ). length w) (p ∙ sym q)
-span_lengths f n (g ∷ rows) u v p q =
-    let tails : length p.2.0 ≡ length q.2.0 = span_lengths f n rows p.2.0 q.2.0 p.2.1 q.2.1 in
-    let heads : length (scale f p.0 g) ≡ length (scale f q.0 g) = length_scale f p.0 g ∙ sym (length_scale f q.0 g) in
-    ap (λ (w : List ℕ). length w) p.2.2 ∙ length_sums f (scale f p.0 g) (scale f q.0 g) p.2.0 q.2.0 heads tails ∙ sym (ap (λ (w : List ℕ). length w) q.2.2)
-
 -- ---- the words of a span
-
-fits_sum : (f : FieldName) (u v : List ℕ) → Fits f (word_sum f u v)
-unfolding word_sum
-fits_sum f [] v k l = absurd (omega (arith, l))
-fits_sum f (a ∷ u) [] k l = absurd (omega (arith, l))
-fits_sum f (a ∷ u) (b ∷ v) zero l = add_inside f a b
-fits_sum f (a ∷ u) (b ∷ v) (suc k) l = fits_sum f u v k (omega (arith, l))
 
 pub span_fits : (f : FieldName) (n : ℕ) (rows : List (List ℕ)) (w : List ℕ) → InSpan f n rows w → Fits f w
 span_fits f n [] w h = subst (Fits f) (sym h) (IsWord_zero f n).fits
-span_fits f n (g ∷ rows) w h = subst (Fits f) (sym h.2.2) (fits_sum f (scale f h.0 g) h.2.0)
+span_fits f n (g ∷ rows) w h = subst (Fits f) (sym h.2.2) (sum_fits f (scale f h.0 g) h.2.0)
 
 short_sum : (f : FieldName) (u v : List ℕ) → length (word_sum f u v) ≤ length v
 unfolding word_sum
@@ -66,16 +51,6 @@ front f x u n e l =
     let long : length (scale f (neg f 1) u) ≡ n = length_scale f (neg f 1) u ∙ e in
     subst (λ m. word_sum f x (scale f (neg f 1) u) ≡ word_sum f (take m x) (scale f (neg f 1) u)) long (sum_front f x (scale f (neg f 1) u) (omega (arith, long, l)))
 
-same_error : (f : FieldName) (n : ℕ) (x u v : List ℕ) → IsWord f n x → IsWord f n u → IsWord f n v → difference f x u ≡ difference f x v → u ≡ v
-same_error f n x u v a b c e =
-    let d = difference f x u in
-    let m = scale f (neg f 1) d in
-    let long : length d ≡ n = length_difference f x u (a.long ∙ sym b.long) ∙ a.long in
-    let back : (w : List ℕ) → IsWord f n w → word_sum f m (word_sum f d w) ≡ w =
-    λ w k. sym (sum_assoc f m d w) ∙ ap (λ t. word_sum f t w) (sum_comm f m d ∙ sum_negative f n d long) ∙ zero_sum f n w k in
-    let same : word_sum f d u ≡ word_sum f d v = difference_back f n x u a b.long ∙ sym (difference_back f n x v a c.long) ∙ ap (λ t. word_sum f t v) (sym e) in
-    sym (back u b) ∙ ap (λ t. word_sum f m t) same ∙ back v c
-
 take_word : (f : FieldName) (n : ℕ) (x : List ℕ) → n ≤ length x → Fits f x → IsWord f n (take n x)
 take_word f n x l h =
     let long : length (take n x) ≡ n = length-take-le n x l in
@@ -90,10 +65,6 @@ uneven_refused C x h t = true≢false (ap is_some (rw t at h))
 high_refused : (C : Matrix) (x : List ℕ) → refusal_of (decode C x) ≡ None → (length x == C.columns) ≡ true → are_elements C.field x ≡ false → ⊥
 unfolding refusal_of refusals_of word_refusals from_codes first_of refuse_if
 high_refused C x h e t = true≢false (ap is_some (rw (e, t) at h))
-
-elements_fit : (f : FieldName) (x : List ℕ) → are_elements f x ≡ true → Fits f x
-unfolding are_elements
-elements_fit f x t k l = (Decides-ltb (slice_index x k) (size f)).0 (AllPass-from_list_all (λ a. nat_lt a (size f)) x t k 0 l)
 
 decoded_word : (C : Matrix) (x : List ℕ) → refusal_of (decode C x) ≡ None → IsWord C.field C.columns x
 decoded_word C x h =

@@ -15,6 +15,7 @@ use Rattle.lc_algebra.specs.Matrix.{Matrix}
 use Rattle.lc_algebra.proofs.EmbeddingTests.{told_by_size}
 use Rattle.lc_algebra.proofs.WordLaws.{no_later_antisymmetric}
 use Rattle.lc_algebra.proofs.ReducedLaws.{generator_unique}
+use Rattle.lc_algebra.proofs.SpanLaws.{span_lengths}
 use Rattle.lc_constructions.specs.Code.{IsCode}
 use Rattle.lc_constructions.specs.Cyclic.{IsMultipleOf, locator_field, IsBchWord, IsReedSolomonWord}
 use Rattle.lc_constructions.specs.Alternant.{AlternantForm, bch_form}
@@ -29,7 +30,7 @@ use Rattle.lc_language.specs.Query.{QueryKind}
 use Rattle.lc_language.specs.Evaluation.{Step, prints, PrintsLeast, AsksOf, NearsOf, Queries}
 use Rattle.lc_ground.proofs.AtMostOne.{One, one_value, one_some}
 use Rattle.lc_language.specs.Calls.{algebraic_decode}
-use Rattle.lc_ground.proofs.OneNearest.{span_lengths}
+use Rattle.lc_course.proofs.ScriptTruth.{some_same}
 
 -- ---- codes
 
@@ -78,11 +79,8 @@ same_truth false false P h k = refl
 pub extended_golay_one : (f : FieldName) (n : ℕ) (g : List ℕ) → One (IsExtendedGolay f n g)
 extended_golay_one f n g = one_some (IsCode f n (IsMultipleOf f n g)) (λ C v. Made f (n + 1) (InExtended C) v) (code_one f n (IsMultipleOf f n g)) (λ C. made_one f (n + 1) (InExtended C) None)
 
-same_some : {A : Type 0} {a b : A} → Some a ≡ Some b → a ≡ b
-same_some e = cc e
-
 pub bch_one : (n b d : ℕ) (f : FieldName) → One (IsBch f n b d)
-bch_one n b d f = one_some (λ K. locator_field f n ≡ Some K) (λ K v. MadeWith f n (IsBchWord f K n (b % n) d) (bch_form K n (b % n) d) v) (λ K L h k. same_some (sym h ∙ k)) (λ K. made_one f n (IsBchWord f K n (b % n) d) (Some (bch_form K n (b % n) d)))
+bch_one n b d f = one_some (λ K. locator_field f n ≡ Some K) (λ K v. MadeWith f n (IsBchWord f K n (b % n) d) (bch_form K n (b % n) d) v) (λ K L h k. some_same (sym h ∙ k)) (λ K. made_one f n (IsBchWord f K n (b % n) d) (Some (bch_form K n (b % n) d)))
 
 pub reed_solomon_one : (n d : ℕ) → One (IsReedSolomon n d)
 reed_solomon_one n d = λ v w a b.

@@ -4,11 +4,10 @@
 --   settled_ranged       the records of settled needs
 --   true_in_range        a true checkpoint
 --   true_read_back       so it is read back
-use Rattle.std.proofs.Common.{◌≡◌, ◌≤◌, ◌<◌, ◌*◌, ◌^◌, ◌++◌, ℕ, zero, suc, Bool, true, false, ◌==◌, ◌&&◌, ◌||◌, nat_lt, is_some, if◌then◌else◌, List, [], ◌∷◌, length, slice_index, Some, refl, sym, ap, subst, ◌∙◌, ⊎_elim, arith, All}
+use Rattle.std.proofs.Common.{◌≡◌, ◌≤◌, ◌<◌, ◌*◌, ◌^◌, ◌++◌, ℕ, zero, suc, Bool, true, false, ◌==◌, ◌&&◌, ◌||◌, if◌then◌else◌, List, [], ◌∷◌, length, slice_index, Some, refl, sym, ap, subst, ◌∙◌, arith, All}
 use Rattle.std.specs.Prelude.{slice_get}
 use Rattle.std.specs.List.{AllByRecursion}
 use Rattle.std.specs.Int.{to_be_bytes, bytes_high_first, byte_at, w32}
-use Rattle.std.proofs.lemmas.Bool.{and_parts, or_cases, ltb-true, eqb-true}
 use Rattle.std.proofs.lemmas.List.Elements.{All-nil, All-cons}
 use Rattle.std.proofs.lemmas.Option.{slice_get_within}
 use Rattle.sha2.specs.Sha256.{sha256, digest_bytes}
@@ -18,9 +17,10 @@ use Rattle.lc_algebra.specs.Matrix.{Matrix}
 use Rattle.lc_algebra.proofs.WordLaws.{weight_at_most_length}
 use Rattle.lc_algebra.proofs.SpanLaws.{span_word}
 use Rattle.lc_algebra.proofs.ReducedLaws.{reduced_independent}
-use Rattle.lc_enumeration.specs.Search.{Found, fits, set_count, word_at, weight_at, answer}
+use Rattle.lc_enumeration.specs.Search.{Found, answer}
 use Rattle.lc_enumeration.specs.Records.{Progress, found_of, IsBestAt}
 use Rattle.lc_enumeration.specs.Truth.{HasWord, answer_blocks}
+use Rattle.lc_enumeration.proofs.SearchLaws.{fitting_place_small}
 use Rattle.lc_infoset.proofs.SearchTruth.{best_is_word}
 use Rattle.lc_infoset.proofs.FittingLaws.{underway_fits, settled_is_best}
 use Rattle.lc_formats.specs.Checkpoint.{Checkpoint, current_of, IsProgress, IsInRange, point, checkpoint_text, checkpoint_in}
@@ -65,12 +65,6 @@ digest_is_bytes m = small_bytes _ (digest_small _ 8)
 
 -- ---- records
 
-near : (C : Matrix) (l : ℕ) (x : Found) → fits C l x ≡ true → l ≤ 2 ^ 40 → x.place < 2 ^ 52
-unfolding fits
-near C l x t few =
-    let a = and_parts ((x.place == 0) || nat_lt x.place (l * 4096)) (is_some (word_at C (set_count C) x.place) && (weight_at C x.place == x.weight)) t in
-    ⊎_elim (λ z. omega (arith, eqb-true x.place 0 z)) (λ z. omega (arith, ltb-true x.place (l * 4096) z, few)) (or_cases (x.place == 0) (nat_lt x.place (l * 4096)) a.0)
-
 pub state_ranged : (C : Matrix) (budget : ℕ) (s : Progress) → IsCodeOfRows C → 0 < length C.rows → budget ≤ 2 ^ 40 → IsBestAt C s → s.blocks ≤ budget → IsProgress budget s
 unfolding found_of
 state_ranged C budget s shaped some small here few =
@@ -83,7 +77,7 @@ state_ranged C budget s shaped some small here few =
       done = few;
       nonzero = omega (arith, has.nonzero);
       light = omega (arith, weighs, light, word.long, shaped.long);
-      near = near C s.blocks (found_of s) (underway_fits C s some here) (omega (arith, few, small));
+      near = fitting_place_small C s.blocks (found_of s) (underway_fits C s some here) (omega (arith, few, small));
     }
 
 pub settled_ranged : (divisor : Matrix → ℕ) (budget : ℕ) (needs : List Matrix) (settled : List Progress) → budget ≤ 2 ^ 40 → AreCodesOfRows needs → ((i : ℕ) (C : Matrix) → slice_get needs i ≡ Some C → 0 < length C.rows) → AreSettled divisor budget needs settled → All (IsProgress budget) settled
@@ -95,13 +89,10 @@ settled_ranged divisor budget (C ∷ needs) (s ∷ settled) small shaped rows al
     (state_ranged C budget s shaped.0 some small (settled_is_best (divisor C) C budget s some all.0) (answer_within (divisor C) C budget s some all.0))
     (settled_ranged divisor budget needs settled small shaped.1 (λ i D at. rows (suc i) D at) all.1)
 
-shaped_at : (needs : List Matrix) (i : ℕ) (C : Matrix) → AreCodesOfRows needs → slice_get needs i ≡ Some C → IsCodeOfRows C
-shaped_at [] i C h e = absurd (let f = e in cc)
-shaped_at (D ∷ needs) zero C h e = let same : D ≡ C = (let f = e in cc) in subst IsCodeOfRows same h.0
-shaped_at (D ∷ needs) (suc i) C h e = shaped_at needs i C h.1 e
-
 pub need_is_code : (needs : List Matrix) (i : ℕ) (C : Matrix) → AreCodesOfRows needs → slice_get needs i ≡ Some C → IsCodeOfRows C
-need_is_code needs i C h e = shaped_at needs i C h e
+need_is_code [] i C h e = absurd (let f = e in cc)
+need_is_code (D ∷ needs) zero C h e = let same : D ≡ C = (let f = e in cc) in subst IsCodeOfRows same h.0
+need_is_code (D ∷ needs) (suc i) C h e = need_is_code needs i C h.1 e
 
 -- ---- checkpoints
 
@@ -127,7 +118,7 @@ true_in_range needs bytes budget p small shaped rows few holds =
     let sum_of = settled_within (divisor_in p.version) budget needs p.settled small rows parts.settled in
     let allowance = allowed p.version in
     let settled = settled_ranged (divisor_in p.version) budget needs p.settled small shaped rows parts.settled in
-    let current : IsProgress budget (current_of p) = state_ranged C budget (current_of p) (shaped_at needs (length p.settled) C shaped at) some small here (current_within p (answer_blocks (answer (divisor_in p.version C) C budget)) budget within blocks) in (
+    let current : IsProgress budget (current_of p) = state_ranged C budget (current_of p) (need_is_code needs (length p.settled) C shaped at) some small here (current_within p (answer_blocks (answer (divisor_in p.version C) C budget)) budget within blocks) in (
       record {
         known = holds.known;
         digest = ap (λ (d : List ℕ). length d) holds.script ∙ length-sha256 bytes;

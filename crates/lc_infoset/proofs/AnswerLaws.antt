@@ -2,17 +2,17 @@
 --   some_set                     a code has an information set
 --   done_distance                if the search is done, the best weight is the minimum distance
 --   Greatest, greatest_of        the greatest of 0 and some numbers
---   filter_keeps, filter_member  a filter keeps what passes, and nothing else
+--   filter_keeps                a filter keeps what passes
 --   last_that_same               the last number that passes, by equal tests
 --   find_none                    a test that finds nothing is passed by nothing
 --   ends_to, ends_are            the phase ends up to a budget
---   whole_is, level_of, levels_of      the levels that lie wholly below some blocks
+--   whole_is, level_of      the levels that lie wholly below some blocks
 --   levels_same                  below some blocks the same levels lie wholly as below the last phase end before them
 --   bound_same, bound_whole      the bound depends on the levels alone if none is k, and else is the weight
 --   open_bound                   if the search isn't done at the last phase end, no word is lighter than the bound
 --   answer_holds                 the answer is true
 use Rattle.std.proofs.Common.{◌≡◌, ℕ, zero, suc, ◌+◌, ◌-◌, ◌*◌, ◌<◌, ◌≤◌, max, Bool, true, false, ◌&&◌, ◌==◌, nat_le, nat_lt, if◌then◌else◌, find, filter, cond, List, [], ◌∷◌, length, map, Option, Some, None, is_some, Contains, refl, sym, ap, subst, ◌∙◌, ⊎_elim, arith}
-use Rattle.std.proofs.lemmas.Bool.{cases_Bool, cases_lt, leb-true, ltb-true, le-leb, lt-ltb, false≢true, eqb-true, eq-eqb}
+use Rattle.std.proofs.lemmas.Bool.{cases_Bool, cases_lt, leb-true, ltb-true, le-leb, lt-ltb, false≢true, eqb-true, eq-eqb, and_right}
 use Rattle.std.proofs.lemmas.Nat.{mul-add-lt}
 use Rattle.lc_algebra.specs.Field.{size}
 use Rattle.lc_algebra.specs.Word.{weight}
@@ -27,8 +27,8 @@ use Rattle.lc_enumeration.specs.Search.{no_word, sets_of, set_count, ranks_of, b
 use Rattle.lc_enumeration.specs.Truth.{AnswerHolds}
 use Rattle.lc_enumeration.proofs.DependentLaws.{map_same}
 use Rattle.lc_infoset.specs.Bound.{AreGenerators}
-use Rattle.lc_infoset.proofs.SetLaws.{filter_passes}
-use Rattle.lc_infoset.proofs.BestLaws.{FoundBy, find_passes, least_bound, best_word}
+use Rattle.lc_infoset.proofs.SetLaws.{filter_passes, levels_are}
+use Rattle.lc_infoset.proofs.BestLaws.{find_passes, least_bound, best_word}
 
 pub some_set : (C : Matrix) → 0 < set_count C
 unfolding set_count sets_of information_sets
@@ -82,9 +82,6 @@ filter_keeps {X} p (y ∷ xs) x l t =
     ⊎_elim (λ u. subst goal (sym u) (contains_tail y x (filter p xs) rest)) (λ u. subst goal (sym u) rest) (cases_Bool (p y)))
     (contains_cases y x xs l)
 
-pub filter_member : {X : Type 0} (p : X → Bool) (xs : List X) (x : X) → Contains (filter p xs) x → FoundBy p xs x
-filter_member p xs x l = let t = filter_passes p xs x l in record { member = t.member; passes = t.passes }
-
 pub last_that_same : (t u : ℕ → Bool) (n : ℕ) → ((w : ℕ) → 0 < w → w ≤ n → t w ≡ u w) → last_that t n ≡ last_that u n
 unfolding last_that
 last_that_same t u zero h = refl
@@ -106,13 +103,9 @@ le_same x a b h g =
     (λ t. ⊎_elim (λ u. absurd (false≢true (sym t ∙ le-leb x a (g (leb-true x b u))))) (λ u. t ∙ sym u) (cases_Bool (nat_le x b)))
     (cases_Bool (nat_le x a))
 
-and_nothing : (a : Bool) → (a && false) ≡ false
-and_nothing true = refl
-and_nothing false = refl
-
 and_same : (a b c : Bool) → (c ≡ true → a ≡ b) → (a && c) ≡ (b && c)
 and_same a b true h = ap (λ e. e && true) (h refl)
-and_same a b false h = and_nothing a ∙ sym (and_nothing b)
+and_same a b false h = and_right a false refl ∙ sym (and_right b false refl)
 
 abbrev pub ends_to : Matrix → ℕ → List ℕ
 ends_to C budget = filter (λ end. nat_le end budget) (ends_of C)
@@ -165,19 +158,15 @@ pub level_of : (C : Matrix) (l j : ℕ) → level_below C l j ≡ last_that (is_
 unfolding level_below
 level_of C l j = refl
 
-pub levels_of : (C : Matrix) (l : ℕ) → levels_below C l ≡ map (level_below C l) (below (set_count C))
-unfolding levels_below
-levels_of C l = refl
-
 pub levels_same : (C : Matrix) (budget : ℕ) (t : Greatest (ends_to C budget)) → levels_below C budget ≡ levels_below C t.value
 levels_same C budget t =
-    levels_of C budget
+    levels_are C budget
     ∙ map_same (level_below C budget) (level_below C t.value) (below (set_count C)) (λ j l.
     let inside = contains_below (set_count C) j l in
     level_of C budget j
     ∙ last_that_same (is_whole_below (length C.rows) (size C.field) (set_count C) budget j) (is_whole_below (length C.rows) (size C.field) (set_count C) t.value j) (length C.rows) (λ w some few. whole_same C budget j w t inside some few)
     ∙ sym (level_of C t.value j))
-    ∙ sym (levels_of C t.value)
+    ∙ sym (levels_are C t.value)
 
 bound_is : (d : ℕ) (C : Matrix) (l x : ℕ) → bound d C l x ≡ (if is_member (levels_below C l) (length C.rows) then x else rounded d (max 1 (bound_sum (length C.rows) (ranks_of C) (levels_below C l))))
 unfolding bound bound_of

@@ -10,34 +10,34 @@
 --   seen_at_most               nor than a word that is seen
 --   least_bound                the lesser of the bound and the best weight is at most every weight
 --   FoundBy, find_passes       what a test finds passes it
---   phase_found                a block is in the phase that is found for it
 --   MessageFound, message_found      the message of a word at a place
 --   word_some                  the word of a message over a systematic matrix isn't zero
 --   place_word                 a word at a place is a nonzero word of the code
 --   best_word                  and so is that of the best
-use Rattle.std.proofs.Common.{◌≡◌, ℕ, zero, suc, ◌+◌, ◌-◌, ◌*◌, ◌/◌, ◌%◌, ◌<◌, ◌≤◌, min, Bool, true, false, ◌&&◌, nat_le, nat_lt, find, cond, List, [], ◌∷◌, length, map, slice_get, Option, Some, None, unwrap_or, is_some, Contains, option_map, refl, sym, ap, subst, ◌∙◌, ⊎_elim, arith}
-use Rattle.std.proofs.lemmas.Bool.{cases_Bool, cases_lt, and_parts, leb-true, ltb-true, false≢true}
+use Rattle.std.proofs.Common.{◌≡◌, ℕ, zero, suc, ◌+◌, ◌-◌, ◌*◌, ◌/◌, ◌%◌, ◌<◌, ◌≤◌, min, Bool, true, false, ◌&&◌, find, cond, List, [], ◌∷◌, length, map, slice_get, Option, Some, None, unwrap_or, is_some, Contains, option_map, refl, sym, ap, subst, ◌∙◌, ⊎_elim, arith}
+use Rattle.std.proofs.lemmas.Bool.{cases_Bool, cases_lt, false≢true}
 use Rattle.std.proofs.lemmas.Bool.Decides.{nat_tests}
 use Rattle.std.proofs.lemmas.Option.{slice_get-map, slice_get_within}
 use Rattle.std.proofs.Math.Nat.{mod-lt}
 use Rattle.lc_algebra.specs.Field.{size}
 use Rattle.lc_algebra.specs.Word.{IsWord, zero_word, weight, scale}
-use Rattle.lc_algebra.specs.Span.{combine, below, InSpan}
+use Rattle.lc_algebra.specs.Span.{combine, InSpan}
 use Rattle.lc_algebra.specs.Matrix.{Matrix, AreRows}
 use Rattle.lc_algebra.specs.Divisor.{IsDivisible}
 use Rattle.lc_algebra.proofs.WordLaws.{weight_scale, zero_from_weight, weight_zero_word}
-use Rattle.lc_algebra.proofs.SpanLaws.{contains_head, contains_tail, contains_cases, contains_below, span_word, length_combine}
+use Rattle.lc_algebra.proofs.SpanLaws.{contains_head, contains_tail, contains_cases, span_word, length_combine}
 use Rattle.lc_algebra.proofs.ReducedLaws.{systematic_independent}
 use Rattle.lc_enumeration.specs.Message.{Message, messages, supports, supports_from, nonzero_lists, leading_lists, message_count, vector_of}
-use Rattle.lc_enumeration.specs.Plan.{phase_level, phase_set, phase_at, phase_of, blocks_before, level_blocks, block_messages, IsInPhase}
+use Rattle.lc_enumeration.specs.Plan.{phase_level, phase_set, phase_of, blocks_before, level_blocks, block_messages, IsInPhase}
 use Rattle.lc_enumeration.specs.Search.{Found, set_count, generator_at, word_of, block_words, word_at, beats, found_from, found_first, found_below, best, bound}
 use Rattle.lc_enumeration.specs.Truth.{IsAtPlace, IsSeenBelow, IsLeastOf, HasWord}
 use Rattle.lc_enumeration.proofs.SearchLaws.{found_is, found_has, least_is, words_in_phase, at_place}
 use Rattle.lc_enumeration.proofs.PlanLaws.{cut_is, start_is, end_is}
 use Rattle.lc_place.proofs.Listing.{block_message}
 use Rattle.lc_place.proofs.Messages.{to_contains, length-messages}
+use Rattle.lc_place.proofs.Phases.{blocks_next, blocks_of}
 use Rattle.lc_infoset.specs.Bound.{AreGenerators, set_at}
-use Rattle.lc_infoset.proofs.SeenLaws.{phase_of_level, block_inside, blocks_next, blocks_of_level}
+use Rattle.lc_infoset.proofs.SeenLaws.{phase_of_level, block_inside}
 use Rattle.lc_infoset.proofs.SearchBound.{unseen_bound, message_is_leading, message_word, level_word}
 
 abbrev pub first_message : Message
@@ -68,7 +68,7 @@ first_phase k q m some sets =
     let count : 0 < message_count k q 1 = subst (λ n. 0 < n) (length-messages k q 1) (slice_get_within (messages k q 1) 0 first_message (first_of k q some)) in
     let block = block_inside 0 (message_count k q 1) count in
     let zero_block : 0 / 4096 ≡ 0 = refl in
-    let next = blocks_next k q m 0 ∙ ap (λ n. n + level_blocks k q (phase_level m 0)) (no_blocks k q m) ∙ ap (λ w. 0 + level_blocks k q w) (level_of_first m sets) ∙ ap (λ n. 0 + n) (blocks_of_level k q 1) in
+    let next = blocks_next k q m 0 ∙ ap (λ n. n + level_blocks k q (phase_level m 0)) (no_blocks k q m) ∙ ap (λ w. 0 + level_blocks k q w) (level_of_first m sets) ∙ ap (λ n. 0 + n) (blocks_of k q 1) in
     record {
       phase = product_positive k m some sets;
       after = omega (arith, start_is k q m 0, no_blocks k q m);
@@ -144,17 +144,6 @@ find_passes {X} p (y ∷ xs) x e =
     record { member = subst (Contains (y ∷ xs)) same (contains_head y xs); passes = ap p (sym same) ∙ t })
     (λ t. let r = find_passes p xs x (sym (ap (λ (b : Bool). cond b (Some y) (find p xs)) t) ∙ e) in record { member = contains_tail y x xs r.member; passes = r.passes })
     (cases_Bool (p y))
-
-pub phase_found : (k q m b p : ℕ) → phase_of k q m b ≡ Some p → IsInPhase k q m p b
-unfolding phase_of
-phase_found k q m b p e =
-    let t = find_passes (λ r. nat_le (phase_at k q m r).start b && nat_lt b (phase_at k q m r).end) (below (k * m)) p e in
-    let s = and_parts (nat_le (phase_at k q m p).start b) (nat_lt b (phase_at k q m p).end) t.passes in
-    record {
-      phase = contains_below (k * m) p t.member;
-      after = leb-true (phase_at k q m p).start b s.0;
-      before = ltb-true b (phase_at k q m p).end s.1;
-    }
 
 pub record MessageFound (C : Matrix) (m : ℕ) (w : List ℕ) : Type 0 where
   pub phase : ℕ

@@ -6,22 +6,19 @@
 --   count_cons                  counting over a list with one more entry
 --   weight_restrict             the weight of a restriction counts the nonzero symbols
 --   CountsPart, counts_part     counting over some different entries of a list, and over the whole list
---   distinct_from_pairs         entries of which any two differ are different
 --   above_on_fresh              how many nonzero symbols an unseen word has on the fresh columns of a set
 --   all_fresh, sum_on_fresh     and on those of all sets
 --   Apart, later_apart, pairs_tail      no column is fresh in two sets
 --   distinct_fresh              so the fresh columns of all sets are different
---   index_below, restrict_all, weight_by_places      the weight of a word counts its nonzero symbols over all columns
+--   restrict_all, weight_by_places      the weight of a word counts its nonzero symbols over all columns
 --   place_inside                a column of a basis is a column of the code
 --   fresh_at_most               a word has at most its weight in nonzero symbols on all fresh columns
---   all_from_members            what holds of each member holds of all
 --   unseen_weight, unseen_whole      the bound; and no word is unseen if some level is k
-use Rattle.std.proofs.Common.{◌≡◌, ◌≢◌, ℕ, zero, suc, ◌+◌, ◌-◌, ◌<◌, ◌≤◌, Bool, not, cond, ◌==◌, if◌then◌else◌, List, [], ◌∷◌, ◌++◌, length, flat_map, slice_index, slice_index_or, count_by, All, AllPairs, Contains, IsPermutation, remove, refl, sym, ap, subst, ◌∙◌, ⊎_elim, arith}
-use Rattle.std.proofs.lemmas.List.{ext_get_or, get_or_append_left, get_or_default, get_or_past}
+use Rattle.std.proofs.Common.{◌≡◌, ◌≢◌, ℕ, suc, ◌+◌, ◌-◌, ◌<◌, ◌≤◌, Bool, not, cond, ◌==◌, if◌then◌else◌, List, [], ◌∷◌, ◌++◌, length, flat_map, slice_index, slice_index_or, count_by, All, AllPairs, Contains, IsPermutation, remove, refl, sym, ap, subst, ◌∙◌, ⊎_elim, arith}
+use Rattle.std.proofs.lemmas.List.{ext_get_or, get_or_default, get_or_past}
 use Rattle.std.proofs.lemmas.List.Concat.{flat_map-cons}
-use Rattle.std.proofs.Math.Seq.{get_or-append_seam}
 use Rattle.std.proofs.lemmas.Bool.{cases_lt, eq-eqb}
-use Rattle.std.proofs.lemmas.List.Elements.{All-head, All-tail, All-weaker, All-contains, Contains-get_or}
+use Rattle.std.proofs.lemmas.List.Elements.{All-head, All-tail, All-weaker, All-contains}
 use Rattle.std.proofs.lemmas.List.Sums.{sum_by-cons, sum_by-append, count_by-le-length}
 use Rattle.std.proofs.lemmas.List.Sorted.{IsPermutation-remove, Contains-permutation, sum_by-IsPermutation}
 use Rattle.std.proofs.lemmas.List.Edits.{length-remove}
@@ -31,11 +28,12 @@ use Rattle.lc_algebra.specs.Span.{combine, below, InSpan}
 use Rattle.lc_algebra.specs.Matrix.{AreRows, IsIdentityOn}
 use Rattle.lc_algebra.specs.SpanLaws.{restrict}
 use Rattle.lc_algebra.proofs.WordLaws.{zero_from_weight, weight_zero_word, weight_at_most_length, weight_cons, index_zero_word}
-use Rattle.lc_algebra.proofs.SpanLaws.{contains_head, contains_tail, contains_cases, contains_flat_map, below_contains, length_below, combination_of_word, span_zero, span_word}
+use Rattle.lc_algebra.proofs.SpanLaws.{contains_head, contains_tail, contains_cases, contains_flat_map, below_contains, length_below, combination_of_word, span_zero, span_word, index_below}
 use Rattle.lc_algebra.proofs.ColumnLaws.{length_restrict, index_restrict}
-use Rattle.lc_algebra.proofs.DimensionLaws.{AreDistinct, distinct_append}
+use Rattle.lc_algebra.proofs.DimensionLaws.{AreDistinct, distinct_append, distinct_from_pairs}
 use Rattle.lc_algebra.proofs.ReducedLaws.{symbol_of_combination, told_by_places}
 use Rattle.lc_enumeration.specs.Search.{bound_sum}
+use Rattle.lc_enumeration.proofs.GreedyLaws.{each_contained}
 use Rattle.lc_infoset.specs.Bound.{LevelSet, IsLevelSet, AreLevelSets, IsUnseen, set_bound}
 
 pub coefficients_are_symbols : (f : FieldName) (n : ℕ) (set : List ℕ) (rows : List (List ℕ)) (c : List ℕ) → AreRows f n rows → length rows ≡ length set → IsIdentityOn set rows → InSpan f n rows c → IsWord f (length rows) (restrict set c) × (c ≡ combine f n (restrict set c) rows)
@@ -92,13 +90,6 @@ counts_part p (x ∷ xs) ys a h =
     let l = length-remove ys c.0 c.1 in
     record { few = omega (arith, whole, left, right, f); many = omega (arith, whole, left, right, m, l, c.1) }
 
-pub distinct_from_pairs : {X : Type 0} (xs : List X) → AllPairs (λ x y. x ≢ y) xs → AreDistinct xs
-distinct_from_pairs [] h = tt
-distinct_from_pairs (x ∷ xs) h = (
-  (λ c. h 0 (suc c.0) x (omega arith) (omega (arith, c.1)) (sym c.2)),
-  distinct_from_pairs xs (λ i j d l m. h (suc i) (suc j) d (omega (arith, l)) (omega (arith, m))),
-)
-
 pub above_on_fresh : (f : FieldName) (n k : ℕ) (rows : List (List ℕ)) (s : LevelSet) (c : List ℕ) → IsLevelSet f n k rows s → InSpan f n rows c → 0 < weight c → IsUnseen f n c s → (s.level + 1) - (k - length s.fresh) ≤ count_by (has_symbol c) s.fresh
 above_on_fresh f n k rows s c h i p u =
     let above = above_level f n k rows s c h i p u in
@@ -135,15 +126,6 @@ distinct_fresh (s ∷ sets) each apart =
     (distinct_fresh sets (All-tail (λ t. AreDistinct t.fresh) s sets each) (pairs_tail Apart s sets apart))
     (λ x c d. let t = contains_flat_map (λ (r : LevelSet). r.fresh) sets x d in later_apart s sets apart t.0 t.1 x c t.2)
 
-pub index_below : (n i d : ℕ) → i < n → slice_index_or (below n) i d ≡ i
-unfolding below
-index_below zero i d l = absurd (omega (arith, l))
-index_below (suc n) i d l =
-    ⊎_elim
-    (λ m. get_or_append_left (below n) (n ∷ []) d i (omega (arith, m, length_below n)) ∙ index_below n i d m)
-    (λ m. let e : i ≡ n = omega (arith, l, m) in subst (λ k. slice_index_or (below n ++ n ∷ []) k d ≡ i) (length_below n ∙ sym e) (get_or-append_seam (below n) n [] d ∙ sym e))
-    (cases_lt i n)
-
 pub restrict_all : (n : ℕ) (c : List ℕ) → length c ≡ n → restrict (below n) c ≡ c
 restrict_all n c e =
     ext_get_or 0 (restrict (below n) c) c (length_restrict (below n) c ∙ length_below n ∙ sym e) (λ i l.
@@ -174,12 +156,9 @@ fresh_at_most f n k rows sets c h e =
     let few = counts.few in
     omega (arith, few, weight_by_places n c e)
 
-pub all_from_members : {X : Type 0} (P : X → Type 0) (xs : List X) → ((x : X) → Contains xs x → P x) → All P xs
-all_from_members P xs h = λ i d l. h (slice_index_or xs i d) (Contains-get_or xs i d l)
-
 pub unseen_weight : (f : FieldName) (n k : ℕ) (rows : List (List ℕ)) (sets : List LevelSet) (c : List ℕ) → AreRows f n rows → AreLevelSets f n k rows sets → InSpan f n rows c → 0 < weight c → All (IsUnseen f n c) sets → set_bound k sets ≤ weight c
 unseen_weight f n k rows sets c r h i p u =
-    let sum = sum_on_fresh k sets c (all_from_members (λ s. (s.level + 1) - (k - length s.fresh) ≤ count_by (has_symbol c) s.fresh) sets (λ s l. above_on_fresh f n k rows s c (All-contains (IsLevelSet f n k rows) sets s h.each l) i p (All-contains (IsUnseen f n c) sets s u l))) in
+    let sum = sum_on_fresh k sets c (each_contained (λ s. (s.level + 1) - (k - length s.fresh) ≤ count_by (has_symbol c) s.fresh) sets (λ s l. above_on_fresh f n k rows s c (All-contains (IsLevelSet f n k rows) sets s h.each l) i p (All-contains (IsUnseen f n c) sets s u l))) in
     let most = fresh_at_most f n k rows sets c h (span_word f n rows c r i).long in
     omega (arith, sum, most)
 

@@ -18,9 +18,10 @@ use Rattle.lc_algebra.proofs.ColumnLaws.{length_restrict, index_restrict, column
 use Rattle.lc_algebra.proofs.DimensionLaws.{pairs_from_distinct, distinct_below}
 use Rattle.lc_enumeration.specs.InformationSet.{in_span, greedy, unit_word, systematic}
 use Rattle.lc_enumeration.proofs.MemberLaws.{in_span_true, true_in_span}
+use Rattle.lc_enumeration.proofs.GreedyLaws.{index_unit, length_unit}
 use Rattle.lc_matrix.specs.Elimination.{IsReducedTo}
 use Rattle.lc_infoset.specs.Choice.{AreTurned}
-use Rattle.lc_infoset.proofs.ExistLaws.{told_on_set, row_looked, length_systematic, length_unit, index_unit}
+use Rattle.lc_infoset.proofs.ExistLaws.{told_on_set, row_looked, length_systematic}
 use Rattle.lc_infoset.proofs.GreedyLaws.{IsBasis}
 use Rattle.lc_infoset.proofs.SetLaws.{distinct_filter}
 

@@ -14,8 +14,9 @@ use Rattle.lc_algebra.proofs.WordLaws.{weight_scale}
 use Rattle.lc_algebra.proofs.SpanLaws.{span_word, word_of_combination}
 use Rattle.lc_algebra.proofs.DivisorLaws.{rounded_within}
 use Rattle.lc_enumeration.specs.Message.{vector_of}
+use Rattle.lc_enumeration.proofs.GreedyLaws.{each_contained}
 use Rattle.lc_infoset.specs.Bound.{LevelSet, IsLevelSet, AreLevelSets, IsUnseen, IsNoMultiple, SeenAtLeast, set_bound}
-use Rattle.lc_infoset.proofs.BoundLaws.{all_from_members, unseen_weight, unseen_whole}
+use Rattle.lc_infoset.proofs.BoundLaws.{unseen_weight, unseen_whole}
 use Rattle.lc_infoset.proofs.MultipleLaws.{unseen_from_messages}
 use Rattle.lc_infoset.proofs.SearchBound.{message_word}
 
@@ -27,7 +28,7 @@ lighter_is_no_multiple f n d c s r h p light w a m some few small nonzero listed
     omega (arith, light, equal, h w m some few listed (omega (arith, p, equal)))
 
 all_unseen : (f : FieldName) (n k d : ℕ) (rows : List (List ℕ)) (sets : List LevelSet) (c : List ℕ) → AreLevelSets f n k rows sets → All (SeenAtLeast f n d) sets → 0 < weight c → weight c < d → All (IsUnseen f n c) sets
-all_unseen f n k d rows sets c h seen p light = all_from_members (IsUnseen f n c) sets (λ s l.
+all_unseen f n k d rows sets c h seen p light = each_contained (IsUnseen f n c) sets (λ s l.
     let is = All-contains (IsLevelSet f n k rows) sets s h.each l in
     unseen_from_messages f n c s (lighter_is_no_multiple f n d c s is.systematic.words (All-contains (SeenAtLeast f n d) sets s seen l) p light))
 

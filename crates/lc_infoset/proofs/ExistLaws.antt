@@ -1,6 +1,6 @@
 -- If the rows are independent on a set of as many columns, the matrix that is the identity on the set exists.
 --   full_rank                    as many independent words as their length have every word in their span
---   length_unit, index_unit, unit_is_word      the words with a single 1
+--   unit_is_word      the words with a single 1
 --   combine_restrict, restrict_word, restricted_rows      combinations of restricted rows
 --   told_on_set                  a word of the rows is determined by its symbols on the set
 --   is_unit, Looked, looked      the word of the rows that is a given unit word on the set
@@ -18,13 +18,13 @@ use Rattle.lc_algebra.specs.Matrix.{AreRows, IsSystematic, IsIdentityOn}
 use Rattle.lc_algebra.specs.SpanLaws.{restrict}
 use Rattle.lc_algebra.proofs.FieldLaws.{zero_inside, one_inside}
 use Rattle.lc_algebra.proofs.WordLaws.{length_scale, word_symbol}
-use Rattle.lc_algebra.proofs.SpanLaws.{contains_cases, length_below, span_word, length_combine, combination_of_word, word_of_combination, coefficients_unique, word_of_member, member_of_word, length_words, span_decided, span_within}
+use Rattle.lc_algebra.proofs.SpanLaws.{contains_cases, length_below, span_word, length_combine, combination_of_word, word_of_combination, coefficients_unique, word_of_member, member_of_word, length_words, span_decided, span_within, index_below}
 use Rattle.lc_algebra.proofs.ColumnLaws.{length_restrict, index_restrict, restrict_zero, restrict_scale, restrict_sum}
 use Rattle.lc_algebra.proofs.DimensionLaws.{AreDistinct, distinct_at_most, words_distinct, all_words, length_all_words, all_words_contain}
 use Rattle.lc_algebra.proofs.ReducedLaws.{symbol_of_combination}
 use Rattle.lc_enumeration.specs.InformationSet.{same_word, unit_word, systematic}
 use Rattle.lc_enumeration.proofs.MemberLaws.{same_from_test, test_from_same}
-use Rattle.lc_infoset.proofs.BoundLaws.{index_below}
+use Rattle.lc_enumeration.proofs.GreedyLaws.{index_unit, length_unit}
 use Rattle.lc_infoset.proofs.BestLaws.{find_passes}
 use Rattle.lc_infoset.proofs.AnswerLaws.{find_none}
 
@@ -37,14 +37,6 @@ full_rank f k rows w r h e is =
     let l : length (w ∷ words f k rows) ≤ length (all_words f k) = distinct_at_most (w ∷ words f k rows) (all_words f k) distinct (λ v c. ⊎_elim (λ s. subst (Contains (all_words f k)) s (all_words_contain f k w is)) (λ m. all_words_contain f k v (span_word f k rows v r (word_of_member f k rows v m))) (contains_cases w v (words f k rows) c)) in
     absurd (omega (arith, l, length_words f k rows, length_all_words f k, ap (λ n. size f ^ n) e)))
     (span_decided f k rows w)
-
-pub length_unit : (k i : ℕ) → length (unit_word k i) ≡ k
-unfolding unit_word
-length_unit k i = length-map (below k) (λ j. if i == j then 1 else 0) ∙ length_below k
-
-pub index_unit : (k i j : ℕ) → j < k → slice_index (unit_word k i) j ≡ (if i == j then 1 else 0)
-unfolding unit_word
-index_unit k i j l = get_or-map (λ j. if i == j then 1 else 0) (below k) j 0 0 (omega (arith, l, length_below k)) ∙ ap (λ j. if i == j then 1 else 0) (index_below k j 0 l)
 
 small_bit : (f : FieldName) (b : Bool) → (if b then 1 else 0) < size f
 small_bit f true = one_inside f

@@ -1,8 +1,7 @@
 -- The greedy first basis of the columns of independent rows is an information set.
---   span_contains, span_wider     a row is in the span; a span of more rows is wider
 --   other_in_span                 of two words whose sum is zero, one is in the span if the other is
 --   independent_cons              independent rows stay so with a row outside their span
---   AreVectors, vectors_are, set_wider      the vectors of some indexes
+--   AreVectors      the vectors of some indexes
 --   Taken, taken_none, taken_more      what the greedy choice has taken: vectors of which none is in the span of those before
 --   Greedy, greedy_is             it takes enough to span every vector of the order, and nothing else
 --   columns_are                   the columns are words
@@ -11,8 +10,8 @@
 --   in_order                      the order of the columns of a next set has all of them
 --   HasBasis, next_basis, bases_after, bases_are      so has every information set
 --   generators_are                independent rows have a generator for each of their information sets
-use Rattle.std.proofs.Common.{◌≡◌, ℕ, zero, suc, ◌*◌, ◌<◌, ◌≤◌, ◌⊎◌, Bool, true, false, not, cond, nat_le, filter, List, [], ◌∷◌, ◌++◌, length, map, slice_index, All, Contains, refl, sym, ap, subst, ◌∙◌, inl, inr, ⊎_elim, arith}
-use Rattle.std.proofs.lemmas.Bool.{cases_Bool, false≢true}
+use Rattle.std.proofs.Common.{◌≡◌, ℕ, zero, suc, ◌*◌, ◌<◌, ◌≤◌, ◌⊎◌, Bool, not, cond, nat_le, filter, List, [], ◌∷◌, ◌++◌, length, map, slice_index, All, Contains, refl, sym, ap, subst, ◌∙◌, inl, inr, ⊎_elim, arith}
+use Rattle.std.proofs.lemmas.Bool.{cases_Bool, false≢true, not_from_false}
 use Rattle.std.proofs.lemmas.List.{ext_get_or, length-map, get_or_default}
 use Rattle.std.proofs.lemmas.List.Elements.{All-nil, All-cons, All-contains, Contains-append_left, Contains-append_right, Contains-append_cases}
 use Rattle.lc_algebra.specs.declared.FieldName.{FieldName}
@@ -23,7 +22,7 @@ use Rattle.lc_algebra.specs.SpanLaws.{restrict}
 use Rattle.lc_algebra.specs.Field.{neg}
 use Rattle.lc_algebra.proofs.FieldLaws.{inverse_of, mul_comm}
 use Rattle.lc_algebra.proofs.WordLaws.{length_zero_word, index_zero_word, zero_scale, zero_sum, sum_zero, sum_assoc, sum_negative, word_head, word_tail, IsWord_scale, dot_comm}
-use Rattle.lc_algebra.proofs.SpanLaws.{contains_head, contains_tail, contains_cases, map_contains, contains_map, contains_below, below_contains, span_word, span_zero, span_sum, span_scale, span_row, span_within, length_combine, word_of_combination, dot_span}
+use Rattle.lc_algebra.proofs.SpanLaws.{contains_head, contains_tail, contains_cases, map_contains, contains_map, contains_below, below_contains, span_word, span_zero, span_sum, span_scale, length_combine, word_of_combination, dot_span, span_of_member}
 use Rattle.lc_algebra.proofs.ColumnLaws.{column_word, index_restrict}
 use Rattle.lc_algebra.proofs.DimensionLaws.{AreDistinct, distinct_at_most, distinct_below, independent_few}
 use Rattle.lc_algebra.proofs.ReducedLaws.{index_combine}
@@ -31,18 +30,13 @@ use Rattle.lc_algebra.proofs.DivisorLaws.{no_member}
 use Rattle.lc_enumeration.specs.InformationSet.{InformationSet, in_span, is_member, greedy, first_basis, columns_in_order, with_fresh, next_set, sets_after, information_sets, systematic}
 use Rattle.lc_enumeration.specs.Search.{sets_of, generator_at}
 use Rattle.lc_enumeration.proofs.MemberLaws.{member_true, true_member, in_span_true, true_in_span}
+use Rattle.lc_enumeration.proofs.GreedyLaws.{vectors_are_rows, each_contained}
+use Rattle.lc_enumeration.proofs.DependentLaws.{set_wider}
 use Rattle.lc_infoset.specs.Bound.{set_at, AreGenerators}
-use Rattle.lc_infoset.proofs.BoundLaws.{all_from_members}
 use Rattle.lc_infoset.proofs.MultipleLaws.{inverse_multiple}
 use Rattle.lc_infoset.proofs.SetLaws.{filter_passes, distinct_filter, set_listed}
 use Rattle.lc_infoset.proofs.AnswerLaws.{filter_keeps}
 use Rattle.lc_infoset.proofs.ExistLaws.{combine_restrict, restricted_rows, systematic_from_square}
-
-pub span_contains : (f : FieldName) (n : ℕ) (rows : List (List ℕ)) (w : List ℕ) → AreRows f n rows → Contains rows w → InSpan f n rows w
-span_contains f n rows w r l = All-contains (InSpan f n rows) rows w (span_row f n rows r) l
-
-pub span_wider : (f : FieldName) (n : ℕ) (rows others : List (List ℕ)) (w : List ℕ) → AreRows f n others → ((x : List ℕ) → Contains rows x → Contains others x) → InSpan f n rows w → InSpan f n others w
-span_wider f n rows others w r h i = span_within f n rows others w r (all_from_members (InSpan f n others) rows (λ x l. span_contains f n others x r (h x l))) i
 
 -- of two words whose sum is zero, one is in the span where the other is
 pub other_in_span : (f : FieldName) (n : ℕ) (rows : List (List ℕ)) (u v : List ℕ) → AreRows f n rows → IsWord f n u → length v ≡ n → InSpan f n rows v → word_sum f u v ≡ zero_word n → InSpan f n rows u
@@ -66,12 +60,6 @@ independent_cons f n g rows is r h out (suc a ∷ cs) w e =
 
 abbrev pub AreVectors : FieldName → ℕ → (ℕ → List ℕ) → Type 0
 AreVectors f n vector = (i : ℕ) → IsWord f n (vector i)
-
-pub vectors_are : (f : FieldName) (n : ℕ) (vector : ℕ → List ℕ) (set : List ℕ) → AreVectors f n vector → AreRows f n (map vector set)
-vectors_are f n vector set h = all_from_members (IsWord f n) (map vector set) (λ x l. let t = contains_map vector set x l in subst (IsWord f n) (sym t.2) (h t.0))
-
-pub set_wider : (f : FieldName) (n : ℕ) (vector : ℕ → List ℕ) (set others : List ℕ) (w : List ℕ) → AreVectors f n vector → ((i : ℕ) → Contains set i → Contains others i) → InSpan f n (map vector set) w → InSpan f n (map vector others) w
-set_wider f n vector set others w h more i = span_wider f n (map vector set) (map vector others) w (vectors_are f n vector others h) (λ x l. let t = contains_map vector set x l in subst (Contains (map vector others)) (sym t.2) (map_contains vector others t.0 (more t.0 t.1))) i
 
 -- the same indexes in another order, of which none has a vector in the span of those after it
 pub record Taken (f : FieldName) (n : ℕ) (vector : ℕ → List ℕ) (taken : List ℕ) : Type 0 where
@@ -99,8 +87,8 @@ taken_more f n vector taken i h t out = record {
   back = i ∷ t.back;
   inside = λ j l. ⊎_elim (λ e. Contains-append_right taken (i ∷ []) j (subst (Contains (i ∷ [])) e (contains_head i []))) (λ m. Contains-append_left taken (i ∷ []) j (t.inside j m)) (contains_cases i j t.back l);
   all = λ j l. ⊎_elim (λ m. contains_tail i j t.back (t.all j m)) (λ m. ⊎_elim (λ e. subst (Contains (i ∷ t.back)) e (contains_head i t.back)) (λ s. absurd (no_member j s)) (contains_cases i j [] m)) (Contains-append_cases taken (i ∷ []) j l);
-  independent = independent_cons f n (vector i) (map vector t.back) (h i) (vectors_are f n vector t.back h) t.independent (λ s. out (set_wider f n vector t.back taken (vector i) h t.inside s));
-  distinct = ((λ l. out (span_contains f n (map vector taken) (vector i) (vectors_are f n vector taken h) (map_contains vector taken i (t.inside i l)))), t.distinct);
+  independent = independent_cons f n (vector i) (map vector t.back) (h i) (vectors_are_rows f n vector t.back h) t.independent (λ s. out (set_wider f n vector t.back taken (vector i) h t.inside s));
+  distinct = ((λ l. out (span_of_member f n (map vector taken) (vector i) (vectors_are_rows f n vector taken h) (map_contains vector taken i (t.inside i l)))), t.distinct);
 }
 
 pub record Greedy (f : FieldName) (n : ℕ) (vector : ℕ → List ℕ) (taken order result : List ℕ) : Type 0 where
@@ -138,7 +126,7 @@ greedy_is f n vector taken (i ∷ order) h t =
     record {
       part = r.part;
       keeps = λ j l. r.keeps j (Contains-append_left taken (i ∷ []) j l);
-      spans = λ j l. ⊎_elim (λ s. subst (λ k. InSpan f n (map vector result) (vector k)) s (span_contains f n (map vector result) (vector i) (vectors_are f n vector result h) (map_contains vector result i added))) (λ m. r.spans j m) (contains_cases i j order l);
+      spans = λ j l. ⊎_elim (λ s. subst (λ k. InSpan f n (map vector result) (vector k)) s (span_of_member f n (map vector result) (vector i) (vectors_are_rows f n vector result h) (map_contains vector result i added))) (λ m. r.spans j m) (contains_cases i j order l);
       within = λ j l. ⊎_elim
           (λ m. ⊎_elim (λ s. inl s) (λ s. ⊎_elim (λ q. inr (subst (Contains (i ∷ order)) q (contains_head i order))) (λ q. absurd (no_member j q)) (contains_cases i j [] s)) (Contains-append_cases taken (i ∷ []) j m))
           (λ m. inr (contains_tail i j order m))
@@ -155,7 +143,7 @@ spanning_square f n rows set r h spans cs w e =
     let is : IsWord f (length rows) cs = subst (λ k. IsWord f k cs) many w in
     let word = combine f n cs rows in
     let on : restrict set word ≡ zero_word (length set) = combine_restrict f n set cs rows r ∙ e in
-    let orthogonal : IsOrthogonal f (map (column rows) set) cs = all_from_members (λ row. word_dot f row cs ≡ 0) (map (column rows) set) (λ x l.
+    let orthogonal : IsOrthogonal f (map (column rows) set) cs = each_contained (λ row. word_dot f row cs ≡ 0) (map (column rows) set) (λ x l.
     let t = contains_map (column rows) set x l in
     let p : ℕ = t.0 in
     let j : ℕ = t.1.0 in
@@ -164,7 +152,7 @@ spanning_square f n rows set r h spans cs w e =
     ap (λ v. word_dot f v cs) t.2 ∙ dot_comm f (column rows p) cs ∙ sym (index_combine f n cs rows p r) ∙ nothing) in
     let zero_there : word ≡ zero_word n = ext_get_or 0 word (zero_word n) (length_combine f n cs rows r ∙ sym (length_zero_word n)) (λ p l.
     let inside : p < n = omega (arith, l, length_combine f n cs rows r) in
-    index_combine f n cs rows p r ∙ dot_comm f cs (column rows p) ∙ dot_span f (length rows) (map (column rows) set) cs (column rows p) (vectors_are f (length rows) (column rows) set (columns_are f n rows r)) orthogonal (spans p inside) ∙ sym (index_zero_word n p)) in
+    index_combine f n cs rows p r ∙ dot_comm f cs (column rows p) ∙ dot_span f (length rows) (map (column rows) set) cs (column rows p) (vectors_are_rows f (length rows) (column rows) set (columns_are f n rows r)) orthogonal (spans p inside) ∙ sym (index_zero_word n p)) in
     h cs is zero_there ∙ ap zero_word (sym many)
 
 pub record IsBasis (f : FieldName) (n : ℕ) (rows : List (List ℕ)) (set : List ℕ) : Type 0 where
@@ -194,17 +182,13 @@ first_basis_is f n rows order r h columns =
     let spans : (p : ℕ) → p < n → InSpan f k (map vector set) (vector p) = λ p l. set_wider f k vector chosen set (vector p) are to_set (g.spans p (columns.all p l)) in
     let square = spanning_square f n rows set r h spans in
     let few : length (map (restrict set) rows) ≤ length set = independent_few f (length set) (map (restrict set) rows) (restricted_rows f n set rows r) square in
-    let rows_few : length (map vector t.back) ≤ k = independent_few f k (map vector t.back) (vectors_are f k vector t.back are) t.independent in
+    let rows_few : length (map vector t.back) ≤ k = independent_few f k (map vector t.back) (vectors_are_rows f k vector t.back are) t.independent in
     let shorter : length set ≤ length t.back = distinct_at_most set t.back (distinct_filter (is_member chosen) (below n) (distinct_below n)) (λ i l. t.all i (from_set i l)) in
     let basis : IsBasis f n rows set = record {
       many = omega (arith, few, rows_few, shorter, length-map rows (restrict set), length-map t.back vector);
       square = square;
     } in
     subst (IsBasis f n rows) (sym (basis_is f n rows order)) basis
-
-not_false : (b : Bool) → b ≡ false → not b ≡ true
-not_false true e = absurd (false≢true (sym e))
-not_false false e = refl
 
 pub in_order : (n : ℕ) (used : List ℕ) → HasColumns n (columns_in_order n used)
 unfolding columns_in_order
@@ -215,7 +199,7 @@ in_order n used =
       all = λ p l.
           ⊎_elim
           (λ t. Contains-append_right fresh old p (filter_keeps (is_member used) (below n) p (below_contains n p l) t))
-          (λ t. Contains-append_left fresh old p (filter_keeps (λ c. not (is_member used c)) (below n) p (below_contains n p l) (not_false (is_member used p) t)))
+          (λ t. Contains-append_left fresh old p (filter_keeps (λ c. not (is_member used c)) (below n) p (below_contains n p l) (not_from_false (is_member used p) t)))
           (cases_Bool (is_member used p));
       inside = λ p l. ⊎_elim (λ m. contains_below n p (filter_passes (λ c. not (is_member used c)) (below n) p m).member) (λ m. contains_below n p (filter_passes (is_member used) (below n) p m).member) (Contains-append_cases fresh old p l);
     }
@@ -247,7 +231,7 @@ sets_are : (C : Matrix) → sets_of C ≡ information_sets C.field C.columns C.r
 unfolding sets_of
 sets_are C = refl
 
-generator_is : (C : Matrix) (j : ℕ) → generator_at C j ≡ systematic C.field C.columns C.rows (set_at C j).basis
+pub generator_is : (C : Matrix) (j : ℕ) → generator_at C j ≡ systematic C.field C.columns C.rows (set_at C j).basis
 unfolding generator_at
 generator_is C j = refl
 

@@ -1,7 +1,7 @@
 -- What is kept of the information sets of a code is what the definitions say.
 --   dimension_few                    the dimension is at most the length
 --   divisor_some, divisor_small      the divisor is 1 to 4
---   sets_few, first_fresh, count_few, count_some, count_kept, count_least, count_most, set_inside      there are 1 to n sets, and
+--   sets_few, first_fresh, count_few, count_kept, count_least, count_most, set_inside      there are 1 to n sets, and
 --                                    as many are kept
 --   state_kept, basis_kept, fresh_kept, rows_kept, field_kept, columns_kept      what is kept of set j is that of set j of the
 --                                    definition
@@ -13,43 +13,34 @@ use Rattle.std.proofs.lemmas.Bool.{cases_Bool, leb-true}
 use Rattle.std.proofs.lemmas.List.{length-map, get_or-map, length-append}
 use Rattle.std.proofs.lemmas.List.Elements.{All-contains, Contains-get_or, Contains-append_cases}
 use Rattle.lc_algebra.specs.declared.FieldName.{FieldName}
-use Rattle.lc_algebra.specs.declared.FieldName.TheVariants.{Gf2, Gf3}
 use Rattle.lc_algebra.specs.Span.{below, AreIndependent}
 use Rattle.lc_algebra.specs.Matrix.{Matrix, AreRows, column}
-use Rattle.lc_algebra.specs.Divisor.{possible_divisors, weight_divisor, divisor_of}
+use Rattle.lc_algebra.specs.Divisor.{possible_divisors, weight_divisor}
 use Rattle.lc_algebra.proofs.SpanLaws.{contains_cases, length_below}
 use Rattle.lc_algebra.proofs.DimensionLaws.{AreDistinct, distinct_append, distinct_from_pairs, distinct_at_most, independent_few}
-use Rattle.lc_algebra.proofs.DivisorLaws.{divisor_is as greatest_divisor, divisor_positive, no_member}
-use Rattle.lc_enumeration.specs.InformationSet.{is_member, greedy, first_basis, columns_in_order, with_fresh, next_set, sets_after, information_sets, systematic}
+use Rattle.lc_algebra.proofs.DivisorLaws.{divisor_is as greatest_divisor, divisor_positive, no_member, divisors_small}
+use Rattle.lc_enumeration.specs.InformationSet.{is_member, greedy, first_basis, columns_in_order, with_fresh, next_set, sets_after, information_sets}
 use Rattle.lc_enumeration.specs.Search.{sets_of, set_count, generator_at}
+use Rattle.lc_enumeration.proofs.GreedyLaws.{each_contained}
+use Rattle.lc_matrix.proofs.DivisibleLaws.{divisor_of_rows}
 use Rattle.lc_infoset.specs.Bound.{set_at}
 use Rattle.lc_infoset.specs.Kept.{SetState, set_state, IsKept}
-use Rattle.lc_infoset.proofs.BoundLaws.{all_from_members, place_inside}
+use Rattle.lc_infoset.proofs.BoundLaws.{place_inside}
 use Rattle.lc_infoset.proofs.SetLaws.{IsSetAfter, filter_passes, next_is, sets_are, count_is, set_listed}
-use Rattle.lc_infoset.proofs.AnswerLaws.{filter_keeps}
-use Rattle.lc_infoset.proofs.GreedyLaws.{first_basis_is, in_order, generators_are}
+use Rattle.lc_infoset.proofs.AnswerLaws.{filter_keeps, some_set}
+use Rattle.lc_infoset.proofs.GreedyLaws.{first_basis_is, in_order, generators_are, generator_is}
 
 pub dimension_few : (C : Matrix) (d : ℕ) (states : List SetState) → IsKept C d states → length C.rows ≤ C.columns
 dimension_few C d states h = independent_few C.field C.columns C.rows h.words h.independent
 
-divisor_is : (C : Matrix) → divisor_of C ≡ weight_divisor C.field C.columns C.rows
-unfolding divisor_of
-divisor_is C = refl
-
 pub divisor_some : (C : Matrix) (d : ℕ) (states : List SetState) → IsKept C d states → 1 ≤ d
-divisor_some C d states h = omega (arith, h.divisor, divisor_is C, divisor_positive C.field C.columns C.rows)
-
-each_small : (f : FieldName) (d : ℕ) → Contains (possible_divisors f) d → d ≤ 4
-unfolding possible_divisors
-each_small Gf2 d l = ⊎_elim (λ e. omega (arith, e)) (λ m. ⊎_elim (λ e. omega (arith, e)) (λ o. absurd (no_member d o)) (contains_cases 2 d [] m)) (contains_cases 4 d (2 ∷ []) l)
-each_small Gf3 d l = ⊎_elim (λ e. omega (arith, e)) (λ o. absurd (no_member d o)) (contains_cases 3 d [] l)
-each_small _ d l = absurd (no_member d l)
+divisor_some C d states h = omega (arith, h.divisor, divisor_of_rows C, divisor_positive C.field C.columns C.rows)
 
 pub divisor_small : (C : Matrix) (d : ℕ) (states : List SetState) → IsKept C d states → d ≤ 4
 divisor_small C d states h =
     let w = weight_divisor C.field C.columns C.rows in
-    let small : w ≤ 4 = ⊎_elim (λ l. each_small C.field w l) (λ l. ⊎_elim (λ e. omega (arith, e)) (λ o. absurd (no_member w o)) (contains_cases 1 w [] l)) (Contains-append_cases (possible_divisors C.field) (1 ∷ []) w (greatest_divisor C.field C.columns C.rows).possible) in
-    omega (arith, h.divisor, divisor_is C, small)
+    let small : w ≤ 4 = ⊎_elim (λ l. divisors_small C.field w l) (λ l. ⊎_elim (λ e. omega (arith, e)) (λ o. absurd (no_member w o)) (contains_cases 1 w [] l)) (Contains-append_cases (possible_divisors C.field) (1 ∷ []) w (greatest_divisor C.field C.columns C.rows).possible) in
+    omega (arith, h.divisor, divisor_of_rows C, small)
 
 next_inside : (f : FieldName) (n : ℕ) (rows : List (List ℕ)) (used : List ℕ) (c : ℕ) → Contains (next_set f n rows used).fresh c → Contains (below n) c
 unfolding next_set with_fresh first_basis
@@ -81,10 +72,6 @@ first_fresh f n rows some r h =
     let there = filter_keeps (λ c. not (is_member [] c)) basis c (Contains-get_or basis 0 0 (omega (arith, some, many))) refl in
     omega (arith, there.1)
 
-pub count_some : (C : Matrix) → 0 < set_count C
-unfolding set_count sets_of information_sets
-count_some C = omega arith
-
 pub count_few : (C : Matrix) (d : ℕ) (states : List SetState) → IsKept C d states → set_count C ≤ C.columns
 unfolding set_count sets_of information_sets
 count_few C d states h =
@@ -100,7 +87,7 @@ pub count_kept : (C : Matrix) (d : ℕ) (states : List SetState) → IsKept C d 
 count_kept C d states h = ap length h.sets ∙ length-map (sets_of C) (set_state C) ∙ sym (count_is C)
 
 pub count_least : (C : Matrix) (d : ℕ) (states : List SetState) → IsKept C d states → 1 ≤ length states
-count_least C d states h = omega (arith, count_kept C d states h, count_some C)
+count_least C d states h = omega (arith, count_kept C d states h, some_set C)
 
 pub count_most : (C : Matrix) (d : ℕ) (states : List SetState) → IsKept C d states → length states ≤ C.columns
 count_most C d states h = omega (arith, count_kept C d states h, count_few C d states h)
@@ -111,10 +98,6 @@ set_inside C d j states h l = omega (arith, l, count_kept C d states h)
 pub state_kept : (C : Matrix) (d j : ℕ) (states : List SetState) (x : SetState) → IsKept C d states → j < set_count C → slice_index_or states j x ≡ set_state C (set_at C j)
 state_kept C d j states x h l =
     ap (λ xs. slice_index_or xs j x) h.sets ∙ get_or-map (set_state C) (sets_of C) j (record { basis = []; fresh = [] }) x (omega (arith, l, count_is C))
-
-generator_is : (C : Matrix) (j : ℕ) → generator_at C j ≡ systematic C.field C.columns C.rows (set_at C j).basis
-unfolding generator_at
-generator_is C j = refl
 
 pub basis_kept : (C : Matrix) (d j : ℕ) (states : List SetState) (x : SetState) → IsKept C d states → j < set_count C → (slice_index_or states j x).set.basis ≡ (set_at C j).basis
 basis_kept C d j states x h l = ap (λ (s : SetState). s.set.basis) (state_kept C d j states x h l)
@@ -142,7 +125,7 @@ rows_long C d j states x h l =
 pub basis_inside : (C : Matrix) (d j : ℕ) (states : List SetState) (x : SetState) → IsKept C d states → j < set_count C → All (λ c. c < C.columns) (slice_index_or states j x).set.basis
 basis_inside C d j states x h l =
     let g = generators_are C h.words h.independent j l in
-    subst (All (λ c. c < C.columns)) (sym (basis_kept C d j states x h l)) (all_from_members (λ c. c < C.columns) (set_at C j).basis (λ c m. place_inside C.field C.columns (set_at C j).basis (generator_at C j) c g.1.words g.1.count g.1.identity m))
+    subst (All (λ c. c < C.columns)) (sym (basis_kept C d j states x h l)) (each_contained (λ c. c < C.columns) (set_at C j).basis (λ c m. place_inside C.field C.columns (set_at C j).basis (generator_at C j) c g.1.words g.1.count g.1.identity m))
 
 pub fresh_few : (C : Matrix) (d j : ℕ) (states : List SetState) (x : SetState) → IsKept C d states → j < set_count C → length (slice_index_or states j x).set.fresh ≤ length C.rows
 fresh_few C d j states x h l =

@@ -1,24 +1,21 @@
 -- The bound of some levels.
---   ranks_are, rank_at           the ranks are the numbers of fresh columns
+--   rank_at           the ranks are the numbers of fresh columns
 --   sum_taken                    a further set's part of the sum
 --   sum_none, sum_more, sum_whole      the sum over the first sets, and over all
---   rounded_made, bound_made     the bound in the shape of the calls
+--   bound_made     the bound in the shape of the calls
 --   not_whole, bound_is          no level is k, so that the bound is the rounded sum
-use Rattle.std.proofs.Common.{◌≡◌, ℕ, zero, suc, ◌+◌, ◌-◌, ◌*◌, ◌/◌, ◌<◌, ◌≤◌, max, false, if◌then◌else◌, List, [], ◌∷◌, length, map, take, slice_index, All, refl, sym, ap, ◌∙◌, ⊎_elim, arith}
+use Rattle.std.proofs.Common.{◌≡◌, ℕ, zero, suc, ◌+◌, ◌-◌, ◌*◌, ◌/◌, ◌<◌, ◌≤◌, max, false, if◌then◌else◌, List, [], ◌∷◌, length, take, slice_index, All, refl, sym, ap, ◌∙◌, ⊎_elim, arith}
 use Rattle.std.proofs.lemmas.Bool.{cases_Bool}
 use Rattle.std.proofs.lemmas.List.{length-map, get_or-map, take_all}
 use Rattle.std.proofs.lemmas.List.Elements.{All-contains}
 use Rattle.lc_algebra.specs.Matrix.{Matrix}
 use Rattle.lc_algebra.specs.Divisor.{rounded}
+use Rattle.lc_algebra.proofs.DivisorLaws.{rounded_made}
 use Rattle.lc_enumeration.specs.InformationSet.{InformationSet, is_member}
 use Rattle.lc_enumeration.specs.Search.{sets_of, set_count, ranks_of, bound_sum, bound_of}
 use Rattle.lc_enumeration.proofs.MemberLaws.{true_member}
 use Rattle.lc_infoset.specs.Bound.{set_at}
-use Rattle.lc_infoset.proofs.SetLaws.{count_is}
-
-ranks_are : (C : Matrix) → ranks_of C ≡ map (λ (s : InformationSet). length s.fresh) (sets_of C)
-unfolding ranks_of
-ranks_are C = refl
+use Rattle.lc_infoset.proofs.SetLaws.{count_is, ranks_are}
 
 length_ranks : (C : Matrix) → length (ranks_of C) ≡ set_count C
 length_ranks C = ap length (ranks_are C) ∙ length-map (sets_of C) (λ (s : InformationSet). length s.fresh) ∙ sym (count_is C)
@@ -58,12 +55,6 @@ not_whole k levels h = ⊎_elim (λ t. absurd (omega (arith, All-contains (λ w.
 pub bound_is : (d k : ℕ) (ranks levels : List ℕ) (weight : ℕ) → All (λ w. w < k) levels → bound_of d k ranks levels weight ≡ rounded d (max 1 (bound_sum k ranks levels))
 unfolding bound_of
 bound_is d k ranks levels weight h = ap (λ b. if b then weight else rounded d (max 1 (bound_sum k ranks levels))) (not_whole k levels h)
-
-pub rounded_made : (d s t r : ℕ) → s ≡ t → r ≡ (max s 1 + (d - 1)) / d * d → r ≡ rounded d (max 1 t)
-unfolding rounded
-rounded_made d s t r e q =
-    let same : max s 1 ≡ max 1 t = omega (arith, e) in
-    q ∙ ap (λ m. (m + (d - 1)) / d * d) same
 
 pub bound_made : (d k : ℕ) (ranks levels : List ℕ) (s r : ℕ) → All (λ w. w < k) levels → s ≡ bound_sum k ranks levels → r ≡ (max s 1 + (d - 1)) / d * d → (weight : ℕ) → bound_of d k ranks levels weight ≡ r
 bound_made d k ranks levels s r h e q weight = bound_is d k ranks levels weight h ∙ sym (rounded_made d s (bound_sum k ranks levels) r e q)

@@ -1,5 +1,4 @@
 -- The next information set, in the shape of the calls.
---   told_member                    the test that a slice has a number
 --   filter_none, filter_kept, filter_left, filter_first, filter_more, filter_same      a filter of the numbers below c, one
 --                                  number more
 --   member_at, not_member          what is one of some columns
@@ -7,30 +6,21 @@
 --   order_inside, turn_inside      columns and rows that there are
 --   next_state                     the set, its fresh columns and its generator are the definition's
 use Rattle.std.proofs.Common.{◌≡◌, ◌≢◌, ℕ, suc, ◌+◌, ◌<◌, Bool, true, false, not, cond, ◌==◌, filter, List, [], ◌∷◌, ◌++◌, length, map, slice_index, slice_index_or, All, Contains, refl, sym, ap, subst, ◌∙◌, ⊎_elim, arith}
-use Rattle.std.specs.List.{list_any}
-use Rattle.std.proofs.lemmas.Bool.{cases_Bool, cases_lt, true≢false, eqb-true, eq-eqb}
+use Rattle.std.proofs.lemmas.Bool.{cases_Bool, cases_lt}
 use Rattle.std.proofs.lemmas.List.{length-map, length_push, get_or_push, get_or_default, append-nil, append_assoc}
 use Rattle.std.proofs.Math.ListN.{get_or-append}
 use Rattle.std.proofs.lemmas.List.Elements.{filter-append, Contains-get_or}
 use Rattle.lc_algebra.specs.declared.FieldName.{FieldName}
 use Rattle.lc_algebra.specs.Span.{below, AreIndependent}
 use Rattle.lc_algebra.specs.Matrix.{Matrix, column}
-use Rattle.lc_algebra.proofs.SpanSearch.{any_contains}
 use Rattle.lc_enumeration.specs.InformationSet.{is_member, greedy, first_basis, columns_in_order, with_fresh, next_set, systematic}
-use Rattle.lc_enumeration.proofs.MemberLaws.{some_passes, member_true, true_member}
+use Rattle.lc_enumeration.proofs.MemberLaws.{member_true, true_member}
+use Rattle.lc_enumeration.proofs.GreedyLaws.{each_contained}
 use Rattle.lc_matrix.specs.Elimination.{IsReducedTo}
 use Rattle.lc_infoset.specs.Kept.{SetState, set_state}
 use Rattle.lc_infoset.specs.Choice.{AreTurned}
-use Rattle.lc_infoset.proofs.BoundLaws.{all_from_members}
 use Rattle.lc_infoset.proofs.ChoiceLaws.{picked, IsReducedFrom, greedy_picked, turned_generator}
 use Rattle.lc_infoset.proofs.GreedyLaws.{IsBasis, first_basis_is, in_order}
-
-pub told_member : (b : Bool) (columns : List ℕ) (c : ℕ) → b ≡ list_any (λ d. d == c) columns → b ≡ is_member columns c
-told_member b columns c e =
-    e ∙ ⊎_elim
-    (λ t. t ∙ sym (let m = any_contains (λ d. d == c) columns t in member_true columns c (subst (Contains columns) (eqb-true m.0 c m.2) m.1)))
-    (λ t. t ∙ ⊎_elim (λ u. absurd (true≢false (sym (some_passes (λ d. d == c) columns c (true_member columns c u) (eq-eqb c c refl)) ∙ t))) (λ u. sym u) (cases_Bool (is_member columns c)))
-    (cases_Bool (list_any (λ d. d == c) columns))
 
 filter_next : (p : ℕ → Bool) (c : ℕ) → filter p (below (c + 1)) ≡ filter p (below c) ++ cond (p c) (c ∷ []) []
 unfolding below
@@ -95,7 +85,7 @@ turned_more pivots columns turn c r h l e =
     }
 
 pub order_inside : (n : ℕ) (used order : List ℕ) → order ≡ columns_in_order n used → All (λ c. c < n) order
-order_inside n used order e = subst (All (λ c. c < n)) (sym e) (all_from_members (λ c. c < n) (columns_in_order n used) (in_order n used).inside)
+order_inside n used order e = subst (All (λ c. c < n)) (sym e) (each_contained (λ c. c < n) (columns_in_order n used) (in_order n used).inside)
 
 pub turn_inside : (basis pivots turn order at : List ℕ) (rows : List (List ℕ)) → AreTurned basis pivots turn → pivots ≡ map (slice_index order) at → IsReducedTo order (length order) at rows → All (λ r. r < length rows) turn
 turn_inside basis pivots turn order at rows t e h i d l =

@@ -1,6 +1,6 @@
 -- How many blocks a whole plan has, and that a budget of as many gives an exact answer.
 --   partial, pascal            the sum of the first terms of the binomial theorem, and how it grows with k
---   choose_none, partial_stays terms past the last are 0
+--   partial_stays terms past the last are 0
 --   binomial                   the binomial theorem for r + 1
 --   counts, counts_are, all_counts      the numbers of messages of the levels 1 to e; for e = k they are (q^k - 1)/(q - 1)
 --   blocks_few, blocks_fewer   a level has at most as many blocks as messages, and fewer from two messages on
@@ -8,7 +8,7 @@
 --   set_count_few              there are at most n + 1 information sets
 --   plan_within                the plan ends below the cut and within such a budget
 --   whole_budget               a budget of as many blocks gives an exact answer
-use Rattle.std.proofs.Common.{◌≡◌, ℕ, zero, suc, ◌+◌, ◌-◌, ◌*◌, ◌/◌, ◌^◌, ◌<◌, ◌≤◌, Bool, cond, nat_le, List, [], ◌∷◌, ◌++◌, length, Some, refl, sym, ap, subst, ◌∙◌, ⊎_elim, arith, pow-suc}
+use Rattle.std.proofs.Common.{◌≡◌, ℕ, zero, suc, ◌+◌, ◌-◌, ◌*◌, ◌/◌, ◌^◌, ◌<◌, ◌≤◌, Bool, cond, nat_le, List, [], ◌∷◌, ◌++◌, length, refl, sym, ap, subst, ◌∙◌, ⊎_elim, arith, pow-suc}
 use Rattle.std.proofs.Math.Nat.{pow-zero, mul-div_cancel_left, div-le_of_le-mul, mul-le-mul_left}
 use Rattle.std.proofs.lemmas.Nat.{div_below}
 use Rattle.std.proofs.lemmas.Bool.{cases_lt, cases_Bool}
@@ -21,40 +21,27 @@ use Rattle.lc_enumeration.specs.Plan.{cut, blocks_before, level_blocks}
 use Rattle.lc_enumeration.specs.InformationSet.{next_set, sets_after, information_sets}
 use Rattle.lc_enumeration.specs.Search.{Found, exact, sets_of, set_count, best, answer_at, answer}
 use Rattle.lc_enumeration.proofs.PlanLaws.{cut_is}
+use Rattle.lc_enumeration.proofs.ChooseLaws.{choose_next, choose_none, choose_nothing, choose_one}
 use Rattle.lc_place.proofs.Counting.{blocks_of_level as next_level}
+use Rattle.lc_place.proofs.Phases.{blocks_of}
 use Rattle.lc_infoset.proofs.BestLaws.{no_blocks}
-use Rattle.lc_infoset.proofs.SeenLaws.{blocks_of_level}
 use Rattle.lc_infoset.proofs.AnswerLaws.{some_set}
-use Rattle.lc_infoset.proofs.RoundLaws.{plan_end, end_listed, end_done, first_done, in_list}
+use Rattle.lc_infoset.proofs.RoundLaws.{plan_end, end_listed, end_done, first_done, in_list, exact_is}
 use Rattle.lc_infoset.proofs.SessionLaws.{answer_is}
 
 pub partial : ℕ → ℕ → ℕ → ℕ
 partial r k zero = 0
 partial r k (suc n) = partial r k n + choose k n * r ^ n
 
-choose_step : (k n : ℕ) → choose (suc k) (suc n) ≡ choose k n + choose k (suc n)
-unfolding choose
-choose_step k n = refl
-
-choose_one : (k : ℕ) → choose k 0 ≡ 1
-unfolding choose
-choose_one k = refl
-
 pub pascal : (r k n : ℕ) → partial r (suc k) (suc n) ≡ r * partial r k n + partial r k (suc n)
 unfolding partial
-pascal r k zero = let a = choose_one (suc k) in let b = choose_one k in rw (a, b) (omega arith)
+pascal r k zero = let a = choose_nothing (suc k) in let b = choose_nothing k in rw (a, b) (omega arith)
 pascal r k (suc n) =
     let before = pascal r k n in
-    rw (choose_step k n, pow-suc r n) (spread (partial r (suc k) (suc n)) (partial r k n) (partial r k (suc n)) (choose k n) (choose k (suc n)) (r ^ n) r before)
+    rw (choose_next k n, pow-suc r n) (spread (partial r (suc k) (suc n)) (partial r k n) (partial r k (suc n)) (choose k n) (choose k (suc n)) (r ^ n) r before)
   where
     spread : (a b c u v p r : ℕ) → a ≡ r * b + c → a + (u + v) * (p * r) ≡ r * (b + u * p) + (c + v * (p * r))
     spread a b c u v p r e = omega (arith, e)
-
-pub choose_none : (k n : ℕ) → k < n → choose k n ≡ 0
-unfolding choose
-choose_none k zero l = absurd (omega (arith, l))
-choose_none zero (suc n) l = refl
-choose_none (suc k) (suc n) l = omega (arith, choose_none k n (omega (arith, l)), choose_none k (suc n) (omega (arith, l)))
 
 partial_next : (r k n : ℕ) → partial r k (suc n) ≡ partial r k n + choose k n * r ^ n
 unfolding partial
@@ -65,7 +52,7 @@ partial_stays r k = partial_next r k (suc k) ∙ ap (λ c. partial r k (suc k) +
 
 first_partial : (r k : ℕ) → partial r k 1 ≡ 1
 unfolding partial
-first_partial r k = ap (λ c. 0 + c * r ^ 0) (choose_one k) ∙ ap (λ p. 0 + 1 * p) (pow-zero r)
+first_partial r k = ap (λ c. 0 + c * r ^ 0) (choose_nothing k) ∙ ap (λ p. 0 + 1 * p) (pow-zero r)
 
 pub binomial : (r k : ℕ) → partial r k (suc k) ≡ (r + 1) ^ k
 binomial r zero = first_partial r 0 ∙ sym (pow-zero (r + 1))
@@ -131,29 +118,24 @@ plan_few k q m zero =
     omega (arith, ap (blocks_before k q m) z, no_blocks k q m)
 plan_few k q m (suc e) =
     let next : suc e * m ≡ (e + 1) * m = omega arith in
-    let level : level_blocks k q (e + 1) ≤ message_count k q (e + 1) = omega (arith, blocks_of_level k q (e + 1), blocks_few (message_count k q (e + 1))) in
+    let level : level_blocks k q (e + 1) ≤ message_count k q (e + 1) = omega (arith, blocks_of k q (e + 1), blocks_few (message_count k q (e + 1))) in
     let more = mul-le-mul_left m level in
     omega (arith, ap (blocks_before k q m) next, next_level k q m e, plan_few k q m e, more, counts_of k q m e)
 
-choose_first : (k : ℕ) → choose k 1 ≡ k
-unfolding choose
-choose_first zero = refl
-choose_first (suc k) = omega (arith, choose_one k, choose_first k)
-
 level_one : (k q : ℕ) → message_count k q 1 ≡ k
-level_one k q = count_is k q 0 ∙ ap (λ p. choose k 1 * p) (pow-zero (q - 1)) ∙ omega (arith, choose_first k)
+level_one k q = count_is k q 0 ∙ ap (λ p. choose k 1 * p) (pow-zero (q - 1)) ∙ omega (arith, choose_one k)
 
 pub plan_fewer : (k q m e : ℕ) → 0 < m → 2 ≤ k → blocks_before k q m (suc e * m) < m * counts k q (suc e)
 plan_fewer k q m zero some many =
     let next : suc 0 * m ≡ (0 + 1) * m = omega arith in
     let z : 0 * m ≡ 0 = omega arith in
     let fewer = blocks_fewer (message_count k q (0 + 1)) (omega (arith, level_one k q, many)) in
-    let level : level_blocks k q (0 + 1) + 1 ≤ message_count k q (0 + 1) = omega (arith, blocks_of_level k q (0 + 1), fewer) in
+    let level : level_blocks k q (0 + 1) + 1 ≤ message_count k q (0 + 1) = omega (arith, blocks_of k q (0 + 1), fewer) in
     let more : m * (level_blocks k q (0 + 1) + 1) ≤ m * message_count k q (0 + 1) = mul-le-mul_left m level in
     omega (arith, ap (blocks_before k q m) next, next_level k q m 0, ap (blocks_before k q m) z, no_blocks k q m, more, counts_of k q m 0, no_counts k q, some)
 plan_fewer k q m (suc e) some many =
     let next : suc (suc e) * m ≡ (suc e + 1) * m = omega arith in
-    let level : level_blocks k q (suc e + 1) ≤ message_count k q (suc e + 1) = omega (arith, blocks_of_level k q (suc e + 1), blocks_few (message_count k q (suc e + 1))) in
+    let level : level_blocks k q (suc e + 1) ≤ message_count k q (suc e + 1) = omega (arith, blocks_of k q (suc e + 1), blocks_few (message_count k q (suc e + 1))) in
     let more = mul-le-mul_left m level in
     omega (arith, ap (blocks_before k q m) next, next_level k q m (suc e), plan_fewer k q m e some many, more, counts_of k q m (suc e))
 
@@ -192,12 +174,8 @@ plan_within C budget rows short small enough =
     (omega (arith, few, sets, set_count_few C, short, cut_is), omega (arith, few, all)))
     (cases_lt 1 k)
 
-exact_at : (d : ℕ) (C : Matrix) (budget l : ℕ) → answer_at d C budget (Some l) ≡ exact (best C (set_count C) l) l
-unfolding answer_at
-exact_at d C budget l = refl
-
 pub whole_budget : (d : ℕ) (C : Matrix) (budget : ℕ) → 0 < length C.rows → C.columns ≤ 255 → budget ≤ 2 ^ 40 → set_count C * ((size C.field ^ length C.rows - 1) / (size C.field - 1)) ≤ budget → (x : Found) × (l : ℕ) × (answer d C budget ≡ exact x l)
 whole_budget d C budget rows short small enough =
     let p = plan_within C budget rows short small enough in
     let t = first_done d C budget (plan_end C) (in_list C budget (plan_end C) (end_listed C rows (some_set C) p.0) p.1) (end_done d C rows (some_set C) p.0) in
-    (best C (set_count C) t.0, t.0, answer_is d C budget rows ∙ ap (answer_at d C budget) t.1 ∙ exact_at d C budget t.0)
+    (best C (set_count C) t.0, t.0, answer_is d C budget rows ∙ ap (answer_at d C budget) t.1 ∙ exact_is d C budget t.0)

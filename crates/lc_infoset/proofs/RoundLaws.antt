@@ -28,9 +28,9 @@ use Rattle.lc_enumeration.specs.Records.{Progress, Rounds, found_of, progress_of
 use Rattle.lc_enumeration.proofs.MemberLaws.{member_true, true_member}
 use Rattle.lc_enumeration.proofs.RecordsLaws.{round_is_best}
 use Rattle.lc_enumeration.proofs.PlanLaws.{cut_is, blocks_least, end_is}
-use Rattle.lc_infoset.proofs.SetLaws.{filter_passes}
+use Rattle.lc_infoset.proofs.SetLaws.{filter_passes, levels_are}
 use Rattle.lc_infoset.proofs.BestLaws.{find_passes, product_positive}
-use Rattle.lc_infoset.proofs.AnswerLaws.{find_none, filter_keeps, ends_to, ends_are, bound_whole, whole_is, level_of, levels_of}
+use Rattle.lc_infoset.proofs.AnswerLaws.{find_none, filter_keeps, ends_to, ends_are, bound_whole, whole_is, level_of}
 
 abbrev pub Rises : List ℕ → Type 0
 Rises [] = Unit {0}
@@ -137,7 +137,7 @@ pub end_done : (d : ℕ) (C : Matrix) → 0 < length C.rows → 0 < set_count C 
 end_done d C rows sets uncut =
     let l = plan_end C in
     let w = (best C (set_count C) l).weight in
-    let there : Contains (levels_below C l) (length C.rows) = subst (λ ls. Contains ls (length C.rows)) (sym (levels_of C l)) (subst (Contains (map (level_below C l) (below (set_count C)))) (top_level C rows sets uncut) (map_contains (level_below C l) (below (set_count C)) (set_count C - 1) (below_contains (set_count C) (set_count C - 1) (omega (arith, sets))))) in
+    let there : Contains (levels_below C l) (length C.rows) = subst (λ ls. Contains ls (length C.rows)) (sym (levels_are C l)) (subst (Contains (map (level_below C l) (below (set_count C)))) (top_level C rows sets uncut) (map_contains (level_below C l) (below (set_count C)) (set_count C - 1) (below_contains (set_count C) (set_count C - 1) (omega (arith, sets))))) in
     let whole = bound_whole d C l w (member_true (levels_below C l) (length C.rows) there) in
     done_is d C l ∙ le-leb w (bound d C l w) (omega (arith, whole))
 
@@ -161,7 +161,7 @@ first_done d C budget y m t =
 pub in_list : (C : Matrix) (budget l : ℕ) → Contains (ends_of C) l → l ≤ budget → Contains (done_list C budget) l
 in_list C budget l m few = contains_tail 0 l (ends_to C budget) (filter_keeps (λ e. nat_le e budget) (ends_of C) l m (le-leb l budget few))
 
-may_is : (C : Matrix) (l : ℕ) → may_end C l ≡ ((l == 0) || (is_member (ends_of C) l || (nat_lt (plan_end C) cut && nat_lt (total (length C.rows) (size C.field) (set_count C)) l)))
+pub may_is : (C : Matrix) (l : ℕ) → may_end C l ≡ ((l == 0) || (is_member (ends_of C) l || (nat_lt (plan_end C) cut && nat_lt (total (length C.rows) (size C.field) (set_count C)) l)))
 unfolding may_end
 may_is C l = refl
 
@@ -214,7 +214,7 @@ finished_not d C budget l x t u = ap (λ b. (if b then Some (exact x l) else (if
 not_equal : (a b : ℕ) → a < b → (a == b) ≡ false
 not_equal a b l = ⊎_elim (λ t. absurd (omega (arith, l, eqb-true a b t))) (λ f. f) (cases_Bool (a == b))
 
-list_within : (C : Matrix) (budget l : ℕ) → Contains (done_list C budget) l → l ≤ budget
+pub list_within : (C : Matrix) (budget l : ℕ) → Contains (done_list C budget) l → l ≤ budget
 list_within C budget l m = ⊎_elim (λ e. omega (arith, e)) (λ r. leb-true l budget (filter_passes (λ e. nat_le e budget) (ends_of C) l r).passes) (contains_cases 0 l (ends_to C budget) m)
 
 -- the test of a state that is the best, as the search being done
@@ -237,7 +237,7 @@ bracket_is : (d : ℕ) (C : Matrix) (budget : ℕ) → answer_at d C budget None
 unfolding answer_at
 bracket_is d C budget = refl
 
-exact_is : (d : ℕ) (C : Matrix) (budget l : ℕ) → answer_at d C budget (Some l) ≡ exact (best C (set_count C) l) l
+pub exact_is : (d : ℕ) (C : Matrix) (budget l : ℕ) → answer_at d C budget (Some l) ≡ exact (best C (set_count C) l) l
 unfolding answer_at
 exact_is d C budget l = refl
 
@@ -278,17 +278,17 @@ some_crossing b (suc n) low high =
     (λ l. let t = some_crossing b n low l in (t.0, omega (arith, t.1), t.2, t.3))
     (cases_lt (b n) cut)
 
-phase_end_at : Matrix → ℕ → ℕ
+pub phase_end_at : Matrix → ℕ → ℕ
 phase_end_at C p = (phase_at (length C.rows) (size C.field) (set_count C) p).end
 
-starting : Matrix → List ℕ
+pub starting : Matrix → List ℕ
 starting C = filter (λ p. nat_lt (blocks_before (length C.rows) (size C.field) (set_count C) p) cut) (below (length C.rows * set_count C))
 
-end_of_is : (C : Matrix) (l : ℕ) → end_of_phase C l ≡ unwrap_or (find (nat_lt l) (map (phase_end_at C) (starting C))) l
+pub end_of_found : (C : Matrix) (l : ℕ) → end_of_phase C l ≡ unwrap_or (find (nat_lt l) (map (phase_end_at C) (starting C))) l
 unfolding end_of_phase plan_phases phase_end_at starting
-end_of_is C l = ap (λ es. unwrap_or (find (nat_lt l) es) l) (map-map (λ (p : PlanPhase). p.end) (phase_at (length C.rows) (size C.field) (set_count C)) (filter (λ p. nat_lt (blocks_before (length C.rows) (size C.field) (set_count C) p) cut) (below (length C.rows * set_count C))))
+end_of_found C l = ap (λ es. unwrap_or (find (nat_lt l) es) l) (map-map (λ (p : PlanPhase). p.end) (phase_at (length C.rows) (size C.field) (set_count C)) (filter (λ p. nat_lt (blocks_before (length C.rows) (size C.field) (set_count C) p) cut) (below (length C.rows * set_count C))))
 
-end_at_is : (C : Matrix) (p : ℕ) → phase_end_at C p ≡ min (end_at C p) cut
+pub end_at_is : (C : Matrix) (p : ℕ) → phase_end_at C p ≡ min (end_at C p) cut
 unfolding phase_end_at
 end_at_is C p = end_is (length C.rows) (size C.field) (set_count C) p
 
@@ -308,7 +308,7 @@ end_between C l p inside low less =
     let m : Contains ends x = map_contains (phase_end_at C) (starting C) p (starts C p inside low) in
     let t : nat_lt l x ≡ true = lt-ltb l x (omega (arith, less, is)) in
     let f = find_some (nat_lt l) ends x m t in
-    let e : end_of_phase C l ≡ f.0 = end_of_is C l ∙ ap (λ (o : Option ℕ). unwrap_or o l) f.1 in
+    let e : end_of_phase C l ≡ f.0 = end_of_found C l ∙ ap (λ (o : Option ℕ). unwrap_or o l) f.1 in
     let above = ltb-true l f.0 (find_passes (nat_lt l) ends f.0 f.1).passes in
     let up : (i j : ℕ) → i ≤ j → phase_end_at C i ≤ phase_end_at C j = λ i j n. omega (arith, end_at_is C i, end_at_is C j, blocks_least (length C.rows) (size C.field) (set_count C) (suc i) (suc j) (omega (arith, n))) in
     let few = find_least (nat_lt l) ends f.0 x (rises_map (phase_end_at C) up (starting C) (starting_rises C)) f.1 m t in
@@ -364,7 +364,7 @@ round_is : (C : Matrix) (budget : ℕ) (slice : Option ℕ) (l : ℕ) → round_
 unfolding round_length
 round_is C budget slice l = refl
 
-target_within : (d : ℕ) (C : Matrix) (budget : ℕ) (o : Option ℕ) → find (is_done d C) (done_list C budget) ≡ o → target o budget ≤ budget
+pub target_within : (d : ℕ) (C : Matrix) (budget : ℕ) (o : Option ℕ) → find (is_done d C) (done_list C budget) ≡ o → target o budget ≤ budget
 target_within d C budget None f = omega arith
 target_within d C budget (Some e) f = list_within C budget e (find_passes (is_done d C) (done_list C budget) e f).member
 
@@ -397,11 +397,11 @@ pub record Ended (d : ℕ) (C : Matrix) (budget : ℕ) (o : Option ℕ) (s : Pro
   pub ends : r.is_stopped ≡ false → finished d C budget (last_state s r.states).blocks (found_of (last_state s r.states)) ≡ Some (answer_at d C budget o)
   pub stops : r.is_stopped ≡ true → (finished d C budget (last_state s r.states).blocks (found_of (last_state s r.states)) ≡ None) × (r.left ≡ Some 0)
 
-next_blocks : (C : Matrix) (s : Progress) (count : ℕ) → (after_round C s count).blocks ≡ s.blocks + count
+pub next_blocks : (C : Matrix) (s : Progress) (count : ℕ) → (after_round C s count).blocks ≡ s.blocks + count
 unfolding after_round progress_of
 next_blocks C s count = refl
 
-used_up : (slice : Option ℕ) → is_used_up slice ≡ true → slice ≡ Some 0
+pub used_up : (slice : Option ℕ) → is_used_up slice ≡ true → slice ≡ Some 0
 unfolding is_used_up
 used_up None e = absurd (false≢true e)
 used_up (Some zero) e = refl

@@ -4,7 +4,7 @@
 --   unseen_set, unseen_sets    a word that isn't seen below l is unseen by the sets of the search
 --   unseen_none                there is none if some level is k
 --   unseen_bound               it has at least the weight of the bound
-use Rattle.std.proofs.Common.{◌≡◌, ℕ, ◌<◌, ◌≤◌, max, Bool, if◌then◌else◌, List, length, map, All, Contains, refl, sym, ap, subst, ◌∙◌, inr, ⊎_elim, arith}
+use Rattle.std.proofs.Common.{◌≡◌, ℕ, ◌<◌, ◌≤◌, max, Bool, if◌then◌else◌, List, length, All, Contains, sym, ap, subst, ◌∙◌, inr, ⊎_elim, arith}
 use Rattle.std.proofs.lemmas.Bool.{cases_Bool}
 use Rattle.lc_algebra.specs.declared.FieldName.{FieldName}
 use Rattle.lc_algebra.specs.Field.{size}
@@ -20,13 +20,14 @@ use Rattle.lc_enumeration.specs.InformationSet.{is_member}
 use Rattle.lc_enumeration.specs.Search.{set_count, generator_at, level_below, levels_below, ranks_of, bound_sum, bound_of, bound}
 use Rattle.lc_enumeration.specs.Truth.{IsAtPlace, IsSeenBelow}
 use Rattle.lc_enumeration.proofs.MemberLaws.{true_member}
+use Rattle.lc_enumeration.proofs.GreedyLaws.{each_contained}
 use Rattle.lc_place.specs.Order.{IsLeadingVector}
 use Rattle.lc_place.proofs.Vectors.{leading_vectors}
 use Rattle.lc_infoset.specs.Bound.{IsUnseen, AreGenerators}
-use Rattle.lc_infoset.proofs.BoundLaws.{all_from_members, unseen_weight, unseen_whole}
+use Rattle.lc_infoset.proofs.BoundLaws.{unseen_weight, unseen_whole}
 use Rattle.lc_infoset.proofs.MultipleLaws.{inverse_multiple, unseen_from_messages}
 use Rattle.lc_infoset.proofs.SeenLaws.{seen_place}
-use Rattle.lc_infoset.proofs.SetLaws.{level_set, search_sets, search_sets_are, search_bound}
+use Rattle.lc_infoset.proofs.SetLaws.{level_set, search_sets, search_sets_are, search_bound, levels_are}
 
 pub message_is_leading : (f : FieldName) (k w : ℕ) (m : Message) → 0 < w → Contains (messages k (size f) w) m → IsLeadingVector k (size f) w (vector_of k m)
 message_is_leading f k w m p l = (leading_vectors k (size f) w (vector_of k m) (one_inside f) p).0 (map_contains (vector_of k) (messages k (size f) w) m l)
@@ -56,13 +57,9 @@ unseen_set C l j c r g unseen inside =
     unseen (record { multiple = (i.0, s.place, inverse_nonzero C.field a i.0 i.1, i.1.inside, inr s.before, subst (IsAtPlace C (set_count C) s.place) (sym back) s.there) }))
 
 pub unseen_sets : (C : Matrix) (l : ℕ) (c : List ℕ) → AreRows C.field C.columns C.rows → AreGenerators C → (IsSeenBelow C l c → ⊥) → All (IsUnseen C.field C.columns c) (search_sets C l)
-unseen_sets C l c r g unseen = all_from_members (IsUnseen C.field C.columns c) (search_sets C l) (λ s m.
+unseen_sets C l c r g unseen = each_contained (IsUnseen C.field C.columns c) (search_sets C l) (λ s m.
     let t = contains_map (level_set C l) (below (set_count C)) s m in
     subst (IsUnseen C.field C.columns c) (sym t.2) (unseen_set C l t.0 c r g unseen (contains_below (set_count C) t.0 t.1)))
-
-levels_are : (C : Matrix) (l : ℕ) → levels_below C l ≡ map (level_below C l) (below (set_count C))
-unfolding levels_below
-levels_are C l = refl
 
 pub unseen_none : (C : Matrix) (l : ℕ) (c : List ℕ) → AreRows C.field C.columns C.rows → AreGenerators C → InSpan C.field C.columns C.rows c → 0 < weight c → (IsSeenBelow C l c → ⊥) → Contains (levels_below C l) (length C.rows) → ⊥
 unseen_none C l c r g i p unseen whole =

@@ -1,7 +1,6 @@
 -- Each word of the levels that lie wholly below some blocks is at a place of these blocks.
 --   LastThat, last_that_is       the last number that passes a test
 --   phase_of_level, set_of_level      the level and the set of a phase
---   blocks_next, blocks_of_level      the blocks before a phase
 --   block_inside                 the block of an index below a count
 --   MessagePlace, message_place  the place of the word of a message, in a phase that isn't cut
 --   LevelPhase, level_phase      the phase of a level that lies wholly below some blocks
@@ -15,13 +14,14 @@ use Rattle.lc_algebra.specs.Field.{size}
 use Rattle.lc_algebra.specs.Span.{combine}
 use Rattle.lc_algebra.specs.Matrix.{Matrix}
 use Rattle.lc_enumeration.specs.Message.{Message, messages, message_count, vector_of}
-use Rattle.lc_enumeration.specs.Plan.{cut, phase_level, phase_set, level_blocks, blocks_before, block_messages, IsInPhase}
+use Rattle.lc_enumeration.specs.Plan.{cut, phase_level, phase_set, blocks_before, block_messages, IsInPhase}
 use Rattle.lc_enumeration.specs.Search.{set_count, generator_at, word_of, block_words, last_that, is_whole_below, level_below}
 use Rattle.lc_enumeration.specs.Truth.{IsAtPlace}
 use Rattle.lc_enumeration.proofs.SearchLaws.{at_place, words_in_phase}
 use Rattle.lc_enumeration.proofs.PlanLaws.{blocks_least, start_is, end_is}
 use Rattle.lc_place.proofs.Listing.{block_message}
 use Rattle.lc_place.proofs.Messages.{from_contains, length-messages}
+use Rattle.lc_place.proofs.Phases.{blocks_next, blocks_of}
 
 pub record LastThat (test : ℕ → Bool) (n r : ℕ) : Type 0 where
   pub inside : r ≤ n
@@ -45,14 +45,6 @@ pub set_of_level : (m e j : ℕ) → j < m → phase_set m (e * m + j) ≡ j
 unfolding phase_set
 set_of_level m e j l = mod-mul-add e m j l
 
-pub blocks_next : (k q m p : ℕ) → blocks_before k q m (suc p) ≡ blocks_before k q m p + level_blocks k q (phase_level m p)
-unfolding blocks_before
-blocks_next k q m p = refl
-
-pub blocks_of_level : (k q w : ℕ) → level_blocks k q w ≡ (message_count k q w + 4095) / 4096
-unfolding level_blocks
-blocks_of_level k q w = refl
-
 -- an index below the count is in one of the blocks
 pub block_inside : (i count : ℕ) → i < count → i / 4096 < (count + 4095) / 4096
 block_inside i count l =
@@ -72,7 +64,7 @@ message_place C m p message inside uncut listed =
     let i : ℕ = at.0 in
     let few : i < message_count k q (phase_level m p) = subst (λ n. i < n) (length-messages k q (phase_level m p)) (slice_get_within (messages k q (phase_level m p)) i message at.1) in
     let before = blocks_before k q m p in
-    let next = blocks_next k q m p ∙ ap (λ n. before + n) (blocks_of_level k q (phase_level m p)) in
+    let next = blocks_next k q m p ∙ ap (λ n. before + n) (blocks_of k q (phase_level m p)) in
     let block = before + i / 4096 in
     let in_block = block_inside i (message_count k q (phase_level m p)) few in
     let offset : i % 4096 < 4096 = mod-lt i (omega arith) in

@@ -11,12 +11,13 @@
 --   rounds_underway, rounds_settle, rounds_stop      the laws of rounds, as the contracts say them
 --   session_steps, session_settles, session_stops    and of sessions
 use Rattle.std.proofs.Common.{append-nil, ◌≡◌, ℕ, suc, ◌-◌, ◌<◌, ◌≤◌, Bool, true, false, ◌==◌, if◌then◌else◌, cond, find, drop, ◌^◌, List, [], ◌∷◌, ◌++◌, length, map, Option, Some, None, unwrap_or, All, Contains, refl, sym, ap, subst, ◌∙◌, ⊎_elim, arith}
-use Rattle.std.proofs.lemmas.Bool.{cases_Bool, false≢true, eqb-true}
+use Rattle.std.proofs.lemmas.Bool.{cases_Bool, false≢true}
 use Rattle.std.proofs.lemmas.List.{append_assoc}
 use Rattle.std.proofs.lemmas.List.Elements.{All-head, All-tail, Contains-append_cases}
 use Rattle.lc_algebra.specs.Matrix.{Matrix}
 use Rattle.lc_algebra.proofs.SpanLaws.{contains_map}
 use Rattle.lc_algebra.proofs.DivisorLaws.{no_member}
+use Rattle.lc_algebra.proofs.CommonLaws.{positive_not_zero}
 use Rattle.lc_enumeration.specs.Plan.{cut}
 use Rattle.lc_enumeration.specs.Search.{no_word, is_done, answer_at, answer, finished}
 use Rattle.lc_enumeration.specs.Records.{Progress, Rounds, Start, SessionStep, SessionRounds, found_of, first_progress, progress_of, note_of, rounds, last_state, step_of, no_steps, steps_first, session_from, session_rounds, fresh_start}
@@ -26,12 +27,9 @@ use Rattle.lc_enumeration.proofs.PlanLaws.{cut_is}
 use Rattle.lc_infoset.proofs.AnswerLaws.{some_set}
 use Rattle.lc_infoset.proofs.RoundLaws.{done_list, target, rounds_end}
 
-first_test : (n : ℕ) → 0 < n → (n == 0) ≡ false
-first_test n l = ⊎_elim (λ t. absurd (omega (arith, l, eqb-true n 0 t))) (λ f. f) (cases_Bool (n == 0))
-
 pub answer_is : (d : ℕ) (C : Matrix) (budget : ℕ) → 0 < length C.rows → answer d C budget ≡ answer_at d C budget (find (is_done d C) (done_list C budget))
 unfolding answer
-answer_is d C budget rows = ap (λ b. (if b then no_word else answer_at d C budget (find (is_done d C) (done_list C budget)))) (first_test (length C.rows) rows)
+answer_is d C budget rows = ap (λ b. (if b then no_word else answer_at d C budget (find (is_done d C) (done_list C budget)))) (positive_not_zero (length C.rows) rows)
 
 blocks_at : (d : ℕ) (C : Matrix) (budget : ℕ) (o : Option ℕ) → answer_blocks (answer_at d C budget o) ≡ target o budget
 unfolding answer_blocks answer_at

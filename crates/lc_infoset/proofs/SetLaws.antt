@@ -18,14 +18,14 @@ use Rattle.std.proofs.lemmas.Simd.{map-map}
 use Rattle.lc_algebra.specs.declared.FieldName.{FieldName}
 use Rattle.lc_algebra.specs.Span.{below}
 use Rattle.lc_algebra.specs.Matrix.{Matrix}
-use Rattle.lc_algebra.proofs.SpanLaws.{contains_head, contains_tail, contains_cases, length_below}
+use Rattle.lc_algebra.proofs.SpanLaws.{contains_head, contains_tail, contains_cases, length_below, index_below}
 use Rattle.lc_algebra.proofs.DimensionLaws.{AreDistinct, distinct_below, pairs_from_distinct}
 use Rattle.lc_algebra.proofs.DivisorLaws.{no_member}
 use Rattle.lc_enumeration.specs.InformationSet.{InformationSet, is_member, first_basis, with_fresh, next_set, sets_after, information_sets}
 use Rattle.lc_enumeration.specs.Search.{bound_sum, sets_of, set_count, ranks_of, generator_at, level_below, levels_below}
 use Rattle.lc_enumeration.proofs.MemberLaws.{member_true}
+use Rattle.lc_enumeration.proofs.GreedyLaws.{each_contained}
 use Rattle.lc_infoset.specs.Bound.{LevelSet, IsLevelSet, AreLevelSets, set_bound, set_at, AreGenerators}
-use Rattle.lc_infoset.proofs.BoundLaws.{all_from_members, index_below}
 
 pub record Passed {X : Type 0} (p : X → Bool) (xs : List X) (x : X) : Type 0 where
   pub member : Contains xs x
@@ -66,7 +66,7 @@ unfolding next_set with_fresh first_basis
 next_is f n rows used =
     let set = next_set f n rows used in
     record {
-      part = all_from_members (Contains set.basis) set.fresh (λ c l. (filter_passes (λ d. not (is_member used d)) set.basis c l).member);
+      part = each_contained (Contains set.basis) set.fresh (λ c l. (filter_passes (λ d. not (is_member used d)) set.basis c l).member);
       once = pairs_from_distinct set.fresh (distinct_filter (λ d. not (is_member used d)) set.basis (distinct_filter _ (below n) (distinct_below n)));
       unused = λ c l u. not_true (is_member used c) (filter_passes (λ d. not (is_member used d)) set.basis c l).passes (member_true used c u);
     }
@@ -88,7 +88,7 @@ after_fewer used more s h = record { part = h.part; once = h.once; unused = λ c
 pub one_more_set : (used : List ℕ) (s : InformationSet) (sets : List InformationSet) → IsSetAfter used s → AreSetsAfter (used ++ s.fresh) sets → AreSetsAfter used (s ∷ sets)
 one_more_set used s sets h rest = record {
   each = All-cons (IsSetAfter used) s sets h (All-weaker (IsSetAfter (used ++ s.fresh)) (IsSetAfter used) (after_fewer used s.fresh) sets rest.each);
-  apart = AllPairs-cons AreApart s sets (all_from_members (AreApart s) sets (λ t l c one other. (All-contains (IsSetAfter (used ++ s.fresh)) sets t rest.each l).unused c other (Contains-append_right used s.fresh c one))) rest.apart;
+  apart = AllPairs-cons AreApart s sets (each_contained (AreApart s) sets (λ t l c one other. (All-contains (IsSetAfter (used ++ s.fresh)) sets t rest.each l).unused c other (Contains-append_right used s.fresh c one))) rest.apart;
 }
 
 pub sets_after_are : (f : FieldName) (n : ℕ) (rows : List (List ℕ)) (most : ℕ) (used : List ℕ) → AreSetsAfter used (sets_after f n rows used most)
@@ -130,11 +130,11 @@ pub count_is : (C : Matrix) → set_count C ≡ length (sets_of C)
 unfolding set_count
 count_is C = refl
 
-ranks_are : (C : Matrix) → ranks_of C ≡ map (λ (s : InformationSet). length s.fresh) (sets_of C)
+pub ranks_are : (C : Matrix) → ranks_of C ≡ map (λ (s : InformationSet). length s.fresh) (sets_of C)
 unfolding ranks_of
 ranks_are C = refl
 
-levels_are : (C : Matrix) (l : ℕ) → levels_below C l ≡ map (level_below C l) (below (set_count C))
+pub levels_are : (C : Matrix) (l : ℕ) → levels_below C l ≡ map (level_below C l) (below (set_count C))
 unfolding levels_below
 levels_are C l = refl
 

@@ -81,7 +81,7 @@ fn push_used(n: usize, used: &[usize], order: &mut Vec<usize>) -> Result<(), NoM
 }
 
 // Whether c is one of the columns.
-#[tactic(auto, using(crate::proofs::NextLaws::told_member))]
+#[tactic(auto, using(lc_enumeration::proofs::MemberLaws::told_member))]
 fn holds(columns: &[usize], c: usize) -> bool
     ensures is { result ≡ is_member columns.now c }
 {

@@ -4,7 +4,6 @@
 --   outlasts_one       one more advice is there, and isn't Leave
 --   Stays-none, Stays-more, Goes-last, Goes-more    one watcher
 --   Kept-none          before the first record every watcher is there
---   Kept-more          one record more
 --   Kept-paused, Kept-unpaused     what the flag says of those that are handed back
 --   Stays-unpaused     a watcher that is handed back and answered no Pause to the last record, nor could before, never did
 use Rattle.std.proofs.Common.{◌<◌, ◌⊎◌, ⊎_elim, inl, inr, ◌≡◌, ◌+◌, ◌++◌, ℕ, suc, zero, Bool, true, false, cond, List, [], ◌∷◌, length, refl, sym, ap, subst, ◌∙◌, arith}
@@ -187,17 +186,14 @@ pub Kept-none : (keep : Bool) (ws : List Hearing) → Kept keep [] false ws ws
 Kept-none keep [] = Kept.no_more
 Kept-none keep (w ∷ ws) = Kept.kept w w ws ws false false (Stays-none keep w) (Kept-none keep ws)
 
-more : (keep : Bool) (notes : List Record) (note : Record) (p q : Bool) (ws vs us : List Hearing) → (keep ≡ true → p ≡ false) → Kept keep notes p ws vs → Tells note vs us q → Kept keep (notes ++ note ∷ []) q ws us
-more keep notes note _ _ _ _ _ goes Kept.no_more Tells.nobody = Kept.no_more
-more keep notes note _ q _ _ us goes (Kept.gone w ws vs p g past) told = Kept.gone w ws us q (Goes-more notes note w g) (more keep notes note p q ws vs us goes past told)
-more keep notes note _ _ _ _ _ goes (Kept.kept w _ ws _ p paused s past) (Tells.stays v u advice vs us q stays h told) =
+pub Kept-more : (keep : Bool) (notes : List Record) (note : Record) (p q : Bool) (ws vs us : List Hearing) → (keep ≡ true → p ≡ false) → Kept keep notes p ws vs → Tells note vs us q → Kept keep (notes ++ note ∷ []) q ws us
+Kept-more keep notes note _ _ _ _ _ goes Kept.no_more Tells.nobody = Kept.no_more
+Kept-more keep notes note _ q _ _ us goes (Kept.gone w ws vs p g past) told = Kept.gone w ws us q (Goes-more notes note w g) (Kept-more keep notes note p q ws vs us goes past told)
+Kept-more keep notes note _ _ _ _ _ goes (Kept.kept w _ ws _ p paused s past) (Tells.stays v u advice vs us q stays h told) =
     Kept.kept w u ws us (is_pause advice) q (Stays-more keep p notes note advice w v u (λ k. (both-false p paused (goes k)).0) s h stays)
-    (more keep notes note paused q ws vs us (λ k. (both-false p paused (goes k)).1) past told)
-more keep notes note _ _ _ _ _ goes (Kept.kept w _ ws _ p paused s past) (Tells.leaves v u advice vs us q leaves h told) =
-    Kept.gone w ws us q (Goes-last keep p notes note advice w v u s h leaves) (more keep notes note paused q ws vs us (λ k. (both-false p paused (goes k)).1) past told)
-
-pub Kept-more : (keep p q : Bool) (notes : List Record) (note : Record) (ws vs us : List Hearing) → (keep ≡ true → p ≡ false) → Kept keep notes p ws vs → Tells note vs us q → Kept keep (notes ++ note ∷ []) q ws us
-Kept-more keep p q notes note ws vs us goes past told = more keep notes note p q ws vs us goes past told
+    (Kept-more keep notes note paused q ws vs us (λ k. (both-false p paused (goes k)).1) past told)
+Kept-more keep notes note _ _ _ _ _ goes (Kept.kept w _ ws _ p paused s past) (Tells.leaves v u advice vs us q leaves h told) =
+    Kept.gone w ws us q (Goes-last keep p notes note advice w v u s h leaves) (Kept-more keep notes note paused q ws vs us (λ k. (both-false p paused (goes k)).1) past told)
 
 -- a session that nobody paused at its last record, and that kept its checkpoints, was never paused
 pub Stays-unpaused : (notes : List Record) (w v : Hearing) → Stays true notes false w v → v.pauses ≡ w.pauses
@@ -209,9 +205,9 @@ paused-counted (Go ∷ []) last = absurd (let e = last in cc)
 paused-counted (Pause ∷ []) last = omega arith
 paused-counted (Leave ∷ []) last = absurd (let e = last in cc)
 paused-counted (a ∷ b ∷ rest) last =
-    let more = sum_by-append (λ x. cond (is_pause x) 1 0) (a ∷ []) (b ∷ rest) in
+    let Kept-more = sum_by-append (λ x. cond (is_pause x) 1 0) (a ∷ []) (b ∷ rest) in
     let later = paused-counted (b ∷ rest) last in
-    omega (arith, more, later)
+    omega (arith, Kept-more, later)
 
 either-true : (p q : Bool) → cond p true q ≡ true → (p ≡ true) ⊎ (q ≡ true)
 either-true true q e = inl refl
@@ -223,7 +219,7 @@ contains-head w ws = (0, omega arith, refl)
 contains-tail : (w : Hearing) (ws : List Hearing) (v : Hearing) → Contains ws v → Contains (w ∷ ws) v
 contains-tail w ws v h = Contains-append_right (w ∷ []) ws v h
 
--- whoever paused the session at its last record is handed back, and has paused once more
+-- whoever paused the session at its last record is handed back, and has paused once Kept-more
 pub Kept-paused : (keep : Bool) (notes : List Record) (paused : Bool) (ws vs : List Hearing) → Kept keep notes paused ws vs → paused ≡ true → (w v : Hearing) × Contains ws w × Contains vs v × (w.pauses < v.pauses)
 Kept-paused keep notes _ _ _ Kept.no_more is = absurd (let e = is in cc)
 Kept-paused keep notes _ _ _ (Kept.kept w v ws vs p paused s past) is =

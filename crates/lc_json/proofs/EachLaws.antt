@@ -16,7 +16,7 @@ pub none_first : {X : Type 0} (rest : List (Option X)) → each {X = X} (None �
 unfolding each
 none_first rest = refl
 
-each_of_none : {X : Type 0} (o : Option X) (rest : List (Option X)) → each rest ≡ None → each (o ∷ rest) ≡ None
+pub each_of_none : {X : Type 0} (o : Option X) (rest : List (Option X)) → each rest ≡ None → each (o ∷ rest) ≡ None
 unfolding each
 each_of_none None rest e = refl
 each_of_none (Some x) rest e = ap (option_map (λ xs. x ∷ xs)) e
@@ -26,7 +26,7 @@ each_none f [] i d l e = absurd (omega (arith, l))
 each_none f (x ∷ xs) zero d l e = ap (λ o. each (o ∷ map f xs)) e ∙ none_first (map f xs)
 each_none f (x ∷ xs) (suc i) d l e = each_of_none (f x) (map f xs) (each_none f xs i d (omega (arith, l)) e)
 
-each_cons : {X : Type 0} (x : X) (o : Option X) (rest : List (Option X)) (ys : List X) → o ≡ Some x → each rest ≡ Some ys → each (o ∷ rest) ≡ Some (x ∷ ys)
+pub each_cons : {X : Type 0} (x : X) (o : Option X) (rest : List (Option X)) (ys : List X) → o ≡ Some x → each rest ≡ Some ys → each (o ∷ rest) ≡ Some (x ∷ ys)
 unfolding each
 each_cons x o rest ys e k = ap (λ p. each (p ∷ rest)) e ∙ ap (option_map (λ more. x ∷ more)) k
 

@@ -6,21 +6,18 @@
 --   list_found, list_missing           the numbers listed at a key
 --   plain_number_is                    the number that a value is
 --   numbers_are, no_numbers, numbers_missing, numbers_done      the numbers that a value lists, and that it lists none
---   same_pointwise                     two texts that are the same
 --   members_counted, no_members_counted      how many members a value has
-use Rattle.std.proofs.Common.{◌≡◌, ℕ, suc, ◌<◌, ◌≤◌, Bool, true, false, if◌then◌else◌, List, [], ◌∷◌, length, get_or, take, map, nat_eq, Option, Some, None, option_map, option_and_then, refl, sym, ap, ◌∙◌}
+use Rattle.std.proofs.Common.{◌≡◌, ℕ, suc, ◌<◌, ◌≤◌, Bool, true, false, if◌then◌else◌, List, [], ◌∷◌, length, get_or, take, map, Option, Some, None, option_map, option_and_then, refl, sym, ap, ◌∙◌}
 use Rattle.std.specs.Prelude.{String}
 use Rattle.std.specs.declared.alloc.Global.{Global}
 use Rattle.std.specs.Str.{IsUtf8, is_utf8}
 use Rattle.std.proofs.lemmas.List.{length-map}
 use Rattle.std.proofs.lemmas.Str.{IsUtf8-from_is_utf8, is_utf8-from_IsUtf8}
-use Rattle.std.specs.Cmp.Lexicographic.{pointwise}
 use Rattle.serde_json.specs.declared.value.Value.{Value}
 use Rattle.serde_json.specs.Data.{Data, null, boolean, number, string, array, object, Members}
 use Rattle.serde_json.specs.Find.{get, get_member, as_number, as_u64, as_array, as_object}
 use Rattle.serde_json.specs.Read.{read}
 use Rattle.serde_json.specs.View.{view, items_view, members_of, members_view}
-use Rattle.lc_formats.specs.Text.{same_bytes}
 use Rattle.lc_formats.specs.Json.{json_in, number_at, numbers_of, list_at, listed, member_count, each, plain_number}
 use Rattle.lc_json.specs.Inside.{members_in}
 use Rattle.lc_json.proofs.EachLaws.{each_none, each_next, each_whole}
@@ -123,13 +120,6 @@ numbers_missing vs d i v h l e = numbers_are vs d h ∙ each_none (λ w. plain_n
 
 pub numbers_done : (vs : List Value) (d : Data) (i : ℕ) (ys : List ℕ) → Some (items_view vs) ≡ as_array d → length vs ≤ i → each (map (λ v. plain_number (view v)) (take i vs)) ≡ Some ys → numbers_of d ≡ Some ys
 numbers_done vs d i ys h l e = numbers_are vs d h ∙ each_whole (λ w. plain_number (view w)) vs i ys l e
-
-pub same_pointwise : (u v : List ℕ) → pointwise nat_eq u v ≡ same_bytes u v
-unfolding same_bytes
-same_pointwise [] [] = refl
-same_pointwise [] (b ∷ v) = refl
-same_pointwise (a ∷ u) [] = refl
-same_pointwise (a ∷ u) (b ∷ v) = rw (same_pointwise u v) refl
 
 pub ruleset read_laws = (json_found, json_missing)
 

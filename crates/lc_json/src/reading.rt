@@ -101,7 +101,7 @@ pub fn has_keys(object: &Value, count: usize) -> bool
 }
 
 /// Whether two texts are the same, byte by byte.
-#[tactic(auto, using(crate::proofs::InsideLaws::same_pointwise))]
+#[tactic(auto, using(lc_formats::proofs::ByteLaws::same_pointwise))]
 pub fn is_same(text: &[u8], other: &[u8]) -> bool
     ensures is { result ≡ same_bytes text.now other.now }
 {

@@ -16,7 +16,7 @@ use Rattle.std.specs.Int.{bit_at}
 use Rattle.std.specs.Int.Bits.{and_lt}
 use lib.Bits.{or_lt, xor_lt}
 use Rattle.std.proofs.Math.Nat.{pow-le-pow_right}
-use Rattle.std.proofs.lemmas.Bool.{cases_lt}
+use Rattle.std.proofs.lemmas.Bool.{cases_lt, and_parts}
 use Rattle.std.proofs.lemmas.Bool.Decides.{Decides-eqb, Decides-ltb}
 use Rattle.std.proofs.lemmas.Nat.{xor_block, or_block, and_block}
 use Rattle.std.proofs.lemmas.Nat.Bits.{bit_at-lt}
@@ -26,7 +26,7 @@ use Rattle.lc_algebra.specs.Field.{size, add, coefficients, shape_of, shape}
 use Rattle.lc_algebra.specs.Residue.{digits, number, plus}
 use Rattle.lc_algebra.specs.Word.{Fits, word_sum}
 use Rattle.lc_algebra.proofs.FieldTests.{below, below_each}
-use Rattle.lc_algebra.proofs.EmbeddingTests.{both_true, told_by_size}
+use Rattle.lc_algebra.proofs.EmbeddingTests.{told_by_size}
 use Rattle.lc_algebra.proofs.WordLaws.{fits_head, fits_tail}
 use Rattle.lc_kernel.specs.Planes.{plane, HasPlanes, IsPlaneSum}
 use Rattle.lc_kernel.proofs.PlaneLaws.{plane_cons, plane_none, plane_sum}
@@ -84,13 +84,13 @@ value_same nothing m x y z w r h k = refl
 value_same (left p) m x y z w r h k = h p ((Decides-ltb p m).0 r)
 value_same (right p) m x y z w r h k = k p ((Decides-ltb p m).0 r)
 value_same (both c d) m x y z w r h k =
-    let (a, b) = both_true (reads m c) (reads m d) r in
+    let (a, b) = and_parts (reads m c) (reads m d) r in
     ap (λ t. bit_and t (value d x y)) (value_same c m x y z w a h k) ∙ ap (bit_and (value c z w)) (value_same d m x y z w b h k)
 value_same (either c d) m x y z w r h k =
-    let (a, b) = both_true (reads m c) (reads m d) r in
+    let (a, b) = and_parts (reads m c) (reads m d) r in
     ap (λ t. bit_or t (value d x y)) (value_same c m x y z w a h k) ∙ ap (bit_or (value c z w)) (value_same d m x y z w b h k)
 value_same (unlike c d) m x y z w r h k =
-    let (a, b) = both_true (reads m c) (reads m d) r in
+    let (a, b) = and_parts (reads m c) (reads m d) r in
     ap (λ t. bit_xor t (value d x y)) (value_same c m x y z w a h k) ∙ ap (bit_xor (value c z w)) (value_same d m x y z w b h k)
 
 value_step : (e : Formula) (x y a b : ℕ → ℕ) → ((p : ℕ) → a p < 2) → ((p : ℕ) → b p < 2) → value e (λ p. x p * 2 + a p) (λ p. y p * 2 + b p) ≡ value e x y * 2 + value e a b

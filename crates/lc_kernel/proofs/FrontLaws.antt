@@ -11,13 +11,13 @@ use Rattle.std.proofs.lemmas.Bool.{cases_lt}
 use Rattle.std.proofs.lemmas.List.{take_all}
 use Rattle.std.proofs.lemmas.List.Elements.{All-head, All-tail}
 use Rattle.lc_algebra.specs.declared.FieldName.{FieldName}
-use Rattle.lc_algebra.specs.Field.{size, add}
+use Rattle.lc_algebra.specs.Field.{size}
 use Rattle.lc_algebra.specs.Word.{IsWord, Fits, zero_word, word_sum, scale}
 use Rattle.lc_algebra.specs.Span.{combine, AreIndependent}
 use Rattle.lc_algebra.specs.Matrix.{Matrix, AreRows}
-use Rattle.lc_algebra.proofs.FieldLaws.{one_inside, add_inside}
-use Rattle.lc_algebra.proofs.WordLaws.{fits_cons, sum_assoc, zero_sum, sum_zero, zero_scale, IsWord_zero, IsWord_scale}
-use Rattle.lc_algebra.proofs.SpanLaws.{length_combine}
+use Rattle.lc_algebra.proofs.FieldLaws.{one_inside}
+use Rattle.lc_algebra.proofs.WordLaws.{sum_assoc, zero_sum, sum_zero, zero_scale, IsWord_zero, IsWord_scale, sum_fits}
+use Rattle.lc_algebra.proofs.SpanLaws.{length_combine, combine_cons, combine_none}
 use Rattle.lc_enumeration.specs.Message.{Message, messages, vector_from, vector_of}
 use Rattle.lc_enumeration.specs.Plan.{phase_set}
 use Rattle.lc_enumeration.specs.Search.{set_count, generator_at, front_of, word_of}
@@ -28,26 +28,11 @@ use Rattle.lc_place.proofs.Messages.{message_shape, from_contains}
 use Rattle.lc_place.proofs.Vectors.{vector_here, vector_later, vector_nil, vector_none, Fitting, fitting_later, fitting_rest, fitting_of}
 use Rattle.lc_kernel.specs.Sums.{front_word}
 
-sum_fits : (f : FieldName) (u v : List ℕ) → Fits f (word_sum f u v)
-unfolding word_sum
-sum_fits f [] v = λ i l. absurd (omega (arith, l))
-sum_fits f (a ∷ u) [] = λ i l. absurd (omega (arith, l))
-sum_fits f (a ∷ u) (b ∷ v) = fits_cons f (add f a b) (word_sum f u v) (add_inside f a b) (sum_fits f u v)
-
-combine_entry : (f : FieldName) (n c : ℕ) (cs g : List ℕ) (rows : List (List ℕ)) → combine f n (c ∷ cs) (g ∷ rows) ≡ word_sum f (scale f c g) (combine f n cs rows)
-unfolding combine
-combine_entry f n c cs g rows = refl
-
 combine_fits : (f : FieldName) (n : ℕ) (cs : List ℕ) (rows : List (List ℕ)) → Fits f (combine f n cs rows)
 unfolding combine
 combine_fits f n [] rows = (IsWord_zero f n).fits
 combine_fits f n (c ∷ cs) [] = (IsWord_zero f n).fits
 combine_fits f n (c ∷ cs) (g ∷ rows) = sum_fits f (scale f c g) (combine f n cs rows)
-
-combine_none : (f : FieldName) (n : ℕ) (rows : List (List ℕ)) → combine f n [] rows ≡ zero_word n
-unfolding combine
-combine_none f n [] = refl
-combine_none f n (g ∷ rows) = refl
 
 head_word : (f : FieldName) (n : ℕ) (g : List ℕ) (rows : List (List ℕ)) → AreRows f n (g ∷ rows) → IsWord f n g
 head_word f n g rows h = All-head (IsWord f n) g rows h
@@ -60,7 +45,7 @@ zeros f n i zero rows e h = ap (λ v. combine f n v rows) (vector_none i [] []) 
 zeros f n i (suc k) [] e h = absurd (omega (arith, e))
 zeros f n i (suc k) (g ∷ rows) e h =
     let t = zeros f n (suc i) k rows (omega (arith, e)) (tail_words f n g rows h) in
-    ap (λ v. combine f n v (g ∷ rows)) (vector_nil i k) ∙ combine_entry f n 0 (vector_from (suc i) k [] []) g rows
+    ap (λ v. combine f n v (g ∷ rows)) (vector_nil i k) ∙ combine_cons f n 0 (vector_from (suc i) k [] []) g rows
     ∙ ap (λ z. word_sum f z (combine f n (vector_from (suc i) k [] []) rows)) (zero_scale f n g (head_word f n g rows h).long)
     ∙ ap (word_sum f (zero_word n)) t ∙ zero_sum f n (zero_word n) (IsWord_zero f n)
 
@@ -70,8 +55,8 @@ More f n more less rows r = combine f n more rows ≡ word_sum f (combine f n le
 
 stays : (f : FieldName) (n c : ℕ) (more less g : List ℕ) (rows : List (List ℕ)) (r : List ℕ) → More f n more less rows r → More f n (c ∷ more) (c ∷ less) (g ∷ rows) r
 stays f n c more less g rows r h =
-    combine_entry f n c more g rows ∙ ap (word_sum f (scale f c g)) h ∙ sym (sum_assoc f (scale f c g) (combine f n less rows) r)
-    ∙ ap (λ w. word_sum f w r) (sym (combine_entry f n c less g rows))
+    combine_cons f n c more g rows ∙ ap (word_sum f (scale f c g)) h ∙ sym (sum_assoc f (scale f c g) (combine f n less rows) r)
+    ∙ ap (λ w. word_sum f w r) (sym (combine_cons f n c less g rows))
 
 later_row : (g : List ℕ) (rows : List (List ℕ)) (i p : ℕ) → i < p → get_or (g ∷ rows) (p - i) [] ≡ get_or rows (p - suc i) []
 later_row g rows i p l = let e : p - i ≡ suc (p - suc i) = omega (arith, l) in rw e refl
@@ -89,7 +74,7 @@ one_more f n k i p c s u g rows e h at =
     let none = zeros f n (suc i) k rows e (tail_words f n g rows h) in
     let word : IsWord f n (scale f c g) = IsWord_scale f n c g long in
     let left : combine f n (vector_from i (suc k) (p ∷ []) (c ∷ [])) (g ∷ rows) ≡ scale f c g =
-    ap (λ v. combine f n v (g ∷ rows)) (vector_here i k p c [] [] at) ∙ combine_entry f n c (vector_from (suc i) k [] []) g rows ∙ ap (word_sum f (scale f c g)) none ∙ sum_zero f n (scale f c g) word in
+    ap (λ v. combine f n v (g ∷ rows)) (vector_here i k p c [] [] at) ∙ combine_cons f n c (vector_from (suc i) k [] []) g rows ∙ ap (word_sum f (scale f c g)) none ∙ sum_zero f n (scale f c g) word in
     let right : combine f n (vector_from i (suc k) [] []) (g ∷ rows) ≡ zero_word n = zeros f n i (suc k) (g ∷ rows) (ap suc e) h in
     left ∙ sym (zero_sum f n (scale f c g) word) ∙ ap (λ w. word_sum f w (scale f c g)) (sym right) ∙ ap (λ r. word_sum f (combine f n (vector_from i (suc k) [] []) (g ∷ rows)) (scale f c r)) (sym (first_row g rows i p at))
 

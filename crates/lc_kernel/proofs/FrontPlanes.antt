@@ -2,12 +2,9 @@
 --   planes_sum             the planes of a sum, from those of two words
 --   zero_planes            those of the zero word
 --   front_planes_next      those of the sum of one entry more
---   rows_pushed            the planes of one multiple more
 --   fronts_made            what a table keeps
 --   front_planes_put, front_planes_first, front_planes_same      the list of them
-use Rattle.std.proofs.Common.{◌≡◌, ℕ, zero, suc, ◌+◌, ◌-◌, ◌*◌, ◌/◌, ◌%◌, ◌^◌, ◌<◌, ◌≤◌, List, [], ◌∷◌, ◌++◌, set, length, replicate, slice_index, slice_index_or, Contains, sym, ap, ◌∙◌, ⊎_elim, arith, length-append}
-use Rattle.std.proofs.Math.ListN.{get_or-append}
-use Rattle.std.proofs.Math.Seq.{get_or-append_seam}
+use Rattle.std.proofs.Common.{◌≡◌, ℕ, zero, suc, ◌+◌, ◌-◌, ◌*◌, ◌/◌, ◌%◌, ◌^◌, ◌<◌, ◌≤◌, List, [], ◌∷◌, ◌++◌, set, length, replicate, slice_index, slice_index_or, Contains, sym, ap, ◌∙◌, ⊎_elim, arith}
 use Rattle.std.proofs.lemmas.Bool.{cases_lt}
 use Rattle.std.proofs.lemmas.Nat.{div-mul-add, mod-mul-add}
 use Rattle.std.proofs.lemmas.Nat.Bits.{bit_at-zero}
@@ -21,6 +18,8 @@ use Rattle.lc_algebra.specs.Matrix.{Matrix, AreRows}
 use Rattle.lc_algebra.specs.SpanLaws.{restrict}
 use Rattle.lc_algebra.proofs.WordLaws.{IsWord_scale}
 use Rattle.lc_algebra.proofs.ColumnLaws.{length_restrict, restrict_sum, restrict_zero}
+use Rattle.lc_algebra.proofs.CommonLaws.{below_product}
+use Rattle.lc_algebra.proofs.RemainderLaws.{index-zeros}
 use Rattle.lc_enumeration.specs.Message.{messages}
 use Rattle.lc_enumeration.specs.Search.{set_count, generator_at}
 use Rattle.lc_place.specs.Place.{SpotState, spot_message}
@@ -28,10 +27,9 @@ use Rattle.lc_kernel.specs.Packed.{others, part_at}
 use Rattle.lc_kernel.specs.Planes.{plane, plane_at, IsPlaneSum}
 use Rattle.lc_kernel.specs.Sums.{front_word}
 use Rattle.lc_kernel.specs.Fronts.{ArePlanes, AreRowPlanes, AreFrontPlanes, IsKept, HasFronts}
-use Rattle.lc_kernel.proofs.MultipleLaws.{below_product}
-use Rattle.lc_kernel.proofs.PlaneLaws.{plane_none, plane_cons, zeros_at}
-use Rattle.lc_kernel.proofs.GridLaws.{restrict_fits}
+use Rattle.lc_kernel.proofs.PlaneLaws.{plane_none, plane_cons}
 use Rattle.lc_kernel.proofs.FrontLaws.{entries_are, generates, front_next, front_first, front_word_fits}
+use Rattle.lc_kernel.proofs.PackLaws.{restrict_fits}
 
 pub planes_sum : (f : FieldName) (n c : ℕ) (cols u v x y z : List ℕ) → size f ≤ 2 ^ n → n ≤ 4 → IsWord f c u → IsWord f c v → IsPlaneSum f x y z → ArePlanes cols n u x → ArePlanes cols n v y → ArePlanes cols n (word_sum f u v) z
 planes_sum f n c cols u v x y z fits few a b sum h k p l =
@@ -91,24 +89,12 @@ front_planes_first C s n fronts more words free set_is some made t p a m =
     let cols = part_at (others C s.set) 0 in
     let g = generates C s.set words free set_is in
     let same : t ≡ 0 = omega (arith, a) in
-    ap (λ z. slice_index (slice_index_or z t []) p) made ∙ ap (λ z. slice_index (slice_index_or (set fronts 0 (replicate 4 0)) z []) p) same ∙ ap (λ z. slice_index z p) (get_or-set_same fronts 0 (replicate 4 0) [] some) ∙ zeros_at 4 p
+    ap (λ z. slice_index (slice_index_or z t []) p) made ∙ ap (λ z. slice_index (slice_index_or (set fronts 0 (replicate 4 0)) z []) p) same ∙ ap (λ z. slice_index z p) (get_or-set_same fronts 0 (replicate 4 0) [] some) ∙ index-zeros 4 p
     ∙ sym (zero_planes p C.columns cols) ∙ ap (plane_at p cols) (sym (front_first C s g)) ∙ ap (λ z. plane_at p cols (front_word C s z)) (sym same)
 
 pub front_planes_same : (C : Matrix) (s t : SpotState) (n i m : ℕ) (fronts : List (List ℕ)) → m ≤ i → t.set ≡ s.set → ((e : ℕ) → e ≤ m → front_word C t e ≡ front_word C s e) → AreFrontPlanes C s n i fronts → AreFrontPlanes C t n m fronts
 front_planes_same C s t n i m fronts l e same h a p b c =
     h a p (omega (arith, b, l)) c ∙ ap (plane_at p (part_at (others C s.set) 0)) (sym (same a b)) ∙ ap (λ z. plane_at p (part_at (others C z) 0) (front_word C t a)) (sym e)
-
-pub rows_pushed : (C : Matrix) (j n i : ℕ) (cols : List ℕ) (rows more : List (List ℕ)) (x : List ℕ) → AreRowPlanes C j cols n i rows → more ≡ rows ++ x ∷ [] → ArePlanes cols n (scale C.field (i % (size C.field - 1) + 1) (slice_index_or (generator_at C j) (i / (size C.field - 1)) [])) x → AreRowPlanes C j cols n (i + 1) more
-rows_pushed C j n i cols rows more x h made is = record {
-  count = ap length made ∙ length-append rows (x ∷ []) ∙ ap (λ z. z + 1) h.count;
-  are = λ e p l m. ⊎_elim
-      (λ a. ap (λ z. slice_index (slice_index_or z e []) p) made ∙ ap (λ z. slice_index z p) (get_or-append rows (x ∷ []) [] e (omega (arith, a, h.count))) ∙ h.are e p a m)
-      (λ a.
-      let same : e ≡ i = omega (arith, a, l) in
-      ap (λ z. slice_index (slice_index_or z e []) p) made ∙ ap (λ z. slice_index (slice_index_or (rows ++ x ∷ []) z []) p) (same ∙ sym h.count) ∙ ap (λ z. slice_index z p) (get_or-append_seam rows x [] []) ∙ is p m
-      ∙ ap (λ z. plane_at p cols (scale C.field (z % (size C.field - 1) + 1) (slice_index_or (generator_at C j) (z / (size C.field - 1)) []))) (sym same))
-      (cases_lt e i);
-}
 
 -- what a table keeps
 pub fronts_made : (C : Matrix) (j n parts : ℕ) (rows : List (List ℕ)) → size C.field ≤ 2 ^ n → n ≤ 4 → (parts ≡ 1 → AreRowPlanes C j (part_at (others C j) 0) n (length C.rows * (size C.field - 1)) rows) → HasFronts C j n parts rows

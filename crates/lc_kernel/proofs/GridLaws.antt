@@ -2,12 +2,11 @@
 --   next_tail                    the pair of elements after a pair
 --   tails_along                  the messages after a message, from pair to pair
 --   last_two                     the last two of a list by their index
---   restrict_fits                a word at some columns has symbols of the field
 --   tail_ones                    the weight of a sum at some columns, by its planes
 --   tail_run_word, tail_run_pair, tail_run_ones      a word of a run, its tail, and its nonzero symbols
---   tails_more, planes_none, planes_more, grid_parts_pushed      tails, planes and parts with one more
+--   tails_more, grid_parts_pushed      tails and parts with one more
 --   cut_in_words                 some columns are inside the tails
---   planes_room, tail_run_room, counted_joined, run_joined      what a run reads and writes
+--   tail_run_room, counted_joined, run_joined      what a run reads and writes
 use Rattle.std.proofs.Common.{◌≡◌, ℕ, zero, suc, ◌+◌, ◌-◌, ◌*◌, ◌/◌, ◌%◌, ◌^◌, ◌<◌, ◌≤◌, List, [], ◌∷◌, ◌++◌, min, length, take, drop, map, Some, None, count_ones, slice_get, slice_index, slice_index_or, Contains, refl, sym, ap, subst, ◌∙◌, ⊎_elim, arith, mod-lt, length-append}
 use Rattle.std.specs.Option.{option_map}
 use Rattle.std.proofs.lemmas.Bool.{cases_lt}
@@ -21,12 +20,12 @@ use Rattle.std.proofs.Math.ListN.{get_or-append}
 use Rattle.std.proofs.Math.Seq.{take-append_seam, get_or-append_seam}
 use Rattle.lc_algebra.specs.declared.FieldName.{FieldName}
 use Rattle.lc_algebra.specs.Field.{size, neg}
-use Rattle.lc_algebra.specs.Word.{IsWord, Fits, word_sum, scale, weight}
+use Rattle.lc_algebra.specs.Word.{IsWord, word_sum, scale, weight}
 use Rattle.lc_algebra.specs.Matrix.{Matrix}
 use Rattle.lc_algebra.specs.SpanLaws.{restrict}
-use Rattle.lc_algebra.proofs.WordLaws.{sum_assoc, IsWord_sum, IsWord_scale, fits_symbol}
+use Rattle.lc_algebra.proofs.WordLaws.{sum_assoc, IsWord_sum, IsWord_scale}
 use Rattle.lc_algebra.proofs.FieldLaws.{neg_one_mul}
-use Rattle.lc_algebra.proofs.ColumnLaws.{restrict_sum, restrict_scale, length_restrict, index_restrict}
+use Rattle.lc_algebra.proofs.ColumnLaws.{restrict_sum, restrict_scale, length_restrict}
 use Rattle.lc_algebra.proofs.FieldLaws.{one_inside}
 use Rattle.lc_enumeration.specs.Message.{messages, supports_from}
 use Rattle.lc_enumeration.specs.Plan.{phase_level, blocks_before, IsInPhase}
@@ -43,13 +42,13 @@ use Rattle.lc_kernel.specs.Sums.{front_word}
 use Rattle.lc_kernel.specs.declared.grid.GridPart.{GridPart}
 use Rattle.lc_kernel.specs.Grid.{tail_pair, tail_count, tail_index, tail_word, tails_in, negative, AreTails, ArePlanesOf, AreTailPlanes, IsTailRun}
 use Rattle.lc_kernel.specs.Grids.{AreGridParts, IsGridPart}
-use Rattle.lc_kernel.proofs.MultipleLaws.{below_product}
 use Rattle.lc_kernel.proofs.SupportLaws.{same_pair}
 use Rattle.lc_kernel.proofs.TableLaws.{all_pushed, part_cut, cut_inside}
 use Rattle.lc_kernel.proofs.FrontLaws.{entries_are, generates, front_next, front_same, front_word_is, front_word_fits, front_whole}
 use Rattle.lc_kernel.proofs.PlaneLaws.{ones_apart}
 use Rattle.lc_kernel.proofs.RunLaws.{support_parts, first_of_pair, second_of_pair}
 use Rattle.lc_kernel.proofs.ScanLaws.{block_word}
+use Rattle.lc_kernel.proofs.PackLaws.{restrict_fits}
 
 -- the list after a list that ends with two numbers
 
@@ -127,9 +126,6 @@ negative_is : (f : FieldName) (u : List ℕ) → negative f u ≡ map (neg f) u
 unfolding scale
 negative_is f [] = refl
 negative_is f (a ∷ u) = cc (neg_one_mul f a, negative_is f u)
-
-pub restrict_fits : (f : FieldName) (n : ℕ) (cols u : List ℕ) → IsWord f n u → Fits f (restrict cols u)
-restrict_fits f n cols u h i l = rw (index_restrict cols u i (omega (arith, l, length_restrict cols u))) (fits_symbol f u h.fits (slice_index cols i))
 
 pub tail_ones : (f : FieldName) (n p : ℕ) (cols head tail : List ℕ) → size f ≤ 2 ^ p → IsWord f n head → IsWord f n tail → weight (restrict cols (word_sum f head tail)) ≡ count_ones (apart p (restrict cols head) (restrict cols (negative f tail)))
 tail_ones f n p cols head tail s h t =
@@ -263,25 +259,6 @@ tails_more C j pair t a b ws more w h l at is word made =
 next_product : (p L : ℕ) → (p + 1) * L ≡ p * L + L
 next_product p L = omega arith
 
--- the planes with one more
-pub planes_more : (cols : List ℕ) (p : ℕ) (ws : List (List ℕ)) (bits more : List ℕ) → ArePlanesOf cols p ws bits → length more ≡ length bits + length ws → ((i : ℕ) → i < length bits → slice_index more i ≡ slice_index bits i) → ((e : ℕ) → e < length ws → slice_index more (length bits + e) ≡ plane_at p cols (slice_index_or ws e [])) → ArePlanesOf cols (p + 1) ws more
-planes_more cols p ws bits more h long before after =
-    let L = length ws in
-    let carry : (p + 1) * L ≡ p * L + L = next_product p L in
-    record {
-      long = long ∙ ap (λ z. z + L) h.long ∙ sym carry;
-      is = λ q e l m. ⊎_elim
-          (λ i. before (q * L + e) (omega (arith, below_product p L q e i m, h.long)) ∙ h.is q e i m)
-          (λ i.
-          let last : q ≡ p = omega (arith, i, l) in
-          let place : q * L + e ≡ length bits + e = ap (λ z. z * L + e) last ∙ ap (λ z. z + e) (sym h.long) in
-          ap (slice_index more) place ∙ after e m ∙ ap (λ z. plane_at z cols (slice_index_or ws e [])) (sym last))
-          (cases_lt q p);
-    }
-
-pub planes_none : (cols : List ℕ) (ws : List (List ℕ)) (bits : List ℕ) → bits ≡ [] → ArePlanesOf cols 0 ws bits
-planes_none cols ws bits e = record { long = ap length e ∙ omega arith; is = λ p x l m. absurd (omega (arith, l)) }
-
 tail_planes : (C : Matrix) (j n : ℕ) (cols : List ℕ) (ws : List (List ℕ)) (bits : List ℕ) → AreTails C j (tails_in C) ws → ArePlanesOf cols n ws bits → AreTailPlanes C j cols n bits
 tail_planes C j n cols ws bits t h = record {
   long = h.long ∙ ap (λ z. n * z) t.long;
@@ -297,13 +274,6 @@ grid_parts_pushed C j n start end cols ws ps more p e t s l which h columns bits
 
 pub cut_in_words : (C : Matrix) (j start n : ℕ) (cols : List ℕ) (ws : List (List ℕ)) → cols ≡ others C j → AreTails C j (tails_in C) ws → (i t : ℕ) → i < length ws → t < length (take n (drop start cols)) → slice_index (take n (drop start cols)) t < length (slice_index_or ws i [])
 cut_in_words C j start n cols ws e h i t l m = omega (arith, cut_inside C j start n cols e t m, (h.words i (rw h.long at l)).long)
-
--- a plane of all tails is inside the planes
-pub planes_room : (p n t L start many long : ℕ) → p < n → t ≡ L → start + many ≤ L → long ≡ n * L → p * t + start + many ≤ long
-planes_room p n t L start many long l e m is =
-    let rows : (p + 1) * L ≤ n * L = mul-le-mul_right L (omega (arith, l)) in
-    let same : p * t ≡ p * L = ap (λ z. p * z) e in
-    omega (arith, rows, same, next_product p L, m, is)
 
 -- the tails of a run are tails of the set
 pub tail_run_room : (C : Matrix) (m b n start count : ℕ) (s : SpotState) (head : List ℕ) → IsTailRun C m b s head n start count → start + count ≤ tails_in C

@@ -18,9 +18,9 @@ use Rattle.std.proofs.lemmas.Bool.{cases_lt}
 use Rattle.std.proofs.lemmas.List.{length-replicate, length-take-le, length-drop, get_or-take, get_or-drop}
 use Rattle.lc_algebra.specs.Word.{weight}
 use Rattle.lc_algebra.specs.SpanLaws.{restrict}
+use Rattle.lc_algebra.proofs.RemainderLaws.{index-zeros}
 use Rattle.lc_kernel.specs.Values.{IsLeastValue}
 use Rattle.lc_kernel.specs.Least.{IsLeastOr, IsFirstLeast, IsFirstBelow, AreCounted}
-use Rattle.lc_kernel.proofs.PlaneLaws.{zeros_at}
 
 one_more : (i n : ℕ) → i < n + 1 → (i < n) ⊎ (i ≡ n)
 one_more i n l = ⊎_elim (λ a. inl a) (λ a. inr (omega (arith, a, l))) (cases_lt i n)
@@ -180,7 +180,7 @@ counted_least n f bound v zeros counts none same added h = record {
     plain m = omega arith
 
     counted : (i : ℕ) → i < n → slice_index counts i ≡ f i
-    counted i l = added i (omega (arith, l, long)) ∙ ap (λ z. z + f i) (ap (λ z. slice_index z i) none ∙ zeros_at n i) ∙ plain (f i)
+    counted i l = added i (omega (arith, l, long)) ∙ ap (λ z. z + f i) (ap (λ z. slice_index z i) none ∙ index-zeros n i) ∙ plain (f i)
 
 pub found_below : (n : ℕ) (f : ℕ → ℕ) (bound v at : ℕ) (counts : List ℕ) → HaveLeast n f bound v counts → v < bound → at ≤ n → (at < n → slice_index counts at ≡ v) → ((i : ℕ) → i < at → slice_index counts i ≢ v) → IsFirstBelow n f bound v at
 found_below n f bound v at counts here l inside is before =

@@ -15,22 +15,15 @@ use Rattle.std.proofs.lemmas.Nat.{pow-add, div-add-mod', div_below}
 use Rattle.std.proofs.lemmas.Option.{slice_get-map, slice_get-get_or, slice_get_past}
 use Rattle.lc_enumeration.specs.Message.{messages, supports_from, numbers_from, nonzero_lists, leading_lists}
 use Rattle.lc_place.proofs.Products.{product, ProductPart, product_part, product_at, map_part}
-use Rattle.lc_place.proofs.Coefficients.{nonzero_digit, length-nonzero_lists, length-leading_lists}
+use Rattle.lc_place.proofs.Coefficients.{nonzero_digit, length-nonzero_lists, length-leading_lists, only_nil}
 use Rattle.lc_place.proofs.Supports.{next_support}
 use Rattle.lc_place.proofs.Messages.{message_of, next_leading, turned, leading_next, leading_shape, leading_first, message_at, message_next, supports_are, from_contains, to_contains}
+use Rattle.lc_place.proofs.Unranking.{nothing}
 use Rattle.lc_kernel.specs.Grid.{tail_pair}
-
-only_nil : (r : ℕ) (u : List ℕ) → slice_get ([] ∷ []) r ≡ Some u → (r ≡ 0) × (u ≡ [])
-only_nil zero u e = (refl, cc)
-only_nil (suc r) u e = absurd (cc)
 
 no_list : (q r : ℕ) (u : List ℕ) → slice_get (nonzero_lists q 0) r ≡ Some u → (r ≡ 0) × (u ≡ [])
 unfolding nonzero_lists
 no_list q r u e = only_nil r u e
-
-empty_list : (q : ℕ) → slice_get (nonzero_lists q 0) 0 ≡ Some []
-unfolding nonzero_lists
-empty_list q = refl
 
 abbrev ConsAll : ℕ → ℕ → List (List ℕ)
 ConsAll q n = product (λ (c : ℕ) (u : List ℕ). c ∷ u) (numbers_from 1 (q - 1)) (nonzero_lists q n)
@@ -46,7 +39,7 @@ one_list q c l =
     let one : d ^ suc 0 ≡ d = pow-suc d 0 ∙ ap (λ z. z * d) none ∙ omega arith in
     let left : c % d ^ 0 ≡ 0 = ap (λ z. c % z) none ∙ omega arith in
     let row : c / d ^ 0 ≡ c = ap (λ z. c / z) none ∙ omega arith in
-    let at = nonzero_digit q 0 c [] (omega (arith, one, l)) (ap (slice_get (nonzero_lists q 0)) left ∙ empty_list q) in
+    let at = nonzero_digit q 0 c [] (omega (arith, one, l)) (ap (slice_get (nonzero_lists q 0)) left ∙ nothing q) in
     let digit : 1 + c / d ^ 0 ≡ c + 1 = omega (arith, row) in
     at ∙ ap (λ z. Some (z ∷ [])) digit
 

@@ -5,7 +5,6 @@
 --   multiples_made                 the list of all of them
 use Rattle.std.proofs.Common.{◌≡◌, ℕ, ◌+◌, ◌-◌, ◌*◌, ◌/◌, ◌%◌, ◌^◌, ◌<◌, ◌≤◌, List, [], length, slice_index_or, refl, ap, ◌∙◌, arith}
 use Rattle.std.proofs.lemmas.Nat.{div-mul-add, mod-mul-add}
-use Rattle.std.proofs.Math.Nat.{mul-le-mul_right, suc-mul}
 use Rattle.std.specs.Prelude.{IsTrue}
 use Rattle.std.proofs.lemmas.Bool.Decides.{nat_tests}
 use Rattle.lc_algebra.specs.declared.FieldName.{FieldName}
@@ -13,11 +12,10 @@ use Rattle.lc_algebra.specs.Field.{size, is_symbol}
 use Rattle.lc_algebra.specs.Word.{IsWord, zero_word, word_sum, scale}
 use Rattle.lc_algebra.proofs.WordLaws.{zero_sum, IsWord_scale}
 use Rattle.lc_algebra.specs.Matrix.{Matrix}
+use Rattle.lc_algebra.proofs.CommonLaws.{below_product}
 use Rattle.lc_enumeration.specs.Search.{set_count, generator_at}
+use Rattle.lc_matrix.proofs.FlatLaws.{most}
 use Rattle.lc_kernel.specs.Sums.{multiple_at, multiple_index, AreMultiples}
-
-pub below_product : (a b i j : ℕ) → i < a → j < b → i * b + j < a * b
-below_product a b i j l m = omega (arith, m, mul-le-mul_right b l, suc-mul i b)
 
 pub index_inside : (C : Matrix) (j i c : ℕ) → j < set_count C → i < length C.rows → c + 1 < size C.field → multiple_index C j i c < set_count C * length C.rows * (size C.field - 1)
 index_inside C j i c l m n = below_product (set_count C * length C.rows) (size C.field - 1) (j * length C.rows + i) c (below_product (set_count C) (length C.rows) j i l m) (omega (arith, n))
@@ -48,13 +46,10 @@ pub record IsSmall (C : Matrix) (j i c : ℕ) : Type 0 where
   pub rows : j * length C.rows < 2 ^ 16
   pub index : (j * length C.rows + i) * (size C.field - 1) < 2 ^ 20
 
-pub times_most : (a b n : ℕ) → a ≤ b → a * n ≤ b * n
-times_most a b n l = mul-le-mul_right n l
-
 pub index_small : (C : Matrix) (j i c : ℕ) → j < set_count C → i < length C.rows → set_count C ≤ 255 → length C.rows ≤ 255 → size C.field ≤ 16 → IsSmall C j i c
 index_small C j i c l m a b d =
-    let one = times_most j 254 (length C.rows) (omega (arith, l, a)) in
-    let two = times_most (j * length C.rows + i) 65279 (size C.field - 1) (omega (arith, one, m, b)) in
+    let one = most j 254 (length C.rows) (omega (arith, l, a)) in
+    let two = most (j * length C.rows + i) 65279 (size C.field - 1) (omega (arith, one, m, b)) in
     record { rows = omega (arith, one, b); index = omega (arith, two, d) }
 
 pub symbol_size : (C : Matrix) → IsTrue (is_symbol C.field) → size C.field ≤ 16

@@ -20,18 +20,19 @@ use Rattle.lc_algebra.specs.Word.{IsWord, Fits, word_sum, scale, weight}
 use Rattle.lc_algebra.specs.Span.{below, combine, AreIndependent}
 use Rattle.lc_algebra.specs.Matrix.{Matrix, AreRows, IsIdentityOn, entry}
 use Rattle.lc_algebra.specs.SpanLaws.{restrict}
+use Rattle.lc_algebra.proofs.EmbeddingTests.{size_two}
 use Rattle.lc_algebra.proofs.WordLaws.{fits_symbol, one_scale}
 use Rattle.lc_algebra.proofs.SpanLaws.{contains_below, below_contains, length_below}
 use Rattle.lc_algebra.proofs.ColumnLaws.{index_restrict, length_restrict, restrict_sum, restrict_zero}
 use Rattle.lc_algebra.proofs.ReducedLaws.{symbol_of_combination}
-use Rattle.lc_algebra.proofs.DimensionLaws.{AreDistinct, distinct_below}
+use Rattle.lc_algebra.proofs.DimensionLaws.{AreDistinct, distinct_below, distinct_from_pairs}
 use Rattle.lc_enumeration.specs.Message.{messages, vector_of}
 use Rattle.lc_enumeration.specs.InformationSet.{is_member}
 use Rattle.lc_enumeration.specs.Search.{set_count, generator_at, front_of}
 use Rattle.lc_enumeration.proofs.MemberLaws.{member_true, true_member}
 use Rattle.lc_infoset.specs.Bound.{set_at}
 use Rattle.lc_infoset.proofs.AnswerLaws.{filter_keeps}
-use Rattle.lc_infoset.proofs.BoundLaws.{count_cons, counts_part, distinct_from_pairs, weight_by_places, weight_restrict, place_inside, has_symbol}
+use Rattle.lc_infoset.proofs.BoundLaws.{count_cons, counts_part, weight_by_places, weight_restrict, place_inside, has_symbol}
 use Rattle.lc_infoset.proofs.SetLaws.{filter_passes, distinct_filter}
 use Rattle.lc_infoset.proofs.GreedyLaws.{generators_are}
 use Rattle.lc_place.specs.Order.{IsLeadingVector}
@@ -45,7 +46,6 @@ use Rattle.lc_kernel.specs.Sums.{front_word}
 use Rattle.lc_kernel.proofs.FrontLaws.{entries_are, generates, front_first, front_next, front_whole, front_word_fits}
 use Rattle.lc_vec.specs.Packed.{packed}
 use Rattle.lc_vec.proofs.PackLaws.{packed_sum, packed_ones, packed_small, packed_nil, packed_drop, zero_packed}
-pub use Rattle.lc_vec.proofs.PackLaws.{two}
 use Rattle.lc_kernel.specs.Packed.{outside, others, part_at, bits_at, AreRowBits}
 
 count_split : {X : Type 0} (h p : X → Bool) (xs : List X) → count_by h xs ≡ count_by h (filter p xs) + count_by h (filter (λ x. not (p x)) xs)
@@ -104,7 +104,7 @@ weight_of_word C s rows free l message some =
 
 -- over 2 elements
 
-restrict_fits : (f : FieldName) (n : ℕ) (cols u : List ℕ) → IsWord f n u → Fits f (restrict cols u)
+pub restrict_fits : (f : FieldName) (n : ℕ) (cols u : List ℕ) → IsWord f n u → Fits f (restrict cols u)
 restrict_fits f n cols u h i l = rw (index_restrict cols u i (omega (arith, l, length_restrict cols u))) (fits_symbol f u h.fits (slice_index cols i))
 
 sum_of_bits : (f : FieldName) (u v : List ℕ) → f ≡ Gf2 → length u ≡ length v → Fits f u → Fits f v → packed (word_sum f u v) ≡ bit_xor (packed u) (packed v)
@@ -134,7 +134,7 @@ bits_more C cols s bits i e rows free l message b m =
     let row = slice_index_or (generator_at C s.set) r [] in
     let word : IsWord C.field C.columns row = All-get_or (IsWord C.field C.columns) (generator_at C s.set) r [] (omega (arith, t.row i m, g.count)) g.rows in
     let low : 1 ≤ slice_index s.coefficients i = t.fitting.some i (omega (arith, m, t.many)) in
-    let size_is : size C.field ≡ 2 = ap size e ∙ two in
+    let size_is : size C.field ≡ 2 = ap size e ∙ size_two in
     let one : slice_index s.coefficients i ≡ 1 = omega (arith, low, t.element i m, size_is) in
     let next : front_word C s (suc i) ≡ word_sum C.field (front_word C s i) row = front_next C s i g t m ∙ ap (word_sum C.field (front_word C s i)) (ap (λ c. scale C.field c row) one ∙ one_scale C.field row word.fits) in
     ap (bits_at cols) next ∙ tail_sum C cols (front_word C s i) row e (front_word_fits C s i g) word ∙ ap (bit_xor (bits_at cols (front_word C s i))) (sym (b.bits r (t.row i m)))

@@ -2,11 +2,9 @@
 --   plane_cons                   a plane, symbol by symbol
 --   ones_apart                   the weight of a sum: where one word differs from the negative of the other
 --   plane_sum                    in characteristic 2 a plane of a sum is an exclusive or
---   zeros_at                     a list of zeros
 --   block_planes                 the planes of a block of symbols, with zeros after them
 --   plane_mask                   a plane of a block of 64 symbols, by vectors
 --   added_next                   counts with one more of them added to
---   three                        the size of the field of 3 elements
 --   apart_two, apart_three, apart_four      where a word differs from one of some words, by two, three or four planes
 --   by_planes                    the number of symbols at which they differ, by all planes
 use Rattle.std.proofs.Common.{◌≡◌, ◌≢◌, ◌⊎◌, ℕ, zero, suc, ◌+◌, ◌-◌, ◌*◌, ◌%◌, ◌^◌, ◌<◌, ◌≤◌, not, cond, ◌==◌, List, [], ◌∷◌, length, take, drop, set, map, replicate, slice_index, bit_and, bit_or, bit_xor, count_ones, refl, sym, ap, ◌∙◌, inl, inr, ⊎_elim, arith, w8}
@@ -21,8 +19,7 @@ use lib.Count.{ones}
 use lib.Lanes.{zip2, mask_l, top}
 use mir.Val.{bits, hbits}
 use Rattle.lc_algebra.specs.declared.FieldName.{FieldName}
-use Rattle.lc_algebra.specs.declared.FieldName.TheVariants.{Gf3}
-use Rattle.lc_algebra.specs.Field.{size, add, neg, shape_of, shape}
+use Rattle.lc_algebra.specs.Field.{size, add, neg, shape_of}
 use Rattle.lc_algebra.specs.Word.{Fits, word_sum, weight}
 use Rattle.lc_algebra.proofs.FieldLaws.{neg_inside, neg_add, neg_neg, subtract_zero}
 use Rattle.lc_algebra.proofs.WordLaws.{weight_cons, fits_head, fits_tail}
@@ -172,11 +169,6 @@ plane_padded j (a ∷ u) (b ∷ v) e h rest =
     let t = plane_padded j u v (omega (arith, e)) (λ t l. h (suc t) (omega (arith, l))) (λ t l. rest (suc t) (omega (arith, l))) in
     plane_cons j b v ∙ ap (λ z. z * 2 + bit_at b j) t ∙ ap (λ z. plane j u * 2 + bit_at z j) (h 0 (omega arith)) ∙ sym (plane_cons j a u)
 
-pub zeros_at : (n i : ℕ) → slice_index (replicate n 0) i ≡ 0
-zeros_at zero i = refl
-zeros_at (suc n) zero = refl
-zeros_at (suc n) (suc i) = zeros_at n i
-
 -- a block with the symbols of a word at some columns, and then zeros
 pub block_planes : (cols word block : List ℕ) → length cols ≤ 64 → length block ≡ 64 → ((t : ℕ) → t < length cols → slice_index block t ≡ slice_index word (slice_index cols t)) → ((t : ℕ) → length cols ≤ t → slice_index block t ≡ 0) → (j : ℕ) → plane j block ≡ plane_at j cols word
 block_planes cols word block few long h rest j =
@@ -263,7 +255,3 @@ added_next f first old i l h = record {
       (cases_lt t i);
   left = λ t m. get_or-set_other old i t (slice_index old i + f i) 0 (λ e. omega (arith, e, m)) ∙ h.left t (omega (arith, m));
 }
-
-pub three : size Gf3 ≡ 3
-unfolding size shape_of shape
-three = refl

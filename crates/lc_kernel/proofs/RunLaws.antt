@@ -20,6 +20,7 @@ use Rattle.lc_algebra.specs.declared.FieldName.TheVariants.{Gf2}
 use Rattle.lc_algebra.specs.Field.{size}
 use Rattle.lc_algebra.specs.Word.{weight}
 use Rattle.lc_algebra.specs.SpanLaws.{restrict}
+use Rattle.lc_algebra.proofs.EmbeddingTests.{size_two}
 use Rattle.lc_algebra.proofs.WordLaws.{weight_at_most_length}
 use Rattle.lc_algebra.proofs.ColumnLaws.{length_restrict}
 use Rattle.lc_algebra.specs.Span.{AreIndependent}
@@ -38,7 +39,7 @@ use Rattle.lc_kernel.specs.Values.{IsMessageOf, IsSpotAt}
 use Rattle.lc_kernel.specs.Packed.{others, part_at, bits_at, row_sum, head_of, tail_of, pair_of, AreStarts, AreRowBits, IsPart}
 use Rattle.lc_kernel.specs.Least.{AreCounted}
 use Rattle.lc_kernel.proofs.FrontLaws.{entries_are, generates, front_word_is, front_word_fits, front_whole, front_same}
-use Rattle.lc_kernel.proofs.PackLaws.{two, weight_of_word, tail_ones, bits_more, part_more}
+use Rattle.lc_kernel.proofs.PackLaws.{weight_of_word, tail_ones, bits_more, part_more}
 use Rattle.lc_enumeration.proofs.SearchLaws.{few_in_block}
 use Rattle.lc_kernel.proofs.SupportLaws.{tail_pair, pair_at, tail_at, starts_rise, last_tail}
 use Rattle.lc_kernel.proofs.ScanLaws.{block_word, block_long, next_is}
@@ -47,7 +48,7 @@ pub support_parts : (s : List ℕ) → 2 ≤ length s → s ≡ take (length s -
 support_parts s l = sym (take-append-drop (length s - 2) s) ∙ ap (λ x. take (length s - 2) s ++ x) (tail_pair s l)
 
 two_elements : (C : Matrix) → C.field ≡ Gf2 → size C.field ≡ 2
-two_elements C e = ap size e ∙ two
+two_elements C e = ap size e ∙ size_two
 
 binary : (C : Matrix) (n w : ℕ) (m : Message) → C.field ≡ Gf2 → slice_get (messages (length C.rows) (size C.field) w) n ≡ Some m → slice_get (messages (length C.rows) 2 w) n ≡ Some m
 binary C n w m e h = subst (λ q. slice_get (messages (length C.rows) q w) n ≡ Some m) (two_elements C e) h

@@ -9,7 +9,7 @@
 --   first_of_block, spot_at      a spot at the first message of a block
 --   past_plan, past_block, at_word, word_there      the word at a place
 use Rattle.std.proofs.Common.{◌≡◌, ℕ, suc, ◌+◌, ◌-◌, ◌*◌, ◌/◌, ◌%◌, ◌^◌, ◌<◌, ◌≤◌, min, Bool, true, false, nat_lt, nat_le, ◌&&◌, if◌then◌else◌, List, [], ◌∷◌, length, take, drop, find, slice_get, slice_index_or, Some, None, option_map, Contains, refl, sym, ap, ◌∙◌, ⊎_elim, arith}
-use Rattle.std.proofs.Math.Nat.{mod-lt, mod-eq_of_lt}
+use Rattle.std.proofs.Math.Nat.{mod-lt}
 use Rattle.std.proofs.lemmas.Bool.{cases_lt}
 use Rattle.std.proofs.lemmas.Bool.Decides.{nat_tests}
 use Rattle.std.proofs.lemmas.List.{length-map, length-take, length-drop}
@@ -31,7 +31,7 @@ use Rattle.lc_place.proofs.Listing.{block_message}
 use Rattle.lc_kernel.specs.Kernel.{StackState, IsPlanOf, IsStackAt, top_sum}
 use Rattle.lc_kernel.specs.Values.{value_at, IsLeastValue, IsMessageOf, IsSpotAt, IsAtOffset}
 use Rattle.lc_kernel.proofs.FrontLaws.{entries_are, front_word_is, front_whole}
-use Rattle.lc_kernel.proofs.SumLaws.{length_partial, partial_at, set_below, level_some, code_message}
+use Rattle.lc_kernel.proofs.SumLaws.{length_partial, partial_at, set_below, level_some, code_message, own_set}
 
 pub one_value : (place : ℕ) (ws : List (List ℕ)) (v : ℕ) → v ≡ value_at place ws 0 → IsLeastValue place ws 1 v
 one_value place ws v e = record {
@@ -90,10 +90,6 @@ pub block_word : (C : Matrix) (m p b n : ℕ) (message : Message) → IsInPhase 
 block_word C m p b n message h l e =
     ap (λ z. slice_get z n) (words_in_phase C m p b h) ∙ slice_get-map (word_of C m p) (block_messages (length C.rows) (size C.field) m p b) n
     ∙ ap (option_map (word_of C m p)) (block_message (length C.rows) (size C.field) m p b n l ∙ e)
-
-own_set : (m j : ℕ) → j < m → j ≡ phase_set m j
-unfolding phase_set
-own_set m j l = sym (mod-eq_of_lt l)
 
 stack_word : (C : Matrix) (m p : ℕ) (s : StackState) → IsStackAt C m s → s.spot.set ≡ phase_set m p → top_sum s ≡ word_of C m p (spot_message s.spot)
 stack_word C m p s h e =

@@ -19,8 +19,7 @@ use Rattle.lc_algebra.specs.Word.{IsWord, zero_word, word_sum, scale}
 use Rattle.lc_algebra.specs.Span.{below, AreIndependent}
 use Rattle.lc_algebra.specs.Matrix.{Matrix, AreRows}
 use Rattle.lc_algebra.proofs.WordLaws.{IsWord_sum, IsWord_zero, length_scale}
-use Rattle.lc_algebra.proofs.SpanLaws.{length_below}
-use Rattle.lc_infoset.proofs.BoundLaws.{index_below}
+use Rattle.lc_algebra.proofs.SpanLaws.{length_below, index_below}
 use Rattle.lc_enumeration.specs.Message.{Message, messages}
 use Rattle.lc_enumeration.specs.Plan.{phase_set, phase_level}
 use Rattle.lc_enumeration.specs.Search.{set_count, generator_at, front_of, word_of, partial_words}
@@ -102,7 +101,7 @@ partial_at C m p i message l =
     get_or-map (λ i. word_of C m p (front_of message (suc i))) (below (length message.support)) i 0 [] (omega (arith, l, length_below (length message.support)))
     ∙ ap (λ i. word_of C m p (front_of message (suc i))) (index_below (length message.support) i 0 l)
 
-own_set : (m j : ℕ) → j < m → j ≡ phase_set m j
+pub own_set : (m j : ℕ) → j < m → j ≡ phase_set m j
 unfolding phase_set
 own_set m j l = sym (mod-eq_of_lt l)
 

@@ -1,5 +1,5 @@
 -- The supports of t of k places in their order, and the sums of the rows at them.
---   ends_first, ends_one, ends_more, ends_all      at the first place, of one place, at the next place, after the last one
+--   ends_one, ends_more, ends_all      of one place, at the next place, after the last one
 --   ends_next                  pairs at the next place
 --   tail_at, pair_at           the support at an index, by its first place and the rest; the pair at an index
 --   starts_rise                later places have later supports
@@ -8,7 +8,7 @@
 --   starts_more, starts_made   the first supports of one place more, and of all
 --   pairs_few, triples_few, tails_few      how many there are at most
 --   rows_are_sums              the sums of one row each are the rows
---   sums_none, sums_more, sums_made      the sums at no support, at those that begin with a place, and at all
+--   sums_more, sums_made      the sums at the supports that begin with a place, and at all
 use Rattle.std.proofs.Common.{◌≡◌, ℕ, zero, suc, ◌+◌, ◌-◌, ◌*◌, ◌<◌, ◌≤◌, List, [], ◌∷◌, ◌++◌, length, drop, bit_xor, get_or, slice_index, Some, refl, ap, sym, subst, ◌∙◌, arith, ⊎_elim}
 use Rattle.std.specs.Prelude.{slice_get}
 use Rattle.std.specs.Int.Bits.{xor_zero_r}
@@ -18,23 +18,13 @@ use Rattle.std.proofs.lemmas.Bool.{cases_lt}
 use Rattle.std.proofs.lemmas.List.{length-drop, get_or-drop}
 use Rattle.std.proofs.lemmas.Option.{slice_get_within, slice_get_past, slice_get-get_or}
 use Rattle.lc_enumeration.specs.Message.{supports_from, numbers_from, choose}
-use Rattle.lc_place.proofs.Supports.{support_first, support_takes, support_leaves, length-supports, choose_nothing, choose_none}
+use Rattle.lc_enumeration.proofs.ChooseLaws.{choose_next, choose_none, choose_one, choose_nothing}
+use Rattle.lc_place.proofs.Supports.{support_first, support_takes, support_leaves, length-supports}
+use Rattle.lc_place.proofs.Unranking.{supports_nothing}
 use Rattle.lc_kernel.specs.Packed.{row_sum, EndsAt, AreStarts, AreSumsSoFar, AreRowSums}
-
-pub ends_first : (k t : ℕ) → EndsAt k t 0 0
-ends_first k t = let z : k - 0 ≡ k = omega arith in record { at = λ x. let y : 0 + x ≡ x = omega arith in rw (z, y) refl; long = rw z (omega arith) }
-
-choose_one : (k : ℕ) → choose k 1 ≡ k
-unfolding choose
-choose_one zero = refl
-choose_one (suc k) = omega (arith, choose_one k, choose_nothing k)
 
 pub singles : (i k : ℕ) → length (supports_from i k 1) ≡ k
 singles i k = length-supports i k 1 ∙ choose_one k
-
-choose_next : (k t : ℕ) → choose (suc k) (suc t) ≡ choose k t + choose k (suc t)
-unfolding choose
-choose_next k t = refl
 
 choose_all : (t : ℕ) → choose t t ≡ 1
 unfolding choose
@@ -72,14 +62,9 @@ ends_all k t s h =
     let none : length (supports_from k (k - k) (suc t)) ≡ 0 = length-supports k (k - k) (suc t) ∙ choose_none (k - k) (suc t) (omega arith) in
     omega (arith, h.long, none)
 
-nil_at : (i k : ℕ) → slice_get (supports_from i k 0) 0 ≡ Some []
-unfolding supports_from
-nil_at i zero = refl
-nil_at i (suc k) = refl
-
 single_at : (i k d : ℕ) → d < k → slice_get (supports_from i k 1) d ≡ Some ((i + d) ∷ [])
 single_at i zero d l = absurd (omega (arith, l))
-single_at i (suc k) zero l = let e : i + 0 ≡ i = omega arith in support_takes i k 0 0 [] (nil_at (suc i) k) ∙ ap (λ x. Some (x ∷ [])) (sym e)
+single_at i (suc k) zero l = let e : i + 0 ≡ i = omega arith in support_takes i k 0 0 [] (supports_nothing (suc i) k) ∙ ap (λ x. Some (x ∷ [])) (sym e)
 single_at i (suc k) (suc d) l =
     let t = single_at (suc i) k d (omega (arith, l)) in
     let one : length (supports_from (suc i) k 0) ≡ 1 = length-supports (suc i) k 0 ∙ choose_nothing k in
@@ -188,9 +173,6 @@ rows_are_sums rows = record {
       let inside : r < length rows = omega (arith, slice_get_within (supports_from 0 (length rows) 1) r u at, singles 0 (length rows)) in
       sym (xor_zero_r (slice_index rows r)) ∙ sum_of_first rows [] u r (sym (row_at (length rows) r inside) ∙ at);
 }
-
-pub sums_none : (k t : ℕ) (rows sums : List ℕ) → sums ≡ [] → AreSumsSoFar k t rows sums
-sums_none k t rows sums e = record { sum = λ r u l at. absurd (omega (arith, l, ap length e)) }
 
 pub sums_more : (k t a f : ℕ) (rows sums old new : List ℕ) → a < k → EndsAt k (suc t) a (length old) → EndsAt k t (a + 1) f → AreRowSums k t rows sums → length new ≡ length old + (length sums - f) → ((r : ℕ) → r < length old → slice_index new r ≡ slice_index old r) → ((x : ℕ) → x < length sums - f → slice_index new (length old + x) ≡ bit_xor (slice_index rows a) (slice_index sums (f + x))) → AreSumsSoFar k (suc t) rows old → AreSumsSoFar k (suc t) rows new
 sums_more k t a f rows sums old new l h g all long before after so_far = record {

@@ -2,19 +2,14 @@
 --   no_tables, no_grids          none
 --   all_pushed, one_of_all       what holds of each item of a list by its index holds of one more, and of an item that is read
 --   one_part, one_grid_part      a part of a table that is read
---   three_elements               a field of 3 elements
---   two_elements                 a field of 2 elements is that of the bits
 --   part_cut, cut_inside, parts_pushed      a part of the columns, as it is cut off, and the parts with one more
 use Rattle.std.proofs.Common.{◌≡◌, ℕ, ◌+◌, ◌-◌, ◌*◌, ◌<◌, ◌≤◌, List, [], ◌∷◌, ◌++◌, min, length, take, drop, slice_index, slice_index_or, Some, sym, ap, subst, ◌∙◌, ⊎_elim, arith, length-append}
 use Rattle.std.specs.Prelude.{slice_get}
 use Rattle.std.proofs.lemmas.Bool.{cases_lt}
 use Rattle.std.proofs.lemmas.List.{take_all, length-take, length-drop, get_or-take, get_or-drop}
-use Rattle.std.proofs.lemmas.Option.{slice_get_within, slice_get-get_or}
-use Rattle.lc_algebra.specs.declared.FieldName.{FieldName}
-use Rattle.lc_algebra.specs.declared.FieldName.TheVariants.{Gf2, Gf3}
-use Rattle.lc_algebra.specs.Field.{size}
+use Rattle.std.proofs.lemmas.Option.{slice_get_within, slice_get-get_or, same_Some}
 use Rattle.lc_algebra.specs.Matrix.{Matrix}
-use Rattle.lc_algebra.proofs.EmbeddingTests.{told_by_size}
+use Rattle.lc_algebra.proofs.EmbeddingTests.{two_elements}
 use Rattle.lc_place.proofs.Products.{get-append_left, get-append_right}
 use Rattle.lc_infoset.proofs.NextLaws.{filter_more, filter_same}
 use Rattle.lc_kernel.specs.declared.grid.Grid.{Grid}
@@ -25,24 +20,13 @@ use Rattle.lc_infoset.specs.Bound.{set_at}
 use Rattle.lc_kernel.specs.declared.parts.Part.{Part}
 use Rattle.lc_kernel.specs.Packed.{others, part_at, IsPart}
 use Rattle.lc_kernel.specs.Tables.{AreParts, AreTables}
-use Rattle.lc_vec.proofs.PackLaws.{two}
 use Rattle.lc_kernel.proofs.PackLaws.{outside_inside}
-use Rattle.lc_kernel.proofs.PlaneLaws.{three}
-
-pub two_elements : (f : FieldName) → size f ≡ 2 → f ≡ Gf2
-two_elements f e = told_by_size f Gf2 (e ∙ sym two)
-
-pub three_elements : (f : FieldName) → size f ≡ 3 → f ≡ Gf3
-three_elements f e = told_by_size f Gf3 (e ∙ sym three)
 
 pub no_tables : (C : Matrix) (ts : List Table) → ts ≡ [] → AreTables C ts
 no_tables C ts e = record { each = λ j t at. absurd (omega (arith, slice_get_within ts j t at, ap length e)) }
 
 pub no_grids : (C : Matrix) (gs : List Grid) → gs ≡ [] → AreGrids C gs
 no_grids C gs e = record { each = λ j g at. absurd (omega (arith, slice_get_within gs j g at, ap length e)); fronts = λ j g at. absurd (omega (arith, slice_get_within gs j g at, ap length e)) }
-
-same_item : {X : Type 0} (a b : X) → Some a ≡ Some b → a ≡ b
-same_item a b e = cc (e)
 
 pub all_pushed : {X : Type 0} (P : ℕ → X → Type 0) (xs more : List X) (x : X) → ((i : ℕ) (y : X) → slice_get xs i ≡ Some y → P i y) → P (length xs) x → more ≡ xs ++ x ∷ [] → (i : ℕ) (y : X) → slice_get more i ≡ Some y → P i y
 all_pushed P xs more x h is made i y at =
@@ -53,7 +37,7 @@ all_pushed P xs more x h is made i y at =
     let inside = slice_get_within (xs ++ x ∷ []) i y there in
     let last : i ≡ length xs = omega (arith, l, inside, length-append xs (x ∷ [])) in
     let place : i ≡ length xs + 0 = omega (arith, last) in
-    let same : x ≡ y = same_item x y (sym (get-append_right xs (x ∷ []) 0) ∙ ap (slice_get (xs ++ x ∷ [])) (sym place) ∙ there) in
+    let same : x ≡ y = same_Some x y (sym (get-append_right xs (x ∷ []) 0) ∙ ap (slice_get (xs ++ x ∷ [])) (sym place) ∙ there) in
     subst (λ n. P n y) (sym last) (subst (P (length xs)) same is))
     (cases_lt i (length xs))
 
@@ -87,5 +71,7 @@ pub parts_pushed : (C : Matrix) (j t start end : ℕ) (cols : List ℕ) (ps more
 parts_pushed C j t start end cols ps more p e s l which h is made =
     all_pushed (λ b (x : Part). IsPart C j t (part_at (others C j) b) x.rows.items x.sums.items) ps more p h
     (subst (λ z. IsPart C j t z p.rows.items p.sums.items) (part_cut cols (length ps) start end s l which ∙ ap (λ z. part_at z (length ps)) e) is) made
+
+pub ruleset tables_of_laws = (no_tables, two_elements)
 
 pub ruleset outside_laws = (filter_more, filter_same)

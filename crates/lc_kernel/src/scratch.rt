@@ -120,7 +120,7 @@ impl Scratch {
 }
 
 // The tables of the sets, over 2 elements.
-#[tactic(auto, using(crate::proofs::TableLaws::no_tables, crate::proofs::TableLaws::two_elements))]
+#[tactic(auto, using(crate::proofs::TableLaws::tables_of_laws))]
 fn tables_of(alloc: Global, sets: &Sets) -> Result<Vec<Table>, NoMemory>
     ensures are { IfOk result (λ ts. AreTables sets.now ts.items) }
 {

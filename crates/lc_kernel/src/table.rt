@@ -132,7 +132,7 @@ pub(crate) fn columns_outside(
 }
 
 // Whether c is one of the columns.
-#[tactic(auto, using(lc_infoset::proofs::NextLaws::told_member))]
+#[tactic(auto, using(lc_enumeration::proofs::MemberLaws::told_member))]
 fn holds(columns: &[usize], c: usize) -> bool
     ensures is { result ≡ is_member columns.now c }
 {

@@ -203,7 +203,7 @@ divisible_told Gf3 n d rows r l =
     (contains_cases 3 d [] l)
 divisible_told _ n d rows r l = absurd (no_member d l)
 
-ternary_name : (f : FieldName) → size f ≡ 3 → f ≡ Gf3
+pub ternary_name : (f : FieldName) → size f ≡ 3 → f ≡ Gf3
 unfolding shape shape_of size
 ternary_name f e = told_by_size f Gf3 e
 

@@ -1,13 +1,13 @@
 -- The rows that a flat list of symbols holds.
 --   length_rows_of, row_at, row_read      how many rows there are, and where row i stands
---   symbol_inside, entry_read             the symbol of row i at column c stands at i n + c
+--   symbol_inside             the symbol of row i at column c stands at i n + c
 --   row_long, row_fits, row_word, words_of      rows of a list that fits the field are words over it
 --   row_pushed, flat_pushed               a row put after the others
---   row_set, flat_set                     row i written over
+--   flat_set                     row i written over
 --   written, row_added, row_scaled        what a write of a part leaves in the list, and which rows it holds then
 --   rows_kept, flat_kept, kept_room       the first rows alone
 --   flat_none, rows_none                  no row
-use Rattle.std.proofs.Common.{◌≡◌, ℕ, zero, suc, ◌+◌, ◌-◌, ◌*◌, ◌<◌, ◌≤◌, List, [], ◌∷◌, ◌++◌, length, set, take, drop, slice_index, slice_index_or, refl, sym, ap, subst, ◌∙◌, ⊎_elim, arith, add-one}
+use Rattle.std.proofs.Common.{◌≡◌, ℕ, zero, suc, ◌+◌, ◌-◌, ◌*◌, ◌<◌, ◌≤◌, List, [], ◌∷◌, ◌++◌, length, set, take, drop, slice_index_or, refl, sym, ap, subst, ◌∙◌, ⊎_elim, arith, add-one}
 use Rattle.std.proofs.Math.Nat.{suc-mul, zero-mul}
 use Rattle.std.proofs.lemmas.Bool.{cases_lt}
 use Rattle.std.proofs.lemmas.List.{length-drop, length-append, length-take-le, get_or-take, get_or-drop, drop-drop, drop-take, drop-append-le, take-append-le, take_all, nil_from_length}
@@ -18,7 +18,7 @@ use Rattle.std.proofs.lemmas.Slice.{take-put_mid_below, drop-put_mid, take-put_m
 use borrow.Rule.Slice.PartMut.{put_mid}
 use Rattle.lc_algebra.specs.declared.FieldName.{FieldName}
 use Rattle.lc_algebra.specs.Word.{Fits, IsWord, word_sum, scale}
-use Rattle.lc_algebra.specs.Matrix.{AreRows, entry}
+use Rattle.lc_algebra.specs.Matrix.{AreRows}
 use Rattle.lc_algebra.proofs.WordLaws.{length_word_sum, length_scale}
 use Rattle.lc_matrix.specs.Rows.{rows_of, IsFlat}
 
@@ -50,10 +50,6 @@ row_end f n k i s l h = omega (arith, h.long, up_to i k n l)
 
 pub symbol_inside : (f : FieldName) (n k i c : ℕ) (s : List ℕ) → i < k → c < n → IsFlat f n k s → i * n + c < length s
 symbol_inside f n k i c s l m h = omega (arith, row_end f n k i s l h, m)
-
-pub entry_read : (n k i c : ℕ) (s : List ℕ) → i < k → c < n → slice_index s (i * n + c) ≡ entry (rows_of n k s) i c
-entry_read n k i c s l m =
-    sym (ap (λ u. slice_index u c) (row_at n k i s l) ∙ get_or-take n (drop (i * n) s) c 0 m ∙ get_or-drop (i * n) s c 0)
 
 pub row_long : (f : FieldName) (n k i : ℕ) (s : List ℕ) → i < k → IsFlat f n k s → length (take n (drop (i * n) s)) ≡ n
 row_long f n k i s l h =
@@ -125,11 +121,6 @@ put n (suc k) (suc i) s v l e w =
     let b : drop n (put_mid (n + i * n) n s v) ≡ put_mid (i * n) n (drop n s) v = put_tail (i * n) n n s v room in
     let t = put n k i (drop n s) v (omega (arith, l)) (omega (arith, e, suc-mul k n, length-drop n s)) w in
     rw at (cc (a, b, t))
-
-pub row_set : (f : FieldName) (n k i : ℕ) (s v : List ℕ) → i < k → IsFlat f n k s → length v ≡ n → rows_of n k (put_mid (i * n) (i * n + n - i * n) s v) ≡ set (rows_of n k s) i v
-row_set f n k i s v l h w =
-    let e : i * n + n - i * n ≡ n = omega arith in
-    rw e (put n k i s v l h.long w)
 
 put_fits : (f : FieldName) (a n : ℕ) (s v : List ℕ) → a + n ≤ length s → Fits f s → length v ≡ n → Fits f v → Fits f (put_mid a n s v)
 put_fits f a n s v l h w g i m =
@@ -212,7 +203,7 @@ kept n (suc k) (suc j) s l e =
 pub rows_kept : (f : FieldName) (n k j : ℕ) (s : List ℕ) → j ≤ k → IsFlat f n k s → rows_of n j (take (j * n) s) ≡ take j (rows_of n k s)
 rows_kept f n k j s l h = kept n k j s l h.long
 
-most : (j k n : ℕ) → j ≤ k → j * n ≤ k * n
+pub most : (j k n : ℕ) → j ≤ k → j * n ≤ k * n
 most zero k n l = omega (arith, zero-mul n)
 most (suc j) zero n l = absurd (omega (arith, l))
 most (suc j) (suc k) n l = omega (arith, suc-mul j n, suc-mul k n, most j k n (omega (arith, l)))

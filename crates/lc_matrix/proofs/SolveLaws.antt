@@ -6,26 +6,22 @@
 --   dots_from_orthogonal, orthogonal_from_dots      a word w solves the system exactly if w and then -1 has dot 0 with
 --                          each augmented row
 -- The answer
---   length_solution_word, symbol_place, symbol_other, index_solution      the solution, symbol by symbol
---   is_solution_word, solution_word_unique      the same as a record
 --   solution_of            if the last column is no place, the solution solves the system
 --   no_solution            if it is a place, nothing does
---   solvable               so the system has a solution exactly if the last column is no place
-use Rattle.std.proofs.Common.{◌≡◌, ◌≢◌, ℕ, zero, suc, ◌+◌, ◌<◌, ◌↔◌, List, [], ◌∷◌, ◌++◌, length, slice_index, slice_index_or, Contains, refl, sym, ap, subst, ◌∙◌, ⊎_elim, arith, zero-lt-suc}
-use Rattle.std.proofs.lemmas.List.{ext_get_or, get_or-map, length-map, length-append, get_or_append_left}
+use Rattle.std.proofs.Common.{◌≡◌, ◌≢◌, ℕ, zero, suc, ◌+◌, ◌<◌, ◌↔◌, List, [], ◌∷◌, ◌++◌, length, slice_index, slice_index_or, Contains, refl, sym, ap, subst, ◌∙◌, ⊎_elim, arith}
+use Rattle.std.proofs.lemmas.List.{length-append, get_or_append_left}
 use Rattle.std.proofs.Math.Seq.{get_or-append_seam}
-use Rattle.std.proofs.lemmas.List.Elements.{All-from_get_or, All-head, All-tail}
-use Rattle.std.proofs.lemmas.Bool.{cases_lt, cases_eq, eq-eqb, ne_eqb}
+use Rattle.std.proofs.lemmas.List.Elements.{All-from_get_or}
+use Rattle.std.proofs.lemmas.Bool.{cases_lt}
 use Rattle.lc_algebra.specs.declared.FieldName.{FieldName}
 use Rattle.lc_algebra.specs.Field.{size, add, neg, mul}
 use Rattle.lc_algebra.specs.Word.{IsWord, word_dot}
-use Rattle.lc_algebra.specs.Span.{below}
 use Rattle.lc_algebra.specs.Matrix.{entry, AreRows, HasPivots, IsEchelon, IsOrthogonal}
-use Rattle.lc_algebra.proofs.FieldLaws.{zero_inside, neg_inside, add_comm, add_assoc, add_neg, subtract_zero, mul_comm, one_mul, zero_mul, mul_zero, neg_one_mul}
+use Rattle.lc_algebra.proofs.FieldLaws.{neg_inside, add_comm, add_assoc, add_neg, subtract_zero, mul_comm, one_mul, zero_mul, mul_zero, neg_one_mul}
 use Rattle.lc_algebra.proofs.WordLaws.{word_symbol, neg_one_nonzero, dot_inside}
-use Rattle.lc_algebra.proofs.SpanLaws.{orthogonal_shared, same_span_symmetric, contains_head, contains_tail, length_below, contains_decided}
-use Rattle.lc_matrix.specs.Solve.{augmented, Solves, solution_symbol, solution_word, IsSolutionWord}
-use Rattle.lc_matrix.proofs.PlaceLaws.{dot_single, past_end, place_at, at_place, balanced_orthogonal, index_below}
+use Rattle.lc_algebra.proofs.SpanLaws.{orthogonal_shared, same_span_symmetric}
+use Rattle.lc_matrix.specs.Solve.{augmented, Solves, IsSolutionWord}
+use Rattle.lc_matrix.proofs.PlaceLaws.{dot_single, past_end, place_at, at_place, balanced_orthogonal}
 
 pub dot_behind : (f : FieldName) (u v : List ℕ) (a b : ℕ) → length u ≡ length v → word_dot f (u ++ a ∷ []) (v ++ b ∷ []) ≡ add f (word_dot f u v) (mul f a b)
 unfolding word_dot
@@ -89,67 +85,11 @@ dots_from_orthogonal f n rows right w r q long o i l =
     let m : i < length (augmented rows right) = omega (arith, l, length_augmented rows right q.long) in
     subtract_zero f (word_dot f (slice_index_or rows i []) w) (slice_index right i) (dot_inside f (slice_index_or rows i []) w) (word_symbol f (length rows) right q i) (sym (dot_of_augmented f n rows right w i r q long l) ∙ o i [] m)
 
-symbol_fits : (f : FieldName) (n : ℕ) (ps : List ℕ) (e : List (List ℕ)) (c m : ℕ) → AreRows f m e → solution_symbol n ps e c < size f
-unfolding solution_symbol
-symbol_fits f n [] e c m r = zero_inside f
-symbol_fits f n (p ∷ ps) [] c m r = zero_inside f
-symbol_fits f n (p ∷ ps) (g ∷ e) c m r =
-    ⊎_elim
-    (λ s. rw (eq-eqb p c s) (word_symbol f m g (All-head (IsWord f m) g e r) n))
-    (λ o. rw (ne_eqb p c o) (symbol_fits f n ps e c m (All-tail (IsWord f m) g e r)))
-    (cases_eq p c)
-
-symbol_place : (n : ℕ) (ps : List ℕ) (e : List (List ℕ)) (i : ℕ) → ((i j : ℕ) → i < j → j < length ps → slice_index ps i < slice_index ps j) → length ps ≡ length e → i < length ps → solution_symbol n ps e (slice_index ps i) ≡ entry e i n
-unfolding solution_symbol
-symbol_place n [] e i h l m = absurd (omega (arith, m))
-symbol_place n (p ∷ ps) [] i h l m = absurd (omega (arith, l))
-symbol_place n (p ∷ ps) (g ∷ e) zero h l m = rw (eq-eqb p p refl) refl
-symbol_place n (p ∷ ps) (g ∷ e) (suc i) h l m =
-    let a : p < slice_index ps i = h 0 (suc i) (zero-lt-suc i) m in
-    rw (ne_eqb p (slice_index ps i) (λ s. omega (arith, s, a))) (symbol_place n ps e i (λ x y r k. h (suc x) (suc y) (omega (arith, r)) (omega (arith, k))) (omega (arith, l)) (omega (arith, m)))
-
-symbol_other : (n : ℕ) (ps : List ℕ) (e : List (List ℕ)) (c : ℕ) → (Contains ps c → ⊥) → solution_symbol n ps e c ≡ 0
-unfolding solution_symbol
-symbol_other n [] e c o = refl
-symbol_other n (p ∷ ps) [] c o = refl
-symbol_other n (p ∷ ps) (g ∷ e) c o =
-    let b : p ≢ c = λ s. o (subst (Contains (p ∷ ps)) s (contains_head p ps)) in
-    rw (ne_eqb p c b) (symbol_other n ps e c (λ t. o (contains_tail p c ps t)))
-
-pub length_solution_word : (n : ℕ) (ps : List ℕ) (e : List (List ℕ)) → length (solution_word n ps e) ≡ n
-unfolding solution_word
-length_solution_word n ps e = length-map (below n) (solution_symbol n ps e) ∙ length_below n
-
-index_solution : (n : ℕ) (ps : List ℕ) (e : List (List ℕ)) (c : ℕ) → c < n → slice_index (solution_word n ps e) c ≡ solution_symbol n ps e c
-unfolding solution_word
-index_solution n ps e c l = get_or-map (solution_symbol n ps e) (below n) c 0 0 (omega (arith, l, length_below n)) ∙ ap (solution_symbol n ps e) (index_below n c l)
-
 -- a place of a matrix of n + 1 columns that isn't the last
 pub inner_place : (n : ℕ) (ps : List ℕ) (e : List (List ℕ)) (i : ℕ) → HasPivots (n + 1) ps e → (Contains ps n → ⊥) → i < length ps → slice_index ps i < n
 inner_place n ps e i h o l =
     let a : slice_index ps i < n + 1 = h.inside i l in
     ⊎_elim (λ m. m) (λ m. let s : slice_index ps i ≡ n = omega (arith, a, m) in absurd (o (at_place ps i n l s))) (cases_lt (slice_index ps i) n)
-
-pub is_solution_word : (f : FieldName) (n : ℕ) (ps : List ℕ) (e : List (List ℕ)) → AreRows f (n + 1) e → HasPivots (n + 1) ps e → (Contains ps n → ⊥) → IsSolutionWord f n ps e (solution_word n ps e)
-is_solution_word f n ps e r h o =
-    record {
-      word = record {
-        long = length_solution_word n ps e;
-        fits = λ c k. rw (index_solution n ps e c (omega (arith, k, length_solution_word n ps e))) (symbol_fits f n ps e c (n + 1) r);
-      };
-      places = λ i k. index_solution n ps e (slice_index ps i) (inner_place n ps e i h o k) ∙ symbol_place n ps e i h.rises h.count k;
-      others = λ c a. ⊎_elim
-          (λ m. index_solution n ps e c m ∙ symbol_other n ps e c a)
-          (λ m. past_end (solution_word n ps e) c (omega (arith, m, length_solution_word n ps e)))
-          (cases_lt c n);
-    }
-
-pub solution_word_unique : (f : FieldName) (n : ℕ) (ps : List ℕ) (e : List (List ℕ)) (v w : List ℕ) → IsSolutionWord f n ps e v → IsSolutionWord f n ps e w → v ≡ w
-solution_word_unique f n ps e v w p q =
-    ext_get_or 0 v w (p.word.long ∙ sym q.word.long) (λ c l. ⊎_elim
-    (λ t. ap (slice_index v) (sym (place_at ps c t)) ∙ p.places t.0 t.1 ∙ sym (q.places t.0 t.1) ∙ ap (slice_index w) (place_at ps c t))
-    (λ o. p.others c o ∙ sym (q.others c o))
-    (contains_decided cases_eq ps c))
 
 pub solution_balances : (f : FieldName) (n : ℕ) (ps : List ℕ) (e : List (List ℕ)) (w : List ℕ) → AreRows f (n + 1) e → HasPivots (n + 1) ps e → (Contains ps n → ⊥) → IsSolutionWord f n ps e w → IsOrthogonal f e (w ++ neg f 1 ∷ [])
 solution_balances f n ps e w r h o q =
@@ -186,11 +126,3 @@ no_solution f n ps rows e right w r s p h t q d =
     let lead : entry e i n ≡ 1 = ap (entry e i) (sym at) ∙ h.leads i l in
     let value : word_dot f (slice_index_or e i []) v ≡ neg f 1 = dot_single f (slice_index_or e i []) v n rest ∙ ap (λ k. mul f k (slice_index v n)) lead ∙ ap (mul f 1) (symbol_behind n w (neg f 1) q.long) ∙ one_mul f (neg f 1) (neg_inside f 1) in
     omega (arith, neg_one_nonzero f, sym value ∙ o i [] l)
-
-pub solvable : (f : FieldName) (n : ℕ) (ps : List ℕ) (rows e : List (List ℕ)) (right : List ℕ) → AreRows f n rows → IsWord f (length rows) right → IsEchelon f (n + 1) (augmented rows right) e → HasPivots (n + 1) ps e → ((w : List ℕ) × IsWord f n w × Solves f rows right w) ↔ (Contains ps n → ⊥)
-solvable f n ps rows e right r s p h = (
-  (λ t o. no_solution f n ps rows e right t.0 r s p h o t.1 t.2),
-  (λ o.
-      let q = is_solution_word f n ps e p.words h o in
-      (solution_word n ps e, q.word, solution_of f n ps rows e right (solution_word n ps e) r s p h o q)),
-)

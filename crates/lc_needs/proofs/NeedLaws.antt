@@ -1,16 +1,16 @@
 -- How many bytes a need takes.
---   same_text            two texts that are the same byte by byte are equal
 --   name_found           a call that is found has the name that was looked for
 --   query_long           the name of a query, and twice the number of its arguments
 --   asked                a statement that asks for a search is a call of a query
 --   needs_long           fifteen bytes for each need
 use Rattle.std.proofs.Common.{◌≡◌, ℕ, zero, suc, ◌+◌, ◌*◌, ◌≤◌, Bool, true, false, ◌==◌, List, [], ◌∷◌, ◌++◌, length, find, take, cond, Option, Some, None, refl, sym, ap, subst, ◌∙◌, inl, inr, arith}
 use Rattle.std.specs.Prelude.{MatchOption}
-use Rattle.std.proofs.lemmas.Bool.{and_parts, eqb-true, false≢true}
+use Rattle.std.proofs.lemmas.Bool.{eqb-true, false≢true}
 use Rattle.std.proofs.Math.Seq.{take-length}
 use Rattle.lc_algebra.specs.Matrix.{Matrix}
 use Rattle.lc_formats.specs.Text.{same_bytes}
 use Rattle.lc_formats.proofs.CertificateShaped.{find_passes}
+use Rattle.lc_formats.proofs.ByteLaws.{same_from_bytes}
 use Rattle.lc_grammar.specs.declared.Token.{Token}
 use Rattle.lc_grammar.specs.Token.{scan}
 use Rattle.lc_grammar.specs.Tree.{Expr, Exprs, number, name, call, list, Statement, count_of}
@@ -28,16 +28,9 @@ use Rattle.lc_language.specs.Evaluation.{Outcome, Outcomes, gives, refused, refu
 use Rattle.lc_sessions.specs.Needs.{NeedsOn, Needs, IsNeeds, MeetsFirst}
 use Rattle.lc_needs.proofs.WidthLaws.{AreWide, widths, widths-append, wide_left, wide_right, statement_wide, tokens_wide}
 
-pub same_text : (u v : List ℕ) → same_bytes u v ≡ true → u ≡ v
-unfolding same_bytes
-same_text [] [] e = refl
-same_text [] (b ∷ v) e = absurd (false≢true e)
-same_text (a ∷ u) [] e = absurd (false≢true e)
-same_text (a ∷ u) (b ∷ v) e = (let p = and_parts (a == b) (same_bytes u v) e in cc (eqb-true a b p.0, same_text u v p.1))
-
 pub name_found : (table : List Call) (x : List ℕ) (c : QueryCall) → call_named table x ≡ Some (Query c) → length x ≡ length (query_name c)
 unfolding call_named name_of
-name_found table x c e = ap (λ (u : List ℕ). length u) (same_text x (query_name c) (find_passes (λ (d : Call). same_bytes x (name_of d)) table (Query c) e))
+name_found table x c e = ap (λ (u : List ℕ). length u) (same_from_bytes x (query_name c) (find_passes (λ (d : Call). same_bytes x (name_of d)) table (Query c) e))
 
 only : (b : Bool) (kinds found : List Kind) → cond b (Some kinds) None ≡ Some found → b ≡ true
 only true kinds found e = refl

@@ -1,10 +1,9 @@
 -- Steps of the parser, for the goals of `src/reading.rt`.
 --   refuse_end, refuse_first     the refusal of the end and of a first token
 --   number_found, name_ascii     the value of a number's digits; the text of a name
---   within_first, within_rest    the first token and the others stand within the bytes
+--   within_rest                  the tokens after the first stand within the bytes
 --   too_deep                     the refusal of a sign that opens one level too many
 --   step_number .. step_no_target      one token read
---   stuck_statement, stuck_element, stuck_expr      what may not come after a statement, after an element, or where an expression must come
 use Rattle.std.proofs.Common.{◌≡◌, ℕ, ◌^◌, ◌<◌, ◌≤◌, true, ◌&&◌, nat_le, List, [], ◌∷◌, ◌++◌, length, Option, Some, None, Result, Ok, Err, IfOk, IfErr, MatchOption, unwrap_or, refl, sym, ap, ◌∙◌, subst, arith}
 use Rattle.std.proofs.lemmas.Str.{IsUtf8-from_ascii}
 use Rattle.std.specs.Str.{IsUtf8}
@@ -30,9 +29,6 @@ number_found (Some n) text h l = sym h
 
 pub name_ascii : (bytes : List ℕ) (t : Token) → IsWithin bytes t → t.kind ≡ Name → IsUtf8 (text_of bytes t)
 name_ascii bytes t h k = IsUtf8-from_ascii (text_of bytes t) (h.ascii k)
-
-pub within_first : (bytes : List ℕ) (ts : List Token) (t : Token) (rest : List Token) → ts ≡ t ∷ rest → AreWithin bytes ts → IsWithin bytes t
-within_first bytes ts t rest e h = (subst (AreWithin bytes) e h).0
 
 pub within_rest : (bytes : List ℕ) (ts : List Token) (t : Token) (rest : List Token) → ts ≡ t ∷ rest → AreWithin bytes ts → AreWithin bytes rest
 within_rest bytes ts t rest e h = (subst (AreWithin bytes) e h).1
@@ -117,10 +113,6 @@ none_first ss target e bytes t OpenList h = refl
 none_first ss target e bytes t CloseList h = refl
 none_first ss target e bytes t Comma h = refl
 
-pub stuck_statement : (bytes : List ℕ) (ss : List Statement) (target : Option (List ℕ)) (e : Expr) (ts : List Token) → IsNotFirst End ts → IsStuck bytes (done (statement ss target) e) ts
-stuck_statement bytes ss target e [] h = tt
-stuck_statement bytes ss target e (t ∷ ts) h = none_first ss target e bytes t t.kind h
-
 no_element : (bytes : List ℕ) (b : Bracket) (es : Exprs) (a : Around) (e : Expr) (t : Token) (kind : TokenKind) → (kind ≡ closing b → ⊥) → (kind ≡ Comma → ⊥) → next_by bytes (done (inside b es a) e) t kind ≡ None
 no_element bytes b es a e t Comma h k = absurd (k refl)
 no_element bytes (of_call place x) es a e t Close h k = absurd (h refl)
@@ -140,31 +132,12 @@ no_element bytes (of_list place) es a e t Close h k = refl
 no_element bytes (of_list place) es a e t OpenList h k = refl
 no_element bytes (of_list place) es a e t End h k = refl
 
-pub stuck_element : (bytes : List ℕ) (b : Bracket) (es : Exprs) (a : Around) (e : Expr) (ts : List Token) → IsNotFirst (closing b) ts → IsNotFirst Comma ts → IsStuck bytes (done (inside b es a) e) ts
-stuck_element bytes b es a e [] h k = tt
-stuck_element bytes b es a e (t ∷ ts) h k = no_element bytes b es a e t t.kind h k
-
 -- if an expression must come
 abbrev pub IsNoExpr : TokenKind → Type 0
 IsNoExpr Name = ⊥
 IsNoExpr Number = ⊥
 IsNoExpr OpenList = ⊥
 IsNoExpr kind = Unit {0}
-
-no_expr : (bytes : List ℕ) (a : Around) (t : Token) (kind : TokenKind) → (kind ≡ Name → ⊥) → (kind ≡ Number → ⊥) → (kind ≡ OpenList → ⊥) → next_by bytes (want a) t kind ≡ None
-no_expr bytes a t Name h k l = absurd (h refl)
-no_expr bytes a t Number h k l = absurd (k refl)
-no_expr bytes a t OpenList h k l = absurd (l refl)
-no_expr bytes a t Assign h k l = refl
-no_expr bytes a t Open h k l = refl
-no_expr bytes a t Close h k l = refl
-no_expr bytes a t CloseList h k l = refl
-no_expr bytes a t Comma h k l = refl
-no_expr bytes a t End h k l = refl
-
-pub stuck_expr : (bytes : List ℕ) (a : Around) (ts : List Token) → IsNotFirst Name ts → IsNotFirst Number ts → IsNotFirst OpenList ts → IsStuck bytes (want a) ts
-stuck_expr bytes a [] h k l = tt
-stuck_expr bytes a (t ∷ ts) h k l = no_expr bytes a t t.kind h k l
 
 pub refuses_from : (bytes : List ℕ) (ending : Ending) (s : State) (ts : List Token) (after : State) (rest : List Token) (e : ParseRefusal) → Stays bytes ending s ts after rest → Refuses bytes ending after rest e → Refuses bytes ending s ts e
 refuses_from bytes ending s ts after rest e stays h = subst (IsOutcome e) (sym stays) h

@@ -7,6 +7,7 @@ use Rattle.std.proofs.Common.{◌≡◌, ℕ, zero, suc, ◌+◌, ◌-◌, ◌<�
 use Rattle.std.proofs.lemmas.Bool.Decides.{nat_tests}
 use Rattle.std.proofs.Math.Numerals.{one-add}
 use Rattle.std.specs.List.{prefix_len, slice_range}
+use Rattle.std.proofs.lemmas.Bool.{cases_Bool}
 use Rattle.lc_grammar.specs.declared.TokenKind.TheVariants.{Name, Number}
 use Rattle.lc_grammar.specs.declared.Token.{Token}
 use Rattle.lc_grammar.specs.Token as language
@@ -38,10 +39,6 @@ ascii_prefix (x ∷ xs) i = by_test (is_name_byte x) refl (ascii_prefix xs) i
 
 below_widest : (kind_is x : ℕ) → (true && nat_lt widest x) ≡ false → x ≤ widest
 below_widest k x h = grind (arith, nat_tests)
-
-cases_bool : (b : Bool) → (b ≡ true) ⊎ (b ≡ false)
-cases_bool true = inl refl
-cases_bool false = inr refl
 
 -- what the step at a place says besides
 abbrev IsGood : List ℕ → ℕ → Lexeme → Type 0
@@ -96,9 +93,9 @@ module _ (bytes : List ℕ) (at : ℕ) where
   step_here : at ≤ length bytes → (l : List ℕ) → drop at bytes ≡ l → StepAt bytes at
   step_here le [] here = record { step_is = step.End (ScriptEnd at); is = step_end bytes at here; good = omega (arith, length-drop at bytes, ap length here) }
   step_here le (b ∷ rest) here =
-      elim (cases_bool (is_blank b)) [
+      elim (cases_Bool (is_blank b)) [
         | inl blank ↦ record { step_is = step.Skip 1; is = step_blank bytes at b rest here blank; good = tt }
-        | inr no_blank ↦ elim (cases_bool (b == 35)) [
+        | inr no_blank ↦ elim (cases_Bool (b == 35)) [
           | inl sharp ↦ record { step_is = step.Skip _; is = step_comment bytes at b rest here no_blank (behind_sharp b sharp) _ refl; good = tt }
           | inr no_sharp ↦ by_token no_blank no_sharp (token_at b rest) refl
         ]
@@ -107,7 +104,7 @@ module _ (bytes : List ℕ) (at : ℕ) where
       by_token : is_blank b ≡ false → (b == 35) ≡ false → (o : Option Cut) → token_at b rest ≡ o → StepAt bytes at
       by_token no_blank no_sharp None e = record { step_is = step.End (BadToken at); is = step_bad bytes at b rest here no_blank no_sharp e; good = tt }
       by_token no_blank no_sharp (Some cut) e =
-          elim (cases_bool (is_number cut.kind && nat_lt widest (number_of (slice_range (drop at bytes) 0 cut.bytes)))) [
+          elim (cases_Bool (is_number cut.kind && nat_lt widest (number_of (slice_range (drop at bytes) 0 cut.bytes)))) [
             | inl wide ↦ record { step_is = step.End (TooWide at); is = step_wide bytes at b rest here no_blank no_sharp cut e wide; good = tt }
             | inr narrow ↦
                 record {

@@ -8,6 +8,7 @@ use Rattle.std.proofs.Common.{◌≡◌, ℕ, zero, suc, ◌+◌, ◌-◌, ◌*�
 use Rattle.std.proofs.lemmas.List.{at_drop_more, at_drop_all, drop-drop, append-nil}
 use Rattle.std.proofs.lemmas.Bool.Decides.{nat_tests}
 use Rattle.std.proofs.Math.Numerals.{one-add}
+use Rattle.std.proofs.lemmas.Bool.{and_right}
 use Rattle.std.specs.List.{prefix_len, slice_range}
 use Rattle.lc_grammar.specs.declared.TokenKind.{TokenKind}
 use Rattle.lc_grammar.specs.declared.TokenKind.TheVariants.{Name, Number, Assign, Open, Close, OpenList, CloseList, Comma, End}
@@ -90,13 +91,9 @@ pub wide_none : (kind : TokenKind) (x : ℕ) → kind ≡ Number → 2 ^ 64 ≤ 
 unfolding is_number widest
 wide_none kind x e l = rw (e, test_above x l) refl
 
-and_false : (b : Bool) → (b && false) ≡ false
-and_false true = refl
-and_false false = refl
-
 pub wide_some : (kind : TokenKind) (x : ℕ) → x < 2 ^ 64 → false ≡ (is_number kind && nat_lt widest x)
 unfolding is_number widest
-wide_some kind x l = sym (ap (λ b. is_number kind && b) (test_within x l) ∙ and_false (is_number kind))
+wide_some kind x l = sym (ap (λ b. is_number kind && b) (test_within x l) ∙ and_right (is_number kind) false refl)
 
 pub wide_other : (kind : TokenKind) (x : ℕ) → (kind ≡ Number → ⊥) → false ≡ (is_number kind && nat_lt widest x)
 unfolding is_number

@@ -114,7 +114,7 @@ nonzero_shape_step q n before r u e =
     let i = numbers_inside 1 (q - 1) p.row p.left p.left_at in
     entries_cons q n p.left p.right u p.is (omega (arith, i.1)) (omega (arith, i.0, i.1)) (before p.column p.right p.right_at)
 
-only_nil : (r : ℕ) (u : List ℕ) → slice_get ([] ∷ []) r ≡ Some u → (r ≡ 0) × (u ≡ [])
+pub only_nil : (r : ℕ) (u : List ℕ) → slice_get ([] ∷ []) r ≡ Some u → (r ≡ 0) × (u ≡ [])
 only_nil zero u e = (refl, cc)
 only_nil (suc r) u e = absurd (cc)
 

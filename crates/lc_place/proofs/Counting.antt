@@ -1,6 +1,5 @@
 -- Counting as far as a bound, and the blocks of the levels.
 --   choose_more                how the number of sets grows by one element
---   choose_some                there are sets of each size up to that of the whole
 --   capped_sum, capped_product      a capped sum or product of capped numbers is that of the numbers
 --   table_more                 a table with one more entry
 --   choose_sum, power_next, count_is, start_next      the entries of the tables, from those before
@@ -14,28 +13,19 @@ use Rattle.std.proofs.lemmas.Nat.{div-mul-add}
 use Rattle.lc_enumeration.specs.Message.{choose, message_count}
 use Rattle.lc_enumeration.specs.Plan.{cut, blocks_before, level_blocks, phase_level}
 use Rattle.lc_enumeration.proofs.PlanLaws.{cut_is}
+use Rattle.lc_enumeration.proofs.ChooseLaws.{choose_next, choose_nothing}
 use Rattle.lc_place.specs.Tables.{IsTable, choose_entry, power_entry, count_entry, start_entry}
-
-choose_suc : (n j : ℕ) → choose (suc n) (suc j) ≡ choose n j + choose n (suc j)
-unfolding choose
-choose_suc n j = refl
 
 pub choose_more : (n j : ℕ) → 0 < n → 0 < j → choose n j ≡ choose (n - 1) (j - 1) + choose (n - 1) j
 choose_more zero j l m = absurd (omega arith)
 choose_more (suc n) zero l m = absurd (omega arith)
-choose_more (suc n) (suc j) l m = let e : suc n - 1 ≡ n = omega arith in let f : suc j - 1 ≡ j = omega arith in rw (e, f) (choose_suc n j)
-
-pub choose_some : (n j : ℕ) → j ≤ n → 1 ≤ choose n j
-unfolding choose
-choose_some n zero l = omega arith
-choose_some zero (suc j) l = absurd (omega arith)
-choose_some (suc n) (suc j) l = omega (arith, choose_some n j (omega arith))
+choose_more (suc n) (suc j) l m = let e : suc n - 1 ≡ n = omega arith in let f : suc j - 1 ≡ j = omega arith in rw (e, f) (choose_next n j)
 
 pub capped_sum : (a b : ℕ) → min (min a (2 ^ 53) + min b (2 ^ 53)) (2 ^ 53) ≡ min (a + b) (2 ^ 53)
 capped_sum a b = omega arith
 
 -- a product of two numbers of which one is at least the bound
-product_over : (a b s : ℕ) → s ≤ a → 1 ≤ b → s ≤ a * b
+pub product_over : (a b s : ℕ) → s ≤ a → 1 ≤ b → s ≤ a * b
 product_over a b s l m = omega (arith, le-mul_of_pos_right {m = b} a m)
 
 pub capped_product : (a b : ℕ) → min (min (min a (2 ^ 53) * min b (2 ^ 53)) (2 ^ 64 - 1)) (2 ^ 53) ≡ min (a * b) (2 ^ 53)
@@ -86,17 +76,13 @@ table_more f n t u v h e i = rw e (record {
   ];
 })
 
-choose_column : (n : ℕ) → choose n 0 ≡ 1
-unfolding choose
-choose_column n = refl
-
 choose_row : (j : ℕ) → 0 < j → choose 0 j ≡ 0
 unfolding choose
 choose_row zero l = absurd (omega arith)
 choose_row (suc j) l = refl
 
 pub choose_left : (i : ℕ) → i % 256 ≡ 0 → 1 ≡ choose_entry i
-choose_left i e = sym (ap (λ a. min (choose (i / 256) a) (2 ^ 53)) e ∙ ap (λ a. min a (2 ^ 53)) (choose_column (i / 256)))
+choose_left i e = sym (ap (λ a. min (choose (i / 256) a) (2 ^ 53)) e ∙ ap (λ a. min a (2 ^ 53)) (choose_nothing (i / 256)))
 
 pub choose_top : (i : ℕ) → i % 256 ≢ 0 → i < 256 → 0 ≡ choose_entry i
 choose_top i e l =
@@ -132,7 +118,7 @@ count_is k q e a b l m c d =
     let c' : a ≡ min (choose k (e + 1)) (2 ^ 53) = rw (row, column) at c in
     rw (c', d) (capped_product (choose k (e + 1)) ((q - 1) ^ e) ∙ ap (λ x. min x (2 ^ 53)) (sym (count_up k q e)))
 
-level_is : (k q e : ℕ) → level_blocks k q (e + 1) ≡ (message_count k q (e + 1) + 4095) / 4096
+pub level_is : (k q e : ℕ) → level_blocks k q (e + 1) ≡ (message_count k q (e + 1) + 4095) / 4096
 unfolding level_blocks
 level_is k q e = refl
 

@@ -19,7 +19,7 @@ use Rattle.lc_place.specs.declared.phase.Phase.{Phase}
 use Rattle.lc_place.specs.Place.{PlanSize, plan_phase}
 use Rattle.lc_place.specs.Tables.{IsTable, start_entry, count_entry, power_entry}
 use Rattle.lc_enumeration.proofs.PlanLaws.{cut_is, within, one_phase}
-use Rattle.lc_place.proofs.Counting.{blocks_in_level, blocks_of_level}
+use Rattle.lc_place.proofs.Counting.{blocks_in_level, blocks_of_level, level_is}
 use Rattle.lc_place.proofs.Supports.{support_shape}
 use Rattle.lc_place.proofs.Messages.{message_of, leading_shape, to_contains}
 use Rattle.lc_place.proofs.Unranking.{divided, message_from_parts}
@@ -100,10 +100,6 @@ same_blocks r n l b small e some f =
           })
     ]
 
-blocks_are : (k q e : ℕ) → level_blocks k q (e + 1) ≡ (message_count k q (e + 1) + 4095) / 4096
-unfolding level_blocks
-blocks_are k q e = refl
-
 at_least_one : (m l : ℕ) → 0 < m * l → 1 ≤ l
 at_least_one m zero h = absurd (omega (arith, h))
 at_least_one m (suc l) h = omega arith
@@ -115,7 +111,7 @@ stands k q m e block a b c s inside ae be ce after before se =
     let first : blocks_before k q m (e * m) ≡ a = omega (arith, ae, after, small, cut') in
     let last : block < blocks_before k q m ((e + 1) * m) = omega (arith, be, before) in
     let some : 1 ≤ level_blocks k q (e + 1) = at_least_one m (level_blocks k q (e + 1)) (omega (arith, blocks_of_level k q m e, first, last, after)) in
-    let same = same_blocks (block - a) (message_count k q (e + 1)) (level_blocks k q (e + 1)) ((c + 4095) / 4096) (omega (arith, small)) (blocks_are k q e) some (ap (λ x. (x + 4095) / 4096) ce) in
+    let same = same_blocks (block - a) (message_count k q (e + 1)) (level_blocks k q (e + 1)) ((c + 4095) / 4096) (omega (arith, small)) (level_is k q e) some (ap (λ x. (x + 4095) / 4096) ce) in
     let q' : s ≡ (block - blocks_before k q m (e * m)) / level_blocks k q (e + 1) = rw first (se ∙ same.quotient) in
     let t = by_true k q m e block (level_blocks k q (e + 1)) s refl some inside q' (omega (arith, first, after)) last small in
     let start : (phase_at k q m (e * m + s)).start ≡ block - (block - a) % ((c + 4095) / 4096) = t.4 ∙ ap (λ x. block - (block - x) % level_blocks k q (e + 1)) first ∙ ap (λ x. block - x) (sym same.rest) in
@@ -138,11 +134,11 @@ pub record Ranked (k q m p b : ℕ) (ph : Phase) : Type 0 where
   pub small : b < 2 ^ 40
   pub inside : 4096 * (b - ph.start) < message_count k q ph.level
 
-blocks_next : (k q m p : ℕ) → blocks_before k q m (suc p) ≡ blocks_before k q m p + level_blocks k q (phase_level m p)
+pub blocks_next : (k q m p : ℕ) → blocks_before k q m (suc p) ≡ blocks_before k q m p + level_blocks k q (phase_level m p)
 unfolding blocks_before
 blocks_next k q m p = refl
 
-blocks_of : (k q w : ℕ) → level_blocks k q w ≡ (message_count k q w + 4095) / 4096
+pub blocks_of : (k q w : ℕ) → level_blocks k q w ≡ (message_count k q w + 4095) / 4096
 unfolding level_blocks
 blocks_of k q w = refl
 

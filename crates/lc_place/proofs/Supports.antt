@@ -20,6 +20,7 @@ use Rattle.std.proofs.lemmas.Bool.Decides.{nat_tests}
 use Rattle.std.proofs.lemmas.List.{length-map, length-take-le, length-drop, get_or-take, get_or-drop, take-append-drop, ext_get_or}
 use Rattle.std.proofs.lemmas.Option.{slice_get-map, slice_get_within, slice_get_past, slice_get-get_or, none-some}
 use Rattle.lc_enumeration.specs.Message.{supports_from, numbers_from, choose}
+use Rattle.lc_enumeration.proofs.ChooseLaws.{choose_none, choose_nothing}
 use Rattle.lc_place.proofs.Products.{get-append_left, get-append_right, map_part}
 
 abbrev pub moved : ℕ → ℕ → List ℕ → Option (List ℕ) → Option (List ℕ)
@@ -194,7 +195,7 @@ which_part i k w n s e =
           }))
     ]
 
-only_nil : (i k n : ℕ) (s : List ℕ) → slice_get (supports_from i k 0) n ≡ Some s → (n ≡ 0) × (s ≡ [])
+pub only_nil : (i k n : ℕ) (s : List ℕ) → slice_get (supports_from i k 0) n ≡ Some s → (n ≡ 0) × (s ≡ [])
 unfolding supports_from
 only_nil i k zero s e = (refl, cc)
 only_nil i k (suc n) s e = absurd (cc)
@@ -234,20 +235,10 @@ row : (i w : ℕ) → Some (i ∷ numbers_from (suc i) w) ≡ Some (numbers_from
 unfolding numbers_from
 row i w = refl
 
-pub choose_nothing : (k : ℕ) → choose k 0 ≡ 1
-unfolding choose
-choose_nothing k = refl
-
 pub support_first : (i k w : ℕ) → w ≤ k → slice_get (supports_from i k w) 0 ≡ Some (numbers_from i w)
 support_first i k zero l = nil_first i k
 support_first i zero (suc w) l = absurd (omega arith)
 support_first i (suc k) (suc w) l = support_takes i k w 0 (numbers_from (suc i) w) (support_first (suc i) k w (omega arith)) ∙ row i w
-
-pub choose_none : (k w : ℕ) → k < w → choose k w ≡ 0
-unfolding choose
-choose_none k zero l = absurd (omega arith)
-choose_none zero (suc w) l = refl
-choose_none (suc k) (suc w) l = omega (arith, choose_none k w (omega arith), choose_none k (suc w) (omega arith))
 
 after_first : (i k w : ℕ) (s : List ℕ) → length s ≡ w → slice_get (supports_from (suc i) k (suc w)) 0 ≡ moved i k s None
 after_first i k w s e =

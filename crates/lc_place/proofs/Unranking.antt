@@ -16,9 +16,10 @@ use Rattle.std.proofs.lemmas.List.{append-nil}
 use Rattle.std.proofs.lemmas.Nat.{div_below, div-add-mod'}
 use Rattle.std.proofs.lemmas.Option.{slice_get-map}
 use Rattle.lc_enumeration.specs.Message.{choose, supports_from, nonzero_lists, leading_lists, messages}
+use Rattle.lc_enumeration.proofs.ChooseLaws.{choose_next, choose_nothing}
 use Rattle.lc_place.specs.Tables.{choose_entry, power_entry}
 use Rattle.lc_place.proofs.Coefficients.{nonzero_digit, length-leading_lists}
-use Rattle.lc_place.proofs.Supports.{support_takes, support_leaves, length-supports}
+use Rattle.lc_place.proofs.Supports.{support_takes, support_leaves, length-supports, only_nil}
 use Rattle.lc_place.proofs.Messages.{message_of, message_at, supports_are}
 
 pub record SupportSoFar (k w r i : ℕ) (s : List ℕ) (t : ℕ) : Type 0 where
@@ -51,22 +52,14 @@ support_take k w r i s v t h inside few take is =
           h.leads (i ∷ x) at ∙ ap Some (sym (ap (λ y. y ++ x) is ∙ append_assoc s (i ∷ []) x)));
     }
 
-choose_split : (n j : ℕ) → choose (suc n) (suc j) ≡ choose n j + choose n (suc j)
-unfolding choose
-choose_split n j = refl
-
 choose_no_place : (j : ℕ) → choose 0 (suc j) ≡ 0
 unfolding choose
 choose_no_place j = refl
 
-choose_no_more : (n : ℕ) → choose n 0 ≡ 1
-unfolding choose
-choose_no_more n = refl
-
 leave_by : (k w r i n j : ℕ) (s : List ℕ) (t : ℕ) → k - i ≡ suc n → k - (i + 1) ≡ n → w - length s ≡ suc j → SupportSoFar k w r i s t → choose n j ≤ t → SupportSoFar k w r (i + 1) s (t - choose n j)
 leave_by k w r i n j s t a b c h leave =
     let below : t < choose (suc n) (suc j) = rw (a, c) at h.below in
-    let later : t - choose n j < choose n (suc j) = omega (arith, below, choose_split n j, leave) in
+    let later : t - choose n j < choose n (suc j) = omega (arith, below, choose_next n j, leave) in
     let g : i + 1 ≡ suc i = omega arith in
     let many : length (supports_from (suc i) n j) ≡ choose n j = length-supports (suc i) n j in
     let place : t ≡ length (supports_from (suc i) n j) + (t - choose n j) = omega (arith, many, leave) in
@@ -82,14 +75,14 @@ leave_by k w r i n j s t a b c h leave =
 pub support_leave : (k w r i c : ℕ) (s : List ℕ) (t : ℕ) → SupportSoFar k w r i s t → i < k → length s < w → choose (k - i - 1) (w - length s - 1) ≤ t → c ≡ choose (k - i - 1) (w - length s - 1) → SupportSoFar k w r (i + 1) s (t - c)
 support_leave k w r i c s t h inside few leave e = rw e (leave_by k w r i (k - i - 1) (w - length s - 1) s t (omega arith) (omega arith) (omega arith) h leave)
 
-supports_nothing : (i k : ℕ) → slice_get (supports_from i k 0) 0 ≡ Some []
+pub supports_nothing : (i k : ℕ) → slice_get (supports_from i k 0) 0 ≡ Some []
 unfolding supports_from
 supports_nothing i k = refl
 
 support_done : (k w r i : ℕ) (s : List ℕ) (t : ℕ) → SupportSoFar k w r i s t → w - length s ≡ 0 → slice_get (supports_from 0 k w) r ≡ Some s
 support_done k w r i s t h whole =
     let below : t < choose (k - i) 0 = rw whole at h.below in
-    let zero : t ≡ 0 = omega (arith, below, choose_no_more (k - i)) in
+    let zero : t ≡ 0 = omega (arith, below, choose_nothing (k - i)) in
     let at : slice_get (supports_from i (k - i) (w - length s)) t ≡ Some [] = rw (whole, zero) (supports_nothing i (k - i)) in
     h.leads [] at ∙ ap Some (append-nil s)
 
@@ -155,7 +148,7 @@ digit_few q w r i u t size h inside =
     let below : t < (q - 1) ^ suc (w - 1 - i) = rw a at h.below in
     div_below t ((q - 1) ^ (w - 1 - i)) (q - 1) some (omega (arith, below, pow-suc (q - 1) (w - 1 - i)))
 
-nothing : (q : ℕ) → slice_get (nonzero_lists q 0) 0 ≡ Some []
+pub nothing : (q : ℕ) → slice_get (nonzero_lists q 0) 0 ≡ Some []
 unfolding nonzero_lists
 nothing q = refl
 
@@ -173,21 +166,16 @@ message_from_parts k q w r s u e d =
     let place : r ≡ r / (q - 1) ^ (w - 1) * length (leading_lists q w) + r % (q - 1) ^ (w - 1) = sym (div-add-mod' r ((q - 1) ^ (w - 1))) ∙ ap (λ a. r / (q - 1) ^ (w - 1) * a + r % (q - 1) ^ (w - 1)) (sym (length-leading_lists q w)) in
     ap (slice_get (messages k q w)) place ∙ message_at k q w (r / (q - 1) ^ (w - 1)) (r % (q - 1) ^ (w - 1)) s u (ap (λ l. slice_get l (r / (q - 1) ^ (w - 1))) (supports_are k w) ∙ e) d
 
-supports_no_place : (i k n : ℕ) (v : List ℕ) → slice_get (supports_from i k 0) n ≡ Some v → (n ≡ 0) × (v ≡ [])
-unfolding supports_from
-supports_no_place i k zero v e = (refl, cc)
-supports_no_place i k (suc n) v e = absurd (cc)
-
 pub support_rest : (k w r i : ℕ) (s : List ℕ) (t : ℕ) → SupportSoFar k w r i s t → w ≤ length s → SupportSoFar k w r (i + 1) s t
 support_rest k w r i s t h whole =
     let none : w - length s ≡ 0 = omega arith in
     let below : t < choose (k - i) 0 = rw none at h.below in
     record {
       few = h.few;
-      below = rw none (omega (arith, below, choose_no_more (k - i), choose_no_more (k - (i + 1))));
+      below = rw none (omega (arith, below, choose_nothing (k - i), choose_nothing (k - (i + 1))));
       leads = λ v e. (
           let e' : slice_get (supports_from (i + 1) (k - (i + 1)) 0) t ≡ Some v = rw none at e in
-          let p = supports_no_place (i + 1) (k - (i + 1)) t v e' in
+          let p = only_nil (i + 1) (k - (i + 1)) t v e' in
           let at : slice_get (supports_from i (k - i) (w - length s)) t ≡ Some v = rw (none, p.0, p.1) (supports_nothing i (k - i)) in
           h.leads v at);
     }

@@ -24,6 +24,7 @@ use Rattle.lc_place.proofs.Products.{product_at, map_part}
 use Rattle.lc_place.proofs.Coefficients.{numbers_at}
 use Rattle.lc_place.proofs.Supports.{IsRising, support_takes, support_leaves}
 use Rattle.lc_place.proofs.Messages.{message_of, IsMessage, message_shape, message_at, supports_are, from_contains, to_contains}
+use Rattle.lc_place.proofs.Unranking.{supports_nothing}
 
 abbrev pub places : ℕ → List ℕ → List ℕ
 places i [] = []
@@ -137,10 +138,6 @@ no_more : (i w : ℕ) → slice_get (supports_from i 0 0) 0 ≡ Some []
 unfolding supports_from
 no_more i w = refl
 
-none_left : (i k : ℕ) → slice_get (supports_from i k 0) 0 ≡ Some []
-unfolding supports_from
-none_left i k = refl
-
 nothing : (s : List ℕ) → length s ≡ 0 → s ≡ []
 nothing [] e = refl
 nothing (a ∷ s) e = absurd (omega (arith, e))
@@ -148,7 +145,7 @@ nothing (a ∷ s) e = absurd (omega (arith, e))
 pub places_listed : (i k w : ℕ) (v : List ℕ) → length v ≡ k → length (nonzeros v) ≡ w → (n : ℕ) × (slice_get (supports_from i k w) n ≡ Some (places i v))
 places_listed i k zero v e f =
     let none : places i v ≡ [] = nothing (places i v) (length-places i v ∙ f) in
-    (0, none_left i k ∙ ap Some (sym none))
+    (0, supports_nothing i k ∙ ap Some (sym none))
 places_listed i zero (suc w) [] e f = absurd (omega (arith, f))
 places_listed i zero (suc w) (a ∷ v) e f = absurd (omega (arith, e))
 places_listed i (suc k) (suc w) [] e f = absurd (omega (arith, e))

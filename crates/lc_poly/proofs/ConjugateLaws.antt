@@ -4,10 +4,9 @@
 --   small_power_sum            the power by the size of the small field keeps sums
 --   value_conjugate            the value at that power is that power of the value
 --   conjugate_zero             so each power of a zero by powers of the size is a zero
---   value_cons, value_none     a value by the constant and the rest
 --   cyclotomic_zeros           a zero a^i brings those of the cyclotomic set of i
 --   product_divides            a divisor times a minimal polynomial whose zero it lacks
-use Rattle.std.proofs.Common.{◌≡◌, ◌≢◌, ℕ, zero, suc, ◌*◌, ◌^◌, ◌<◌, ⊎_elim, List, [], ◌∷◌, map, Contains, refl, sym, ap, ◌∙◌}
+use Rattle.std.proofs.Common.{◌≡◌, ◌≢◌, ℕ, zero, suc, ◌*◌, ◌^◌, ◌<◌, ⊎_elim, List, [], ◌∷◌, map, Contains, sym, ap, ◌∙◌}
 use Rattle.std.proofs.Math.Nat.{pow-suc, pow-zero}
 use Rattle.lc_algebra.specs.declared.FieldName.{FieldName}
 use Rattle.lc_algebra.specs.Field.{shape_of, size, add, mul, pow}
@@ -21,6 +20,7 @@ use Rattle.lc_algebra.proofs.EmbeddingLaws.{embed_inside, embed_one, embed_mul}
 use Rattle.lc_algebra.proofs.WordLaws.{fits_head, fits_tail}
 use Rattle.lc_algebra.proofs.PolynomialLaws.{product_commutes, product_associates, product_same, same_product, value_inside}
 use Rattle.lc_poly.proofs.QuotientLaws.{value_embedded_same, value_embedded_product, minimal_divides}
+use Rattle.lc_poly.proofs.ZeroLaws.{value_cons, value_none}
 
 pub power_sum : (f : FieldName) (a b s : ℕ) → a < size f → b < size f → pow f (add f a b) ((shape_of f).characteristic ^ s) ≡ add f (pow f a ((shape_of f).characteristic ^ s)) (pow f b ((shape_of f).characteristic ^ s))
 power_sum f a b zero l m =
@@ -30,14 +30,6 @@ power_sum f a b (suc s) l m =
     let p = (shape_of f).characteristic in
     rw (pow-suc p s)
     (cc (pow_mul f (add f a b) (p ^ s) p, power_sum f a b s l m, pow_mul f a (p ^ s) p, pow_mul f b (p ^ s) p, frobenius f (pow f a (p ^ s)) (pow f b (p ^ s)) (pow_inside f a (p ^ s)) (pow_inside f b (p ^ s))))
-
-pub value_cons : (f : FieldName) (c : ℕ) (u : List ℕ) (x : ℕ) → value_at f (c ∷ u) x ≡ add f c (mul f x (value_at f u x))
-unfolding value_at
-value_cons f c u x = refl
-
-pub value_none : (f : FieldName) (x : ℕ) → value_at f [] x ≡ 0
-unfolding value_at
-value_none f x = refl
 
 module _ (small large : FieldName) (sub : IsSubfield small large) where
   pub embed_pow : (c n : ℕ) → c < size small → embed small large (pow small c n) ≡ pow large (embed small large c) n

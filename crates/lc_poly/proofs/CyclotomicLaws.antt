@@ -3,14 +3,14 @@
 --   IsMarked                   the marks that are set so far, and the number that comes next
 --   marks_none, marks_step, marks_whole      none, one more, and all
 --   missing, missing_set       how many are not marked: one fewer
---   IsCollected, collected_none, collected_step, collected_over      the marked numbers, rising
+--   IsCollected, collected_step, collected_over      the marked numbers, rising
 --   members_told               the marked numbers are the cyclotomic set
 use Rattle.std.proofs.Common.{◌≡◌, ℕ, zero, suc, ◌+◌, ◌*◌, ◌%◌, ◌^◌, ◌<◌, ◌↔◌, ◌⊎◌, inl, inr, ⊎_elim, Bool, true, false, true≢false, List, [], ◌∷◌, ◌++◌, length, get_or, set, replicate, Contains, refl, sym, ap, ◌∙◌, arith, mod-lt}
 use Rattle.std.specs.List.Sorted.{IsStrictlyIncreasing}
 use Rattle.std.proofs.Math.Nat.{pow-suc, pow-zero, mod-eq_of_lt}
 use Rattle.std.proofs.lemmas.Bool.{cases_lt, cases_eq}
 use Rattle.std.proofs.lemmas.Nat.{mul-mod_first}
-use Rattle.std.proofs.lemmas.List.{get_or_past, get_or-set_same, get_or-set_other, get_or_push, get_or_append_left, length-set, length-append}
+use Rattle.std.proofs.lemmas.List.{get_or-set_same, get_or-set_other, get_or_push, get_or_append_left, length-set, length-append}
 use Rattle.std.proofs.lemmas.List.Elements.{Contains-get_or, Contains-push, Contains-push_cases, Contains-append_left}
 use Rattle.lc_algebra.specs.Embedding.{IsCyclotomicSet}
 
@@ -99,14 +99,6 @@ pub record IsCollected (seen : List Bool) (n : ℕ) (xs : List ℕ) : Type 0 whe
   pub marked : (x : ℕ) → Contains xs x → get_or seen x false ≡ true
   pub all : (x : ℕ) → x < n → get_or seen x false ≡ true → Contains xs x
 
-pub collected_none : (seen : List Bool) (xs : List ℕ) → xs ≡ [] → IsCollected seen 0 xs
-collected_none seen xs e = rw e record {
-  rises = λ k l. absurd (omega (arith, l));
-  below = λ x c. absurd (omega (arith, c.1));
-  marked = λ x c. absurd (omega (arith, c.1));
-  all = λ x l. absurd (omega (arith, l));
-}
-
 pub collected_step : (seen : List Bool) (n : ℕ) (xs ys : List ℕ) (y : ℕ) → IsCollected seen n xs → y ≡ n → get_or seen n false ≡ true → ys ≡ xs ++ y ∷ [] → IsCollected seen (n + 1) ys
 collected_step seen n xs ys y h ey t e = rw (e, ey) record {
   rises = λ k l.
@@ -127,12 +119,6 @@ collected_over seen n xs h t = record {
   marked = h.marked;
   all = λ x l s. ⊎_elim (λ d. absurd (true≢false (sym s ∙ ap (λ z. get_or seen z false) d ∙ t))) (λ d. h.all x (omega (arith, l, d)) s) (cases_eq x n);
 }
-
-pub collected_whole : (seen : List Bool) (n : ℕ) (xs : List ℕ) → IsCollected seen n xs → n ≡ length seen → (x : ℕ) → Contains xs x ↔ (get_or seen x false ≡ true)
-collected_whole seen n xs h e x = (
-  h.marked x,
-  (λ t. ⊎_elim (λ l. h.all x l t) (λ l. absurd (true≢false (sym t ∙ get_or_past seen x false (omega (arith, e, l))))) (cases_lt x n)),
-)
 
 pub members_told : (n q i : ℕ) (seen : List Bool) (xs : List ℕ) → ((x : ℕ) → (get_or seen x false ≡ true) ↔ IsPower n q i x) → IsStrictlyIncreasing xs → ((x : ℕ) → Contains xs x ↔ (get_or seen x false ≡ true)) → IsCyclotomicSet n q i xs
 members_told n q i seen xs h r m = record {

@@ -1,7 +1,6 @@
 -- Degrees of products, and lists of a given length.
 --   product_drop           coefficients of a product that the first factor's lower ones don't reach
 --   product_high           no coefficients above the sum of the degrees
---   no_more                a list of one 0
 --   product_top            the coefficient at the sum of the degrees
 --   low_factor             the first factor of a product of low degree
 --   same_factor            products with an equal second factor have equal first factors
@@ -16,11 +15,12 @@ use Rattle.lc_algebra.specs.Field.{add, neg, mul}
 use Rattle.lc_algebra.specs.Word.{Fits, IsWord}
 use Rattle.lc_algebra.specs.Polynomial.{poly_sum, poly_scale, poly_product, x_power_minus_one, SamePolynomial, IsPolynomial}
 use Rattle.lc_algebra.proofs.FieldLaws.{zero_inside, mul_inside, add_zero, zero_add, add_neg, mul_zero, neg_one_mul, subtract_zero, no_zero_divisors}
-use Rattle.lc_algebra.proofs.WordLaws.{fits_head, fits_tail, fits_cons, fits_symbol}
+use Rattle.lc_algebra.proofs.WordLaws.{fits_head, fits_tail, fits_cons, fits_symbol, fits_drop}
 use Rattle.lc_algebra.proofs.PolynomialLaws.{index_sum, index_multiple, index_both, index_product_suc, fits_sum, fits_multiple, product_inside, sum_product, multiple_product, product_nothing, low_product}
-use Rattle.lc_poly.proofs.ListLaws.{nothing_times, dropped, fits_drop}
+use Rattle.lc_algebra.proofs.CommonLaws.{zero_at}
+use Rattle.lc_poly.proofs.ListLaws.{nothing_times, dropped}
 use Rattle.lc_poly.proofs.DivisionLaws.{x_power_polynomial}
-use Rattle.lc_poly.proofs.MinimalLaws.{length_x_power}
+use Rattle.lc_poly.proofs.MinimalLaws.{length_x_power, nothing}
 
 past : (i : ℕ) → slice_index [] i ≡ 0
 past i = get_or_past {X = ℕ} [] i 0 (omega arith)
@@ -41,15 +41,11 @@ product_drop f (c ∷ u) v (suc k) i l =
     let z : slice_index v (suc (k + i)) ≡ 0 = get_or_past v (suc (k + i)) 0 (omega (arith, l)) in
     ap (slice_index (poly_product f (c ∷ u) v)) e ∙ index_product_suc f c u v (k + i) ∙ ap (λ y. add f (mul f c y) P) z ∙ ap (λ y. add f y P) (mul_zero f c) ∙ zero_add f P (product_inside f u v (k + i)) ∙ product_drop f u v k i l
 
-no_list : (v : List ℕ) → length v ≤ 0 → v ≡ []
-no_list [] l = refl
-no_list (a ∷ v) l = absurd (omega (arith, l))
-
 pub product_high : (f : FieldName) (u v : List ℕ) (k : ℕ) → length u + length v ≤ suc k → slice_index (poly_product f u v) k ≡ 0
 product_high f u v k l =
     ⊎_elim
     (λ b.
-    let e : v ≡ [] = no_list v (omega (arith, l, b)) in
+    let e : v ≡ [] = nothing v (omega (arith, l, b)) in
     ap (λ w. slice_index (poly_product f u w) k) e ∙ product_nothing f u k)
     (λ b.
     let m = length u in
@@ -58,10 +54,6 @@ product_high f u v k l =
     ∙ ap (λ w. slice_index (poly_product f w v) (k - m)) (dropped u m (omega arith)) ∙ ap (λ w. slice_index w (k - m)) (nothing_times f v) ∙ past (k - m))
     (cases_lt k (length u))
 
-pub no_more : (i : ℕ) → slice_index (0 ∷ []) i ≡ 0
-no_more zero = refl
-no_more (suc i) = refl
-
 pub product_top : (f : FieldName) (u v : List ℕ) → 0 < length u → 0 < length v → slice_index (poly_product f u v) (length u - 1 + (length v - 1)) ≡ mul f (slice_index u (length u - 1)) (slice_index v (length v - 1))
 product_top f u v a b =
     let k = length u - 1 in
@@ -69,7 +61,7 @@ product_top f u v a b =
     let c = slice_index u k in
     let d : drop k u ≡ c ∷ [] = drop_more u k 0 (omega (arith, a)) ∙ ap (λ w. c ∷ w) (dropped u (k + 1) (omega (arith, a))) in
     product_drop f u v k i (omega (arith, b)) ∙ ap (λ w. slice_index (poly_product f w v) i) d ∙ index_both f c [] v i
-    ∙ ap (λ w. add f (mul f c (slice_index v i)) (slice_index (0 ∷ w) i)) (nothing_times f v) ∙ ap (add f (mul f c (slice_index v i))) (no_more i) ∙ add_zero f (mul f c (slice_index v i)) (mul_inside f c (slice_index v i))
+    ∙ ap (λ w. add f (mul f c (slice_index v i)) (slice_index (0 ∷ w) i)) (nothing_times f v) ∙ ap (add f (mul f c (slice_index v i))) (zero_at i) ∙ add_zero f (mul f c (slice_index v i)) (mul_inside f c (slice_index v i))
 
 pub low_factor : (f : FieldName) (u by : List ℕ) (n : ℕ) → Fits f u → IsPolynomial f by → 0 < length by → ((i : ℕ) → n + (length by - 1) ≤ i → slice_index (poly_product f u by) i ≡ 0) → (i : ℕ) → n ≤ i → slice_index u i ≡ 0
 low_factor f u by n h p l z i b =
@@ -77,7 +69,7 @@ low_factor f u by n h p l z i b =
     let k : length by ≡ suc m = omega (arith, l) in
     let low : (j : ℕ) → m ≤ j → slice_index (poly_product f (drop n u) by) j ≡ 0 = λ j c. sym (product_drop f u by n j (omega (arith, k, c))) ∙ z (n + j) (omega (arith, c)) in
     let e : i ≡ n + (i - n) = omega (arith, b) in
-    ap (slice_index u) e ∙ sym (get_or-drop n u (i - n) 0) ∙ low_product f (drop n u) by m (fits_drop f u n h) p.fits k (p.leads l) low (i - n)
+    ap (slice_index u) e ∙ sym (get_or-drop n u (i - n) 0) ∙ low_product f (drop n u) by m (fits_drop f n u h) p.fits k (p.leads l) low (i - n)
 
 pub same_factor : (f : FieldName) (u w by : List ℕ) → Fits f u → Fits f w → IsPolynomial f by → 0 < length by → SamePolynomial (poly_product f u by) (poly_product f w by) → SamePolynomial u w
 same_factor f u w by hu hw p l s i =
@@ -114,10 +106,10 @@ divisor_degrees f n u v l p q s =
     (a, b, sum)
   where
     nothing_first : length u ≤ 0 → ⊥
-    nothing_first b = absurd (omega (arith, x_power_top f n l, s n, ap (λ w. slice_index (poly_product f w v) n) (no_list u b), ap (λ w. slice_index w n) (nothing_times f v), past n))
+    nothing_first b = absurd (omega (arith, x_power_top f n l, s n, ap (λ w. slice_index (poly_product f w v) n) (nothing u b), ap (λ w. slice_index w n) (nothing_times f v), past n))
 
     nothing_second : length v ≤ 0 → ⊥
-    nothing_second b = absurd (omega (arith, x_power_top f n l, s n, ap (λ w. slice_index (poly_product f u w) n) (no_list v b), product_nothing f u n))
+    nothing_second b = absurd (omega (arith, x_power_top f n l, s n, ap (λ w. slice_index (poly_product f u w) n) (nothing v b), product_nothing f u n))
 
 -- ---- lists of a given length
 

@@ -12,10 +12,10 @@ use Rattle.lc_algebra.specs.Field.{add, neg}
 use Rattle.lc_algebra.specs.Word.{Fits}
 use Rattle.lc_algebra.specs.Polynomial.{trimmed, poly_sum, poly_scale, poly_product, x_power_minus_one, SamePolynomial, IsPolynomial, IsDivision, Divides}
 use Rattle.lc_algebra.proofs.FieldLaws.{zero_inside, one_inside, neg_inside, add_comm, add_neg, add_cancel, add_zero, neg_one_mul, subtract_zero}
-use Rattle.lc_algebra.proofs.WordLaws.{fits_cons, fits_symbol}
+use Rattle.lc_algebra.proofs.WordLaws.{fits_cons, fits_symbol, fits_take, fits_drop}
 use Rattle.lc_poly.proofs.TrimLaws.{IsTrimmed, trimmed_is}
 use Rattle.lc_algebra.proofs.PolynomialLaws.{low_product, index_sum, index_multiple, fits_sum, fits_multiple, fits_product, product_inside, same_product, sum_product, multiple_product, no_longer, only_polynomial}
-use Rattle.lc_poly.proofs.ListLaws.{fits_take, fits_drop, written_back}
+use Rattle.lc_poly.proofs.ListLaws.{written_back}
 
 pub division_told : (f : FieldName) (a by w q r : List ℕ) → Fits f w → 0 < length by → SamePolynomial a (poly_sum f (poly_product f (drop (length by - 1) w) by) (take (length by - 1) w)) → IsTrimmed f (drop (length by - 1) w) q → IsTrimmed f (take (length by - 1) w) r → IsDivision f a by q r
 division_told f a by w q r h l s tq tr =
@@ -24,7 +24,7 @@ division_told f a by w q r h l s tq tr =
       quotient = tq.polynomial;
       remainder = tr.polynomial;
       lower = omega (arith, length-take m w, no_longer f (take m w) r tr.polynomial tr.same);
-      whole = λ k. s k ∙ index_sum f (poly_product f (drop m w) by) (take m w) k (fits_product f (drop m w) by) (fits_take f w m h) ∙ cc (same_product f (drop m w) q by k tq.same, tr.same k) ∙ sym (index_sum f (poly_product f q by) r k (fits_product f q by) tr.polynomial.fits);
+      whole = λ k. s k ∙ index_sum f (poly_product f (drop m w) by) (take m w) k (fits_product f (drop m w) by) (fits_take f m w h) ∙ cc (same_product f (drop m w) q by k tq.same, tr.same k) ∙ sym (index_sum f (poly_product f q by) r k (fits_product f q by) tr.polynomial.fits);
     }
 
 same_above : (f : FieldName) (a b q r : List ℕ) → IsDivision f a b q r → (i : ℕ) → length b - 1 ≤ i → slice_index (poly_product f q b) i ≡ slice_index a i
@@ -112,7 +112,7 @@ pub parts_told : (f : FieldName) (a by w x y u v q r : List ℕ) (m : ℕ) → F
 parts_told f a by w x y u v q r m h l s ex ey em eu ev tq tr =
     let eq : u ≡ drop (length by - 1) w = cc in
     let er : v ≡ take (length by - 1) w = cc in
-    division_told f a by w q r h l s (trimmed_is f (drop (length by - 1) w) q (fits_drop f w (length by - 1) h) (tq ∙ ap trimmed eq)) (trimmed_is f (take (length by - 1) w) r (fits_take f w (length by - 1) h) (tr ∙ ap trimmed er))
+    division_told f a by w q r h l s (trimmed_is f (drop (length by - 1) w) q (fits_drop f (length by - 1) w h) (tq ∙ ap trimmed eq)) (trimmed_is f (take (length by - 1) w) r (fits_take f (length by - 1) w h) (tr ∙ ap trimmed er))
 
 pub divides_told : (f g : FieldName) (a b q r : List ℕ) (is_zero : Bool) → f ≡ g → IsPolynomial f b → IsDivision g a b q r → (IsTrue is_zero ↔ (r ≡ [])) → IsTrue is_zero ↔ Divides f b a
 divides_told f g a b q r is_zero e hb d t =

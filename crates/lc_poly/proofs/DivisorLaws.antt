@@ -11,24 +11,20 @@ use Rattle.lc_algebra.specs.declared.FieldName.{FieldName}
 use Rattle.lc_algebra.specs.Field.{neg}
 use Rattle.lc_algebra.specs.Word.{Fits}
 use Rattle.lc_algebra.specs.Polynomial.{trimmed, poly_sum, poly_product, x_power_minus_one, SamePolynomial, IsPolynomial, Divides}
-use Rattle.lc_algebra.proofs.WordLaws.{same_words}
+use Rattle.lc_algebra.proofs.WordLaws.{same_words, fits_take, fits_drop}
 use Rattle.lc_algebra.proofs.PolynomialLaws.{no_longer}
 use Rattle.lc_poly.proofs.TrimLaws.{trimmed_is, trimmed_coefficients, length_trimmed}
-use Rattle.lc_poly.proofs.ListLaws.{fits_take, fits_drop}
 use Rattle.lc_poly.proofs.DivisionLaws.{division_told, divides_exactly, x_power_ends}
 use Rattle.lc_poly.proofs.QuotientLaws.{trimmed_exists}
-
-nothing_left : (u : List ℕ) → length u ≤ 0 → u ≡ []
-nothing_left [] l = refl
-nothing_left (a ∷ u) l = absurd (omega (arith, l))
+use Rattle.lc_poly.proofs.MinimalLaws.{nothing}
 
 pub remainder_is_zero : (f : FieldName) (a by w : List ℕ) → IsPolynomial f by → 0 < length by → Fits f w → SamePolynomial a (poly_sum f (poly_product f (drop (length by - 1) w) by) (take (length by - 1) w)) → ((i : ℕ) → slice_index (take (length by - 1) w) i ≡ 0) ↔ Divides f by a
 remainder_is_zero f a by w p l h e =
     let m = length by - 1 in
-    let q = trimmed_exists f (drop m w) (fits_drop f w m h) in
-    let r = trimmed_exists f (take m w) (fits_take f w m h) in
+    let q = trimmed_exists f (drop m w) (fits_drop f m w h) in
+    let r = trimmed_exists f (take m w) (fits_take f m w h) in
     let x = divides_exactly f a by q.0 r.0 p (division_told f a by w q.0 r.0 h l e q.1 r.1) in (
-      (λ z. x.0 (nothing_left r.0 (no_longer f [] r.0 r.1.polynomial (λ i. sym (z i) ∙ r.1.same i)))),
+      (λ z. x.0 (nothing r.0 (no_longer f [] r.0 r.1.polynomial (λ i. sym (z i) ∙ r.1.same i)))),
       (λ d i. r.1.same i ∙ ap (λ u. slice_index u i) (x.1 d)),
     )
 

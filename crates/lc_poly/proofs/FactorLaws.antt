@@ -6,7 +6,6 @@
 --   divides_x_power            so it divides x^n - 1
 --   multiples_of_product       its multiples are the polynomials with all its zeros
 --   new_is_apart               the set of a number that stands in no set yet is apart from all of them
---   one_more_product           the product with one more factor
 --   product_zeros, product_multiples, product_divides_x_power      the same of each list with the product's coefficients
 use Rattle.std.proofs.Common.{◌≡◌, ◌≢◌, ℕ, zero, suc, ◌+◌, ◌*◌, ◌%◌, ◌^◌, ◌<◌, ◌≤◌, ◌↔◌, ⊎_elim, List, [], ◌∷◌, map, slice_index, mul-zero, All, AllPairs, Contains, refl, sym, ap, subst, ◌∙◌, arith, mod-lt}
 use Rattle.std.proofs.Math.Nat.{pow-zero, mod-eq_of_lt, mul_comm, add_comm, suc-mul, mul-suc}
@@ -25,7 +24,7 @@ use Rattle.lc_algebra.proofs.EmbeddingLaws.{embed_one}
 use Rattle.lc_algebra.proofs.WordLaws.{fits_cons, fits_symbol}
 use Rattle.lc_algebra.proofs.SpanLaws.{contains_head, contains_tail, contains_cases}
 use Rattle.lc_poly.specs.Factors.{Factor, IsFactor, AreApart, AreFactors, StandsIn, product_of}
-use Rattle.lc_algebra.proofs.PolynomialLaws.{index_both, fits_product, product_commutes, product_same, same_product, value_inside}
+use Rattle.lc_algebra.proofs.PolynomialLaws.{index_both, fits_product, product_commutes, product_same, value_inside}
 use Rattle.lc_poly.proofs.MinimalLaws.{value_x_power, embedded_x_power}
 use Rattle.lc_poly.proofs.DivisionLaws.{x_power_polynomial}
 use Rattle.lc_poly.proofs.QuotientLaws.{value_embedded_same, value_embedded_product}
@@ -188,10 +187,6 @@ module _ (small large : FieldName) (sub : IsSubfield small large) where
           new (s, c, (common_number t.number s.number k t.numbers s.numbers one.cyclotomic (All-contains (IsFactor small large b n) ts s h.each c).cyclotomic x y (t.number % n)).0 (own_number n (size small) t.number t.numbers one.cyclotomic))))
           h.apart;
     }
-
-pub one_more_product : (f : FieldName) (t : Factor) (ts : List Factor) (g h : List ℕ) → SamePolynomial (product_of f ts) g → SamePolynomial (poly_product f g t.polynomial) h → SamePolynomial (product_of f (t ∷ ts)) h
-unfolding product_of
-one_more_product f t ts g h s r i = same_product f (product_of f ts) g t.polynomial i s ∙ r i
 
 -- the same of each list with the coefficients of the product
 module _ (small large : FieldName) (sub : IsSubfield small large) (b n : ℕ) (ts : List Factor) (g : List ℕ) (order : HasOrder large b n) (factors : AreFactors small large b n ts) (same : SamePolynomial (product_of small ts) g) where

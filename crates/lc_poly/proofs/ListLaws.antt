@@ -2,15 +2,14 @@
 --   taken_trimmed               the coefficients up to the last nonzero one
 --   value_none, value_step      Horner's rule, coefficient by coefficient from the last one down
 --   IsAdded                     some coefficients of a multiple are added
---   added_step, added_whole     one more, and all of them
+--   added_whole     all of them
 --   IsMultiplied, product_none, product_step     the product, from the first factor's last coefficient down
 --   product_whole               the whole product
 --   part_low, part_high         the coefficients of a window of a list
---   one_more, undone            one more coefficient of the quotient; what is taken away and added again
+--   one_more            one more coefficient of the quotient; what is taken away and added again
 --   IsDivided, division_none, division_step      the division, from the last place down
 --   division_whole, division_short               the whole division, and that of a shorter polynomial
---   fits_set, fits_take, fits_drop, fits_zeros   lists whose entries are elements
---   zeros_everywhere            a list of zeros, past its end too
+--   fits_set, fits_zeros   lists whose entries are elements
 --   dropped                     nothing is left past the end
 --   nothing_times               the product with the zero polynomial
 --   written_back                a list that a slice of a vector was written as
@@ -22,9 +21,10 @@ use Rattle.lc_algebra.specs.declared.FieldName.{FieldName}
 use Rattle.lc_algebra.specs.Field.{size, add, neg, mul, IsInverse}
 use Rattle.lc_algebra.specs.Word.{Fits}
 use Rattle.lc_algebra.specs.Polynomial.{value_at, poly_sum, poly_product, SamePolynomial}
-use Rattle.lc_algebra.proofs.FieldLaws.{zero_inside, mul_inside, add_comm, add_assoc, zero_add, add_zero, add_neg, mul_comm, mul_assoc, mul_one, neg_mul, mul_zero}
+use Rattle.lc_algebra.proofs.FieldLaws.{zero_inside, mul_inside, add_comm, add_assoc, zero_add, add_zero, mul_comm, mul_assoc, mul_one, neg_mul, mul_zero}
 use Rattle.lc_algebra.proofs.WordLaws.{fits_cons, fits_symbol}
 use Rattle.lc_poly.proofs.TrimLaws.{IsTrimmed}
+use Rattle.lc_poly.proofs.ZeroLaws.{value_cons, undone}
 use Rattle.lc_algebra.proofs.PolynomialLaws.{index_sum, index_both, index_product_zero, index_product_suc, fits_product, same_product, product_commutes, product_associates, product_sum, value_sum, value_product}
 
 pub taken_trimmed : (f : FieldName) (u : List ℕ) (n : ℕ) → Fits f u → n ≤ length u → (0 < n → 0 < slice_index u (n - 1)) → ((i : ℕ) → n ≤ i → slice_index u i ≡ 0) → IsTrimmed f u (take n u)
@@ -45,10 +45,6 @@ value_none f [] (suc n) x e = refl
 value_none f (a ∷ u) zero x e = absurd (omega (arith, e))
 value_none f (a ∷ u) (suc n) x e = value_none f u n x (omega (arith, e))
 
-value_cons : (f : FieldName) (a : ℕ) (u : List ℕ) (x : ℕ) → value_at f (a ∷ u) x ≡ add f a (mul f x (value_at f u x))
-unfolding value_at
-value_cons f a u x = refl
-
 pub value_step : (f : FieldName) (u : List ℕ) (n x v : ℕ) → 0 < n → n ≤ length u → v ≡ value_at f (drop n u) x → add f (slice_index u (n - 1)) (mul f x v) ≡ value_at f (drop (n - 1) u) x
 value_step f u n x v p l e =
     let d : drop (n - 1) u ≡ slice_index u (n - 1) ∷ drop (n - 1 + 1) u = drop_more u (n - 1) 0 (omega arith) in
@@ -68,22 +64,6 @@ fits_set f u i x h l k m =
     (λ e. ⊎_elim (λ b. let r : slice_index (set u i x) k ≡ x = ap (λ j. slice_index (set u i x) j) e ∙ get_or-set_same u i x 0 b in rw r l) (λ b. rw (get_or_past (set u i x) k 0 (omega (arith, length-set {A = ℕ}, e, b))) (zero_inside f)) (cases_lt i (length u)))
     (λ d. rw (get_or-set_other u i k x 0 d) (fits_symbol f u h k))
     (cases_eq k i)
-
-pub added_step : (f : FieldName) (at : ℕ) (from : List ℕ) (factor n : ℕ) (old new : List ℕ) (x : ℕ) → IsAdded f at from factor n old new → at + n < length new → x ≡ add f (slice_index new (at + n)) (mul f factor (slice_index from n)) → x < size f → IsAdded f at from factor (n + 1) old (set new (at + n) x)
-added_step f at from factor n old new x h l e k = record {
-  long = length-set new (at + n) x ∙ h.long;
-  fits = fits_set f new (at + n) x h.fits k;
-  before = λ i b. get_or-set_other new (at + n) i x 0 (omega (arith, b)) ∙ h.before i b;
-  done = λ i b.
-      ⊎_elim
-      (λ d.
-      let s : slice_index (set new (at + n) x) (at + i) ≡ x = ap (λ j. slice_index (set new (at + n) x) (at + j)) d ∙ get_or-set_same new (at + n) x 0 l in
-      let r : slice_index new (at + n) ≡ slice_index old (at + n) = h.rest n (omega arith) in
-      cc (s, r, e, d))
-      (λ d. get_or-set_other new (at + n) (at + i) x 0 (omega (arith, d)) ∙ h.done i (omega (arith, b, d)))
-      (cases_eq i n);
-  rest = λ i b. get_or-set_other new (at + n) (at + i) x 0 (omega (arith, b)) ∙ h.rest i (omega (arith, b));
-}
 
 pub added_whole : (f : FieldName) (at : ℕ) (from : List ℕ) (factor n : ℕ) (old new : List ℕ) → IsAdded f at from factor n old new → n ≡ length from → Fits f old → (i : ℕ) → slice_index new (at + i) ≡ add f (slice_index old (at + i)) (mul f factor (slice_index from i))
 added_whole f at from factor n old new h e k i =
@@ -157,20 +137,9 @@ part_high (a ∷ u) (suc m) (suc k) l = part_high u m k (omega (arith, l))
 part_inside : (f : FieldName) (u : List ℕ) (at m k : ℕ) → Fits f u → slice_index (take m (drop at u)) k < size f
 part_inside f u at m k h = ⊎_elim (λ l. rw (part_low u at m k l) (fits_symbol f u h (at + k))) (λ l. rw (part_high (drop at u) m k l) (zero_inside f)) (cases_lt k m)
 
-pub fits_take : (f : FieldName) (u : List ℕ) (m : ℕ) → Fits f u → Fits f (take m u)
-fits_take f u m h i l = part_inside f u 0 m i h
-
-pub fits_drop : (f : FieldName) (u : List ℕ) (m : ℕ) → Fits f u → Fits f (drop m u)
-fits_drop f u m h i l = rw (get_or-drop m u i 0) (fits_symbol f u h (m + i))
-
 pub fits_zeros : (f : FieldName) (n : ℕ) → Fits f (replicate n 0)
 fits_zeros f zero = λ i l. zero_inside f
 fits_zeros f (suc n) = fits_cons f 0 (replicate n 0) (zero_inside f) (fits_zeros f n)
-
-pub zeros_everywhere : (n i : ℕ) → slice_index (replicate n 0) i ≡ 0
-zeros_everywhere zero i = refl
-zeros_everywhere (suc n) zero = refl
-zeros_everywhere (suc n) (suc i) = zeros_everywhere n i
 
 pub division_none : (f : FieldName) (by : List ℕ) (m : ℕ) (old : List ℕ) (at : ℕ) → Fits f old → at + m ≡ length old → IsDivided f by m old at old
 division_none f by m old at h e = record {
@@ -211,9 +180,6 @@ one_more f by q d r s c factor l i h g (suc k) =
     let P = slice_index (poly_product f q by) k in
     let S = slice_index s (suc k) in
     cc (index_product_suc f factor q by k, g (suc k), h k, add_comm f M P, add_assoc f P M S)
-
-pub undone : (f : FieldName) (a b : ℕ) → a < size f → add f b (add f a (neg f b)) ≡ a
-undone f a b l = cc (add_comm f b (add f a (neg f b)), add_assoc f a (neg f b) b, add_comm f (neg f b) b, add_neg f b, add_zero f a l)
 
 pub division_step : (f : FieldName) (by : List ℕ) (m : ℕ) (old : List ℕ) (at : ℕ) (work added : List ℕ) (factor inverse : ℕ) → length by ≡ m + 1 → Fits f old → IsDivided f by m old (at + 1) work → at + m < length work → IsInverse f (slice_index by m) inverse → factor ≡ mul f (slice_index work (at + m)) inverse → length added ≡ length work → Fits f added → ((i : ℕ) → i < at → slice_index added i ≡ slice_index work i) → ((i : ℕ) → slice_index added (at + i) ≡ add f (slice_index work (at + i)) (mul f (neg f factor) (slice_index by i))) → IsDivided f by m old at (set added (at + m) factor)
 division_step f by m old at work added factor inverse eb ho h l inv ef long fits before sum =

@@ -19,7 +19,7 @@ use Rattle.lc_algebra.specs.Field.{size, add, neg, mul, pow}
 use Rattle.lc_algebra.specs.Word.{Fits}
 use Rattle.lc_algebra.specs.Polynomial.{value_at, poly_scale, x_power_minus_one, IsPolynomial, trimmed}
 use Rattle.lc_algebra.specs.Embedding.{IsSubfield, embed, IsMinimal}
-use Rattle.lc_algebra.proofs.FieldLaws.{zero_inside, one_inside, add_inside, mul_inside, add_comm, add_neg, zero_add, add_zero, mul_comm, mul_swap, mul_add, mul_zero, mul_one, mul_neg, inverse_of}
+use Rattle.lc_algebra.proofs.FieldLaws.{zero_inside, one_inside, add_inside, mul_inside, add_comm, add_neg, zero_add, mul_comm, mul_swap, mul_add, mul_zero, mul_one, mul_neg, inverse_of}
 use Rattle.lc_algebra.proofs.PowerLaws.{pow_zero, pow_suc, pow_size}
 use Rattle.lc_algebra.proofs.EmbeddingLaws.{embed_zero, embed_one, embed_mul, embed_neg}
 use Rattle.lc_algebra.proofs.WordLaws.{fits_head, fits_tail, fits_cons, fits_symbol}
@@ -28,6 +28,7 @@ use Rattle.lc_poly.specs.Minimal.{next_value, CanVanish}
 use Rattle.lc_algebra.proofs.PolynomialLaws.{index_multiple, fits_multiple, only_polynomial}
 use Rattle.lc_poly.proofs.ListLaws.{fits_set, fits_zeros, dropped}
 use Rattle.lc_poly.proofs.DivisionLaws.{x_power_polynomial}
+use Rattle.lc_poly.proofs.ZeroLaws.{value_cons, value_constant}
 
 module _ (small large : FieldName) (a : ℕ) where
   pub vanishes_none : (n v : ℕ) → n ≡ 0 → v ≡ 0 → CanVanish small large a n v
@@ -57,17 +58,6 @@ module _ (small large : FieldName) (a : ℕ) where
   not_reached n v m l h k r =
       let t = more_reached n v l r in
       h t.0 (omega (arith, k, t.1)) t.2
-
-value_cons : (f : FieldName) (c : ℕ) (u : List ℕ) (x : ℕ) → value_at f (c ∷ u) x ≡ add f c (mul f x (value_at f u x))
-unfolding value_at
-value_cons f c u x = refl
-
-value_none : (f : FieldName) (x : ℕ) → value_at f [] x ≡ 0
-unfolding value_at
-value_none f x = refl
-
-value_constant : (f : FieldName) (c x : ℕ) → c < size f → value_at f (c ∷ []) x ≡ c
-value_constant f c x l = cc (value_cons f c [] x, value_none f x, mul_zero f x, add_zero f c l)
 
 pub value_power : (f : FieldName) (k x : ℕ) → value_at f (replicate k 0 ++ 1 ∷ []) x ≡ pow f x k
 value_power f zero x = value_constant f 1 x (one_inside f) ∙ sym (pow_zero f x)
@@ -112,7 +102,7 @@ last_up (c ∷ u) l h =
     let d : length (c ∷ u) - 1 ≡ length u = omega arith in
     rw e (rw d at h)
 
-nothing : (u : List ℕ) → length u ≤ 0 → u ≡ []
+pub nothing : (u : List ℕ) → length u ≤ 0 → u ≡ []
 nothing [] l = refl
 nothing (c ∷ u) l = absurd (omega (arith, l))
 

@@ -14,12 +14,13 @@ use Rattle.lc_algebra.specs.Polynomial.{value_at, poly_sum, poly_scale, poly_pro
 use Rattle.lc_algebra.specs.Embedding.{IsSubfield, embed, IsMinimal}
 use Rattle.lc_algebra.proofs.FieldLaws.{zero_inside, mul_inside, zero_add, add_zero, mul_comm, mul_assoc, mul_add, add_mul, mul_zero, zero_mul, mul_one, neg_mul, inverse_of}
 use Rattle.lc_algebra.proofs.EmbeddingLaws.{embed_zero, embed_add}
-use Rattle.lc_algebra.proofs.WordLaws.{fits_head, fits_tail, fits_cons, fits_symbol, add_exchange}
+use Rattle.lc_algebra.proofs.WordLaws.{fits_head, fits_tail, fits_cons, fits_symbol, add_exchange, fits_take}
 use Rattle.lc_algebra.proofs.PolynomialLaws.{index_sum, index_multiple, fits_sum, fits_multiple, fits_product, same_product, value_inside, value_same, no_longer}
 use Rattle.lc_poly.proofs.TrimLaws.{IsTrimmed, trimmed_is}
-use Rattle.lc_poly.proofs.ListLaws.{fits_take, part_high, one_more, undone}
+use Rattle.lc_poly.proofs.ListLaws.{part_high, one_more}
 use Rattle.lc_poly.proofs.DivisionLaws.{divides_exactly}
 use Rattle.lc_poly.proofs.MinimalLaws.{value_scaled}
+use Rattle.lc_poly.proofs.ZeroLaws.{undone}
 
 pub trimmed_exists : (f : FieldName) (u : List ℕ) → Fits f u → (v : List ℕ) × IsTrimmed f u v
 trimmed_exists f u h = (trimmed u, trimmed_is f u (trimmed u) h refl)
@@ -43,7 +44,7 @@ parts_more f m b c a q r hb eb lead l h =
     let w = poly_sum f (c ∷ r) (poly_scale f (neg f factor) b) in
     let fw : Fits f w = fits_sum f (c ∷ r) (poly_scale f (neg f factor) b) fr (fits_multiple f (neg f factor) b) in
     let s = take m w in
-    let fs : Fits f s = fits_take f w m fw in
+    let fs : Fits f s = fits_take f m w fw in
     let top : mul f factor (slice_index b m) ≡ slice_index (c ∷ r) m = cc (mul_assoc f (slice_index (c ∷ r) m) i.0 (slice_index b m), mul_comm f i.0 (slice_index b m), i.1.one, mul_one f (slice_index (c ∷ r) m) (hr m)) in
     let g : (k : ℕ) → add f (mul f factor (slice_index b k)) (slice_index s k) ≡ slice_index (c ∷ r) k = λ k.
     ⊎_elim

@@ -29,9 +29,9 @@ use Rattle.lc_algebra.proofs.DimensionLaws.{AreDistinct, distinct_map, distinct_
 use Rattle.lc_algebra.proofs.PolynomialLaws.{index_product_zero, index_product_suc, product_inside, product_commutes, product_associates, product_same, same_product, value_inside, value_product}
 use Rattle.lc_poly.proofs.DivisionLaws.{x_power_polynomial}
 use Rattle.lc_poly.proofs.MinimalLaws.{value_x_power, length_x_power, last_up}
-use Rattle.lc_poly.proofs.ZeroLaws.{few_zeros}
+use Rattle.lc_poly.proofs.ZeroLaws.{few_zeros, value_cons, value_none}
 use Rattle.lc_poly.proofs.QuotientLaws.{trimmed_exists, value_embedded_same, value_embedded_product, minimal_divides}
-use Rattle.lc_poly.proofs.ConjugateLaws.{value_cons, value_none, small_power_sum, embed_fixed, conjugate_zero, cyclotomic_zeros}
+use Rattle.lc_poly.proofs.ConjugateLaws.{small_power_sum, embed_fixed, conjugate_zero, cyclotomic_zeros}
 
 linear : FieldName → ℕ → List ℕ
 linear f r = neg f r ∷ 1 ∷ []

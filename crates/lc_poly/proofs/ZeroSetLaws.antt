@@ -21,28 +21,25 @@ use Rattle.lc_algebra.specs.Embedding.{IsSubfield, embed}
 use Rattle.lc_algebra.proofs.FieldLaws.{zero_inside, one_inside, mul_inside, add_zero, zero_add, add_neg, mul_zero, one_mul, neg_one_mul, subtract_zero}
 use Rattle.lc_algebra.proofs.PowerLaws.{pow_inside, pow_mul, pow_size}
 use Rattle.lc_algebra.proofs.EmbeddingLaws.{embed_inside, embed_zero, embed_injective}
-use Rattle.lc_algebra.proofs.WordLaws.{fits_symbol}
+use Rattle.lc_algebra.proofs.WordLaws.{fits_symbol, fits_one}
 use Rattle.lc_algebra.proofs.SpanLaws.{contains_cases, contains_map}
 use Rattle.lc_algebra.proofs.DimensionLaws.{AreDistinct, distinct_map}
 use Rattle.lc_algebra.proofs.PolynomialLaws.{index_sum, index_multiple, index_both, index_product_suc, fits_sum, fits_multiple, fits_product, value_inside, value_same, value_sum, value_multiple, value_product}
+use Rattle.lc_algebra.proofs.CommonLaws.{zero_at}
 use Rattle.lc_poly.proofs.ListLaws.{nothing_times}
 use Rattle.lc_poly.proofs.DivisionLaws.{divides_exactly}
 use Rattle.lc_poly.proofs.ZeroLaws.{few_zeros}
 use Rattle.lc_poly.proofs.QuotientLaws.{trimmed_exists, division_exists, index_embedded, value_embedded_same, value_embedded_sum, value_embedded_product}
 use Rattle.lc_poly.proofs.RootLaws.{roots_product, product_has_root, raised_roots, preimages, size_power}
-use Rattle.lc_poly.proofs.DegreeLaws.{no_more, listed, length_listed, listed_word, listed_same}
+use Rattle.lc_poly.proofs.DegreeLaws.{listed, length_listed, listed_word, listed_same}
 
 pub one_times : (f : FieldName) (v : List ℕ) (i : ℕ) → Fits f v → slice_index (poly_product f (1 ∷ []) v) i ≡ slice_index v i
 one_times f v i h =
-    index_both f 1 [] v i ∙ ap (λ w. add f (mul f 1 (slice_index v i)) (slice_index (0 ∷ w) i)) (nothing_times f v) ∙ ap (add f (mul f 1 (slice_index v i))) (no_more i)
+    index_both f 1 [] v i ∙ ap (λ w. add f (mul f 1 (slice_index v i)) (slice_index (0 ∷ w) i)) (nothing_times f v) ∙ ap (add f (mul f 1 (slice_index v i))) (zero_at i)
     ∙ add_zero f (mul f 1 (slice_index v i)) (mul_inside f 1 (slice_index v i)) ∙ one_mul f (slice_index v i) (fits_symbol f v h i)
 
 linear_times : (f : FieldName) (c : ℕ) (v : List ℕ) (i : ℕ) → Fits f v → slice_index (poly_product f (c ∷ 1 ∷ []) v) (suc i) ≡ add f (mul f c (slice_index v (suc i))) (slice_index v i)
 linear_times f c v i h = index_product_suc f c (1 ∷ []) v i ∙ ap (add f (mul f c (slice_index v (suc i)))) (one_times f v i h)
-
-fits_one : (f : FieldName) → Fits f (1 ∷ [])
-fits_one f zero l = one_inside f
-fits_one f (suc i) l = absurd (omega (arith, l))
 
 pub fits_roots : (f : FieldName) (rs : List ℕ) → Fits f (roots_product f rs)
 unfolding roots_product

@@ -4,15 +4,15 @@
 --   ends_answered              once the search is answered
 --   ends_used_up               once the slice is used up
 --   ends_stopped               once a step stopped it
-use Rattle.std.proofs.Common.{◌≡◌, ℕ, zero, suc, ◌+◌, ◌-◌, ◌^◌, ◌<◌, ◌≤◌, Bool, true, false, List, [], ◌∷◌, ◌++◌, inr, map, refl, sym, ap, subst, ◌∙◌, append_assoc, arith}
+use Rattle.std.proofs.Common.{◌≡◌, ℕ, ◌+◌, ◌-◌, ◌^◌, ◌<◌, ◌≤◌, Bool, true, false, List, [], ◌∷◌, ◌++◌, inr, map, refl, sym, ap, subst, ◌∙◌, append_assoc, arith}
 use Rattle.std.specs.Prelude.{Option, Some, None}
-use Rattle.std.proofs.lemmas.Bool.{false≢true}
 use Rattle.std.proofs.lemmas.List.{append-nil, map-append}
 use Rattle.lc_algebra.specs.Matrix.{Matrix}
 use Rattle.lc_algebra.specs.Divisor.{divisor_of}
 use Rattle.lc_enumeration.specs.Search.{Answer, fits}
 use Rattle.lc_enumeration.specs.Records.{Progress, SessionStep, found_of, step_of, is_used_up, less_slice, last_state}
 use Rattle.lc_checkpoint.specs.Seen.{settled_of, point_of}
+use Rattle.lc_infoset.proofs.RoundLaws.{used_up}
 use Rattle.lc_search.specs.State.{SearchState, answer_in}
 use Rattle.lc_rounds.specs.declared.pace.Pace.{Pace}
 use Rattle.lc_rounds.specs.declared.rounds.Stop.{Stop}
@@ -67,12 +67,6 @@ same_twice a b c g h = record {
 none_less : (slice : Option ℕ) (n : ℕ) → slice ≡ None → less_slice slice n ≡ None
 unfolding less_slice
 none_less slice n e = ap (λ (o : Option ℕ). less_slice o n) e
-
-used_up : (slice : Option ℕ) → is_used_up slice ≡ true → slice ≡ Some 0
-unfolding is_used_up
-used_up None e = absurd (false≢true e)
-used_up (Some zero) e = refl
-used_up (Some (suc n)) e = absurd (false≢true e)
 
 module _ (first : Pace) (start : SearchState) (entry : Around) (pace : Pace) (s : SearchState) (now : Around) (g : GoesOn first start entry pace s now) where
   step_same : step_at pace s ≡ step_at first start

@@ -90,7 +90,7 @@ module _ (o : Origin) (told : List SessionStep) (pace : Pace) (s : SearchState) 
         turn = ap next_turn h.turn ∙ sym (turn_after-append o.turn told (step ∷ []));
         last = (told, step, refl, refl);
         heard = subst (λ (l : List Record). Kept pace.keep l q o.around.watchers new.watchers) (sym (map-append (λ (t : SessionStep). record_of t.note) told (step ∷ [])))
-            (Kept-more pace.keep h.is_paused q (records_of told) (record_of step.note) o.around.watchers old.watchers new.watchers h.unpaused h.heard tells);
+            (Kept-more pace.keep (records_of told) (record_of step.note) h.is_paused q o.around.watchers old.watchers new.watchers h.unpaused h.heard tells);
         stored = stored_more pace.keep (point_of pace.point).script pace.point.budget o.turn told step o.around.vault old.vault new.vault h.stored
             (subst (λ (t : ℕ). PutsIf pace.keep (slot_of t) (stored_bytes 2 (point_of pace.point).script pace.point.budget t step) old.vault new.vault) h.turn
             (subst (λ (text : List ℕ). PutsIf pace.keep (slot_of pace.point.turn) text old.vault new.vault) (step_text pace s version) puts));

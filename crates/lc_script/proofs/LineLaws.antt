@@ -1,11 +1,12 @@
 -- The lines of answers.
 --   answered_parts       an answer of a search tells its word and its blocks
 --   answered_word        the word of the answer is there
---   word_there, exact_word, bracket_word      there is a word at its place
+--   exact_word, bracket_word      there is a word at its place
 --   exact_line, between_line     the lines of distances
 --   exact_said, between_said     the lines of certificates
-use Rattle.std.proofs.Common.{◌≡◌, ◌++◌, ℕ, true, is_some, List, [], Option, Some, unwrap_or, Result, Ok, Err, IfOk, codes, decimal, refl, sym, ap, subst, ◌∙◌}
+use Rattle.std.proofs.Common.{◌≡◌, ◌++◌, ℕ, true, List, [], Some, unwrap_or, Result, IfOk, codes, decimal, refl, sym, ap, subst, ◌∙◌}
 use Rattle.std.specs.Global.{Vec}
+use Rattle.std.proofs.lemmas.Result.{IfOk-weaker}
 use Rattle.lc_algebra.specs.Matrix.{Matrix, AreRows}
 use Rattle.lc_algebra.specs.Span.{AreIndependent}
 use Rattle.lc_algebra.specs.Divisor.{divisor_of}
@@ -43,35 +44,25 @@ answered_word {D = D} s a e f same rows free =
 
 -- ---- the places
 
-has_some : {X : Type 0} (o : Option X) (x : X) → o ≡ Some x → is_some o ≡ true
-has_some o x e = ap is_some e
-
 pub exact_word : {D : Matrix} (s : SearchState) (a : Answered) (weight place blocks : ℕ) → a ≡ Exact weight place blocks → answer_in s ≡ Some (answer_of a) → fits s.code s.progress.blocks (found_of s.progress) ≡ true → D ≡ s.code → AreRows D.field D.columns D.rows → AreIndependent D.field D.columns D.rows → HasWord s.code (record { weight = weight; place = place })
 exact_word s a weight place blocks is e f same rows free = subst (λ (x : Answered). HasWord s.code (found_in x)) is (answered_word s a e f same rows free)
 
 pub bracket_word : {D : Matrix} (s : SearchState) (a : Answered) (low weight place blocks : ℕ) → a ≡ Bracket low weight place blocks → answer_in s ≡ Some (answer_of a) → fits s.code s.progress.blocks (found_of s.progress) ≡ true → D ≡ s.code → AreRows D.field D.columns D.rows → AreIndependent D.field D.columns D.rows → HasWord s.code (record { weight = weight; place = place })
 bracket_word s a low weight place blocks is e f same rows free = subst (λ (x : Answered). HasWord s.code (found_in x)) is (answered_word s a e f same rows free)
 
-pub word_there : (C : Matrix) (found : Found) → HasWord C found → is_some (word_at C (set_count C) found.place) ≡ true
-word_there C found h = has_some (word_at C (set_count C) found.place) h.word.0 h.word.1
-
 -- ---- the lines
-
-line_map : {A E : Type 0} (r : Result A E) (P Q : A → Type 0) → ((a : A) → P a → Q a) → IfOk r P → IfOk r Q
-line_map (Ok a) P Q f h = f a h
-line_map (Err e) P Q f h = tt
 
 pub exact_line : {E : Type 0} (C : Matrix) (a : Answered) (weight place blocks : ℕ) (w : List ℕ) (r : Result (Vec ℕ) E) → a ≡ Exact weight place blocks → word_at C (set_count C) place ≡ Some w → IfOk r (λ line. line.items ≡ distance_line weight w blocks) → IfOk r (λ line. line.items ≡ distance_answer_line C (answer_of a))
 unfolding distance_answer_line word_at_place
 exact_line C a weight place blocks w r is at h =
     let word = ap (λ o. distance_line weight (unwrap_or o []) blocks) (sym at) in
-    line_map r (λ line. line.items ≡ distance_line weight w blocks) (λ line. line.items ≡ distance_answer_line C (answer_of a)) (λ line l. l ∙ word ∙ ap (λ (x : Answered). distance_answer_line C (answer_of x)) (sym is)) h
+    IfOk-weaker r (λ line. line.items ≡ distance_line weight w blocks) (λ line. line.items ≡ distance_answer_line C (answer_of a)) (λ line l. l ∙ word ∙ ap (λ (x : Answered). distance_answer_line C (answer_of x)) (sym is)) h
 
 pub between_line : {E : Type 0} (C : Matrix) (a : Answered) (low weight place blocks : ℕ) (w : List ℕ) (r : Result (Vec ℕ) E) → a ≡ Bracket low weight place blocks → word_at C (set_count C) place ≡ Some w → IfOk r (λ line. line.items ≡ bracket_line low weight w blocks) → IfOk r (λ line. line.items ≡ distance_answer_line C (answer_of a))
 unfolding distance_answer_line word_at_place
 between_line C a low weight place blocks w r is at h =
     let word = ap (λ o. bracket_line low weight (unwrap_or o []) blocks) (sym at) in
-    line_map r (λ line. line.items ≡ bracket_line low weight w blocks) (λ line. line.items ≡ distance_answer_line C (answer_of a)) (λ line l. l ∙ word ∙ ap (λ (x : Answered). distance_answer_line C (answer_of x)) (sym is)) h
+    IfOk-weaker r (λ line. line.items ≡ bracket_line low weight w blocks) (λ line. line.items ≡ distance_answer_line C (answer_of a)) (λ line l. l ∙ word ∙ ap (λ (x : Answered). distance_answer_line C (answer_of x)) (sym is)) h
 
 blocks_told : (s : SearchState) (weight place blocks : ℕ) → answer_in s ≡ Some (answer_of (Exact weight place blocks)) → blocks ≡ s.progress.blocks
 unfolding answer_blocks

@@ -3,9 +3,9 @@
 --   by_script_end        a session that ended among them
 --   no_script, no_script_left      bytes that are no script
 --   starved_first        memory is refused before the first statement
---   few_of, by_script_result, no_script_result       the same, of a machine and of a result
+--   by_script_result, no_script_result       the same, of a machine and of a result
 --   no_statement         no bytes are the script of no statements
-use Rattle.std.proofs.Common.{Result, MatchResult, ◌≡◌, ◌<◌, ◌≤◌, ◌+◌, inl, inr, ⊎_elim, ℕ, true, false, is_some, List, [], ◌∷◌, ◌++◌, length, map, take, refl, sym, ap, subst, ◌∙◌, arith}
+use Rattle.std.proofs.Common.{Result, MatchResult, ◌≡◌, ◌<◌, ◌≤◌, ◌+◌, inl, inr, ⊎_elim, ℕ, true, false, is_some, List, [], ◌∷◌, ◌++◌, length, map, refl, sym, ap, subst, ◌∙◌, arith}
 use Rattle.lc_algebra.specs.Matrix.{Matrix}
 use Rattle.lc_grammar.specs.Tree as tree
 use Rattle.std.proofs.lemmas.List.Elements.{All-from_recursion}
@@ -19,7 +19,7 @@ use Rattle.lc_parse.specs.declared.tree.Statement.{Statement}
 use Rattle.lc_parse.proofs.Outcomes.{nothing_scanned}
 use Rattle.lc_eval.specs.Built.{built_calls}
 use Rattle.lc_eval.specs.Machine.{State}
-use Rattle.lc_sessions.specs.Needs.{Needs, MeetsFirst}
+use Rattle.lc_sessions.specs.Needs.{Needs}
 use Rattle.lc_rounds.specs.Way.{Around}
 use Rattle.lc_answers.specs.declared.course.Course.{Course}
 use Rattle.lc_answers.specs.declared.need.Halt.{Halt}
@@ -76,9 +76,6 @@ no_script w bytes f t c now fault none h text ends =
 
 pub no_script_left : (w : World) (bytes : List ℕ) (f : Fault) (c : Course) (now : Around) → IsFault bytes f → is_some c.current ≡ true → Goes w [] [] c now → EndsBefore w bytes c now (halt.Unfit (length c.pace.point.settled.items + 1) 0)
 no_script_left w bytes f c now fault some h = ([], inl refl, over w [] [] c now some h, inr (h.met, inr (f, fault, refl)))
-
-pub few_of : (bytes : List ℕ) (s : Script) (m : State) → Reads bytes (script_of s) → m ≡ record { bindings = []; left = s.statements.items } → ((needs : List Matrix) → MeetsFirst built_calls bytes needs → length needs < 70000) → (n : ℕ) (needs : List Matrix) → Needs built_calls [] (take n (map statement_of m.left)) needs → length needs < 70000
-few_of bytes s m reads e few n needs h = few needs (inr (script_of s, reads, (n, subst (λ (x : State). Needs built_calls [] (take n (map statement_of x.left)) needs) e h)))
 
 pub by_script_result : (w : World) (bytes : List ℕ) (s : Script) (m : State) (r : Result Text Halt) (c : Course) (now : Around) → Reads bytes (script_of s) → m ≡ record { bindings = []; left = s.statements.items } → MatchResult r (λ t. Finishes w (map statement_of m.left) t c now) (λ x. Ends w (map statement_of m.left) c now x) → MatchResult r (λ t. Prints w bytes t c now) (λ x. EndsBefore w bytes c now x)
 by_script_result w bytes s m r c now reads e h =

@@ -55,7 +55,7 @@ meets_so : (c : Command) (asked : Settings) (course : session.Course) → (c ≡
 meets_so c asked course (inl e) h = subst (λ (x : Command). Meets built_calls asked x course) (sym e) h
 meets_so c asked course (inr e) h = subst (λ (x : Command). Meets built_calls asked x course) (sym e) h
 
-accepts_so : (o : Options) (asked : Settings) (old new : Outside) (ending : Ending) → o ≡ settings asked → ((i : ℕ) → ¬ (ending ≡ usage i)) → Accepts o asked old new ending
+pub accepts_so : (o : Options) (asked : Settings) (old new : Outside) (ending : Ending) → o ≡ settings asked → ((i : ℕ) → ¬ (ending ≡ usage i)) → Accepts o asked old new ending
 accepts_so o asked old new ending e other = subst (λ (x : Options). Accepts x asked old new ending) (sym e) (refl, other)
 
 pub assembled : (args : List (List ℕ)) (asked : Settings) (old new : Outside) (bytes : List ℕ) (held : Option Slots) (ready : IsReady args asked old new.source new.source_faults bytes held) (b : Beginning) (turn : ℕ) (needs : List Matrix) (told left : List SessionStep) (is_paused : Bool) (text : List ℕ) (faulty : Bool) (ending : Ending)

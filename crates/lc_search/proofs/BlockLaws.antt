@@ -12,22 +12,24 @@ use Rattle.std.specs.Prelude.{All, Contains, unwrap_or}
 use Rattle.std.proofs.lemmas.Bool.{cases_lt}
 use Rattle.std.proofs.lemmas.Bool.Decides.{nat_tests}
 use Rattle.std.proofs.lemmas.List.{length-take, length-drop, length-map}
-use Rattle.std.proofs.lemmas.List.Elements.{All-nil, All-cons, All-head, All-tail, Contains-append_left}
+use Rattle.std.proofs.lemmas.List.Elements.{All-head, All-tail, Contains-append_left}
 use Rattle.lc_algebra.specs.Field.{size}
 use Rattle.lc_algebra.specs.Matrix.{Matrix}
-use Rattle.lc_algebra.proofs.SpanLaws.{contains_head, contains_tail}
 use Rattle.lc_enumeration.specs.Message.{messages, numbers_from}
-use Rattle.lc_enumeration.specs.Plan.{cut, total, phase_level, blocks_before, block_messages, place_of, IsInPhase}
+use Rattle.lc_enumeration.specs.Plan.{total, phase_level, blocks_before, block_messages, place_of, IsInPhase}
 use Rattle.lc_enumeration.specs.Search.{Found, word_of, block_words, beats, found_along, found_in_block, found_from, least_of, least_in, block_least, board_value}
 use Rattle.lc_enumeration.proofs.PlanLaws.{cut_is, start_is, end_is, within}
 use Rattle.lc_enumeration.proofs.SearchLaws.{found_is, words_in_phase}
 use Rattle.lc_enumeration.proofs.RecordsLaws.{least_append}
+use Rattle.lc_enumeration.proofs.GreedyLaws.{each_contained}
 use Rattle.lc_place.proofs.Messages.{length-messages}
-use Rattle.lc_infoset.proofs.SeenLaws.{blocks_next, blocks_of_level}
+use Rattle.lc_place.proofs.Phases.{blocks_next, blocks_of}
 use Rattle.lc_board.specs.Counting.{least}
+use Rattle.lc_infoset.proofs.BestLaws.{no_blocks}
 use Rattle.lc_search.specs.Work.{block_value}
 use Rattle.lc_search.specs.Crew.{least_over}
 use Rattle.lc_search.proofs.GatherLaws.{under_least}
+use Rattle.lc_search.proofs.LevelLaws.{total_is}
 
 pub crossing : (f : ℕ → ℕ) (n x : ℕ) → f 0 ≤ x → x < f n → (p : ℕ) × (p < n) × (f p ≤ x) × (x < f (suc p))
 crossing f zero x low high = absurd (omega (arith, low, high))
@@ -37,18 +39,10 @@ crossing f (suc n) x low high =
     (λ l. (n, omega arith, l, high))
     (cases_lt x (f n))
 
-none_before : (k q m : ℕ) → blocks_before k q m 0 ≡ 0
-unfolding blocks_before
-none_before k q m = refl
-
-total_is : (k q m : ℕ) → total k q m ≡ min (blocks_before k q m (k * m)) cut
-unfolding total
-total_is k q m = refl
-
 pub phase_there : (k q m b : ℕ) → b < total k q m → (p : ℕ) × IsInPhase k q m p b
 phase_there k q m b l =
     let whole = total_is k q m in
-    let t = crossing (blocks_before k q m) (k * m) b (omega (arith, none_before k q m)) (omega (arith, l, whole)) in (
+    let t = crossing (blocks_before k q m) (k * m) b (omega (arith, no_blocks k q m)) (omega (arith, l, whole)) in (
       t.0,
       record {
         phase = t.1;
@@ -66,7 +60,7 @@ long_words k q m p b h =
     let count = length-messages k q (phase_level m p) in
     let kept = length-take 4096 (drop j ms) in
     let left = length-drop j ms in
-    omega (arith, w.after, w.before, blocks_next k q m p, blocks_of_level k q (phase_level m p), count, kept, left)
+    omega (arith, w.after, w.before, blocks_next k q m p, blocks_of k q (phase_level m p), count, kept, left)
 
 pub some_words : (C : Matrix) (m b : ℕ) → b < total (length C.rows) (size C.field) m → 0 < length (block_words C m b)
 some_words C m b l =
@@ -85,10 +79,6 @@ pub some_found : (C : Matrix) (m b : ℕ) → b < total (length C.rows) (size C.
 unfolding found_in_block
 some_found C m b l = let s = some_words C m b l in let e = as_many (place_of b 0) (block_words C m b) in omega (arith, s, e)
 
-all_of : {X : Type 0} (P : X → Type 0) (xs : List X) → ((x : X) → Contains xs x → P x) → All P xs
-all_of P [] each = All-nil P
-all_of P (x ∷ xs) each = All-cons P x xs (each x (contains_head x xs)) (all_of P xs (λ y l. each y (contains_tail x y xs l)))
-
 found_one : (C : Matrix) (m b : ℕ) (x : Found) → Contains (found_in_block C m b) x → Contains (found_from C m b 1) x
 unfolding found_from numbers_from
 found_one C m b x l = Contains-append_left (found_in_block C m b) [] x l
@@ -96,7 +86,7 @@ found_one C m b x l = Contains-append_left (found_in_block C m b) [] x l
 pub small_places : (C : Matrix) (m b : ℕ) → b < total (length C.rows) (size C.field) m → All (λ (x : Found). x.place < 2 ^ 52) (found_in_block C m b)
 small_places C m b l =
     let few = total_is (length C.rows) (size C.field) m in
-    all_of (λ (x : Found). x.place < 2 ^ 52) (found_in_block C m b) (λ x h.
+    each_contained (λ (x : Found). x.place < 2 ^ 52) (found_in_block C m b) (λ x h.
     let f = found_is C m b 1 x (found_one C m b x h) in
     omega (arith, f.before, l, few, cut_is))
 

@@ -3,12 +3,12 @@
 --   written_back      what a slice of a whole list writes back is the list
 --   grown             what holds of each holds after one more
 --   codes_kept        scratches are for the same code after the work
---   is_root_last, last_is_root, root_stays_last      the root's seat is the last worker's
+--   is_root_last, last_is_root      the root's seat is the last worker's
 --   tables_of         the tables of the last seat and of the others
 --   closed            what a board shows that is closed with the seats of workers that have done their work
 use Rattle.std.proofs.Common.{◌≡◌, ℕ, ◌+◌, min, true, Some, List, [], ◌∷◌, ◌++◌, map, length, get_or, take, drop, refl, sym, ap, ap₂, ◌∙◌, subst, arith, length-append}
 use Rattle.std.specs.Prelude.{All}
-use Rattle.std.proofs.lemmas.List.{map-append, take_at, length-map, get_or_push}
+use Rattle.std.proofs.lemmas.List.{map-append, take_at, get_or_push}
 use Rattle.std.proofs.lemmas.List.Elements.{All-nil, All-cons, All-head, All-tail, All-append, All-map, All-weaker, All-pop, All-push}
 use Rattle.lc_algebra.specs.Matrix.{Matrix}
 use Rattle.lc_board.specs.Counting.{StandOnce, least}
@@ -64,11 +64,6 @@ last_is_root ws front last r e =
     ∙ ap (λ l. get_or l n (station last)) same
     ∙ get_or_push r.0 end (station last) n (omega arith) in
     (ap (λ (s : Station). s.root) ends, ap (λ (s : Station). s.made) ends)
-
-pub root_stays_last : (ws us : List Worker) → map station us ≡ map station ws → IsRootLast ws → IsRootLast us
-root_stays_last ws us e r =
-    let n : length ws ≡ length us = sym (length-map ws station) ∙ ap (λ (l : List Station). length l) (sym e) ∙ length-map us station in
-    (r.0, r.1, e ∙ r.2 ∙ ap (λ (n : ℕ). r.0 ++ (record { root = true; made = n; code = r.1 }) ∷ []) n)
 
 pub tables_of : (b : Opened) (all front : List Worker) (last : Worker) → all ≡ front ++ last ∷ [] → All (λ w. w.seat.table ≡ b.table) all → (last.seat.table ≡ b.table) × All (λ s. s.table ≡ b.table) (map (λ w. w.seat) front)
 tables_of b all front last e h =

@@ -6,39 +6,26 @@
 --   Unfinished, unfinished      a search that isn't finished is inside the plan, and its budget isn't used up
 --   end_of_is            the end of the phase of a block
 --   round_is             how many blocks a round does
-use Rattle.std.proofs.Common.{◌≡◌, ℕ, zero, suc, ◌+◌, ◌-◌, ◌*◌, ◌<◌, ◌≤◌, min, Bool, true, false, ◌&&◌, ◌||◌, ◌==◌, nat_le, nat_lt, nat_eq, if◌then◌else◌, find, filter, List, length, map, Option, Some, None, is_some, unwrap_or, Contains, refl, sym, ap, subst, ◌∙◌, inr, ⊎_elim, arith}
-use Rattle.std.proofs.lemmas.Bool.{cases_Bool, cases_lt, and_parts, and_from, or_cases, or_left, or_right, ltb-true, le-leb, lt-ltb, le-ltb, false≢true, eqb-true, eq-eqb}
-use Rattle.std.proofs.lemmas.Simd.{map-map}
+use Rattle.std.proofs.Common.{◌≡◌, ℕ, zero, suc, ◌+◌, ◌-◌, ◌*◌, ◌<◌, ◌≤◌, min, Bool, true, false, ◌&&◌, ◌||◌, ◌==◌, nat_le, nat_lt, nat_eq, if◌then◌else◌, find, List, length, map, Option, Some, None, is_some, unwrap_or, Contains, refl, sym, ap, subst, ◌∙◌, inr, ⊎_elim, arith}
+use Rattle.std.proofs.lemmas.Bool.{cases_Bool, cases_lt, and_parts, and_from, or_cases, or_left, or_right, ltb-true, le-leb, lt-ltb, le-ltb, false≢true, eqb-true, eq-eqb, false_from_ne_true}
 use Rattle.lc_algebra.specs.Field.{size}
 use Rattle.lc_algebra.specs.Span.{below}
 use Rattle.lc_algebra.specs.Matrix.{Matrix}
 use Rattle.lc_algebra.proofs.SpanLaws.{contains_map, contains_below, below_contains, map_contains}
-use Rattle.lc_enumeration.specs.Plan.{PlanPhase, cut, total, phase_at, plan_phases, blocks_before, IsInPhase}
+use Rattle.lc_enumeration.specs.Plan.{PlanPhase, cut, total, phase_at, blocks_before, IsInPhase}
 use Rattle.lc_enumeration.specs.InformationSet.{is_member}
 use Rattle.lc_enumeration.specs.Search.{Found, Answer, exact, bracket, set_count, level_below, levels_below, bound, ends_of, may_end, finished}
 use Rattle.lc_enumeration.specs.Records.{end_of_phase, within_slice, round_length}
 use Rattle.lc_enumeration.proofs.MemberLaws.{member_true, true_member}
 use Rattle.lc_enumeration.proofs.PlanLaws.{cut_is, blocks_least, end_is, within}
-use Rattle.lc_infoset.proofs.SetLaws.{filter_passes}
-use Rattle.lc_infoset.proofs.BestLaws.{find_passes}
-use Rattle.lc_infoset.proofs.AnswerLaws.{ends_are, bound_whole, levels_of}
-use Rattle.lc_infoset.proofs.RoundLaws.{plan_end, end_at, end_in_ends, end_listed, end_between}
+use Rattle.lc_infoset.proofs.SetLaws.{filter_passes, levels_are}
+use Rattle.lc_infoset.proofs.BestLaws.{find_passes, no_blocks}
+use Rattle.lc_infoset.proofs.AnswerLaws.{ends_are, bound_whole}
+use Rattle.lc_infoset.proofs.RoundLaws.{plan_end, end_at, end_in_ends, end_listed, end_between, starting, phase_end_at, end_of_found, end_at_is, may_is}
 use Rattle.lc_place.specs.declared.phase.Phase.{Phase}
 use Rattle.lc_place.specs.Place.{PlanSize, plan_phase}
 use Rattle.lc_search.specs.State.{whole_plan}
 use Rattle.lc_search.proofs.LevelLaws.{total_is, open_end, level_is}
-
-may_is : (C : Matrix) (l : ℕ) → may_end C l ≡ ((l == 0) || (is_member (ends_of C) l || (nat_lt (plan_end C) cut && nat_lt (total (length C.rows) (size C.field) (set_count C)) l)))
-unfolding may_end
-may_is C l = refl
-
-untrue : (b : Bool) → (b ≡ true → ⊥) → b ≡ false
-untrue true n = absurd (n refl)
-untrue false n = refl
-
-none_first : (k q m : ℕ) → blocks_before k q m 0 ≡ 0
-unfolding blocks_before
-none_first k q m = refl
 
 module _ (C : Matrix) (l : ℕ) where
   late : Bool
@@ -48,7 +35,7 @@ module _ (C : Matrix) (l : ℕ) where
   unfolding late
   not_yet some out early =
       may_is C l
-      ∙ untrue ((l == 0) || (is_member (ends_of C) l || late)) (λ t.
+      ∙ false_from_ne_true ((l == 0) || (is_member (ends_of C) l || late)) (λ t.
       ⊎_elim (λ z. some (eqb-true l 0 z))
       (λ r. ⊎_elim (λ z. out (true_member (ends_of C) l z))
       (λ z. let s = and_parts (nat_lt (plan_end C) cut) (nat_lt (total (length C.rows) (size C.field) (set_count C)) l) z in early (ltb-true (plan_end C) cut s.0) (ltb-true (total (length C.rows) (size C.field) (set_count C)) l s.1))
@@ -71,7 +58,7 @@ module _ (C : Matrix) (l : ℕ) where
   ends_zero e = may_is C l ∙ or_left (l == 0) (is_member (ends_of C) l || late) (eq-eqb l 0 e)
 
   pub ends_start : (p : ℕ) → 0 < l → IsInPhase (length C.rows) (size C.field) (set_count C) p l → (phase_at (length C.rows) (size C.field) (set_count C) p).start ≡ l → may_end C l ≡ true
-  ends_start zero some h e = absurd (omega (arith, some, e, (within (length C.rows) (size C.field) (set_count C) 0 l h).start, none_first (length C.rows) (size C.field) (set_count C)))
+  ends_start zero some h e = absurd (omega (arith, some, e, (within (length C.rows) (size C.field) (set_count C) 0 l h).start, no_blocks (length C.rows) (size C.field) (set_count C)))
   ends_start (suc r) some h e =
       let w = within (length C.rows) (size C.field) (set_count C) (suc r) l h in
       let same : end_at C r ≡ l = sym w.start ∙ e in
@@ -119,7 +106,7 @@ module _ (C : Matrix) (l : ℕ) where
 
   pub bound_past : (d x : ℕ) → 0 < set_count C → total (length C.rows) (size C.field) (set_count C) < cut → total (length C.rows) (size C.field) (set_count C) ≤ l → bound d C l x ≡ x
   bound_past d x sets uncut past =
-      let there : Contains (levels_below C l) (length C.rows) = subst (λ ls. Contains ls (length C.rows)) (sym (levels_of C l)) (subst (Contains (map (level_below C l) (below (set_count C)))) (level_past sets uncut past) (map_contains (level_below C l) (below (set_count C)) 0 (below_contains (set_count C) 0 sets))) in
+      let there : Contains (levels_below C l) (length C.rows) = subst (λ ls. Contains ls (length C.rows)) (sym (levels_are C l)) (subst (Contains (map (level_below C l) (below (set_count C)))) (level_past sets uncut past) (map_contains (level_below C l) (below (set_count C)) 0 (below_contains (set_count C) 0 sets))) in
       bound_whole d C l x (member_true (levels_below C l) (length C.rows) there)
 
 -- as the program finds it, past the plan's end and inside it
@@ -171,20 +158,6 @@ unfinished d C budget l x rows sets small few e =
           (cases_lt l whole);
     }
 
-phase_end_at : Matrix → ℕ → ℕ
-phase_end_at C p = (phase_at (length C.rows) (size C.field) (set_count C) p).end
-
-starting : Matrix → List ℕ
-starting C = filter (λ p. nat_lt (blocks_before (length C.rows) (size C.field) (set_count C) p) cut) (below (length C.rows * set_count C))
-
-end_of_find : (C : Matrix) (l : ℕ) → end_of_phase C l ≡ unwrap_or (find (nat_lt l) (map (phase_end_at C) (starting C))) l
-unfolding end_of_phase plan_phases phase_end_at starting
-end_of_find C l = ap (λ es. unwrap_or (find (nat_lt l) es) l) (map-map (λ (p : PlanPhase). p.end) (phase_at (length C.rows) (size C.field) (set_count C)) (filter (λ p. nat_lt (blocks_before (length C.rows) (size C.field) (set_count C) p) cut) (below (length C.rows * set_count C))))
-
-at_end : (C : Matrix) (p : ℕ) → phase_end_at C p ≡ min (end_at C p) cut
-unfolding phase_end_at
-at_end C p = end_is (length C.rows) (size C.field) (set_count C) p
-
 -- an end above l is an end of a phase
 some_or : (es : List ℕ) (l : ℕ) → l < unwrap_or (find (nat_lt l) es) l → Contains es (unwrap_or (find (nat_lt l) es) l)
 some_or es l less = by (find (nat_lt l) es) refl
@@ -202,12 +175,12 @@ end_of_is C l p h =
     let x = end_is k q m p in
     let low : blocks_before k q m p < cut = omega (arith, w.after, w.below_cut, cut_is) in
     let b = end_between C l p h.phase low (omega (arith, w.before, w.below_cut, cut_is)) in
-    let f = end_of_find C l in
+    let f = end_of_found C l in
     let ends = map (phase_end_at C) (starting C) in
     let there = some_or ends l (omega (arith, f, b.0)) in
     let t = contains_map (phase_end_at C) (starting C) (unwrap_or (find (nat_lt l) ends) l) there in
     let r : ℕ = t.0 in
-    let y = at_end C r in
+    let y = end_at_is C r in
     let more : p ≤ r = ⊎_elim (λ less. absurd (let z = blocks_least k q m (suc r) p less in omega (arith, z, w.after, t.2, f, b.0, y))) (λ z. z) (cases_lt r p) in
     let z = blocks_least k q m (suc p) (suc r) (omega (arith, more)) in
     omega (arith, x, y, z, f, t.2, b.1)

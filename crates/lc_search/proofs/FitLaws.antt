@@ -4,11 +4,11 @@
 --   word_fits           else it does
 --   fitting_word        what fits has a word
 --   fits_on, fits_after      and still fits after some blocks more, and after a round
-use Rattle.std.proofs.Common.{◌+◌, ◌≡◌, ℕ, ◌*◌, ◌<◌, ◌≤◌, ◌⊎◌, Bool, true, false, ◌&&◌, ◌||◌, ◌==◌, nat_lt, List, [], length, Option, Some, None, option_map, is_some, unwrap_or, refl, subst, sym, ap, ◌∙◌, inl, inr, ⊎_elim, arith}
-use Rattle.std.proofs.lemmas.Bool.{and_from, and_parts, or_cases, or_left, or_right, lt-ltb, ltb-true, false≢true, eqb-true, eq-eqb}
+use Rattle.std.proofs.Common.{◌+◌, ◌≡◌, ℕ, ◌*◌, ◌<◌, ◌≤◌, ◌⊎◌, true, false, ◌&&◌, ◌||◌, ◌==◌, nat_lt, List, [], Option, Some, None, option_map, is_some, unwrap_or, refl, subst, sym, ap, ◌∙◌, inl, inr, ⊎_elim, arith}
+use Rattle.std.proofs.lemmas.Bool.{and_from, and_parts, or_cases, or_left, or_right, lt-ltb, ltb-true, false≢true, eqb-true, eq-eqb, false_from_ne_true}
 use Rattle.lc_algebra.specs.Word.{weight}
 use Rattle.lc_algebra.specs.Matrix.{Matrix, AreRows}
-use Rattle.lc_algebra.proofs.WordLaws.{weight_at_most_length}
+use Rattle.lc_algebra.proofs.WordLaws.{weight_nil}
 use Rattle.lc_algebra.specs.Span.{AreIndependent}
 use Rattle.lc_algebra.proofs.SpanLaws.{contains_cases}
 use Rattle.lc_enumeration.specs.Search.{Found, set_count, word_at, weight_at, fits, found_from, least_of}
@@ -27,13 +27,6 @@ fits_is C l x = refl
 weighs : (C : Matrix) (place : ℕ) → weight_at C place ≡ weight (unwrap_or (word_at C (set_count C) place) [])
 unfolding weight_at
 weighs C place = refl
-
-untrue : (b : Bool) → (b ≡ true → ⊥) → b ≡ false
-untrue true n = absurd (n refl)
-untrue false n = refl
-
-no_weight : weight [] ≡ 0
-no_weight = let l = weight_at_most_length [] in let z : length {A = ℕ} [] ≡ 0 = refl in omega (arith, l, z)
 
 record Fitting (C : Matrix) (l : ℕ) (x : Found) : Type 0 where
   place : (x.place ≡ 0) ⊎ (x.place < l * 4096)
@@ -64,15 +57,15 @@ module _ (C : Matrix) (l weight_told place : ℕ) where
     where
       by : (o : Option (List ℕ)) → word_at C (set_count C) place ≡ o → (fits C l (record { weight = weight_told; place = place }) ≡ false) × (0 ≡ weight_at C place)
       by None h = (
-        untrue (fits C l (record { weight = weight_told; place = place })) (λ t. false≢true (ap is_some (sym h) ∙ (parts C l (record { weight = weight_told; place = place }) t).there)),
-        sym (weighs C place ∙ ap (λ o. weight (unwrap_or o [])) h ∙ no_weight),
+        false_from_ne_true (fits C l (record { weight = weight_told; place = place })) (λ t. false≢true (ap is_some (sym h) ∙ (parts C l (record { weight = weight_told; place = place }) t).there)),
+        sym (weighs C place ∙ ap (λ o. weight (unwrap_or o [])) h ∙ weight_nil),
       )
       by (Some w) h = absurd (false≢true (ap is_some (e ∙ ap (option_map weight) h)))
 
   pub made_unfit : (n : ℕ) → Some n ≡ option_map weight (word_at C (set_count C) place) → ((n ≡ weight_told → ⊥) ⊎ ((place ≡ 0 → ⊥) × (l * 4096 ≤ place))) → (fits C l (record { weight = weight_told; place = place }) ≡ false) × (n ≡ weight_at C place)
   made_unfit n e bad =
       let f = found_weight C place n e in (
-        untrue (fits C l (record { weight = weight_told; place = place })) (λ t.
+        false_from_ne_true (fits C l (record { weight = weight_told; place = place })) (λ t.
             let p = parts C l (record { weight = weight_told; place = place }) t in
             ⊎_elim (λ other. other (f.0 ∙ p.same)) (λ past. ⊎_elim (λ z. past.0 z) (λ z. omega (arith, z, past.1)) p.place) bad),
         f.0,

@@ -24,7 +24,8 @@ use Rattle.lc_place.proofs.Phases.{ranked}
 use Rattle.lc_search.specs.Levels.{IsOpenAt}
 use Rattle.lc_search.specs.State.{whole_plan}
 use Rattle.lc_infoset.proofs.SeenLaws.{last_that_is}
-use Rattle.lc_infoset.proofs.AnswerLaws.{whole_is, level_of, levels_of}
+use Rattle.lc_infoset.proofs.AnswerLaws.{whole_is, level_of}
+use Rattle.lc_infoset.proofs.SetLaws.{levels_are}
 
 pub total_is : (k q m : ℕ) → total k q m ≡ min (blocks_before k q m (k * m)) cut
 unfolding total
@@ -161,7 +162,7 @@ pub level_few : (C : Matrix) (l j : ℕ) → level_below C l j ≤ length C.rows
 level_few C l j = let e = level_of C l j in let t = last_that_is (is_whole_below (length C.rows) (size C.field) (set_count C) l j) (length C.rows) in omega (arith, e, t.inside)
 
 pub levels_few : (C : Matrix) (l : ℕ) → All (λ w. w ≤ length C.rows) (levels_below C l)
-levels_few C l = subst (All (λ w. w ≤ length C.rows)) (sym (levels_of C l)) (each (below (set_count C)))
+levels_few C l = subst (All (λ w. w ≤ length C.rows)) (sym (levels_are C l)) (each (below (set_count C)))
   where
     each : (js : List ℕ) → All (λ w. w ≤ length C.rows) (map (level_below C l) js)
     each [] = All-nil (λ w. w ≤ length C.rows)
@@ -180,6 +181,6 @@ levels_more C l j w levels inside so_far is =
     (take-suc-set levels j w inside ∙ ap₂ (λ xs x. xs ++ x ∷ []) so_far is ∙ sym (map-append (level_below C l) (below j) (j ∷ [])))
 
 pub levels_whole : (C : Matrix) (l n : ℕ) (levels : List ℕ) → n ≡ set_count C → length levels ≤ n → take n levels ≡ map (level_below C l) (below n) → levels ≡ levels_below C l
-levels_whole C l n levels many long so_far = sym (take_all n levels long) ∙ so_far ∙ ap (λ m. map (level_below C l) (below m)) many ∙ sym (levels_of C l)
+levels_whole C l n levels many long so_far = sym (take_all n levels long) ∙ so_far ∙ ap (λ m. map (level_below C l) (below m)) many ∙ sym (levels_are C l)
 
 pub ruleset put_levels_laws = (levels_none, levels_whole)

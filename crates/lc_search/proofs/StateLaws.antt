@@ -1,5 +1,4 @@
 -- What a search is made of, and what it answers.
---   symbol_few          a symbol field has at most 16 elements
 --   plan_for            the plan of all sets is one for the kernel
 --   light_word          the word at a place weighs at most 255
 --   bound_whole, all_below      the bound, if some level is k or none is
@@ -9,38 +8,32 @@
 --   answer_exact, answer_bracket, answer_none      what is answered
 --   state_exact, state_bracket, state_none         the same, for the state of a search
 use Rattle.std.proofs.Common.{◌≡◌, ℕ, ◌<◌, ◌≤◌, max, Bool, true, false, ◌&&◌, ◌==◌, nat_le, nat_eq, if◌then◌else◌, List, [], ◌∷◌, length, map, slice_index, Option, Some, None, option_map, is_some, unwrap_or, refl, sym, ap, subst, ◌∙◌, ⊎_elim, arith}
-use Rattle.std.specs.Prelude.{All, IsTrue, Contains}
+use Rattle.std.specs.Prelude.{All, Contains}
 use Rattle.std.specs.List.{list_any}
 use Rattle.std.proofs.lemmas.Bool.{cases_Bool, cases_lt, and_from, and_parts, leb-true, le-leb, false≢true, eqb-true, eq-eqb}
 use Rattle.std.proofs.lemmas.List.{get_or-map, length-map}
 use Rattle.std.proofs.lemmas.List.Elements.{All-nil, All-cons, All-head, All-tail}
-use Rattle.lc_algebra.specs.declared.FieldName.{FieldName}
-use Rattle.lc_algebra.specs.Field.{size, is_symbol}
 use Rattle.lc_algebra.specs.Word.{weight}
 use Rattle.lc_algebra.specs.Span.{AreIndependent, below}
 use Rattle.lc_algebra.specs.Matrix.{Matrix, AreRows}
 use Rattle.lc_algebra.specs.Divisor.{divisor_of, rounded}
 use Rattle.lc_algebra.proofs.WordLaws.{weight_at_most_length}
-use Rattle.lc_algebra.proofs.SpanLaws.{span_word, contains_head, contains_tail, length_below}
+use Rattle.lc_algebra.proofs.SpanLaws.{span_word, contains_head, contains_tail, length_below, index_below}
 use Rattle.lc_algebra.proofs.SpanSearch.{contains_any, any_contains}
 use Rattle.lc_enumeration.specs.InformationSet.{is_member}
 use Rattle.lc_enumeration.specs.Search.{Found, Answer, exact, bracket, set_count, ranks_of, word_of, word_at, found_first, level_below, levels_below, bound_sum, bound_of, bound, may_end, finished}
 use Rattle.lc_enumeration.specs.Records.{found_of, progress_of, first_progress}
 use Rattle.lc_enumeration.proofs.MemberLaws.{member_true}
 use Rattle.lc_place.specs.Place.{PlanSize}
-use Rattle.lc_infoset.proofs.BoundLaws.{index_below}
 use Rattle.lc_infoset.proofs.BestLaws.{first_message, first_at_zero, place_word}
 use Rattle.lc_infoset.proofs.GreedyLaws.{generators_are}
-use Rattle.lc_infoset.proofs.AnswerLaws.{some_set, levels_of}
+use Rattle.lc_infoset.proofs.AnswerLaws.{some_set}
+use Rattle.lc_infoset.proofs.SetLaws.{levels_are}
 use Rattle.lc_kernel.specs.Kernel.{IsPlanOf}
 use Rattle.lc_search.proofs.LevelLaws.{levels_few}
 use Rattle.lc_search.specs.State.{SearchState, first_state, answer_in, whole_plan}
 use Rattle.lc_search.proofs.EndLaws.{finished_is}
 use Rattle.lc_search.proofs.LevelLaws.{levels_few}
-
-pub symbol_few : (f : FieldName) → IsTrue (is_symbol f) → size f ≤ 16
-unfolding is_symbol
-symbol_few f t = leb-true (size f) 16 t
 
 pub plan_for : (C : Matrix) (plan : PlanSize) → plan ≡ whole_plan C → 1 ≤ set_count C → IsPlanOf plan C
 plan_for C plan e some = subst (λ (p : PlanSize). IsPlanOf p C) (sym e) (record { dimension = refl; field = refl; some = some; sets = omega arith })
@@ -90,13 +83,13 @@ index_map : (f : ℕ → ℕ) (n j : ℕ) → j < n → slice_index (map f (belo
 index_map f n j l = get_or-map f (below n) j 0 0 (omega (arith, l, length_below n)) ∙ ap f (index_below n j 0 l)
 
 pub levels_counted : (C : Matrix) (l : ℕ) (levels : List ℕ) → levels ≡ levels_below C l → length levels ≡ set_count C
-levels_counted C l levels e = ap (λ (xs : List ℕ). length xs) (e ∙ levels_of C l) ∙ length-map (below (set_count C)) (level_below C l) ∙ length_below (set_count C)
+levels_counted C l levels e = ap (λ (xs : List ℕ). length xs) (e ∙ levels_are C l) ∙ length-map (below (set_count C)) (level_below C l) ∙ length_below (set_count C)
 
 pub level_inside : (C : Matrix) (l j : ℕ) (levels : List ℕ) → levels ≡ levels_below C l → j < set_count C → j < length levels
 level_inside C l j levels e inside = let n = levels_counted C l levels e in omega (arith, n, inside)
 
 pub level_at : (C : Matrix) (l j w : ℕ) (levels : List ℕ) → levels ≡ levels_below C l → j < set_count C → w ≡ slice_index levels j → w ≡ level_below C l j
-level_at C l j w levels e inside is = is ∙ ap (λ xs. slice_index xs j) (e ∙ levels_of C l) ∙ index_map (level_below C l) (set_count C) j inside
+level_at C l j w levels e inside is = is ∙ ap (λ xs. slice_index xs j) (e ∙ levels_are C l) ∙ index_map (level_below C l) (set_count C) j inside
 
 pub bound_here : (d : ℕ) (C : Matrix) (l weight b : ℕ) (levels : List ℕ) → levels ≡ levels_below C l → b ≡ bound_of d (length C.rows) (ranks_of C) levels weight → b ≡ bound d C l weight
 unfolding bound

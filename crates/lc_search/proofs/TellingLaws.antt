@@ -1,7 +1,6 @@
 -- What a record does to a list of watchers, when it is told to one after the other.
 --   Carries note all front back paused     however the record is told to the watchers `back`, it is so told to all, after `front`
 --   Halfway note hear all now next paused  so it is for the watchers that are there now, from the next one on
---   from_start                             before the first watcher
 --   one_stays, one_leaves                  after one more
 --   told_all                               after the last
 use Rattle.std.proofs.Common.{◌≡◌, ℕ, suc, ◌+◌, ◌<◌, ◌≤◌, Bool, true, false, cond, List, [], ◌∷◌, ◌++◌, map, length, set, get_or, take, drop, refl, sym, ap, ap₂, ◌∙◌, subst, arith, append_assoc}
@@ -85,6 +84,3 @@ flag_kept false = refl
 pub flag_set : (p : Bool) → cond p true true ≡ true
 flag_set true = refl
 flag_set false = refl
-
-pub from_start : {X : Type 0} (note : Record) (hear : X → Hearing) (all : List X) → Halfway note hear all all 0 false
-from_start note hear all = record { carry = λ rest p t. t }

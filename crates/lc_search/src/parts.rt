@@ -25,7 +25,7 @@ pub(crate) fn sets_of(alloc: Global, code: &Code) -> Result<Sets, NoMemory>
 }
 
 /// The plan that goes through all sets.
-#[tactic(auto, using(crate::proofs::StateLaws::symbol_few))]
+#[tactic(auto, using(lc_code::proofs::CoordinateSteps::small_size))]
 pub(crate) fn plan_of(alloc: Global, sets: &Sets) -> Result<Plan, NoMemory>
     ensures whole { IfOk result (λ p. p ≡ whole_plan sets.now) }
 {

@@ -21,6 +21,7 @@ use Rattle.lc_sessions.specs.Endings.{Ending, usage, source_fault, vault_fault, 
 use Rattle.lc_sessions.specs.Session as session
 use Rattle.lc_sessions.specs.Session.{Outside, most_bytes, rounds_of, records_of, can_end, reads, Accepts, WasRead, GaveTooMuch, ReadsScript, Reads, Starts, Meets, AreHalfEmptied, Stores, StoresIfKept, Finds, Replied, Writes, Counts, IsSession}
 use Rattle.lc_script.specs.Worlds.{outside_of}
+use Rattle.lc_script.proofs.SessionLaws.{accepts_so}
 use Rattle.lc_rounds.specs.Way.{Around}
 
 abbrev pub none : List ℕ → session.Course
@@ -35,9 +36,6 @@ meets_none asked bytes summary = inl refl
 no_rounds : (asked : Settings) (bytes : List ℕ) → (rounds_of asked (none bytes)).steps ≡ [] ++ []
 unfolding session_rounds session_from no_steps fresh_start
 no_rounds asked bytes = refl
-
-accepts_so : (o : Options) (asked : Settings) (old new : Outside) (ending : Ending) → o ≡ settings asked → ((i : ℕ) → ¬ (ending ≡ usage i)) → Accepts o asked old new ending
-accepts_so o asked old new ending e other = subst (λ (x : Options). Accepts x asked old new ending) (sym e) (refl, other)
 
 heard_none : (keep : Bool) (old new : List Hearing) → new ≡ old → Kept keep (records_of []) false old new
 heard_none keep old new e = subst (λ (ws : List Hearing). Kept keep [] false old ws) (sym e) (Kept-none keep old)

@@ -11,6 +11,7 @@ use Rattle.sha2.specs.Sha256.{sha256}
 use Rattle.lc_algebra.specs.Matrix.{Matrix}
 use Rattle.lc_formats.specs.Text.{same_bytes}
 use Rattle.lc_formats.specs.Checkpoint.{Checkpoint, current_of}
+use Rattle.lc_formats.proofs.ByteLaws.{same_from_bytes}
 use Rattle.lc_io.specs.Vaults.{Slots, WhereTold, empty_slots}
 use Rattle.lc_io.proofs.SlotLaws.{WhereTold-refl}
 use Rattle.lc_parse.proofs.Outcomes.{one_script, no_both}
@@ -21,7 +22,6 @@ use Rattle.lc_sessions.specs.Slots.{next_turn, takes, is_for}
 use Rattle.lc_sessions.specs.Session.{Outside, most_bytes, WasRead, begin_with, Finds, IsSession}
 use Rattle.lc_rounds.specs.Way.{Around, around}
 use Rattle.lc_course.specs.Course.{Beginning, afresh, after}
-use Rattle.lc_needs.proofs.NeedLaws.{same_text}
 use Rattle.lc_answers.specs.declared.course.Course.{Course}
 use Rattle.lc_answers.specs.declared.need.Halt.{Halt}
 use Rattle.lc_script.specs.declared.statements.Text.{Text}
@@ -43,7 +43,7 @@ is_for_so digest hashed bytes budget p found answer d same f a = ap (λ (x : Lis
 
 named_so : (digest : List ℕ) (budget : ℕ) (p : Checkpoint) → is_for digest budget p ≡ true → (p.script ≡ digest) × (p.budget ≡ budget)
 unfolding is_for
-named_so digest budget p e = let a = and_parts (same_bytes p.script digest) (p.budget == budget) e in (same_text p.script digest a.0, eqb-true p.budget budget a.1)
+named_so digest budget p e = let a = and_parts (same_bytes p.script digest) (p.budget == budget) e in (same_from_bytes p.script digest a.0, eqb-true p.budget budget a.1)
 
 -- what a call says of the text and of how it ended
 abbrev Found : World → List ℕ → Result Text Halt → Course → Around → Type 0

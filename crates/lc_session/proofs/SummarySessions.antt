@@ -22,7 +22,7 @@ use Rattle.lc_checkpoint.specs.Seen.{settled_of}
 use Rattle.lc_eval.specs.Built.{built_calls}
 use Rattle.lc_sessions.specs.Options.{summary, Settings, Options, settings, options, all_options}
 use Rattle.lc_sessions.specs.Answers.{answer_line, answers_of}
-use Rattle.lc_sessions.specs.Summary.{generator_words, seeded, summary_rows, summary_code, round_count, summary_text}
+use Rattle.lc_sessions.specs.Summary.{generator_words, seeded, summary_code, round_count, summary_text}
 use Rattle.lc_sessions.specs.Endings.{Ending, usage, done, sink_fault, no_memory}
 use Rattle.lc_sessions.specs.Session as session
 use Rattle.lc_sessions.specs.Session.{Outside, records_of, can_end, Accepts, Reads, Starts, Meets, Stores, Replied, Replies, Judges, Writes, Counts, NoneFailed, IsSession}
@@ -32,6 +32,7 @@ use Rattle.lc_rounds.specs.declared.rounds.Stop.TheVariants.{Paused, VaultFault,
 use Rattle.lc_course.specs.Course.{afresh, Stands}
 use Rattle.lc_course.proofs.FitLaws.{fits_anew}
 use Rattle.lc_course.proofs.ScriptTruth.{answers_are}
+use Rattle.lc_summary.proofs.CodeLaws.{count_rows}
 use Rattle.lc_answers.specs.declared.course.Course.{Course}
 use Rattle.lc_answers.specs.declared.need.Halt.{Halt}
 use Rattle.lc_answers.specs.declared.need.Halt.TheVariants as halt
@@ -41,11 +42,6 @@ use Rattle.lc_answers.proofs.NeedLaws.{starving}
 use Rattle.lc_script.specs.Worlds.{outside_of}
 use Rattle.lc_session.proofs.EarlyEnds.{early}
 
-many_rows : (i : ℕ) (words : List ℕ) → length (summary_rows i words) ≡ length words
-unfolding summary_rows
-many_rows i [] = refl
-many_rows i (word ∷ words) = ap suc (many_rows (suc i) words)
-
 many_words : (n : ℕ) (g : _) → length (generator_words n g) ≡ n
 unfolding generator_words
 many_words zero g = refl
@@ -53,7 +49,7 @@ many_words (suc n) g = ap suc (many_words n _)
 
 pub code_rows : (number : ℕ) → 0 < length (summary_code number).rows
 unfolding summary_code
-code_rows number = (let e = many_rows 0 (generator_words 24 (seeded number)) ∙ many_words 24 (seeded number) in omega (arith, e))
+code_rows number = (let e = count_rows 0 (generator_words 24 (seeded number)) ∙ many_words 24 (seeded number) in omega (arith, e))
 
 none_current : (version budget : ℕ) (slice : Option ℕ) (needs : List Matrix) (told : List SessionStep) (settled : List Progress) (left : Option ℕ) (past : List Progress) (o : Option Progress) → Stands afresh version budget slice needs told settled left past o → is_some o ≡ false
 none_current version budget slice needs told settled left past (Some s) h = absurd (let e = h.begun in cc)

@@ -7,17 +7,14 @@
 --   kept_left            a store that failed
 --   chosen_kept          the checkpoint that is taken
 --   transferred          records that settle needs under one divisor settle the same needs under another that agrees with it
---   no_position          no element passes where no position is found
 --   true_from            a session does true steps if its start is true, or if no need is left
 --   IsUsed               which records of a checkpoint a session of a version uses
 --   resumed_start        a session that resumes a true checkpoint does true steps
 --   chains_kept, chains_are_true      the law
-use Rattle.std.proofs.Common.{zero, option_map, ◌≡◌, ◌+◌, ◌≤◌, ◌<◌, ◌^◌, ⊎_elim, inl, inr, ℕ, suc, Bool, true, false, cond, List, [], ◌∷◌, length, take, drop, get_or, refl, sym, ap, subst, ◌∙◌, arith}
-use Rattle.std.specs.Prelude.{Option, Some, None, slice_get, position, nat_lt, if◌then◌else◌, ◌==◌}
-use Rattle.std.specs.List.{position_or_len}
+use Rattle.std.proofs.Common.{zero, option_map, ◌≡◌, ◌+◌, ◌≤◌, ◌<◌, ◌^◌, ⊎_elim, inl, inr, ℕ, suc, Bool, true, false, List, [], ◌∷◌, length, take, drop, get_or, refl, sym, ap, subst, ◌∙◌, arith}
+use Rattle.std.specs.Prelude.{Option, Some, None, slice_get, nat_lt, if◌then◌else◌, ◌==◌}
 use Rattle.std.proofs.lemmas.Bool.{cases_Bool, ltb-false}
 use Rattle.std.proofs.lemmas.List.{get_or-take, length-take, length-take-le}
-use Rattle.std.proofs.lemmas.List.Sums.{fails_before_first}
 use Rattle.std.proofs.lemmas.Option.{get_or_from_slice_get, slice_get_within}
 use Rattle.sha2.specs.Sha256.{sha256}
 use Rattle.lc_algebra.specs.declared.FieldName.TheVariants.{Gf2}
@@ -129,13 +126,6 @@ transferred divisor other budget (C ∷ needs) (D ∷ others) (s ∷ settled) al
   settles_as divisor other budget C D s (one 0 C D refl refl) (same 0 D (omega arith) refl) all.0,
   transferred divisor other budget needs others settled all.1 (λ i E F e f. one (suc i) E F e f) (λ k E m e. same (suc k) E (omega (arith, m)) e) (omega (arith, l)),
 )
-
-no_position : {X : Type 0} (p : X → Bool) (xs : List X) → position p xs ≡ None → (k : ℕ) (d : X) → k < length xs → p (get_or xs k d) ≡ false
-no_position p xs none k d l = by_length (nat_lt (position_or_len p xs) (length xs)) refl none
-  where
-    by_length : (b : Bool) → nat_lt (position_or_len p xs) (length xs) ≡ b → cond b (Some (position_or_len p xs)) None ≡ None → p (get_or xs k d) ≡ false
-    by_length true is e = absurd (let f = e in cc)
-    by_length false is e = (let m = ltb-false (position_or_len p xs) (length xs) is in fails_before_first p xs k d (omega (arith, l, m)))
 
 one_at_least : (version : ℕ) (D : Matrix) → 1 ≤ divisor_in version D
 unfolding divisor_in divisor_of
@@ -319,7 +309,7 @@ resumed_start table bytes budget version needs front p ground known kind l met m
     by_kind (inl first) = rw (first-test first) (resumed_truly table bytes budget version needs front p ground known met met_front holds slice (first_divisible (divisor_in version) (take (suc (length p.settled)) needs)) (used_first p needs version first known (early_enough table bytes budget p ground first (front, met_front, holds))))
     by_kind (inr second) = rw (second-test second) (resumed_truly table bytes budget version needs front p ground known met met_front holds slice None (used_whole p needs version (newest second)))
 
-empty_is_none : checkpoint_in [] ≡ refused damaged
+pub empty_is_none : checkpoint_in [] ≡ refused damaged
 unfolding checkpoint_computes checkpoint_in
 empty_is_none = refl
 

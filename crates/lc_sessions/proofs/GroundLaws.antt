@@ -6,23 +6,19 @@
 --   early_enough, true_turn      that of version 1, and that of any version
 --   searches_end         the searches of a script
 use Rattle.std.proofs.Common.{◌≡◌, ◌+◌, ◌-◌, ◌≤◌, ◌<◌, ◌^◌, ⊎_elim, ℕ, zero, suc, Bool, true, false, List, [], ◌∷◌, find, length, refl, sym, ap, subst, ◌∙◌, arith}
-use Rattle.std.specs.Prelude.{Option, Some, None, if◌then◌else◌, ◌==◌, ◌&&◌, nat_le, slice_get, map, ◌*◌, Contains}
-use Rattle.std.proofs.lemmas.Bool.{cases_Bool, cases_lt, leb-true}
+use Rattle.std.specs.Prelude.{Option, Some, None, if◌then◌else◌, ◌==◌, ◌&&◌, nat_le, slice_get, map, ◌*◌}
+use Rattle.std.proofs.lemmas.Bool.{cases_Bool, cases_lt}
 use Rattle.std.proofs.lemmas.List.Sums.{sum_by-append}
 use Rattle.std.proofs.lemmas.Option.{slice_get_within}
 use Rattle.sha2.specs.Sha256.{sha256}
 use Rattle.lc_algebra.specs.Matrix.{Matrix}
 use Rattle.lc_enumeration.specs.Plan.{cut}
-use Rattle.lc_enumeration.specs.Search.{Answer, no_word, exact, bracket, set_count, best, bound, is_done, may_end, ends_of, answer_at, answer, finished}
-use Rattle.lc_enumeration.specs.Records.{Progress, Rounds, found_of, progress_of, round_length, after_round, is_used_up, state_first, no_round, less_slice, rounds_within, rounds, IsBestAt}
+use Rattle.lc_enumeration.specs.Search.{Answer, no_word, exact, bracket, set_count, best, bound, is_done, may_end, answer_at, answer, finished}
+use Rattle.lc_enumeration.specs.Records.{Progress, Rounds, found_of, round_length, after_round, is_used_up, state_first, no_round, less_slice, rounds_within, rounds, IsBestAt}
 use Rattle.lc_enumeration.specs.Truth.{answer_blocks, IsSettled}
 use Rattle.lc_enumeration.proofs.RecordsLaws.{round_is_best}
 use Rattle.lc_infoset.proofs.AnswerLaws.{some_set}
-use Rattle.lc_infoset.proofs.RoundLaws.{done_list, target, reached, round_within}
-use Rattle.lc_infoset.proofs.AnswerLaws.{ends_to}
-use Rattle.lc_infoset.proofs.BestLaws.{find_passes}
-use Rattle.lc_infoset.proofs.SetLaws.{filter_passes}
-use Rattle.lc_algebra.proofs.SpanLaws.{contains_cases}
+use Rattle.lc_infoset.proofs.RoundLaws.{done_list, target, reached, round_within, next_blocks, target_within}
 use Rattle.lc_infoset.proofs.SessionLaws.{answer_is, target_is, search_ends}
 use Rattle.lc_formats.specs.Truth.{divisor_in, turn_allowance}
 use Rattle.lc_formats.specs.Checkpoint.{Checkpoint}
@@ -31,10 +27,6 @@ use Rattle.lc_sessions.specs.Needs.{MeetsFirst}
 use Rattle.lc_sessions.specs.Slots.{IsTrueCheckpoint}
 use Rattle.lc_sessions.specs.Chain.{Rises, EndsAtAnswer, IsGround}
 use Rattle.lc_sessions.proofs.TrueSteps.{AreSettled, blocks_of, parts_of}
-
-next_blocks : (C : Matrix) (s : Progress) (count : ℕ) → (after_round C s count).blocks ≡ s.blocks + count
-unfolding after_round progress_of
-next_blocks C s count = refl
 
 search_rises : (most d : ℕ) (C : Matrix) (budget : ℕ) (slice o : Option ℕ) (s : Progress) → 0 < length C.rows → 0 < set_count C → budget ≤ cut → find (is_done d C) (done_list C budget) ≡ o → IsBestAt C s → s.blocks ≤ target o budget → Rises C (target o budget) s.blocks (rounds_within most d C budget slice s).states
 unfolding rounds_within state_first no_round
@@ -93,13 +85,6 @@ settled_at : (d : ℕ) (C : Matrix) (budget : ℕ) (o : Option ℕ) (s : Progres
 unfolding answer_at
 settled_at d C budget None s h = (h.0, h.1 ∙ ap (best C (set_count C)) (sym h.0))
 settled_at d C budget (Some l) s h = (h.0, h.1 ∙ ap (best C (set_count C)) (sym h.0))
-
-listed_within : (C : Matrix) (budget l : ℕ) → Contains (done_list C budget) l → l ≤ budget
-listed_within C budget l m = ⊎_elim (λ (e : 0 ≡ l). omega (arith, e)) (λ (r : Contains (ends_to C budget) l). leb-true l budget (filter_passes (λ e. nat_le e budget) (ends_of C) l r).passes) (contains_cases 0 l (ends_to C budget) m)
-
-target_within : (d : ℕ) (C : Matrix) (budget : ℕ) (o : Option ℕ) → find (is_done d C) (done_list C budget) ≡ o → target o budget ≤ budget
-target_within d C budget None f = omega arith
-target_within d C budget (Some e) f = listed_within C budget e (find_passes (is_done d C) (done_list C budget) e f).member
 
 -- an answer has no more blocks than the budget
 pub answer_within : (d : ℕ) (C : Matrix) (budget : ℕ) (s : Progress) → 0 < length C.rows → IsSettled d C budget s → s.blocks ≤ budget

@@ -28,7 +28,7 @@ of_check resume h = absurd (let e = h in cc)
 of_check check h = refl
 of_check summary h = absurd (let e = h in cc)
 
-of_resume : (command : Command) → IsTrue (resumes command) → command ≡ resume
+pub of_resume : (command : Command) → IsTrue (resumes command) → command ≡ resume
 of_resume run h = absurd (let e = h in cc)
 of_resume resume h = refl
 of_resume check h = absurd (let e = h in cc)

@@ -11,24 +11,20 @@
 --   no_words                     the whole contract of a session without arguments
 --   runs_nothing                 the whole contract of `run` over the empty script
 --   no_false_fault               no session over the empty script ends with a fault of the source whose count stands still
-use Rattle.std.proofs.Common.{◌≡◌, ℕ, refl, inl, inr, arith, ◌∙◌, zero, suc, ⊎_elim}
+use Rattle.std.proofs.Common.{◌≡◌, ℕ, refl, inl, inr, arith, ◌∙◌, ⊎_elim}
 use Rattle.std.specs.Prelude.{List, [], ◌∷◌, ◌++◌, ◌^◌, map, codes, true, false, Bool, Option, Some, None, take, drop, nat_lt, if◌then◌else◌}
 use Rattle.std.specs.List.{list_all}
-use Rattle.std.specs.Str.{IsAscii}
-use Rattle.std.proofs.lemmas.Bool.{ltb-true}
-use Rattle.std.proofs.lemmas.Str.{IsUtf8-from_ascii, is_utf8-from_IsUtf8}
 use Rattle.serde_json.specs.Read.{read}
 use Rattle.sha2.specs.Sha256.{sha256}
 use Rattle.lc_algebra.specs.Matrix.{Matrix}
-use Rattle.lc_algebra.proofs.EmbeddingTests.{both_true}
 use Rattle.lc_enumeration.specs.Records.{SessionStep, fresh_start, no_steps, session_from, session_rounds}
 use Rattle.lc_enumeration.proofs.SearchExamples.{hamming}
 use Rattle.lc_formats.specs.Checkpoint.{Checkpoint, ReadCheckpoint, point, refused as unread, damaged, checkpoint_text, checkpoint_in, is_whole, body_in}
-use Rattle.lc_formats.specs.Json.{json_in}
 use Rattle.lc_formats.specs.Certificate.{not_json}
 use Rattle.lc_formats.specs.Text.{same_bytes}
 use Rattle.lc_formats.proofs.Evaluated.{checkpoint_computes}
 use Rattle.lc_formats.proofs.TruthExamples.{after, is_true_after_one}
+use Rattle.lc_formats.proofs.CheckpointExamples.{plainly, reads_plainly}
 use Rattle.lc_grammar.specs.Token.{ended, scan_within, scan}
 use Rattle.lc_grammar.specs.Tree.{name, call, none, more, Statement, count_of}
 use Rattle.lc_io.specs.declared.vault.Slot.TheVariants.{Zero, One}
@@ -42,11 +38,12 @@ use Rattle.lc_language.specs.Refusal.{first_of}
 use Rattle.lc_language.specs.Query.{distance}
 use Rattle.lc_language.specs.Evaluation.{asks, gives, all_give, first_misfit, Steps}
 use Rattle.lc_language.proofs.TextExamples.{text_of_nothing}
-use Rattle.lc_sessions.specs.Options.{run, settings, usage as refuses, all_options, options, settings_of, command_text, key_text, row, row_named, same_key, place_of_key, checked, options_from}
+use Rattle.lc_sessions.specs.Options.{run, settings, all_options, options, settings_of, command_text, key_text, row, row_named, same_key, place_of_key, checked, options_from}
 use Rattle.lc_sessions.specs.Needs.{IsNeeds, Needs, MeetsFirst}
 use Rattle.lc_sessions.specs.Slots.{slot_of, next_turn, stored_bytes, slots_after, later_of, chosen, choice_among, is_empty, choice, nothing_stored, none_decodes, IsTornOr, AreTrueSlots}
 use Rattle.lc_sessions.specs.Session.{Outside, Course, IsSession}
 use Rattle.lc_sessions.specs.Endings.{done, usage, paused, source_fault, sink_fault, vault_fault, no_memory, no_checkpoint, damaged_checkpoint, other_script, rejected, too_long, unfit, ending_number, said, ending_line}
+use Rattle.lc_sessions.proofs.OptionExamples.{no_words as reads_none}
 
 pub turns : map next_turn (0 ∷ 7 ∷ 1152921504606846975 ∷ 1152921504606846976 ∷ []) ≡ 1 ∷ 8 ∷ 1152921504606846976 ∷ 1152921504606846976 ∷ []
 unfolding next_turn
@@ -86,20 +83,8 @@ script = codes "MinimumDistance(HammingCode(3,GF(2)));"
 abbrev pub first_round : Checkpoint
 first_round = after 2 (sha256 script) [] 1 3
 
-unfoldable plainly : List ℕ → ReadCheckpoint
-plainly bytes = (if is_whole bytes then body_in (read (drop 65 bytes)) else unread damaged)
-
 abbrev below_128 : List ℕ → Bool
 below_128 bytes = list_all (λ b. nat_lt b 128) bytes
-
-ascii : (bytes : List ℕ) → below_128 bytes ≡ true → IsAscii bytes
-ascii [] e i = omega arith
-ascii (b ∷ bytes) e zero = ltb-true _ _ (both_true _ _ e).0
-ascii (b ∷ bytes) e (suc i) = ascii bytes (both_true _ _ e).1 i
-
-reads_plainly : (bytes : List ℕ) → below_128 (drop 65 bytes) ≡ true → checkpoint_in bytes ≡ plainly bytes
-unfolding json_in checkpoint_in plainly
-reads_plainly bytes e = rw (is_utf8-from_IsUtf8 _ (IsUtf8-from_ascii _ (ascii _ e))) refl
 
 reads_first_round : checkpoint_in (checkpoint_text first_round) ≡ point first_round
 unfolding checkpoint_computes plainly
@@ -154,10 +139,6 @@ no_rounds divisor budget slice = refl
 reads_run : options all_options (codes "run" ∷ []) ≡ settings (settings_of run)
 unfolding same_bytes command_text key_text row all_options settings_of row_named same_key place_of_key checked options_from options
 reads_run = refl
-
-reads_none : options all_options [] ≡ refuses 0
-unfolding options
-reads_none = refl
 
 pub runs_nothing : IsSession all_calls (codes "run" ∷ []) quiet quiet (done 0)
 unfolding settings_of

@@ -19,9 +19,10 @@ use Rattle.lc_io.specs.Vaults.{Slots}
 use Rattle.lc_language.specs.declared.Call.{Call}
 use Rattle.lc_sessions.specs.Options.{Command, run, resume, check, summary, Settings, Options, settings, usage as refuses, all_options, options}
 use Rattle.lc_sessions.specs.Slots.{Choice, nothing_stored, none_decodes, takes, choice, is_for}
-use Rattle.lc_sessions.specs.Session.{Outside, Course, most_bytes, Accepts, WasRead, GaveTooMuch, ReadsScript, Reads, Starts, Resumes, Meets, Finds, IsUnfit, rounds_of, resumes, reads, IsSession}
+use Rattle.lc_sessions.specs.Session.{Outside, Course, most_bytes, Accepts, WasRead, GaveTooMuch, ReadsScript, Reads, Starts, Resumes, Meets, Finds, IsUnfit, rounds_of, reads, IsSession}
 use Rattle.lc_sessions.specs.Promises.{IsUsable, IsAnswer, IsAmple}
 use Rattle.lc_sessions.specs.Endings.{Ending, done, usage, paused, source_fault, sink_fault, vault_fault, no_memory, no_checkpoint, damaged_checkpoint, other_script, rejected, too_long, unfit}
+use Rattle.lc_sessions.proofs.SaidLaws.{of_resume}
 
 pub asks_for : (table : List Call) (args : List (List ℕ)) (old new : Outside) (ending : Ending) (asked : Settings) (s : IsSession table args old new ending) → options all_options args ≡ settings asked → s.asked ≡ asked
 asks_for table args old new ending asked s is = (rw is at s.accepted).0
@@ -58,12 +59,6 @@ unsliced_from divisor (C ∷ needs) budget settled current =
 pub unsliced : (divisor : Matrix → ℕ) (needs : List Matrix) (budget : ℕ) (start : Start) → (session_rounds divisor needs budget None start).is_stopped ≡ false
 unfolding session_rounds
 unsliced divisor needs budget start = unsliced_from divisor (drop (length start.settled) needs) budget start.settled start.current
-
-of_resume : (command : Command) → IsTrue (resumes command) → command ≡ resume
-of_resume run h = absurd (let e = h in cc)
-of_resume resume h = refl
-of_resume check h = absurd (let e = h in cc)
-of_resume summary h = absurd (let e = h in cc)
 
 -- what `resume` finds is what the premise says
 one_choice : (held : Option Slots) (slots : Slots) (c d : Choice) → held ≡ Some slots → choice slots ≡ c → Finds held d → d ≡ c

@@ -5,11 +5,9 @@
 --   stored_last              the slot of the last turn holds the checkpoint of the last step
 --   stored_beside            a step leaves what the other slot holds
 --   stored_alone             after one step the other slot is as it was
---   torn_other               a store that failed leaves the other slot as it was
 use Rattle.std.proofs.Common.{◌≡◌, ◌+◌, ◌%◌, ◌<◌, ◌≤◌, ◌^◌, ◌++◌, ℕ, Bool, true, false, not, List, [], ◌∷◌, length, refl, ap, ◌∙◌, arith}
 use Rattle.std.specs.Prelude.{◌==◌}
 use Rattle.std.proofs.lemmas.Bool.Decides.{nat_tests}
-use Rattle.lc_io.specs.declared.vault.Slot.{Slot}
 use Rattle.lc_io.specs.Vaults.{Slots, in_slot, other, put}
 use Rattle.lc_io.proofs.SlotLaws.{in_slot-put, in_other-put, other_other}
 use Rattle.lc_enumeration.specs.Records.{SessionStep}
@@ -63,6 +61,3 @@ stored_beside version digest budget turn before s slots =
 
 pub stored_alone : (version : ℕ) (digest : List ℕ) (budget turn : ℕ) (s : SessionStep) (slots : Slots) → in_slot (other (slot_of turn)) (slots_after version digest budget turn (s ∷ []) slots) ≡ in_slot (other (slot_of turn)) slots
 stored_alone version digest budget turn s slots = in_other-put (slot_of turn) (stored_bytes version digest budget turn s) slots
-
-pub torn_other : (slot : Slot) (held : List ℕ) (slots : Slots) → in_slot (other slot) (put slot held slots) ≡ in_slot (other slot) slots
-torn_other slot held slots = in_other-put slot held slots

@@ -12,12 +12,12 @@ use Rattle.sha2.specs.Sha256.{sha256}
 use Rattle.lc_enumeration.specs.Records.{SessionStep}
 use Rattle.lc_io.specs.declared.vault.Slot.{Slot}
 use Rattle.lc_io.specs.Vaults.{Slots, in_slot, other, WhereTold, IsTorn}
-use Rattle.lc_io.proofs.SlotLaws.{WhereTold-map, other_other}
+use Rattle.lc_io.proofs.SlotLaws.{WhereTold-map, other_other, in_other-put}
 use Rattle.lc_sessions.specs.Options.{Settings}
 use Rattle.lc_sessions.specs.Slots.{slot_of, next_turn, turn_after, slots_after}
 use Rattle.lc_sessions.specs.Session.{Course, begin_with, told_slots, Keeps, Tears}
 use Rattle.lc_sessions.specs.Promises.{checkpoint_of, Holds}
-use Rattle.lc_sessions.proofs.SlotsAfter.{turn_after-append, slot_of-next, other_next, stored_last, stored_beside, stored_alone, torn_other}
+use Rattle.lc_sessions.proofs.SlotsAfter.{turn_after-append, slot_of-next, other_next, stored_last, stored_beside, stored_alone}
 
 pub other_slot : (turn : ℕ) → other (slot_of (turn + 1)) ≡ slot_of turn
 other_slot turn = ap other (slot_of-next turn) ∙ other_other (slot_of turn)
@@ -55,7 +55,7 @@ beside_torn : (asked : Settings) (course : Course) (old new : Option Slots) → 
     → WhereTold old new (λ before after. in_slot (other (slot_of (turn_after course.turn course.told))) after ≡ in_slot (other (slot_of (turn_after course.turn course.told))) (told_slots asked course before))
 beside_torn asked course old new tears =
     WhereTold-map old new _ _ (λ (o n : Slots) (is : IsTorn (slot_of (turn_after course.turn course.told)) (told_slots asked course o) n).
-    ap (in_slot (other (slot_of (turn_after course.turn course.told)))) is.1 ∙ torn_other (slot_of (turn_after course.turn course.told)) is.0 (told_slots asked course o)) tears
+    ap (in_slot (other (slot_of (turn_after course.turn course.told)))) is.1 ∙ in_other-put (slot_of (turn_after course.turn course.told)) is.0 (told_slots asked course o)) tears
 
 pub last_stands_torn : (asked : Settings) (course : Course) (old new : Option Slots) (before : List SessionStep) (s : SessionStep) → course.told ≡ before ++ s ∷ [] → turn_after course.turn before < 2 ^ 60 → Tears asked course old new
     → Holds old new (slot_of (turn_after course.turn before)) (checkpoint_of asked course (turn_after course.turn before) s)

@@ -1,5 +1,5 @@
 -- The steps of a session that starts truly have true checkpoints.
---   AreSettled, settled_reads, settled_from     records that settle the first needs, one after another
+--   AreSettled, settled_reads     records that settle the first needs, one after another
 --   settled_one, settled_take          one record more, and the first ones alone
 --   AreTrueSteps, true_append, true_front       steps whose checkpoints are true, the first one with a turn
 --   need_true                          the steps of one search
@@ -34,13 +34,6 @@ settled_reads divisor budget needs [] all i s is = absurd (let e = is in cc)
 settled_reads divisor budget [] (t ∷ settled) all i s is = absurd all
 settled_reads divisor budget (C ∷ needs) (t ∷ settled) all zero s is = (C, refl, subst (λ (x : Progress). IsSettled (divisor C) C budget x) (let e = is in cc) all.0)
 settled_reads divisor budget (C ∷ needs) (t ∷ settled) all (suc i) s is = settled_reads divisor budget needs settled all.1 i s is
-
-pub settled_from : (divisor : Matrix → ℕ) (budget : ℕ) (needs : List Matrix) (settled : List Progress) → ((i : ℕ) (s : Progress) → slice_get settled i ≡ Some s → IsSettledAt divisor budget needs i s) → AreSettled divisor budget needs settled
-settled_from divisor budget needs [] each = tt
-settled_from divisor budget [] (t ∷ settled) each = absurd (let h = each zero t refl in let e = h.1 in cc)
-settled_from divisor budget (C ∷ needs) (t ∷ settled) each =
-    let h = each zero t refl in
-    (subst (λ (D : Matrix). IsSettled (divisor D) D budget t) (let e = h.1 in cc) h.2, settled_from divisor budget needs settled (λ i s is. each (suc i) s is))
 
 pub settled_one : (divisor : Matrix → ℕ) (budget : ℕ) (needs : List Matrix) (settled : List Progress) (C : Matrix) (rest : List Matrix) (s : Progress) → AreSettled divisor budget needs settled → drop (length settled) needs ≡ C ∷ rest → IsSettled (divisor C) C budget s
     → AreSettled divisor budget needs (settled ++ s ∷ []) × (drop (length (settled ++ s ∷ [])) needs ≡ rest)

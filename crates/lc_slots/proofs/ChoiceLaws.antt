@@ -5,11 +5,13 @@
 use Rattle.std.proofs.Common.{◌≡◌, ℕ, ◌<◌, ◌≤◌, Bool, true, false, ◌&&◌, List, [], nat_lt, refl, sym, ap, subst, ◌∙◌, arith}
 use Rattle.std.specs.Prelude.{if◌then◌else◌, Option, Some, None, IfSome}
 use Rattle.std.proofs.lemmas.Bool.Decides.{nat_tests}
-use Rattle.lc_formats.specs.Checkpoint.{ReadCheckpoint, CheckpointRefusal, refused, point, damaged, is_whole, checkpoint_in}
+use Rattle.std.proofs.lemmas.Bool.{and_right}
+use Rattle.lc_formats.specs.Checkpoint.{ReadCheckpoint, CheckpointRefusal, refused, point, damaged, checkpoint_in}
 use Rattle.lc_formats.specs.Checkpoint as formats
 use Rattle.lc_io.specs.declared.vault.Slot.TheVariants.{Zero, One}
 use Rattle.lc_io.specs.Vaults.{Slots, in_slot}
 use Rattle.lc_sessions.specs.Slots.{Choice, nothing_stored, none_decodes, takes, is_empty, later_of, chosen, choice_among, choice}
+use Rattle.lc_sessions.proofs.ChainLaws.{empty_is_none}
 use Rattle.lc_checkpoint.specs.declared.checkpoint.Checkpoint.{Checkpoint}
 use Rattle.lc_checkpoint.specs.Seen.{point_of}
 use Rattle.lc_slots.specs.declared.choosing.Found.{Found}
@@ -28,16 +30,8 @@ choice_by u v z o e f g = rw (e, f, g) refl
 first_some : (u v : List ℕ) → is_empty u ≡ false → (is_empty u && is_empty v) ≡ false
 first_some u v e = rw e refl
 
-second_some : (t x : Bool) → x ≡ false → (t && x) ≡ false
-second_some true x e = e
-second_some false x e = refl
-
-none_read : checkpoint_in [] ≡ refused damaged
-unfolding checkpoint_in is_whole
-none_read = refl
-
 read_none : (u : List ℕ) → u ≡ [] → checkpoint_in u ≡ refused damaged
-read_none u e = ap checkpoint_in e ∙ none_read
+read_none u e = ap checkpoint_in e ∙ empty_is_none
 
 neither : (r s : CheckpointRefusal) → choice_among (later_of (refused r) (refused s)) ≡ none_decodes
 unfolding later_of choice_among
@@ -71,7 +65,7 @@ empty_refused zero one e f = record {
   is = λ u v a b.
       let r : IsRead Empty u = subst (λ h. IsRead h u) e a in
       let s : IsRead Refused v = subst (λ h. IsRead h v) f b in
-      choice_by u v (refused damaged) (refused s.1.0) (second_some (is_empty u) (is_empty v) s.0) (read_none u r) s.1.1 ∙ neither damaged s.1.0;
+      choice_by u v (refused damaged) (refused s.1.0) (and_right (is_empty u) (is_empty v) s.0) (read_none u r) s.1.1 ∙ neither damaged s.1.0;
   ranged = λ a b. tt;
 }
 
@@ -80,7 +74,7 @@ empty_holds zero one q e f = record {
   is = λ u v a b.
       let r : IsRead Empty u = subst (λ h. IsRead h u) e a in
       let s : IsRead (Holds q) v = subst (λ h. IsRead h v) f b in
-      choice_by u v (refused damaged) (point (point_of q)) (second_some (is_empty u) (is_empty v) s.0) (read_none u r) s.1 ∙ second_of damaged (point_of q);
+      choice_by u v (refused damaged) (point (point_of q)) (and_right (is_empty u) (is_empty v) s.0) (read_none u r) s.1 ∙ second_of damaged (point_of q);
   ranged = λ a b. subst IsRanged f b;
 }
 

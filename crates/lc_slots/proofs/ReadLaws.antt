@@ -1,16 +1,15 @@
 -- What the bytes of a slot are.
 --   reads_nothing, reads_damaged, reads_version, reads_shape, reads_point      as they are read
 --   front_reads               the front of a slot that is longer than any checkpoint is read as the whole slot is
-use Rattle.std.proofs.Common.{◌≡◌, ℕ, ◌+◌, ◌<◌, ◌≤◌, Bool, true, false, ◌&&◌, List, [], ◌∷◌, ◌++◌, length, take, drop, min, nat_le, inl, inr, refl, sym, ap, subst, ◌∙◌, arith}
+use Rattle.std.proofs.Common.{◌≡◌, ℕ, ◌+◌, ◌<◌, ◌≤◌, false, ◌&&◌, List, [], ◌∷◌, ◌++◌, length, take, drop, min, inl, inr, refl, sym, ap, subst, ◌∙◌, arith}
 use Rattle.std.specs.Prelude.{if◌then◌else◌, Option, Some, None, IfSome}
 use Rattle.std.proofs.lemmas.List.{take_all, length-take, length-take-le}
 use Rattle.std.proofs.Math.Seq.{take-append_seam}
 use Rattle.std.proofs.lemmas.Bool.{cases_lt}
 use Rattle.lc_io.specs.declared.vault.Slot.{Slot}
 use Rattle.lc_io.specs.Vaults.{Slots, Loads, in_slot}
-use Rattle.std.proofs.lemmas.Bool.Decides.{nat_tests}
-use Rattle.lc_formats.specs.Text.{same_bytes}
-use Rattle.lc_formats.specs.Checkpoint.{ReadCheckpoint, refused, point, damaged, other_version, shape, is_whole, sealed, checkpoint_in}
+use Rattle.lc_formats.specs.Checkpoint.{ReadCheckpoint, refused, point, damaged, other_version, shape, checkpoint_in}
+use Rattle.lc_formats.proofs.CheckpointBack.{too_long}
 use Rattle.lc_sessions.specs.Slots.{is_empty}
 use Rattle.lc_checkpoint.specs.declared.checkpoint.Checkpoint.{Checkpoint}
 use Rattle.lc_checkpoint.specs.Seen.{point_of}
@@ -41,21 +40,11 @@ reads_point bytes p l e = (has_bytes bytes l, e)
 
 -- ---- a slot that is longer than any checkpoint
 
-and_first : (x y z : Bool) → y ≡ false → (x && (y && z)) ≡ false
-and_first true y z e = rw e refl
-and_first false y z e = refl
-
-long_unread : (bytes : List ℕ) → 4194304 < length bytes → checkpoint_in bytes ≡ refused damaged
-unfolding checkpoint_in is_whole
-long_unread bytes l =
-    let t : nat_le (length bytes) 4194304 ≡ false = grind (arith, nat_tests, l) in
-    rw (and_first (nat_le 65 (length bytes)) (nat_le (length bytes) 4194304) (same_bytes bytes (sealed (drop 65 bytes))) t) refl
-
 -- the front of a slot that is as long as the longest checkpoint and one byte more is read as the whole slot
 pub same_read : (room : ℕ) (bytes : List ℕ) → 4194304 < room → checkpoint_in (take room bytes) ≡ checkpoint_in bytes
 same_read room bytes l =
     elim (cases_lt room (length bytes)) [
-      | inl long ↦ long_unread (take room bytes) (omega (arith, length-take-le room bytes (omega (arith, long)))) ∙ sym (long_unread bytes (omega (arith, long)))
+      | inl long ↦ too_long (take room bytes) (omega (arith, length-take-le room bytes (omega (arith, long)))) ∙ sym (too_long bytes (omega (arith, long)))
       | inr short ↦ ap checkpoint_in (take_all room bytes short)
     ]
 

@@ -2,9 +2,8 @@
 --   rows_are_words        each row is a word of 48 symbols of the field of 2 elements
 --   rows_reduced          the rows are the identity on the first 24 columns
 --   code_is, code_made    the code that they span is the record of these rows
---   binary_symbols        words may be written over the field of 2 elements
-use Rattle.std.proofs.Common.{◌≡◌, ◌≢◌, ℕ, zero, suc, ◌+◌, ◌-◌, ◌/◌, ◌%◌, ◌^◌, ◌<◌, ◌≤◌, ◌==◌, Bool, true, false, List, [], ◌∷◌, ◌++◌, length, map, get_or, All, inl, inr, refl, sym, ap, subst, ◌∙◌, arith}
-use Rattle.std.specs.Prelude.{if◌then◌else◌, slice_index, slice_index_or, IsTrue, IfOk, Result, Ok, Err}
+use Rattle.std.proofs.Common.{◌≡◌, ◌≢◌, ℕ, zero, suc, ◌+◌, ◌-◌, ◌/◌, ◌%◌, ◌^◌, ◌<◌, ◌≤◌, ◌==◌, true, false, List, [], ◌∷◌, ◌++◌, length, map, get_or, All, inl, inr, refl, sym, ap, subst, ◌∙◌, arith}
+use Rattle.std.specs.Prelude.{if◌then◌else◌, slice_index, slice_index_or, IfOk, Result, Ok, Err}
 use Rattle.std.proofs.lemmas.List.{length-append, length-map, get_or-map, get_or_append_left}
 use Rattle.std.proofs.Math.ListN.{get_or-append}
 use Rattle.std.proofs.lemmas.List.{get_or-append_right}
@@ -16,19 +15,19 @@ use Rattle.rand_pcg.specs.Lcg.{Lcg}
 use Rattle.rand_pcg.specs.Pcg.{pcg32}
 use Rattle.lc_algebra.specs.declared.FieldName.{FieldName}
 use Rattle.lc_algebra.specs.declared.FieldName.TheVariants.{Gf2}
-use Rattle.lc_algebra.specs.Field.{is_symbol, shape, shape_of, size}
 use Rattle.lc_algebra.specs.Word.{IsWord, Fits}
 use Rattle.lc_algebra.specs.Span.{below, InSpan}
 use Rattle.lc_algebra.specs.Matrix.{Matrix, AreRows, HasPivots, IsReduced, IsReducedGenerator, entry}
-use Rattle.lc_algebra.proofs.SpanLaws.{length_below, span_word}
+use Rattle.lc_algebra.proofs.SpanLaws.{length_below, span_word, index_below}
 use Rattle.lc_algebra.proofs.ReducedLaws.{generator_unique}
-use Rattle.lc_algebra.proofs.EmbeddingTests.{size_two}
+use Rattle.lc_algebra.proofs.EmbeddingTests.{size_two, binary_symbols}
+use Rattle.lc_algebra.proofs.CommonLaws.{small_bit}
 use Rattle.lc_constructions.specs.Code.{IsCode}
 use Rattle.lc_constructions.specs.Basic.{GeneratedBy}
 use Rattle.lc_code.proofs.CodeLaws.{same_matrix}
 use Rattle.lc_enumeration.specs.InformationSet.{unit_word}
-use Rattle.lc_infoset.proofs.BoundLaws.{index_below}
-use Rattle.lc_infoset.proofs.ExistLaws.{length_unit, index_unit, unit_is_word}
+use Rattle.lc_enumeration.proofs.GreedyLaws.{index_unit, length_unit}
+use Rattle.lc_infoset.proofs.ExistLaws.{unit_is_word}
 use Rattle.lc_sessions.specs.Summary.{generator_words, seeded, summary_row, summary_rows, summary_code}
 
 -- the 24 lowest bits of a word
@@ -53,10 +52,6 @@ row_long : (i word : ℕ) → length (summary_row i word) ≡ 48
 unfolding summary_row
 row_long i word = omega (arith, length-append (unit_word 24 i) (bits word), length_unit 24 i, length_bits word)
 
-small_bit : (b : Bool) → (if b then 1 else 0) < 2
-small_bit true = omega arith
-small_bit false = omega arith
-
 is_bit : (i word c : ℕ) → c < 48 → slice_index (summary_row i word) c < 2
 is_bit i word c l =
     elim (cases_lt c 24) [
@@ -72,7 +67,7 @@ unfolding summary_rows
 words_of_rows i [] = All-nil (IsWord Gf2 48)
 words_of_rows i (word ∷ words) = All-cons (IsWord Gf2 48) (summary_row i word) (summary_rows (suc i) words) (row_is_word i word) (words_of_rows (suc i) words)
 
-count_rows : (i : ℕ) (words : List ℕ) → length (summary_rows i words) ≡ length words
+pub count_rows : (i : ℕ) (words : List ℕ) → length (summary_rows i words) ≡ length words
 unfolding summary_rows
 count_rows i [] = refl
 count_rows i (word ∷ words) = ap suc (count_rows (suc i) words)
@@ -148,10 +143,6 @@ code_is seed rows C e is =
     let c : IsCode Gf2 48 (GeneratedBy Gf2 48 (summary_rows 0 words)) C = subst (λ r. IsCode Gf2 48 (GeneratedBy Gf2 48 r) C) e is in
     let same : C.rows ≡ summary_rows 0 words = generator_unique Gf2 48 (GeneratedBy Gf2 48 (summary_rows 0 words)) C.rows (summary_rows 0 words) c.generator (generator_of words n) in
     same_matrix (summary_code seed) C c.over c.length_is same
-
-pub binary_symbols : (f : FieldName) → f ≡ Gf2 → IsTrue (is_symbol f)
-unfolding is_symbol size shape shape_of
-binary_symbols f e = subst (λ g. IsTrue (is_symbol g)) (sym e) refl
 
 pub code_made : {E : Type 0} (seed : ℕ) (f : FieldName) (rows : List (List ℕ)) (r : Result Matrix E) → f ≡ Gf2 → rows ≡ summary_rows 0 (generator_words 24 (seeded seed)) → IfOk r (λ c. IsCode f 48 (GeneratedBy f 48 rows) c) → IfOk r (λ c. c ≡ summary_code seed)
 code_made seed f rows (Ok c) e is code = code_is seed rows c is (subst (λ g. IsCode g 48 (GeneratedBy g 48 rows) c) e code)

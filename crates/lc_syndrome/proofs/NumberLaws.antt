@@ -7,7 +7,7 @@
 --   number_none, ..          the number of a syndrome, check by check, the last one first
 --   numbered_none, ..        the table of words with one nonzero symbol
 use Rattle.std.proofs.Common.{◌≡◌, ◌≢◌, ℕ, zero, suc, ◌+◌, ◌-◌, ◌*◌, ◌/◌, ◌%◌, ◌^◌, ◌<◌, ◌≤◌, List, [], ◌∷◌, ◌++◌, length, set, drop, slice_index, slice_index_or, refl, sym, ap, ap₂, subst, ◌∙◌, arith, mod-lt, pow-suc, bit_xor, length-append, length-drop, ⊎_elim}
-use Rattle.std.proofs.Math.Nat.{mod-add-div, pow-zero, pow-le-pow_left, pow-le-pow_right, mul-le-mul_right}
+use Rattle.std.proofs.Math.Nat.{mod-add-div, pow-zero, pow-le-pow_left, pow-le-pow_right}
 use Rattle.std.proofs.lemmas.Nat.{xor_block, div_below, div-mul-add, mod-mul-add}
 use Rattle.std.proofs.lemmas.List.{get_or_append_left, get_or_at, drop_more, drop_all}
 use Rattle.std.proofs.lemmas.Bool.{cases_lt}
@@ -17,12 +17,13 @@ use Rattle.lc_algebra.specs.Residue.{digits, number}
 use Rattle.lc_algebra.specs.Word.{IsWord, zero_word, word_sum, word_dot}
 use Rattle.lc_algebra.specs.Matrix.{Matrix}
 use Rattle.lc_algebra.proofs.FieldLaws.{zero_inside, one_inside}
-use Rattle.lc_algebra.proofs.WordLaws.{word_head, word_tail, word_cons, word_symbol, index_zero_word, IsWord_zero}
+use Rattle.lc_algebra.proofs.WordLaws.{word_head, word_tail, word_cons, word_symbol, index_zero_word, IsWord_zero, residues_fit}
 use Rattle.lc_constructions.specs.Coset.{syndrome}
 use Rattle.lc_field.proofs.SumLaws.{xor_add}
 use Rattle.lc_syndrome.specs.Syndrome.{syndrome_number, coset_count, unit, sum_number, unit_at, IsNumberedTo, IsNumbered}
 use Rattle.lc_algebra.proofs.ResidueLaws.{number_below}
-use Rattle.lc_syndrome.proofs.SyndromeLaws.{residues_fit, syndrome_word, syndrome_below, zero_syndrome, sum_below}
+use Rattle.lc_algebra.proofs.CommonLaws.{below_product}
+use Rattle.lc_syndrome.proofs.SyndromeLaws.{syndrome_word, syndrome_below, zero_syndrome, sum_below}
 use Rattle.lc_syndrome.proofs.LeadLaws.{syndrome_put}
 
 pub sum_none : (f : FieldName) (m a b : ℕ) → m ≡ 0 → sum_number f m a b ≡ 0
@@ -42,12 +43,12 @@ block_of : (f : FieldName) (x y r t : ℕ) → (shape_of f).characteristic ≡ 2
 unfolding size
 block_of f x y r t e l k = rw e (xor_block (shape_of f).degree x y r t (rw e at l) (rw e at k))
 
-xor_sums : (f : FieldName) (m a b : ℕ) → (shape_of f).characteristic ≡ 2 → a < size f ^ m → b < size f ^ m → bit_xor a b ≡ sum_number f m a b
-xor_sums f zero a b e l k =
+pub xor_sum : (f : FieldName) (m a b : ℕ) → (shape_of f).characteristic ≡ 2 → a < size f ^ m → b < size f ^ m → bit_xor a b ≡ sum_number f m a b
+xor_sum f zero a b e l k =
     let za : a ≡ 0 = omega (arith, l, pow-zero (size f)) in
     let zb : b ≡ 0 = omega (arith, k, pow-zero (size f)) in
     rw (za, zb) (sym (sum_none f 0 0 0 refl))
-xor_sums f (suc m) a b e l k =
+xor_sum f (suc m) a b e l k =
     let q = size f in
     let p : 0 < q = zero_inside f in
     let ra : a % q < q = mod-lt a p in
@@ -58,7 +59,7 @@ xor_sums f (suc m) a b e l k =
     let wb : (b / q) * q + b % q ≡ b = omega (arith, mod-add-div b q) in
     let block : bit_xor ((a / q) * q + a % q) ((b / q) * q + b % q) ≡ bit_xor (a / q) (b / q) * q + bit_xor (a % q) (b % q) = block_of f (a / q) (b / q) (a % q) (b % q) e ra rb in
     let whole : bit_xor a b ≡ bit_xor (a / q) (b / q) * q + bit_xor (a % q) (b % q) = rw (wa, wb) at block in
-    let i : bit_xor (a / q) (b / q) ≡ sum_number f m (a / q) (b / q) = xor_sums f m (a / q) (b / q) e la lb in
+    let i : bit_xor (a / q) (b / q) ≡ sum_number f m (a / q) (b / q) = xor_sum f m (a / q) (b / q) e la lb in
     let j : bit_xor (a % q) (b % q) ≡ add f (a % q) (b % q) = xor_add f (a % q) (b % q) e ra rb in
     let t : bit_xor (a / q) (b / q) * q ≡ q * sum_number f m (a / q) (b / q) = omega (arith, ap (λ x. q * x) i) in
     whole ∙ omega (arith, t, j) ∙ sym (sum_digits f m a b)
@@ -84,26 +85,18 @@ few_checks f m l =
     let a : 2 ^ m ≤ size f ^ m = pow-le-pow_left (one_inside f) m in
     omega (arith, a, l, below_power m)
 
-pub xor_sum : (f : FieldName) (m a b : ℕ) → (shape_of f).characteristic ≡ 2 → a < size f ^ m → b < size f ^ m → bit_xor a b ≡ sum_number f m a b
-xor_sum = xor_sums
-
 pub xor_inside : (f : FieldName) (m a b : ℕ) → (shape_of f).characteristic ≡ 2 → a < size f ^ m → b < size f ^ m → bit_xor a b < size f ^ m
-xor_inside f m a b e l k = subst (λ x. x < size f ^ m) (sym (xor_sums f m a b e l k)) (sum_below f m a b)
+xor_inside f m a b e l k = subst (λ x. x < size f ^ m) (sym (xor_sum f m a b e l k)) (sum_below f m a b)
 
 -- the table of words with one nonzero symbol
 
-pub entry_room : (n q i c : ℕ) → i < n → c < q → i * q + c < n * q
-entry_room n q i c l k =
-    let m : suc i * q ≤ n * q = mul-le-mul_right q l in
-    omega (arith, m, k)
-
 pub entry_inside : (H : Matrix) (numbers : List ℕ) (i c : ℕ) → IsNumbered H numbers → i < H.columns → c < size H.field → i * size H.field + c < length numbers
-entry_inside H numbers i c k l m = omega (arith, entry_room H.columns (size H.field) i c l m, k.whole.count)
+entry_inside H numbers i c k l m = omega (arith, below_product H.columns (size H.field) i c l m, k.whole.count)
 
 pub entry_of : (H : Matrix) (numbers : List ℕ) (i c : ℕ) → IsNumbered H numbers → i < H.columns → c < size H.field → slice_index numbers (i * size H.field + c) ≡ syndrome_number H (unit H.columns i c)
 entry_of H numbers i c k l m =
     let q = size H.field in
-    let e : slice_index numbers (i * q + c) ≡ syndrome_number H (unit_at H (i * q + c)) = k.whole.entries (i * q + c) (entry_room H.columns q i c l m) in
+    let e : slice_index numbers (i * q + c) ≡ syndrome_number H (unit_at H (i * q + c)) = k.whole.entries (i * q + c) (below_product H.columns q i c l m) in
     let d : (i * q + c) / q ≡ i = div-mul-add i q c m in
     let r : (i * q + c) % q ≡ c = mod-mul-add i q c m in
     e ∙ ap (syndrome_number H) (ap₂ (unit H.columns) d r)

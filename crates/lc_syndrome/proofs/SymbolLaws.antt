@@ -7,8 +7,8 @@
 --   weight_kept              a nonzero symbol that is changed adds nothing
 --   weight_taken             a nonzero symbol made 0 takes 1 from it
 --   at_most_put              the lexicographic order of two words is that before one symbol was put into both, where they had 0
-use Rattle.std.proofs.Common.{◌≡◌, ◌≢◌, ℕ, zero, suc, ◌<◌, ◌≤◌, inl, inr, ⊎_elim, List, [], ◌∷◌, length, set, slice_index, get_or, sym, ap, ap₂, subst, ◌∙◌, arith, zero-lt-suc}
-use Rattle.std.proofs.lemmas.List.{length-set, get_or-set_same, get_or-set_other, set-set, set-get_or, get_or_default}
+use Rattle.std.proofs.Common.{◌≡◌, ◌≢◌, ℕ, zero, suc, ◌<◌, ◌≤◌, inl, inr, ⊎_elim, List, [], ◌∷◌, length, set, slice_index, sym, ap, ap₂, subst, ◌∙◌, arith, zero-lt-suc}
+use Rattle.std.proofs.lemmas.List.{length-set, get_or-set_same, get_or-set_other, set-set, set-get_or}
 use Rattle.std.proofs.lemmas.Bool.{cases_eq}
 use Rattle.lc_algebra.specs.declared.FieldName.{FieldName}
 use Rattle.lc_algebra.specs.Field.{size, add, neg}
@@ -55,13 +55,10 @@ weight_kept zero d (a ∷ x) p = omega (arith, weight_other_head a x p, weight_c
 weight_kept (suc i) d (zero ∷ x) p = omega (arith, weight_zero_head (set x i d), weight_kept i d x p, weight_zero_head x)
 weight_kept (suc i) d (suc a ∷ x) p = omega (arith, weight_other_head (suc a) (set x i d) (zero-lt-suc a), weight_kept i d x p, weight_other_head (suc a) x (zero-lt-suc a))
 
-inside_from_symbol : (i : ℕ) (x : List ℕ) → 0 < slice_index x i → i < length x
-inside_from_symbol i [] p = absurd (omega (arith, p))
-inside_from_symbol zero (a ∷ x) p = zero-lt-suc (length x)
-inside_from_symbol (suc i) (a ∷ x) p = omega (arith, inside_from_symbol i x p)
-
 pub symbol_inside : (i : ℕ) (x : List ℕ) → 0 < slice_index x i → i < length x
-symbol_inside = inside_from_symbol
+symbol_inside i [] p = absurd (omega (arith, p))
+symbol_inside zero (a ∷ x) p = zero-lt-suc (length x)
+symbol_inside (suc i) (a ∷ x) p = omega (arith, symbol_inside i x p)
 
 pub weight_taken : (i : ℕ) (x : List ℕ) → 0 < slice_index x i → suc (weight (set x i 0)) ≡ weight x
 weight_taken i x p =
@@ -76,7 +73,3 @@ at_most_put zero c (a ∷ u) (b ∷ v) e p q (inl h) = absurd (omega (arith, h))
 at_most_put zero c (a ∷ u) (b ∷ v) e p q (inr h) = inr (p ∙ sym q, h.1)
 at_most_put (suc i) c (a ∷ u) (b ∷ v) e p q (inl h) = inl h
 at_most_put (suc i) c (a ∷ u) (b ∷ v) e p q (inr h) = inr (h.0, at_most_put i c u v (omega (arith, e)) p q h.1)
-
--- what an index reads
-pub read_at : (xs : List ℕ) (i r : ℕ) → i < length xs → r ≡ get_or xs i r → r ≡ slice_index xs i
-read_at xs i r l e = e ∙ get_or_default xs i r 0 l

@@ -1,5 +1,4 @@
 -- Syndromes as numbers.
---   residues_fit             the symbols of a word are residues modulo the size of the field
 --   syndrome_word            the syndrome is a word, with a symbol for each check
 --   syndrome_below           its number is below the number of cosets
 --   syndrome_of_sum          the syndrome of a sum is the sum of the syndromes
@@ -14,14 +13,10 @@ use Rattle.lc_algebra.specs.Field.{size}
 use Rattle.lc_algebra.specs.Residue.{digits, number}
 use Rattle.lc_algebra.specs.Word.{Fits, IsWord, zero_word, word_sum, word_dot}
 use Rattle.lc_algebra.specs.Matrix.{Matrix}
-use Rattle.lc_algebra.proofs.ResidueLaws.{Residues, digits-number, number_below, number_zeros, length-digits}
-use Rattle.lc_algebra.proofs.WordLaws.{fits_head, fits_tail, fits_cons, dot_inside, dot_sum, dot_zero, IsWord_sum}
+use Rattle.lc_algebra.proofs.ResidueLaws.{digits-number, number_below, number_zeros, length-digits}
+use Rattle.lc_algebra.proofs.WordLaws.{fits_cons, dot_inside, dot_sum, dot_zero, IsWord_sum, residues_fit}
 use Rattle.lc_constructions.specs.Coset.{syndrome}
 use Rattle.lc_syndrome.specs.Syndrome.{syndrome_number, coset_count, sum_number}
-
-pub residues_fit : (f : FieldName) (u : List ℕ) → Fits f u → Residues (size f) u
-residues_fit f [] h = tt
-residues_fit f (a ∷ u) h = (fits_head f a u h, residues_fit f u (fits_tail f a u h))
 
 pub length_syndrome : (f : FieldName) (rows : List (List ℕ)) (x : List ℕ) → length (syndrome f rows x) ≡ length rows
 unfolding syndrome

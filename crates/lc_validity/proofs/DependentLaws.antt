@@ -6,7 +6,7 @@
 --   greedy_agree, basis_shared so the first basis of the columns is the same
 --   set_systematic             k independent columns have a systematic matrix
 --   echelon_systematic         so has the first basis of all columns
-use Rattle.std.proofs.Common.{◌≡◌, ℕ, ◌+◌, ◌<◌, ◌≤◌, ◌⊎◌, Bool, true, false, List, [], ◌∷◌, ◌++◌, map, find, filter, length, unwrap_or, slice_index, slice_index_or, All, Contains, Option, Some, None, inl, inr, refl, sym, ap, ap₂, subst, ◌∙◌, arith}
+use Rattle.std.proofs.Common.{◌≡◌, ℕ, ◌+◌, ◌<◌, ◌≤◌, ◌⊎◌, Bool, true, List, [], ◌∷◌, ◌++◌, map, find, filter, length, unwrap_or, slice_index, slice_index_or, All, Contains, Option, Some, None, inl, inr, refl, sym, ap, ap₂, subst, ◌∙◌, arith}
 use Rattle.std.proofs.lemmas.Bool.{false≢true}
 use Rattle.std.proofs.lemmas.List.{length-map, length-append, get_or_default, get_or-map, ext_get_or}
 use Rattle.std.proofs.lemmas.List.Elements.{All-head, All-tail, All-contains, Contains-get_or}
@@ -17,22 +17,17 @@ use Rattle.lc_algebra.specs.Span.{below, combine, InSpan, words, SameSpan, AreIn
 use Rattle.lc_algebra.specs.Matrix.{column, AreRows, IsSystematic, AreIndependentColumns}
 use Rattle.lc_algebra.specs.SpanLaws.{restrict}
 use Rattle.lc_algebra.proofs.WordLaws.{length_scale, length_zero_word, index_zero_word, index_scale, index_word_sum, dot_zero, dot_sum, dot_scale}
-use Rattle.lc_algebra.proofs.SpanLaws.{span_word, same_span_symmetric, same_span_transitive, map_contains, below_contains, contains_below, combination_of_word, word_of_combination, word_of_member, member_of_word, length_combine}
+use Rattle.lc_algebra.proofs.SpanLaws.{span_word, same_span_symmetric, same_span_transitive, map_contains, below_contains, contains_below, combination_of_word, word_of_combination, word_of_member, member_of_word, length_combine, span_of_member}
 use Rattle.lc_algebra.proofs.ReducedLaws.{index_combine}
-use Rattle.lc_algebra.proofs.ColumnLaws.{length_restrict, restrict_zero, restrict_scale, restrict_sum, column_word, column_of_columns, independent_columns_shared}
+use Rattle.lc_algebra.proofs.ColumnLaws.{length_restrict, restrict_zero, restrict_scale, restrict_sum, column_word, column_of_columns, independent_columns_shared, columns_are_rows}
+use Rattle.lc_algebra.proofs.CommonLaws.{same_test}
 use Rattle.lc_enumeration.specs.InformationSet.{same_word, in_span, greedy, dimension, is_member, first_basis, unit_word, systematic, echelon_rows}
 use Rattle.lc_enumeration.proofs.MemberLaws.{same_from_test, in_span_true, true_in_span}
 use Rattle.lc_enumeration.proofs.DependentLaws.{map_same, greedy_step, independent_rows}
-use Rattle.lc_enumeration.proofs.GreedyLaws.{span_of_member, vectors_are_rows}
 use Rattle.lc_infoset.proofs.ExistLaws.{full_rank, told_on_set, systematic_from_square}
 use Rattle.lc_infoset.proofs.GreedyLaws.{spanning_square, HasColumns, IsBasis, first_basis_is}
 use Rattle.lc_infoset.proofs.BestLaws.{FoundBy, find_passes}
 use Rattle.lc_infoset.proofs.AnswerLaws.{find_none}
-
-bool_same : (a b : Bool) → (a ≡ true → b ≡ true) → (b ≡ true → a ≡ true) → a ≡ b
-bool_same true b h k = sym (h refl)
-bool_same false true h k = k refl
-bool_same false false h k = refl
 
 pub find_shared : {X : Type 0} (p : X → Bool) (xs ys : List X) → ((x : X) → Contains xs x → Contains ys x) → ((x : X) → Contains ys x → Contains xs x) → ((x y : X) → Contains xs x → Contains xs y → p x ≡ true → p y ≡ true → x ≡ y) → find p xs ≡ find p ys
 find_shared {X} p xs ys h k one = from (find p xs) (find p ys) refl refl
@@ -78,9 +73,6 @@ column_holds f n (g ∷ rows) set xs p w r a i =
     ∙ sym (dot_sum f xs (restrict set (scale f c g)) (restrict set v) (length_restrict set (scale f c g) ∙ sym (length_restrict set v)))
     ∙ ap (word_dot f xs) (sym (restrict_sum f set (scale f c g) v lengths) ∙ ap (restrict set) (sym i.2.2))
 
-columns_rows : (f : FieldName) (n : ℕ) (rows : List (List ℕ)) (set : List ℕ) → AreRows f n rows → AreRows f (length rows) (map (column rows) set)
-columns_rows f n rows set r = vectors_are_rows f (length rows) (column rows) set (λ p. column_word f n rows p r)
-
 pub columns_shared : (f : FieldName) (n : ℕ) (rows others : List (List ℕ)) (set : List ℕ) (p : ℕ) → AreRows f n rows → AreRows f n others → SameSpan f n rows others → InSpan f (length rows) (map (column rows) set) (column rows p) → InSpan f (length others) (map (column others) set) (column others p)
 columns_shared f n rows others set p r s same i =
     let t = combination_of_word f (length rows) (map (column rows) set) (column rows p) i in
@@ -88,15 +80,15 @@ columns_shared f n rows others set p r s same i =
     let at_rows : All (λ row. slice_index row p ≡ word_dot f xs (restrict set row)) rows = λ k d l.
     ap (λ row. slice_index row p) (get_or_default rows k d [] l) ∙ sym (get_or-map (λ row. slice_index row p) rows k [] 0 l)
     ∙ ap (λ v. slice_index v k) t.2
-    ∙ index_combine f (length rows) xs (map (column rows) set) k (columns_rows f n rows set r)
+    ∙ index_combine f (length rows) xs (map (column rows) set) k (columns_are_rows f n rows set r)
     ∙ ap (word_dot f xs) (column_of_columns rows set k l ∙ ap (restrict set) (get_or_default rows k [] d l)) in
     let word : IsWord f (length (map (column others) set)) xs = subst (λ m. IsWord f m xs) (length-map set (column rows) ∙ sym (length-map set (column others))) t.1 in
     let equal : column others p ≡ combine f (length others) xs (map (column others) set) =
-    ext_get_or 0 (column others p) (combine f (length others) xs (map (column others) set)) (length-map others (λ row. slice_index row p) ∙ sym (length_combine f (length others) xs (map (column others) set) (columns_rows f n others set s))) (λ k l.
+    ext_get_or 0 (column others p) (combine f (length others) xs (map (column others) set)) (length-map others (λ row. slice_index row p) ∙ sym (length_combine f (length others) xs (map (column others) set) (columns_are_rows f n others set s))) (λ k l.
     let inside : k < length others = omega (arith, l, length-map others (λ row. slice_index row p)) in
     get_or-map (λ row. slice_index row p) others k [] 0 inside
     ∙ column_holds f n rows set xs p (slice_index_or others k []) r at_rows ((same (slice_index_or others k [])).1 (span_of_member f n others (slice_index_or others k []) s (Contains-get_or others k [] inside)))
-    ∙ sym (index_combine f (length others) xs (map (column others) set) k (columns_rows f n others set s) ∙ ap (word_dot f xs) (column_of_columns others set k inside))) in
+    ∙ sym (index_combine f (length others) xs (map (column others) set) k (columns_are_rows f n others set s) ∙ ap (word_dot f xs) (column_of_columns others set k inside))) in
     subst (InSpan f (length others) (map (column others) set)) (sym equal) (word_of_combination f (length others) (map (column others) set) xs word)
 
 pub greedy_agree : (f : FieldName) (n m : ℕ) (u v : ℕ → List ℕ) (taken order : List ℕ) → ((set : List ℕ) (i : ℕ) → InSpan f n (map u set) (u i) → InSpan f m (map v set) (v i)) → ((set : List ℕ) (i : ℕ) → InSpan f m (map v set) (v i) → InSpan f n (map u set) (u i)) → greedy f n u taken order ≡ greedy f m v taken order
@@ -104,7 +96,7 @@ unfolding greedy
 greedy_agree f n m u v taken [] h k = refl
 greedy_agree f n m u v taken (i ∷ order) h k =
     greedy_step f n m u v taken order i
-    (bool_same (in_span f n (map u taken) (u i)) (in_span f m (map v taken) (v i)) (λ e. true_in_span f m (map v taken) (v i) (h taken i (in_span_true f n (map u taken) (u i) e))) (λ e. true_in_span f n (map u taken) (u i) (k taken i (in_span_true f m (map v taken) (v i) e))))
+    (same_test (in_span f n (map u taken) (u i)) (in_span f m (map v taken) (v i)) (λ e. true_in_span f m (map v taken) (v i) (h taken i (in_span_true f n (map u taken) (u i) e))) (λ e. true_in_span f n (map u taken) (u i) (k taken i (in_span_true f m (map v taken) (v i) e))))
     (greedy_agree f n m u v taken order h k) (greedy_agree f n m u v (taken ++ i ∷ []) order h k)
 
 pub basis_shared : (f : FieldName) (n : ℕ) (rows others : List (List ℕ)) (order : List ℕ) → AreRows f n rows → AreRows f n others → SameSpan f n rows others → first_basis f n rows order ≡ first_basis f n others order
@@ -131,7 +123,7 @@ set_systematic f n rows set r many columns =
     let k = length t.others in
     let of_others : AreIndependentColumns f t.others set = independent_columns_shared f n rows t.others set r t.words t.same columns in
     let count : length (map (column t.others) set) ≡ k = length-map set (column t.others) ∙ many ∙ sym t.many in
-    let spans : (p : ℕ) → p < n → InSpan f k (map (column t.others) set) (column t.others p) = λ p l. full_rank f k (map (column t.others) set) (column t.others p) (columns_rows f n t.others set t.words) of_others count (column_word f n t.others p t.words) in
+    let spans : (p : ℕ) → p < n → InSpan f k (map (column t.others) set) (column t.others p) = λ p l. full_rank f k (map (column t.others) set) (column t.others p) (columns_are_rows f n t.others set t.words) of_others count (column_word f n t.others p t.words) in
     shared_systematic f n rows t.others set t.words t.same (many ∙ sym t.many) (spanning_square f n t.others set t.words t.free spans)
 
 pub record EchelonRows (f : FieldName) (n : ℕ) (rows : List (List ℕ)) : Type 0 where

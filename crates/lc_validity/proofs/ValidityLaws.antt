@@ -1,6 +1,6 @@
 -- A valid certificate of the right shape proves its distance.
 --   set_of c claim             the level set of a claim
---   pairs_head, all_mapped, mapped_pairs      pairs and elements of a list that was mapped
+--   pairs_head, mapped_pairs      pairs and elements of a list that was mapped
 --   seen_contains              the words of messages of the levels 1 to l are seen words
 --   unseen_lighter             a word of the code that is lighter than all seen words is no multiple of one
 --   claim_is_set, claims_are_sets      the claims of a valid certificate are level sets
@@ -9,8 +9,9 @@
 use Rattle.std.proofs.Common.{◌≡◌, ◌≢◌, ℕ, zero, suc, ◌+◌, ◌*◌, ◌<◌, ◌≤◌, ◌⊎◌, min, max, List, [], ◌∷◌, map, flat_map, length, slice_index_or, All, AllPairs, Any, Contains, inl, inr, ⊎_elim, refl, sym, ap, ap₂, subst, ◌∙◌, arith}
 use Rattle.std.proofs.lemmas.Bool.{cases_lt}
 use Rattle.std.proofs.lemmas.List.{length-map}
-use Rattle.std.proofs.lemmas.List.Elements.{All-cons, All-head, All-tail, All-contains, Contains-get_or}
+use Rattle.std.proofs.lemmas.List.Elements.{All-cons, All-contains, Contains-get_or}
 use Rattle.std.proofs.lemmas.List.Kept.{AllPairs-cons, AllPairs-from_increasing}
+use Rattle.std.proofs.lemmas.Simd.{map-map}
 use Rattle.lc_algebra.specs.declared.FieldName.{FieldName}
 use Rattle.lc_algebra.specs.Field.{size}
 use Rattle.lc_algebra.specs.Word.{IsWord, weight, scale}
@@ -18,18 +19,18 @@ use Rattle.lc_algebra.specs.Span.{combine, InSpan, IsDistance, IsWeightBound, be
 use Rattle.lc_algebra.specs.Matrix.{AreRows, IsSystematic, AreIndependentColumns}
 use Rattle.lc_algebra.specs.Divisor.{weight_divisor, rounded}
 use Rattle.lc_algebra.proofs.WordLaws.{weight_scale}
-use Rattle.lc_algebra.proofs.SpanLaws.{weight_bound_attained, flat_map_contains, map_contains, contains_head, contains_cases}
+use Rattle.lc_algebra.proofs.SpanLaws.{weight_bound_attained, flat_map_contains, map_contains, contains_head, contains_cases, combine_is_word}
 use Rattle.lc_algebra.proofs.DivisorLaws.{divisor_is, divisor_positive, rounded_within}
 use Rattle.lc_enumeration.specs.Message.{Message, messages, vector_of, numbers_from}
 use Rattle.lc_enumeration.specs.InformationSet.{systematic, echelon_rows, first_basis, dimension}
 use Rattle.lc_enumeration.specs.Search.{bound_sum}
 use Rattle.lc_enumeration.proofs.SearchLaws.{within_numbers}
-use Rattle.lc_enumeration.proofs.GreedyLaws.{combine_is_word}
 use Rattle.lc_infoset.specs.Bound.{LevelSet, IsLevelSet, AreLevelSets, IsUnseen, IsNoMultiple, set_bound}
 use Rattle.lc_infoset.proofs.BoundLaws.{unseen_weight, unseen_whole, pairs_tail}
 use Rattle.lc_infoset.proofs.MultipleLaws.{unseen_from_messages}
 use Rattle.lc_formats.specs.Certificate.{Certificate, SetClaim, Proof, scan, levels, code_length, code_dimension, level_in, words_through, seen_by, seen_words, span_divisor, claimed_sum, SetsHold, IsValid}
 use Rattle.lc_formats.specs.Shape.{IsShapedSet, AreShapedSets, IsShaped, Sound}
+use Rattle.lc_formats.proofs.CertificateBack.{mapped_all}
 use Rattle.lc_validity.proofs.DependentLaws.{set_systematic, echelon_systematic}
 
 abbrev pub set_of : Certificate → SetClaim → LevelSet
@@ -38,17 +39,9 @@ set_of c claim = record { basis = claim.basis; fresh = claim.fresh; matrix = sys
 pub pairs_head : {X : Type 0} (R : X → X → Type 0) (x : X) (xs : List X) → AllPairs R (x ∷ xs) → All (R x) xs
 pairs_head R x xs h k d l = h 0 (suc k) d (omega arith) (omega (arith, l))
 
-all_mapped : {X Y : Type 0} (h : X → Y) (P : Y → Type 0) (xs : List X) → All (λ x. P (h x)) xs → All P (map h xs)
-all_mapped h P [] a = λ k d l. absurd (omega (arith, l))
-all_mapped h P (x ∷ xs) a = All-cons P (h x) (map h xs) (All-head (λ y. P (h y)) x xs a) (all_mapped h P xs (All-tail (λ y. P (h y)) x xs a))
-
 pub mapped_pairs : {X Y : Type 0} (h : X → Y) (R : Y → Y → Type 0) (xs : List X) → AllPairs (λ a b. R (h a) (h b)) xs → AllPairs R (map h xs)
 mapped_pairs h R [] a = λ i j d l m. absurd (omega (arith, m))
-mapped_pairs h R (x ∷ xs) a = AllPairs-cons R (h x) (map h xs) (all_mapped h (R (h x)) xs (pairs_head (λ s t. R (h s) (h t)) x xs a)) (mapped_pairs h R xs (pairs_tail (λ s t. R (h s) (h t)) x xs a))
-
-map_map : {X Y Z : Type 0} (h : X → Y) (g : Y → Z) (xs : List X) → map g (map h xs) ≡ map (λ x. g (h x)) xs
-map_map h g [] = refl
-map_map h g (x ∷ xs) = ap (λ ys. g (h x) ∷ ys) (map_map h g xs)
+mapped_pairs h R (x ∷ xs) a = AllPairs-cons R (h x) (map h xs) (mapped_all h (R (h x)) xs (pairs_head (λ s t. R (h s) (h t)) x xs a)) (mapped_pairs h R xs (pairs_tail (λ s t. R (h s) (h t)) x xs a))
 
 pub seen_contains : (f : FieldName) (n : ℕ) (rows : List (List ℕ)) (k l w : ℕ) (m : Message) → 0 < w → w ≤ l → Contains (messages k (size f) w) m → Contains (words_through f n rows k l) (combine f n (vector_of k m) rows)
 unfolding words_through
@@ -89,7 +82,7 @@ claim_is_set c claim h shaped s = record {
 
 pub claims_are_sets : (c : Certificate) (claims : List SetClaim) → IsShaped c → All (IsShapedSet (code_length c)) claims → All (IsSet c) claims → AllPairs (λ one other. (place : ℕ) → Contains one.fresh place → ¬ Contains other.fresh place) claims → AreLevelSets c.field (code_length c) (code_dimension c) c.rows (map (set_of c) claims)
 claims_are_sets c claims h shaped sets apart = record {
-  each = all_mapped (set_of c) (IsLevelSet c.field (code_length c) (code_dimension c) c.rows) claims (λ k d l. claim_is_set c _ h (shaped k d l) (sets k d l));
+  each = mapped_all (set_of c) (IsLevelSet c.field (code_length c) (code_dimension c) c.rows) claims (λ k d l. claim_is_set c _ h (shaped k d l) (sets k d l));
   apart = mapped_pairs (set_of c) (λ one other. (place : ℕ) → Contains one.fresh place → ¬ Contains other.fresh place) claims apart;
 }
 
@@ -105,7 +98,7 @@ claim_unseen c claims claim w h s inside heavy some light =
     (claim_seen c claims claim u inside (subst (λ k. Contains (words_through c.field (code_length c) matrix k (level_in c claim)) u) count seen)) positive)
 
 sum_of_sets : (c : Certificate) (claims : List SetClaim) → set_bound (code_dimension c) (map (set_of c) claims) ≡ bound_sum (code_dimension c) (map (λ claim. length claim.fresh) claims) (map (level_in c) claims)
-sum_of_sets c claims = ap₂ (bound_sum (code_dimension c)) (map_map (set_of c) (λ s. length s.fresh) claims) (map_map (set_of c) (λ s. s.level) claims)
+sum_of_sets c claims = ap₂ (bound_sum (code_dimension c)) (map-map (λ s. length s.fresh) (set_of c) claims) (map-map (λ s. s.level) (set_of c) claims)
 
 whole_set : (c : Certificate) (claims : List SetClaim) (sets : List LevelSet) → sets ≡ map (set_of c) claims → Any (λ claim. code_dimension c ≤ claim.level) claims → (s : LevelSet) × Contains sets s × (code_dimension c ≤ s.level)
 unfolding level_in
@@ -118,7 +111,7 @@ levels_bound c claims w h shaped heavy holds inside some =
     (λ light.
     let sets = map (set_of c) claims in
     let are = claims_are_sets c claims h shaped.2 holds.0 holds.1 in
-    let unseen : All (IsUnseen c.field (code_length c) w) sets = all_mapped (set_of c) (IsUnseen c.field (code_length c) w) claims (λ k d l. claim_unseen c claims _ w h (holds.0 k d l) (Contains-get_or claims k d l) heavy some light) in
+    let unseen : All (IsUnseen c.field (code_length c) w) sets = mapped_all (set_of c) (IsUnseen c.field (code_length c) w) claims (λ k d l. claim_unseen c claims _ w h (holds.0 k d l) (Contains-get_or claims k d l) heavy some light) in
     ⊎_elim
     (λ whole. let t = whole_set c claims sets refl whole in absurd (unseen_whole c.field (code_length c) (code_dimension c) c.rows sets w are inside some unseen t.0 t.1 t.2))
     (λ reach.

@@ -1,5 +1,4 @@
 -- Words over 2 elements as numbers of bits.
---   two                            the field of 2 elements has 2
 --   bit_small                      each symbol is a bit
 --   packed_sum                     the packed sum of two words is the exclusive or of the packed words
 --   packed_ones                    a packed word has as many ones as the word's weight
@@ -12,18 +11,15 @@ use Rattle.std.proofs.Math.Seq.{drop-cons}
 use Rattle.std.proofs.lemmas.Nat.{xor_block, ones_cat}
 use lib.Count.{ones}
 use Rattle.lc_algebra.specs.declared.FieldName.TheVariants.{Gf2}
-use Rattle.lc_algebra.specs.Field.{size, add, coefficients, shape_of, shape}
+use Rattle.lc_algebra.specs.Field.{add, coefficients, shape_of, shape}
 use Rattle.lc_algebra.specs.Residue.{digits, number, plus}
 use Rattle.lc_algebra.specs.Word.{Fits, zero_word, word_sum, weight}
 use Rattle.lc_algebra.proofs.WordLaws.{weight_cons, fits_head, fits_tail, fits_symbol}
+use Rattle.lc_algebra.proofs.EmbeddingTests.{size_two}
 use Rattle.lc_vec.specs.Packed.{packed}
 
-pub two : size Gf2 ≡ 2
-unfolding size shape_of shape
-two = refl
-
 pub bit_small : (word : List ℕ) (i : ℕ) → Fits Gf2 word → slice_index word i < 2
-bit_small word i h = omega (arith, fits_symbol Gf2 word h i, two)
+bit_small word i h = omega (arith, fits_symbol Gf2 word h i, size_two)
 
 add_bits : (a b : ℕ) → a < 2 → b < 2 → add Gf2 a b ≡ bit_xor a b
 unfolding add coefficients shape_of shape number plus digits
@@ -36,7 +32,7 @@ add_bits (suc zero) (suc (suc b)) l m = absurd (omega (arith, m))
 add_bits (suc (suc a)) b l m = absurd (omega (arith, l))
 
 bit_of : (u : List ℕ) (a : ℕ) → Fits Gf2 (a ∷ u) → a < 2
-bit_of u a h = omega (arith, fits_head Gf2 a u h, two)
+bit_of u a h = omega (arith, fits_head Gf2 a u h, size_two)
 
 pub packed_sum : (u v : List ℕ) → length u ≡ length v → Fits Gf2 u → Fits Gf2 v → packed (word_sum Gf2 u v) ≡ bit_xor (packed u) (packed v)
 unfolding packed word_sum

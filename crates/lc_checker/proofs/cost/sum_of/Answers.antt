@@ -1,9 +1,10 @@
 use Rattle.std.proofs.Common.{◌+◌, ◌<◌, ◌∙◌, map, sum, min, drop, ap, sym, arith}
+use Rattle.std.proofs.lemmas.Simd.{map-map}
 use Rattle.lc_formats.specs.Certificate.{messages_through}
 use Rattle.lc_certificate.specs.declared.certificate.SetClaim.{SetClaim}
 use Rattle.lc_certificate.specs.Seen.{claim_of}
 use Rattle.lc_checker.specs.Cost.{capped}
-use Rattle.lc_checker.proofs.CostLaws.{sum_step, sum_whole, mapped}
+use Rattle.lc_checker.proofs.CostLaws.{sum_step, sum_whole}
 use Rattle.lc_checker.proofs.cost.sum_of.Goals as goal
 
 pub loop-i-preserved : goal.loop-i-preserved
@@ -24,4 +25,4 @@ returns c =
     let k = c.args.k in
     let cs = c.args.claims.now in
     let g = λ (s : SetClaim). messages_through k c.args._q (min s.level k) in
-    record { is = sum_whole g cs c.loop-i.i c.loop-i.total (capped (sum (map g cs))) c.loop-i.invariant.few c.loop-i-test.false c.loop-i.invariant.rest ∙ ap (λ xs. capped (sum xs)) (sym (mapped (λ claim. messages_through k c.args._q (min claim.level k)) claim_of cs)) }
+    record { is = sum_whole g cs c.loop-i.i c.loop-i.total (capped (sum (map g cs))) c.loop-i.invariant.few c.loop-i-test.false c.loop-i.invariant.rest ∙ ap (λ xs. capped (sum xs)) (sym (map-map (λ claim. messages_through k c.args._q (min claim.level k)) claim_of cs)) }

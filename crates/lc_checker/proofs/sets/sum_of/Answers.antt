@@ -1,8 +1,8 @@
 use Rattle.std.proofs.Common.{◌+◌, ◌-◌, ◌∙◌, min, length, sym, ap, ap₂, arith}
+use Rattle.std.proofs.lemmas.Simd.{map-map}
 use Rattle.lc_enumeration.specs.Search.{bound_sum}
 use Rattle.lc_certificate.specs.declared.certificate.SetClaim.{SetClaim}
 use Rattle.lc_certificate.specs.Seen.{claim_of}
-use Rattle.lc_checker.proofs.CostLaws.{mapped}
 use Rattle.lc_checker.proofs.SetLaws.{bound_more, bound_end}
 use Rattle.lc_checker.proofs.sets.sum_of.Goals as goal
 
@@ -20,4 +20,4 @@ returns-clause-is c =
     let k = c.args.k in
     let cs = c.args.claims.now in
     bound_end (λ (s : SetClaim). length s.fresh.items) (λ (s : SetClaim). min s.level k) cs c.loop-i.i k c.loop-i.sum _ c.loop-i-test.false c.loop-i.invariant.rest
-    ∙ ap₂ (bound_sum k) (sym (mapped (λ claim. length claim.fresh) claim_of cs)) (sym (mapped (λ claim. min claim.level k) claim_of cs))
+    ∙ ap₂ (bound_sum k) (sym (map-map (λ claim. length claim.fresh) claim_of cs)) (sym (map-map (λ claim. min claim.level k) claim_of cs))

@@ -1,5 +1,5 @@
 use Rattle.std.proofs.Common.{◌∙◌, cond, sym, ap}
-use Rattle.lc_checker.proofs.SetLaws.{told_member}
+use Rattle.lc_enumeration.proofs.MemberLaws.{told_member}
 use Rattle.lc_checker.proofs.sets.times_fresh.Goals as goal
 
 pub returns-then-contains : goal.returns-then-contains

@@ -1,13 +1,14 @@
 use Rattle.std.proofs.Common.{◌≡◌, ◌+◌, sym, ap, subst, ◌∙◌, arith}
+use Rattle.lc_algebra.proofs.WordLaws.{fits_one}
 use Rattle.lc_poly.specs.Poly.{Polynomial}
 use Rattle.lc_constructions.specs.Cyclic.{value_in}
 use Rattle.lc_cyclic.specs.Generator.{IsGenerator}
-use Rattle.lc_cyclic.proofs.GeneratorLaws.{one_fits, generator_none, generator_kept, generator_more}
+use Rattle.lc_cyclic.proofs.GeneratorLaws.{generator_none, generator_kept, generator_more}
 use Rattle.lc_cyclic.proofs.generators.generator.Goals as goal
 use Rattle.lc_cyclic.proofs.generators.generator.Goals.{then-value_in-ne0+in_ok-generator-2, else-value_in-ne0}
 
 pub from_list-requires : goal.from_list-requires
-from_list-requires c = record { list = one_fits c.args.field.now }
+from_list-requires c = record { list = fits_one c.args.field.now }
 
 pub loop-i-init : goal.loop-i-init
 loop-i-init c =

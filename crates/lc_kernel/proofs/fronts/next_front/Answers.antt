@@ -2,9 +2,10 @@ use Rattle.std.proofs.Common.{◌≡◌, ◌+◌, ◌-◌, ◌*◌, ◌<◌, ◌
 use Rattle.std.proofs.Math.Nat.{mul-le-mul_right}
 use Rattle.std.proofs.lemmas.List.{get_or_default}
 use Rattle.lc_algebra.specs.Field.{size}
+use Rattle.lc_algebra.proofs.CommonLaws.{below_product}
 use Rattle.lc_kernel.specs.Planes.{IsPlaneSum}
 use Rattle.lc_kernel.proofs.FrontLaws.{entries_are}
-use Rattle.lc_kernel.proofs.MultipleLaws.{below_product, symbol_size}
+use Rattle.lc_kernel.proofs.MultipleLaws.{symbol_size}
 use Rattle.lc_kernel.proofs.FrontPlanes.{front_planes_next}
 use Rattle.lc_kernel.proofs.fronts.next_front.Goals as goal
 

@@ -2,8 +2,8 @@ use Rattle.std.proofs.Common.{◌≡◌, ◌+◌, ◌-◌, ◌*◌, ◌^◌, ◌
 use Rattle.std.proofs.Math.Nat.{pow-zero, one-le-pow, mul-le-mul_right}
 use Rattle.std.proofs.lemmas.List.{get_or_default, get_or-set_same, length-set}
 use Rattle.lc_algebra.specs.Field.{size}
+use Rattle.lc_algebra.proofs.CommonLaws.{below_product}
 use Rattle.lc_kernel.specs.Sweeps.{list_count}
-use Rattle.lc_kernel.proofs.MultipleLaws.{below_product}
 use Rattle.lc_kernel.proofs.SweepLaws.{support_is, heads_first, pair_of_heads, heads_less}
 use Rattle.lc_kernel.proofs.sweeps.make_heads.Goals as goal
 

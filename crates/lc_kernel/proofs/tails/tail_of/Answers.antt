@@ -1,7 +1,7 @@
 use Rattle.std.proofs.Common.{◌-◌, ◌<◌, length, slice_index, refl, ap, arith}
 use Rattle.lc_algebra.specs.Field.{size}
+use Rattle.lc_algebra.proofs.CommonLaws.{below_product}
 use Rattle.lc_kernel.proofs.FrontLaws.{entries_are}
-use Rattle.lc_kernel.proofs.MultipleLaws.{below_product}
 use Rattle.lc_kernel.proofs.tails.tail_of.Goals as goal
 
 pub overflow_sub-first : goal.overflow_sub-first

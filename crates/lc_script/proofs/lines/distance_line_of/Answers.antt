@@ -1,15 +1,16 @@
-use Rattle.lc_script.proofs.LineLaws.{exact_word, bracket_word, word_there, exact_line, between_line}
+use Rattle.lc_script.proofs.LineLaws.{exact_word, bracket_word, exact_line, between_line}
 use Rattle.lc_script.proofs.lines.distance_line_of.Goals as goal
+use Rattle.lc_certify.proofs.AnswerLaws.{there}
 
 pub word-requires : goal.word-requires
 word-requires c =
     let a = c.in-Exact in
-    record { word = word_there c.args.search.now.code (record { weight = a.weight; place = a.place }) (exact_word c.args.search.now c.args.answer a.weight a.place a.blocks a.is c.requires.answered c.requires.fitting c.sets.ensures.is c.dimension-rows.ensures.rows c.dimension-rows.ensures.independent) }
+    record { word = there c.args.search.now.code (record { weight = a.weight; place = a.place }) (exact_word c.args.search.now c.args.answer a.weight a.place a.blocks a.is c.requires.answered c.requires.fitting c.sets.ensures.is c.dimension-rows.ensures.rows c.dimension-rows.ensures.independent) }
 
 pub word-requires-in-Bracket : goal.word-requires-in-Bracket
 word-requires-in-Bracket c =
     let a = c.in-Bracket in
-    record { word = word_there c.args.search.now.code (record { weight = a.weight; place = a.place }) (bracket_word c.args.search.now c.args.answer a.low a.weight a.place a.blocks a.is c.requires.answered c.requires.fitting c.sets.ensures.is c.dimension-rows.ensures.rows c.dimension-rows.ensures.independent) }
+    record { word = there c.args.search.now.code (record { weight = a.weight; place = a.place }) (bracket_word c.args.search.now c.args.answer a.low a.weight a.place a.blocks a.is c.requires.answered c.requires.fitting c.sets.ensures.is c.dimension-rows.ensures.rows c.dimension-rows.ensures.independent) }
 
 pub returns-in_ok-word-in-Exact : goal.returns-in_ok-word-in-Exact
 returns-in_ok-word-in-Exact c =

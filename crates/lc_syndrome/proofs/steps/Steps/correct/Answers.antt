@@ -1,18 +1,18 @@
 use Rattle.std.proofs.Common.{◌≡◌, ◌≢◌, ◌+◌, ◌<◌, ℕ, List, length, set, slice_index, get_or, subst, sym, ap, ap₂, ◌∙◌, arith}
 use Rattle.lc_algebra.specs.Field.{size, add, neg}
 use Rattle.lc_algebra.specs.Matrix.{Matrix}
+use Rattle.lc_field.proofs.LogarithmLaws.{read_is}
 use Rattle.lc_syndrome.specs.Syndrome.{syndrome_number, sum_number, unit}
 use Rattle.lc_syndrome.specs.Growth.{IsSteps}
-use Rattle.lc_syndrome.proofs.SymbolLaws.{read_at}
 use Rattle.lc_syndrome.proofs.DecodingLaws.{IsRest, rest_start, rest_below, rest_coordinate, rest_symbol, rest_more, rest_empty, rest_done}
 use Rattle.lc_syndrome.proofs.steps.Steps.correct.Goals as goal
 
 -- what is read at a syndrome
 symbol_read : (H : Matrix) (number t rest a : ℕ) (old word coordinates symbols : List ℕ) → IsSteps H coordinates symbols → IsRest H number t rest old word → a ≡ get_or symbols rest a → a ≡ slice_index symbols rest
-symbol_read H number t rest a old word coordinates symbols s r e = read_at symbols rest a (omega (arith, rest_below H number t rest old word r, s.symbol_count)) e
+symbol_read H number t rest a old word coordinates symbols s r e = read_is symbols rest a e (omega (arith, rest_below H number t rest old word r, s.symbol_count))
 
 coordinate_read : (H : Matrix) (number t rest a : ℕ) (old word coordinates symbols : List ℕ) → IsSteps H coordinates symbols → IsRest H number t rest old word → a ≡ get_or coordinates rest a → a ≡ slice_index coordinates rest
-coordinate_read H number t rest a old word coordinates symbols s r e = read_at coordinates rest a (omega (arith, rest_below H number t rest old word r, s.coordinate_count)) e
+coordinate_read H number t rest a old word coordinates symbols s r e = read_is coordinates rest a e (omega (arith, rest_below H number t rest old word r, s.coordinate_count))
 
 inside_word : (H : Matrix) (number t rest i a : ℕ) (old word coordinates symbols : List ℕ) → IsSteps H coordinates symbols → IsRest H number t rest old word → a ≡ get_or symbols rest a → i ≡ get_or coordinates rest i → a ≢ 0 → i < H.columns
 inside_word H number t rest i a old word coordinates symbols s r ea ei n =
