@@ -8,7 +8,7 @@ use Rattle.std.specs.Prelude.{if◌then◌else◌}
 use Rattle.std.specs.List.{list_any, after_first}
 use Rattle.lc_formats.specs.Text.{same_bytes}
 use Rattle.lc_formats.proofs.ByteLaws.{same_from_bytes}
-use Rattle.lc_sessions.specs.Options.{Command, CommandRow, Key, Settings, Options, settings, usage, row, row_named, all_options, options, options_from, settings_of, key_named, key_text, same_key, put_key}
+use Rattle.lc_session_rules.specs.Options.{Command, CommandRow, Key, Settings, Options, settings, usage, row, row_named, all_options, options, options_from, settings_of, key_named, key_text, same_key, put_key}
 use Rattle.lc_arguments.specs.Asked.{is_equals, name_of}
 
 chosen_key : (t : Bool) (k key : Key) (o : Option Key) → (if t then Some k else o) ≡ Some key → ((t ≡ true) × (k ≡ key)) ⊎ (o ≡ Some key)

@@ -8,8 +8,8 @@ use Rattle.std.specs.Prelude.{if◌then◌else◌, is_some, option_map, ◌||◌
 use Rattle.std.specs.List.{list_any, after_first}
 use Rattle.std.proofs.lemmas.List.{drop_all, at_drop_more, get_or-map, take_more, take-append-drop, length-take-le, append-nil, append_assoc, map-append, length-append, length-map}
 use Rattle.lc_formats.specs.Text.{same_bytes}
-use Rattle.lc_sessions.specs.Options.{Command, run, resume, check, summary, Key, workers, budget, slice, keep, seed, Settings, Options, settings, usage, row_named, all_options, options, options_from, checked, settings_of, key_named, key_text, same_key, place_of_key, put_key, number_within, yes_or_no}
-use Rattle.lc_sessions.proofs.OptionExamples.{no_words}
+use Rattle.lc_session_rules.specs.Options.{Command, run, resume, check, summary, Key, workers, budget, slice, keep, seed, Settings, Options, settings, usage, row_named, all_options, options, options_from, checked, settings_of, key_named, key_text, same_key, place_of_key, put_key, number_within, yes_or_no}
+use Rattle.lc_session_rules.proofs.OptionExamples.{no_words}
 use Rattle.lc_grammar.specs.Token.{widest}
 use Rattle.lc_arguments.specs.declared.request.Asked.{Asked}
 use Rattle.lc_arguments.specs.declared.request.Command as asked

@@ -6,8 +6,8 @@ use Rattle.std.proofs.Common.{◌≡◌, ℕ, ◌+◌, ◌<◌, ◌≤◌, true,
 use Rattle.std.specs.Prelude.{codes, option_map, if◌then◌else◌}
 use Rattle.std.proofs.lemmas.List.{drop_all, at_drop_more}
 use Rattle.lc_formats.specs.Text.{same_bytes}
-use Rattle.lc_sessions.specs.Options as words
-use Rattle.lc_sessions.specs.Options.{all_options, command_text, key_named, key_text, row, row_named}
+use Rattle.lc_session_rules.specs.Options as words
+use Rattle.lc_session_rules.specs.Options.{all_options, command_text, key_named, key_text, row, row_named}
 use Rattle.lc_arguments.specs.declared.keys.Key.{Key}
 use Rattle.lc_arguments.specs.declared.request.Command.{Command}
 use Rattle.lc_arguments.specs.declared.request.Command.TheVariants as command

@@ -11,7 +11,7 @@ use Rattle.std.proofs.lemmas.Bool.{and_right, and_left}
 use Rattle.std.proofs.lemmas.Option.{cond_some}
 use Rattle.lc_grammar.specs.Token.{is_digit, number_of, widest}
 use Rattle.lc_formats.specs.Text.{same_bytes}
-use Rattle.lc_sessions.specs.Options.{number_in, number_within, yes_or_no}
+use Rattle.lc_session_rules.specs.Options.{number_in, number_within, yes_or_no}
 
 abbrev is_plain : List ℕ → Bool
 is_plain text = (length text == 1) || not (slice_index text 0 == 48)

@@ -14,8 +14,8 @@
 use Rattle.std.specs.Prelude.{◌≡◌, ℕ, suc, ◌+◌, ◌^◌, ◌≤◌, Bool, true, ◌==◌, if◌then◌else◌, List, [], ◌∷◌, ◌++◌, length, map, Option, Some, None, IfSome, String, string_bytes}
 use Rattle.std.specs.List.{before_first}
 use Rattle.lc_formats.specs.Text.{same_bytes}
-use Rattle.lc_sessions.specs.Options as words
-use Rattle.lc_sessions.specs.Options.{CommandRow, Settings, key_text, options_from, place_of_key, row, settings_of, usage}
+use Rattle.lc_session_rules.specs.Options as words
+use Rattle.lc_session_rules.specs.Options.{CommandRow, Settings, key_text, options_from, place_of_key, row, settings_of, usage}
 use Rattle.lc_arguments.specs.declared.keys.Key.{Key}
 use Rattle.lc_arguments.specs.declared.keys.Key.TheVariants as key
 use Rattle.lc_arguments.specs.declared.request.Asked.{Asked}

@@ -1,7 +1,7 @@
 //! The arguments of the command line, one after another.
 ghost use Rattle.std.specs.List.{list_any, before_first, after_first};
 ghost use Rattle.std.specs.Prelude.{◌≡◌, ◌+◌, ◌++◌, ◌∷◌, [], List, ℕ, Bool, true, false, length, map, option_map, MatchOption, MatchResult};
-ghost use Rattle.lc_sessions.specs.Options.{all_options, key_text, options, options_from, put_key, settings, settings_of, usage};
+ghost use Rattle.lc_session_rules.specs.Options.{all_options, key_text, options, options_from, put_key, settings, settings_of, usage};
 ghost use Rattle.lc_arguments.specs.Asked.{words_of, command_for, key_for, keys_of, settings_for, IsWithin, is_equals, name_of, place_named, IsCourse, IsRefusedAfter};
 
 use crate::keys::{Key, command_in, is_text, key_in};
@@ -40,7 +40,7 @@ fn place_of(arguments: &[String], key: Key) -> Option<usize>
 }
 
 // What is asked for once a key has this value; None if the key takes no such value.
-#[tactic(auto, unfolding(lc_sessions::specs::Options::put_key, lc_grammar::specs::Token::widest))]
+#[tactic(auto, unfolding(lc_session_rules::specs::Options::put_key, lc_grammar::specs::Token::widest))]
 fn with_value(asked: Asked, key: Key, value: &str) -> Option<Asked>
     ensures { option_map settings_for result ≡ put_key (key_for key) value.now (settings_for asked) }
 {

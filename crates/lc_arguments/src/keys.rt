@@ -1,7 +1,7 @@
 //! The commands and the keys, by their names.
 ghost use Rattle.std.specs.Prelude.{◌≡◌, map, option_map};
 ghost use Rattle.lc_formats.specs.Text.{same_bytes};
-ghost use Rattle.lc_sessions.specs.Options.{all_options, command_text, key_named, key_text, row_named};
+ghost use Rattle.lc_session_rules.specs.Options.{all_options, command_text, key_named, key_text, row_named};
 ghost use Rattle.lc_arguments.specs.Asked.{command_for, key_for, keys_of, row_of};
 
 use crate::request::Command;
@@ -30,7 +30,7 @@ pub(crate) fn is_text(text: &str, name: &str) -> bool
 
 impl Key {
     // The name of the key.
-    #[tactic(auto, unfolding(lc_sessions::specs::Options::key_text))]
+    #[tactic(auto, unfolding(lc_session_rules::specs::Options::key_text))]
     pub(crate) fn text(self) -> &'static str
         ensures { result.now ≡ key_text (key_for self) }
     {

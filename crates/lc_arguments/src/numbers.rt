@@ -2,7 +2,7 @@
 ghost use Rattle.std.specs.List.{list_all};
 ghost use Rattle.std.specs.Prelude.{◌≡◌, ◌<◌, ◌==◌, ◌||◌, not, length, slice_index};
 ghost use Rattle.lc_grammar.specs.Token.{is_digit};
-ghost use Rattle.lc_sessions.specs.Options.{number_in, number_within, yes_or_no};
+ghost use Rattle.lc_session_rules.specs.Options.{number_in, number_within, yes_or_no};
 
 use crate::keys::is_text;
 use lc_parse::value_of;

@@ -15,7 +15,7 @@ pub enum Command {
 
 /// What the arguments of the command line ask for.
 ///
-/// Contracts see it as `settings_for` it, the `Settings` of `lc_sessions`.
+/// Contracts see it as `settings_for` it, the `Settings` of `lc_session_rules`.
 #[derive(Clone, Copy, Debug, PartialEq, Eq)]
 pub struct Asked {
     /// The command.

@@ -19,7 +19,7 @@ use Rattle.lc_io.specs.declared.watcher.Record.{Record}
 use Rattle.lc_search.specs.State.{SearchState, after_search_round, IsRecordOf}
 use Rattle.lc_search.specs.declared.answer.RoundRecord.{RoundRecord}
 use Rattle.lc_search.proofs.FitLaws.{fitting_word, fits_after}
-use Rattle.lc_sessions.specs.Session.{record_of}
+use Rattle.lc_session_rules.specs.Session.{record_of}
 use Rattle.lc_rounds.specs.declared.pace.Pace.{Pace}
 use Rattle.lc_rounds.specs.Step.{next_state, after_next, next_step, IsDone, at_round}
 

@@ -4,3 +4,9 @@ pub mod CourseLaws
 pub mod PaceLaws
 pub mod LoopLaws
 pub mod FirstLaws
+pub mod PassLaws
+pub mod RangeLaws
+pub mod RecordLaws
+pub mod NeedLaws
+pub mod StartLaws
+pub mod Opened

@@ -23,9 +23,9 @@ use Rattle.lc_io.proofs.SlotLaws.{WhereTold-then}
 use Rattle.lc_checkpoint.specs.declared.checkpoint.Checkpoint.{Checkpoint}
 use Rattle.lc_checkpoint.specs.Seen.{settled_of, point_of}
 use Rattle.lc_search.specs.State.{SearchState}
-use Rattle.lc_sessions.specs.Slots.{slot_of, next_turn, turn_after, point_of as session_point, stored_bytes}
-use Rattle.lc_sessions.specs.Session.{record_of, records_of}
-use Rattle.lc_sessions.proofs.SlotsAfter.{turn_after-append, slots_after-append}
+use Rattle.lc_session_rules.specs.Slots.{slot_of, next_turn, turn_after, point_of as session_point, stored_bytes}
+use Rattle.lc_session_rules.specs.Session.{record_of, records_of}
+use Rattle.lc_session_rules.proofs.SlotsAfter.{turn_after-append, slots_after-append}
 use Rattle.lc_rounds.specs.declared.pace.Pace.{Pace}
 use Rattle.lc_rounds.specs.declared.keeping.Unkept.TheVariants as unkept
 use Rattle.lc_rounds.specs.declared.rounds.Stop.TheVariants.{Paused, VaultFault, NoMemory}

@@ -1,2 +1,5 @@
 pub mod Way
 pub mod Step
+pub mod Records
+pub mod Paces
+pub mod Going

@@ -21,8 +21,8 @@ use Rattle.lc_checkpoint.specs.Seen.{settled_of}
 use Rattle.lc_formats.specs.Checkpoint.{IsProgress}
 use Rattle.lc_search.specs.State.{SearchState}
 use Rattle.lc_search.specs.declared.answer.RoundRecord.{RoundRecord}
-use Rattle.lc_sessions.specs.Slots.{next_turn}
-use Rattle.lc_sessions.specs.Session.{record_of}
+use Rattle.lc_session_rules.specs.Slots.{next_turn}
+use Rattle.lc_session_rules.specs.Session.{record_of}
 use Rattle.lc_io.specs.declared.watcher.Record.{Record}
 use Rattle.lc_rounds.specs.declared.pace.Pace.{Pace}
 use Rattle.lc_rounds.specs.declared.rounds.Stop.{Stop}

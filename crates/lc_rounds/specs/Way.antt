@@ -21,8 +21,8 @@ use Rattle.lc_io.specs.Told.{Kept}
 use Rattle.lc_io.specs.declared.watcher.Record.{Record}
 use Rattle.lc_checkpoint.specs.Seen.{settled_of, point_of}
 use Rattle.lc_search.specs.State.{SearchState}
-use Rattle.lc_sessions.specs.Slots.{slot_of, turn_after, slots_after}
-use Rattle.lc_sessions.specs.Session.{record_of, records_of}
+use Rattle.lc_session_rules.specs.Slots.{slot_of, turn_after, slots_after}
+use Rattle.lc_session_rules.specs.Session.{record_of, records_of}
 use Rattle.lc_rounds.specs.declared.pace.Pace.{Pace}
 use Rattle.lc_rounds.specs.declared.rounds.Stop.{Stop}
 use Rattle.lc_rounds.specs.declared.rounds.Stop.TheVariants.{Paused, VaultFault, NoMemory}

@@ -3,7 +3,7 @@ ghost use Rattle.std.specs.Prelude.{◌≡◌, length, OnOk, IfErr};
 ghost use Rattle.hex.specs.Hex.{IsBytes};
 ghost use Rattle.lc_formats.specs.Checkpoint.{checkpoint_text, IsWritable};
 ghost use Rattle.lc_checkpoint.specs.Seen.{point_of};
-ghost use Rattle.lc_sessions.specs.Slots.{slot_of};
+ghost use Rattle.lc_session_rules.specs.Slots.{slot_of};
 ghost use Rattle.lc_rounds.specs.Step.{PutsIf, PutFails};
 
 use lc_checkpoint::{Checkpoint, encode};

@@ -1,13 +1,13 @@
 //! How far a session is between two rounds.
 
 ghost use Rattle.std.specs.Prelude.{◌≡◌, ◌+◌, ◌^◌, ◌<◌, ◌≤◌};
-ghost use Rattle.lc_sessions.specs.Slots.{next_turn};
+ghost use Rattle.lc_session_rules.specs.Slots.{next_turn};
 ghost use Rattle.lc_rounds.specs.Step.{once_told};
 
 use lc_checkpoint::Checkpoint;
 use lc_io::Record;
 
-// Checkpoints have turns up to this one.
+// The greatest turn of a checkpoint.
 const LAST_TURN: u64 = 1 << 60;
 
 /// How far a session is between two rounds: what its next checkpoint says, and what it counts.
@@ -26,9 +26,9 @@ pub struct Pace {
     pub point: Checkpoint,
 }
 
-// The turn of the next checkpoint.
-#[tactic(auto, unfolding(lc_sessions::specs::Slots::next_turn))]
-fn turn_behind(turn: u64) -> u64
+// The turn of the checkpoint after one with this turn; the greatest turn stays.
+#[tactic(auto, unfolding(lc_session_rules::specs::Slots::next_turn))]
+pub(crate) fn following_turn(turn: u64) -> u64
     requires turn { turn ≤ 2 ^ 60 }
     ensures is { result ≡ next_turn turn }
     ensures early { result ≤ 2 ^ 60 }
@@ -46,6 +46,6 @@ impl Pace {
     {
         self.told += 1;
         self.last = note;
-        self.point.turn = turn_behind(self.point.turn);
+        self.point.turn = following_turn(self.point.turn);
     }
 }

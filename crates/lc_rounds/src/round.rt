@@ -5,7 +5,7 @@ ghost use Rattle.lc_enumeration.specs.Records.{Progress, found_of, is_used_up, l
 ghost use Rattle.lc_enumeration.specs.Search.{fits};
 ghost use Rattle.lc_formats.specs.Checkpoint.{IsProgress};
 ghost use Rattle.lc_search.specs.State.{answer_in};
-ghost use Rattle.lc_sessions.specs.Session.{record_of};
+ghost use Rattle.lc_session_rules.specs.Session.{record_of};
 ghost use Rattle.lc_rounds.specs.Step.{next_state, after_next, next_step, IsDone, at_round};
 
 use crate::pace::Pace;

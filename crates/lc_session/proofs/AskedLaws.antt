@@ -3,8 +3,8 @@
 --   check_asked, summary_asked      a certificate is checked, or a summary is asked for: without checkpoints, and so without a slice
 use Rattle.std.proofs.Common.{◌≡◌, Bool, true, false, ℕ, Option, Some, None, IfSome, refl, ap, subst}
 use Rattle.std.proofs.lemmas.Bool.{false_from_ne_true}
-use Rattle.lc_sessions.specs.Options.{check, summary}
-use Rattle.lc_sessions.specs.Session.{reads}
+use Rattle.lc_session_rules.specs.Options.{check, summary}
+use Rattle.lc_session_rules.specs.Session.{reads}
 use Rattle.lc_arguments.specs.Asked.{command_for, settings_for, CanKeep, IsWithin}
 use Rattle.lc_arguments.specs.declared.request.Asked.{Asked}
 use Rattle.lc_arguments.specs.declared.request.Command.{Command}

@@ -16,7 +16,7 @@ use Rattle.lc_checker.specs.declared.verdict.Reason.TheVariants as reason
 use Rattle.lc_certificate.specs.Reading.{IsRefusedAs}
 use Rattle.lc_certificate.specs.declared.refusal.CertRefusal.{CertRefusal}
 use Rattle.lc_certificate.specs.declared.refusal.CertRefusal.TheVariants as none
-use Rattle.lc_sessions.specs.Session.{IsAccepted}
+use Rattle.lc_session_rules.specs.Session.{IsAccepted}
 use Rattle.lc_checker.specs.declared.verdict.Verdict.TheVariants.{Accepted, Rejected as Rejects}
 use Rattle.lc_session.specs.Outcome.{IsSaidOf}
 use Rattle.lc_session.specs.declared.status.Status.TheVariants.{Done}

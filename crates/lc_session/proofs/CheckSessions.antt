@@ -10,12 +10,12 @@ use Rattle.lc_formats.specs.Check.{certificate_in, verdict_of, check_text}
 use Rattle.lc_io.specs.Outside.{HasRisen, AppendsPart}
 use Rattle.lc_io.proofs.SeveralRecords.{Kept-none}
 use Rattle.lc_eval.specs.Built.{built_calls}
-use Rattle.lc_sessions.specs.Options.{check, Settings, Options, settings, options, all_options}
-use Rattle.lc_sessions.specs.Endings.{Ending, usage, done, sink_fault, no_memory, rejected}
-use Rattle.lc_sessions.specs.Session as session
-use Rattle.lc_sessions.specs.Session.{Outside, rounds_of, Accepts, WasRead, IsAccepted, IsSession}
+use Rattle.lc_session_rules.specs.Options.{check, Settings, Options, settings, options, all_options}
+use Rattle.lc_session_rules.specs.Endings.{Ending, usage, done, sink_fault, no_memory, rejected}
+use Rattle.lc_session_rules.specs.Session as session
+use Rattle.lc_session_rules.specs.Session.{Outside, rounds_of, Accepts, WasRead, IsAccepted, IsSession}
 use Rattle.lc_rounds.specs.Way.{Around}
-use Rattle.lc_script.specs.Worlds.{outside_of}
+use Rattle.lc_text.specs.Worlds.{outside_of}
 use Rattle.lc_checker.specs.Verdict.{reason_of}
 use Rattle.lc_checker.specs.declared.verdict.Reason as why
 use Rattle.lc_session.specs.Outcome.{IsSaidOf}

@@ -15,13 +15,13 @@ use Rattle.lc_io.specs.Told.{Kept}
 use Rattle.lc_io.proofs.SeveralRecords.{Kept-none}
 use Rattle.lc_io.specs.Watchers.{Hearing}
 use Rattle.lc_eval.specs.Built.{built_calls}
-use Rattle.lc_sessions.specs.Options.{Command, run, resume, check, summary, Settings, Options, settings, usage as refuses, options, all_options}
-use Rattle.lc_sessions.specs.Slots.{takes, nothing_stored, none_decodes, is_for}
-use Rattle.lc_sessions.specs.Endings.{Ending, usage, source_fault, vault_fault, no_memory, no_checkpoint, damaged_checkpoint, other_script, too_long}
-use Rattle.lc_sessions.specs.Session as session
-use Rattle.lc_sessions.specs.Session.{Outside, most_bytes, rounds_of, records_of, can_end, reads, Accepts, WasRead, GaveTooMuch, ReadsScript, Reads, Starts, Meets, AreHalfEmptied, Stores, StoresIfKept, Finds, Replied, Writes, Counts, IsSession}
-use Rattle.lc_script.specs.Worlds.{outside_of}
-use Rattle.lc_script.proofs.SessionLaws.{accepts_so}
+use Rattle.lc_session_rules.specs.Options.{Command, run, resume, check, summary, Settings, Options, settings, usage as refuses, options, all_options}
+use Rattle.lc_session_rules.specs.Slots.{takes, nothing_stored, none_decodes, is_for}
+use Rattle.lc_session_rules.specs.Endings.{Ending, usage, source_fault, vault_fault, no_memory, no_checkpoint, damaged_checkpoint, other_script, too_long}
+use Rattle.lc_session_rules.specs.Session as session
+use Rattle.lc_session_rules.specs.Session.{Outside, most_bytes, rounds_of, records_of, can_end, reads, Accepts, WasRead, GaveTooMuch, ReadsScript, Reads, Starts, Meets, AreHalfEmptied, Stores, StoresIfKept, Finds, Replied, Writes, Counts, IsSession}
+use Rattle.lc_text.specs.Worlds.{outside_of}
+use Rattle.lc_text.proofs.SessionLaws.{accepts_so}
 use Rattle.lc_rounds.specs.Way.{Around}
 
 abbrev pub none : List ℕ → session.Course

@@ -6,13 +6,13 @@
 use Rattle.std.proofs.Common.{◌≡◌, ◌≢◌, ⊎_elim, ℕ, List, [], ◌∷◌, ◌++◌, length, Option, Some, None, Result, Ok, Err, IsOk, refl, sym, ap, subst, ◌∙◌, arith}
 use Rattle.std.specs.Io.KnownBytes.{Consumes, Appends}
 use Rattle.lc_io.specs.Outside.{GaveSome, HasRisen, AppendsPart}
-use Rattle.lc_sessions.specs.Options.{Settings, Options, settings, run}
-use Rattle.lc_sessions.specs.Session.{end_number}
-use Rattle.lc_answers.specs.declared.course.Course.{Course}
-use Rattle.lc_answers.specs.declared.need.Halt.{Halt}
+use Rattle.lc_session_rules.specs.Options.{Settings, Options, settings, run}
+use Rattle.lc_session_rules.specs.Session.{end_number}
+use Rattle.lc_rounds.specs.declared.course.Course.{Course}
+use Rattle.lc_rounds.specs.declared.need.Halt.{Halt}
 use Rattle.lc_arguments.specs.declared.request.Asked.{Asked}
 use Rattle.lc_arguments.specs.Asked.{command_for, settings_for}
-use Rattle.lc_script.specs.declared.statements.Text.{Text}
+use Rattle.lc_text.specs.declared.statements.Text.{Text}
 use Rattle.lc_session.specs.declared.status.Status.{Status}
 use Rattle.lc_session.specs.declared.status.Status.TheVariants as status
 use Rattle.lc_session.specs.Closing.{Closes}

@@ -11,26 +11,26 @@ use Rattle.lc_enumeration.specs.Fitting.{misfit}
 use Rattle.lc_formats.specs.Checkpoint.{Checkpoint, current_of}
 use Rattle.lc_io.specs.Vaults.{Slots}
 use Rattle.lc_eval.specs.Built.{built_calls}
-use Rattle.lc_sessions.specs.Options.{Command, run, resume, Settings}
-use Rattle.lc_sessions.specs.Needs.{OneScript, OneStep, NoFault}
-use Rattle.lc_sessions.specs.Slots.{next_turn, takes, is_for}
-use Rattle.lc_sessions.specs.Endings.{Ending, done, paused, sink_fault, vault_fault, no_memory, unfit}
-use Rattle.lc_sessions.specs.Session as session
-use Rattle.lc_sessions.specs.Session.{Outside, IsFresh, IsResumed, MayBeResumed, Finds, can_end, Starts, Resumes, IsStarted, Judges, end_number, IsSession}
+use Rattle.lc_session_rules.specs.Options.{Command, run, resume, Settings}
+use Rattle.lc_session_rules.specs.Needs.{OneScript, OneStep, NoFault}
+use Rattle.lc_session_rules.specs.Slots.{next_turn, takes, is_for}
+use Rattle.lc_session_rules.specs.Endings.{Ending, done, paused, sink_fault, vault_fault, no_memory, unfit}
+use Rattle.lc_session_rules.specs.Session as session
+use Rattle.lc_session_rules.specs.Session.{Outside, IsFresh, IsResumed, MayBeResumed, Finds, can_end, Starts, Resumes, IsStarted, Judges, end_number, IsSession}
 use Rattle.lc_rounds.specs.Way.{Around}
 use Rattle.lc_rounds.specs.declared.rounds.Stop.{Stop}
 use Rattle.lc_rounds.specs.declared.rounds.Stop.TheVariants as stop
-use Rattle.lc_course.specs.Course.{afresh, after, begins}
-use Rattle.lc_course.proofs.FitLaws.{fits_anew}
-use Rattle.lc_answers.specs.declared.course.Course.{Course}
-use Rattle.lc_answers.specs.declared.need.Halt.{Halt}
-use Rattle.lc_answers.specs.declared.need.Halt.TheVariants as halt
-use Rattle.lc_script.specs.declared.statements.Text.{Text}
-use Rattle.lc_answers.specs.Going.{World, rounds_from, IsMisfit}
-use Rattle.lc_script.specs.Text.{Prints, EndsBefore}
-use Rattle.lc_script.specs.Worlds.{outside_of, world}
-use Rattle.lc_script.proofs.SessionLaws.{IsReady, course_of, fits_all, paused_session, torn_session, starved_session, unfit_session, done_session, unwritten_session}
-use Rattle.lc_script.proofs.ReplyLaws.{whole_met, run_replies, resumed, resume_replies, resume_unfit}
+use Rattle.lc_session_rules.specs.Course.{afresh, after, begins}
+use Rattle.lc_session_rules.proofs.FitLaws.{fits_anew}
+use Rattle.lc_rounds.specs.declared.course.Course.{Course}
+use Rattle.lc_rounds.specs.declared.need.Halt.{Halt}
+use Rattle.lc_rounds.specs.declared.need.Halt.TheVariants as halt
+use Rattle.lc_text.specs.declared.statements.Text.{Text}
+use Rattle.lc_rounds.specs.Going.{World, rounds_from, IsMisfit}
+use Rattle.lc_text.specs.Text.{Prints, EndsBefore}
+use Rattle.lc_text.specs.Worlds.{outside_of, world}
+use Rattle.lc_text.proofs.SessionLaws.{IsReady, course_of, fits_all, paused_session, torn_session, starved_session, unfit_session, done_session, unwritten_session}
+use Rattle.lc_text.proofs.ReplyLaws.{whole_met, run_replies, resumed, resume_replies, resume_unfit}
 use Rattle.lc_session.specs.declared.status.Status.{Status}
 use Rattle.lc_session.specs.Ending.{ending_of}
 use Rattle.lc_session.specs.Closing.{Closes, IsClosed}

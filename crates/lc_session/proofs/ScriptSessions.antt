@@ -16,23 +16,23 @@ use Rattle.lc_io.specs.Vaults.{Slots, WhereTold, empty_slots}
 use Rattle.lc_io.proofs.SlotLaws.{WhereTold-refl}
 use Rattle.lc_parse.proofs.Outcomes.{one_script, no_both}
 use Rattle.lc_eval.specs.Built.{built_calls}
-use Rattle.lc_sessions.specs.Options.{Command, run, resume, Settings, settings, options, all_options}
-use Rattle.lc_sessions.specs.Needs.{MeetsFirst}
-use Rattle.lc_sessions.specs.Slots.{next_turn, takes, is_for}
-use Rattle.lc_sessions.specs.Session.{Outside, most_bytes, WasRead, begin_with, Finds, IsSession}
+use Rattle.lc_session_rules.specs.Options.{Command, run, resume, Settings, settings, options, all_options}
+use Rattle.lc_session_rules.specs.Needs.{MeetsFirst}
+use Rattle.lc_session_rules.specs.Slots.{next_turn, takes, is_for}
+use Rattle.lc_session_rules.specs.Session.{Outside, most_bytes, WasRead, begin_with, Finds, IsSession}
 use Rattle.lc_rounds.specs.Way.{Around, around}
-use Rattle.lc_course.specs.Course.{Beginning, afresh, after}
-use Rattle.lc_answers.specs.declared.course.Course.{Course}
-use Rattle.lc_answers.specs.declared.need.Halt.{Halt}
-use Rattle.lc_script.specs.declared.statements.Text.{Text}
-use Rattle.lc_answers.specs.Going.{World, started, Goes}
-use Rattle.lc_script.specs.Text.{Prints, EndsBefore}
-use Rattle.lc_script.specs.Worlds.{outside_of, world}
-use Rattle.lc_script.proofs.SessionLaws.{IsReady}
+use Rattle.lc_session_rules.specs.Course.{Beginning, afresh, after}
+use Rattle.lc_rounds.specs.declared.course.Course.{Course}
+use Rattle.lc_rounds.specs.declared.need.Halt.{Halt}
+use Rattle.lc_text.specs.declared.statements.Text.{Text}
+use Rattle.lc_rounds.specs.Going.{World, started, Goes}
+use Rattle.lc_text.specs.Text.{Prints, EndsBefore}
+use Rattle.lc_text.specs.Worlds.{outside_of, world}
+use Rattle.lc_text.proofs.SessionLaws.{IsReady}
 use Rattle.lc_session.specs.declared.status.Status.{Status}
 use Rattle.lc_session.specs.Ending.{ending_of}
 use Rattle.lc_session.specs.Closing.{Closes}
-use Rattle.lc_ground.proofs.GroundLaws.{one_step_built}
+use Rattle.lc_script_laws.proofs.GroundLaws.{one_step_built}
 use Rattle.lc_session.proofs.ScriptEnds.{run_ends, resume_ends}
 
 pub few_needs : (given bytes : List ℕ) → given ≡ bytes → length bytes ≤ most_bytes → ((needs : List Matrix) → MeetsFirst built_calls given needs → 15 * length needs ≤ length given) → (needs : List Matrix) → MeetsFirst built_calls given needs → length needs < 70000

@@ -20,26 +20,26 @@ use Rattle.lc_io.specs.Told.{Kept}
 use Rattle.lc_language.specs.Query.{distance, query_line}
 use Rattle.lc_checkpoint.specs.Seen.{settled_of}
 use Rattle.lc_eval.specs.Built.{built_calls}
-use Rattle.lc_sessions.specs.Options.{summary, Settings, Options, settings, options, all_options}
-use Rattle.lc_sessions.specs.Answers.{answer_line, answers_of}
-use Rattle.lc_sessions.specs.Summary.{generator_words, seeded, summary_code, round_count, summary_text}
-use Rattle.lc_sessions.specs.Endings.{Ending, usage, done, sink_fault, no_memory}
-use Rattle.lc_sessions.specs.Session as session
-use Rattle.lc_sessions.specs.Session.{Outside, records_of, can_end, Accepts, Reads, Starts, Meets, Stores, Replied, Replies, Judges, Writes, Counts, NoneFailed, IsSession}
+use Rattle.lc_session_rules.specs.Options.{summary, Settings, Options, settings, options, all_options}
+use Rattle.lc_session_rules.specs.Answers.{answer_line, answers_of}
+use Rattle.lc_session_rules.specs.Summary.{generator_words, seeded, summary_code, round_count, summary_text}
+use Rattle.lc_session_rules.specs.Endings.{Ending, usage, done, sink_fault, no_memory}
+use Rattle.lc_session_rules.specs.Session as session
+use Rattle.lc_session_rules.specs.Session.{Outside, records_of, can_end, Accepts, Reads, Starts, Meets, Stores, Replied, Replies, Judges, Writes, Counts, NoneFailed, IsSession}
 use Rattle.lc_rounds.specs.Way.{Around, Stored}
 use Rattle.lc_rounds.specs.declared.rounds.Stop.{Stop}
 use Rattle.lc_rounds.specs.declared.rounds.Stop.TheVariants.{Paused, VaultFault, NoMemory}
-use Rattle.lc_course.specs.Course.{afresh, Stands}
-use Rattle.lc_course.proofs.FitLaws.{fits_anew}
-use Rattle.lc_course.proofs.ScriptTruth.{answers_are}
+use Rattle.lc_session_rules.specs.Course.{afresh, Stands}
+use Rattle.lc_session_rules.proofs.FitLaws.{fits_anew}
+use Rattle.lc_session_rules.proofs.ScriptTruth.{answers_are}
 use Rattle.lc_summary.proofs.CodeLaws.{count_rows}
-use Rattle.lc_answers.specs.declared.course.Course.{Course}
-use Rattle.lc_answers.specs.declared.need.Halt.{Halt}
-use Rattle.lc_answers.specs.declared.need.Halt.TheVariants as halt
-use Rattle.lc_answers.specs.Going.{World, started, settled_in, Goes, Stops, Halts}
-use Rattle.lc_script.proofs.TextLaws.{IsEven, even}
-use Rattle.lc_answers.proofs.NeedLaws.{starving}
-use Rattle.lc_script.specs.Worlds.{outside_of}
+use Rattle.lc_rounds.specs.declared.course.Course.{Course}
+use Rattle.lc_rounds.specs.declared.need.Halt.{Halt}
+use Rattle.lc_rounds.specs.declared.need.Halt.TheVariants as halt
+use Rattle.lc_rounds.specs.Going.{World, started, settled_in, Goes, Stops, Halts}
+use Rattle.lc_text.proofs.TextLaws.{IsEven, even}
+use Rattle.lc_rounds.proofs.NeedLaws.{starving}
+use Rattle.lc_text.specs.Worlds.{outside_of}
 use Rattle.lc_session.proofs.EarlyEnds.{early}
 
 many_words : (n : ℕ) (g : _) → length (generator_words n g) ≡ n

@@ -5,12 +5,12 @@
 use Rattle.std.specs.Prelude.{◌≡◌, ◌⊎◌, ℕ, List, Option, Result, Ok, Err}
 use Rattle.std.specs.Io.KnownBytes.{Appends}
 use Rattle.lc_io.specs.Outside.{HasRisen, AppendsPart}
-use Rattle.lc_sessions.specs.Session.{end_number}
+use Rattle.lc_session_rules.specs.Session.{end_number}
 use Rattle.lc_rounds.specs.declared.rounds.Stop.TheVariants as stop
-use Rattle.lc_answers.specs.declared.course.Course.{Course}
-use Rattle.lc_answers.specs.declared.need.Halt.{Halt}
-use Rattle.lc_answers.specs.declared.need.Halt.TheVariants as halt
-use Rattle.lc_script.specs.declared.statements.Text.{Text}
+use Rattle.lc_rounds.specs.declared.course.Course.{Course}
+use Rattle.lc_rounds.specs.declared.need.Halt.{Halt}
+use Rattle.lc_rounds.specs.declared.need.Halt.TheVariants as halt
+use Rattle.lc_text.specs.declared.statements.Text.{Text}
 use Rattle.lc_session.specs.declared.status.Status.{Status}
 use Rattle.lc_session.specs.declared.status.Status.TheVariants as status
 

@@ -1,8 +1,8 @@
 -- How a session ends, as the definitions of sessions see it.
 --   ending_of status     the ending
 use Rattle.lc_checker.specs.Verdict.{reason_of}
-use Rattle.lc_sessions.specs.Endings as ending
-use Rattle.lc_sessions.specs.Endings.{Ending}
+use Rattle.lc_session_rules.specs.Endings as ending
+use Rattle.lc_session_rules.specs.Endings.{Ending}
 use Rattle.lc_session.specs.declared.status.Status.{Status}
 use Rattle.lc_session.specs.declared.status.Status.TheVariants.{Done, Usage, Paused, SourceFault, SinkFault, VaultFault, NoMemory, NoCheckpoint, DamagedCheckpoint, OtherScript, Rejected, TooLong, Unfit}
 

@@ -6,7 +6,7 @@ use Rattle.std.specs.Prelude.{◌≡◌, ℕ, List}
 use Rattle.lc_formats.specs.Certificate.{rejected}
 use Rattle.lc_formats.specs.Check.{certificate_in, verdict_of, check_text}
 use Rattle.lc_checker.specs.Verdict.{reason_of}
-use Rattle.lc_sessions.specs.Session.{IsAccepted}
+use Rattle.lc_session_rules.specs.Session.{IsAccepted}
 use Rattle.lc_session.specs.declared.status.Status.{Status}
 use Rattle.lc_session.specs.declared.status.Status.TheVariants.{Done, Usage, Paused, SourceFault, SinkFault, VaultFault, NoMemory, NoCheckpoint, DamagedCheckpoint, OtherScript, Rejected, TooLong, Unfit}
 

@@ -3,7 +3,7 @@ ghost use Rattle.std.specs.Prelude.{◌≡◌, ◌+◌, ◌≤◌, length, IfOk,
 ghost use Rattle.std.specs.Result.{IsErrOf};
 ghost use Rattle.std.specs.Io.KnownBytes.{Consumes, IsAtEnd};
 ghost use Rattle.lc_io.specs.Outside.{HasRisen, GaveFront, GaveLess, GaveSome};
-ghost use Rattle.lc_sessions.specs.Session.{most_bytes, GaveTooMuch};
+ghost use Rattle.lc_session_rules.specs.Session.{most_bytes, GaveTooMuch};
 
 use lc_io::{ReadRefusal, Source, read_to_limit};
 use std::alloc::Global;

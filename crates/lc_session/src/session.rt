@@ -2,12 +2,12 @@
 ghost use Rattle.std.specs.Prelude.{◌≡◌, ◌≢◌, ℕ, [], map, Some};
 ghost use Rattle.lc_io.specs.Watchers.{hearing};
 ghost use Rattle.lc_eval.specs.Built.{built_calls};
-ghost use Rattle.lc_sessions.specs.Options as line;
-ghost use Rattle.lc_sessions.specs.Options.{Settings, all_options, options, settings};
-ghost use Rattle.lc_sessions.specs.Session.{IsSession};
+ghost use Rattle.lc_session_rules.specs.Options as line;
+ghost use Rattle.lc_session_rules.specs.Options.{Settings, all_options, options, settings};
+ghost use Rattle.lc_session_rules.specs.Session.{IsSession};
 ghost use Rattle.lc_arguments.specs.Asked.{words_of};
 ghost use Rattle.lc_rounds.specs.Way.{around};
-ghost use Rattle.lc_script.specs.Worlds.{outside_of};
+ghost use Rattle.lc_text.specs.Worlds.{outside_of};
 ghost use Rattle.lc_session.specs.Ending.{ending_of};
 
 use crate::check::check;
@@ -68,7 +68,7 @@ fn session<R: Threads + Sync, S: Source, K: Sink, V: Vault, W: Watcher, G: Gate 
 /// there may be `workers=N` and `budget=N`, reads nothing, and writes the line of a code of length 48.
 ///
 /// Nothing is written unless the whole text is ready. `run` of an empty script
-/// does not end for want of memory. The contract of a session is `IsSession` of `lc_sessions`: what is read,
+/// does not end for want of memory. The contract of a session is `IsSession` of `lc_session_rules`: what is read,
 /// told, stored and written under each status, and when each of them comes.
 pub fn run_session<R: Threads + Sync, S: Source, K: Sink, V: Vault, G: Gate + Sync>(
     rt: &R,

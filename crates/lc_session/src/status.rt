@@ -1,6 +1,6 @@
 //! How a session ends.
 ghost use Rattle.std.specs.Prelude.{◌≡◌, ◌++◌, IfOk, OnOk, decimal};
-ghost use Rattle.lc_sessions.specs.Endings.{ending_number, ending_line};
+ghost use Rattle.lc_session_rules.specs.Endings.{ending_number, ending_line};
 ghost use Rattle.lc_session.specs.Ending.{ending_of};
 
 use itoa::Buffer;
@@ -10,7 +10,7 @@ use std::alloc::Global;
 
 /// How a session ends.
 ///
-/// Contracts see it as `ending_of` it, an `Ending` of `lc_sessions`.
+/// Contracts see it as `ending_of` it, an `Ending` of `lc_session_rules`.
 #[derive(Drop)]
 pub enum Status {
     /// The whole text was written. The number is 1 if a fault line ends it, else 0.
@@ -66,7 +66,7 @@ pub enum Status {
 
 impl Status {
     /// The number with which the program ends: that of `Done`, and 2 to 13 for the others in their order.
-    #[tactic(auto, unfolding(lc_sessions::specs::Endings::ending_number))]
+    #[tactic(auto, unfolding(lc_session_rules::specs::Endings::ending_number))]
     pub fn number(&self) -> u8
         ensures { result ≡ ending_number (ending_of self.now) }
     {

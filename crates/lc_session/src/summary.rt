@@ -2,20 +2,20 @@
 ghost use Rattle.std.specs.Prelude.{◌≡◌, ℕ, List, map, Option};
 ghost use Rattle.lc_io.specs.Watchers.{hearing};
 ghost use Rattle.lc_eval.specs.Built.{built_calls};
-ghost use Rattle.lc_sessions.specs.Options.{settings, options, all_options};
-ghost use Rattle.lc_sessions.specs.Session.{IsSession};
+ghost use Rattle.lc_session_rules.specs.Options.{settings, options, all_options};
+ghost use Rattle.lc_session_rules.specs.Session.{IsSession};
 ghost use Rattle.lc_arguments.specs.Asked.{settings_for, IsWithin};
 ghost use Rattle.lc_rounds.specs.Way.{around};
-ghost use Rattle.lc_script.specs.Worlds.{outside_of};
+ghost use Rattle.lc_text.specs.Worlds.{outside_of};
 ghost use Rattle.lc_session.specs.Ending.{ending_of};
 
 use crate::status::Status;
-use lc_answers::afresh;
 use lc_arguments::{Asked, Command};
 use lc_eval::QueryKind;
 use lc_io::{Gate, Sink, Vault, Watcher, write_whole};
-use lc_script::need_line;
+use lc_rounds::afresh;
 use lc_summary::{summary_code, summary_line};
+use lc_text::need_line;
 use std::alloc::Global;
 use std::thread::Threads;
 

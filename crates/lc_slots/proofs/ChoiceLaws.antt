@@ -10,8 +10,8 @@ use Rattle.lc_formats.specs.Checkpoint.{ReadCheckpoint, CheckpointRefusal, refus
 use Rattle.lc_formats.specs.Checkpoint as formats
 use Rattle.lc_io.specs.declared.vault.Slot.TheVariants.{Zero, One}
 use Rattle.lc_io.specs.Vaults.{Slots, in_slot}
-use Rattle.lc_sessions.specs.Slots.{Choice, nothing_stored, none_decodes, takes, is_empty, later_of, chosen, choice_among, choice}
-use Rattle.lc_sessions.proofs.ChainLaws.{empty_is_none}
+use Rattle.lc_session_rules.specs.Slots.{Choice, nothing_stored, none_decodes, takes, is_empty, later_of, chosen, choice_among, choice}
+use Rattle.lc_session_rules.proofs.ChainLaws.{empty_is_none}
 use Rattle.lc_checkpoint.specs.declared.checkpoint.Checkpoint.{Checkpoint}
 use Rattle.lc_checkpoint.specs.Seen.{point_of}
 use Rattle.lc_slots.specs.declared.choosing.Found.{Found}

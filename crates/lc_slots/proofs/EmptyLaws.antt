@@ -6,7 +6,7 @@ use Rattle.std.specs.Prelude.{Option}
 use Rattle.lc_io.specs.declared.vault.Slot.TheVariants.{Zero, One}
 use Rattle.lc_io.specs.Vaults.{Slots, WhereTold, IsPut, IsTorn, empty_slots, put}
 use Rattle.lc_io.proofs.SlotLaws.{WhereTold-then, WhereTold-map}
-use Rattle.lc_sessions.specs.Session.{AreHalfEmptied}
+use Rattle.lc_session_rules.specs.Session.{AreHalfEmptied}
 
 empties : (a b c : Slots) → IsPut Zero [] a b → IsPut One [] b c → c ≡ empty_slots
 empties a b c e f = f ∙ ap (put One []) e

@@ -10,7 +10,7 @@ use Rattle.lc_io.specs.declared.vault.Slot.{Slot}
 use Rattle.lc_io.specs.Vaults.{Slots, Loads, in_slot}
 use Rattle.lc_formats.specs.Checkpoint.{ReadCheckpoint, refused, point, damaged, other_version, shape, checkpoint_in}
 use Rattle.lc_formats.proofs.CheckpointBack.{too_long}
-use Rattle.lc_sessions.specs.Slots.{is_empty}
+use Rattle.lc_session_rules.specs.Slots.{is_empty}
 use Rattle.lc_checkpoint.specs.declared.checkpoint.Checkpoint.{Checkpoint}
 use Rattle.lc_checkpoint.specs.Seen.{point_of}
 use Rattle.lc_slots.specs.declared.reading.Held.{Held}

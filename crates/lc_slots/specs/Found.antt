@@ -9,7 +9,7 @@ use Rattle.std.specs.Prelude.{◌≡◌, ℕ, false, List, []}
 use Rattle.lc_formats.specs.Checkpoint.{IsInRange, checkpoint_in, point, refused}
 use Rattle.lc_formats.specs.Checkpoint as formats
 use Rattle.lc_io.specs.Outside.{HasRisen}
-use Rattle.lc_sessions.specs.Slots.{Choice, nothing_stored, none_decodes, takes, is_empty, choice}
+use Rattle.lc_session_rules.specs.Slots.{Choice, nothing_stored, none_decodes, takes, is_empty, choice}
 use Rattle.lc_checkpoint.specs.Seen.{point_of}
 use Rattle.lc_slots.specs.declared.choosing.Found.{Found}
 use Rattle.lc_slots.specs.declared.choosing.Found.TheVariants.{Nothing, Damaged, Taken}

@@ -1,6 +1,6 @@
 //! The checkpoint that `resume` takes.
 ghost use Rattle.std.specs.Prelude.{◌≡◌, ◌<◌, length, vec_len, IfOk, IfSome, MatchResult};
-ghost use Rattle.lc_sessions.specs.Slots.{choice};
+ghost use Rattle.lc_session_rules.specs.Slots.{choice};
 ghost use Rattle.lc_slots.specs.Found.{IsChosen, IsInRangeIfTaken, CountsLoad, choice_of};
 
 use crate::reading::{Held, LoadRefusal, held_by};
@@ -13,7 +13,7 @@ const ROOM: usize = 4_194_305;
 
 /// What the slots of a vault hold.
 ///
-/// Contracts see it as `choice_of` it, a `Choice` of `lc_sessions`.
+/// Contracts see it as `choice_of` it, a `Choice` of `lc_session_rules`.
 #[derive(Drop)]
 pub enum Found {
     /// Both slots are empty.

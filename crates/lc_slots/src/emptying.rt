@@ -2,7 +2,7 @@
 ghost use Rattle.std.specs.Prelude.{◌≡◌, OnErr, OnOk, MatchResult};
 ghost use Rattle.lc_io.specs.Outside.{HasRisen};
 ghost use Rattle.lc_io.specs.Vaults.{WhereTold, empty_slots};
-ghost use Rattle.lc_sessions.specs.Session.{AreHalfEmptied};
+ghost use Rattle.lc_session_rules.specs.Session.{AreHalfEmptied};
 
 use lc_io::{Failed, Slot, Vault};
 

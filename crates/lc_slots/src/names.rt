@@ -1,7 +1,7 @@
 //! Which script and budget a checkpoint names.
 ghost use Rattle.std.specs.Prelude.{◌≡◌};
 ghost use Rattle.sha2.specs.Sha256.{sha256};
-ghost use Rattle.lc_sessions.specs.Slots.{is_for};
+ghost use Rattle.lc_session_rules.specs.Slots.{is_for};
 ghost use Rattle.lc_checkpoint.specs.Seen.{point_of};
 
 use lc_checkpoint::Checkpoint;
@@ -18,7 +18,7 @@ pub fn digest(bytes: &[u8]) -> [u8; 32]
 }
 
 /// Whether a checkpoint names the script of this digest, and this budget of blocks.
-#[tactic(auto, unfolding(lc_sessions::specs::Slots::is_for, lc_checkpoint::specs::Seen::point_of))]
+#[tactic(auto, unfolding(lc_session_rules::specs::Slots::is_for, lc_checkpoint::specs::Seen::point_of))]
 pub fn is_for(digest: &[u8; 32], budget: u64, checkpoint: &Checkpoint) -> bool
     ensures { result ≡ is_for digest.now budget (point_of checkpoint.now) }
 {

@@ -28,7 +28,7 @@ use Rattle.lc_code.proofs.CodeLaws.{same_matrix}
 use Rattle.lc_enumeration.specs.InformationSet.{unit_word}
 use Rattle.lc_enumeration.proofs.GreedyLaws.{index_unit, length_unit}
 use Rattle.lc_infoset.proofs.ExistLaws.{unit_is_word}
-use Rattle.lc_sessions.specs.Summary.{generator_words, seeded, summary_row, summary_rows, summary_code}
+use Rattle.lc_session_rules.specs.Summary.{generator_words, seeded, summary_row, summary_rows, summary_code}
 
 -- the 24 lowest bits of a word
 abbrev bits : ℕ → List ℕ

@@ -2,7 +2,7 @@
 --   summary_texts      the line of a summary, and the text that the definitions of sessions give it
 use Rattle.std.specs.Prelude.{⊤}
 use Rattle.lc_formats.specs.Text.{line}
-use Rattle.lc_sessions.specs.Summary.{without_newline, summary_text}
+use Rattle.lc_session_rules.specs.Summary.{without_newline, summary_text}
 use Rattle.lc_summary.specs.Line.{summary_line}
 
 unfoldable pub summary_texts : ⊤

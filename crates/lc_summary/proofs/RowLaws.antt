@@ -10,7 +10,7 @@ use Rattle.rand_core.specs.Pcg32Seed.{pcg32_seed}
 use Rattle.lc_algebra.specs.Span.{below}
 use Rattle.lc_algebra.proofs.EmbeddingTests.{two_elements, has_two_elements}
 use Rattle.lc_enumeration.specs.InformationSet.{unit_word}
-use Rattle.lc_sessions.specs.Summary.{generator_words, seeded, summary_row, summary_rows}
+use Rattle.lc_session_rules.specs.Summary.{generator_words, seeded, summary_row, summary_rows}
 
 pub map_more : (f : ℕ → ℕ) (xs : List ℕ) (j x : ℕ) → xs ≡ map f (below j) → x ≡ f j → xs ++ x ∷ [] ≡ map f (below (suc j))
 unfolding below

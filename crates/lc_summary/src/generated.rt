@@ -1,7 +1,7 @@
 //! The code of a seed.
 ghost use Rattle.std.specs.Prelude.{◌≡◌, ◌<◌, IfOk};
 ghost use Rattle.lc_algebra.specs.declared.FieldName.TheVariants.{Gf2};
-ghost use Rattle.lc_sessions.specs.Summary.{summary_code, summary_row, summary_rows, generator_words, seeded};
+ghost use Rattle.lc_session_rules.specs.Summary.{summary_code, summary_row, summary_rows, generator_words, seeded};
 
 use lc_code::Code;
 use lc_field::{Field, FieldRefusal, NoMemory};

@@ -1,7 +1,7 @@
 //! The line of a summary.
 ghost use Rattle.std.specs.Prelude.{◌≡◌, ℕ, IfOk};
 ghost use Rattle.lc_language.specs.Query.{distance, query_line};
-ghost use Rattle.lc_sessions.specs.Summary.{round_count, summary_code, summary_text};
+ghost use Rattle.lc_session_rules.specs.Summary.{round_count, summary_code, summary_text};
 ghost use Rattle.lc_summary.specs.Line.{summary_line};
 
 use itoa::Buffer;

@@ -1,7 +1,7 @@
 use Rattle.std.proofs.Common.{◌≡◌, ◌+◌, ap, ◌∙◌}
 use Rattle.std.proofs.lemmas.List.{length-map}
 use Rattle.std.proofs.Common.{string_bytes}
-use Rattle.lc_sessions.specs.Options.{usage}
+use Rattle.lc_session_rules.specs.Options.{usage}
 use Rattle.lc_arguments.specs.Asked.{command_for, words_of}
 use Rattle.lc_arguments.proofs.CourseLaws.{ends_kept, ends_unkept, ends_seedless, ends_seeded, ends_plain, not_summary}
 use Rattle.lc_arguments.proofs.arguments.checked.Goals as goal

@@ -1,5 +1,5 @@
 use Rattle.std.proofs.Common.{map}
-use Rattle.lc_sessions.specs.Options.{key_text}
+use Rattle.lc_session_rules.specs.Options.{key_text}
 use Rattle.lc_arguments.specs.Asked.{words_of, key_for, name_of}
 use Rattle.lc_arguments.proofs.CourseLaws.{IsPlacedFrom}
 use Rattle.lc_arguments.proofs.arguments.place_of.Given as goal

@@ -1,6 +1,6 @@
 use Rattle.std.proofs.Common.{sym, ap, ◌∙◌}
 use Rattle.std.specs.Prelude.{is_some}
-use Rattle.lc_sessions.specs.Options.{key_named, put_key}
+use Rattle.lc_session_rules.specs.Options.{key_named, put_key}
 use Rattle.lc_arguments.specs.Asked.{words_of, command_for, key_for, keys_of, settings_for}
 use Rattle.lc_arguments.proofs.CourseLaws.{course_sign, course_name, course_again, course_next}
 use Rattle.lc_arguments.proofs.arguments.with_argument.Goals as goal

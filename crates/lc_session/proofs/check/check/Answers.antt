@@ -1,5 +1,5 @@
 use Rattle.std.proofs.Common.{Err, refl, ap, ◌∙◌}
-use Rattle.lc_sessions.specs.Options.{settings}
+use Rattle.lc_session_rules.specs.Options.{settings}
 use Rattle.lc_arguments.specs.Asked.{settings_for}
 use Rattle.lc_session.proofs.AskedLaws.{check_reads, check_asked}
 use Rattle.lc_session.proofs.EarlyEnds.{source_failed, too_much, unread}

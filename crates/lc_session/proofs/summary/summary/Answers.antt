@@ -1,7 +1,7 @@
 use Rattle.std.proofs.Common.{◌<◌, length, map, [], refl, sym, ap, subst, ◌∙◌}
 use Rattle.lc_algebra.specs.Matrix.{Matrix}
 use Rattle.lc_io.specs.Watchers.{hearing}
-use Rattle.lc_sessions.specs.Options.{settings}
+use Rattle.lc_session_rules.specs.Options.{settings}
 use Rattle.lc_rounds.specs.Way.{Around, around}
 use Rattle.lc_session.proofs.AskedLaws.{summary_asked}
 use Rattle.lc_session.proofs.SummarySessions.{code_rows, summary_unstarted, written_so, unwritten_so, starved_so, halted_so}

@@ -1,4 +1,4 @@
-use Rattle.lc_sessions.specs.Summary.{generator_words, seeded, summary_rows}
+use Rattle.lc_session_rules.specs.Summary.{generator_words, seeded, summary_rows}
 use Rattle.lc_summary.proofs.RowLaws.{AreMade}
 use Rattle.lc_summary.proofs.generated.summary_rows.Given as goal
 

@@ -1,8 +1,0 @@
-use Rattle.lc_course.proofs.ScriptTruth.{fresh_answers, true_answers}
-use Rattle.lc_course.proofs.laws.unstopped_sessions_answer_by_the_search.Goals as goal
-
-pub returns-clause-fresh : goal.returns-clause-fresh
-returns-clause-fresh c = fresh_answers
-
-pub returns-clause-resumed : goal.returns-clause-resumed
-returns-clause-resumed c = true_answers

@@ -1,6 +1,0 @@
-use Rattle.lc_ground.proofs.AskShapes.{met_shaped}
-use Rattle.lc_ground.proofs.RangeLaws.{need_is_code}
-use Rattle.lc_ground.proofs.laws.needs_are_codes.Goals as goal
-
-pub returns : goal.returns
-returns _ = λ table bytes needs met i C at. need_is_code needs i C (met_shaped table bytes needs met) at

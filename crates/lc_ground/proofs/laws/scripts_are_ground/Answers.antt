@@ -1,5 +1,0 @@
-use Rattle.lc_ground.proofs.GroundLaws.{script_is_ground}
-use Rattle.lc_ground.proofs.laws.scripts_are_ground.Goals as goal
-
-pub returns : goal.returns
-returns _ = script_is_ground

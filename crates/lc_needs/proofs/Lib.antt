@@ -1,2 +1,0 @@
-pub mod WidthLaws
-pub mod NeedLaws

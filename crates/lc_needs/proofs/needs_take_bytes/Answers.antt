@@ -1,8 +1,0 @@
-use Rattle.lc_needs.proofs.NeedLaws.{script_long, met_long}
-use Rattle.lc_needs.proofs.needs_take_bytes.Goals as goal
-
-pub returns-clause-script : goal.returns-clause-script
-returns-clause-script c = script_long
-
-pub returns-clause-front : goal.returns-clause-front
-returns-clause-front c = met_long

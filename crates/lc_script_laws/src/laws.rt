@@ -1,0 +1,70 @@
+ghost use Rattle.std.specs.Prelude.{◌≡◌, ◌<◌, ◌≤◌, ◌^◌, ◌⊎◌, ◌++◌, ℕ, Bool, true, List, [], ◌∷◌, length, Option, Some, slice_get};
+ghost use Rattle.lc_algebra.specs.Matrix.{Matrix};
+ghost use Rattle.lc_enumeration.specs.Records.{SessionStep};
+ghost use Rattle.lc_formats.specs.Checkpoint.{Checkpoint};
+ghost use Rattle.lc_io.specs.Vaults.{Slots};
+ghost use Rattle.lc_language.specs.declared.Call.{Call};
+ghost use Rattle.lc_language.specs.Query.{by_levels, by_scan, query_line};
+ghost use Rattle.lc_language.specs.Evaluation.{IsText};
+ghost use Rattle.lc_eval.specs.Built.{built_calls};
+ghost use Rattle.lc_session_rules.specs.Options.{run, resume};
+ghost use Rattle.lc_session_rules.specs.Needs.{MeetsFirst};
+ghost use Rattle.lc_session_rules.specs.Slots.{turn_after, IsTrueCheckpoint, AreTrueSlots};
+ghost use Rattle.lc_session_rules.specs.Endings.{Ending, done};
+ghost use Rattle.lc_session_rules.specs.Session.{Outside, most_bytes, IsSession};
+ghost use Rattle.lc_session_rules.specs.Promises.{PrintsText, StartsTruly, StoresTruly, StoresAfresh};
+ghost use Rattle.lc_session_rules.specs.Chain.{Chain, IsGround, HasBegun};
+ghost use Rattle.lc_certify.specs.Accepted.{SaysNone, IsAcceptedFor};
+ghost use Rattle.lc_script_laws.specs.Shapes.{IsCodeOfRows};
+
+/// Bytes print at most one text: whatever satisfies the definition of the text of a script is the same text,
+/// and ends in a fault or not alike. So what a session writes is determined by the script alone.
+pub fn one_text()
+    ensures { (budget : ℕ) (bytes text other : List ℕ) (ends end : Bool) → IsText built_calls budget bytes text ends → IsText built_calls budget bytes other end → (text ≡ other) × (ends ≡ end) }
+{}
+
+/// Each code that a script searches is over a field of at most 16 elements and has a length of at most 255, and its rows are its
+/// reduced generator matrix.
+pub fn needs_are_codes()
+    ensures { (table : List Call) (bytes : List ℕ) (needs : List Matrix) → MeetsFirst table bytes needs → (i : ℕ) (C : Matrix) → slice_get needs i ≡ Some C → IsCodeOfRows C }
+{}
+
+/// What a script prints for a certificate is accepted. For each code that a script searches, under every budget, the line that
+/// `Certificate` prints of it, and the one that `ScanCertificate` prints, either says that there is no certificate, or `check` answers
+/// to it that it is accepted, with the minimum distance of the code. A code without rows isn't searched: its line says that there is
+/// none.
+pub fn scripts_print_accepted_certificates()
+    ensures levels { (table : List Call) (bytes : List ℕ) (needs : List Matrix) → MeetsFirst table bytes needs → (i : ℕ) (C : Matrix) → slice_get needs i ≡ Some C → (budget : ℕ) → SaysNone (query_line by_levels C budget) ⊎ IsAcceptedFor C (query_line by_levels C budget) }
+    ensures scan { (table : List Call) (bytes : List ℕ) (needs : List Matrix) → MeetsFirst table bytes needs → (i : ℕ) (C : Matrix) → slice_get needs i ≡ Some C → (budget : ℕ) → SaysNone (query_line by_scan C budget) ⊎ IsAcceptedFor C (query_line by_scan C budget) }
+    ensures none { (C : Matrix) (budget : ℕ) → length C.rows ≡ 0 → SaysNone (query_line by_levels C budget) × SaysNone (query_line by_scan C budget) }
+{}
+
+/// What the laws of chains rest on holds of every script of at most 2^20 bytes, and every budget of at most 2^40 blocks: bytes are one
+/// script, a statement does one thing, each need is a code with rows, there are fewer than 2^17 of them, and a true checkpoint is read
+/// back from its text.
+pub fn scripts_are_ground()
+    ensures { (bytes : List ℕ) (budget : ℕ) → length bytes ≤ most_bytes → budget ≤ 2 ^ 40 → IsGround built_calls bytes budget }
+{}
+
+/// Sessions that are stopped and resumed print the text of their script. Every chain of sessions over the two slots of a vault leaves
+/// them as `resume` asks for them; and a session of `resume` over the slots of a chain that finishes prints the text of the script
+/// under its budget, whatever the workers, slices and endings of the sessions before it were. A session of `run` that finishes prints
+/// it over any slots.
+pub fn chains_print_the_text()
+    ensures slots { (bytes : List ℕ) (budget : ℕ) → length bytes ≤ most_bytes → budget ≤ 2 ^ 40 → (version : ℕ) (slots : Slots) → Chain built_calls bytes budget version slots → AreTrueSlots built_calls bytes budget slots }
+    ensures run { (args : List (List ℕ)) (old new : Outside) (n : ℕ) (s : IsSession built_calls args old new (done n)) → s.asked.command ≡ run → PrintsText built_calls s.asked.budget s.course.bytes old.sink new.sink n }
+    ensures resume { (args : List (List ℕ)) (old new : Outside) (n : ℕ) (s : IsSession built_calls args old new (done n)) (version : ℕ) (slots : Slots) → s.asked.command ≡ resume → old.vault ≡ Some slots → Chain built_calls s.course.bytes s.asked.budget version slots
+        → PrintsText built_calls s.asked.budget s.course.bytes old.sink new.sink n }
+{}
+
+/// Sessions of scripts store true checkpoints. After a session of `run`, or of `resume` that took a true checkpoint, each slot is as it
+/// was, or empty, or holds a true checkpoint in the slot of its turn, but for one whose store failed. After a session of `run` that
+/// emptied the slots (it finished or paused, or the sink failed, or it told a record) each is empty or holds a true checkpoint, but
+/// for one whose store failed. A true checkpoint has a turn below 2^58, and so has each record told.
+pub fn stored_slots_hold_true_checkpoints()
+    ensures stored { (args : List (List ℕ)) (old new : Outside) (ending : Ending) (s : IsSession built_calls args old new ending) → StartsTruly built_calls s.asked.command s.asked old.vault s.course → s.asked.keep ≡ true → StoresTruly built_calls s.course.bytes s.asked.budget old new }
+    ensures afresh { (args : List (List ℕ)) (old new : Outside) (ending : Ending) (s : IsSession built_calls args old new ending) → s.asked.command ≡ run → s.asked.keep ≡ true → HasBegun ending s.course → StoresAfresh built_calls s.course.bytes s.asked.budget old new }
+    ensures turn { (bytes : List ℕ) (budget : ℕ) → length bytes ≤ most_bytes → budget ≤ 2 ^ 40 → (p : Checkpoint) → IsTrueCheckpoint built_calls bytes budget p → p.turn < 2 ^ 58 }
+    ensures early { (args : List (List ℕ)) (old new : Outside) (ending : Ending) (s : IsSession built_calls args old new ending) → StartsTruly built_calls s.asked.command s.asked old.vault s.course
+        → (before : List SessionStep) (last : SessionStep) → s.course.told ≡ before ++ last ∷ [] → turn_after s.course.turn before < 2 ^ 58 }
+{}

@@ -1,0 +1,29 @@
+use Rattle.lc_session_rules.proofs.SaidLaws.{paused_at, fault_counts, memory_counts, other_named, unkept, accepted_so, rejected_so, summed, unfailed}
+use Rattle.lc_session_rules.proofs.laws.sessions_say_what_they_did.Goals as goal
+
+pub returns-clause-paused : goal.returns-clause-paused
+returns-clause-paused _ = paused_at
+
+pub returns-clause-vault_fault : goal.returns-clause-vault_fault
+returns-clause-vault_fault _ = fault_counts
+
+pub returns-clause-no_memory : goal.returns-clause-no_memory
+returns-clause-no_memory _ = memory_counts
+
+pub returns-clause-other_script : goal.returns-clause-other_script
+returns-clause-other_script _ = other_named
+
+pub returns-clause-unkept : goal.returns-clause-unkept
+returns-clause-unkept _ = unkept
+
+pub returns-clause-accepted : goal.returns-clause-accepted
+returns-clause-accepted _ = accepted_so
+
+pub returns-clause-rejected : goal.returns-clause-rejected
+returns-clause-rejected _ = rejected_so
+
+pub returns-clause-summary : goal.returns-clause-summary
+returns-clause-summary _ = summed
+
+pub returns-clause-unfailed : goal.returns-clause-unfailed
+returns-clause-unfailed _ = unfailed

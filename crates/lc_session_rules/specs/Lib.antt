@@ -1,0 +1,11 @@
+pub mod Options
+pub mod Summary
+pub mod Endings
+pub mod Needs
+pub mod Answers
+pub mod Slots
+pub mod Session
+pub mod Promises
+pub mod Chain
+pub mod Course
+pub mod Statements

@@ -1,5 +1,0 @@
-use Rattle.lc_sessions.proofs.ChainLaws.{chains_are_true}
-use Rattle.lc_sessions.proofs.laws.chains_leave_true_slots.Goals as goal
-
-pub returns : goal.returns
-returns _ = chains_are_true

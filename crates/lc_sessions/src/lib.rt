@@ -1,6 +1,0 @@
-//! What `codes` means by a session: the arguments of its command line, what it reads, tells, keeps and
-//! prints, and how sessions follow one another over the two slots of a vault. The definitions are in
-//! `specs/`, and their laws are the contracts of the functions of `laws`.
-#![tactic(auto)]
-
-pub mod laws;

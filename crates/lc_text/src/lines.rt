@@ -1,0 +1,77 @@
+//! The lines of queries that searches answer.
+ghost use Rattle.std.specs.Prelude.{◌≡◌, Some, true, IfOk};
+ghost use Rattle.lc_enumeration.specs.Search.{fits};
+ghost use Rattle.lc_enumeration.specs.Records.{found_of};
+ghost use Rattle.lc_language.specs.Query.{distance_answer_line, certificate_answer_line};
+ghost use Rattle.lc_certify.specs.Claims.{kind_of as way_kind};
+ghost use Rattle.lc_eval.specs.Evaluated.{kind_of};
+ghost use Rattle.lc_search.specs.State.{answer_in, answer_of};
+ghost use Rattle.lc_session_rules.specs.Answers.{answer_line};
+
+use lc_certify::{Way, exact_line};
+use lc_eval::QueryKind;
+use lc_field::NoMemory;
+use lc_print::{bracket_line, certificate_bracket_line, distance_line};
+use lc_search::{Answer, Search};
+use std::alloc::Global;
+
+// The line that `MinimumDistance` prints of an answer.
+fn distance_line_of(alloc: Global, search: &Search, answer: Answer) -> Result<Vec<u8>, NoMemory>
+    requires fitting { fits search.now.code search.now.progress.blocks (found_of search.now.progress) ≡ true }
+    requires answered { answer_in search.now ≡ Some (answer_of answer) }
+    ensures { IfOk result (λ line. line.items ≡ distance_answer_line search.now.code (answer_of answer)) }
+{
+    let _rows = search.sets().dimension();
+    match answer {
+        Answer::Exact {
+            weight,
+            place,
+            blocks,
+        } => distance_line(alloc, weight, &search.word(alloc, place)?, blocks),
+        Answer::Bracket {
+            low,
+            weight,
+            place,
+            blocks,
+        } => bracket_line(alloc, low, weight, &search.word(alloc, place)?, blocks),
+    }
+}
+
+// The line that `Certificate` or `ScanCertificate` prints of an answer.
+fn certificate_line_of(
+    alloc: Global,
+    way: Way,
+    search: &Search,
+    answer: Answer,
+) -> Result<Vec<u8>, NoMemory>
+    requires fitting { fits search.now.code search.now.progress.blocks (found_of search.now.progress) ≡ true }
+    requires answered { answer_in search.now ≡ Some (answer_of answer) }
+    ensures { IfOk result (λ line. line.items ≡ certificate_answer_line (way_kind way) search.now.code (answer_of answer)) }
+{
+    let _rows = search.sets().dimension();
+    match answer {
+        Answer::Exact { weight, place, .. } => Ok(exact_line(alloc, way, search, weight, place)?),
+        Answer::Bracket { low, weight, .. } => Ok(certificate_bracket_line(alloc, low, weight)?),
+    }
+}
+
+/// The line that a query prints of the answer of its search. Refused only for want of memory.
+///
+/// The search has this answer, and its record fits its code.
+#[tactic(auto, unfolding(lc_certify::specs::Claims::kind_of))]
+pub(crate) fn line_of(
+    alloc: Global,
+    kind: QueryKind,
+    search: &Search,
+    answer: Answer,
+) -> Result<Vec<u8>, NoMemory>
+    requires fitting { fits search.now.code search.now.progress.blocks (found_of search.now.progress) ≡ true }
+    requires answered { answer_in search.now ≡ Some (answer_of answer) }
+    ensures { IfOk result (λ line. line.items ≡ answer_line (kind_of kind) search.now.code (answer_of answer)) }
+{
+    match kind {
+        QueryKind::Distance => distance_line_of(alloc, search, answer),
+        QueryKind::Levels => certificate_line_of(alloc, Way::Levels, search, answer),
+        QueryKind::Scan => certificate_line_of(alloc, Way::Scan, search, answer),
+    }
+}

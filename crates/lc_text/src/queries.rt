@@ -1,0 +1,52 @@
+//! The line of a query, with the rounds of its search.
+ghost use Rattle.std.specs.Prelude.{◌≡◌, ◌+◌, ◌<◌, ◌≤◌, List, [], ◌∷◌, ◌++◌, length, map, IfOk, MatchResult};
+ghost use Rattle.lc_algebra.specs.Matrix.{Matrix};
+ghost use Rattle.lc_enumeration.specs.Search.{Answer};
+ghost use Rattle.lc_io.specs.Watchers.{hearing};
+ghost use Rattle.lc_eval.specs.Evaluated.{kind_of};
+ghost use Rattle.lc_session_rules.specs.Answers.{answer_line};
+ghost use Rattle.lc_rounds.specs.Way.{around};
+ghost use Rattle.lc_rounds.specs.Going.{World, IsRanged, Goes, Halts};
+
+use crate::lines::line_of;
+use lc_code::Code;
+use lc_eval::QueryKind;
+use lc_io::{Gate, Vault, Watcher};
+use lc_rounds::{Course, Halt, Stop, answer_need};
+use std::alloc::Global;
+use std::thread::Threads;
+
+/// The line that a query prints of a code, the next need of a session: by the record of a checkpoint, if it has one there, else
+/// by its search.
+///
+/// There are 1 to 256 workers, the code has dimension at least 1, and fewer than 70,000 needs were met.
+pub fn need_line<R: Threads + Sync, V: Vault, W: Watcher, G: Gate + Sync>(
+    rt: &R,
+    alloc: Global,
+    workers: u32,
+    gate: &G,
+    vault: &mut V,
+    watchers: &mut Vec<W>,
+    course: &mut Course,
+    kind: QueryKind,
+    code: &Code,
+) -> Result<Vec<u8>, Halt>
+    requires workers { (1 ≤ workers) × (workers ≤ 256) }
+    requires rows { 0 < length code.now.rows }
+    requires ranged { IsRanged course.old }
+    requires few { course.old.met < 70000 }
+    ensures goes { MatchResult result
+        (λ line. (a : Answer) × (line.items ≡ answer_line (kind_of kind) code.now a) × ((w : World) (needs : List Matrix) (answers : List Answer) → Goes w needs answers course.old (around (V.contents vault.old) (V.faults vault.old) (map (hearing W.heard W.coming W.pauses) watchers.old.items)) → Goes w (needs ++ code.now ∷ []) (answers ++ a ∷ []) course.new (around (V.contents vault.new) (V.faults vault.new) (map (hearing W.heard W.coming W.pauses) watchers.new.items))))
+        (λ halt. (w : World) (needs : List Matrix) (answers : List Answer) → Goes w needs answers course.old (around (V.contents vault.old) (V.faults vault.old) (map (hearing W.heard W.coming W.pauses) watchers.old.items)) → Halts w needs code.now course.new (around (V.contents vault.new) (V.faults vault.new) (map (hearing W.heard W.coming W.pauses) watchers.new.items)) halt) }
+    ensures ranged { IfOk result (λ _. IsRanged course.new) }
+    ensures same { IfOk result (λ _. course.new.met ≡ course.old.met + 1) }
+{
+    let found = match answer_need(rt, alloc, workers, gate, vault, watchers, course, code) {
+        Ok(found) => found,
+        Err(halt) => return Err(halt),
+    };
+    match line_of(alloc, kind, &found.search, found.answer) {
+        Ok(line) => Ok(line),
+        Err(_) => Err(Halt::Stop(Stop::NoMemory)),
+    }
+}

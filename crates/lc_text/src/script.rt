@@ -1,0 +1,66 @@
+//! The text of a script, from its bytes.
+ghost use Rattle.std.specs.Prelude.{◌≡◌, ◌^◌, ◌<◌, ◌≤◌, ℕ, List, [], length, map, false, is_some, IsOk, MatchResult};
+ghost use Rattle.lc_algebra.specs.Matrix.{Matrix};
+ghost use Rattle.lc_io.specs.Watchers.{hearing};
+ghost use Rattle.lc_eval.specs.Built.{built_calls};
+ghost use Rattle.lc_session_rules.specs.Needs.{MeetsFirst};
+ghost use Rattle.lc_rounds.specs.Way.{around};
+ghost use Rattle.lc_rounds.specs.Going.{World, IsRanged, Goes};
+ghost use Rattle.lc_text.specs.Text.{Prints, EndsBefore};
+
+use crate::statements::{Text, ended, text_of};
+use lc_eval::Machine;
+use lc_io::{Gate, Vault, Watcher};
+use lc_parse::{ParseRefusal, parse};
+use lc_print::fault_line;
+use lc_rounds::{Course, Halt, Stop};
+use std::alloc::Global;
+use std::thread::Threads;
+
+/// The text that the bytes print as a script, with the rounds of the searches that it asks for. If they are no script it is one
+/// fault line, and a statement that is refused ends it with a fault line. No bytes have a text, unless a record
+/// is left.
+///
+/// There are 1 to 256 workers. The session has met no need, and the bytes ask for fewer than 70,000, as scripts of at most
+/// 1,048,576 bytes do.
+pub fn script_text<R: Threads + Sync, V: Vault, W: Watcher, G: Gate + Sync>(
+    rt: &R,
+    alloc: Global,
+    workers: u32,
+    gate: &G,
+    vault: &mut V,
+    watchers: &mut Vec<W>,
+    course: &mut Course,
+    bytes: &[u8],
+) -> Result<Text, Halt>
+    requires workers { (1 ≤ workers) × (workers ≤ 256) }
+    requires ranged { IsRanged course.old }
+    requires unmet { course.old.met ≡ 0 }
+    requires few { (needs : List Matrix) → MeetsFirst built_calls bytes.now needs → length needs < 70000 }
+    ensures ends { (w : World) → Goes w [] [] course.old (around (V.contents vault.old) (V.faults vault.old) (map (hearing W.heard W.coming W.pauses) watchers.old.items)) → MatchResult result
+        (λ t. Prints w bytes.now t course.new (around (V.contents vault.new) (V.faults vault.new) (map (hearing W.heard W.coming W.pauses) watchers.new.items)))
+        (λ halt. EndsBefore w bytes.now course.new (around (V.contents vault.new) (V.faults vault.new) (map (hearing W.heard W.coming W.pauses) watchers.new.items)) halt) }
+    ensures nothing { bytes.now ≡ [] → is_some course.old.current ≡ false → IsOk result }
+{
+    let script = match parse(alloc, bytes) {
+        Ok(script) => script,
+        Err(ParseRefusal::Fault { number, place }) => {
+            return match fault_line(alloc, number, place, &[]) {
+                Ok(line) => ended(course, line, true),
+                Err(_) => Err(Halt::Stop(Stop::NoMemory)),
+            };
+        }
+        Err(ParseRefusal::NoMemory) => return Err(Halt::Stop(Stop::NoMemory)),
+    };
+    let mut machine = Machine::start(alloc, script);
+    text_of(
+        rt,
+        alloc,
+        workers,
+        gate,
+        vault,
+        watchers,
+        course,
+        &mut machine,
+    )
+}

@@ -1,0 +1,116 @@
+//! The statements of a script, one after another.
+ghost use Rattle.std.specs.Prelude.{◌≡◌, ◌+◌, ◌^◌, ◌<◌, ◌≤◌, ℕ, List, [], length, map, take, true, false, is_some, IsOk, MatchResult};
+ghost use Rattle.lc_algebra.specs.Matrix.{Matrix};
+ghost use Rattle.lc_io.specs.Watchers.{hearing};
+ghost use Rattle.lc_parse.specs.Views.{statement_of};
+ghost use Rattle.lc_eval.specs.Built.{built_calls};
+ghost use Rattle.lc_session_rules.specs.Needs.{Needs};
+ghost use Rattle.lc_session_rules.specs.Session.{end_number};
+ghost use Rattle.lc_rounds.specs.Way.{around};
+ghost use Rattle.lc_rounds.specs.Going.{World, IsRanged, Goes};
+ghost use Rattle.lc_text.specs.Text.{Finishes, Ends};
+
+use crate::queries::need_line;
+use lc_eval::{Machine, Step};
+use lc_io::{Gate, Vault, Watcher};
+use lc_rounds::{Course, Halt, Stop};
+use std::alloc::Global;
+use std::thread::Threads;
+
+/// The text that a script prints.
+#[derive(Drop)]
+pub struct Text {
+    /// Its lines, one after another.
+    pub bytes: Vec<u8>,
+    /// Whether a fault ends it.
+    pub ends: bool,
+}
+
+impl Text {
+    /// 1 if a fault ends it, else 0.
+    pub fn number(&self) -> u8
+        ensures { result ≡ end_number self.now.ends }
+    {
+        if self.ends { 1 } else { 0 }
+    }
+}
+
+/// The text, unless a record of the checkpoint is left.
+pub(crate) fn ended(course: &Course, bytes: Vec<u8>, ends: bool) -> Result<Text, Halt>
+    ensures { MatchResult result (λ t. (is_some course.now.current ≡ false) × (t.bytes.items ≡ bytes.items) × (t.ends ≡ ends))
+        (λ h. (is_some course.now.current ≡ true) × (h ≡ Halt.Unfit (length course.now.pace.point.settled.items + 1) 0)) }
+{
+    if course.current.is_some() {
+        return Err(Halt::Unfit {
+            told: course.pace.point.settled.len() as u64 + 1,
+            found: 0,
+        });
+    }
+    Ok(Text { bytes, ends })
+}
+
+/// The text of the statements of a machine that has done none, with the rounds of the searches that they ask for. With no
+/// statement, and no record that is left, there is a text.
+///
+/// There are 1 to 256 workers. The session has met no need, and the statements ask for fewer than 70,000.
+pub(crate) fn text_of<R: Threads + Sync, V: Vault, W: Watcher, G: Gate + Sync>(
+    rt: &R,
+    alloc: Global,
+    workers: u32,
+    gate: &G,
+    vault: &mut V,
+    watchers: &mut Vec<W>,
+    course: &mut Course,
+    machine: &mut Machine,
+) -> Result<Text, Halt>
+    requires workers { (1 ≤ workers) × (workers ≤ 256) }
+    requires ranged { IsRanged course.old }
+    requires unmet { course.old.met ≡ 0 }
+    requires unbound { machine.old.bindings ≡ [] }
+    requires few { (n : ℕ) (needs : List Matrix) → Needs built_calls [] (take n (map statement_of machine.old.left)) needs → length needs < 70000 }
+    ensures ends { (w : World) → Goes w [] [] course.old (around (V.contents vault.old) (V.faults vault.old) (map (hearing W.heard W.coming W.pauses) watchers.old.items)) → MatchResult result
+        (λ t. Finishes w (map statement_of machine.old.left) t course.new (around (V.contents vault.new) (V.faults vault.new) (map (hearing W.heard W.coming W.pauses) watchers.new.items)))
+        (λ halt. Ends w (map statement_of machine.old.left) course.new (around (V.contents vault.new) (V.faults vault.new) (map (hearing W.heard W.coming W.pauses) watchers.new.items)) halt) }
+    ensures nothing { machine.old.left ≡ [] → is_some course.old.current ≡ false → IsOk result }
+{
+    let mut bytes = Vec::new(alloc);
+    'statements: loop {
+        let Ok(step) = machine.step(alloc) else {
+            return Err(Halt::Stop(Stop::NoMemory));
+        };
+        match step {
+            Step::Line(line) => {
+                if bytes.extend_from_slice(&line).is_err() {
+                    return Err(Halt::Stop(Stop::NoMemory));
+                }
+            }
+            Step::Silent => {}
+            Step::Need(query) => {
+                let line = match need_line(
+                    rt,
+                    alloc,
+                    workers,
+                    gate,
+                    vault,
+                    watchers,
+                    course,
+                    query.kind,
+                    &query.code,
+                ) {
+                    Ok(line) => line,
+                    Err(halt) => return Err(halt),
+                };
+                if bytes.extend_from_slice(&line).is_err() {
+                    return Err(Halt::Stop(Stop::NoMemory));
+                }
+            }
+            Step::Fault(line) => {
+                if bytes.extend_from_slice(&line).is_err() {
+                    return Err(Halt::Stop(Stop::NoMemory));
+                }
+                return ended(course, bytes, true);
+            }
+            Step::End => return ended(course, bytes, false),
+        }
+    }
+}
