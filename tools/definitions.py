@@ -57,8 +57,8 @@ class Module:
             if line.startswith("use "):
                 add_import(line, self.imports, self.aliases)
             elif line.startswith("-- "):
-                comment = line.lstrip("- ")
-            elif line.startswith(("pub ", "unfoldable ", "abbrev ")):
+                comment = (comment + " " + line.lstrip("- ")).strip()
+            elif line.startswith(("pub ", "unfoldable ", "abbrev ", "mutual")):
                 name = STARTS.match(line).group(2) if STARTS.match(line) else ""
                 is_mutual = name == "mutual"
                 if name and name != "mutual":
@@ -68,7 +68,7 @@ class Module:
                     order += 1
                 comment = ""
             elif line.strip():
-                signed = re.match(r"  pub ([A-Za-z_]\w*) : .*Type 0$", line)
+                signed = re.match(r"  pub (?:data |record )?([A-Za-z_]\w*)\b.* : ", line)
                 own = re.match(r"(?:  )?([A-Za-z_]\w*)\b", line)
                 if signed and is_mutual:
                     current = self.definitions.setdefault(signed.group(1), Definition(self.crate, self.name, signed.group(1), order))
@@ -76,8 +76,8 @@ class Module:
                 elif own and own.group(1) in self.definitions and not line.startswith("    "):
                     current = self.definitions[own.group(1)]
                 if current is not None:
-                    made = re.match(r"  ([A-Za-z_]\w*) :", line)
-                    if made and " data " in " " + current.text[0]:
+                    made = re.match(r"  (?:  )?([A-Za-z_]\w*) :", line)
+                    if made and current.text and re.search(r"\bdata ", current.text[0]):
                         self.makes[made.group(1)] = current.name
                     current.text.append(line)
         self.give_meanings(head)
@@ -155,6 +155,28 @@ def bound_of(calls, modules):
         if case and case.group(1) in calls:
             found |= made & set(NAME.findall(case.group(2)))
     return found
+
+
+def traits_of(crate):
+    """(trait, its meaning, its ghost members as (name, type, meaning)) for each public trait of a crate that has some."""
+    found, folder = [], os.path.join(ROOT, "crates", crate, "src")
+    for file in sorted(os.listdir(folder)):
+        comment, trait = [], None
+        for line in read(os.path.join(folder, file)).split("\n"):
+            ghost = re.match(r"    ghost (\w+): \{ (.*) \};", line)
+            opened = re.match(r"pub trait (\w+)", line)
+            if line.strip().startswith("///"):
+                comment.append(line.strip()[3:].strip())
+                continue
+            if opened:
+                trait = (opened.group(1), " ".join(comment), [])
+                found.append(trait)
+            elif ghost and trait:
+                trait[2].append((*ghost.groups(), " ".join(comment)))
+            elif line.startswith("}"):
+                trait = None
+            comment = []
+    return [trait for trait in found if trait[2]]
 
 
 class Sources:
@@ -269,12 +291,25 @@ def table(sources, keys):
     return lines
 
 
+def outside():
+    """What contracts see of the outside: the ghost members of the traits, whose meaning the clauses of the traits give."""
+    lines = ["", "## What contracts see of the outside", "",
+             "The ghost members of the traits of `lc_io`. The clauses of a trait's methods, in `crates/lc_io/src`, say what each does to them;",
+             "they hold of every type that is a source, a sink, a vault or a watcher.", "",
+             "| Trait | Member | Type | Meaning |", "|---|---|---|---|"]
+    for trait, _meaning, ghosts in traits_of("lc_io"):
+        for name, kind, meaning in ghosts:
+            lines.append("| `%s` | `%s` | `%s` | %s |" % (trait, name, kind, meaning.replace("|", "\\|")))
+    return lines
+
+
 def page(sources):
     lines = ["# What must be believed, clause by clause", "",
              "Made by `tools/definitions.py` from the sources; the repository's own checks compare it. For each public clause of the",
              "top call and of the laws it lists the definitions that it rests on, in reading order, each once: what an earlier clause",
              "lists is not listed again. `tools/definitions.py NAME CLAUSE` lists all that one clause rests on.",
              "[DEFINITIONS.md](DEFINITIONS.md) says how to read a definition, where each comes from and what evaluates it."]
+    lines += outside()
     clauses = sources.clauses()
     chosen = [c for c in clauses if (c[0], c[1]) in TOP] + [c for c in clauses if c[2] and (c[0], c[1]) not in TOP]
     seen, last = set(), None

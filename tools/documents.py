@@ -4,7 +4,7 @@
     tools/documents.py
 
 Prints a line for each of these that it doesn't find, and ends with 1 if there is one: the file of a link and its heading; a path
-in back quotes, as `tests/rows/` or `lc_poly/proofs/ListLaws`; in the tables of README.md and docs/MAP.md each name of a row about
+in back quotes, as `tests/rows/` or `lc_poly/proofs/ListLaws`; in the tables of docs/PROVED.md and docs/MAP.md each name of a row about
 crates, as a declaration or a clause of the row's crates; in docs/DEFINITIONS.md each definition, in the file of its row.
 """
 import glob
@@ -12,7 +12,7 @@ import os
 import re
 import sys
 
-DOCUMENTS = ["README.md", "SECURITY.md", "bench/README.md", "tests/README.md", "examples/README.md", *sorted(glob.glob("docs/*.md"))]
+DOCUMENTS = ["README.md", "CONTRIBUTING.md", "CHANGELOG.md", "SECURITY.md", "tools/README.md", "bench/README.md", "tests/README.md", "examples/README.md", *sorted(glob.glob("docs/*.md"))]
 LINK = re.compile(r"\]\(([^)#\s]*)(?:#([^)]+))?\)")
 PATH = re.compile(r"`((?:\./)?(?:tools|tests|docs|examples|bench|crates|\.ci|[a-z]+_[a-z_]+)/[^`\s]*)`")
 QUOTED = re.compile(r"`([^`]+)`")
@@ -102,7 +102,7 @@ def definitions(document):
 
 def main():
     missing = [f"{document}: {name}" for document in DOCUMENTS for kind in (links, paths) for name in kind(document)]
-    missing += [f"README.md: {name}" for name in clauses("README.md", 2)]
+    missing += [f"docs/PROVED.md: {name}" for name in clauses("docs/PROVED.md", 2)]
     missing += [f"docs/MAP.md: {name}" for name in clauses("docs/MAP.md", 2)]
     missing += [f"docs/DEFINITIONS.md: {name}" for name in definitions("docs/DEFINITIONS.md")]
     for line in missing:
