@@ -1,9 +1,9 @@
 #!/usr/bin/env python3
 """Runs a script, and explains its fault line if it has one.
 
-    tools/explain.py PROGRAM FILE        FILE may be - for standard input
+    tools/explain.py PROGRAM [ARGUMENT..] FILE        FILE may be - for standard input
 
-The text of the script goes to standard output as PROGRAM writes it. If a fault line ends it, an explanation follows on
+The text of the script goes to standard output as PROGRAM writes it, given these arguments and `run`. If a fault line ends it, an explanation follows on
 standard error: the line and the column, the source with a caret, what the number means, and what was expected there. The
 status is that of PROGRAM. The explanation follows the rules of docs/FORMATS.md; it is found by reading the script once
 more with tools/reference.py.
@@ -332,15 +332,16 @@ def fault_of(text):
 
 
 def main():
-    if len(sys.argv) != 3:
-        print("usage: explain.py PROGRAM FILE", file=sys.stderr)
+    if len(sys.argv) < 3:
+        print("usage: explain.py PROGRAM [ARGUMENT..] FILE", file=sys.stderr)
         return 2
+    program, file = sys.argv[1:-1], sys.argv[-1]
     try:
-        script = sys.stdin.buffer.read() if sys.argv[2] == "-" else open(sys.argv[2], "rb").read()
+        script = sys.stdin.buffer.read() if file == "-" else open(file, "rb").read()
     except OSError as error:
         print(f"codes: {error.filename}: {error.strerror}", file=sys.stderr)
         return 4
-    done = subprocess.run([sys.argv[1], "run"], input=script, stdout=subprocess.PIPE, check=False)
+    done = subprocess.run([*program, "run"], input=script, stdout=subprocess.PIPE, check=False)
     sys.stdout.buffer.write(done.stdout)
     sys.stdout.buffer.flush()
     if done.returncode == 1:
