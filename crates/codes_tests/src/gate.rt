@@ -1,6 +1,6 @@
 //! The workers and the gate of a session: a round whose reports are held at the gate until its other blocks have come there.
-use crate::vaults::{number_of, words_of};
-use lc_io::{Gate, MemorySink, MemorySource, NoMemory};
+use crate::vaults::{EMPTY, ends, status_of, words_of};
+use lc_io::{Gate, MemorySink, MemorySource, MemoryVault, NoMemory};
 use std::alloc::Global;
 use std::sync::atomic::{AtomicBool, AtomicU64, Ordering};
 use std::test::Fail;
@@ -11,24 +11,51 @@ const SCRIPT: &[u8] = b"MinimumDistance(BCHCode(63,7,GF(2)));";
 const TEXT: &[u8] =
     b"distance 7 word [0,0,0,0,0,0,0,0,1,0,0,0,0,0,0,0,0,0,0,0,0,0,0,0,0,0,0,0,0,0,0,0,0,0,0,0,0,0,0,0,0,0,0,0,0,1,1,1,0,0,0,1,1,0,0,0,0,1,0,0,0,0,0] blocks 2331\n";
 
-// The blocks of the messages of weight 3, which one round does: the first and the last one.
-const FIRST: u64 = 2;
+// What another program says of seed 12. The last of its rounds does three blocks.
+const SUMMARY: &[u8] =
+    b"summary seed 12 distance 7 word [0,0,1,0,0,0,1,0,0,0,0,0,0,0,1,0,1,1,0,0,0,0,0,1,0,0,0,0,0,0,0,0,0,0,0,0,0,0,0,0,1,0,0,0,0,0,0,0] blocks 9 rounds 7\n";
 
-const LAST: u64 = 5;
+// A session: its script, its text, and the first and the last block of a round that it does, with the flags of its blocks.
+struct Row {
+    script: &'static [u8],
+    text: &'static [u8],
+    first: u64,
+    last: u64,
+    flags: u64,
+}
 
-// The flags of these blocks.
-const ALL: u64 = 0b11_1100;
+// The blocks of this round are those of the messages of weight 3.
+const SEARCH: Row = Row {
+    script: SCRIPT,
+    text: TEXT,
+    first: 2,
+    last: 5,
+    flags: 0b11_1100,
+};
+
+// Those of weight 4 of the first information set.
+const OF_A_SEED: Row = Row {
+    script: EMPTY,
+    text: SUMMARY,
+    first: 6,
+    last: 8,
+    flags: 0b1_1100_0000,
+};
 
 // The flags of two workers, whose numbers are 0 and 1.
 const BOTH: u64 = 0b11;
 
 // How often a gate looks at the flags.
-const TURNS: u64 = 1 << 30;
+const TURNS: u64 = 1 << 26;
 
-// A gate that holds the report of one block until the three other blocks have come to it. It keeps whether they came, and which
-// workers did.
+// How often a session is tried until its other blocks come in time, since a busy machine may not run the other worker meanwhile.
+const TRIES: u64 = 200;
+
+// A gate that holds the report of one block until the other blocks of the round have come to it. It keeps whether they came, and
+// which workers did.
 #[derive(Drop)]
 struct WaitingGate {
+    flags: u64,
     held: u64,
     blocks: AtomicU64,
     workers: AtomicU64,
@@ -36,8 +63,9 @@ struct WaitingGate {
 }
 
 impl WaitingGate {
-    fn holding(held: u64) -> WaitingGate {
+    fn holding(row: &Row, held: u64) -> WaitingGate {
         WaitingGate {
+            flags: row.flags,
             held,
             blocks: AtomicU64::new(0),
             workers: AtomicU64::new(0),
@@ -48,7 +76,7 @@ impl WaitingGate {
     // Looks at the flags until all are there.
     fn wait(&self) {
         for _ in 0..TURNS {
-            if self.blocks.load(Ordering::SeqCst) == ALL {
+            if self.blocks.load(Ordering::SeqCst) == self.flags {
                 self.met.store(true, Ordering::SeqCst);
                 return;
             }
@@ -64,10 +92,11 @@ impl WaitingGate {
 impl Gate for WaitingGate {
     fn before_report(&self, worker: u32, block: u64) {
         self.workers.fetch_or(1 << worker.min(2), Ordering::SeqCst);
-        if block < FIRST || block > LAST {
+        if block > 63 {
             return;
         }
-        self.blocks.fetch_or(1 << block, Ordering::SeqCst);
+        self.blocks
+            .fetch_or(self.flags & (1 << block), Ordering::SeqCst);
         if block == self.held {
             self.wait();
         }
@@ -80,32 +109,74 @@ fn writes_the_text<R: Threads + Sync>(
     alloc: Global,
     words: &[String],
     source: &mut MemorySource,
+    vault: &mut MemoryVault,
     gate: &WaitingGate,
+    text: &[u8],
 ) -> Result<bool, NoMemory> {
     let mut sink = MemorySink::new(alloc, 256, 64, &[])?;
-    Ok(number_of(rt, alloc, words, source, &mut sink, gate)? == 0 && sink.bytes() == TEXT)
+    Ok(
+        status_of(rt, alloc, words, source, &mut sink, vault, gate).number() == 0
+            && sink.bytes() == text,
+    )
 }
 
-// Whether it does so on the script.
+// Whether it does so on the script of the row.
 fn answers<R: Threads + Sync>(
     rt: &R,
     alloc: Global,
     words: &[String],
+    vault: &mut MemoryVault,
     gate: &WaitingGate,
+    row: &Row,
 ) -> Result<bool, NoMemory> {
-    let mut source = MemorySource::new(alloc, SCRIPT, 64, &[])?;
-    writes_the_text(rt, alloc, words, &mut source, gate)
+    let mut source = MemorySource::new(alloc, row.script, 64, &[])?;
+    writes_the_text(rt, alloc, words, &mut source, vault, gate, row.text)
 }
 
-// Whether two workers of a session come to a gate that holds this block.
+// What is seen of a session: another text than it must write, or the text, and whether two workers came to the gate.
+#[derive(Clone, Copy)]
+enum Seen {
+    Wrong,
+    One,
+    Two,
+}
+
+// What is seen of a session while the report of this block is held.
+fn seen_at_the_gate<R: Threads + Sync>(
+    rt: &R,
+    alloc: Global,
+    words: &[String],
+    vault: &mut MemoryVault,
+    row: &Row,
+    held: u64,
+) -> Result<Seen, NoMemory> {
+    let gate = WaitingGate::holding(row, held);
+    if !answers(rt, alloc, words, vault, &gate, row)? {
+        return Ok(Seen::Wrong);
+    }
+    if gate.is_met() {
+        return Ok(Seen::Two);
+    }
+    Ok(Seen::One)
+}
+
+// Whether each session writes the text, and two workers come to the gate of one that holds this block.
 fn is_passed_by_two<R: Threads + Sync>(
     rt: &R,
     alloc: Global,
     words: &[String],
+    vault: &mut MemoryVault,
+    row: &Row,
     held: u64,
 ) -> Result<bool, NoMemory> {
-    let gate = WaitingGate::holding(held);
-    Ok(answers(rt, alloc, words, &gate)? && gate.is_met())
+    for _ in 0..TRIES {
+        match seen_at_the_gate(rt, alloc, words, vault, row, held)? {
+            Seen::Wrong => return Ok(false),
+            Seen::Two => return Ok(true),
+            Seen::One => (),
+        }
+    }
+    Ok(false)
 }
 
 // Whether they come to each gate that holds a block of the round.
@@ -113,19 +184,80 @@ fn are_passed_by_two<R: Threads + Sync>(
     rt: &R,
     alloc: Global,
     words: &[String],
+    vault: &mut MemoryVault,
+    row: &Row,
 ) -> Result<bool, NoMemory> {
-    for held in FIRST..=LAST {
-        if !is_passed_by_two(rt, alloc, words, held)? {
+    for held in row.first..=row.last {
+        if !is_passed_by_two(rt, alloc, words, vault, row, held)? {
             return Ok(false);
         }
     }
     Ok(true)
 }
 
+// Whether they do so of sessions with these arguments.
+fn sessions_are_passed_by_two<R: Threads + Sync>(
+    rt: &R,
+    alloc: Global,
+    texts: &[&str],
+    vault: &mut MemoryVault,
+    row: &Row,
+) -> Result<bool, Fail> {
+    let words = words_of(alloc, texts)?;
+    Ok(are_passed_by_two(rt, alloc, &words, vault, row)?)
+}
+
 // A session that starts one worker, or passes another gate, fails for each of the blocks that are held.
 #[test]
 fn two_workers_come_to_the_gate_of_a_session(rt: HostRuntime) -> Result<(), Fail> {
-    let words = words_of(rt.alloc(), &["run", "workers=2"])?;
-    assert!(rt; are_passed_by_two(&rt, rt.alloc(), &words)?);
+    let mut vault = MemoryVault::new(rt.alloc(), 0, &[])?;
+    assert!(rt;
+        sessions_are_passed_by_two(&rt, rt.alloc(), &["run", "workers=2"], &mut vault, &SEARCH)?
+    );
+    Ok(())
+}
+
+#[test]
+fn two_workers_come_to_the_gate_of_a_summary(rt: HostRuntime) -> Result<(), Fail> {
+    let mut vault = MemoryVault::new(rt.alloc(), 0, &[])?;
+    assert!(rt;
+        sessions_are_passed_by_two(
+            &rt,
+            rt.alloc(),
+            &["summary", "seed=12", "workers=2"],
+            &mut vault,
+            &OF_A_SEED
+        )?
+    );
+    Ok(())
+}
+
+// Whether a session with one worker does one block of the search, and keeps its checkpoint.
+fn pauses<R: Threads + Sync>(rt: &R, alloc: Global, vault: &mut MemoryVault) -> Result<bool, Fail> {
+    ends(
+        rt,
+        alloc,
+        &["run", "keep=yes", "slice=1"],
+        SCRIPT,
+        vault,
+        EMPTY,
+        b"codes: paused at query 0 blocks 1\n",
+    )
+}
+
+// The arguments of the session that goes on count, and not those of the one that paused.
+#[test]
+fn two_workers_come_to_the_gate_of_a_session_that_goes_on(rt: HostRuntime) -> Result<(), Fail> {
+    let mut vault = MemoryVault::new(rt.alloc(), 512, &[])?;
+    assert!(rt; pauses(&rt, rt.alloc(), &mut vault)?);
+    assert!(rt;
+        sessions_are_passed_by_two(
+            &rt,
+            rt.alloc(),
+            &["resume", "workers=2"],
+            &mut vault,
+            &SEARCH
+        )?
+    );
     Ok(())
 }

@@ -21,7 +21,10 @@ const LAST: u64 = 5;
 const ALL: u64 = 0b11_1100;
 
 // How often a gate looks at the flags.
-const TURNS: u64 = 1 << 30;
+const TURNS: u64 = 1 << 26;
+
+// How often a search is tried until its other blocks come in time, since a busy machine may not run the other worker meanwhile.
+const TRIES: u64 = 200;
 
 // A gate that holds the report of one block until the three other blocks have come to it, and keeps whether they came.
 #[derive(Drop)]
@@ -76,7 +79,41 @@ fn search_through<R: Threads + Sync>(
     run(rt, alloc, &mut search, 2, u64::MAX, gate)
 }
 
-// Whether a search with two workers is so answered, and the other blocks come while the report of one is held.
+// What is seen of a search: another answer than it must have, or the answer, and whether the other blocks came while one was held.
+#[derive(Clone, Copy)]
+enum Seen {
+    Wrong,
+    Apart,
+    Together,
+}
+
+// What is seen of a search with two workers, while the report of this block is held.
+fn seen_at_the_gate<R: Threads + Sync>(
+    rt: &R,
+    alloc: Global,
+    code: &Code,
+    held: u64,
+) -> Result<Seen, NoMemory>
+    requires dimension { 0 < length code.now.rows }
+{
+    let gate = WaitingGate::holding(held);
+    let answer = search_through(rt, alloc, code, &gate)?;
+    if answer
+        != (Answer::Exact {
+            weight: 7,
+            place: 8,
+            blocks: 2_331,
+        })
+    {
+        return Ok(Seen::Wrong);
+    }
+    if gate.met.load(Ordering::SeqCst) {
+        return Ok(Seen::Together);
+    }
+    Ok(Seen::Apart)
+}
+
+// Whether each search is so answered, and in one of them the other blocks come while the report of this one is held.
 fn come_to_the_gate<R: Threads + Sync>(
     rt: &R,
     alloc: Global,
@@ -85,21 +122,18 @@ fn come_to_the_gate<R: Threads + Sync>(
 ) -> Result<bool, NoMemory>
     requires dimension { 0 < length code.now.rows }
 {
-    let gate = WaitingGate::holding(held);
-    let answer = search_through(rt, alloc, code, &gate)?;
-    Ok(
-        gate.met.load(Ordering::SeqCst)
-            && answer
-                == Answer::Exact {
-                    weight: 7,
-                    place: 8,
-                    blocks: 2_331,
-                },
-    )
+    for _ in 0..TRIES {
+        match seen_at_the_gate(rt, alloc, code, held)? {
+            Seen::Wrong => return Ok(false),
+            Seen::Together => return Ok(true),
+            Seen::Apart => (),
+        }
+    }
+    Ok(false)
 }
 
 // A body that does the blocks of a round one after another, or gives each worker blocks of its own beforehand, fails for one
-// of the blocks that are held.
+// of the blocks that are held, however often it is tried.
 #[test]
 fn blocks_come_to_the_gate_while_another_is_held(rt: HostRuntime) -> Result<(), Fail> {
     let code = code_of(&rt, rt.alloc(), &BCH_63)?;
