@@ -95,6 +95,26 @@ a_copy_to_read_only() {
     { cat examples/hamming.out && echo 'status 0'; } | cmp - "$room/out" && [ ! -e "$copy/out" ]
 }
 
+# at a terminal it says that it waits, and answers after Ctrl-D
+at_a_terminal() {
+    python3 -B - "$copy/codes" >"$room/out" <<'PY'
+import os, pty, sys
+child, terminal = pty.fork()
+if child == 0:
+    os.execv(sys.argv[1], [sys.argv[1], "run"])
+os.write(terminal, b"Weight([1]);\n\x04")
+said = b""
+try:
+    while piece := os.read(terminal, 4096):
+        said += piece
+except OSError:
+    pass
+os.waitpid(child, 0)
+sys.stdout.write(said.decode())
+PY
+    grep -q '^codes: type a script, and end it with Ctrl-D' "$room/out" && grep -qx $'1\r' "$room/out"
+}
+
 # mistakes: each ends with its status and one line, though there is neither a program nor a kit
 mistakes() {
     local word
@@ -115,6 +135,13 @@ installs() {
     local level
     wrapped 0 "$room/nothing" '^codes: installed .*/bin/codes, for x86-64-v[23], and its manual page$' install "$room/prefix" &&
         cmp "$room/prefix/share/man/man1/codes.1" docs/codes.1 && level=$(sed -nE 's/.* for (x86-64-v.), .*/\1/p' "$room/said") && cmp "$room/prefix/bin/codes" "$copy/release/codes-$level"
+}
+
+# the first block of docs/CLUSTER.md, at the top of the copy: four folders, each with a script that is read
+folders_of_a_list() {
+    local folder
+    (cd "$copy" && awk '/^```/ { if (inside) exit; inside = /^```sh$/; next } inside' docs/CLUSTER.md | sh -e && [ "$(wc -l <folders.txt)" -eq 4 ] &&
+        while read -r folder; do "$program" run budget=0 <"$folder/script.codes" 2>/dev/null | grep -q '^distance between' || exit 1; done <folders.txt)
 }
 
 explains_without_a_kit() { codes_there explain "$PWD/tests/explain/near_name.codes" >"$room/out" 2>"$room/err"; [ $? -eq 1 ] && cmp "$room/out" tests/explain/near_name.out && grep -q 'did you mean' "$room/err"; }
@@ -154,8 +181,10 @@ check_wrapper() {
     check 'codes: a folder out/ of a crate is no source' a_folder_of_a_build
     check 'codes: what was proved here is taken' what_is_proved_here
     check 'codes: a copy that can only be read answers' a_copy_to_read_only
+    check 'codes: at a terminal it says that it waits' at_a_terminal
     check 'codes: mistakes end at once' mistakes
     check 'codes: install' installs
     check 'codes: explain' explains_without_a_kit
     check 'codes: a build that is stopped leaves nothing' a_build_that_is_stopped
+    check 'docs/CLUSTER.md: folders for a list of codes' folders_of_a_list
 }

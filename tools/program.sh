@@ -68,26 +68,26 @@ describe() {
     } >"$1/MADE"
 }
 
-# is_current FOLDER LEVEL: whether the folder has the program for that level, made of the sources as they are. What was found so is
-# kept, as an empty file in out/ that is older than what was read; then only the times of the files are looked at. `sum` keeps the
-# checksum of the sources, and `why` says what is the matter.
+# is_current FOLDER LEVEL: whether the folder has the program for that level, made of the sources as they are. A file of out/ keeps the
+# signature of all files for which that was found by their checksums. `sum` keeps the checksum of the sources, and `why` says what is
+# the matter.
 is_current() {
     why='there is no program of the sources in crates/'
     [ -f "$1/MADE" ] || return 1
     why="there is no program of the sources for $2"
     [ -f "$1/codes-$2" ] || return 1
     seen=$top/out/seen-${1##*/}-$2
-    is_as_seen "$1" "$2" "$seen" && return
-    # a folder that can't be written has none of this, and is read each time
-    mkdir -p "$top/out" 2>/dev/null && touch "$seen.$$" 2>/dev/null
-    says_so "$1" "$2" || { rm -f "$seen.$$"; return 1; }
-    [ ! -f "$seen.$$" ] || mv "$seen.$$" "$seen"
+    signature=$(signature "$1" "$2")
+    [ -n "$signature" ] && [ "$(cat "$seen" 2>/dev/null)" = "$signature" ] && return
+    says_so "$1" "$2" || return 1
+    # what can't be written here is found by the checksums again
+    [ -z "$signature" ] || (mkdir -p "$top/out" && echo "$signature" >"$seen.$$" && mv "$seen.$$" "$seen") 2>/dev/null || :
 }
 
-# is_as_seen FOLDER LEVEL SEEN: whether nothing was changed since the file SEEN was made
-is_as_seen() {
-    [ -f "$3" ] || return 1
-    changed=$(source_files -cnewer "$3" -print && find "$1/MADE" "$1/SHA256SUMS" "$1/codes-$2" -cnewer "$3") 2>/dev/null && [ -z "$changed" ]
+# signature FOLDER LEVEL: of the name, the number, the size and the time of change of each file; nothing if `find` doesn't print these
+signature() {
+    form='%p %i %s %C@\n'
+    files=$({ source_files -type f -printf "$form" && find "$1/MADE" "$1/SHA256SUMS" "$1/codes-$2" -printf "$form"; } 2>/dev/null) && echo "$files" | sum_of_input
 }
 
 # says_so FOLDER LEVEL: the same by the checksums
