@@ -173,8 +173,13 @@ build() {
         cp "$1/crates/codes/out/codes" "$3"
         return
     fi
-    in_room compile "$1" "$2" "$room/tmp/codes.o" >"$room/tmp/log" 2>&1 </dev/null || { tail -n 20 "$room/tmp/log" >&2; return 1; }
-    "$kit/bin/rattle-link" --target x86_64-unknown-linux-gnu --toolchain "$kit/toolchain" -o "$3" "$room/tmp/codes.o" "$kit/c/libos_c.a" "$kit/c/liblibc_c.a" >/dev/null
+    { in_room compile "$1" "$2" "$room/tmp/codes.o" </dev/null && link "$room/tmp/codes.o" "$3"; } >"$room/tmp/log" 2>&1 && return
+    tail -n 20 "$room/tmp/log" >&2
+    return 1
+}
+
+link() {
+    "$kit/bin/rattle-link" --target x86_64-unknown-linux-gnu --toolchain "$kit/toolchain" -o "$2" "$1" "$kit/c/libos_c.a" "$kit/c/liblibc_c.a"
 }
 
 # compile TREE LEVEL FILE: checks the crate `codes` over the proved libraries of a tree, and compiles it
