@@ -86,7 +86,8 @@ a_copy_to_read_only() {
     local as=()
     if [ "$(id -u)" -eq 0 ]; then
         as=(setpriv --reuid=65534 --regid=65534 --clear-groups)
-        "${as[@]}" "$program" --version >/dev/null 2>&1 || return 0 # nobody may not run the program
+        # (by a shell: setpriv itself may run what nobody may not)
+        "${as[@]}" sh -c 'exec "$0" --version' "$program" >/dev/null 2>&1 || return 0 # nobody may not run the program
     fi
     rm -rf "$copy/out" && chmod -R a-w "$copy"
     PATH=$room/bin:$PATH RATTLE_KIT=/nowhere "${as[@]}" "$copy/codes" run <examples/hamming.codes >"$room/out" 2>"$room/err"
