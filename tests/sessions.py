@@ -326,6 +326,40 @@ def earlier_versions(checks, program):
             checks.that((state['version'], state['turn'], state['blocks']) == (2, turn, last), 'version 1: the last checkpoint %s' % state)
 
 
+def long_checkpoints(checks, program):
+    """Checkpoints of 5,000 bytes, as a script of 600 searches leaves them, and one of 320,000, as another program may write it."""
+    begin, search = b'C := HammingCode(3,GF(2));\n', b'MinimumDistance(C);\n'
+    line, record = b'distance 3 word [1,0,0,0,0,1,1] blocks 2\n', [2, 3, 0]
+    with Folder(program, begin + search * 600, 1 << 20) as folder:
+        status, out, _, count = in_slices(folder, 500)
+        checks.that((status, out, count) == (DONE, line * 600, 3), '600 searches in slices: status %d after %d sessions' % (status, count))
+        slots = folder.both()
+        checks.that(all(is_sealed(slot) and len(slot) > 4096 for slot in slots), 'long checkpoints: %s bytes' % [len(s) for s in slots])
+        state = body_in(max(slots, key=len))
+    with Folder(program, begin + search * 40000, 1 << 20) as folder:
+        digest = hashlib.sha256(folder.script).hexdigest()
+        folder.write(1, sealed({**state, 'script': digest, 'turn': 1, 'done': [record] * 39999}))
+        status, out, _ = folder.session('resume', 'keep=yes')
+        checks.that((status, out) == (DONE, line * 40000), 'a checkpoint of 320,000 bytes: status %d, %d bytes' % (status, len(out)))
+        checks.that(is_sealed(folder.read(0)) and len(folder.read(0)) > 300000, 'the checkpoint after it: %d bytes' % len(folder.read(0)))
+
+
+def links(checks, program):
+    """Links at the names of the files that a store makes. They are replaced, and what they name stays as it was."""
+    text = b'distance 7 word ' + GOLAY_WORD + b'] blocks 6\n'
+    for name in ('codes.slot0', 'codes.slot1', 'codes.slot0.new', 'codes.slot1.new'):
+        with Folder(program, GOLAY, 1 << 20) as folder, tempfile.TemporaryDirectory() as elsewhere:
+            other = os.path.join(elsewhere, 'other')
+            with open(other, 'w') as file:
+                file.write('no slot\n')
+            os.symlink(other, os.path.join(folder.path, name))
+            status, out, _ = folder.session('run', 'keep=yes')
+            with open(other) as file:
+                kept = file.read() == 'no slot\n'
+            linked = any(os.path.islink(folder.slot(i)) for i in (0, 1))
+            checks.that((status, out, kept, linked) == (DONE, text, True, False), 'a link at %s: status %d' % (name, status))
+
+
 # no file grows: what a full disk does to a session
 NO_ROOM = ('bash', '-c', 'trap "" XFSZ; ulimit -f 0; exec "$@"', 'no_room')
 NOBODY = 65534
@@ -438,7 +472,8 @@ def main():
     parts = [lambda seed=seed: kill_at_random(checks, program, budget, -(-kills // LANES), seed) for seed in range(LANES)]
     for part in (stop_file, slices, changed_slots, full_disk, read_only_folder, faulty_folders, record_lines):
         parts.append(lambda part=part: part(checks, program, budget))
-    parts += [lambda: earlier_versions(checks, program), lambda: example(checks, program)]
+    for part in (earlier_versions, example, long_checkpoints, links):
+        parts.append(lambda part=part: part(checks, program))
     for call, error in FAULTS.items():
         for what in ('signal=KILL', 'error=' + error):
             parts.append(lambda call=call, what=what: at_each_call(checks, program, call, what))

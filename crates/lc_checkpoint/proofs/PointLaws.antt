@@ -6,9 +6,10 @@
 --   no_keys, no_script, no_turn, no_current, no_done, state_read      the state in a body
 --   no_version, version_other, no_budget, no_state, state_known      the version and the budget
 --   is_damaged, no_body, body_is      the body
+--   body_undamaged, sealed_undamaged      a body is never damaged, so bytes that are damaged have no seal
 --   read_ranged              what was read is in range
 use Rattle.std.proofs.Common.{◌≡◌, ℕ, suc, zero, ◌-◌, ◌^◌, ◌<◌, ◌≤◌, ◌==◌, ◌&&◌, ◌||◌, Bool, true, false, not, nat_le, List, [], ◌∷◌, ◌++◌, length, get_or, take, drop, codes, Option, Some, None, option_map, option_and_then, refl, sym, ap, ◌∙◌, arith}
-use Rattle.std.specs.Prelude.{if◌then◌else◌, Result, Ok, Err, IfOk}
+use Rattle.std.specs.Prelude.{if◌then◌else◌, Result, Ok, Err, IfOk, IsErrOf}
 use Rattle.std.proofs.lemmas.Bool.{le-leb, lt-leb, and_from, and_right}
 use Rattle.sha2.specs.Sha256.{sha256}
 use Rattle.hex.specs.Hex.{encode_lower}
@@ -24,6 +25,7 @@ use Rattle.lc_formats.proofs.CheckpointRange.{checkpoint_ranged}
 use Rattle.lc_json.specs.Inside.{members_in}
 use Rattle.lc_checkpoint.specs.declared.checkpoint.Checkpoint as made
 use Rattle.lc_checkpoint.specs.declared.refusal.CheckpointRefusal.{CheckpointRefusal}
+use Rattle.lc_checkpoint.specs.declared.refusal.CheckpointRefusal.TheVariants.{Damaged}
 use Rattle.lc_checkpoint.specs.Seen.{settled_of, point_of}
 use Rattle.lc_checkpoint.specs.Reading.{current_from, current_in}
 
@@ -247,6 +249,37 @@ pub body_is : (bytes : List ℕ) (d : Data) → is_whole bytes ≡ true → Some
 unfolding checkpoint_in
 body_is bytes d e h = ap (λ b. if b then body_in (json_in (drop 65 bytes)) else refused damaged) e ∙ ap body_in (sym h) ∙ body_members d
 
+other_undamaged : (v : ℕ) → refused (other_version v) ≡ refused damaged → ⊥
+other_undamaged v e = cc
+
+option_undamaged : (o : Option Checkpoint) → point_or_shape o ≡ refused damaged → ⊥
+unfolding point_or_shape
+option_undamaged None e = cc
+option_undamaged (Some p) e = cc
+
+either_undamaged : (b : Bool) (x y : ReadCheckpoint) → (x ≡ refused damaged → ⊥) → (y ≡ refused damaged → ⊥) → (if b then x else y) ≡ refused damaged → ⊥
+either_undamaged true x y f g e = f e
+either_undamaged false x y f g e = g e
+
+versioned_undamaged : (ms : Members) (o : Option ℕ) → versioned ms o ≡ refused damaged → ⊥
+unfolding versioned
+versioned_undamaged ms None e = cc
+versioned_undamaged ms (Some v) e = either_undamaged ((v == 1) || (v == 2)) _ _ (option_undamaged _) (other_undamaged v) e
+
+pub body_undamaged : (o : Option Data) → body_in o ≡ refused damaged → ⊥
+unfolding body_in
+body_undamaged None e = cc
+body_undamaged (Some null) e = cc
+body_undamaged (Some (boolean b)) e = cc
+body_undamaged (Some (number n)) e = cc
+body_undamaged (Some (string s)) e = cc
+body_undamaged (Some (array ds)) e = cc
+body_undamaged (Some (object ms)) e = versioned_undamaged ms _ e
+
+pub sealed_undamaged : (bytes : List ℕ) (r : Result made.Checkpoint CheckpointRefusal) → is_whole bytes ≡ true → checkpoint_in bytes ≡ refused damaged → IsErrOf r Damaged
+unfolding checkpoint_in
+sealed_undamaged bytes r e h = absurd (body_undamaged (json_in (drop 65 bytes)) (sym (ap (λ b. if b then body_in (json_in (drop 65 bytes)) else refused damaged) e) ∙ h))
+
 pub read_ranged : (bytes : List ℕ) (d : Data) (r : Result made.Checkpoint CheckpointRefusal) → is_whole bytes ≡ true → Some d ≡ json_in (drop 65 bytes) → IfOk r (λ p. versioned (members_in d) (number_at (codes "version") (members_in d)) ≡ point (point_of p)) → IfOk r (λ p. IsInRange (point_of p))
 read_ranged bytes d (Ok p) w h e = checkpoint_ranged bytes (point_of p) (body_is bytes d w h ∙ e)
 read_ranged bytes d (Err x) w h e = e
@@ -263,4 +296,4 @@ pub ruleset state_of_laws = (no_keys, no_script, no_turn, no_current, no_done, s
 
 pub ruleset point_from_laws = (no_version, version_other, no_budget, no_state, state_known)
 
-pub ruleset decode_laws = (is_damaged, no_body, body_is)
+pub ruleset decode_laws = (is_damaged, no_body, body_is, sealed_undamaged)

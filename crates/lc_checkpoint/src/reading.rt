@@ -1,8 +1,8 @@
 //! How bytes are read as a checkpoint.
-ghost use Rattle.std.specs.Prelude.{◌≡◌, ◌≤◌, ◌==◌, ◌||◌, map, length, codes, Option, option_map, option_and_then, IfOk, IfErr, IsTrue};
+ghost use Rattle.std.specs.Prelude.{◌≡◌, ◌≤◌, ◌==◌, ◌||◌, map, length, codes, Option, option_map, option_and_then, IfOk, IfErr, IsErrOf, IsTrue};
 ghost use Rattle.serde_json.specs.View.{view};
 ghost use Rattle.lc_formats.specs.Json.{number_at, numbers_of, plain_number, each};
-ghost use Rattle.lc_formats.specs.Checkpoint.{checkpoint_in, point, is_whole, number_up_to, triple_of, is_in_range, settled_in, script_in, done_in, state_in, versioned, IsInRange};
+ghost use Rattle.lc_formats.specs.Checkpoint.{checkpoint_in, point, refused, damaged, is_whole, number_up_to, triple_of, is_in_range, settled_in, script_in, done_in, state_in, versioned, IsInRange};
 ghost use Rattle.lc_json.specs.Inside.{members_in};
 ghost use Rattle.lc_checkpoint.specs.Seen.{settled_of, point_of};
 ghost use Rattle.lc_checkpoint.specs.Reading.{IsRefusedAs, current_in};
@@ -248,12 +248,13 @@ fn point_from(alloc: Global, body: &Value) -> Result<Checkpoint, CheckpointRefus
 /// Refused with `Damaged` exactly if there are fewer than 65 or more than 4,194,304 bytes or they don't begin with the 64
 /// digits of the SHA-256 (FIPS 180-4) of the rest and a newline; else with `Shape` if the body is no JSON object with a whole
 /// number for its version, with `Version` if that is neither 1 nor 2, and with `Shape` if a key is missing or foreign, or a
-/// value is out of range.
+/// value is out of range. Bytes that are damaged are refused before any memory is taken.
 #[tactic(auto, using(crate::proofs::PointLaws::decode_laws))]
 pub fn decode(alloc: Global, bytes: &[u8]) -> Result<Checkpoint, CheckpointRefusal>
     ensures is { IfOk result (λ p. checkpoint_in bytes.now ≡ point (point_of p)) }
     ensures refused { IfErr result (λ e. IsRefusedAs e (checkpoint_in bytes.now)) }
     ensures ranged { IfOk result (λ p. IsInRange (point_of p)) }
+    ensures damaged { checkpoint_in bytes.now ≡ refused damaged → IsErrOf result CheckpointRefusal.Damaged }
 {
     if !is_whole(bytes) {
         return Err(CheckpointRefusal::Damaged);

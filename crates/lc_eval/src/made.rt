@@ -1,6 +1,8 @@
 //! A field, a code, the rows of a code and the weight of a word, as what calls give.
 ghost use Rattle.std.specs.Prelude.{◌≡◌, ◌≢◌, ℕ, [], Err, None, IfOk, IfErr};
 ghost use Rattle.lc_constructions.specs.Refusal.{refusal_values};
+ghost use Rattle.lc_algebra.specs.declared.FieldName.{FieldName};
+ghost use Rattle.lc_algebra.specs.Field.{size};
 ghost use Rattle.lc_algebra.specs.Word.{weight as weight_of};
 ghost use Rattle.lc_language.specs.Calls as bound;
 ghost use Rattle.lc_language.specs.Value as language;
@@ -49,10 +51,11 @@ pub(crate) fn made(
     }
 }
 
-/// The field with a number of elements.
+/// The field with a number of elements. That there is none is answered whether or not there is memory.
 #[tactic(auto, using(crate::proofs::CallLaws::gf_field, crate::proofs::CallLaws::gf_refused))]
 pub(crate) fn gf(alloc: Global, stock: &mut Stock, place: usize, q: u64) -> Result<Value, Stop>
-    ensures { Answers result (AppliesTo place (bound.gf q)) }
+    ensures is { Answers result (AppliesTo place (bound.gf q)) }
+    ensures told { ((f : FieldName) → size f ≢ q) → result ≢ Err Stop.NoMemory }
 {
     match stock.field(alloc, q) {
         Ok(field) => Ok(Value::Field(field)),

@@ -1,5 +1,5 @@
 //! What a script has made and may need again.
-ghost use Rattle.std.specs.Prelude.{◌≡◌, ◌≢◌, ℕ, None, Some, IfOk, IfSome, IsTrue};
+ghost use Rattle.std.specs.Prelude.{◌≡◌, ◌≢◌, ◌↔◌, ℕ, None, Some, IfOk, IfSome, IsTrue};
 ghost use Rattle.std.proofs.Props.{props};
 ghost use Rattle.std.specs.Result.{IsErrOf};
 ghost use Rattle.lc_algebra.specs.declared.FieldName.{FieldName};
@@ -34,10 +34,10 @@ impl Stock {
         }
     }
 
-    /// The field of `q` elements; `NotAField` only if there is none.
+    /// The field of `q` elements; `NotAField` exactly if there is none.
     pub(crate) fn field(&mut self, alloc: Global, q: u64) -> Result<Rc<Field>, FieldRefusal>
         ensures size { IfOk result (λ f. size f.value ≡ q) }
-        ensures refused { IsErrOf result refusal.NotAField → (f : FieldName) → size f ≢ q }
+        ensures refused { IsErrOf result refusal.NotAField ↔ ((f : FieldName) → size f ≢ q) }
     {
         for field in &self.fields {
             if u64::from(field.size()) == q {

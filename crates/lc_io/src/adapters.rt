@@ -95,6 +95,13 @@ impl<W: Write> WriterSink<W> {
     {
         WriterSink { writer, faults: 0 }
     }
+
+    // The writer.
+    pub(crate) fn get_ref(&self) -> &W
+        ensures { result.now ≡ self.now.inner }
+    {
+        &self.writer
+    }
 }
 
 impl<W: Write> Sink for WriterSink<W> {

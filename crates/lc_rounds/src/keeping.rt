@@ -1,5 +1,5 @@
 //! How a checkpoint is kept.
-ghost use Rattle.std.specs.Prelude.{◌≡◌, length, OnOk, IfErr};
+ghost use Rattle.std.specs.Prelude.{◌≡◌, false, length, IsOk, OnOk, IfErr};
 ghost use Rattle.hex.specs.Hex.{IsBytes};
 ghost use Rattle.lc_formats.specs.Checkpoint.{checkpoint_text, IsWritable};
 ghost use Rattle.lc_checkpoint.specs.Seen.{point_of};
@@ -42,7 +42,7 @@ pub(crate) fn has_bytes(digest: &[u8; 32])
     are_bytes(digest);
 }
 
-// Stores the checkpoint in the slot of its turn, if it is to be kept.
+// Stores the checkpoint in the slot of its turn, if it is to be kept. Else it does nothing.
 pub(crate) fn keep_point<V: Vault>(
     alloc: Global,
     vault: &mut V,
@@ -53,6 +53,7 @@ pub(crate) fn keep_point<V: Vault>(
     ensures kept { OnOk result (PutsIf keep (slot_of point.now.turn) (checkpoint_text (point_of point.now)) (V.contents vault.old) (V.contents vault.new)) }
     ensures quiet { OnOk result (V.faults vault.new ≡ V.faults vault.old) }
     ensures unkept { IfErr result (λ e. PutFails keep (slot_of point.now.turn) (V.contents vault.old) (V.contents vault.new) (V.faults vault.old) (V.faults vault.new) e) }
+    ensures idle { keep ≡ false → IsOk result }
 {
     if !keep {
         return Ok(());

@@ -1,6 +1,7 @@
 -- What the bytes of a slot are.
 --   reads_nothing, reads_damaged, reads_version, reads_shape, reads_point      as they are read
 --   front_reads               the front of a slot that is longer than any checkpoint is read as the whole slot is
+--   slot_reads, loaded_damaged      what is read of a loaded slot is what the slot has; it is damaged if the slot is
 use Rattle.std.proofs.Common.{◌≡◌, ℕ, ◌+◌, ◌<◌, ◌≤◌, false, ◌&&◌, List, [], ◌∷◌, ◌++◌, length, take, drop, min, inl, inr, refl, sym, ap, subst, ◌∙◌, arith}
 use Rattle.std.specs.Prelude.{if◌then◌else◌, Option, Some, None, IfSome}
 use Rattle.std.proofs.lemmas.List.{take_all, length-take, length-take-le}
@@ -84,5 +85,9 @@ pub slot_reads : (told : Option Slots) (slot : Slot) (old new : List ℕ) (n : �
 slot_reads None slot old new n h l loads read = tt
 slot_reads (Some slots) slot old new n h l (e, f) read =
     front_reads (length old) h (in_slot slot slots) l (subst (IsRead h) (loaded_front (in_slot slot slots) old new n e f) read)
+
+pub loaded_damaged : (told : Option Slots) (slot : Slot) (old new : List ℕ) (n : ℕ) → 4194304 < length old → Loads told slot old new n → IfSome told (λ slots. checkpoint_in (in_slot slot slots) ≡ refused damaged → checkpoint_in (take n new) ≡ refused damaged)
+loaded_damaged None slot old new n l loads = tt
+loaded_damaged (Some slots) slot old new n l (e, f) h = ap checkpoint_in (loaded_front (in_slot slot slots) old new n e f) ∙ same_read (length old) (in_slot slot slots) l ∙ h
 
 pub ruleset held_in_laws = (reads_nothing, reads_damaged, reads_version, reads_shape, reads_point)

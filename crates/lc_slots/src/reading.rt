@@ -1,5 +1,6 @@
 //! What one slot holds.
-ghost use Rattle.std.specs.Prelude.{◌≡◌, ◌<◌, length, take, IfOk, IfSome, MatchResult};
+ghost use Rattle.std.specs.Prelude.{◌≡◌, ◌<◌, length, take, IfOk, IfErr, IsOk, IfSome, MatchResult};
+ghost use Rattle.lc_formats.specs.Checkpoint.{checkpoint_in, refused, damaged};
 ghost use Rattle.lc_io.specs.Outside.{HasRisen};
 ghost use Rattle.lc_io.specs.Vaults.{in_slot};
 ghost use Rattle.lc_slots.specs.Found.{IsRead, IsRanged, CountsLoad};
@@ -50,6 +51,7 @@ pub(crate) enum Held {
 fn held_in(alloc: Global, bytes: &[u8]) -> Result<Held, NoMemory>
     ensures is { IfOk result (λ h. IsRead h bytes.now) }
     ensures ranged { IfOk result (λ h. IsRanged h) }
+    ensures damaged { checkpoint_in bytes.now ≡ refused damaged → IsOk result }
 {
     if bytes.is_empty() {
         return Ok(Held::Empty);
@@ -75,6 +77,8 @@ pub(crate) fn held_by<V: Vault>(
     ensures ranged { IfOk result (λ h. IsRanged h) }
     ensures same { V.contents vault.new ≡ V.contents vault.old }
     ensures count { MatchResult result (λ _. V.faults vault.new ≡ V.faults vault.old) (λ e. CountsLoad e (V.faults vault.old) (V.faults vault.new)) }
+    ensures damaged { IfSome (V.contents vault.old)
+        (λ slots. checkpoint_in (in_slot slot slots) ≡ refused damaged → IfErr result (λ e. e ≡ refusal.VaultFault)) }
 {
     match vault.load(slot, buf) {
         Ok(count) => match held_in(alloc, &buf[..count]) {

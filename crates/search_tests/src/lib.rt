@@ -9,6 +9,8 @@ mod blocks;
 #[cfg(test)]
 mod board;
 #[cfg(test)]
+mod folder;
+#[cfg(test)]
 mod gate;
 #[cfg(test)]
 mod infosets;

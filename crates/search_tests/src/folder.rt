@@ -1,0 +1,240 @@
+//! What a vault of two files asks of its folder, call by call, and that it keeps long slots whole.
+use lc_io::{Failed, FolderVault, NoMemory, Slot, Vault};
+use std::alloc::{Allocator, Global};
+use std::cell::Cell;
+use std::fs::{File, Metadata, OpenFile, OpenOptions};
+use std::io::{Read, Seek, SeekFrom, Write};
+use std::rt::Files;
+use std::test::Fail;
+use std::{fs, io};
+
+// A file of a slot, or the new one that a store makes.
+#[derive(Clone, Copy, PartialEq, Eq)]
+enum Name {
+    Slot,
+    New,
+}
+
+// What a folder or a file of it is asked.
+#[derive(Clone, Copy, PartialEq, Eq)]
+enum Call {
+    Nothing,
+    Remove(Name),
+    Open(Name),
+    Make(Name),
+    Read,
+    Write,
+    Sync,
+    Rename(Name, Name),
+}
+
+// The first eight calls, and how many there were.
+#[derive(Drop)]
+struct Calls {
+    first: Cell<[Call; 8]>,
+    count: Cell<usize>,
+}
+
+impl Calls {
+    fn new() -> Calls {
+        Calls {
+            first: Cell::new([Call::Nothing; 8]),
+            count: Cell::new(0),
+        }
+    }
+
+    fn note(&self, call: Call) {
+        let mut first = self.first.get();
+        if let Some(place) = first.get_mut(self.count.get()) {
+            *place = call;
+        }
+        self.first.set(first);
+        self.count.set(self.count.get().saturating_add(1));
+    }
+}
+
+fn name_of(path: &str) -> Name {
+    if path.ends_with(".new") {
+        Name::New
+    } else {
+        Name::Slot
+    }
+}
+
+// The folder of the tests, which notes what it and its files are asked.
+#[derive(Drop)]
+struct NotingFolder<'a> {
+    rt: HostRuntime,
+    calls: &'a Calls,
+}
+
+// A file of that folder.
+#[derive(Drop)]
+struct NotingFile<'a> {
+    file: File,
+    calls: &'a Calls,
+}
+
+impl Read for NotingFile<'_> {
+    fn read(&mut self, buf: &mut [u8]) -> io::Result<usize> {
+        self.calls.note(Call::Read);
+        self.file.read(buf)
+    }
+}
+
+impl Write for NotingFile<'_> {
+    fn write(&mut self, buf: &[u8]) -> io::Result<usize> {
+        self.calls.note(Call::Write);
+        self.file.write(buf)
+    }
+
+    fn flush(&mut self) -> io::Result<()> {
+        Ok(())
+    }
+}
+
+impl Seek for NotingFile<'_> {
+    fn seek(&mut self, to: SeekFrom) -> io::Result<u64> {
+        self.file.seek(to)
+    }
+}
+
+impl OpenFile for NotingFile<'_> {
+    fn metadata(&self) -> io::Result<Metadata> {
+        self.file.metadata()
+    }
+
+    fn set_len(&self, size: u64) -> io::Result<()> {
+        self.file.set_len(size)
+    }
+
+    fn sync_all(&self) -> io::Result<()> {
+        self.calls.note(Call::Sync);
+        self.file.sync_all()
+    }
+
+    fn sync_data(&self) -> io::Result<()> {
+        self.file.sync_data()
+    }
+}
+
+impl<'a> Files for NotingFolder<'a> {
+    type File = NotingFile<'a>;
+
+    type Dir = <HostRuntime as Files>::Dir;
+
+    fn open_file(&self, how: &OpenOptions, path: &str) -> io::Result<NotingFile<'a>> {
+        self.calls.note(if how.asks_create_new() {
+            Call::Make(name_of(path))
+        } else {
+            Call::Open(name_of(path))
+        });
+        Ok(NotingFile {
+            file: self.rt.open_file(how, path)?,
+            calls: self.calls,
+        })
+    }
+
+    fn open_dir(&self, path: &str) -> io::Result<Self::Dir> {
+        self.rt.open_dir(path)
+    }
+
+    fn metadata(&self, path: &str) -> io::Result<Metadata> {
+        self.rt.metadata(path)
+    }
+
+    fn symlink_metadata(&self, path: &str) -> io::Result<Metadata> {
+        self.rt.symlink_metadata(path)
+    }
+
+    fn copy(&self, from: &str, to: &str) -> io::Result<u64> {
+        self.rt.copy(from, to)
+    }
+
+    fn rename(&self, from: &str, to: &str) -> io::Result<()> {
+        self.calls.note(Call::Rename(name_of(from), name_of(to)));
+        self.rt.rename(from, to)
+    }
+
+    fn remove_file(&self, path: &str) -> io::Result<()> {
+        self.calls.note(Call::Remove(name_of(path)));
+        self.rt.remove_file(path)
+    }
+
+    fn create_dir(&self, path: &str) -> io::Result<()> {
+        self.rt.create_dir(path)
+    }
+
+    fn remove_dir(&self, path: &str) -> io::Result<()> {
+        self.rt.remove_dir(path)
+    }
+
+    fn remove_dir_all<B: Allocator>(&self, alloc: B, path: &str) -> io::Result<()> {
+        self.rt.remove_dir_all(alloc, path)
+    }
+}
+
+// A store and then a load, and what the folder was asked.
+const ASKED: [Call; 8] = [
+    Call::Remove(Name::New),
+    Call::Make(Name::New),
+    Call::Write,
+    Call::Sync,
+    Call::Rename(Name::New, Name::Slot),
+    Call::Open(Name::Slot),
+    Call::Read,
+    Call::Read,
+];
+
+fn is_stored_and_loaded<V: Vault>(vault: &mut V) -> bool {
+    vault.store(Slot::One, b"abc") == Ok(()) && vault.load(Slot::One, &mut [0; 4]) == Ok(3)
+}
+
+fn are_asked(rt: HostRuntime, alloc: Global, calls: &Calls) -> Result<bool, NoMemory> {
+    let folder = NotingFolder { rt, calls };
+    let mut vault = FolderVault::new(folder, alloc, "noting.slot0", "noting.slot1")?;
+    Ok(is_stored_and_loaded(&mut vault))
+}
+
+#[test]
+fn a_store_makes_a_new_file_writes_it_syncs_it_and_renames_it(rt: HostRuntime) -> Result<(), Fail> {
+    let calls = Calls::new();
+    assert!(rt; are_asked(rt.clone()?, rt.alloc(), &calls)?);
+    assert!(rt; calls.first.get() == ASKED && calls.count.get() == 8);
+    fs::remove_file(&rt, "noting.slot1")?;
+    Ok(())
+}
+
+// Whether a vault keeps these bytes in both slots, and loads them whole and with nothing after them.
+fn keeps_long_slots<V: Vault>(vault: &mut V, bytes: &[u8], buf: &mut [u8]) -> bool {
+    vault.store(Slot::Zero, &bytes[..5000]) == Ok(())
+        && vault.store(Slot::One, bytes) == Ok(())
+        && vault.load(Slot::Zero, buf) == Ok(5000)
+        && buf.starts_with(&bytes[..5000])
+        && vault.load(Slot::One, buf) == Ok(300_000)
+        && buf.starts_with(bytes)
+}
+
+fn are_long(rt: HostRuntime, alloc: Global, bytes: &[u8]) -> Result<bool, NoMemory> {
+    let mut buf = vec![in alloc; 0u8; 300_001]?;
+    let mut vault = FolderVault::new(rt, alloc, "long.slot0", "long.slot1")?;
+    Ok(bytes.len() == 300_000 && keeps_long_slots(&mut vault, bytes, &mut buf))
+}
+
+// So many bytes, none of which repeats a pattern of 4,096.
+fn counted(alloc: Global, count: usize) -> Result<Vec<u8>, NoMemory> {
+    let mut bytes = Vec::new(alloc);
+    for i in 0..count {
+        bytes.push((i % 251) as u8)?;
+    }
+    Ok(bytes)
+}
+
+#[test]
+fn a_folder_vault_keeps_long_slots_whole(rt: HostRuntime) -> Result<(), Fail> {
+    let bytes = counted(rt.alloc(), 300_000)?;
+    assert!(rt; are_long(rt.clone()?, rt.alloc(), &bytes)?);
+    fs::remove_file(&rt, "long.slot0")?;
+    fs::remove_file(&rt, "long.slot1")?;
+    Ok(())
+}
