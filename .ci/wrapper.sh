@@ -7,7 +7,7 @@
 plain_path() {
     local name file
     mkdir -p "$room/bin"
-    for name in awk bash cat chmod cmp cp cut date dirname env find git grep head ls mkdir mkfifo mktemp mv readlink rm sed sh sha256sum \
+    for name in awk bash cat chmod cmp cp cut date dirname env find getconf git grep head ls mkdir mkfifo mktemp mv readlink rm sed sh sha256sum \
         sleep sort tail touch tr uname wc xargs; do
         file=$(command -v "$name") && ln -sf "$file" "$room/bin/$name"
     done
@@ -116,20 +116,114 @@ PY
     grep -q '^codes: type a script, and end it with Ctrl-D' "$room/out" && grep -qx $'1\r' "$room/out"
 }
 
-# mistakes: each ends with its status and one line, though there is neither a program nor a kit
+# refused N REASON ARGUMENT..: the script says on standard error that word N is refused, and why, and nothing else
+refused() {
+    local number=$1 reason=$2
+    shift 2
+    codes_there "$@" <examples/hamming.codes >"$room/out" 2>"$room/err"
+    [ $? -eq 2 ] && [ ! -s "$room/out" ] && printf 'codes: word %s refused\ncodes: %s\n' "$number" "$reason" | cmp - "$room/err" && return
+    echo "codes $*: $(head -c 400 "$room/err")"
+    return 1
+}
+
+# mistakes: each ends with its status, and says what to do, though there is neither a program nor a kit
 mistakes() {
     local word
     mv "$copy/release" "$room/"
-    for word in nonsense examples/hamming.codes -h\ x --version\ x run\ examples/hamming.codes run\ - run\ budget=1e6 resume\ -j4 check\ x.json summary\ x \
-        'install' 'install a b' 'prove x' 'test x' 'explain' '--unproved' '--unproved nonsense' '--unproved run x.codes' '--unproved run keep=yes'; do
+    for word in '-h x' install 'install a b' 'prove x' 'test x' explain '--unproved run keep=yes'; do
         # shellcheck disable=SC2086
-        wrapped 2 "$room/nothing" '^codes: ' $word || return 1
+        codes_there $word >"$room/out" 2>"$room/err" </dev/null
+        [ $? -eq 2 ] && [ ! -s "$room/out" ] && grep -q '^codes: ' "$room/err" || { echo "codes $word"; return 1; }
     done
-    wrapped 2 "$room/nothing" '^codes: word 0 refused; see ./codes --help$' &&
-        wrapped 2 "$room/nothing" '^codes: word 1 refused; run reads standard input: ./codes run < examples/hamming.codes$' run examples/hamming.codes &&
-        wrapped 4 "$room/nothing" '^codes: no.such can.t be read$' explain no.such && wrapped 4 "$room/nothing" '^codes: no.such can.t be read$' --unproved explain no.such &&
+    wrapped 4 "$room/nothing" '^codes: no.such can.t be read$' explain no.such && wrapped 4 "$room/nothing" '^codes: no.such can.t be read$' --unproved explain no.such &&
         wrapped 20 "$room/nothing" '^codes: the Rattle kit is not here' prove && wrapped 20 "$room/nothing" '^codes: the Rattle kit is not here' --unproved run &&
-        codes_there --help >"$room/out" && grep -q 'codes prove' "$room/out" && mv "$room/release" "$copy/"
+        codes_there --help >"$room/out" && grep -q 'codes prove' "$room/out" && reasons && mv "$room/release" "$copy/"
+}
+
+# what is written below the line of the rules
+reasons() {
+    local follow='after run come workers=N, budget=N, keep=yes and slice=N, or none of them' blocks='budget is a number from 0 to 1099511627776'
+    refused 0 'a command is missing: run, resume, check or summary; see ./codes --help' &&
+        refused 0 'a command is run, resume, check or summary; see ./codes --help' nonsense &&
+        refused 0 'a command is run, resume, check or summary; see ./codes --help' --unproved nonsense &&
+        refused 0 'the command is written run' Run &&
+        refused 0 'a command comes first: ./codes run workers=2 < FILE' workers=2 &&
+        refused 0 'run reads a script from standard input: ./codes run < my.codes' my.codes &&
+        refused 1 'run reads a script from standard input: ./codes run < my.codes' run my.codes &&
+        refused 1 'run reads a script from standard input: ./codes run < my.codes' --unproved run my.codes &&
+        refused 1 'run reads standard input anyway: ./codes run < FILE' run - &&
+        refused 1 'check takes no argument, and reads a certificate from standard input: ./codes check < my.json' check my.json &&
+        refused 0 '--version stands alone' --version x &&
+        refused 1 'write budget=1000000' run budget=1e6 && refused 1 'write budget=1048576' run budget=2^20 && refused 1 'write budget=1000' run budget=1,000 &&
+        refused 1 'write budget=7' run budget=007 && refused 1 'write budget=5' run Budget=5 && refused 1 "$blocks, in digits alone" run budget=1k &&
+        refused 1 "$blocks" run budget=2199023255552 && refused 1 'budget takes a value after =, without blanks: budget=N' run budget 5 &&
+        refused 2 'write workers=2' run keep=yes --workers=2 && refused 1 'write workers=4' resume -j4 && refused 1 'workers is a number from 1 to 256' run workers=0 &&
+        refused 1 "write workers=$(getconf _NPROCESSORS_ONLN)" run workers=auto && refused 2 'workers is there already' run workers=2 workers=2 &&
+        refused 1 'write keep=yes' run keep=on && refused 1 'keep takes a value after =, without blanks: keep=yes' run keep &&
+        refused 1 'slice needs keep=yes, since the session goes on from its checkpoint' run slice=5 &&
+        refused 1 "$follow" run seed=5 && refused 1 "$follow" run speed=5 && refused 1 'summary needs seed=N: ./codes summary seed=1' summary
+}
+
+# The script refuses what the program refuses, with its line, and nothing else.
+refuses_as_the_program() {
+    local words status
+    while read -r words; do
+        # shellcheck disable=SC2086
+        (cd "$room/elsewhere" && "$program" $words) >"$room/out" 2>"$room/wanted" </dev/null
+        status=$?
+        # shellcheck disable=SC2086
+        codes_there $words >"$room/out" 2>"$room/err" </dev/null
+        [ $? -eq $status ] && { [ $status -ne 2 ] || [ "$(head -n 1 "$room/err")" = "$(cat "$room/wanted")" ]; } && continue
+        echo "codes $words: wanted status $status and '$(head -n 1 "$room/wanted")', and standard error begins with '$(head -n 1 "$room/err")'"
+        return 1
+    done <<'LIST'
+
+run
+run workers=1
+run workers=256 budget=0
+run workers=257
+run workers=0
+run workers=02
+run workers=+2
+run workers=2 workers=2
+run budget=1099511627776
+run budget=1099511627777
+run budget=18446744073709551616
+run budget=99999999999999999999999
+run budget= keep=no
+run budget
+run budget=x
+run keep=no slice=3
+run slice=3
+run slice=0 keep=yes
+run keep=yes keep=yes
+run keep=YES
+run slice=3 workers=1
+run seed=1
+run Workers=2
+run =
+run =1
+run workers==1
+run - -
+resume seed=1
+resume budget=5 keep=no slice=7
+check x
+check budget=1
+summary
+summary seed=1 keep=yes
+summary seed=18446744073709551616
+summary seed=18446744073709551615 seed=1
+summary budget=1 workers=2
+summary seed=01
+summary seed=00
+summary budget=0 seed=18446744073709551615
+Run
+checks
+--version --version
+-- run
+LIST
+    codes_there run $'budget=\xff' >/dev/null 2>"$room/err"
+    [ "$(head -n 1 "$room/err")" = 'codes: word 0 refused' ]
 }
 
 installs() {
@@ -184,6 +278,7 @@ check_wrapper() {
     check 'codes: a copy that can only be read answers' a_copy_to_read_only
     check 'codes: at a terminal it says that it waits' at_a_terminal
     check 'codes: mistakes end at once' mistakes
+    check 'codes: it refuses what the program refuses' refuses_as_the_program
     check 'codes: install' installs
     check 'codes: explain' explains_without_a_kit
     check 'codes: a build that is stopped leaves nothing' a_build_that_is_stopped
