@@ -116,6 +116,39 @@ PY
     grep -q '^codes: type a script, and end it with Ctrl-D' "$room/out" && grep -qx $'1\r' "$room/out"
 }
 
+# over checkpoints `run keep=yes` says that it overwrites them, and at a terminal it asks: without a yes they stay as they are
+asks_about_checkpoints() {
+    local slot=$room/elsewhere/codes.slot0
+    echo 'C := HammingCode(3,GF(2)); MinimumDistance(C);' >"$room/script"
+    codes_there run keep=yes <"$room/script" >/dev/null 2>&1 && cp "$slot" "$room/kept" && touch -d 2001-01-01 "$slot" || return 1
+    codes_there run keep=yes <"$room/script" 2>&1 >/dev/null | grep -q '^codes: run overwrites the checkpoints of a session, the last after [0-9]* blocks$' || return 1
+    echo 'not a checkpoint' >"$slot"
+    rm -f "$room/elsewhere/codes.slot1"
+    [ "$(answered n)" = 2 ] && [ "$(cat "$slot")" = 'not a checkpoint' ] && [ "$(answered y)" = 0 ] && cmp "$slot" "$room/kept" && rm "$room/elsewhere"/codes.slot*
+}
+
+# answered TEXT: the status of `run keep=yes` at a terminal, where this is typed
+answered() {
+    python3 -B - "$copy/codes" "$room/script" "$room/elsewhere" "$1" <<'PY'
+import os, pty, sys
+program, script, folder, answer = sys.argv[1:]
+child, terminal = pty.fork()
+if child == 0:
+    os.chdir(folder)
+    os.dup2(os.open(script, os.O_RDONLY), 0)
+    os.execv(program, [program, "run", "keep=yes"])
+os.write(terminal, answer.encode() + b"\n")
+said = b""
+try:
+    while piece := os.read(terminal, 4096):
+        said += piece
+except OSError:
+    pass
+status = os.waitstatus_to_exitcode(os.waitpid(child, 0)[1])
+print(status if b"Overwrite? [y/N]" in said else said)
+PY
+}
+
 # refused N REASON ARGUMENT..: the script says on standard error that word N is refused, and why, and nothing else
 refused() {
     local number=$1 reason=$2
@@ -277,6 +310,7 @@ check_wrapper() {
     check 'codes: what was proved here is taken' what_is_proved_here
     check 'codes: a copy that can only be read answers' a_copy_to_read_only
     check 'codes: at a terminal it says that it waits' at_a_terminal
+    check 'codes: it asks before it overwrites checkpoints' asks_about_checkpoints
     check 'codes: mistakes end at once' mistakes
     check 'codes: it refuses what the program refuses' refuses_as_the_program
     check 'codes: install' installs
