@@ -228,8 +228,21 @@ jobs_give_texts() {
     for d in 5 7; do "$program" run budget=1000 <"$room/jobs/$d/script.codes" 2>/dev/null | cmp - "$room/jobs/$d/text" || return 1; done
 }
 
+# a job that can't go on says why: no folder, no script, no program, another budget, a word that is refused
+jobs_say_why() {
+    local folder=$room/jobs/5
+    rm -f "$folder/text"
+    export CODES=$program
+    ends 2 'usage: tools/cluster/job FOLDER [workers=N] [budget=N] [slice=N]' tools/cluster/job &&
+        ends 4 "$room/no: there is no such folder" tools/cluster/job "$room/no" && ends 4 "$room: script.codes is missing or can not be read" tools/cluster/job "$room" &&
+        ends 10 "$folder: status 10, codes: checkpoint of another script or budget" tools/cluster/job "$folder" budget=1001 &&
+        ends 2 "$folder: status 2, codes: word 2 refused" tools/cluster/job "$folder" budget=1e3 &&
+        CODES=/no/codes ends 127 "$folder: there is no program /no/codes: set CODES to its path" tools/cluster/job "$folder" budget=1000
+}
+
 check_sessions() {
     check 'two jobs of tools/cluster/job beside each other' jobs_give_texts
+    check 'tools/cluster/job says why it ends' jobs_say_why
     check 'sessions that are killed, stopped, cut in slices and resumed' python3 -B tests/sessions.py "$program"
     check 'streams and folders that fail, and scripts at the limits of the language' python3 -B tests/hostile.py "$program"
     check '2,000 changed checkpoints: the program and tools/checkpoints.py agree' python3 -B tools/checkpoints.py "$program" 2000

@@ -265,11 +265,40 @@ installs() {
         cmp "$room/prefix/share/man/man1/codes.1" docs/codes.1 && level=$(sed -nE 's/.* for (x86-64-v.), .*/\1/p' "$room/said") && cmp "$room/prefix/bin/codes" "$copy/release/codes-$level"
 }
 
-# the first block of docs/CLUSTER.md, at the top of the copy: four folders, each with a script that is read
-folders_of_a_list() {
-    local folder
-    (cd "$copy" && awk '/^```/ { if (inside) exit; inside = /^```sh$/; next } inside' docs/CLUSTER.md | sh -e && [ "$(wc -l <folders.txt)" -eq 4 ] &&
-        while read -r folder; do "$program" run budget=0 <"$folder/script.codes" 2>/dev/null | grep -q '^distance between' || exit 1; done <folders.txt)
+# stand-ins for the commands of docs/CLUSTER.md, where they are missing: they run one job after the other
+cluster_commands() {
+    mkdir -p "$room/cluster"
+    cat >"$room/cluster/parallel" <<'SH'
+#!/bin/sh
+# parallel --joblog FILE --resume-failed COMMAND {} ARGUMENT :::: LIST
+status=0
+while read -r folder; do "$4" "$folder" "$6" </dev/null || status=1; done <"$8"
+exit $status
+SH
+    cat >"$room/cluster/sbatch" <<'SH'
+#!/bin/sh
+# sbatch --array=1-N SCRIPT ARGUMENT..
+most=${1#--array=1-} task=0 SLURM_SUBMIT_DIR=$PWD SLURM_CPUS_PER_TASK=2
+export SLURM_SUBMIT_DIR SLURM_CPUS_PER_TASK
+shift
+while [ $task -lt "$most" ]; do
+    task=$((task + 1))
+    SLURM_ARRAY_TASK_ID=$task sh "$@" || exit
+done
+SH
+    chmod 755 "$room/cluster"/*
+    if command -v parallel >/dev/null; then rm "$room/cluster/parallel"; fi
+}
+
+# block N: the N-th block `sh` of docs/CLUSTER.md
+block() { awk -v wanted="$1" '/^```/ { inside = /^```sh$/ && ++n == wanted; next } inside' docs/CLUSTER.md; }
+
+# the blocks of docs/CLUSTER.md as they stand, at the top of the copy: folders, their texts by `parallel`, and by Slurm once more
+cluster_recipes() {
+    cluster_commands
+    (cd "$copy" && PATH=$room/cluster:$PATH && { block 1 && block 2; } | sh -e >"$room/texts" && [ "$(wc -l <folders.txt)" -eq 4 ] &&
+        [ "$(cut -d ' ' -f 1,2 "$room/texts" | sort | tr '\n' ' ')" = 'distance 11 distance 5 distance 7 distance 9 ' ] &&
+        cat jobs/*/text | cmp - "$room/texts" && rm jobs/*/text && block 3 | sh -e && cat jobs/*/text | cmp - "$room/texts")
 }
 
 explains_without_a_kit() { codes_there explain "$PWD/tests/explain/near_name.codes" >"$room/out" 2>"$room/err"; [ $? -eq 1 ] && cmp "$room/out" tests/explain/near_name.out && grep -q 'did you mean' "$room/err"; }
@@ -316,5 +345,5 @@ check_wrapper() {
     check 'codes: install' installs
     check 'codes: explain' explains_without_a_kit
     check 'codes: a build that is stopped leaves nothing' a_build_that_is_stopped
-    check 'docs/CLUSTER.md: folders for a list of codes' folders_of_a_list
+    check 'docs/CLUSTER.md: its commands, at the top of the copy' cluster_recipes
 }
