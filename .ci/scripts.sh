@@ -189,19 +189,30 @@ check_certificates() {
     check '3,000 altered certificates: the program and tools/check_certificate.py agree' python3 -B tools/compare_certificates.py "$program" 3000
 }
 
-# explains FRONT: what tools/explain.py writes of FRONT.codes, on both outputs, and its status
+# explains FILE: what tools/explain.py writes of a script or a certificate, on both outputs, and its status
 explains() {
-    local got
-    python3 tools/explain.py "$program" "$1.codes" >"$room/out" 2>"$room/err"
+    local got front=${1%.*}
+    python3 -B tools/explain.py "$program" "$1" >"$room/out" 2>"$room/err"
     got=$?
-    [ "$got" -eq "$(cat "$1.status")" ] || { echo "status $got"; return 1; }
+    [ "$got" -eq "$(cat "$front.status")" ] || { echo "status $got"; return 1; }
     but_for_records
-    cmp "$room/out" "$1.out" && diff "$room/said" "$1.err"
+    cmp "$room/out" "$front.out" && diff "$room/said" "$front.err"
 }
 
 check_explanations() {
-    local script
-    for script in tests/explain/*.codes; do check "${script%.codes}" explains "${script%.codes}"; done
+    local file
+    for file in tests/explain/*.codes tests/explain/*.json; do check "${file%.*}" explains "$file"; done
+    check 'tools/explain_bytes.py and tools/foreign_names.py' python3 -B tests/explanations.py
+    check 'a call of tools/residue_code.py for each length' python3 -B tests/residue_codes.py "$program"
+    check 'the second checker takes a file' second_checker_takes_a_file
+}
+
+# tools/check_certificate.py on a file, on standard input, with --help, and with mistakes
+second_checker_takes_a_file() {
+    local checker='python3 -B tools/check_certificate.py' file=examples/certificates/golay_23.json
+    [ "$($checker $file)" = 'accepted distance 7' ] && [ "$($checker - <$file)" = 'accepted distance 7' ] && [ "$($checker --quiet <$file)" = 'accepted distance 7' ] &&
+        $checker --help | grep -q 'check_certificate.py \[--quiet\] \[FILE\]' && ends 4 'no.such: No such file or directory' $checker no.such &&
+        ends 2 'usage: check_certificate.py [--quiet] [FILE]' $checker a b
 }
 
 # the functions for GUAVA and Sage, where these are installed
