@@ -199,8 +199,12 @@ explains() {
     cmp "$room/out" "$front.out" && diff "$room/said" "$front.err"
 }
 
+# what tools/pretty.py makes of the text of a script
+is_pretty() { "$program" run <"$1.codes" 2>/dev/null | python3 -B tools/pretty.py | cmp - "$1.out"; }
+
 check_explanations() {
     local file
+    for file in tests/pretty/*.codes; do check "${file%.codes}" is_pretty "${file%.codes}"; done
     for file in tests/explain/*.codes tests/explain/*.json; do check "${file%.*}" explains "$file"; done
     check 'tools/explain_bytes.py and tools/foreign_names.py' python3 -B tests/explanations.py
     check 'a call of tools/residue_code.py for each length' python3 -B tests/residue_codes.py "$program"

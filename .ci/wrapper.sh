@@ -163,7 +163,7 @@ refused() {
 mistakes() {
     local word
     mv "$copy/release" "$room/"
-    for word in '-h x' install 'install a b' 'prove x' 'test x' explain '--unproved run keep=yes'; do
+    for word in '-h x' install 'install a b' 'prove x' 'test x' explain 'pretty x' '--unproved run keep=yes'; do
         # shellcheck disable=SC2086
         codes_there $word >"$room/out" 2>"$room/err" </dev/null
         [ $? -eq 2 ] && [ ! -s "$room/out" ] && grep -q '^codes: ' "$room/err" || { echo "codes $word"; return 1; }
@@ -303,6 +303,9 @@ cluster_recipes() {
 
 explains_without_a_kit() { codes_there explain "$PWD/tests/explain/near_name.codes" >"$room/out" 2>"$room/err"; [ $? -eq 1 ] && cmp "$room/out" tests/explain/near_name.out && grep -q 'did you mean' "$room/err"; }
 
+# without any program
+prints_prettily() { echo '[[1,0],[0,1]]' | codes_there pretty >"$room/out" && printf '  1 .\n  . 1\n' | cmp - "$room/out"; }
+
 # a kit whose command only waits: `codes` is stopped, and leaves neither that command nor a file
 a_build_that_is_stopped() {
     local pid left=0
@@ -344,6 +347,7 @@ check_wrapper() {
     check 'codes: it refuses what the program refuses' refuses_as_the_program
     check 'codes: install' installs
     check 'codes: explain' explains_without_a_kit
+    check 'codes: pretty' prints_prettily
     check 'codes: a build that is stopped leaves nothing' a_build_that_is_stopped
     check 'docs/CLUSTER.md: its commands, at the top of the copy' cluster_recipes
 }

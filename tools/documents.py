@@ -112,7 +112,7 @@ def manual_page():
     entries = {"CALLS": [name + r"\(" for name in [*explain.CALLS, *explain.QUERIES]], "FAULTS": explain.MEANINGS,
                "REASONS": explain_certificate.MEANINGS, "EXIT STATUS": statuses}
     for section, wanted in entries.items():
-        yield from (f"{entry} of {section}" for entry in wanted if not re.search(rf"^\.B (.*, )?{entry}", sections[section], re.M))
+        yield from (f"{entry} of {section}" for entry in wanted if not re.search(rf"^\.B (.*, )?{entry}(?!\d)", sections[section], re.M))
 
 
 def main():
