@@ -219,11 +219,15 @@ second_checker_takes_a_file() {
         ends 2 'usage: check_certificate.py [--quiet] [FILE]' $checker a b
 }
 
+# the functions for Sage, by a stand-in for it
+agrees_with_a_stand_in() { CODES=$program timeout 300 python3 -B tests/bridges/without_sage.py; }
+
 # the functions for GUAVA and Sage, where these are installed
 agrees_with_guava() { CODES=$program timeout 300 gap -q <tests/bridges/with_guava.g 2>&1 | grep -v '^true$' >"$room/gap"; ! grep -E 'failed|Error' "$room/gap" && grep -q '^done$' "$room/gap"; }
 agrees_with_sage() { CODES=$program timeout 600 sage tests/bridges/with_sage.py >"$room/sage" 2>&1; ! grep -E 'failed|Error' "$room/sage" && grep -q '^done$' "$room/sage"; }
 
 check_bridges() {
+    check 'tools/sage/codes.py, by a stand-in for Sage' agrees_with_a_stand_in
     if command -v gap >/dev/null && echo 'LoadPackage("guava");' | gap -q 2>/dev/null | grep -q true; then
         check 'tools/gap/codes.g and GUAVA agree' agrees_with_guava
     fi
