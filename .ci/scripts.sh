@@ -226,7 +226,11 @@ agrees_with_a_stand_in() { CODES=$program timeout 300 python3 -B tests/bridges/w
 agrees_with_guava() { CODES=$program timeout 300 gap -q <tests/bridges/with_guava.g 2>&1 | grep -v '^true$' >"$room/gap"; ! grep -E 'failed|Error' "$room/gap" && grep -q '^done$' "$room/gap"; }
 agrees_with_sage() { CODES=$program timeout 600 sage tests/bridges/with_sage.py >"$room/sage" 2>&1; ! grep -E 'failed|Error' "$room/sage" && grep -q '^done$' "$room/sage"; }
 
+# the functions for Python
+answers_python() { CODES=$program timeout 300 python3 -B tests/bridges/with_python.py; }
+
 check_bridges() {
+    check 'tools/python/codes_bridge.py' answers_python
     check 'tools/sage/codes.py, by a stand-in for Sage' agrees_with_a_stand_in
     if command -v gap >/dev/null && echo 'LoadPackage("guava");' | gap -q 2>/dev/null | grep -q true; then
         check 'tools/gap/codes.g and GUAVA agree' agrees_with_guava
