@@ -231,6 +231,7 @@ answers_python() { CODES=$program timeout 300 python3 -B tests/bridges/with_pyth
 
 check_bridges() {
     check 'tools/python/codes_bridge.py' answers_python
+    check 'tools/from_matrix.py' python3 -B tests/from_matrix.py "$program"
     check 'tools/sage/codes.py, by a stand-in for Sage' agrees_with_a_stand_in
     if command -v gap >/dev/null && echo 'LoadPackage("guava");' | gap -q 2>/dev/null | grep -q true; then
         check 'tools/gap/codes.g and GUAVA agree' agrees_with_guava
