@@ -36,7 +36,7 @@ nothing_stands_alone() {
         case $file in
         *.codes) [ -f "${file%.codes}.out" ] || { echo "$file has no .out"; return 1; } ;;
         *.out | *.status | *.err | *.arguments) [ -f "${file%.*}.codes" ] || { echo "$file has no .codes"; return 1; } ;;
-        *.md) ;;
+        *.md | *.list) ;;
         *) echo "$file is no file of a case"; return 1 ;;
         esac
     done
@@ -185,6 +185,7 @@ check_against_reference() {
 
 check_certificates() {
     check 'tools/check_certificate.py says what the stored texts say' python3 -B tools/compare_certificates.py --stored "$room/rows"
+    check 'tools/table.py on examples/codes.list' python3 -B tests/table.py "$program"
     check 'the gallery: `codes` prints each certificate, and both programs accept it' python3 -B tools/gallery.py --check "$program"
     check '3,000 altered certificates: the program and tools/check_certificate.py agree' python3 -B tools/compare_certificates.py "$program" 3000
 }
