@@ -1,2 +1,5 @@
 pub mod CountLaws
 pub mod TransformLaws
+pub mod KrawtchoukLaws
+pub mod MomentLaws
+pub mod OneSetLaws
