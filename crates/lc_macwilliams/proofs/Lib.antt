@@ -3,3 +3,4 @@ pub mod TransformLaws
 pub mod KrawtchoukLaws
 pub mod MomentLaws
 pub mod OneSetLaws
+pub mod IdentityExamples

@@ -2,7 +2,7 @@
 -- chapter 5, where the identities are proved by these numbers).
 --   is_zero_but b i w          whether w is 0 at each place p, from i on, but those that b holds of
 --   symbol_of_test, test_of_symbols      what it tests
---   set_transform              the transform of the words that are 0 outside a set of places
+--   on_places, SetTransform, set_transform      the transform of the words that are 0 outside a set of places
 --   zero_outside_told, zero_on_told      the tests for sets of coordinates, as such tests
 --   set_size                   how many numbers below n a set has
 --   one_set                    the law
@@ -87,21 +87,111 @@ one_more (suc p) x l = let e : suc p - 1 ≡ p = omega arith in rw e (omega arit
 power_next : (q c m : ℕ) → m ≡ 1 + c → q ^ m ≡ q * q ^ c
 power_next q c m e = let s : m ≡ suc c = omega (arith, e) in ap (λ x. q ^ x) s ∙ pow-suc q c ∙ omega arith
 
-pub set_transform : (f : FieldName) (b : ℕ → Bool) (i n : ℕ) → HasTransform f n (λ e. shown (is_zero_but b i e)) (λ w. size f ^ count_by b (numbers_from i n) * shown (is_zero_but (λ p. not (b p)) i w)) (λ _. 0)
-unfolding is_zero_but numbers_from
-set_transform f b i zero =
-    transform_empty f (λ e. shown (is_zero_but b i e)) (λ w. size f ^ count_by b (numbers_from i 0) * shown (is_zero_but (λ p. not (b p)) i w)) (λ _. 0) (rw (pow-zero (size f)) (omega arith))
-set_transform f b i (suc n) = by_first (b i) refl
-  where
-    q : ℕ
-    q = size f
-    d : ℕ → Bool
-    d = λ p. not (b p)
-    h : List ℕ → ℕ
-    h = λ e. shown (is_zero_but b (suc i) e)
-    E : List ℕ → ℕ
-    E = λ w. size f ^ count_by b (numbers_from (suc i) n) * shown (is_zero_but (λ p. not (b p)) (suc i) w)
-    by_first : (c : Bool) → c ≡ b i → HasTransform f (suc n) (λ e. shown (is_zero_but b i e)) (λ w. size f ^ count_by b (numbers_from i (suc n)) * shown (is_zero_but (λ p. not (b p)) i w)) (λ _. 0)
-    by_first true e = ?
-    by_first false e = ?
+-- the transform, at words of length n, from place i on
+abbrev pub on_places : FieldName → (ℕ → Bool) → ℕ → ℕ → List ℕ → ℕ
+on_places f b i n w = size f ^ count_by b (numbers_from i n) * shown (is_zero_but (λ p. not (b p)) i w)
 
+abbrev pub SetTransform : FieldName → (ℕ → Bool) → ℕ → ℕ → Type 0
+SetTransform f b i n = HasTransform f n (λ e. shown (is_zero_but b i e)) (on_places f b i n) (λ _. 0)
+
+first_inside : (f : FieldName) (b : ℕ → Bool) (i n : ℕ) → b i ≡ true → SetTransform f b (suc i) n → SetTransform f b i (suc n)
+first_inside f b i n e before =
+    let q : ℕ = size f in
+    let d : ℕ → Bool = λ p. not (b p) in
+    let c : ℕ = count_by b (numbers_from (suc i) n) in
+    let more : count_by b (numbers_from i (suc n)) ≡ 1 + c = count_next b i n ∙ ap (λ x. shown x + c) e in
+    let out : d i ≡ false = ap not e in
+    transform_step f n (λ e. shown (is_zero_but b i e)) (λ e. shown (is_zero_but b (suc i) e)) (λ e. shown (is_zero_but b (suc i) e)) (on_places f b (suc i) n) (λ _. 0) (on_places f b (suc i) n) (λ _. 0) (on_places f b i (suc n)) (λ _. 0)
+    (record {
+      zero = λ u _. ap shown (but_zero b i u);
+      other = λ a u _ p. ap shown (but_other b i a u p) ∙ ap (λ x. shown (x && is_zero_but b (suc i) u)) e;
+    })
+    before before
+    (λ v _.
+    let at : on_places f b i (suc n) (0 ∷ v) ≡ q * q ^ c * shown (is_zero_but d (suc i) v) = cc (power_next q c (count_by b (numbers_from i (suc n))) more, but_zero d i v) in
+    omega (arith, at, one_more q (q ^ c * shown (is_zero_but d (suc i) v)) (zero_inside f)))
+    (λ a v _ p.
+    let none : shown (is_zero_but d i (a ∷ v)) ≡ 0 = ap shown (but_other d i a v p) ∙ ap (λ x. shown (x && is_zero_but d (suc i) v)) out in
+    let at : on_places f b i (suc n) (a ∷ v) ≡ 0 = ap (λ x. q ^ count_by b (numbers_from i (suc n)) * x) none ∙ omega arith in
+    omega (arith, at))
+
+first_outside : (f : FieldName) (b : ℕ → Bool) (i n : ℕ) → b i ≡ false → SetTransform f b (suc i) n → SetTransform f b i (suc n)
+first_outside f b i n e before =
+    let q : ℕ = size f in
+    let d : ℕ → Bool = λ p. not (b p) in
+    let c : ℕ = count_by b (numbers_from (suc i) n) in
+    let same : count_by b (numbers_from i (suc n)) ≡ c = count_next b i n ∙ ap (λ x. shown x + c) e ∙ omega arith in
+    let out : d i ≡ true = ap not e in
+    transform_step f n (λ e. shown (is_zero_but b i e)) (λ e. shown (is_zero_but b (suc i) e)) (λ _. 0) (on_places f b (suc i) n) (λ _. 0) (λ _. 0) (λ _. 0) (on_places f b i (suc n)) (λ _. 0)
+    (record {
+      zero = λ u _. ap shown (but_zero b i u);
+      other = λ a u _ p. ap shown (but_other b i a u p) ∙ ap (λ x. shown (x && is_zero_but b (suc i) u)) e;
+    })
+    before (transform_none f n)
+    (λ v _.
+    let at : on_places f b i (suc n) (0 ∷ v) ≡ on_places f b (suc i) n v = cc (same, but_zero d i v) in
+    omega (arith, at))
+    (λ a v _ p.
+    let on : is_zero_but d i (a ∷ v) ≡ is_zero_but d (suc i) v = but_other d i a v p ∙ ap (λ x. x && is_zero_but d (suc i) v) out in
+    let at : on_places f b i (suc n) (a ∷ v) ≡ on_places f b (suc i) n v = cc (same, on) in
+    omega (arith, at))
+
+pub set_transform : (f : FieldName) (b : ℕ → Bool) (i n : ℕ) → SetTransform f b i n
+unfolding is_zero_but numbers_from
+set_transform f b i zero = transform_empty f (λ e. shown (is_zero_but b i e)) (on_places f b i 0) (λ _. 0) (rw (pow-zero (size f)) (omega arith))
+set_transform f b i (suc n) =
+    ⊎_elim (λ e. first_inside f b i n e (set_transform f b (suc i) n)) (λ e. first_outside f b i n e (set_transform f b (suc i) n)) (cases_Bool (b i))
+
+pub zero_outside_told : (set w : List ℕ) → is_zero_outside set w ≡ is_zero_but (is_member set) 0 w
+unfolding is_zero_outside
+zero_outside_told set w =
+    let test : ℕ → Bool = λ p. is_member set p || (slice_index w p == 0) in
+    same_test (is_zero_outside set w) (is_zero_but (is_member set) 0 w)
+    (λ h. test_of_symbols (is_member set) 0 w (λ p l.
+    let e : 0 + p ≡ p = omega arith in
+    rw e (All-contains (λ r. test r ≡ true) (below (length w)) p (AllPass-from_list_all test (below (length w)) h) (below_contains (length w) p l))))
+    (λ h. each_passes test (below (length w)) (λ p c.
+    let e : 0 + p ≡ p = omega arith in
+    let t : (is_member set (0 + p) || (slice_index w p == 0)) ≡ true = symbol_of_test (is_member set) 0 w h p (contains_below (length w) p c) in
+    rw e at t))
+
+pub zero_on_told : (n : ℕ) (set w : List ℕ) → length w ≡ n → All (λ p. p < n) set → is_zero_on set w ≡ is_zero_but (λ p. not (is_member set p)) 0 w
+zero_on_told n set w l a =
+    same_test (is_zero_on set w) (is_zero_but (λ p. not (is_member set p)) 0 w)
+    (λ h. test_of_symbols (λ p. not (is_member set p)) 0 w (λ p m.
+    let e : 0 + p ≡ p = omega arith in
+    rw e (⊎_elim
+    (λ t. or_right (not (is_member set p)) (slice_index w p == 0) (eq-eqb (slice_index w p) 0 (All-contains (λ r. slice_index w r ≡ 0) set p (zero_on_from_test set w h) (true_member set p t))))
+    (λ t. or_left (not (is_member set p)) (slice_index w p == 0) (ap not t))
+    (cases_Bool (is_member set p)))))
+    (λ h. test_from_zero_on set w (each_contained (λ p. slice_index w p ≡ 0) set (λ p c.
+    let e : 0 + p ≡ p = omega arith in
+    let inside : p < length w = omega (arith, l, All-contains (λ r. r < n) set p a c) in
+    let t : (not (is_member set (0 + p)) || (slice_index w p == 0)) ≡ true = symbol_of_test (λ p. not (is_member set p)) 0 w h p inside in
+    let t' : (not (is_member set p) || (slice_index w p == 0)) ≡ true = rw e at t in
+    ⊎_elim (λ x. absurd (false≢true (sym (ap not (member_true set p c)) ∙ x))) (λ x. eqb-true (slice_index w p) 0 x) (or_cases (not (is_member set p)) (slice_index w p == 0) t'))))
+
+pub set_size : (n : ℕ) (set : List ℕ) → AreDistinct set → All (λ p. p < n) set → count_by (is_member set) (numbers_from 0 n) ≡ length set
+set_size n set d a =
+    let ones : sum_by (λ _. 1) set ≡ length set = sum_constant (λ _. 1) 1 set (λ _ _. refl) ∙ mul-one (length set) in
+    let told : sum_by (λ _. 1) set ≡ sum_by (λ p. 1 * cond (is_member set p) 1 0) (below n) =
+        sum_passing (λ _. 1) (is_member set) set (below n) d (distinct_below n) (λ p c. (below_contains n p (All-contains (λ r. r < n) set p a c), member_true set p c)) (λ p _ t. true_member set p t) in
+    let same : sum_by (λ p. 1 * cond (is_member set p) 1 0) (below n) ≡ count_by (is_member set) (below n) = sum_same (λ p. 1 * cond (is_member set p) 1 0) (λ p. cond (is_member set p) 1 0) (below n) (λ p _. omega arith) in
+    ap (count_by (is_member set)) (sym (below_numbers n)) ∙ sym same ∙ sym told ∙ ones
+
+pub one_set : (f : FieldName) (n : ℕ) (rows checks : List (List ℕ)) (set : List ℕ) → AreRows f n rows → IsReducedGenerator f n (IsOrthogonal f rows) checks → AreDistinct set → All (λ p. p < n) set → size f ^ length set * length (zero_on f n rows set) ≡ size f ^ length rows * length (zero_outside f n checks set)
+unfolding zero_on zero_outside
+one_set f n rows checks set r k d a =
+    let b : ℕ → Bool = is_member set in
+    let q : ℕ = size f in
+    let ws : List (List ℕ) = words f n rows in
+    let law : q ^ length rows * sum_by (λ e. shown (is_zero_but b 0 e)) (words f n checks) + sum_by (λ _. 0) ws ≡ sum_by (on_places f b 0 n) ws = sum_over_dual f n (λ e. shown (is_zero_but b 0 e)) (on_places f b 0 n) (λ _. 0) rows checks (set_transform f b 0 n) r k in
+    let none : sum_by (λ _. 0) ws ≡ 0 = sum_none (λ _. 0) ws (λ _ _. refl) in
+    let outside : length (zero_outside f n checks set) ≡ sum_by (λ e. shown (is_zero_but b 0 e)) (words f n checks) =
+        length-filter (is_zero_outside set) (words f n checks) ∙ sum_same (λ e. shown (is_zero_outside set e)) (λ e. shown (is_zero_but b 0 e)) (words f n checks) (λ e _. ap shown (zero_outside_told set e)) in
+    let on : length (zero_on f n rows set) ≡ sum_by (λ w. shown (is_zero_but (λ p. not (b p)) 0 w)) ws =
+        length-filter (is_zero_on set) ws ∙ sum_same (λ w. shown (is_zero_on set w)) (λ w. shown (is_zero_but (λ p. not (b p)) 0 w)) ws (λ w c. ap shown (zero_on_told n set w (span_word f n rows w r (word_of_member f n rows w c)).long a)) in
+    let left : sum_by (on_places f b 0 n) ws ≡ q ^ length set * length (zero_on f n rows set) =
+        sum_times (q ^ count_by b (numbers_from 0 n)) (λ w. shown (is_zero_but (λ p. not (b p)) 0 w)) ws ∙ cc (set_size n set d a, on) in
+    let right : q ^ length rows * length (zero_outside f n checks set) ≡ q ^ length rows * sum_by (λ e. shown (is_zero_but b 0 e)) (words f n checks) = ap (λ x. q ^ length rows * x) outside in
+    omega (arith, law, none, left, right)
