@@ -4,3 +4,5 @@ pub mod KrawtchoukLaws
 pub mod MomentLaws
 pub mod OneSetLaws
 pub mod IdentityExamples
+pub mod PascalLaws
+pub mod SolveLaws

@@ -1,1 +1,2 @@
 pub mod Krawtchouk
+pub mod Solving
