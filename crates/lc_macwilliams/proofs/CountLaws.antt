@@ -11,7 +11,7 @@
 --   sum_at_most, sum_passing   over different entries that are among others; and that are those that pass a test
 --   below_numbers              the numbers below n are those from 0 on
 --   sum_cut                    without the last numbers, that give 0
-use Rattle.std.proofs.Common.{◌≡◌, ℕ, zero, suc, ◌+◌, ◌-◌, ◌*◌, ◌<◌, ◌≤◌, Bool, true, false, cond, ◌==◌, List, [], ◌∷◌, ◌++◌, length, map, flat_map, remove, sum_by, count_by, Contains, IsPermutation, refl, sym, ap, subst, ◌∙◌, ⊎_elim, arith}
+use Rattle.std.proofs.Common.{◌≡◌, ℕ, zero, suc, ◌+◌, ◌-◌, ◌*◌, ◌<◌, ◌≤◌, Bool, true, cond, ◌==◌, List, [], ◌∷◌, ◌++◌, length, map, flat_map, remove, sum_by, count_by, Contains, IsPermutation, refl, sym, ap, subst, ◌∙◌, ⊎_elim, arith}
 use Rattle.std.proofs.Math.Nat.{mul-add, mul-zero, mul-one, zero-mul}
 use Rattle.std.proofs.lemmas.Bool.{cases_eq, cases_lt, cases_Bool, eq-eqb, ne_eqb, eqb-true, cond-true, cond-false}
 use Rattle.std.proofs.lemmas.List.Concat.{flat_map-cons}
@@ -84,8 +84,8 @@ picked h i (suc m) l =
     ⊎_elim
     (λ e.
     let others : sum_by term (below m) ≡ 0 = sum_none term (below m) (λ j c.
-        let n : j < m = contains_below m j c in
-        ap (λ b. h j * b) (cond-false {A = ℕ} (i == j) 1 0 (ne_eqb i j (λ s. omega (arith, s, e, n)))) ∙ mul-zero (h j)) in
+    let n : j < m = contains_below m j c in
+    ap (λ b. h j * b) (cond-false {A = ℕ} (i == j) 1 0 (ne_eqb i j (λ s. omega (arith, s, e, n)))) ∙ mul-zero (h j)) in
     let last : term m ≡ h m = ap (λ b. h m * b) (cond-true {A = ℕ} (i == m) 1 0 (eq-eqb i m e)) ∙ mul-one (h m) in
     sum_by_push term (below m) m ∙ omega (arith, others, last, ap h e))
     (λ n.

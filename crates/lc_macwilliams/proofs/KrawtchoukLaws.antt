@@ -5,13 +5,13 @@
 --   even_zero, odd_zero, even_other, odd_other, even_first, odd_first, none_even, none_odd      how these grow
 --   weight_transform           the transform of the words of a weight is the Krawtchouk polynomial
 --   macwilliams                the identity
-use Rattle.std.proofs.Common.{◌≡◌, ℕ, zero, suc, ◌+◌, ◌-◌, ◌*◌, ◌^◌, ◌%◌, ◌<◌, ◌≤◌, Bool, true, false, cond, ◌==◌, List, [], ◌∷◌, length, sum_by, count_by, Contains, refl, sym, ap, ◌∙◌, arith}
+use Rattle.std.proofs.Common.{◌≡◌, ℕ, zero, suc, ◌+◌, ◌-◌, ◌*◌, ◌^◌, ◌%◌, ◌<◌, ◌≤◌, Bool, true, false, cond, ◌==◌, List, [], ◌∷◌, length, sum_by, refl, sym, ap, ◌∙◌, arith}
 use Rattle.std.proofs.Math.Nat.{pow-suc, pow-zero, mul_comm}
 use Rattle.std.proofs.lemmas.Bool.{eq-eqb, ne_eqb, eqb-true}
-use Rattle.std.proofs.lemmas.List.Sums.{sum_by-cons, sum_by_push}
+use Rattle.std.proofs.lemmas.List.Sums.{sum_by_push}
 use Rattle.lc_algebra.specs.declared.FieldName.{FieldName}
 use Rattle.lc_algebra.specs.Field.{size}
-use Rattle.lc_algebra.specs.Word.{IsWord, weight}
+use Rattle.lc_algebra.specs.Word.{weight}
 use Rattle.lc_algebra.specs.Span.{below, words}
 use Rattle.lc_algebra.specs.Matrix.{AreRows, IsReducedGenerator, IsOrthogonal}
 use Rattle.lc_algebra.proofs.CommonLaws.{same_test}
@@ -22,7 +22,7 @@ use Rattle.lc_enumeration.specs.Distribution.{count_of_weight}
 use Rattle.lc_enumeration.proofs.ChooseLaws.{choose_next, choose_nothing, choose_none}
 use Rattle.lc_macwilliams.specs.Krawtchouk.{krawtchouk_term, krawtchouk_even, krawtchouk_odd}
 use Rattle.lc_macwilliams.proofs.CountLaws.{sum_same, sum_none, sum_plus, sum_times, sum_first, sum_grouped}
-use Rattle.lc_macwilliams.proofs.TransformLaws.{HasTransform, HasParts, transform_none, transform_empty, transform_step, sum_over_dual}
+use Rattle.lc_macwilliams.proofs.TransformLaws.{HasTransform, transform_none, transform_empty, transform_step, sum_over_dual}
 
 abbrev pub part : ℕ → ℕ → ℕ → ℕ → ℕ → ℕ
 part q k x m s = (q - 1) ^ (k - s) * choose x s * choose m (k - s)
@@ -50,10 +50,10 @@ pub parts_zero : (p : ℕ → ℕ) (q k x m : ℕ) → parts p q (suc k) x (suc 
 unfolding below
 parts_zero p q k x m =
     let more : sum_by (λ s. p s * part q (suc k) x (suc m) s) (below (suc k)) ≡ sum_by (λ s. p s * part q (suc k) x m s) (below (suc k)) + (q - 1) * parts p q k x m =
-        sum_same (λ s. p s * part q (suc k) x (suc m) s) (λ s. p s * part q (suc k) x m s + (q - 1) * (p s * part q k x m s)) (below (suc k)) (λ s c.
-          ap (λ t. p s * t) (part_zero q k x m s (contains_below (suc k) s c)) ∙ spread (p s) (part q (suc k) x m s) (q - 1) (part q k x m s))
-        ∙ sum_plus (λ s. p s * part q (suc k) x m s) (λ s. (q - 1) * (p s * part q k x m s)) (below (suc k))
-        ∙ ap (λ t. sum_by (λ s. p s * part q (suc k) x m s) (below (suc k)) + t) (sum_times (q - 1) (λ s. p s * part q k x m s) (below (suc k))) in
+    sum_same (λ s. p s * part q (suc k) x (suc m) s) (λ s. p s * part q (suc k) x m s + (q - 1) * (p s * part q k x m s)) (below (suc k)) (λ s c.
+    ap (λ t. p s * t) (part_zero q k x m s (contains_below (suc k) s c)) ∙ spread (p s) (part q (suc k) x m s) (q - 1) (part q k x m s))
+    ∙ sum_plus (λ s. p s * part q (suc k) x m s) (λ s. (q - 1) * (p s * part q k x m s)) (below (suc k))
+    ∙ ap (λ t. sum_by (λ s. p s * part q (suc k) x m s) (below (suc k)) + t) (sum_times (q - 1) (λ s. p s * part q k x m s) (below (suc k))) in
     omega (arith, more, sum_by_push (λ s. p s * part q (suc k) x (suc m) s) (below (suc k)) (suc k), sum_by_push (λ s. p s * part q (suc k) x m s) (below (suc k)) (suc k), ap (λ t. p (suc k) * t) (part_last q k x m))
 
 part_first : (q k x m : ℕ) → part q (suc k) (suc x) m 0 ≡ part q (suc k) x m 0
@@ -67,9 +67,9 @@ part_other q k x m s =
 pub parts_other : (p : ℕ → ℕ) (q k x m : ℕ) → parts p q (suc k) (suc x) m ≡ parts p q (suc k) x m + parts (λ s. p (suc s)) q k x m
 parts_other p q k x m =
     let more : sum_by (λ s. p (suc s) * part q (suc k) (suc x) m (suc s)) (below (suc k)) ≡ sum_by (λ s. p (suc s) * part q (suc k) x m (suc s)) (below (suc k)) + parts (λ s. p (suc s)) q k x m =
-        sum_same (λ s. p (suc s) * part q (suc k) (suc x) m (suc s)) (λ s. p (suc s) * part q (suc k) x m (suc s) + p (suc s) * part q k x m s) (below (suc k)) (λ s c.
-          ap (λ t. p (suc s) * t) (part_other q k x m s) ∙ apart (p (suc s)) (part q (suc k) x m (suc s)) (part q k x m s))
-        ∙ sum_plus (λ s. p (suc s) * part q (suc k) x m (suc s)) (λ s. p (suc s) * part q k x m s) (below (suc k)) in
+    sum_same (λ s. p (suc s) * part q (suc k) (suc x) m (suc s)) (λ s. p (suc s) * part q (suc k) x m (suc s) + p (suc s) * part q k x m s) (below (suc k)) (λ s c.
+    ap (λ t. p (suc s) * t) (part_other q k x m s) ∙ apart (p (suc s)) (part q (suc k) x m (suc s)) (part q k x m s))
+    ∙ sum_plus (λ s. p (suc s) * part q (suc k) x m (suc s)) (λ s. p (suc s) * part q k x m s) (below (suc k)) in
     omega (arith, more, sum_first (λ s. p s * part q (suc k) (suc x) m s) (suc k), sum_first (λ s. p s * part q (suc k) x m s) (suc k), ap (λ t. p 0 * t) (part_first q k x m))
 
 abbrev pub is_even : ℕ → ℕ
@@ -123,8 +123,8 @@ parts_first : (p : ℕ → ℕ) (q x m : ℕ) → parts p q 0 x m ≡ p 0
 unfolding below
 parts_first p q x m =
     let one : part q 0 x m 0 ≡ 1 =
-        let e : 0 - 0 ≡ 0 = omega arith in
-        rw (e, pow-zero (q - 1), choose_nothing x, choose_nothing m) refl in
+    let e : 0 - 0 ≡ 0 = omega arith in
+    rw (e, pow-zero (q - 1), choose_nothing x, choose_nothing m) refl in
     sum_first (λ s. p s * part q 0 x m s) 0 ∙ ap (λ t. p 0 * t + 0) one ∙ omega arith
 
 pub even_first : (q n x : ℕ) → krawtchouk_even q n 0 x ≡ 1
@@ -195,5 +195,5 @@ pub macwilliams : (f : FieldName) (n k : ℕ) (rows checks : List (List ℕ)) �
 unfolding count_of_weight
 macwilliams f n k rows checks r d =
     let law : size f ^ length rows * count_of_weight f n checks k + sum_by (λ w. krawtchouk_odd (size f) n k (weight w)) (words f n rows) ≡ sum_by (λ w. krawtchouk_even (size f) n k (weight w)) (words f n rows) =
-        sum_over_dual f n (has_weight k) (λ w. krawtchouk_even (size f) n k (weight w)) (λ w. krawtchouk_odd (size f) n k (weight w)) rows checks (weight_transform f n k) r d in
+    sum_over_dual f n (has_weight k) (λ w. krawtchouk_even (size f) n k (weight w)) (λ w. krawtchouk_odd (size f) n k (weight w)) rows checks (weight_transform f n k) r d in
     ap (λ x. size f ^ length rows * count_of_weight f n checks k + x) (sym (grouped f n rows (krawtchouk_odd (size f) n k) r)) ∙ law ∙ grouped f n rows (krawtchouk_even (size f) n k) r

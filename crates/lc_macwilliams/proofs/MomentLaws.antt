@@ -3,11 +3,11 @@
 --   moment_transform           the transform of the number of sets of t coordinates that a word is 0 on
 --   by_weight                  the moment, as a sum over the words
 --   moments                    the equation of the moments of a code and of its dual
-use Rattle.std.proofs.Common.{◌≡◌, ℕ, zero, suc, ◌+◌, ◌-◌, ◌*◌, ◌^◌, ◌<◌, ◌≤◌, ◌==◌, List, [], ◌∷◌, length, sum_by, count_by, Contains, refl, sym, ap, ◌∙◌, arith}
+use Rattle.std.proofs.Common.{◌≡◌, ℕ, zero, suc, ◌+◌, ◌-◌, ◌*◌, ◌^◌, ◌<◌, List, [], ◌∷◌, length, sum_by, refl, sym, ap, ◌∙◌, arith}
 use Rattle.std.proofs.Math.Nat.{pow-suc, pow-zero, zero-mul}
 use Rattle.lc_algebra.specs.declared.FieldName.{FieldName}
 use Rattle.lc_algebra.specs.Field.{size}
-use Rattle.lc_algebra.specs.Word.{IsWord, weight}
+use Rattle.lc_algebra.specs.Word.{weight}
 use Rattle.lc_algebra.specs.Span.{below, words}
 use Rattle.lc_algebra.specs.Matrix.{AreRows, IsReducedGenerator, IsOrthogonal}
 use Rattle.lc_algebra.proofs.FieldLaws.{zero_inside}
@@ -82,10 +82,10 @@ by_weight f n u v rows e r =
 pub moments : (f : FieldName) (n t v : ℕ) (rows checks : List (List ℕ)) → t + v ≡ n → AreRows f n rows → IsReducedGenerator f n (IsOrthogonal f rows) checks → size f ^ v * moment f n rows v (suc t) ≡ size f ^ length rows * moment f n checks t (suc v)
 moments f n t v rows checks e r d =
     let law : size f ^ length rows * sum_by (λ w. choose (n - weight w) t) (words f n checks) + sum_by (λ _. 0) (words f n rows) ≡ sum_by (λ w. size f ^ v * choose (n - weight w) v) (words f n rows) =
-        sum_over_dual f n (λ w. choose (n - weight w) t) (λ w. size f ^ v * choose (n - weight w) v) (λ _. 0) rows checks (moment_transform f n t v e) r d in
+    sum_over_dual f n (λ w. choose (n - weight w) t) (λ w. size f ^ v * choose (n - weight w) v) (λ _. 0) rows checks (moment_transform f n t v e) r d in
     let none : sum_by (λ _. 0) (words f n rows) ≡ 0 = sum_none (λ _. 0) (words f n rows) (λ _ _. refl) in
     let left : sum_by (λ w. size f ^ v * choose (n - weight w) v) (words f n rows) ≡ size f ^ v * moment f n rows v (suc t) =
-        sum_times (size f ^ v) (λ w. choose (n - weight w) v) (words f n rows) ∙ ap (λ x. size f ^ v * x) (by_weight f n t v rows e r) in
+    sum_times (size f ^ v) (λ w. choose (n - weight w) v) (words f n rows) ∙ ap (λ x. size f ^ v * x) (by_weight f n t v rows e r) in
     let right : sum_by (λ w. choose (n - weight w) t) (words f n checks) ≡ moment f n checks t (suc v) = by_weight f n v t checks (omega (arith, e)) d.words in
     let right' : size f ^ length rows * sum_by (λ w. choose (n - weight w) t) (words f n checks) ≡ size f ^ length rows * moment f n checks t (suc v) = ap (λ x. size f ^ length rows * x) right in
     omega (arith, law, none, left, right')

@@ -6,15 +6,13 @@
 --   zero_outside_told, zero_on_told      the tests for sets of coordinates, as such tests
 --   set_size                   how many numbers below n a set has
 --   one_set                    the law
-use Rattle.std.proofs.Common.{◌≡◌, ◌≢◌, ℕ, zero, suc, ◌+◌, ◌-◌, ◌*◌, ◌^◌, ◌<◌, Bool, true, false, not, cond, ◌==◌, ◌&&◌, ◌||◌, List, [], ◌∷◌, length, slice_index, filter, sum_by, count_by, All, Contains, refl, sym, ap, subst, ◌∙◌, ⊎_elim, inl, inr, arith}
-use Rattle.std.specs.List.{list_all}
+use Rattle.std.proofs.Common.{◌≡◌, ℕ, zero, suc, ◌+◌, ◌-◌, ◌*◌, ◌^◌, ◌<◌, Bool, true, false, not, cond, ◌==◌, ◌&&◌, ◌||◌, List, [], ◌∷◌, length, slice_index, sum_by, count_by, All, refl, sym, ap, ◌∙◌, ⊎_elim, arith}
 use Rattle.std.proofs.Math.Nat.{pow-suc, pow-zero, mul-one}
 use Rattle.std.proofs.lemmas.Bool.{cases_Bool, and_parts, and_from, or_cases, or_left, or_right, eq-eqb, eqb-true, false≢true, ne_eqb}
 use Rattle.std.proofs.lemmas.List.Elements.{All-contains}
 use Rattle.std.proofs.lemmas.List.Sums.{sum_by-cons, length-filter, AllPass-from_list_all}
 use Rattle.lc_algebra.specs.declared.FieldName.{FieldName}
 use Rattle.lc_algebra.specs.Field.{size}
-use Rattle.lc_algebra.specs.Word.{IsWord, weight}
 use Rattle.lc_algebra.specs.Span.{below, words}
 use Rattle.lc_algebra.specs.Matrix.{AreRows, IsReducedGenerator, IsOrthogonal}
 use Rattle.lc_algebra.proofs.CommonLaws.{same_test}
@@ -29,7 +27,7 @@ use Rattle.lc_enumeration.proofs.MemberLaws.{member_true, true_member}
 use Rattle.lc_enumeration.proofs.DistributionLaws.{zero_on_from_test, test_from_zero_on}
 use Rattle.lc_enumeration.proofs.GreedyLaws.{each_contained}
 use Rattle.lc_macwilliams.proofs.CountLaws.{sum_same, sum_none, sum_times, sum_constant, sum_passing, below_numbers}
-use Rattle.lc_macwilliams.proofs.TransformLaws.{HasTransform, HasParts, transform_none, transform_empty, transform_step, sum_over_dual}
+use Rattle.lc_macwilliams.proofs.TransformLaws.{HasTransform, transform_none, transform_empty, transform_step, sum_over_dual}
 
 unfoldable pub is_zero_but : (ℕ → Bool) → ℕ → List ℕ → Bool
 is_zero_but b i [] = true
@@ -52,9 +50,9 @@ test_of_symbols b i (a ∷ w) h =
     let e : i + 0 ≡ i = omega arith in
     let first : (b (i + 0) || (a == 0)) ≡ true = h 0 (omega arith) in
     and_from (b i || (a == 0)) (is_zero_but b (suc i) w) (rw e at first) (test_of_symbols b (suc i) w (λ p l.
-      let s : i + suc p ≡ suc i + p = omega arith in
-      let t : (b (i + suc p) || (slice_index w p == 0)) ≡ true = h (suc p) (omega (arith, l)) in
-      rw s at t))
+    let s : i + suc p ≡ suc i + p = omega arith in
+    let t : (b (i + suc p) || (slice_index w p == 0)) ≡ true = h (suc p) (omega (arith, l)) in
+    rw s at t))
 
 abbrev pub shown : Bool → ℕ
 shown b = cond b 1 0
@@ -175,7 +173,7 @@ pub set_size : (n : ℕ) (set : List ℕ) → AreDistinct set → All (λ p. p <
 set_size n set d a =
     let ones : sum_by (λ _. 1) set ≡ length set = sum_constant (λ _. 1) 1 set (λ _ _. refl) ∙ mul-one (length set) in
     let told : sum_by (λ _. 1) set ≡ sum_by (λ p. 1 * cond (is_member set p) 1 0) (below n) =
-        sum_passing (λ _. 1) (is_member set) set (below n) d (distinct_below n) (λ p c. (below_contains n p (All-contains (λ r. r < n) set p a c), member_true set p c)) (λ p _ t. true_member set p t) in
+    sum_passing (λ _. 1) (is_member set) set (below n) d (distinct_below n) (λ p c. (below_contains n p (All-contains (λ r. r < n) set p a c), member_true set p c)) (λ p _ t. true_member set p t) in
     let same : sum_by (λ p. 1 * cond (is_member set p) 1 0) (below n) ≡ count_by (is_member set) (below n) = sum_same (λ p. 1 * cond (is_member set p) 1 0) (λ p. cond (is_member set p) 1 0) (below n) (λ p _. omega arith) in
     ap (count_by (is_member set)) (sym (below_numbers n)) ∙ sym same ∙ sym told ∙ ones
 
@@ -188,10 +186,10 @@ one_set f n rows checks set r k d a =
     let law : q ^ length rows * sum_by (λ e. shown (is_zero_but b 0 e)) (words f n checks) + sum_by (λ _. 0) ws ≡ sum_by (on_places f b 0 n) ws = sum_over_dual f n (λ e. shown (is_zero_but b 0 e)) (on_places f b 0 n) (λ _. 0) rows checks (set_transform f b 0 n) r k in
     let none : sum_by (λ _. 0) ws ≡ 0 = sum_none (λ _. 0) ws (λ _ _. refl) in
     let outside : length (zero_outside f n checks set) ≡ sum_by (λ e. shown (is_zero_but b 0 e)) (words f n checks) =
-        length-filter (is_zero_outside set) (words f n checks) ∙ sum_same (λ e. shown (is_zero_outside set e)) (λ e. shown (is_zero_but b 0 e)) (words f n checks) (λ e _. ap shown (zero_outside_told set e)) in
+    length-filter (is_zero_outside set) (words f n checks) ∙ sum_same (λ e. shown (is_zero_outside set e)) (λ e. shown (is_zero_but b 0 e)) (words f n checks) (λ e _. ap shown (zero_outside_told set e)) in
     let on : length (zero_on f n rows set) ≡ sum_by (λ w. shown (is_zero_but (λ p. not (b p)) 0 w)) ws =
-        length-filter (is_zero_on set) ws ∙ sum_same (λ w. shown (is_zero_on set w)) (λ w. shown (is_zero_but (λ p. not (b p)) 0 w)) ws (λ w c. ap shown (zero_on_told n set w (span_word f n rows w r (word_of_member f n rows w c)).long a)) in
+    length-filter (is_zero_on set) ws ∙ sum_same (λ w. shown (is_zero_on set w)) (λ w. shown (is_zero_but (λ p. not (b p)) 0 w)) ws (λ w c. ap shown (zero_on_told n set w (span_word f n rows w r (word_of_member f n rows w c)).long a)) in
     let left : sum_by (on_places f b 0 n) ws ≡ q ^ length set * length (zero_on f n rows set) =
-        sum_times (q ^ count_by b (numbers_from 0 n)) (λ w. shown (is_zero_but (λ p. not (b p)) 0 w)) ws ∙ cc (set_size n set d a, on) in
+    sum_times (q ^ count_by b (numbers_from 0 n)) (λ w. shown (is_zero_but (λ p. not (b p)) 0 w)) ws ∙ cc (set_size n set d a, on) in
     let right : q ^ length rows * length (zero_outside f n checks set) ≡ q ^ length rows * sum_by (λ e. shown (is_zero_but b 0 e)) (words f n checks) = ap (λ x. q ^ length rows * x) outside in
     omega (arith, law, none, left, right)

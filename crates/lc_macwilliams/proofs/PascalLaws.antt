@@ -3,8 +3,8 @@
 --   choose_left, choose_top, choose_sum      the entries of the table, from those before
 --   choose_fits, sum_fits           no entry is above 2^63
 --   pascal_laws                     these together
-use Rattle.std.proofs.Common.{◌≡◌, ◌≢◌, ℕ, zero, suc, ◌+◌, ◌-◌, ◌*◌, ◌/◌, ◌%◌, ◌^◌, ◌<◌, ◌≤◌, refl, ap, sym, ◌∙◌, arith}
-use Rattle.std.proofs.Math.Nat.{pow-suc, pow-zero, one-le-pow, pow-le-pow_right}
+use Rattle.std.proofs.Common.{◌≡◌, ◌≢◌, ℕ, zero, suc, ◌+◌, ◌-◌, ◌/◌, ◌%◌, ◌^◌, ◌<◌, ◌≤◌, ap, sym, ◌∙◌, arith}
+use Rattle.std.proofs.Math.Nat.{pow-suc, one-le-pow, pow-le-pow_right}
 use Rattle.lc_enumeration.specs.Message.{choose}
 use Rattle.lc_enumeration.proofs.ChooseLaws.{choose_next, choose_nothing, choose_none}
 use Rattle.lc_place.proofs.Counting.{choose_more}

@@ -8,17 +8,17 @@
 --   Step, step_made            what is known at the step for one weight
 --   solved_next, solved_end    one weight more; all weights
 --   power_next, power_fits     a product is a power; it fits
-use Rattle.std.proofs.Common.{◌≡◌, ℕ, zero, suc, ◌+◌, ◌-◌, ◌*◌, ◌/◌, ◌%◌, ◌^◌, ◌<◌, ◌≤◌, ◌==◌, List, [], ◌∷◌, ◌++◌, length, map, slice_index, slice_index_or, sum_by, Contains, refl, sym, ap, ◌∙◌, arith}
-use Rattle.std.proofs.Math.Nat.{mul-add, mul_comm, mul_assoc, pow-suc, pow-zero, one-le-pow, pow-le-pow_left, pow-le-pow_right, mul-div_cancel_left, div-le_self, mul-le-mul_left, mul-le-mul_right, le-mul_of_pos_right}
+use Rattle.std.proofs.Common.{◌≡◌, ℕ, zero, suc, ◌+◌, ◌-◌, ◌*◌, ◌/◌, ◌%◌, ◌^◌, ◌<◌, ◌≤◌, ◌==◌, List, [], ◌∷◌, ◌++◌, length, map, slice_index, sum_by, refl, sym, ap, ◌∙◌, arith}
+use Rattle.std.proofs.Math.Nat.{pow-suc, pow-zero, one-le-pow, pow-le-pow_left, pow-le-pow_right, mul-div_cancel_left, div-le_self, mul-le-mul_right, le-mul_of_pos_right}
 use Rattle.std.proofs.lemmas.Nat.{mul-le, pow-add, div-mul-add, mod-mul-add}
-use Rattle.std.proofs.lemmas.List.{length-map, get_or-map, map-append}
+use Rattle.std.proofs.lemmas.List.{length-map, map-append}
 use Rattle.std.proofs.lemmas.List.Sums.{sum_by-le, sum_by_push, count_by-le-length}
 use Rattle.lc_algebra.specs.declared.FieldName.{FieldName}
 use Rattle.lc_algebra.specs.Field.{size}
 use Rattle.lc_algebra.specs.Word.{weight}
 use Rattle.lc_algebra.specs.Span.{below, words}
-use Rattle.lc_algebra.specs.Matrix.{Matrix, AreRows, IsReduced, IsEchelon, IsReducedGenerator, IsOrthogonal}
-use Rattle.lc_algebra.proofs.FieldLaws.{one_inside, zero_inside}
+use Rattle.lc_algebra.specs.Matrix.{Matrix, AreRows, IsReduced, IsReducedGenerator, IsOrthogonal}
+use Rattle.lc_algebra.proofs.FieldLaws.{one_inside}
 use Rattle.lc_algebra.proofs.SpanLaws.{contains_below, length_below, index_below, length_words, same_span_reflexive}
 use Rattle.lc_algebra.proofs.DimensionLaws.{exponent_at_most}
 use Rattle.lc_enumeration.specs.Message.{choose}
@@ -150,15 +150,15 @@ step_made C n q k t counts found a b c r h d small l s =
     let one : 1 < size f = one_inside f in
     let dual : length d.checks + length C.rows ≡ m = dual_dimension C d.checks r h d.generator in
     let right : terms counts m t (v + 1) ≡ moment f m d.checks t (suc v) =
-        let up : v + 1 ≡ suc v = omega arith in
-        rw (d.are, up) (dual_terms f m t (suc v) d.checks (omega (arith, e))) in
+    let up : v + 1 ≡ suc v = omega arith in
+    rw (d.are, up) (dual_terms f m t (suc v) d.checks (omega (arith, e))) in
     let left : terms found m v t ≡ moment f m C.rows v t = rw s (terms_are f m v t t C.rows (omega arith)) in
     let law : size f ^ v * (moment f m C.rows v t + count_of_weight f m C.rows t) ≡ size f ^ length C.rows * moment f m d.checks t (suc v) =
-        ap (λ x. size f ^ v * x) (sym (moment_last f m t v C.rows e)) ∙ moments f m t v C.rows d.checks e r d.generator in
+    ap (λ x. size f ^ v * x) (sym (moment_last f m t v C.rows e)) ∙ moments f m t v C.rows d.checks e r d.generator in
     let many : length counts ≡ m + 1 = ap (λ (xs : List ℕ). length xs) d.are ∙ length-map (below (suc m)) (count_of_weight f m d.checks) ∙ length_below (suc m) ∙ omega arith in
     let long : length found ≡ t = ap (λ (xs : List ℕ). length xs) s ∙ length-map (below t) (count_of_weight f m C.rows) ∙ length_below t in
     let whole : moment f m d.checks t (suc v) * size f ^ length C.rows ≤ 2 ^ 126 =
-        whole_small (size f) (length d.checks) (length C.rows) m (moment f m d.checks t (suc v)) dual one small (moment_small f m v t d.checks (omega (arith, e)) d.generator.words) in
+    whole_small (size f) (length d.checks) (length C.rows) m (moment f m d.checks t (suc v)) dual one small (moment_small f m v t d.checks (omega (arith, e)) d.generator.words) in
     rw (a, b, c) (step_of (size f) (length C.rows) t v m (count_of_weight f m C.rows t) (moment f m d.checks t (suc v)) (moment f m C.rows v t) counts found e one (omega (arith, dual)) small (short_length (size f) m one small) many long right left law whole (count_small f m t C.rows))
 
 pub solved_first : (C : Matrix) (found : List ℕ) → found ≡ [] → IsSolved C 0 found

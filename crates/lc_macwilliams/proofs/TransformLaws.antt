@@ -14,19 +14,19 @@
 --   transform_plus             of a sum
 --   transform_empty            of a function on the empty word
 --   transform_step             of a function on longer words, from those of its two parts: with 0 in front, and with another symbol
-use Rattle.std.proofs.Common.{◌≡◌, ◌≢◌, ℕ, zero, suc, ◌+◌, ◌-◌, ◌*◌, ◌^◌, ◌<◌, ◌≤◌, Bool, true, false, cond, ◌==◌, ◌&&◌, List, [], ◌∷◌, ◌++◌, length, map, flat_map, sum_by, count_by, Contains, refl, sym, ap, subst, ◌∙◌, ⊎_elim, inl, inr, arith}
+use Rattle.std.proofs.Common.{◌≡◌, ℕ, zero, suc, ◌+◌, ◌-◌, ◌*◌, ◌^◌, ◌<◌, Bool, true, false, cond, ◌==◌, ◌&&◌, List, [], ◌∷◌, length, map, flat_map, sum_by, count_by, Contains, refl, sym, ap, subst, ◌∙◌, ⊎_elim, arith}
 use Rattle.std.specs.List.{list_all}
-use Rattle.std.proofs.Math.Nat.{mul-add, add-mul, mul_assoc, mul_comm, mul-zero, mul-one, zero-mul, pow-suc, pow-zero, eq_of_mul-eq-mul_left}
-use Rattle.std.proofs.lemmas.Bool.{cases_eq, cases_lt, cases_Bool, eq-eqb, ne_eqb, eqb-true, and_parts, and_from, cond-true, cond-false}
+use Rattle.std.proofs.Math.Nat.{mul-add, add-mul, mul-one, zero-mul, pow-suc, pow-zero, eq_of_mul-eq-mul_left}
+use Rattle.std.proofs.lemmas.Bool.{cases_eq, cases_lt, eq-eqb, ne_eqb, eqb-true, and_parts}
 use Rattle.std.proofs.lemmas.List.Elements.{All-nil, All-cons, All-head, All-tail, All-contains}
-use Rattle.std.proofs.lemmas.List.Sums.{sum_by-cons, AllPass-from_list_all}
+use Rattle.std.proofs.lemmas.List.Sums.{sum_by-cons}
 use Rattle.lc_algebra.specs.declared.FieldName.{FieldName}
-use Rattle.lc_algebra.specs.Field.{size, add, neg, mul, IsInverse}
+use Rattle.lc_algebra.specs.Field.{size, add, neg, mul}
 use Rattle.lc_algebra.specs.Word.{IsWord, zero_word, word_sum, scale, word_dot}
-use Rattle.lc_algebra.specs.Span.{below, InSpan, words, AreIndependent}
+use Rattle.lc_algebra.specs.Span.{below, words}
 use Rattle.lc_algebra.specs.Matrix.{AreRows, IsReducedGenerator, IsOrthogonal}
-use Rattle.lc_algebra.proofs.FieldLaws.{zero_inside, one_inside, add_inside, neg_inside, mul_inside, zero_add, neg_add, add_cancel, mul_comm as field_mul_comm, mul_assoc as field_mul_assoc, mul_one as field_mul_one, mul_zero as field_mul_zero, zero_mul as field_zero_mul, inverse_of}
-use Rattle.lc_algebra.proofs.WordLaws.{IsWord_scale, length_scale, word_head, word_tail, word_cons, sum_dot, scale_dot, zero_dot, dot_inside, dot_cons}
+use Rattle.lc_algebra.proofs.FieldLaws.{zero_inside, one_inside, neg_inside, mul_inside, zero_add, neg_add, add_cancel, mul_comm as field_mul_comm, mul_assoc as field_mul_assoc, mul_one as field_mul_one, mul_zero as field_mul_zero, zero_mul as field_zero_mul, inverse_of}
+use Rattle.lc_algebra.proofs.WordLaws.{length_scale, word_head, word_tail, word_cons, sum_dot, scale_dot, zero_dot, dot_inside, dot_cons}
 use Rattle.lc_algebra.proofs.SpanLaws.{contains_head, contains_cases, contains_below, below_contains, length_below, contains_map, map_contains, contains_flat_map, flat_map_contains, span_word, word_of_member, member_of_word, length_words}
 use Rattle.lc_algebra.proofs.DimensionLaws.{AreDistinct, distinct_map, distinct_flat_map, distinct_below, words_distinct}
 use Rattle.lc_algebra.proofs.DivisorLaws.{each_passes, no_member}
@@ -100,11 +100,11 @@ met_more f n g rows e r =
     let term : ℕ → List ℕ → ℕ = λ c v. cond (add f (mul f c (word_dot f g e)) (word_dot f v e) == 0) 1 0 in
     sum_flat_map (λ w. meets f w e) (λ c. map (λ v. word_sum f (scale f c g) v) (words f n rows)) (below (size f))
     ∙ sum_same (λ c. sum_by (λ w. meets f w e) (map (λ v. word_sum f (scale f c g) v) (words f n rows))) (λ c. sum_by (term c) (words f n rows)) (below (size f)) (λ c _.
-      sum_map (λ w. meets f w e) (λ v. word_sum f (scale f c g) v) (words f n rows)
-      ∙ sum_same (λ v. meets f (word_sum f (scale f c g) v) e) (term c) (words f n rows) (λ v m.
-        let tail = All-tail (IsWord f n) g rows r in
-        let long : length (scale f c g) ≡ length v = length_scale f c g ∙ (All-head (IsWord f n) g rows r).long ∙ sym (span_word f n rows v tail (word_of_member f n rows v m)).long in
-        ap (λ x. cond (x == 0) 1 0) (sum_dot f (scale f c g) v e long ∙ ap (λ x. add f x (word_dot f v e)) (scale_dot f c g e))))
+    sum_map (λ w. meets f w e) (λ v. word_sum f (scale f c g) v) (words f n rows)
+    ∙ sum_same (λ v. meets f (word_sum f (scale f c g) v) e) (term c) (words f n rows) (λ v m.
+    let tail = All-tail (IsWord f n) g rows r in
+    let long : length (scale f c g) ≡ length v = length_scale f c g ∙ (All-head (IsWord f n) g rows r).long ∙ sym (span_word f n rows v tail (word_of_member f n rows v m)).long in
+    ap (λ x. cond (x == 0) 1 0) (sum_dot f (scale f c g) v e long ∙ ap (λ x. add f x (word_dot f v e)) (scale_dot f c g e))))
     ∙ sum_swap term (below (size f)) (words f n rows)
 
 positive : (a : ℕ) → (a ≡ 0 → ⊥) → 0 < a
@@ -133,20 +133,20 @@ met_count f n (g ∷ rows) e r =
     ⊎_elim
     (λ z.
     let each : sum_by (λ w. meets f w e) (words f n (g ∷ rows)) ≡ q * sum_by (λ w. meets f w e) (words f n rows) =
-        met_more f n g rows e r
-        ∙ sum_same (λ v. count_by (λ c. add f (mul f c (word_dot f g e)) (word_dot f v e) == 0) (below q)) (λ v. q * meets f v e) (words f n rows) (λ v _.
-          sum_constant (λ c. cond (add f (mul f c (word_dot f g e)) (word_dot f v e) == 0) 1 0) (meets f v e) (below q) (λ c _.
-            ap (λ x. cond (x == 0) 1 0) (cc (z, field_mul_zero f c, zero_add f (word_dot f v e) (dot_inside f v e))))
-          ∙ ap (λ m. m * meets f v e) (length_below q))
-        ∙ sum_times q (λ v. meets f v e) (words f n rows) in
+    met_more f n g rows e r
+    ∙ sum_same (λ v. count_by (λ c. add f (mul f c (word_dot f g e)) (word_dot f v e) == 0) (below q)) (λ v. q * meets f v e) (words f n rows) (λ v _.
+    sum_constant (λ c. cond (add f (mul f c (word_dot f g e)) (word_dot f v e) == 0) 1 0) (meets f v e) (below q) (λ c _.
+    ap (λ x. cond (x == 0) 1 0) (cc (z, field_mul_zero f c, zero_add f (word_dot f v e) (dot_inside f v e))))
+    ∙ ap (λ m. m * meets f v e) (length_below q))
+    ∙ sum_times q (λ v. meets f v e) (words f n rows) in
     let test : are_orthogonal f (g ∷ rows) e ≡ are_orthogonal f rows e = ap (λ b. b && are_orthogonal f rows e) (eq-eqb (word_dot f g e) 0 z) in
     rw (each, test) (met_algebra q k (sum_by (λ w. meets f w e) (words f n rows)) (cond (are_orthogonal f rows e) 1 0) (met_count f n rows e tail)))
     (λ z.
     let each : sum_by (λ w. meets f w e) (words f n (g ∷ rows)) ≡ q ^ k =
-        met_more f n g rows e r
-        ∙ sum_constant (λ v. count_by (λ c. add f (mul f c (word_dot f g e)) (word_dot f v e) == 0) (below q)) 1 (words f n rows) (λ v _.
-          one_solution f (word_dot f g e) (word_dot f v e) (dot_inside f g e) (positive (word_dot f g e) z) (dot_inside f v e))
-        ∙ mul-one (length (words f n rows)) ∙ length_words f n rows in
+    met_more f n g rows e r
+    ∙ sum_constant (λ v. count_by (λ c. add f (mul f c (word_dot f g e)) (word_dot f v e) == 0) (below q)) 1 (words f n rows) (λ v _.
+    one_solution f (word_dot f g e) (word_dot f v e) (dot_inside f g e) (positive (word_dot f g e) z) (dot_inside f v e))
+    ∙ mul-one (length (words f n rows)) ∙ length_words f n rows in
     let test : are_orthogonal f (g ∷ rows) e ≡ false = ap (λ b. b && are_orthogonal f rows e) (ne_eqb (word_dot f g e) 0 z) in
     rw (each, test) (omega (arith, pow-suc q k)))
     (cases_eq (word_dot f g e) 0)
@@ -174,17 +174,17 @@ pairs f n h rows checks r d =
     let test : List ℕ → ℕ = λ e. cond (are_orthogonal f rows e) 1 0 in
     let count : List ℕ → ℕ = λ e. sum_by (λ w. meets f w e) (words f n rows) in
     let turned : sum_by (met_sum f n h) (words f n rows) ≡ sum_by (λ e. h e * count e) (every_word f n) =
-        sum_swap (λ w e. h e * meets f w e) (words f n rows) (every_word f n)
-        ∙ sum_same (λ e. sum_by (λ w. h e * meets f w e) (words f n rows)) (λ e. h e * count e) (every_word f n) (λ e _. sum_times (h e) (λ w. meets f w e) (words f n rows)) in
+    sum_swap (λ w e. h e * meets f w e) (words f n rows) (every_word f n)
+    ∙ sum_same (λ e. sum_by (λ w. h e * meets f w e) (words f n rows)) (λ e. h e * count e) (every_word f n) (λ e _. sum_times (h e) (λ w. meets f w e) (words f n rows)) in
     let each : (e : List ℕ) → q * (h e * count e) ≡ g * h e + (q - 1) * (g * (h e * test e)) = λ e.
-        let m : h e * (q * count e) ≡ h e * (g + (q - 1) * (g * test e)) = ap (λ x. h e * x) (met_count f n rows e r) in
-        omega (arith, m) in
+    let m : h e * (q * count e) ≡ h e * (g + (q - 1) * (g * test e)) = ap (λ x. h e * x) (met_count f n rows e r) in
+    omega (arith, m) in
     let whole : q * sum_by (λ e. h e * count e) (every_word f n) ≡ g * sum_by h (every_word f n) + (q - 1) * (g * sum_by (λ e. h e * test e) (every_word f n)) =
-        sym (sum_times q (λ e. h e * count e) (every_word f n))
-        ∙ sum_same (λ e. q * (h e * count e)) (λ e. g * h e + (q - 1) * (g * (h e * test e))) (every_word f n) (λ e _. each e)
-        ∙ sum_plus (λ e. g * h e) (λ e. (q - 1) * (g * (h e * test e))) (every_word f n)
-        ∙ ap (λ x. x + sum_by (λ e. (q - 1) * (g * (h e * test e))) (every_word f n)) (sum_times g h (every_word f n))
-        ∙ ap (λ x. g * sum_by h (every_word f n) + x) (sum_times (q - 1) (λ e. g * (h e * test e)) (every_word f n) ∙ ap (λ x. (q - 1) * x) (sum_times g (λ e. h e * test e) (every_word f n))) in
+    sym (sum_times q (λ e. h e * count e) (every_word f n))
+    ∙ sum_same (λ e. q * (h e * count e)) (λ e. g * h e + (q - 1) * (g * (h e * test e))) (every_word f n) (λ e _. each e)
+    ∙ sum_plus (λ e. g * h e) (λ e. (q - 1) * (g * (h e * test e))) (every_word f n)
+    ∙ ap (λ x. x + sum_by (λ e. (q - 1) * (g * (h e * test e))) (every_word f n)) (sum_times g h (every_word f n))
+    ∙ ap (λ x. g * sum_by h (every_word f n) + x) (sum_times (q - 1) (λ e. g * (h e * test e)) (every_word f n) ∙ ap (λ x. (q - 1) * x) (sum_times g (λ e. h e * test e) (every_word f n))) in
     ap (λ x. q * x) turned ∙ whole ∙ ap (λ x. g * sum_by h (every_word f n) + (q - 1) * (g * x)) (sym (dual_sum f n h rows checks d))
 
 pub sum_over_dual : (f : FieldName) (n : ℕ) (h E O : List ℕ → ℕ) (rows checks : List (List ℕ)) → HasTransform f n h E O → AreRows f n rows → IsReducedGenerator f n (IsOrthogonal f rows) checks → size f ^ length rows * sum_by h (words f n checks) + sum_by O (words f n rows) ≡ sum_by E (words f n rows)
@@ -194,11 +194,11 @@ sum_over_dual f n h E O rows checks t r d =
     let a : ℕ = sum_by h (every_word f n) in
     let ws : List (List ℕ) = words f n rows in
     let each : sum_by (λ w. q * met_sum f n h w + p * O w) ws ≡ sum_by (λ w. a + p * E w) ws =
-        sum_same (λ w. q * met_sum f n h w + p * O w) (λ w. a + p * E w) ws (λ w c. t.at w (span_word f n rows w r (word_of_member f n rows w c))) in
+    sum_same (λ w. q * met_sum f n h w + p * O w) (λ w. a + p * E w) ws (λ w c. t.at w (span_word f n rows w r (word_of_member f n rows w c))) in
     let left : sum_by (λ w. q * met_sum f n h w + p * O w) ws ≡ q * sum_by (met_sum f n h) ws + p * sum_by O ws =
-        sum_plus (λ w. q * met_sum f n h w) (λ w. p * O w) ws ∙ ap (λ x. x + sum_by (λ w. p * O w) ws) (sum_times q (met_sum f n h) ws) ∙ ap (λ x. q * sum_by (met_sum f n h) ws + x) (sum_times p O ws) in
+    sum_plus (λ w. q * met_sum f n h w) (λ w. p * O w) ws ∙ ap (λ x. x + sum_by (λ w. p * O w) ws) (sum_times q (met_sum f n h) ws) ∙ ap (λ x. q * sum_by (met_sum f n h) ws + x) (sum_times p O ws) in
     let right : sum_by (λ w. a + p * E w) ws ≡ size f ^ length rows * a + p * sum_by E ws =
-        sum_plus (λ w. a) (λ w. p * E w) ws ∙ ap (λ x. x + sum_by (λ w. p * E w) ws) (sum_constant (λ w. a) a ws (λ w _. refl) ∙ ap (λ x. x * a) (length_words f n rows)) ∙ ap (λ x. size f ^ length rows * a + x) (sum_times p E ws) in
+    sum_plus (λ w. a) (λ w. p * E w) ws ∙ ap (λ x. x + sum_by (λ w. p * E w) ws) (sum_constant (λ w. a) a ws (λ w _. refl) ∙ ap (λ x. x * a) (length_words f n rows)) ∙ ap (λ x. size f ^ length rows * a + x) (sum_times p E ws) in
     let both : p * (size f ^ length rows * sum_by h (words f n checks)) + p * sum_by O ws ≡ p * sum_by E ws = omega (arith, each, left, right, pairs f n h rows checks r d) in
     eq_of_mul-eq-mul_left p (omega (arith, one_inside f)) (size f ^ length rows * sum_by h (words f n checks) + sum_by O ws) (sum_by E ws) (mul-add p (size f ^ length rows * sum_by h (words f n checks)) (sum_by O ws) ∙ both)
 
@@ -216,8 +216,8 @@ pub transform_plus : (f : FieldName) (n : ℕ) (h k E O D P : List ℕ → ℕ) 
 transform_plus f n h k E O D P s t = record {
   at = λ w l.
       let a : met_sum f n (λ e. h e + k e) w ≡ met_sum f n h w + met_sum f n k w =
-          sum_same (λ e. (h e + k e) * meets f w e) (λ e. h e * meets f w e + k e * meets f w e) (every_word f n) (λ e _. add-mul (h e) (k e) (meets f w e))
-          ∙ sum_plus (λ e. h e * meets f w e) (λ e. k e * meets f w e) (every_word f n) in
+      sum_same (λ e. (h e + k e) * meets f w e) (λ e. h e * meets f w e + k e * meets f w e) (every_word f n) (λ e _. add-mul (h e) (k e) (meets f w e))
+      ∙ sum_plus (λ e. h e * meets f w e) (λ e. k e * meets f w e) (every_word f n) in
       let b : sum_by (λ e. h e + k e) (every_word f n) ≡ sum_by h (every_word f n) + sum_by k (every_word f n) = sum_plus h k (every_word f n) in
       rw (a, b) (omega (arith, s.at w l, t.at w l));
 }
@@ -258,8 +258,8 @@ whole_sum : (f : FieldName) (n : ℕ) (h k l : List ℕ → ℕ) → HasParts f 
 whole_sum f n h k l p =
     by_first f n h
     ∙ sum_same (λ u. sum_by (λ c. h (c ∷ u)) (below (size f))) (λ u. k u + (size f - 1) * l u) (every_word f n) (λ u m.
-      let w = every_is_word f n u m in
-      sum_symbols (λ c. h (c ∷ u)) (l u) (size f) (zero_inside f) (λ c d. p.other c u w d) (length_below (size f - 1)) ∙ ap (λ x. x + (size f - 1) * l u) (p.zero u w))
+    let w = every_is_word f n u m in
+    sum_symbols (λ c. h (c ∷ u)) (l u) (size f) (zero_inside f) (λ c d. p.other c u w d) (length_below (size f - 1)) ∙ ap (λ x. x + (size f - 1) * l u) (p.zero u w))
     ∙ sum_plus k (λ u. (size f - 1) * l u) (every_word f n)
     ∙ ap (λ x. sum_by k (every_word f n) + x) (sum_times (size f - 1) l (every_word f n))
 
@@ -270,10 +270,10 @@ zero_sum : (f : FieldName) (n : ℕ) (h k l : List ℕ → ℕ) (v : List ℕ) �
 zero_sum f n h k l v p =
     by_first f n (λ e. h e * meets f (0 ∷ v) e)
     ∙ sum_same (λ u. sum_by (λ c. h (c ∷ u) * meets f (0 ∷ v) (c ∷ u)) (below (size f))) (λ u. k u * meets f v u + (size f - 1) * (l u * meets f v u)) (every_word f n) (λ u m.
-      let w = every_is_word f n u m in
-      let first : h (0 ∷ u) * meets f (0 ∷ v) (0 ∷ u) ≡ k u * meets f v u = cc (p.zero u w, meets_zero f 0 v u) in
-      let rest : (c : ℕ) → 0 < c → h (c ∷ u) * meets f (0 ∷ v) (c ∷ u) ≡ l u * meets f v u = λ c d. cc (p.other c u w d, meets_zero f c v u) in
-      sum_symbols (λ c. h (c ∷ u) * meets f (0 ∷ v) (c ∷ u)) (l u * meets f v u) (size f) (zero_inside f) rest (length_below (size f - 1)) ∙ ap (λ x. x + (size f - 1) * (l u * meets f v u)) first)
+    let w = every_is_word f n u m in
+    let first : h (0 ∷ u) * meets f (0 ∷ v) (0 ∷ u) ≡ k u * meets f v u = cc (p.zero u w, meets_zero f 0 v u) in
+    let rest : (c : ℕ) → 0 < c → h (c ∷ u) * meets f (0 ∷ v) (c ∷ u) ≡ l u * meets f v u = λ c d. cc (p.other c u w d, meets_zero f c v u) in
+    sum_symbols (λ c. h (c ∷ u) * meets f (0 ∷ v) (c ∷ u)) (l u * meets f v u) (size f) (zero_inside f) rest (length_below (size f - 1)) ∙ ap (λ x. x + (size f - 1) * (l u * meets f v u)) first)
     ∙ sum_plus (λ u. k u * meets f v u) (λ u. (size f - 1) * (l u * meets f v u)) (every_word f n)
     ∙ ap (λ x. met_sum f n k v + x) (sum_times (size f - 1) (λ u. l u * meets f v u) (every_word f n))
 
@@ -290,16 +290,16 @@ other_sum : (f : FieldName) (n : ℕ) (h k l : List ℕ → ℕ) (a : ℕ) (v : 
 other_sum f n h k l a v p s t =
     let inner : List ℕ → ℕ = λ u. sum_by (λ c. h (c ∷ u) * meets f (a ∷ v) (c ∷ u)) (below (size f)) in
     let each : (u : List ℕ) → Contains (every_word f n) u → inner u + l u * meets f v u ≡ k u * meets f v u + l u = λ u m.
-        let w = every_is_word f n u m in
-        let rest : ℕ = sum_by (λ c. meets f (a ∷ v) (suc c ∷ u)) (below (size f - 1)) in
-        let one : meets f v u + rest ≡ 1 = ap (λ x. x + rest) (sym (meets_other f a v u)) ∙ sym (sum_from_first (λ c. meets f (a ∷ v) (c ∷ u)) (size f) (zero_inside f)) ∙ one_first f a v u s t in
-        let first : h (0 ∷ u) * meets f (a ∷ v) (0 ∷ u) ≡ k u * meets f v u = cc (p.zero u w, meets_other f a v u) in
-        let others : sum_by (λ c. h (suc c ∷ u) * meets f (a ∷ v) (suc c ∷ u)) (below (size f - 1)) ≡ l u * rest =
-            sum_same (λ c. h (suc c ∷ u) * meets f (a ∷ v) (suc c ∷ u)) (λ c. l u * meets f (a ∷ v) (suc c ∷ u)) (below (size f - 1)) (λ c _. ap (λ x. x * meets f (a ∷ v) (suc c ∷ u)) (p.other (suc c) u w (omega arith)))
-            ∙ sum_times (l u) (λ c. meets f (a ∷ v) (suc c ∷ u)) (below (size f - 1)) in
-        let split : inner u ≡ k u * meets f v u + l u * rest = sum_from_first (λ c. h (c ∷ u) * meets f (a ∷ v) (c ∷ u)) (size f) (zero_inside f) ∙ cc (first, others) in
-        let times : l u * (meets f v u + rest) ≡ l u * 1 = ap (λ x. l u * x) one in
-        omega (arith, split, times, mul-add (l u) (meets f v u) rest) in
+    let w = every_is_word f n u m in
+    let rest : ℕ = sum_by (λ c. meets f (a ∷ v) (suc c ∷ u)) (below (size f - 1)) in
+    let one : meets f v u + rest ≡ 1 = ap (λ x. x + rest) (sym (meets_other f a v u)) ∙ sym (sum_from_first (λ c. meets f (a ∷ v) (c ∷ u)) (size f) (zero_inside f)) ∙ one_first f a v u s t in
+    let first : h (0 ∷ u) * meets f (a ∷ v) (0 ∷ u) ≡ k u * meets f v u = cc (p.zero u w, meets_other f a v u) in
+    let others : sum_by (λ c. h (suc c ∷ u) * meets f (a ∷ v) (suc c ∷ u)) (below (size f - 1)) ≡ l u * rest =
+    sum_same (λ c. h (suc c ∷ u) * meets f (a ∷ v) (suc c ∷ u)) (λ c. l u * meets f (a ∷ v) (suc c ∷ u)) (below (size f - 1)) (λ c _. ap (λ x. x * meets f (a ∷ v) (suc c ∷ u)) (p.other (suc c) u w (omega arith)))
+    ∙ sum_times (l u) (λ c. meets f (a ∷ v) (suc c ∷ u)) (below (size f - 1)) in
+    let split : inner u ≡ k u * meets f v u + l u * rest = sum_from_first (λ c. h (c ∷ u) * meets f (a ∷ v) (c ∷ u)) (size f) (zero_inside f) ∙ cc (first, others) in
+    let times : l u * (meets f v u + rest) ≡ l u * 1 = ap (λ x. l u * x) one in
+    omega (arith, split, times, mul-add (l u) (meets f v u) rest) in
     ap (λ x. x + met_sum f n l v) (by_first f n (λ e. h e * meets f (a ∷ v) e))
     ∙ sym (sum_plus inner (λ u. l u * meets f v u) (every_word f n))
     ∙ sum_same (λ u. inner u + l u * meets f v u) (λ u. k u * meets f v u + l u) (every_word f n) each

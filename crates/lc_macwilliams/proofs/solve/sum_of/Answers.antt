@@ -1,4 +1,4 @@
-use Rattle.std.proofs.Common.{◌+◌, ◌-◌, ◌*◌, sym, arith}
+use Rattle.std.proofs.Common.{sym, arith}
 use Rattle.lc_macwilliams.proofs.SolveLaws.{terms_first, sum_next, sum_fits}
 use Rattle.lc_macwilliams.proofs.solve.sum_of.Goals as goal
 
