@@ -5,6 +5,7 @@
 --   even_zero, odd_zero, even_other, odd_other, even_first, odd_first, none_even, none_odd      how these grow
 --   weight_transform           the transform of the words of a weight is the Krawtchouk polynomial
 --   macwilliams                the identity
+--   dual_of_dual               so it holds with a code and its dual exchanged
 use Rattle.std.proofs.Common.{◌≡◌, ℕ, zero, suc, ◌+◌, ◌-◌, ◌*◌, ◌^◌, ◌%◌, ◌<◌, ◌≤◌, Bool, true, false, cond, ◌==◌, List, [], ◌∷◌, length, sum_by, refl, sym, ap, ◌∙◌, arith}
 use Rattle.std.proofs.Math.Nat.{pow-suc, pow-zero, mul_comm}
 use Rattle.std.proofs.lemmas.Bool.{eq-eqb, ne_eqb, eqb-true}
@@ -13,7 +14,8 @@ use Rattle.lc_algebra.specs.declared.FieldName.{FieldName}
 use Rattle.lc_algebra.specs.Field.{size}
 use Rattle.lc_algebra.specs.Word.{weight}
 use Rattle.lc_algebra.specs.Span.{below, words}
-use Rattle.lc_algebra.specs.Matrix.{AreRows, IsReducedGenerator, IsOrthogonal}
+use Rattle.lc_algebra.specs.Matrix.{AreRows, IsReduced, IsReducedGenerator, IsOrthogonal}
+use Rattle.lc_matrix.proofs.DualLaws.{orthogonal_to_kernel}
 use Rattle.lc_algebra.proofs.CommonLaws.{same_test}
 use Rattle.lc_algebra.proofs.WordLaws.{weight_zero_head, weight_other_head, weight_at_most_length}
 use Rattle.lc_algebra.proofs.SpanLaws.{contains_below, span_word, word_of_member}
@@ -197,3 +199,14 @@ macwilliams f n k rows checks r d =
     let law : size f ^ length rows * count_of_weight f n checks k + sum_by (λ w. krawtchouk_odd (size f) n k (weight w)) (words f n rows) ≡ sum_by (λ w. krawtchouk_even (size f) n k (weight w)) (words f n rows) =
     sum_over_dual f n (has_weight k) (λ w. krawtchouk_even (size f) n k (weight w)) (λ w. krawtchouk_odd (size f) n k (weight w)) rows checks (weight_transform f n k) r d in
     ap (λ x. size f ^ length rows * count_of_weight f n checks k + x) (sym (grouped f n rows (krawtchouk_odd (size f) n k) r)) ∙ law ∙ grouped f n rows (krawtchouk_even (size f) n k) r
+
+-- a code is the dual of its dual
+pub dual_of_dual : (f : FieldName) (n : ℕ) (rows checks : List (List ℕ)) → AreRows f n rows → IsReduced n rows → IsReducedGenerator f n (IsOrthogonal f rows) checks → IsReducedGenerator f n (IsOrthogonal f checks) rows
+dual_of_dual f n rows checks r h d = record {
+  members = λ w. (
+    (λ i. let k = span_word f n rows w r i in (k, (orthogonal_to_kernel f n rows checks w r h d k).1 i)),
+    (λ m. (orthogonal_to_kernel f n rows checks w r h d m.0).0 m.1),
+  );
+  reduced = h;
+  words = r;
+}

@@ -1,5 +1,6 @@
 pub mod CountLaws
 pub mod TransformLaws
+pub mod PairingLaws
 pub mod KrawtchoukLaws
 pub mod MomentLaws
 pub mod OneSetLaws

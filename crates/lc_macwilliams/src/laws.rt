@@ -7,16 +7,24 @@
 ghost use Rattle.std.specs.Prelude.{◌≡◌, ◌≢◌, ℕ, suc, ◌+◌, ◌-◌, ◌*◌, ◌^◌, ◌<◌, ◌≤◌, List, length, All, AllPairs, sum_by};
 ghost use Rattle.lc_algebra.specs.Field.{size};
 ghost use Rattle.lc_algebra.specs.Span.{below};
-ghost use Rattle.lc_algebra.specs.Matrix.{AreRows, IsReducedGenerator, IsOrthogonal};
+ghost use Rattle.lc_algebra.specs.Matrix.{AreRows, IsReduced, IsReducedGenerator, IsOrthogonal};
 ghost use Rattle.lc_enumeration.specs.Message.{choose};
 ghost use Rattle.lc_enumeration.specs.Distribution.{count_of_weight, zero_on, zero_outside};
+ghost use Rattle.lc_macwilliams.specs.Orthogonal.{orthogonal_words};
 ghost use Rattle.lc_macwilliams.specs.Krawtchouk.{krawtchouk_even, krawtchouk_odd};
 
 use lc_algebra::FieldName;
 
+/// The number of words of a code that are orthogonal to a second code, times the size of the second, is the number of words of the
+/// second that are orthogonal to the first, times the size of the first (MacWilliams and Sloane, The Theory of Error-Correcting
+/// Codes, chapter 5: the sums of characters that their identities rest on). It needs no dual, and no independent rows.
+pub fn words_orthogonal_to_another_code(field: FieldName)
+    ensures law { (n : ℕ) (rows others : List (List ℕ)) → AreRows field n rows → AreRows field n others → size field ^ length others * length (orthogonal_words field n rows others) ≡ size field ^ length rows * length (orthogonal_words field n others rows) }
+{}
+
 /// The words of a code that are 0 on a set of coordinates determine how many words of its dual are 0 outside the set: with q
-/// elements, q to the size of the set times the first number is the size of the code times the second (MacWilliams and Sloane, The
-/// Theory of Error-Correcting Codes, chapter 5).
+/// elements, q to the size of the set times the first number is the size of the code times the second (MacWilliams and Sloane,
+/// chapter 5).
 ///
 /// The coordinates of the set are different, and below the length n.
 pub fn words_that_vanish_on_a_set(field: FieldName)
@@ -34,7 +42,9 @@ pub fn moments_of_a_code(field: FieldName)
 /// all weights j, where A_j is the number of words of weight j of the code and K_k the Krawtchouk polynomial (MacWilliams and Sloane,
 /// chapter 5).
 ///
-/// It stands here without subtraction: K_k(j) is its even part less its odd part, and the sum with the odd parts is on the left side.
+/// It stands here without subtraction: K_k(j) is its even part less its odd part, and the sum with the odd parts is on the left side. If
+/// the rows are reduced, it holds with the code and its dual exchanged.
 pub fn macwilliams_identity(field: FieldName)
     ensures law { (n k : ℕ) (rows checks : List (List ℕ)) → AreRows field n rows → IsReducedGenerator field n (IsOrthogonal field rows) checks → size field ^ length rows * count_of_weight field n checks k + sum_by (λ j. count_of_weight field n rows j * krawtchouk_odd (size field) n k j) (below (suc n)) ≡ sum_by (λ j. count_of_weight field n rows j * krawtchouk_even (size field) n k j) (below (suc n)) }
+    ensures back { (n k : ℕ) (rows checks : List (List ℕ)) → AreRows field n rows → IsReduced n rows → IsReducedGenerator field n (IsOrthogonal field rows) checks → size field ^ length checks * count_of_weight field n rows k + sum_by (λ j. count_of_weight field n checks j * krawtchouk_odd (size field) n k j) (below (suc n)) ≡ sum_by (λ j. count_of_weight field n checks j * krawtchouk_even (size field) n k j) (below (suc n)) }
 {}
