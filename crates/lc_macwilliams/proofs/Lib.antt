@@ -7,3 +7,4 @@ pub mod OneSetLaws
 pub mod IdentityExamples
 pub mod PascalLaws
 pub mod SolveLaws
+pub mod MessageLaws
