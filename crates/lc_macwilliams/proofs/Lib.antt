@@ -8,3 +8,4 @@ pub mod IdentityExamples
 pub mod PascalLaws
 pub mod SolveLaws
 pub mod MessageLaws
+pub mod BlockCounts
