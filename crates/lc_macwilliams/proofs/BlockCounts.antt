@@ -67,13 +67,13 @@ level_sum C j p l short long =
     let blocks : List ℕ = numbers_from (blocks_before k q 1 p) (level_blocks k q (phase_level 1 p)) in
     let has : Message → ℕ = λ m. cond (weight (combine C.field C.columns (vector_of k m) e) == j) 1 0 in
     let whole : sum_by (block_count C j) blocks ≡ sum_by has (messages k q (suc p)) =
-        sum_same (block_count C j) (λ b. sum_by has (block_messages k q 1 p b)) blocks (λ b c.
-          ap (λ (ws : List (List ℕ)). count_by (λ w. weight w == j) ws) (words_in_phase C 1 p b (in_phase k q p b l short c))
-          ∙ sum_map (λ w. cond (weight w == j) 1 0) (word_of C 1 p) (block_messages k q 1 p b)
-          ∙ sum_same (λ m. cond (weight (word_of C 1 p m) == j) 1 0) has (block_messages k q 1 p b) (λ m _. ap (λ w. cond (weight w == j) 1 0) (word_is C p m)))
-        ∙ sym (sum_flat_map has (block_messages k q 1 p) blocks)
-        ∙ ap (sum_by has) (blocks_list k q 1 p)
-        ∙ ap (λ w. sum_by has (messages k q w)) (level_of p) in
+    sum_same (block_count C j) (λ b. sum_by has (block_messages k q 1 p b)) blocks (λ b c.
+    ap (λ (ws : List (List ℕ)). count_by (λ w. weight w == j) ws) (words_in_phase C 1 p b (in_phase k q p b l short c))
+    ∙ sum_map (λ w. cond (weight w == j) 1 0) (word_of C 1 p) (block_messages k q 1 p b)
+    ∙ sum_same (λ m. cond (weight (word_of C 1 p m) == j) 1 0) has (block_messages k q 1 p b) (λ m _. ap (λ w. cond (weight w == j) 1 0) (word_is C p m)))
+    ∙ sym (sum_flat_map has (block_messages k q 1 p) blocks)
+    ∙ ap (sum_by has) (blocks_list k q 1 p)
+    ∙ ap (λ w. sum_by has (messages k q w)) (level_of p) in
     whole ∙ ap (λ n. count_by (λ m. weight (combine C.field C.columns (vector_of n m) e) == j) (messages n q (suc p))) (sym long)
 
 pub blocks_sum : (C : Matrix) (j p : ℕ) → p ≤ length C.rows → blocks_before (length C.rows) (size C.field) 1 p ≤ cut → length (generator_at C 0) ≡ length C.rows → sum_by (block_count C j) (numbers_from 0 (blocks_before (length C.rows) (size C.field) 1 p)) ≡ sum_by (found_at C.field C.columns (generator_at C 0) j) (numbers_from 1 p)
@@ -88,18 +88,18 @@ blocks_sum C j (suc p) l short long =
     let before : a ≤ cut = omega (arith, short, blocks_next k q p) in
     let z : 0 + a ≡ a = omega arith in
     let left : sum_by (block_count C j) (numbers_from 0 (blocks_before k q 1 (suc p))) ≡ sum_by (block_count C j) (numbers_from 0 a) + sum_by (block_count C j) (numbers_from a c) =
-        ap (λ n. sum_by (block_count C j) (numbers_from 0 n)) (blocks_next k q p)
-        ∙ ap (sum_by (block_count C j)) (numbers_append 0 a c)
-        ∙ sum_by-append (block_count C j) (numbers_from 0 a) (numbers_from (0 + a) c)
-        ∙ ap (λ i. sum_by (block_count C j) (numbers_from 0 a) + sum_by (block_count C j) (numbers_from i c)) z in
+    ap (λ n. sum_by (block_count C j) (numbers_from 0 n)) (blocks_next k q p)
+    ∙ ap (sum_by (block_count C j)) (numbers_append 0 a c)
+    ∙ sum_by-append (block_count C j) (numbers_from 0 a) (numbers_from (0 + a) c)
+    ∙ ap (λ i. sum_by (block_count C j) (numbers_from 0 a) + sum_by (block_count C j) (numbers_from i c)) z in
     let up : p + 1 ≡ suc p = omega arith in
     let next : 1 + p ≡ suc p = omega arith in
     let right : sum_by found (numbers_from 1 (suc p)) ≡ sum_by found (numbers_from 1 p) + found (suc p) =
-        ap (λ n. sum_by found (numbers_from 1 n)) (sym up)
-        ∙ ap (sum_by found) (numbers_append 1 p 1)
-        ∙ sum_by-append found (numbers_from 1 p) (numbers_from (1 + p) 1)
-        ∙ ap (λ i. sum_by found (numbers_from 1 p) + sum_by found (numbers_from i 1)) next
-        ∙ ap (λ x. sum_by found (numbers_from 1 p) + x) (sum_by-cons found (suc p) [] ∙ omega arith) in
+    ap (λ n. sum_by found (numbers_from 1 n)) (sym up)
+    ∙ ap (sum_by found) (numbers_append 1 p 1)
+    ∙ sum_by-append found (numbers_from 1 p) (numbers_from (1 + p) 1)
+    ∙ ap (λ i. sum_by found (numbers_from 1 p) + sum_by found (numbers_from i 1)) next
+    ∙ ap (λ x. sum_by found (numbers_from 1 p) + x) (sum_by-cons found (suc p) [] ∙ omega arith) in
     omega (arith, left, right, blocks_sum C j p (omega (arith, l)) before long, level_sum C j p (omega (arith, l)) short long)
 
 pub count_by_blocks : (C : Matrix) (j : ℕ) → AreRows C.field C.columns C.rows → AreIndependent C.field C.columns C.rows → 0 < set_count C → blocks_before (length C.rows) (size C.field) 1 (length C.rows) ≤ cut → count_of_weight C.field C.columns C.rows j ≡ cond (0 == j) 1 0 + (size C.field - 1) * sum_by (block_count C j) (numbers_from 0 (total (length C.rows) (size C.field) 1))
@@ -113,7 +113,7 @@ count_by_blocks C j r i some short =
     let one : k * 1 ≡ k = omega arith in
     let whole : min (blocks_before k q 1 (k * 1)) cut ≡ blocks_before k q 1 k = rw one (omega (arith, short)) in
     let sums : sum_by (block_count C j) (numbers_from 0 (min (blocks_before k q 1 (k * 1)) cut)) ≡ sum_by (found_at C.field C.columns e j) (numbers_from 1 (length e)) =
-        ap (λ n. sum_by (block_count C j) (numbers_from 0 n)) whole ∙ blocks_sum C j k (omega arith) short long ∙ ap (λ n. sum_by (found_at C.field C.columns e j) (numbers_from 1 n)) (sym long) in
+    ap (λ n. sum_by (block_count C j) (numbers_from 0 n)) whole ∙ blocks_sum C j k (omega arith) short long ∙ ap (λ n. sum_by (found_at C.field C.columns e j) (numbers_from 1 n)) (sym long) in
     count_by_messages C.field C.columns C.rows e j r i g.1.words (systematic_independent C.field C.columns C.rows _ e g.1) g.1.same
     ∙ ap (λ x. cond (0 == j) 1 0 + (q - 1) * x) (sym sums)
 

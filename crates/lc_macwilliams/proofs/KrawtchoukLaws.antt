@@ -1,9 +1,11 @@
 -- The MacWilliams identity with Krawtchouk polynomials (MacWilliams and Sloane, chapter 5).
 --   part, parts                a term of a Krawtchouk polynomial, and the sum of the terms with coefficients
 --   parts_zero, parts_other    for words that have a symbol more in front: 0, or another one
+--   is_even, is_odd            1 for even and for odd numbers, else 0
 --   even_is, odd_is            the even and the odd part as such sums
 --   even_zero, odd_zero, even_other, odd_other, even_first, odd_first, none_even, none_odd      how these grow
---   weight_transform           the transform of the words of a weight is the Krawtchouk polynomial
+--   has_weight k e             1 for the words of weight k, else 0
+--   weight_transform           its transform is the Krawtchouk polynomial
 --   macwilliams                the identity
 --   dual_of_dual               so it holds with a code and its dual exchanged
 use Rattle.std.proofs.Common.{◌≡◌, ℕ, zero, suc, ◌+◌, ◌-◌, ◌*◌, ◌^◌, ◌%◌, ◌<◌, ◌≤◌, Bool, true, false, cond, ◌==◌, List, [], ◌∷◌, length, sum_by, refl, sym, ap, ◌∙◌, arith}

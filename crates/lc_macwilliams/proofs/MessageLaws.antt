@@ -1,9 +1,13 @@
 -- All words of a code, from the messages of all levels: each word found counts q - 1 times, and the zero word once.
 --   numbers_distinct           the numbers from i on are different
---   leaders k q                the vectors of the messages of the levels 1 to k: those whose first nonzero symbol is 1
---   leader, leader_listed      each is one, and has a weight from 1 to k; the message of a vector is listed
+--   leaders_of k q w           the vectors of the messages of level w: those of weight w whose first nonzero symbol is 1
+--   leaders k q                those of the levels 1 to k
+--   IsLeader, leader, leader_listed      such a vector, and its level; each is one; the vector of a message is listed
 --   leaders_distinct           each is listed once
---   all_vectors f k            the zero word and the multiples of these by the nonzero elements
+--   multiples_of f k a         the multiples of the leaders by a
+--   nonzero_vectors f k        those by all nonzero elements
+--   IsMultiple                 such a multiple
+--   all_vectors f k            the zero word and these
 --   vectors_are, are_vectors   they are the words of length k
 --   one_multiple               a multiple tells its factor
 --   vectors_distinct           each is listed once
@@ -166,21 +170,21 @@ pub vectors_distinct : (f : FieldName) (k : ℕ) → AreDistinct (all_vectors f 
 vectors_distinct f k =
     let is : (u : List ℕ) → Contains (leaders k (size f)) u → IsLeader k (size f) u = λ u c. leader k (size f) u (one_inside f) c in (
       (λ c.
-      let t = is_multiple f k (zero_word k) c in
-      let some : 0 < weight (scale f t.factor t.leading) = multiple_weight f k t.factor t.leading t.nonzero t.inside t.listed in
-      let none : weight (scale f t.factor t.leading) ≡ 0 = ap weight (sym t.multiple) ∙ weight_zero_word k in
-      omega (arith, some, none)),
+          let t = is_multiple f k (zero_word k) c in
+          let some : 0 < weight (scale f t.factor t.leading) = multiple_weight f k t.factor t.leading t.nonzero t.inside t.listed in
+          let none : weight (scale f t.factor t.leading) ≡ 0 = ap weight (sym t.multiple) ∙ weight_zero_word k in
+          omega (arith, some, none)),
       distinct_flat_map (multiples_of f k) (numbers_from 1 (size f - 1))
-      (λ a c.
-      let n = factor_inside f a c in
-      distinct_map (scale f a) (leaders k (size f)) (λ u v x y e. same_multiple f k a u v n.0 n.1 (leader_word f k u (is u x)) (leader_word f k v (is v y)) e) (leaders_distinct k (size f) (one_inside f)))
-      (λ a b w c d x y.
-      let m = factor_inside f a c in
-      let n = factor_inside f b d in
-      let u = contains_map (scale f a) (leaders k (size f)) w x in
-      let v = contains_map (scale f b) (leaders k (size f)) w y in
-      one_multiple f k a b u.0 v.0 m.0 m.1 n.0 n.1 (is u.0 u.1) (is v.0 v.1) (sym u.2 ∙ v.2))
-      (numbers_distinct 1 (size f - 1)),
+          (λ a c.
+          let n = factor_inside f a c in
+          distinct_map (scale f a) (leaders k (size f)) (λ u v x y e. same_multiple f k a u v n.0 n.1 (leader_word f k u (is u x)) (leader_word f k v (is v y)) e) (leaders_distinct k (size f) (one_inside f)))
+          (λ a b w c d x y.
+          let m = factor_inside f a c in
+          let n = factor_inside f b d in
+          let u = contains_map (scale f a) (leaders k (size f)) w x in
+          let v = contains_map (scale f b) (leaders k (size f)) w y in
+          one_multiple f k a b u.0 v.0 m.0 m.1 n.0 n.1 (is u.0 u.1) (is v.0 v.1) (sym u.2 ∙ v.2))
+          (numbers_distinct 1 (size f - 1)),
     )
 
 pub counts_agree : {X : Type 0} (p : X → Bool) (xs ys : List X) → AreDistinct xs → AreDistinct ys → ((x : X) → Contains xs x → Contains ys x) → ((x : X) → Contains ys x → Contains xs x) → count_by p xs ≡ count_by p ys
@@ -215,17 +219,17 @@ count_by_messages f n rows e j r i s d same =
     let q : ℕ = size f in
     let has : List ℕ → ℕ = λ v. cond (weight (combine f n v e) == j) 1 0 in
     let leading : sum_by has (leaders k q) ≡ sum_by (found_at f n e j) (numbers_from 1 k) =
-        sum_flat_map has (leaders_of k q) (numbers_from 1 k)
-        ∙ sum_same (λ w. sum_by has (leaders_of k q w)) (found_at f n e j) (numbers_from 1 k) (λ w _. sum_map has (vector_of k) (messages k q w)) in
+    sum_flat_map has (leaders_of k q) (numbers_from 1 k)
+    ∙ sum_same (λ w. sum_by has (leaders_of k q w)) (found_at f n e j) (numbers_from 1 k) (λ w _. sum_map has (vector_of k) (messages k q w)) in
     let each : (a : ℕ) → Contains (numbers_from 1 (q - 1)) a → sum_by has (multiples_of f k a) ≡ sum_by (found_at f n e j) (numbers_from 1 k) = λ a c.
-        let l = factor_inside f a c in
-        sum_map has (scale f a) (leaders k q)
-        ∙ sum_same (λ u. has (scale f a u)) has (leaders k q) (λ u m.
-          ap (λ x. cond (x == j) 1 0) (ap weight (combine_scale f n a u e) ∙ weight_scale f a (combine f n u e) l.1 l.0 (combine_is_word f n u e s).fits))
-        ∙ leading in
+    let l = factor_inside f a c in
+    sum_map has (scale f a) (leaders k q)
+    ∙ sum_same (λ u. has (scale f a u)) has (leaders k q) (λ u m.
+    ap (λ x. cond (x == j) 1 0) (ap weight (combine_scale f n a u e) ∙ weight_scale f a (combine f n u e) l.1 l.0 (combine_is_word f n u e s).fits))
+    ∙ leading in
     let nonzero : sum_by has (nonzero_vectors f k) ≡ (q - 1) * sum_by (found_at f n e j) (numbers_from 1 k) =
-        sum_flat_map has (multiples_of f k) (numbers_from 1 (q - 1))
-        ∙ sum_constant (λ a. sum_by has (multiples_of f k a)) (sum_by (found_at f n e j) (numbers_from 1 k)) (numbers_from 1 (q - 1)) each
-        ∙ ap (λ x. x * sum_by (found_at f n e j) (numbers_from 1 k)) (length-numbers_from 1 (q - 1)) in
+    sum_flat_map has (multiples_of f k) (numbers_from 1 (q - 1))
+    ∙ sum_constant (λ a. sum_by has (multiples_of f k a)) (sum_by (found_at f n e j) (numbers_from 1 k)) (numbers_from 1 (q - 1)) each
+    ∙ ap (λ x. x * sum_by (found_at f n e j) (numbers_from 1 k)) (length-numbers_from 1 (q - 1)) in
     let none : has (zero_word k) ≡ cond (0 == j) 1 0 = ap (λ x. cond (x == j) 1 0) (ap weight (combine_zero f n e s) ∙ weight_zero_word n) in
     count_by_vectors f n rows e (λ w. weight w == j) r i s d same ∙ sum_by-cons has (zero_word k) (nonzero_vectors f k) ∙ omega (arith, none, nonzero)

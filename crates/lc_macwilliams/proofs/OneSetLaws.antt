@@ -1,6 +1,7 @@
 -- The words of a code that are 0 on a set of coordinates, and those of its dual that are 0 outside it (MacWilliams and Sloane,
 -- chapter 5, where the identities are proved by these numbers).
 --   is_zero_but b i w          whether w is 0 at each place p, from i on, but those that b holds of
+--   shown b                    1 for a test that is passed, else 0
 --   symbol_of_test, test_of_symbols      what it tests
 --   on_places, SetTransform, set_transform      the transform of the words that are 0 outside a set of places
 --   zero_outside_told, zero_on_told      the tests for sets of coordinates, as such tests

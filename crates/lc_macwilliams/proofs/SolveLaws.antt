@@ -6,8 +6,10 @@
 --   moment_small               how large a moment is
 --   dual_dimension             the dimensions of a code and of its dual sum up to the length
 --   Step, step_made            what is known at the step for one weight
---   solved_next, solved_end    one weight more; all weights
---   power_next, power_fits     a product is a power; it fits
+--   count_small                how large a number of words is
+--   solved_first, solved_next, solved_end      no weight; one weight more; all weights
+--   power_first, power_next, power_fits        a product is a power; it fits
+--   power_laws                 these together
 use Rattle.std.proofs.Common.{◌≡◌, ℕ, zero, suc, ◌+◌, ◌-◌, ◌*◌, ◌/◌, ◌%◌, ◌^◌, ◌<◌, ◌≤◌, ◌==◌, List, [], ◌∷◌, ◌++◌, length, map, slice_index, sum_by, refl, sym, ap, ◌∙◌, arith}
 use Rattle.std.proofs.Math.Nat.{pow-suc, pow-zero, one-le-pow, pow-le-pow_left, pow-le-pow_right, mul-div_cancel_left, div-le_self, mul-le-mul_right, le-mul_of_pos_right}
 use Rattle.std.proofs.lemmas.Nat.{mul-le, pow-add, div-mul-add, mod-mul-add}

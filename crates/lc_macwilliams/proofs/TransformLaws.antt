@@ -13,6 +13,7 @@
 --   transform_none             the transform of what is 0 everywhere
 --   transform_plus             of a sum
 --   transform_empty            of a function on the empty word
+--   HasParts f n h k l         h is k with 0 in front of a word, and l with another symbol
 --   transform_step             of a function on longer words, from those of its two parts: with 0 in front, and with another symbol
 use Rattle.std.proofs.Common.{◌≡◌, ℕ, zero, suc, ◌+◌, ◌-◌, ◌*◌, ◌^◌, ◌<◌, Bool, true, false, cond, ◌==◌, ◌&&◌, List, [], ◌∷◌, length, map, flat_map, sum_by, count_by, Contains, refl, sym, ap, subst, ◌∙◌, ⊎_elim, arith}
 use Rattle.std.specs.List.{list_all}

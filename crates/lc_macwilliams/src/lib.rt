@@ -1,5 +1,5 @@
-//! The laws of weight distributions: how the weights of a code determine those of its dual (MacWilliams and Sloane, chapter 5). The
-//! weight distribution of a code, from that of its dual.
+//! The laws of weight distributions: how the weights of a code determine those of its dual (MacWilliams and Sloane,
+//! chapter 5), and the weight distribution of a code from that of its dual.
 #![tactic(auto)]
 
 pub mod laws;

@@ -11,9 +11,9 @@ use std::alloc::Global;
 
 /// The weight distribution of a code: how many of its words have weight 0, 1, and so on up to the length n.
 ///
-/// `counts` is that of its dual. A field of q elements and the length are such that q^n is at most 2^63; then n is at most 63, and
-/// no number on the way is above 2^126. The equations of the binomial moments are solved one after the other, for the weights 0, 1,
-/// and so on (MacWilliams and Sloane, The Theory of Error-Correcting Codes, chapter 5).
+/// `counts` is that of its dual. With q elements, q^n is at most 2^63; then n is at most 63, and no number on the way is
+/// above 2^126. The equations of the binomial moments are solved for the weights 0, 1, and so on, each from the numbers
+/// found before it (MacWilliams and Sloane, The Theory of Error-Correcting Codes, chapter 5).
 pub fn from_dual(alloc: Global, code: &Code, counts: &[u64]) -> Result<Vec<u64>, NoMemory>
     requires dual { IsDualDistribution code.now counts.now }
     requires small { size code.now.field ^ code.now.columns ≤ 2 ^ 63 }
