@@ -5,13 +5,13 @@
 --   blocks_sum                 so have the blocks of the first levels
 --   count_by_blocks            how many words of weight j a code has, by its blocks
 --   plan_is_short              the plan of a code of at most 2^24 words isn't cut
-use Rattle.std.proofs.Common.{◌≡◌, ℕ, zero, suc, ◌+◌, ◌-◌, ◌*◌, ◌/◌, ◌%◌, ◌^◌, ◌<◌, ◌≤◌, min, cond, ◌==◌, List, [], ◌∷◌, ◌++◌, length, map, flat_map, sum_by, count_by, Contains, refl, sym, ap, ◌∙◌, arith}
+use Rattle.std.proofs.Common.{◌≡◌, ℕ, zero, suc, ◌+◌, ◌-◌, ◌*◌, ◌^◌, ◌<◌, ◌≤◌, min, cond, ◌==◌, List, [], length, sum_by, count_by, Contains, refl, sym, ap, ◌∙◌, arith}
 use Rattle.std.proofs.Math.Nat.{div-le_self}
 use Rattle.std.proofs.lemmas.List.Sums.{sum_by-append, sum_by-cons}
 use Rattle.lc_algebra.specs.Field.{size}
 use Rattle.lc_algebra.specs.Word.{weight}
-use Rattle.lc_algebra.specs.Span.{combine, words, AreIndependent}
-use Rattle.lc_algebra.specs.Matrix.{Matrix, AreRows, IsSystematic}
+use Rattle.lc_algebra.specs.Span.{combine, AreIndependent}
+use Rattle.lc_algebra.specs.Matrix.{Matrix, AreRows}
 use Rattle.lc_algebra.proofs.FieldLaws.{one_inside}
 use Rattle.lc_algebra.proofs.ReducedLaws.{systematic_independent}
 use Rattle.lc_enumeration.specs.Message.{Message, numbers_from, messages, vector_of}

@@ -7,5 +7,6 @@ pub mod OneSetLaws
 pub mod IdentityExamples
 pub mod PascalLaws
 pub mod SolveLaws
+pub mod DualCounts
 pub mod MessageLaws
 pub mod BlockCounts

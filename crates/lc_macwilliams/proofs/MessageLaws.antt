@@ -15,17 +15,17 @@
 --   count_by_vectors           counting over the words of a code by all vectors of coefficients
 --   found_at f n e j w         how many messages of level w give words of weight j
 --   count_by_messages          how many words of weight j a code has, by these numbers
-use Rattle.std.proofs.Common.{◌≡◌, ◌≢◌, ℕ, zero, suc, ◌+◌, ◌-◌, ◌*◌, ◌<◌, ◌≤◌, Bool, cond, ◌==◌, List, [], ◌∷◌, length, map, flat_map, slice_index, sum_by, count_by, Contains, refl, sym, ap, subst, ◌∙◌, ⊎_elim, inl, inr, arith}
+use Rattle.std.proofs.Common.{◌≡◌, ◌≢◌, ℕ, zero, suc, ◌+◌, ◌-◌, ◌*◌, ◌<◌, ◌≤◌, Bool, cond, ◌==◌, List, ◌∷◌, length, map, flat_map, slice_index, sum_by, count_by, Contains, sym, ap, subst, ◌∙◌, ⊎_elim, arith}
 use Rattle.std.proofs.lemmas.Bool.{cases_lt}
 use Rattle.std.proofs.lemmas.List.Sums.{sum_by-cons}
 use Rattle.lc_algebra.specs.declared.FieldName.{FieldName}
-use Rattle.lc_algebra.specs.Field.{size, mul, IsInverse}
+use Rattle.lc_algebra.specs.Field.{size, mul}
 use Rattle.lc_algebra.specs.Word.{IsWord, zero_word, scale, weight}
 use Rattle.lc_algebra.specs.Span.{combine, InSpan, words, SameSpan, AreIndependent}
 use Rattle.lc_algebra.specs.Matrix.{AreRows}
 use Rattle.lc_algebra.proofs.FieldLaws.{one_inside, mul_one, mul_zero, mul_comm, inverse_of}
 use Rattle.lc_algebra.proofs.WordLaws.{IsWord_zero, IsWord_scale, index_scale, scale_zero, zero_scale, weight_scale, weight_zero_word, zero_from_weight, weight_at_most_length}
-use Rattle.lc_algebra.proofs.SpanLaws.{contains_head, contains_tail, contains_cases, contains_map, map_contains, contains_flat_map, flat_map_contains, span_word, word_of_member, member_of_word, combination_of_word, word_of_combination, combine_scale, coefficients_unique, combine_is_word}
+use Rattle.lc_algebra.proofs.SpanLaws.{contains_head, contains_tail, contains_cases, contains_map, map_contains, contains_flat_map, flat_map_contains, word_of_member, member_of_word, combination_of_word, word_of_combination, combine_scale, coefficients_unique, combine_is_word}
 use Rattle.lc_algebra.proofs.DimensionLaws.{AreDistinct, distinct_map, distinct_flat_map, distinct_from_pairs, words_distinct}
 use Rattle.lc_enumeration.specs.Message.{Message, numbers_from, messages, vector_of}
 use Rattle.lc_enumeration.proofs.SearchLaws.{numbers_within, within_numbers}

@@ -1,12 +1,11 @@
 -- Two codes, and how many words of each are orthogonal to the other.
 --   met_total              how many pairs of a word of each have dot 0, taken q times
 --   pairing                the numbers of words of each that are orthogonal to the other are as the sizes of the codes
-use Rattle.std.proofs.Common.{◌≡◌, ℕ, ◌+◌, ◌-◌, ◌*◌, ◌^◌, ◌<◌, cond, ◌==◌, List, length, sum_by, refl, sym, ap, ◌∙◌, arith}
+use Rattle.std.proofs.Common.{◌≡◌, ℕ, ◌+◌, ◌-◌, ◌*◌, ◌^◌, cond, ◌==◌, List, length, sum_by, refl, sym, ap, ◌∙◌, arith}
 use Rattle.std.proofs.Math.Nat.{eq_of_mul-eq-mul_left}
 use Rattle.std.proofs.lemmas.List.Sums.{length-filter}
 use Rattle.lc_algebra.specs.declared.FieldName.{FieldName}
 use Rattle.lc_algebra.specs.Field.{size}
-use Rattle.lc_algebra.specs.Word.{word_dot}
 use Rattle.lc_algebra.specs.Span.{words}
 use Rattle.lc_algebra.specs.Matrix.{AreRows}
 use Rattle.lc_algebra.proofs.FieldLaws.{one_inside}
