@@ -7,6 +7,7 @@
 --   sum_symbols                where all but the first give one number
 --   picked                     of the one number that is picked
 --   count_one                  one entry of the numbers below n passes, if exactly one does
+--   one_more                   q times a number is that number and q - 1 times it
 --   sum_grouped                grouped by a number of each entry
 --   sum_at_most, sum_passing   over different entries that are among others; and that are those that pass a test
 --   below_numbers              the numbers below n are those from 0 on
@@ -100,6 +101,10 @@ count_one p i m l h u =
     let same : p j ≡ (i == j) = same_test (p j) (i == j) (λ t. eq-eqb i j (sym (u j (contains_below m j c) t))) (λ t. subst (λ k. p k ≡ true) (eqb-true i j t) h) in
     rw same (omega arith))
     ∙ picked (λ _. 1) i m l
+
+pub one_more : (q x : ℕ) → 0 < q → q * x ≡ x + (q - 1) * x
+one_more zero x l = absurd (omega (arith, l))
+one_more (suc p) x l = let e : suc p - 1 ≡ p = omega arith in rw e (omega arith)
 
 pub sum_grouped : {X : Type 0} (g : X → ℕ) (h : ℕ → ℕ) (m : ℕ) (xs : List X) → ((x : X) → Contains xs x → g x < m) → sum_by (λ x. h (g x)) xs ≡ sum_by (λ j. h j * count_by (λ x. g x == j) xs) (below m)
 sum_grouped g h m xs l =

@@ -16,15 +16,11 @@ use Rattle.lc_algebra.proofs.SpanLaws.{span_word, word_of_member}
 use Rattle.lc_enumeration.specs.Message.{choose}
 use Rattle.lc_enumeration.specs.Distribution.{count_of_weight}
 use Rattle.lc_enumeration.proofs.ChooseLaws.{choose_next, choose_nothing, choose_none}
-use Rattle.lc_macwilliams.proofs.CountLaws.{sum_none, sum_times, sum_grouped, sum_cut}
+use Rattle.lc_macwilliams.proofs.CountLaws.{one_more, sum_none, sum_times, sum_grouped, sum_cut}
 use Rattle.lc_macwilliams.proofs.TransformLaws.{HasTransform, transform_none, transform_plus, transform_empty, transform_step, sum_over_dual}
 
 abbrev pub moment : FieldName → ℕ → List (List ℕ) → ℕ → ℕ → ℕ
 moment f n rows v m = sum_by (λ j. choose (n - j) v * count_of_weight f n rows j) (below m)
-
-one_more : (q x : ℕ) → 0 < q → q * x ≡ x + (q - 1) * x
-one_more zero x l = absurd (omega (arith, l))
-one_more (suc p) x l = let e : suc p - 1 ≡ p = omega arith in rw e (omega arith)
 
 zero_ahead : (n : ℕ) (u : List ℕ) → length u ≡ n → suc n - weight (0 ∷ u) ≡ suc (n - weight u)
 zero_ahead n u l = omega (arith, weight_zero_head u, weight_at_most_length u, l)

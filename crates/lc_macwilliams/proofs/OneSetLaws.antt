@@ -7,7 +7,7 @@
 --   zero_outside_told, zero_on_told      the tests for sets of coordinates, as such tests
 --   set_size                   how many numbers below n a set has
 --   one_set                    the law
-use Rattle.std.proofs.Common.{◌≡◌, ℕ, zero, suc, ◌+◌, ◌-◌, ◌*◌, ◌^◌, ◌<◌, Bool, true, false, not, cond, ◌==◌, ◌&&◌, ◌||◌, List, [], ◌∷◌, length, slice_index, sum_by, count_by, All, refl, sym, ap, ◌∙◌, ⊎_elim, arith}
+use Rattle.std.proofs.Common.{◌≡◌, ℕ, zero, suc, ◌+◌, ◌*◌, ◌^◌, ◌<◌, Bool, true, false, not, cond, ◌==◌, ◌&&◌, ◌||◌, List, [], ◌∷◌, length, slice_index, sum_by, count_by, All, refl, sym, ap, ◌∙◌, ⊎_elim, arith}
 use Rattle.std.proofs.Math.Nat.{pow-suc, pow-zero, mul-one}
 use Rattle.std.proofs.lemmas.Bool.{cases_Bool, and_parts, and_from, or_cases, or_left, or_right, eq-eqb, eqb-true, false≢true, ne_eqb}
 use Rattle.std.proofs.lemmas.List.Elements.{All-contains}
@@ -27,7 +27,7 @@ use Rattle.lc_enumeration.specs.Distribution.{is_zero_on, is_zero_outside, zero_
 use Rattle.lc_enumeration.proofs.MemberLaws.{member_true, true_member}
 use Rattle.lc_enumeration.proofs.DistributionLaws.{zero_on_from_test, test_from_zero_on}
 use Rattle.lc_enumeration.proofs.GreedyLaws.{each_contained}
-use Rattle.lc_macwilliams.proofs.CountLaws.{sum_same, sum_none, sum_times, sum_constant, sum_passing, below_numbers}
+use Rattle.lc_macwilliams.proofs.CountLaws.{one_more, sum_same, sum_none, sum_times, sum_constant, sum_passing, below_numbers}
 use Rattle.lc_macwilliams.proofs.TransformLaws.{HasTransform, transform_none, transform_empty, transform_step, sum_over_dual}
 
 unfoldable pub is_zero_but : (ℕ → Bool) → ℕ → List ℕ → Bool
@@ -78,10 +78,6 @@ but_other b i a u p = ap (λ z. (b i || z) && is_zero_but b (suc i) u) (ne_eqb a
 count_next : (b : ℕ → Bool) (i n : ℕ) → count_by b (numbers_from i (suc n)) ≡ shown (b i) + count_by b (numbers_from (suc i) n)
 unfolding numbers_from
 count_next b i n = sum_by-cons (λ j. cond (b j) 1 0) i (numbers_from (suc i) n)
-
-one_more : (q x : ℕ) → 0 < q → q * x ≡ x + (q - 1) * x
-one_more zero x l = absurd (omega (arith, l))
-one_more (suc p) x l = let e : suc p - 1 ≡ p = omega arith in rw e (omega arith)
 
 power_next : (q c m : ℕ) → m ≡ 1 + c → q ^ m ≡ q * q ^ c
 power_next q c m e = let s : m ≡ suc c = omega (arith, e) in ap (λ x. q ^ x) s ∙ pow-suc q c ∙ omega arith

@@ -1,6 +1,6 @@
 -- Krawtchouk polynomials (MacWilliams and Sloane, chapter 5), for words of n symbols over q elements:
 --   K_k(x) = the sum over s from 0 to k of (-1)^s (q - 1)^(k - s) (x choose s) (n - x choose k - s)
--- For x from 0 to n it is what the words of weight k sum up to, each counted with the character of its dot with a word of weight x.
+-- For x from 0 to n it is the sum, over all words of weight k, of the character of their dot with one word of weight x.
 --   krawtchouk_term q n k x s      the number (q - 1)^(k - s) (x choose s) (n - x choose k - s)
 --   krawtchouk_even q n k x        the sum of these for the even s from 0 to k
 --   krawtchouk_odd q n k x         the sum of these for the odd s, so that K_k(x) is krawtchouk_even less krawtchouk_odd

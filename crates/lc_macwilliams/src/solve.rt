@@ -1,5 +1,5 @@
 //! The weight distribution of a code, from that of its dual.
-ghost use Rattle.std.specs.Prelude.{◌≡◌, ℕ, ◌+◌, ◌-◌, ◌*◌, ◌^◌, ◌<◌, ◌≤◌, length, IfOk};
+ghost use Rattle.std.specs.Prelude.{◌≡◌, ◌+◌, ◌^◌, ◌<◌, ◌≤◌, length, IfOk};
 ghost use Rattle.lc_algebra.specs.Field.{size};
 ghost use Rattle.lc_enumeration.specs.Distribution.{count_of_weight, distribution_of};
 ghost use Rattle.lc_place.specs.Tables.{IsTable};
