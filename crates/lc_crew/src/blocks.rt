@@ -37,11 +37,8 @@ pub trait Blocks {
         ensures added { (j : ℕ) → Self.tally self.now room.new j ≡ Self.tally self.now room.old j + Self.share self.now block j }
         ensures few { (j : ℕ) → Self.share self.now block j ≤ 4096 };
 
-    /// Makes a room whose counts are 0. Refused only if no memory is left.
-    fn room(&self, alloc: Global) -> Result<Self::Room, NoMemory>
-        ensures { IfOk result (IsFresh (Self.fits self.now) (Self.tally self.now)) };
-
-    /// Makes one more such room beside another, with which it may share what no block changes.
+    /// Makes one room more, whose counts are 0, beside another, with which it may share what no block changes. Refused only
+    /// if no memory is left.
     fn another(&self, alloc: Global, room: &Self::Room) -> Result<Self::Room, NoMemory>
         requires room { Self.fits self.now room.now }
         ensures { IfOk result (IsFresh (Self.fits self.now) (Self.tally self.now)) };

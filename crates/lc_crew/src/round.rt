@@ -10,30 +10,20 @@ use lc_io::Gate;
 use std::alloc::Global;
 use std::thread::Threads;
 
-// One room more.
-fn one_more<B: Blocks>(alloc: Global, blocks: &B, spare: &[B::Room]) -> Result<B::Room, NoMemory>
-    requires spare { All (IsFresh (B.fits blocks.now) (B.tally blocks.now)) spare.now }
-    ensures { IfOk result (IsFresh (B.fits blocks.now) (B.tally blocks.now)) }
-{
-    if spare.is_empty() {
-        return blocks.room(alloc);
-    }
-    blocks.another(alloc, &spare[0])
-}
-
-// Makes rooms until there are as many as are wanted.
+// Makes rooms until there are as many as are wanted. There is one.
 fn provide<B: Blocks>(
     alloc: Global,
     blocks: &B,
     spare: &mut Vec<B::Room>,
     wanted: u32,
 ) -> Result<(), NoMemory>
+    requires some { 0 < length spare.old.items }
     requires spare { All (IsFresh (B.fits blocks.now) (B.tally blocks.now)) spare.old.items }
     ensures spare { All (IsFresh (B.fits blocks.now) (B.tally blocks.now)) spare.new.items }
     ensures enough { IfOk result (λ _. wanted ≤ length spare.new.items) }
 {
     while spare.len() < wanted as usize {
-        let room = one_more(alloc, blocks, spare)?;
+        let room = blocks.another(alloc, &spare[0])?;
         spare.push(room)?;
     }
     Ok(())
@@ -150,7 +140,7 @@ fn close_all<W: Send + Drop>(
 ///
 /// There are 1 to 256 workers, numbered from 0; each passes the gate before each of its reports. One worker starts no thread.
 /// `start` plus `count` is at most the number of blocks, which is at most 2^40. `spare` holds rooms that were made for these
-/// blocks and whose counts are 0; those of this round are kept there. All memory is taken before the first claim; if there is
+/// blocks and whose counts are 0, one at least; those of this round are kept there. All memory is taken before the first claim; if there is
 /// none, no block is done.
 pub fn run_round<R: Threads + Sync, G: Gate + Sync, B: Blocks + Sync>(
     rt: &R,
@@ -167,6 +157,7 @@ pub fn run_round<R: Threads + Sync, G: Gate + Sync, B: Blocks + Sync>(
     requires count { count ≤ 2 ^ 40 }
     requires few { B.total blocks.now ≤ 2 ^ 40 }
     requires blocks { start + count ≤ B.total blocks.now }
+    requires some { 0 < length spare.old.items }
     requires spare { All (IsFresh (B.fits blocks.now) (B.tally blocks.now)) spare.old.items }
     ensures spare { All (B.fits blocks.now) spare.new.items }
     ensures count { IfOk result (λ r. r.count ≡ count) }
