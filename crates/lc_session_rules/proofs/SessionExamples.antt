@@ -12,14 +12,13 @@
 --   runs_nothing                 the whole contract of `run` over the empty script
 --   no_false_fault               no session over the empty script ends with a fault of the source whose count stands still
 use Rattle.std.proofs.Common.{◌≡◌, ℕ, refl, inl, inr, arith, ◌∙◌, ⊎_elim}
-use Rattle.std.specs.Prelude.{List, [], ◌∷◌, ◌++◌, ◌^◌, map, codes, true, false, Bool, Option, Some, None, take, drop, nat_lt, if◌then◌else◌}
+use Rattle.std.specs.Prelude.{List, [], ◌∷◌, ◌++◌, ◌^◌, map, codes, false, Bool, Option, Some, None, take, nat_lt}
 use Rattle.std.specs.List.{list_all}
-use Rattle.serde_json.specs.Read.{read}
 use Rattle.sha2.specs.Sha256.{sha256}
 use Rattle.lc_algebra.specs.Matrix.{Matrix}
 use Rattle.lc_enumeration.specs.Records.{SessionStep, fresh_start, no_steps, session_from, session_rounds}
 use Rattle.lc_enumeration.proofs.SearchExamples.{hamming}
-use Rattle.lc_formats.specs.Checkpoint.{Checkpoint, ReadCheckpoint, point, refused as unread, damaged, checkpoint_text, checkpoint_in, is_whole, body_in}
+use Rattle.lc_formats.specs.Checkpoint.{Checkpoint, point, refused as unread, damaged, checkpoint_text, checkpoint_in}
 use Rattle.lc_formats.specs.Certificate.{not_json}
 use Rattle.lc_formats.specs.Text.{same_bytes}
 use Rattle.lc_formats.proofs.Evaluated.{checkpoint_computes}

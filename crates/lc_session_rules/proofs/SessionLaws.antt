@@ -3,7 +3,7 @@
 --   refused_exactly       refused arguments end the session with their index, and no others do
 --   unsliced              without a slice no session is stopped by one
 --   completed             what is left when nothing fails, nothing pauses and the checkpoint is usable: the text, or no memory
-use Rattle.std.proofs.Common.{◌≡◌, ℕ, ◌<◌, ◌≤◌, refl, arith, ap, sym, subst, ◌∙◌, zero, suc, ⊎_elim, ◌⊎◌}
+use Rattle.std.proofs.Common.{◌≡◌, ℕ, ◌<◌, ◌≤◌, refl, arith, ap, sym, subst, ◌∙◌, zero, suc, ⊎_elim}
 use Rattle.std.specs.Prelude.{List, [], ◌∷◌, ◌++◌, true, false, Option, Some, None, length, drop, unwrap_or, ◌-◌, IsTrue}
 use Rattle.std.proofs.lemmas.List.{append-nil, length-append}
 use Rattle.sha2.specs.Sha256.{sha256}
