@@ -9,6 +9,7 @@
 --   Kept-paused, Kept-unpaused     what the flag says of those that are handed back
 --   Kept-once          with checkpoints kept, one that is handed back has paused once at most, and then the flag says so
 --   Kept-silent        without a record nobody paused
+--   Kept-same          and all are as they were
 --   Stays-unpaused     a watcher that is handed back and answered no Pause to the last record, nor could before, never did
 use Rattle.std.proofs.Common.{◌<◌, ◌⊎◌, ⊎_elim, inl, inr, ◌≡◌, ◌+◌, ◌++◌, ℕ, suc, zero, Bool, true, false, cond, List, [], ◌∷◌, length, refl, sym, ap, subst, ◌∙◌, arith}
 use Rattle.std.specs.Prelude.{Contains, count_by, Option, Some, None, option_map, IfSome, not}
@@ -327,3 +328,29 @@ pub Kept-silent : (keep paused : Bool) (ws vs : List Hearing) → Kept keep [] p
 Kept-silent keep _ _ _ Kept.no_more = refl
 Kept-silent keep _ _ _ (Kept.kept w v ws vs p paused s past) = let mine : p ≡ false = s.last ∙ no-advice s.advices s.as_many in rw mine (Kept-silent keep paused ws vs past)
 Kept-silent keep _ _ _ (Kept.gone w ws vs paused g past) = Kept-silent keep paused ws vs past
+
+abbrev made : Option (List Record) → Option (List Advice) → ℕ → Hearing
+made heard coming pauses = record { heard = heard; coming = coming; pauses = pauses }
+
+Hearing-same : (w v : Hearing) → v.heard ≡ w.heard → v.coming ≡ w.coming → v.pauses ≡ w.pauses → v ≡ w
+Hearing-same w v heard coming pauses = ap (λ (h : Option (List Record)). made h v.coming v.pauses) heard ∙ ap (λ (c : Option (List Advice)). made w.heard c v.pauses) coming ∙ ap (λ (n : ℕ). made w.heard w.coming n) pauses
+
+-- no record, no advice
+unheard : {A : Type 0} (advices : List Advice) (advice : Advice) → length (advice ∷ advices) ≡ 0 → A
+unheard advices advice none = absurd (omega (arith, none))
+
+still-coming : (before after : Option (List Advice)) → Gave before [] after → after ≡ before
+still-coming None after gave = gave
+still-coming (Some coming) after (rest, is, told) = told ∙ ap Some (sym is)
+
+Stays-same : (keep p : Bool) (w v : Hearing) → Stays keep [] p w v → v ≡ w
+Stays-same keep p w v s = by s.advices s.as_many s.coming s.pauses
+  where
+    by : (advices : List Advice) → length advices ≡ 0 → Gave w.coming advices v.coming → v.pauses ≡ w.pauses + count_by is_pause advices → v ≡ w
+    by [] none gave counted = Hearing-same w v (s.heard ∙ sym (heard-none w.heard)) (still-coming w.coming v.coming gave) (counted ∙ omega arith)
+    by (a ∷ advices) none gave counted = unheard advices a none
+
+pub Kept-same : (keep paused : Bool) (ws vs : List Hearing) → Kept keep [] paused ws vs → vs ≡ ws
+Kept-same keep _ _ _ Kept.no_more = refl
+Kept-same keep _ _ _ (Kept.kept w v ws vs p paused s past) = ap (λ (x : Hearing). x ∷ vs) (Stays-same keep p w v s) ∙ ap (λ (l : List Hearing). w ∷ l) (Kept-same keep paused ws vs past)
+Kept-same keep _ _ _ (Kept.gone w ws vs paused g past) = absurd (g.told refl)

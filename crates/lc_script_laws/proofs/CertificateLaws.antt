@@ -18,7 +18,7 @@ use Rattle.lc_certify.proofs.AcceptedLaws.{printed, empty_none}
 use Rattle.lc_script_laws.proofs.AskShapes.{met_shaped}
 use Rattle.lc_script_laws.proofs.RangeLaws.{need_is_code}
 
-need_searchable : (table : List Call) (bytes : List ℕ) (needs : List Matrix) → MeetsFirst table bytes needs → (i : ℕ) (C : Matrix) → slice_get needs i ≡ Some C → IsSearchable C
+pub need_searchable : (table : List Call) (bytes : List ℕ) (needs : List Matrix) → MeetsFirst table bytes needs → (i : ℕ) (C : Matrix) → slice_get needs i ≡ Some C → IsSearchable C
 need_searchable table bytes needs met i C at =
     let code = need_is_code needs i C (met_shaped table bytes needs met) at in
     let some = met_rows table bytes needs met i C at in
