@@ -7,7 +7,8 @@
 --   summed                what `summary` wrote is the line of its number, and it read nothing
 --   unfailed              a session that finishes met no fault
 --   counted_so            a count of faults rises only under the ending that tells it
---   source_fails          a fault of the source leaves sink, vault and watchers as they were
+--   early_so              a session that ends before its searches told nothing, and left the sink, the vault and the watchers as they were
+--   source_fails          a fault of the source: its count rose
 --   sink_fails            a fault of the sink: a front of the text was written, and not all of it
 --   unwritten             only the text and the line of a certificate are written
 --   worded                what `resume` prints over any vault: its words are in the codes
@@ -24,7 +25,7 @@ use Rattle.lc_io.specs.Outside.{HasRisen, AppendsPart}
 use Rattle.lc_io.specs.Vaults.{Slots}
 use Rattle.lc_io.specs.Watchers.{Hearing}
 use Rattle.lc_io.specs.Told.{Kept}
-use Rattle.lc_io.proofs.SeveralRecords.{Kept-once, Kept-silent}
+use Rattle.lc_io.proofs.SeveralRecords.{Kept-once, Kept-silent, Kept-same}
 use Rattle.lc_language.specs.declared.Call.{Call}
 use Rattle.lc_language.specs.Evaluation.{IsText}
 use Rattle.lc_session_rules.specs.Options.{Command, run, resume, check, summary, Settings}
@@ -33,7 +34,7 @@ use Rattle.lc_session_rules.specs.Answers.{IsTextBy, HasWords}
 use Rattle.lc_session_rules.specs.Slots.{takes, choice}
 use Rattle.lc_session_rules.specs.Endings.{Ending, done, usage, paused, source_fault, sink_fault, vault_fault, no_memory, no_checkpoint, damaged_checkpoint, other_script, rejected, too_long, unfit}
 use Rattle.lc_session_rules.specs.Session.{Outside, Course, records_of, Reads, Replies, Judges, Resumes, Starts, Ends, Stores, Writes, Counts, Finds, checks, resumes, IsAccepted, IsSession}
-use Rattle.lc_session_rules.specs.Promises.{StartsTruly}
+use Rattle.lc_session_rules.specs.Promises.{StartsTruly, ends_early}
 
 of_check : (command : Command) → IsTrue (checks command) → command ≡ check
 of_check run h = absurd (let e = h in cc)
@@ -108,12 +109,39 @@ pub counted_so : (table : List Call) (args : List (List ℕ)) (old new : Outside
     → (¬ (ending ≡ source_fault) → new.source_faults ≡ old.source_faults) × (¬ (ending ≡ sink_fault) → new.sink_faults ≡ old.sink_faults) × (((told : ℕ) → ¬ (ending ≡ vault_fault told)) → new.vault_faults ≡ old.vault_faults)
 counted_so table args old new ending s = counts_so ending old new s.counted
 
-vault_unmoved : (keep : Bool) (asked : Settings) (course : Course) (old new : Option Slots) → Stores keep source_fault asked course old new → new ≡ old
-vault_unmoved true asked course old new h = h
-vault_unmoved false asked course old new h = h
+-- what an ending before the searches leaves as it was
+record IsStill (ending : Ending) (asked : Settings) (course : Course) (old new : Outside) : Type 0 where
+  told : course.told ≡ []
+  sink : new.sink ≡ old.sink
+  vault : new.vault ≡ old.vault
 
-pub source_fails : (table : List Call) (args : List (List ℕ)) (old new : Outside) (s : IsSession table args old new source_fault) → HasRisen old.source_faults new.source_faults × (s.course.told ≡ []) × (new.sink ≡ old.sink) × (new.vault ≡ old.vault)
-source_fails table args old new s = (s.counted.0, s.ended, s.written, vault_unmoved s.asked.keep s.asked s.course old.vault new.vault s.stored)
+by_keep : (keep : Bool) (P : Bool → Type 0) (Q : Type 0) → (P true → Q) → (P false → Q) → P keep → Q
+by_keep true P Q yes_ no_ h = yes_ h
+by_keep false P Q yes_ no_ h = no_ h
+
+still_so : (ending : Ending) (asked : Settings) (course : Course) (old new : Outside) → IsTrue (ends_early ending) → Ends ending asked course → Stores asked.keep ending asked course old.vault new.vault → Writes ending course.text old.sink new.sink → IsStill ending asked course old new
+still_so (done n) asked course old new early e s w = absurd (let f = early in cc)
+still_so (usage i) asked course old new early e s w = record { told = e; sink = w; vault = by_keep asked.keep (λ k. Stores k (usage i) asked course old.vault new.vault) (new.vault ≡ old.vault) (λ h. h) (λ h. h) s }
+still_so (paused query blocks) asked course old new early e s w = absurd (let f = early in cc)
+still_so source_fault asked course old new early e s w = record { told = e; sink = w; vault = by_keep asked.keep (λ k. Stores k source_fault asked course old.vault new.vault) (new.vault ≡ old.vault) (λ h. h) (λ h. h) s }
+still_so sink_fault asked course old new early e s w = absurd (let f = early in cc)
+still_so (vault_fault told) asked course old new early e s w = absurd (let f = early in cc)
+still_so (no_memory told) asked course old new early e s w = absurd (let f = early in cc)
+still_so no_checkpoint asked course old new early e s w = record { told = e; sink = w; vault = by_keep asked.keep (λ k. Stores k no_checkpoint asked course old.vault new.vault) (new.vault ≡ old.vault) (λ h. h) (λ h. h) s }
+still_so damaged_checkpoint asked course old new early e s w = record { told = e; sink = w; vault = by_keep asked.keep (λ k. Stores k damaged_checkpoint asked course old.vault new.vault) (new.vault ≡ old.vault) (λ h. h) (λ h. h) s }
+still_so (other_script script budget) asked course old new early e s w = record { told = e; sink = w; vault = by_keep asked.keep (λ k. Stores k (other_script script budget) asked course old.vault new.vault) (new.vault ≡ old.vault) (λ h. h) (λ h. h) s }
+still_so (rejected reason) asked course old new early e s w = absurd (let f = early in cc)
+still_so too_long asked course old new early e s w = record { told = e; sink = w; vault = by_keep asked.keep (λ k. Stores k too_long asked course old.vault new.vault) (new.vault ≡ old.vault) (λ h. h) (λ h. h) s }
+still_so (unfit query told found) asked course old new early e s w = record { told = e; sink = w; vault = by_keep asked.keep (λ k. Stores k (unfit query told found) asked course old.vault new.vault) (new.vault ≡ old.vault) (λ h. h) (λ h. h) s }
+
+pub early_so : (table : List Call) (args : List (List ℕ)) (old new : Outside) (ending : Ending) (s : IsSession table args old new ending) → IsTrue (ends_early ending) → (s.course.told ≡ []) × (new.sink ≡ old.sink) × (new.vault ≡ old.vault) × (new.watchers ≡ old.watchers)
+early_so table args old new ending s early =
+    let still = still_so ending s.asked s.course old new early s.ended s.stored s.written in
+    let heard : Kept s.asked.keep [] s.course.is_paused old.watchers new.watchers = subst (λ (l : List SessionStep). Kept s.asked.keep (records_of l) s.course.is_paused old.watchers new.watchers) still.told s.heard in
+    (still.told, still.sink, still.vault, Kept-same s.asked.keep s.course.is_paused old.watchers new.watchers heard)
+
+pub source_fails : (table : List Call) (args : List (List ℕ)) (old new : Outside) (s : IsSession table args old new source_fault) → HasRisen old.source_faults new.source_faults
+source_fails table args old new s = s.counted.0
 
 -- the text that a session prints, by its command
 says_so : (table : List Call) (c : Command) (asked : Settings) (held : Option Slots) (course : Course) → Starts table c sink_fault asked held course → Replies table c asked held course

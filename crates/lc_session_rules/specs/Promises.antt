@@ -1,6 +1,7 @@
 -- The words in which one reads the promises off the contract of a session.
 --   IsUsable table asked bytes held      a checkpoint is taken, for this script and budget, and its records fit
 --   IsAnswer ending                      the session answered what was asked, or there was no memory
+--   ends_early ending                    the session ended before its searches began: by its arguments, its source or its slots
 --   IsAmple table args old new asked course      the arguments are accepted, the source gives a script, nothing stops the session on
 --                                        its way, the checkpoint that `resume` takes is usable, and nothing failed
 --   PrintsText table budget bytes old new n      the sink took the text of the script under this budget, and n says whether a fault ends it
@@ -61,6 +62,22 @@ IsAnswer (other_script script budget) = ⊥
 IsAnswer (rejected reason) = Unit {0}
 IsAnswer too_long = ⊥
 IsAnswer (unfit query told found) = ⊥
+
+-- before the searches began
+abbrev pub ends_early : Ending → Bool
+ends_early (done n) = false
+ends_early (usage i) = true
+ends_early (paused query blocks) = false
+ends_early source_fault = true
+ends_early sink_fault = false
+ends_early (vault_fault told) = false
+ends_early (no_memory told) = false
+ends_early no_checkpoint = true
+ends_early damaged_checkpoint = true
+ends_early (other_script script budget) = true
+ends_early (rejected reason) = false
+ends_early too_long = true
+ends_early (unfit query told found) = true
 
 -- nothing stops the session on its way, and nothing failed
 pub record IsAmple (table : List Call) (args : List (List ℕ)) (old new : Outside) (asked : Settings) (course : Course) : Type 0 where

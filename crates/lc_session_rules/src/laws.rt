@@ -27,7 +27,7 @@ ghost use Rattle.lc_session_rules.specs.Slots.{slot_of, turn_after, takes, choic
 ghost use Rattle.lc_session_rules.specs.Endings.{Ending, done, usage, paused, source_fault, sink_fault, vault_fault, no_memory, other_script, rejected};
 ghost use Rattle.lc_session_rules.specs.Summary.{summary_text};
 ghost use Rattle.lc_session_rules.specs.Session.{Outside, Course, rounds_of, keeps, IsFresh, GoesOnFrom, Fits, begin_with, Keeps, Tears, IsSession};
-ghost use Rattle.lc_session_rules.specs.Promises.{IsAmple, IsAnswer, PrintsText, checkpoint_of, Holds, StartsTruly, StoresTruly, StoresAfresh, EmptiesSo};
+ghost use Rattle.lc_session_rules.specs.Promises.{IsAmple, IsAnswer, PrintsText, checkpoint_of, Holds, StartsTruly, StoresTruly, StoresAfresh, EmptiesSo, ends_early};
 ghost use Rattle.lc_session_rules.specs.Chain.{Chain, IsGround, HasBegun, TearsSo, GoesOn, ChainsAreTrue};
 
 /// A session goes by the settings that its arguments ask for. It ends with the index of a refused
@@ -45,8 +45,9 @@ pub fn sessions_answer_what_was_asked()
 /// and its status is their verdict; what `summary` writes is the line of its number, and it reads nothing. A session that finishes
 /// met no fault.
 ///
-/// The count of faults of the source, the sink or the vault rises only if the session ends with that fault. A fault of the source
-/// leaves all else as it was. If the sink fails, it took a front of the text, and not all of it; the text is that of the script, if
+/// The count of faults of the source, the sink or the vault rises only if the session ends with that fault. A session that ends by its
+/// arguments, its source or its slots, before its searches began, told no record and left the sink, the vault and the watchers as they
+/// were. If the sink fails, it took a front of the text, and not all of it; the text is that of the script, if
 /// the session started afresh or from a true checkpoint. Under every other ending but for a finished or rejected session the sink is
 /// as it was. Over any slots the words that `resume` prints are nonzero words of the codes, with their weights. If checkpoints are
 /// kept, a watcher that is handed back has answered Pause once at most, and then the session is paused.
@@ -64,7 +65,8 @@ pub fn sessions_say_what_they_did()
     ensures unfailed { (table : List Call) (args : List (List ℕ)) (old new : Outside) (n : ℕ) (s : IsSession table args old new (done n)) → (new.source_faults ≡ old.source_faults) × (new.sink_faults ≡ old.sink_faults) × (new.vault_faults ≡ old.vault_faults) }
     ensures counts { (table : List Call) (args : List (List ℕ)) (old new : Outside) (ending : Ending) (s : IsSession table args old new ending)
         → (¬ (ending ≡ source_fault) → new.source_faults ≡ old.source_faults) × (¬ (ending ≡ sink_fault) → new.sink_faults ≡ old.sink_faults) × (((told : ℕ) → ¬ (ending ≡ vault_fault told)) → new.vault_faults ≡ old.vault_faults) }
-    ensures source_fault { (table : List Call) (args : List (List ℕ)) (old new : Outside) (s : IsSession table args old new source_fault) → HasRisen old.source_faults new.source_faults × (s.course.told ≡ []) × (new.sink ≡ old.sink) × (new.vault ≡ old.vault) }
+    ensures source_fault { (table : List Call) (args : List (List ℕ)) (old new : Outside) (s : IsSession table args old new source_fault) → HasRisen old.source_faults new.source_faults }
+    ensures early { (table : List Call) (args : List (List ℕ)) (old new : Outside) (ending : Ending) (s : IsSession table args old new ending) → IsTrue (ends_early ending) → (s.course.told ≡ []) × (new.sink ≡ old.sink) × (new.vault ≡ old.vault) × (new.watchers ≡ old.watchers) }
     ensures sink_fault { (table : List Call) (args : List (List ℕ)) (old new : Outside) (s : IsSession table args old new sink_fault)
         → HasRisen old.sink_faults new.sink_faults × AppendsPart old.sink new.sink s.course.text
         × (StartsTruly table s.asked.command s.asked old.vault s.course → IsText table s.asked.budget s.course.bytes s.course.text s.course.is_faulty) × (s.asked.command ≡ check → s.course.text ≡ check_text s.course.bytes) × (s.asked.command ≡ summary → s.course.text ≡ summary_text s.asked.number s.asked.budget) }
