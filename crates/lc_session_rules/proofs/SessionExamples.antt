@@ -9,10 +9,11 @@
 --   asks_near                    a statement that asks for the nearest word asks nothing else, and one for the distance no nearest word
 --   true_slots                   a true checkpoint in slot Zero and torn bytes in slot One
 --   wrong_slot                   the same checkpoint in slot One isn't as a session leaves it
+--   zero_first                   `run` that couldn't empty the slots, and left slot Zero as it was, left slot One as it was
 --   no_words                     the whole contract of a session without arguments
 --   runs_nothing                 the whole contract of `run` over the empty script
 --   no_false_fault               no session over the empty script ends with a fault of the source whose count stands still
-use Rattle.std.proofs.Common.{◌≡◌, ℕ, refl, inl, inr, arith, ◌∙◌, ⊎_elim}
+use Rattle.std.proofs.Common.{◌≡◌, ℕ, refl, inl, inr, ap, arith, ◌∙◌, ⊎_elim}
 use Rattle.std.specs.Prelude.{List, [], ◌∷◌, ◌++◌, ◌^◌, map, codes, false, Bool, Option, Some, None, take, nat_lt}
 use Rattle.std.specs.List.{list_all}
 use Rattle.sha2.specs.Sha256.{sha256}
@@ -29,7 +30,7 @@ use Rattle.lc_formats.proofs.CheckpointExamples.{plainly, reads_plainly}
 use Rattle.lc_grammar.specs.Token.{ended, scan_within, scan}
 use Rattle.lc_grammar.specs.Tree.{number, name, call, list, none, more, Statement, count_of}
 use Rattle.lc_io.specs.declared.vault.Slot.TheVariants.{Zero, One}
-use Rattle.lc_io.specs.Vaults.{empty_slots}
+use Rattle.lc_io.specs.Vaults.{Slots, empty_slots}
 use Rattle.lc_io.specs.Told.{Kept}
 use Rattle.lc_language.specs.declared.Call.{Call}
 use Rattle.lc_language.specs.Value as value
@@ -43,7 +44,7 @@ use Rattle.lc_session_rules.specs.Options.{run, settings, all_options, options, 
 use Rattle.lc_session_rules.specs.Needs.{IsNeeds, Needs, MeetsFirst}
 use Rattle.lc_session_rules.specs.Nears.{Nears}
 use Rattle.lc_session_rules.specs.Slots.{slot_of, next_turn, stored_bytes, slots_after, later_of, chosen, choice_among, is_empty, choice, nothing_stored, none_decodes, IsTornOr, AreTrueSlots}
-use Rattle.lc_session_rules.specs.Session.{Outside, Course, IsSession}
+use Rattle.lc_session_rules.specs.Session.{Outside, Course, AreHalfEmptied, IsSession}
 use Rattle.lc_session_rules.specs.Endings.{done, usage, paused, source_fault, sink_fault, vault_fault, no_memory, no_checkpoint, damaged_checkpoint, other_script, rejected, too_long, unfit, ending_number, said, ending_line}
 use Rattle.lc_session_rules.proofs.OptionExamples.{no_words as reads_none}
 
@@ -106,6 +107,13 @@ wrong_slot table both =
     let h : IsTornOr One table script (2 ^ 20) (point first_round) = rw reads_first_round at both.1 in
     let e : Zero ≡ One = h.1 in
     cc
+
+abbrev both : List ℕ → List ℕ → Slots
+both zero one = record { zero_slot = zero; one_slot = one }
+
+pub zero_first : (bytes : List ℕ) → AreHalfEmptied (both (codes "x") (codes "y")) (both (codes "x") bytes) → bytes ≡ codes "y"
+zero_first bytes (held, inl e) = ap (λ (slots : Slots). slots.one_slot) e
+zero_first bytes (held, inr e) = absurd (let f : codes "x" ≡ [] = ap (λ (slots : Slots). slots.zero_slot) e in cc)
 
 pub asks_nothing : (table : List Call) → IsNeeds table [] []
 unfolding scan scan_within ended
