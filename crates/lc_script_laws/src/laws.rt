@@ -3,6 +3,7 @@ ghost use Rattle.lc_algebra.specs.Field.{size};
 ghost use Rattle.lc_algebra.specs.Divisor.{divisor_of};
 ghost use Rattle.lc_enumeration.specs.Search.{Found, exact, set_count, answer};
 ghost use Rattle.lc_algebra.specs.Matrix.{Matrix};
+ghost use Rattle.lc_enumeration.specs.Truth.{AnswerHolds};
 ghost use Rattle.lc_enumeration.specs.Records.{SessionStep};
 ghost use Rattle.lc_formats.specs.Checkpoint.{Checkpoint};
 ghost use Rattle.lc_io.specs.Vaults.{Slots};
@@ -47,10 +48,11 @@ pub fn scripts_print_accepted_certificates()
 /// order, the lines of the codes that it searches, under its budget. Such a line states the minimum distance of the code and a word of
 /// it that has this weight; or two numbers between which the minimum distance lies, and a word that has the greater weight; or it is
 /// a certificate of which `check` answers that it is accepted, with the minimum distance; or it says that there is no certificate,
-/// with two such numbers, or since it costs too much or is too long.
+/// with two such numbers, or since it costs too much or is too long. Under every budget the answers for these codes are true.
 pub fn printed_answers_are_true()
     ensures text { (table : List Call) (budget : ℕ) (bytes text : List ℕ) (ends : Bool) → IsText table budget bytes text ends → (pieces : List Piece) × (text ≡ pieces_text budget pieces) × IsNeeds table bytes (codes_in pieces) × All (IsTruePiece budget) pieces }
     ensures line { (table : List Call) (bytes : List ℕ) (needs : List Matrix) → MeetsFirst table bytes needs → (i : ℕ) (C : Matrix) → slice_get needs i ≡ Some C → (kind : QueryKind) (budget : ℕ) → IsTrueLine kind C budget (query_line kind C budget) }
+    ensures truth { (table : List Call) (bytes : List ℕ) (needs : List Matrix) (budget : ℕ) → MeetsFirst table bytes needs → All (λ C. AnswerHolds C (answer (divisor_of C) C budget)) needs }
 {}
 
 /// If the budget is at least m (q^k - 1)/(q - 1) blocks and at most 2^40, for a code of dimension k over q elements with m information
