@@ -6,11 +6,11 @@
 --   Proves d                 the distance that the document states is that of its rows, or of the code that its claim defines
 --   SoundClaims              the law of claims: a claim of the stated shape that defines a code defines one that has its bound
 --   SoundTrees               the law of a checker: a certificate by construction of the stated shape that is valid proves its distance
-use Rattle.std.specs.Prelude.{◌≡◌, ℕ, length}
+use Rattle.std.specs.Prelude.{◌≡◌, ℕ}
 use Rattle.lc_algebra.specs.declared.FieldName.{FieldName}
 use Rattle.lc_algebra.specs.Span.{IsDistance, IsWeightBound}
 use Rattle.lc_algebra.specs.Matrix.{Matrix}
-use Rattle.lc_formats.specs.Certificate.{Verdict, rejected, verdict}
+use Rattle.lc_formats.specs.Certificate.{Verdict, rejected, verdict, code_length}
 use Rattle.lc_formats.specs.Claim.{Claim, Built, Document, plain, tree}
 use Rattle.lc_formats.specs.ClaimMeaning.{Denotes, IsValidTree, IsTreeVerdict}
 use Rattle.lc_formats.specs.Document.{DocumentRead, document, no_document, IsShapedClaim, IsShapedTree}
@@ -27,7 +27,7 @@ pub record IsProvenTree (b : Built) : Type 0 where
   pub proves : IsDistance code.field code.columns code.rows b.distance
 
 abbrev pub Proves : Document → Type 0
-Proves (plain c) = IsDistance c.field (length c.word) c.rows c.distance
+Proves (plain c) = IsDistance c.field (code_length c) c.rows c.distance
 Proves (tree b) = IsProvenTree b
 
 abbrev pub SoundClaims : Type 0
