@@ -37,7 +37,7 @@ first_step = told_at 1 2
 abbrev pub second_step : SessionStep
 second_step = told_at 2 3
 
-unfoldable rounds_compute : ⊤
+unfoldable pub rounds_compute : ⊤
 unfolding truth_computes progress_of first_progress end_of_phase within_slice round_length after_round note_of is_used_up state_first no_round less_slice rounds_within rounds last_state fresh_start step_of no_steps steps_first session_from session_rounds start_in
 rounds_compute = tt
 
