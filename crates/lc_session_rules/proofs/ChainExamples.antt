@@ -1,5 +1,6 @@
 -- Two worked sessions, by evaluation of the definitions: a script that asks for the distance of the Hamming code of length 7, first
 -- `run slice=1 keep=yes`, then `resume keep=yes`. That the script asks this is a premise.
+--   rounds_compute              the definitions that rounds open, under one name
 --   first_step, second_step     what the two rounds tell and keep
 --   first_session, second_session      the rounds of the sessions, the second one from the checkpoint of the first
 --   pauses, ends                the first session is paused by its slice, and the second isn't; so neither may end as the other does

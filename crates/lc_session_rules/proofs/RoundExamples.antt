@@ -181,7 +181,7 @@ reads_kept : options all_options kept_arguments ≡ settings kept_settings
 unfolding is_digit number_from number_of widest same_bytes command_text key_text row all_options settings_of number_in number_within yes_or_no put_key key_named row_named same_key place_of_key checked options_from options
 reads_kept = refl
 
-pub whole_session : session_rounds divisor_of (hamming ∷ []) (2 ^ 20) None fresh_start ≡ record { steps = first_step ∷ second_step ∷ []; settled = second_step.state ∷ []; left = None; is_stopped = false }
+whole_session : session_rounds divisor_of (hamming ∷ []) (2 ^ 20) None fresh_start ≡ record { steps = first_step ∷ second_step ∷ []; settled = second_step.state ∷ []; left = None; is_stopped = false }
 unfolding rounds_compute
 whole_session = refl
 
