@@ -2,9 +2,12 @@
 --   is_near_is, at_most_bound, above_bound      whether the bound has reached the best distance
 --   done_near                  if it has, no word is nearer than the best
 --   near_ends_to C budget      the phase ends up to a budget
+--   end_of C p, ends_are, end_in_ends      the end of a phase, and the phase ends
+--   level_test                 whether a level is done, as it is tested
 --   levels_done_same           at a budget the same levels are done as at the last phase end before it
 --   near_bound_whole, near_bound_open      the bound, if all levels of some set are done, and if not
 --   near_open                  if the search isn't done at the last phase end, no word is nearer than the bound at the budget
+--   zero_answer C x            the answer of a code without rows
 --   near_holds                 the answer is true
 use Rattle.std.proofs.Common.{◌≡◌, ℕ, suc, ◌+◌, ◌-◌, ◌*◌, ◌<◌, ◌≤◌, Bool, true, false, ◌&&◌, ◌==◌, nat_le, nat_lt, if◌then◌else◌, find, filter, List, [], ◌∷◌, length, map, Option, Some, None, unwrap_or, Contains, refl, sym, ap, subst, ◌∙◌, ⊎_elim, arith}
 use Rattle.std.proofs.lemmas.Bool.{cases_Bool, cases_lt, leb-true, ltb-true, le-leb, lt-ltb, false≢true, eqb-true, and_right}

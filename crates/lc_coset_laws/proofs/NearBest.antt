@@ -1,4 +1,5 @@
 -- The best word of a search for a nearest word: it is a word of the code at its place, and more blocks keep it.
+--   one_pattern, one_block, first_blocks      level 0 has one pattern, in one block
 --   first_word_at              place 0 has the word that equals x on the first basis
 --   near_first_is              its distance and its place
 --   HasNear C x y, has_near    there is a word of the code at the place, at the distance

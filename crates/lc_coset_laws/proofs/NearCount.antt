@@ -2,7 +2,7 @@
 --   partial, pascal, partial_stays, binomial      the first terms of the binomial theorem, how they grow with k, and their sum
 --   level_rows, level_end      the blocks before the phases of a level
 --   plan_few, plan_fewer       the phases have at most m times as many blocks as patterns, and fewer if level 1 has two patterns
---   coset_end C                the blocks of all phases
+--   coset_end C, some_phase    the blocks of all phases, of which there is one
 --   end_listed, last_passes, end_done      that end is a phase end, and there the search is done
 --   end_within                 it lies below the cut and within such a budget
 --   whole_budget               a budget of m q^k blocks gives an exact answer

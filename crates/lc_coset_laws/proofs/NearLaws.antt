@@ -3,6 +3,7 @@
 --   near_at_most, seen_no_nearer      it is no farther than what is found in the blocks, and than a word that is seen
 --   IsFar C e l j, far         a word that is nearer than the best differs from x on the basis of each set by at least as many
 --                              symbols as levels of the set are done
+--   set_rank C j               how many columns set j has fresh
 --   far_on_fresh, far_sum      so it differs on the fresh columns of a set, and of some sets
 --   levels_done_are, fresh_ranks      the levels done and the ranks, set by set
 --   near_bound_is              the bound, in its two cases

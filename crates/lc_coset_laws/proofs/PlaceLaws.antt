@@ -7,6 +7,7 @@
 --   PatternPlace, pattern_place      the place of a pattern, in a phase that isn't cut
 --   few_in_block               a block has at most 4,096 words
 --   NearFound, near_is, near_has      what is found in some blocks is what the words at their places are
+--   is_item                    whether a word of the code equals x less a pattern on a basis
 --   coset_word_is              the word of a pattern is found among all words of the code
 --   coset_word_inside          so it is in the code
 --   near_at_inside             and so is the word at a place

@@ -3,6 +3,7 @@
 --   coset_word_same            a word of the code that equals x less a pattern on the basis is the pattern's word
 --   done_of C l j              how many levels of set j have phases that lie wholly below l
 --   done_is, level_parts       what is said of the last of them
+--   phases_are                 there are k + 1 phases for each set
 --   NearSeen, near_seen        the place of such a word
 use Rattle.std.proofs.Common.{◌≡◌, ℕ, suc, ◌+◌, ◌-◌, ◌*◌, ◌<◌, ◌≤◌, true, find, nat_le, nat_lt, List, length, slice_get, slice_index, Option, Some, None, unwrap_or, refl, sym, ap, subst, ◌∙◌, arith}
 use Rattle.std.proofs.lemmas.Bool.{false≢true, and_parts, leb-true, ltb-true}

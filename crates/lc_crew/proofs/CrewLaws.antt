@@ -9,6 +9,7 @@
 --   nothing_counted   and their counts are together 0
 --   is_root_last, last_is_root      the root's seat is the last worker's
 --   tables_of         the tables of the last seat and of the others
+--   closed_at         what a board and the rooms show, for one count
 --   closed            what a board and the rooms show after the seats of workers that have done their work have closed it
 --   rooms_back        what the rooms have counted, beside others that have counted nothing
 use Rattle.std.proofs.Common.{◌≡◌, ℕ, ◌+◌, ◌<◌, min, ◌==◌, true, false, Some, List, [], ◌∷◌, ◌++◌, map, length, get_or, take, drop, set, refl, sym, ap, ap₂, ◌∙◌, subst, arith, length-append}

@@ -6,8 +6,9 @@
 --   sum_once                   and its sum
 --   numbers_up                 a sum over a range from another number on
 --   Share, books_in            a book and the total of its worker
+--   ShareDone                  a share of a worker that has done its work
 --   Gathered, gathered         such books, together: their numbers below the count, one that isn't, and the sum of the totals
---   all_done                   all numbers were drawn, the least reported value is that of the range, and so is the sum of the totals
+--   AllDone, all_done          all numbers were drawn, the least reported value is that of the range, and so is the sum of the totals
 use Rattle.std.proofs.Common.{◌≡◌, ℕ, zero, suc, ◌+◌, ◌-◌, ◌<◌, ◌≤◌, min, cond, eqb, ltb, List, [], ◌∷◌, ◌++◌, map, length, refl, sym, ap, ap₂, ◌∙◌, subst, ⊎_elim, arith}
 use Rattle.std.specs.Prelude.{All, Contains, sum_by}
 use Rattle.std.proofs.lemmas.Bool.{cases_lt, lt-ltb, le-ltb}

@@ -5,6 +5,7 @@
 --   counts_low             what a room has counted leaves place for one block more
 --   more_drawn             the seat draws no more numbers than the least above them
 --   falls                  what is left to draw falls
+--   work_laws              these, for the loop
 --   has_done               a seat that had drawn nothing, and a room that had counted nothing
 use Rattle.std.proofs.Common.{◌≡◌, ℕ, ◌+◌, ◌-◌, ◌^◌, ◌<◌, ◌≤◌, List, [], ◌∷◌, ◌++◌, map, length, sym, ap, ◌∙◌, arith, append_assoc, length-append}
 use Rattle.std.specs.Prelude.{All, sum_by}

@@ -4,7 +4,7 @@
 --   HasDone value add count book total      a seat drew numbers below the count and then one that isn't, and reported the value of
 --                              each below; the total is what these add
 --   IsDone tally value share b w      a worker whose seat is of the board b and has done so, for each of its counts
---   station w                  what no work changes: whether the seat is the root's, and how many seats it made
+--   Station, station w         what no work changes: whether the seat is the root's, and how many seats it made
 --   HaveDone fits tally value share b before after      these workers have done so, and each keeps its station
 --   IsRootLast ws              the last worker's seat is the root's, which made as many seats as there are workers
 --   least_over value first start n    the least of `first` and the values of the n numbers from `start` on
