@@ -100,7 +100,10 @@ a_copy_to_read_only() {
 at_a_terminal() {
     python3 -B - "$copy/codes" >"$room/out" <<'PY'
 import os, pty, sys
-child, terminal = pty.fork()
+try:
+    child, terminal = pty.fork()
+except OSError:
+    sys.exit(3)  # there are no terminals here
 if child == 0:
     os.execv(sys.argv[1], [sys.argv[1], "run"])
 os.write(terminal, b"Weight([1]);\n\x04")
@@ -113,22 +116,42 @@ except OSError:
 os.waitpid(child, 0)
 sys.stdout.write(said.decode())
 PY
+    [ $? -ne 3 ] || return 0
     grep -q '^codes: type a script, and end it with Ctrl-D' "$room/out" && grep -qx $'1\r' "$room/out"
 }
 
-# mistakes: each ends with its status and one line, though there is neither a program nor a kit
+# mistaken STATUS LINES WORD..: the script ends with the status and exactly these lines on standard error, though there is neither a
+# program nor a kit
+mistaken() {
+    local status=$1 lines=$2 got
+    shift 2
+    codes_there "$@" <examples/hamming.codes >"$room/out" 2>"$room/err"
+    got=$?
+    [ "$got" -eq "$status" ] && cmp "$room/out" "$room/nothing" && echo "$lines" | cmp - "$room/err" && return
+    echo "codes $*: status $got, wanted $status; standard error: $(head -c 400 "$room/err")"
+    return 1
+}
+refused() { mistaken 2 "codes: word $1 refused"$'\n'"codes: $2" "${@:3}"; }
+
 mistakes() {
-    local word
     mv "$copy/release" "$room/"
-    for word in nonsense examples/hamming.codes -h\ x --version\ x run\ examples/hamming.codes run\ - run\ budget=1e6 resume\ -j4 check\ x.json summary\ x \
-        'install' 'install a b' 'prove x' 'test x' 'explain' '--unproved' '--unproved nonsense' '--unproved run x.codes' '--unproved run keep=yes'; do
-        # shellcheck disable=SC2086
-        wrapped 2 "$room/nothing" '^codes: ' $word || return 1
-    done
-    wrapped 2 "$room/nothing" '^codes: word 0 refused; see ./codes --help$' &&
-        wrapped 2 "$room/nothing" '^codes: word 1 refused; run reads standard input: ./codes run < examples/hamming.codes$' run examples/hamming.codes &&
-        wrapped 4 "$room/nothing" '^codes: no.such can.t be read$' explain no.such && wrapped 4 "$room/nothing" '^codes: no.such can.t be read$' --unproved explain no.such &&
-        wrapped 20 "$room/nothing" '^codes: the Rattle kit is not here' prove && wrapped 20 "$room/nothing" '^codes: the Rattle kit is not here' --unproved run &&
+    refused 0 'see ./codes --help' && refused 0 'see ./codes --help' nonsense && refused 0 'see ./codes --help' --help x &&
+        refused 0 'a script comes on standard input: ./codes run < some.codes' some.codes &&
+        refused 0 '--version takes no argument' --version x &&
+        refused 1 'run reads standard input: ./codes run < some.codes' run some.codes &&
+        refused 2 'resume reads standard input: ./codes resume < FILE' resume keep=yes - &&
+        refused 1 'check reads standard input: ./codes check < FILE' check some.json &&
+        refused 1 'budget takes a number in digits, as budget=1000' run budget=2^20 &&
+        refused 1 'run takes workers=N, budget=N, keep=yes and, with it, slice=N' run -j4 &&
+        refused 1 'summary takes seed=N, workers=N and budget=N' summary 5 &&
+        refused 1 'run reads standard input: ./codes run < some.codes' --unproved run some.codes &&
+        mistaken 2 'codes: --unproved runs in a folder of its own, and keeps no checkpoints' --unproved run keep=yes &&
+        mistaken 2 'codes: install takes one folder' install && mistaken 2 'codes: install takes one folder' install a b &&
+        mistaken 2 'codes: prove takes no argument' prove x && mistaken 2 'codes: test takes no argument' test x &&
+        mistaken 2 'codes: explain takes one file, or - for standard input' explain &&
+        mistaken 4 "codes: no.such can't be read" explain no.such && mistaken 4 "codes: no.such can't be read" --unproved explain no.such &&
+        mistaken 20 'codes: the Rattle kit is not here: no command rt on the path, under $RATTLE_KIT or under /opt/rattle' prove &&
+        mistaken 20 'codes: the Rattle kit is not here: no command rt on the path, under $RATTLE_KIT or under /opt/rattle' --unproved run &&
         codes_there --help >"$room/out" && grep -q 'codes prove' "$room/out" && mv "$room/release" "$copy/"
 }
 
@@ -157,10 +180,10 @@ a_build_that_is_stopped() {
         # shellcheck disable=SC2086
         (cd "$room/elsewhere" && TMPDIR=$room/temporary PATH=$room/bin RATTLE_KIT=$room/kit exec "$copy/codes" $words) <examples/hamming.codes >/dev/null 2>&1 &
         pid=$!
-        until [ -s "$room/waits" ]; do sleep 0.1; done
+        while kill -0 "$pid" 2>/dev/null && [ ! -s "$room/waits" ]; do sleep 0.1; done
         kill "$pid"
         wait "$pid"
-        [ $? -eq 143 ] && ! kill -0 "$(cat "$room/waits")" 2>/dev/null && [ -z "$(ls "$room/temporary")" ] || { left=1; echo "codes $words left $(ls "$room/temporary")"; }
+        [ $? -eq 143 ] && [ -s "$room/waits" ] && ! kill -0 "$(cat "$room/waits")" 2>/dev/null && [ -z "$(ls "$room/temporary")" ] || { left=1; echo "codes $words left $(ls "$room/temporary")"; }
     done
     return $left
 }
