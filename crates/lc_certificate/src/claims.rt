@@ -1,5 +1,8 @@
 //! Certificates by construction: trees of claims.
-use crate::certificate::Certificate;
+ghost use Rattle.std.specs.Prelude.{◌≡◌};
+ghost use Rattle.lc_algebra.specs.Field.{size};
+
+use crate::certificate::{Certificate, size_of};
 use lc_algebra::FieldName;
 use lc_vec::Word;
 
@@ -80,6 +83,15 @@ pub struct Built {
     pub word: Word,
     /// The minimum distance that is stated.
     pub distance: u64,
+}
+
+impl Built {
+    /// The number of elements of its field.
+    pub fn field_size(&self) -> u64
+        ensures is { result ≡ size self.now.field }
+    {
+        size_of(self.field)
+    }
 }
 
 /// A certificate of either version. Contracts see it as `document_of` it, a `Document` of `lc_formats`.
