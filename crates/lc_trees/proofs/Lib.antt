@@ -1,0 +1,5 @@
+pub mod PartLaws
+pub mod TreeLaws
+pub mod OutcomeLaws
+pub mod KindLaws
+pub mod VerdictLaws
