@@ -3,11 +3,12 @@
 --   choose_left, choose_top, choose_sum      the entries of the table, from those before
 --   choose_fits, sum_fits           no entry is above 2^63
 --   pascal_laws                     these together
+--   chooses_laws                    a table that has an entry more
 use Rattle.std.proofs.Common.{◌≡◌, ◌≢◌, ℕ, zero, suc, ◌+◌, ◌-◌, ◌/◌, ◌%◌, ◌^◌, ◌<◌, ◌≤◌, ap, sym, ◌∙◌, arith}
 use Rattle.std.proofs.Math.Nat.{pow-suc, one-le-pow, pow-le-pow_right}
 use Rattle.lc_enumeration.specs.Message.{choose}
 use Rattle.lc_enumeration.proofs.ChooseLaws.{choose_next, choose_nothing, choose_none}
-use Rattle.lc_place.proofs.Counting.{choose_more}
+use Rattle.lc_place.proofs.Counting.{choose_more, table_more, table_none}
 use Rattle.lc_macwilliams.specs.Solving.{choose_at}
 
 pub choose_small : (n k : ℕ) → choose n k ≤ 2 ^ n
@@ -44,3 +45,5 @@ pub sum_fits : (i a b : ℕ) → i < 4096 → i % 64 ≢ 0 → 64 ≤ i → a �
 sum_fits i a b l e m c d = omega (arith, choose_sum i a b e m c d, choose_fits i l)
 
 pub ruleset pascal_laws = (choose_sum, choose_left, choose_top, sum_fits)
+
+pub ruleset chooses_laws = (table_more, table_none)

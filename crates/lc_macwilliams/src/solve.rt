@@ -80,7 +80,7 @@ fn power(q: u64, e: usize) -> u128
 }
 
 // How many sets of j there are among n, for both below 64, at index 64 n + j.
-#[tactic(auto, using(lc_place::proofs::Counting::table_more, lc_place::proofs::Counting::table_none))]
+#[tactic(auto, using(crate::proofs::PascalLaws::chooses_laws))]
 fn chooses(alloc: Global) -> Result<Vec<u64>, NoMemory>
     ensures are { IfOk result (λ t. IsTable choose_at 4096 t.items) }
 {

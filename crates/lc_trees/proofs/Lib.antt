@@ -3,3 +3,4 @@ pub mod TreeLaws
 pub mod OutcomeLaws
 pub mod KindLaws
 pub mod VerdictLaws
+pub mod Opened

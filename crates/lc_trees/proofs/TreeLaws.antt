@@ -33,7 +33,7 @@ use Rattle.lc_combine.proofs.BoundLaws.{sum_bound, uuv_bound, shortened_bound, e
 use Rattle.lc_combine.proofs.ProductBounds.{product_bound}
 use Rattle.lc_combine.proofs.NestedBounds.{concatenated_bound}
 use Rattle.lc_combine.proofs.ChangedBounds.{bound_of_word, punctured_bound, extended_even_bound}
-use Rattle.lc_trees.specs.Soundness.{SoundClaims, SoundTrees, IsVerdict, IsProvenTree, Proves}
+use Rattle.lc_formats.specs.Proven.{SoundClaims, SoundTrees, IsVerdict, IsProvenTree, Proves}
 use Rattle.lc_trees.proofs.PartLaws.{IsOwn, own_code, part_code, none_numbered, outer_field, accepted_search, same_fields, same_lengths, form_told, rows_inside, subcode_bound}
 
 pub record IsHeavy (f : FieldName) (C : Matrix) (b : ℕ) : Type 0 where

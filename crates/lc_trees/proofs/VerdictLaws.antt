@@ -20,7 +20,7 @@ use Rattle.lc_formats.specs.Claim.{Built}
 use Rattle.lc_formats.specs.ClaimMeaning.{code_with, refused_at, in_code, HasOutcome, IsValidTree, tree_reasons, verdict_after, IsTreeVerdict}
 use Rattle.lc_formats.specs.Document.{IsShapedTree}
 use Rattle.lc_formats.proofs.ClaimLaws.{accepted_tree, valid_tree_accepted, verdict_one}
-use Rattle.lc_trees.specs.Soundness.{IsProvenTree}
+use Rattle.lc_formats.specs.Proven.{IsProvenTree}
 use Rattle.lc_trees.proofs.OutcomeLaws.{code_over}
 use Rattle.lc_trees.proofs.TreeLaws.{accepted_proves}
 
@@ -65,8 +65,8 @@ pub inside_told : (C : Matrix) (w : List ℕ) (b : Bool) → IsTrue b ↔ InCode
 unfolding in_code
 inside_told C w b h = decided b (in_code C w) (InCode C w) h (in_span_true C.field C.columns C.rows w) (true_in_span C.field C.columns C.rows w)
 
-pub ruleset stopped_laws = tree_refused
+pub ruleset stopped = tree_refused
 
 pub ruleset is_inside_laws = (outside, inside_told)
 
-pub ruleset verdict_on_laws = (not_inside, other_weight, short_claim, all_right)
+pub ruleset judged = (not_inside, other_weight, short_claim, all_right)

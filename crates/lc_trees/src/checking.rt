@@ -8,7 +8,7 @@ ghost use Rattle.lc_formats.specs.Document.{IsShapedTree};
 ghost use Rattle.lc_certificate.specs.Trees.{built_of};
 ghost use Rattle.lc_checker.specs.Verdict.{verdict_of};
 ghost use Rattle.lc_trees.specs.Outcome.{IsOutcomeOf};
-ghost use Rattle.lc_trees.specs.Soundness.{IsProvenTree};
+ghost use Rattle.lc_formats.specs.Proven.{IsProvenTree};
 
 use crate::claims::made;
 use crate::outcome::{Made, Stop};
@@ -48,7 +48,7 @@ pub fn check_built(alloc: Global, built: &Built) -> Result<Verdict, NoMemory>
 }
 
 // The verdict if a claim is refused.
-#[tactic(auto, using(crate::proofs::VerdictLaws::stopped_laws), unfolding(lc_checker::specs::Verdict::verdict_of, lc_checker::specs::Verdict::reason_of))]
+#[tactic(auto, using(crate::proofs::VerdictLaws::stopped), unfolding(crate::proofs::Opened::seen))]
 fn stopped(stop: &Stop) -> Result<Verdict, NoMemory>
     ensures is { IfOk result (λ v. (b : FormatsBuilt) → IsOutcomeOf (Err stop.now) (HasOutcome b.field 0 b.claim) → IsTreeVerdict b (verdict_of v)) }
 {
@@ -61,7 +61,7 @@ fn stopped(stop: &Stop) -> Result<Verdict, NoMemory>
 }
 
 // The verdict, from the code and the bound of the claim.
-#[tactic(auto, using(crate::proofs::VerdictLaws::verdict_on_laws), unfolding(lc_certificate::specs::Trees::built_of, lc_checker::specs::Verdict::verdict_of, lc_checker::specs::Verdict::reason_of))]
+#[tactic(auto, using(crate::proofs::VerdictLaws::judged), unfolding(crate::proofs::Opened::tree))]
 fn verdict_on(alloc: Global, built: &Built, top: &Made) -> Result<Verdict, NoMemory>
     requires word { Fits top.now.code.field built.now.word }
     ensures is { IfOk result (λ v. verdict_of v ≡ tree_reasons (built_of built.now) top.now.code top.now.bound) }

@@ -17,7 +17,7 @@ use std::alloc::Global;
 
 // What comes of the claim over the field, whose number this is.
 #[cycle(made)]
-#[tactic(auto, unfolding(lc_formats::specs::Claim::claim_total, lc_certificate::specs::Trees::claim_of))]
+#[tactic(auto, unfolding(crate::proofs::Opened::claims))]
 pub(crate) fn made(alloc: Global, field: &Field, claim: &Claim, number: u64) -> Result<Made, Stop>
     requires symbol { IsTrue (is_symbol field.now) }
     requires shaped { IsShapedClaim field.now (claim_of claim.now) }

@@ -4,7 +4,7 @@ ghost use Rattle.lc_formats.specs.Certificate.{accepted};
 ghost use Rattle.lc_formats.specs.Claim.{Built, Document};
 ghost use Rattle.lc_formats.specs.ClaimMeaning.{IsTreeVerdict};
 ghost use Rattle.lc_formats.specs.Document.{IsShapedTree, document_in, document};
-ghost use Rattle.lc_trees.specs.Soundness.{SoundClaims, SoundTrees, IsVerdict, IsProvenTree, Proves};
+ghost use Rattle.lc_formats.specs.Proven.{SoundClaims, SoundTrees, IsVerdict, IsProvenTree, Proves};
 
 /// Every nonzero word of the code that a claim of the right shape defines has at least the weight of the claim's bound. The
 /// induction is over claims: a search proves its distance, r checks of an alternant form are independent on any r coordinates, and

@@ -60,7 +60,7 @@ fn stop_of(number: u64, refusal: &CodeRefusal) -> Stop
 }
 
 // How many claims the claim is made of, itself counted.
-#[tactic(auto, unfolding(lc_formats::specs::Claim::claim_total, lc_certificate::specs::Trees::claim_of))]
+#[tactic(auto, unfolding(crate::proofs::Opened::claims))]
 pub(crate) fn total(claim: &Claim) -> u64
     requires few { claim_total (claim_of claim.now) ≤ 1024 }
     ensures is { result ≡ claim_total (claim_of claim.now) }
