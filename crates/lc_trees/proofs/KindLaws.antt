@@ -6,7 +6,7 @@
 --   row_words                                      rows of the length are words
 --   inside_next, inside_whole, inside_fails        rows that are words of the code, one after another
 --   kept_length                                    a buffer keeps its length
-use Rattle.std.proofs.Common.{◌≡◌, ℕ, suc, ◌+◌, ◌-◌, ◌*◌, ◌<◌, ◌≤◌, ◌↔◌, min, max, Bool, true, false, not, ◌==◌, if◌then◌else◌, IsTrue, List, [], ◌++◌, length, take, drop, get_or, slice_index_or, All, Result, Ok, refl, sym, ap, subst, ◌∙◌, arith}
+use Rattle.std.proofs.Common.{◌≡◌, ℕ, suc, ◌+◌, ◌-◌, ◌*◌, ◌<◌, ◌≤◌, ◌↔◌, min, Bool, true, false, ◌==◌, if◌then◌else◌, IsTrue, List, [], ◌++◌, length, take, drop, get_or, slice_index_or, All, Result, Ok, refl, sym, ap, subst, ◌∙◌, arith}
 use Rattle.std.specs.Prelude.{IfOk}
 use Rattle.std.specs.List.{list_all}
 use Rattle.std.proofs.lemmas.Bool.{eqb-true, false_from_ne_true, false≢true}

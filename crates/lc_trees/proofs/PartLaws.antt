@@ -8,7 +8,7 @@
 --   form_told                     an alternant claim that isn't refused has a form
 --   rows_inside                   the rows of a subcode that isn't refused are words of the code
 --   subcode_bound                 words of a code are no lighter than its other words
-use Rattle.std.proofs.Common.{◌≡◌, ℕ, ◌<◌, ◌≤◌, Bool, true, false, not, nat_lt, ◌==◌, if◌then◌else◌, List, ◌∷◌, length, slice_index_or, All, Option, Some, None, option_map, unwrap_or, refl, sym, ap, subst, ◌∙◌, arith}
+use Rattle.std.proofs.Common.{◌≡◌, ℕ, Bool, true, false, not, nat_lt, ◌==◌, if◌then◌else◌, List, ◌∷◌, length, slice_index_or, All, Option, Some, None, option_map, unwrap_or, refl, sym, ap, subst, ◌∙◌}
 use Rattle.std.specs.List.{list_all}
 use Rattle.std.proofs.lemmas.Bool.{eqb-true}
 use Rattle.std.proofs.lemmas.List.Sums.{AllPass-from_list_all}

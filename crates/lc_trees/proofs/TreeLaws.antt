@@ -4,13 +4,11 @@
 --   pair_heavy, concat_heavy, subcode_heavy, placed_heavy, extended_heavy      the kinds of claims with parts
 --   claim_heavy            what a claim of the right shape defines
 --   claims_sound, trees_sound, accepted_proves, checked_proves      the laws
-use Rattle.std.proofs.Common.{◌≡◌, ℕ, suc, ◌+◌, ◌-◌, ◌*◌, ◌<◌, ◌≤◌, min, max, Bool, true, false, ◌==◌, if◌then◌else◌, IsTrue, List, length, Option, None, unwrap_or, refl, sym, ap, subst, ◌∙◌, ⊎_elim, arith}
-use Rattle.std.proofs.lemmas.Bool.{cases_Bool, eqb-true}
+use Rattle.std.proofs.Common.{◌≡◌, ℕ, suc, ◌+◌, ◌-◌, ◌*◌, min, max, Bool, true, false, ◌==◌, if◌then◌else◌, IsTrue, List, length, Option, unwrap_or, refl, sym, subst, ◌∙◌, arith}
+use Rattle.std.proofs.lemmas.Bool.{eqb-true}
 use Rattle.lc_algebra.specs.declared.FieldName.{FieldName}
-use Rattle.lc_algebra.specs.declared.FieldName.TheVariants.{Gf2}
 use Rattle.lc_algebra.specs.Field.{size, is_symbol}
-use Rattle.lc_algebra.specs.Word.{weight}
-use Rattle.lc_algebra.specs.Span.{InSpan, IsWeightBound, IsDistance}
+use Rattle.lc_algebra.specs.Span.{InSpan, IsWeightBound}
 use Rattle.lc_algebra.specs.Matrix.{Matrix, AreRows, IsReduced}
 use Rattle.lc_algebra.specs.Divisor.{rounded}
 use Rattle.lc_algebra.proofs.EmbeddingTests.{two_elements}
@@ -21,9 +19,8 @@ use Rattle.lc_constructions.specs.Concatenated.{InConcatenated}
 use Rattle.lc_constructions.specs.Refusals.{uuv_refusals, direct_sum_refusals, direct_product_refusals, concatenated_refusals, deleted_refusals, extended_refusals}
 use Rattle.lc_constructions.proofs.AlternantLaws.{form_weight_bound, form_of_code}
 use Rattle.lc_formats.specs.Certificate.{Certificate, accepted, code_length}
-use Rattle.lc_formats.specs.Shape.{IsShaped, Sound}
 use Rattle.lc_formats.specs.Claim.{PairKind, uuv, direct_sum, product, PlaceKind, puncture, shorten, Claim, search, alternant, pair, concat, subcode, at_places, extend, Built, Document, plain, tree, claim_total}
-use Rattle.lc_formats.specs.ClaimMeaning.{capped, code_with, search_refusal, first_number, field_of_size, form_refusal, form_of, subcode_refusal, pair_refusals, pair_length, InPair, pair_bound, InPlaced, place_bound, extended_bound, HasOutcome, IsValidTree, IsTreeVerdict}
+use Rattle.lc_formats.specs.ClaimMeaning.{capped, code_with, search_refusal, first_number, field_of_size, form_refusal, form_of, subcode_refusal, pair_refusals, pair_length, InPair, pair_bound, InPlaced, place_bound, extended_bound, HasOutcome, IsTreeVerdict}
 use Rattle.lc_formats.specs.Document.{IsShapedClaim, IsShapedTree, document_in, document}
 use Rattle.lc_formats.proofs.ClaimLaws.{accepted_tree}
 use Rattle.lc_formats.proofs.DocumentShaped.{document_shaped}

@@ -6,8 +6,8 @@
 --   outside, inside_told    a word of another length is no word of the code; whether one of this length is
 --   word_fits_code          the word fits the field of the code that the claim defines
 --   not_inside, other_weight, short_claim, all_right      the reasons, in their order
-use Rattle.std.proofs.Common.{◌≡◌, ◌≢◌, ℕ, ◌<◌, ◌≤◌, ◌↔◌, Bool, true, false, not, nat_lt, ◌==◌, IsTrue, List, length, sym, ap, subst, ◌∙◌, refl, arith}
-use Rattle.std.proofs.lemmas.Bool.{eqb-true, eq-eqb, ne_eqb, lt-ltb, le-ltb, false_from_ne_true}
+use Rattle.std.proofs.Common.{◌≡◌, ◌≢◌, ℕ, ◌<◌, ◌≤◌, ◌↔◌, Bool, true, false, ◌==◌, IsTrue, List, length, sym, subst, ◌∙◌, refl}
+use Rattle.std.proofs.lemmas.Bool.{eq-eqb, ne_eqb, lt-ltb, le-ltb, false_from_ne_true}
 use Rattle.lc_algebra.specs.declared.FieldName.{FieldName}
 use Rattle.lc_algebra.specs.Word.{Fits, weight}
 use Rattle.lc_algebra.specs.Matrix.{Matrix, AreRows}

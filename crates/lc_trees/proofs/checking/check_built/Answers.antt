@@ -1,13 +1,13 @@
-use Rattle.std.proofs.Common.{◌≡◌, ◌≤◌, IsTrue, Err, refl, sym, subst, ◌∙◌, arith}
+use Rattle.std.proofs.Common.{◌≤◌, IsTrue, Err, sym, subst, ◌∙◌, arith}
 use Rattle.lc_algebra.specs.Field.{is_symbol}
 use Rattle.lc_algebra.proofs.EmbeddingLaws.{told_by_size}
 use Rattle.lc_formats.specs.Claim.{claim_total}
 use Rattle.lc_formats.specs.ClaimMeaning.{code_with, HasOutcome}
 use Rattle.lc_formats.specs.Document.{IsShapedClaim}
 use Rattle.lc_certificate.specs.Trees.{claim_of, built_of}
-use Rattle.lc_checker.specs.Verdict.{reason_of, verdict_of}
+use Rattle.lc_checker.specs.Verdict.{verdict_of}
 use Rattle.lc_trees.specs.Outcome.{IsOutcomeOf}
-use Rattle.lc_trees.proofs.VerdictLaws.{tree_refused, tree_made, verdict_accepted, verdict_proves, word_fits_code}
+use Rattle.lc_trees.proofs.VerdictLaws.{tree_made, verdict_accepted, verdict_proves, word_fits_code}
 use Rattle.lc_trees.proofs.checking.check_built.Goals as goal
 
 pub made-requires-clause-symbol : goal.made-requires-clause-symbol

@@ -1,4 +1,4 @@
-use Rattle.std.proofs.Common.{◌+◌, ap, arith}
+use Rattle.std.proofs.Common.{◌+◌, arith}
 use Rattle.lc_trees.proofs.OutcomeLaws.{form_made, no_locator}
 use Rattle.lc_trees.proofs.leaves.formed.Goals as goal
 
