@@ -189,26 +189,50 @@ check_certificates() {
     check '3,000 altered certificates: the program and tools/check_certificate.py agree' python3 -B tools/compare_certificates.py "$program" 3000
 }
 
-# explains FRONT: what tools/explain.py writes of FRONT.codes, on both outputs, and its status
+# explains FILE: what tools/explain.py writes of a script or a certificate, on both outputs, and its status
 explains() {
-    local got
-    python3 tools/explain.py "$program" "$1.codes" >"$room/out" 2>"$room/err"
+    local got front=${1%.*}
+    python3 -B tools/explain.py "$program" "$1" >"$room/out" 2>"$room/err"
     got=$?
-    [ "$got" -eq "$(cat "$1.status")" ] || { echo "status $got"; return 1; }
+    [ "$got" -eq "$(cat "$front.status")" ] || { echo "status $got"; return 1; }
     but_for_records
-    cmp "$room/out" "$1.out" && diff "$room/said" "$1.err"
+    cmp "$room/out" "$front.out" && diff "$room/said" "$front.err"
 }
 
+# what tools/pretty.py makes of the text of a script
+is_pretty() { "$program" run <"$1.codes" 2>/dev/null | python3 -B tools/pretty.py | cmp - "$1.out"; }
+
 check_explanations() {
-    local script
-    for script in tests/explain/*.codes; do check "${script%.codes}" explains "${script%.codes}"; done
+    local file
+    for file in tests/pretty/*.codes; do check "${file%.codes}" is_pretty "${file%.codes}"; done
+    for file in tests/explain/*.codes tests/explain/*.json; do check "${file%.*}" explains "$file"; done
+    check 'tools/explain_bytes.py and tools/foreign_names.py' python3 -B tests/explanations.py
+    check 'a call of tools/residue_code.py for each length' python3 -B tests/residue_codes.py "$program"
+    check 'the second checker takes a file' second_checker_takes_a_file
 }
+
+# tools/check_certificate.py on a file, on standard input, with --help, and with mistakes
+second_checker_takes_a_file() {
+    local checker='python3 -B tools/check_certificate.py' file=examples/certificates/golay_23.json
+    [ "$($checker $file)" = 'accepted distance 7' ] && [ "$($checker - <$file)" = 'accepted distance 7' ] && [ "$($checker --quiet <$file)" = 'accepted distance 7' ] &&
+        $checker --help | grep -q 'check_certificate.py \[--quiet\] \[FILE\]' && ends 4 'no.such: No such file or directory' $checker no.such &&
+        ends 2 'usage: check_certificate.py [--quiet] [FILE]' $checker a b
+}
+
+# the functions for Sage, by a stand-in for it
+agrees_with_a_stand_in() { CODES=$program timeout 300 python3 -B tests/bridges/without_sage.py; }
 
 # the functions for GUAVA and Sage, where these are installed
 agrees_with_guava() { CODES=$program timeout 3000 gap -q <tests/bridges/with_guava.g 2>&1 | grep -v '^true$' >"$room/gap"; ! grep -E 'failed|Error' "$room/gap" && grep -q '^done$' "$room/gap"; }
 agrees_with_sage() { CODES=$program timeout 6000 sage tests/bridges/with_sage.py >"$room/sage" 2>&1; ! grep -E 'failed|Error' "$room/sage" && grep -q '^done$' "$room/sage"; }
 
+# the functions for Python
+answers_python() { CODES=$program timeout 300 python3 -B tests/bridges/with_python.py; }
+
 check_bridges() {
+    check 'tools/python/codes_bridge.py' answers_python
+    check 'tools/from_matrix.py' python3 -B tests/from_matrix.py "$program"
+    check 'tools/sage/codes.py, by a stand-in for Sage' agrees_with_a_stand_in
     if command -v gap >/dev/null && echo 'LoadPackage("guava");' | gap -q 2>/dev/null | grep -q true; then
         check 'tools/gap/codes.g and GUAVA agree' agrees_with_guava
     fi
@@ -228,8 +252,21 @@ jobs_give_texts() {
     for d in 5 7; do "$program" run budget=1000 <"$room/jobs/$d/script.codes" 2>/dev/null | cmp - "$room/jobs/$d/text" || return 1; done
 }
 
+# a job that can't go on says why: no folder, no script, no program, another budget, a word that is refused
+jobs_say_why() {
+    local folder=$room/jobs/5
+    rm -f "$folder/text"
+    export CODES=$program
+    ends 2 'usage: tools/cluster/job FOLDER [workers=N] [budget=N] [slice=N]' tools/cluster/job &&
+        ends 4 "$room/no: there is no such folder" tools/cluster/job "$room/no" && ends 4 "$room: script.codes is missing or can not be read" tools/cluster/job "$room" &&
+        ends 10 "$folder: status 10, codes: checkpoint of another script or budget" tools/cluster/job "$folder" budget=1001 &&
+        ends 2 "$folder: status 2, codes: word 2 refused" tools/cluster/job "$folder" budget=1e3 &&
+        CODES=/no/codes ends 127 "$folder: there is no program /no/codes: set CODES to its path" tools/cluster/job "$folder" budget=1000
+}
+
 check_sessions() {
     check 'two jobs of tools/cluster/job beside each other' jobs_give_texts
+    check 'tools/cluster/job says why it ends' jobs_say_why
     check 'sessions that are killed, stopped, cut in slices and resumed' python3 -B tests/sessions.py "$program"
     check 'streams and folders that fail, and scripts at the limits of the language' python3 -B tests/hostile.py "$program"
     check '2,000 changed checkpoints: the program and tools/checkpoints.py agree' python3 -B tools/checkpoints.py "$program" 2000

@@ -7,7 +7,7 @@
 plain_path() {
     local name file
     mkdir -p "$room/bin"
-    for name in awk bash cat chmod cmp cp cut date dirname env find git grep head ls mkdir mkfifo mktemp mv readlink rm sed sh sha256sum \
+    for name in awk bash cat chmod cmp cp cut date dirname env find getconf git grep head ls mkdir mkfifo mktemp mv readlink rm sed sh sha256sum \
         sleep sort tail touch tr uname wc xargs; do
         file=$(command -v "$name") && ln -sf "$file" "$room/bin/$name"
     done
@@ -120,39 +120,146 @@ PY
     grep -q '^codes: type a script, and end it with Ctrl-D' "$room/out" && grep -qx $'1\r' "$room/out"
 }
 
-# mistaken STATUS LINES WORD..: the script ends with the status and exactly these lines on standard error, though there is neither a
-# program nor a kit
-mistaken() {
-    local status=$1 lines=$2 got
+# over checkpoints `run keep=yes` says that it overwrites them, and at a terminal it asks: without a yes they stay as they are
+asks_about_checkpoints() {
+    local slot=$room/elsewhere/codes.slot0
+    echo 'C := HammingCode(3,GF(2)); MinimumDistance(C);' >"$room/script"
+    codes_there run keep=yes <"$room/script" >/dev/null 2>&1 && cp "$slot" "$room/kept" && touch -d 2001-01-01 "$slot" || return 1
+    codes_there run keep=yes <"$room/script" 2>&1 >/dev/null | grep -q '^codes: run overwrites the checkpoints of a session, the last after [0-9]* blocks$' || return 1
+    echo 'not a checkpoint' >"$slot"
+    rm -f "$room/elsewhere/codes.slot1"
+    [ "$(answered n)" = 2 ] && [ "$(cat "$slot")" = 'not a checkpoint' ] && [ "$(answered y)" = 0 ] && cmp "$slot" "$room/kept" && rm "$room/elsewhere"/codes.slot*
+}
+
+# answered TEXT: the status of `run keep=yes` at a terminal, where this is typed
+answered() {
+    python3 -B - "$copy/codes" "$room/script" "$room/elsewhere" "$1" <<'PY'
+import os, pty, sys
+program, script, folder, answer = sys.argv[1:]
+child, terminal = pty.fork()
+if child == 0:
+    os.chdir(folder)
+    os.dup2(os.open(script, os.O_RDONLY), 0)
+    os.execv(program, [program, "run", "keep=yes"])
+os.write(terminal, answer.encode() + b"\n")
+said = b""
+try:
+    while piece := os.read(terminal, 4096):
+        said += piece
+except OSError:
+    pass
+status = os.waitstatus_to_exitcode(os.waitpid(child, 0)[1])
+print(status if b"Overwrite? [y/N]" in said else said)
+PY
+}
+
+# refused N REASON ARGUMENT..: the script says on standard error that word N is refused, and why, and nothing else
+refused() {
+    local number=$1 reason=$2
     shift 2
     codes_there "$@" <examples/hamming.codes >"$room/out" 2>"$room/err"
-    got=$?
-    [ "$got" -eq "$status" ] && cmp "$room/out" "$room/nothing" && echo "$lines" | cmp - "$room/err" && return
-    echo "codes $*: status $got, wanted $status; standard error: $(head -c 400 "$room/err")"
+    [ $? -eq 2 ] && [ ! -s "$room/out" ] && printf 'codes: word %s refused\ncodes: %s\n' "$number" "$reason" | cmp - "$room/err" && return
+    echo "codes $*: $(head -c 400 "$room/err")"
     return 1
 }
-refused() { mistaken 2 "codes: word $1 refused"$'\n'"codes: $2" "${@:3}"; }
 
+# mistakes: each ends with its status, and says what to do, though there is neither a program nor a kit
 mistakes() {
     mv "$copy/release" "$room/"
-    refused 0 'see ./codes --help' && refused 0 'see ./codes --help' nonsense && refused 0 'see ./codes --help' --help x &&
-        refused 0 'a script comes on standard input: ./codes run < some.codes' some.codes &&
-        refused 0 '--version takes no argument' --version x &&
-        refused 1 'run reads standard input: ./codes run < some.codes' run some.codes &&
-        refused 2 'resume reads standard input: ./codes resume < FILE' resume keep=yes - &&
-        refused 1 'check reads standard input: ./codes check < FILE' check some.json &&
-        refused 1 'budget takes a number in digits, as budget=1000' run budget=2^20 &&
-        refused 1 'run takes workers=N, budget=N, keep=yes and, with it, slice=N' run -j4 &&
-        refused 1 'summary takes seed=N, workers=N and budget=N' summary 5 &&
-        refused 1 'run reads standard input: ./codes run < some.codes' --unproved run some.codes &&
-        mistaken 2 'codes: --unproved runs in a folder of its own, and keeps no checkpoints' --unproved run keep=yes &&
-        mistaken 2 'codes: install takes one folder' install && mistaken 2 'codes: install takes one folder' install a b &&
-        mistaken 2 'codes: prove takes no argument' prove x && mistaken 2 'codes: test takes no argument' test x &&
-        mistaken 2 'codes: explain takes one file, or - for standard input' explain &&
-        mistaken 4 "codes: no.such can't be read" explain no.such && mistaken 4 "codes: no.such can't be read" --unproved explain no.such &&
-        mistaken 20 'codes: the Rattle kit is not here: no command rt on the path, under $RATTLE_KIT or under /opt/rattle' prove &&
-        mistaken 20 'codes: the Rattle kit is not here: no command rt on the path, under $RATTLE_KIT or under /opt/rattle' --unproved run &&
-        codes_there --help >"$room/out" && grep -q 'codes prove' "$room/out" && mv "$room/release" "$copy/"
+    for word in '-h x' install 'install a b' 'prove x' 'test x' explain 'pretty x' '--unproved run keep=yes'; do
+        # shellcheck disable=SC2086
+        codes_there $word >"$room/out" 2>"$room/err" </dev/null
+        [ $? -eq 2 ] && [ ! -s "$room/out" ] && grep -q '^codes: ' "$room/err" || { echo "codes $word"; return 1; }
+    done
+    wrapped 4 "$room/nothing" '^codes: no.such can.t be read$' explain no.such && wrapped 4 "$room/nothing" '^codes: no.such can.t be read$' --unproved explain no.such &&
+        wrapped 20 "$room/nothing" '^codes: the Rattle kit is not here' prove && wrapped 20 "$room/nothing" '^codes: the Rattle kit is not here' --unproved run &&
+        codes_there --help >"$room/out" && grep -q 'codes prove' "$room/out" && reasons && mv "$room/release" "$copy/"
+}
+
+# what is written below the line of the rules
+reasons() {
+    local follow='after run come workers=N, budget=N, keep=yes and slice=N, or none of them' blocks='budget is a number from 0 to 1099511627776'
+    refused 0 'a command is missing: run, resume, check or summary; see ./codes --help' &&
+        refused 0 'a command is run, resume, check or summary; see ./codes --help' nonsense &&
+        refused 0 'a command is run, resume, check or summary; see ./codes --help' --unproved nonsense &&
+        refused 0 'the command is written run' Run &&
+        refused 0 'a command comes first: ./codes run workers=2 < FILE' workers=2 &&
+        refused 0 'run reads a script from standard input: ./codes run < my.codes' my.codes &&
+        refused 1 'run reads a script from standard input: ./codes run < my.codes' run my.codes &&
+        refused 1 'run reads a script from standard input: ./codes run < my.codes' --unproved run my.codes &&
+        refused 1 'run reads standard input anyway: ./codes run < FILE' run - &&
+        refused 1 'check takes no argument, and reads a certificate from standard input: ./codes check < my.json' check my.json &&
+        refused 0 '--version stands alone' --version x &&
+        refused 1 'write budget=1000000' run budget=1e6 && refused 1 'write budget=1048576' run budget=2^20 && refused 1 'write budget=1000' run budget=1,000 &&
+        refused 1 'write budget=7' run budget=007 && refused 1 'write budget=5' run Budget=5 && refused 1 "$blocks, in digits alone" run budget=1k &&
+        refused 1 "$blocks" run budget=2199023255552 && refused 1 'budget takes a value after =, without blanks: budget=N' run budget 5 &&
+        refused 2 'write workers=2' run keep=yes --workers=2 && refused 1 'write workers=4' resume -j4 && refused 1 'workers is a number from 1 to 256' run workers=0 &&
+        refused 1 "write workers=$(getconf _NPROCESSORS_ONLN)" run workers=auto && refused 2 'workers is there already' run workers=2 workers=2 &&
+        refused 1 'write keep=yes' run keep=on && refused 1 'keep takes a value after =, without blanks: keep=yes' run keep &&
+        refused 1 'slice needs keep=yes, since the session goes on from its checkpoint' run slice=5 &&
+        refused 1 "$follow" run seed=5 && refused 1 "$follow" run speed=5 && refused 1 'summary needs seed=N: ./codes summary seed=1' summary
+}
+
+# The script refuses what the program refuses, with its line, and nothing else.
+refuses_as_the_program() {
+    local words status
+    while read -r words; do
+        # shellcheck disable=SC2086
+        (cd "$room/elsewhere" && "$program" $words) >"$room/out" 2>"$room/wanted" </dev/null
+        status=$?
+        # shellcheck disable=SC2086
+        codes_there $words >"$room/out" 2>"$room/err" </dev/null
+        [ $? -eq $status ] && { [ $status -ne 2 ] || [ "$(head -n 1 "$room/err")" = "$(cat "$room/wanted")" ]; } && continue
+        echo "codes $words: wanted status $status and '$(head -n 1 "$room/wanted")', and standard error begins with '$(head -n 1 "$room/err")'"
+        return 1
+    done <<'LIST'
+
+run
+run workers=1
+run workers=256 budget=0
+run workers=257
+run workers=0
+run workers=02
+run workers=+2
+run workers=2 workers=2
+run budget=1099511627776
+run budget=1099511627777
+run budget=18446744073709551616
+run budget=99999999999999999999999
+run budget= keep=no
+run budget
+run budget=x
+run keep=no slice=3
+run slice=3
+run slice=0 keep=yes
+run keep=yes keep=yes
+run keep=YES
+run slice=3 workers=1
+run seed=1
+run Workers=2
+run =
+run =1
+run workers==1
+run - -
+resume seed=1
+resume budget=5 keep=no slice=7
+check x
+check budget=1
+summary
+summary seed=1 keep=yes
+summary seed=18446744073709551616
+summary seed=18446744073709551615 seed=1
+summary budget=1 workers=2
+summary seed=01
+summary seed=00
+summary budget=0 seed=18446744073709551615
+Run
+checks
+--version --version
+-- run
+LIST
+    codes_there run $'budget=\xff' >/dev/null 2>"$room/err"
+    [ "$(head -n 1 "$room/err")" = 'codes: word 0 refused' ]
 }
 
 installs() {
@@ -161,14 +268,46 @@ installs() {
         cmp "$room/prefix/share/man/man1/codes.1" docs/codes.1 && level=$(sed -nE 's/.* for (x86-64-v.), .*/\1/p' "$room/said") && cmp "$room/prefix/bin/codes" "$copy/release/codes-$level"
 }
 
-# the first block of docs/CLUSTER.md, at the top of the copy: four folders, each with a script that is read
-folders_of_a_list() {
-    local folder
-    (cd "$copy" && awk '/^```/ { if (inside) exit; inside = /^```sh$/; next } inside' docs/CLUSTER.md | sh -e && [ "$(wc -l <folders.txt)" -eq 4 ] &&
-        while read -r folder; do "$program" run budget=0 <"$folder/script.codes" 2>/dev/null | grep -q '^distance between' || exit 1; done <folders.txt)
+# stand-ins for the commands of docs/CLUSTER.md, where they are missing: they run one job after the other
+cluster_commands() {
+    mkdir -p "$room/cluster"
+    cat >"$room/cluster/parallel" <<'SH'
+#!/bin/sh
+# parallel --joblog FILE --resume-failed COMMAND {} ARGUMENT :::: LIST
+status=0
+while read -r folder; do "$4" "$folder" "$6" </dev/null || status=1; done <"$8"
+exit $status
+SH
+    cat >"$room/cluster/sbatch" <<'SH'
+#!/bin/sh
+# sbatch --array=1-N SCRIPT ARGUMENT..
+most=${1#--array=1-} task=0 SLURM_SUBMIT_DIR=$PWD SLURM_CPUS_PER_TASK=2
+export SLURM_SUBMIT_DIR SLURM_CPUS_PER_TASK
+shift
+while [ $task -lt "$most" ]; do
+    task=$((task + 1))
+    SLURM_ARRAY_TASK_ID=$task sh "$@" || exit
+done
+SH
+    chmod 755 "$room/cluster"/*
+    if command -v parallel >/dev/null; then rm "$room/cluster/parallel"; fi
+}
+
+# block N: the N-th block `sh` of docs/CLUSTER.md
+block() { awk -v wanted="$1" '/^```/ { inside = /^```sh$/ && ++n == wanted; next } inside' docs/CLUSTER.md; }
+
+# the blocks of docs/CLUSTER.md as they stand, at the top of the copy: folders, their texts by `parallel`, and by Slurm once more
+cluster_recipes() {
+    cluster_commands
+    (cd "$copy" && PATH=$room/cluster:$PATH && { block 1 && block 2; } | sh -e >"$room/texts" && [ "$(wc -l <folders.txt)" -eq 4 ] &&
+        [ "$(cut -d ' ' -f 1,2 "$room/texts" | sort | tr '\n' ' ')" = 'distance 11 distance 5 distance 7 distance 9 ' ] &&
+        cat jobs/*/text | cmp - "$room/texts" && rm jobs/*/text && block 3 | sh -e && cat jobs/*/text | cmp - "$room/texts")
 }
 
 explains_without_a_kit() { codes_there explain "$PWD/tests/explain/near_name.codes" >"$room/out" 2>"$room/err"; [ $? -eq 1 ] && cmp "$room/out" tests/explain/near_name.out && grep -q 'did you mean' "$room/err"; }
+
+# without any program
+prints_prettily() { echo '[[1,0],[0,1]]' | codes_there pretty >"$room/out" && printf '  1 .\n  . 1\n' | cmp - "$room/out"; }
 
 # a kit whose command only waits: `codes` is stopped, and leaves neither that command nor a file
 a_build_that_is_stopped() {
@@ -206,9 +345,12 @@ check_wrapper() {
     check 'codes: what was proved here is taken' what_is_proved_here
     check 'codes: a copy that can only be read answers' a_copy_to_read_only
     check 'codes: at a terminal it says that it waits' at_a_terminal
+    check 'codes: it asks before it overwrites checkpoints' asks_about_checkpoints
     check 'codes: mistakes end at once' mistakes
+    check 'codes: it refuses what the program refuses' refuses_as_the_program
     check 'codes: install' installs
     check 'codes: explain' explains_without_a_kit
+    check 'codes: pretty' prints_prettily
     check 'codes: a build that is stopped leaves nothing' a_build_that_is_stopped
-    check 'docs/CLUSTER.md: folders for a list of codes' folders_of_a_list
+    check 'docs/CLUSTER.md: its commands, at the top of the copy' cluster_recipes
 }

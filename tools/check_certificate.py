@@ -1,10 +1,11 @@
 #!/usr/bin/env python3
 """Checks a certificate of a minimum distance, as `codes check` does, and shares nothing with it.
 
-    tools/check_certificate.py < CERTIFICATE
+    tools/check_certificate.py [--quiet] [FILE]
 
+FILE is the certificate; without it, or if it is -, the certificate comes from standard input. The program
 prints `accepted distance D` and ends with 0, or `rejected N`, with the numbers that belong to the reason N after ` with`, and
-ends with 11. docs/FORMATS.md says what a certificate is and which reason comes first. One file, the standard library of Python
+ends with 11; with 4 if the file can't be read, with 12 if it is longer than a certificate may be. docs/FORMATS.md says what a certificate is and which reason comes first. One file, the standard library of Python
 alone: whoever trusts neither `codes` nor the prover behind it can read it in a quarter of an hour.
 
 Every word that the certificate says was seen is looked at, so the time grows with its cost: about a million words a second over
@@ -309,21 +310,44 @@ def check(text, quiet=True):
     return distance
 
 
-def main():
-    quiet = "--quiet" in sys.argv[1:]
+def bytes_of(files):
+    """The bytes of the file, or of standard input; one more than a certificate may have is enough."""
+    if not files or files == ["-"]:
+        return sys.stdin.buffer.read(INPUT_LIMIT + 1)
+    with open(files[0], "rb") as opened:
+        return opened.read(INPUT_LIMIT + 1)
+
+
+def ended(text, quiet):
+    """Prints what the check of these bytes gives; the status."""
+    if len(text) > INPUT_LIMIT:
+        print("input too long", file=sys.stderr)
+        return 12
     try:
-        text = sys.stdin.buffer.read(INPUT_LIMIT + 1)
-        if len(text) > INPUT_LIMIT:
-            print("input too long", file=sys.stderr)
-            sys.exit(12)
-        try:
-            print(f"accepted distance {check(text.decode(), quiet)}")
-        except UnicodeDecodeError:
-            raise Rejected(30) from None
+        print(f"accepted distance {check(text.decode(), quiet)}")
+        return 0
+    except UnicodeDecodeError:
+        print(Rejected(30))
     except Rejected as reason:
         print(reason)
-        sys.exit(11)
+    return 11
+
+
+def main():
+    quiet = "--quiet" in sys.argv[1:]
+    files = [word for word in sys.argv[1:] if word != "--quiet"]
+    if "--help" in files or "-h" in files:
+        print(__doc__.strip())
+        return 0
+    if len(files) > 1 or any(word.startswith("-") and word != "-" for word in files):
+        print("usage: check_certificate.py [--quiet] [FILE]", file=sys.stderr)
+        return 2
+    try:
+        return ended(bytes_of(files), quiet)
+    except OSError as error:
+        print(f"{error.filename}: {error.strerror}", file=sys.stderr)
+        return 4
 
 
 if __name__ == "__main__":
-    main()
+    sys.exit(main())

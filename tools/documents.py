@@ -5,7 +5,8 @@
 
 Prints a line for each of these that it doesn't find, and ends with 1 if there is one: the file of a link and its heading; a path
 in back quotes, as `tests/rows/` or `lc_poly/proofs/ListLaws`; in the tables of docs/PROVED.md and docs/MAP.md each name of a row about
-crates, as a declaration or a clause of the row's crates; in docs/DEFINITIONS.md each definition, in the file of its row.
+crates, as a declaration or a clause of the row's crates; in docs/DEFINITIONS.md each definition, in the file of its row. And whether the
+manual page has each call, fault, reason and status, as an entry.
 """
 import glob
 import os
@@ -100,11 +101,26 @@ def definitions(document):
                 yield f"{name} of {', '.join(files)}"
 
 
+def manual_page():
+    """The calls of the reference program, the faults and reasons that are explained and the statuses of docs/FORMATS.md that have no
+    entry of their own."""
+    import explain
+    import explain_certificate
+    page = text_of("docs/codes.1")
+    sections = {part.split("\n")[0]: part for part in page.split("\n.SH ")}
+    statuses = re.findall(r"^\| (\d+) \| ", text_of("docs/FORMATS.md").split("### Statuses")[1].split("\n## ")[0], re.M)
+    entries = {"CALLS": [name + r"\(" for name in [*explain.CALLS, *explain.QUERIES]], "FAULTS": explain.MEANINGS,
+               "REASONS": explain_certificate.MEANINGS, "EXIT STATUS": statuses}
+    for section, wanted in entries.items():
+        yield from (f"{entry} of {section}" for entry in wanted if not re.search(rf"^\.B (.*, )?{entry}(?!\d)", sections[section], re.M))
+
+
 def main():
     missing = [f"{document}: {name}" for document in DOCUMENTS for kind in (links, paths) for name in kind(document)]
     missing += [f"docs/PROVED.md: {name}" for name in clauses("docs/PROVED.md", 2)]
     missing += [f"docs/MAP.md: {name}" for name in clauses("docs/MAP.md", 2)]
     missing += [f"docs/DEFINITIONS.md: {name}" for name in definitions("docs/DEFINITIONS.md")]
+    missing += [f"docs/codes.1: {name}" for name in manual_page()]
     for line in missing:
         print(line)
     return 1 if missing else 0

@@ -1,17 +1,23 @@
 #!/usr/bin/env python3
-"""Runs a script, and explains its fault line if it has one.
+"""Runs a script, and explains its fault line if it has one; or checks a certificate, and explains why it is rejected.
 
     tools/explain.py PROGRAM [ARGUMENT..] FILE        FILE may be - for standard input
 
-The text of the script goes to standard output as PROGRAM writes it, given these arguments and `run`. If a fault line ends it, an explanation follows on
-standard error: the line and the column, the source with a caret, what the number means, and what was expected there. The
-status is that of PROGRAM. The explanation follows the rules of docs/FORMATS.md; it is found by reading the script once
-more with tools/reference.py.
+The text goes to standard output as PROGRAM writes it, given these arguments and `run` or `check`; a file is taken for a certificate
+if its first sign, or that of one of its lines, is a brace. If a fault line ends the text of a script, an explanation follows on
+standard error: the line and the column, the source with a caret, what the number means, and what was expected there. The status is
+that of PROGRAM. The explanation follows the rules of docs/FORMATS.md: the script is read once more by tools/reference.py, and PROGRAM
+is asked what the arguments of the faulty call are.
 """
 import difflib
+import json
+import re
 import subprocess
 import sys
 
+import explain_bytes
+import explain_certificate
+import foreign_names
 import reference
 from reference import CALLS, QUERIES, FIELD_SIZES, LONGEST, SYMBOL_SIZES, Code, Fault, FieldValue
 
@@ -81,25 +87,65 @@ def told(value):
 
 
 def near(name, known):
-    found = difflib.get_close_matches(name, known, n=1, cutoff=0.6)
-    return f"did you mean `{found[0]}`?" if found else "no name is near it"
+    """The name that is probably meant: the same in other letters, or one that looks alike."""
+    small = {k.lower(): k for k in reversed(known)}
+    found = difflib.get_close_matches(name.lower(), small, n=1, cutoff=0.6)
+    return f"did you mean `{small[found[0]]}`?" if found else "no name is near it"
 
 
 def unknown(expr, names):
     name = expr.value.decode()
     calls = list(CALLS) + list(QUERIES)
+    if name in calls and expr.kind != "call":
+        return f"`{name}` is a call: its arguments stand in parentheses, as `{name}(..)`"
+    foreign = foreign_names.said_of(name)
+    if foreign:
+        return foreign
     if expr.kind == "call":
         return f"no call is named `{name}`; {near(name, calls)}"
-    if name in calls:
-        return f"`{name}` is a call: its arguments stand in parentheses, as `{name}(..)`"
     return f"`{name}` was given no value before; {near(name, [n.decode() for n in names] + calls)}"
 
 
-def evaluated(expr, names):
-    try:
-        return reference.value_of(expr, names)
-    except Fault:
-        return None
+def written(expr):
+    """The expression as it may stand in a script."""
+    parts = ",".join(written(part) for part in expr.parts)
+    if expr.kind == "number":
+        return str(expr.value)
+    if expr.kind == "list":
+        return f"[{parts}]"
+    return expr.value.decode() + (f"({parts})" if expr.kind == "call" else "")
+
+
+def value_in(line):
+    """The value that a line shows; of a code its rows aren't known."""
+    code = re.fullmatch(r"code \[(\d+),(\d+)\] GF\((\d+)\)", line)
+    field = re.fullmatch(r"GF\((\d+)\)", line)
+    if code:
+        return Code(int(code.group(3)), int(code.group(1)), None)
+    return FieldValue(int(field.group(1))) if field else json.loads(line)
+
+
+class Names:
+    """What the statements before the fault gave to names. The program is asked for values, in a script of these statements; if it takes
+    minutes, since it is compiled first, they are found here."""
+
+    def __init__(self, program, statements):
+        self.program, self.statements = program, [s for s in statements if s.target is not None]
+
+    def __iter__(self):
+        return iter({s.target for s in self.statements})
+
+    def values(self, parts):
+        if len(self.program) == 1:
+            script = "".join(f"{s.target.decode()}:={written(s.expr)};" for s in self.statements) + "".join(written(part) + ";" for part in parts)
+            done = subprocess.run([*self.program, "run"], input=script.encode(), capture_output=True, check=False)
+            lines = done.stdout.decode().splitlines()
+            if done.returncode == 0 and len(lines) == len(parts):
+                return [value_in(line) for line in lines]
+        names = {}
+        for statement in self.statements:
+            names[statement.target] = reference.value_of(statement.expr, names)
+        return [reference.value_of(part, names) for part in parts]
 
 
 def uneven(rows):
@@ -174,6 +220,38 @@ def length_refusal(name, values):
     return f"the length {length} is not one of 1 to {LONGEST}"
 
 
+def characteristic(size):
+    return next(p for p in (2, 3, 5, 7, 11, 13) if size % p == 0)
+
+
+def order_told(length, size):
+    """Why no field has an element of this order."""
+    p, degree = characteristic(size), 1
+    if length % p == 0:
+        return f"{length} is a multiple of {p}: no field that contains GF({size}) has an element of this order"
+    while (size**degree - 1) % length:
+        degree += 1
+    return f"the smallest field with one that contains GF({size}) has {size}^{degree} elements; it isn't here"
+
+
+def divisors_told(length, size):
+    """Which degrees the irreducible divisors of x^n - 1 have: each is that of a set of exponents that multiplication by q permutes."""
+    p, part = characteristic(size), length
+    while part % p == 0:
+        part //= p
+    degrees, left = [], set(range(part))
+    while left:
+        exponent, orbit = min(left), set()
+        while exponent not in orbit:
+            orbit.add(exponent)
+            exponent = exponent * size % part
+        left -= orbit
+        degrees.append(len(orbit))
+    told = ", ".join(f"{degrees.count(d)} of degree {d}" for d in sorted(set(degrees)))
+    times = f", each {length // part} times" if part < length else ""
+    return f"over GF({size}) the irreducible divisors of x^{length} - 1 are {told}{times}"
+
+
 COMBINED = ("ExtendedCode", "PuncturedCode", "ShortenedCode", "EvenWeightSubcode", "DirectSumCode", "UUVCode",
             "DirectProductCode", "IntersectionCode", "ConcatenatedCode")
 OF_WORDS = ("IsCodeword", "Decode", "AlgebraicDecode")
@@ -183,7 +261,7 @@ BY_LISTS = ("GeneratorPolCode", "CheckPolCode", "GoppaCode", "AlternantCode")
 def refusal(expr, fault, names):
     """Why a call with arguments of its kinds is refused."""
     name = expr.value.decode()
-    values = [evaluated(part, names) for part in expr.parts]
+    values = names.values(expr.parts)
     number = fault.number
     if number == 1:
         sizes = ", ".join(str(q) for q in FIELD_SIZES)
@@ -197,11 +275,11 @@ def refusal(expr, fault, names):
     if number == 10:
         return f"{values[-2].size} is no power of {values[-1].size}"
     if number == 4:
-        return f"the length is {values[1]}"
+        return divisors_told(values[1], values[2].size)
     if name in BY_LISTS:
         return list_refusal(name, values, fault)
     if number == 5:
-        return f"among the eighteen fields none that contains GF({values[-1].size}) has an element of order {values[0]}"
+        return order_told(values[0], values[-1].size)
     if number == 6:
         distance, least = (values[1], 1) if name == "ReedSolomonCode" else (values[-2], 2)
         if values[0] < least:
@@ -263,7 +341,7 @@ def of_call(expr, fault, names):
             return inner
         if part.place == fault.place and fault.number == 45 and name in table:
             kinds = next(kinds for kinds in table[name][0] if len(kinds) == len(expr.parts))
-            return f"argument {i + 1} of `{name}` is {KINDS[kinds[i]]}; here is {told(evaluated(part, names))}"
+            return f"argument {i + 1} of `{name}` is {KINDS[kinds[i]]}; here is {told(names.values([part])[0])}"
     return None
 
 
@@ -278,27 +356,17 @@ def of_expr(expr, fault, names):
             if inner is not None:
                 return inner
             if part.place == fault.place and fault.number == 45:
-                first = evaluated(expr.parts[0], names)
+                first, this = names.values([expr.parts[0], part])
                 if i == 0:
                     return f"a list has numbers or lists of numbers; here is {told(first)}"
-                return f"the first element is {told(first)}, and this one is {told(evaluated(part, names))}"
+                return f"the first element is {told(first)}, and this one is {told(this)}"
     return None
 
 
-def of_statements(statements, fault):
-    """The explanation of the fault of evaluation, with the names that were given values before it."""
-    names = {}
-    for statement in statements:
-        try:
-            if reference.is_query(statement):
-                reference.call_value(statement.expr, QUERIES, names, reference.Session())
-            else:
-                value = reference.value_of(statement.expr, names)
-                if statement.target is not None:
-                    names[statement.target] = value
-        except Fault:
-            return of_expr(statement.expr, fault, names) or ""
-    return ""
+def of_statements(program, statements, fault):
+    """The explanation of the fault of evaluation: it is in the last statement that begins before it."""
+    before = [s for s in statements if s.expr.place <= fault.place]
+    return of_expr(before[-1].expr, fault, Names(program, before[:-1])) or ""
 
 
 def expected(allowed, fault):
@@ -308,7 +376,13 @@ def expected(allowed, fault):
     return "expected " + (", ".join(words[:-1]) + " or " if len(words) > 1 else "") + words[-1]
 
 
-def explanation(script, fault):
+def of_reading(script, fault, allowed):
+    if fault.number == 40:
+        return explain_bytes.of_byte(script, fault.place)
+    return (fault.number == 41 and explain_bytes.of_token(script, fault.place)) or expected(allowed, fault)
+
+
+def explanation(program, script, fault):
     """The lines on standard error."""
     start = script.rfind(b"\n", 0, fault.place) + 1
     stop = script.find(b"\n", fault.place)
@@ -316,7 +390,7 @@ def explanation(script, fault):
     column = len(script[start:fault.place].decode("utf-8", "replace"))
     row = script.count(b"\n", 0, fault.place) + 1
     statements, _fault, allowed = read(script)
-    detail = of_statements(statements, fault) if statements is not None else expected(allowed, fault)
+    detail = of_reading(script, fault, allowed) if statements is None else of_statements(program, statements, fault)
     lines = [f"line {row}, column {column + 1}: {MEANINGS[fault.number]}"]
     cut = max(0, column - 60)
     lines.append("  " + source[cut:cut + 120])
@@ -331,22 +405,33 @@ def fault_of(text):
     return Fault(int(words[1]), int(words[3]), tuple(int(n) for n in words[5:]))
 
 
+def printed(program, command, text):
+    """What the program prints, and its status."""
+    done = subprocess.run([*program, command], input=text, stdout=subprocess.PIPE, check=False)
+    sys.stdout.buffer.write(done.stdout)
+    sys.stdout.buffer.flush()
+    return done.stdout, done.returncode
+
+
 def main():
     if len(sys.argv) < 3:
         print("usage: explain.py PROGRAM [ARGUMENT..] FILE", file=sys.stderr)
         return 2
     program, file = sys.argv[1:-1], sys.argv[-1]
     try:
-        script = sys.stdin.buffer.read() if file == "-" else open(file, "rb").read()
+        text = sys.stdin.buffer.read() if file == "-" else open(file, "rb").read()
     except OSError as error:
         print(f"codes: {error.filename}: {error.strerror}", file=sys.stderr)
         return 4
-    done = subprocess.run([*program, "run"], input=script, stdout=subprocess.PIPE, check=False)
-    sys.stdout.buffer.write(done.stdout)
-    sys.stdout.buffer.flush()
-    if done.returncode == 1:
-        print("\n".join(explanation(script, fault_of(done.stdout))), file=sys.stderr)
-    return done.returncode
+    if explain_certificate.is_certificate(text):
+        said, status = printed(program, "check", text)
+        lines = explain_certificate.lines(text, said) if status == 11 else []
+    else:
+        said, status = printed(program, "run", text)
+        lines = explanation(program, text, fault_of(said)) if status == 1 else []
+    if lines:
+        print("\n".join(lines), file=sys.stderr)
+    return status
 
 
 if __name__ == "__main__":

@@ -3,17 +3,21 @@
 #   LoadPackage("guava");
 #   Read("tools/gap/codes.g");
 #   CodesDistance(C);
-#   CodesDistance(C, rec(budget := 2^24, workers := 4, program := "/usr/local/bin/codes"));
+#   CodesDistance(C, rec(budget := 2^24, workers := 4, program := "/usr/local/bin/codes", quiet := true));
+#   CodesCertificate(C);
 #
 # C is a linear code of GUAVA over 2, 3, 4, 5, 7, 8, 9, 11, 13 or 16 elements, of length at most 255 and dimension at least 1. The
-# answer is a record:
+# answer of CodesDistance is a record:
 #   low, high     two numbers between which the minimum distance lies; they are equal if the search was finished
 #   isExact       whether it was
 #   word          a codeword of weight `high`, as a codeword of GUAVA
 #   blocks        how many blocks of 4,096 words were searched
-# While it searches, `codes` writes a line for each of its rounds to standard error.
-# `budget` is the most blocks of a search (2^20), `workers` the number of threads (1), `program` the path of `codes` (the one on the
-# path of the system).
+# CodesCertificate gives a certificate of the minimum distance, as a line of text for `codes check`, or a line that says why there is
+# none. Both take the same components, and it is an error if there is another one:
+#   budget        the most blocks of a search, 2^20 by default
+#   workers       the number of threads, 1 by default
+#   program       the path of `codes`, by default the one on the path of the system
+#   quiet         whether the line that `codes` writes of each round to standard error is left out, false by default
 
 # Z(q)^0, Z(q)^1, .. as `codes` numbers them, for the fields in which a number isn't the sum of so many ones.
 CodesPowers := rec(
@@ -42,17 +46,54 @@ CodesElement := function(q, n)
     return Z(q)^(Position(CodesPowers.(q), n) - 1);
 end;
 
-# the script that asks for the minimum distance
-CodesScript := function(C)
+# what is wrong with the components of a record of options, or fail
+CodesMistakeInOptions := function(options)
+    local name, limits;
+    limits := rec(budget := [0, 2^40], workers := [1, 256]);
+    for name in RecNames(options) do
+        if name in RecNames(limits) then
+            if not (IsInt(options.(name)) and options.(name) >= limits.(name)[1] and options.(name) <= limits.(name)[2]) then
+                return Concatenation(name, " is a number from ", String(limits.(name)[1]), " to ", String(limits.(name)[2]));
+            fi;
+        elif name = "quiet" then
+            if not options.quiet in [true, false] then
+                return "quiet is true or false";
+            fi;
+        elif name <> "program" then
+            return Concatenation("there is no option ", name, "; there are budget, workers, program and quiet");
+        fi;
+    od;
+    return fail;
+end;
+
+# what is wrong with a code or the options, or fail
+CodesMistake := function(C, options)
+    local q;
+    if not IsLinearCode(C) then
+        return "the code is not linear";
+    fi;
+    q := Size(LeftActingDomain(C));
+    if not q in [2, 3, 4, 5, 7, 8, 9, 11, 13, 16] then
+        return Concatenation("codes are over 2, 3, 4, 5, 7, 8, 9, 11, 13 or 16 elements, and this one is over ", String(q));
+    elif WordLength(C) > 255 then
+        return Concatenation("codes have length 255 at most, and this one has length ", String(WordLength(C)));
+    elif Dimension(C) = 0 then
+        return "a code of dimension 0 has no nonzero word";
+    fi;
+    return CodesMistakeInOptions(options);
+end;
+
+# the script that asks a query of the code
+CodesScript := function(query, C)
     local q, rows;
     q := Size(LeftActingDomain(C));
     rows := List(GeneratorMat(C), row -> List(row, x -> CodesNumber(q, x)));
-    return Concatenation("MinimumDistance(GeneratorMatCode(", Filtered(String(rows), c -> c <> ' '), ",GF(", String(q), ")));\n");
+    return Concatenation(query, "(GeneratorMatCode(", Filtered(String(rows), c -> c <> ' '), ",GF(", String(q), ")));\n");
 end;
 
 # what the program prints of a script
 CodesRun := function(script, options)
-    local path, program, text, out, status, args;
+    local name, program, text, out, status, args;
     if IsBound(options.program) then
         program := options.program;
     else
@@ -62,11 +103,15 @@ CodesRun := function(script, options)
         Error("the program `codes` is not on the path; give its path as the component `program`");
     fi;
     args := ["run"];
-    for path in ["budget", "workers"] do
-        if IsBound(options.(path)) then
-            Add(args, Concatenation(path, "=", String(options.(path))));
+    for name in ["budget", "workers"] do
+        if IsBound(options.(name)) then
+            Add(args, Concatenation(name, "=", String(options.(name))));
         fi;
     od;
+    if IsBound(options.quiet) and options.quiet then
+        args := Concatenation(["-c", "exec \"$0\" \"$@\" 2>/dev/null", program], args);
+        program := "/bin/sh";
+    fi;
     text := "";
     out := OutputTextString(text, true);
     status := Process(DirectoryCurrent(), program, InputTextString(script), out, args);
@@ -77,19 +122,37 @@ CodesRun := function(script, options)
     return text;
 end;
 
+# the line that the program prints of a query of the code
+CodesAnswer := function(query, arguments)
+    local C, options, mistake;
+    C := arguments[1];
+    if Length(arguments) > 1 then options := arguments[2]; else options := rec(); fi;
+    mistake := CodesMistake(C, options);
+    if mistake <> fail then
+        Error(mistake);
+    fi;
+    return CodesRun(CodesScript(query, C), options);
+end;
+
 CodesDistance := function(arg)
-    local C, options, q, text, parts, list, word;
+    local C, q, parts, list, word, found;
     C := arg[1];
-    if Length(arg) > 1 then options := arg[2]; else options := rec(); fi;
-    q := Size(LeftActingDomain(C));
-    text := CodesRun(CodesScript(C), options);
     # distance D word [..] blocks B, or distance between L and W word [..] blocks B
-    parts := SplitString(text, " \n", "\n");
-    parts := Filtered(SplitString(text, " \n", " \n"), part -> part <> "");
+    parts := Filtered(SplitString(CodesAnswer("MinimumDistance", arg), " \n", " \n"), part -> part <> "");
+    q := Size(LeftActingDomain(C));
     list := EvalString(First(parts, part -> part[1] = '['));
     word := Codeword(List(list, n -> CodesElement(q, n)), GF(q));
     if parts[2] = "between" then
-        return rec(low := Int(parts[3]), high := Int(parts[5]), isExact := false, word := word, blocks := Int(parts[9]));
+        found := rec(low := Int(parts[3]), high := Int(parts[5]), isExact := false, word := word, blocks := Int(parts[9]));
+    else
+        found := rec(low := Int(parts[2]), high := Int(parts[2]), isExact := true, word := word, blocks := Int(parts[6]));
     fi;
-    return rec(low := Int(parts[2]), high := Int(parts[2]), isExact := true, word := word, blocks := Int(parts[6]));
+    if not word in C or WeightCodeword(word) <> found.high then
+        Error("codes answered a word that is no word of this code, or of another weight: ", list);
+    fi;
+    return found;
+end;
+
+CodesCertificate := function(arg)
+    return Chomp(CodesAnswer("Certificate", arg));
 end;

@@ -1,0 +1,74 @@
+"""What tools/explain.py says where a stored case would be much for a little: signs that begin no token, and names of other systems.
+
+    tests/explanations.py
+
+Each sign that can't begin a token has a sentence. Each name in back quotes in the tables and the last list of docs/FROM_GUAVA.md leads
+to a sentence, unless it is a call of the language too, and each name in the sentences of the first table is one. Prints what fails,
+and ends with 1 if something does.
+"""
+import re
+import sys
+from pathlib import Path
+
+sys.path.insert(0, str(Path(__file__).resolve().parent.parent / "tools"))
+import explain
+import explain_bytes
+import foreign_names
+from reference import CALLS, LETTERS, DIGITS, QUERIES
+
+OURS = set(CALLS) | set(QUERIES)
+# sign, script, what the sentence has in it; the fault is at the sign
+SIGNS = [
+    ("=", b"C = 1;", "`:=`"), ("^", b"2^10;", "1024"), ("^", b"x^2;", "no powers"), ("^", b"Z(2)^0;", "FROM_GUAVA"), ("-", b"[-1],GF(13)", "12"),
+    ("-", b"-1;", "no negative"), ('"', b'"01"', "[0,1]"), ('"', b'"a"', "no strings"), ("/", b"/* a */", "`#`"), ("/", b"1/2;", "no quotients"),
+    (".", b"[1..5];", "no ranges"), (".", b"C.1;", "whole"), ("{", b"{1};", "brackets"), ("\x00", b"\x00", "byte 0"), ("\u00a0", "\u00a0".encode(), "NO-BREAK SPACE"),
+    ("\u200b", "\u200b".encode(), "ZERO WIDTH SPACE"), ("\u201c", "\u201c".encode(), "LEFT DOUBLE QUOTATION MARK"), ("\u03b1", "\u03b1".encode(), "GREEK SMALL LETTER ALPHA"),
+]
+
+
+def signs():
+    for sign, script, wanted in SIGNS:
+        sentence = explain_bytes.of_byte(script, script.index(sign.encode()))
+        if wanted not in sentence:
+            yield f"{sign!r} in {script}: {sentence}"
+    for byte in range(256):
+        if byte not in LETTERS + DIGITS + b"()[],; \t\r\n#" and not explain_bytes.of_byte(bytes([byte]) + b" ", 0):
+            yield f"nothing is said of the byte {byte}"
+    for script, wanted in ((b"1;;", "one `;`"), (b"if x then", "no loops"), (b"C D;", "")):
+        place = {b"1;;": 2, b"if x then": 3, b"C D;": 2}[script]
+        if wanted not in explain_bytes.of_token(script, place):
+            yield f"{script}: {explain_bytes.of_token(script, place)}"
+
+
+def names():
+    parts = foreign_names.sections(foreign_names.PAGE.read_text(encoding="utf-8"))
+    for heading in ("Coming from GUAVA, Sage or Magma", "What is not here"):
+        for line in parts[heading]:
+            for snippet in foreign_names.QUOTED.findall(line.split("|", 2)[-1]) if line[:1] in "|-" else []:
+                name = foreign_names.name_in(snippet)
+                if name and name not in OURS and not foreign_names.said_of(name):
+                    yield f"nothing is said of `{name}`"
+    for name in ("QRCode", "WeightDistribution", "Syndrome", "dual_code", "BKLC", "Z", "Codeword", "CyclicCode"):
+        if not foreign_names.said_of(name):
+            yield f"nothing is said of `{name}`"
+    for name, sentence in foreign_names.table().items():
+        written = re.search(r" write (.*)", sentence)
+        for call in re.findall(r"`(\w+)\(", written.group(1)) if written else []:
+            if call not in OURS:
+                yield f"of `{name}` it is said: {sentence}"
+
+
+def nearest():
+    for name, known, wanted in (("minimumdistance", sorted(OURS), "MinimumDistance"), ("c", ["C", "GF"], "C"), ("HamingCode", sorted(OURS), "HammingCode")):
+        if wanted not in explain.near(name, known):
+            yield f"{name}: {explain.near(name, known)}"
+
+
+def main():
+    failed = [line for part in (signs, names, nearest) for line in part()]
+    print("\n".join(failed) or "the sentences are there")
+    return 1 if failed else 0
+
+
+if __name__ == "__main__":
+    sys.exit(main())
