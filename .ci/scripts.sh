@@ -5,7 +5,7 @@
 but_for_records() { grep -vxE 'query [0-9]+ blocks [0-9]+ bound [0-9]+ best [0-9]+' "$room/err" >"$room/said" || :; }
 
 # gives SCRIPT OUT STATUS ERR ARGUMENT..: on that script, with these arguments, the program writes exactly the bytes of OUT and ERR,
-# the lines of records apart, and ends with STATUS
+# the lines of records apart, and ends with STATUS. The limit only ends what would hang: on a busy machine no script took a tenth of it.
 gives() {
     local script=$1 out=$2 status=$3 err=$4 got
     shift 4
@@ -224,8 +224,8 @@ second_checker_takes_a_file() {
 agrees_with_a_stand_in() { CODES=$program timeout 300 python3 -B tests/bridges/without_sage.py; }
 
 # the functions for GUAVA and Sage, where these are installed
-agrees_with_guava() { CODES=$program timeout 300 gap -q <tests/bridges/with_guava.g 2>&1 | grep -v '^true$' >"$room/gap"; ! grep -E 'failed|Error' "$room/gap" && grep -q '^done$' "$room/gap"; }
-agrees_with_sage() { CODES=$program timeout 600 sage tests/bridges/with_sage.py >"$room/sage" 2>&1; ! grep -E 'failed|Error' "$room/sage" && grep -q '^done$' "$room/sage"; }
+agrees_with_guava() { CODES=$program timeout 3000 gap -q <tests/bridges/with_guava.g 2>&1 | grep -v '^true$' >"$room/gap"; ! grep -E 'failed|Error' "$room/gap" && grep -q '^done$' "$room/gap"; }
+agrees_with_sage() { CODES=$program timeout 6000 sage tests/bridges/with_sage.py >"$room/sage" 2>&1; ! grep -E 'failed|Error' "$room/sage" && grep -q '^done$' "$room/sage"; }
 
 # the functions for Python
 answers_python() { CODES=$program timeout 300 python3 -B tests/bridges/with_python.py; }

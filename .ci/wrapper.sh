@@ -100,7 +100,10 @@ a_copy_to_read_only() {
 at_a_terminal() {
     python3 -B - "$copy/codes" >"$room/out" <<'PY'
 import os, pty, sys
-child, terminal = pty.fork()
+try:
+    child, terminal = pty.fork()
+except OSError:
+    sys.exit(3)  # there are no terminals here
 if child == 0:
     os.execv(sys.argv[1], [sys.argv[1], "run"])
 os.write(terminal, b"Weight([1]);\n\x04")
@@ -113,6 +116,7 @@ except OSError:
 os.waitpid(child, 0)
 sys.stdout.write(said.decode())
 PY
+    [ $? -ne 3 ] || return 0
     grep -q '^codes: type a script, and end it with Ctrl-D' "$room/out" && grep -qx $'1\r' "$room/out"
 }
 
@@ -161,7 +165,6 @@ refused() {
 
 # mistakes: each ends with its status, and says what to do, though there is neither a program nor a kit
 mistakes() {
-    local word
     mv "$copy/release" "$room/"
     for word in '-h x' install 'install a b' 'prove x' 'test x' explain 'pretty x' '--unproved run keep=yes'; do
         # shellcheck disable=SC2086
@@ -316,10 +319,10 @@ a_build_that_is_stopped() {
         # shellcheck disable=SC2086
         (cd "$room/elsewhere" && TMPDIR=$room/temporary PATH=$room/bin RATTLE_KIT=$room/kit exec "$copy/codes" $words) <examples/hamming.codes >/dev/null 2>&1 &
         pid=$!
-        until [ -s "$room/waits" ]; do sleep 0.1; done
+        while kill -0 "$pid" 2>/dev/null && [ ! -s "$room/waits" ]; do sleep 0.1; done
         kill "$pid"
         wait "$pid"
-        [ $? -eq 143 ] && ! kill -0 "$(cat "$room/waits")" 2>/dev/null && [ -z "$(ls "$room/temporary")" ] || { left=1; echo "codes $words left $(ls "$room/temporary")"; }
+        [ $? -eq 143 ] && [ -s "$room/waits" ] && ! kill -0 "$(cat "$room/waits")" 2>/dev/null && [ -z "$(ls "$room/temporary")" ] || { left=1; echo "codes $words left $(ls "$room/temporary")"; }
     done
     return $left
 }

@@ -86,7 +86,7 @@ class Session:
         number of growths."""
         how = {"LD_PRELOAD": self.library, "REFUSE_COUNT": self.count, "REFUSE_FIRST": str(first), "REFUSE_LAST": str(last)}
         try:
-            done = subprocess.run([self.program, *words], input=given, capture_output=True, cwd=self.room, env={**os.environ, **how}, timeout=60)
+            done = subprocess.run([self.program, *words], input=given, capture_output=True, cwd=self.room, env={**os.environ, **how}, timeout=600)
         except subprocess.TimeoutExpired:
             return HANGS, b"", b"", 0, 0
         with open(self.count, "rb") as file:

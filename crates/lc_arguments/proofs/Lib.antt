@@ -3,3 +3,4 @@ pub mod NumberLaws
 pub mod KeyLaws
 pub mod ArgumentLaws
 pub mod CourseLaws
+pub mod Opened

@@ -40,7 +40,7 @@ fn place_of(arguments: &[String], key: Key) -> Option<usize>
 }
 
 // What is asked for once a key has this value; None if the key takes no such value.
-#[tactic(auto, unfolding(lc_session_rules::specs::Options::put_key, lc_grammar::specs::Token::widest))]
+#[tactic(auto, unfolding(crate::proofs::Opened::keys_and_numbers))]
 fn with_value(asked: Asked, key: Key, value: &str) -> Option<Asked>
     ensures { option_map settings_for result ≡ put_key (key_for key) value.now (settings_for asked) }
 {

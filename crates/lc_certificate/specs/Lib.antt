@@ -1,3 +1,4 @@
 pub mod Pieces
 pub mod Reading
 pub mod Seen
+pub mod Trees

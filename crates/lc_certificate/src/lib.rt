@@ -2,6 +2,7 @@
 #![tactic(auto)]
 
 mod certificate;
+mod claims;
 mod reading;
 mod refusal;
 mod rows;
@@ -9,6 +10,7 @@ mod sets;
 mod writing;
 
 pub use certificate::{Certificate, Proof, SetClaim};
+pub use claims::{Built, Claim, Document, PairKind, PlaceKind};
 pub use reading::parse;
 pub use refusal::CertRefusal;
 pub use writing::write;

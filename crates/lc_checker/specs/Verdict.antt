@@ -20,6 +20,8 @@ reason_of (reason.FreshOverlap c) = formats.fresh_overlap c
 reason_of (reason.SeenLighter w) = formats.seen_lighter w
 reason_of (reason.BoundShort s) = formats.bound_short s
 reason_of (reason.TooCostly n) = formats.too_costly n
+reason_of (reason.PartRefused claim refusal) = formats.part_refused claim refusal
+reason_of (reason.ClaimShort b) = formats.claim_short b
 
 unfoldable pub reasons_of : Option Reason → Option formats.Reason
 reasons_of o = option_map reason_of o

@@ -18,7 +18,7 @@ pub enum Verdict {
 }
 
 /// Why a certificate is rejected. Contracts see it as `reason_of` it, a `Reason` of `lc_formats`. The first three are given by
-/// those who read one, `check` gives the others.
+/// those who read one, the last two by those who check one by construction, and `check` gives the others.
 #[derive(Drop)]
 pub enum Reason {
     /// The bytes are no JSON value.
@@ -41,10 +41,14 @@ pub enum Reason {
     BoundShort(u64),
     /// The cost of a check, as `checking_cost` gives it, which is above 2^32.
     TooCostly(u64),
+    /// Of a certificate by construction: the number of the first claim that is refused, from 0, and that of its refusal.
+    PartRefused(u64, u8),
+    /// Of a certificate by construction: the bound of its claim, which is below the distance.
+    ClaimShort(u64),
 }
 
 impl Reason {
-    /// The number of the reason: 30 to 39 in the order of the cases.
+    /// The number of the reason: 30 to 39 in the order of the cases, and 48 and 49 for the last two.
     #[tactic(auto, unfolding(crate::proofs::Opened::number_of_reason))]
     pub fn number(&self) -> u8
         ensures is { result ≡ reason_number (reason_of self.now) }
@@ -60,10 +64,12 @@ impl Reason {
             Reason::SeenLighter(_) => 37,
             Reason::BoundShort(_) => 38,
             Reason::TooCostly(_) => 39,
+            Reason::PartRefused(_, _) => 48,
+            Reason::ClaimShort(_) => 49,
         }
     }
 
-    /// The numbers that the reason carries: none, one, or the symbols of the lighter word. If it carries none, no memory is taken.
+    /// The numbers that the reason carries: none, one, two, or the symbols of the lighter word. If it carries none, no memory is taken.
     #[tactic(auto, unfolding(crate::proofs::Opened::values_of_reason))]
     pub fn values(&self, alloc: Global) -> Result<Vec<u64>, NoMemory>
         ensures are { IfOk result (λ values. values.items ≡ reason_values (reason_of self.now)) }
@@ -75,7 +81,9 @@ impl Reason {
             | Reason::SetNotInformation(n)
             | Reason::FreshOverlap(n)
             | Reason::BoundShort(n)
-            | Reason::TooCostly(n) => one(alloc, *n),
+            | Reason::TooCostly(n)
+            | Reason::ClaimShort(n) => one(alloc, *n),
+            Reason::PartRefused(claim, refusal) => two(alloc, *claim, *refusal as u64),
             Reason::SeenLighter(word) => numbers(alloc, word.symbols()),
             Reason::NotJson | Reason::Limit | Reason::WordNotInCode => Ok(Vec::new(alloc)),
         }
@@ -87,6 +95,16 @@ fn one(alloc: Global, n: u64) -> Result<Vec<u64>, NoMemory>
     ensures is { IfOk result (λ values. values.items ≡ n ∷ []) }
 {
     let mut values = Vec::with_capacity(alloc, 1)?;
+    values.push(n)?;
+    Ok(values)
+}
+
+// The list of two numbers.
+fn two(alloc: Global, m: u64, n: u64) -> Result<Vec<u64>, NoMemory>
+    ensures is { IfOk result (λ values. values.items ≡ m ∷ n ∷ []) }
+{
+    let mut values = Vec::with_capacity(alloc, 2)?;
+    values.push(m)?;
     values.push(n)?;
     Ok(values)
 }

@@ -45,7 +45,7 @@ cond_removed : (t : Bool) (a : ℕ) (u x : List ℕ) → weight u + length x ≤
 cond_removed true a u x l = omega (arith, l, weight_cons_at_most a u)
 cond_removed false a u x l = omega (arith, l, weight_cons a u, weight_cons a x)
 
-weight_removed : (i : ℕ) (coordinates u : List ℕ) → weight u + length (without_from i coordinates u) ≤ weight (without_from i coordinates u) + length u
+pub weight_removed : (i : ℕ) (coordinates u : List ℕ) → weight u + length (without_from i coordinates u) ≤ weight (without_from i coordinates u) + length u
 unfolding without_from
 weight_removed i coordinates [] = omega arith
 weight_removed i coordinates (a ∷ u) = cond_removed (list_any (λ p. i == p) coordinates) a u (without_from (suc i) coordinates u) (weight_removed (suc i) coordinates u)

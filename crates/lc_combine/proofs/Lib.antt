@@ -15,3 +15,4 @@ pub mod DimensionLaws
 pub mod NestedBounds
 pub mod ProductBounds
 pub mod ImageDimension
+pub mod ChangedBounds

@@ -7,6 +7,7 @@ pub mod ClaimMeaning
 pub mod Document
 pub mod Entries
 pub mod Json
+pub mod Proven
 pub mod Shape
 pub mod Text
 pub mod Truth

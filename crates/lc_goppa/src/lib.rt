@@ -7,5 +7,5 @@ mod points;
 mod polynomials;
 mod refusal;
 
-pub use alternant_codes::alternant;
+pub use alternant_codes::{alternant, subfield_subcode};
 pub use goppa_codes::goppa;

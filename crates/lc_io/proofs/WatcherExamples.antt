@@ -2,6 +2,8 @@
 --   outlasting            whether advice lasts for two records
 --   three_watchers        two records told to three watchers, with Go and Go, with Go, and with nothing to answer: the first is left
 --   too_short             the second of them isn't handed back
+--   pausers_stay          with checkpoints kept, one that pauses and has no more to answer isn't gone after two records
+--   leavers_go            without, it is
 --   stored, torn          a slot that was replaced, and what a store that fails leaves of five bytes
 use Rattle.std.proofs.Common.{◌≡◌, refl, true, false, [], ◌∷◌, map, List, Bool}
 use Rattle.std.specs.Prelude.{Some}
@@ -43,10 +45,20 @@ stays = record {
 }
 
 pub three_watchers : Kept true (first ∷ second ∷ []) false (fresh (Go ∷ Go ∷ []) ∷ fresh (Go ∷ []) ∷ fresh [] ∷ []) (after_both ∷ [])
-three_watchers = Kept.kept _ _ _ _ _ _ stays (Kept.gone _ _ _ _ (record { told = λ none. cc; leaving = refl }) (Kept.gone _ _ _ _ (record { told = λ none. cc; leaving = refl }) Kept.no_more))
+three_watchers = Kept.kept _ _ _ _ _ _ stays (Kept.gone _ _ _ _ (record { told = λ none. cc; leaving = refl; calm = λ k. refl }) (Kept.gone _ _ _ _ (record { told = λ none. cc; leaving = refl; calm = λ k. refl }) Kept.no_more))
 
 pub too_short : (keep paused : Bool) (after : Hearing) → Stays keep (first ∷ second ∷ []) paused (fresh (Go ∷ [])) after → ⊥
 too_short keep paused after s = let e : false ≡ true = s.outlasting in cc
+
+pub pausers_stay : (paused : Bool) (ws : List Hearing) → Kept true (first ∷ second ∷ []) paused (fresh (Pause ∷ []) ∷ []) ws → ⊥
+pausers_stay _ _ (Kept.kept w v ws vs p q s past) = ends_at_first p v s
+  where
+    ends_at_first : (p : Bool) (after : Hearing) → Stays true (first ∷ second ∷ []) p (fresh (Pause ∷ [])) after → ⊥
+    ends_at_first p after s = let e : false ≡ true = s.outlasting in cc
+pausers_stay _ _ (Kept.gone w ws vs q g past) = let e : true ≡ false = g.calm refl in cc
+
+pub leavers_go : Kept false (first ∷ second ∷ []) false (fresh (Pause ∷ []) ∷ []) []
+leavers_go = Kept.gone _ _ _ _ (record { told = λ none. cc; leaving = refl; calm = λ k. let e = k in cc }) Kept.no_more
 
 abbrev pub one_kept : Slots
 one_kept = put One (100 ∷ []) (put Zero (97 ∷ 98 ∷ []) empty_slots)

@@ -27,7 +27,7 @@ impl<T: Drop> From<AllocFailed<T>> for NoMemory {
 
 /// Where bytes come from.
 pub trait Source {
-    /// The bytes still to come, if the source tells them. One that tells them goes on telling.
+    /// The bytes still to come, if the source discloses them. One that does always does.
     ghost rest: { Self → Option (List ℕ) };
 
     /// How often the source has failed. It never falls.
@@ -49,7 +49,7 @@ pub trait Source {
 
 /// Where bytes go.
 pub trait Sink {
-    /// The bytes taken, if the sink tells them. One that tells them goes on telling.
+    /// The bytes taken, if the sink discloses them. One that does always does.
     ghost written: { Self → Option (List ℕ) };
 
     /// How often the sink has failed. It never falls.

@@ -18,7 +18,7 @@ pub enum Slot {
 pub trait Vault {
     ghost use Rattle.lc_io.specs.Vaults.{Slots};
 
-    /// The bytes of both slots, if the vault tells them. One that tells them goes on telling.
+    /// The bytes of both slots, if the vault discloses them. One that does always does.
     ghost contents: { Self → Option Slots };
 
     /// How often the vault has failed. It never falls.

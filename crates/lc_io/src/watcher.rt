@@ -33,10 +33,10 @@ pub trait Watcher: Drop {
     ghost use Rattle.lc_io.specs.declared.watcher.Record.{Record};
     ghost use Rattle.lc_io.specs.declared.watcher.Advice.{Advice};
 
-    /// The records heard, if the watcher tells them. One that tells them goes on telling.
+    /// The records heard, if the watcher discloses them. One that does always does.
     ghost heard: { Self → Option (List Record) };
 
-    /// The advice still to be given, if the watcher tells it. One that tells it goes on telling.
+    /// The advice still to be given, if the watcher discloses it. One that does always does.
     ghost coming: { Self → Option (List Advice) };
 
     /// How often it has answered Pause.

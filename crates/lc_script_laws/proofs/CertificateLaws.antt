@@ -2,13 +2,12 @@
 --   need_searchable      a need of a script is a code as the laws of certificates ask for
 --   levels_accepted, scan_accepted      so the line of a certificate of it says that there is none, or is accepted
 --   no_rows              the line for a code without rows says that there is none
-use Rattle.std.proofs.Common.{◌≡◌, ◌⊎◌, ℕ, List, [], ◌∷◌, length, Some, refl, sym, subst, arith}
+use Rattle.std.proofs.Common.{◌≡◌, ◌⊎◌, ℕ, List, length, Some, refl, sym, subst, arith}
 use Rattle.std.specs.Prelude.{slice_get}
 use Rattle.lc_algebra.specs.Matrix.{Matrix}
 use Rattle.lc_algebra.specs.Divisor.{divisor_of}
 use Rattle.lc_algebra.proofs.ReducedLaws.{reduced_independent, reduced_at_most}
 use Rattle.lc_enumeration.specs.Search.{Answer, no_word, answer}
-use Rattle.lc_formats.specs.Text.{line}
 use Rattle.lc_language.specs.declared.Call.{Call}
 use Rattle.lc_language.specs.Query.{QueryKind, by_levels, by_scan, certificate_answer_line, query_line}
 use Rattle.lc_session_rules.specs.Needs.{MeetsFirst}
@@ -18,7 +17,7 @@ use Rattle.lc_certify.proofs.AcceptedLaws.{printed, empty_none}
 use Rattle.lc_script_laws.proofs.AskShapes.{met_shaped}
 use Rattle.lc_script_laws.proofs.RangeLaws.{need_is_code}
 
-need_searchable : (table : List Call) (bytes : List ℕ) (needs : List Matrix) → MeetsFirst table bytes needs → (i : ℕ) (C : Matrix) → slice_get needs i ≡ Some C → IsSearchable C
+pub need_searchable : (table : List Call) (bytes : List ℕ) (needs : List Matrix) → MeetsFirst table bytes needs → (i : ℕ) (C : Matrix) → slice_get needs i ≡ Some C → IsSearchable C
 need_searchable table bytes needs met i C at =
     let code = need_is_code needs i C (met_shaped table bytes needs met) at in
     let some = met_rows table bytes needs met i C at in

@@ -10,3 +10,4 @@ pub mod BudgetLaws
 pub mod GroundLaws
 pub mod CertificateLaws
 pub mod StoredLaws
+pub mod PrintedLaws

@@ -5,19 +5,21 @@
 --   stores_afresh        those after a session of `run` that emptied them
 --   true_turn            the turn of a true checkpoint is below 2^58
 --   tells_early          and so is that of a record told
-use Rattle.std.proofs.Common.{◌≡◌, ◌⊎◌, inl, inr, ◌≤◌, ◌<◌, ◌^◌, ℕ, true, List, [], ◌∷◌, ◌++◌, length, Option, refl, sym, subst}
+--   slots_stay           true slots stay true
+use Rattle.std.proofs.Common.{◌≡◌, ◌⊎◌, inl, inr, ◌≤◌, ◌<◌, ◌^◌, ℕ, true, List, [], ◌∷◌, ◌++◌, length, Option, Some, refl, sym, subst}
+use Rattle.std.specs.Prelude.{IsTrue}
 use Rattle.lc_enumeration.specs.Records.{SessionStep}
 use Rattle.lc_formats.specs.Checkpoint.{Checkpoint}
 use Rattle.lc_io.specs.Vaults.{Slots}
 use Rattle.lc_eval.specs.Built.{built_calls}
 use Rattle.lc_session_rules.specs.Options.{Command, run, resume, check, summary, Settings, Options, settings, usage as refuses, options, all_options}
-use Rattle.lc_session_rules.specs.Slots.{turn_after, IsTrueCheckpoint}
+use Rattle.lc_session_rules.specs.Slots.{turn_after, IsTrueCheckpoint, AreTrueSlots}
 use Rattle.lc_session_rules.specs.Endings.{Ending, done, usage, paused, source_fault, sink_fault, vault_fault, no_memory, no_checkpoint, damaged_checkpoint, other_script, rejected, too_long, unfit}
-use Rattle.lc_session_rules.specs.Session.{Outside, Course, most_bytes, Accepts, ReadsScript, Reads, Ends, IsSession}
-use Rattle.lc_session_rules.specs.Promises.{StartsTruly, StoresTruly, StoresAfresh}
-use Rattle.lc_session_rules.specs.Chain.{HasBegun}
+use Rattle.lc_session_rules.specs.Session.{Outside, Course, most_bytes, keeps, Accepts, ReadsScript, Reads, Ends, IsSession}
+use Rattle.lc_session_rules.specs.Promises.{StartsTruly, StoresTruly, StoresAfresh, EmptiesSo}
+use Rattle.lc_session_rules.specs.Chain.{HasBegun, TearsSo}
 use Rattle.lc_session_rules.proofs.GroundLaws as chains
-use Rattle.lc_session_rules.proofs.StoredTruly.{IsGrounded, grounded_stores, grounded_afresh, grounded_early}
+use Rattle.lc_session_rules.proofs.StoredTruly.{IsGrounded, grounded_stores, grounded_afresh, grounded_early, grounded_stay}
 use Rattle.lc_script_laws.proofs.GroundLaws.{script_is_ground}
 use Rattle.lc_script_laws.proofs.BudgetLaws.{options_small}
 
@@ -53,15 +55,28 @@ grounded_by args (refuses i) asked old new ending course is h ends read = inl (r
 grounded_by args (settings s) asked old new ending course is h ends (inl e) = inl e
 grounded_by args (settings s) asked old new ending course is h ends (inr short) = inr (script_is_ground course.bytes asked.budget short (subst (λ (t : Settings). t.budget ≤ 2 ^ 40) (sym h.0) (options_small all_options args s is)))
 
+-- whatever the slots, if the command is one that keeps checkpoints
+reads_if_kept : (c : Command) (ending : Ending) (asked : Settings) (old new : Option (List ℕ)) (course : Course) → IsTrue (keeps c) → Reads c ending old new course → Ends ending asked course → (course.told ≡ []) ⊎ (length course.bytes ≤ most_bytes)
+reads_if_kept run ending asked old new course may r e = read_whole ending asked old new course r e
+reads_if_kept resume ending asked old new course may r e = read_whole ending asked old new course r e
+reads_if_kept check ending asked old new course may r e = absurd (let f = may in cc)
+reads_if_kept summary ending asked old new course may r e = absurd (let f = may in cc)
+
+pub slots_stay : (args : List (List ℕ)) (old new : Outside) (ending : Ending) (s : IsSession built_calls args old new ending) (before after : Slots) → IsTrue (keeps s.asked.command) → old.vault ≡ Some before → new.vault ≡ Some after
+    → AreTrueSlots built_calls s.course.bytes s.asked.budget before → TearsSo s.asked s.course before after → (s.asked.command ≡ run → s.course.told ≡ [] → EmptiesSo before after) → AreTrueSlots built_calls s.course.bytes s.asked.budget after
+slots_stay args old new ending s before after may is now both tears so =
+    let grounded = grounded_by args (options all_options args) s.asked old new ending s.course refl s.accepted s.ended (reads_if_kept s.asked.command ending s.asked old.source new.source s.course may s.read s.ended) in
+    grounded_stay built_calls args old new ending s before after grounded may is now both tears so
+
 is_grounded : (args : List (List ℕ)) (old new : Outside) (ending : Ending) (s : IsSession built_calls args old new ending) → StartsTruly built_calls s.asked.command s.asked old.vault s.course → IsGrounded built_calls s.asked s.course
 is_grounded args old new ending s truly =
     grounded_by args (options all_options args) s.asked old new ending s.course refl s.accepted s.ended
     (reads_by s.asked.command ending s.asked old.vault old.source new.source s.course truly s.read s.ended)
 
-pub stores_truly : (args : List (List ℕ)) (old new : Outside) (ending : Ending) (s : IsSession built_calls args old new ending) → StartsTruly built_calls s.asked.command s.asked old.vault s.course → s.asked.keep ≡ true → StoresTruly built_calls s.course.bytes s.asked.budget old new
+pub stores_truly : (args : List (List ℕ)) (old new : Outside) (ending : Ending) (s : IsSession built_calls args old new ending) → StartsTruly built_calls s.asked.command s.asked old.vault s.course → s.asked.keep ≡ true → StoresTruly built_calls s.asked s.course old new
 stores_truly args old new ending s truly keeps = grounded_stores built_calls args old new ending s (is_grounded args old new ending s truly) truly keeps
 
-pub stores_afresh : (args : List (List ℕ)) (old new : Outside) (ending : Ending) (s : IsSession built_calls args old new ending) → s.asked.command ≡ run → s.asked.keep ≡ true → HasBegun ending s.course → StoresAfresh built_calls s.course.bytes s.asked.budget old new
+pub stores_afresh : (args : List (List ℕ)) (old new : Outside) (ending : Ending) (s : IsSession built_calls args old new ending) → s.asked.command ≡ run → s.asked.keep ≡ true → HasBegun ending s.course → StoresAfresh built_calls s.asked s.course old new
 stores_afresh args old new ending s runs keeps begun =
     let truly : StartsTruly built_calls s.asked.command s.asked old.vault s.course = subst (λ (c : Command). StartsTruly built_calls c s.asked old.vault s.course) (sym runs) tt in
     grounded_afresh built_calls args old new ending s (is_grounded args old new ending s truly) runs keeps begun

@@ -7,6 +7,7 @@
 mod laws;
 
 pub use laws::{
-    chains_print_the_text, needs_are_codes, one_text, scripts_are_ground,
-    scripts_print_accepted_certificates, stored_slots_hold_true_checkpoints,
+    chains_print_the_text, large_budgets_answer_exactly, needs_are_codes, one_text,
+    printed_answers_are_true, scripts_are_ground, scripts_print_accepted_certificates,
+    stored_slots_hold_true_checkpoints,
 };

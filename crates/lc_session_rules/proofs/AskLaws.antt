@@ -4,8 +4,6 @@
 use Rattle.std.proofs.Common.{◌≡◌, ◌<◌, ℕ, zero, suc, List, [], ◌∷◌, length, take, Option, Some, None, sym, ap, subst, ◌∙◌, ⊎_elim}
 use Rattle.std.specs.Prelude.{MatchOption, slice_get}
 use Rattle.lc_algebra.specs.Matrix.{Matrix}
-use Rattle.lc_algebra.specs.declared.FieldName.{FieldName}
-use Rattle.lc_algebra.specs.Span.{InSpan, IsLeast}
 use Rattle.lc_grammar.specs.Tree.{Expr, Exprs, number, name, call, list, count_of, Statement}
 use Rattle.lc_grammar.specs.Grammar.{Reads}
 use Rattle.lc_language.specs.declared.Call.{Call}
@@ -16,7 +14,7 @@ use Rattle.lc_language.specs.declared.QueryCall.{QueryCall}
 use Rattle.lc_language.specs.declared.Kind.{Kind}
 use Rattle.lc_language.specs.Value.{Binding}
 use Rattle.lc_language.specs.Query.{QueryKind, query_line, near_line}
-use Rattle.lc_language.specs.Evaluation.{Outcome, gives, refused, Outcomes, all_give, one_refused, refuse_at, refuse_call, Evaluates, EvaluatesAll, Assigns, Step, binds, prints, asks, counts, nears, fails, AsksOf, NearsOf, Queries, QueriesTo, QueriesAll, query_of, fail_with, StepsAsQuery, StepsOf, Steps}
+use Rattle.lc_language.specs.Evaluation.{Outcome, gives, refused, Outcomes, all_give, one_refused, refuse_at, refuse_call, Evaluates, EvaluatesAll, Assigns, Step, binds, prints, asks, counts, nears, fails, AsksOf, Queries, QueriesTo, QueriesAll, query_of, fail_with, StepsAsQuery, StepsOf, Steps}
 use Rattle.lc_session_rules.specs.Needs.{NeedsOn, Needs, MeetsFirst}
 
 abbrev HasRows : Step → Type 0

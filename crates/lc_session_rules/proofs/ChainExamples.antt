@@ -1,5 +1,6 @@
 -- Two worked sessions, by evaluation of the definitions: a script that asks for the distance of the Hamming code of length 7, first
 -- `run slice=1 keep=yes`, then `resume keep=yes`. That the script asks this is a premise.
+--   rounds_compute              the definitions that rounds open, under one name
 --   first_step, second_step     what the two rounds tell and keep
 --   first_session, second_session      the rounds of the sessions, the second one from the checkpoint of the first
 --   pauses, ends                the first session is paused by its slice, and the second isn't; so neither may end as the other does
@@ -37,7 +38,7 @@ first_step = told_at 1 2
 abbrev pub second_step : SessionStep
 second_step = told_at 2 3
 
-unfoldable rounds_compute : ⊤
+unfoldable pub rounds_compute : ⊤
 unfolding truth_computes progress_of first_progress end_of_phase within_slice round_length after_round note_of is_used_up state_first no_round less_slice rounds_within rounds last_state fresh_start step_of no_steps steps_first session_from session_rounds start_in
 rounds_compute = tt
 

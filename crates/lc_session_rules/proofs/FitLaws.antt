@@ -4,12 +4,12 @@
 --   fits_anew, fits_whole      no record is misfit if all before the need fit, and the session starts anew there or its record fits
 --   unfit_settled, unfit_current      the first record that doesn't fit
 --   unfit_end            more records than needs
-use Rattle.std.proofs.Common.{◌≡◌, ◌≤◌, ◌+◌, ℕ, zero, suc, Bool, true, false, if◌then◌else◌, List, [], ◌∷◌, ◌++◌, length, take, Option, Some, None, refl, sym, ap, subst, ◌∙◌, arith}
-use Rattle.std.proofs.lemmas.List.{append-nil, append_assoc, length-append}
+use Rattle.std.proofs.Common.{◌≡◌, ◌+◌, ℕ, suc, Bool, true, false, if◌then◌else◌, List, [], ◌∷◌, ◌++◌, length, Option, Some, None, refl, ap, subst, ◌∙◌, arith}
+use Rattle.std.proofs.lemmas.List.{append-nil, length-append}
 use Rattle.lc_algebra.specs.Matrix.{Matrix}
 use Rattle.lc_enumeration.specs.Search.{fits, fits_settled}
-use Rattle.lc_enumeration.specs.Records.{Progress, Start, found_of}
-use Rattle.lc_enumeration.specs.Fitting.{Misfit, misfit_at, count_current, too_many, misfit_from, misfit}
+use Rattle.lc_enumeration.specs.Records.{Progress, found_of}
+use Rattle.lc_enumeration.specs.Fitting.{misfit_at, count_current, too_many, misfit_from, misfit}
 use Rattle.lc_session_rules.specs.Course.{AreFitting}
 
 pub fitting_length : (divisor : Matrix → ℕ) (budget : ℕ) (needs : List Matrix) (records : List Progress) → AreFitting divisor budget needs records → length records ≡ length needs

@@ -3,12 +3,12 @@
 --   ends_here            at the end of the needs these steps are all, and nothing stopped it
 --   at_need              the steps once one more need is met, and whether the slice stopped it there
 --   searched             if it didn't, the session goes on after that need
-use Rattle.std.proofs.Common.{◌≡◌, ◌≤◌, ◌<◌, ◌+◌, ℕ, zero, suc, Bool, true, false, cond, List, [], ◌∷◌, ◌++◌, length, map, drop, take, Option, Some, None, unwrap_or, refl, sym, ap, subst, ◌∙◌, arith}
+use Rattle.std.proofs.Common.{◌≡◌, ◌≤◌, ℕ, zero, suc, Bool, true, false, cond, List, [], ◌∷◌, ◌++◌, length, drop, take, Option, None, refl, sym, ap, subst, ◌∙◌, arith}
 use Rattle.std.proofs.lemmas.List.{append-nil, append_assoc, length-append}
 use Rattle.lc_algebra.specs.Matrix.{Matrix}
 use Rattle.lc_algebra.proofs.CommonLaws.{drop_whole}
-use Rattle.lc_enumeration.specs.Records.{Progress, Start, SessionStep, SessionRounds, first_progress, rounds, last_state, step_of, no_steps, steps_first, session_from, session_rounds}
-use Rattle.lc_session_rules.specs.Course.{GoesSo, state_at, states_at, steps_at, start_next}
+use Rattle.lc_enumeration.specs.Records.{Progress, Start, SessionStep, SessionRounds, rounds, last_state, no_steps, steps_first, session_from, session_rounds}
+use Rattle.lc_session_rules.specs.Course.{GoesSo, state_at, steps_at, start_next}
 
 pub drop_front : {A : Type 0} (xs ys : List A) (n : ℕ) → n ≡ length xs → drop n (xs ++ ys) ≡ ys
 drop_front [] ys zero e = refl

@@ -2,6 +2,7 @@ pub mod SlotsAfter
 pub mod AnswerLaws
 pub mod OptionExamples
 pub mod SessionExamples
+pub mod RoundExamples
 pub mod SummaryExamples
 pub mod SessionLaws
 pub mod StoredLaws

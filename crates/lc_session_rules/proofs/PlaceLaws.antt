@@ -7,15 +7,15 @@
 --   has_searched         the search of the need has ended
 --   waits_quietly        no round is done as long as records are left
 --   left_over            the script ends before the records do
-use Rattle.std.proofs.Common.{◌≡◌, ◌≤◌, ◌<◌, ◌+◌, ℕ, zero, suc, Bool, true, false, ◌==◌, nat_lt, List, [], ◌∷◌, ◌++◌, length, take, drop, Option, Some, None, refl, sym, ap, subst, ◌∙◌, arith}
+use Rattle.std.proofs.Common.{◌≡◌, ◌≤◌, ◌+◌, ℕ, zero, suc, true, false, ◌==◌, nat_lt, List, [], ◌∷◌, ◌++◌, length, take, Option, Some, None, refl, sym, ap, subst, ◌∙◌, arith}
 use Rattle.std.specs.Prelude.{slice_get}
 use Rattle.std.proofs.lemmas.List.{append-nil, append_assoc, length-append}
 use Rattle.lc_algebra.specs.Matrix.{Matrix}
 use Rattle.lc_algebra.specs.Divisor.{divisor_of}
 use Rattle.lc_enumeration.specs.Search.{fits, fits_settled}
 use Rattle.lc_enumeration.specs.Records.{Progress, Start, SessionStep, SessionRounds, found_of, fresh_start, rounds, last_state, no_steps, steps_first, session_rounds}
-use Rattle.lc_enumeration.specs.Fitting.{Misfit, misfit_at, used_start, misfit}
-use Rattle.lc_session_rules.specs.Course.{Beginning, afresh, after, begins, AreFitting, GoesSo, IsWhole, Waits, Came, AtNeed, state_at, states_at, steps_at, start_next}
+use Rattle.lc_enumeration.specs.Fitting.{misfit_at, misfit}
+use Rattle.lc_session_rules.specs.Course.{Beginning, afresh, begins, AreFitting, GoesSo, IsWhole, Waits, Came, AtNeed, state_at, states_at, steps_at, start_next}
 use Rattle.lc_session_rules.proofs.FrontLaws.{none_left, take_front, take_whole, searched}
 use Rattle.lc_session_rules.proofs.StartLaws.{starts_whole, starts_before, whole_more}
 use Rattle.lc_session_rules.proofs.FitLaws.{fitting_length, fitting_more, fits_anew, fits_whole, unfit_settled, unfit_current, unfit_end}

@@ -4,7 +4,7 @@
 --   true_over            a true checkpoint is true for the needs of the whole script
 --   start_true           where a session starts that resumes it is true
 --   true_answers         a session that resumed it answers so
-use Rattle.std.proofs.Common.{◌≡◌, ◌≤◌, ◌<◌, ◌^◌, ◌⊎◌, ⊎_elim, inl, inr, ℕ, zero, suc, Bool, true, false, ◌==◌, if◌then◌else◌, List, [], ◌∷◌, ◌++◌, length, take, drop, All, Option, Some, None, refl, sym, ap, subst, ◌∙◌, arith}
+use Rattle.std.proofs.Common.{◌≡◌, ◌≤◌, ◌<◌, ◌^◌, ◌⊎◌, inl, inr, ℕ, zero, suc, false, List, [], ◌∷◌, length, take, drop, Option, Some, refl, sym, ap, subst, ◌∙◌, arith}
 use Rattle.std.specs.Prelude.{slice_get}
 use Rattle.std.proofs.lemmas.List.{take-append-drop}
 use Rattle.std.proofs.lemmas.List.Elements.{All-nil, All-cons}
@@ -12,12 +12,12 @@ use Rattle.sha2.specs.Sha256.{sha256}
 use Rattle.lc_algebra.specs.Matrix.{Matrix}
 use Rattle.lc_algebra.specs.Divisor.{divisor_of}
 use Rattle.lc_algebra.proofs.DivisorLaws.{divisor_some}
-use Rattle.lc_enumeration.specs.Search.{Answer, answer, finished}
-use Rattle.lc_enumeration.specs.Records.{Progress, Start, found_of, fresh_start, session_rounds, IsBestAt}
+use Rattle.lc_enumeration.specs.Search.{Answer, answer}
+use Rattle.lc_enumeration.specs.Records.{Progress, Start, fresh_start, session_rounds, IsBestAt}
 use Rattle.lc_enumeration.specs.Fitting.{used_start}
 use Rattle.lc_enumeration.specs.Truth.{answer_blocks, IsSettled, AreSettled, IsUnderway, IsUnderwayNext, IsTrueStart}
 use Rattle.lc_infoset.proofs.SessionLaws.{HaveRows as AllRows, fresh_is_true, session_settles}
-use Rattle.lc_infoset.proofs.FittingLaws.{by_one, used_is_true, used_later}
+use Rattle.lc_infoset.proofs.FittingLaws.{used_is_true, used_later}
 use Rattle.lc_formats.specs.Checkpoint.{Checkpoint, current_of}
 use Rattle.lc_formats.specs.Truth.{divisor_in, whole_start, start_of}
 use Rattle.lc_language.specs.declared.Call.{Call}

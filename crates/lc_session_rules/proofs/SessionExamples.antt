@@ -6,42 +6,45 @@
 --   numbers, lines               the numbers of the endings, and lines that they print
 --   asks_nothing                 the empty script asks nothing
 --   asks_once, asks_twice        two statements that ask for the distance of the Hamming code, and the first of them alone
+--   asks_near                    a statement that asks for the nearest word asks nothing else, and one for the distance no nearest word
 --   true_slots                   a true checkpoint in slot Zero and torn bytes in slot One
 --   wrong_slot                   the same checkpoint in slot One isn't as a session leaves it
+--   zero_first                   `run` that couldn't empty the slots, and left slot Zero as it was, left slot One as it was
 --   no_words                     the whole contract of a session without arguments
 --   runs_nothing                 the whole contract of `run` over the empty script
 --   no_false_fault               no session over the empty script ends with a fault of the source whose count stands still
-use Rattle.std.proofs.Common.{◌≡◌, ℕ, refl, inl, inr, arith, ◌∙◌, ⊎_elim}
-use Rattle.std.specs.Prelude.{List, [], ◌∷◌, ◌++◌, ◌^◌, map, codes, true, false, Bool, Option, Some, None, take, drop, nat_lt, if◌then◌else◌}
+use Rattle.std.proofs.Common.{◌≡◌, ℕ, refl, inl, inr, ap, arith, ◌∙◌, ⊎_elim}
+use Rattle.std.specs.Prelude.{List, [], ◌∷◌, ◌++◌, ◌^◌, map, codes, false, Bool, Option, Some, None, take, nat_lt}
 use Rattle.std.specs.List.{list_all}
-use Rattle.serde_json.specs.Read.{read}
 use Rattle.sha2.specs.Sha256.{sha256}
 use Rattle.lc_algebra.specs.Matrix.{Matrix}
 use Rattle.lc_enumeration.specs.Records.{SessionStep, fresh_start, no_steps, session_from, session_rounds}
 use Rattle.lc_enumeration.proofs.SearchExamples.{hamming}
-use Rattle.lc_formats.specs.Checkpoint.{Checkpoint, ReadCheckpoint, point, refused as unread, damaged, checkpoint_text, checkpoint_in, is_whole, body_in}
+use Rattle.lc_enumeration.proofs.NearExamples.{one_error}
+use Rattle.lc_formats.specs.Checkpoint.{Checkpoint, point, refused as unread, damaged, checkpoint_text, checkpoint_in}
 use Rattle.lc_formats.specs.Certificate.{not_json}
 use Rattle.lc_formats.specs.Text.{same_bytes}
-use Rattle.lc_formats.proofs.Evaluated.{checkpoint_computes}
+use Rattle.lc_formats.proofs.Evaluated.{checkpoint_computes, claim_computes}
 use Rattle.lc_formats.proofs.TruthExamples.{after, is_true_after_one}
 use Rattle.lc_formats.proofs.CheckpointExamples.{plainly, reads_plainly}
 use Rattle.lc_grammar.specs.Token.{ended, scan_within, scan}
-use Rattle.lc_grammar.specs.Tree.{name, call, none, more, Statement, count_of}
+use Rattle.lc_grammar.specs.Tree.{number, name, call, list, none, more, Statement, count_of}
 use Rattle.lc_io.specs.declared.vault.Slot.TheVariants.{Zero, One}
-use Rattle.lc_io.specs.Vaults.{empty_slots}
+use Rattle.lc_io.specs.Vaults.{Slots, empty_slots}
 use Rattle.lc_io.specs.Told.{Kept}
 use Rattle.lc_language.specs.declared.Call.{Call}
 use Rattle.lc_language.specs.Value as value
 use Rattle.lc_language.specs.Value.{Binding, value_named, number_in, field_in, numbers_in, lists_in, code_in, is_kind}
 use Rattle.lc_language.specs.Calls.{all_calls, value_calls, query_calls, call_named, value_name, query_name, name_of, query_forms, signatures, signature_for, bind_query, query_refusals_of, query_refusal_of}
-use Rattle.lc_language.specs.Refusal.{first_of}
+use Rattle.lc_language.specs.Refusal.{first_of, from_codes, word_refusals}
 use Rattle.lc_language.specs.Query.{distance}
-use Rattle.lc_language.specs.Evaluation.{asks, gives, all_give, first_misfit, Steps}
+use Rattle.lc_language.specs.Evaluation.{asks, nears, gives, all_give, first_misfit, listed_with, list_value, Evaluates, Steps}
 use Rattle.lc_language.proofs.TextExamples.{text_of_nothing}
 use Rattle.lc_session_rules.specs.Options.{run, settings, all_options, options, settings_of, command_text, key_text, row, row_named, same_key, place_of_key, checked, options_from}
 use Rattle.lc_session_rules.specs.Needs.{IsNeeds, Needs, MeetsFirst}
+use Rattle.lc_session_rules.specs.Nears.{Nears}
 use Rattle.lc_session_rules.specs.Slots.{slot_of, next_turn, stored_bytes, slots_after, later_of, chosen, choice_among, is_empty, choice, nothing_stored, none_decodes, IsTornOr, AreTrueSlots}
-use Rattle.lc_session_rules.specs.Session.{Outside, Course, IsSession}
+use Rattle.lc_session_rules.specs.Session.{Outside, Course, AreHalfEmptied, IsSession}
 use Rattle.lc_session_rules.specs.Endings.{done, usage, paused, source_fault, sink_fault, vault_fault, no_memory, no_checkpoint, damaged_checkpoint, other_script, rejected, too_long, unfit, ending_number, said, ending_line}
 use Rattle.lc_session_rules.proofs.OptionExamples.{no_words as reads_none}
 
@@ -105,6 +108,13 @@ wrong_slot table both =
     let e : Zero ≡ One = h.1 in
     cc
 
+abbrev both : List ℕ → List ℕ → Slots
+both zero one = record { zero_slot = zero; one_slot = one }
+
+pub zero_first : (bytes : List ℕ) → AreHalfEmptied (both (codes "x") (codes "y")) (both (codes "x") bytes) → bytes ≡ codes "y"
+zero_first bytes (held, inl e) = ap (λ (slots : Slots). slots.one_slot) e
+zero_first bytes (held, inr e) = absurd (let f : codes "x" ≡ [] = ap (λ (slots : Slots). slots.zero_slot) e in cc)
+
 pub asks_nothing : (table : List Call) → IsNeeds table [] []
 unfolding scan scan_within ended
 asks_nothing table = inl ([], record { whole = refl; script = refl; shallow = λ k d h. absurd (omega (arith, h)) }, refl)
@@ -125,6 +135,23 @@ asks_twice = (asks distance hamming, asks_once, (hamming ∷ [], (asks distance 
 
 pub asks_first : Needs all_calls bound_to_hamming (take 1 (ask ∷ ask ∷ [])) (hamming ∷ [])
 asks_first = (asks distance hamming, asks_once, ([], refl, refl))
+
+-- NearestWord(C,[1,1,0,0,0,1,1]);
+abbrev pub ask_near : Statement
+ask_near = record { target = None; expr = call 0 (codes "NearestWord") (more (name 12 (codes "C")) (more (list 14 (more (number 15 1) (more (number 17 1) (more (number 19 0) (more (number 21 0) (more (number 23 0) (more (number 25 1) (more (number 27 1) none)))))))) none)) }
+
+word_listed : Evaluates all_calls bound_to_hamming (list 14 (more (number 15 1) (more (number 17 1) (more (number 19 0) (more (number 21 0) (more (number 23 0) (more (number 25 1) (more (number 27 1) none)))))))) (gives (value.numbers one_error))
+unfolding listed_with list_value
+word_listed =
+    (gives (value.number 1), refl, (gives (value.number 1), refl, (gives (value.number 0), refl, (gives (value.number 0), refl, (gives (value.number 0), refl, (gives (value.number 1), refl, (gives (value.number 1), refl, refl)))))))
+
+near_once : Steps all_calls bound_to_hamming ask_near (nears hamming one_error)
+unfolding claim_computes from_codes word_refusals same_bytes value_name query_name name_of query_forms signatures all_calls value_calls query_calls call_named signature_for count_of is_kind first_misfit value_named bind_query first_of query_refusals_of query_refusal_of number_in field_in numbers_in lists_in code_in
+near_once =
+    (all_give (value.code hamming None ∷ value.numbers one_error ∷ []), (gives (value.code hamming None), refl, (all_give (value.numbers one_error ∷ []), (gives (value.numbers one_error), word_listed, (all_give [], refl, refl)), refl)), inr (omega arith, refl))
+
+pub asks_near : Nears all_calls bound_to_hamming (ask ∷ ask_near ∷ []) (record { code = hamming; word = one_error } ∷ []) × Needs all_calls bound_to_hamming (ask ∷ ask_near ∷ []) (hamming ∷ [])
+asks_near = ((asks distance hamming, asks_once, (nears hamming one_error, near_once, ([], refl, refl))), (asks distance hamming, asks_once, ([], (nears hamming one_error, near_once, refl), refl)))
 
 abbrev pub quiet : Outside
 quiet = record { source = Some []; source_faults = 0; sink = Some []; sink_faults = 0; vault = None; vault_faults = 0; watchers = [] }

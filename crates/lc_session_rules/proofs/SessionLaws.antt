@@ -2,8 +2,9 @@
 --   asks_for              accepted arguments ask for these settings
 --   refused_exactly       refused arguments end the session with their index, and no others do
 --   unsliced              without a slice no session is stopped by one
+--   gave_whole            a source that was read to its end gave all that it had
 --   completed             what is left when nothing fails, nothing pauses and the checkpoint is usable: the text, or no memory
-use Rattle.std.proofs.Common.{◌≡◌, ℕ, ◌<◌, ◌≤◌, refl, arith, ap, sym, subst, ◌∙◌, zero, suc, ⊎_elim, ◌⊎◌}
+use Rattle.std.proofs.Common.{◌≡◌, ℕ, ◌<◌, ◌≤◌, refl, arith, ap, sym, subst, ◌∙◌, zero, suc, ⊎_elim}
 use Rattle.std.specs.Prelude.{List, [], ◌∷◌, ◌++◌, true, false, Option, Some, None, length, drop, unwrap_or, ◌-◌, IsTrue}
 use Rattle.std.proofs.lemmas.List.{append-nil, length-append}
 use Rattle.sha2.specs.Sha256.{sha256}
@@ -64,7 +65,7 @@ unsliced divisor needs budget start = unsliced_from divisor (drop (length start.
 one_choice : (held : Option Slots) (slots : Slots) (c d : Choice) → held ≡ Some slots → choice slots ≡ c → Finds held d → d ≡ c
 one_choice held slots c d told is found = let f : Finds (Some slots) d = subst (λ (h : Option Slots). Finds h d) told found in sym f ∙ is
 
-gave_whole : (old new : Option (List ℕ)) (bytes given : List ℕ) → old ≡ Some bytes → WasRead old new given → bytes ≡ given
+pub gave_whole : (old new : Option (List ℕ)) (bytes given : List ℕ) → old ≡ Some bytes → WasRead old new given → bytes ≡ given
 gave_whole None new bytes given is r = absurd (let e = is in cc)
 gave_whole (Some held) None bytes given is r = absurd r.gave
 gave_whole (Some held) (Some left) bytes given is r =

@@ -1,10 +1,10 @@
 -- The answers of needs, one more at the end.
 --   settled_more, words_more      one more need is settled, and its answer has its word
 --   answer_word          the answer of a search that fits its code has its word
-use Rattle.std.proofs.Common.{◌≡◌, ℕ, suc, ◌-◌, Bool, true, false, ◌==◌, ◌&&◌, nat_le, if◌then◌else◌, List, [], ◌∷◌, ◌++◌, length, Option, Some, None, refl, sym, ap, subst, ◌∙◌}
+use Rattle.std.proofs.Common.{◌≡◌, ℕ, Bool, true, false, ◌==◌, ◌&&◌, nat_le, if◌then◌else◌, List, [], ◌∷◌, ◌++◌, Some, None, refl, sym, ap, subst}
 use Rattle.lc_algebra.specs.Matrix.{Matrix}
 use Rattle.lc_algebra.specs.Divisor.{divisor_of}
-use Rattle.lc_enumeration.specs.Search.{Found, Answer, exact, bracket, no_word, bound, may_end, finished}
+use Rattle.lc_enumeration.specs.Search.{Found, Answer, exact, bracket, bound, may_end, finished}
 use Rattle.lc_enumeration.specs.Records.{Progress, found_of}
 use Rattle.lc_enumeration.specs.Truth.{HasWord}
 use Rattle.lc_session_rules.specs.Answers.{Settle, AnswerHasWord, HasWords}

@@ -2,9 +2,9 @@
 --   whole_more           nor does one more need
 --   starts_whole         then all records are used
 --   starts_before        a need that makes it start anew
-use Rattle.std.proofs.Common.{◌≡◌, ◌≤◌, ℕ, zero, suc, Bool, true, false, if◌then◌else◌, ◌==◌, nat_lt, List, [], ◌∷◌, ◌++◌, length, take, Option, Some, None, option_map, refl, sym, ap, subst, ◌∙◌, arith}
+use Rattle.std.proofs.Common.{◌≡◌, ◌≤◌, ℕ, zero, suc, Bool, true, false, if◌then◌else◌, ◌==◌, nat_lt, List, [], ◌∷◌, ◌++◌, length, take, Option, Some, None, option_map, refl, ap, ◌∙◌, arith}
 use Rattle.lc_algebra.specs.Matrix.{Matrix}
-use Rattle.lc_enumeration.specs.Records.{Progress, Start}
+use Rattle.lc_enumeration.specs.Records.{Progress}
 use Rattle.lc_enumeration.specs.Fitting.{first_divisible, start_before, used_start}
 use Rattle.lc_session_rules.specs.Course.{IsWhole}
 

@@ -8,27 +8,29 @@
 --   same_stores          those of a session that stored nothing
 --   tells_early          its turns are below 2^58
 --   taken_truly          over true slots `resume` takes a true checkpoint
+--   grounded_stay, true_slots_stay      true slots stay true
 use Rattle.std.proofs.Common.{◌≡◌, ◌≤◌, ◌<◌, ◌^◌, ◌⊎◌, ⊎_elim, inl, inr, ℕ, true, List, [], ◌∷◌, ◌++◌, refl, sym, subst, ◌∙◌, arith}
-use Rattle.std.specs.Prelude.{Option, Some}
+use Rattle.std.specs.Prelude.{Bool, false, Option, Some, None, IsTrue}
 use Rattle.sha2.specs.Sha256.{sha256}
 use Rattle.lc_algebra.specs.Matrix.{Matrix}
 use Rattle.lc_algebra.specs.Divisor.{divisor_of}
 use Rattle.lc_enumeration.specs.Records.{Start, fresh_start, SessionStep, session_rounds}
-use Rattle.lc_formats.specs.Checkpoint.{Checkpoint}
+use Rattle.lc_formats.specs.Checkpoint.{Checkpoint, checkpoint_in}
+use Rattle.lc_formats.proofs.Evaluated.{checkpoint_computes}
 use Rattle.lc_formats.specs.Truth.{divisor_in, IsTrueFor, start_of}
 use Rattle.lc_io.specs.declared.vault.Slot.{Slot}
 use Rattle.lc_io.specs.declared.vault.Slot.TheVariants.{Zero, One}
 use Rattle.lc_io.specs.Outside.{HasRisen}
-use Rattle.lc_io.specs.Vaults.{Slots, empty_slots, in_slot, other, put, WhereTold}
+use Rattle.lc_io.specs.Vaults.{Slots, empty_slots, in_slot, other, put, WhereTold, IsTorn}
 use Rattle.lc_io.proofs.SlotLaws.{WhereTold-map, WhereTold-refl}
 use Rattle.lc_language.specs.declared.Call.{Call}
 use Rattle.lc_session_rules.specs.Options.{Command, run, resume, check, summary, Settings}
 use Rattle.lc_session_rules.specs.Needs.{MeetsFirst}
-use Rattle.lc_session_rules.specs.Slots.{slot_of, next_turn, turn_after, point_of, stored_bytes, slots_after, takes, start_in, IsTrueCheckpoint, IsEmptyOrTrue, AreTrueSlots}
+use Rattle.lc_session_rules.specs.Slots.{slot_of, next_turn, turn_after, point_of, stored_bytes, slots_after, takes, start_in, IsTrueCheckpoint, IsTornOr, IsEmptyOrTrue, AreTrueSlots}
 use Rattle.lc_session_rules.specs.Endings.{Ending, done, usage, paused, source_fault, sink_fault, vault_fault, no_memory, no_checkpoint, damaged_checkpoint, other_script, rejected, too_long, unfit}
-use Rattle.lc_session_rules.specs.Session.{Outside, Course, rounds_of, Finds, GoesOnFrom, IsResumed, IsFresh, Starts, Meets, Ends, begin_with, told_slots, Keeps, Tears, AreHalfEmptied, FailsFirst, StoresIfKept, Counts, IsSession}
-use Rattle.lc_session_rules.specs.Promises.{StartsTruly, IsSameOrTrue, StoresTruly, StoresAfresh}
-use Rattle.lc_session_rules.specs.Chain.{IsGround, HasBegun}
+use Rattle.lc_session_rules.specs.Session.{Outside, Course, rounds_of, Finds, GoesOnFrom, IsResumed, IsFresh, Starts, Meets, Ends, begin_with, told_slots, Keeps, Tears, AreHalfEmptied, FailsFirst, StoresIfKept, Stores, Counts, keeps, IsSession}
+use Rattle.lc_session_rules.specs.Promises.{StartsTruly, IsSameOrTrue, next_slot, StoresTruly, StoresAfresh, EmptiesSo}
+use Rattle.lc_session_rules.specs.Chain.{IsLeft, IsGround, HasBegun, TearsSo}
 use Rattle.lc_session_rules.proofs.TrueSteps.{AreTrueSteps, true_front}
 use Rattle.lc_session_rules.proofs.GroundLaws.{true_turn}
 use Rattle.lc_session_rules.proofs.ChainLaws.{begun_truly, resumed_start}
@@ -145,14 +147,6 @@ module _ (table : List Call) (bytes : List ℕ) (budget : ℕ) where
       by Zero = all One
       by One = all Zero
 
-  -- all slots but one
-  abbrev pub AreAllButOne : Slots → Slots → Type 0
-  AreAllButOne before after = (torn : Slot) × IsSameOrTrue (other torn) table bytes budget before after
-
-  half_same : (before after : Slots) → AreHalfEmptied before after → AreAllButOne before after
-  half_same before after (held, inl e) = (Zero, beside Zero held before before after (same_slots before) e)
-  half_same before after (held, inr e) = (One, beside One held before empty_slots after (begin_same run before) e)
-
 -- the slots once the checkpoints of the records told were stored
 told_same : (table : List Call) (asked : Settings) (course : Course) → (course.told ≡ []) ⊎ DoesTruly table asked course → (before : Slots) → AreSameOrTrue table course.bytes asked.budget before (told_slots asked course before)
 told_same table asked course (inl e) before =
@@ -165,7 +159,7 @@ told_same table asked course (inr h) before =
 data Did (asked : Settings) (course : Course) (old new : Outside) : Type 0 where
   nothing : new.vault ≡ old.vault → Did asked course old new
   stored : Keeps asked course old.vault new.vault → Did asked course old new
-  failed : HasRisen old.vault_faults new.vault_faults → FailsFirst asked.command old.vault new.vault → Did asked course old new
+  failed : HasRisen old.vault_faults new.vault_faults → course.told ≡ [] → FailsFirst asked.command old.vault new.vault → Did asked course old new
   tore : HasRisen old.vault_faults new.vault_faults → Tears asked course old.vault new.vault → Did asked course old new
 
 did_so : (ending : Ending) (asked : Settings) (course : Course) (old new : Outside) → StoresIfKept ending asked course old.vault new.vault → Counts ending old new → Did asked course old new
@@ -174,7 +168,7 @@ did_so (usage i) asked course old new h c = Did.nothing h
 did_so (paused query blocks) asked course old new h c = Did.stored h
 did_so source_fault asked course old new h c = Did.nothing h
 did_so sink_fault asked course old new h c = Did.stored h
-did_so (vault_fault told) asked course old new (inl h) c = Did.failed c.2 h.1
+did_so (vault_fault told) asked course old new (inl h) c = Did.failed c.2 h.0 h.1
 did_so (vault_fault told) asked course old new (inr h) c = Did.tore c.2 h.3
 did_so (no_memory told) asked course old new (inl h) c = Did.nothing h.1
 did_so (no_memory told) asked course old new (inr h) c = Did.stored h.1
@@ -185,24 +179,29 @@ did_so (rejected reason) asked course old new h c = Did.nothing h
 did_so too_long asked course old new h c = Did.nothing h
 did_so (unfit query told found) asked course old new h c = Did.nothing h
 
-pub same_stores : (table : List Call) (bytes : List ℕ) (budget : ℕ) (old new : Outside) → new.vault ≡ old.vault → StoresTruly table bytes budget old new
-same_stores table bytes budget old new same =
-    let all = λ (v : Option Slots). WhereTold old.vault v (λ before after. AreSameOrTrue table bytes budget before after ⊎ (HasRisen old.vault_faults new.vault_faults × AreAllButOne table bytes budget before after)) in
-    subst all (sym same) (WhereTold-refl old.vault _ (λ a. inl (same_slots table bytes budget a)))
+module _ (table : List Call) (asked : Settings) (course : Course) (old new : Outside) where
+  -- what `StoresTruly` says of the slots before and after
+  abbrev IsLeftSo : Slots → Slots → Type 0
+  IsLeftSo before after =
+      ((slot : Slot) → IsSameOrTrue slot table course.bytes asked.budget before after)
+      ⊎ (HasRisen old.vault_faults new.vault_faults × (IsSameOrTrue (other (next_slot course)) table course.bytes asked.budget before after ⊎ ((asked.command ≡ run) × (course.told ≡ []) × AreHalfEmptied before after)))
 
-fails_same : (table : List Call) (bytes : List ℕ) (budget : ℕ) (c : Command) (old new : Outside) → HasRisen old.vault_faults new.vault_faults → FailsFirst c old.vault new.vault → StoresTruly table bytes budget old new
-fails_same table bytes budget run old new risen h = WhereTold-map old.vault new.vault _ _ (λ before after half. inr (risen, half_same table bytes budget before after half)) h
-fails_same table bytes budget resume old new risen h = same_stores table bytes budget old new h
-fails_same table bytes budget check old new risen h = absurd h
-fails_same table bytes budget summary old new risen h = absurd h
+  pub same_stores : new.vault ≡ old.vault → StoresTruly table asked course old new
+  same_stores same = subst (λ (v : Option Slots). WhereTold old.vault v (λ before after. IsLeftSo before after)) (sym same) (WhereTold-refl old.vault _ (λ a. inl (same_slots table course.bytes asked.budget a)))
 
-stores_so : (table : List Call) (asked : Settings) (course : Course) (old new : Outside) → (course.told ≡ []) ⊎ DoesTruly table asked course → Did asked course old new → StoresTruly table course.bytes asked.budget old new
-stores_so table asked course old new truly (Did.nothing same) = same_stores table course.bytes asked.budget old new same
-stores_so table asked course old new truly (Did.stored h) =
-    WhereTold-map old.vault new.vault _ _ (λ before after is. inl (subst (AreSameOrTrue table course.bytes asked.budget before) (sym is) (told_same table asked course truly before))) h
-stores_so table asked course old new truly (Did.failed risen h) = fails_same table course.bytes asked.budget asked.command old new risen h
-stores_so table asked course old new truly (Did.tore risen h) =
-    WhereTold-map old.vault new.vault _ _ (λ before after is. inr (risen, (slot_of (turn_after course.turn course.told), beside table course.bytes asked.budget (slot_of (turn_after course.turn course.told)) is.0 before (told_slots asked course before) after (told_same table asked course truly before) is.1))) h
+  fails_same : (c : Command) → asked.command ≡ c → course.told ≡ [] → HasRisen old.vault_faults new.vault_faults → FailsFirst c old.vault new.vault → StoresTruly table asked course old new
+  fails_same run is silent risen h = WhereTold-map old.vault new.vault _ _ (λ before after half. inr (risen, inr (is, silent, half))) h
+  fails_same resume is silent risen h = same_stores h
+  fails_same check is silent risen h = absurd h
+  fails_same summary is silent risen h = absurd h
+
+  stores_so : (course.told ≡ []) ⊎ DoesTruly table asked course → Did asked course old new → StoresTruly table asked course old new
+  stores_so truly (Did.nothing same) = same_stores same
+  stores_so truly (Did.stored h) =
+      WhereTold-map old.vault new.vault _ _ (λ before after is. inl (subst (AreSameOrTrue table course.bytes asked.budget before) (sym is) (told_same table asked course truly before))) h
+  stores_so truly (Did.failed risen silent h) = fails_same asked.command refl silent risen h
+  stores_so truly (Did.tore risen h) =
+      WhereTold-map old.vault new.vault _ _ (λ before after is. inr (risen, inl (beside table course.bytes asked.budget (next_slot course) is.0 before (told_slots asked course before) after (told_same table asked course truly before) is.1))) h
 
 -- ---- the slots after a session of `run` that emptied them
 
@@ -221,23 +220,20 @@ empty_or_true One table bytes budget after (inl e) = inl e
 empty_or_true One table bytes budget after (inr h) = h
 
 module _ (table : List Call) (asked : Settings) (course : Course) (old new : Outside) (truly : (course.told ≡ []) ⊎ DoesTruly table asked course) (runs : asked.command ≡ run) where
-  kept_afresh : Keeps asked course old.vault new.vault → StoresAfresh table course.bytes asked.budget old new
+  kept_afresh : Keeps asked course old.vault new.vault → StoresAfresh table asked course old new
   kept_afresh h = WhereTold-map old.vault new.vault _ _ (λ before after is. inl (λ slot.
       empty_or_true slot table course.bytes asked.budget after (subst (AreSameOrTrue table course.bytes asked.budget empty_slots) (sym is) (told_afresh table asked course truly runs before) slot))) h
 
-  torn_afresh : HasRisen old.vault_faults new.vault_faults → Tears asked course old.vault new.vault → StoresAfresh table course.bytes asked.budget old new
+  torn_afresh : HasRisen old.vault_faults new.vault_faults → Tears asked course old.vault new.vault → StoresAfresh table asked course old new
   torn_afresh risen h =
-      let at = slot_of (turn_after course.turn course.told) in
+      let at = next_slot course in
       WhereTold-map old.vault new.vault _ _ (λ before after is. inr (
         risen,
-        (
-          at,
-          empty_or_true (other at) table course.bytes asked.budget after
-              (beside table course.bytes asked.budget at is.0 empty_slots (told_slots asked course before) after (told_afresh table asked course truly runs before) is.1),
-        ),
+        empty_or_true (other at) table course.bytes asked.budget after
+            (beside table course.bytes asked.budget at is.0 empty_slots (told_slots asked course before) after (told_afresh table asked course truly runs before) is.1),
       )) h
 
-  afresh_so : (ending : Ending) → HasBegun ending course → StoresIfKept ending asked course old.vault new.vault → Counts ending old new → StoresAfresh table course.bytes asked.budget old new
+  afresh_so : (ending : Ending) → HasBegun ending course → StoresIfKept ending asked course old.vault new.vault → Counts ending old new → StoresAfresh table asked course old new
   afresh_so (done n) begun h c = kept_afresh h
   afresh_so (usage i) begun h c = absurd begun
   afresh_so (paused query blocks) begun h c = kept_afresh h
@@ -259,11 +255,11 @@ module _ (table : List Call) (asked : Settings) (course : Course) (old new : Out
 truly_so : (table : List Call) (args : List (List ℕ)) (old new : Outside) (ending : Ending) (s : IsSession table args old new ending) → IsGrounded table s.asked s.course → StartsTruly table s.asked.command s.asked old.vault s.course → (s.course.told ≡ []) ⊎ DoesTruly table s.asked s.course
 truly_so table args old new ending s ground truly = does_truly table ending s.asked old.vault s.course s.asked.command truly s.started s.met s.ended s.rounds ground
 
-pub grounded_stores : (table : List Call) (args : List (List ℕ)) (old new : Outside) (ending : Ending) (s : IsSession table args old new ending) → IsGrounded table s.asked s.course → StartsTruly table s.asked.command s.asked old.vault s.course → s.asked.keep ≡ true → StoresTruly table s.course.bytes s.asked.budget old new
+pub grounded_stores : (table : List Call) (args : List (List ℕ)) (old new : Outside) (ending : Ending) (s : IsSession table args old new ending) → IsGrounded table s.asked s.course → StartsTruly table s.asked.command s.asked old.vault s.course → s.asked.keep ≡ true → StoresTruly table s.asked s.course old new
 grounded_stores table args old new ending s ground truly keeps =
     stores_so table s.asked s.course old new (truly_so table args old new ending s ground truly) (did_so ending s.asked s.course old new (kept_stores s.asked.keep ending s.asked s.course old.vault new.vault keeps s.stored) s.counted)
 
-pub grounded_afresh : (table : List Call) (args : List (List ℕ)) (old new : Outside) (ending : Ending) (s : IsSession table args old new ending) → IsGrounded table s.asked s.course → s.asked.command ≡ run → s.asked.keep ≡ true → HasBegun ending s.course → StoresAfresh table s.course.bytes s.asked.budget old new
+pub grounded_afresh : (table : List Call) (args : List (List ℕ)) (old new : Outside) (ending : Ending) (s : IsSession table args old new ending) → IsGrounded table s.asked s.course → s.asked.command ≡ run → s.asked.keep ≡ true → HasBegun ending s.course → StoresAfresh table s.asked s.course old new
 grounded_afresh table args old new ending s ground runs keeps begun =
     let truly : StartsTruly table s.asked.command s.asked old.vault s.course = subst (λ (c : Command). StartsTruly table c s.asked old.vault s.course) (sym runs) tt in
     afresh_so table s.asked s.course old new (truly_so table args old new ending s ground truly) runs ending begun (kept_stores s.asked.keep ending s.asked s.course old.vault new.vault keeps s.stored) s.counted
@@ -285,10 +281,10 @@ pub grounded_early : (table : List Call) (args : List (List ℕ)) (old new : Out
 grounded_early table args old new ending s ground truly before last told =
     ⊎_elim (λ (e : s.course.told ≡ []). absurd (some_told before last (sym told ∙ e))) (λ (h : DoesTruly table s.asked s.course). early_so table s.asked s.course before last told h) (truly_so table args old new ending s ground truly)
 
-pub stores_truly : (table : List Call) (args : List (List ℕ)) (old new : Outside) (ending : Ending) (s : IsSession table args old new ending) → IsGround table s.course.bytes s.asked.budget → StartsTruly table s.asked.command s.asked old.vault s.course → s.asked.keep ≡ true → StoresTruly table s.course.bytes s.asked.budget old new
+pub stores_truly : (table : List Call) (args : List (List ℕ)) (old new : Outside) (ending : Ending) (s : IsSession table args old new ending) → IsGround table s.course.bytes s.asked.budget → StartsTruly table s.asked.command s.asked old.vault s.course → s.asked.keep ≡ true → StoresTruly table s.asked s.course old new
 stores_truly table args old new ending s ground truly keeps = grounded_stores table args old new ending s (inr ground) truly keeps
 
-pub stores_afresh : (table : List Call) (args : List (List ℕ)) (old new : Outside) (ending : Ending) (s : IsSession table args old new ending) → IsGround table s.course.bytes s.asked.budget → s.asked.command ≡ run → s.asked.keep ≡ true → HasBegun ending s.course → StoresAfresh table s.course.bytes s.asked.budget old new
+pub stores_afresh : (table : List Call) (args : List (List ℕ)) (old new : Outside) (ending : Ending) (s : IsSession table args old new ending) → IsGround table s.course.bytes s.asked.budget → s.asked.command ≡ run → s.asked.keep ≡ true → HasBegun ending s.course → StoresAfresh table s.asked s.course old new
 stores_afresh table args old new ending s ground runs keeps begun = grounded_afresh table args old new ending s (inr ground) runs keeps begun
 
 pub tells_early : (table : List Call) (args : List (List ℕ)) (old new : Outside) (ending : Ending) (s : IsSession table args old new ending) → IsGround table s.course.bytes s.asked.budget → StartsTruly table s.asked.command s.asked old.vault s.course
@@ -299,3 +295,95 @@ pub taken_truly : (table : List Call) (asked : Settings) (held : Option Slots) (
 taken_truly table asked held course slots told both p from =
     let found : Finds (Some slots) (takes p) = subst (λ (h : Option Slots). Finds h (takes p)) told from.found in
     chosen_true table course.bytes asked.budget slots p both (chosen_is slots p found)
+
+-- ---- true slots stay true
+
+unread : (table : List Call) (bytes : List ℕ) (budget : ℕ) (slot : Slot) → IsTornOr slot table bytes budget (checkpoint_in [])
+unfolding checkpoint_computes checkpoint_in
+unread table bytes budget slot = tt
+
+torn_slot : (table : List Call) (bytes : List ℕ) (budget : ℕ) (slot : Slot) (before held : List ℕ) → IsTornOr slot table bytes budget (checkpoint_in before) → IsLeft before held → IsTornOr slot table bytes budget (checkpoint_in held)
+torn_slot table bytes budget slot before held is (inl e) = subst (λ (l : List ℕ). IsTornOr slot table bytes budget (checkpoint_in l)) (sym e) is
+torn_slot table bytes budget slot before held is (inr (r, e)) = rw e tt
+
+-- each of the two slots
+abbrev AreTrue : List Call → List ℕ → ℕ → Slots → Type 0
+AreTrue table bytes budget slots = (slot : Slot) → IsTornOr slot table bytes budget (checkpoint_in (in_slot slot slots))
+
+each : (table : List Call) (bytes : List ℕ) (budget : ℕ) (slots : Slots) → AreTrueSlots table bytes budget slots → AreTrue table bytes budget slots
+each table bytes budget slots both Zero = both.0
+each table bytes budget slots both One = both.1
+
+module _ (table : List Call) (bytes : List ℕ) (budget : ℕ) where
+  stored_true : (slot : Slot) (held : List ℕ) → IsEmptyOrTrue slot table bytes budget held → IsTornOr slot table bytes budget (checkpoint_in held)
+  stored_true slot held (inl e) = rw e (unread table bytes budget slot)
+  stored_true slot held (inr (p, reads, holds, at)) = rw reads (holds, at)
+
+  slot_true : (slot : Slot) (before after : Slots) → AreTrue table bytes budget before → IsSameOrTrue slot table bytes budget before after → IsTornOr slot table bytes budget (checkpoint_in (in_slot slot after))
+  slot_true slot before after all (inl e) = rw e (all slot)
+  slot_true slot before after all (inr h) = stored_true slot (in_slot slot after) h
+
+  -- true slots, one of which a store that failed left as it may
+  put_true : (at : Slot) (held : List ℕ) (mid after : Slots) → AreTrue table bytes budget mid → after ≡ put at held mid → IsLeft (in_slot at mid) held → AreTrueSlots table bytes budget after
+  put_true Zero held mid after all is left = rw is (torn_slot table bytes budget Zero mid.zero_slot held (all Zero) left, all One)
+  put_true One held mid after all is left = rw is (all Zero, torn_slot table bytes budget One mid.one_slot held (all One) left)
+
+  emptied_true : AreTrue table bytes budget empty_slots
+  emptied_true Zero = unread table bytes budget Zero
+  emptied_true One = unread table bytes budget One
+
+  half_true : (before after : Slots) → AreTrue table bytes budget before → AreHalfEmptied before after → EmptiesSo before after → AreTrueSlots table bytes budget after
+  half_true before after all (held, inl e) so = put_true Zero held before after all e (so.0 held e)
+  half_true before after all (held, inr e) so = rw e (unread table bytes budget Zero, torn_slot table bytes budget One before.one_slot held (all One) (so.1 held e))
+
+  same_true : (before after : Slots) → AreTrue table bytes budget before → AreSameOrTrue table bytes budget before after → AreTrueSlots table bytes budget after
+  same_true before after all same = (slot_true Zero before after all (same Zero), slot_true One before after all (same One))
+
+was_told : (old new : Option Slots) (before after : Slots) (P : Slots → Slots → Type 0) → old ≡ Some before → new ≡ Some after → WhereTold old new P → P before after
+was_told None new before after P is now h = absurd (let e = is in cc)
+was_told (Some held) new before after P is now (left, told, h) =
+    let same : held ≡ before = (let e = is in cc) in
+    let then_ : left ≡ after = (let e = sym told ∙ now in cc) in
+    subst (λ (b : Slots). P b after) same (subst (λ (a : Slots). P held a) then_ h)
+
+module _ (table : List Call) (asked : Settings) (course : Course) (old new : Outside) (before after : Slots) (is : old.vault ≡ Some before) (now : new.vault ≡ Some after) (all : AreTrue table course.bytes asked.budget before) where
+  fails_true : (c : Command) → asked.command ≡ c → course.told ≡ [] → FailsFirst c old.vault new.vault → (asked.command ≡ run → course.told ≡ [] → EmptiesSo before after) → AreTrueSlots table course.bytes asked.budget after
+  fails_true run runs silent h so = half_true table course.bytes asked.budget before after all (was_told old.vault new.vault before after AreHalfEmptied is now h) (so runs silent)
+  fails_true resume resumes silent h so = unmoved h
+    where
+      unmoved : new.vault ≡ old.vault → AreTrueSlots table course.bytes asked.budget after
+      unmoved e = let same : before ≡ after = (let f = sym is ∙ sym e ∙ now in cc) in subst (AreTrueSlots table course.bytes asked.budget) same (all Zero, all One)
+  fails_true check checks silent h so = absurd h
+  fails_true summary sums silent h so = absurd h
+
+  did_true : (course.told ≡ []) ⊎ DoesTruly table asked course → Did asked course old new → TearsSo asked course before after → (asked.command ≡ run → course.told ≡ [] → EmptiesSo before after) → AreTrueSlots table course.bytes asked.budget after
+  did_true truly (Did.nothing e) tears so = let same : before ≡ after = (let f = sym is ∙ sym e ∙ now in cc) in subst (AreTrueSlots table course.bytes asked.budget) same (all Zero, all One)
+  did_true truly (Did.stored h) tears so =
+      let stored : after ≡ told_slots asked course before = was_told old.vault new.vault before after (λ b a. a ≡ told_slots asked course b) is now h in
+      same_true table course.bytes asked.budget before after all (subst (AreSameOrTrue table course.bytes asked.budget before) (sym stored) (told_same table asked course truly before))
+  did_true truly (Did.failed risen silent h) tears so = fails_true asked.command refl silent h so
+  did_true truly (Did.tore risen h) tears so =
+      let torn = was_told old.vault new.vault before after (λ b a. IsTorn (next_slot course) (told_slots asked course b) a) is now h in
+      let mid : AreTrueSlots table course.bytes asked.budget (told_slots asked course before) = same_true table course.bytes asked.budget before (told_slots asked course before) all (told_same table asked course truly before) in
+      put_true table course.bytes asked.budget (next_slot course) torn.0 (told_slots asked course before) after (each table course.bytes asked.budget (told_slots asked course before) mid) torn.1 (tears torn.0 torn.1)
+
+starts_over : (table : List Call) (c : Command) (asked : Settings) (held : Option Slots) (course : Course) (slots : Slots) → IsTrue (keeps c) → held ≡ Some slots → AreTrueSlots table course.bytes asked.budget slots → StartsTruly table c asked held course
+starts_over table run asked held course slots may told both = tt
+starts_over table resume asked held course slots may told both = taken_truly table asked held course slots told both
+starts_over table check asked held course slots may told both = absurd (let e = may in cc)
+starts_over table summary asked held course slots may told both = absurd (let e = may in cc)
+
+by_keep : (keep : Bool) (ending : Ending) (asked : Settings) (course : Course) (old new : Outside) → Stores keep ending asked course old.vault new.vault → Counts ending old new → Did asked course old new
+by_keep true ending asked course old new h c = did_so ending asked course old new h c
+by_keep false ending asked course old new h c = Did.nothing h
+
+pub grounded_stay : (table : List Call) (args : List (List ℕ)) (old new : Outside) (ending : Ending) (s : IsSession table args old new ending) (before after : Slots) → IsGrounded table s.asked s.course → IsTrue (keeps s.asked.command) → old.vault ≡ Some before → new.vault ≡ Some after
+    → AreTrueSlots table s.course.bytes s.asked.budget before → TearsSo s.asked s.course before after → (s.asked.command ≡ run → s.course.told ≡ [] → EmptiesSo before after) → AreTrueSlots table s.course.bytes s.asked.budget after
+grounded_stay table args old new ending s before after ground may is now both tears so =
+    let truly = starts_over table s.asked.command s.asked old.vault s.course before may is both in
+    did_true table s.asked s.course old new before after is now (each table s.course.bytes s.asked.budget before both) (truly_so table args old new ending s ground truly)
+    (by_keep s.asked.keep ending s.asked s.course old new s.stored s.counted) tears so
+
+pub true_slots_stay : (table : List Call) (args : List (List ℕ)) (old new : Outside) (ending : Ending) (s : IsSession table args old new ending) (before after : Slots) → IsGround table s.course.bytes s.asked.budget → IsTrue (keeps s.asked.command) → old.vault ≡ Some before → new.vault ≡ Some after
+    → AreTrueSlots table s.course.bytes s.asked.budget before → TearsSo s.asked s.course before after → (s.asked.command ≡ run → s.course.told ≡ [] → EmptiesSo before after) → AreTrueSlots table s.course.bytes s.asked.budget after
+true_slots_stay table args old new ending s before after ground may is now both tears so = grounded_stay table args old new ending s before after (inr ground) may is now both tears so

@@ -9,7 +9,7 @@
 --   state_at, states_at, steps_at, start_next      the search of a need from a start: where it begins, its states, its steps, and the
 --                            start after it
 --   Waits, Came, Stands      the records of the checkpoint aren't used up, or they are; the state of the searches in both cases
-use Rattle.std.specs.Prelude.{◌≡◌, ◌≤◌, ℕ, Bool, true, ◌==◌, List, [], ◌∷◌, ◌++◌, length, map, unwrap_or, Option, Some, None}
+use Rattle.std.specs.Prelude.{◌≡◌, ℕ, true, ◌==◌, List, [], ◌∷◌, ◌++◌, length, map, unwrap_or, Option, Some, None}
 use Rattle.lc_algebra.specs.Matrix.{Matrix}
 use Rattle.lc_algebra.specs.Divisor.{divisor_of}
 use Rattle.lc_enumeration.specs.Search.{fits_settled}

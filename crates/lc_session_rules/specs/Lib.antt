@@ -2,6 +2,7 @@ pub mod Options
 pub mod Summary
 pub mod Endings
 pub mod Needs
+pub mod Nears
 pub mod Answers
 pub mod Slots
 pub mod Session

@@ -1,6 +1,7 @@
 -- The words in which one reads the promises off the contract of a session.
 --   IsUsable table asked bytes held      a checkpoint is taken, for this script and budget, and its records fit
 --   IsAnswer ending                      the session answered what was asked, or there was no memory
+--   ends_early ending                    the session ended before its searches began: by its arguments, its source or its slots
 --   IsAmple table args old new asked course      the arguments are accepted, the source gives a script, nothing stops the session on
 --                                        its way, the checkpoint that `resume` takes is usable, and nothing failed
 --   PrintsText table budget bytes old new n      the sink took the text of the script under this budget, and n says whether a fault ends it
@@ -9,9 +10,13 @@
 --   StartsTruly table command asked held course  a session of `run`, or one of `resume` whose checkpoint is true
 --   IsSameOrTrue slot table bytes budget before after    a slot is as it was, or a session stored in it without a fault: it is
 --                                        empty, or holds a true checkpoint
---   StoresTruly table bytes budget old new       so are both slots, if the vault tells them, but for one whose store failed
---   StoresAfresh table bytes budget old new      each slot is empty or holds a true checkpoint, but for one whose store failed
-use Rattle.std.specs.Prelude.{◌≡◌, ◌⊎◌, ℕ, Bool, ◌≤◌, IsTrue, List, length, Option, Some, None, true, false}
+--   next_slot course                     the slot of the next checkpoint: that of the turn after the records told
+--   StoresTruly table asked course old new       so are both slots, if the vault tells them, but for the one whose store failed: the
+--                                        slot of the next checkpoint, or the one that `run` could not empty
+--   StoresAfresh table asked course old new      each slot is empty or holds a true checkpoint, but for that of the next checkpoint, if
+--                                        its store failed
+--   EmptiesSo before after               a slot that `run` could not empty holds what it held, or bytes that are no checkpoint
+use Rattle.std.specs.Prelude.{◌≡◌, ◌⊎◌, ℕ, Bool, ◌≤◌, IsTrue, List, length, Option, Some, None, true, false, []}
 use Rattle.std.specs.Io.KnownBytes.{Appends}
 use Rattle.sha2.specs.Sha256.{sha256}
 use Rattle.lc_algebra.specs.Matrix.{Matrix}
@@ -22,14 +27,16 @@ use Rattle.lc_formats.specs.Checkpoint.{Checkpoint}
 use Rattle.lc_formats.specs.Truth.{start_of}
 use Rattle.lc_io.specs.declared.vault.Slot.{Slot}
 use Rattle.lc_io.specs.Outside.{HasRisen}
-use Rattle.lc_io.specs.Vaults.{Slots, in_slot, other, WhereTold}
+use Rattle.lc_io.specs.declared.vault.Slot.TheVariants.{Zero, One}
+use Rattle.lc_io.specs.Vaults.{Slots, empty_slots, in_slot, other, put, WhereTold}
 use Rattle.lc_language.specs.declared.Call.{Call}
 use Rattle.lc_language.specs.Evaluation.{IsText}
 use Rattle.lc_session_rules.specs.Options.{Command, run, resume, check, summary, Settings, settings, all_options, options}
 use Rattle.lc_session_rules.specs.Needs.{IsNeeds, MeetsFirst}
-use Rattle.lc_session_rules.specs.Slots.{stored_bytes, takes, choice, is_for, IsTrueCheckpoint, IsEmptyOrTrue}
+use Rattle.lc_session_rules.specs.Slots.{slot_of, turn_after, stored_bytes, takes, choice, is_for, IsTrueCheckpoint, IsEmptyOrTrue}
 use Rattle.lc_session_rules.specs.Endings.{Ending, done, usage, paused, source_fault, sink_fault, vault_fault, no_memory, no_checkpoint, damaged_checkpoint, other_script, rejected, too_long, unfit}
-use Rattle.lc_session_rules.specs.Session.{most_bytes, end_number, Outside, Course, GoesOnFrom}
+use Rattle.lc_session_rules.specs.Session.{most_bytes, end_number, Outside, Course, GoesOnFrom, AreHalfEmptied}
+use Rattle.lc_session_rules.specs.Chain.{IsLeft}
 
 -- a checkpoint that a session of these arguments resumes: it is taken, it is for this script and budget, and its records fit
 pub record IsUsable (table : List Call) (asked : Settings) (bytes : List ℕ) (held : Option Slots) : Type 0 where
@@ -55,6 +62,22 @@ IsAnswer (other_script script budget) = ⊥
 IsAnswer (rejected reason) = Unit {0}
 IsAnswer too_long = ⊥
 IsAnswer (unfit query told found) = ⊥
+
+-- before the searches began
+abbrev pub ends_early : Ending → Bool
+ends_early (done n) = false
+ends_early (usage i) = true
+ends_early (paused query blocks) = false
+ends_early source_fault = true
+ends_early sink_fault = false
+ends_early (vault_fault told) = false
+ends_early (no_memory told) = false
+ends_early no_checkpoint = true
+ends_early damaged_checkpoint = true
+ends_early (other_script script budget) = true
+ends_early (rejected reason) = false
+ends_early too_long = true
+ends_early (unfit query told found) = true
 
 -- nothing stops the session on its way, and nothing failed
 pub record IsAmple (table : List Call) (args : List (List ℕ)) (old new : Outside) (asked : Settings) (course : Course) : Type 0 where
@@ -88,17 +111,27 @@ StartsTruly table summary asked held course = ⊥
 abbrev pub IsSameOrTrue : Slot → List Call → List ℕ → ℕ → Slots → Slots → Type 0
 IsSameOrTrue slot table bytes budget before after = (in_slot slot after ≡ in_slot slot before) ⊎ IsEmptyOrTrue slot table bytes budget (in_slot slot after)
 
--- so are both slots, if the vault tells them, but for one whose store failed
-abbrev pub StoresTruly : List Call → List ℕ → ℕ → Outside → Outside → Type 0
-StoresTruly table bytes budget old new = WhereTold old.vault new.vault (λ before after.
-    ((slot : Slot) → IsSameOrTrue slot table bytes budget before after)
-    ⊎ (HasRisen old.vault_faults new.vault_faults × ((torn : Slot) × IsSameOrTrue (other torn) table bytes budget before after)))
+-- the slot of the next checkpoint
+abbrev pub next_slot : Course → Slot
+next_slot course = slot_of (turn_after course.turn course.told)
 
--- a session of `run` that emptied the slots: each is empty, or holds a true checkpoint, but for one whose store failed
-abbrev pub StoresAfresh : List Call → List ℕ → ℕ → Outside → Outside → Type 0
-StoresAfresh table bytes budget old new = WhereTold old.vault new.vault (λ before after.
-    ((slot : Slot) → IsEmptyOrTrue slot table bytes budget (in_slot slot after))
-    ⊎ (HasRisen old.vault_faults new.vault_faults × ((torn : Slot) × IsEmptyOrTrue (other torn) table bytes budget (in_slot (other torn) after))))
+-- so are both slots, if the vault tells them, but for the one whose store failed
+abbrev pub StoresTruly : List Call → Settings → Course → Outside → Outside → Type 0
+StoresTruly table asked course old new = WhereTold old.vault new.vault (λ before after.
+    ((slot : Slot) → IsSameOrTrue slot table course.bytes asked.budget before after)
+    ⊎ (HasRisen old.vault_faults new.vault_faults × (IsSameOrTrue (other (next_slot course)) table course.bytes asked.budget before after ⊎ ((asked.command ≡ run) × (course.told ≡ []) × AreHalfEmptied before after))))
+
+-- a session of `run` that emptied the slots: each is empty, or holds a true checkpoint, but for that of the next checkpoint, if its
+-- store failed
+abbrev pub StoresAfresh : List Call → Settings → Course → Outside → Outside → Type 0
+StoresAfresh table asked course old new = WhereTold old.vault new.vault (λ before after.
+    ((slot : Slot) → IsEmptyOrTrue slot table course.bytes asked.budget (in_slot slot after))
+    ⊎ (HasRisen old.vault_faults new.vault_faults × IsEmptyOrTrue (other (next_slot course)) table course.bytes asked.budget (in_slot (other (next_slot course)) after)))
+
+-- a slot that could not be emptied holds what it held, or bytes that are no checkpoint
+abbrev pub EmptiesSo : Slots → Slots → Type 0
+EmptiesSo before after =
+    ((held : List ℕ) → after ≡ put Zero held before → IsLeft before.zero_slot held) × ((held : List ℕ) → after ≡ put One held empty_slots → IsLeft before.one_slot held)
 
 -- the sink took the text of the script under this budget
 pub record PrintsText (table : List Call) (budget : ℕ) (bytes : List ℕ) (old new : Option (List ℕ)) (n : ℕ) : Type 0 where

@@ -81,27 +81,32 @@ rounds_of asked course = session_rounds divisor_of course.needs asked.budget ask
 abbrev pub record_of : Note → Record
 record_of note = record { query = note.need; blocks = note.blocks; bound = note.bound; best = note.best }
 
+-- the records of these steps
 abbrev pub records_of : List SessionStep → List Record
 records_of steps = map (λ s. record_of s.note) steps
 
+-- the commands that may keep checkpoints: run and resume
 abbrev pub keeps : Command → Bool
 keeps run = true
 keeps resume = true
 keeps check = false
 keeps summary = false
 
+-- the command that goes on from a checkpoint
 abbrev pub resumes : Command → Bool
 resumes run = false
 resumes resume = true
 resumes check = false
 resumes summary = false
 
+-- the command that checks a certificate
 abbrev pub checks : Command → Bool
 checks run = false
 checks resume = false
 checks check = true
 checks summary = false
 
+-- the commands that read the source: all but the summary
 abbrev pub reads : Command → Bool
 reads run = true
 reads resume = true
@@ -139,6 +144,7 @@ pub record WasRead (old new : Option (List ℕ)) (bytes : List ℕ) : Type 0 whe
 abbrev pub GaveTooMuch : Option (List ℕ) → Option (List ℕ) → Type 0
 GaveTooMuch old new = (bytes : List ℕ) × (length bytes ≡ most_bytes + 1) × Consumes old new bytes
 
+-- what was taken from the source, by the ending: the whole script, a front of it, one byte more than a script may have, or nothing
 abbrev pub ReadsScript : Ending → Option (List ℕ) → Option (List ℕ) → Course → Type 0
 ReadsScript (done n) old new course = WasRead old new course.bytes
 ReadsScript (usage i) old new course = new ≡ old
@@ -172,6 +178,7 @@ pub record GoesOnFrom (asked : Settings) (held : Option Slots) (course : Course)
   pub start : course.start ≡ start_of course.needs p
   pub turn : course.turn ≡ next_turn p.turn
 
+-- some checkpoint was taken, and the session goes on from it
 abbrev pub IsResumed : Settings → Option Slots → Course → Type 0
 IsResumed asked held course = (p : Checkpoint) × GoesOnFrom asked held course p
 
@@ -189,6 +196,8 @@ Fits asked course = misfit divisor_of course.needs asked.budget course.start ≡
 abbrev pub MayBeResumed : Settings → Option Slots → Course → Type 0
 MayBeResumed asked held course = (course.told ≡ []) ⊎ (IsResumed asked held course × Fits asked course)
 
+-- what `resume` found in the slots, by the ending: a checkpoint whose records fit, where it came so far; and each refusal of
+-- checkpoints comes in its case alone
 abbrev pub Resumes : List Call → Ending → Settings → Option Slots → Course → Type 0
 Resumes table (done n) asked held course = IsResumed asked held course × Fits asked course
 Resumes table (usage i) asked held course = Unit {0}
@@ -212,6 +221,7 @@ pub record IsFresh (course : Course) : Type 0 where
   pub start : course.start ≡ fresh_start
   pub turn : course.turn ≡ 0
 
+-- where the searches start, by the command: `resume` goes on from a checkpoint, the others start afresh
 abbrev pub Starts : List Call → Command → Ending → Settings → Option Slots → Course → Type 0
 Starts table run ending asked held course = IsFresh course
 Starts table resume ending asked held course = Resumes table ending asked held course
@@ -245,6 +255,7 @@ pub record IsPaused (asked : Settings) (course : Course) (query blocks : ℕ) : 
   pub at : EndsAt course.told query blocks
   pub why : (course.is_paused ≡ true) ⊎ ((course.left ≡ []) × ((rounds_of asked course).is_stopped ≡ true))
 
+-- which records were told, by the ending: all, those up to the pause, the first `told` of them, or none
 abbrev pub Ends : Ending → Settings → Course → Type 0
 Ends (done n) asked course = IsWhole asked course
 Ends (usage i) asked course = course.told ≡ []
@@ -271,6 +282,7 @@ begin_with summary slots = slots
 abbrev pub told_slots : Settings → Course → Slots → Slots
 told_slots asked course slots = slots_after 2 (sha256 course.bytes) asked.budget course.turn course.told (begin_with asked.command slots)
 
+-- if the vault tells its slots, they hold the checkpoints of the steps told
 abbrev pub Keeps : Settings → Course → Option Slots → Option Slots → Type 0
 Keeps asked course old new = WhereTold old new (λ before after. after ≡ told_slots asked course before)
 
@@ -296,6 +308,8 @@ IsStarted resume asked held course = IsResumed asked held course
 IsStarted check asked held course = Unit {0}
 IsStarted summary asked held course = Unit {0}
 
+-- what is in the slots, by the ending, if checkpoints are kept: those of the steps told, all but one slot of them if a store
+-- failed, or what was there
 abbrev pub StoresIfKept : Ending → Settings → Course → Option Slots → Option Slots → Type 0
 StoresIfKept (done n) asked course old new = Keeps asked course old new
 StoresIfKept (usage i) asked course old new = new ≡ old
@@ -311,6 +325,7 @@ StoresIfKept (rejected reason) asked course old new = new ≡ old
 StoresIfKept too_long asked course old new = new ≡ old
 StoresIfKept (unfit query told found) asked course old new = new ≡ old
 
+-- the same, and what was there if none are kept
 abbrev pub Stores : Bool → Ending → Settings → Course → Option Slots → Option Slots → Type 0
 Stores true ending asked course old new = StoresIfKept ending asked course old new
 Stores false ending asked course old new = new ≡ old
@@ -330,6 +345,8 @@ pub record IsResumedText (table : List Call) (asked : Settings) (held : Option S
   pub words : HasWords course.needs answers
   pub honest : (p : Checkpoint) → GoesOnFrom asked held course p → IsTrueCheckpoint table course.bytes asked.budget p → IsScriptText table asked course
 
+-- what the text is, by the command: that of the script, by its search or by the records of a checkpoint; the line of the
+-- certificate; the line of the summary, whose answer is true
 abbrev pub Replies : List Call → Command → Settings → Option Slots → Course → Type 0
 Replies table run asked held course = IsNeeds table course.bytes course.needs × IsScriptText table asked course
 Replies table resume asked held course = IsNeeds table course.bytes course.needs × IsResumedText table asked held course
@@ -345,16 +362,20 @@ pub record IsAccepted (bytes : List ℕ) : Type 0 where
   pub verdict : verdict_of (certificate_in bytes) ≡ accepted
   pub proves : IsDistance certificate.field (length certificate.word) certificate.rows certificate.distance
 
+-- `check` ends with Done only for a certificate that is accepted
 abbrev pub Judges : Command → List ℕ → Type 0
 Judges run bytes = Unit {0}
 Judges resume bytes = Unit {0}
 Judges check bytes = IsAccepted bytes
 Judges summary bytes = Unit {0}
 
+-- the number of Done: 1 if a fault line ends the text
 abbrev pub end_number : Bool → ℕ
 end_number true = 1
 end_number false = 0
 
+-- the text was made, by the endings that print one: it is what the command asks for. Done has the number of the text, Rejected
+-- the first reason
 abbrev pub Replied : List Call → Ending → Settings → Option Slots → Course → Type 0
 Replied table (done n) asked held course = Replies table asked.command asked held course × (n ≡ end_number course.is_faulty) × Judges asked.command course.bytes
 Replied table (usage i) asked held course = Unit {0}
@@ -370,6 +391,7 @@ Replied table (rejected reason) asked held course = Replies table asked.command 
 Replied table too_long asked held course = Unit {0}
 Replied table (unfit query told found) asked held course = Unit {0}
 
+-- what the sink took, by the ending: the whole text, a front of it that is not the whole, or nothing
 abbrev pub Writes : Ending → List ℕ → Option (List ℕ) → Option (List ℕ) → Type 0
 Writes (done n) text old new = Appends old new text
 Writes (usage i) text old new = new ≡ old
@@ -391,6 +413,7 @@ pub record NoneFailed (old new : Outside) : Type 0 where
   pub sink : new.sink_faults ≡ old.sink_faults
   pub vault : new.vault_faults ≡ old.vault_faults
 
+-- whose count of faults rose, by the ending: that of the source, the sink or the vault that failed, and no other one
 abbrev pub Counts : Ending → Outside → Outside → Type 0
 Counts (done n) old new = NoneFailed old new
 Counts (usage i) old new = NoneFailed old new

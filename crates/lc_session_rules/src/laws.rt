@@ -2,7 +2,7 @@
 //!
 //! Each function proves what its clauses say, and does nothing when it is run.
 
-ghost use Rattle.std.specs.Prelude.{◌≡◌, ◌⊎◌, ◌+◌, ◌<◌, ◌≤◌, ◌^◌, ◌++◌, ℕ, Bool, true, false, List, [], ◌∷◌, length, Option, Some, Contains};
+ghost use Rattle.std.specs.Prelude.{◌≡◌, ◌⊎◌, ◌+◌, ◌<◌, ◌≤◌, ◌^◌, ◌++◌, ℕ, Bool, true, false, List, [], ◌∷◌, length, Option, Some, Contains, IsTrue};
 ghost use Rattle.std.specs.Io.KnownBytes.{Appends};
 ghost use Rattle.lc_algebra.specs.Matrix.{Matrix};
 ghost use Rattle.lc_enumeration.specs.Search.{Answer};
@@ -11,7 +11,7 @@ ghost use Rattle.lc_formats.specs.Certificate.{Reason, accepted, rejected as rej
 ghost use Rattle.lc_formats.specs.Check.{certificate_in, verdict_of, check_text};
 ghost use Rattle.lc_formats.specs.Checkpoint.{Checkpoint};
 ghost use Rattle.lc_io.specs.declared.watcher.Record.{Record};
-ghost use Rattle.lc_io.specs.Outside.{HasRisen};
+ghost use Rattle.lc_io.specs.Outside.{HasRisen, AppendsPart};
 ghost use Rattle.lc_io.specs.Vaults.{Slots, in_slot, other, WhereTold};
 ghost use Rattle.lc_io.specs.Watchers.{Hearing};
 ghost use Rattle.lc_io.specs.Told.{Kept};
@@ -22,12 +22,12 @@ ghost use Rattle.lc_language.specs.Value.{Binding};
 ghost use Rattle.lc_language.specs.Evaluation.{Runs, IsText};
 ghost use Rattle.lc_session_rules.specs.Options.{run, resume, check, summary, Settings, settings, usage as refuses, all_options, options};
 ghost use Rattle.lc_session_rules.specs.Needs.{Needs, IsNeeds, MeetsFirst, NoFault};
-ghost use Rattle.lc_session_rules.specs.Answers.{RunsBy, IsTextBy, Settle, answers_of};
+ghost use Rattle.lc_session_rules.specs.Answers.{RunsBy, IsTextBy, Settle, answers_of, HasWords};
 ghost use Rattle.lc_session_rules.specs.Slots.{slot_of, turn_after, takes, choice, IsTrueCheckpoint, AreTrueSlots};
-ghost use Rattle.lc_session_rules.specs.Endings.{Ending, done, usage, paused, vault_fault, no_memory, other_script, rejected};
+ghost use Rattle.lc_session_rules.specs.Endings.{Ending, done, usage, paused, source_fault, sink_fault, vault_fault, no_memory, other_script, rejected};
 ghost use Rattle.lc_session_rules.specs.Summary.{summary_text};
-ghost use Rattle.lc_session_rules.specs.Session.{Outside, Course, rounds_of, IsFresh, GoesOnFrom, Fits, begin_with, Keeps, Tears, IsSession};
-ghost use Rattle.lc_session_rules.specs.Promises.{IsAmple, IsAnswer, PrintsText, checkpoint_of, Holds, StartsTruly, StoresTruly, StoresAfresh};
+ghost use Rattle.lc_session_rules.specs.Session.{Outside, Course, rounds_of, keeps, IsFresh, GoesOnFrom, Fits, begin_with, Keeps, Tears, IsSession};
+ghost use Rattle.lc_session_rules.specs.Promises.{IsAmple, IsAnswer, PrintsText, checkpoint_of, Holds, StartsTruly, StoresTruly, StoresAfresh, EmptiesSo, ends_early};
 ghost use Rattle.lc_session_rules.specs.Chain.{Chain, IsGround, HasBegun, TearsSo, GoesOn, ChainsAreTrue};
 
 /// A session goes by the settings that its arguments ask for. It ends with the index of a refused
@@ -44,6 +44,13 @@ pub fn sessions_answer_what_was_asked()
 /// the checkpoint that was found. Without keep the vault is as it was. What `check` writes is the line of the bytes that it read,
 /// and its status is their verdict; what `summary` writes is the line of its number, and it reads nothing. A session that finishes
 /// met no fault.
+///
+/// The count of faults of the source, the sink or the vault rises only if the session ends with that fault. A session that ends by its
+/// arguments, its source or its slots, before its searches began, told no record and left the sink, the vault and the watchers as they
+/// were. If the sink fails, it took a front of the text, and not all of it; the text is that of the script, if
+/// the session started afresh or from a true checkpoint. Under every other ending but for a finished or rejected session the sink is
+/// as it was. Over any slots the words that `resume` prints are nonzero words of the codes, with their weights. If checkpoints are
+/// kept, a watcher that is handed back has answered Pause once at most, and then the session is paused.
 pub fn sessions_say_what_they_did()
     ensures paused { (table : List Call) (args : List (List ℕ)) (old new : Outside) (query blocks : ℕ) (s : IsSession table args old new (paused query blocks))
         → ((before : List SessionStep) × (last : SessionStep) × (s.course.told ≡ before ++ last ∷ []) × (last.note.need ≡ query) × (last.note.blocks ≡ blocks)) × (s.asked.keep ≡ true) × (new.sink ≡ old.sink) }
@@ -56,6 +63,18 @@ pub fn sessions_say_what_they_did()
     ensures rejected { (table : List Call) (args : List (List ℕ)) (old new : Outside) (reason : Reason) (s : IsSession table args old new (rejected reason)) → (verdict_of (certificate_in s.course.bytes) ≡ rejects reason) × Appends old.sink new.sink (check_text s.course.bytes) }
     ensures summary { (table : List Call) (args : List (List ℕ)) (old new : Outside) (n : ℕ) (s : IsSession table args old new (done n)) → s.asked.command ≡ summary → Appends old.sink new.sink (summary_text s.asked.number s.asked.budget) × (new.source ≡ old.source) }
     ensures unfailed { (table : List Call) (args : List (List ℕ)) (old new : Outside) (n : ℕ) (s : IsSession table args old new (done n)) → (new.source_faults ≡ old.source_faults) × (new.sink_faults ≡ old.sink_faults) × (new.vault_faults ≡ old.vault_faults) }
+    ensures counts { (table : List Call) (args : List (List ℕ)) (old new : Outside) (ending : Ending) (s : IsSession table args old new ending)
+        → (¬ (ending ≡ source_fault) → new.source_faults ≡ old.source_faults) × (¬ (ending ≡ sink_fault) → new.sink_faults ≡ old.sink_faults) × (((told : ℕ) → ¬ (ending ≡ vault_fault told)) → new.vault_faults ≡ old.vault_faults) }
+    ensures source_fault { (table : List Call) (args : List (List ℕ)) (old new : Outside) (s : IsSession table args old new source_fault) → HasRisen old.source_faults new.source_faults }
+    ensures early { (table : List Call) (args : List (List ℕ)) (old new : Outside) (ending : Ending) (s : IsSession table args old new ending) → IsTrue (ends_early ending) → (s.course.told ≡ []) × (new.sink ≡ old.sink) × (new.vault ≡ old.vault) × (new.watchers ≡ old.watchers) }
+    ensures sink_fault { (table : List Call) (args : List (List ℕ)) (old new : Outside) (s : IsSession table args old new sink_fault)
+        → HasRisen old.sink_faults new.sink_faults × AppendsPart old.sink new.sink s.course.text
+        × (StartsTruly table s.asked.command s.asked old.vault s.course → IsText table s.asked.budget s.course.bytes s.course.text s.course.is_faulty) × (s.asked.command ≡ check → s.course.text ≡ check_text s.course.bytes) × (s.asked.command ≡ summary → s.course.text ≡ summary_text s.asked.number s.asked.budget) }
+    ensures written { (table : List Call) (args : List (List ℕ)) (old new : Outside) (ending : Ending) (s : IsSession table args old new ending) → ((n : ℕ) → ¬ (ending ≡ done n)) → ¬ (ending ≡ sink_fault) → ((r : Reason) → ¬ (ending ≡ rejected r)) → new.sink ≡ old.sink }
+    ensures words { (table : List Call) (args : List (List ℕ)) (old new : Outside) (n : ℕ) (s : IsSession table args old new (done n)) → s.asked.command ≡ resume
+        → (answers : List Answer) × IsTextBy table s.asked.budget s.course.bytes answers s.course.text s.course.is_faulty × HasWords s.course.needs answers × Appends old.sink new.sink s.course.text }
+    ensures paused_once { (table : List Call) (args : List (List ℕ)) (old new : Outside) (ending : Ending) (s : IsSession table args old new ending) → s.asked.keep ≡ true → (v : Hearing) → Contains new.watchers v
+        → (w : Hearing) × Contains old.watchers w × ((v.pauses ≡ w.pauses) ⊎ ((v.pauses ≡ w.pauses + 1) × ((query blocks : ℕ) × (ending ≡ paused query blocks)))) }
 {}
 
 /// What is in the slots after a session that keeps its checkpoints. The slot of the last turn holds the
@@ -79,16 +98,21 @@ pub fn slots_hold_the_last_checkpoints()
 {}
 
 /// A session stores true checkpoints, if it is one of `run`, or one of `resume` that took a true checkpoint, as it does over true
-/// slots. Each slot is then as it was, or empty, or holds a true checkpoint in the slot of its turn, but for one whose store failed.
-/// After a session of `run` that emptied the slots (it finished or paused, or the sink failed, or it told a record) each is empty or
-/// holds a true checkpoint, but for one whose store failed. A true checkpoint has a turn below 2^58, and so has each record told.
+/// slots. Each slot is then as it was, or empty, or holds a true checkpoint in the slot of its turn, but for the one whose store
+/// failed: the slot of the turn after the last record told, or the one that `run` could not empty. After a session of `run` that
+/// emptied the slots (it finished or paused, or the sink failed, or it told a record) each is empty or holds a true checkpoint, but
+/// for that of the turn after the last record told, if its store failed. A true checkpoint has a turn below 2^58, and so has each
+/// record told. True slots stay true slots, whatever the command and the ending, if a store that failed left what was there or bytes
+/// that are no checkpoint.
 pub fn stored_slots_hold_true_checkpoints()
-    ensures stored { (table : List Call) (args : List (List ℕ)) (old new : Outside) (ending : Ending) (s : IsSession table args old new ending) → IsGround table s.course.bytes s.asked.budget → StartsTruly table s.asked.command s.asked old.vault s.course → s.asked.keep ≡ true → StoresTruly table s.course.bytes s.asked.budget old new }
-    ensures afresh { (table : List Call) (args : List (List ℕ)) (old new : Outside) (ending : Ending) (s : IsSession table args old new ending) → IsGround table s.course.bytes s.asked.budget → s.asked.command ≡ run → s.asked.keep ≡ true → HasBegun ending s.course → StoresAfresh table s.course.bytes s.asked.budget old new }
+    ensures stored { (table : List Call) (args : List (List ℕ)) (old new : Outside) (ending : Ending) (s : IsSession table args old new ending) → IsGround table s.course.bytes s.asked.budget → StartsTruly table s.asked.command s.asked old.vault s.course → s.asked.keep ≡ true → StoresTruly table s.asked s.course old new }
+    ensures afresh { (table : List Call) (args : List (List ℕ)) (old new : Outside) (ending : Ending) (s : IsSession table args old new ending) → IsGround table s.course.bytes s.asked.budget → s.asked.command ≡ run → s.asked.keep ≡ true → HasBegun ending s.course → StoresAfresh table s.asked s.course old new }
     ensures turn { (table : List Call) (bytes : List ℕ) (budget : ℕ) → IsGround table bytes budget → (p : Checkpoint) → IsTrueCheckpoint table bytes budget p → p.turn < 2 ^ 58 }
     ensures early { (table : List Call) (args : List (List ℕ)) (old new : Outside) (ending : Ending) (s : IsSession table args old new ending) → IsGround table s.course.bytes s.asked.budget → StartsTruly table s.asked.command s.asked old.vault s.course
         → (before : List SessionStep) (last : SessionStep) → s.course.told ≡ before ++ last ∷ [] → turn_after s.course.turn before < 2 ^ 58 }
     ensures taken { (table : List Call) (asked : Settings) (held : Option Slots) (course : Course) (slots : Slots) → held ≡ Some slots → AreTrueSlots table course.bytes asked.budget slots → StartsTruly table resume asked held course }
+    ensures stay { (table : List Call) (args : List (List ℕ)) (old new : Outside) (ending : Ending) (s : IsSession table args old new ending) (before after : Slots) → IsGround table s.course.bytes s.asked.budget → IsTrue (keeps s.asked.command) → old.vault ≡ Some before → new.vault ≡ Some after
+        → AreTrueSlots table s.course.bytes s.asked.budget before → TearsSo s.asked s.course before after → (s.asked.command ≡ run → s.course.told ≡ [] → EmptiesSo before after) → AreTrueSlots table s.course.bytes s.asked.budget after }
 {}
 
 /// The text of some statements is that by the answers of the search for their needs, and back. The needs of
@@ -135,9 +159,13 @@ pub fn sessions_that_start_truly_print_the_text()
 {}
 
 /// A session that finishes prints the text of its script under its budget, whatever its workers, its slice
-/// and the sessions before it were: `run` always, and `resume` over the slots of a chain.
+/// and the sessions before it were: `run` always, and `resume` from a true checkpoint. So it does over slots each
+/// of which is empty, holds no checkpoint or a true one, and over the slots of a chain, which are such.
 pub fn finished_sessions_print_the_text()
     ensures run { (table : List Call) (args : List (List ℕ)) (old new : Outside) (n : ℕ) (s : IsSession table args old new (done n)) → s.asked.command ≡ run → PrintsText table s.asked.budget s.course.bytes old.sink new.sink n }
+    ensures truly { (table : List Call) (args : List (List ℕ)) (old new : Outside) (n : ℕ) (s : IsSession table args old new (done n)) → StartsTruly table s.asked.command s.asked old.vault s.course → PrintsText table s.asked.budget s.course.bytes old.sink new.sink n }
+    ensures slots_true { (table : List Call) (args : List (List ℕ)) (old new : Outside) (n : ℕ) (s : IsSession table args old new (done n)) (slots : Slots) → s.asked.command ≡ resume → old.vault ≡ Some slots → AreTrueSlots table s.course.bytes s.asked.budget slots
+        → PrintsText table s.asked.budget s.course.bytes old.sink new.sink n }
     ensures resume { (table : List Call) (args : List (List ℕ)) (old new : Outside) (n : ℕ) (s : IsSession table args old new (done n)) (version : ℕ) (slots : Slots) → s.asked.command ≡ resume → IsGround table s.course.bytes s.asked.budget → old.vault ≡ Some slots → Chain table s.course.bytes s.asked.budget version slots
         → PrintsText table s.asked.budget s.course.bytes old.sink new.sink n }
 {}

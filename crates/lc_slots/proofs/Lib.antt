@@ -1,3 +1,4 @@
 pub mod ReadLaws
 pub mod ChoiceLaws
 pub mod EmptyLaws
+pub mod Opened

@@ -18,7 +18,7 @@ pub fn digest(bytes: &[u8]) -> [u8; 32]
 }
 
 /// Whether a checkpoint names the script of this digest, and this budget of blocks.
-#[tactic(auto, unfolding(lc_session_rules::specs::Slots::is_for, lc_checkpoint::specs::Seen::point_of))]
+#[tactic(auto, unfolding(crate::proofs::Opened::scripts_and_points))]
 pub fn is_for(digest: &[u8; 32], budget: u64, checkpoint: &Checkpoint) -> bool
     ensures { result ≡ is_for digest.now budget (point_of checkpoint.now) }
 {

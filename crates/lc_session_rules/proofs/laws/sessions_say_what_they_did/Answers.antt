@@ -1,4 +1,4 @@
-use Rattle.lc_session_rules.proofs.SaidLaws.{paused_at, fault_counts, memory_counts, other_named, unkept, accepted_so, rejected_so, summed, unfailed}
+use Rattle.lc_session_rules.proofs.SaidLaws.{paused_at, fault_counts, memory_counts, other_named, unkept, accepted_so, rejected_so, summed, unfailed, counted_so, early_so, source_fails, sink_fails, unwritten, worded, paused_once}
 use Rattle.lc_session_rules.proofs.laws.sessions_say_what_they_did.Goals as goal
 
 pub returns-clause-paused : goal.returns-clause-paused
@@ -27,3 +27,24 @@ returns-clause-summary _ = summed
 
 pub returns-clause-unfailed : goal.returns-clause-unfailed
 returns-clause-unfailed _ = unfailed
+
+pub returns-clause-counts : goal.returns-clause-counts
+returns-clause-counts _ = counted_so
+
+pub returns-clause-source_fault : goal.returns-clause-source_fault
+returns-clause-source_fault _ = source_fails
+
+pub returns-clause-sink_fault : goal.returns-clause-sink_fault
+returns-clause-sink_fault _ = sink_fails
+
+pub returns-clause-written : goal.returns-clause-written
+returns-clause-written _ = unwritten
+
+pub returns-clause-words : goal.returns-clause-words
+returns-clause-words _ = worded
+
+pub returns-clause-paused_once : goal.returns-clause-paused_once
+returns-clause-paused_once _ = paused_once
+
+pub returns-clause-early : goal.returns-clause-early
+returns-clause-early _ = early_so

@@ -1,5 +1,5 @@
 use Rattle.lc_session_rules.proofs.FrontLaws.{at_need, searched, ends_here}
-use Rattle.lc_session_rules.proofs.laws.sessions_go_need_by_need.Goals as goal
+use Rattle.lc_session_rules.proofs.needs.sessions_go_need_by_need.Goals as goal
 
 pub returns-clause-met : goal.returns-clause-met
 returns-clause-met c = at_need

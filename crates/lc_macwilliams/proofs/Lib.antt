@@ -1,0 +1,12 @@
+pub mod CountLaws
+pub mod TransformLaws
+pub mod PairingLaws
+pub mod KrawtchoukLaws
+pub mod MomentLaws
+pub mod OneSetLaws
+pub mod IdentityExamples
+pub mod PascalLaws
+pub mod SolveLaws
+pub mod DualCounts
+pub mod MessageLaws
+pub mod BlockCounts

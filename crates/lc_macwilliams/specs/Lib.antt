@@ -1,0 +1,3 @@
+pub mod Krawtchouk
+pub mod Orthogonal
+pub mod Solving

@@ -1,0 +1,77 @@
+-- What a script prints of its searches, and when that is true.
+--   Piece, piece_text budget p       a piece of a text: one that no search answers, or what a query on a code prints under the budget
+--   pieces_text budget pieces        the text of some pieces, one after another
+--   codes_in pieces                  the codes of the queries among them
+--   StatesDistance C text            the line states the minimum distance of the code and a word of the code that has this weight
+--   StatesBracket C budget text      the line states two numbers between which the minimum distance lies, and a word of the code that has
+--                                    the greater weight
+--   SaysBetween C text               the line says that there is no certificate, and two numbers between which the minimum distance lies
+--   SaysDear text                    the line says that there is none since it costs a checker too much, or is too long
+--   IsTrueLine kind C budget text    the line of a query is true: a distance or a bracket; or a certificate that is accepted for the
+--                                    code, a bracket, or a cost or a length
+--   IsTruePiece budget p             so it is of a piece that is the line of a query
+use Rattle.std.specs.Prelude.{◌≡◌, ℕ, ◌<◌, ◌≤◌, ◌⊎◌, List, [], ◌∷◌, ◌++◌, codes, decimal, ⊤}
+use Rattle.lc_algebra.specs.Word.{weight}
+use Rattle.lc_algebra.specs.Span.{InSpan, IsDistance}
+use Rattle.lc_algebra.specs.Matrix.{Matrix}
+use Rattle.lc_formats.specs.Text.{line}
+use Rattle.lc_language.specs.Print.{distance_line, bracket_line}
+use Rattle.lc_language.specs.Query.{QueryKind, distance, by_levels, by_scan, no_certificate_line, query_line}
+use Rattle.lc_certify.specs.Accepted.{IsAcceptedFor}
+
+pub data Piece : Type 0 where
+  plain : List ℕ → Piece
+  asked : QueryKind → Matrix → Piece
+
+abbrev pub piece_text : ℕ → Piece → List ℕ
+piece_text budget (plain text) = text
+piece_text budget (asked kind C) = query_line kind C budget
+
+abbrev pub pieces_text : ℕ → List Piece → List ℕ
+pieces_text budget [] = []
+pieces_text budget (p ∷ pieces) = piece_text budget p ++ pieces_text budget pieces
+
+abbrev pub codes_in : List Piece → List Matrix
+codes_in [] = []
+codes_in (plain text ∷ pieces) = codes_in pieces
+codes_in (asked kind C ∷ pieces) = C ∷ codes_in pieces
+
+pub record StatesDistance (C : Matrix) (text : List ℕ) : Type 0 where
+  pub distance : ℕ
+  pub word : List ℕ
+  pub blocks : ℕ
+  pub line_is : text ≡ distance_line distance word blocks
+  pub least : IsDistance C.field C.columns C.rows distance
+  pub inside : InSpan C.field C.columns C.rows word
+  pub weighs : weight word ≡ distance
+
+pub record StatesBracket (C : Matrix) (budget : ℕ) (text : List ℕ) : Type 0 where
+  pub low : ℕ
+  pub high : ℕ
+  pub word : List ℕ
+  pub line_is : text ≡ bracket_line low high word budget
+  pub between : (d : ℕ) → IsDistance C.field C.columns C.rows d → (low ≤ d) × (d ≤ high)
+  pub inside : InSpan C.field C.columns C.rows word
+  pub nonzero : 0 < high
+  pub weighs : weight word ≡ high
+
+pub record SaysBetween (C : Matrix) (text : List ℕ) : Type 0 where
+  pub low : ℕ
+  pub high : ℕ
+  pub line_is : text ≡ line (codes "certificate none between " ++ decimal low ++ codes " and " ++ decimal high)
+  pub between : (d : ℕ) → IsDistance C.field C.columns C.rows d → (low ≤ d) × (d ≤ high)
+
+pub record SaysDear (text : List ℕ) : Type 0 where
+  pub why : List ℕ
+  pub number : ℕ
+  pub why_is : (why ≡ codes "cost") ⊎ (why ≡ codes "length")
+  pub line_is : text ≡ no_certificate_line why number
+
+abbrev pub IsTrueLine : QueryKind → Matrix → ℕ → List ℕ → Type 0
+IsTrueLine distance C budget text = StatesDistance C text ⊎ StatesBracket C budget text
+IsTrueLine by_levels C budget text = IsAcceptedFor C text ⊎ (SaysBetween C text ⊎ SaysDear text)
+IsTrueLine by_scan C budget text = IsAcceptedFor C text ⊎ (SaysBetween C text ⊎ SaysDear text)
+
+abbrev pub IsTruePiece : ℕ → Piece → Type 0
+IsTruePiece budget (plain text) = ⊤
+IsTruePiece budget (asked kind C) = IsTrueLine kind C budget (query_line kind C budget)
