@@ -21,9 +21,10 @@ OURS = set(CALLS) | set(QUERIES)
 SIGNS = [
     ("=", b"C = 1;", "`:=`"), ("^", b"2^10;", "1024"), ("^", b"x^2;", "no powers"), ("^", b"Z(2)^0;", "FROM_GUAVA"), ("-", b"[-1],GF(13)", "12"),
     ("-", b"-1;", "no negative"), ('"', b'"01"', "[0,1]"), ('"', b'"a"', "no strings"), ("/", b"/* a */", "`#`"), ("/", b"1/2;", "no quotients"),
-    (".", b"[1..5];", "no ranges"), (".", b"C.1;", "whole"), ("{", b"{1};", "brackets"), ("\x00", b"\x00", "byte 0"), ("\u00a0", "\u00a0".encode(), "NO-BREAK SPACE"),
+    (".", b"[1..5];", "no ranges"), (".", b"C.1;", "whole"), (".", b"codes.HammingCode(F,3);", "`HammingCode(..)` alone"), (".", b"C.dual_code();", "`DualCode(C)`"), ("{", b"{1};", "brackets"), ("\x00", b"\x00", "byte 0"), ("\u00a0", "\u00a0".encode(), "NO-BREAK SPACE"),
     ("\u200b", "\u200b".encode(), "ZERO WIDTH SPACE"), ("\u201c", "\u201c".encode(), "LEFT DOUBLE QUOTATION MARK"), ("\u03b1", "\u03b1".encode(), "GREEK SMALL LETTER ALPHA"),
 ]
+TOKENS = [(b"1;;", 2, "one `;`"), (b"if x then", 3, "no loops"), (b"for x in C do", 6, "no loops"), (b"x in C;", 2, "`IsCodeword(C, x)`"), (b"Weight [1];", 7, "`Weight(..)`"), (b"C D;", 2, "")]
 
 
 def signs():
@@ -34,8 +35,7 @@ def signs():
     for byte in range(256):
         if byte not in LETTERS + DIGITS + b"()[],; \t\r\n#" and not explain_bytes.of_byte(bytes([byte]) + b" ", 0):
             yield f"nothing is said of the byte {byte}"
-    for script, wanted in ((b"1;;", "one `;`"), (b"if x then", "no loops"), (b"C D;", "")):
-        place = {b"1;;": 2, b"if x then": 3, b"C D;": 2}[script]
+    for script, place, wanted in TOKENS:
         if wanted not in explain_bytes.of_token(script, place):
             yield f"{script}: {explain_bytes.of_token(script, place)}"
 
@@ -51,6 +51,9 @@ def names():
     for name in ("QRCode", "WeightDistribution", "Syndrome", "dual_code", "BKLC", "Z", "Codeword", "CyclicCode"):
         if not foreign_names.said_of(name):
             yield f"nothing is said of `{name}`"
+    for name, wanted in (("Dual", "`DualCode(C)`"), ("LinearCode", "`GeneratorMatCode(M, F)`")):
+        if wanted not in foreign_names.said_of(name):
+            yield f"of `{name}` it is said: {foreign_names.said_of(name)}"
     for name, sentence in foreign_names.table().items():
         written = re.search(r" write (.*)", sentence)
         for call in re.findall(r"`(\w+)\(", written.group(1)) if written else []:

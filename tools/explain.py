@@ -341,7 +341,9 @@ def of_call(expr, fault, names):
             return inner
         if part.place == fault.place and fault.number == 45 and name in table:
             kinds = next(kinds for kinds in table[name][0] if len(kinds) == len(expr.parts))
-            return f"argument {i + 1} of `{name}` is {KINDS[kinds[i]]}; here is {told(names.values([part])[0])}"
+            value = names.values([part])[0]
+            instead = f": write `GF({value})`" if kinds[i] == "field" and value in FIELD_SIZES else ""
+            return f"argument {i + 1} of `{name}` is {KINDS[kinds[i]]}; here is {told(value)}{instead}"
     return None
 
 

@@ -5,6 +5,9 @@
 import re
 import unicodedata
 
+import foreign_names
+from reference import CALLS, QUERIES
+
 MARKS = {b"\xef\xbb\xbf": "the file begins with a byte order mark: save it as UTF-8 without one",
          b"\xff\xfe": "the file is UTF-16: save it as UTF-8", b"\xfe\xff": "the file is UTF-16: save it as UTF-8"}
 SIGNS = {
@@ -58,7 +61,13 @@ def slash(script, place):
 
 
 def point(script, place):
-    return "there are no ranges: write each number" if script[place + 1:place + 2] == b"." else "numbers are whole, and there are no parts of values"
+    """A range, a fraction, or a part of a value: a name after the dot may be known."""
+    if script[place + 1:place + 2] == b".":
+        return "there are no ranges: write each number"
+    name = re.match(rb"\w*", script[place + 1:]).group().decode()
+    if name in CALLS or name in QUERIES:
+        return f"there are no parts of values: write `{name}(..)` alone"
+    return foreign_names.said_of(name) or "numbers are whole, and there are no parts of values"
 
 
 BY_CONTEXT = {"^": power, "-": minus, '"': string, "/": slash, ".": point}
@@ -104,6 +113,12 @@ def of_token(script, place):
     before = script[:place].rstrip()
     if script[place:place + 1] == b";" and before.endswith(b";"):
         return "one `;` is enough"
+    call = re.search(rb"(\w+)$", before)
+    name = call.group().decode() if call else ""
+    if script[place:place + 3] == b"in " and b"for" not in before.split(b";")[-1].split():
+        return "whether x is a word of C is asked by `IsCodeword(C, x)`"
+    if (name in CALLS or name in QUERIES) and re.match(rb"[\w\[]", script[place:]):
+        return f"the arguments of `{name}` stand in parentheses, as `{name}(..)`"
     words = [re.match(rb"[A-Za-z]*", script[place:]).group(), re.search(rb"[A-Za-z]*$", before).group()]
     if any(word in LOOPS for word in words):
         return "there are no loops, conditions or functions: a script is a list of statements, `name := call;` or `call;`"

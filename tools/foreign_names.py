@@ -43,7 +43,7 @@ def of_first_table(lines):
                 snippet = snippet.strip("`")
                 name = name_in(snippet)
                 if name:
-                    yield name, f"for `{snippet}` of {system.split(' ')[0]} write {row[0]}"
+                    yield len(snippet), name, f"for `{snippet}` of {system.split(' ')[0]} write {row[0]}"
 
 
 def of_second_table(lines):
@@ -51,7 +51,7 @@ def of_second_table(lines):
         for snippet in QUOTED.findall(row[0]):
             name = name_in(snippet)
             if name:
-                yield name, f"there is no `{name}` here; instead: " + LINK.sub(r"\1", row[1])
+                yield 0, name, f"there is no `{name}` here; instead: " + LINK.sub(r"\1", row[1])
 
 
 def of_list(lines):
@@ -61,18 +61,18 @@ def of_list(lines):
             for snippet in QUOTED.findall(names):
                 name = name_in(snippet)
                 if name:
-                    yield name, f"there is no `{name}`: {topic[:1].lower()}{topic[1:]} are not here"
+                    yield 0, name, f"there is no `{name}`: {topic[:1].lower()}{topic[1:]} are not here"
 
 
 @lru_cache(maxsize=1)
 def table():
-    """Each name with what is said of it; the first place counts."""
+    """Each name with what is said of it: in the shortest expression of the first table that has it, else where it is first."""
     if not PAGE.exists():
         return {}
     parts = sections(PAGE.read_text(encoding="utf-8"))
     found = {}
     for heading, reader in (("Coming from GUAVA, Sage or Magma", of_first_table), ("Calls that have no name here", of_second_table), ("What is not here", of_list)):
-        for name, sentence in reader(parts.get(heading, [])):
+        for _, name, sentence in sorted(reader(parts.get(heading, [])), key=lambda entry: entry[0]):
             found.setdefault(name, sentence)
     return found
 
