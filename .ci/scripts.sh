@@ -207,7 +207,7 @@ check_explanations() {
     local file
     for file in tests/pretty/*.codes; do check "${file%.codes}" is_pretty "${file%.codes}"; done
     for file in tests/explain/*.codes tests/explain/*.json; do check "${file%.*}" explains "$file"; done
-    check 'tools/explain_bytes.py and tools/foreign_names.py' python3 -B tests/explanations.py
+    check 'tools/explain.py on signs, names of other systems and scripts made at random' python3 -B tests/explanations.py "$program"
     check 'a call of tools/residue_code.py for each length' python3 -B tests/residue_codes.py "$program"
     check 'the second checker takes a file' second_checker_takes_a_file
 }

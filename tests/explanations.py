@@ -1,20 +1,24 @@
 """What tools/explain.py says where a stored case would be much for a little: signs that begin no token, and names of other systems.
 
-    tests/explanations.py
+    tests/explanations.py PROGRAM
 
 Each sign that can't begin a token has a sentence. Each name in back quotes in the tables and the last list of docs/FROM_GUAVA.md leads
-to a sentence, unless it is a call of the language too, and each name in the sentences of the first table is one. Prints what fails,
-and ends with 1 if something does.
+to a sentence, unless it is a call of the language too, and each name in the sentences of the first table is one. Each fault of three hundred scripts that are made at random is explained: the
+last line is another one than the caret for the faults of calls, names and signs. So is each rejection of as many certificates. Prints what fails, and ends with 1 if something does.
 """
 import re
 import sys
 from pathlib import Path
+from random import Random
 
 sys.path.insert(0, str(Path(__file__).resolve().parent.parent / "tools"))
+import compare_certificates
 import explain
 import explain_bytes
+import explain_certificate
 import foreign_names
-from reference import CALLS, LETTERS, DIGITS, QUERIES
+from random_scripts import scripts
+from reference import CALLS, LETTERS, DIGITS, QUERIES, ended
 
 OURS = set(CALLS) | set(QUERIES)
 # sign, script, what the sentence has in it; the fault is at the sign
@@ -67,8 +71,29 @@ def nearest():
             yield f"{name}: {explain.near(name, known)}"
 
 
+def faults():
+    for kind in ("refused", "unfit", "cut", "altered", "noise"):
+        for script in scripts(kind, 60):
+            text, status, _ = ended(["run", "budget=0"], script)
+            if status != 1:
+                continue
+            fault = explain.fault_of(text)
+            lines = explain.explanation([sys.argv[1]], script, fault)
+            if len(lines) < 4 and fault.number not in (42, 43):
+                yield f"{script}: fault {fault.number}: {lines}"
+
+
+def certificates():
+    lines = list(compare_certificates.certificates())
+    for text in [*lines, *compare_certificates.some_altered(Random(5), lines, 300)]:
+        printed, status = compare_certificates.expected(text)
+        said = explain_certificate.lines(text.encode(), printed.encode())
+        if len(said) < (2 if status and not printed.startswith("rejected 33") else 1 if status else 0):
+            yield f"{text}: {said}"
+
+
 def main():
-    failed = [line for part in (signs, names, nearest) for line in part()]
+    failed = [line for part in (signs, names, nearest, faults, certificates) for line in part()]
     print("\n".join(failed) or "the sentences are there")
     return 1 if failed else 0
 

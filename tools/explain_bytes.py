@@ -31,7 +31,7 @@ LOOPS = b"for while if then else fi do od end function return local rec def impo
 
 def power(script, place):
     before = re.search(rb"(\d+|\))\s*$", script[:place])
-    after = re.match(rb"\^\s*(\d+)", script[place:])
+    after = re.match(rb"\^\s*(\d{1,2})(?!\d)", script[place:])
     if re.search(rb"Z\(\d+\)\s*$", script[:place]):
         return "write the number of the element; docs/FROM_GUAVA.md lists the powers of `Z(q)`"
     if before and after and before.group(1) != b")" and len(before.group(1)) < 4 and int(after.group(1)) < 64:
@@ -41,11 +41,11 @@ def power(script, place):
 
 
 def minus(script, place):
-    field = re.search(rb"GF\((\d+)\)", script[place:])
-    number = re.match(rb"-\s*(\d+)", script[place:])
+    field = re.search(rb"GF\((\d{1,3})\)", script[place:])
+    number = re.match(rb"-\s*(\d{1,6})(?!\d)", script[place:])
     if field and number:
         size, value = int(field.group(1)), int(number.group(1))
-        if size in (2, 3, 5, 7, 11, 13) and value < 10**6:
+        if size in (2, 3, 5, 7, 11, 13):
             return f"there are no negative numbers: over GF({size}) -{value} is {-value % size}"
     return "there are no negative numbers and no differences: write the element, which is below the size of the field"
 

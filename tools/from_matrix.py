@@ -26,9 +26,9 @@ import linear_algebra
 SIZES = (2, 3, 4, 5, 7, 8, 9, 11, 13, 16)
 LONGEST = 255
 GENERATORS = {2: 1, 3: 2, 5: 2, 7: 3, 11: 2, 13: 2, 4: 2, 8: 2, 9: 3, 16: 2}  # Z(q) of GAP
-ELEMENT_OF_GAP = re.compile(r"(0\*)?Z\((\d+)(?:\^(\d+))?\)(?:\^(-?\d+))?$")
-TERM = re.compile(r"(?:(\d+)\*?)?([A-Za-z$][\w.]*)?(?:\^(\d+))?$")
-FIELD = re.compile(r"GF\((\d+)(?:\^(\d+))?\)|=\s*Z\((\d+)(?:\^(\d+))?\)")
+ELEMENT_OF_GAP = re.compile(r"(0\*)?Z\(([0-9]{1,3})(?:\^([0-9]))?\)(?:\^(-?[0-9]{1,9}))?$")
+TERM = re.compile(r"(?:([0-9]{1,9})\*?)?([A-Za-z$][\w.]*)?(?:\^([0-9]{1,9}))?$")
+FIELD = re.compile(r"GF\(([0-9]{1,3})(?:\^([0-9]))?\)|=\s*Z\(([0-9]{1,3})(?:\^([0-9]))?\)")
 TOKEN = re.compile(r"[^\s,\[\]|;]+")
 
 
@@ -66,7 +66,7 @@ def joined(entries):
 def entries_of_line(text, number):
     """The entries of a line, which has one row: symbols without anything between them, or with blanks or commas."""
     tokens = [Entry(m.group(), number, m.start() + 1) for m in TOKEN.finditer(text)]
-    if len(tokens) == 1 and re.fullmatch(r"[\d.]+", tokens[0].text):
+    if len(tokens) == 1 and re.fullmatch(r"[0-9.]+", tokens[0].text):
         only = tokens[0]
         return [Entry(sign, number, only.column + i) for i, sign in enumerate(only.text)]
     return joined(tokens)
@@ -117,7 +117,7 @@ def rows_of(text):
 
 def without_header(rows):
     """The rows after a line `q k n`, and q; or all rows and None."""
-    if not rows or len(rows[0]) != 3 or not all(entry.text.isdigit() for entry in rows[0]):
+    if not rows or len(rows[0]) != 3 or not all(re.fullmatch("[0-9]{1,9}", entry.text) for entry in rows[0]):
         return rows, None
     q, k, n = (int(entry.text) for entry in rows[0])
     if q in SIZES and len(rows) == k + 1 and all(len(row) == n for row in rows[1:]):
@@ -184,7 +184,7 @@ def element(field, entry, named):
     found = ELEMENT_OF_GAP.match(text)
     if found:
         return element_of_gap(field, entry, found)
-    if field.q == field.p and re.fullmatch(r"-\d+", text):
+    if field.q == field.p and re.fullmatch(r"-[0-9]{1,9}", text):
         return int(text) % field.p
     total = 0
     for part in text.split("+"):

@@ -124,10 +124,10 @@ def bracketed(given, row, script):
 
 def proved(given, row, line):
     """Takes the distance from a certificate, and has it checked."""
-    field, rows, row.word, row.low, sets = check_certificate.read(line)
+    over, rows, row.word, row.low, sets = check_certificate.read(line)
     row.high, row.certificate = row.low, line
-    k = len(check_certificate.systematic(field, rows, range(row.length))[1])
-    row.cost = check_certificate.levels_and_cost(k, field.q, sets)[1]
+    k = len(check_certificate.systematic(over, rows, range(row.length))[1])
+    row.cost = check_certificate.levels_and_cost(k, over.q, sets)[1]
     done = subprocess.run([given.program, "check"], input=line.encode(), capture_output=True)
     verdicts = {"codes check": done.stdout.decode().strip()}
     if row.cost <= given.words:
