@@ -2,7 +2,8 @@
 --   reads_nothing, reads_damaged, reads_version, reads_shape, reads_point      as they are read
 --   front_reads               the front of a slot that is longer than any checkpoint is read as the whole slot is
 --   slot_reads, loaded_damaged      what is read of a loaded slot is what the slot has; it is damaged if the slot is
-use Rattle.std.proofs.Common.{◌≡◌, ℕ, ◌+◌, ◌<◌, ◌≤◌, false, ◌&&◌, List, [], ◌∷◌, ◌++◌, length, take, drop, min, inl, inr, refl, sym, ap, subst, ◌∙◌, arith}
+--   never_starved             so a damaged slot is not refused for want of memory, if what was loaded isn't
+use Rattle.std.proofs.Common.{◌≡◌, ℕ, ◌+◌, ◌<◌, ◌≤◌, true, false, ◌&&◌, List, [], ◌∷◌, ◌++◌, length, take, drop, min, inl, inr, refl, sym, ap, subst, ◌∙◌, arith}
 use Rattle.std.specs.Prelude.{if◌then◌else◌, Option, Some, None, IfSome}
 use Rattle.std.proofs.lemmas.List.{take_all, length-take, length-take-le}
 use Rattle.std.proofs.Math.Seq.{take-append_seam}
@@ -14,6 +15,8 @@ use Rattle.lc_formats.proofs.CheckpointBack.{too_long}
 use Rattle.lc_session_rules.specs.Slots.{is_empty}
 use Rattle.lc_checkpoint.specs.declared.checkpoint.Checkpoint.{Checkpoint}
 use Rattle.lc_checkpoint.specs.Seen.{point_of}
+use Rattle.lc_slots.specs.declared.reading.LoadRefusal.{LoadRefusal}
+use Rattle.lc_slots.specs.declared.reading.LoadRefusal.TheVariants.{VaultFault}
 use Rattle.lc_slots.specs.declared.reading.Held.{Held}
 use Rattle.lc_slots.specs.declared.reading.Held.TheVariants.{Empty, Refused, Holds}
 use Rattle.lc_slots.specs.Found.{IsRead}
@@ -88,6 +91,10 @@ slot_reads (Some slots) slot old new n h l (e, f) read =
 
 pub loaded_damaged : (told : Option Slots) (slot : Slot) (old new : List ℕ) (n : ℕ) → 4194304 < length old → Loads told slot old new n → IfSome told (λ slots. checkpoint_in (in_slot slot slots) ≡ refused damaged → checkpoint_in (take n new) ≡ refused damaged)
 loaded_damaged None slot old new n l loads = tt
-loaded_damaged (Some slots) slot old new n l (e, f) h = ap checkpoint_in (loaded_front (in_slot slot slots) old new n e f) ∙ same_read (length old) (in_slot slot slots) l ∙ h
+loaded_damaged (Some slots) slot old new n l (e, f) = λ h. ap checkpoint_in (loaded_front (in_slot slot slots) old new n e f) ∙ same_read (length old) (in_slot slot slots) l ∙ h
+
+pub never_starved : (told : Option Slots) (slot : Slot) (old new : List ℕ) (n : ℕ) (e : LoadRefusal) → 4194304 < length old → Loads told slot old new n → (checkpoint_in (take n new) ≡ refused damaged → false ≡ true) → IfSome told (λ slots. checkpoint_in (in_slot slot slots) ≡ refused damaged → e ≡ VaultFault)
+never_starved None slot old new n e l loads never = tt
+never_starved (Some slots) slot old new n e l loads never = λ h. absurd (let f = never (loaded_damaged (Some slots) slot old new n l loads h) in cc)
 
 pub ruleset held_in_laws = (reads_nothing, reads_damaged, reads_version, reads_shape, reads_point)
