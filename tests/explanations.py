@@ -52,7 +52,7 @@ def names():
                 name = foreign_names.name_in(snippet)
                 if name and name not in OURS and not foreign_names.said_of(name):
                     yield f"nothing is said of `{name}`"
-    for name in ("QRCode", "WeightDistribution", "Syndrome", "dual_code", "BKLC", "Z", "Codeword", "CyclicCode"):
+    for name in ("RootsCode", "CoveringRadius", "dual_code", "BKLC", "Z", "Codeword", "CyclicCode"):
         if not foreign_names.said_of(name):
             yield f"nothing is said of `{name}`"
     for name, wanted in (("Dual", "`DualCode(C)`"), ("LinearCode", "`GeneratorMatCode(M, F)`")):
