@@ -10,9 +10,16 @@
 #SBATCH --requeue
 #SBATCH --signal=B:USR1@120
 
+fail() {
+    echo "array.slurm: $1" >&2
+    exit 2
+}
+
+[ $# -ge 1 ] && [ -n "${SLURM_ARRAY_TASK_ID-}" ] || fail 'usage: sbatch --array=1-N tools/cluster/array.slurm LIST [budget=N] [slice=N]'
 list=$1
 shift
 folder=$(sed -n "${SLURM_ARRAY_TASK_ID}p" "$list")
+[ -n "$folder" ] || fail "$list has no line $SLURM_ARRAY_TASK_ID"
 # two minutes before the time limit the session is asked to stop; the next task goes on with it
 trap 'touch "$folder/codes.stop"' USR1
 rm -f "$folder/codes.stop"
