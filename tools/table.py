@@ -88,8 +88,10 @@ def entries(words):
         file = Path(word)
         if file.suffix == ".list":
             yield from of_list(file)
-        else:
+        elif NAME.fullmatch(file.stem):
             yield file.stem, *script_of(file)
+        else:
+            sys.exit(f"{file}: the name of a code has letters, digits and the signs _ . + - alone")
 
 
 # ---- rows ----------------------------------------------------------------------------------------------------------
