@@ -205,20 +205,20 @@ fn a_store_makes_a_new_file_writes_it_syncs_it_and_renames_it(rt: HostRuntime) -
     Ok(())
 }
 
-// Whether a vault keeps these bytes in both slots, and loads them whole and with nothing after them.
-fn keeps_long_slots<V: Vault>(vault: &mut V, bytes: &[u8], buf: &mut [u8]) -> bool {
-    vault.store(Slot::Zero, &bytes[..5000]) == Ok(())
-        && vault.store(Slot::One, bytes) == Ok(())
-        && vault.load(Slot::Zero, buf) == Ok(5000)
-        && buf.starts_with(&bytes[..5000])
-        && vault.load(Slot::One, buf) == Ok(300_000)
-        && buf.starts_with(bytes)
+// Whether a vault keeps these bytes, one piece in each slot, and loads them whole.
+fn keeps_long_slots<V: Vault>(vault: &mut V, zero: &[u8], one: &[u8], buf: &mut [u8]) -> bool {
+    vault.store(Slot::Zero, zero) == Ok(())
+        && vault.store(Slot::One, one) == Ok(())
+        && vault.load(Slot::Zero, buf) == Ok(zero.len())
+        && buf.starts_with(zero)
+        && vault.load(Slot::One, buf) == Ok(one.len())
+        && buf.starts_with(one)
 }
 
-fn are_long(rt: HostRuntime, alloc: Global, bytes: &[u8]) -> Result<bool, NoMemory> {
+fn are_long(rt: HostRuntime, alloc: Global, zero: &[u8], one: &[u8]) -> Result<bool, NoMemory> {
     let mut buf = vec![in alloc; 0u8; 300_001]?;
     let mut vault = FolderVault::new(rt, alloc, "long.slot0", "long.slot1")?;
-    Ok(bytes.len() == 300_000 && keeps_long_slots(&mut vault, bytes, &mut buf))
+    Ok(keeps_long_slots(&mut vault, zero, one, &mut buf))
 }
 
 // So many bytes, none of which repeats a pattern of 4,096.
@@ -232,8 +232,9 @@ fn counted(alloc: Global, count: usize) -> Result<Vec<u8>, NoMemory> {
 
 #[test]
 fn a_folder_vault_keeps_long_slots_whole(rt: HostRuntime) -> Result<(), Fail> {
-    let bytes = counted(rt.alloc(), 300_000)?;
-    assert!(rt; are_long(rt.clone()?, rt.alloc(), &bytes)?);
+    let zero = counted(rt.alloc(), 5000)?;
+    let one = counted(rt.alloc(), 300_000)?;
+    assert!(rt; are_long(rt.clone()?, rt.alloc(), &zero, &one)?);
     fs::remove_file(&rt, "long.slot0")?;
     fs::remove_file(&rt, "long.slot1")?;
     Ok(())
