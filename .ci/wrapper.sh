@@ -300,7 +300,7 @@ block() { awk -v wanted="$1" '/^```/ { inside = /^```sh$/ && ++n == wanted; next
 cluster_recipes() {
     cluster_commands
     (cd "$copy" && PATH=$room/cluster:$PATH && { block 1 && block 2; } | sh -e >"$room/texts" && [ "$(wc -l <folders.txt)" -eq 4 ] &&
-        [ "$(cut -d ' ' -f 1,2 "$room/texts" | sort | tr '\n' ' ')" = 'distance 11 distance 5 distance 7 distance 9 ' ] &&
+        [ "$(cut -d ' ' -f 1,2 "$room/texts" | sort | tr '\n' ' ')" = 'distance 21 distance 27 distance 31 distance 7 ' ] &&
         cat jobs/*/text | cmp - "$room/texts" && rm jobs/*/text && block 3 | sh -e && cat jobs/*/text | cmp - "$room/texts")
 }
 
