@@ -27,8 +27,8 @@ use Rattle.lc_place.proofs.Phases.{blocks_next, blocks_of}
 use Rattle.lc_board.specs.Counting.{least}
 use Rattle.lc_infoset.proofs.BestLaws.{no_blocks}
 use Rattle.lc_search.specs.Work.{block_value}
-use Rattle.lc_search.specs.Crew.{least_over}
-use Rattle.lc_search.proofs.GatherLaws.{under_least}
+use Rattle.lc_crew.specs.Crew.{least_over}
+use Rattle.lc_crew.proofs.GatherLaws.{under_least}
 use Rattle.lc_search.proofs.LevelLaws.{total_is}
 
 pub crossing : (f : ℕ → ℕ) (n x : ℕ) → f 0 ≤ x → x < f n → (p : ℕ) × (p < n) × (f p ≤ x) × (x < f (suc p))

@@ -18,7 +18,7 @@ use Rattle.lc_board.specs.Seats.{Closing}
 use Rattle.lc_infoset.proofs.AnswerLaws.{some_set}
 use Rattle.lc_search.specs.declared.round.RoundFound.{RoundFound}
 use Rattle.lc_search.specs.Work.{block_value}
-use Rattle.lc_search.specs.Crew.{least_over}
+use Rattle.lc_crew.specs.Crew.{least_over}
 use Rattle.lc_search.specs.State.{SearchState, answer_in, whole_plan, after_search_round, IsKept}
 use Rattle.lc_search.specs.Found.{IsFoundIn}
 use Rattle.lc_search.proofs.LevelLaws.{total_is}

@@ -1,5 +1,4 @@
 pub mod Work
-pub mod Crew
 pub mod State
 pub mod Levels
 pub mod Found

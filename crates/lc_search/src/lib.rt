@@ -3,6 +3,7 @@
 #![tactic(auto)]
 
 mod answer;
+mod blocks;
 pub mod laws;
 mod level;
 mod parts;
@@ -10,10 +11,9 @@ mod resume;
 mod round;
 mod search;
 mod watching;
-mod worker;
 
 pub use answer::{Answer, RoundRecord};
+pub use blocks::work;
 pub use resume::ResumeRefusal;
 pub use search::Search;
 pub use watching::tell;
-pub use worker::work;

@@ -1,0 +1,13 @@
+pub mod PatternLaws
+pub mod PhaseLaws
+pub mod PlaceLaws
+pub mod SeenLaws
+pub mod NearLaws
+pub mod NearBest
+pub mod NearAnswers
+pub mod NearCount
+pub mod NearTruth
+pub mod LoopLaws
+pub mod CourseLaws
+pub mod LedLaws
+pub mod ErrorLaws

@@ -1,0 +1,3 @@
+pub mod WorkLaws
+pub mod GatherLaws
+pub mod CrewLaws
