@@ -5,7 +5,7 @@
 --   counts_low                 counts stay small while a block is counted
 --   block_few                  a block has at most 4,096 words of each weight
 --   fresh_room                 a room whose counts are all 0
-use Rattle.std.proofs.Common.{◌≡◌, ℕ, zero, suc, ◌+◌, ◌^◌, ◌<◌, ◌≤◌, ◌==◌, cond, List, [], ◌∷◌, length, take, set, replicate, get_or, slice_get, slice_index, Some, count_by, refl, ap, ◌∙◌, subst, arith}
+use Rattle.std.proofs.Common.{◌≡◌, ℕ, zero, suc, ◌+◌, ◌^◌, ◌<◌, ◌≤◌, ◌==◌, cond, List, [], length, take, set, replicate, get_or, slice_get, slice_index, Some, count_by, refl, ap, ◌∙◌, subst, arith}
 use Rattle.std.proofs.lemmas.Bool.{cases_eq}
 use Rattle.std.proofs.lemmas.Bool.Decides.{nat_tests}
 use Rattle.std.proofs.lemmas.List.{get_or-set_same, get_or-set_other, take_all, length-take, length-replicate}

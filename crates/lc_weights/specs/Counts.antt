@@ -1,7 +1,8 @@
 -- Counts of words by their weights, as workers keep them.
 --   block_count C j b              how many words of weight j block b has, in the plan of the first information set
 --   IsCountedTo ws n before after  each count grew by the number of words of its weight among the first n of these words
---   IsRoomOf C plan room           a room made for counting the words of C by this plan, with a count for each weight from 0 to the length
+--   IsRoomOf C plan room           a room made for counting the words of C by this plan of the first set, with a count for each weight from 0 to
+--                                  the length
 --   words_counted j rooms          how many words of weight j these rooms have counted, together
 --   AreCounts C rooms              the rooms have counted the words of C that the blocks have: each word of C is 0 or one of the multiples of
 --                                  one of them, and of no other

@@ -19,8 +19,8 @@ pub(crate) struct CountRoom {
     pub(crate) counts: Vec<u64>,
 }
 
-/// The blocks of a plan of the first information set of a code. A block adds the numbers of its words of each weight, and has
-/// the value 0.
+/// The blocks of a plan of the first information set of a code. A block adds the numbers of its words of each weight, and
+/// has the value 0.
 #[derive(Clone, Copy)]
 pub(crate) struct CountBlocks<'a> {
     pub(crate) sets: &'a Sets,
@@ -63,7 +63,11 @@ impl<'a> Blocks for CountBlocks<'a> {
 
 /// A room for counting the words of a code, all of whose counts are 0.
 #[tactic(auto, using(crate::proofs::WalkLaws::fresh_room))]
-pub(crate) fn first_room(alloc: Global, sets: &Sets, plan: &Plan) -> Result<CountRoom, lc_field::NoMemory>
+pub(crate) fn first_room(
+    alloc: Global,
+    sets: &Sets,
+    plan: &Plan,
+) -> Result<CountRoom, lc_field::NoMemory>
     requires plan { IsPlanOf plan.now sets.now }
     requires one { plan.now.m ≡ 1 }
     ensures fresh { IfOk result (IsFresh (IsRoomOf sets.now plan.now) (λ room j. slice_index room.counts.items j)) }

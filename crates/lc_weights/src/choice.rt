@@ -14,7 +14,7 @@ use std::thread::Threads;
 // At most so many words are counted.
 const MOST_WORDS: u64 = 1 << 24;
 
-// The greatest power that the distribution is found for from that of the dual.
+// The distribution is found from that of the dual if there are at most so many vectors.
 const MOST_VECTORS: u64 = 1 << 63;
 
 /// A code whose weight distribution isn't computed: its dimension, and that of its dual.
@@ -26,10 +26,11 @@ pub struct DistributionRefusal {
     pub codimension: usize,
 }
 
-/// Whether the weight distribution of a code isn't computed: over q elements, with dimension k and length n, exactly if q^k is
-/// above 2^24 and besides q^(n - k) is above 2^24 or q^n is above 2^63.
+/// Whether the weight distribution of a code isn't computed: over q elements, with dimension k and length n, exactly if q^k
+/// is above 2^24 and besides q^(n - k) is above 2^24 or q^n is above 2^63. It takes no memory.
 pub fn refusal(code: &Code) -> Option<DistributionRefusal>
-    ensures is { option_map refused_sizes result ≡ distribution_refusal (size code.now.field) code.now.columns (length code.now.rows) }
+    ensures is { option_map refused_sizes result
+        ≡ distribution_refusal (size code.now.field) code.now.columns (length code.now.rows) }
 {
     let q = u64::from(code.field().size());
     let n = code.length();
@@ -53,12 +54,12 @@ fn is_refused(many: bool, many_of_dual: bool, large: bool) -> bool
     many && (many_of_dual || large)
 }
 
-/// The weight distribution of a code: how many of its words have weight 0, 1, and so on up to the length. If the code has more
-/// than 2^24 words, those of its dual are counted, and it is found from the distribution of the dual (MacWilliams and Sloane,
-/// chapter 5).
+/// The weight distribution of a code: how many of its words have weight 0, 1, and so on up to the length. If the code has
+/// more than 2^24 words, those of its dual are counted, and it is found from the distribution of the dual (MacWilliams and
+/// Sloane, chapter 5).
 ///
-/// `refusal` doesn't refuse the code. There are 1 to 256 workers, who count beside each other. Refused only if no memory is
-/// left.
+/// `refusal` doesn't refuse the code. There are 1 to 256 workers, who count beside each other. Refused only if no memory
+/// is left.
 pub fn distribution<R: Threads + Sync>(
     rt: &R,
     alloc: Global,

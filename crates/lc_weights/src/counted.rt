@@ -57,8 +57,8 @@ fn numbers(alloc: Global, code: &Code, rooms: &[CountRoom]) -> Result<Vec<u64>, 
     Ok(found)
 }
 
-// How many words of weight j a code has whose words have been counted in these rooms: each word there counts once for each of
-// its nonzero multiples, and the zero word isn't there.
+// How many words of weight j a code has whose words have been counted in these rooms: each word there counts once for each
+// of its nonzero multiples, and the zero word isn't there.
 #[tactic(auto, using(crate::proofs::RoomLaws::counted_few, crate::proofs::RoomLaws::weights_there))]
 fn number_of(code: &Code, rooms: &[CountRoom], j: usize) -> u64
     requires small { size code.now.field ^ length code.now.rows ≤ 2 ^ 24 }

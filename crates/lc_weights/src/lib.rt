@@ -1,9 +1,8 @@
 //! Weight distributions of codes: how many words of each weight a code has (MacWilliams and Sloane, The Theory of
 //! Error-Correcting Codes, chapter 5).
 //!
-//! The words are counted by workers beside each other, block by block of the plan of the first information set, each with
-//! counts of its own; or, if the code has too many words, those of its dual are, and the distribution is found from its
-//! dual's.
+//! Workers beside each other count the words, block by block of the plan of the first information set, each with counts of
+//! its own. If the code has too many words, they count those of its dual, and the distribution is found from its dual's.
 #![tactic(auto)]
 
 mod blocks;

@@ -13,8 +13,8 @@ use lc_place::Plan;
 /// Adds the words of a block to counts of words, one for each weight from 0 to the length: count j grows by the number of
 /// words of weight j in the block, at most 4,096.
 ///
-/// The plan is one of the first of these sets alone, the block is below its total, and the stack was made for these sets. No
-/// count is above 2^53. It takes no memory.
+/// The plan goes through the first of these sets alone, the block is below its total, and the stack was made for these
+/// sets. No count is above 2^53. It takes no memory.
 pub(crate) fn count_block(
     sets: &Sets,
     plan: &Plan,

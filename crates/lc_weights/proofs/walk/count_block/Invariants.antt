@@ -1,4 +1,4 @@
-use Rattle.std.proofs.Common.{◌≡◌, ◌-◌, ◌≤◌}
+use Rattle.std.proofs.Common.{◌-◌}
 use Rattle.lc_enumeration.specs.Search.{block_words}
 use Rattle.lc_kernel.specs.Values.{IsAtOffset}
 use Rattle.lc_weights.specs.Counts.{IsCountedTo}
