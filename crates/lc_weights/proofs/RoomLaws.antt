@@ -80,3 +80,5 @@ counted_few C rooms j h small =
 
 pub weights_there : (C : Matrix) (rooms : List CountRoom) (j : ℕ) → AreCounts C rooms → j ≤ C.columns → All (λ (room : CountRoom). j < length room.counts.items) rooms
 weights_there C rooms j h l = All-weaker (λ (room : CountRoom). length room.counts.items ≡ C.columns + 1) (λ (room : CountRoom). j < length room.counts.items) (λ room e. omega (arith, e, l)) rooms h.long
+
+pub ruleset zero_word_laws = (nothing_counted, zero_power)

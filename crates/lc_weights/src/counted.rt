@@ -33,7 +33,7 @@ pub fn count_words<R: Threads + Sync>(
 }
 
 // The weight distribution of a code of dimension 0.
-#[tactic(auto, using(crate::proofs::RoomLaws::nothing_counted, crate::proofs::RoomLaws::zero_power))]
+#[tactic(auto, using(crate::proofs::RoomLaws::zero_word_laws))]
 fn zero_word_alone(alloc: Global, code: &Code) -> Result<Vec<u64>, NoMemory>
     requires none { length code.now.rows ≡ 0 }
     ensures is { IfOk result (λ a. a.items ≡ distribution_of code.now) }
