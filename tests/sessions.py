@@ -463,6 +463,29 @@ def record_lines(checks, program, budget):
         checks.that((process.returncode, out) == (wanted, text), 'standard error closed: status %d' % process.returncode)
 
 
+def dangling_stop_file(checks, program):
+    """A link codes.stop that leads nowhere is no stop file."""
+    with Folder(program, GOLAY, 1 << 20) as folder:
+        os.symlink('nowhere', folder.stop_file())
+        status, out, _ = folder.session('run', 'keep=yes')
+        checks.that((status, out) == (DONE, b'distance 7 word ' + GOLAY_WORD + b'] blocks 6\n'), 'a link codes.stop to nowhere: status %d' % status)
+
+
+def full_standard_error(checks, program):
+    """After the first record line that can't be written there are no more, and the session goes on."""
+    if calls_of_a_session(program, 'write') is None:
+        return
+    with Folder(program, GOLAY, 1 << 20) as folder, open('/dev/full', 'wb') as full:
+        log = os.path.join(folder.path, 'log')
+        args = [*traced('write', log), program, 'run']
+        process = subprocess.Popen(args, cwd=folder.path, stdin=subprocess.PIPE, stdout=subprocess.PIPE, stderr=full)
+        out, _ = process.communicate(folder.script)
+        with open(log) as lines:
+            tried = sum('write(2,' in line for line in lines)
+        wanted = (DONE, b'distance 7 word ' + GOLAY_WORD + b'] blocks 6\n', 1)
+        checks.that((process.returncode, out, tried) == wanted, 'standard error is full: status %d, %d lines tried' % (process.returncode, tried))
+
+
 def main():
     if not 2 <= len(sys.argv) <= 3:
         sys.exit(__doc__)
@@ -472,7 +495,7 @@ def main():
     parts = [lambda seed=seed: kill_at_random(checks, program, budget, -(-kills // LANES), seed) for seed in range(LANES)]
     for part in (stop_file, slices, changed_slots, full_disk, read_only_folder, faulty_folders, record_lines):
         parts.append(lambda part=part: part(checks, program, budget))
-    for part in (earlier_versions, example, long_checkpoints, links):
+    for part in (earlier_versions, example, long_checkpoints, links, dangling_stop_file, full_standard_error):
         parts.append(lambda part=part: part(checks, program))
     for call, error in FAULTS.items():
         for what in ('signal=KILL', 'error=' + error):
