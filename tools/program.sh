@@ -54,7 +54,7 @@ made_of() { sed -n "s/^$2 //p" "$1/MADE" 2>/dev/null; }
 
 # is_whole FOLDER LEVEL: whether the program of that level is the file whose checksum stands in SHA256SUMS
 is_whole() {
-    made=$(sum_of_input <"$1/codes-$2") && grep -qxF "$made  codes-$2" "$1/SHA256SUMS" 2>/dev/null
+    of_file=$(sum_of_input <"$1/codes-$2") && grep -qxF "$of_file  codes-$2" "$1/SHA256SUMS" 2>/dev/null
 }
 
 # describe FOLDER SOURCES [TREE]: writes MADE and SHA256SUMS for the programs in a folder
