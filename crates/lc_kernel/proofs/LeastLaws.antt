@@ -1,6 +1,6 @@
 -- The least number of a list, one number more at a time, and the least value of some words.
 --   least_none, least_taken, least_kept      no number, and one number more, which is less or isn't
---   rows_more                    numbers that are no less than another, by rows
+--   pairs_none, pairs_more, pairs_same                    numbers that are no less than another, by rows
 --   piece_long                   how long a piece of a list is
 --   piece_taken, piece_kept      the least of the counts up to the end of a piece, which has a lesser one or hasn't
 --   first_after, one_least       the first of the counts that is the least of them, and that there is one
@@ -20,7 +20,7 @@ use Rattle.lc_algebra.specs.Word.{weight}
 use Rattle.lc_algebra.specs.SpanLaws.{restrict}
 use Rattle.lc_algebra.proofs.RemainderLaws.{index-zeros}
 use Rattle.lc_kernel.specs.Values.{IsLeastValue}
-use Rattle.lc_kernel.specs.Least.{IsLeastOr, IsFirstLeast, IsFirstBelow, AreCounted}
+use Rattle.lc_kernel.specs.Least.{IsLeastOr, IsLeastPairOr, IsFirstLeast, IsFirstBelow, AreCounted}
 
 one_more : (i n : ℕ) → i < n + 1 → (i < n) ⊎ (i ≡ n)
 one_more i n l = ⊎_elim (λ a. inl a) (λ a. inr (omega (arith, a, l))) (cases_lt i n)
@@ -42,11 +42,28 @@ least_kept n f bound v h l = record {
 pub least_none : (f : ℕ → ℕ) (bound : ℕ) → IsLeastOr 0 f bound bound
 least_none f bound = record { most = omega arith; low = λ i l. absurd (omega (arith, l)); attained = λ l. absurd (omega (arith, l)) }
 
-pub rows_more : (n T : ℕ) (f : ℕ → ℕ → ℕ) (v w : ℕ) → ((h t : ℕ) → h < n → t < T → v ≤ f h t) → IsLeastOr T (f n) v w → (h t : ℕ) → h < n + 1 → t < T → w ≤ f h t
-rows_more n T f v w low here h t l m = ⊎_elim
-    (λ a. omega (arith, low h t a m, here.most))
-    (λ a. rw a (here.low t m))
-    (one_more h n l)
+pub pairs_none : (m : ℕ) (f : ℕ → ℕ → ℕ) (bound : ℕ) → IsLeastPairOr 0 m f bound bound
+pairs_none m f bound = record { most = omega arith; low = λ i j l. absurd (omega (arith, l)); attained = λ l. absurd (omega (arith, l)) }
+
+pub pairs_more : (n m : ℕ) (f : ℕ → ℕ → ℕ) (bound v w : ℕ) → IsLeastPairOr n m f bound v → IsLeastOr m (f n) v w → IsLeastPairOr (n + 1) m f bound w
+pairs_more n m f bound v w h here = record {
+  most = omega (arith, h.most, here.most);
+  low = λ i j l k. ⊎_elim (λ a. omega (arith, h.low i j a k, here.most)) (λ a. rw a (here.low j k)) (one_more i n l);
+  attained = λ l. ⊎_elim
+      (λ (a : w < v). let t = here.attained a in (n, t.0, omega arith, t.1, t.2))
+      (λ (a : v ≤ w).
+      let same : v ≡ w = omega (arith, a, here.most) in
+      let t = h.attained (omega (arith, same, l)) in
+      (t.0, t.1, omega (arith, t.2), t.3, t.4 ∙ same))
+      (cases_lt w v);
+}
+
+pub pairs_same : (n m k : ℕ) (f g : ℕ → ℕ → ℕ) (bound v : ℕ) → m ≡ k → ((i j : ℕ) → j < k → f i j ≡ g i j) → IsLeastPairOr n m f bound v → IsLeastPairOr n k g bound v
+pairs_same n m k f g bound v e same h = record {
+  most = h.most;
+  low = λ i j l r. omega (arith, h.low i j l (omega (arith, r, e)), same i j r);
+  attained = λ l. let t = h.attained l in let inside : t.1 < k = omega (arith, t.3, e) in (t.0, t.1, t.2, inside, sym (same t.0 t.1 inside) ∙ t.4);
+}
 
 pub least_value : (first : ℕ) (ws : List (List ℕ)) (g : ℕ → ℕ) (level n least at : ℕ) → n ≤ 2 ^ 52 → ((i : ℕ) → i < n → weight (slice_index_or ws i []) ≡ level + g i) → IsFirstLeast n g least at → IsLeastValue first ws n ((level + least) * 2 ^ 52 + (first + at))
 least_value first ws g level n least at few h l = record {

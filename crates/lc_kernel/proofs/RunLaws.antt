@@ -5,7 +5,7 @@
 --   run_word                   the bits of a word of a run: those of its head and of its tail
 --   run_ones                   how many nonzero symbols a word of a run has in a part of the columns
 --   run_at, part_counted, counted_few      the counts of a run after one more part, and their bound
---   block_weight               the weight of a word of a block
+--   block_weight, block_weight_most      the weight of a word of a block
 --   last_message, last_long, next_offset      the last message of a head, how long it is, and the one after it
 --   spot_next                  the spot after a step
 --   index_of_pair, index_of_triple      the index of a spot's last two places, and of its last three
@@ -26,7 +26,7 @@ use Rattle.lc_algebra.proofs.ColumnLaws.{length_restrict}
 use Rattle.lc_algebra.specs.Span.{AreIndependent}
 use Rattle.lc_algebra.specs.Matrix.{Matrix, AreRows}
 use Rattle.lc_enumeration.specs.Message.{Message, messages, supports_from, numbers_from}
-use Rattle.lc_enumeration.specs.Plan.{phase_level, blocks_before, block_length, IsInPhase}
+use Rattle.lc_enumeration.specs.Plan.{phase_level, phase_set, blocks_before, block_length, IsInPhase}
 use Rattle.lc_enumeration.specs.Search.{set_count, word_of, block_words}
 use Rattle.lc_place.specs.Place.{PlanSize, SpotState, spot_message}
 use Rattle.lc_place.proofs.Coefficients.{length-numbers_from}
@@ -42,6 +42,7 @@ use Rattle.lc_kernel.proofs.FrontLaws.{entries_are, generates, front_word_is, fr
 use Rattle.lc_kernel.proofs.PackLaws.{weight_of_word, tail_ones, bits_more, part_more}
 use Rattle.lc_enumeration.proofs.SearchLaws.{few_in_block}
 use Rattle.lc_kernel.proofs.SupportLaws.{tail_pair, pair_at, tail_at, starts_rise, last_tail}
+use Rattle.lc_kernel.proofs.SumLaws.{set_below}
 use Rattle.lc_kernel.proofs.ScanLaws.{block_word, block_long, next_is}
 
 pub support_parts : (s : List ℕ) → 2 ≤ length s → s ≡ take (length s - 2) s ++ slice_index s (length s - 2) ∷ slice_index s (length s - 1) ∷ []
@@ -324,27 +325,57 @@ counted_few C m b from n cols counts few h i l =
     let w = restrict cols (slice_index_or (block_words C m b) (from + i) []) in
     omega (arith, h i l, weight_at_most_length w, length_restrict cols (slice_index_or (block_words C m b) (from + i) []), few)
 
+-- a word of a block as the word of a message
+record IsFrontAt (C : Matrix) (m b n p : ℕ) (t : SpotState) : Type 0 where
+  set : t.set ≡ phase_set m p
+  level : length t.support ≡ phase_level m p
+  message : Contains (messages (length C.rows) (size C.field) (length t.support)) (spot_message t)
+  read : slice_index_or (block_words C m b) n [] ≡ front_word C t (length t.support)
+
+block_front : (C : Matrix) (m p b n : ℕ) → IsInPhase (length C.rows) (size C.field) m p b → n < length (block_words C m b) → (t : SpotState) × IsFrontAt C m b n p t
+block_front C m p b n phase l =
+    let k = length C.rows in
+    let from = 4096 * (b - blocks_before k (size C.field) m p) in
+    let all = messages k (size C.field) (phase_level m p) in
+    let u = slice_index_or all (from + n) (message_of [] []) in
+    let at : slice_get all (from + n) ≡ Some u = slice_get-get_or all (from + n) (message_of [] []) (inside_level C m p b n phase l) in
+    let t : SpotState = record { set = phase_set m p; support = u.support; coefficients = u.coefficients; room = 0 } in
+    let shape = message_shape k (size C.field) (phase_level m p) (from + n) u at in
+    let w = length t.support in
+    let few = few_in_block C m b in
+    let word = block_word C m p b n u phase (omega (arith, l, few)) at in
+    let whole = front_whole (spot_message t) w refl (shape.support.many ∙ sym shape.many) in
+    let word_is : word_of C m p u ≡ front_word C t w = ap (word_of C m p) (sym whole) ∙ front_word_is C m p t w refl in (
+      t,
+      record {
+        set = refl;
+        level = shape.support.many;
+        message = rw shape.support.many (to_contains all (spot_message t) (from + n) at);
+        read = get_or_from_slice_get (block_words C m b) n (word_of C m p u) [] word ∙ word_is;
+      },
+    )
+
 -- the weight of a word of a block: its level, and its symbols outside the basis
 pub block_weight : (C : Matrix) (plan : PlanSize) (p b n : ℕ) (s : SpotState) → IsPlanOf plan C → AreRows C.field C.columns C.rows → AreIndependent C.field C.columns C.rows → s.set < set_count C → IsInPhase (length C.rows) (size C.field) plan.m p b → IsSpotAt C plan.m b 0 s → n < length (block_words C plan.m b) → weight (slice_index_or (block_words C plan.m b) n []) ≡ length s.support + weight (restrict (others C s.set) (slice_index_or (block_words C plan.m b) n []))
 block_weight C plan p b n s h rows free set_is phase spot l =
-    let k = length C.rows in
     let here = spot.of_block p phase in
-    let from = 4096 * (b - blocks_before k (size C.field) plan.m p) in
-    let all = messages k (size C.field) (phase_level plan.m p) in
-    let u = slice_index_or all (from + n) (message_of [] []) in
-    let at : slice_get all (from + n) ≡ Some u = slice_get-get_or all (from + n) (message_of [] []) (inside_level C plan.m p b n phase l) in
-    let t : SpotState = record { set = s.set; support = u.support; coefficients = u.coefficients; room = 0 } in
-    let shape = message_shape k (size C.field) (phase_level plan.m p) (from + n) u at in
+    let found = block_front C plan.m p b n phase l in
+    let t = found.0 in
+    let at = found.1 in
     let w = length t.support in
-    let w_is : w ≡ length s.support = shape.support.many ∙ sym here.level in
-    let message : Contains (messages k (size C.field) w) (spot_message t) = rw shape.support.many (to_contains all (spot_message t) (from + n) at) in
-    let few = few_in_block C plan.m b in
-    let word = block_word C plan.m p b n u phase (omega (arith, l, few)) at in
-    let whole = front_whole (spot_message t) w refl (shape.support.many ∙ sym shape.many) in
-    let word_is : word_of C plan.m p u ≡ front_word C t w = ap (word_of C plan.m p) (sym whole) ∙ front_word_is C plan.m p t w here.set in
-    let read : slice_index_or (block_words C plan.m b) n [] ≡ front_word C t w = get_or_from_slice_get (block_words C plan.m b) n (word_of C plan.m p u) [] word ∙ word_is in
-    let weighs : weight (front_word C t w) ≡ w + weight (restrict (others C t.set) (front_word C t w)) = weight_of_word C t rows free set_is message (omega (arith, w_is, spot.level)) in
-    ap weight read ∙ weighs ∙ ap (λ z. z + weight (restrict (others C s.set) (front_word C t w))) w_is ∙ ap (λ z. length s.support + weight (restrict (others C s.set) z)) (sym read)
+    let same : t.set ≡ s.set = at.set ∙ sym here.set in
+    let level : w ≡ length s.support = at.level ∙ sym here.level in
+    let weighs : weight (front_word C t w) ≡ w + weight (restrict (others C t.set) (front_word C t w)) = weight_of_word C t rows free (omega (arith, same, set_is)) at.message (omega (arith, level, spot.level)) in
+    ap weight at.read ∙ weighs ∙ ap (λ z. z + weight (restrict (others C t.set) (front_word C t w))) level ∙ ap (λ z. length s.support + weight (restrict (others C z) (front_word C t w))) same ∙ ap (λ z. length s.support + weight (restrict (others C s.set) z)) (sym at.read)
+
+-- it is at most the length
+pub block_weight_most : (C : Matrix) (plan : PlanSize) (p b n : ℕ) → IsPlanOf plan C → AreRows C.field C.columns C.rows → AreIndependent C.field C.columns C.rows → IsInPhase (length C.rows) (size C.field) plan.m p b → n < length (block_words C plan.m b) → weight (slice_index_or (block_words C plan.m b) n []) ≤ C.columns
+block_weight_most C plan p b n h rows free phase l =
+    let found = block_front C plan.m p b n phase l in
+    let t = found.0 in
+    let inside = (set_below C plan p t.set h found.1.set).1 in
+    let word = front_word_fits C t (length t.support) (generates C t.set rows free inside) in
+    omega (arith, ap weight found.1.read, weight_at_most_length (front_word C t (length t.support)), word.long)
 
 -- the spot after a step
 pub spot_next : (C : Matrix) (plan : PlanSize) (b n : ℕ) (s t : SpotState) (o : Bool) → IsPlanOf plan C → IsSpotAt C plan.m b n s → n + 1 < length (block_words C plan.m b) → ((i : ℕ) → slice_get (messages plan.k plan.q (length s.support)) i ≡ Some (spot_message s) → slice_get (messages plan.k plan.q (length s.support)) (i + 1) ≡ (if o then Some (spot_message t) else None)) → Contains (messages plan.k plan.q (length t.support)) (spot_message t) → length t.support ≡ length s.support → t.set ≡ s.set → IsSpotAt C plan.m b (n + 1) t

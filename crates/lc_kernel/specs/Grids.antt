@@ -2,14 +2,17 @@
 --   IsGridPart C j cols n columns bits      some columns, and the first n planes there of the negatives of all tails
 --   AreGridParts C j n ps      part b of the list is that for part b of the columns outside the basis of set j
 --   IsGrid C j n tails ps starts      these parts for all such columns, how many tails there are, and the first pair of each row
+--   HasRoom C, LacksRoom C     the squares of the dimension and of the number of nonzero elements have a product of at most 2^18, or a greater one
 --   AreGrids C gs              table j is that of set j
-use Rattle.std.specs.Prelude.{◌≡◌, ℕ, ◌*◌, ◌^◌, ◌≤◌, List, Some, length, slice_get}
+--   AreAllGrids C gs           there is a table for each set if there is room, and else none
+use Rattle.std.specs.Prelude.{◌≡◌, ◌≢◌, ℕ, ◌*◌, ◌^◌, ◌<◌, ◌≤◌, List, Some, length, slice_get}
 use Rattle.lc_algebra.specs.Field.{size}
 use Rattle.lc_algebra.specs.Matrix.{Matrix}
+use Rattle.lc_enumeration.specs.Search.{set_count}
 use Rattle.lc_kernel.specs.declared.grid.Grid.{Grid}
 use Rattle.lc_kernel.specs.declared.grid.GridPart.{GridPart}
 use Rattle.lc_kernel.specs.Packed.{others, part_at, AreStarts}
-use Rattle.lc_kernel.specs.Grid.{tails_in, AreTailPlanes}
+use Rattle.lc_kernel.specs.Grid.{tail_count, tails_in, AreTailPlanes}
 use Rattle.lc_kernel.specs.Fronts.{HasFronts}
 
 pub record IsGridPart (C : Matrix) (j : ℕ) (cols : List ℕ) (n : ℕ) (columns bits : List ℕ) : Type 0 where
@@ -28,6 +31,16 @@ pub record IsGrid (C : Matrix) (j n tails : ℕ) (ps : List GridPart) (starts : 
   pub wide : length (others C j) ≤ 64 * length ps
   pub parts : AreGridParts C j n ps
   pub first : AreStarts (length C.rows) 2 starts
+
+abbrev pub HasRoom : Matrix → Type 0
+HasRoom C = length C.rows * length C.rows * tail_count C ≤ 2 ^ 18
+
+abbrev pub LacksRoom : Matrix → Type 0
+LacksRoom C = 2 ^ 18 < length C.rows * length C.rows * tail_count C
+
+pub record AreAllGrids (C : Matrix) (gs : List Grid) : Type 0 where
+  pub all : size C.field ≢ 2 → HasRoom C → length gs ≡ set_count C
+  pub none : LacksRoom C → length gs ≡ 0
 
 pub record AreGrids (C : Matrix) (gs : List Grid) : Type 0 where
   pub each : (j : ℕ) (g : Grid) → slice_get gs j ≡ Some g → IsGrid C j g.planes g.tails g.parts.items g.starts.items

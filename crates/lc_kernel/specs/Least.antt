@@ -1,8 +1,10 @@
 -- The least of some counts.
 --   IsLeastOr n f bound v       v is the least of the bound and the numbers f 0 to f (n - 1)
+--   IsLeastPairOr n m f bound v    the same for the numbers f i j, for i below n and j below m
 --   IsFirstLeast n f v i        number i is v, all are at least v, and those before it are greater
 --   IsFirstBelow n f bound v i      v is the least of the bound and these numbers, and if it is below the bound, i is the first index that has it
 --   AreCounted cols ws from n counts      the first n counts are the weights, at some columns, of the words from index from on
+--   AreWeights ws n weights        the first n numbers are the weights of the first n of these words
 use Rattle.std.specs.Prelude.{◌≡◌, ℕ, ◌+◌, ◌<◌, ◌≤◌, List, [], slice_index, slice_index_or}
 use Rattle.lc_algebra.specs.Word.{weight}
 use Rattle.lc_algebra.specs.SpanLaws.{restrict}
@@ -11,6 +13,11 @@ pub record IsLeastOr (n : ℕ) (f : ℕ → ℕ) (bound v : ℕ) : Type 0 where
   pub most : v ≤ bound
   pub low : (i : ℕ) → i < n → v ≤ f i
   pub attained : v < bound → (i : ℕ) × (i < n) × (f i ≡ v)
+
+pub record IsLeastPairOr (n m : ℕ) (f : ℕ → ℕ → ℕ) (bound v : ℕ) : Type 0 where
+  pub most : v ≤ bound
+  pub low : (i j : ℕ) → i < n → j < m → v ≤ f i j
+  pub attained : v < bound → (i : ℕ) × (j : ℕ) × (i < n) × (j < m) × (f i j ≡ v)
 
 pub record IsFirstLeast (n : ℕ) (f : ℕ → ℕ) (v i : ℕ) : Type 0 where
   pub inside : i < n
@@ -27,3 +34,6 @@ pub record IsFirstBelow (n : ℕ) (f : ℕ → ℕ) (bound v i : ℕ) : Type 0 w
 
 abbrev pub AreCounted : List ℕ → List (List ℕ) → ℕ → ℕ → List ℕ → Type 0
 AreCounted cols ws from n counts = (i : ℕ) → i < n → slice_index counts i ≡ weight (restrict cols (slice_index_or ws (from + i) []))
+
+abbrev pub AreWeights : List (List ℕ) → ℕ → List ℕ → Type 0
+AreWeights ws n weights = (i : ℕ) → i < n → slice_index weights i ≡ weight (slice_index_or ws i [])

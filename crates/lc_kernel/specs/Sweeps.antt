@@ -1,11 +1,12 @@
 -- The messages with one support, and the words of their first entries.
 --   list_count C w              how many lists of coefficients w places have, the first one 1
+--   TooManyHeads C w            a support of level w has more than 1,024 heads, or at least 4,096 with one coefficient more
 --   listed_spot C j u y         a spot of set j at support u, with list y of coefficients
 --   IsListedAt C m b n j u y    that spot is at message n of block b, in one of the first m sets
 --   head_word C j u i x         the word of the first i places of a support, with list x of i coefficients
 --   IsGrown f d a rows heads new e      head e of one place more: the sum of a head and a multiple of row a
 --   AreHeads C j u n i heads    the n planes of these words, list by list, at the first part of the columns outside the basis
-use Rattle.std.specs.Prelude.{◌≡◌, ℕ, ◌+◌, ◌-◌, ◌*◌, ◌/◌, ◌%◌, ◌^◌, ◌<◌, ◌≤◌, List, [], length, slice_index, slice_index_or, Contains}
+use Rattle.std.specs.Prelude.{◌≡◌, ◌⊎◌, ℕ, ◌+◌, ◌-◌, ◌*◌, ◌/◌, ◌%◌, ◌^◌, ◌<◌, ◌≤◌, List, [], length, slice_index, slice_index_or, Contains}
 use Rattle.lc_algebra.specs.declared.FieldName.{FieldName}
 use Rattle.lc_algebra.specs.Field.{size}
 use Rattle.lc_algebra.specs.Matrix.{Matrix}
@@ -18,6 +19,9 @@ use Rattle.lc_kernel.specs.Sums.{front_word}
 
 abbrev pub list_count : Matrix → ℕ → ℕ
 list_count C w = (size C.field - 1) ^ (w - 1)
+
+abbrev pub TooManyHeads : Matrix → ℕ → Type 0
+TooManyHeads C w = (1024 < list_count C (w - 2)) ⊎ (4096 ≤ list_count C (w - 2) * (size C.field - 1))
 
 abbrev pub listed_spot : Matrix → ℕ → List ℕ → ℕ → SpotState
 listed_spot C j u y = record { set = j; support = u; coefficients = slice_index_or (leading_lists (size C.field) (length u)) y []; room = 0 }

@@ -1,6 +1,6 @@
 //! The table of an information set over more than 2 elements: the words that end messages, as bits.
 
-ghost use Rattle.std.specs.Prelude.{◌≡◌, ℕ, ◌+◌, ◌-◌, ◌*◌, ◌^◌, ◌<◌, ◌≤◌, ◌∷◌, [], Some, length, slice_get, slice_index, slice_index_or, IfOk};
+ghost use Rattle.std.specs.Prelude.{◌≡◌, ℕ, ◌+◌, ◌-◌, ◌*◌, ◌^◌, ◌<◌, ◌≤◌, ◌∷◌, [], Some, None, true, false, length, slice_get, slice_index, slice_index_or, IfOk};
 ghost use Rattle.lc_algebra.specs.Field.{size};
 ghost use Rattle.lc_algebra.specs.Word.{IsWord};
 ghost use Rattle.lc_enumeration.specs.Message.{supports_from};
@@ -9,7 +9,7 @@ ghost use Rattle.lc_kernel.specs.Packed.{others, part_at, EndsAt};
 ghost use Rattle.lc_kernel.specs.Planes.{plane_at};
 ghost use Rattle.lc_kernel.specs.Sums.{AreMultiples};
 ghost use Rattle.lc_kernel.specs.Grid.{tail_count, tail_word, tails_in, negative, AreTails, ArePlanesOf};
-ghost use Rattle.lc_kernel.specs.Grids.{AreGridParts, IsGrid};
+ghost use Rattle.lc_kernel.specs.Grids.{HasRoom, LacksRoom, AreGridParts, IsGrid};
 ghost use Rattle.lc_kernel.specs.Fronts.{AreRowPlanes, HasFronts};
 
 use crate::fronts::row_planes;
@@ -139,6 +139,7 @@ fn all_tails(
     requires multiples { AreMultiples sets.now multiples.now }
     requires set { j < set_count sets.now }
     ensures are { IfOk result (λ ws. AreTails sets.now j (tails_in sets.now) ws.items) }
+    ensures few { IfOk result (λ ws. length ws.items ≤ length sets.now.rows * length sets.now.rows * tail_count sets.now) }
 {
     let _n = sets.length();
     let k = sets.dimension();
@@ -254,7 +255,22 @@ fn plane_count(sets: &Sets) -> usize
     4
 }
 
-/// The table of set `j`, if there aren't too many tails.
+// Whether there is room for the tails of a set.
+fn has_room(sets: &Sets) -> bool
+    ensures yes { result ≡ true → HasRoom sets.now }
+    ensures no { result ≡ false → LacksRoom sets.now }
+{
+    let _n = sets.length();
+    let k = sets.dimension();
+    let elements = nonzero(sets);
+    if k * k * (elements * elements) > MOST {
+        return false;
+    }
+    true
+}
+
+/// The table of set `j`. None exactly if the squares of the dimension and of the number of nonzero elements have a
+/// product above `MOST`, so that there may be too many tails.
 #[tactic(auto, using(crate::proofs::FrontPlanes::fronts_made))]
 pub(crate) fn grid_of(
     alloc: Global,
@@ -266,19 +282,16 @@ pub(crate) fn grid_of(
     requires set { j < set_count sets.now }
     ensures is { IfOk result (λ o. (g : _) → o ≡ Some g → IsGrid sets.now j g.planes g.tails g.parts.items g.starts.items) }
     ensures fronts { IfOk result (λ o. (g : _) → o ≡ Some g → HasFronts sets.now j g.planes (length g.parts.items) g.rows.items) }
+    ensures some { IfOk result (λ o. (g : _) → o ≡ Some g → HasRoom sets.now) }
+    ensures none { IfOk result (λ o. o ≡ None → LacksRoom sets.now) }
 {
     let _n = sets.length();
-    let k = sets.dimension();
-    let elements = nonzero(sets);
-    if k * k * elements * elements > MOST {
+    if !has_room(sets) {
         return Ok(None);
     }
-    let starts = pair_starts(alloc, k)?;
+    let starts = pair_starts(alloc, sets.dimension())?;
     let words = all_tails(alloc, sets, multiples, j)?;
     let tails = words.len();
-    if tails > MOST {
-        return Ok(None);
-    }
     let planes = plane_count(sets);
     let parts = parts_of(alloc, sets, j, &words, planes)?;
     let rows = rows_of(alloc, sets, multiples, j, &parts, planes)?;

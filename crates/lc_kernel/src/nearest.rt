@@ -1,8 +1,8 @@
 //! Which of some words differs from another at the fewest symbols.
 
-ghost use Rattle.std.specs.Prelude.{◌≡◌, ◌≢◌, ℕ, ◌+◌, ◌*◌, ◌/◌, ◌%◌, ◌^◌, ◌<◌, ◌≤◌, [], true, length, slice_index, slice_index_or, bit_or, bit_xor, count_ones};
-ghost use Rattle.lc_kernel.specs.Halves.{AreHalves, tail_apart, symbols_apart};
-ghost use Rattle.lc_kernel.specs.Least.{IsLeastOr, IsFirstBelow};
+ghost use Rattle.std.specs.Prelude.{◌≡◌, ◌≢◌, ℕ, ◌+◌, ◌-◌, ◌*◌, ◌/◌, ◌%◌, ◌^◌, ◌<◌, ◌≤◌, min, [], true, length, slice_index, slice_index_or, bit_or, bit_xor, count_ones};
+ghost use Rattle.lc_kernel.specs.Halves.{AreHalves, AreWholeHeads, group_size, tail_apart, symbols_apart};
+ghost use Rattle.lc_kernel.specs.Least.{IsLeastOr, IsLeastPairOr, IsFirstBelow};
 
 use crate::counts::least_count;
 use crate::planes::add_apart;
@@ -81,11 +81,11 @@ fn row_four(
     least
 }
 
-// A number that is no more than the number of symbols at which any of some heads differs from any of some words, their
-// tails, by two planes. It is the bound or less.
+// The least of a bound and of the numbers of symbols at which some heads differ from some words, their tails, by two
+// planes.
 fn rows_two(ones: &[u64], twos: &[u64], heads: &[[u64; 4]], bound: u32) -> u32
     requires twos { length twos.now ≡ length ones.now }
-    ensures low { (h t : ℕ) → h < length heads.now → t < length ones.now → result ≤ count_ones (bit_or (bit_xor (slice_index (slice_index_or heads.now h []) 1) (slice_index twos.now t)) (bit_xor (slice_index (slice_index_or heads.now h []) 0) (slice_index ones.now t))) }
+    ensures is { IsLeastPairOr (length heads.now) (length ones.now) (λ h t. count_ones (bit_or (bit_xor (slice_index (slice_index_or heads.now h []) 1) (slice_index twos.now t)) (bit_xor (slice_index (slice_index_or heads.now h []) 0) (slice_index ones.now t)))) bound result }
 {
     let mut least = bound;
     for row in 0..heads.len() {
@@ -99,7 +99,7 @@ fn rows_two(ones: &[u64], twos: &[u64], heads: &[[u64; 4]], bound: u32) -> u32
 fn rows_three(ones: &[u64], twos: &[u64], fours: &[u64], heads: &[[u64; 4]], bound: u32) -> u32
     requires twos { length twos.now ≡ length ones.now }
     requires fours { length fours.now ≡ length ones.now }
-    ensures low { (h t : ℕ) → h < length heads.now → t < length ones.now → result ≤ count_ones (bit_or (bit_xor (slice_index (slice_index_or heads.now h []) 2) (slice_index fours.now t)) (bit_or (bit_xor (slice_index (slice_index_or heads.now h []) 1) (slice_index twos.now t)) (bit_xor (slice_index (slice_index_or heads.now h []) 0) (slice_index ones.now t)))) }
+    ensures is { IsLeastPairOr (length heads.now) (length ones.now) (λ h t. count_ones (bit_or (bit_xor (slice_index (slice_index_or heads.now h []) 2) (slice_index fours.now t)) (bit_or (bit_xor (slice_index (slice_index_or heads.now h []) 1) (slice_index twos.now t)) (bit_xor (slice_index (slice_index_or heads.now h []) 0) (slice_index ones.now t))))) bound result }
 {
     let mut least = bound;
     for row in 0..heads.len() {
@@ -121,7 +121,7 @@ fn rows_four(
     requires twos { length twos.now ≡ length ones.now }
     requires fours { length fours.now ≡ length ones.now }
     requires eights { length eights.now ≡ length ones.now }
-    ensures low { (h t : ℕ) → h < length heads.now → t < length ones.now → result ≤ count_ones (bit_or (bit_xor (slice_index (slice_index_or heads.now h []) 3) (slice_index eights.now t)) (bit_or (bit_xor (slice_index (slice_index_or heads.now h []) 2) (slice_index fours.now t)) (bit_or (bit_xor (slice_index (slice_index_or heads.now h []) 1) (slice_index twos.now t)) (bit_xor (slice_index (slice_index_or heads.now h []) 0) (slice_index ones.now t))))) }
+    ensures is { IsLeastPairOr (length heads.now) (length ones.now) (λ h t. count_ones (bit_or (bit_xor (slice_index (slice_index_or heads.now h []) 3) (slice_index eights.now t)) (bit_or (bit_xor (slice_index (slice_index_or heads.now h []) 2) (slice_index fours.now t)) (bit_or (bit_xor (slice_index (slice_index_or heads.now h []) 1) (slice_index twos.now t)) (bit_xor (slice_index (slice_index_or heads.now h []) 0) (slice_index ones.now t)))))) bound result }
 {
     let mut least = bound;
     for row in 0..heads.len() {
@@ -133,7 +133,7 @@ fn rows_four(
 // The same for the tails of some words, by all planes.
 fn rows_apart(halves: &Halves<'_>, heads: &[[u64; 4]], bound: u32) -> u32
     requires halves { AreHalves halves.now }
-    ensures low { (h t : ℕ) → h < length heads.now → t < halves.now.tails → result ≤ tail_apart halves.now (slice_index_or heads.now h []) t }
+    ensures is { IsLeastPairOr (length heads.now) halves.now.tails (λ h t. tail_apart halves.now (slice_index_or heads.now h []) t) bound result }
 {
     let Halves {
         planes,
@@ -177,12 +177,14 @@ fn heads_of(first: usize, many: usize, tails: usize, heads: usize) -> (usize, us
     (from, to)
 }
 
-// Whether the heads of some words are found to differ from their tails at no fewer symbols than a bound: if they are
-// all words of some heads.
+// Whether some words are all words of some heads, and the head of none of them differs from its tail at fewer symbols
+// than a bound.
 fn are_beyond(halves: &Halves<'_>, first: usize, many: usize, bound: u32) -> bool
     requires halves { AreHalves halves.now }
     requires inside { first + many ≤ length halves.now.heads.now * halves.now.tails }
     ensures low { result ≡ true → (i : ℕ) → i < many → bound ≤ symbols_apart halves.now (first + i) }
+    ensures all { AreWholeHeads halves.now first many → ((i : ℕ) → i < many → bound ≤ symbols_apart halves.now (first + i)) → result ≡ true }
+    ensures whole { result ≡ true → AreWholeHeads halves.now first many }
 {
     let tails = halves.tails;
     let heads = halves.heads;
@@ -301,8 +303,10 @@ fn nearest_in(halves: &Halves<'_>, first: usize, bound: u32, counts: &mut [u32])
 
 // How many words are looked at together, of heads with so many tails each: some 100 to 200, of 8 heads at most.
 #[inline]
+#[tactic(auto, using(crate::proofs::GroupLaws::group_laws))]
 fn together(tails: usize) -> usize
     requires few { tails ≤ 2 ^ 18 }
+    ensures is { result ≡ group_size tails }
     ensures least { tails ≤ result }
 {
     let two = tails + tails;
@@ -318,12 +322,17 @@ fn together(tails: usize) -> usize
 
 // How many of the words that are left are looked at together, from a tail of a head on: the rest of the head, or some
 // whole heads, or all words if these are less than a head's.
+#[tactic(auto, using(crate::proofs::GroupLaws::part_laws))]
 fn part_len(tail: usize, tails: usize, left: usize) -> usize
     requires tail { tail < tails }
     requires few { tails ≤ 2 ^ 18 }
     requires some { 0 < left }
     ensures some { 0 < result }
     ensures within { result ≤ left }
+    ensures rest { 0 < tail → result ≡ min (tails - tail) left }
+    ensures group { tail ≡ 0 → group_size tails ≤ left → result ≡ group_size tails }
+    ensures whole { tail ≡ 0 → left < group_size tails → tails ≤ left → result ≡ left - left % tails }
+    ensures short { tail ≡ 0 → left < tails → result ≡ left }
 {
     if tail > 0 {
         return (tails - tail).min(left);

@@ -206,8 +206,9 @@ fn one_run(
     count
 }
 
-// Counts the words of a block of a level that has tails, from its first message on.
-fn count_block(
+/// Counts the nonzero symbols, outside the basis, of the words of a block of a level that has tails, from its first
+/// message on.
+pub(crate) fn count_block(
     sets: &Sets,
     plan: &Plan,
     block: u64,

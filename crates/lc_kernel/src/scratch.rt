@@ -3,9 +3,10 @@
 ghost use Rattle.std.specs.Prelude.{◌≡◌, ℕ, [], length, IfOk};
 ghost use Rattle.std.specs.Arc.{arc_value};
 ghost use Rattle.lc_algebra.specs.declared.FieldName.TheVariants.{Gf2};
-ghost use Rattle.lc_kernel.specs.Tables.{AreTables};
-ghost use Rattle.lc_kernel.specs.Grids.{AreGrids};
+ghost use Rattle.lc_kernel.specs.Tables.{AreTables, AreAllTables};
+ghost use Rattle.lc_kernel.specs.Grids.{HasRoom, AreGrids, AreAllGrids};
 ghost use Rattle.lc_kernel.specs.Sums.{AreMultiples};
+ghost use Rattle.lc_enumeration.specs.Search.{set_count};
 
 use crate::grid::{Grid, grid_of};
 use crate::stack::{Stack, zeros};
@@ -28,7 +29,7 @@ pub struct Scratch {
     pub(crate) stack: Stack,
     // over 2 elements the tables of the sets; none over other fields
     pub(crate) tables: Arc<Vec<Table>>,
-    // over more than 2 elements the tables of the first sets, of all as a rule; none over 2 elements
+    // over more than 2 elements the tables of the sets, if there is room for them; none over 2 elements
     pub(crate) grids: Arc<Vec<Grid>>,
     pub(crate) spot: Spot,
     // the zero word, and then the sums of the entries of a message but the last two
@@ -45,15 +46,15 @@ impl Model for Scratch {
     ghost use Rattle.std.specs.Prelude.{◌≡◌, ◌+◌, length};
     ghost use Rattle.std.specs.Arc.{arc_value};
     ghost use Rattle.lc_algebra.specs.Matrix.{Matrix};
-    ghost use Rattle.lc_kernel.specs.Tables.{AreTables};
-    ghost use Rattle.lc_kernel.specs.Grids.{AreGrids};
+    ghost use Rattle.lc_kernel.specs.Tables.{AreTables, AreAllTables};
+    ghost use Rattle.lc_kernel.specs.Grids.{AreGrids, AreAllGrids};
     ghost use Rattle.lc_kernel.specs.Sums.{IsRoom};
 
     ghost Value = { Matrix };
 
     ghost view = { λ s. s.stack.code };
 
-    ghost invariant = { λ s. AreTables s.stack.code (arc_value s.tables).items × AreGrids s.stack.code (arc_value s.grids).items × IsRoom s.stack.code s.spot s.heads.items × (length s.fronts.items ≡ length s.stack.code.rows + 1) × (length s.places.items ≡ length s.stack.code.rows) × (length s.tops.items ≡ 1024) × (length s.counts.items ≡ 4096) };
+    ghost invariant = { λ s. AreTables s.stack.code (arc_value s.tables).items × AreGrids s.stack.code (arc_value s.grids).items × IsRoom s.stack.code s.spot s.heads.items × (length s.fronts.items ≡ length s.stack.code.rows + 1) × (length s.places.items ≡ length s.stack.code.rows) × (length s.tops.items ≡ 1024) × (length s.counts.items ≡ 4096) × AreAllTables s.stack.code (arc_value s.tables).items × AreAllGrids s.stack.code (arc_value s.grids).items };
 }
 
 impl Scratch {
@@ -94,6 +95,8 @@ impl Scratch {
     ) -> Result<Scratch, NoMemory>
         requires tables { AreTables stack.code (arc_value tables).items }
         requires grids { AreGrids stack.code (arc_value grids).items }
+        requires all_tables { AreAllTables stack.code (arc_value tables).items }
+        requires all_grids { AreAllGrids stack.code (arc_value grids).items }
         ensures code { IfOk result (λ s. s ≡ stack.code) }
     {
         let k = stack.dimension();
@@ -120,9 +123,10 @@ impl Scratch {
 }
 
 // The tables of the sets, over 2 elements.
-#[tactic(auto, using(crate::proofs::TableLaws::tables_of_laws))]
+#[tactic(auto, using(crate::proofs::GroupLaws::all_tables_laws))]
 fn tables_of(alloc: Global, sets: &Sets) -> Result<Vec<Table>, NoMemory>
     ensures are { IfOk result (λ ts. AreTables sets.now ts.items) }
+    ensures all { IfOk result (λ ts. AreAllTables sets.now ts.items) }
 {
     let mut tables = Vec::new(alloc);
     if sets.field().size() == 2 {
@@ -137,6 +141,7 @@ fn push_tables(alloc: Global, sets: &Sets, tables: &mut Vec<Table>) -> Result<()
     requires field { sets.now.field ≡ Gf2 }
     requires none { tables.old.items ≡ [] }
     ensures are { IfOk result (λ _. AreTables sets.now tables.new.items) }
+    ensures all { IfOk result (λ _. length tables.new.items ≡ set_count sets.now) }
 {
     for j in 0..sets.count() {
         tables.push(table_of(alloc, sets, j)?)?;
@@ -145,10 +150,11 @@ fn push_tables(alloc: Global, sets: &Sets, tables: &mut Vec<Table>) -> Result<()
 }
 
 // The tables of the sets, over more than 2 elements.
-#[tactic(auto, using(crate::proofs::TableLaws::no_grids))]
+#[tactic(auto, using(crate::proofs::GroupLaws::grids_of_laws))]
 fn grids_of(alloc: Global, sets: &Sets, multiples: &[Word]) -> Result<Vec<Grid>, NoMemory>
     requires multiples { AreMultiples sets.now multiples.now }
     ensures are { IfOk result (λ gs. AreGrids sets.now gs.items) }
+    ensures all { IfOk result (λ gs. AreAllGrids sets.now gs.items) }
 {
     let mut grids = Vec::new(alloc);
     if sets.field().size() != 2 {
@@ -157,8 +163,8 @@ fn grids_of(alloc: Global, sets: &Sets, multiples: &[Word]) -> Result<Vec<Grid>,
     Ok(grids)
 }
 
-// Pushes the tables of the sets up to the first that has none.
-#[tactic(auto, using(crate::proofs::TableLaws::no_grids))]
+// Pushes the tables of the sets, if there is room for them.
+#[tactic(auto, using(crate::proofs::GroupLaws::push_grids_laws))]
 fn push_grids(
     alloc: Global,
     sets: &Sets,
@@ -168,6 +174,7 @@ fn push_grids(
     requires multiples { AreMultiples sets.now multiples.now }
     requires none { grids.old.items ≡ [] }
     ensures are { IfOk result (λ _. AreGrids sets.now grids.new.items) }
+    ensures all { IfOk result (λ _. AreAllGrids sets.now grids.new.items) }
 {
     for j in 0..sets.count() {
         let Some(grid) = grid_of(alloc, sets, multiples, j)? else {

@@ -17,7 +17,7 @@ ghost use Rattle.lc_kernel.specs.Grid.{tail_count};
 ghost use Rattle.lc_kernel.specs.Grids.{IsGrid};
 ghost use Rattle.lc_kernel.specs.Fronts.{IsKept};
 ghost use Rattle.lc_kernel.specs.Least.{IsFirstBelow};
-ghost use Rattle.lc_kernel.specs.Sweeps.{list_count, IsListedAt, AreHeads};
+ghost use Rattle.lc_kernel.specs.Sweeps.{list_count, IsListedAt, AreHeads, TooManyHeads};
 
 use crate::adders::sum_planes;
 use crate::grid::Grid;
@@ -32,11 +32,15 @@ pub(crate) const MOST_HEADS: usize = 1024;
 /// So many heads, times the nonzero elements, are too many: most of them would be made for the words of other blocks.
 const TOO_MANY: usize = 4096;
 
-/// How many heads a support of a level of at least 3 has, if there aren't too many.
+/// How many heads a support of a level of at least 3 has. None exactly if there are too many: more than 1,024, or 4,096
+/// or more with one coefficient more.
+#[tactic(auto, using(crate::proofs::GroupLaws::heads_below))]
 pub(crate) fn head_count(sets: &Sets, level: usize) -> Option<usize>
     requires level { 3 ≤ level }
     ensures is { IfSome result (λ many. many ≡ list_count sets.now (level - 2)) }
     ensures few { IfSome result (λ many. many ≤ 1024) }
+    ensures under { IfSome result (λ many. many * (size sets.now.field - 1) < 4096) }
+    ensures none { IfNone result (TooManyHeads sets.now level) }
 {
     let elements = nonzero(sets);
     let mut many = 1;

@@ -5,7 +5,7 @@ ghost use Rattle.lc_algebra.specs.declared.FieldName.TheVariants.{Gf2};
 ghost use Rattle.lc_enumeration.specs.InformationSet.{is_member};
 ghost use Rattle.lc_enumeration.specs.Search.{set_count};
 ghost use Rattle.lc_kernel.specs.Packed.{outside, others, AreStarts};
-ghost use Rattle.lc_kernel.specs.Tables.{AreParts, IsTable};
+ghost use Rattle.lc_kernel.specs.Tables.{AreParts, IsTable, sum_estimate};
 
 use crate::parts::{Part, pair_starts, part_of, tail_starts};
 use lc_field::NoMemory;
@@ -49,6 +49,8 @@ pub(crate) fn table_of(alloc: Global, sets: &Sets, j: usize) -> Result<Table, No
 fn tail_places(sets: &Sets) -> usize
     ensures least { 2 ≤ result }
     ensures most { result ≤ 3 }
+    ensures few { sum_estimate sets.now ≤ 90000 → result ≡ 3 }
+    ensures many { 90000 < sum_estimate sets.now → result ≡ 2 }
 {
     let k = sets.dimension();
     let parts = (sets.length() - k) / 64 + 1;

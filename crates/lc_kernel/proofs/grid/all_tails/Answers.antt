@@ -2,6 +2,7 @@ use Rattle.std.proofs.Common.{◌≡◌, ◌+◌, ◌-◌, ◌*◌, length, subs
 use Rattle.lc_kernel.specs.Packed.{EndsAt}
 use Rattle.lc_kernel.specs.Grid.{tail_count, AreTails}
 use Rattle.lc_kernel.proofs.SupportLaws.{ends_next, ends_all}
+use Rattle.lc_kernel.proofs.TailCounts.{tails_few}
 use Rattle.lc_kernel.proofs.grid.all_tails.Goals as goal
 
 pub loop-a-preserved : goal.loop-a-preserved
@@ -21,4 +22,5 @@ returns c =
     let C = c.args.sets.now in
     let all : c.loop-a.a ≡ length C.rows = omega (arith, c.loop-a-test.false, c.loop-a.auto.a-end, c.dimension-k.ensures.is) in
     let ends = subst (λ z. EndsAt (length C.rows) 2 z c.loop-a.pair) all c.loop-a.invariant.ends in
-    record { are = subst (λ z. AreTails C c.args.j (z * tail_count C) c.loop-a.words.items) (ends_all (length C.rows) 1 c.loop-a.pair ends) c.loop-a.invariant.tails }
+    let tails = subst (λ z. AreTails C c.args.j (z * tail_count C) c.loop-a.words.items) (ends_all (length C.rows) 1 c.loop-a.pair ends) c.loop-a.invariant.tails in
+    record { are = tails; few = tails_few C c.args.j c.loop-a.words.items tails }

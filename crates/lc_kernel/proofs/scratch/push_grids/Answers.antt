@@ -16,4 +16,5 @@ loop-j-preserved c =
         each = all_pushed (λ j (x : Grid). IsGrid C j x.planes x.tails x.parts.items x.starts.items) gs c.push.new.self.items g c.loop-j.invariant.are.each (rw c.loop-j.invariant.many (c.in_ok-grid.ensures.is g c.in-Some.is)) c.in_ok-push.ensures.items;
         fronts = all_pushed (λ j (x : Grid). HasFronts C j x.planes (length x.parts.items) x.rows.items) gs c.push.new.self.items g c.loop-j.invariant.are.fronts (rw c.loop-j.invariant.many (c.in_ok-grid.ensures.fronts g c.in-Some.is)) c.in_ok-push.ensures.items;
       };
+      room = λ _. c.in_ok-grid.ensures.some g c.in-Some.is;
     }

@@ -19,4 +19,6 @@ invariant_of-result c =
       places,
       tops,
       counts,
+      c.requires.all_tables,
+      c.requires.all_grids,
     )
