@@ -1,6 +1,7 @@
 -- What is left of x by the word of a pattern: one combination of one more row.
 --   coset_word_combined        the word of a pattern, as a combination over the set's generator matrix
 --   first_left C x j           what is left of x by the word that equals it on the basis of set j
+--   left_is                    it is a word of the code's length
 --   left_of_difference         x less (a less v) is what a leaves of x, plus v
 --   error_is                   what the word of a pattern leaves of x: the first rest plus the pattern's combination
 --   error_led                  so it is the combination of the led pattern over the first rest and the generator matrix
@@ -72,7 +73,7 @@ error_is C x j pattern g is inside vector =
     ∙ left_of_difference f n x a v is (combine_is_word f n u rows s.words) (combine_is_word f n (vector_of k pattern) rows s.words)
     ∙ ap (λ c. word_sum f (difference f x c) v) (sym first)
 
-left_is : (C : Matrix) (x : List ℕ) (j : ℕ) → AreGenerators C → IsWord C.field C.columns x → j < set_count C → IsWord C.field C.columns (first_left C x j)
+pub left_is : (C : Matrix) (x : List ℕ) (j : ℕ) → AreGenerators C → IsWord C.field C.columns x → j < set_count C → IsWord C.field C.columns (first_left C x j)
 left_is C x j g is inside =
     let f = C.field in
     let n = C.columns in

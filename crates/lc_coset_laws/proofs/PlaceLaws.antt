@@ -3,6 +3,7 @@
 --   word_of_pattern C x p pattern       the word of a pattern in a phase
 --   IsNearAt C x place w       w is the word at the place
 --   words_are, words_in_phase  the words of a block, in its phase
+--   block_patterns C p b, block_pattern      the patterns of a block, and the one at an index
 --   near_at_place              the word at a place, from the words of its block
 --   PatternPlace, pattern_place      the place of a pattern, in a phase that isn't cut
 --   few_in_block               a block has at most 4,096 words
@@ -48,7 +49,7 @@ word_of_pattern C x p pattern = coset_word C x (coset_set (set_count C) p) patte
 abbrev pub IsNearAt : Matrix → List ℕ → ℕ → List ℕ → Type 0
 IsNearAt C x place w = coset_word_at C x place ≡ Some w
 
-abbrev block_patterns : Matrix → ℕ → ℕ → List Message
+abbrev pub block_patterns : Matrix → ℕ → ℕ → List Message
 block_patterns C p b = coset_patterns (length C.rows) (size C.field) (set_count C) p b
 
 abbrev phase_words : Matrix → List ℕ → ℕ → Option ℕ → List (List ℕ)
@@ -76,7 +77,7 @@ get-take [] (suc n) t l = refl
 get-take (x ∷ xs) (suc n) zero l = refl
 get-take (x ∷ xs) (suc n) (suc t) l = get-take xs n t (omega (arith, l))
 
-block_pattern : (C : Matrix) (p b t : ℕ) → t < 4096 → slice_get (block_patterns C p b) t ≡ slice_get (patterns_of C p) (4096 * (b - before_of C p) + t)
+pub block_pattern : (C : Matrix) (p b t : ℕ) → t < 4096 → slice_get (block_patterns C p b) t ≡ slice_get (patterns_of C p) (4096 * (b - before_of C p) + t)
 unfolding coset_patterns
 block_pattern C p b t l = get-take (drop (4096 * (b - before_of C p)) (patterns_of C p)) 4096 t l ∙ get-drop (patterns_of C p) (4096 * (b - before_of C p)) t
 

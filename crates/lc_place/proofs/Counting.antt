@@ -3,6 +3,7 @@
 --   capped_sum, capped_product      a capped sum or product of capped numbers is that of the numbers
 --   table_more                 a table with one more entry
 --   choose_sum, power_next, count_is, start_next      the entries of the tables, from those before
+--   led_is                     the number of messages that begin at place 0
 --   blocks_in_level            the blocks before a phase, from those before its level
 --   blocks_of_level            the blocks before the next level
 use Rattle.std.proofs.Common.{◌≡◌, ℕ, zero, suc, ◌+◌, ◌-◌, ◌*◌, ◌/◌, ◌%◌, ◌^◌, ◌<◌, ◌≤◌, ◌≢◌, min, List, [], ◌∷◌, ◌++◌, refl, ap, sym, ◌∙◌, arith, inl, inr}
@@ -117,6 +118,13 @@ count_is k q e a b l m c d =
     let column : (k * 256 + (e + 1)) % 256 ≡ e + 1 = omega arith in
     let c' : a ≡ min (choose k (e + 1)) (2 ^ 53) = rw (row, column) at c in
     rw (c', d) (capped_product (choose k (e + 1)) ((q - 1) ^ e) ∙ ap (λ x. min x (2 ^ 53)) (sym (count_up k q e)))
+
+pub led_is : (k q e a b : ℕ) → 1 ≤ k → k ≤ 255 → e < k → a ≡ choose_entry ((k - 1) * 256 + e) → b ≡ power_entry q e → min (min (a * b) (2 ^ 64 - 1)) 9007199254740992 ≡ min (choose (k - 1) e * (q - 1) ^ e) (2 ^ 53)
+led_is k q e a b some l m c d =
+    let row : ((k - 1) * 256 + e) / 256 ≡ k - 1 = omega arith in
+    let column : ((k - 1) * 256 + e) % 256 ≡ e = omega arith in
+    let c' : a ≡ min (choose (k - 1) e) (2 ^ 53) = rw (row, column) at c in
+    rw (c', d) (capped_product (choose (k - 1) e) ((q - 1) ^ e))
 
 pub level_is : (k q e : ℕ) → level_blocks k q (e + 1) ≡ (message_count k q (e + 1) + 4095) / 4096
 unfolding level_blocks

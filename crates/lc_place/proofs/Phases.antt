@@ -3,17 +3,17 @@
 --   Stands, stands            the phase of a block, from the numbers of its level in the tables
 --   Ranked, ranked            the number of a block's first message in its level
 --   BlockCount, block_count   how many messages a block has, from the table of counts
---   StartParts, start_parts   the places of the support and of the coefficients of the first message
---   first_message             that message, from its two parts
+--   StartParts, parts_at      the places of the support and of the coefficients of a message
 --   FoundPhase, found_rank, any_rank      a block with the phase that was found for it
---   counted, starting, Started, started   what the code does at that phase
+--   counted, Started, started             what the code does at that phase
+--   going, Gone, gone         what it does at a rank of a level
 use Rattle.std.proofs.Common.{◌≡◌, ℕ, zero, suc, ◌+◌, ◌-◌, ◌*◌, ◌/◌, ◌%◌, ◌^◌, ◌<◌, ◌≤◌, min, List, Some, length, get_or, subst, refl, ap, sym, ◌∙◌, arith, inl, inr}
 use Rattle.std.specs.Prelude.{slice_get}
 use Rattle.std.specs.List.{Contains}
 use Rattle.std.proofs.Math.Nat.{div-eq_of_lt, mod-eq_of_lt, one-le-pow, div-le_self}
 use Rattle.std.proofs.lemmas.Bool.{cases_lt}
 use Rattle.std.proofs.lemmas.Nat.{div_below, div-add-mod', mod_below, div-mul-add, mod-mul-add, mul-add-lt}
-use Rattle.lc_enumeration.specs.Message.{choose, message_count, supports_from, leading_lists, messages}
+use Rattle.lc_enumeration.specs.Message.{Message, choose, message_count, supports_from, leading_lists, messages}
 use Rattle.lc_enumeration.specs.Plan.{cut, block_length, blocks_before, level_blocks, phase_at, phase_level, phase_set, PlanPhase, IsInPhase, total}
 use Rattle.lc_place.specs.declared.phase.Phase.{Phase}
 use Rattle.lc_place.specs.Place.{PlanSize, plan_phase}
@@ -199,29 +199,22 @@ count_is_product : (k q w : ℕ) → message_count k q w ≡ choose k w * (q - 1
 unfolding message_count
 count_is_product k q w = refl
 
-pub start_parts : (k q m p b d : ℕ) (ph : Phase) → Ranked k q m p b ph → 2 ≤ q → d ≡ power_entry q (ph.level - 1) → StartParts k q ph.level ((b - ph.start) * 4096) d
-start_parts k q m p b d ph h size de =
-    let some : 1 ≤ (q - 1) ^ (ph.level - 1) = one-le-pow (ph.level - 1) (q - 1) (omega (arith, size)) in
-    let small : (b - ph.start) * 4096 < 2 ^ 52 = omega (arith, h.small) in
-    let same = divided ((q - 1) ^ (ph.level - 1)) ((b - ph.start) * 4096) some (omega (arith, small)) in
-    let inside : (b - ph.start) * 4096 < choose k ph.level * (q - 1) ^ (ph.level - 1) = omega (arith, h.inside, count_is_product k q ph.level) in
-    let few : (b - ph.start) * 4096 / (q - 1) ^ (ph.level - 1) < choose k ph.level = div_below ((b - ph.start) * 4096) ((q - 1) ^ (ph.level - 1)) (choose k ph.level) some inside in
-    let less : (b - ph.start) * 4096 % (q - 1) ^ (ph.level - 1) < (q - 1) ^ (ph.level - 1) = mod_below ((b - ph.start) * 4096) ((q - 1) ^ (ph.level - 1)) some in
+pub parts_at : (k q w r d : ℕ) → 2 ≤ q → r < 2 ^ 52 → r < message_count k q w → d ≡ power_entry q (w - 1) → StartParts k q w r d
+parts_at k q w r d size small many de =
+    let some : 1 ≤ (q - 1) ^ (w - 1) = one-le-pow (w - 1) (q - 1) (omega (arith, size)) in
+    let same = divided ((q - 1) ^ (w - 1)) r some (omega (arith, small)) in
+    let inside : r < choose k w * (q - 1) ^ (w - 1) = omega (arith, many, count_is_product k q w) in
+    let few : r / (q - 1) ^ (w - 1) < choose k w = div_below r ((q - 1) ^ (w - 1)) (choose k w) some inside in
+    let less : r % (q - 1) ^ (w - 1) < (q - 1) ^ (w - 1) = mod_below r ((q - 1) ^ (w - 1)) some in
     rw de (record {
       some = same.2;
       quotient = same.0;
       rest = same.1;
       support = omega (arith, same.0, few);
       coefficients = omega (arith, same.1, less);
-      few = omega (arith, same.0, small, div-le_self ((b - ph.start) * 4096) ((q - 1) ^ (ph.level - 1)));
-      less = omega (arith, same.1, small, div-add-mod' ((b - ph.start) * 4096) ((q - 1) ^ (ph.level - 1)));
+      few = omega (arith, same.0, small, div-le_self r ((q - 1) ^ (w - 1)));
+      less = omega (arith, same.1, small, div-add-mod' r ((q - 1) ^ (w - 1)));
     })
-
-pub first_message : (k q m p b d : ℕ) (ph : Phase) (s u : List ℕ) → Ranked k q m p b ph → StartParts k q ph.level ((b - ph.start) * 4096) d → slice_get (supports_from 0 k ph.level) ((b - ph.start) * 4096 / d) ≡ Some s → slice_get (leading_lists q ph.level) ((b - ph.start) * 4096 % d) ≡ Some u → slice_get (messages k q (phase_level m p)) (4096 * (b - blocks_before k q m p)) ≡ Some (message_of s u)
-first_message k q m p b d ph s u h parts e f =
-    let place : (b - ph.start) * 4096 ≡ 4096 * (b - blocks_before k q m p) = omega (arith, h.start) in
-    let at : slice_get (messages k q ph.level) ((b - ph.start) * 4096) ≡ Some (message_of s u) = message_from_parts k q ph.level ((b - ph.start) * 4096) s u (ap (slice_get (supports_from 0 k ph.level)) (sym parts.quotient) ∙ e) (ap (slice_get (leading_lists q ph.level)) (sym parts.rest) ∙ f) in
-    ap (λ w. slice_get (messages k q w) (4096 * (b - blocks_before k q m p))) (sym h.level) ∙ ap (slice_get (messages k q ph.level)) (sym place) ∙ at
 
 pub below_cut : (k q m e b : ℕ) → b < start_entry k q m e → b < 2 ^ 40
 below_cut k q m e b l = let c : cut ≡ 2 ^ 40 = cut_is in omega (arith, l)
@@ -246,39 +239,42 @@ counted p k q m b t ts ph view same table some few f =
     let entry : get_or ts (ph.level - 1) 0 ≡ count_entry p.k p.q (ph.level - 1) = ap (λ l. get_or l (ph.level - 1) 0) same ∙ table.entry (ph.level - 1) (omega (arith, few', some)) ∙ ap (λ (v : PlanSize). count_entry v.k v.q (ph.level - 1)) view in
     block_count p.k p.q p.m f.0 b _ ph (found_rank p b ph f) some entry
 
-pub starting : (p : PlanSize) (k q m b : ℕ) (t ts : List ℕ) (ph : Phase) → ◌≡◌ {A = PlanSize} (record { k = k; q = q; m = m }) p → ts ≡ t → IsTable (power_entry q) k t → 2 ≤ q → 1 ≤ ph.level → ph.level ≤ p.k → FoundPhase p b ph → StartParts k q ph.level ((b - ph.start) * 4096) (get_or ts (ph.level - 1) 0)
-starting p k q m b t ts ph view same table size some few f =
-    let few' : ph.level ≤ k = omega (arith, few, ap (λ (v : PlanSize). v.k) view) in
-    let entry : get_or ts (ph.level - 1) 0 ≡ power_entry q (ph.level - 1) = ap (λ l. get_or l (ph.level - 1) 0) same ∙ table.entry (ph.level - 1) (omega (arith, few', some)) in
-    let f' : FoundPhase (record { k = k; q = q; m = m }) b ph = subst (λ (v : PlanSize). FoundPhase v b ph) (sym view) f in
-    start_parts k q m f'.0 b _ ph (found_rank (record { k = k; q = q; m = m }) b ph f') size entry
+pub going : (p : PlanSize) (k q m w r : ℕ) (t ts : List ℕ) → ◌≡◌ {A = PlanSize} (record { k = k; q = q; m = m }) p → ts ≡ t → IsTable (power_entry q) k t → 2 ≤ q → 1 ≤ w → w ≤ p.k → r < 2 ^ 52 → r < message_count p.k p.q w → StartParts k q w r (get_or ts (w - 1) 0)
+going p k q m w r t ts view same table size some few small inside =
+    let few' : w ≤ k = omega (arith, few, ap (λ (v : PlanSize). v.k) view) in
+    let entry : get_or ts (w - 1) 0 ≡ power_entry q (w - 1) = ap (λ l. get_or l (w - 1) 0) same ∙ table.entry (w - 1) (omega (arith, few', some)) in
+    parts_at k q w r _ size small (subst (λ (v : PlanSize). r < message_count v.k v.q w) (sym view) inside) entry
+
+-- what `go_to` leaves
+pub record Gone (p : PlanSize) (w r : ℕ) (s u : List ℕ) : Type 0 where
+  pub at : slice_get (messages p.k p.q w) r ≡ Some (message_of s u)
+  pub places : length s ≡ w
+  pub entries : length u ≡ w
+
+gone_at : (p : PlanSize) (w r d : ℕ) (s u : List ℕ) → StartParts p.k p.q w r d → slice_get (supports_from 0 p.k w) (r / d) ≡ Some s → slice_get (leading_lists p.q w) (r % d) ≡ Some u → Gone p w r s u
+gone_at p w r d s u parts e g = record {
+  at = message_from_parts p.k p.q w r s u (ap (slice_get (supports_from 0 p.k w)) (sym parts.quotient) ∙ e) (ap (slice_get (leading_lists p.q w)) (sym parts.rest) ∙ g);
+  places = (support_shape 0 p.k w (r / d) s e).many;
+  entries = (leading_shape p.q w (r % d) u g).many;
+}
+
+pub gone : (p : PlanSize) (k q m w r d : ℕ) (s u : List ℕ) → ◌≡◌ {A = PlanSize} (record { k = k; q = q; m = m }) p → StartParts k q w r d → slice_get (supports_from 0 k w) (r / d) ≡ Some s → slice_get (leading_lists q w) (r % d) ≡ Some u → Gone p w r s u
+gone p k q m w r d s u view parts e g = subst (λ (v : PlanSize). Gone v w r s u) view (gone_at (record { k = k; q = q; m = m }) w r d s u parts e g)
 
 -- what `start_of` leaves
-pub record Started (p : PlanSize) (b : ℕ) (ph : Phase) (s u : List ℕ) : Type 0 where
-  pub first : (x : ℕ) → IsInPhase p.k p.q p.m x b → slice_get (messages p.k p.q (phase_level p.m x)) (4096 * (b - blocks_before p.k p.q p.m x)) ≡ Some (message_of s u)
-  pub level : (x : ℕ) → IsInPhase p.k p.q p.m x b → length s ≡ phase_level p.m x
+pub record Started (p : PlanSize) (b : ℕ) (ph : Phase) (a : Message) (n : ℕ) : Type 0 where
+  pub first : (x : ℕ) → IsInPhase p.k p.q p.m x b → slice_get (messages p.k p.q (phase_level p.m x)) (4096 * (b - blocks_before p.k p.q p.m x)) ≡ Some a
+  pub level : (x : ℕ) → IsInPhase p.k p.q p.m x b → n ≡ phase_level p.m x
   pub set : (x : ℕ) → IsInPhase p.k p.q p.m x b → ph.set ≡ phase_set p.m x
-  pub message : Contains (messages p.k p.q (length s)) (message_of s u)
-  pub places : length s ≡ ph.level
-  pub entries : length u ≡ ph.level
+  pub message : Contains (messages p.k p.q n) a
 
-started_at : (p : PlanSize) (b d : ℕ) (ph : Phase) (s u : List ℕ) → FoundPhase p b ph → StartParts p.k p.q ph.level ((b - ph.start) * 4096) d → slice_get (supports_from 0 p.k ph.level) ((b - ph.start) * 4096 / d) ≡ Some s → slice_get (leading_lists p.q ph.level) ((b - ph.start) * 4096 % d) ≡ Some u → Started p b ph s u
-started_at p b d ph s u f parts e g =
-    let places : length s ≡ ph.level = (support_shape 0 p.k ph.level ((b - ph.start) * 4096 / d) s e).many in
-    let entries : length u ≡ ph.level = (leading_shape p.q ph.level ((b - ph.start) * 4096 % d) u g).many in
-    let r = found_rank p b ph f in
-    let first = first_message p.k p.q p.m f.0 b d ph s u r parts e g in
-    let level : phase_level p.m f.0 ≡ length s = sym (places ∙ r.level) in
-    record {
-      first = λ x h. first_message p.k p.q p.m x b d ph s u (any_rank p b x ph f h) parts e g;
-      level = λ x h. places ∙ (any_rank p b x ph f h).level;
-      set = λ x h. (any_rank p b x ph f h).set;
-      message = to_contains (messages p.k p.q (length s)) (message_of s u) (4096 * (b - blocks_before p.k p.q p.m f.0)) (rw level at first);
-      places = places;
-      entries = entries;
-    }
-
-pub started : (p : PlanSize) (k q m b d : ℕ) (ph : Phase) (s u : List ℕ) → ◌≡◌ {A = PlanSize} (record { k = k; q = q; m = m }) p → FoundPhase p b ph → StartParts k q ph.level ((b - ph.start) * 4096) d → slice_get (supports_from 0 k ph.level) ((b - ph.start) * 4096 / d) ≡ Some s → slice_get (leading_lists q ph.level) ((b - ph.start) * 4096 % d) ≡ Some u → Started p b ph s u
-started p k q m b d ph s u view f parts e g =
-    let f' : FoundPhase (record { k = k; q = q; m = m }) b ph = subst (λ (v : PlanSize). FoundPhase v b ph) (sym view) f in
-    subst (λ (v : PlanSize). Started v b ph s u) view (started_at (record { k = k; q = q; m = m }) b d ph s u f' parts e g)
+pub started : (p : PlanSize) (b : ℕ) (ph : Phase) (a : Message) (n : ℕ) → FoundPhase p b ph → n ≡ ph.level → slice_get (messages p.k p.q ph.level) ((b - ph.start) * 4096) ≡ Some a → Started p b ph a n
+started p b ph a n f many at = record {
+  first = λ x h.
+      let r = any_rank p b x ph f h in
+      let place : (b - ph.start) * 4096 ≡ 4096 * (b - blocks_before p.k p.q p.m x) = omega (arith, r.start) in
+      ap (λ w. slice_get (messages p.k p.q w) (4096 * (b - blocks_before p.k p.q p.m x))) (sym r.level) ∙ ap (slice_get (messages p.k p.q ph.level)) (sym place) ∙ at;
+  level = λ x h. many ∙ (any_rank p b x ph f h).level;
+  set = λ x h. (any_rank p b x ph f h).set;
+  message = to_contains (messages p.k p.q n) a ((b - ph.start) * 4096) (ap (λ w. slice_get (messages p.k p.q w) ((b - ph.start) * 4096)) many ∙ at);
+}

@@ -1,8 +1,8 @@
 //! The plan: the phases of a search, their blocks, and the messages of a block.
 
-ghost use Rattle.std.specs.Prelude.{◌≡◌, ℕ, ◌+◌, ◌-◌, ◌*◌, ◌/◌, ◌%◌, ◌^◌, ◌<◌, ◌≤◌, ◌++◌, ◌∷◌, [], Some, None, false, length, slice_get, slice_index, vec_len, vec_capacity, IfOk, IfSome, is_some, if◌then◌else◌, ◌≢◌, ◌↔◌, List, map};
+ghost use Rattle.std.specs.Prelude.{◌≡◌, ℕ, ◌+◌, ◌-◌, ◌*◌, ◌/◌, ◌%◌, ◌^◌, ◌<◌, ◌≤◌, ◌++◌, ◌∷◌, [], Some, None, false, length, slice_get, slice_index, vec_len, vec_capacity, IfOk, IfSome, is_some, if◌then◌else◌, ◌≢◌, ◌↔◌, List, map, min};
 ghost use Rattle.std.specs.List.{AllPairs, Contains, flat_map};
-ghost use Rattle.lc_enumeration.specs.Message.{messages, message_count, numbers_from, vector_of};
+ghost use Rattle.lc_enumeration.specs.Message.{messages, message_count, numbers_from, vector_of, choose};
 ghost use Rattle.lc_enumeration.specs.Plan.{total, phase_at, phase_set, phase_level, level_blocks, blocks_before, block_length, block_messages, IsInPhase};
 ghost use Rattle.lc_place.specs.Order.{IsLeadingVector, MessageLess};
 ghost use Rattle.lc_place.specs.Place.{spot_message, plan_phase, IsFirstChange};
@@ -13,7 +13,7 @@ use crate::fill::{fill_coefficients, fill_support};
 use crate::order::{last_below, last_movable, move_on, raise, reset};
 use crate::phase::Phase;
 use crate::spot::Spot;
-use crate::table::Size;
+use crate::table::{MOST, Size};
 use std::alloc::Global;
 use std::marker::Model;
 
@@ -122,13 +122,30 @@ impl Plan {
     {
         let phase = self.phase_of(block);
         let rank = (block - phase.start) * 4096;
+        self.go_to(phase.set, phase.level, rank, spot);
+    }
+
+    /// Puts a spot at the message of a level whose number is `rank`, counted from 0 in the order of the level, and at a set.
+    ///
+    /// The level is 1 to k and has such a message, `rank` is below 2^52, and the spot's room is at least k. It takes no memory,
+    /// and goes to messages beyond the cut too.
+    pub fn go_to(&self, set: usize, level: usize, rank: u64, spot: &mut Spot)
+        requires level { (1 ≤ level) × (level ≤ self.now.k) }
+        requires small { rank < 2 ^ 52 }
+        requires inside { rank < message_count self.now.k self.now.q level }
+        requires room { self.now.k ≤ spot.old.room }
+        ensures at { slice_get (messages self.now.k self.now.q level) rank ≡ Some (spot_message spot.new) }
+        ensures level { length spot.new.support ≡ level }
+        ensures set { spot.new.set ≡ set }
+        ensures room { spot.new.room ≡ spot.old.room }
+    {
         let powers = self.powers.as_slice();
-        let row = powers[phase.level - 1];
-        spot.set = phase.set;
+        let row = powers[level - 1];
+        spot.set = set;
         fill_support(
             self.chooses.as_slice(),
             self.size.k,
-            phase.level,
+            level,
             rank / row,
             &mut spot.support,
         );
@@ -136,10 +153,23 @@ impl Plan {
             powers,
             self.size.k,
             self.size.q,
-            phase.level,
+            level,
             rank % row,
             &mut spot.coefficients,
         );
+    }
+
+    /// How many messages of a level begin at place 0, counted up to 2^53: they are the first ones of the level. The level is 1
+    /// to k.
+    #[tactic(auto, using(crate::proofs::Counting::led_is))]
+    pub fn led_count(&self, level: usize) -> u64
+        requires level { (1 ≤ level) × (level ≤ self.now.k) }
+        ensures is { result ≡ min (choose (self.now.k - 1) (level - 1) * (self.now.q - 1) ^ (level - 1)) (2 ^ 53) }
+    {
+        let row = (self.size.k - 1) * 256;
+        self.chooses[row + (level - 1)]
+            .saturating_mul(self.powers[level - 1])
+            .min(MOST)
     }
 
     /// Goes to the next message of the level, and answers the least index at which the support or the

@@ -1,0 +1,10 @@
+pub mod EntryLaws
+pub mod ValueLaws
+pub mod WalkLaws
+pub mod FrameLaws
+pub mod BlockLaws
+pub mod RoundLaws
+pub mod BestLaws
+pub mod BoundLaws
+pub mod AnswerLaws
+pub mod PhaseLaws

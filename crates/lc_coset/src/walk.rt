@@ -1,0 +1,196 @@
+//! The words of a phase, one after another.
+
+ghost use Rattle.std.specs.Prelude.{◌≡◌, ℕ, ◌+◌, ◌-◌, ◌*◌, ◌^◌, ◌<◌, ◌≤◌, ◌∷◌, List, [], Some, suc, length, set, slice_index, slice_index_or, Contains, IfOk};
+ghost use Rattle.lc_algebra.specs.Field.{size};
+ghost use Rattle.lc_algebra.specs.Word.{IsWord, Fits, word_sum, scale, weight as weight_of};
+ghost use Rattle.lc_algebra.specs.Matrix.{AreRows};
+ghost use Rattle.lc_enumeration.specs.Message.{messages};
+ghost use Rattle.lc_enumeration.specs.Search.{set_count, generator_at};
+ghost use Rattle.lc_enumeration.specs.NearWord.{pattern_count};
+ghost use Rattle.lc_place.specs.Place.{spot_message};
+ghost use Rattle.lc_coset.specs.Near.{walk_plan, walk_matrix, IsWalk, IsRoomOf, IsAtRank, AreLong};
+
+use lc_field::{Field, NoMemory};
+use lc_infoset::Sets;
+use lc_place::{Plan, Spot};
+use lc_vec::{Word, weight};
+use std::alloc::Global;
+
+/// What a worker works in: a spot that steps through the patterns, and the words of the fronts of its message.
+#[derive(Drop)]
+pub(crate) struct Room {
+    pub(crate) spot: Spot,
+    pub(crate) sums: Vec<Word>,
+}
+
+impl Room {
+    /// A room for codes of dimension `k` and length `n`, which is at no pattern yet.
+    pub(crate) fn new(alloc: Global, sets: &Sets) -> Result<Room, NoMemory>
+        ensures room { IfOk result (IsRoomOf sets.now) }
+    {
+        let _long = sets.length();
+        let many = sets.dimension() + 2;
+        let n = sets.length();
+        let Ok(spot) = Spot::new(alloc, sets.dimension() + 1) else {
+            return Err(NoMemory);
+        };
+        let mut sums = Vec::with_capacity(alloc, many)?;
+        for _i in 0..many {
+            sums.push(Word::zero(alloc, n)?)?;
+        }
+        Ok(Room { spot, sums })
+    }
+}
+
+// Row i of a walk over a set: what the first word of the set leaves, and then the rows of the set's generator matrix.
+fn row_of<'a>(sets: &'a Sets, left: &'a Word, set: usize, i: usize) -> &'a [u8]
+    requires set { set < set_count sets.now }
+    requires left { IsWord sets.now.field sets.now.columns left.now }
+    requires row { i < length sets.now.rows + 1 }
+    ensures is { result.now ≡ slice_index_or (left.now ∷ generator_at sets.now set) i [] }
+    ensures word { IsWord sets.now.field sets.now.columns result.now }
+{
+    if i == 0 {
+        return left.symbols();
+    }
+    sets.row(set, i - 1)
+}
+
+// Makes `to` the sum of a word and of c times a row.
+#[tactic(auto, using(crate::proofs::WalkLaws::sum_of_one))]
+fn put_multiple(field: &Field, to: &mut Word, word: &[u8], row: &[u8], c: u8)
+    requires to { length to.old ≡ length word.now }
+    requires lengths { length word.now ≡ length row.now }
+    requires word { Fits field.now word.now }
+    requires row { Fits field.now row.now }
+    requires element { c < size field.now }
+    ensures is { to.new ≡ word_sum field.now word.now (scale field.now c row.now) }
+{
+    if c == 1 {
+        to.put_added(field, word, row);
+    } else {
+        to.put_sum(field, word, row, c);
+    }
+}
+
+// Makes the sum of entry i from the one before it.
+fn extend(sets: &Sets, left: &Word, j: usize, spot: &Spot, sums: &mut [Word], i: usize)
+    requires set { j < set_count sets.now }
+    requires left { IsWord sets.now.field sets.now.columns left.now }
+    requires entry { i < length spot.now.support }
+    requires entries { length spot.now.coefficients ≡ length spot.now.support }
+    requires row { slice_index spot.now.support i < length sets.now.rows + 1 }
+    requires element { slice_index spot.now.coefficients i < size sets.now.field }
+    requires many { i + 1 < length sums.old }
+    requires word { IsWord sets.now.field sets.now.columns (slice_index_or sums.old i []) }
+    requires long { length (slice_index_or sums.old (i + 1) []) ≡ sets.now.columns }
+    ensures is { sums.new ≡ set sums.old (i + 1) (word_sum sets.now.field (slice_index_or sums.old i []) (scale sets.now.field (slice_index spot.now.coefficients i) (slice_index_or (left.now ∷ generator_at sets.now j) (slice_index spot.now.support i) []))) }
+{
+    let row = row_of(sets, left, j, spot.support()[i]);
+    let c = spot.coefficients()[i];
+    let (before, rest) = sums.split_at_mut(i + 1);
+    put_multiple(sets.field(), &mut rest[0], before[i].symbols(), row, c);
+}
+
+// Makes the sums of the entries from `from` on again, up to all `to`, those of the first `from` being there.
+fn refresh(
+    sets: &Sets,
+    left: &Word,
+    set: usize,
+    spot: &Spot,
+    sums: &mut [Word],
+    from: usize,
+    to: usize,
+)
+    requires set { set < set_count sets.now }
+    requires left { IsWord sets.now.field sets.now.columns left.now }
+    requires message { Contains (messages (suc (length sets.now.rows)) (size sets.now.field) (length spot.now.support)) (spot_message spot.now) }
+    requires walk { IsWalk (walk_matrix sets.now left.now set) spot.now from sums.old }
+    requires order { from ≤ to }
+    requires inside { to ≤ length spot.now.support }
+    ensures walk { IsWalk (walk_matrix sets.now left.now set) spot.now to sums.new }
+{
+    let _k = sets.dimension();
+    for i in from..to {
+        extend(sets, left, set, spot, sums, i);
+    }
+}
+
+/// Puts a room at the pattern of a level whose number is `rank`, over a set of which the first word leaves `left`.
+pub(crate) fn go_to(
+    sets: &Sets,
+    plan: &Plan,
+    left: &Word,
+    set: usize,
+    level: usize,
+    rank: u64,
+    room: &mut Room,
+)
+    requires plan { plan.now ≡ walk_plan sets.now }
+    requires set { set < set_count sets.now }
+    requires left { IsWord sets.now.field sets.now.columns left.now }
+    requires level { level ≤ length sets.now.rows }
+    requires small { rank < 2 ^ 52 }
+    requires inside { rank < pattern_count (length sets.now.rows) (size sets.now.field) level }
+    requires room { IsRoomOf sets.now room.old }
+    ensures at { IsAtRank sets.now left.now set level rank room.new }
+{
+    let _k = sets.dimension();
+    plan.go_to(set, level + 1, rank, &mut room.spot);
+    refresh(sets, left, set, &room.spot, &mut room.sums, 0, level + 1);
+}
+
+/// Goes from a pattern of a level to the next one.
+pub(crate) fn step(
+    sets: &Sets,
+    plan: &Plan,
+    left: &Word,
+    set: usize,
+    level: usize,
+    rank: u64,
+    room: &mut Room,
+)
+    requires plan { plan.now ≡ walk_plan sets.now }
+    requires set { set < set_count sets.now }
+    requires left { IsWord sets.now.field sets.now.columns left.now }
+    requires level { level ≤ length sets.now.rows }
+    requires inside { rank + 1 < pattern_count (length sets.now.rows) (size sets.now.field) level }
+    requires at { IsAtRank sets.now left.now set level rank room.old }
+    ensures at { IsAtRank sets.now left.now set level (rank + 1) room.new }
+{
+    let _k = sets.dimension();
+    let _n = sets.length();
+    let Some(first) = plan.step(&mut room.spot) else {
+        unreachable!()
+    };
+    refresh(
+        sets,
+        left,
+        set,
+        &room.spot,
+        &mut room.sums,
+        first,
+        level + 1,
+    );
+}
+
+/// What the word of the pattern leaves of the given word.
+pub(crate) fn top(room: &Room, level: usize) -> &Word
+    requires inside { level + 1 < length room.now.sums.items }
+    ensures is { result.now ≡ slice_index_or room.now.sums.items (level + 1) [] }
+{
+    &room.sums[level + 1]
+}
+
+/// The value on the board of the word of the pattern, at a place.
+pub(crate) fn value_here(room: &Room, level: usize, place: u64) -> u64
+    requires inside { level + 1 < length room.now.sums.items }
+    requires few { length (slice_index_or room.now.sums.items (level + 1) []) ≤ 255 }
+    requires place { place < 2 ^ 52 }
+    ensures is { result ≡ weight_of (slice_index_or room.now.sums.items (level + 1) []) * 2 ^ 52 + place }
+{
+    weight(top(room, level).symbols()) as u64 * PLACES + place
+}
+
+/// The value of a word on a board is its distance times this, plus its place.
+pub(crate) const PLACES: u64 = 1 << 52;
