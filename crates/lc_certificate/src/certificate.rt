@@ -1,8 +1,9 @@
 //! What a certificate holds.
-ghost use Rattle.std.specs.Prelude.{◌≡◌, ◌≤◌};
-ghost use Rattle.lc_algebra.specs.Field.{size};
+ghost use Rattle.std.specs.Prelude.{◌≡◌, ◌≤◌, IsTrue};
+ghost use Rattle.lc_algebra.specs.Field.{size, is_symbol};
 
 use lc_algebra::FieldName;
+use lc_field::Field;
 use lc_vec::Word;
 
 /// A set of a certificate by levels: an information set, its fresh columns, and how far its messages were seen.
@@ -55,9 +56,9 @@ impl Certificate {
     }
 }
 
-// The number of elements of a field.
+/// The number of elements of the field.
 #[tactic(auto, unfolding(crate::proofs::Opened::sizes))]
-pub(crate) fn size_of(field: FieldName) -> u64
+pub fn size_of(field: FieldName) -> u64
     ensures is { result ≡ size field }
     ensures most { result ≤ 256 }
 {
@@ -80,5 +81,25 @@ pub(crate) fn size_of(field: FieldName) -> u64
         FieldName::Gf128 => 128,
         FieldName::Gf243 => 243,
         FieldName::Gf256 => 256,
+    }
+}
+
+/// The name of a field of at most 16 elements, by which a certificate keeps it.
+#[tactic(auto, using(crate::proofs::NameLaws::name_laws), unfolding(crate::proofs::Opened::sizes))]
+pub fn name_of(field: &Field) -> FieldName
+    requires symbol { IsTrue (is_symbol field.now) }
+    ensures is { result ≡ field.now }
+{
+    match field.size() {
+        2 => FieldName::Gf2,
+        3 => FieldName::Gf3,
+        4 => FieldName::Gf4,
+        5 => FieldName::Gf5,
+        7 => FieldName::Gf7,
+        8 => FieldName::Gf8,
+        9 => FieldName::Gf9,
+        11 => FieldName::Gf11,
+        13 => FieldName::Gf13,
+        _ => FieldName::Gf16,
     }
 }

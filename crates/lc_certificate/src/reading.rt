@@ -22,9 +22,9 @@ use lc_vec::Word;
 use serde_json::Value;
 use std::alloc::Global;
 
-// The symbol field of q elements.
+/// The symbol field of q elements, one of at most 16; `None` if there is none.
 #[tactic(auto, unfolding(crate::proofs::Opened::symbol_fields))]
-fn symbol_field(q: u64) -> Option<FieldName>
+pub fn symbol_field(q: u64) -> Option<FieldName>
     ensures is { result ≡ symbol_field q }
 {
     match q {
@@ -42,9 +42,9 @@ fn symbol_field(q: u64) -> Option<FieldName>
     }
 }
 
-// The field of an object.
+/// The field of the object: the symbol field whose size stands at `field`.
 #[tactic(auto, using(crate::proofs::PartLaws::field_found, crate::proofs::PartLaws::field_nowhere))]
-fn field_at(object: &Value) -> Option<FieldName>
+pub fn field_at(object: &Value) -> Option<FieldName>
     ensures is { result ≡ field_at (members_in (view object.now)) }
 {
     match number_at(object, "field") {
@@ -53,9 +53,9 @@ fn field_at(object: &Value) -> Option<FieldName>
     }
 }
 
-// The distance of an object.
+/// The distance of the object: a whole number of at least 1, at `distance`.
 #[tactic(auto, using(crate::proofs::PartLaws::distance_at_laws))]
-fn distance_at(object: &Value) -> Option<u64>
+pub fn distance_at(object: &Value) -> Option<u64>
     ensures is { result ≡ distance_at (members_in (view object.now)) }
 {
     match number_at(object, "distance") {
@@ -77,9 +77,10 @@ fn columns_of(rows: &[Word]) -> usize
     if rows.is_empty() { 0 } else { rows[0].len() }
 }
 
-// The certificate over the field that the parts of an object make.
+/// The certificate over the field that the parts of the object make: its rows, its word, its distance, and how that is proved. Its
+/// other keys aren't looked at. Refused with `Shape` and the number of the first rule from 4 to 10 that is broken.
 #[tactic(auto, using(crate::proofs::PartLaws::parts_of_laws))]
-fn parts_of(alloc: Global, object: &Value, field: FieldName) -> Result<Certificate, CertRefusal>
+pub fn parts_of(alloc: Global, object: &Value, field: FieldName) -> Result<Certificate, CertRefusal>
     ensures is { IfOk result (λ c. parts_in (members_in (view object.now)) field ≡ reads_as (certificate_of c)) }
     ensures refused { IfErr result (λ e. IsRefusedAs e (parts_in (members_in (view object.now)) field)) }
 {
@@ -103,9 +104,9 @@ fn parts_of(alloc: Global, object: &Value, field: FieldName) -> Result<Certifica
     })
 }
 
-// How many keys a certificate that is proved so has.
+/// How many keys the object of a certificate that is proved so has.
 #[tactic(auto, unfolding(lc_formats::specs::Check::key_count, crate::specs::Seen::proof_of))]
-fn key_count(proof: &Proof) -> usize
+pub fn key_count(proof: &Proof) -> usize
     ensures is { result ≡ key_count (proof_of proof.now) }
 {
     match proof {
@@ -125,9 +126,9 @@ fn set_total(proof: &Proof) -> usize
     }
 }
 
-// Whether the length, the number of rows or the number of sets is above 255.
+/// Whether the length, the number of rows or the number of sets is above 255.
 #[tactic(auto, unfolding(crate::proofs::Opened::limits))]
-fn is_beyond_limit(cert: &Certificate) -> bool
+pub fn is_beyond_limit(cert: &Certificate) -> bool
     ensures is { result ≡ is_beyond_limit (certificate_of cert.now) }
 {
     cert.word.len() > 255 || cert.rows.len() > 255 || set_total(&cert.basis_of) > 255
@@ -148,9 +149,9 @@ fn check_closed(object: &Value, cert: &Certificate) -> Result<(), CertRefusal>
     Ok(())
 }
 
-// The certificate that a value is.
+/// The certificate that the JSON value is. Refused as by `parse`, but for `NotJson`.
 #[tactic(auto, using(crate::proofs::PartLaws::certificate_from_laws))]
-fn certificate_from(alloc: Global, value: &Value) -> Result<Certificate, CertRefusal>
+pub fn certificate_from(alloc: Global, value: &Value) -> Result<Certificate, CertRefusal>
     ensures is { IfOk result (λ c. object_in (as_object (view value.now)) ≡ reads_as (certificate_of c)) }
     ensures refused { IfErr result (λ e. IsRefusedAs e (object_in (as_object (view value.now)))) }
 {

@@ -126,9 +126,9 @@ fn sets_at(object: &Value) -> Option<&Vec<Value>>
     Some(items)
 }
 
-// Whether each set of an object has its three keys and no other.
+/// Whether each set at `sets` of the object has its three keys and no other. There are none if no nonempty list of objects is there.
 #[tactic(auto, using(crate::proofs::SetLaws::keys_of_sets, crate::proofs::SetLaws::keys_of_none))]
-pub(crate) fn are_set_keys(object: &Value) -> bool
+pub fn are_set_keys(object: &Value) -> bool
     ensures is { result ≡ are_set_keys (members_in (view object.now)) }
 {
     match sets_at(object) {

@@ -25,7 +25,7 @@ fn push_led_rows(text: &mut Vec<u8>, rows: &[Word]) -> Result<(), NoMemory>
 }
 
 // The rows as an array of arrays.
-fn push_rows(text: &mut Vec<u8>, rows: &[Word]) -> Result<(), NoMemory>
+pub(crate) fn push_rows(text: &mut Vec<u8>, rows: &[Word]) -> Result<(), NoMemory>
     ensures { OnOk result (text.new.items ≡ text.old.items ++ lists_text rows.now) }
 {
     let [first, rest @ ..] = rows else {
@@ -82,7 +82,7 @@ fn push_claims(text: &mut Vec<u8>, claims: &[SetClaim]) -> Result<(), NoMemory>
 
 // How the distance is proved, with which the object begins.
 #[tactic(auto, unfolding(crate::specs::Pieces::front_text, crate::specs::Seen::proof_of))]
-fn push_front(text: &mut Vec<u8>, proof: &Proof) -> Result<(), NoMemory>
+pub(crate) fn push_front(text: &mut Vec<u8>, proof: &Proof) -> Result<(), NoMemory>
     ensures { OnOk result (text.new.items ≡ text.old.items ++ front_text (proof_of proof.now)) }
 {
     match proof {
@@ -94,7 +94,7 @@ fn push_front(text: &mut Vec<u8>, proof: &Proof) -> Result<(), NoMemory>
 
 // The sets with their key; nothing for a scan.
 #[tactic(auto, unfolding(crate::specs::Pieces::sets_text, crate::specs::Seen::proof_of))]
-fn push_sets(text: &mut Vec<u8>, proof: &Proof) -> Result<(), NoMemory>
+pub(crate) fn push_sets(text: &mut Vec<u8>, proof: &Proof) -> Result<(), NoMemory>
     ensures { OnOk result (text.new.items ≡ text.old.items ++ sets_text (proof_of proof.now)) }
 {
     if let Proof::Levels(claims) = proof {

@@ -1,9 +1,11 @@
 -- What `check` says of the certificate of a search.
+--   plain_document            bytes that read as a certificate of version 1 read as that one
 --   told_accepted             a valid certificate that has the shape is accepted, and so is its line
 --   none_with, line_cases     the line of a certificate says that there is none, or is the text of one that can be afforded
 --   printed                   the line that a query prints says none, or is accepted for the code
-use Rattle.std.proofs.Common.{◌≡◌, ℕ, ◌-◌, ◌^◌, ◌≤◌, ◌⊎◌, min, nat_lt, if◌then◌else◌, List, [], ◌∷◌, ◌++◌, length, codes, decimal, inl, inr, ⊎_elim, refl, sym, ap, subst, ◌∙◌, arith, append_assoc}
-use Rattle.std.proofs.lemmas.Bool.{cases_Bool, ltb-false}
+use Rattle.std.proofs.Common.{◌≡◌, ℕ, zero, suc, ◌-◌, ◌^◌, ◌≤◌, ◌==◌, ◌⊎◌, min, nat_lt, if◌then◌else◌, true, false, List, [], ◌∷◌, ◌++◌, length, Option, Some, None, is_some, codes, decimal, inl, inr, ⊎_elim, refl, sym, ap, subst, ◌∙◌, arith, append_assoc}
+use Rattle.std.proofs.lemmas.Bool.{cases_Bool, ltb-false, false≢true}
+use Rattle.std.proofs.lemmas.Bool.Decides.{nat_tests}
 use Rattle.lc_algebra.specs.Word.{IsWord}
 use Rattle.lc_algebra.specs.Matrix.{Matrix}
 use Rattle.lc_algebra.specs.Divisor.{divisor_of}
@@ -16,7 +18,12 @@ use Rattle.lc_formats.specs.Certificate.{Certificate, cost, verdict, accepted, I
 use Rattle.lc_formats.specs.CertificateText.{certificate_json, certificate_text}
 use Rattle.lc_formats.specs.Text.{line}
 use Rattle.lc_formats.specs.Shape.{IsShaped}
-use Rattle.lc_formats.specs.Check.{reads_as, certificate_in, data_in, line_of_verdict, verdict_of, distance_of, check_text}
+use Rattle.serde_json.specs.Data.{Data, Members}
+use Rattle.serde_json.specs.Find.{as_object}
+use Rattle.lc_formats.specs.Json.{provided, number_at, json_in}
+use Rattle.lc_formats.specs.Check.{reads_as, certificate_in, data_in, object_in, is_version, line_of_verdict, verdict_line}
+use Rattle.lc_formats.specs.Claim.{plain}
+use Rattle.lc_formats.specs.Document.{document, document_in, document_of, either_version, plain_read, IsCheckLine, IsCheckText}
 use Rattle.lc_formats.proofs.VerdictLaws.{valid_is_accepted}
 use Rattle.lc_formats.proofs.CertificateBack.{certificate_plain, certificate_back}
 use Rattle.lc_language.specs.Query.{QueryKind, longest, certificate_of, no_certificate_line, certificate_line, certificate_answer_line, word_at_place}
@@ -29,11 +36,39 @@ pub line_reads : (c : Certificate) → IsShaped c → certificate_in (line (cert
 unfolding certificate_in line certificate_text
 line_reads c h = ap data_in (json_before_newline (certificate_json c) (certificate_plain c h)) ∙ certificate_back c h
 
-told : (bytes : List ℕ) (c : Certificate) → certificate_in bytes ≡ reads_as c → verdict c ≡ accepted → check_text bytes ≡ line (codes "accepted distance " ++ decimal c.distance)
-unfolding check_text line_of_verdict verdict_of distance_of
-told bytes c reads v = rw reads (ap (line_of_verdict c.distance) v)
+-- a number is not both versions
+apart : (o : Option ℕ) → is_some (provided (λ v. v == 1) o) ≡ true → is_some (provided (λ v. v == 2) o) ≡ false
+unfolding provided
+apart None h = absurd (false≢true h)
+apart (Some zero) h = absurd (false≢true h)
+apart (Some (suc zero)) h = refl
+apart (Some (suc (suc n))) h =
+    let t : (suc (suc n) == 1) ≡ false = grind (arith, nat_tests) in
+    absurd (let f = rw t at h in false≢true f)
 
-pub told_accepted : (c : Certificate) → IsShaped c → IsValid c → check_text (line (certificate_text c)) ≡ line (codes "accepted distance " ++ decimal c.distance)
+object_plain : (d : Data) (o : Option Members) (c : Certificate) → as_object d ≡ o → object_in o ≡ reads_as c → either_version d o ≡ document (plain c)
+unfolding either_version object_in data_in plain_read is_version
+object_plain d None c e h = absurd cc
+object_plain d (Some ms) c e h =
+    ⊎_elim
+    (λ (t : is_version 1 ms ≡ true). rw (apart (number_at (codes "version") ms) t, e, h) refl)
+    (λ (t : is_version 1 ms ≡ false). absurd (let f = rw t at h in cc))
+    (cases_Bool (is_version 1 ms))
+
+data_plain : (o : Option Data) (c : Certificate) → data_in o ≡ reads_as c → document_of o ≡ document (plain c)
+unfolding document_of data_in
+data_plain None c h = absurd cc
+data_plain (Some d) c h = object_plain d (as_object d) c refl h
+
+pub plain_document : (bytes : List ℕ) (c : Certificate) → certificate_in bytes ≡ reads_as c → document_in bytes ≡ document (plain c)
+unfolding certificate_in document_in
+plain_document bytes c h = data_plain (json_in bytes) c h
+
+told : (bytes : List ℕ) (c : Certificate) → certificate_in bytes ≡ reads_as c → verdict c ≡ accepted → IsCheckText bytes (line (codes "accepted distance " ++ decimal c.distance))
+unfolding line_of_verdict verdict_line
+told bytes c reads v = subst (λ r. IsCheckLine r (line (codes "accepted distance " ++ decimal c.distance))) (sym (plain_document bytes c reads)) (sym (ap (line_of_verdict c.distance) v))
+
+pub told_accepted : (c : Certificate) → IsShaped c → IsValid c → IsCheckText (line (certificate_text c)) (line (codes "accepted distance " ++ decimal c.distance))
 told_accepted c h v = told (line (certificate_text c)) c (line_reads c h) (valid_is_accepted c h v)
 
 none_with : (why : List ℕ) (n : ℕ) → SaysNone (no_certificate_line why n)
@@ -67,7 +102,7 @@ accepted_at kind C w d l h shaped word x =
     (λ t. inr (record {
       distance = d;
       least = code_distance C w d l h x;
-      accepted = ap check_text t.1 ∙ told_accepted c shaped (valid_at kind C w d l h word x t.0);
+      accepted = subst (λ l. IsCheckText l (line (codes "accepted distance " ++ decimal d))) (sym t.1) (told_accepted c shaped (valid_at kind C w d l h word x t.0));
     }))
     (line_cases c)
 

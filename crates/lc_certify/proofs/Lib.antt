@@ -2,7 +2,6 @@ pub mod AnswerLaws
 pub mod ClaimLaws
 pub mod ShapeLaws
 pub mod LineLaws
-pub mod NameLaws
 pub mod NewlineLaws
 pub mod ValidLaws
 pub mod AcceptedLaws

@@ -12,7 +12,7 @@ use Rattle.lc_algebra.specs.Divisor.{divisor_of}
 use Rattle.lc_constructions.specs.Code.{longest}
 use Rattle.lc_enumeration.specs.Search.{set_count, best, is_done}
 use Rattle.lc_formats.specs.Text.{line}
-use Rattle.lc_formats.specs.Check.{check_text}
+use Rattle.lc_formats.specs.Document.{IsCheckText}
 
 pub record IsSearchable (C : Matrix) : Type 0 where
   pub symbol : is_symbol C.field ≡ true
@@ -34,4 +34,4 @@ pub record SaysNone (text : List ℕ) : Type 0 where
 pub record IsAcceptedFor (C : Matrix) (text : List ℕ) : Type 0 where
   pub distance : ℕ
   pub least : IsDistance C.field C.columns C.rows distance
-  pub accepted : check_text text ≡ line (codes "accepted distance " ++ decimal distance)
+  pub accepted : IsCheckText text (line (codes "accepted distance " ++ decimal distance))

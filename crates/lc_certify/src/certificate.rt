@@ -1,6 +1,5 @@
 //! The certificate of a search.
-ghost use Rattle.std.specs.Prelude.{◌≡◌, ◌^◌, ◌≤◌, IsTrue, IfOk};
-ghost use Rattle.lc_algebra.specs.Field.{is_symbol};
+ghost use Rattle.std.specs.Prelude.{◌≡◌, ◌^◌, ◌≤◌, IfOk};
 ghost use Rattle.lc_algebra.specs.Word.{IsWord};
 ghost use Rattle.lc_formats.specs.Certificate.{cost, IsValid};
 ghost use Rattle.lc_formats.specs.Shape.{IsShaped};
@@ -11,33 +10,12 @@ ghost use Rattle.lc_certify.specs.Accepted.{IsExactAt};
 
 use crate::claims::claims_of;
 use crate::way::Way;
-use lc_algebra::FieldName;
-use lc_certificate::{Certificate, Proof};
-use lc_field::{Field, NoMemory};
+use lc_certificate::{Certificate, Proof, name_of};
+use lc_field::NoMemory;
 use lc_matrix::Matrix;
 use lc_search::Search;
 use lc_vec::Word;
 use std::alloc::Global;
-
-// The name of a field of symbols.
-#[tactic(auto, using(crate::proofs::NameLaws::name_laws), unfolding(crate::proofs::Opened::sizes))]
-fn name_of(field: &Field) -> FieldName
-    requires symbol { IsTrue (is_symbol field.now) }
-    ensures is { result ≡ field.now }
-{
-    match field.size() {
-        2 => FieldName::Gf2,
-        3 => FieldName::Gf3,
-        4 => FieldName::Gf4,
-        5 => FieldName::Gf5,
-        7 => FieldName::Gf7,
-        8 => FieldName::Gf8,
-        9 => FieldName::Gf9,
-        11 => FieldName::Gf11,
-        13 => FieldName::Gf13,
-        _ => FieldName::Gf16,
-    }
-}
 
 // The rows of a matrix, as words of their own.
 fn rows_of(alloc: Global, matrix: &Matrix) -> Result<Vec<Word>, NoMemory>

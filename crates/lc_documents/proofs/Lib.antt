@@ -1,0 +1,9 @@
+pub mod ClaimLaws
+pub mod ClosedLaws
+pub mod DepthLaws
+pub mod DocumentLaws
+pub mod KindLaws
+pub mod LeafLaws
+pub mod LimitLaws
+pub mod ListLaws
+pub mod Opened
