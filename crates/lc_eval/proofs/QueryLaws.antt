@@ -7,6 +7,7 @@
 --   least_told                   the line
 --   distance_none, levels_none, scan_none      what is printed of a code of dimension 0
 --   asks_distance, asks_levels, asks_scan      these queries are never refused
+--   distribution_refused, distribution_asked   a weight distribution that isn't computed, and one that is
 use Rattle.std.proofs.Common.{◌≡◌, ℕ, ◌+◌, ◌*◌, ◌^◌, ◌<◌, ◌≤◌, ◌↔◌, inl, inr, Bool, true, false, nat_lt, List, [], ◌∷◌, ◌++◌, length, map, Vec, Global, Option, Some, None, is_some, Ok, Err, MatchOption, option_map, codes, Result, refl, sym, ap, subst, ◌∙◌, true≢false, arith}
 use Rattle.std.proofs.Math.Nat.{pow-le-pow_right}
 use Rattle.std.proofs.lemmas.List.{length-map}
@@ -18,18 +19,21 @@ use Rattle.lc_algebra.specs.Span.{InSpan}
 use Rattle.lc_algebra.specs.Matrix.{Matrix, AreRows}
 use Rattle.lc_algebra.proofs.SpanLaws.{span_word}
 use Rattle.lc_enumeration.specs.Search.{answer}
+use Rattle.lc_enumeration.specs.Distribution.{NoDistribution, distribution_refusal}
 use Rattle.lc_constructions.specs.Code.{IsCode}
 use Rattle.lc_constructions.specs.Basic.{GeneratedBy}
 use Rattle.lc_constructions.specs.declared.refusal.CodeRefusal.{CodeRefusal}
 use Rattle.lc_constructions.specs.Refusal.{first_refusal, IsRefusedAs}
 use Rattle.lc_constructions.specs.Refusals.{columns_of, matrix_refusals}
-use Rattle.lc_language.specs.Calls.{least_word, minimum_distance, certificate, scan_certificate, query_refusals_of, query_refusal_of}
-use Rattle.lc_language.specs.Refusal.{Refusal, refuse, when, first_of, refusal_from, from_codes}
+use Rattle.lc_language.specs.Calls.{least_word, minimum_distance, certificate, scan_certificate, weight_distribution, query_refusals_of, query_refusal_of}
+use Rattle.lc_language.specs.Refusal.{Refusal, refuse, when, first_of, refusal_from, from_codes, no_distribution}
 use Rattle.lc_language.specs.Print.{distance_none_line}
 use Rattle.lc_algebra.specs.Divisor.{divisor_of}
 use Rattle.lc_formats.specs.Text.{line}
 use Rattle.lc_language.specs.Query.{QueryKind, distance, by_levels, by_scan, query_line, distance_answer_line, certificate_answer_line}
-use Rattle.lc_language.specs.Evaluation.{refused, refuse_at, refuse_call, Step, prints, fails, fail_with, PrintsLeast, AsksOf, QueriesTo}
+use Rattle.lc_language.specs.Evaluation.{refused, refuse_at, refuse_call, Step, prints, counts, fails, fail_with, PrintsLeast, AsksOf, QueriesTo}
+use Rattle.lc_macwilliams.specs.Refused.{refused_sizes}
+use Rattle.lc_macwilliams.specs.declared.refusals.DistributionRefusal.{DistributionRefusal}
 use Rattle.lc_eval.specs.declared.statement.Effect.{Effect}
 use Rattle.lc_eval.specs.declared.refusals.Refused.{Refused}
 use Rattle.lc_eval.specs.declared.refusals.Stop.{Stop}
@@ -204,3 +208,24 @@ asks_scan place C r h = h
 pub ruleset answer_laws = (asks_distance, asks_levels, asks_scan)
 
 pub ruleset nothing_line_laws = (distance_none, levels_none, scan_none)
+
+-- ---- weight distributions
+
+distribution_first : (C : Matrix) (o : Option NoDistribution) → distribution_refusal (size C.field) C.columns (length C.rows) ≡ o → query_refusal_of (weight_distribution C) ≡ option_map (λ (r : NoDistribution). refuse 47 (r.dimension ∷ r.codimension ∷ [])) o
+unfolding query_refusal_of query_refusals_of no_distribution first_of
+distribution_first C None e = ap (λ (o : Option NoDistribution). first_of (option_map (λ (r : NoDistribution). refuse 47 (r.dimension ∷ r.codimension ∷ [])) o ∷ [])) e
+distribution_first C (Some r) e = ap (λ (o : Option NoDistribution). first_of (option_map (λ (r : NoDistribution). refuse 47 (r.dimension ∷ r.codimension ∷ [])) o ∷ [])) e
+
+abbrev Counting : ℕ → Matrix → Option Refusal → Step → Type 0
+Counting place C r step = MatchOption r (step ≡ counts C) (λ r. step ≡ fail_with (refuse_call place r))
+
+pub distribution_refused : (place : ℕ) (C : Matrix) (r : Refused) (sizes : DistributionRefusal) (o : Option DistributionRefusal) → o ≡ Some sizes → option_map refused_sizes o ≡ distribution_refusal (size C.field) C.columns (length C.rows)
+    → refused (refused_of r) ≡ refuse_call place (refuse 47 (sizes.dimension ∷ sizes.codimension ∷ [])) → QueriesTo place (weight_distribution C) (fails (refused_of r))
+distribution_refused place C r sizes o is told m =
+    let first = distribution_first C (Some (refused_sizes sizes)) (sym told ∙ ap (option_map refused_sizes) is) in
+    subst (λ t. Counting place C t (fails (refused_of r))) (sym first) (fails_so place r (refuse 47 (sizes.dimension ∷ sizes.codimension ∷ [])) m)
+
+pub distribution_asked : (place : ℕ) (C D : Matrix) (o : Option DistributionRefusal) → o ≡ None → option_map refused_sizes o ≡ distribution_refusal (size C.field) C.columns (length C.rows) → D ≡ C → QueriesTo place (weight_distribution C) (counts D)
+distribution_asked place C D o is told same =
+    let first = distribution_first C None (sym told ∙ ap (option_map refused_sizes) is) in
+    subst (λ t. Counting place C t (counts D)) (sym first) (ap counts same)

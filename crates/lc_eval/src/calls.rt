@@ -35,6 +35,7 @@ pub(crate) enum QueryCall {
     MinimumDistance,
     Certificate,
     ScanCertificate,
+    WeightDistribution,
 }
 
 /// The calls.
@@ -105,6 +106,7 @@ static TABLE: &[Row] = &rows! {
     Call::Query(QueryCall::MinimumDistance) => "MinimumDistance" [Code];
     Call::Query(QueryCall::Certificate) => "Certificate" [Code];
     Call::Query(QueryCall::ScanCertificate) => "ScanCertificate" [Code];
+    Call::Query(QueryCall::WeightDistribution) => "WeightDistribution" [Code];
 };
 
 // The rows of all built calls.
@@ -247,6 +249,7 @@ pub(crate) enum BoundQuery<'a> {
     MinimumDistance(&'a Code),
     Certificate(&'a Code),
     ScanCertificate(&'a Code),
+    WeightDistribution(&'a Code),
 }
 
 impl Asks for BoundQuery<'_> {
@@ -258,6 +261,7 @@ impl Asks for BoundQuery<'_> {
       | BoundQuery.MinimumDistance C ↦ language.minimum_distance C.now
       | BoundQuery.Certificate C ↦ language.certificate C.now
       | BoundQuery.ScanCertificate C ↦ language.scan_certificate C.now
+      | BoundQuery.WeightDistribution C ↦ language.weight_distribution C.now
     ] };
 }
 
@@ -526,6 +530,10 @@ pub(crate) fn bind_query(call: QueryCall, arguments: &[Value]) -> Option<BoundQu
         QueryCall::ScanCertificate => {
             let [a] = arguments else { return None };
             Some(BoundQuery::ScanCertificate(&a.code()?.code))
+        }
+        QueryCall::WeightDistribution => {
+            let [a] = arguments else { return None };
+            Some(BoundQuery::WeightDistribution(&a.code()?.code))
         }
     }
 }

@@ -42,6 +42,8 @@ pub enum Step {
     Silent,
     /// the statement needs the answer of a query, whose line it prints
     Need(Query),
+    /// the statement prints the weight distribution of this code, which `lc_macwilliams::refusal` doesn't refuse
+    Weights(Code),
     /// the fault line, with its newline; no statement is done after it
     Fault(Vec<u8>),
     /// no statement is left
@@ -86,7 +88,7 @@ impl Machine {
     }
 
     /// Does one statement: evaluates its expression, and binds the value to the statement's name or answers the line that it
-    /// prints, or the query whose line it prints. After a fault, every further step answers `End`. If no memory is left the
+    /// prints, or the query or the code whose line it prints. After a fault, every further step answers `End`. If no memory is left the
     /// machine is as before; with no statement left that never happens.
     pub fn step(&mut self, alloc: Global) -> Result<Step, NoMemory>
         ensures does { IfOk result (λ step. Does self.old step self.new) }
@@ -110,6 +112,10 @@ impl Machine {
             Effect::Needs(query) => {
                 self.next += 1;
                 Ok(Step::Need(query))
+            }
+            Effect::Counts(code) => {
+                self.next += 1;
+                Ok(Step::Weights(code))
             }
             Effect::Fails(line) => {
                 self.next = self.script.statements.len();

@@ -1,22 +1,24 @@
 //! The calls that stand only as whole statements.
-ghost use Rattle.std.specs.Prelude.{◌≡◌, ◌^◌, nat_lt, length, IfOk};
+ghost use Rattle.std.specs.Prelude.{◌≡◌, ◌^◌, nat_lt, [], ◌∷◌, length, IfOk};
 ghost use Rattle.lc_algebra.specs.Field.{size};
 ghost use Rattle.lc_language.specs.Calls as bound;
 ghost use Rattle.lc_language.specs.Query.{query_line};
-ghost use Rattle.lc_language.specs.Evaluation.{QueriesTo, AsksOf};
-ghost use Rattle.lc_eval.specs.Value.{rows_of};
+ghost use Rattle.lc_language.specs.Evaluation.{QueriesTo, AsksOf, refused, refuse_call};
+ghost use Rattle.lc_language.specs.Refusal.{refuse};
+ghost use Rattle.lc_eval.specs.Value.{rows_of, refused_of};
 ghost use Rattle.lc_eval.specs.Evaluated.{AffectsOrFails, kind_of};
 ghost use Rattle.lc_eval.specs.Least.{IsLeastLine};
 
 use crate::calls::{Asks, BoundQuery};
 use crate::decoding::algebraic_decode;
 use crate::machine::{Query, QueryKind};
-use crate::refusals::{Stop, TOO_MANY_WORDS, fault, refused_as};
+use crate::refusals::{NO_DISTRIBUTION, Refused, Stop, TOO_MANY_WORDS, fault, refused_as};
 use crate::rows::{rows_of, words_of};
 use crate::statement::Effect;
 use lc_basic::generator_mat;
 use lc_code::Code;
 use lc_field::{Field, NoMemory};
+use lc_macwilliams::{DistributionRefusal, refusal};
 use lc_print::{certificate_none_line, distance_none_line, least_line, least_none_line};
 use lc_vec::weight;
 use std::alloc::Global;
@@ -62,6 +64,7 @@ pub(crate) fn answer(alloc: Global, place: usize, query: BoundQuery<'_>) -> Resu
         BoundQuery::MinimumDistance(code) => asked(alloc, QueryKind::Distance, code),
         BoundQuery::Certificate(code) => asked(alloc, QueryKind::Levels, code),
         BoundQuery::ScanCertificate(code) => asked(alloc, QueryKind::Scan, code),
+        BoundQuery::WeightDistribution(code) => weight_distribution(alloc, place, code),
         BoundQuery::AlgebraicDecode(code, list) => algebraic_decode(alloc, place, code, list),
     }
 }
@@ -106,4 +109,35 @@ fn least_word(alloc: Global, place: usize, rows: &[Vec<u64>], field: &Field) -> 
         return Err(Stop::Refused(fault(alloc, TOO_MANY_WORDS, place)));
     }
     Ok(Effect::Prints(line_of(alloc, &code)?))
+}
+
+// The refusal of a weight distribution, with the dimension of the code and that of its dual.
+#[tactic(auto, unfolding(crate::proofs::Opened::refusals_of_calls))]
+fn no_distribution(
+    alloc: Global,
+    place: usize,
+    sizes: DistributionRefusal,
+) -> Result<Refused, NoMemory>
+    ensures { IfOk result (λ r. refused (refused_of r)
+        ≡ refuse_call place (refuse 47 (sizes.dimension ∷ sizes.codimension ∷ []))) }
+{
+    let values = vec![in alloc; sizes.dimension as u64, sizes.codimension as u64]?;
+    Ok(Refused {
+        number: NO_DISTRIBUTION,
+        place,
+        values,
+    })
+}
+
+// The weight distribution of a code, whose words the caller counts.
+//
+// Refused if the code has too many words, and besides its dual has too many, or its space.
+#[tactic(auto, using(crate::proofs::QueryLaws::distribution_refused, crate::proofs::QueryLaws::distribution_asked))]
+fn weight_distribution(alloc: Global, place: usize, code: &Code) -> Result<Effect, Stop>
+    ensures { AffectsOrFails result (QueriesTo place (bound.weight_distribution code.now)) }
+{
+    if let Some(sizes) = refusal(code) {
+        return Err(Stop::Refused(no_distribution(alloc, place, sizes)?));
+    }
+    Ok(Effect::Counts(code.copy(alloc)?))
 }

@@ -24,6 +24,8 @@ pub(crate) const UNKNOWN_NAME: u8 = 44;
 pub(crate) const MISFIT: u8 = 45;
 /// A call with a number of arguments that it doesn't take.
 pub(crate) const WRONG_COUNT: u8 = 46;
+/// The code and its dual have too many words for the numbers of words of each weight.
+pub(crate) const NO_DISTRIBUTION: u8 = 47;
 
 /// A fault: its number, its offset in the script, and the numbers that are printed after it.
 #[derive(Drop)]

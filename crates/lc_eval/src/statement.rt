@@ -16,6 +16,7 @@ use crate::queries::answer;
 use crate::refusals::{Stop, WRONG_COUNT, fault};
 use crate::stock::Stock;
 use crate::values::Binding;
+use lc_code::Code;
 use lc_field::NoMemory;
 use lc_parse::{Expr, Node, Statement};
 use lc_print::fault_line;
@@ -30,6 +31,8 @@ pub(crate) enum Effect {
     Prints(Vec<u8>),
     /// it needs the answer of a query
     Needs(Query),
+    /// it needs the weight distribution of a code
+    Counts(Code),
     /// it has a fault, whose line this is
     Fails(Vec<u8>),
 }

@@ -8,5 +8,6 @@ pub mod IdentityExamples
 pub mod PascalLaws
 pub mod SolveLaws
 pub mod DualCounts
+pub mod RefusalLaws
 pub mod MessageLaws
 pub mod BlockCounts

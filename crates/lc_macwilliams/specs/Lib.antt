@@ -1,3 +1,4 @@
 pub mod Krawtchouk
 pub mod Orthogonal
+pub mod Refused
 pub mod Solving

@@ -1,6 +1,6 @@
--- Each need of a script is a code over a symbol field, of length at most 255, with reduced rows.
+-- Each need of a script, and each code whose words it counts, is a code over a symbol field, of length at most 255, with reduced rows.
 --   evaluates_shaped, evaluates_all_shaped, evaluates_list_shaped      what expressions evaluate to, if the names have such values
---   steps_shaped         what a statement binds or asks for
+--   steps_shaped         what a statement binds, asks for or counts
 --   needs_shaped         the needs of some statements
 --   met_shaped           those that a session meets
 use Rattle.std.proofs.Common.{◌≡◌, ◌⊎◌, ◌<◌, ℕ, Bool, true, false, List, [], ◌∷◌, length, take, Option, Some, None, sym, subst, ⊎_elim}
@@ -34,7 +34,7 @@ abbrev AreGiven : Outcomes → Type 0
 AreGiven (all_give vs) = AreShaped vs
 AreGiven (one_refused r) = Unit {0}
 
-abbrev AreBound : List Binding → Type 0
+abbrev pub AreBound : List Binding → Type 0
 AreBound env = AllByRecursion (λ (b : Binding). IsShaped b.value) env
 
 -- ---- expressions
@@ -124,11 +124,11 @@ mutual
 
 -- ---- statements
 
-abbrev HasShape : Step → Type 0
+abbrev pub HasShape : Step → Type 0
 HasShape (binds b) = IsShaped b.value
 HasShape (prints l) = Unit {0}
 HasShape (asks kind C) = IsCodeOfRows C
-HasShape (counts C) = Unit {0}
+HasShape (counts C) = IsCodeOfRows C
 HasShape (nears C x) = Unit {0}
 HasShape (fails r) = Unit {0}
 
@@ -151,7 +151,7 @@ by_query (bound.least_word rows f) step s h = ⊎_elim (λ a. told step _ a.2 tt
 by_query (bound.minimum_distance C) step s h = by_asks _ C step s h
 by_query (bound.certificate C) step s h = by_asks _ C step s h
 by_query (bound.scan_certificate C) step s h = by_asks _ C step s h
-by_query (bound.weight_distribution C) step s h = told step _ h tt
+by_query (bound.weight_distribution C) step s h = told step (counts C) h s
 by_query (bound.alternant_certificate C None x) step s h = absurd h
 by_query (bound.alternant_certificate C (Some form) x) step s h = told step _ h tt
 by_query (bound.nearest_word C x) step s h = ⊎_elim (λ (a : (length C.rows ≡ 0) × (step ≡ prints (near_line C x 0))). told step _ a.1 tt) (λ (a : (0 < length C.rows) × (step ≡ nears C x)). told step _ a.1 tt) h
@@ -186,7 +186,7 @@ steps_shaped table env s step h k = steps_of_shaped table env h s.target s.expr 
 abbrev pub AreCodesOfRows : List Matrix → Type 0
 AreCodesOfRows needs = AllByRecursion IsCodeOfRows needs
 
-codes_as : (needs others : List Matrix) → needs ≡ others → AreCodesOfRows others → AreCodesOfRows needs
+pub codes_as : (needs others : List Matrix) → needs ≡ others → AreCodesOfRows others → AreCodesOfRows needs
 codes_as needs others e h = subst AreCodesOfRows (sym e) h
 
 on_codes : (step : Step) (env : List Binding) (Later : List Binding → List Matrix → Type 0) (needs : List Matrix) → AreBound env → HasShape step → ((later : List Binding) (rest : List Matrix) → AreBound later → Later later rest → AreCodesOfRows rest) → NeedsOn env step Later needs → AreCodesOfRows needs

@@ -199,6 +199,7 @@ abbrev pub HaveQueryShapes : BoundQuery → Type 0
 HaveQueryShapes (bound.minimum_distance C) = IsCodeOfRows C
 HaveQueryShapes (bound.certificate C) = IsCodeOfRows C
 HaveQueryShapes (bound.scan_certificate C) = IsCodeOfRows C
+HaveQueryShapes (bound.weight_distribution C) = IsCodeOfRows C
 HaveQueryShapes _ = Unit {0}
 
 queries_shaped : (c : QueryCall) → InForms HaveQueryShapes (query_forms c)
@@ -208,7 +209,7 @@ queries_shaped query.LeastWord = (λ rows f. tt, tt)
 queries_shaped query.MinimumDistance = (λ C h. h, tt)
 queries_shaped query.Certificate = (λ C h. h, tt)
 queries_shaped query.ScanCertificate = (λ C h. h, tt)
-queries_shaped query.WeightDistribution = (λ C h. tt, tt)
+queries_shaped query.WeightDistribution = (λ C h. h, tt)
 queries_shaped query.AlternantCertificate = (λ C h x. tt, tt)
 queries_shaped query.NearestWord = (λ C h x. tt, tt)
 

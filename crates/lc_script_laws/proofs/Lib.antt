@@ -10,4 +10,5 @@ pub mod BudgetLaws
 pub mod GroundLaws
 pub mod CertificateLaws
 pub mod StoredLaws
+pub mod CountedLaws
 pub mod PrintedLaws

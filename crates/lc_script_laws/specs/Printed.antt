@@ -1,31 +1,38 @@
--- What a script prints of its searches, and when that is true.
---   Piece, piece_text budget p       a piece of a text: one that no search answers, or what a query on a code prints under the budget
+-- What a script prints of its searches and of the words that it counts, and when that is true.
+--   Piece, piece_text budget p       a piece of a text: a plain one, what a query on a code prints under the budget, or the weight
+--                                    distribution of a code
 --   pieces_text budget pieces        the text of some pieces, one after another
---   codes_in pieces                  the codes of the queries among them
+--   codes_in pieces, counted_in pieces      the codes of the queries among them; those of the distributions
 --   StatesDistance C text            the line states the minimum distance of the code and a word of the code that has this weight
 --   StatesBracket C budget text      the line states two numbers between which the minimum distance lies, and a word of the code that has
 --                                    the greater weight
 --   SaysBetween C text               the line says that there is no certificate, and two numbers between which the minimum distance lies
 --   SaysDear text                    the line says that there is none since it costs a checker too much, or is too long
+--   StatesDistribution C text        the line states for each weight from 0 to the length how many words of the code have it: these
+--                                    numbers are q^k together
 --   IsTrueLine kind C budget text    the line of a query is true: a distance or a bracket; or a certificate that is accepted for the
 --                                    code, a bracket, or a cost or a length
---   IsTruePiece budget p             so it is of a piece that is the line of a query
-use Rattle.std.specs.Prelude.{◌≡◌, ℕ, ◌<◌, ◌≤◌, ◌⊎◌, List, [], ◌∷◌, ◌++◌, codes, decimal, ⊤}
+--   IsTruePiece budget p             so is a piece that is the line of a query or a distribution
+use Rattle.std.specs.Prelude.{◌≡◌, ℕ, ◌+◌, ◌^◌, ◌<◌, ◌≤◌, ◌⊎◌, List, [], ◌∷◌, ◌++◌, length, slice_index, sum, codes, decimal, ⊤}
+use Rattle.lc_algebra.specs.Field.{size}
 use Rattle.lc_algebra.specs.Word.{weight}
 use Rattle.lc_algebra.specs.Span.{InSpan, IsDistance}
 use Rattle.lc_algebra.specs.Matrix.{Matrix}
-use Rattle.lc_formats.specs.Text.{line}
+use Rattle.lc_formats.specs.Text.{line, numbers_text}
 use Rattle.lc_language.specs.Print.{distance_line, bracket_line}
-use Rattle.lc_language.specs.Query.{QueryKind, distance, by_levels, by_scan, no_certificate_line, query_line}
+use Rattle.lc_language.specs.Query.{QueryKind, distance, by_levels, by_scan, no_certificate_line, query_line, distribution_line}
 use Rattle.lc_certify.specs.Accepted.{IsAcceptedFor}
+use Rattle.lc_script_laws.specs.Counted.{HasWordsOfWeight}
 
 pub data Piece : Type 0 where
   plain : List ℕ → Piece
   asked : QueryKind → Matrix → Piece
+  counted : Matrix → Piece
 
 abbrev pub piece_text : ℕ → Piece → List ℕ
 piece_text budget (plain text) = text
 piece_text budget (asked kind C) = query_line kind C budget
+piece_text budget (counted C) = distribution_line C
 
 abbrev pub pieces_text : ℕ → List Piece → List ℕ
 pieces_text budget [] = []
@@ -35,6 +42,13 @@ abbrev pub codes_in : List Piece → List Matrix
 codes_in [] = []
 codes_in (plain text ∷ pieces) = codes_in pieces
 codes_in (asked kind C ∷ pieces) = C ∷ codes_in pieces
+codes_in (counted C ∷ pieces) = codes_in pieces
+
+abbrev pub counted_in : List Piece → List Matrix
+counted_in [] = []
+counted_in (plain text ∷ pieces) = counted_in pieces
+counted_in (asked kind C ∷ pieces) = counted_in pieces
+counted_in (counted C ∷ pieces) = C ∷ counted_in pieces
 
 pub record StatesDistance (C : Matrix) (text : List ℕ) : Type 0 where
   pub distance : ℕ
@@ -67,6 +81,13 @@ pub record SaysDear (text : List ℕ) : Type 0 where
   pub why_is : (why ≡ codes "cost") ⊎ (why ≡ codes "length")
   pub line_is : text ≡ no_certificate_line why number
 
+pub record StatesDistribution (C : Matrix) (text : List ℕ) : Type 0 where
+  pub numbers : List ℕ
+  pub line_is : text ≡ line (numbers_text numbers)
+  pub long : length numbers ≡ C.columns + 1
+  pub each : (j : ℕ) → j ≤ C.columns → HasWordsOfWeight C j (slice_index numbers j)
+  pub whole : sum numbers ≡ size C.field ^ length C.rows
+
 abbrev pub IsTrueLine : QueryKind → Matrix → ℕ → List ℕ → Type 0
 IsTrueLine distance C budget text = StatesDistance C text ⊎ StatesBracket C budget text
 IsTrueLine by_levels C budget text = IsAcceptedFor C text ⊎ (SaysBetween C text ⊎ SaysDear text)
@@ -75,3 +96,4 @@ IsTrueLine by_scan C budget text = IsAcceptedFor C text ⊎ (SaysBetween C text 
 abbrev pub IsTruePiece : ℕ → Piece → Type 0
 IsTruePiece budget (plain text) = ⊤
 IsTruePiece budget (asked kind C) = IsTrueLine kind C budget (query_line kind C budget)
+IsTruePiece budget (counted C) = StatesDistribution C (distribution_line C)

@@ -8,7 +8,7 @@ ghost use Rattle.lc_enumeration.specs.Records.{SessionStep};
 ghost use Rattle.lc_formats.specs.Checkpoint.{Checkpoint};
 ghost use Rattle.lc_io.specs.Vaults.{Slots};
 ghost use Rattle.lc_language.specs.declared.Call.{Call};
-ghost use Rattle.lc_language.specs.Query.{QueryKind, distance, by_levels, by_scan, query_line};
+ghost use Rattle.lc_language.specs.Query.{QueryKind, distance, by_levels, by_scan, query_line, distribution_line};
 ghost use Rattle.lc_language.specs.Evaluation.{IsText};
 ghost use Rattle.lc_eval.specs.Built.{built_calls};
 ghost use Rattle.lc_session_rules.specs.Options.{run, resume};
@@ -19,7 +19,8 @@ ghost use Rattle.lc_session_rules.specs.Session.{Outside, most_bytes, keeps, IsS
 ghost use Rattle.lc_session_rules.specs.Promises.{PrintsText, StartsTruly, StoresTruly, StoresAfresh, EmptiesSo};
 ghost use Rattle.lc_session_rules.specs.Chain.{Chain, IsGround, HasBegun, TearsSo};
 ghost use Rattle.lc_certify.specs.Accepted.{SaysNone, IsAcceptedFor};
-ghost use Rattle.lc_script_laws.specs.Printed.{Piece, pieces_text, codes_in, StatesDistance, IsTrueLine, IsTruePiece};
+ghost use Rattle.lc_script_laws.specs.Counted.{AreCounted};
+ghost use Rattle.lc_script_laws.specs.Printed.{Piece, pieces_text, codes_in, counted_in, StatesDistance, StatesDistribution, IsTrueLine, IsTruePiece};
 ghost use Rattle.lc_script_laws.specs.Shapes.{IsCodeOfRows};
 
 /// Bytes print at most one text: whatever satisfies the definition of the text of a script is the same text,
@@ -45,14 +46,23 @@ pub fn scripts_print_accepted_certificates()
 {}
 
 /// What a script prints of its searches is true. Its text is made of pieces, of which those of its queries on codes are, in their
-/// order, the lines of the codes that it searches, under its budget. Such a line states the minimum distance of the code and a word of
+/// order, the lines of the codes that it searches, under its budget, and the weight distributions those of the codes that it counts.
+/// The line of a query states the minimum distance of the code and a word of
 /// it that has this weight; or two numbers between which the minimum distance lies, and a word that has the greater weight; or it is
 /// a certificate of which `check` answers that it is accepted, with the minimum distance; or it says that there is no certificate,
 /// with two such numbers, or since it costs too much or is too long. Under every budget the answers for these codes are true.
 pub fn printed_answers_are_true()
-    ensures text { (table : List Call) (budget : ℕ) (bytes text : List ℕ) (ends : Bool) → IsText table budget bytes text ends → (pieces : List Piece) × (text ≡ pieces_text budget pieces) × IsNeeds table bytes (codes_in pieces) × All (IsTruePiece budget) pieces }
+    ensures text { (table : List Call) (budget : ℕ) (bytes text : List ℕ) (ends : Bool) → IsText table budget bytes text ends → (pieces : List Piece) × (text ≡ pieces_text budget pieces) × IsNeeds table bytes (codes_in pieces) × AreCounted table bytes (counted_in pieces) × All (IsTruePiece budget) pieces }
     ensures line { (table : List Call) (bytes : List ℕ) (needs : List Matrix) → MeetsFirst table bytes needs → (i : ℕ) (C : Matrix) → slice_get needs i ≡ Some C → (kind : QueryKind) (budget : ℕ) → IsTrueLine kind C budget (query_line kind C budget) }
     ensures truth { (table : List Call) (bytes : List ℕ) (needs : List Matrix) (budget : ℕ) → MeetsFirst table bytes needs → All (λ C. AnswerHolds C (answer (divisor_of C) C budget)) needs }
+{}
+
+/// What a script prints for a weight distribution is true. Of each code that a script counts it prints a number for each weight from 0
+/// to the length: as many different words of the code have this weight, and no more. The numbers are q^k together, for a code of
+/// dimension k over q elements.
+pub fn printed_distributions_are_true()
+    ensures { (table : List Call) (bytes : List ℕ) (codes : List Matrix) → AreCounted table bytes codes
+        → All (λ C. StatesDistribution C (distribution_line C)) codes }
 {}
 
 /// If the budget is at least m (q^k - 1)/(q - 1) blocks and at most 2^40, for a code of dimension k over q elements with m information

@@ -1,82 +1,98 @@
--- A query that searches asks for a code with rows.
+-- A query that searches asks for a code with rows, and one that counts for a code whose weight distribution is computed.
 --   asked_rows           the code that a statement asks for has rows
---   met_rows             so have the needs that a session meets
-use Rattle.std.proofs.Common.{◌≡◌, ◌<◌, ℕ, zero, suc, List, [], ◌∷◌, length, take, Option, Some, None, sym, ap, subst, ◌∙◌, ⊎_elim}
+--   counted_allowed      the weight distribution of the code that a statement counts isn't refused
+--   met_rows             the needs that a session meets have rows
+use Rattle.std.proofs.Common.{◌≡◌, ◌<◌, ℕ, zero, suc, List, [], ◌∷◌, length, take, Option, Some, None, option_map, refl, sym, ap, subst, ◌∙◌, ⊎_elim}
 use Rattle.std.specs.Prelude.{MatchOption, slice_get}
+use Rattle.lc_algebra.specs.Field.{size}
 use Rattle.lc_algebra.specs.Matrix.{Matrix}
+use Rattle.lc_enumeration.specs.Distribution.{NoDistribution, distribution_refusal}
 use Rattle.lc_grammar.specs.Tree.{Expr, Exprs, number, name, call, list, count_of, Statement}
 use Rattle.lc_grammar.specs.Grammar.{Reads}
 use Rattle.lc_language.specs.declared.Call.{Call}
 use Rattle.lc_language.specs.declared.Call.TheVariants.{Query}
 use Rattle.lc_language.specs.Calls as bound
-use Rattle.lc_language.specs.Calls.{signature_for, BoundQuery, bind_query}
+use Rattle.lc_language.specs.Calls.{signature_for, BoundQuery, bind_query, query_refusals_of, query_refusal_of}
 use Rattle.lc_language.specs.declared.QueryCall.{QueryCall}
 use Rattle.lc_language.specs.declared.Kind.{Kind}
 use Rattle.lc_language.specs.Value.{Binding}
+use Rattle.lc_language.specs.Refusal.{refuse, first_of, no_distribution}
 use Rattle.lc_language.specs.Query.{QueryKind, query_line, near_line}
 use Rattle.lc_language.specs.Evaluation.{Outcome, gives, refused, Outcomes, all_give, one_refused, refuse_at, refuse_call, Evaluates, EvaluatesAll, Assigns, Step, binds, prints, asks, counts, nears, fails, AsksOf, Queries, QueriesTo, QueriesAll, query_of, fail_with, StepsAsQuery, StepsOf, Steps}
 use Rattle.lc_session_rules.specs.Needs.{NeedsOn, Needs, MeetsFirst}
 
-abbrev HasRows : Step → Type 0
-HasRows (binds b) = Unit {0}
-HasRows (prints l) = Unit {0}
-HasRows (asks kind C) = 0 < length C.rows
-HasRows (counts C) = Unit {0}
-HasRows (nears C x) = Unit {0}
-HasRows (fails r) = Unit {0}
+abbrev IsAllowed : Step → Type 0
+IsAllowed (binds b) = Unit {0}
+IsAllowed (prints l) = Unit {0}
+IsAllowed (asks kind C) = 0 < length C.rows
+IsAllowed (counts C) = distribution_refusal (size C.field) C.columns (length C.rows) ≡ None
+IsAllowed (nears C x) = Unit {0}
+IsAllowed (fails r) = Unit {0}
 
-from_option : {A : Type 0} (o : Option A) (P : Type 0) (Q : A → Type 0) (R : Type 0) → (P → R) → ((a : A) → Q a → R) → MatchOption o P Q → R
-from_option None P Q R f g h = f h
+from_option : {A : Type 0} (o : Option A) (P : Type 0) (Q : A → Type 0) (R : Type 0) → (o ≡ None → P → R) → ((a : A) → Q a → R) → MatchOption o P Q → R
+from_option None P Q R f g h = f refl h
 from_option (Some a) P Q R f g h = g a h
 
-told : (step other : Step) → step ≡ other → HasRows other → HasRows step
-told step other e h = subst HasRows (sym e) h
+told : (step other : Step) → step ≡ other → IsAllowed other → IsAllowed step
+told step other e h = subst IsAllowed (sym e) h
 
-failed : (o : Outcome) → HasRows (fail_with o)
+failed : (o : Outcome) → IsAllowed (fail_with o)
 unfolding fail_with
 failed (gives v) = tt
 failed (refused r) = tt
 
-by_asks : (kind : QueryKind) (C : Matrix) (step : Step) → AsksOf kind C step → HasRows step
+by_asks : (kind : QueryKind) (C : Matrix) (step : Step) → AsksOf kind C step → IsAllowed step
 by_asks kind C step h =
     ⊎_elim (λ (a : (length C.rows ≡ 0) × (step ≡ prints (query_line kind C 0))). told step (prints (query_line kind C 0)) a.1 tt) (λ (a : (0 < length C.rows) × (step ≡ asks kind C)). told step (asks kind C) a.1 a.0) h
 
-by_query : (b : BoundQuery) (step : Step) → Queries b step → HasRows step
-by_query (bound.algebraic_decode C None x) step h = absurd h
-by_query (bound.algebraic_decode C (Some form) x) step h = told step _ h.2 tt
-by_query (bound.least_word rows f) step h = ⊎_elim (λ a. told step _ a.2 tt) (λ a. told step _ a.1 tt) h
-by_query (bound.minimum_distance C) step h = by_asks _ C step h
-by_query (bound.certificate C) step h = by_asks _ C step h
-by_query (bound.scan_certificate C) step h = by_asks _ C step h
-by_query (bound.weight_distribution C) step h = told step _ h tt
-by_query (bound.alternant_certificate C None x) step h = absurd h
-by_query (bound.alternant_certificate C (Some form) x) step h = told step _ h tt
-by_query (bound.nearest_word C x) step h = ⊎_elim (λ (a : (length C.rows ≡ 0) × (step ≡ prints (near_line C x 0))). told step _ a.1 tt) (λ (a : (0 < length C.rows) × (step ≡ nears C x)). told step _ a.1 tt) h
+none_refused : (o : Option NoDistribution) → first_of (option_map (λ (r : NoDistribution). refuse 47 (r.dimension ∷ r.codimension ∷ [])) o ∷ []) ≡ None → o ≡ None
+unfolding first_of
+none_refused None e = refl
+none_refused (Some r) e = absurd (let f = e in cc)
 
-by_all : (c : QueryCall) (place : ℕ) (kinds : List Kind) (es : Exprs) (os : Outcomes) (step : Step) → QueriesAll c place kinds es os step → HasRows step
+allowed : (C : Matrix) → query_refusal_of (bound.weight_distribution C) ≡ None → IsAllowed (counts C)
+unfolding query_refusal_of query_refusals_of no_distribution
+allowed C e = none_refused (distribution_refusal (size C.field) C.columns (length C.rows)) e
+
+by_query : (b : BoundQuery) (step : Step) → query_refusal_of b ≡ None → Queries b step → IsAllowed step
+by_query (bound.algebraic_decode C None x) step n h = absurd h
+by_query (bound.algebraic_decode C (Some form) x) step n h = told step _ h.2 tt
+by_query (bound.least_word rows f) step n h = ⊎_elim (λ a. told step _ a.2 tt) (λ a. told step _ a.1 tt) h
+by_query (bound.minimum_distance C) step n h = by_asks _ C step h
+by_query (bound.certificate C) step n h = by_asks _ C step h
+by_query (bound.scan_certificate C) step n h = by_asks _ C step h
+by_query (bound.weight_distribution C) step n h = told step (counts C) h (allowed C n)
+by_query (bound.alternant_certificate C None x) step n h = absurd h
+by_query (bound.alternant_certificate C (Some form) x) step n h = told step _ h tt
+by_query (bound.nearest_word C x) step n h = ⊎_elim (λ (a : (length C.rows ≡ 0) × (step ≡ prints (near_line C x 0))). told step _ a.1 tt) (λ (a : (0 < length C.rows) × (step ≡ nears C x)). told step _ a.1 tt) h
+
+by_all : (c : QueryCall) (place : ℕ) (kinds : List Kind) (es : Exprs) (os : Outcomes) (step : Step) → QueriesAll c place kinds es os step → IsAllowed step
 by_all c place kinds es (one_refused r) step h = told step (fails r) h tt
 by_all c place kinds es (all_give vs) step h =
-    from_option (bind_query c vs) _ (λ b. QueriesTo place b step) (HasRows step) (λ e. told step _ e (failed _))
-    (λ b k. from_option _ (Queries b step) _ (HasRows step) (by_query b step) (λ r e. told step _ e (failed (refuse_call place r))) k) h
+    from_option (bind_query c vs) _ (λ b. QueriesTo place b step) (IsAllowed step) (λ _ e. told step _ e (failed _))
+    (λ b k. from_option (query_refusal_of b) (Queries b step) _ (IsAllowed step) (by_query b step) (λ r e. told step _ e (failed (refuse_call place r))) k) h
 
-as_query_rows : (table : List Call) (env : List Binding) (c : QueryCall) (e : Expr) (step : Step) → StepsAsQuery table env c e step → HasRows step
-as_query_rows table env c (call place x es) step h =
-    from_option (signature_for (Query c) (count_of es)) (step ≡ fail_with (refuse_at 46 place)) (λ kinds. (os : Outcomes) × EvaluatesAll table env es os × QueriesAll c place kinds es os step) (HasRows step) (λ e. told step (fail_with (refuse_at 46 place)) e (failed (refuse_at 46 place))) (λ kinds k. by_all c place kinds es k.0 step k.2) h
-as_query_rows table env c (number place n) step h = absurd h
-as_query_rows table env c (name place x) step h = absurd h
-as_query_rows table env c (list place es) step h = absurd h
+as_query_allowed : (table : List Call) (env : List Binding) (c : QueryCall) (e : Expr) (step : Step) → StepsAsQuery table env c e step → IsAllowed step
+as_query_allowed table env c (call place x es) step h =
+    from_option (signature_for (Query c) (count_of es)) (step ≡ fail_with (refuse_at 46 place)) (λ kinds. (os : Outcomes) × EvaluatesAll table env es os × QueriesAll c place kinds es os step) (IsAllowed step) (λ _ e. told step (fail_with (refuse_at 46 place)) e (failed (refuse_at 46 place))) (λ kinds k. by_all c place kinds es k.0 step k.2) h
+as_query_allowed table env c (number place n) step h = absurd h
+as_query_allowed table env c (name place x) step h = absurd h
+as_query_allowed table env c (list place es) step h = absurd h
 
-assigned : (x : List ℕ) (o : Outcome) (step : Step) → Assigns x o step → HasRows step
+assigned : (x : List ℕ) (o : Outcome) (step : Step) → Assigns x o step → IsAllowed step
 assigned x (gives v) step h = told step _ h tt
 assigned x (refused r) step h = told step _ h tt
 
-steps_of_rows : (table : List Call) (env : List Binding) (target : Option (List ℕ)) (e : Expr) (step : Step) → StepsOf table env target e step → HasRows step
-steps_of_rows table env (Some x) e step h = assigned x h.0 step h.2
-steps_of_rows table env None e step h =
-    from_option (query_of table e) ((o : Outcome) × Evaluates table env e o × (step ≡ fail_with o)) (λ c. StepsAsQuery table env c e step) (HasRows step) (λ k. told step (fail_with k.0) k.2 (failed k.0)) (λ c k. as_query_rows table env c e step k) h
+steps_of_allowed : (table : List Call) (env : List Binding) (target : Option (List ℕ)) (e : Expr) (step : Step) → StepsOf table env target e step → IsAllowed step
+steps_of_allowed table env (Some x) e step h = assigned x h.0 step h.2
+steps_of_allowed table env None e step h =
+    from_option (query_of table e) ((o : Outcome) × Evaluates table env e o × (step ≡ fail_with o)) (λ c. StepsAsQuery table env c e step) (IsAllowed step) (λ _ k. told step (fail_with k.0) k.2 (failed k.0)) (λ c k. as_query_allowed table env c e step k) h
 
 pub asked_rows : (table : List Call) (env : List Binding) (s : Statement) (kind : QueryKind) (C : Matrix) → Steps table env s (asks kind C) → 0 < length C.rows
-asked_rows table env s kind C h = steps_of_rows table env s.target s.expr (asks kind C) h
+asked_rows table env s kind C h = steps_of_allowed table env s.target s.expr (asks kind C) h
+
+pub counted_allowed : (table : List Call) (env : List Binding) (s : Statement) (C : Matrix) → Steps table env s (counts C) → distribution_refusal (size C.field) C.columns (length C.rows) ≡ None
+counted_allowed table env s C h = steps_of_allowed table env s.target s.expr (counts C) h
 
 -- ---- the needs of a session
 
@@ -93,7 +109,7 @@ more_rows needs rest C e some h zero D at =
     subst (λ (B : Matrix). 0 < length B.rows) same some
 more_rows needs rest C e some h (suc i) D at = h i D (sym (ap (λ (l : List Matrix). slice_get l (suc i)) e) ∙ at)
 
-on_rows : (step : Step) (env : List Binding) (Later : List Binding → List Matrix → Type 0) (needs : List Matrix) → HasRows step → ((later : List Binding) (rest : List Matrix) → Later later rest → HaveRows rest) → NeedsOn env step Later needs → HaveRows needs
+on_rows : (step : Step) (env : List Binding) (Later : List Binding → List Matrix → Type 0) (needs : List Matrix) → IsAllowed step → ((later : List Binding) (rest : List Matrix) → Later later rest → HaveRows rest) → NeedsOn env step Later needs → HaveRows needs
 on_rows (binds b) env Later needs some f h = f (b ∷ env) needs h
 on_rows (prints l) env Later needs some f h = f env needs h
 on_rows (asks kind C) env Later needs some f h = more_rows needs h.0 C h.2 some (f env h.0 h.1)
@@ -103,7 +119,7 @@ on_rows (fails r) env Later needs some f h = none_rows needs h
 
 needs_rows : (table : List Call) (ss : List Statement) (env : List Binding) (needs : List Matrix) → Needs table env ss needs → HaveRows needs
 needs_rows table [] env needs h = none_rows needs h
-needs_rows table (s ∷ ss) env needs h = on_rows h.0 env (λ later. Needs table later ss) needs (steps_of_rows table env s.target s.expr h.0 h.1) (λ later rest k. needs_rows table ss later rest k) h.2
+needs_rows table (s ∷ ss) env needs h = on_rows h.0 env (λ later. Needs table later ss) needs (steps_of_allowed table env s.target s.expr h.0 h.1) (λ later rest k. needs_rows table ss later rest k) h.2
 
 pub met_rows : (table : List Call) (bytes : List ℕ) (needs : List Matrix) → MeetsFirst table bytes needs → HaveRows needs
 met_rows table bytes needs met =

@@ -1,6 +1,7 @@
 -- The statements of a script, one after another, with what they ask and print.
 --   begun                nothing is done
---   by_line, by_binding, by_need      after a statement that prints a line, binds a name, or asks a need
+--   by_line, by_binding, by_need, by_count      after a statement that prints a line, binds a name, asks a need, or counts the words
+--                        of a code
 --   at_end, at_end_asks  at the end of the script
 --   at_fault, at_fault_asks      after a statement that fails
 --   met_so_far, met_with_next      the needs of the statements done, and with the one that is asked now
@@ -11,9 +12,9 @@ use Rattle.lc_enumeration.specs.Search.{Answer}
 use Rattle.lc_grammar.specs.Tree.{Statement}
 use Rattle.lc_language.specs.declared.Call.{Call}
 use Rattle.lc_language.specs.Value.{Binding}
-use Rattle.lc_language.specs.Query.{QueryKind}
+use Rattle.lc_language.specs.Query.{QueryKind, distribution_line}
 use Rattle.lc_language.specs.Print.{fault_line}
-use Rattle.lc_language.specs.Evaluation.{Refused, Steps, binds, prints, asks, fails}
+use Rattle.lc_language.specs.Evaluation.{Refused, Steps, binds, prints, asks, counts, fails}
 use Rattle.lc_session_rules.specs.Needs.{Needs}
 use Rattle.lc_session_rules.specs.Answers.{answer_line, RunsBy}
 use Rattle.lc_session_rules.specs.Statements.{HaveDone}
@@ -64,6 +65,15 @@ module _ (table : List Call) (budget : ℕ) (start now : List Binding) (first : 
     asks_so = λ tail more k. subst (λ (ns : List Matrix). Needs table start ((h.done ++ s ∷ []) ++ tail) (ns ++ more)) (append-nil needs) (asks_after now [] (λ tail more k. (prints line, steps, k)) tail more k);
     prints_so = λ tail others rest ends k. subst (λ (l : List Answer). RunsBy table budget start ((h.done ++ s ∷ []) ++ tail) (l ++ others) ((text ++ line) ++ rest) ends) (append-nil answers)
         (prints_after now [] line (λ tail others rest ends k. (prints line, steps, (rest, k, refl))) tail others rest ends k);
+  }
+
+  pub by_count : (C : Matrix) → Steps table now s (counts C) → HaveDone table budget start now first left needs answers (text ++ distribution_line C)
+  by_count C steps = record {
+    done = h.done ++ s ∷ [];
+    split = split_after;
+    asks_so = λ tail more k. subst (λ (ns : List Matrix). Needs table start ((h.done ++ s ∷ []) ++ tail) (ns ++ more)) (append-nil needs) (asks_after now [] (λ tail more k. (counts C, steps, k)) tail more k);
+    prints_so = λ tail others rest ends k. subst (λ (l : List Answer). RunsBy table budget start ((h.done ++ s ∷ []) ++ tail) (l ++ others) ((text ++ distribution_line C) ++ rest) ends) (append-nil answers)
+        (prints_after now [] (distribution_line C) (λ tail others rest ends k. (counts C, steps, (rest, k, refl))) tail others rest ends k);
   }
 
   pub by_binding : (b : Binding) (later : List Binding) → Steps table now s (binds b) → AreSame later (b ∷ now) → HaveDone table budget start later first left needs answers text

@@ -25,14 +25,15 @@
 use Rattle.std.specs.Prelude.{◌≡◌, ℕ, ◌⊎◌, ◌+◌, ◌^◌, ◌<◌, ◌≤◌, Bool, true, false, IsTrue, List, [], ◌∷◌, ◌++◌, length, map, Option, Some, None, IfSome, All}
 use Rattle.std.specs.Io.KnownBytes.{Consumes, Appends, IsAtEnd}
 use Rattle.sha2.specs.Sha256.{sha256}
-use Rattle.lc_algebra.specs.Span.{IsDistance}
 use Rattle.lc_algebra.specs.Matrix.{Matrix}
 use Rattle.lc_enumeration.specs.Search.{Answer, answer}
 use Rattle.lc_enumeration.specs.Records.{Note, Start, fresh_start, SessionStep, SessionRounds, session_rounds}
 use Rattle.lc_enumeration.specs.Fitting.{Misfit, misfit}
 use Rattle.lc_enumeration.specs.Truth.{AnswerHolds}
-use Rattle.lc_formats.specs.Certificate.{Certificate, accepted, rejected as rejects}
-use Rattle.lc_formats.specs.Check.{reads_as, certificate_in, verdict_of, check_text}
+use Rattle.lc_formats.specs.Certificate.{accepted, rejected as rejects}
+use Rattle.lc_formats.specs.Claim.{Document}
+use Rattle.lc_formats.specs.Document.{document_in, document, IsCheckText}
+use Rattle.lc_formats.specs.Proven.{IsVerdict, Proves}
 use Rattle.lc_formats.specs.Checkpoint.{Checkpoint}
 use Rattle.lc_formats.specs.Truth.{start_of}
 use Rattle.lc_algebra.specs.Divisor.{divisor_of}
@@ -350,17 +351,18 @@ pub record IsResumedText (table : List Call) (asked : Settings) (held : Option S
 abbrev pub Replies : List Call → Command → Settings → Option Slots → Course → Type 0
 Replies table run asked held course = IsNeeds table course.bytes course.needs × IsScriptText table asked course
 Replies table resume asked held course = IsNeeds table course.bytes course.needs × IsResumedText table asked held course
-Replies table check asked held course = (course.text ≡ check_text course.bytes) × (course.is_faulty ≡ false)
+Replies table check asked held course = IsCheckText course.bytes course.text × (course.is_faulty ≡ false)
 Replies table summary asked held course =
     (course.text ≡ summary_text asked.number asked.budget) × (course.is_faulty ≡ false) × (course.needs ≡ summary_code asked.number ∷ [])
     × AnswerHolds (summary_code asked.number) (answer (divisor_of (summary_code asked.number)) (summary_code asked.number) asked.budget)
 
--- the bytes are a certificate that is accepted, and its distance is that of its rows
+-- the bytes are a certificate of either version that is accepted, and its distance is that of its rows, or of the code that its
+-- claim defines
 pub record IsAccepted (bytes : List ℕ) : Type 0 where
-  pub certificate : Certificate
-  pub reads : certificate_in bytes ≡ reads_as certificate
-  pub verdict : verdict_of (certificate_in bytes) ≡ accepted
-  pub proves : IsDistance certificate.field (length certificate.word) certificate.rows certificate.distance
+  pub certificate : Document
+  pub reads : document_in bytes ≡ document certificate
+  pub verdict : IsVerdict (document_in bytes) accepted
+  pub proves : Proves certificate
 
 -- `check` ends with Done only for a certificate that is accepted
 abbrev pub Judges : Command → List ℕ → Type 0
@@ -387,7 +389,7 @@ Replied table (no_memory told) asked held course = Unit {0}
 Replied table no_checkpoint asked held course = Unit {0}
 Replied table damaged_checkpoint asked held course = Unit {0}
 Replied table (other_script script budget) asked held course = Unit {0}
-Replied table (rejected reason) asked held course = Replies table asked.command asked held course × (verdict_of (certificate_in course.bytes) ≡ rejects reason)
+Replied table (rejected reason) asked held course = Replies table asked.command asked held course × IsVerdict (document_in course.bytes) (rejects reason)
 Replied table too_long asked held course = Unit {0}
 Replied table (unfit query told found) asked held course = Unit {0}
 

@@ -8,7 +8,8 @@ ghost use Rattle.lc_algebra.specs.Matrix.{Matrix};
 ghost use Rattle.lc_enumeration.specs.Search.{Answer};
 ghost use Rattle.lc_enumeration.specs.Records.{SessionStep};
 ghost use Rattle.lc_formats.specs.Certificate.{Reason, accepted, rejected as rejects};
-ghost use Rattle.lc_formats.specs.Check.{certificate_in, verdict_of, check_text};
+ghost use Rattle.lc_formats.specs.Document.{document_in, IsCheckText};
+ghost use Rattle.lc_formats.specs.Proven.{IsVerdict};
 ghost use Rattle.lc_formats.specs.Checkpoint.{Checkpoint};
 ghost use Rattle.lc_io.specs.declared.watcher.Record.{Record};
 ghost use Rattle.lc_io.specs.Outside.{HasRisen, AppendsPart};
@@ -59,8 +60,8 @@ pub fn sessions_say_what_they_did()
     ensures other_script { (table : List Call) (args : List (List ℕ)) (old new : Outside) (script : List ℕ) (budget : ℕ) (s : IsSession table args old new (other_script script budget)) (slots : Slots) → old.vault ≡ Some slots
         → (p : Checkpoint) × (choice slots ≡ takes p) × (script ≡ p.script) × (budget ≡ p.budget) }
     ensures unkept { (table : List Call) (args : List (List ℕ)) (old new : Outside) (ending : Ending) (s : IsSession table args old new ending) → s.asked.keep ≡ false → new.vault ≡ old.vault }
-    ensures accepted { (table : List Call) (args : List (List ℕ)) (old new : Outside) (n : ℕ) (s : IsSession table args old new (done n)) → s.asked.command ≡ check → (verdict_of (certificate_in s.course.bytes) ≡ accepted) × Appends old.sink new.sink (check_text s.course.bytes) }
-    ensures rejected { (table : List Call) (args : List (List ℕ)) (old new : Outside) (reason : Reason) (s : IsSession table args old new (rejected reason)) → (verdict_of (certificate_in s.course.bytes) ≡ rejects reason) × Appends old.sink new.sink (check_text s.course.bytes) }
+    ensures accepted { (table : List Call) (args : List (List ℕ)) (old new : Outside) (n : ℕ) (s : IsSession table args old new (done n)) → s.asked.command ≡ check → IsVerdict (document_in s.course.bytes) accepted × IsCheckText s.course.bytes s.course.text × Appends old.sink new.sink s.course.text }
+    ensures rejected { (table : List Call) (args : List (List ℕ)) (old new : Outside) (reason : Reason) (s : IsSession table args old new (rejected reason)) → IsVerdict (document_in s.course.bytes) (rejects reason) × IsCheckText s.course.bytes s.course.text × Appends old.sink new.sink s.course.text }
     ensures summary { (table : List Call) (args : List (List ℕ)) (old new : Outside) (n : ℕ) (s : IsSession table args old new (done n)) → s.asked.command ≡ summary → Appends old.sink new.sink (summary_text s.asked.number s.asked.budget) × (new.source ≡ old.source) }
     ensures unfailed { (table : List Call) (args : List (List ℕ)) (old new : Outside) (n : ℕ) (s : IsSession table args old new (done n)) → (new.source_faults ≡ old.source_faults) × (new.sink_faults ≡ old.sink_faults) × (new.vault_faults ≡ old.vault_faults) }
     ensures counts { (table : List Call) (args : List (List ℕ)) (old new : Outside) (ending : Ending) (s : IsSession table args old new ending)
@@ -69,7 +70,7 @@ pub fn sessions_say_what_they_did()
     ensures early { (table : List Call) (args : List (List ℕ)) (old new : Outside) (ending : Ending) (s : IsSession table args old new ending) → IsTrue (ends_early ending) → (s.course.told ≡ []) × (new.sink ≡ old.sink) × (new.vault ≡ old.vault) × (new.watchers ≡ old.watchers) }
     ensures sink_fault { (table : List Call) (args : List (List ℕ)) (old new : Outside) (s : IsSession table args old new sink_fault)
         → HasRisen old.sink_faults new.sink_faults × AppendsPart old.sink new.sink s.course.text
-        × (StartsTruly table s.asked.command s.asked old.vault s.course → IsText table s.asked.budget s.course.bytes s.course.text s.course.is_faulty) × (s.asked.command ≡ check → s.course.text ≡ check_text s.course.bytes) × (s.asked.command ≡ summary → s.course.text ≡ summary_text s.asked.number s.asked.budget) }
+        × (StartsTruly table s.asked.command s.asked old.vault s.course → IsText table s.asked.budget s.course.bytes s.course.text s.course.is_faulty) × (s.asked.command ≡ check → IsCheckText s.course.bytes s.course.text) × (s.asked.command ≡ summary → s.course.text ≡ summary_text s.asked.number s.asked.budget) }
     ensures written { (table : List Call) (args : List (List ℕ)) (old new : Outside) (ending : Ending) (s : IsSession table args old new ending) → ((n : ℕ) → ¬ (ending ≡ done n)) → ¬ (ending ≡ sink_fault) → ((r : Reason) → ¬ (ending ≡ rejected r)) → new.sink ≡ old.sink }
     ensures words { (table : List Call) (args : List (List ℕ)) (old new : Outside) (n : ℕ) (s : IsSession table args old new (done n)) → s.asked.command ≡ resume
         → (answers : List Answer) × IsTextBy table s.asked.budget s.course.bytes answers s.course.text s.course.is_faulty × HasWords s.course.needs answers × Appends old.sink new.sink s.course.text }

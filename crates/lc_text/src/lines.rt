@@ -1,19 +1,24 @@
-//! The lines of queries that searches answer.
-ghost use Rattle.std.specs.Prelude.{◌≡◌, Some, true, IfOk};
+//! The lines of queries that searches answer, or that count words.
+ghost use Rattle.std.specs.Prelude.{◌≡◌, ◌≤◌, Some, None, length, true, IfOk};
+ghost use Rattle.lc_algebra.specs.Field.{size};
+ghost use Rattle.lc_enumeration.specs.Distribution.{distribution_refusal};
 ghost use Rattle.lc_enumeration.specs.Search.{fits};
 ghost use Rattle.lc_enumeration.specs.Records.{found_of};
-ghost use Rattle.lc_language.specs.Query.{distance_answer_line, certificate_answer_line};
+ghost use Rattle.lc_language.specs.Query.{distance_answer_line, certificate_answer_line, distribution_line};
 ghost use Rattle.lc_certify.specs.Claims.{kind_of as way_kind};
 ghost use Rattle.lc_eval.specs.Evaluated.{kind_of};
 ghost use Rattle.lc_search.specs.State.{answer_in, answer_of};
 ghost use Rattle.lc_session_rules.specs.Answers.{answer_line};
 
 use lc_certify::{Way, exact_line};
+use lc_code::Code;
 use lc_eval::QueryKind;
 use lc_field::NoMemory;
-use lc_print::{bracket_line, certificate_bracket_line, distance_line};
+use lc_print::{bracket_line, certificate_bracket_line, distance_line, list_line};
 use lc_search::{Answer, Search};
+use lc_weights::distribution;
 use std::alloc::Global;
+use std::thread::Threads;
 
 // The line that `MinimumDistance` prints of an answer.
 fn distance_line_of(alloc: Global, search: &Search, answer: Answer) -> Result<Vec<u8>, NoMemory>
@@ -74,4 +79,22 @@ pub(crate) fn line_of(
         QueryKind::Levels => certificate_line_of(alloc, Way::Levels, search, answer),
         QueryKind::Scan => certificate_line_of(alloc, Way::Scan, search, answer),
     }
+}
+
+/// The line that `WeightDistribution` prints of a code. Refused only for want of memory.
+///
+/// There are 1 to 256 workers, who count the words, and the weight distribution of the code isn't refused.
+#[tactic(auto, unfolding(lc_language::specs::Query::distribution_line))]
+pub(crate) fn distribution_line<R: Threads + Sync>(
+    rt: &R,
+    alloc: Global,
+    workers: u32,
+    code: &Code,
+) -> Result<Vec<u8>, NoMemory>
+    requires workers { (1 ≤ workers) × (workers ≤ 256) }
+    requires allowed { distribution_refusal (size code.now.field) code.now.columns (length code.now.rows) ≡ None }
+    ensures { IfOk result (λ line. line.items ≡ distribution_line code.now) }
+{
+    let counts = distribution(rt, alloc, code, workers)?;
+    list_line(alloc, counts.as_slice())
 }

@@ -10,6 +10,7 @@ ghost use Rattle.lc_rounds.specs.Way.{around};
 ghost use Rattle.lc_rounds.specs.Going.{World, IsRanged, Goes};
 ghost use Rattle.lc_text.specs.Text.{Finishes, Ends};
 
+use crate::lines::distribution_line;
 use crate::queries::need_line;
 use lc_eval::{Machine, Step};
 use lc_io::{Gate, Vault, Watcher};
@@ -99,6 +100,14 @@ pub(crate) fn text_of<R: Threads + Sync, V: Vault, W: Watcher, G: Gate + Sync>(
                 ) {
                     Ok(line) => line,
                     Err(halt) => return Err(halt),
+                };
+                if bytes.extend_from_slice(&line).is_err() {
+                    return Err(Halt::Stop(Stop::NoMemory));
+                }
+            }
+            Step::Weights(code) => {
+                let Ok(line) = distribution_line(rt, alloc, workers, &code) else {
+                    return Err(Halt::Stop(Stop::NoMemory));
                 };
                 if bytes.extend_from_slice(&line).is_err() {
                     return Err(Halt::Stop(Stop::NoMemory));

@@ -8,14 +8,16 @@ ghost use Rattle.lc_weights.specs.Counts.{block_count, IsRoomOf};
 use crate::walk::count_block;
 use lc_crew::{Blocks, NoMemory};
 use lc_infoset::Sets;
-use lc_kernel::Stack;
+use lc_kernel::Scratch;
 use lc_place::Plan;
 use std::alloc::Global;
 
-/// What a worker works in: a stack, and how many words it has counted of each weight from 0 to the length.
+/// What a worker works in: a scratch, the weights of the words of a block, and how many words it has counted of each
+/// weight from 0 to the length.
 #[derive(Drop)]
 pub(crate) struct CountRoom {
-    pub(crate) stack: Stack,
+    pub(crate) scratch: Scratch,
+    pub(crate) words: Vec<u32>,
     pub(crate) counts: Vec<u64>,
 }
 
@@ -45,7 +47,8 @@ impl<'a> Blocks for CountBlocks<'a> {
             self.sets,
             self.plan,
             block,
-            &mut room.stack,
+            &mut room.scratch,
+            &mut room.words,
             &mut room.counts,
         );
         0
@@ -53,11 +56,16 @@ impl<'a> Blocks for CountBlocks<'a> {
 
     #[tactic(auto, using(crate::proofs::WalkLaws::fresh_room))]
     fn another(&self, alloc: Global, room: &CountRoom) -> Result<CountRoom, NoMemory> {
-        let Ok(stack) = room.stack.another(alloc) else {
+        let Ok(scratch) = room.scratch.another(alloc) else {
             return Err(NoMemory);
         };
+        let words = vec![in alloc; 0u32; 4096]?;
         let counts = vec![in alloc; 0u64; self.sets.length() + 1]?;
-        Ok(CountRoom { stack, counts })
+        Ok(CountRoom {
+            scratch,
+            words,
+            counts,
+        })
     }
 }
 
@@ -72,7 +80,12 @@ pub(crate) fn first_room(
     requires one { plan.now.m ≡ 1 }
     ensures fresh { IfOk result (IsFresh (IsRoomOf sets.now plan.now) (λ room j. slice_index room.counts.items j)) }
 {
-    let stack = Stack::new(alloc, sets)?;
+    let scratch = Scratch::new(alloc, sets)?;
+    let words = vec![in alloc; 0u32; 4096]?;
     let counts = vec![in alloc; 0u64; sets.length() + 1]?;
-    Ok(CountRoom { stack, counts })
+    Ok(CountRoom {
+        scratch,
+        words,
+        counts,
+    })
 }

@@ -11,5 +11,5 @@ mod counted;
 mod rooms;
 mod walk;
 
-pub use choice::{DistributionRefusal, distribution, refusal};
+pub use choice::distribution;
 pub use counted::count_words;

@@ -1,48 +1,23 @@
-use Rattle.std.proofs.Common.{◌≡◌, ◌+◌, ◌-◌, ◌<◌, ◌≤◌, arith}
-use Rattle.lc_enumeration.specs.Plan.{block_length}
-use Rattle.lc_enumeration.specs.Search.{block_words}
-use Rattle.lc_weights.proofs.WalkLaws.{counted_none, word_counted, block_counted, block_few, counts_low}
+use Rattle.std.proofs.Common.{◌≡◌, ◌<◌, length, take, arith}
+use Rattle.std.proofs.lemmas.List.{length-take-le, get_or-take}
+use Rattle.lc_weights.proofs.WalkLaws.{block_tallied, block_few}
 use Rattle.lc_weights.proofs.walk.count_block.Goals as goal
 
-pub loop-offset-init : goal.loop-offset-init
-loop-offset-init c =
-    let C = c.args.sets.now in
-    let plan = c.args.plan.now in
-    let b = c.args.block in
-    let found = c.phase_of-phase.ensures.found in
-    let e = c.note.ensures in (
-      c.start_in.ensures.at,
-      word_counted C plan b found.0 0 c.start_in.new.stack c.args.counts.now c.args.counts.now c.note.new.counts c.requires.plan c.requires.one found.1 (omega arith) c.start_in.ensures.at (counted_none (block_words C 1 b) c.args.counts.now) e.long e.added,
-    )
+pub tally-requires-clause-inside : goal.tally-requires-clause-inside
+tally-requires-clause-inside c i l =
+    let n = c.weights-many.result in
+    let long : length (take n c.weights-many.new.weights) ≡ n = length-take-le n c.weights-many.new.weights (omega (arith, c.weights-many.ensures.few, c.weights-many.ensures.long, c.requires.room)) in
+    let inside : i < n = omega (arith, l, long) in
+    omega (arith, c.weights-many.ensures.most i inside, get_or-take n c.weights-many.new.weights i 0 inside, c.requires.long)
 
-pub note-requires-in-loop-offset-clause-low : goal.note-requires-in-loop-offset-clause-low
-note-requires-in-loop-offset-clause-low c =
-    let few : c.loop-offset.offset ≤ 4096 = omega (arith, c.loop-offset-test.true, c.block_len-offset-end.ensures.few) in
-    counts_low (block_words c.args.sets.now 1 c.args.block) c.loop-offset.offset c.args.counts.now c.loop-offset.counts c.loop-offset.invariant.1 few c.requires.low
-
-pub loop-offset-preserved : goal.loop-offset-preserved
-loop-offset-preserved c =
-    let C = c.args.sets.now in
-    let plan = c.args.plan.now in
-    let b = c.args.block in
-    let n = c.loop-offset.offset in
-    let found = c.phase_of-phase.ensures.found in
-    let few : n < 4096 = omega (arith, c.loop-offset-test.true, c.block_len-offset-end.ensures.few) in
-    let back : n + 1 - 1 ≡ n = omega arith in
-    let e = c.note-in-loop-offset.ensures in (
-      rw back c.step_in.ensures.at,
-      word_counted C plan b found.0 n c.step_in.new.stack c.args.counts.now c.loop-offset.counts c.note-in-loop-offset.new.counts c.requires.plan c.requires.one found.1 few c.step_in.ensures.at c.loop-offset.invariant.1 e.long e.added,
-    )
+pub tally-requires-clause-few : goal.tally-requires-clause-few
+tally-requires-clause-few c =
+    let n = c.weights-many.result in
+    omega (arith, length-take-le n c.weights-many.new.weights (omega (arith, c.weights-many.ensures.few, c.weights-many.ensures.long, c.requires.room)), c.weights-many.ensures.few)
 
 pub returns-clause-added : goal.returns-clause-added
-returns-clause-added c =
-    let plan = c.args.plan.now in
-    let b = c.args.block in
-    let found = c.phase_of-phase.ensures.found in
-    let all : c.loop-offset.offset ≡ block_length plan.k plan.q plan.m found.0 b = omega (arith, c.loop-offset-test.false, c.loop-offset.auto.offset-end, c.block_len-offset-end.ensures.some, c.block_len-offset-end.ensures.exact found.0 found.1) in
-    block_counted c.args.sets.now plan b found.0 c.loop-offset.offset c.args.counts.now c.loop-offset.counts c.requires.plan c.requires.one found.1 all c.loop-offset.invariant.1
+returns-clause-added c j =
+    block_tallied c.args.sets.now c.args.plan.now.m c.args.block c.weights-many.result j c.weights-many.new.weights c.args.counts.now c.tally.new.counts c.requires.one c.weights-many.ensures.many (omega (arith, c.weights-many.ensures.few, c.weights-many.ensures.long, c.requires.room)) c.weights-many.ensures.are (c.tally.ensures.added j)
 
 pub returns-clause-few : goal.returns-clause-few
-returns-clause-few c =
-    let found = c.phase_of-phase.ensures.found in
-    block_few c.args.sets.now c.args.plan.now c.args.block found.0 c.block_len-offset-end.result c.requires.plan c.requires.one found.1 (c.block_len-offset-end.ensures.exact found.0 found.1) c.block_len-offset-end.ensures.few
+returns-clause-few c j = block_few c.args.sets.now c.args.plan.now.m c.args.block c.weights-many.result j c.requires.one c.weights-many.ensures.many c.weights-many.ensures.few

@@ -1,6 +1,6 @@
 use Rattle.std.proofs.Common.{arith}
-use Rattle.lc_weights.proofs.ChoiceLaws.{power_next, power_fits, power_passed}
-use Rattle.lc_weights.proofs.choice.is_power_above.Goals as goal
+use Rattle.lc_macwilliams.proofs.RefusalLaws.{power_next, power_fits, power_passed}
+use Rattle.lc_macwilliams.proofs.refusals.is_power_above.Goals as goal
 
 pub returns-then-product-most : goal.returns-then-product-most
 returns-then-product-most c = record {

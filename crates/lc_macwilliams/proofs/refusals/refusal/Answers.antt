@@ -1,7 +1,7 @@
 use Rattle.std.proofs.Common.{ap, ◌∙◌, refl}
 use Rattle.lc_algebra.specs.Field.{size}
-use Rattle.lc_weights.proofs.ChoiceLaws.{refused_is, allowed_is}
-use Rattle.lc_weights.proofs.choice.refusal.Goals as goal
+use Rattle.lc_macwilliams.proofs.RefusalLaws.{refused_is, allowed_is}
+use Rattle.lc_macwilliams.proofs.refusals.refusal.Goals as goal
 
 pub returns-then-is_refused : goal.returns-then-is_refused
 returns-then-is_refused c = record {

@@ -1,5 +1,5 @@
 use Rattle.std.proofs.Common.{◌≡◌, ◌^◌}
-use Rattle.lc_weights.proofs.choice.is_power_above.Given as goal
+use Rattle.lc_macwilliams.proofs.refusals.is_power_above.Given as goal
 
 abbrev pub invariant-loop-counter : goal.invariant-loop-counter
 invariant-loop-counter l = l.product ≡ l.fn.q ^ l._counter
