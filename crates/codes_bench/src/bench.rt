@@ -22,6 +22,8 @@ pub enum Bench {
     /// the least words of the blocks of a level: the size of the field, the length and the dimension of a code, and the
     /// level
     Least(u64, usize, usize, usize),
+    /// counting the words of a code of length 64 by their weights: the size of the field, and the dimension
+    Count(u64, usize),
     /// the innermost loop of the kernel alone, over long runs, for symbols of this many bits
     Limit(u32),
     /// a decoder
@@ -55,7 +57,7 @@ pub enum Searches {
 }
 
 /// The benches with their names.
-pub static BENCHES: [(&str, Bench); 45] = [
+pub static BENCHES: [(&str, Bench); 50] = [
     ("add_scaled_2", Bench::AddScaled(2)),
     ("add_scaled_3", Bench::AddScaled(3)),
     ("add_scaled_4", Bench::AddScaled(4)),
@@ -86,6 +88,11 @@ pub static BENCHES: [(&str, Bench); 45] = [
     ("kernel_11", Bench::Least(11, 24, 8, 5)),
     ("kernel_13", Bench::Least(13, 24, 8, 5)),
     ("kernel_16", Bench::Least(16, 30, 15, 4)),
+    ("count_2", Bench::Count(2, 24)),
+    ("count_3", Bench::Count(3, 15)),
+    ("count_4", Bench::Count(4, 12)),
+    ("count_9", Bench::Count(9, 7)),
+    ("count_16", Bench::Count(16, 6)),
     ("limit_1", Bench::Limit(1)),
     ("limit_2", Bench::Limit(2)),
     ("limit_3", Bench::Limit(3)),

@@ -4,6 +4,7 @@
 
 mod bench;
 mod codes;
+mod counts;
 mod decoders;
 mod kernel;
 mod limits;
@@ -59,6 +60,7 @@ fn measure<R: Clock + AllocGlobal + Threads + Sync>(rt: &R, bench: Bench) -> Res
         Bench::StepBinary => messages::step_rate(rt, 45, 5, 2),
         Bench::StepQuaternary => messages::step_rate(rt, 20, 4, 4),
         Bench::Least(q, n, k, level) => kernel::least_rate(rt, q, n, k, level),
+        Bench::Count(q, k) => counts::count_rate(rt, q, k),
         Bench::Limit(planes) => limits::limit_rate(rt, planes),
         Bench::Decoder(decoder) => measure_decoder(rt, decoder),
         Bench::Search(searches) => measure_searches(rt, searches),

@@ -1,16 +1,16 @@
 //! Command lines, and what they ask for.
-use lc_arguments::{Asked, Command, asked_by};
+use lc_session::{Command, OptionRefusal, Settings, options};
 use std::alloc::{AllocError, Global};
 use std::test::Fail;
 
 // What a command asks for with no key.
-const PLAIN: Asked = Asked {
+const PLAIN: Settings = Settings {
     command: Command::Run,
     workers: 1,
     budget: 1_048_576,
     slice: None,
     keep: false,
-    seed: 0,
+    number: 0,
 };
 
 // Command lines that are refused, and the index of the argument that is wrong or missing.
@@ -49,27 +49,27 @@ fn arguments_in(alloc: Global, line: &str) -> Result<Vec<String>, AllocError> {
     Ok(arguments)
 }
 
-// What a command line asks for, or the index that is refused.
-fn asked_in(alloc: Global, line: &str) -> Result<Result<Asked, usize>, AllocError> {
+// What a command line asks for, or why it is refused.
+fn asked_in(alloc: Global, line: &str) -> Result<Result<Settings, OptionRefusal>, AllocError> {
     let arguments = arguments_in(alloc, line)?;
-    Ok(asked_by(&arguments))
+    Ok(options(alloc, &arguments))
 }
 
 #[test]
 fn refused_command_lines(rt: HostRuntime) -> Result<(), Fail> {
     for (line, index) in &REFUSED {
-        assert!(rt; asked_in(rt.alloc(), line)? == Err(*index));
+        assert!(rt; asked_in(rt.alloc(), line)? == Err(OptionRefusal::Usage(*index)));
     }
     Ok(())
 }
 
 #[test]
 fn accepted_runs(rt: HostRuntime) -> Result<(), Fail> {
-    let cases: [(&str, Asked); 4] = [
+    let cases: [(&str, Settings); 4] = [
         ("run", PLAIN),
         (
             "run budget=0 workers=256",
-            Asked {
+            Settings {
                 workers: 256,
                 budget: 0,
                 ..PLAIN
@@ -77,7 +77,7 @@ fn accepted_runs(rt: HostRuntime) -> Result<(), Fail> {
         ),
         (
             "run budget=1099511627776",
-            Asked {
+            Settings {
                 budget: 1_099_511_627_776,
                 ..PLAIN
             },
@@ -92,17 +92,17 @@ fn accepted_runs(rt: HostRuntime) -> Result<(), Fail> {
 
 #[test]
 fn accepted_commands(rt: HostRuntime) -> Result<(), Fail> {
-    let cases: [(&str, Asked); 3] = [
+    let cases: [(&str, Settings); 3] = [
         (
             "check",
-            Asked {
+            Settings {
                 command: Command::Check,
                 ..PLAIN
             },
         ),
         (
             "resume slice=3 keep=yes",
-            Asked {
+            Settings {
                 command: Command::Resume,
                 slice: Some(3),
                 keep: true,
@@ -111,10 +111,10 @@ fn accepted_commands(rt: HostRuntime) -> Result<(), Fail> {
         ),
         (
             "summary workers=4 seed=18446744073709551615",
-            Asked {
+            Settings {
                 command: Command::Summary,
                 workers: 4,
-                seed: 18_446_744_073_709_551_615,
+                number: 18_446_744_073_709_551_615,
                 ..PLAIN
             },
         ),

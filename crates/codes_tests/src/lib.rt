@@ -1,4 +1,4 @@
-//! Tests of scripts, of their statements and of their lines, of certificates and checkpoints, of how a session starts, and of sessions
+//! Tests of scripts, of their statements and of their lines, of certificates of either version and checkpoints, of how a session starts, and of sessions
 //! over sources, sinks, vaults and watchers in memory. They stand here so that no crate is proved twice, once with its tests.
 #![tactic(auto)]
 
@@ -10,6 +10,8 @@ mod certificates;
 mod certified;
 #[cfg(test)]
 mod checkpoints;
+#[cfg(test)]
+mod documents;
 #[cfg(test)]
 mod gate;
 #[cfg(test)]

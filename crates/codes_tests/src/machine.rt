@@ -11,6 +11,7 @@ fn printed(step: &Step) -> &[u8] {
         Step::Line(line) => line.as_slice(),
         Step::Fault(line) => line.as_slice(),
         Step::Need(_) => b"a query\n",
+        Step::Weights(_) => b"a distribution\n",
         Step::Silent => b"",
         Step::End => b"",
     }

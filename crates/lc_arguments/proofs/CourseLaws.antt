@@ -11,7 +11,7 @@ use Rattle.lc_formats.specs.Text.{same_bytes}
 use Rattle.lc_session_rules.specs.Options.{Command, run, resume, check, summary, Key, workers, budget, slice, keep, seed, Settings, Options, settings, usage, row_named, all_options, options, options_from, checked, settings_of, key_named, key_text, same_key, place_of_key, put_key, number_within, yes_or_no}
 use Rattle.lc_session_rules.proofs.OptionExamples.{no_words}
 use Rattle.lc_grammar.specs.Token.{widest}
-use Rattle.lc_arguments.specs.declared.request.Asked.{Asked}
+use Rattle.lc_arguments.specs.declared.request.Settings.{Settings as Asked}
 use Rattle.lc_arguments.specs.declared.request.Command as asked
 use Rattle.lc_arguments.specs.declared.request.Command.TheVariants as command
 use Rattle.lc_arguments.specs.Asked.{words_of, command_for, row_of, keys_of, settings_for, CanKeep, AreWithin, IsWithin, is_equals, name_of, place_named, IsCourse, IsRefusedAfter}
@@ -174,11 +174,11 @@ checked_plain found s summary e is other = absurd (other refl)
 
 -- ---- the arguments so far
 
-first_settings : (c : Command) (a : Asked) → command_for a.command ≡ c → a.workers ≡ 1 → a.budget ≡ 2 ^ 20 → a.slice ≡ None → a.keep ≡ false → a.seed ≡ 0 → settings_of c ≡ settings_for a
+first_settings : (c : Command) (a : Asked) → command_for a.command ≡ c → a.workers ≡ 1 → a.budget ≡ 2 ^ 20 → a.slice ≡ None → a.keep ≡ false → a.number ≡ 0 → settings_of c ≡ settings_for a
 unfolding settings_of
 first_settings c a same w b s k n = cc
 
-pub course_first : (c : Command) (a : Asked) → command_for a.command ≡ c → a.workers ≡ 1 → a.budget ≡ 2 ^ 20 → a.slice ≡ None → a.keep ≡ false → a.seed ≡ 0 → IsCourse c [] a
+pub course_first : (c : Command) (a : Asked) → command_for a.command ≡ c → a.workers ≡ 1 → a.budget ≡ 2 ^ 20 → a.slice ≡ None → a.keep ≡ false → a.number ≡ 0 → IsCourse c [] a
 course_first c a same w b s k n = record {
   found = [];
   named = refl;

@@ -4,6 +4,7 @@
 --   keys_of c                    the keys of a command
 --   row_of c                     a command with its keys
 --   settings_for a               what is asked for, as these definitions see it
+--   Refuses r o                  o is the refusal r, with its index; want of memory is never one
 --   AreWithin s, IsWithin a      all numbers are within their limits, a slice comes only with keep, and keep only with a command
 --                                that keeps checkpoints
 --   is_equals                    the sign between a name and its value
@@ -18,9 +19,11 @@ use Rattle.lc_session_rules.specs.Options as words
 use Rattle.lc_session_rules.specs.Options.{CommandRow, Settings, key_text, options_from, place_of_key, row, settings_of, usage}
 use Rattle.lc_arguments.specs.declared.keys.Key.{Key}
 use Rattle.lc_arguments.specs.declared.keys.Key.TheVariants as key
-use Rattle.lc_arguments.specs.declared.request.Asked.{Asked}
+use Rattle.lc_arguments.specs.declared.request.Settings.{Settings as Asked}
 use Rattle.lc_arguments.specs.declared.request.Command.{Command}
 use Rattle.lc_arguments.specs.declared.request.Command.TheVariants as command
+use Rattle.lc_arguments.specs.declared.request.OptionRefusal.{OptionRefusal}
+use Rattle.lc_arguments.specs.declared.request.OptionRefusal.TheVariants as refusal
 
 abbrev pub words_of : {A : Type 0} → List (String A) → List (List ℕ)
 words_of words = map string_bytes words
@@ -49,7 +52,11 @@ abbrev pub row_of : Command → CommandRow
 row_of c = row (command_for c) (keys_of (command_for c))
 
 abbrev pub settings_for : Asked → Settings
-settings_for a = record { command = command_for a.command; workers = a.workers; budget = a.budget; slice = a.slice; keep = a.keep; number = a.seed }
+settings_for a = record { command = command_for a.command; workers = a.workers; budget = a.budget; slice = a.slice; keep = a.keep; number = a.number }
+
+abbrev pub Refuses : OptionRefusal → words.Options → Type 0
+Refuses (refusal.Usage i) o = o ≡ usage i
+Refuses refusal.NoMemory o = ⊥
 
 -- the command keeps checkpoints if it is asked to
 abbrev pub CanKeep : words.Command → Type 0

@@ -2,11 +2,12 @@
 ghost use Rattle.std.specs.List.{list_any, before_first, after_first};
 ghost use Rattle.std.specs.Prelude.{◌≡◌, ◌+◌, ◌++◌, ◌∷◌, [], List, ℕ, Bool, true, false, length, map, option_map, MatchOption, MatchResult};
 ghost use Rattle.lc_session_rules.specs.Options.{all_options, key_text, options, options_from, put_key, settings, settings_of, usage};
-ghost use Rattle.lc_arguments.specs.Asked.{words_of, command_for, key_for, keys_of, settings_for, IsWithin, is_equals, name_of, place_named, IsCourse, IsRefusedAfter};
+ghost use Rattle.lc_arguments.specs.Asked.{words_of, command_for, key_for, keys_of, settings_for, Refuses, IsWithin, is_equals, name_of, place_named, IsCourse, IsRefusedAfter};
 
 use crate::keys::{Key, command_in, is_text, key_in};
 use crate::numbers::{number_within, yes_or_no};
-use crate::request::{Asked, Command};
+use crate::request::{Command, OptionRefusal, Settings};
+use std::alloc::Global;
 
 // The name and the value of an argument: what comes before its first `=`, and what comes after it. None if it has none.
 #[tactic(auto, using(crate::proofs::TextLaws::split_told))]
@@ -41,38 +42,43 @@ fn place_of(arguments: &[String], key: Key) -> Option<usize>
 
 // What is asked for once a key has this value; None if the key takes no such value.
 #[tactic(auto, unfolding(crate::proofs::Opened::keys_and_numbers))]
-fn with_value(asked: Asked, key: Key, value: &str) -> Option<Asked>
+fn with_value(asked: Settings, key: Key, value: &str) -> Option<Settings>
     ensures { option_map settings_for result ≡ put_key (key_for key) value.now (settings_for asked) }
 {
     match key {
         Key::Workers => {
-            let workers = number_within(value, 1, 256)?;
-            Some(Asked { workers, ..asked })
+            let workers = number_within(value, 1, 256)? as u32;
+            Some(Settings { workers, ..asked })
         }
         Key::Budget => {
             let budget = number_within(value, 0, 1 << 40)?;
-            Some(Asked { budget, ..asked })
+            Some(Settings { budget, ..asked })
         }
         Key::Slice => {
             let slice = number_within(value, 1, 1 << 40)?;
-            Some(Asked {
+            Some(Settings {
                 slice: Some(slice),
                 ..asked
             })
         }
         Key::Keep => {
             let keep = yes_or_no(value)?;
-            Some(Asked { keep, ..asked })
+            Some(Settings { keep, ..asked })
         }
         Key::Seed => {
-            let seed = number_within(value, 0, u64::MAX)?;
-            Some(Asked { seed, ..asked })
+            let number = number_within(value, 0, u64::MAX)?;
+            Some(Settings { number, ..asked })
         }
     }
 }
 
 // What is asked for after one more argument; None if the argument is refused.
-fn with_argument(command: Command, asked: Asked, before: &[String], argument: &str) -> Option<Asked>
+fn with_argument(
+    command: Command,
+    asked: Settings,
+    before: &[String],
+    argument: &str,
+) -> Option<Settings>
     requires { IsCourse (command_for command) (words_of before.now) asked }
     ensures { MatchOption result (IsRefusedAfter (command_for command) (words_of before.now) argument.now) (λ next. IsCourse (command_for command) (words_of before.now ++ argument.now ∷ []) next) }
 {
@@ -89,7 +95,7 @@ fn with_argument(command: Command, asked: Asked, before: &[String], argument: &s
 }
 
 // What is asked for in the end, unless a slice comes without keep=yes or a summary without a seed.
-fn checked(asked: Asked, arguments: &[String]) -> Result<Asked, usize>
+fn checked(asked: Settings, arguments: &[String]) -> Result<Settings, usize>
     requires { IsCourse (command_for asked.command) (words_of arguments.now) asked }
     ensures { MatchResult result (λ a. (options_from (keys_of (command_for asked.command)) (words_of arguments.now) [] (settings_of (command_for asked.command)) ≡ settings (settings_for a)) × IsWithin a)
         (λ i. options_from (keys_of (command_for asked.command)) (words_of arguments.now) [] (settings_of (command_for asked.command)) ≡ usage i) }
@@ -107,17 +113,17 @@ fn checked(asked: Asked, arguments: &[String]) -> Result<Asked, usize>
 }
 
 // What the arguments after the command ask for, or the index of the one that is refused, counted from the command.
-fn settings_in(command: Command, arguments: &[String]) -> Result<Asked, usize>
+fn settings_in(command: Command, arguments: &[String]) -> Result<Settings, usize>
     ensures { MatchResult result (λ a. (options_from (keys_of (command_for command)) (words_of arguments.now) [] (settings_of (command_for command)) ≡ settings (settings_for a)) × IsWithin a)
         (λ i. options_from (keys_of (command_for command)) (words_of arguments.now) [] (settings_of (command_for command)) ≡ usage i) }
 {
-    let mut asked = Asked {
+    let mut asked = Settings {
         command,
         workers: 1,
         budget: 1 << 20,
         slice: None,
         keep: false,
-        seed: 0,
+        number: 0,
     };
     for i in 0..arguments.len() {
         let Some(next) = with_argument(command, asked, &arguments[..i], arguments[i].as_str())
@@ -129,13 +135,8 @@ fn settings_in(command: Command, arguments: &[String]) -> Result<Asked, usize>
     checked(asked, arguments)
 }
 
-/// What the arguments of the command line ask for. The first one is the command: `run` or `resume`, after which there may be
-/// `workers=N`, `budget=N`, `slice=N` and `keep=yes` or `keep=no`; `check` alone; or `summary`, after which there is `seed=N`
-/// and there may be `workers=N` and `budget=N`. The keys come in any order, each at most once, and a slice only with
-/// `keep=yes`.
-///
-/// Refused with the index of the first argument that is wrong, or that would have to be there.
-pub fn asked_by(words: &[String]) -> Result<Asked, usize>
+// What the arguments of the command line ask for, or the index of the one that is refused.
+fn settings_by(words: &[String]) -> Result<Settings, usize>
     ensures { MatchResult result (λ a. (options all_options (words_of words.now) ≡ settings (settings_for a)) × IsWithin a)
         (λ i. options all_options (words_of words.now) ≡ usage i) }
 {
@@ -145,5 +146,22 @@ pub fn asked_by(words: &[String]) -> Result<Asked, usize>
     match command_in(first.as_str()) {
         Some(command) => settings_in(command, others),
         None => Err(0),
+    }
+}
+
+/// What the arguments of the command line ask for. The first one is the command: `run` or `resume`, after which there may be
+/// `workers=N`, `budget=N`, `slice=N` and `keep=yes` or `keep=no`; `check` alone; or `summary`, after which there is `seed=N`
+/// and there may be `workers=N` and `budget=N`. The keys come in any order, each at most once, and a slice only with
+/// `keep=yes`.
+///
+/// Refused with the index of the first argument that is wrong, or that would have to be there. It takes no memory, so it is
+/// never refused for want of it.
+pub fn options(_alloc: Global, words: &[String]) -> Result<Settings, OptionRefusal>
+    ensures { MatchResult result (λ a. (options all_options (words_of words.now) ≡ settings (settings_for a)) × IsWithin a)
+        (λ r. Refuses r (options all_options (words_of words.now))) }
+{
+    match settings_by(words) {
+        Ok(settings) => Ok(settings),
+        Err(index) => Err(OptionRefusal::Usage(index)),
     }
 }

@@ -6,5 +6,5 @@ mod keys;
 mod numbers;
 mod request;
 
-pub use arguments::asked_by;
-pub use request::{Asked, Command};
+pub use arguments::options;
+pub use request::{Command, OptionRefusal, Settings};

@@ -1,6 +1,6 @@
 //! The values of keys.
 ghost use Rattle.std.specs.List.{list_all};
-ghost use Rattle.std.specs.Prelude.{◌≡◌, ◌<◌, ◌==◌, ◌||◌, not, length, slice_index};
+ghost use Rattle.std.specs.Prelude.{◌≡◌, ◌<◌, ◌≤◌, ◌==◌, ◌||◌, not, length, slice_index, IfSome};
 ghost use Rattle.lc_grammar.specs.Token.{is_digit};
 ghost use Rattle.lc_session_rules.specs.Options.{number_in, number_within, yes_or_no};
 
@@ -52,7 +52,8 @@ fn number_in(text: &[u8]) -> Option<u64>
 // The number that the text writes, if it is in this range.
 #[tactic(auto, using(crate::proofs::NumberLaws::number_within_laws))]
 pub(crate) fn number_within(text: &str, low: u64, high: u64) -> Option<u64>
-    ensures { result ≡ number_within low high text.now }
+    ensures is { result ≡ number_within low high text.now }
+    ensures range { IfSome result (λ n. (low ≤ n) × (n ≤ high)) }
 {
     let n = number_in(text.as_bytes())?;
     if n < low {

@@ -17,11 +17,11 @@ pub enum Command {
 ///
 /// Contracts see it as `settings_for` it, the `Settings` of `lc_session_rules`.
 #[derive(Clone, Copy, Debug, PartialEq, Eq)]
-pub struct Asked {
+pub struct Settings {
     /// The command.
     pub command: Command,
     /// How many workers a round has, 1 to 256.
-    pub workers: u64,
+    pub workers: u32,
     /// How many blocks a search may take, at most 2^40.
     pub budget: u64,
     /// How many blocks a session may take before it pauses, 1 to 2^40; None if it takes as many as it needs.
@@ -29,5 +29,14 @@ pub struct Asked {
     /// Whether a checkpoint is kept after each round.
     pub keep: bool,
     /// The seed of a summary; 0 for another command.
-    pub seed: u64,
+    pub number: u64,
+}
+
+/// Why the arguments of the command line are refused.
+#[derive(Clone, Copy, Debug, PartialEq, Eq)]
+pub enum OptionRefusal {
+    /// The index, from 0, of the first argument that is wrong, or that would have to be there.
+    Usage(usize),
+    /// Memory was refused. (None is taken today.)
+    NoMemory,
 }

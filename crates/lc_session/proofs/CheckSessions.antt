@@ -1,12 +1,13 @@
 -- The session of `check`.
 --   accepted_session, rejected_session, unwritten_session      the line is written, or the sink fails
---   done_session, refused_session, failing_session      the same, from what is said of the bytes
+--   done_session, refused_session      the same, from what is said of the bytes
 --   starved_session      memory is refused
-use Rattle.std.proofs.Common.{◌≡◌, inl, ℕ, false, List, [], Option, None, refl, sym, subst}
+use Rattle.std.proofs.Common.{◌≡◌, inl, ℕ, false, List, [], Option, Some, None, refl, sym, subst}
 use Rattle.std.specs.Io.KnownBytes.{Appends}
 use Rattle.lc_enumeration.specs.Records.{fresh_start, session_from, session_rounds, no_steps}
-use Rattle.lc_formats.specs.Certificate.{Reason, rejected as rejects}
-use Rattle.lc_formats.specs.Check.{certificate_in, verdict_of, check_text}
+use Rattle.lc_formats.specs.Certificate.{Reason, accepted as accepts, rejected as rejects}
+use Rattle.lc_formats.specs.Document.{document_in, IsCheckText}
+use Rattle.lc_formats.specs.Proven.{IsVerdict}
 use Rattle.lc_io.specs.Outside.{HasRisen, AppendsPart}
 use Rattle.lc_io.proofs.SeveralRecords.{Kept-none}
 use Rattle.lc_eval.specs.Built.{built_calls}
@@ -18,10 +19,7 @@ use Rattle.lc_rounds.specs.Way.{Around}
 use Rattle.lc_text.specs.Worlds.{outside_of}
 use Rattle.lc_checker.specs.Verdict.{reason_of}
 use Rattle.lc_checker.specs.declared.verdict.Reason as why
-use Rattle.lc_session.specs.Outcome.{IsSaidOf}
-use Rattle.lc_session.specs.Reply.{status_of}
-use Rattle.lc_session.specs.declared.reply.End.{End}
-use Rattle.lc_session.specs.declared.reply.End.TheVariants as end
+use Rattle.lc_judge.specs.Judged.{judgment, IsAcceptedRead}
 
 module _ (args : List (List ℕ)) (workers budget number : ℕ) (accepted : options all_options args ≡ settings (record { command = check; workers = workers; budget = budget; slice = None; keep = false; number = number })) (now : Around) (old_source source : Option (List ℕ)) (old_source_faults source_faults : ℕ) (old_sink sink : Option (List ℕ)) (old_sink_faults sink_faults : ℕ) (bytes : List ℕ) (read : WasRead old_source source bytes) (quiet : source_faults ≡ old_source_faults) where
   abbrev pub asked : Settings
@@ -47,7 +45,7 @@ module _ (args : List (List ℕ)) (workers budget number : ℕ) (accepted : opti
   unfolding session_rounds session_from no_steps fresh_start
   unstopped text = refl
 
-  pub accepted_session : (text : List ℕ) → text ≡ check_text bytes → IsAccepted bytes → Appends old_sink sink text → sink_faults ≡ old_sink_faults → IsSession built_calls args old new (done 0)
+  pub accepted_session : (text : List ℕ) → IsCheckText bytes text → IsAccepted bytes → Appends old_sink sink text → sink_faults ≡ old_sink_faults → IsSession built_calls args old new (done 0)
   accepted_session text is holds written calm = record {
     asked = asked;
     course = course text;
@@ -65,7 +63,7 @@ module _ (args : List (List ℕ)) (workers budget number : ℕ) (accepted : opti
     counted = record { source = quiet; sink = calm; vault = refl };
   }
 
-  pub rejected_session : (text : List ℕ) (r : Reason) → text ≡ check_text bytes → verdict_of (certificate_in bytes) ≡ rejects r → Appends old_sink sink text → sink_faults ≡ old_sink_faults → IsSession built_calls args old new (rejected r)
+  pub rejected_session : (text : List ℕ) (r : Reason) → IsCheckText bytes text → IsVerdict (document_in bytes) (rejects r) → Appends old_sink sink text → sink_faults ≡ old_sink_faults → IsSession built_calls args old new (rejected r)
   rejected_session text r is verdict written calm = record {
     asked = asked;
     course = course text;
@@ -83,7 +81,7 @@ module _ (args : List (List ℕ)) (workers budget number : ℕ) (accepted : opti
     counted = record { source = quiet; sink = calm; vault = refl };
   }
 
-  pub unwritten_session : (text : List ℕ) → text ≡ check_text bytes → AppendsPart old_sink sink text → HasRisen old_sink_faults sink_faults → IsSession built_calls args old new sink_fault
+  pub unwritten_session : (text : List ℕ) → IsCheckText bytes text → AppendsPart old_sink sink text → HasRisen old_sink_faults sink_faults → IsSession built_calls args old new sink_fault
   unwritten_session text is written risen = record {
     asked = asked;
     course = course text;
@@ -120,15 +118,12 @@ module _ (args : List (List ℕ)) (workers budget number : ℕ) (accepted : opti
   }
 
   -- what is said of the bytes tells how the session ends
-  pub done_session : (text : List ℕ) (e : End) (n : ℕ) → IsSaidOf bytes text (status_of e) → e ≡ end.Done n → Appends old_sink sink text → sink_faults ≡ old_sink_faults → IsSession built_calls args old new (done n)
-  done_session text e n said is written calm =
-      let s : IsSaidOf bytes text (status_of (end.Done n)) = subst (λ (x : End). IsSaidOf bytes text (status_of x)) is said in
-      subst (λ (m : ℕ). IsSession built_calls args old new (done m)) (sym s.1.0) (accepted_session text s.0 s.1.1 written calm)
+  pub done_session : (text : List ℕ) (o : Option why.Reason) → IsCheckText bytes text → IsVerdict (document_in bytes) (judgment o) → (o ≡ None → IsAcceptedRead (document_in bytes)) → o ≡ None → Appends old_sink sink text → sink_faults ≡ old_sink_faults → IsSession built_calls args old new (done 0)
+  done_session text o said judged proof is written calm =
+      let a = proof is in
+      let verdict : IsVerdict (document_in bytes) accepts = subst (λ p. IsVerdict (document_in bytes) (judgment p)) is judged in
+      accepted_session text said (record { certificate = a.read_as; reads = a.reads; verdict = verdict; proves = a.proves }) written calm
 
-  pub refused_session : (text : List ℕ) (e : End) (r : why.Reason) → IsSaidOf bytes text (status_of e) → e ≡ end.Rejected r → Appends old_sink sink text → sink_faults ≡ old_sink_faults → IsSession built_calls args old new (rejected (reason_of r))
-  refused_session text e r said is written calm =
-      let s : IsSaidOf bytes text (status_of (end.Rejected r)) = subst (λ (x : End). IsSaidOf bytes text (status_of x)) is said in
-      rejected_session text (reason_of r) s.0 s.1 written calm
-
-  pub failing_session : (text : List ℕ) (e : End) → IsSaidOf bytes text (status_of e) → AppendsPart old_sink sink text → HasRisen old_sink_faults sink_faults → IsSession built_calls args old new sink_fault
-  failing_session text e said written risen = unwritten_session text said.0 written risen
+  pub refused_session : (text : List ℕ) (o : Option why.Reason) (r : why.Reason) → IsCheckText bytes text → IsVerdict (document_in bytes) (judgment o) → o ≡ Some r → Appends old_sink sink text → sink_faults ≡ old_sink_faults → IsSession built_calls args old new (rejected (reason_of r))
+  refused_session text o r said judged is written calm =
+      rejected_session text (reason_of r) said (subst (λ p. IsVerdict (document_in bytes) (judgment p)) is judged) written calm

@@ -1,7 +1,6 @@
 mod AskedLaws
 mod NoBytes
 mod TextLaws
-mod CheckLaws
 mod EarlyEnds
 mod ScriptEnds
 mod ScriptSessions

@@ -10,7 +10,7 @@ use Rattle.lc_session_rules.specs.Options.{Settings, Options, settings, run}
 use Rattle.lc_session_rules.specs.Session.{end_number}
 use Rattle.lc_rounds.specs.declared.course.Course.{Course}
 use Rattle.lc_rounds.specs.declared.need.Halt.{Halt}
-use Rattle.lc_arguments.specs.declared.request.Asked.{Asked}
+use Rattle.lc_arguments.specs.declared.request.Settings.{Settings as Asked}
 use Rattle.lc_arguments.specs.Asked.{command_for, settings_for}
 use Rattle.lc_text.specs.declared.statements.Text.{Text}
 use Rattle.lc_session.specs.declared.status.Status.{Status}

@@ -3,13 +3,13 @@
 
 mod check;
 mod input;
-mod reply;
 mod scripts;
 mod session;
 mod status;
 mod summary;
 mod texts;
 
+pub use lc_arguments::{Command, OptionRefusal, Settings, options};
 pub use session::run_session;
 pub use status::{Status, status_line};
 pub use texts::told_text;

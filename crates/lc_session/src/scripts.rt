@@ -14,7 +14,7 @@ ghost use Rattle.lc_session.specs.Closing.{Closes, status_of};
 
 use crate::input::{InputRefusal, input};
 use crate::status::Status;
-use lc_arguments::{Asked, Command};
+use lc_arguments::{Command, Settings};
 use lc_io::{Failed, Gate, Sink, Source, Vault, Watcher, write_whole};
 use lc_rounds::{Course, Halt, Stop, afresh, resumed};
 use lc_session_rules::needs::needs_take_bytes;
@@ -77,7 +77,7 @@ fn cleared<V: Vault>(vault: &mut V, keep: bool) -> Result<(), Failed>
 pub(crate) fn run<R: Threads + Sync, S: Source, K: Sink, V: Vault, W: Watcher, G: Gate + Sync>(
     rt: &R,
     alloc: Global,
-    asked: Asked,
+    asked: Settings,
     source: &mut S,
     sink: &mut K,
     vault: &mut V,
@@ -108,7 +108,7 @@ pub(crate) fn run<R: Threads + Sync, S: Source, K: Sink, V: Vault, W: Watcher, G
     let found = script_text(
         rt,
         alloc,
-        asked.workers as u32,
+        asked.workers,
         gate,
         vault,
         watchers,
@@ -122,7 +122,7 @@ pub(crate) fn run<R: Threads + Sync, S: Source, K: Sink, V: Vault, W: Watcher, G
 pub(crate) fn resume<R: Threads + Sync, S: Source, K: Sink, V: Vault, W: Watcher, G: Gate + Sync>(
     rt: &R,
     alloc: Global,
-    asked: Asked,
+    asked: Settings,
     source: &mut S,
     sink: &mut K,
     vault: &mut V,
@@ -161,7 +161,7 @@ pub(crate) fn resume<R: Threads + Sync, S: Source, K: Sink, V: Vault, W: Watcher
     let found = script_text(
         rt,
         alloc,
-        asked.workers as u32,
+        asked.workers,
         gate,
         vault,
         watchers,

@@ -14,7 +14,7 @@ use crate::check::check;
 use crate::scripts::{resume, run};
 use crate::status::Status;
 use crate::summary::summary;
-use lc_arguments::{Command, asked_by};
+use lc_arguments::{Command, OptionRefusal, options};
 use lc_io::{Gate, Sink, Source, Vault, Watcher};
 use std::alloc::Global;
 use std::thread::Threads;
@@ -36,9 +36,10 @@ fn session<R: Threads + Sync, S: Source, K: Sink, V: Vault, W: Watcher, G: Gate 
         (ending_of result) }
     ensures nothing { (asked : Settings) → options all_options (words_of words.now) ≡ settings asked → asked.command ≡ line.run → S.rest source.old ≡ Some [] → (told : ℕ) → result ≢ Status.NoMemory told }
 {
-    let asked = match asked_by(words) {
+    let asked = match options(alloc, words) {
         Ok(asked) => asked,
-        Err(index) => return Status::Usage(index),
+        Err(OptionRefusal::Usage(index)) => return Status::Usage(index),
+        Err(OptionRefusal::NoMemory) => return Status::NoMemory { told: 0 },
     };
     match asked.command {
         Command::Run => run(rt, alloc, asked, source, sink, vault, watchers, gate),

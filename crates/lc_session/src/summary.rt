@@ -10,7 +10,7 @@ ghost use Rattle.lc_text.specs.Worlds.{outside_of};
 ghost use Rattle.lc_session.specs.Ending.{ending_of};
 
 use crate::status::Status;
-use lc_arguments::{Asked, Command};
+use lc_arguments::{Command, Settings};
 use lc_eval::QueryKind;
 use lc_io::{Gate, Sink, Vault, Watcher, write_whole};
 use lc_rounds::afresh;
@@ -23,7 +23,7 @@ use std::thread::Threads;
 pub(crate) fn summary<R: Threads + Sync, K: Sink, V: Vault, W: Watcher, G: Gate + Sync>(
     rt: &R,
     alloc: Global,
-    asked: Asked,
+    asked: Settings,
     sink: &mut K,
     vault: &mut V,
     watchers: &mut Vec<W>,
@@ -36,14 +36,14 @@ pub(crate) fn summary<R: Threads + Sync, K: Sink, V: Vault, W: Watcher, G: Gate 
         (outside_of source source_faults (K.written sink.new) (K.faults sink.new) (around (V.contents vault.new) (V.faults vault.new) (map (hearing W.heard W.coming W.pauses) watchers.new.items)))
         (ending_of result) }
 {
-    let Ok(code) = summary_code(alloc, asked.seed) else {
+    let Ok(code) = summary_code(alloc, asked.number) else {
         return Status::NoMemory { told: 0 };
     };
     let mut course = afresh(alloc, false, None, asked.budget, [0; 32]);
     let line = match need_line(
         rt,
         alloc,
-        asked.workers as u32,
+        asked.workers,
         gate,
         vault,
         watchers,
@@ -59,7 +59,7 @@ pub(crate) fn summary<R: Threads + Sync, K: Sink, V: Vault, W: Watcher, G: Gate 
         }
     };
     let told = course.pace.told;
-    let Ok(text) = summary_line(alloc, asked.seed, &line, told) else {
+    let Ok(text) = summary_line(alloc, asked.number, &line, told) else {
         return Status::NoMemory { told };
     };
     match write_whole(sink, &text) {

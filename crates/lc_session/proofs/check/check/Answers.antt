@@ -3,7 +3,7 @@ use Rattle.lc_session_rules.specs.Options.{settings}
 use Rattle.lc_arguments.specs.Asked.{settings_for}
 use Rattle.lc_session.proofs.AskedLaws.{check_reads, check_asked}
 use Rattle.lc_session.proofs.EarlyEnds.{source_failed, too_much, unread}
-use Rattle.lc_session.proofs.CheckSessions.{done_session, refused_session, failing_session, starved_session}
+use Rattle.lc_session.proofs.CheckSessions.{done_session, refused_session, unwritten_session, starved_session}
 use Rattle.lc_session.proofs.check.check.Goals as goal
 
 pub returns-in-Err-Failed : goal.returns-in-Err-Failed
@@ -24,22 +24,24 @@ returns-in-Err-NoMemory g c args now accepted =
 pub returns-in_default : goal.returns-in_default
 returns-in_default g c args now accepted =
     let a = c.args._asked in
-    starved_session args a.workers a.budget a.seed (accepted ∙ ap settings (check_asked a c.requires.within c.requires.checks)) now _ _ _ _ _ _ _ _ c.in-Ok.bytes.items (record { gave = c.in-Ok.ensures.given; ended = c.in-Ok.ensures.ended; within = c.in-Ok.ensures.within }) (c.in-Ok.ensures.count (λ f. cc)) refl refl
+    starved_session args a.workers a.budget a.number (accepted ∙ ap settings (check_asked a c.requires.within c.requires.checks)) now _ _ _ _ _ _ _ _ c.in-Ok.bytes.items (record { gave = c.in-Ok.ensures.given; ended = c.in-Ok.ensures.ended; within = c.in-Ok.ensures.within }) (c.in-Ok.ensures.count (λ f. cc)) refl refl
 
-pub returns-in-Done : goal.returns-in-Done
-returns-in-Done g c args now accepted =
+pub returns-in-None : goal.returns-in-None
+returns-in-None g c args now accepted =
     let a = c.args._asked in
-    done_session args a.workers a.budget a.seed (accepted ∙ ap settings (check_asked a c.requires.within c.requires.checks)) now _ _ _ _ _ _ _ _ c.in-Ok.bytes.items (record { gave = c.in-Ok.ensures.given; ended = c.in-Ok.ensures.ended; within = c.in-Ok.ensures.within }) (c.in-Ok.ensures.count (λ f. cc))
-    c.in-Ok-checked.reply.text.items c.in-Ok-checked.reply.end c.in-Done.number (rw c.deref.ensures.value at c.in-Ok-checked.ensures) c.in-Done.is (rw c.deref-2.ensures.value at c.in-Ok-write_whole.ensures.whole) c.in-Ok-write_whole.ensures.count
+    let j = c.in-Ok-judge.judged in
+    done_session args a.workers a.budget a.number (accepted ∙ ap settings (check_asked a c.requires.within c.requires.checks)) now _ _ _ _ _ _ _ _ c.in-Ok.bytes.items (record { gave = c.in-Ok.ensures.given; ended = c.in-Ok.ensures.ended; within = c.in-Ok.ensures.within }) (c.in-Ok.ensures.count (λ f. cc))
+    j.text.items j.reason (rw c.deref.ensures.value at c.in-Ok-judge.ensures.text) (rw c.deref.ensures.value at c.in-Ok-judge.ensures.verdict) (rw c.deref.ensures.value at c.in-Ok-judge.ensures.proves) c.in-None.is (rw c.deref-2.ensures.value at c.in-Ok-write_whole.ensures.whole) c.in-Ok-write_whole.ensures.count
 
 pub returns-in-Ok-write_whole : goal.returns-in-Ok-write_whole
 returns-in-Ok-write_whole g c args now accepted =
     let a = c.args._asked in
-    refused_session args a.workers a.budget a.seed (accepted ∙ ap settings (check_asked a c.requires.within c.requires.checks)) now _ _ _ _ _ _ _ _ c.in-Ok.bytes.items (record { gave = c.in-Ok.ensures.given; ended = c.in-Ok.ensures.ended; within = c.in-Ok.ensures.within }) (c.in-Ok.ensures.count (λ f. cc))
-    c.in-Ok-checked.reply.text.items c.in-Ok-checked.reply.end c.in-Rejected.reason (rw c.deref.ensures.value at c.in-Ok-checked.ensures) c.in-Rejected.is (rw c.deref-2.ensures.value at c.in-Ok-write_whole.ensures.whole) c.in-Ok-write_whole.ensures.count
+    let j = c.in-Ok-judge.judged in
+    refused_session args a.workers a.budget a.number (accepted ∙ ap settings (check_asked a c.requires.within c.requires.checks)) now _ _ _ _ _ _ _ _ c.in-Ok.bytes.items (record { gave = c.in-Ok.ensures.given; ended = c.in-Ok.ensures.ended; within = c.in-Ok.ensures.within }) (c.in-Ok.ensures.count (λ f. cc))
+    j.text.items j.reason c.in-Some.reason (rw c.deref.ensures.value at c.in-Ok-judge.ensures.text) (rw c.deref.ensures.value at c.in-Ok-judge.ensures.verdict) c.in-Some.is (rw c.deref-2.ensures.value at c.in-Ok-write_whole.ensures.whole) c.in-Ok-write_whole.ensures.count
 
 pub returns : goal.returns
 returns g c args now accepted =
     let a = c.args._asked in
-    failing_session args a.workers a.budget a.seed (accepted ∙ ap settings (check_asked a c.requires.within c.requires.checks)) now _ _ _ _ _ _ _ _ c.in-Ok.bytes.items (record { gave = c.in-Ok.ensures.given; ended = c.in-Ok.ensures.ended; within = c.in-Ok.ensures.within }) (c.in-Ok.ensures.count (λ f. cc))
-    c.in-Ok-checked.reply.text.items c.in-Ok-checked.reply.end (rw c.deref.ensures.value at c.in-Ok-checked.ensures) (rw c.deref-2.ensures.value at c.in-Err.ensures.front) c.in-Err.ensures.count
+    unwritten_session args a.workers a.budget a.number (accepted ∙ ap settings (check_asked a c.requires.within c.requires.checks)) now _ _ _ _ _ _ _ _ c.in-Ok.bytes.items (record { gave = c.in-Ok.ensures.given; ended = c.in-Ok.ensures.ended; within = c.in-Ok.ensures.within }) (c.in-Ok.ensures.count (λ f. cc))
+    c.in-Ok-judge.judged.text.items (rw c.deref.ensures.value at c.in-Ok-judge.ensures.text) (rw c.deref-2.ensures.value at c.in-Err.ensures.front) c.in-Err.ensures.count

@@ -6,8 +6,16 @@ use Rattle.lc_session.proofs.EarlyEnds.{refused_words}
 use Rattle.lc_session.proofs.NoBytes.{runs}
 use Rattle.lc_session.proofs.session.session.Goals as goal
 
-pub returns-in-Err-clause-session : goal.returns-in-Err-clause-session
-returns-in-Err-clause-session g c = refused_words (words_of c.args.words.now) _ c.in-Err.index c.in-Err.ensures
+pub returns-in-Err-Usage-clause-session : goal.returns-in-Err-Usage-clause-session
+returns-in-Err-Usage-clause-session g c =
+    let a = c.in-Err-Usage in
+    rw a.index-is (refused_words (words_of c.args.words.now) _ a.index (rw a.field-0-is at a.ensures))
+
+pub returns-in-Err-NoMemory-clause-session : goal.returns-in-Err-NoMemory-clause-session
+returns-in-Err-NoMemory-clause-session g c = absurd (rw c.in-Err-NoMemory.field-0-is at c.in-Err-NoMemory.ensures)
+
+pub returns-in-Err-NoMemory-clause-nothing : goal.returns-in-Err-NoMemory-clause-nothing
+returns-in-Err-NoMemory-clause-nothing g c asked given is none told = absurd (rw c.in-Err-NoMemory.field-0-is at c.in-Err-NoMemory.ensures)
 
 pub returns-in-Check-clause-session : goal.returns-in-Check-clause-session
 returns-in-Check-clause-session g c =

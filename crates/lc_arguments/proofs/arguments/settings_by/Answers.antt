@@ -1,5 +1,5 @@
 use Rattle.lc_arguments.proofs.CourseLaws.{none_given, unknown_given, command_given}
-use Rattle.lc_arguments.proofs.arguments.asked_by.Goals as goal
+use Rattle.lc_arguments.proofs.arguments.settings_by.Goals as goal
 
 pub returns-in_default : goal.returns-in_default
 returns-in_default c = none_given c.args.words.now c.in_default.ensures.cases
