@@ -190,6 +190,39 @@ check_certificates() {
     check '3,000 altered certificates: the program and tools/check_certificate.py agree' python3 -B tools/compare_certificates.py "$program" 3000
 }
 
+# certificates by construction. The rows of the query `AlternantCertificate` wait in tests/rows-of-trees until the program has it:
+# then the line of tools/reference.py with its name is switched on, and the rows move to tests/rows.
+check_trees() {
+    check 'tests/rows-of-trees: each row has its blocks' python3 -B tools/rows.py tests/rows-of-trees "$room/trees"
+    check 'tools/check_certificate.py says what the rows of trees say' python3 -B tools/compare_certificates.py --stored "$room/trees"
+    check 'trees at the limits, by tools/check_certificate.py' python3 -B tests/limits_of_trees.py python3 -B tools/check_certificate.py
+    check '1,000 altered trees: tools/check_certificate.py and the reference program agree' python3 -B tools/compare_certificates.py - --trees 1000
+    check 'the tree of docs/FORMATS.md is accepted' tree_of_the_formats
+    check 'a tree, as tools/pretty.py shows it' tree_is_pretty
+    check 'tools/tree_certificate.py writes a tree, or says why there is none' tree_writer_says_why
+    check 'trees at the limits' python3 -B tests/limits_of_trees.py "$program" check
+    check '2,000 altered trees: the program and tools/check_certificate.py agree' python3 -B tools/compare_certificates.py "$program" --trees 2000
+}
+
+tree_of_the_formats() {
+    awk '/^```json$/ { inside = 1; next } /^```$/ { inside = 0 } inside' docs/FORMATS.md >"$room/tree.json"
+    [ "$(python3 -B tools/check_certificate.py "$room/tree.json")" = 'accepted distance 4' ]
+}
+
+tree_is_pretty() { python3 -B tools/pretty.py <examples/certificates/tree_subcode.json | cmp - tests/pretty/tree_subcode.out; }
+
+# what tools/tree_certificate.py makes of a script
+writes_a_tree() { echo "$1" | python3 -B tools/tree_certificate.py "$program" budget=64; }
+
+tree_writer_says_why() {
+    local why=tree_certificate.py:
+    ends 0 '' writes_a_tree 'MinimumDistance(ReedSolomonCode(4,3)); GF(5);' && cmp "$room/out" - <<<'{"claim":{"kind":"alternant","locator":5,"multipliers":[1,2,4,3],"points":[1,2,4,3],"r":2},"distance":3,"field":5,"version":2,"word":[1,0,3,4]}' &&
+        ends 1 "$why the tree proves that the distance is 3 at least, and the lightest word found has weight 5" writes_a_tree 'BCHCode(17,3,GF(2));' &&
+        ends 1 "$why the code has dimension 0, so that there is no minimum distance" writes_a_tree 'NullCode(3,GF(2));' &&
+        ends 1 "$why fault 44 at 0" writes_a_tree 'x;' && ends 1 "$why no statement of the script has a code" writes_a_tree 'GF(2);' &&
+        ends 2 'usage: tree_certificate.py [PROGRAM] [budget=N] < SCRIPT' python3 -B tools/tree_certificate.py a b
+}
+
 # explains FILE: what tools/explain.py writes of a script or a certificate, on both outputs, and its status
 explains() {
     local got front=${1%.*}
@@ -209,23 +242,56 @@ check_explanations() {
     for file in tests/explain/*.codes tests/explain/*.json; do check "${file%.*}" explains "$file"; done
     check 'tools/explain.py on signs, names of other systems and scripts made at random' python3 -B tests/explanations.py "$program"
     check 'a call of tools/residue_code.py for each length' python3 -B tests/residue_codes.py "$program"
+    check 'tools/plot.py on weight distributions' python3 -B tests/plots.py "$program"
     check 'the second checker takes a file' second_checker_takes_a_file
+    check 'the programs for people are good filters' are_good_filters
+}
+
+# the programs for people as filters: a pipe whose reader has gone ends them silently; where a stream fails they say so in a line, and
+# end with 4 or 5 as the program does
+are_good_filters() {
+    local certificate=examples/certificates/golay_23.json waits='import sys; sys.stdin.buffer.read(1)' line
+    yes '[[1,0,1]]' | head -n 20000 >"$room/matrices"
+    echo '1 0 1' >"$room/matrix"
+    while read -r line; do
+        # shellcheck disable=SC2086
+        python3 -B tools/$line <"$room/matrices" 2>"$room/err" | python3 -c "$waits"
+        [ ! -s "$room/err" ] || { echo "tools/$line, in a pipe: $(tail -n 1 "$room/err")"; return 1; }
+        # shellcheck disable=SC2086
+        python3 -B tools/$line <"$room/matrices" >/dev/full 2>"$room/err"
+        [ $? -eq 5 ] && [ "$(grep -vc '^query ' "$room/err")" = 1 ] || { echo "tools/$line, into a full device: $(tail -n 1 "$room/err")"; return 1; }
+    done <<LIST
+pretty.py
+explain.py $program examples/hamming.codes
+explain.py $program $certificate
+check_certificate.py $certificate
+check_certificate.py --help
+residue_code.py 23
+from_matrix.py $room/matrix
+LIST
+    ends 4 'codes: source fault' python3 -B tools/pretty.py <&- && ends 4 'codes: source fault' python3 -B tools/explain.py "$program" - <&- &&
+        ends 4 "standard input can't be read" python3 -B tools/check_certificate.py <&-
 }
 
 # tools/check_certificate.py on a file, on standard input, with --help, and with mistakes
 second_checker_takes_a_file() {
     local checker='python3 -B tools/check_certificate.py' file=examples/certificates/golay_23.json
-    [ "$($checker $file)" = 'accepted distance 7' ] && [ "$($checker - <$file)" = 'accepted distance 7' ] && [ "$($checker --quiet <$file)" = 'accepted distance 7' ] &&
+    [ "$($checker $file)" = 'accepted distance 7' ] && [ "$($checker - <$file)" = 'accepted distance 7' ] && [ "$($checker --quiet <$file)" = 'accepted distance 7' ] && [ "$($checker --cost $file)" = 'cost 596' ] &&
         $checker --help | grep -q 'check_certificate.py \[--quiet\] \[FILE\]' && ends 4 'no.such: No such file or directory' $checker no.such &&
-        ends 2 'usage: check_certificate.py [--quiet] [FILE]' $checker a b
+        ends 2 'usage: check_certificate.py [--quiet] [--cost] [FILE]' $checker a b
 }
+
+# the functions for GAP, by a stand-in for it that reads their language
+agrees_with_a_stand_in_for_gap() { CODES=$program timeout 600 python3 -B tests/bridges/gap_stand_in.py tests/bridges/with_guava.g >"$room/gap" && agreed "$room/gap"; }
+# whether a test of a bridge came to its end, and found nothing
+agreed() { ! grep -E 'failed|Error' "$1" && grep -q '^done$' "$1"; }
 
 # the functions for Sage, by a stand-in for it
 agrees_with_a_stand_in() { CODES=$program timeout 300 python3 -B tests/bridges/without_sage.py; }
 
 # the functions for GUAVA and Sage, where these are installed
-agrees_with_guava() { CODES=$program timeout 3000 gap -q <tests/bridges/with_guava.g 2>&1 | grep -v '^true$' >"$room/gap"; ! grep -E 'failed|Error' "$room/gap" && grep -q '^done$' "$room/gap"; }
-agrees_with_sage() { CODES=$program timeout 6000 sage tests/bridges/with_sage.py >"$room/sage" 2>&1; ! grep -E 'failed|Error' "$room/sage" && grep -q '^done$' "$room/sage"; }
+agrees_with_guava() { CODES=$program timeout 3000 gap -q <tests/bridges/with_guava.g >"$room/gap" 2>&1; agreed "$room/gap"; }
+agrees_with_sage() { CODES=$program timeout 6000 sage tests/bridges/with_sage.py >"$room/sage" 2>&1; agreed "$room/sage"; }
 
 # the functions for Python
 answers_python() { CODES=$program timeout 300 python3 -B tests/bridges/with_python.py; }
@@ -233,6 +299,7 @@ answers_python() { CODES=$program timeout 300 python3 -B tests/bridges/with_pyth
 check_bridges() {
     check 'tools/python/codes_bridge.py' answers_python
     check 'tools/from_matrix.py' python3 -B tests/from_matrix.py "$program"
+    check 'tools/gap/codes.g, by a stand-in for GAP' agrees_with_a_stand_in_for_gap
     check 'tools/sage/codes.py, by a stand-in for Sage' agrees_with_a_stand_in
     if command -v gap >/dev/null && echo 'LoadPackage("guava");' | gap -q 2>/dev/null | grep -q true; then
         check 'tools/gap/codes.g and GUAVA agree' agrees_with_guava
@@ -284,6 +351,7 @@ check_program() {
     check_explanations
     check_against_reference
     check_certificates
+    check_trees
     check_sessions
     check_bridges
 }

@@ -81,19 +81,57 @@ what_is_proved_here() {
         (cd "$copy/out/proved" && sha256sum codes-* >SHA256SUMS) && answers 'proved x86-64-v[23]' && rm -r "$copy/out/proved" && answers
 }
 
-# a copy in which nothing can be written, as nobody where this runs as root
+# sets `as` to what runs a command as nobody where this runs as root; the status is 1 if nobody may not run the program
+be_nobody() {
+    as=()
+    [ "$(id -u)" -eq 0 ] || return 0
+    as=(setpriv --reuid=65534 --regid=65534 --clear-groups)
+    # (by a shell: setpriv itself may run what nobody may not)
+    "${as[@]}" sh -c 'exec "$0" --version' "$program" >/dev/null 2>&1
+}
+
+# a copy in which nothing can be written
 a_copy_to_read_only() {
-    local as=()
-    if [ "$(id -u)" -eq 0 ]; then
-        as=(setpriv --reuid=65534 --regid=65534 --clear-groups)
-        # (by a shell: setpriv itself may run what nobody may not)
-        "${as[@]}" sh -c 'exec "$0" --version' "$program" >/dev/null 2>&1 || return 0 # nobody may not run the program
-    fi
+    local as
+    be_nobody || return 0
     rm -rf "$copy/out" && chmod -R a-w "$copy"
     PATH=$room/bin:$PATH RATTLE_KIT=/nowhere "${as[@]}" "$copy/codes" run <examples/hamming.codes >"$room/out" 2>"$room/err"
     echo "status $?" >>"$room/out"
     chmod -R u+w "$copy"
     { cat examples/hamming.out && echo 'status 0'; } | cmp - "$room/out" && [ ! -e "$copy/out" ]
+}
+
+# checkpoints in a folder where nothing can be written: a line says so, above that of the program
+a_folder_to_read_only() {
+    local as
+    be_nobody || return 0
+    mkdir -p "$room/shut" && chmod 555 "$room/shut"
+    (cd "$room/shut" && PATH=$room/bin:$PATH RATTLE_KIT=/nowhere "${as[@]}" "$copy/codes" run keep=yes) <examples/hamming.codes >"$room/out" 2>"$room/err"
+    [ $? -eq 6 ] && [ ! -s "$room/out" ] && grep -qxF "codes: keep=yes keeps checkpoints in the current folder, where nothing can be written: $room/shut" "$room/err" &&
+        grep -qx 'codes: vault fault' "$room/err"
+}
+
+# called by links to it, one of them with a blank in its name, and by a folder that CDPATH would take for another
+by_links() {
+    local name
+    mkdir -p "$room/links/copy" && ln -sf "$copy/codes" "$room/links/codes" && ln -sf codes "$room/links/another name" || return 1
+    for name in links/codes 'links/another name' copy/codes; do
+        (cd "$room" && CDPATH=$room/links PATH=$room/bin RATTLE_KIT=/nowhere "$name" run) <examples/hamming.codes >"$room/out" 2>/dev/null
+        cmp "$room/out" examples/hamming.out || { echo "$name"; return 1; }
+    done
+}
+
+help_into_a_full_device_too() { codes_there --help >/dev/full 2>/dev/null; [ $? -eq 5 ]; }
+
+# without a folder for temporary files nothing is built, and a script runs
+no_temporary_folder() {
+    local words
+    for words in prove '--unproved run'; do
+        # shellcheck disable=SC2086
+        (cd "$room/elsewhere" && TMPDIR=/no/such PATH=$room/bin RATTLE_KIT=$room/kit "$copy/codes" $words) <examples/hamming.codes >"$room/out" 2>"$room/err"
+        [ $? -eq 21 ] && [ "$(cat "$room/err")" = 'codes: no temporary file can be made in /no/such' ] || { head -c 300 "$room/err"; return 1; }
+    done
+    TMPDIR=/no/such answers
 }
 
 # at a terminal it says that it waits, and answers after Ctrl-D
@@ -173,6 +211,7 @@ mistakes() {
     done
     wrapped 4 "$room/nothing" '^codes: no.such can.t be read$' explain no.such && wrapped 4 "$room/nothing" '^codes: no.such can.t be read$' --unproved explain no.such &&
         wrapped 20 "$room/nothing" '^codes: the Rattle kit is not here' prove && wrapped 20 "$room/nothing" '^codes: the Rattle kit is not here' --unproved run &&
+        wrapped 21 "$room/nothing" '^codes: test needs a clone by git' test &&
         codes_there --help >"$room/out" && grep -q 'codes prove' "$room/out" && reasons && mv "$room/release" "$copy/"
 }
 
@@ -187,6 +226,8 @@ reasons() {
         refused 0 'run reads a script from standard input: ./codes run < my.codes' my.codes &&
         refused 1 'run reads a script from standard input: ./codes run < my.codes' run my.codes &&
         refused 1 'run reads a script from standard input: ./codes run < my.codes' --unproved run my.codes &&
+        refused 1 "run reads a script from standard input: ./codes run < 'my own.codes'" run 'my own.codes' &&
+        refused 1 "run reads a script from standard input: ./codes run < 'it'\\''s.codes'" run "it's.codes" &&
         refused 1 'run reads standard input anyway: ./codes run < FILE' run - &&
         refused 1 'check takes no argument, and reads a certificate from standard input: ./codes check < my.json' check my.json &&
         refused 0 '--version stands alone' --version x &&
@@ -344,6 +385,9 @@ check_wrapper() {
     check 'codes: a folder out/ of a crate is no source' a_folder_of_a_build
     check 'codes: what was proved here is taken' what_is_proved_here
     check 'codes: a copy that can only be read answers' a_copy_to_read_only
+    check 'codes: checkpoints in a folder that can only be read' a_folder_to_read_only
+    check 'codes: it may be called by a link' by_links
+    check 'codes: --help into a full device' help_into_a_full_device_too
     check 'codes: at a terminal it says that it waits' at_a_terminal
     check 'codes: it asks before it overwrites checkpoints' asks_about_checkpoints
     check 'codes: mistakes end at once' mistakes
@@ -352,5 +396,6 @@ check_wrapper() {
     check 'codes: explain' explains_without_a_kit
     check 'codes: pretty' prints_prettily
     check 'codes: a build that is stopped leaves nothing' a_build_that_is_stopped
+    check 'codes: without a folder for temporary files' no_temporary_folder
     check 'docs/CLUSTER.md: its commands, at the top of the copy' cluster_recipes
 }

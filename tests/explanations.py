@@ -4,8 +4,10 @@
 
 Each sign that can't begin a token has a sentence. Each name in back quotes in the tables and the last list of docs/FROM_GUAVA.md leads
 to a sentence, unless it is a call of the language too, and each name in the sentences of the first table is one. Each fault of three hundred scripts that are made at random is explained: the
-last line is another one than the caret for the faults of calls, names and signs. So is each rejection of as many certificates. Prints what fails, and ends with 1 if something does.
+last line is another one than the caret for the faults of calls, names and signs. So is each rejection of as many certificates, and of as
+many by construction. Prints what fails, and ends with 1 if something does.
 """
+import json
 import re
 import sys
 from pathlib import Path
@@ -17,6 +19,7 @@ import explain
 import explain_bytes
 import explain_certificate
 import foreign_names
+import random_trees
 from random_scripts import scripts
 from reference import CALLS, LETTERS, DIGITS, QUERIES, ended
 
@@ -83,9 +86,35 @@ def faults():
                 yield f"{script}: fault {fault.number}: {lines}"
 
 
+ROWS = {"kind": "search", "by": "scan", "distance": 2, "rows": [[1, 1]], "word": [1, 1]}
+# a claim, and what the sentence has in it
+CLAIMS = [
+    ({"kind": "sum", "left": ROWS}, "its keys are `kind`, `left`, `right`; here are `kind`, `left`"),
+    ({"kind": "extend", "of": {"kind": "span"}}, '`kind` of `claim.of` is one of search, alternant, uuv'),
+    ({"kind": "subcode", "of": ROWS, "rows": [[1, 2]]}, "`rows` of `claim` is a list of lists of whole numbers below 2; here is [[1, 2]]"),
+    (ROWS | {"distance": 0}, "of the search `claim`, `distance` is a whole number of at least 1"),
+    (ROWS | {"version": 1}, "its keys are `by`, `distance`, `kind`, `rows`, `word`; here are"),
+    ({"kind": "sum", "left": ROWS, "right": {"kind": "puncture", "of": ROWS, "places": [2]}}, "claim 2, counted from 0 in the order of the tree, is the `puncture` at `claim.right`. Its refusal is 13"),
+    ({"kind": "extend", "of": ROWS | {"distance": 1}}, "the `search` at `claim.of`. Its refusal is 34: the weight of the word"),
+    ({"kind": "puncture", "of": ROWS, "places": list(range(256))}, "`places` of `claim` has 256 entries"),
+    ({"kind": "sum", "left": ROWS, "right": ROWS}, "the word is no codeword: it has another length"),
+]
+
+
+def trees():
+    for claim, wanted in CLAIMS:
+        text = json.dumps({"version": 2, "field": 2, "claim": claim, "word": [1, 1], "distance": 2})
+        said = explain_certificate.lines(text.encode(), compare_certificates.expected(text)[0].encode())
+        if wanted not in " ".join(said):
+            yield f"{claim}: {said}"
+
+
 def certificates():
     lines = list(compare_certificates.certificates())
-    for text in [*lines, *compare_certificates.some_altered(Random(5), lines, 300)]:
+    trees = list(random_trees.lines(Random(6), 30))
+    altered = compare_certificates.some_altered(Random(5), lines, 300)
+    altered_trees = compare_certificates.some_altered(Random(7), trees, 300, random_trees.altered)
+    for text in [*lines, *altered, *trees, *altered_trees]:
         printed, status = compare_certificates.expected(text)
         said = explain_certificate.lines(text.encode(), printed.encode())
         if len(said) < (2 if status and not printed.startswith("rejected 33") else 1 if status else 0):
@@ -93,7 +122,7 @@ def certificates():
 
 
 def main():
-    failed = [line for part in (signs, names, nearest, faults, certificates) for line in part()]
+    failed = [line for part in (signs, names, nearest, faults, trees, certificates) for line in part()]
     print("\n".join(failed) or "the sentences are there")
     return 1 if failed else 0
 

@@ -62,6 +62,10 @@ MinimumDistance(ReedSolomonCode(15, 9)); MinimumDistance(NullCode(4, GF(2)));
     "certificates": b"""
 Certificate(HammingCode(3, GF(2))); ScanCertificate(HammingCode(2, GF(3))); Certificate(BinaryGolayCode());
 """,
+    "weight distributions": b"""
+WeightDistribution(HammingCode(3, GF(2))); WeightDistribution(NullCode(4, GF(2))); WeightDistribution(HammingCode(5, GF(2)));
+""",
+    "a code with too many words": b"WeightDistribution(WholeSpaceCode(64, GF(2)));",
     "a fault with numbers": b"""
 x := 3; x; Dimension(HammingCode(2, GF(2))); GoppaCode([1,1], [0,1,2,0], GF(4), GF(2));
 """,

@@ -72,8 +72,16 @@ is_file_name() {
     esac
 }
 
+# the word as a shell reads it: in quotes, if there are other signs in it than those of plain names
+quoted() {
+    case $1 in
+    *[!A-Za-z0-9_./,:=+@%-]*) printf "'%s'\n" "$(printf '%s\n' "$1" | sed "s/'/'\\\\''/g")" ;;
+    *) printf '%s\n' "$1" ;;
+    esac
+}
+
 # the word, if it looks so, else a word for it
-file_name() { if is_file_name "$1"; then echo "$1"; else echo FILE; fi; }
+file_name() { if is_file_name "$1"; then quoted "$1"; else echo FILE; fi; }
 
 in_small_letters() { printf '%s\n' "$1" | LC_ALL=C tr '[:upper:]' '[:lower:]'; }
 
@@ -87,7 +95,7 @@ why_no_command() {
     seed=*) echo "a command comes first: ./codes summary $1" ;;
     *)
         if is_file_name "$1"; then
-            echo "run reads a script from standard input: ./codes run < $1"
+            echo "run reads a script from standard input: ./codes run < $(quoted "$1")"
         else
             echo "a command is run, resume, check or summary; see ./codes --help"
         fi
@@ -161,7 +169,7 @@ why_refused() {
     workers | budget | slice | seed | keep) ;;
     *)
         if is_file_name "$2" && [ "$1" != summary ]; then
-            echo "$1 reads a script from standard input: ./codes $1 < $2"
+            echo "$1 reads a script from standard input: ./codes $1 < $(quoted "$2")"
         else
             what_may_follow "$1"
         fi

@@ -2,13 +2,16 @@
 """Gives certificates to `codes check` and to tools/check_certificate.py, and compares what they say.
 
     tools/compare_certificates.py PROGRAM COUNT
+    tools/compare_certificates.py PROGRAM --trees COUNT
     tools/compare_certificates.py --stored FOLDER
 
 PROGRAM is the path of `codes`. The certificates are those of some forty small codes, as tools/reference.py writes them, and
 COUNT altered ones: a key or a part of one changed, left out, repeated or added, some bytes, or a number replaced by what
 readers of JSON take differently, such as `-0`. Both must print the same line
-and end with the same status. Prints each certificate on which they differ, and ends with 1 if there is one. The second form gives
-the certificates among the cases of a folder to check_certificate.py alone, and compares with the stored texts.
+and end with the same status. Prints each certificate on which they differ, and ends with 1 if there is one. The second form does
+the same with certificates by construction, of trees that are made at random (tools/random_trees.py); if PROGRAM is `-`, the codes and
+refusals of tools/reference.py stand in for the program. The third form gives the certificates among the cases of a folder to
+check_certificate.py alone, and compares with the stored texts.
 """
 import copy
 import json
@@ -20,6 +23,7 @@ from pathlib import Path
 from random import Random
 
 import check_certificate
+import random_trees
 import reference
 from reference import FieldValue as GF
 
@@ -138,32 +142,41 @@ def altered(random, line):
 def is_cheap(text):
     """Whether few words have to be looked at, or so many that none is."""
     try:
-        field, rows, _, _, sets = check_certificate.read(text)
+        certificate = check_certificate.read_either(text)
     except check_certificate.Rejected:
         return True
-    k = len(check_certificate.systematic(field, rows, range(len(rows[0])))[1])
-    cost = check_certificate.levels_and_cost(k, field.q, sets)[1]
-    return cost < 5000 or cost > check_certificate.MOST_WORDS
+    cost = check_certificate.cost_of(certificate)
+    return cost < 5000 or cost > check_certificate.MOST_WORDS and not isinstance(certificate, check_certificate.Tree)
 
 
-def some_altered(random, lines, count):
+def some_altered(random, lines, count, alter=altered):
     while count:
-        text = altered(random, random.choice(lines))
+        text = alter(random, random.choice(lines))
         if is_cheap(text):
             yield text
             count -= 1
 
 
-def expected(text):
+def expected(text, versions=(1, 2)):
+    """What a checker that reads these versions says."""
     try:
+        if 2 not in versions and isinstance(check_certificate.parsed(text), dict):
+            check_certificate.read(text)  # refuses another version
         return f"accepted distance {check_certificate.check(text)}\n", 0
     except check_certificate.Rejected as reason:
         return f"{reason}\n", 11
 
 
 def run(program, text):
+    if program == "-":
+        return random_trees.stand_in(text)
     done = subprocess.run([program, "check"], input=text.encode(), capture_output=True, timeout=100)
     return done.stdout.decode(), done.returncode
+
+
+def versions_of(program):
+    """Which versions the program reads: an older one refuses version 2."""
+    return (1, 2) if run(program, '{"version":2}')[0] != "rejected 31 with 2\n" else (1,)
 
 
 def compare_stored(folder):
@@ -173,17 +186,12 @@ def compare_stored(folder):
     sys.exit(1 if differ or not cases else 0)
 
 
-def main():
-    if sys.argv[1] == "--stored":
-        compare_stored(Path(sys.argv[2]))
-    program, count = sys.argv[1], int(sys.argv[2])
-    random = Random(1)
-    lines = list(certificates())
-    texts = lines + list(some_altered(random, lines, count))
+def compare(program, texts, versions):
+    """Prints each text on which the program and the second checker differ, and how many there are of each reason; how many differ."""
     differ, said = 0, {}
     with ThreadPoolExecutor(LANES) as lanes:
         for text, got in zip(texts, lanes.map(lambda text: run(program, text), texts)):
-            wanted = expected(text)
+            wanted = expected(text, versions)
             front = wanted[0].split(" with")[0].split(" distance")[0].strip()
             said[front] = said.get(front, 0) + 1
             if got != wanted:
@@ -191,7 +199,33 @@ def main():
                 print(f"{text[:1000]}\n  program    {got}\n  checker    {wanted}")
     print(", ".join(f"{n} {front}" for front, n in sorted(said.items())))
     print(f"{len(texts)} certificates, {differ} differ")
-    sys.exit(1 if differ else 0)
+    return differ
+
+
+def altered_tree(random, line):
+    return random_trees.altered(random, line) if random.random() < 0.8 else altered(random, line)
+
+
+def compare_trees(program, count):
+    versions = versions_of(program)
+    if 2 not in versions:
+        print(f"{program} reads no certificates by construction")
+        return 1
+    random = Random(2)
+    lines = list(random_trees.lines(random, max(20, count // 10)))
+    return compare(program, lines + list(some_altered(random, lines, count, altered_tree)), versions)
+
+
+def main():
+    if sys.argv[1] == "--stored":
+        compare_stored(Path(sys.argv[2]))
+    program = sys.argv[1]
+    if sys.argv[2] == "--trees":
+        sys.exit(1 if compare_trees(program, int(sys.argv[3])) else 0)
+    random = Random(1)
+    lines = list(certificates())
+    texts = lines + list(some_altered(random, lines, int(sys.argv[2])))
+    sys.exit(1 if compare(program, texts, versions_of(program)) else 0)
 
 
 if __name__ == "__main__":

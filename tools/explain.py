@@ -17,6 +17,7 @@ import sys
 
 import explain_bytes
 import explain_certificate
+import filters
 import foreign_names
 import reference
 from reference import CALLS, QUERIES, FIELD_SIZES, LONGEST, SYMBOL_SIZES, Code, Fault, FieldValue
@@ -49,7 +50,9 @@ MEANINGS = {
     44: "the name is unknown",
     45: "the value is of the wrong kind, or a query is not a statement of its own",
     46: "the call takes another number of arguments",
+    47: "the code and its dual have too many words to count",
 }
+EMPTY = "the file is empty: a script that prints nothing; as a certificate it is rejected, by reason 30"
 SIGNS = {"name": "a name", "number": "a number"}
 
 
@@ -258,6 +261,13 @@ OF_WORDS = ("IsCodeword", "Decode", "AlgebraicDecode")
 BY_LISTS = ("GeneratorPolCode", "CheckPolCode", "GoppaCode", "AlternantCode")
 
 
+def distribution_told(q, n, k, r):
+    """What is too large for a weight distribution of a code of length n and dimension k, r being n - k."""
+    if q**r > 2**24:
+        return f"the code has {q}^{k} words and its dual {q}^{r}; one of them may have at most 2^24"
+    return f"the code has {q}^{k} words, more than 2^24; from its dual it is found only in a space of at most 2^63 vectors, and here are {q}^{n}"
+
+
 def refusal(expr, fault, names):
     """Why a call with arguments of its kinds is refused."""
     name = expr.value.decode()
@@ -311,6 +321,8 @@ def refusal(expr, fault, names):
         return f"{values[0].size}^{fault.values[0]} is above 2^20"
     if number == 18:
         return "only BCHCode, ReedSolomonCode, GoppaCode and AlternantCode make codes that have one"
+    if number == 47:
+        return distribution_told(values[0].size, values[0].length, *fault.values)
     if number == 16:
         return f"{len(values[0])} rows over GF({values[1].size}) have {values[1].size}^{len(values[0])} words, more than 65,536"
     return ""
@@ -421,7 +433,7 @@ def main():
         return 2
     program, file = sys.argv[1:-1], sys.argv[-1]
     try:
-        text = sys.stdin.buffer.read() if file == "-" else open(file, "rb").read()
+        text = filters.read_input() if file == "-" else open(file, "rb").read()
     except OSError as error:
         print(f"codes: {error.filename}: {error.strerror}", file=sys.stderr)
         return 4
@@ -430,11 +442,11 @@ def main():
         lines = explain_certificate.lines(text, said) if status == 11 else []
     else:
         said, status = printed(program, "run", text)
-        lines = explanation(program, text, fault_of(said)) if status == 1 else []
+        lines = [EMPTY] if not text.strip() and status == 0 else explanation(program, text, fault_of(said)) if status == 1 else []
     if lines:
         print("\n".join(lines), file=sys.stderr)
     return status
 
 
 if __name__ == "__main__":
-    sys.exit(main())
+    filters.end(main)

@@ -6,6 +6,7 @@ the certificate is accepted. `is_certificate(text)` says whether a file is one, 
 import json
 
 import check_certificate
+import explain_tree
 from check_certificate import FIELDS, Field, Rejected, systematic, weight
 
 MEANINGS = {
@@ -13,11 +14,13 @@ MEANINGS = {
     32: "the length, the number of rows or the number of sets is above 255", 33: "the word is no codeword: it is not in the span of the rows",
     34: "the weight of the word is not the distance", 35: "the columns of a set are not independent, or not as many as the dimension",
     36: "a column is fresh in two sets", 37: "a codeword is lighter than the distance", 38: "the sets and their levels prove less than the distance",
-    39: "a checker would have to look at too many words",
+    39: "a checker would have to look at too many words", 48: "a claim defines no code", 49: "the claims prove less than the distance",
 }
+# of a certificate by construction
+OF_TREES = {32: "a list has more than 255 entries, or there are too many claims, or they are too deep", 33: "the word is no codeword: it has another length, or is not in the code of the claim"}
 # the key that a rule is about, and what it asks
 RULES = {
-    1: ("", "the whole is an object, from `{` to `}`"), 2: ("version", "`version` is 1"),
+    1: ("", "the whole is an object, from `{` to `}`"), 2: ("version", "`version` is 1, or 2 for one by construction"),
     3: ("field", "`field` is one of " + ", ".join(map(str, FIELDS))),
     4: ("rows", "`rows` is a nonempty list of lists of one length of at least 1, with entries below the size of the field"),
     5: ("word", "`word` is a list of the length of the rows, with entries below the size of the field"),
@@ -65,6 +68,8 @@ def is_json(line):
 def why_no_certificate(text, rule):
     key, wanted = RULES[rule]
     value = json.loads(text)
+    if rule == 2 and is_tree(value):
+        return "`version` is 2, and this program reads no certificates by construction"
     if not key:
         return f"wanted: {wanted}"
     if key not in value:
@@ -95,6 +100,11 @@ def why_not_proved(text, number, values):
     return ""
 
 
+def is_tree(value):
+    version = value.get("version") if isinstance(value, dict) else None
+    return check_certificate.is_number(version) and version == 2
+
+
 def lines(text, printed):
     words = printed.split()
     if not words or words[0] != b"rejected":
@@ -103,6 +113,9 @@ def lines(text, printed):
     number, values = rejected.number, rejected.values
     if number == 30:
         detail = why_no_json(text)
+    elif (number, *values) != (31, 2) and is_tree(json.loads(text)):
+        detail = explain_tree.detail(json.loads(text), number, values, MEANINGS)
+        return [f"reason {number}: {OF_TREES.get(number, MEANINGS[number])}"] + ([detail] if detail else [])
     elif number == 31:
         detail = why_no_certificate(text, values[0])
     else:

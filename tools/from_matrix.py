@@ -21,6 +21,7 @@ import argparse
 import re
 import sys
 
+import filters
 import linear_algebra
 
 SIZES = (2, 3, 4, 5, 7, 8, 9, 11, 13, 16)
@@ -253,4 +254,4 @@ def main():
 
 
 if __name__ == "__main__":
-    sys.exit(main())
+    filters.end(main)

@@ -4,17 +4,20 @@
     tools/gallery.py --make PROGRAM
     tools/gallery.py --check PROGRAM
 
-PROGRAM is the path of `codes`. The first form runs the query `Certificate` or `ScanCertificate` on each code of the table below,
-writes what it prints to examples/certificates/NAME.json, and the page README.md there. The second form writes nothing: it sees
-that `codes` still prints each file, that `codes check` and tools/check_certificate.py accept it with the distance of the
-table, and that the page is up to date. check_certificate.py is left out where it would have to look at more than a million
-words. Prints what is wrong, and ends with 1 if there is something.
+PROGRAM is the path of `codes`. The first form runs the query `Certificate` on each code of the first table below and
+tools/tree_certificate.py on each script of the second one, writes what they print to examples/certificates/NAME.json, and the page
+README.md there. The second form writes nothing: it sees that each file is still printed, that `codes check` and
+tools/check_certificate.py accept it with the distance of the table, and that the page is up to date. check_certificate.py is left out
+where it would have to look at more than a million words. Prints what is wrong, and ends with 1 if there is something.
 """
 import subprocess
 import sys
+from itertools import count
 from pathlib import Path
 
 import check_certificate
+import compare_certificates
+import tree_certificate
 
 FOLDER = Path(__file__).resolve().parent.parent / "examples" / "certificates"
 MOST_FOR_PYTHON = 1_000_000
@@ -80,6 +83,27 @@ CODES = [
     ("hamming_17", "Hamming code over 16 elements, which is MDS", "HammingCode(2,GF(16))", 3, f"{MS}, chapters 7 and 11"),
 ]
 
+GOLAY = f"{MS}, chapters 18 and 20"
+
+# file, name, script, minimum distance, source: a tree for each kind of claim, and then deep ones
+TREES = [
+    ("tree_search", "tetracode, by one search", "HammingCode(2,GF(3));", 3, "Conway and Sloane, Sphere Packings, Lattices and Groups, chapter 3"),
+    ("tree_alternant", "Goppa code, by the form of the square of its polynomial", f"GoppaCode([1,1,0,1],{LOCATORS_32},GF(32),GF(2));", 7, f"{MS}, chapter 12"),
+    ("tree_uuv", "(u\\|u+v)", "UUVCode(EvenWeightSubcode(WholeSpaceCode(8,GF(2))),RepetitionCode(8,GF(2)));", 4, f"{MS}, chapter 2"),
+    ("tree_sum", "direct sum", "DirectSumCode(BinaryGolayCode(),BCHCode(15,7,GF(2)));", 7, f"{MS}, chapter 2"),
+    ("tree_product", "product of two Hamming codes", "DirectProductCode(HammingCode(3,GF(2)),HammingCode(4,GF(2)));", 9, f"{MS}, chapter 18"),
+    ("tree_concat", "concatenation of a Reed–Solomon code and a simplex code", "ConcatenatedCode(ReedSolomonCode(7,5),DualCode(HammingCode(3,GF(2))));", 20, f"{MS}, chapter 10"),
+    ("tree_subcode", "words of even weight of a sum", "EvenWeightSubcode(DirectSumCode(ExtendedCode(HammingCode(3,GF(2))),BCHCode(15,5,GF(2))));", 4, f"{MS}, chapter 1"),
+    ("tree_puncture", "punctured Golay code", "PuncturedCode(ExtendedBinaryGolayCode(),[0,5]);", 6, f"{MS}, chapters 1 and 20"),
+    ("tree_shorten", "shortened Reed–Solomon code", "ShortenedCode(ReedSolomonCode(15,7),[12,13,14]);", 7, f"{MS}, chapters 1 and 10"),
+    ("tree_extend", "extended BCH code", "ExtendedCode(BCHCode(63,5,GF(2)));", 6, f"{MS}, chapters 1 and 9"),
+    ("tree_golay_product", "product of the ternary Golay codes", "DirectProductCode(TernaryGolayCode(),ExtendedTernaryGolayCode());", 30, GOLAY),
+    ("tree_concat_255", "concatenation of an MDS code over 16 elements and a simplex code", "ConcatenatedCode(BCHCode(17,14,8,GF(16)),DualCode(HammingCode(4,GF(2))));", 64, f"{MS}, chapter 10"),
+    ("tree_shortened_bch", "shortened extended BCH code", "ShortenedCode(ExtendedCode(BCHCode(63,11,GF(2))),[0,1,2,3,4,5,6,7]);", 12, f"{MS}, chapters 1 and 9"),
+    ("tree_reed_muller_2_5", "Reed–Muller code, by (u\\|u+v) down to length 2", "ReedMullerCode(2,5);", 8, f"{MS}, chapter 13"),
+    ("tree_reed_muller_2_7", "Reed–Muller code, by (u\\|u+v) down to length 2", "ReedMullerCode(2,7);", 32, f"{MS}, chapter 13"),
+]
+
 HEAD = """# Certificates of well-known codes
 
 Each file is a certificate that `codes` prints for the code: one line of JSON, which [docs/FORMATS.md](../../docs/FORMATS.md#certificates) describes. Check one by either program:
@@ -93,6 +117,16 @@ Both print `accepted distance 7`. *Words* is what a checker has to look at. `too
 
 | File | Code | [n, k, d] | over | Words | Call | Source |
 |---|---|---|---|---|---|---|
+"""
+
+
+TREES_HEAD = """
+## By construction
+
+These are [certificates by construction](../../docs/FORMATS.md#certificates-by-construction): trees of claims, one for each kind of claim and then deeper ones. `tools/tree_certificate.py` makes them of the scripts. `codes check` and `tools/check_certificate.py` accept each.
+
+| File | Code | [n, k, d] | over | Claims | Words | Script | Source |
+|---|---|---|---|---|---|---|---|
 """
 
 
@@ -114,7 +148,18 @@ def page(texts):
         n, k, q, cost = numbers(texts[name])
         call = expression if len(expression) <= 60 else expression.split("(")[0] + "(..)"
         lines.append(f"| `{name}.json` | {title} | [{n}, {k}, {distance}] | GF({q}) | {cost:,} | `{call}` | {source} |\n")
+    for name, title, script, distance, source in TREES:
+        tree = check_certificate.read_either(texts[name])
+        code = check_certificate.code_of(tree.claim, count(), check_certificate.Progress(0, True))
+        shown = f"[{code.length}, {len(code.rows)}, {distance}] | GF({tree.q}) | {len(list(tree.claim.all()))} | {check_certificate.tree_cost(tree):,}"
+        lines.append(f"{TREES_HEAD if name == TREES[0][0] else ''}| `{name}.json` | {title} | {shown} | `{script if len(script) <= 100 else script.split('(')[0] + '(..);'}` | {source} |\n")
     return HEAD + "".join(lines)
+
+
+def tree_of(program, script):
+    """The certificate by construction of the code that a script makes."""
+    code = tree_certificate.code_of_script(script.encode())
+    return tree_certificate.certificate_of(code, tree_certificate.Asked(program)) + "\n"
 
 
 def make(program):
@@ -124,6 +169,9 @@ def make(program):
         texts[name] = printed(program, expression)
         if not texts[name].startswith("{"):
             sys.exit(f"{name}: {texts[name]}")
+        (FOLDER / f"{name}.json").write_text(texts[name])
+    for name, _, script, _, _ in TREES:
+        texts[name] = tree_of(program, script)
         (FOLDER / f"{name}.json").write_text(texts[name])
     (FOLDER / "README.md").write_text(page(texts))
 
@@ -140,10 +188,23 @@ def faults(program):
             yield f"{name}: `codes check` says {done.stdout.decode().strip()}"
         if numbers(text)[3] <= MOST_FOR_PYTHON and check_certificate.check(text) != distance:
             yield f"{name}: tools/check_certificate.py accepts another distance"
+    yield from tree_faults(program, texts)
     if (FOLDER / "README.md").read_text() != page(texts):
         yield "README.md isn't up to date"
     if {path.stem for path in FOLDER.glob("*.json")} != set(texts):
         yield "a file belongs to no code of the table"
+
+
+def tree_faults(program, texts):
+    """What is wrong with the trees; their texts are kept in `texts`."""
+    for name, _, script, distance, _ in TREES:
+        text = texts[name] = (FOLDER / f"{name}.json").read_text()
+        if tree_of(program, script) != text:
+            yield f"{name}: tools/tree_certificate.py makes another certificate"
+        if check_certificate.check(text) != distance:
+            yield f"{name}: tools/check_certificate.py accepts another distance"
+        if compare_certificates.run(program, text) != (f"accepted distance {distance}\n", 0):
+            yield f"{name}: `codes check` says something else"
 
 
 def main():
@@ -153,7 +214,7 @@ def main():
         make(sys.argv[2])
         return
     found = list(faults(sys.argv[2]))
-    print("\n".join(found) or f"{len(CODES)} certificates")
+    print("\n".join(found) or f"{len(CODES) + len(TREES)} certificates")
     sys.exit(1 if found else 0)
 
 

@@ -11,7 +11,7 @@ prints COUNT scripts of that kind, each as a Python literal; `tools/compare.py` 
     cut        scripts of the three kinds above, cut off at some byte
     altered    the same, with a few bytes changed, left out or put in
     noise      bytes, most of them from those that scripts are made of, and deep nesting and wide numbers
-    searched   distances and certificates of codes of up to 30 symbols, and of codes made from them
+    searched   distances, certificates and weight distributions of codes of up to 30 symbols, and of codes made from them
 """
 import random
 import sys
@@ -20,7 +20,7 @@ from dataclasses import dataclass, replace
 SIZES = (2, 3, 4, 5, 7, 8, 9, 11, 13, 16)
 LARGE_SIZES = (25, 27, 32, 64, 81, 128, 243, 256)
 NAMES = ("C", "D", "x", "rows", "F", "a_1")
-UNKNOWN = ("Distance", "WeightDistribution", "BchCode", "Extended", "Foo", "hammingCode", "GF_", "Golay", "z")
+UNKNOWN = ("Distance", "NearestWord", "BchCode", "Extended", "Foo", "hammingCode", "GF_", "Golay", "z")
 CALLS = ("GF", "Weight", "Dimension", "DualCode", "IsCodeword", "Decode", "HammingCode", "ReedMullerCode", "CheckMat", "BCHCode", "GoppaCode",
          "ExtendedCode", "UUVCode", "PuncturedCode", "BinaryGolayCode")
 SIGNS = "()[],;:=#_ \n\tab19GF"
@@ -270,7 +270,7 @@ class Maker:
         if code.length <= (9 if code.size <= 4 else 5):
             way = self.below(10)
             if way < 5:
-                return f"{self.pick(('MinimumDistance', 'MinimumDistance', 'Certificate', 'ScanCertificate'))}({code.text})"
+                return f"{self.pick(('MinimumDistance', 'MinimumDistance', 'Certificate', 'ScanCertificate', 'WeightDistribution'))}({code.text})"
             if way < 7:
                 return f"AlgebraicDecode({code.text},{self.word(code)})"
         return self.least()
@@ -286,7 +286,7 @@ class Maker:
         return f"LeastWord({self.text(rows)},{self.field(size)})"
 
     def searched(self):
-        """A distance or a certificate of a code by rows, or of its extended code, its dual or a shortened code of it."""
+        """A distance, a certificate or a weight distribution of a code by rows, or of its extended code, its dual or a shortened code of it."""
         size, length = self.size(), 2 + self.below(29)
         most = {2: 9, 3: 5, 4: 4}.get(size, 3)
         rows = [[self.below(size) if self.chance(0.7) else 0 for _ in range(length)] for _ in range(1 + self.below(most))]
@@ -298,7 +298,7 @@ class Maker:
             code = f"DualCode({code})"
         elif way == 2:
             code = f"ShortenedCode({code},[{self.below(length - 1)}])"
-        return f"{self.pick(('MinimumDistance', 'MinimumDistance', 'Certificate', 'ScanCertificate'))}({code});".encode()
+        return f"{self.pick(('MinimumDistance', 'MinimumDistance', 'Certificate', 'ScanCertificate', 'WeightDistribution'))}({code});".encode()
 
     def blank(self):
         return self.pick(("", "", "\n", " ", "\r\n", "\t", " # a comment\n", "#;(\xff\n"))

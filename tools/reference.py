@@ -33,6 +33,7 @@ FIELD_SIZES = SYMBOL_SIZES + (25, 27, 32, 64, 81, 128, 243, 256)
 LONGEST = 255
 MOST_WORDS = 2**16
 MOST_COSETS = 2**20
+MOST_COUNTED, MOST_VECTORS = 2**24, 2**63  # of a weight distribution
 BUDGET = 2**20  # blocks of a search
 MOST_BLOCKS = 2**40
 
@@ -755,6 +756,19 @@ def algebraic_decode_line(code, word):
     return "none"
 
 
+def alternant_certificate_line(code, word):
+    """The certificate by construction of one claim, the form of the code."""
+    if code.form is None:
+        raise Refused(18)
+    need_word(code, word)
+    form, weight = code.form, weight_of(word)
+    if not is_in(code, word) or weight != form.r + 1:
+        raise Refused(19, weight, form.r + 1)
+    claim = {"kind": "alternant", "locator": form.locator, "multipliers": form.multipliers, "points": form.points, "r": form.r}
+    parts = {"claim": claim, "distance": weight, "field": code.size, "version": 2, "word": word}
+    return json.dumps(parts, separators=(",", ":"), sort_keys=True)
+
+
 def least_word_line(rows, field):
     length = need_matrix(rows, field)
     if field.size**len(rows) > MOST_WORDS:
@@ -826,6 +840,36 @@ def certificate_line(session, code, by):
     return text
 
 
+def counts_by_weight(code):
+    """How many words of each weight the code has, by all sums of multiples of its rows."""
+    field, counts = arithmetic(code.size), [0] * (code.length + 1)
+
+    def visit(word, rows):
+        if not rows:
+            counts[weight_of(word)] += 1
+            return
+        for c in range(code.size):
+            visit(field.add_scaled(word, c, rows[0]), rows[1:])
+
+    visit([0] * code.length, code.rows)
+    return counts
+
+
+def krawtchouk(q, n, k, j):
+    return sum((-1) ** i * (q - 1) ** (k - i) * comb(j, i) * comb(n - j, k - i) for i in range(k + 1))
+
+
+def weight_distribution_line(code):
+    """The words of the code, or of its dual if these are fewer; then by the identity of MacWilliams."""
+    q, n, k = code.size, code.length, len(code.rows)
+    if q**k > MOST_COUNTED and (q ** (n - k) > MOST_COUNTED or q**n > MOST_VECTORS):
+        raise Refused(47, k, n - k)
+    if 2 * k <= n:
+        return text_of(counts_by_weight(code))
+    dual = counts_by_weight(dual_of(code))
+    return text_of([sum(dual[j] * krawtchouk(q, n, w, j) for j in range(n + 1)) // q ** (n - k) for w in range(n + 1)])
+
+
 # name: the kinds of the arguments in each form of the call, and the function
 CALLS = {
     "GF": ([("number",)], gf),
@@ -867,10 +911,13 @@ CALLS = {
 # these print a line of their own, and stand only as a whole statement; the functions get the session first
 QUERIES = {
     "AlgebraicDecode": ([("code", "numbers")], lambda _, code, word: algebraic_decode_line(code, word)),
+    # waits for the program:
+    # "AlternantCertificate": ([("code", "numbers")], lambda _, code, word: alternant_certificate_line(code, word)),
     "LeastWord": ([("lists", "field")], lambda _, rows, field: least_word_line(rows, field)),
     "MinimumDistance": ([("code",)], minimum_distance_line),
     "Certificate": ([("code",)], lambda session, code: certificate_line(session, code, "levels")),
     "ScanCertificate": ([("code",)], lambda session, code: certificate_line(session, code, "scan")),
+    "WeightDistribution": ([("code",)], lambda _, code: weight_distribution_line(code)),
 }
 
 

@@ -10,6 +10,7 @@ the two codes (MacWilliams and Sloane, The Theory of Error-Correcting Codes, cha
 """
 import sys
 
+import filters
 import linear_algebra
 
 LONGEST = 255
@@ -85,4 +86,4 @@ def main():
 
 
 if __name__ == "__main__":
-    sys.exit(main())
+    filters.end(main)

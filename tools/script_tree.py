@@ -63,4 +63,5 @@ def main():
     print(f"Script {{ statements: [{', '.join(statements)}] }}")
 
 
-main()
+if __name__ == "__main__":
+    main()

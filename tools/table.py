@@ -22,6 +22,7 @@ from dataclasses import dataclass, field
 from pathlib import Path
 
 import check_certificate
+import filters
 import from_matrix
 
 NAME = re.compile(r"[\w.+-]+")
@@ -234,4 +235,4 @@ def main():
 
 
 if __name__ == "__main__":
-    sys.exit(main())
+    filters.end(main)

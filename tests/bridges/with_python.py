@@ -29,14 +29,43 @@ def raises(kind, wanted, call, *words, **how):
             failed.append(f"{error}, wanted {wanted}")
 
 
-class Rows:
-    """What iterates as an array does."""
+class Number:
+    """A number that is none of Python's, as the entries of an array are when it is looked through."""
 
-    def __init__(self, rows):
-        self.rows = rows
+    def __init__(self, value):
+        self.value = value
+
+    def __int__(self):
+        return int(self.value)
+
+    def __eq__(self, other):
+        return self.value == (other.value if isinstance(other, Number) else other)
+
+
+class Array:
+    """What an array of numpy does when it is looked through: its rows are arrays, its entries Numbers, and it is neither true nor false."""
+
+    def __init__(self, values):
+        self.values = values
 
     def __iter__(self):
-        return (iter(row) for row in self.rows)
+        return (Array(value) if isinstance(value, list) else Number(value) for value in self.values)
+
+    def __len__(self):
+        return len(self.values)
+
+    def __bool__(self):
+        raise ValueError("The truth value of an array with more than one element is ambiguous")
+
+    def __eq__(self, other):
+        return Array([value == other for value in self.values])
+
+
+class ArrayWithLists(Array):
+    """The same with `tolist`."""
+
+    def tolist(self):
+        return self.values
 
 
 def listed(rows, p):
@@ -48,7 +77,6 @@ def listed(rows, p):
 def distances():
     same(minimum_distance(HAMMING, 2), Distance(3, 3, [1, 0, 0, 0, 0, 1, 1], 2))
     same(minimum_distance(HAMMING, 2, budget=1, workers=2).is_exact, False)
-    same(minimum_distance(Rows(HAMMING), 2).high, 3)
     same(minimum_distance(tuple(map(tuple, HAMMING)), 2, workers=2).word, HAMMING[0])
     random.seed(2)
     for p in (2, 3, 5, 7):
@@ -65,11 +93,37 @@ def distances():
 
 
 def arrays():
+    """Arrays, rows that are arrays, generators and numbers of other types are what lists are."""
+    wanted, floats = minimum_distance(HAMMING, 2), [[float(a) for a in row] for row in HAMMING]
+    for rows in (Array(HAMMING), ArrayWithLists(HAMMING), [ArrayWithLists(row) for row in HAMMING], [Array(row) for row in HAMMING], tuple(map(tuple, HAMMING)),
+                 (iter(row) for row in HAMMING), floats, Array(floats), [[bool(a) for a in row] for row in HAMMING]):
+        same(minimum_distance(rows, 2), wanted)
+    same(minimum_distance(HAMMING, Number(2).value, workers=Number(2), budget=Number(100)), wanted)
+    same(check(certificate(Array(HAMMING), 2)).distance, 3)
+    raises(ValueError, "row 1 has an entry that is no whole number: 0.5", minimum_distance, [[1, 0], [0.5, 1]], 2)
+    raises(ValueError, "no whole number: nan", minimum_distance, [[1, float("nan")]], 2)
+    raises(ValueError, "no whole number: '1'", minimum_distance, [["1"]], 2)
+    raises(ValueError, "row 0 is no list of numbers", minimum_distance, ["1011"], 2)
+    raises(ValueError, "row 0 is no list of numbers", minimum_distance, Array([1, 0, 1]), 2)
+    raises(ValueError, "a matrix is a list of rows", minimum_distance, 5, 2)
+
+
+def arrays_of_numpy():
     try:
         import numpy
     except ImportError:
-        return
-    same(minimum_distance(numpy.array(HAMMING, dtype=numpy.uint8), 2), minimum_distance(HAMMING, 2))
+        return  # it is no part of what this needs: the arrays above stand for its own
+    wanted = minimum_distance(HAMMING, 2)
+    for kind in (numpy.uint8, numpy.int64, numpy.bool_, numpy.float64, object):
+        same(minimum_distance(numpy.array(HAMMING, dtype=kind), 2), wanted)
+        same(minimum_distance(list(numpy.array(HAMMING, dtype=kind)), 2), wanted)
+    same(minimum_distance(numpy.asfortranarray(HAMMING)[::-1], numpy.int64(2), workers=numpy.int32(2), budget=numpy.int64(100)), minimum_distance(HAMMING[::-1], 2))
+    same(minimum_distance(numpy.eye(3), 16), minimum_distance([[1, 0, 0], [0, 1, 0], [0, 0, 1]], 16))
+    raises(ValueError, "no whole number", minimum_distance, numpy.array([[0.5]]), 2)
+    raises(ValueError, "row 0 is no list of numbers", minimum_distance, numpy.array([1, 0]), 2)
+    raises(ValueError, "a matrix is a list of rows", minimum_distance, numpy.array(1), 2)
+    raises(ValueError, "rows of 1 to 255", minimum_distance, numpy.zeros((0, 4)), 2)
+    raises(ValueError, "no whole number", minimum_distance, numpy.zeros((2, 2, 2)), 2)
 
 
 def certificates():
@@ -98,7 +152,7 @@ def rounds():
     raises(KeyboardInterrupt, "enough", minimum_distance, HAMMING, 2, progress=stop)
 
 
-for part in (distances, arrays, certificates, scripts, rounds):
+for part in (distances, arrays, arrays_of_numpy, certificates, scripts, rounds):
     part()
 os.environ.pop("CODES")
 same(codes_bridge.program_or("here"), "here")

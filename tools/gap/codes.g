@@ -7,7 +7,8 @@
 #   CodesCertificate(C);
 #
 # C is a linear code of GUAVA over 2, 3, 4, 5, 7, 8, 9, 11, 13 or 16 elements, of length at most 255 and dimension at least 1. The
-# answer of CodesDistance is a record:
+# answer of CodesDistance is a record, and C keeps these bounds, as GUAVA's own functions keep theirs, so that MinimumDistance(C) is
+# answered at once if they are equal:
 #   low, high     two numbers between which the minimum distance lies; they are equal if the search was finished
 #   isExact       whether it was
 #   word          a codeword of weight `high`, as a codeword of GUAVA
@@ -49,6 +50,9 @@ end;
 # what is wrong with the components of a record of options, or fail
 CodesMistakeInOptions := function(options)
     local name, limits;
+    if not IsRecord(options) then
+        return "the options are a record, as rec(workers := 4)";
+    fi;
     limits := rec(budget := [0, 2^40], workers := [1, 256]);
     for name in RecNames(options) do
         if name in RecNames(limits) then
@@ -59,7 +63,11 @@ CodesMistakeInOptions := function(options)
             if not options.quiet in [true, false] then
                 return "quiet is true or false";
             fi;
-        elif name <> "program" then
+        elif name = "program" then
+            if not IsString(options.program) then
+                return "program is a path, as a string";
+            fi;
+        else
             return Concatenation("there is no option ", name, "; there are budget, workers, program and quiet");
         fi;
     od;
@@ -70,7 +78,7 @@ end;
 CodesMistake := function(C, options)
     local q;
     if not IsLinearCode(C) then
-        return "the code is not linear";
+        return "this is no linear code of GUAVA";
     fi;
     q := Size(LeftActingDomain(C));
     if not q in [2, 3, 4, 5, 7, 8, 9, 11, 13, 16] then
@@ -99,8 +107,10 @@ CodesRun := function(script, options)
     else
         program := Filename(DirectoriesSystemPrograms(), "codes");
     fi;
-    if program = fail or not IsExecutableFile(program) then
+    if program = fail then
         Error("the program `codes` is not on the path; give its path as the component `program`");
+    elif not IsExecutableFile(program) then
+        Error("there is no program ", program);
     fi;
     args := ["run"];
     for name in ["budget", "workers"] do
@@ -117,16 +127,18 @@ CodesRun := function(script, options)
     status := Process(DirectoryCurrent(), program, InputTextString(script), out, args);
     CloseStream(out);
     if status <> 0 then
-        Error("codes ended with status ", status, ": ", text);
+        Error("codes ended with status ", status, ", see docs/FORMATS.md: ", text);
     fi;
     return text;
 end;
 
-# the line that the program prints of a query of the code
-CodesAnswer := function(query, arguments)
-    local C, options, mistake;
-    C := arguments[1];
-    if Length(arguments) > 1 then options := arguments[2]; else options := rec(); fi;
+# The line that the program prints of a query of the code. The options are a list of one record, or the empty list.
+CodesAnswer := function(query, C, options)
+    local mistake;
+    if Length(options) > 1 then
+        Error("there are too many arguments: the options are one record");
+    fi;
+    options := Concatenation(options, [rec()])[1];
     mistake := CodesMistake(C, options);
     if mistake <> fail then
         Error(mistake);
@@ -134,11 +146,11 @@ CodesAnswer := function(query, arguments)
     return CodesRun(CodesScript(query, C), options);
 end;
 
-CodesDistance := function(arg)
-    local C, q, parts, list, word, found;
-    C := arg[1];
+# the answer that the line of MinimumDistance gives; C keeps its bounds
+CodesFound := function(C, line)
+    local q, parts, list, word, found;
     # distance D word [..] blocks B, or distance between L and W word [..] blocks B
-    parts := Filtered(SplitString(CodesAnswer("MinimumDistance", arg), " \n", " \n"), part -> part <> "");
+    parts := Filtered(SplitString(line, " \n", " \n"), part -> part <> "");
     q := Size(LeftActingDomain(C));
     list := EvalString(First(parts, part -> part[1] = '['));
     word := Codeword(List(list, n -> CodesElement(q, n)), GF(q));
@@ -150,9 +162,19 @@ CodesDistance := function(arg)
     if not word in C or WeightCodeword(word) <> found.high then
         Error("codes answered a word that is no word of this code, or of another weight: ", list);
     fi;
+    if not IsBound(C!.lowerBoundMinimumDistance) or C!.lowerBoundMinimumDistance < found.low then
+        C!.lowerBoundMinimumDistance := found.low;
+    fi;
+    if not IsBound(C!.upperBoundMinimumDistance) or C!.upperBoundMinimumDistance > found.high then
+        C!.upperBoundMinimumDistance := found.high;
+    fi;
     return found;
 end;
 
-CodesCertificate := function(arg)
-    return Chomp(CodesAnswer("Certificate", arg));
+CodesDistance := function(C, options...)
+    return CodesFound(C, CodesAnswer("MinimumDistance", C, options));
+end;
+
+CodesCertificate := function(C, options...)
+    return Chomp(CodesAnswer("Certificate", C, options));
 end;

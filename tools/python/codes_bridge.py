@@ -11,7 +11,8 @@
     answered = run("C := HammingCode(3, GF(2)); C;")
     answered.lines, answered.fault           # ['code [7,4] GF(2)'], None
 
-Rows are lists, tuples or arrays (of numpy, or anything that iterates) of numbers below q; over 4, 8, 9 and 16 elements docs/SCRIPT.md says
+Rows are lists, tuples or arrays (of numpy, or anything that iterates) of whole numbers below q, whatever their type: 1, True and 1.0 are
+one number, as numpy.eye gives it; over 4, 8, 9 and 16 elements docs/SCRIPT.md says
 which element a number is. `workers` is the number of threads, `budget` the most blocks of 4,096 words of a search. `progress` is a
 function that is called for each round with a Progress; if it raises, the search is ended. `program` is the path of `codes`; without it,
 the variable CODES, `codes` on the path, or the script `codes` of the repository in which this file lies.
@@ -137,9 +138,33 @@ def run(script, workers=None, budget=None, program=None, progress=None):
     return Answers(lines, Fault(int(words[1]), int(words[3]), tuple(map(int, words[5:]))))
 
 
+def entry(i, a):
+    """The number that an entry of row i is."""
+    try:
+        if a == int(a):
+            return int(a)
+    except (TypeError, ValueError, OverflowError):
+        pass
+    raise ValueError(f"row {i} has an entry that is no whole number: {a!r}")
+
+
+def lists(rows):
+    """The rows as lists of numbers. An array of numpy gives its own, which are numbers of Python."""
+    rows = rows.tolist() if hasattr(rows, "tolist") else rows
+    if not hasattr(rows, "__iter__") or isinstance(rows, (str, bytes)):
+        raise ValueError("a matrix is a list of rows, or an array of two dimensions")
+    found = []
+    for i, row in enumerate(rows):
+        row = row.tolist() if hasattr(row, "tolist") else row
+        if not hasattr(row, "__iter__") or isinstance(row, (str, bytes)):
+            raise ValueError(f"row {i} is no list of numbers: a matrix is a list of rows, or an array of two dimensions")
+        found.append([entry(i, a) for a in row])
+    return found
+
+
 def matrix(rows, q):
     """The rows as lists of numbers, which are looked at."""
-    rows = [[int(a) for a in row] for row in rows]
+    rows = lists(rows)
     if q not in SIZES:
         raise ValueError(f"codes are over {', '.join(map(str, SIZES))} elements, not over {q}")
     if not rows or not 1 <= len(rows[0]) <= LONGEST:
