@@ -16,12 +16,12 @@ import json
 import math
 import os
 import shutil
-import signal
 import subprocess
 import sys
 from dataclasses import dataclass
 from pathlib import Path
 
+import filters
 import script_tree
 
 QUERY = "WeightDistribution"
@@ -144,7 +144,8 @@ def is_plain(stream):
 def draw(options):
     script = Path(options.script).read_bytes()
     program = shutil.which(options.program) or os.path.abspath(options.program)
-    done = subprocess.run([program, "run", *options.arguments], input=script, capture_output=True)
+    with open(options.script, "rb") as given:  # (not through a pipe: a program that is refused its arguments reads none of it)
+        done = subprocess.run([program, "run", *options.arguments], stdin=given, capture_output=True)
     text = done.stdout.decode("ascii")
     found = pictures(script.decode("utf-8", "replace"), text)
     for number, picture in enumerate(found):
@@ -165,7 +166,6 @@ def draw(options):
 
 
 def main():
-    signal.signal(signal.SIGPIPE, signal.SIG_DFL)
     parser = argparse.ArgumentParser(prog="tools/plot.py", description=__doc__, formatter_class=argparse.RawDescriptionHelpFormatter)
     parser.add_argument("what", choices=["weights"], help="what to draw")
     parser.add_argument("--log", action="store_true", help="bars as long as the numbers have digits")
@@ -179,4 +179,4 @@ def main():
 
 
 if __name__ == "__main__":
-    sys.exit(main())
+    filters.end(main)
