@@ -194,7 +194,6 @@ check_certificates() {
 # then the line of tools/reference.py with its name is switched on, and the rows move to tests/rows.
 check_trees() {
     check 'tests/rows-of-trees: each row has its blocks' python3 -B tools/rows.py tests/rows-of-trees "$room/trees"
-    check 'tools/check_certificate.py says what the rows of trees say' python3 -B tools/compare_certificates.py --stored "$room/trees"
     check 'trees at the limits, by tools/check_certificate.py' python3 -B tests/limits_of_trees.py python3 -B tools/check_certificate.py
     check '1,000 altered trees: tools/check_certificate.py and the reference program agree' python3 -B tools/compare_certificates.py - --trees 1000
     check 'the tree of docs/FORMATS.md is accepted' tree_of_the_formats
