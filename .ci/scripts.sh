@@ -200,7 +200,7 @@ check_trees() {
     check 'a tree, as tools/pretty.py shows it' tree_is_pretty
     check 'tools/tree_certificate.py writes a tree, or says why there is none' tree_writer_says_why
     check 'trees at the limits' python3 -B tests/limits_of_trees.py "$program" check
-    check '2,000 altered trees: the program and tools/check_certificate.py agree' python3 -B tools/compare_certificates.py "$program" --trees 2000
+    check '10,000 altered trees: the program and tools/check_certificate.py agree' python3 -B tools/compare_certificates.py "$program" --trees 10000
 }
 
 tree_of_the_formats() {
