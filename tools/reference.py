@@ -13,6 +13,7 @@ found by listing all words.
 import json
 import re
 import sys
+from collections import Counter
 from dataclasses import dataclass
 from functools import lru_cache
 from itertools import combinations, product as tuples
@@ -842,6 +843,8 @@ def certificate_line(session, code, by):
 
 def counts_by_weight(code):
     """How many words of each weight the code has, by all sums of multiples of its rows."""
+    if code.size == 2:
+        return counts_of_binary_words(code)
     field, counts = arithmetic(code.size), [0] * (code.length + 1)
 
     def visit(word, rows):
@@ -852,6 +855,25 @@ def counts_by_weight(code):
             visit(field.add_scaled(word, c, rows[0]), rows[1:])
 
     visit([0] * code.length, code.rows)
+    return counts
+
+
+def binary_sums(rows):
+    """All sums of rows over two elements, each as a number."""
+    sums = [0]
+    for row in rows:
+        number = int("".join(map(str, row)), 2)
+        sums += [number ^ other for other in sums]
+    return sums
+
+
+def counts_of_binary_words(code):
+    """The same over two elements: each word is a sum of some of the first rows plus one of some of the others."""
+    half, counts = len(code.rows) // 2, [0] * (code.length + 1)
+    others = binary_sums(code.rows[half:])
+    for first in binary_sums(code.rows[:half]):
+        for weight, count in Counter(map(int.bit_count, map(first.__xor__, others))).items():
+            counts[weight] += count
     return counts
 
 
