@@ -242,6 +242,7 @@ check_explanations() {
     check 'tools/explain.py on signs, names of other systems and scripts made at random' python3 -B tests/explanations.py "$program"
     check 'a call of tools/residue_code.py for each length' python3 -B tests/residue_codes.py "$program"
     check 'tools/plot.py on weight distributions' python3 -B tests/plots.py "$program"
+    check 'the plans of tools/plan.py beside searches over each field' python3 -B tests/plans.py "$program"
     check 'the second checker takes a file' second_checker_takes_a_file
     check 'the programs for people are good filters' are_good_filters
 }
@@ -267,6 +268,7 @@ check_certificate.py $certificate
 check_certificate.py --help
 residue_code.py 23
 from_matrix.py $room/matrix
+plan.py --help
 LIST
     ends 4 'codes: source fault' python3 -B tools/pretty.py <&- && ends 4 'codes: source fault' python3 -B tools/explain.py "$program" - <&- &&
         ends 4 "standard input can't be read" python3 -B tools/check_certificate.py <&-
