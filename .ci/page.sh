@@ -1,5 +1,5 @@
 # shellcheck shell=bash disable=SC2154
-# The page of web/: its parts, its module under node, and itself in Chromium. `.ci/checks` reads this file once `check_program` has
+# The page of web/: its parts, its module under node, and itself in Chromium and Firefox. `.ci/checks` reads this file once `check_program` has
 # written the rows to `room`; it sets `tree` if there is one in which `rt ci` proved these sources, and counts by its function `check`.
 
 # has COMMAND PACKAGE: whether the command is here; as root the gate installs it where Debian's packages are at hand
@@ -27,9 +27,11 @@ module_is_built_of_the_proved_sources() {
 }
 
 module_under_node() { node web/test_module.mjs web/codes.wasm "$room/rows" examples; }
-page_explains() { python3 -B web/build.py --texts >"$room/texts.json" && node web/test_explain.mjs web/codes.wasm "$room/texts.json" tests/explain; }
+page_explains() { python3 -B web/build.py --texts >"$room/texts.json" && node web/test_explain.mjs web/codes.wasm "$room/texts.json" "$1"; }
+page_explains_much() { python3 -B web/test_explain.py "$program" "$room/explained" && page_explains "$room/explained"; }
 page_knows_plans() { python3 -B web/test_plans.py | node web/test_plans.mjs; }
 page_in_chromium() { timeout 900 node web/drive.mjs "$(command -v chromium)"; }
+page_in_firefox() { timeout 900 python3 -B web/drive_firefox.py "$(command -v firefox-esr)"; }
 
 check_page() {
     check 'web/index.html is made of its parts' page_is_made_of_its_parts
@@ -39,10 +41,12 @@ check_page() {
     fi
     if has node nodejs; then
         check 'the module of the page, on each row and example' module_under_node
-        check 'the page explains faults and certificates in the words of tools/explain.py' page_explains
+        check 'the page explains what tests/explain does' page_explains tests/explain
+        check '1,700 faults and certificates: the page and tools/explain.py say the same' page_explains_much
         check 'the page knows the plans of searches' page_knows_plans
         if has chromium chromium; then check 'the page in Chromium' page_in_chromium; else without chromium 'the page in Chromium'; fi
     else
         without node 'the module of the page, what it explains, its plans, and the page in Chromium'
     fi
+    if has firefox-esr firefox-esr; then check 'the page in Firefox' page_in_firefox; else without firefox-esr 'the page in Firefox'; fi
 }

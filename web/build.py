@@ -6,8 +6,8 @@
     web/build.py --module BC FILE    makes FILE, a module like web/codes.wasm, of the program's LLVM module BC; needs the Rattle kit
     web/build.py --texts             prints what the page knows of the language, as JSON
 
-The script tools/release makes both files of the proved sources. All bytes of index.html are fixed by its sources but for the packing of the
-module, which may differ with another zlib: so --check compares the module unpacked.
+The script tools/release makes both files of the proved sources. All bytes of index.html are fixed by its sources but for the
+packing of two parts of it, which may differ with another zlib: so --check compares these unpacked.
 """
 import base64
 import gzip
@@ -38,11 +38,11 @@ EXPLAINS = ["explain.js", "explain_bytes.js", "explain_certificate.js"]
 WORKER = ["host.js", *SHARED, *EXPLAINS, "explained.js", "worker.js"]
 PAGE = [*SHARED, "store.js", "parts.js", "points.js", "draw.js", "search.js", "answers.js", "editor.js", "session.js", "main.js"]
 # the characters that are named where they are no part of a script
-NAMED = [(0xA0, 0x17F), (0x370, 0x3FF), (0x400, 0x45F), (0x2000, 0x206F), (0x2070, 0x209C), (0x20A0, 0x20BF), (0x2100, 0x214F), (0x2190, 0x21FF),
-         (0x2200, 0x22FF), (0x2308, 0x230B), (0x27E6, 0x27EB), (0x3000, 0x3003), (0xFEFF, 0xFEFF), (0xFF01, 0xFF5E)]
+NAMED = [(0xA0, 0x17F), (0x386, 0x3CE), (0x410, 0x44F), (0x2000, 0x2044), (0x2060, 0x2064), (0x2070, 0x209C), (0x2102, 0x2124), (0x2190, 0x21D4),
+         (0x2200, 0x222A), (0x2248, 0x22A5), (0x22C5, 0x22C6), (0x2308, 0x230B), (0x27E8, 0x27E9), (0x3000, 0x3002), (0xFEFF, 0xFEFF), (0xFF08, 0xFF1D)]
 # the stack of the module, at the front of its memory, so that what runs over it traps
 STACK = 1048576
-PACKED = re.compile(r'(<script type="application/octet-stream" id="module">)([^<]*)(</script>)')
+PACKED = re.compile(r'<script type="application/octet-stream" id="(?:module|texts)">([^<]*)</script>')
 
 
 def text_of(file):
@@ -111,44 +111,46 @@ def joined(parts):
     return "\n".join(text_of(HERE / part).replace("'use strict';\n", "", 1).strip() for part in parts)
 
 
-def in_script(text):
-    """A constant of a script in a page."""
-    return json.dumps(text, ensure_ascii=False, separators=(",", ":")).replace("</", "<\\/").replace("<!--", "<\\!--").replace("\u2028", "\\u2028").replace("\u2029", "\\u2029")
-
-
-def constant(name, value):
-    return f"const {name} = {in_script(value)};"
-
-
 def hash_of(text):
     return "sha256-" + base64.b64encode(hashlib.sha256(text.encode()).digest()).decode()
 
 
-def page(packed):
-    """The whole page around a module that is packed already."""
-    script = "\n".join(["", "'use strict';", "(() => {", constant("TEXTS", texts()), constant("CALLS", calls()), constant("EXAMPLES", examples()), constant("VERSION", version()),
-                        constant("WORKER", "'use strict';\n" + joined(WORKER)), joined(PAGE), "})();", ""])
+def known():
+    """What the page knows, and the script of its worker, as JSON."""
+    return json.dumps({"texts": texts(), "calls": calls(), "examples": examples(), "worker": joined(WORKER)}, ensure_ascii=False, separators=(",", ":")).encode()
+
+
+def packed(data):
+    return base64.b64encode(gzip.compress(data, 9, mtime=0)).decode()
+
+
+def unpacked(text):
+    return gzip.decompress(base64.b64decode(text))
+
+
+def page(module, texts_of_page):
+    """The whole page around its two packed parts."""
+    script = "\n".join(["", "'use strict';", "(() => {", joined(PAGE), "})();", ""])
     style = "\n" + text_of(HERE / "page.css")
     policy = (f"default-src 'none'; script-src '{hash_of(script)}' 'wasm-unsafe-eval' blob:; worker-src blob:; style-src '{hash_of(style)}'; "
               "img-src data:; base-uri 'none'; form-action 'none'")
     html = text_of(HERE / "page.html")
-    for mark, text in {"POLICY": policy, "STYLE": style, "MODULE": packed, "SCRIPT": script, "VERSION": version()}.items():
+    for mark, text in {"POLICY": policy, "STYLE": style, "MODULE": module, "TEXTS": texts_of_page, "SCRIPT": script, "VERSION": version()}.items():
         html = html.replace(f"@{mark}@", text, 1)
     return html
 
 
 def write_page():
-    packed = base64.b64encode(gzip.compress((HERE / "codes.wasm").read_bytes(), 9, mtime=0)).decode()
-    (HERE / "index.html").write_text(page(packed), encoding="utf-8", newline="\n")
+    (HERE / "index.html").write_text(page(packed((HERE / "codes.wasm").read_bytes()), packed(known())), encoding="utf-8", newline="\n")
 
 
 def check_page():
     """What is wrong with web/index.html, or nothing."""
     there = (HERE / "index.html").read_bytes().decode("utf-8")
-    packed = PACKED.search(there)
-    if not packed or gzip.decompress(base64.b64decode(packed.group(2))) != (HERE / "codes.wasm").read_bytes():
+    parts = PACKED.findall(there)
+    if len(parts) != 2 or unpacked(parts[0]) != (HERE / "codes.wasm").read_bytes():
         return "web/index.html doesn't hold the module web/codes.wasm"
-    if page(packed.group(2)) != there:
+    if unpacked(parts[1]) != known() or page(*parts) != there:
         return "web/index.html isn't made of its sources as they are here: run web/build.py"
     return ""
 

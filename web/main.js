@@ -249,6 +249,8 @@ function givenScript() {
 
 async function begin() {
   setTheme(store.get('theme'));
+  const known = await unpacked(fromBase64(byId('texts').textContent.trim()), 'gzip');
+  ({ texts: TEXTS, calls: CALLS, examples: EXAMPLES, worker: WORKER } = JSON.parse(new TextDecoder().decode(known)));
   page.examples.append(element('option', { value: '' }, 'Examples ..'), ...EXAMPLES.map(({ name, says }) => element('option', { value: name, title: says }, name.replaceAll('_', ' '))));
   page.budget.value = store.get('budget') ?? '2^20';
   moduleBytes = await unpacked(fromBase64(byId('module').textContent.trim()), 'gzip');

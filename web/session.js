@@ -8,7 +8,7 @@ const SLOTS = ['codes.slot0', 'codes.slot1'];
 let moduleBytes = null;
 
 function startWorker() {
-  const address = URL.createObjectURL(new Blob([`const TEXTS = ${JSON.stringify(TEXTS)};\n${WORKER}`], { type: 'text/javascript' }));
+  const address = URL.createObjectURL(new Blob([`'use strict';\nconst TEXTS = ${JSON.stringify(TEXTS)};\n${WORKER}`], { type: 'text/javascript' }));
   const worker = new Worker(address);
   URL.revokeObjectURL(address);
   worker.postMessage({ kind: 'module', bytes: moduleBytes });

@@ -22,6 +22,9 @@ const store = {
   },
 };
 
+// what build.py packs into the page: the tables of explanations, the calls, the examples, and the script of the worker
+let [TEXTS, CALLS, EXAMPLES, WORKER] = [{ calls: {}, queries: {} }, {}, [], ''];
+
 const toBase64 = (bytes) => btoa(signsOf(bytes));
 const fromBase64 = (text) => bytesOf(atob(text));
 

@@ -2,7 +2,7 @@
 //
 //   node web/test_explain.mjs MODULE.wasm TEXTS.json FOLDER
 //
-// FOLDER has files NAME.codes or NAME.json, and what tools/explain.py writes of each to standard error, NAME.err. TEXTS.json is what
+// FOLDER has files NAME.codes or NAME.json, and what tools/explain.py writes of each to standard error, NAME.err or NAME.json.err. TEXTS.json is what
 // web/build.py --texts prints. The last line is 'N passed, M failed'.
 import fs from 'node:fs';
 import path from 'node:path';
@@ -17,7 +17,8 @@ let [passed, failed] = [0, 0];
 
 for (const name of fs.readdirSync(folder).filter((it) => /\.(codes|json)$/.test(it)).sort()) {
   const file = path.join(folder, name);
-  const wanted = fs.readFileSync(file.replace(/\.\w+$/, '.err'), 'utf8').split('\n').filter((line) => line && line !== 'codes: rejected' && !isRecord(line));
+  const said = [`${file}.err`, file.replace(/\.\w+$/, '.err')].find((it) => fs.existsSync(it));
+  const wanted = fs.readFileSync(said, 'utf8').split('\n').filter((line) => line && line !== 'codes: rejected' && !isRecord(line));
   let got;
   try {
     got = explained(module, new Uint8Array(fs.readFileSync(file)));
