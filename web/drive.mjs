@@ -221,15 +221,27 @@ async function withAScript(page) {
   }
 }
 
+const README_SCRIPT = `# A code over four elements, and a word with an error.
+H := CheckMatCode([[1,0,0,1,2,3],
+                   [0,1,0,1,3,2],
+                   [0,0,1,1,1,1]], GF(4));
+GeneratorMat(H);
+Decode(H, [1,0,0,1,3,1]);
+
+# The lightest word falls and the bound rises,
+# until they meet.
+MinimumDistance(BCHCode(40, 8, GF(3)));
+`;
+
 async function forTheReadme(page) {
-  await run(page, '# The Hamming code, a received word, and a longer code.\nC := HammingCode(3, GF(2));\nCheckMat(C);\nDecode(C, [1,0,1,0,0,0,1]);\nWeightDistribution(C);\nB := BCHCode(63, 11, GF(2));\nMinimumDistance(B);\n');
+  await run(page, README_SCRIPT);
   await page.evaluate("document.getElementById('field').blur()");
   await page.picture(pictureFile);
 }
 
 const browser = new Browser(program);
 try {
-  if (pictureFile) await check(browser, 'the picture', { width: 1100, height: 900 }, forTheReadme);
+  if (pictureFile) await check(browser, 'the picture', { width: 1200, height: 780 }, forTheReadme);
   else {
     for (const size of [WIDE, NARROW]) {
       await check(browser, 'every example gives its text', size, allExamples);

@@ -139,6 +139,18 @@ async function checkEditor(bytes) {
   page.raw.hidden = !answer.text;
 }
 
+// a session that was stopped goes on only with its own script
+function offerToGoOn() {
+  const isSame = signsOf(editor.bytes()) === signsOf(session.input);
+  if (page.resume.hidden === !isSame) return;
+  page.resume.hidden = !isSame;
+  if (isSame) showSearch(session);
+  else {
+    page.search.replaceChildren();
+    say('A search was stopped. It can go on with its script as it was.');
+  }
+}
+
 // --- buttons
 
 function budgetHere() {
@@ -236,7 +248,8 @@ function listen() {
     store.set('script', { name: fileName, bytes: toBase64(editor.bytes()) });
     // the address is that of another script from now on
     if (editor.isTyped() && location.hash) history.replaceState(null, '', '#');
-    if (session.state === 'stopped') page.resume.hidden = signsOf(editor.bytes()) !== signsOf(session.input);
+    if (editor.isTyped()) page.examples.value = '';
+    if (session.state === 'stopped') offerToGoOn();
   });
   page.budget.addEventListener('change', () => store.set('budget', page.budget.value));
 }

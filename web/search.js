@@ -47,13 +47,13 @@ function endTold(records, plan, budget) {
   const end = plan ? endOfPlan(plan, best) : Infinity;
   const left = (blocksLeft) => (rate ? `, in about ${duration(blocksLeft / rate)}` : '');
   if (end <= budget) return `Unless a lighter word is found it ends after ${grouped(end)} blocks${left(end - blocks)}${ofRate ? ` (${ofRate})` : ''}.`;
-  const whole = plan && Number.isFinite(end) ? ` The whole search would take ${grouped(end)} blocks${rate ? `, ${duration(end / rate)}` : ''}.` : '';
+  const whole = plan && end <= 2 ** 40 ? ` The whole search would take ${grouped(end)} blocks${rate ? `, ${duration(end / rate)}` : ''}: a budget of 2^${Math.ceil(Math.log2(end))}.` : '';
   return `The budget ends it after ${grouped(budget)} blocks${left(budget - blocks)}${ofRate ? ` (${ofRate})` : ''}.${whole}`;
 }
 
 // The least weight so far falls, and the bound rises, until they meet. The axis of blocks is logarithmic, so that the steps of the bound are even.
 function searchPicture(records) {
-  const [width, height, left, right, top, bottom] = [620, 210, 34, 74, 14, 34];
+  const [width, height, left, right, top, bottom] = [matchMedia('(max-width: 560px)').matches ? 330 : 620, 210, 34, 74, 14, 34];
   const last = records[records.length - 1];
   const most = Math.max(...records.map((it) => it.best), last.bound) + 1;
   const decades = Math.max(1, Math.log10(Math.max(2, last.blocks)));
