@@ -93,7 +93,7 @@ class Answers {
     const entries = rows.flat();
     if (entries.some((a) => typeof a !== 'number' || a > 15) || !entries.length) return plainText;
     if (!isList(value[0])) return [this.word(value, statement)];
-    return [matrixPicture(rows, this.sizeFor(statement, entries)), element('p', { class: 'note' }, `${rows.length} ${rows.length === 1 ? 'row' : 'rows'}`)];
+    return [matrixPicture(rows, this.sizeFor(statement, entries)), element('p', { class: 'note' }, `${rows.length} ${rows.length === 1 ? 'row' : 'rows'} of ${rows[0].length}`)];
   }
 
   chart(statement) {

@@ -38,7 +38,8 @@ function grid(rows, { label, marked = [], names = [] }) {
 const ofField = (size) => (size ? ` over GF(${size})` : '');
 
 function matrixPicture(rows, size) {
-  return grid(rows, { label: `a matrix of ${rows.length} rows and ${rows[0]?.length ?? 0} columns${ofField(size)}` });
+  const entries = rows.flat().length <= 200 ? `: ${rows.map((row) => row.join(' ')).join('; ')}` : '';
+  return grid(rows, { label: `a matrix of ${rows.length} rows and ${rows[0]?.length ?? 0} columns${ofField(size)}${entries}` });
 }
 
 function wordPicture(word, size) {
@@ -58,22 +59,23 @@ function barsPicture(counts) {
   const shown = counts.map((count, weight) => ({ count: Number(count), text: String(count), weight })).filter(({ count }) => count > 0);
   const most = Math.max(...shown.map(({ count }) => count));
   const logarithmic = most > 1000;
+  const top = 36;
   const [side, height] = [Math.max(5, Math.min(34, Math.floor((WIDTH - 20) / counts.length))), 150];
   const scale = (count) => (logarithmic ? (1 + Math.log10(count)) / (1 + Math.log10(most)) : count / most) * height;
   const wide = shown.length <= 24 && side >= 18;
   // (a count beside another one stands higher)
-  const raised = (i) => (i % 2 && shown[i].weight === shown[i - 1].weight + 1 && shown[i].text.length * 8 > side ? 13 : 0);
+  const raised = (i) => (i > 0 && shown[i].weight === shown[i - 1].weight + 1 && !raised(i - 1) && (shown[i].text.length + shown[i - 1].text.length) * 4 + 2 > side ? 14 : 0);
   const bars = shown.map(({ count, text, weight }, i) => picture('g', {},
     picture('title', {}, `${text} of weight ${weight}`),
-    picture('rect', { class: 'bar', x: weight * side + (side > 12 ? 2 : 0.5), y: 24 + height - scale(count), width: side - (side > 12 ? 4 : 1), height: scale(count), rx: side > 12 ? 2 : 0 }),
-    picture('text', { class: 'axis', x: weight * side + side / 2, y: 24 + height + 15 }, wide || shown.length <= 12 || weight % 5 === 0 ? String(weight) : ''),
-    wide ? picture('text', { class: 'axis count', x: weight * side + side / 2, y: 24 + height - scale(count) - 6 - raised(i) }, text.length > 6 ? Number(count).toExponential(1).replace('e+', 'e') : text) : ''));
+    picture('rect', { class: 'bar', x: weight * side + (side > 12 ? 2 : 0.5), y: top + height - scale(count), width: side - (side > 12 ? 4 : 1), height: scale(count), rx: side > 12 ? 2 : 0 }),
+    picture('text', { class: 'axis', x: weight * side + side / 2, y: top + height + 15 }, wide || shown.length <= 12 || weight % 5 === 0 ? String(weight) : ''),
+    wide ? picture('text', { class: 'axis count', x: weight * side + side / 2, y: top + height - scale(count) - 6 - raised(i) }, text.length > 6 ? Number(count).toExponential(1).replace('e+', 'e') : text) : ''));
   const width = counts.length * side + 20;
   const table = element('table', {}, element('thead', {}, element('tr', {}, element('th', { scope: 'col' }, 'Weight'), element('th', { scope: 'col' }, 'Words'))),
     element('tbody', {}, ...shown.map(({ text, weight }) => element('tr', {}, element('td', {}, String(weight)), element('td', {}, text)))));
   return element('div', {},
-    element('div', { class: 'wide' }, picture('svg', { class: 'bars', role: 'img', 'aria-label': `bars: how many words there are of each weight; ${shown.length} weights occur`, viewBox: `-10 0 ${width} ${height + 48}`, width, height: height + 48 },
-      picture('line', { class: 'line', x1: 0, x2: counts.length * side, y1: 24 + height, y2: 24 + height }), ...bars)),
+    element('div', { class: 'wide' }, picture('svg', { class: 'bars', role: 'img', 'aria-label': `bars: how many words there are of each weight; ${shown.length} weights occur`, viewBox: `-10 0 ${width} ${height + 60}`, width, height: height + 60 },
+      picture('line', { class: 'line', x1: 0, x2: counts.length * side, y1: top + height, y2: top + height }), ...bars)),
     element('p', { class: 'note' }, `${shown.length} ${shown.length === 1 ? 'weight occurs' : 'weights occur'}${logarithmic ? '; the scale is logarithmic' : ''}`),
     element('details', {}, element('summary', {}, 'as a table'), table));
 }

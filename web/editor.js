@@ -5,8 +5,8 @@ const LONGEST_COLOURED = 100000;
 const TOKEN = /(#[^\n]*)|([A-Za-z]\w*)|(\d+)|(:=|[()[\],;])|[^\S]+|[^]/g;
 
 class Editor {
-  constructor({ field, shown, list, help }) {
-    Object.assign(this, { field, shown, list, help, marks: [], original: null, listeners: [], chosen: 0, offers: [] });
+  constructor({ field, shown, list, help, told }) {
+    Object.assign(this, { field, shown, list, help, told, marks: [], original: null, listeners: [], chosen: 0, offers: [] });
     field.addEventListener('input', () => this.changed());
     field.addEventListener('keydown', (event) => this.pressed(event));
     for (const name of ['keyup', 'click', 'focus']) field.addEventListener(name, () => this.tellCall());
@@ -78,7 +78,8 @@ class Editor {
         if (part) line.append(kind ? element('span', { class: kind }, part) : part);
       });
     };
-    if (text.length > LONGEST_COLOURED) put(text, '');
+    // (a long text is one piece, so that it is shown at once)
+    if (text.length > LONGEST_COLOURED) line.append(`${text}\n`);
     else for (const { piece, kind } of this.pieces(text)) kind === 'missing' ? line.append(element('span', { class: 'missing' })) : put(piece, kind);
     lines.push(line);
     this.shown.replaceChildren(...lines);
@@ -118,7 +119,7 @@ class Editor {
 
   offer(asked) {
     const word = this.wordBefore();
-    if (this.field.selectionStart !== this.field.selectionEnd || (!asked && word.length < 2)) return this.close();
+    if (this.field.selectionStart !== this.field.selectionEnd || (!asked && word.length < 2) || this.field.value.length > LONGEST_COLOURED) return this.close();
     const own = readScript(signsOf(new TextEncoder().encode(this.field.value.slice(0, this.field.selectionStart)))).statements.map((it) => it.target).filter(Boolean);
     const names = [...new Set([...own, ...Object.keys(CALLS)])];
     const small = word.toLowerCase();
@@ -131,7 +132,6 @@ class Editor {
       element('b', {}, CALLS[name]?.forms[0] ?? name), element('span', {}, CALLS[name] ? firstSentence(CALLS[name].says) : 'a name of this script'))));
     this.place();
     this.list.hidden = false;
-    this.field.setAttribute('aria-expanded', 'true');
     return this.choose(0);
   }
 
@@ -163,12 +163,13 @@ class Editor {
     [...this.list.children].forEach((item, i) => item.setAttribute('aria-selected', String(i === this.chosen)));
     this.list.children[this.chosen].scrollIntoView({ block: 'nearest' });
     this.field.setAttribute('aria-activedescendant', `offer${this.chosen}`);
+    this.told.textContent = `${this.offers[this.chosen]}, ${this.chosen + 1} of ${this.offers.length}; Enter takes it`;
   }
 
   close() {
     this.list.hidden = true;
     this.offers = [];
-    this.field.setAttribute('aria-expanded', 'false');
+    this.told.textContent = '';
     this.field.removeAttribute('aria-activedescendant');
   }
 

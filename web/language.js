@@ -144,8 +144,8 @@ function written(expression) {
   return expression.value + (expression.kind === 'call' ? `(${parts})` : '');
 }
 
-// the queries that search, whose records are told
-const SEARCHES = ['MinimumDistance', 'Certificate', 'ScanCertificate', 'NearestWord'];
+// the queries whose searches have record lines
+const SEARCHES = ['MinimumDistance', 'Certificate', 'ScanCertificate'];
 // what gives a name its value, before a place
 function given(statements, name, place) {
   return statements.filter((it) => it.target === name && it.end <= place).pop()?.expression ?? null;
@@ -163,7 +163,7 @@ function fieldOf(expression, statements, depth = 0) {
   if (name.endsWith('TernaryGolayCode')) return 3;
   if (name === 'ConcatenatedCode') return fieldOf(parts[1], statements, depth + 1);
   const last = parts[parts.length - 1];
-  const ofLast = ['IsCodeword', 'Decode', 'AlgebraicDecode', 'NearestWord', 'PuncturedCode', 'ShortenedCode'].includes(name) ? 0 : fieldOf(last, statements, depth + 1);
+  const ofLast = ['IsCodeword', 'Decode', 'AlgebraicDecode', 'NearestWord', 'AlternantCertificate', 'PuncturedCode', 'ShortenedCode'].includes(name) ? 0 : fieldOf(last, statements, depth + 1);
   return ofLast || fieldOf(parts[0], statements, depth + 1);
 }
 

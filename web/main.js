@@ -2,7 +2,7 @@
 // The page: its buttons, and what they show.
 
 const page = Object.fromEntries(['field', 'shown', 'offers', 'help', 'run', 'stop', 'resume', 'examples', 'budget', 'open', 'save', 'link', 'file', 'theme', 'status', 'search', 'answers', 'legends', 'text', 'fault', 'script', 'raw'].map((id) => [id, byId(id)]));
-const editor = new Editor({ field: page.field, shown: page.shown, list: page.offers, help: page.help });
+const editor = new Editor({ field: page.field, shown: page.shown, list: page.offers, help: page.help, told: byId('told') });
 let fileName = 'script.codes';
 let drawnAt = 0;
 let redraw = null;
@@ -10,18 +10,24 @@ let redraw = null;
 const session = new Session({
   changed: (it) => {
     const isRunning = it.state === 'running';
+    const hadFocus = document.activeElement === page.run;
     page.stop.hidden = !isRunning;
     page.run.hidden = isRunning;
     page.resume.hidden = it.state !== 'stopped';
+    if (isRunning && hadFocus) page.stop.focus();
     // pictures at most ten times a second
     if (!redraw) redraw = setTimeout(() => { redraw = null; showSearch(it); }, Math.max(0, 100 - (performance.now() - drawnAt)));
   },
   ended: (it) => {
     clearTimeout(redraw);
     redraw = null;
+    const hadFocus = document.activeElement === page.stop;
     page.stop.hidden = page.resume.hidden = true;
     page.run.hidden = false;
+    if (hadFocus) page.run.focus();
     showEnd(it);
+    // (below the script, where the window is narrow)
+    if (matchMedia('(max-width: 960px)').matches) byId('results').scrollIntoView();
   },
 });
 
@@ -55,7 +61,7 @@ function showSearch(it) {
   const stopped = it.state === 'stopped';
   say(stopped ? `Stopped after ${grouped(last.blocks)} blocks. Go on resumes the search there${it.isKept === false ? '' : ', also after a reload of this page'}.` : `Searching: the distance is between ${last.bound} and ${last.best}.`);
   page.search.replaceChildren(element('h3', {}, title.length > 90 ? `${title.slice(0, 90)} ..` : title), searchPicture(records),
-    element('p', { class: 'note' }, `${grouped(last.blocks)} blocks. ${stopped ? '' : endTold(records, known?.plan, it.budget)}`));
+    element('p', { class: 'note' }, `${grouped(last.blocks)} blocks. ${stopped ? '' : endTold(records, known?.plan, it.budget, searches.rate())}`));
 }
 
 function showEnd(it) {

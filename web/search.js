@@ -9,6 +9,7 @@ class Searches {
     this.all = new Map();
     this.plans = new Map();
     this.rest = '';
+    this.pace = [];
   }
   hear(text, now) {
     const lines = (this.rest + text).split('\n');
@@ -18,9 +19,22 @@ class Searches {
       if (!found) continue;
       const [query, blocks, bound, best] = found.slice(1).map(Number);
       if (!this.all.has(query)) this.all.set(query, []);
-      this.all.get(query).push({ blocks, bound, best, now });
+      this.keep(this.all.get(query), { blocks, bound, best });
+      if (this.last !== query) this.pace = [];
       this.last = query;
+      this.pace = [...this.pace.filter((it) => now - it.now < 8000), ...(now - (this.pace[this.pace.length - 1]?.now ?? -Infinity) > 100 ? [{ blocks, now }] : [])];
     }
+  }
+  // the records at which something changed, and the last one
+  keep(records, record) {
+    const [before, last] = records.slice(-2);
+    if (last && last.best === record.best && last.bound === record.bound && before.best === record.best && before.bound === record.bound) records.pop();
+    records.push(record);
+  }
+  // blocks in a second, by the records of the last seconds
+  rate() {
+    const [first, last] = [this.pace[0], this.pace[this.pace.length - 1]];
+    return last && last.now > first.now ? ((last.blocks - first.blocks) * 1000) / (last.now - first.now) : 0;
   }
   // `plans` are those of the statements that search, in order
   know(plans) {
@@ -32,17 +46,9 @@ class Searches {
   }
 }
 
-// blocks in a second, by the records of the last seconds
-function rateOf(records) {
-  const last = records[records.length - 1];
-  const from = records.find((it) => last.now - it.now < 8000) ?? last;
-  return last.now > from.now ? ((last.blocks - from.blocks) * 1000) / (last.now - from.now) : 0;
-}
-
 // A sentence about the end of a search: by its plan if that is known, else by the budget.
-function endTold(records, plan, budget) {
+function endTold(records, plan, budget, rate) {
   const { blocks, best } = records[records.length - 1];
-  const rate = rateOf(records);
   const ofRate = rate ? `${grouped(rate)} blocks a second` : '';
   const end = plan ? endOfPlan(plan, best) : Infinity;
   const left = (blocksLeft) => (rate ? `, in about ${duration(blocksLeft / rate)}` : '');
@@ -59,9 +65,9 @@ function searchPicture(records) {
   const decades = Math.max(1, Math.log10(Math.max(2, last.blocks)));
   const x = (blocks) => left + ((width - left - right) * Math.log10(Math.max(1, blocks))) / decades;
   const y = (weight) => top + (height - top - bottom) * (1 - weight / most);
-  const steps = (key) => thinned(records).map((it, i, all) => `${i ? `H${x(it.blocks).toFixed(1)}V` : `M${left} ${y(it[key]).toFixed(1)}H${x(it.blocks).toFixed(1)}V`}${y(it[key]).toFixed(1)}${i === all.length - 1 ? '' : ''}`).join('');
+  const steps = (key) => records.map((it, i, all) => `${i ? `H${x(it.blocks).toFixed(1)}V` : `M${left} ${y(it[key]).toFixed(1)}H${x(it.blocks).toFixed(1)}V`}${y(it[key]).toFixed(1)}${i === all.length - 1 ? '' : ''}`).join('');
   const met = last.bound >= last.best;
-  const between = `${steps('best')}L${x(last.blocks).toFixed(1)} ${y(last.bound).toFixed(1)}${backwards(thinned(records), x, y, left)}z`;
+  const between = `${steps('best')}L${x(last.blocks).toFixed(1)} ${y(last.bound).toFixed(1)}${backwards(records, x, y, left)}z`;
   const spread = Math.abs(y(last.best) - y(last.bound)) < 16;
   const marks = [...Array(Math.floor(decades) + 1).keys()].map((power) => picture('text', { class: 'axis', x: x(10 ** power), y: height - 14 }, power < 4 ? String(10 ** power) : `10${superscript(power)}`));
   const unit = Math.max(1, Math.ceil(most / 6));
@@ -76,11 +82,6 @@ function searchPicture(records) {
 }
 
 const superscript = (number) => [...String(number)].map((digit) => '⁰¹²³⁴⁵⁶⁷⁸⁹'[Number(digit)]).join('');
-
-// the records at which something changed, and the last one
-function thinned(records) {
-  return records.filter((it, i) => i === 0 || i === records.length - 1 || it.best !== records[i - 1].best || it.bound !== records[i - 1].bound);
-}
 
 function backwards(records, x, y, left) {
   let path = '';

@@ -52,7 +52,7 @@ class Session {
     clearTimeout(this.keeping);
     this.keeping = null;
     const slots = SLOTS.filter((name) => this.files.get(name)?.length).map((name) => [name, toBase64(this.files.get(name))]);
-    const records = [...this.searches.all].flatMap(([query, list]) => thinned(list).map((it) => `query ${query} blocks ${it.blocks} bound ${it.bound} best ${it.best}\n`)).slice(-400).join('');
+    const records = [...this.searches.all].flatMap(([query, list]) => list.map((it) => `query ${query} blocks ${it.blocks} bound ${it.bound} best ${it.best}\n`)).slice(-400).join('');
     this.isKept = slots.length ? store.set('session', { script: toBase64(this.input), budget: this.budget, slots, records }) : (store.set('session', null), false);
   }
 
@@ -108,7 +108,7 @@ class Session {
     this.forget();
     // (which search is that of which statement)
     const { planning } = this;
-    await planning;
+    await Promise.race([planning, new Promise((resolve) => setTimeout(resolve, 1500))]);
     if (planning === this.planning && !this.worker) this.hears.ended(this);
   }
 

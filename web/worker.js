@@ -59,20 +59,29 @@ function checkHere({ input }) {
   self.postMessage({ kind: 'done', status, text, seconds, lines: status === 11 ? linesOfRejection(signsOf(input), text) : [] });
 }
 
-// For each statement that searches: its index, and its plan if its code has a word that isn't zero.
+const MOST_PLANS = 40;
+
+// For each statement that searches: its index, and its plan if its code has a word that isn't zero. Of many searches the first ones have plans.
 function plansHere({ script }) {
   const { statements } = readScript(script);
-  const plans = [];
-  const ask = asker(module);
-  statements.forEach((it, index) => {
-    const { expression } = it;
-    if (it.target !== null || expression.kind !== 'call' || !SEARCHES.includes(expression.value) || !expression.parts.length) return;
-    const before = statements.slice(0, index).filter((other) => other.target !== null);
-    const lines = ask(`${before.map((other) => `${other.target}:=${written(other.expression)};`).join('')}C:=${written(expression.parts[0])};C;GeneratorMat(C);`);
-    if (!lines) return;
-    const [code, matrix] = lines.map(valueIn);
-    if (matrix.length) plans.push({ index, plan: expression.value === 'NearestWord' ? null : planOf(code.size, matrix) });
+  const searching = [];
+  let asks = '';
+  statements.forEach(({ target, expression }, index) => {
+    if (target !== null) asks += `${target}:=${written(expression)};`;
+    else if (expression.kind === 'call' && SEARCHES.includes(expression.value) && expression.parts.length) {
+      const code = written(expression.parts[0]);
+      const isPlanned = searching.length < MOST_PLANS;
+      asks += isPlanned ? `${code};GeneratorMat(${code});` : `${code};`;
+      searching.push({ index, isPlanned });
+    }
   });
+  const lines = textIn(resultOf(module, ['run'], bytesOf(asks)).output).split('\n').filter((line) => line && !line.startsWith('fault '));
+  const plans = [];
+  for (const { index, isPlanned } of searching) {
+    const [code, matrix] = lines.splice(0, isPlanned ? 2 : 1).map(valueIn);
+    if (!code || (isPlanned && !matrix)) break;
+    if (code.dimension) plans.push({ index, plan: isPlanned ? planOf(code.size, matrix) : null });
+  }
   self.postMessage({ kind: 'plans', plans });
 }
 
