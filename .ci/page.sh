@@ -35,6 +35,7 @@ page_in_firefox() { timeout 900 python3 -B web/drive_firefox.py "$(command -v fi
 
 check_page() {
     check 'web/index.html is made of its parts' page_is_made_of_its_parts
+    check 'web/retarget.py rewrites what it knows, and refuses all else' python3 -B web/test_retarget.py
     if [ -n "${tree:-}" ] && names_the_sources >/dev/null; then
         build_module "$tree" "$room/codes.wasm"
         check 'web/codes.wasm is what is built of the proved sources' module_is_built_of_the_proved_sources

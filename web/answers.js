@@ -111,14 +111,14 @@ const isList = Array.isArray;
 const CLAIM_PARTS = ['left', 'right', 'outer', 'inner', 'of'];
 
 // a certificate: what it says, its rows and its word, and a button that checks it
-function certificateBox(line, check, sees = () => {}) {
+function certificateBox(line, check, sees = () => {}, says = 'A certificate that the minimum distance is') {
   const value = JSON.parse(line);
   if (SYMBOL_SIZES.includes(value.field)) sees(value.field);
   const result = element('p', { class: 'note', role: 'status' });
   const how = value.claim ? 'by construction' : value.by === 'scan' ? 'by a scan of all words' : 'by levels of information sets';
   const rows = value.rows ?? [];
   return element('div', { class: 'certificate' },
-    element('p', { class: 'says' }, `Certificate: the minimum distance is ${value.distance}`),
+    element('p', { class: 'says' }, `${says} ${value.distance}`),
     element('p', { class: 'note' }, `over GF(${value.field}), ${how}; ${grouped(line.length)} bytes`),
     isList(value.word) ? wordPicture(value.word, value.field) : '',
     element('div', { class: 'row' }, button('Check it', () => check(line, result), { class: 'check' }), button('Copy', (event) => copy(`${line}\n`, event.target)), button('Save', () => saveFile('certificate.json', `${line}\n`))),

@@ -58,10 +58,9 @@ function decodedPicture(received, decoded) {
 function barsPicture(counts) {
   const shown = counts.map((count, weight) => ({ count: Number(count), text: String(count), weight })).filter(({ count }) => count > 0);
   const most = Math.max(...shown.map(({ count }) => count));
-  const logarithmic = most > 1000;
   const top = 36;
   const [side, height] = [Math.max(5, Math.min(34, Math.floor((WIDTH - 20) / counts.length))), 150];
-  const scale = (count) => (logarithmic ? (1 + Math.log10(count)) / (1 + Math.log10(most)) : count / most) * height;
+  const scale = (count) => Math.max(2, (count / most) * height);
   const wide = shown.length <= 24 && side >= 18;
   // (a count beside another one stands higher)
   const raised = (i) => (i > 0 && shown[i].weight === shown[i - 1].weight + 1 && !raised(i - 1) && (shown[i].text.length + shown[i - 1].text.length) * 4 + 2 > side ? 14 : 0);
@@ -76,7 +75,7 @@ function barsPicture(counts) {
   return element('div', {},
     element('div', { class: 'wide' }, picture('svg', { class: 'bars', role: 'img', 'aria-label': `bars: how many words there are of each weight; ${shown.length} weights occur`, viewBox: `-10 0 ${width} ${height + 60}`, width, height: height + 60 },
       picture('line', { class: 'line', x1: 0, x2: counts.length * side, y1: top + height, y2: top + height }), ...bars)),
-    element('p', { class: 'note' }, `${shown.length} ${shown.length === 1 ? 'weight occurs' : 'weights occur'}${logarithmic ? '; the scale is logarithmic' : ''}`),
+    element('p', { class: 'note' }, `${shown.length} ${shown.length === 1 ? 'weight occurs' : 'weights occur'}`),
     element('details', {}, element('summary', {}, 'as a table'), table));
 }
 

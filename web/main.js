@@ -86,8 +86,9 @@ function pointed(script, fault, points) {
   const lineAt = (place) => script.lastIndexOf('\n', place - 1) + 1;
   const near = points.filter(([from, to]) => Math.abs(from - fault.place) < 300 && to - from < 300);
   const first = Math.min(fault.place, ...near.map(([from]) => from));
-  const stop = script.indexOf('\n', fault.place);
-  const end = Math.min(stop < 0 ? script.length : stop, fault.place + 200);
+  const last = Math.max(fault.place, ...near.map(([, to]) => to));
+  const stop = script.indexOf('\n', last);
+  const end = Math.min(stop < 0 ? script.length : stop, last + 200);
   const start = Math.max(first ? lineAt(first) : 0, first - 120);
   const whole = element('pre', {});
   let at = start;
@@ -135,7 +136,7 @@ async function checkEditor(bytes) {
   let box = null;
   const sizes = [];
   try {
-    box = certificateBox(new TextDecoder().decode(bytes).trim(), checkCertificate, (size) => sizes.push(size));
+    box = certificateBox(new TextDecoder().decode(bytes).trim(), checkCertificate, (size) => sizes.push(size), accepted ? undefined : 'It claims that the minimum distance is');
   } catch {
     box = null; // it can't be drawn
   }
@@ -180,6 +181,7 @@ function run() {
 
 function show(bytes, name) {
   fileName = name;
+  page.examples.value = '';
   editor.setBytes(bytes);
 }
 
