@@ -18,7 +18,8 @@ from pathlib import Path
 TOP = Path(__file__).resolve().parent.parent
 ENDED = "/^(Done|A fault|The certificate|There is|The program|The script)/.test(document.getElementById('status').textContent)"
 TEXT = "document.getElementById('text').textContent"
-SEARCH = "C := BCHCode(63,11,GF(2));\nMinimumDistance(C);\n"
+# three searches, so that it is stopped before the end on any machine
+SEARCH = "C := BCHCode(63,11,GF(2));\n" + 3 * "MinimumDistance(C);\n"
 PREFERENCES = {"marionette.port": 0, "browser.shell.checkDefaultBrowser": False, "datareporting.policy.dataSubmissionEnabled": False, "app.update.enabled": False,
                "toolkit.telemetry.reportingpolicy.firstRun": False, "browser.startup.homepage_override.mstone": "ignore", "network.captive-portal-service.enabled": False,
                "network.connectivity-service.enabled": False, "browser.safebrowsing.downloads.remote.enabled": False}
