@@ -92,7 +92,9 @@ class Answers {
     const rows = isList(value[0]) ? value : [value];
     const entries = rows.flat();
     if (entries.some((a) => typeof a !== 'number' || a > 15) || !entries.length) return plainText;
-    if (!isList(value[0])) return [this.word(value, statement)];
+    // (a list of numbers that is about no field may be anything)
+    const isWord = statement && fieldOf(statement.expression, this.statements) > 0;
+    if (!isList(value[0])) return isWord || (value.length > 2 && entries.every((a) => a < 2)) ? [this.word(value, statement)] : plainText;
     return [matrixPicture(rows, this.sizeFor(statement, entries)), element('p', { class: 'note' }, `${rows.length} ${rows.length === 1 ? 'row' : 'rows'} of ${rows[0].length}`)];
   }
 

@@ -3,6 +3,7 @@
 
 const page = Object.fromEntries(['field', 'shown', 'offers', 'help', 'run', 'stop', 'resume', 'examples', 'budget', 'open', 'save', 'link', 'file', 'theme', 'status', 'search', 'answers', 'legends', 'text', 'fault', 'script', 'raw'].map((id) => [id, byId(id)]));
 const editor = new Editor({ field: page.field, shown: page.shown, list: page.offers, help: page.help, told: byId('told') });
+const LONG = 60; // seconds of a stopped search that aren't given up unasked
 let fileName = 'script.codes';
 let drawnAt = 0;
 let redraw = null;
@@ -14,6 +15,7 @@ const session = new Session({
     page.stop.hidden = !isRunning;
     page.run.hidden = isRunning;
     page.resume.hidden = it.state !== 'stopped';
+    page.run.textContent = it.state === 'stopped' ? 'Start anew' : 'Run';
     if (isRunning && hadFocus) page.stop.focus();
     // pictures at most ten times a second
     if (!redraw) redraw = setTimeout(() => { redraw = null; showSearch(it); }, Math.max(0, 100 - (performance.now() - drawnAt)));
@@ -24,6 +26,7 @@ const session = new Session({
     const hadFocus = document.activeElement === page.stop;
     page.stop.hidden = page.resume.hidden = true;
     page.run.hidden = false;
+    page.run.textContent = 'Run';
     if (hadFocus) page.run.focus();
     showEnd(it);
     // (below the script, where the window is narrow)
@@ -151,6 +154,7 @@ function offerToGoOn() {
   const isSame = signsOf(editor.bytes()) === signsOf(session.input);
   if (page.resume.hidden === !isSame) return;
   page.resume.hidden = !isSame;
+  page.run.textContent = isSame ? 'Start anew' : 'Run';
   if (isSame) showSearch(session);
   else {
     page.search.replaceChildren();
@@ -174,6 +178,7 @@ function run() {
   const budget = budgetHere();
   page.budget.setAttribute('aria-invalid', String(Number.isNaN(budget)));
   if (Number.isNaN(budget)) return say('The budget is a number of blocks from 0 to 2^40, as 1000000 or 2^20.', 'bad');
+  if (session.state === 'stopped' && session.spent > LONG && !confirm(`The search that was stopped took ${duration(session.spent)} so far. It can't go on any more if another one is started. Start it?`)) return undefined;
   clearAnswers();
   say('Running ..');
   return session.run(bytes.slice(), budget);
@@ -246,7 +251,8 @@ function listen() {
   document.addEventListener('keydown', (event) => {
     if (event.key === 'Enter' && (event.ctrlKey || event.metaKey)) {
       event.preventDefault();
-      run();
+      if (!page.resume.hidden && budgetHere() === session.budget) session.resume();
+      else run();
     }
   });
   for (const name of ['dragover', 'drop']) document.addEventListener(name, (event) => event.preventDefault());

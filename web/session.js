@@ -32,7 +32,7 @@ function asked(request) {
 class Session {
   // `hears` has the functions changed(session), ended(session)
   constructor(hears) {
-    Object.assign(this, { hears, state: 'none', worker: null, files: new Map(), searches: new Searches() });
+    Object.assign(this, { hears, state: 'none', worker: null, files: new Map(), searches: new Searches(), spent: 0 });
   }
 
   // the session that a former page left
@@ -41,6 +41,7 @@ class Session {
     if (!kept) return;
     this.input = fromBase64(kept.script);
     this.budget = kept.budget;
+    this.spent = kept.spent ?? 0;
     this.files = new Map(kept.slots.map(([name, text]) => [name, fromBase64(text)]));
     this.searches.hear(kept.records, performance.now());
     this.state = 'stopped';
@@ -53,7 +54,12 @@ class Session {
     this.keeping = null;
     const slots = SLOTS.filter((name) => this.files.get(name)?.length).map((name) => [name, toBase64(this.files.get(name))]);
     const records = [...this.searches.all].flatMap(([query, list]) => list.map((it) => `query ${query} blocks ${it.blocks} bound ${it.bound} best ${it.best}\n`)).slice(-400).join('');
-    this.isKept = slots.length ? store.set('session', { script: toBase64(this.input), budget: this.budget, slots, records }) : (store.set('session', null), false);
+    this.isKept = slots.length ? store.set('session', { script: toBase64(this.input), budget: this.budget, spent: this.secondsSpent(), slots, records }) : (store.set('session', null), false);
+  }
+
+  // the seconds that the session took so far, over all its parts
+  secondsSpent() {
+    return this.spent + (this.state === 'running' ? (performance.now() - this.began) / 1000 : 0);
   }
 
   // at most twice a second
@@ -71,7 +77,7 @@ class Session {
   run(input, budget) {
     this.end();
     this.forget();
-    Object.assign(this, { input, budget, searches: new Searches(), planning: null });
+    Object.assign(this, { input, budget, searches: new Searches(), planning: null, spent: 0 });
     this.start('run');
   }
 
@@ -101,7 +107,7 @@ class Session {
       this.hears.changed(this);
       return;
     }
-    this.seconds = (performance.now() - this.began) / 1000;
+    this.seconds = this.secondsSpent();
     this.end();
     this.state = data.kind === 'done' ? 'done' : 'failed';
     this.result = data;
@@ -127,8 +133,9 @@ class Session {
 
   stop() {
     this.end();
-    this.keep();
+    this.spent = this.secondsSpent();
     this.state = 'stopped';
+    this.keep();
     this.hears.changed(this);
   }
 }
