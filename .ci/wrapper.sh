@@ -7,7 +7,7 @@
 plain_path() {
     local name file
     mkdir -p "$room/bin"
-    for name in awk bash cat chmod cmp cp cut date dirname env find getconf git grep head ls mkdir mkfifo mktemp mv readlink rm sed sh sha256sum \
+    for name in awk base64 bash cat chmod cmp cp cut date dirname env find getconf git grep head ls mkdir mkfifo mktemp mv readlink rm sed sh sha256sum \
         sleep sort tail touch tr uname wc xargs; do
         file=$(command -v "$name") && ln -sf "$file" "$room/bin/$name"
     done
@@ -204,7 +204,7 @@ refused() {
 # mistakes: each ends with its status, and says what to do, though there is neither a program nor a kit
 mistakes() {
     mv "$copy/release" "$room/"
-    for word in '-h x' install 'install a b' 'prove x' 'test x' explain 'pretty x' '--unproved run keep=yes'; do
+    for word in '-h x' install 'install a b' 'prove x' 'test x' explain 'pretty x' 'page a b' '--unproved run keep=yes'; do
         # shellcheck disable=SC2086
         codes_there $word >"$room/out" 2>"$room/err" </dev/null
         [ $? -eq 2 ] && [ ! -s "$room/out" ] && grep -q '^codes: ' "$room/err" || { echo "codes $word"; return 1; }
@@ -350,6 +350,19 @@ explains_without_a_kit() { codes_there explain "$PWD/tests/explain/near_name.cod
 # without any program
 prints_prettily() { echo '[[1,0],[0,1]]' | codes_there pretty >"$room/out" && printf '  1 .\n  . 1\n' | cmp - "$room/out"; }
 
+# the page: a stand-in for a browser is given a copy with the bytes of the script in it; without one the path is printed
+shows_the_page() {
+    local file=$room/"my \"own\" <script>.codes" shown
+    printf 'GF(2);\r\n# \377' >"$file"
+    printf '#!/bin/sh\ncp "$1" "%s"\n' "$room/shown.html" >"$room/browser" && chmod 755 "$room/browser"
+    BROWSER=$room/browser codes_there page "$file" >"$room/out" 2>&1 && [ ! -s "$room/out" ] &&
+        shown=$(sed -n 's/^<script type="application\/octet-stream" id="given" data-name="my &quot;own&quot; &lt;script>.codes">\(.*\)<\/script>$/\1/p' "$room/shown.html") &&
+        echo "$shown" | base64 -d | cmp - "$file" && sed "s/^<script type=[^>]* id=\"given\" .*$/<!-- given -->/" "$room/shown.html" | cmp - web/index.html &&
+        [ "$(BROWSER='' DISPLAY='' WAYLAND_DISPLAY='' codes_there page)" = "codes: open $copy/web/index.html in a browser" ] &&
+        [ "$(BROWSER='' DISPLAY='' WAYLAND_DISPLAY='' codes_there page "$file")" = "codes: open $copy/out/page.html in a browser" ] &&
+        wrapped 4 "$room/nothing" '^codes: no.such can.t be read$' page no.such
+}
+
 # a kit whose command only waits: `codes` is stopped, and leaves neither that command nor a file
 a_build_that_is_stopped() {
     local pid left=0
@@ -395,6 +408,7 @@ check_wrapper() {
     check 'codes: install' installs
     check 'codes: explain' explains_without_a_kit
     check 'codes: pretty' prints_prettily
+    check 'codes: page' shows_the_page
     check 'codes: a build that is stopped leaves nothing' a_build_that_is_stopped
     check 'codes: without a folder for temporary files' no_temporary_folder
     check 'docs/CLUSTER.md: its commands, at the top of the copy' cluster_recipes

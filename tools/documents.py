@@ -13,7 +13,7 @@ import os
 import re
 import sys
 
-DOCUMENTS = ["README.md", "CONTRIBUTING.md", "CHANGELOG.md", "SECURITY.md", "tools/README.md", "bench/README.md", "tests/README.md", "examples/README.md", *sorted(glob.glob("docs/*.md"))]
+DOCUMENTS = ["README.md", "CONTRIBUTING.md", "CHANGELOG.md", "SECURITY.md", "tools/README.md", "bench/README.md", "tests/README.md", "examples/README.md", "web/README.md", *sorted(glob.glob("docs/*.md"))]
 LINK = re.compile(r"\]\(([^)#\s]*)(?:#([^)]+))?\)")
 PATH = re.compile(r"`((?:\./)?(?:tools|tests|docs|examples|bench|crates|\.ci|[a-z]+_[a-z_]+)/[^`\s]*)`")
 QUOTED = re.compile(r"`([^`]+)`")

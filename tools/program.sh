@@ -195,5 +195,20 @@ compile() {
     done
     for folder in ../*/out/rlib; do set -- "$@" -L "dependency=$folder"; done
     exec "$kit/bin/rattle" build "$@" --antt-project "$kit/rattle/logic/antt-project.json" --logic-built "$kit/logic_built" \
-        --toolchain "$kit/toolchain" --backend llvm --cpu "$cpu" --jobs 2 -o "$file"
+        --toolchain "${toolchain:-$kit/toolchain}" --backend llvm --cpu "$cpu" --jobs 2 -o "$file"
+}
+
+# build_module TREE FILE: makes the module of the page, web/codes.wasm, from what `rt ci` proved in a tree: the LLVM module of the program for
+# plain x86-64, compiled once more. The toolchain is the kit's, but for a `clang` that keeps what it is given.
+build_module() {
+    toolchain=$room/keeper
+    mkdir -p "$toolchain/bin" && ln -sfn "$kit/toolchain/lib" "$toolchain/lib" || return 1
+    for part in "$kit/toolchain/bin"/*; do ln -sf "$part" "$toolchain/bin/" || return 1; done
+    rm "$toolchain/bin/clang" && printf '#!/bin/sh\nfor word; do case $word in *.bc) cp "$word" "%s" || exit 1 ;; esac; done\nexec "%s" "$@"\n' \
+        "$room/module.bc" "$kit/toolchain/bin/clang" >"$toolchain/bin/clang" && chmod 755 "$toolchain/bin/clang" || return 1
+    { in_room compile "$1" x86-64 "$room/tmp/codes.o" </dev/null && in_room python3 -B "$top/web/build.py" --module "$room/module.bc" "$2"; } >"$room/tmp/log" 2>&1
+    set -- $?
+    toolchain=
+    [ "$1" -eq 0 ] || tail -n 20 "$room/tmp/log" >&2
+    return "$1"
 }
