@@ -190,10 +190,9 @@ check_certificates() {
     check '3,000 altered certificates: the program and tools/check_certificate.py agree' python3 -B tools/compare_certificates.py "$program" 3000
 }
 
-# certificates by construction. The rows of the query `AlternantCertificate` wait in tests/rows-of-trees until the program has it:
-# then the line of tools/reference.py with its name is switched on, and the rows move to tests/rows.
+# certificates by construction
 check_trees() {
-    check 'tests/rows-of-trees: each row has its blocks' python3 -B tools/rows.py tests/rows-of-trees "$room/trees"
+    check 'each line that `AlternantCertificate` prints is accepted by both programs' forms_are_accepted
     check 'trees at the limits, by tools/check_certificate.py' python3 -B tests/limits_of_trees.py python3 -B tools/check_certificate.py
     check '1,000 altered trees: tools/check_certificate.py and the reference program agree' python3 -B tools/compare_certificates.py - --trees 1000
     check 'the tree of docs/FORMATS.md is accepted' tree_of_the_formats
@@ -206,6 +205,19 @@ check_trees() {
 tree_of_the_formats() {
     awk '/^```json$/ { inside = 1; next } /^```$/ { inside = 0 } inside' docs/FORMATS.md >"$room/tree.json"
     [ "$(python3 -B tools/check_certificate.py "$room/tree.json")" = 'accepted distance 4' ]
+}
+
+# says of each line of the stored texts that begins as a certificate by construction does what both programs say of it
+forms_are_accepted() {
+    local line distance count=0
+    while IFS= read -r line; do
+        printf '%s\n' "$line" >"$room/form.json"
+        distance=${line##*\"distance\":}
+        [ "$("$program" check <"$room/form.json")" = "accepted distance ${distance%%,*}" ] || { echo "codes: $line"; return 1; }
+        [ "$(python3 -B tools/check_certificate.py "$room/form.json")" = "accepted distance ${distance%%,*}" ] || { echo "check_certificate.py: $line"; return 1; }
+        count=$((count + 1))
+    done < <(cat examples/by_construction.out "$room"/rows/alternant_certificate*.out | grep '^{"claim":{"kind":"alternant"')
+    [ "$count" -ge 18 ] || { echo "only $count lines"; return 1; }
 }
 
 tree_is_pretty() { python3 -B tools/pretty.py <examples/certificates/tree_subcode.json | cmp - tests/pretty/tree_subcode.out; }

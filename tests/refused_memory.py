@@ -61,11 +61,13 @@ MinimumDistance(ReedSolomonCode(15, 9)); MinimumDistance(NullCode(4, GF(2)));
 """,
     "certificates": b"""
 Certificate(HammingCode(3, GF(2))); ScanCertificate(HammingCode(2, GF(3))); Certificate(BinaryGolayCode());
+AlternantCertificate(BCHCode(15, 5, GF(2)), [1,0,0,1,0,0,1,0,0,1,0,0,1,0,0]); AlternantCertificate(ReedSolomonCode(4, 3), [1,0,3,4]);
 """,
     "weight distributions": b"""
 WeightDistribution(HammingCode(3, GF(2))); WeightDistribution(NullCode(4, GF(2))); WeightDistribution(HammingCode(5, GF(2)));
 """,
     "a code with too many words": b"WeightDistribution(WholeSpaceCode(64, GF(2)));",
+    "a word of another weight": b"AlternantCertificate(ReedSolomonCode(4, 3), [1,1,1,1]);",
     "a fault with numbers": b"""
 x := 3; x; Dimension(HammingCode(2, GF(2))); GoppaCode([1,1], [0,1,2,0], GF(4), GF(2));
 """,

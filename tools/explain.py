@@ -42,7 +42,8 @@ MEANINGS = {
     15: "the code has too many cosets to keep a leader of each",
     16: "these rows have too many words to look at each",
     17: "the field is too large: codes are over fields of at most 16 elements",
-    18: "the code has no alternant form to decode by",
+    18: "the code has no alternant form",
+    19: "the word doesn't show the distance that the form promises",
     40: "no name, number or sign begins with this byte",
     41: "something is missing or superfluous here",
     42: "more than 32 parentheses and brackets are open",
@@ -257,7 +258,7 @@ def divisors_told(length, size):
 
 COMBINED = ("ExtendedCode", "PuncturedCode", "ShortenedCode", "EvenWeightSubcode", "DirectSumCode", "UUVCode",
             "DirectProductCode", "IntersectionCode", "ConcatenatedCode")
-OF_WORDS = ("IsCodeword", "Decode", "AlgebraicDecode")
+OF_WORDS = ("IsCodeword", "Decode", "AlgebraicDecode", "AlternantCertificate")
 BY_LISTS = ("GeneratorPolCode", "CheckPolCode", "GoppaCode", "AlternantCode")
 
 
@@ -321,6 +322,11 @@ def refusal(expr, fault, names):
         return f"{values[0].size}^{fault.values[0]} is above 2^20"
     if number == 18:
         return "only BCHCode, ReedSolomonCode, GoppaCode and AlternantCode make codes that have one"
+    if number == 19:
+        weight, distance = fault.values
+        if weight != distance:
+            return f"it has weight {weight}; it must have weight {distance}, one more than the {counted(distance - 1, 'check')} of the form"
+        return f"it has weight {weight}, one more than the {counted(distance - 1, 'check')} of the form, but isn't in the code"
     if number == 47:
         return distribution_told(values[0].size, values[0].length, *fault.values)
     if number == 16:

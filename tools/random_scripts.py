@@ -272,7 +272,7 @@ class Maker:
             if way < 5:
                 return f"{self.pick(('MinimumDistance', 'MinimumDistance', 'Certificate', 'ScanCertificate', 'WeightDistribution'))}({code.text})"
             if way < 7:
-                return f"AlgebraicDecode({code.text},{self.word(code)})"
+                return f"{self.pick(('AlgebraicDecode', 'AlternantCertificate'))}({code.text},{self.word(code)})"
         return self.least()
 
     def least(self):

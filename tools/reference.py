@@ -933,8 +933,7 @@ CALLS = {
 # these print a line of their own, and stand only as a whole statement; the functions get the session first
 QUERIES = {
     "AlgebraicDecode": ([("code", "numbers")], lambda _, code, word: algebraic_decode_line(code, word)),
-    # waits for the program:
-    # "AlternantCertificate": ([("code", "numbers")], lambda _, code, word: alternant_certificate_line(code, word)),
+    "AlternantCertificate": ([("code", "numbers")], lambda _, code, word: alternant_certificate_line(code, word)),
     "LeastWord": ([("lists", "field")], lambda _, rows, field: least_word_line(rows, field)),
     "MinimumDistance": ([("code",)], minimum_distance_line),
     "Certificate": ([("code",)], lambda session, code: certificate_line(session, code, "levels")),

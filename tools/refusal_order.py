@@ -137,6 +137,12 @@ WORD_CALLS = [
     ("AlgebraicDecode(NullCode(3,GF(2)),[1])", "18"),
     ("AlgebraicDecode(NullCode(3,GF(2)),[2,0,0])", "18"),
     ("AlgebraicDecode(ReedSolomonCode(3,2),[4])", "12"),
+    ("AlternantCertificate(NullCode(3,GF(2)),[1])", "18"),
+    ("AlternantCertificate(NullCode(3,GF(2)),[2,0,0])", "18"),
+    ("AlternantCertificate(NullCode(3,GF(2)),[1,0,0])", "18"),
+    ("AlternantCertificate(ReedSolomonCode(3,2),[4])", "12"),
+    ("AlternantCertificate(ReedSolomonCode(3,2),[1])", "12"),
+    ("AlternantCertificate(ReedSolomonCode(3,2),[4,0,0])", "3 2"),
 ]
 
 LEAST_WORD_CALLS = [

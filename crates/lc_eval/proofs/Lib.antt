@@ -10,6 +10,7 @@ pub mod CallLaws
 pub mod QueryLaws
 pub mod WideLaws
 pub mod FormLaws
+pub mod FormCertificateLaws
 pub mod CyclicCalls
 pub mod MisfitLaws
 pub mod StockLaws

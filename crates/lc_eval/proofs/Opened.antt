@@ -1,8 +1,11 @@
 -- Definitions that a proof opens together, under one name.
 --   refusals_of_calls      a refusal as the outcome of a call
 --   lines_of_values        the line of a value, a decoder's answer among them
+--   certificates_of_forms  the certificate by construction of a form, and what the program's own stands for
 --   bound_calls, bound_queries      the forms of calls, and what they make of values
 use Rattle.std.specs.Prelude.{⊤}
+use Rattle.lc_formats.specs.Claim.{form_certificate}
+use Rattle.lc_certificate.specs.Trees.{claim_of, built_of}
 use Rattle.lc_language.specs.Calls.{value_forms, query_forms, bind, bind_query}
 use Rattle.lc_language.specs.Refusal.{refusal_from, refuse}
 use Rattle.lc_language.specs.Evaluation.{refuse_call}
@@ -16,6 +19,10 @@ refusals_of_calls = tt
 unfoldable pub lines_of_values : ⊤
 unfolding decoded value_line value_text
 lines_of_values = tt
+
+unfoldable pub certificates_of_forms : ⊤
+unfolding claim_of built_of form_certificate
+certificates_of_forms = tt
 
 unfoldable pub bound_calls : ⊤
 unfolding value_forms bind

@@ -1,5 +1,5 @@
 //! What the calls give that make a code with its alternant form.
-ghost use Rattle.std.specs.Prelude.{◌≡◌, IfOk};
+ghost use Rattle.std.specs.Prelude.{◌≡◌, ◌≤◌, IfOk};
 ghost use Rattle.lc_constructions.specs.Alternant.{IsFormOf};
 ghost use Rattle.lc_language.specs.Calls as bound;
 ghost use Rattle.lc_language.specs.Evaluation.{AppliesTo};
@@ -23,6 +23,7 @@ pub(crate) fn formed(
     code: Result<FormedCode, CodeRefusal>,
 ) -> Result<Value, Stop>
     requires formed { IfOk code (λ c. IsFormOf c.code c.form) }
+    requires few { IfOk code (λ c. c.form.r ≤ 255) }
     ensures { IsFormed code place result }
 {
     match code {

@@ -6,6 +6,7 @@ mod code_value;
 mod cyclic;
 mod decoding;
 mod evaluate;
+mod form_certificates;
 mod forms;
 mod kinds;
 mod laws;

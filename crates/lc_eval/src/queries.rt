@@ -11,6 +11,7 @@ ghost use Rattle.lc_eval.specs.Least.{IsLeastLine};
 
 use crate::calls::{Asks, BoundQuery};
 use crate::decoding::algebraic_decode;
+use crate::form_certificates::alternant_certificate;
 use crate::machine::{Query, QueryKind};
 use crate::refusals::{NO_DISTRIBUTION, Refused, Stop, TOO_MANY_WORDS, fault, refused_as};
 use crate::rows::{rows_of, words_of};
@@ -66,6 +67,9 @@ pub(crate) fn answer(alloc: Global, place: usize, query: BoundQuery<'_>) -> Resu
         BoundQuery::ScanCertificate(code) => asked(alloc, QueryKind::Scan, code),
         BoundQuery::WeightDistribution(code) => weight_distribution(alloc, place, code),
         BoundQuery::AlgebraicDecode(code, list) => algebraic_decode(alloc, place, code, list),
+        BoundQuery::AlternantCertificate(code, list) => {
+            alternant_certificate(alloc, place, code, list)
+        }
     }
 }
 

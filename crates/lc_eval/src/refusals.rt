@@ -18,6 +18,8 @@ pub(crate) const TOO_MANY_COSETS: u8 = 15;
 pub(crate) const TOO_MANY_WORDS: u8 = 16;
 /// The code has no alternant form.
 pub(crate) const NO_FORM: u8 = 18;
+/// The word isn't one of the code whose weight is one more than the number of its form's checks.
+pub(crate) const NOT_ATTAINED: u8 = 19;
 /// A name that no value and no call has.
 pub(crate) const UNKNOWN_NAME: u8 = 44;
 /// A value that is not of the kind that is asked for, or a query inside an expression.

@@ -9,7 +9,7 @@
 --   IsDeterminate c          whatever its arguments, the call gives one value, or does one thing
 --   built_one                the calls that are built are such
 --   bind_shaped, bind_query_shaped       shaped arguments bind a call, and a query, of which this holds
-use Rattle.std.proofs.Common.{◌≡◌, ◌≤◌, ◌+◌, ◌*◌, ◌^◌, ℕ, Bool, true, List, [], ◌∷◌, length, Option, None, Some, sym, ap, ◌∙◌, arith}
+use Rattle.std.proofs.Common.{◌≡◌, ◌≤◌, ◌+◌, ◌*◌, ◌%◌, ◌^◌, ℕ, Bool, true, List, [], ◌∷◌, length, Option, None, Some, refl, sym, ap, ◌∙◌, arith}
 use Rattle.std.specs.Prelude.{IsTrue}
 use Rattle.std.specs.List.{AllByRecursion}
 use Rattle.lc_algebra.specs.declared.FieldName.{FieldName}
@@ -40,7 +40,8 @@ use Rattle.lc_script_laws.specs.Shapes.{IsCodeOfRows}
 use Rattle.lc_script_laws.proofs.AtMostOne.{One, one_value, one_some}
 use Rattle.lc_script_laws.proofs.OneNearest.{nearest_one}
 use Rattle.lc_script_laws.proofs.OneValue.{code_one, made_one, extended_golay_one, bch_one, reed_solomon_one, same_truth, prints_least_one, asks_one, nears_one, decoded_by_form}
-use Rattle.lc_script_laws.proofs.ShapeLaws.{IsShaped, AreShaped, InForms, bound_shaped, shaped_as, made_shaped, IsAllowed, none_refuses, allowed, short, binary, ternary}
+use Rattle.lc_script_laws.proofs.FormedLaws.{bch_formed, solomon_formed, goppa_formed, alternant_formed}
+use Rattle.lc_script_laws.proofs.ShapeLaws.{IsShaped, AreShaped, InForms, bound_shaped, shaped_as, made_shaped, formed_shaped, IsAllowed, none_refuses, allowed, short, binary, ternary}
 
 pub gives_one : (b : BoundCall) → refusal_of b ≡ None → One (Gives b)
 gives_one (bound.gf q) r = one_some (λ f. size f ≡ q) (λ f v. v ≡ field f) (λ f g a b. told_by_size f g (a ∙ sym b)) (λ f. one_value (field f))
@@ -160,33 +161,36 @@ GivesShaped b = (v : Value) → refusal_of b ≡ None → Gives b v → IsShaped
 calls_shaped : (c : ValueCall) → InForms GivesShaped (value_forms c)
 unfolding value_forms refusal_of refusals_of
 calls_shaped call.Gf = (λ q v e g. shaped_as v _ g.2 tt, tt)
-calls_shaped call.GeneratorMatCode = (λ rows f v e g. made_shaped _ _ _ _ v (matrix_allowed f rows e) g, tt)
-calls_shaped call.CheckMatCode = (λ rows f v e g. made_shaped _ _ _ _ v (matrix_allowed f rows e) g, tt)
-calls_shaped call.RepetitionCode = (λ n f v e g. made_shaped _ _ _ _ v (length_allowed f n e) g, tt)
-calls_shaped call.WholeSpaceCode = (λ n f v e g. made_shaped _ _ _ _ v (length_allowed f n e) g, tt)
-calls_shaped call.NullCode = (λ n f v e g. made_shaped _ _ _ _ v (length_allowed f n e) g, tt)
-calls_shaped call.HammingCode = (λ r f v e g. made_shaped _ _ _ _ v (hamming_allowed f r e) g, tt)
-calls_shaped call.ReedMullerCode = (λ r m v e g. made_shaped Gf2 _ _ _ v (reed_muller_short r m e, binary) g, tt)
-calls_shaped call.GeneratorPolCode = (λ x n f v e g. made_shaped _ _ _ _ v (cyclic_allowed f x n e) g, tt)
-calls_shaped call.CheckPolCode = (λ x n f v e g. made_shaped _ _ _ _ v (cyclic_allowed f x n e) g, tt)
-calls_shaped call.BinaryGolayCode = (λ v e g. made_shaped Gf2 _ _ _ v (omega arith, binary) g, tt)
-calls_shaped call.TernaryGolayCode = (λ v e g. made_shaped Gf3 _ _ _ v (omega arith, ternary) g, tt)
-calls_shaped call.ExtendedBinaryGolayCode = (λ v e g. made_shaped Gf2 _ _ _ v (omega arith, binary) g.2, tt)
-calls_shaped call.ExtendedTernaryGolayCode = (λ v e g. made_shaped Gf3 _ _ _ v (omega arith, ternary) g.2, tt)
-calls_shaped call.BchCode = (λ n d f v e g. made_shaped _ _ _ _ v (bch_allowed f n d e) g.2, (λ n b d f v e g. made_shaped _ _ _ _ v (bch_allowed f n d e) g.2, tt))
-calls_shaped call.ReedSolomonCode = (λ n d v e g. made_shaped _ _ _ _ v (solomon_allowed g.0 n g.1 g.2) g.3, tt)
-calls_shaped call.GoppaCode = (λ g points K f v e k. made_shaped _ _ _ _ v (goppa_allowed f K g points e) k, tt)
-calls_shaped call.AlternantCode = (λ r points multipliers K f v e g. made_shaped _ _ _ _ v (alternant_allowed f K r points multipliers e) g, tt)
-calls_shaped call.DualCode = (λ C h v e g. made_shaped _ _ _ _ v (h.long, h.symbol) g, tt)
-calls_shaped call.ExtendedCode = (λ C h v e g. made_shaped _ _ _ _ v (extended_short C.code e, h.symbol) g, tt)
-calls_shaped call.PuncturedCode = (λ C h places v e g. made_shaped _ _ _ _ v (omega (arith, h.long), h.symbol) g, tt)
-calls_shaped call.ShortenedCode = (λ C h places v e g. made_shaped _ _ _ _ v (omega (arith, h.long), h.symbol) g, tt)
-calls_shaped call.EvenWeightSubcode = (λ C h v e g. made_shaped _ _ _ _ v (h.long, h.symbol) g, tt)
-calls_shaped call.DirectSumCode = (λ C h D k v e g. made_shaped _ _ _ _ v (sum_short C.code D.code e, h.symbol) g, tt)
-calls_shaped call.UuvCode = (λ C h D k v e g. made_shaped _ _ _ _ v (uuv_short C.code D.code e, h.symbol) g, tt)
-calls_shaped call.DirectProductCode = (λ C h D k v e g. made_shaped _ _ _ _ v (product_short C.code D.code e, h.symbol) g, tt)
-calls_shaped call.IntersectionCode = (λ C h D k v e g. made_shaped _ _ _ _ v (h.long, h.symbol) g, tt)
-calls_shaped call.ConcatenatedCode = (λ C h D k v e g. made_shaped _ _ _ _ v (concatenated_short C.code D.code e, k.symbol) g, tt)
+calls_shaped call.GeneratorMatCode = (λ rows f v e g. made_shaped _ _ _ v (matrix_allowed f rows e) g, tt)
+calls_shaped call.CheckMatCode = (λ rows f v e g. made_shaped _ _ _ v (matrix_allowed f rows e) g, tt)
+calls_shaped call.RepetitionCode = (λ n f v e g. made_shaped _ _ _ v (length_allowed f n e) g, tt)
+calls_shaped call.WholeSpaceCode = (λ n f v e g. made_shaped _ _ _ v (length_allowed f n e) g, tt)
+calls_shaped call.NullCode = (λ n f v e g. made_shaped _ _ _ v (length_allowed f n e) g, tt)
+calls_shaped call.HammingCode = (λ r f v e g. made_shaped _ _ _ v (hamming_allowed f r e) g, tt)
+calls_shaped call.ReedMullerCode = (λ r m v e g. made_shaped Gf2 _ _ v (reed_muller_short r m e, binary) g, tt)
+calls_shaped call.GeneratorPolCode = (λ x n f v e g. made_shaped _ _ _ v (cyclic_allowed f x n e) g, tt)
+calls_shaped call.CheckPolCode = (λ x n f v e g. made_shaped _ _ _ v (cyclic_allowed f x n e) g, tt)
+calls_shaped call.BinaryGolayCode = (λ v e g. made_shaped Gf2 _ _ v (omega arith, binary) g, tt)
+calls_shaped call.TernaryGolayCode = (λ v e g. made_shaped Gf3 _ _ v (omega arith, ternary) g, tt)
+calls_shaped call.ExtendedBinaryGolayCode = (λ v e g. made_shaped Gf2 _ _ v (omega arith, binary) g.2, tt)
+calls_shaped call.ExtendedTernaryGolayCode = (λ v e g. made_shaped Gf3 _ _ v (omega arith, ternary) g.2, tt)
+calls_shaped call.BchCode = (
+  λ n d f v e g. formed_shaped _ _ _ _ v (bch_allowed f n d e) (λ C c. bch_formed f g.0 n (1 % n) d C e g.1 c) g.2,
+  (λ n b d f v e g. formed_shaped _ _ _ _ v (bch_allowed f n d e) (λ C c. bch_formed f g.0 n (b % n) d C e g.1 c) g.2, tt),
+)
+calls_shaped call.ReedSolomonCode = (λ n d v e g. formed_shaped _ _ _ _ v (solomon_allowed g.0 n g.1 g.2) (λ C c. solomon_formed g.0 n d C g.1 g.2 c) g.3, tt)
+calls_shaped call.GoppaCode = (λ g points K f v e k. formed_shaped _ _ _ _ v (goppa_allowed f K g points e) (λ C c. goppa_formed f K g points C e c) k, tt)
+calls_shaped call.AlternantCode = (λ r points multipliers K f v e g. formed_shaped _ _ _ _ v (alternant_allowed f K r points multipliers e) (λ C c. alternant_formed f K r points multipliers C _ refl e c) g, tt)
+calls_shaped call.DualCode = (λ C h v e g. made_shaped _ _ _ v (h.0.long, h.0.symbol) g, tt)
+calls_shaped call.ExtendedCode = (λ C h v e g. made_shaped _ _ _ v (extended_short C.code e, h.0.symbol) g, tt)
+calls_shaped call.PuncturedCode = (λ C h places v e g. made_shaped _ _ _ v (omega (arith, h.0.long), h.0.symbol) g, tt)
+calls_shaped call.ShortenedCode = (λ C h places v e g. made_shaped _ _ _ v (omega (arith, h.0.long), h.0.symbol) g, tt)
+calls_shaped call.EvenWeightSubcode = (λ C h v e g. made_shaped _ _ _ v (h.0.long, h.0.symbol) g, tt)
+calls_shaped call.DirectSumCode = (λ C h D k v e g. made_shaped _ _ _ v (sum_short C.code D.code e, h.0.symbol) g, tt)
+calls_shaped call.UuvCode = (λ C h D k v e g. made_shaped _ _ _ v (uuv_short C.code D.code e, h.0.symbol) g, tt)
+calls_shaped call.DirectProductCode = (λ C h D k v e g. made_shaped _ _ _ v (product_short C.code D.code e, h.0.symbol) g, tt)
+calls_shaped call.IntersectionCode = (λ C h D k v e g. made_shaped _ _ _ v (h.0.long, h.0.symbol) g, tt)
+calls_shaped call.ConcatenatedCode = (λ C h D k v e g. made_shaped _ _ _ v (concatenated_short C.code D.code e, k.0.symbol) g, tt)
 calls_shaped call.Dimension = (λ C h v e g. shaped_as v _ g tt, tt)
 calls_shaped call.WordLength = (λ C h v e g. shaped_as v _ g tt, tt)
 calls_shaped call.GeneratorMat = (λ C h v e g. shaped_as v _ g tt, tt)
@@ -206,10 +210,10 @@ queries_shaped : (c : QueryCall) → InForms HaveQueryShapes (query_forms c)
 unfolding query_forms
 queries_shaped query.AlgebraicDecode = (λ C h x. tt, tt)
 queries_shaped query.LeastWord = (λ rows f. tt, tt)
-queries_shaped query.MinimumDistance = (λ C h. h, tt)
-queries_shaped query.Certificate = (λ C h. h, tt)
-queries_shaped query.ScanCertificate = (λ C h. h, tt)
-queries_shaped query.WeightDistribution = (λ C h. h, tt)
+queries_shaped query.MinimumDistance = (λ C h. h.0, tt)
+queries_shaped query.Certificate = (λ C h. h.0, tt)
+queries_shaped query.ScanCertificate = (λ C h. h.0, tt)
+queries_shaped query.WeightDistribution = (λ C h. h.0, tt)
 queries_shaped query.AlternantCertificate = (λ C h x. tt, tt)
 queries_shaped query.NearestWord = (λ C h x. tt, tt)
 

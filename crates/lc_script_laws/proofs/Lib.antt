@@ -2,6 +2,7 @@ pub mod AtMostOne
 pub mod OneNearest
 pub mod OneValue
 pub mod ShapeLaws
+pub mod FormedLaws
 pub mod CallLaws
 pub mod OneText
 pub mod AskShapes
@@ -12,3 +13,5 @@ pub mod CertificateLaws
 pub mod StoredLaws
 pub mod CountedLaws
 pub mod PrintedLaws
+pub mod FormLaws
+pub mod CertifiedLaws

@@ -1,9 +1,11 @@
--- Values of a script whose codes are over symbol fields and have a length of at most 255 and reduced rows.
---   IsShaped v               if the value is a code, it is one of rows
+-- Values of a script whose codes are over symbol fields and have a length of at most 255 and reduced rows, and the forms that they have.
+--   HasForm C form           the form, if there is one, is one of the code
+--   IsShapedCode C           a code's value: the code is one of rows, and has its form
+--   IsShaped v               if the value is a code, it is such
 --   none_refuses             the refusals of what isn't refused
 --   IsAllowed f n            a code over f of length n may be made; allowed, short      so it may, if it isn't refused
 --   from_option, from_known  by cases on an option
---   made_shaped, shaped_as   a code's value, and a value that is told, are shaped
+--   made_shaped, formed_shaped, shaped_as      a code's value without a form, one with a form, and a value that is told, are shaped
 --   ForAny, ForAll, InForms  what holds of all that a form of a call makes of shaped values, and so do several
 --   found_in                 what holds of all holds of the one that is found
 --   bound_shaped             holds of what is bound
@@ -17,7 +19,7 @@ use Rattle.lc_algebra.specs.Field.{shape, shape_of, size, is_symbol}
 use Rattle.lc_algebra.specs.Matrix.{Matrix, AreRows, IsReduced}
 use Rattle.lc_constructions.specs.declared.refusal.CodeRefusal.{CodeRefusal}
 use Rattle.lc_constructions.specs.Code.{IsCode, is_length}
-use Rattle.lc_constructions.specs.Alternant.{AlternantForm}
+use Rattle.lc_constructions.specs.Alternant.{AlternantForm, IsFormOf}
 use Rattle.lc_constructions.specs.Refusal.{refuse_if}
 use Rattle.lc_constructions.specs.Refusals.{too_large, bad_length}
 use Rattle.lc_language.specs.declared.Kind.{Kind}
@@ -28,12 +30,19 @@ use Rattle.lc_language.specs.Refusal.{first_of, from_codes}
 use Rattle.lc_language.specs.Meaning.{IsCodeValue}
 use Rattle.lc_script_laws.specs.Shapes.{IsCodeOfRows}
 
+abbrev pub HasForm : Matrix → Option AlternantForm → Type 0
+HasForm C None = Unit {0}
+HasForm C (Some form) = IsFormOf C form
+
+abbrev pub IsShapedCode : CodeValue → Type 0
+IsShapedCode C = IsCodeOfRows C.code × HasForm C.code C.form
+
 abbrev pub IsShaped : Value → Type 0
 IsShaped (number n) = Unit {0}
 IsShaped (field f) = Unit {0}
 IsShaped (numbers u) = Unit {0}
 IsShaped (lists rows) = Unit {0}
-IsShaped (code C form) = IsCodeOfRows C
+IsShaped (code C form) = IsCodeOfRows C × HasForm C form
 IsShaped (truth b) = Unit {0}
 IsShaped nothing = Unit {0}
 
@@ -105,8 +114,11 @@ code_shaped f n P C l h = record {
 pub shaped_as : (v w : Value) → v ≡ w → IsShaped w → IsShaped v
 shaped_as v w e h = subst IsShaped (sym e) h
 
-pub made_shaped : (f : FieldName) (n : ℕ) (P : List ℕ → Type 0) (form : Option AlternantForm) (v : Value) → IsAllowed f n → IsCodeValue f n P form v → IsShaped v
-made_shaped f n P form v l h = let (C, c, e) = h.code_is in shaped_as v (code C form) e (code_shaped f n P C l c)
+pub made_shaped : (f : FieldName) (n : ℕ) (P : List ℕ → Type 0) (v : Value) → IsAllowed f n → IsCodeValue f n P None v → IsShaped v
+made_shaped f n P v l h = let (C, c, e) = h.code_is in shaped_as v (code C None) e (code_shaped f n P C l c, tt)
+
+pub formed_shaped : (f : FieldName) (n : ℕ) (P : List ℕ → Type 0) (form : AlternantForm) (v : Value) → IsAllowed f n → ((C : Matrix) → IsCode f n P C → IsFormOf C form) → IsCodeValue f n P (Some form) v → IsShaped v
+formed_shaped f n P form v l formed h = let (C, c, e) = h.code_is in shaped_as v (code C (Some form)) e (code_shaped f n P C l c, formed C c)
 
 -- ---- the arguments of calls
 
@@ -117,21 +129,21 @@ given_some (Some a) make r e = (a, refl, e)
 some_is : {R : Type 0} (P : R → Type 0) (r s : R) → Some r ≡ Some s → P r → P s
 some_is P r s e h = let same : r ≡ s = (let f = e in cc) in subst P same h
 
-in_code : (v : Value) (C : CodeValue) → code_in v ≡ Some C → IsShaped v → IsCodeOfRows C.code
+in_code : (v : Value) (C : CodeValue) → code_in v ≡ Some C → IsShaped v → IsShapedCode C
 unfolding code_in
 in_code (number n) C e h = absurd (let f = e in cc)
 in_code (field g) C e h = absurd (let f = e in cc)
 in_code (numbers u) C e h = absurd (let f = e in cc)
 in_code (lists rows) C e h = absurd (let f = e in cc)
-in_code (code D form) C e h = some_is (λ (B : CodeValue). IsCodeOfRows B.code) (record { code = D; form = form }) C e h
+in_code (code D form) C e h = some_is (λ (B : CodeValue). IsShapedCode B) (record { code = D; form = form }) C e h
 in_code (truth b) C e h = absurd (let f = e in cc)
 in_code nothing C e h = absurd (let f = e in cc)
 
 -- ---- what holds of what a form makes
 
--- P of every argument of the kind; a code among them is one of rows
+-- P of every argument of the kind; a code among them is one of rows, and has its form
 abbrev pub ForAny : (kind : Kind) → (Meant kind → Type 0) → Type 0
-ForAny Code P = (C : CodeValue) → IsCodeOfRows C.code → P C
+ForAny Code P = (C : CodeValue) → IsShapedCode C → P C
 ForAny kind P = (a : Meant kind) → P a
 
 abbrev pub ForAll : {R : Type 0} (kinds : List Kind) → Takes kinds R → (R → Type 0) → Type 0

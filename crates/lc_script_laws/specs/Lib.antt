@@ -1,3 +1,4 @@
 pub mod Counted
+pub mod Certified
 pub mod Printed
 pub mod Shapes

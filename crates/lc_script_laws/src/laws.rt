@@ -9,7 +9,9 @@ ghost use Rattle.lc_formats.specs.Checkpoint.{Checkpoint};
 ghost use Rattle.lc_io.specs.Vaults.{Slots};
 ghost use Rattle.lc_language.specs.declared.Call.{Call};
 ghost use Rattle.lc_language.specs.Query.{QueryKind, distance, by_levels, by_scan, query_line, distribution_line};
-ghost use Rattle.lc_language.specs.Evaluation.{IsText};
+ghost use Rattle.lc_grammar.specs.Tree.{Statement};
+ghost use Rattle.lc_language.specs.Value.{Binding};
+ghost use Rattle.lc_language.specs.Evaluation.{Steps, prints, IsText};
 ghost use Rattle.lc_eval.specs.Built.{built_calls};
 ghost use Rattle.lc_session_rules.specs.Options.{run, resume};
 ghost use Rattle.lc_session_rules.specs.Needs.{IsNeeds, MeetsFirst};
@@ -19,6 +21,7 @@ ghost use Rattle.lc_session_rules.specs.Session.{Outside, most_bytes, keeps, IsS
 ghost use Rattle.lc_session_rules.specs.Promises.{PrintsText, StartsTruly, StoresTruly, StoresAfresh, EmptiesSo};
 ghost use Rattle.lc_session_rules.specs.Chain.{Chain, IsGround, HasBegun, TearsSo};
 ghost use Rattle.lc_certify.specs.Accepted.{SaysNone, IsAcceptedFor};
+ghost use Rattle.lc_script_laws.specs.Certified.{IsReached, IsFormQuery, IsCertified};
 ghost use Rattle.lc_script_laws.specs.Counted.{AreCounted};
 ghost use Rattle.lc_script_laws.specs.Printed.{Piece, pieces_text, codes_in, counted_in, StatesDistance, StatesDistribution, IsTrueLine, IsTruePiece};
 ghost use Rattle.lc_script_laws.specs.Shapes.{IsCodeOfRows};
@@ -43,6 +46,14 @@ pub fn scripts_print_accepted_certificates()
     ensures levels { (table : List Call) (bytes : List ℕ) (needs : List Matrix) → MeetsFirst table bytes needs → (i : ℕ) (C : Matrix) → slice_get needs i ≡ Some C → (budget : ℕ) → SaysNone (query_line by_levels C budget) ⊎ IsAcceptedFor C (query_line by_levels C budget) }
     ensures scan { (table : List Call) (bytes : List ℕ) (needs : List Matrix) → MeetsFirst table bytes needs → (i : ℕ) (C : Matrix) → slice_get needs i ≡ Some C → (budget : ℕ) → SaysNone (query_line by_scan C budget) ⊎ IsAcceptedFor C (query_line by_scan C budget) }
     ensures none { (C : Matrix) (budget : ℕ) → length C.rows ≡ 0 → SaysNone (query_line by_levels C budget) × SaysNone (query_line by_scan C budget) }
+{}
+
+/// What `AlternantCertificate` prints in a script is accepted. Wherever a script comes to such a statement that prints a line, the line
+/// is that of the certificate of an alternant form of the code, for the word that it is asked for. The certificate is valid, and
+/// `check` answers to the line that it is accepted, with the minimum distance of the code, which is r + 1.
+pub fn printed_forms_are_accepted()
+    ensures { (table : List Call) (bytes : List ℕ) (env : List Binding) (s : Statement) (text : List ℕ)
+        → IsReached table bytes env s → IsFormQuery table s → Steps table env s (prints text) → IsCertified table env s text }
 {}
 
 /// What a script prints of its searches is true. Its text is made of pieces, of which those of its queries on codes are, in their

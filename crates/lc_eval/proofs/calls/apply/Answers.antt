@@ -11,6 +11,7 @@ use Rattle.lc_language.specs.Value.{number}
 use Rattle.lc_language.specs.Calls.{refusals_of}
 use Rattle.lc_eval.specs.Value.{value_of}
 use Rattle.lc_eval.proofs.AnswerLaws.{made_applies, never_refused}
+use Rattle.lc_eval.proofs.FormCertificateLaws.{bch_few, reed_solomon_few}
 use Rattle.lc_eval.proofs.FormLaws.{bch_applies, reed_solomon_applies}
 use Rattle.lc_eval.proofs.calls.apply.Goals as goal
 
@@ -132,3 +133,9 @@ returns-in_ok-rows_value-in-CheckMat c = rw c.in-CheckMat.is (never_refused c.ar
 pub returns-in-Weight : goal.returns-in-Weight
 unfolding refusals_of
 returns-in-Weight c = rw c.in-Weight.is (never_refused c.args.place (bound.weight_of c.in-Weight.list.now) (number c.nonzero.result) refl (λ n. n) (ap number c.nonzero.ensures))
+
+pub formed-requires-clause-few : goal.formed-requires-clause-few
+formed-requires-clause-few c = bch_few c.in-BchCode.field.now c.in-BchCode.n c.in-BchCode.b c.in-BchCode.d c.bch.result c.bch.ensures.refused c.bch.ensures.form
+
+pub formed-requires-in-ReedSolomonCode-clause-few : goal.formed-requires-in-ReedSolomonCode-clause-few
+formed-requires-in-ReedSolomonCode-clause-few c = reed_solomon_few c.in-ReedSolomonCode.n c.in-ReedSolomonCode.d c.reed_solomon.result c.reed_solomon.ensures.refused c.reed_solomon.ensures.size c.reed_solomon.ensures.form
