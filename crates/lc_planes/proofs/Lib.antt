@@ -1,0 +1,2 @@
+pub mod PlaneLaws
+pub mod BlockLaws
