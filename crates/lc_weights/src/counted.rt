@@ -1,5 +1,5 @@
 //! The weight distribution of a code, by counting its words.
-ghost use Rattle.std.specs.Prelude.{◌≡◌, ◌+◌, ◌^◌, ◌<◌, ◌≤◌, length, All, IfOk};
+ghost use Rattle.std.specs.Prelude.{◌≡◌, ◌+◌, ◌*◌, ◌^◌, ◌<◌, ◌≤◌, length, All, IfOk};
 ghost use Rattle.lc_algebra.specs.Field.{size};
 ghost use Rattle.lc_enumeration.specs.Distribution.{count_of_weight, distribution_of};
 ghost use Rattle.lc_weights.specs.Counts.{words_counted, AreCounts};
@@ -15,6 +15,7 @@ use std::thread::Threads;
 /// counted by so many workers beside each other; one worker starts no thread (MacWilliams and Sloane, chapter 5).
 ///
 /// The code has at most 2^24 words. There are 1 to 256 workers. Refused only if no memory is left.
+#[tactic(auto, using(lc_code::proofs::CoordinateSteps::small_size))]
 pub fn count_words<R: Threads + Sync>(
     rt: &R,
     alloc: Global,
@@ -25,21 +26,37 @@ pub fn count_words<R: Threads + Sync>(
     requires workers { (1 ≤ workers) × (workers ≤ 256) }
     ensures is { IfOk result (λ a. a.items ≡ distribution_of code.now) }
 {
-    if code.dimension() == 0 {
-        return zero_word_alone(alloc, code);
-    }
-    let rooms = count_rooms(rt, alloc, code, workers)?;
+    let q = code.field().size();
+    let rooms = if q == 2 {
+        rooms_by_length::<R, 1>(rt, alloc, code, workers)?
+    } else if q <= 4 {
+        rooms_by_length::<R, 2>(rt, alloc, code, workers)?
+    } else {
+        rooms_by_length::<R, 4>(rt, alloc, code, workers)?
+    };
     numbers(alloc, code, rooms.as_slice())
 }
 
-// The weight distribution of a code of dimension 0.
-#[tactic(auto, using(crate::proofs::RoomLaws::zero_word_laws))]
-fn zero_word_alone(alloc: Global, code: &Code) -> Result<Vec<u64>, NoMemory>
-    requires none { length code.now.rows ≡ 0 }
-    ensures is { IfOk result (λ a. a.items ≡ distribution_of code.now) }
+// The rooms of so many workers, who have counted the words of a code, as bits of so many parts as its length needs.
+fn rooms_by_length<R: Threads + Sync, const P: usize>(
+    rt: &R,
+    alloc: Global,
+    code: &Code,
+    workers: u32,
+) -> Result<Vec<CountRoom>, NoMemory>
+    requires planes { (size code.now.field ≤ 2 ^ P) × (P ≤ 4) }
+    requires small { size code.now.field ^ length code.now.rows ≤ 2 ^ 24 }
+    requires workers { (1 ≤ workers) × (workers ≤ 256) }
+    ensures counted { IfOk result (λ rooms. AreCounts code.now rooms.items) }
 {
-    let rooms = Vec::new(alloc);
-    numbers(alloc, code, rooms.as_slice())
+    let n = code.length();
+    if n <= 64 {
+        return count_rooms::<R, P, 1>(rt, alloc, code, workers);
+    }
+    if n <= 128 {
+        return count_rooms::<R, P, 2>(rt, alloc, code, workers);
+    }
+    count_rooms::<R, P, 4>(rt, alloc, code, workers)
 }
 
 // The weight distribution of a code whose words have been counted in these rooms.
@@ -57,8 +74,7 @@ fn numbers(alloc: Global, code: &Code, rooms: &[CountRoom]) -> Result<Vec<u64>, 
     Ok(found)
 }
 
-// How many words of weight j a code has whose words have been counted in these rooms: each word there counts once for each
-// of its nonzero multiples, and the zero word isn't there.
+// How many words of weight j a code has whose words have been counted in these rooms.
 #[tactic(auto, using(crate::proofs::RoomLaws::counted_few, crate::proofs::RoomLaws::weights_there))]
 fn number_of(code: &Code, rooms: &[CountRoom], j: usize) -> u64
     requires small { size code.now.field ^ length code.now.rows ≤ 2 ^ 24 }
@@ -66,12 +82,7 @@ fn number_of(code: &Code, rooms: &[CountRoom], j: usize) -> u64
     requires weight { j ≤ code.now.columns }
     ensures is { result ≡ count_of_weight code.now.field code.now.columns code.now.rows j }
 {
-    let q = u64::from(code.field().size());
-    let number = (q - 1) * sum_of(rooms, j);
-    if j == 0 {
-        return number + 1;
-    }
-    number
+    sum_of(rooms, j)
 }
 
 // How many words of weight j have been counted in these rooms.

@@ -1,85 +1,125 @@
 //! The rooms of the workers that count the words of a code.
-ghost use Rattle.std.specs.Prelude.{◌≡◌, ℕ, ◌+◌, ◌^◌, ◌<◌, ◌≤◌, length, All, slice_index, sum_by, IfOk};
+ghost use Rattle.std.specs.Prelude.{◌≡◌, ℕ, ◌-◌, ◌*◌, ◌^◌, ◌≤◌, length, take, drop, map, All, sum_by, IfOk};
 ghost use Rattle.lc_algebra.specs.Field.{size};
+ghost use Rattle.lc_algebra.specs.Span.{words};
 ghost use Rattle.lc_enumeration.specs.Message.{numbers_from};
-ghost use Rattle.lc_enumeration.specs.Plan.{total};
-ghost use Rattle.lc_kernel.specs.Kernel.{IsPlanOf};
+ghost use Rattle.lc_kernel.specs.Grid.{negative};
+ghost use Rattle.lc_weights.specs.Packing.{ArePacked};
 ghost use Rattle.lc_weights.specs.Counts.{block_count, words_counted, IsRoomOf, AreCounts};
 
-use crate::blocks::{CountBlocks, CountRoom, first_room};
+use crate::blocks::{CountBlocks, CountRoom};
+use crate::packing::{pack_negatives, pack_words};
+use crate::words::words_of;
 use lc_code::Code;
 use lc_crew::run_round;
 use lc_field::NoMemory;
-use lc_infoset::Sets;
 use lc_io::OpenGate;
-use lc_place::Plan;
 use std::alloc::Global;
 use std::thread::Threads;
 
-/// The rooms of so many workers, who have counted the words of a code of dimension at least 1.
+/// The rooms of so many workers, who have counted the words of a code.
 ///
-/// The code has at most 2^24 words. There are 1 to 256 workers.
-pub(crate) fn count_rooms<R: Threads + Sync>(
+/// The words are given as P planes of N parts, which is enough for the field and the length. The code has at most 2^24
+/// words. There are 1 to 256 workers.
+pub(crate) fn count_rooms<R: Threads + Sync, const P: usize, const N: usize>(
     rt: &R,
     alloc: Global,
     code: &Code,
     workers: u32,
 ) -> Result<Vec<CountRoom>, NoMemory>
-    requires dimension { 0 < length code.now.rows }
+    requires planes { (size code.now.field ≤ 2 ^ P) × (P ≤ 4) }
+    requires parts { (code.now.columns ≤ 64 * N) × (N ≤ 4) }
     requires small { size code.now.field ^ length code.now.rows ≤ 2 ^ 24 }
     requires workers { (1 ≤ workers) × (workers ≤ 256) }
     ensures counted { IfOk result (λ rooms. AreCounts code.now rooms.items) }
 {
     let _matrix = code.matrix();
-    let sets = sets_of(alloc, code)?;
-    let plan = plan_of(alloc, &sets)?;
-    let rooms = run_rooms(rt, alloc, &sets, &plan, workers)?;
+    let split = split_of(code);
+    let heads = heads_of::<P, N>(alloc, code, split)?;
+    let tails = tails_of::<P, N>(alloc, code, split)?;
+    let rooms = run_rooms(rt, alloc, heads.as_slice(), tails.as_slice(), workers)?;
     Ok(rooms)
 }
 
-// The information sets of a code of dimension at least 1.
-#[tactic(auto, using(lc_algebra::proofs::ReducedLaws::reduced_independent))]
-fn sets_of(alloc: Global, code: &Code) -> Result<Sets, NoMemory>
-    requires dimension { 0 < length code.now.rows }
-    ensures code { IfOk result (λ s. s ≡ code.now) }
-{
-    let _symbol = code.field();
-    let _long = code.length();
-    Sets::build(alloc, code.matrix())
-}
-
-// The plan that goes through the first set alone.
+// How many of the first rows of a code make up heads: the others, which make up tails, have at most 4,096 words.
 #[tactic(auto, using(lc_code::proofs::CoordinateSteps::small_size))]
-fn plan_of(alloc: Global, sets: &Sets) -> Result<Plan, NoMemory>
-    ensures plan { IfOk result (λ p. IsPlanOf p sets.now) }
-    ensures one { IfOk result (λ p. p.m ≡ 1) }
+fn split_of(code: &Code) -> usize
+    ensures most { result ≤ length code.now.rows }
+    ensures few { size code.now.field ^ (length code.now.rows - result) ≤ 4096 }
 {
-    let _long = sets.length();
-    let _some = sets.count();
-    let Ok(plan) = Plan::build(alloc, sets.dimension(), sets.field().size() as u64, 1) else {
-        return Err(NoMemory);
-    };
-    Ok(plan)
+    let k = code.dimension();
+    k - tail_rows(code.field().size() as u64, k)
 }
 
-// The rooms of so many workers, who have done the blocks of a plan of the first set.
-fn run_rooms<R: Threads + Sync>(
+// As many of k rows over q elements as have at most 4,096 words.
+fn tail_rows(q: u64, k: usize) -> usize
+    requires elements { (2 ≤ q) × (q ≤ 16) }
+    ensures most { result ≤ k }
+    ensures few { q ^ result ≤ 4096 }
+{
+    let mut words = 1;
+    let mut rows = 0;
+    while rows < k && words * q <= 4096 {
+        words *= q;
+        rows += 1;
+    }
+    rows
+}
+
+// The heads as bits: the words of the first `split` rows.
+fn heads_of<const P: usize, const N: usize>(
+    alloc: Global,
+    code: &Code,
+    split: usize,
+) -> Result<Vec<[[u64; P]; N]>, NoMemory>
+    requires planes { P ≤ 4 }
+    requires parts { N ≤ 4 }
+    requires split { split ≤ length code.now.rows }
+    ensures are { IfOk result (λ hs. ArePacked P N (words code.now.field code.now.columns (take split code.now.rows)) hs.items) }
+{
+    let list = words_of(alloc, code, 0, split)?;
+    let heads = pack_words(alloc, list.as_slice())?;
+    Ok(heads)
+}
+
+// The negatives of the tails as bits: the tails are the words of the rows from `split` on.
+fn tails_of<const P: usize, const N: usize>(
+    alloc: Global,
+    code: &Code,
+    split: usize,
+) -> Result<Vec<[[u64; P]; N]>, NoMemory>
+    requires planes { P ≤ 4 }
+    requires parts { N ≤ 4 }
+    requires split { split ≤ length code.now.rows }
+    ensures are { IfOk result (λ ts. ArePacked P N (map (negative code.now.field) (words code.now.field code.now.columns (drop split code.now.rows))) ts.items) }
+{
+    let _matrix = code.matrix();
+    let list = words_of(alloc, code, split, code.dimension())?;
+    let tails = pack_negatives(alloc, code.field(), list.as_slice())?;
+    Ok(tails)
+}
+
+// The rooms of so many workers, who have done all blocks of some heads and tails.
+fn run_rooms<R: Threads + Sync, const P: usize, const N: usize>(
     rt: &R,
     alloc: Global,
-    sets: &Sets,
-    plan: &Plan,
+    heads: &[[[u64; P]; N]],
+    tails: &[[[u64; P]; N]],
     workers: u32,
 ) -> Result<Vec<CountRoom>, NoMemory>
-    requires plan { IsPlanOf plan.now sets.now }
-    requires one { plan.now.m ≡ 1 }
     requires workers { (1 ≤ workers) × (workers ≤ 256) }
-    ensures rooms { IfOk result (λ rooms. All (IsRoomOf sets.now plan.now) rooms.items) }
-    ensures sums { IfOk result (λ rooms. (j : ℕ) → words_counted j rooms.items ≡ sum_by (block_count sets.now j) (numbers_from 0 (total plan.now.k plan.now.q plan.now.m))) }
+    requires planes { P ≤ 4 }
+    requires parts { N ≤ 4 }
+    requires few { length tails.now ≤ 4096 }
+    requires heads { length heads.now ≤ 2 ^ 40 }
+    ensures rooms { IfOk result (λ rooms. All (IsRoomOf P N (length tails.now)) rooms.items) }
+    ensures sums { IfOk result (λ rooms. (j : ℕ) → words_counted j rooms.items ≡ sum_by (λ b. block_count P N heads.now tails.now b j) (numbers_from 0 (length heads.now))) }
 {
     let mut rooms = Vec::with_capacity(alloc, 1)?;
-    rooms.push(first_room(alloc, sets, plan)?)?;
-    let blocks = CountBlocks { sets, plan };
-    let total = plan.total();
+    let counts = vec![in alloc; 0u64; 64 * N + 1]?;
+    rooms.push(CountRoom { counts })?;
+    let blocks = CountBlocks { heads, tails };
+    let total = heads.len() as u64;
     let Ok(_closed) = run_round(
         rt, alloc, &blocks, 0, total, 0, workers, &mut rooms, &OpenGate,
     ) else {

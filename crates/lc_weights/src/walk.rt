@@ -1,53 +1,50 @@
 //! The words of a block, counted by their weights.
-ghost use Rattle.std.specs.Prelude.{◌≡◌, ℕ, ◌+◌, ◌^◌, ◌<◌, ◌≤◌, ◌==◌, length, slice_index, count_by};
-ghost use Rattle.lc_enumeration.specs.Plan.{total};
-ghost use Rattle.lc_kernel.specs.Kernel.{IsPlanOf};
-ghost use Rattle.lc_weights.specs.Counts.{block_count};
+ghost use Rattle.std.specs.Prelude.{◌≡◌, ℕ, ◌+◌, ◌*◌, ◌^◌, ◌<◌, ◌≤◌, ◌==◌, length, slice_index, count_by};
+ghost use Rattle.lc_weights.specs.Packing.{planes_apart, places_apart};
+ghost use Rattle.lc_weights.specs.Counts.{apart_count};
 
-use lc_infoset::Sets;
-use lc_kernel::{Scratch, weights};
-use lc_place::Plan;
-
-/// Adds the words of a block to counts of words, one for each weight from 0 to the length: count j grows by the number of
-/// words of weight j in the block, at most 4,096.
+/// Adds to each count how many of some words, given as bits, differ from another at so many places as the count's index.
 ///
-/// The plan goes through the first of these sets alone, the block is below its total, the scratch was made for these
-/// sets, and `words` has 4,096 entries, which are lost. No count is above 2^53. It takes no memory.
-pub(crate) fn count_block(
-    sets: &Sets,
-    plan: &Plan,
-    block: u64,
-    scratch: &mut Scratch,
-    words: &mut [u32],
+/// There are at most 4,096 words and a count for each number of places. No count is above 2^53. It takes no memory.
+pub(crate) fn tally<const P: usize, const N: usize>(
+    head: &[[u64; P]; N],
+    tails: &[[[u64; P]; N]],
     counts: &mut [u64],
 )
-    requires plan { IsPlanOf plan.now sets.now }
-    requires one { plan.now.m ≡ 1 }
-    requires block { block < total plan.now.k plan.now.q plan.now.m }
-    requires scratch { scratch.old ≡ sets.now }
-    requires room { length words.old ≡ 4096 }
-    requires long { length counts.old ≡ sets.now.columns + 1 }
+    requires parts { N ≤ 4 }
+    requires few { length tails.now ≤ 4096 }
+    requires long { length counts.old ≡ 64 * N + 1 }
     requires low { (j : ℕ) → slice_index counts.old j ≤ 2 ^ 53 }
-    ensures scratch { scratch.new ≡ scratch.old }
-    ensures room { length words.new ≡ length words.old }
     ensures long { length counts.new ≡ length counts.old }
-    ensures added { (j : ℕ) → slice_index counts.new j ≡ slice_index counts.old j + block_count sets.now j block }
-    ensures few { (j : ℕ) → block_count sets.now j block ≤ 4096 }
+    ensures added { (j : ℕ) → slice_index counts.new j ≡ slice_index counts.old j + apart_count P N head.now tails.now j }
 {
-    let _phase = plan.phase_of(block);
-    let many = weights(sets, plan, block, scratch, words);
-    tally(&words[..many], counts);
+    for i in 0..tails.len() {
+        counts[places_apart(head, &tails[i])] += 1;
+    }
 }
 
-// Adds to each count how many of some weights are its index.
-fn tally(weights: &[u32], counts: &mut [u64])
-    requires inside { (i : ℕ) → i < length weights.now → slice_index weights.now i < length counts.old }
-    requires few { length weights.now ≤ 4096 }
-    requires low { (j : ℕ) → slice_index counts.old j ≤ 2 ^ 53 }
-    ensures long { length counts.new ≡ length counts.old }
-    ensures added { (j : ℕ) → slice_index counts.new j ≡ slice_index counts.old j + count_by (λ w. w == j) weights.now }
+// At how many places two words, given as bits, differ.
+#[inline]
+fn places_apart<const P: usize, const N: usize>(head: &[[u64; P]; N], tail: &[[u64; P]; N]) -> usize
+    requires parts { N ≤ 4 }
+    ensures is { result ≡ places_apart P N head.now tail.now }
+    ensures most { result ≤ 64 * N }
 {
-    for i in 0..weights.len() {
-        counts[weights[i] as usize] += 1;
+    let mut places = 0;
+    for i in 0..N {
+        places += bits_apart(&head[i], &tail[i]).count_ones() as usize;
     }
+    places
+}
+
+// The bits at which one of the planes of two parts differs.
+#[inline]
+fn bits_apart<const P: usize>(head: &[u64; P], tail: &[u64; P]) -> u64
+    ensures is { result ≡ planes_apart P head.now tail.now }
+{
+    let mut bits = 0;
+    for p in 0..P {
+        bits = (head[p] ^ tail[p]) | bits;
+    }
+    bits
 }

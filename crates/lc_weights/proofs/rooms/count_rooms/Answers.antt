@@ -1,7 +1,20 @@
-use Rattle.lc_weights.proofs.RoomLaws.{rooms_of_code}
+use Rattle.std.proofs.Common.{◌*◌, ◌^◌, ◌<◌, ◌≤◌, length, ap, arith}
+use Rattle.lc_weights.proofs.RoomLaws.{array_small, heads_few, tails_few, rooms_counted}
 use Rattle.lc_weights.proofs.rooms.count_rooms.Goals as goal
 
+pub run_rooms-requires-after_bounds : goal.run_rooms-requires-after_bounds
+run_rooms-requires-after_bounds g c κs within =
+    let C = c.args.code.now in
+    let P = g.row.P in
+    let N = g.row.N in
+    let planes : P * 8 < 2 ^ 63 = omega (arith, c.requires.planes.1) in
+    let tails : length c.as_slice-2.result.now ≤ 4096 = omega (arith, ap length c.as_slice-2.ensures.value, tails_few C.field P N C.columns c.split_of-split.result C.rows c.in_ok-tails.tails.items c.in_ok-tails.ensures.are c.split_of-split.ensures.few) in
+    let heads : length c.as_slice.result.now ≤ 2 ^ 40 = omega (arith, ap length c.as_slice.ensures.value, heads_few C.field P N C.columns c.split_of-split.result C.rows c.in_ok-heads.heads.items c.in_ok-heads.ensures.are c.split_of-split.ensures.most c.requires.small) in
+    (array_small P N c.requires.planes.1 c.requires.parts.1, (planes, (c.requires.workers, (c.requires.planes.1, (c.requires.parts.1, (tails, heads))))))
+
 pub returns : goal.returns
-returns g c = record {
-  counted = rooms_of_code c.args.code.now c.in_ok-sets.sets c.in_ok-plan.plan c.in_ok-rooms.rooms.items c.in_ok-sets.ensures.code c.matrix-matrix.ensures.rows c.matrix-matrix.ensures.reduced c.requires.small c.in_ok-plan.ensures.plan c.in_ok-plan.ensures.one c.in_ok-rooms.ensures.rooms c.in_ok-rooms.ensures.sums;
-}
+returns g c =
+    let C = c.args.code.now in
+    record {
+      counted = rooms_counted C g.row.P g.row.N c.split_of-split.result c.in_ok-heads.heads.items c.in_ok-tails.tails.items c.as_slice.result.now c.as_slice-2.result.now c.in_ok-rooms.rooms.items c.matrix-matrix.ensures.rows c.requires.planes.0 c.requires.parts.0 c.as_slice.ensures.value c.as_slice-2.ensures.value c.in_ok-heads.ensures.are c.in_ok-tails.ensures.are c.in_ok-rooms.ensures.rooms c.in_ok-rooms.ensures.sums;
+    }

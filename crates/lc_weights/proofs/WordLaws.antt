@@ -1,0 +1,97 @@
+-- Lists of the words of some rows.
+--   sums_none, sums_more, sums_all       the sums of a multiple of a row and some words
+--   multiples_none, multiples_more       those of each multiple
+--   words_between f n rows i to          the words of the rows from place i up to the one before `to`
+--   rows_none, rows_more                 none of these rows, and one row more
+--   words_are_words, between_are_words, between_are_rows      they are words
+--   words_apart                          the sums of a word of some rows and one of others are the words of all these rows
+use Rattle.std.proofs.Common.{◌≡◌, ℕ, suc, ◌+◌, ◌-◌, ◌<◌, ◌≤◌, List, [], ◌∷◌, ◌++◌, length, map, flat_map, take, drop, sum_by, slice_index_or, refl, sym, ap, ap₂, ◌∙◌, arith, rules}
+use Rattle.std.proofs.Math.Seq.{drop-cons}
+use Rattle.std.proofs.lemmas.Grind.{flat_map-append}
+use Rattle.std.proofs.lemmas.List.{append_assoc, map_more, take_all}
+use Rattle.std.proofs.lemmas.List.Elements.{All-from_get_or, All-take, All-drop, Contains-get_or}
+use Rattle.std.proofs.lemmas.List.Sums.{sum_by-cons}
+use Rattle.lc_algebra.specs.declared.FieldName.{FieldName}
+use Rattle.lc_algebra.specs.Field.{size}
+use Rattle.lc_algebra.specs.Word.{IsWord, zero_word, word_sum, scale}
+use Rattle.lc_algebra.specs.Matrix.{AreRows}
+use Rattle.lc_algebra.specs.Span.{below, words}
+use Rattle.lc_algebra.proofs.WordLaws.{sum_comm, sum_assoc, zero_sum}
+use Rattle.lc_algebra.proofs.SpanLaws.{span_word, word_of_member}
+use Rattle.lc_macwilliams.proofs.CountLaws.{sum_same, sum_map, sum_flat_map}
+
+abbrev sums_of : FieldName → ℕ → List ℕ → List (List ℕ) → List (List ℕ)
+sums_of f c row ws = map (word_sum f (scale f c row)) ws
+
+abbrev multiples_of : FieldName → List ℕ → List (List ℕ) → ℕ → List (List ℕ)
+multiples_of f row ws n = flat_map (λ c. sums_of f c row ws) (below n)
+
+pub sums_none : (f : FieldName) (c : ℕ) (row : List ℕ) (ws before : List (List ℕ)) → before ≡ before ++ sums_of f c row (take 0 ws)
+sums_none f c row ws before = search rules
+
+pub sums_more : (f : FieldName) (c i : ℕ) (row sum : List ℕ) (ws before now after : List (List ℕ)) → i < length ws → now ≡ before ++ sums_of f c row (take i ws) → sum ≡ word_sum f (slice_index_or ws i []) (scale f c row) → after ≡ now ++ sum ∷ [] → after ≡ before ++ sums_of f c row (take (i + 1) ws)
+sums_more f c i row sum ws before now after l e s push =
+    let turned : sum ≡ word_sum f (scale f c row) (slice_index_or ws i []) = s ∙ sum_comm f (slice_index_or ws i []) (scale f c row) in
+    push ∙ ap₂ (λ x y. x ++ y ∷ []) e turned ∙ append_assoc before (sums_of f c row (take i ws)) (word_sum f (scale f c row) (slice_index_or ws i []) ∷ [])
+    ∙ ap (λ x. before ++ x) (sym (map_more (word_sum f (scale f c row)) ws i [] l))
+
+pub sums_all : (f : FieldName) (c i : ℕ) (row : List ℕ) (ws before after : List (List ℕ)) → length ws ≤ i → after ≡ before ++ sums_of f c row (take i ws) → after ≡ before ++ sums_of f c row ws
+sums_all f c i row ws before after l e = e ∙ ap (λ x. before ++ sums_of f c row x) (take_all i ws l)
+
+pub multiples_none : (f : FieldName) (row : List ℕ) (ws : List (List ℕ)) → [] ≡ multiples_of f row ws 0
+unfolding below
+multiples_none f row ws = refl
+
+pub multiples_more : (f : FieldName) (c : ℕ) (row : List ℕ) (ws now after : List (List ℕ)) → now ≡ multiples_of f row ws c → after ≡ now ++ sums_of f c row ws → after ≡ multiples_of f row ws (c + 1)
+unfolding below
+multiples_more f c row ws now after e s =
+    let next : c + 1 ≡ suc c = omega arith in
+    let g = λ (c : ℕ). sums_of f c row ws in
+    let one : flat_map g (c ∷ []) ≡ g c = search rules in
+    s ∙ ap₂ (λ x y. x ++ y) e (sym one) ∙ sym (flat_map-append g (below c) (c ∷ [])) ∙ ap (multiples_of f row ws) (sym next)
+
+-- the words of the rows from place i up to the one before `to`
+abbrev pub words_between : FieldName → ℕ → List (List ℕ) → ℕ → ℕ → List (List ℕ)
+words_between f n rows i to = words f n (take (to - i) (drop i rows))
+
+pub rows_none : (f : FieldName) (n to : ℕ) (rows before now : List (List ℕ)) (zero : List ℕ) → before ≡ [] → zero ≡ zero_word n → now ≡ before ++ zero ∷ [] → now ≡ words_between f n rows to to
+unfolding words
+rows_none f n to rows before now zero b z e =
+    let none : to - to ≡ 0 = omega arith in
+    e ∙ ap₂ (λ x y. x ++ y ∷ []) b z ∙ ap (λ m. words f n (take m (drop to rows))) (sym none)
+
+pub rows_more : (f g : FieldName) (n i to : ℕ) (row : List ℕ) (rows now ws after : List (List ℕ)) → 0 < i → i ≤ to → to ≤ length rows → g ≡ f → row ≡ slice_index_or rows (i - 1) [] → ws ≡ now → now ≡ words_between f n rows i to → after ≡ multiples_of g row ws (size g) → after ≡ words_between f n rows (i - 1) to
+unfolding words
+rows_more f g n i to row rows now ws after some l inside same is shown e s =
+    let m = to - i in
+    let long : to - (i - 1) ≡ suc m = omega (arith, l, some) in
+    let next : suc (i - 1) ≡ i = omega (arith, some) in
+    let r = slice_index_or rows (i - 1) [] in
+    let cut : take (to - (i - 1)) (drop (i - 1) rows) ≡ r ∷ take m (drop i rows) = ap₂ (λ k xs. take k xs) long (drop-cons rows (i - 1) [] (omega (arith, l, some, inside))) ∙ ap (λ k. r ∷ take m (drop k rows)) next in
+    s ∙ rw (same, is, shown) (ap (λ ws. multiples_of f r ws (size f)) e) ∙ sym (ap (words f n) cut)
+
+pub words_are_words : (f : FieldName) (n : ℕ) (rows : List (List ℕ)) → AreRows f n rows → AreRows f n (words f n rows)
+words_are_words f n rows r = All-from_get_or (IsWord f n) (words f n rows) [] (λ i l. span_word f n rows (slice_index_or (words f n rows) i []) r (word_of_member f n rows (slice_index_or (words f n rows) i []) (Contains-get_or (words f n rows) i [] l)))
+
+pub between_are_words : (f : FieldName) (n i to : ℕ) (rows : List (List ℕ)) → AreRows f n rows → AreRows f n (words_between f n rows i to)
+between_are_words f n i to rows r = words_are_words f n (take (to - i) (drop i rows)) (All-take (IsWord f n) (to - i) (drop i rows) (All-drop (IsWord f n) i rows r))
+
+pub between_are_rows : (f g : FieldName) (n i to : ℕ) (row : List ℕ) (rows now ws : List (List ℕ)) → AreRows f n rows → g ≡ f → length row ≡ n → ws ≡ now → now ≡ words_between f n rows i to → AreRows g (length row) ws
+between_are_rows f g n i to row rows now ws r same long shown e = rw (same, long, shown, e) (between_are_words f n i to rows r)
+
+pub words_apart : (f : FieldName) (n : ℕ) (g : List ℕ → ℕ) (xs ys : List (List ℕ)) → AreRows f n ys → sum_by g (words f n (xs ++ ys)) ≡ sum_by (λ u. sum_by (λ v. g (word_sum f u v)) (words f n ys)) (words f n xs)
+unfolding words
+words_apart f n g [] ys r =
+    let each = sum_same g (λ v. g (word_sum f (zero_word n) v)) (words f n ys) (λ v c. ap g (sym (zero_sum f n v (span_word f n ys v r (word_of_member f n ys v c))))) in
+    let one = sum_by-cons (λ u. sum_by (λ v. g (word_sum f u v)) (words f n ys)) (zero_word n) [] in
+    omega (arith, each, one)
+words_apart f n g (x ∷ xs) ys r =
+    let h = λ (c : ℕ) (v : List ℕ). word_sum f (scale f c x) v in
+    let inner = λ (u : List ℕ). sum_by (λ v. g (word_sum f u v)) (words f n ys) in
+    sum_flat_map g (λ c. map (h c) (words f n (xs ++ ys))) (below (size f))
+    ∙ sum_same (λ c. sum_by g (map (h c) (words f n (xs ++ ys)))) (λ c. sum_by inner (map (h c) (words f n xs))) (below (size f)) (λ c _.
+    sum_map g (h c) (words f n (xs ++ ys)) ∙ words_apart f n (λ w. g (h c w)) xs ys r
+    ∙ sum_same (λ u. sum_by (λ v. g (h c (word_sum f u v))) (words f n ys)) (λ u. inner (h c u)) (words f n xs) (λ u _.
+    sum_same (λ v. g (h c (word_sum f u v))) (λ v. g (word_sum f (h c u) v)) (words f n ys) (λ v _. ap g (sym (sum_assoc f (scale f c x) u v))))
+    ∙ sym (sum_map inner (h c) (words f n xs)))
+    ∙ sym (sum_flat_map inner (λ c. map (h c) (words f n xs)) (below (size f)))
