@@ -8,3 +8,7 @@ pub mod BestLaws
 pub mod BoundLaws
 pub mod AnswerLaws
 pub mod PhaseLaws
+pub mod LedWords
+pub mod LedStarts
+pub mod LedBlocks
+pub mod LedSets

@@ -6,9 +6,9 @@
 --   first_value                the value of the best word before it
 --   place_of_value             the place of a value
 --   best_light                 the best distance is small
---   fresh_rooms, rooms_kept    rooms for a code fit the blocks of its phases, and count nothing
+--   fresh_desks, desks_kept    what the workers of a search have fits the blocks of its phases, and counts nothing
 use Rattle.std.proofs.Common.{◌≡◌, ℕ, zero, suc, ◌+◌, ◌*◌, ◌%◌, ◌^◌, ◌<◌, ◌≤◌, min, cond, Bool, true, false, List, [], ◌∷◌, ◌++◌, length, map, option_map, unwrap_or, refl, sym, ap, subst, ◌∙◌, arith}
-use Rattle.std.specs.Prelude.{All}
+use Rattle.std.specs.Prelude.{All, Option, IfSome}
 use Rattle.std.proofs.lemmas.Bool.Decides.{nat_tests}
 use Rattle.std.proofs.lemmas.List.{length-map}
 use Rattle.std.proofs.lemmas.List.Elements.{All-head, All-tail, All-weaker}
@@ -30,8 +30,10 @@ use Rattle.lc_coset_laws.proofs.PhaseLaws.{blocks_next, level_blocks_are}
 use Rattle.lc_coset_laws.proofs.NearBest.{near_after, near_best_word}
 use Rattle.lc_coset.specs.declared.frame.Frame.{Frame}
 use Rattle.lc_coset.specs.declared.blocks.CosetPhase.{CosetPhase}
-use Rattle.lc_coset.specs.declared.walk.Room.{Room}
-use Rattle.lc_coset.specs.Near.{IsRoomOf, near_value}
+use Rattle.lc_coset.specs.declared.blocks.Desk.{Desk}
+use Rattle.lc_coset.specs.declared.led.Led.{Led}
+use Rattle.lc_coset.specs.Near.{near_value}
+use Rattle.lc_coset.specs.Led.{IsLed, IsDeskOf}
 use Rattle.lc_coset.specs.declared.best.Best.{Best}
 use Rattle.lc_coset.specs.Phase.{IsFrame, IsPhaseOf, IsFitting, IsBestAt}
 use Rattle.lc_coset.proofs.BlockLaws.{block_size}
@@ -176,11 +178,11 @@ best_light fr l t =
     let long : length e ≡ C.columns = length_difference C.field fr.word b.0 (t.given.long ∙ sym (span_word C.field C.columns C.rows b.0 t.rows b.2).long) ∙ t.given.long in
     omega (arith, b.3, weight_at_most_length e, long, t.short)
 
-pub fresh_rooms : (fr : Frame) (ph : CosetPhase) (rooms : List Room) → IsFrame fr → IsPhaseOf fr ph → All (IsRoomOf fr.sets) rooms → All (IsFresh (IsFitting fr ph) (λ s j. 0)) rooms
-fresh_rooms fr ph rooms t h all = All-weaker (IsRoomOf fr.sets) (IsFresh (IsFitting fr ph) (λ s j. 0)) (λ s e. (record { search = t; phase = h; room = e }, λ j. refl)) rooms all
+pub fresh_desks : (fr : Frame) (ph : CosetPhase) (o : Option Led) (desks : List Desk) → IsFrame fr → IsPhaseOf fr ph → IfSome o (IsLed fr.sets fr.word) → All (IsDeskOf fr.sets o) desks → All (IsFresh (IsFitting fr ph o) (λ d j. 0)) desks
+fresh_desks fr ph o desks t h g all = All-weaker (IsDeskOf fr.sets o) (IsFresh (IsFitting fr ph o) (λ d j. 0)) (λ d e. (record { search = t; phase = h; larger = g; desk = e }, λ j. refl)) desks all
 
-pub rooms_kept : (fr : Frame) (ph : CosetPhase) (rooms : List Room) → All (IsFitting fr ph) rooms → All (IsRoomOf fr.sets) rooms
-rooms_kept fr ph rooms all = All-weaker (IsFitting fr ph) (IsRoomOf fr.sets) (λ s h. h.room) rooms all
+pub desks_kept : (fr : Frame) (ph : CosetPhase) (o : Option Led) (desks : List Desk) → All (IsFitting fr ph o) desks → All (IsDeskOf fr.sets o) desks
+desks_kept fr ph o desks all = All-weaker (IsFitting fr ph o) (IsDeskOf fr.sets o) (λ d h. h.desk) desks all
 
 pub first_value : (C : Matrix) (x : List ℕ) (l v : ℕ) (b : Best) → IsBestAt C x l b → v ≡ b.weight * 2 ^ 52 + b.place → (v ≡ board_value (near_best C x l)) × ((near_best C x l).place < 2 ^ 52)
 first_value C x l v b h e = (omega (arith, e, h.distance, h.place_is, board_parts (near_best C x l)), omega (arith, h.near, h.place_is))

@@ -8,6 +8,7 @@
 --   walk_starts, walk_again    the fronts that are there at the beginning, and after a step
 --   room_of_walk               a walk leaves a room
 --   inside_walk                a pattern has at most k places
+--   message_few                patterns are at most as many as the messages of one level and one place more
 --   gone_inside, gone_message  a pattern's number is that of a message of the plan
 --   walk_to, front_fits        a walk in other words, and the word of a front
 --   top_word                   the word of a pattern is one of the code's length
@@ -139,7 +140,7 @@ inside_walk C left j w rank r rows h =
     let e = walk_entries C left j r.spot rows (at_rank_message C left j w rank r h) in
     omega (arith, e.few, h.level, h.walk.many)
 
-message_few : (k q w : ℕ) → pattern_count k q w ≤ message_count (suc k) q (suc w)
+pub message_few : (k q w : ℕ) → pattern_count k q w ≤ message_count (suc k) q (suc w)
 unfolding pattern_count message_count
 message_few k q w =
     let same : suc w - 1 ≡ w = omega arith in

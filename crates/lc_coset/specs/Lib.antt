@@ -1,3 +1,4 @@
 pub mod Near
+pub mod Led
 pub mod Phase
 pub mod Answer

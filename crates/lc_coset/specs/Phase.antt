@@ -4,10 +4,11 @@
 --   IsGiven C x g         the information sets of C, and what the first words leave of x
 --   IsPhaseOf fr ph       the phase of that number, of which some blocks are to be done, none from 2^40 on
 --   IsPlaceOf fr ph place there is a word at the place, in one of these blocks
---   IsFitting fr ph r     besides, a room for the code
+--   IsFitting fr ph o d   besides, the larger code if there is one, and what a worker has
 --   IsBestAt C x l b      the best word after l blocks, with its distance and its place
---   IsStateAt fr l s      the state of a search after l blocks: the best word, and rooms for the code
-use Rattle.std.specs.Prelude.{◌≡◌, ℕ, suc, ◌+◌, ◌*◌, ◌^◌, ◌<◌, ◌≤◌, min, List, length, Some, All}
+--   IsStateAt fr l s      the state of a search after l blocks: the best word, a room for the code, the larger code if it is made, and what the
+--                         workers have
+use Rattle.std.specs.Prelude.{◌≡◌, ℕ, suc, ◌+◌, ◌*◌, ◌^◌, ◌<◌, ◌≤◌, min, List, length, Option, Some, All, IfSome}
 use Rattle.lc_algebra.specs.Field.{size}
 use Rattle.lc_algebra.specs.Word.{IsWord}
 use Rattle.lc_algebra.specs.Span.{AreIndependent}
@@ -18,9 +19,11 @@ use Rattle.lc_coset.specs.declared.frame.Frame.{Frame}
 use Rattle.lc_coset.specs.declared.frame.Given.{Given}
 use Rattle.lc_coset.specs.declared.round.State.{State}
 use Rattle.lc_coset.specs.declared.blocks.CosetPhase.{CosetPhase}
-use Rattle.lc_coset.specs.declared.walk.Room.{Room}
+use Rattle.lc_coset.specs.declared.blocks.Desk.{Desk}
+use Rattle.lc_coset.specs.declared.led.Led.{Led}
 use Rattle.lc_coset.specs.declared.best.Best.{Best}
 use Rattle.lc_coset.specs.Near.{AreLefts, walk_plan, IsRoomOf}
+use Rattle.lc_coset.specs.Led.{IsLed, IsDeskOf}
 
 pub record IsFrame (fr : Frame) : Type 0 where
   pub rows : AreRows fr.sets.field fr.sets.columns fr.sets.rows
@@ -50,10 +53,11 @@ pub record IsPlaceOf (fr : Frame) (ph : CosetPhase) (place : ℕ) : Type 0 where
   pub before : place < (ph.first + ph.blocks) * 4096
   pub word : (w : List ℕ) × (coset_word_at fr.sets fr.word place ≡ Some w)
 
-pub record IsFitting (fr : Frame) (ph : CosetPhase) (r : Room) : Type 0 where
+pub record IsFitting (fr : Frame) (ph : CosetPhase) (o : Option Led) (d : Desk) : Type 0 where
   pub search : IsFrame fr
   pub phase : IsPhaseOf fr ph
-  pub room : IsRoomOf fr.sets r
+  pub larger : IfSome o (IsLed fr.sets fr.word)
+  pub desk : IsDeskOf fr.sets o d
 
 pub record IsBestAt (C : Matrix) (x : List ℕ) (l : ℕ) (b : Best) : Type 0 where
   pub distance : b.weight ≡ (near_best C x l).weight
@@ -66,4 +70,5 @@ pub record IsBestAt (C : Matrix) (x : List ℕ) (l : ℕ) (b : Best) : Type 0 wh
 pub record IsStateAt (fr : Frame) (l : ℕ) (s : State) : Type 0 where
   pub found : IsBestAt fr.sets fr.word l s.best
   pub room : IsRoomOf fr.sets s.own
-  pub rooms : All (IsRoomOf fr.sets) s.spare.items
+  pub larger : IfSome s.led (IsLed fr.sets fr.word)
+  pub desks : All (IsDeskOf fr.sets s.led) s.spare.items

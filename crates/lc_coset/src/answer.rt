@@ -167,6 +167,8 @@ fn state_of(alloc: Global, frame: &Frame, best: Best) -> Result<State, NoMemory>
         best,
         own,
         spare: Vec::new(alloc),
+        led: None,
+        tried: false,
     })
 }
 

@@ -12,6 +12,7 @@ mod best;
 mod blocks;
 mod bound;
 mod frame;
+mod led;
 mod round;
 mod walk;
 
