@@ -56,7 +56,7 @@ fn not_attained(
     })
 }
 
-// The certificate that a form proves its distance, which the word attains.
+// The certificate by the form that the distance is r + 1, which is the weight of the word.
 #[tactic(auto, unfolding(crate::proofs::Opened::certificates_of_forms))]
 fn certificate_of(
     alloc: Global,
