@@ -19,6 +19,8 @@ mod leaders;
 #[cfg(test)]
 mod matrices;
 #[cfg(test)]
+mod planes;
+#[cfg(test)]
 mod polynomials;
 #[cfg(test)]
 mod shapes;
