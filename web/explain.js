@@ -283,17 +283,26 @@ function faultOf(text) {
   return found ? new Fault(Number(found[1]), Number(found[2]), (found[3] ?? '').split(' ').filter(Boolean).map(Number)) : null;
 }
 
+// a sentence on a fault, or none if it can't be explained
+function detailOf(script, fault, ask) {
+  const { statements, fault: ofReader, allowed } = readScript(script);
+  try {
+    return ofReader ? ofReading(script, fault, allowed) : ofStatements(statements, fault, ask);
+  } catch {
+    return '';
+  }
+}
+
 // The explanation of a fault: line and column from 1, the meaning of its number, the source of the line, and a sentence, perhaps empty.
 function explanationOf(script, fault, ask) {
   const start = script.lastIndexOf('\n', fault.place - 1) + 1;
   const stop = script.indexOf('\n', fault.place);
-  const { statements, fault: ofReader, allowed } = readScript(script);
   return {
     row: script.slice(0, fault.place).split('\n').length,
     column: [...readable(script.slice(fault.place ? start : 0, fault.place))].length + 1,
     source: readable(script.slice(fault.place ? start : 0, stop < 0 ? script.length : stop)),
     meaning: TEXTS.meanings[fault.number],
-    detail: ofReader ? ofReading(script, fault, allowed) : ofStatements(statements, fault, ask),
+    detail: detailOf(script, fault, ask),
   };
 }
 
