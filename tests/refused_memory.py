@@ -66,6 +66,9 @@ AlternantCertificate(BCHCode(15, 5, GF(2)), [1,0,0,1,0,0,1,0,0,1,0,0,1,0,0]); Al
     "weight distributions": b"""
 WeightDistribution(HammingCode(3, GF(2))); WeightDistribution(NullCode(4, GF(2))); WeightDistribution(HammingCode(5, GF(2)));
 """,
+    "nearest words": b"""
+NearestWord(HammingCode(3, GF(2)), [1,1,0,0,0,1,1]); NearestWord(NullCode(2, GF(3)), [2,1]); NearestWord(TernaryGolayCode(), [1,2,0,0,0,0,0,0,0,0,1]);
+""",
     "a code with too many words": b"WeightDistribution(WholeSpaceCode(64, GF(2)));",
     "a word of another weight": b"AlternantCertificate(ReedSolomonCode(4, 3), [1,1,1,1]);",
     "a fault with numbers": b"""

@@ -258,7 +258,7 @@ def divisors_told(length, size):
 
 COMBINED = ("ExtendedCode", "PuncturedCode", "ShortenedCode", "EvenWeightSubcode", "DirectSumCode", "UUVCode",
             "DirectProductCode", "IntersectionCode", "ConcatenatedCode")
-OF_WORDS = ("IsCodeword", "Decode", "AlgebraicDecode", "AlternantCertificate")
+OF_WORDS = ("IsCodeword", "Decode", "AlgebraicDecode", "AlternantCertificate", "NearestWord")
 BY_LISTS = ("GeneratorPolCode", "CheckPolCode", "GoppaCode", "AlternantCode")
 
 

@@ -15,4 +15,5 @@ pub mod CyclicCalls
 pub mod MisfitLaws
 pub mod StockLaws
 pub mod DecodeLaws
+pub mod NearLaws
 pub mod Opened

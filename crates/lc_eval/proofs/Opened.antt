@@ -2,6 +2,7 @@
 --   refusals_of_calls      a refusal as the outcome of a call
 --   lines_of_values        the line of a value, a decoder's answer among them
 --   certificates_of_forms  the certificate by construction of a form, and what the program's own stands for
+--   lines_of_nearest_words      the line of a nearest word
 --   bound_calls, bound_queries      the forms of calls, and what they make of values
 use Rattle.std.specs.Prelude.{⊤}
 use Rattle.lc_formats.specs.Claim.{form_certificate}
@@ -11,6 +12,8 @@ use Rattle.lc_language.specs.Refusal.{refusal_from, refuse}
 use Rattle.lc_language.specs.Evaluation.{refuse_call}
 use Rattle.lc_language.specs.Meaning.{decoded}
 use Rattle.lc_language.specs.Print.{value_line, value_text}
+use Rattle.lc_formats.specs.Text.{line}
+use Rattle.lc_language.specs.Query.{near_text}
 
 unfoldable pub refusals_of_calls : ⊤
 unfolding refusal_from refuse refuse_call
@@ -23,6 +26,10 @@ lines_of_values = tt
 unfoldable pub certificates_of_forms : ⊤
 unfolding claim_of built_of form_certificate
 certificates_of_forms = tt
+
+unfoldable pub lines_of_nearest_words : ⊤
+unfolding line near_text
+lines_of_nearest_words = tt
 
 unfoldable pub bound_calls : ⊤
 unfolding value_forms bind

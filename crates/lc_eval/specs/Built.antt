@@ -25,13 +25,14 @@ query_call_of q.Certificate = query.Certificate
 query_call_of q.ScanCertificate = query.ScanCertificate
 query_call_of q.WeightDistribution = query.WeightDistribution
 query_call_of q.AlternantCertificate = query.AlternantCertificate
+query_call_of q.NearestWord = query.NearestWord
 
 abbrev pub call_of : Call → language.Call
 call_of (call.Value c) = Value c
 call_of (call.Query c) = Query (query_call_of c)
 
 unfoldable pub built_calls : List language.Call
-built_calls = map Value value_calls ++ Query query.AlgebraicDecode ∷ Query query.LeastWord ∷ Query query.MinimumDistance ∷ Query query.Certificate ∷ Query query.ScanCertificate ∷ Query query.WeightDistribution ∷ Query query.AlternantCertificate ∷ []
+built_calls = map Value value_calls ++ Query query.AlgebraicDecode ∷ Query query.LeastWord ∷ Query query.MinimumDistance ∷ Query query.Certificate ∷ Query query.ScanCertificate ∷ Query query.WeightDistribution ∷ Query query.AlternantCertificate ∷ Query query.NearestWord ∷ []
 
 abbrev pub forms_of : Row → List (List Kind)
 forms_of row = map (λ kinds. kinds.now) row.forms.now

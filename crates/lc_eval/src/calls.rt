@@ -37,6 +37,7 @@ pub(crate) enum QueryCall {
     ScanCertificate,
     WeightDistribution,
     AlternantCertificate,
+    NearestWord,
 }
 
 /// The calls.
@@ -109,6 +110,7 @@ static TABLE: &[Row] = &rows! {
     Call::Query(QueryCall::ScanCertificate) => "ScanCertificate" [Code];
     Call::Query(QueryCall::WeightDistribution) => "WeightDistribution" [Code];
     Call::Query(QueryCall::AlternantCertificate) => "AlternantCertificate" [Code, Numbers];
+    Call::Query(QueryCall::NearestWord) => "NearestWord" [Code, Numbers];
 };
 
 // The rows of all built calls.
@@ -253,6 +255,7 @@ pub(crate) enum BoundQuery<'a> {
     ScanCertificate(&'a Code),
     WeightDistribution(&'a Code),
     AlternantCertificate(&'a CodeValue, &'a [u64]),
+    NearestWord(&'a Code, &'a [u64]),
 }
 
 impl Asks for BoundQuery<'_> {
@@ -266,6 +269,7 @@ impl Asks for BoundQuery<'_> {
       | BoundQuery.ScanCertificate C ↦ language.scan_certificate C.now
       | BoundQuery.WeightDistribution C ↦ language.weight_distribution C.now
       | BoundQuery.AlternantCertificate C x ↦ language.alternant_certificate C.now.code C.now.form x.now
+      | BoundQuery.NearestWord C x ↦ language.nearest_word C.now x.now
     ] };
 }
 
@@ -542,6 +546,10 @@ pub(crate) fn bind_query(call: QueryCall, arguments: &[Value]) -> Option<BoundQu
         QueryCall::AlternantCertificate => {
             let [a, b] = arguments else { return None };
             Some(BoundQuery::AlternantCertificate(a.code()?, b.numbers()?))
+        }
+        QueryCall::NearestWord => {
+            let [a, b] = arguments else { return None };
+            Some(BoundQuery::NearestWord(&a.code()?.code, b.numbers()?))
         }
     }
 }

@@ -15,6 +15,7 @@ mod lists;
 mod machine;
 mod made;
 mod names;
+mod nearest;
 mod queries;
 mod refusals;
 mod rows;
@@ -24,4 +25,5 @@ mod values;
 mod wide;
 
 pub use laws::{misfits_are_arguments, names_after_an_assignment};
+pub use lines::nearest_line;
 pub use machine::{Machine, Query, QueryKind, Step};

@@ -12,6 +12,7 @@ pub mod GroundLaws
 pub mod CertificateLaws
 pub mod StoredLaws
 pub mod CountedLaws
+pub mod NearestLaws
 pub mod PrintedLaws
 pub mod FormLaws
 pub mod CertifiedLaws

@@ -1,4 +1,5 @@
 pub mod Counted
 pub mod Certified
+pub mod Nearest
 pub mod Printed
 pub mod Shapes
