@@ -28,8 +28,9 @@ use Rattle.lc_algebra.specs.Word.{Fits, word_sum}
 use Rattle.lc_algebra.proofs.FieldTests.{below, below_each}
 use Rattle.lc_algebra.proofs.EmbeddingTests.{told_by_size}
 use Rattle.lc_algebra.proofs.WordLaws.{fits_head, fits_tail}
-use Rattle.lc_kernel.specs.Planes.{plane, HasPlanes, IsPlaneSum}
-use Rattle.lc_kernel.proofs.PlaneLaws.{plane_cons, plane_none, plane_sum}
+use Rattle.lc_kernel.specs.Planes.{HasPlanes, IsPlaneSum}
+use Rattle.lc_planes.specs.Planes.{plane}
+use Rattle.lc_planes.proofs.PlaneLaws.{plane_cons, plane_none, plane_sum}
 
 pub data Formula : Type 0 where
   nothing : Formula

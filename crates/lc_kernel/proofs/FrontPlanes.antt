@@ -23,11 +23,13 @@ use Rattle.lc_algebra.proofs.RemainderLaws.{index-zeros}
 use Rattle.lc_enumeration.specs.Message.{messages}
 use Rattle.lc_enumeration.specs.Search.{set_count, generator_at}
 use Rattle.lc_place.specs.Place.{SpotState, spot_message}
-use Rattle.lc_kernel.specs.Packed.{others, part_at}
-use Rattle.lc_kernel.specs.Planes.{plane, plane_at, IsPlaneSum}
+use Rattle.lc_kernel.specs.Packed.{others}
+use Rattle.lc_planes.specs.Planes.{part_at}
+use Rattle.lc_kernel.specs.Planes.{plane_at, IsPlaneSum}
+use Rattle.lc_planes.specs.Planes.{plane}
 use Rattle.lc_kernel.specs.Sums.{front_word}
 use Rattle.lc_kernel.specs.Fronts.{ArePlanes, AreRowPlanes, AreFrontPlanes, IsKept, HasFronts}
-use Rattle.lc_kernel.proofs.PlaneLaws.{plane_none, plane_cons}
+use Rattle.lc_planes.proofs.PlaneLaws.{plane_none, plane_cons}
 use Rattle.lc_kernel.proofs.FrontLaws.{entries_are, generates, front_next, front_first, front_word_fits}
 use Rattle.lc_kernel.proofs.PackLaws.{restrict_fits}
 

@@ -36,7 +36,8 @@ use Rattle.lc_place.proofs.Coefficients.{next_numbers, carried}
 use Rattle.lc_place.proofs.Supports.{next_support}
 use Rattle.lc_place.proofs.Messages.{message_of, next_leading, turned, message_next, to_contains}
 use Rattle.lc_kernel.specs.Planes.{apart, plane_at}
-use Rattle.lc_kernel.specs.Packed.{others, part_at, pair_of}
+use Rattle.lc_kernel.specs.Packed.{others, pair_of}
+use Rattle.lc_planes.specs.Planes.{part_at}
 use Rattle.lc_kernel.specs.Least.{AreCounted}
 use Rattle.lc_kernel.specs.Sums.{front_word}
 use Rattle.lc_kernel.specs.declared.grid.GridPart.{GridPart}

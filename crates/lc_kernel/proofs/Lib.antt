@@ -19,3 +19,4 @@ pub mod WeightLaws
 pub mod BeyondLaws
 pub mod TailCounts
 pub mod GroupLaws
+pub mod PlaneSumLaws

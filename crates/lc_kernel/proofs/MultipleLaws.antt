@@ -3,8 +3,10 @@
 --   index_small, symbol_size       indexes are small
 --   multiple_is                    a multiple, as the code makes it
 --   multiples_made                 the list of all of them
+--   multiple_inside, multiple_read, multiple_word      the multiple at an index of the list
 use Rattle.std.proofs.Common.{◌≡◌, ℕ, ◌+◌, ◌-◌, ◌*◌, ◌/◌, ◌%◌, ◌^◌, ◌<◌, ◌≤◌, List, [], length, slice_index_or, refl, ap, ◌∙◌, arith}
 use Rattle.std.proofs.lemmas.Nat.{div-mul-add, mod-mul-add}
+use Rattle.std.proofs.lemmas.List.{get_or_default}
 use Rattle.std.specs.Prelude.{IsTrue}
 use Rattle.std.proofs.lemmas.Bool.Decides.{nat_tests}
 use Rattle.lc_algebra.specs.declared.FieldName.{FieldName}
@@ -63,3 +65,18 @@ pub multiple_is : (C : Matrix) (index c k q : ℕ) (none row word : List ℕ) �
 multiple_is C index c k q none row word made z ce qe ke re w =
     let is : word ≡ scale C.field c row = made ∙ ap (λ x. word_sum C.field x (scale C.field c row)) z ∙ zero_plus C.field C.columns c row w in
     (is ∙ ap (λ x. scale C.field x row) ce ∙ ap (scale C.field (index % q + 1)) re ∙ rw (qe, ke) refl, rw is (IsWord_scale C.field C.columns c row w.long))
+
+-- a multiple that is read at its place
+pub multiple_inside : (C : Matrix) (ws : List (List ℕ)) (j i c : ℕ) → AreMultiples C ws → j < set_count C → i < length C.rows → 1 ≤ c → c < size C.field → multiple_index C j i (c - 1) < length ws
+multiple_inside C ws j i c h l m some few = h.inside j i (c - 1) l m (omega (arith, some, few))
+
+pub multiple_read : (C : Matrix) (ws : List (List ℕ)) (j i c place : ℕ) (word : List ℕ) → AreMultiples C ws → j < set_count C → i < length C.rows → 1 ≤ c → c < size C.field → place ≡ multiple_index C j i (c - 1) → word ≡ slice_index_or ws place word → word ≡ scale C.field c (slice_index_or (generator_at C j) i [])
+multiple_read C ws j i c place word h l m some few at is =
+    let same : c - 1 + 1 ≡ c = omega (arith, some) in
+    is ∙ ap (λ t. slice_index_or ws t word) at ∙ get_or_default ws (multiple_index C j i (c - 1)) word [] (multiple_inside C ws j i c h l m some few)
+    ∙ h.is j i (c - 1) l m (omega (arith, some, few)) ∙ ap (λ x. scale C.field x (slice_index_or (generator_at C j) i [])) same
+
+pub multiple_word : (C : Matrix) (ws : List (List ℕ)) (j i c place : ℕ) (word : List ℕ) → AreMultiples C ws → j < set_count C → i < length C.rows → 1 ≤ c → c < size C.field → place ≡ multiple_index C j i (c - 1) → word ≡ slice_index_or ws place word → IsWord C.field C.columns word
+multiple_word C ws j i c place word h l m some few at is =
+    let inside = multiple_inside C ws j i c h l m some few in
+    rw (is ∙ ap (λ t. slice_index_or ws t word) at ∙ get_or_default ws (multiple_index C j i (c - 1)) word [] inside) (h.words (multiple_index C j i (c - 1)) inside)

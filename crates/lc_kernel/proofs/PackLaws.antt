@@ -46,7 +46,8 @@ use Rattle.lc_kernel.specs.Sums.{front_word}
 use Rattle.lc_kernel.proofs.FrontLaws.{entries_are, generates, front_first, front_next, front_whole, front_word_fits}
 use Rattle.lc_vec.specs.Packed.{packed}
 use Rattle.lc_vec.proofs.PackLaws.{packed_sum, packed_ones, packed_small, packed_nil, packed_drop, zero_packed}
-use Rattle.lc_kernel.specs.Packed.{outside, others, part_at, bits_at, AreRowBits}
+use Rattle.lc_kernel.specs.Packed.{outside, others, bits_at, AreRowBits}
+use Rattle.lc_planes.specs.Planes.{part_at}
 
 count_split : {X : Type 0} (h p : X → Bool) (xs : List X) → count_by h xs ≡ count_by h (filter p xs) + count_by h (filter (λ x. not (p x)) xs)
 count_split h p [] = refl

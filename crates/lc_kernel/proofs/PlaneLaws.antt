@@ -1,9 +1,6 @@
 -- Words over any field as bits.
---   plane_cons                   a plane, symbol by symbol
 --   ones_apart                   the weight of a sum: where one word differs from the negative of the other
---   plane_sum                    in characteristic 2 a plane of a sum is an exclusive or
 --   block_planes                 the planes of a block of symbols, with zeros after them
---   plane_mask                   a plane of a block of 64 symbols, by vectors
 --   added_next                   counts with one more of them added to
 --   apart_two, apart_three, apart_four      where a word differs from one of some words, by two, three or four planes
 --   by_planes                    the number of symbols at which they differ, by all planes
@@ -27,53 +24,14 @@ use Rattle.lc_algebra.specs.SpanLaws.{restrict}
 use Rattle.lc_algebra.proofs.ColumnLaws.{length_restrict, index_restrict}
 use Rattle.lc_field.proofs.SumLaws.{xor_add}
 use Rattle.lc_vec.specs.Packed.{packed}
-use Rattle.lc_kernel.specs.Planes.{plane, plane_at, apart, bits_apart}
-
-pub plane_cons : (j a : ℕ) (u : List ℕ) → plane j (a ∷ u) ≡ plane j u * 2 + bit_at a j
-unfolding plane packed
-plane_cons j a u = refl
-
--- bits
-two_bits : (x : ℕ) → x < 2 → (x ≡ 0) ⊎ (x ≡ 1)
-two_bits zero l = inl refl
-two_bits (suc zero) l = inr refl
-two_bits (suc (suc x)) l = absurd (omega (arith, l))
-
-record OrBits (x y : ℕ) : Type 0 where
-  small : bit_or x y < 2
-  none : bit_or x y ≡ 0 → (x ≡ 0) × (y ≡ 0)
-
-or_bits : (x y : ℕ) → x < 2 → y < 2 → OrBits x y
-or_bits zero zero l m = record { small = omega arith; none = λ e. (refl, refl) }
-or_bits zero (suc zero) l m = record { small = omega arith; none = λ e. absurd (omega (arith, e)) }
-or_bits (suc zero) zero l m = record { small = omega arith; none = λ e. absurd (omega (arith, e)) }
-or_bits (suc zero) (suc zero) l m = record { small = omega arith; none = λ e. absurd (omega (arith, e)) }
-or_bits zero (suc (suc y)) l m = absurd (omega (arith, m))
-or_bits (suc zero) (suc (suc y)) l m = absurd (omega (arith, m))
-or_bits (suc (suc x)) y l m = absurd (omega (arith, l))
-
-record XorBits (x y : ℕ) : Type 0 where
-  small : bit_xor x y < 2
-  none : bit_xor x y ≡ 0 → x ≡ y
-  same : x ≡ y → bit_xor x y ≡ 0
-  sum : bit_xor x y ≡ (x + y) % 2
-
-xor_bits : (x y : ℕ) → x < 2 → y < 2 → XorBits x y
-xor_bits zero zero l m = record { small = omega arith; none = λ e. refl; same = λ e. refl; sum = refl }
-xor_bits zero (suc zero) l m = record { small = omega arith; none = λ e. absurd (omega (arith, e)); same = λ e. absurd (omega (arith, e)); sum = refl }
-xor_bits (suc zero) zero l m = record { small = omega arith; none = λ e. absurd (omega (arith, e)); same = λ e. absurd (omega (arith, e)); sum = refl }
-xor_bits (suc zero) (suc zero) l m = record { small = omega arith; none = λ e. refl; same = λ e. refl; sum = refl }
-xor_bits zero (suc (suc y)) l m = absurd (omega (arith, m))
-xor_bits (suc zero) (suc (suc y)) l m = absurd (omega (arith, m))
-xor_bits (suc (suc x)) y l m = absurd (omega (arith, l))
+use Rattle.lc_kernel.specs.Planes.{plane_at, apart, bits_apart}
+use Rattle.lc_planes.specs.Planes.{plane}
+use Rattle.lc_planes.proofs.PlaneLaws.{plane_cons, two_bits, or_bits, XorBits, bits_of, ones_bit, plane_padded}
 
 -- whether one of the first n bits of two numbers differs
 abbrev differ : ℕ → ℕ → ℕ → ℕ
 differ zero a b = 0
 differ (suc j) a b = bit_or (bit_xor (bit_at a j) (bit_at b j)) (differ j a b)
-
-bits_of : (a b j : ℕ) → XorBits (bit_at a j) (bit_at b j)
-bits_of a b j = xor_bits (bit_at a j) (bit_at b j) (bit_at-lt a j) (bit_at-lt b j)
 
 differ_small : (n a b : ℕ) → differ n a b < 2
 differ_small zero a b = omega arith
@@ -120,16 +78,6 @@ cell f n a b s l m = elim (cases_eq a (neg f b)) [
       )
 ]
 
-ones_bit : (x m : ℕ) → x < 2 → ones m + ones x ≡ ones m + x
-unfolding ones
-ones_bit zero m l = refl
-ones_bit (suc zero) m l = refl
-ones_bit (suc (suc x)) m l = absurd (omega (arith, l))
-
-plane_nil : (j : ℕ) → plane j [] ≡ bit_xor (plane j []) (plane j [])
-unfolding plane packed
-plane_nil j = refl
-
 pub ones_apart : (f : FieldName) (n : ℕ) (u v : List ℕ) → size f ≤ 2 ^ n → length u ≡ length v → Fits f u → Fits f v → count_ones (apart n u (map (neg f) v)) ≡ weight (word_sum f u v)
 unfolding ones word_sum
 ones_apart f n [] [] s e h i = ap count_ones (apart_nil n)
@@ -141,66 +89,11 @@ ones_apart f n (a ∷ u) (b ∷ v) s e h i =
     ap count_ones (apart_cons n a (neg f b) u (map (neg f) v)) ∙ ones_cat 1 (apart n u (map (neg f) v)) (differ n a (neg f b)) (differ_small n a (neg f b)) ∙ ones_bit (differ n a (neg f b)) (apart n u (map (neg f) v)) (differ_small n a (neg f b))
     ∙ omega (arith, t, c, weight_cons (add f a b) (word_sum f u v))
 
-pub plane_sum : (f : FieldName) (j : ℕ) (u v : List ℕ) → (shape_of f).characteristic ≡ 2 → length u ≡ length v → Fits f u → Fits f v → plane j (word_sum f u v) ≡ bit_xor (plane j u) (plane j v)
-unfolding word_sum
-plane_sum f j [] [] two e h i = plane_nil j
-plane_sum f j [] (b ∷ v) two e h i = absurd (omega (arith, e))
-plane_sum f j (a ∷ u) [] two e h i = absurd (omega (arith, e))
-plane_sum f j (a ∷ u) (b ∷ v) two e h i =
-    let t = plane_sum f j u v two (omega (arith, e)) (fits_tail f a u h) (fits_tail f b v i) in
-    let x = xor_block 1 (plane j u) (plane j v) (bit_at a j) (bit_at b j) (bit_at-lt a j) (bit_at-lt b j) in
-    let bit : bit_at (add f a b) j ≡ bit_xor (bit_at a j) (bit_at b j) = ap (λ z. bit_at z j) (sym (xor_add f a b two (fits_head f a u h) (fits_head f b v i))) ∙ bit_at_xor a b j ∙ sym (bits_of a b j).sum in
-    plane_cons j (add f a b) (word_sum f u v) ∙ ap (λ z. z * 2 + bit_at (add f a b) j) t ∙ ap (λ z. bit_xor (plane j u) (plane j v) * 2 + z) bit ∙ sym x
-    ∙ ap (λ z. bit_xor z (plane j v * 2 + bit_at b j)) (sym (plane_cons j a u)) ∙ ap (bit_xor (plane j (a ∷ u))) (sym (plane_cons j b v))
-
--- planes of words with zeros after them
-pub plane_none : (j : ℕ) → plane j [] ≡ 0
-unfolding plane packed
-plane_none j = refl
-
-plane_padded : (j : ℕ) (u v : List ℕ) → length u ≤ length v → ((t : ℕ) → t < length u → slice_index v t ≡ slice_index u t) → ((t : ℕ) → length u ≤ t → slice_index v t ≡ 0) → plane j v ≡ plane j u
-plane_padded j [] [] e h rest = refl
-plane_padded j [] (b ∷ v) e h rest =
-    let t = plane_padded j [] v (omega arith) (λ t l. absurd (omega (arith, l))) (λ t l. rest (suc t) (omega (arith, l))) in
-    let bit : bit_at b j ≡ 0 = ap (λ z. bit_at z j) (rest 0 (omega arith)) ∙ bit_at-zero j in
-    omega (arith, plane_cons j b v, t, bit, plane_none j)
-plane_padded j (a ∷ u) [] e h rest = absurd (omega (arith, e))
-plane_padded j (a ∷ u) (b ∷ v) e h rest =
-    let t = plane_padded j u v (omega (arith, e)) (λ t l. h (suc t) (omega (arith, l))) (λ t l. rest (suc t) (omega (arith, l))) in
-    plane_cons j b v ∙ ap (λ z. z * 2 + bit_at b j) t ∙ ap (λ z. plane j u * 2 + bit_at z j) (h 0 (omega arith)) ∙ sym (plane_cons j a u)
-
 -- a block with the symbols of a word at some columns, and then zeros
 pub block_planes : (cols word block : List ℕ) → length cols ≤ 64 → length block ≡ 64 → ((t : ℕ) → t < length cols → slice_index block t ≡ slice_index word (slice_index cols t)) → ((t : ℕ) → length cols ≤ t → slice_index block t ≡ 0) → (j : ℕ) → plane j block ≡ plane_at j cols word
 block_planes cols word block few long h rest j =
     let many = length_restrict cols word in
     plane_padded j (restrict cols word) block (omega (arith, many, few, long)) (λ t l. h t (omega (arith, l, many)) ∙ sym (index_restrict cols word t (omega (arith, l, many)))) (λ t l. rest t (omega (arith, l, many)))
-
-set_bit : (b p : ℕ) → 0 < p → b < 2 → cond (not (b * p == 0)) 1 0 ≡ b
-set_bit zero p some l = ap (λ x. cond (not (x == 0)) 1 0) (none p)
-  where
-    none : (p : ℕ) → 0 * p ≡ 0
-    none p = omega arith
-set_bit (suc zero) p some l = ap (λ x. cond (not x) 1 0) (ne_eqb (1 * p) 0 (λ e. omega (arith, e, some)))
-set_bit (suc (suc b)) p some l = absurd (omega (arith, l))
-
-bit_test : (a j : ℕ) → cond (not (bit_and a (2 ^ j) == 0)) 1 0 ≡ bit_at a j
-bit_test a j = ap (λ x. cond (not (x == 0)) 1 0) (and_pow a j) ∙ set_bit (bit_at a j) (2 ^ j) (pow_pos j) (bit_at-lt a j)
-
-bits_mask : (j : ℕ) (ws : List ℕ) → mask_l (map (λ a. not (bit_and a (2 ^ j) == 0)) ws) ≡ plane j ws
-bits_mask j [] = sym (plane_none j)
-bits_mask j (a ∷ ws) =
-    let t = bits_mask j ws in
-    let here : mask_l (map (λ a. not (bit_and a (2 ^ j) == 0)) (a ∷ ws)) ≡ cond (not (bit_and a (2 ^ j) == 0)) 1 0 + 2 * mask_l (map (λ a. not (bit_and a (2 ^ j) == 0)) ws) = refl in
-    omega (arith, here, bit_test a j, t, plane_cons j a ws)
-
--- a plane of 64 symbols, as a comparison of vectors
-pub plane_mask : (ws : List ℕ) (j m : ℕ) → length ws ≡ 64 → m ≡ 2 ^ j → mask_l (map (top (hbits w8)) (zip2 (λ a b. cond (not (a == b)) (2 ^ bits w8 - 1) 0) (zip2 bit_and ws (replicate 64 m)) (replicate 64 0))) % 2 ^ 64 ≡ plane j ws
-plane_mask ws j m long is =
-    bitmask_splat w8 (λ a b. not (a == b)) (zip2 bit_and ws (replicate 64 m)) 64 0 (length-zip2 bit_and ws (replicate 64 m) long ∙ long) (omega arith)
-    ∙ ap (λ xs. mask_l (map (λ x. not (x == 0)) xs)) (zip2_splat bit_and ws 64 m long)
-    ∙ ap mask_l (map-map (λ x. not (x == 0)) (λ a. bit_and a m) ws)
-    ∙ ap (λ p. mask_l (map (λ a. not (bit_and a p == 0)) ws)) is
-    ∙ bits_mask j ws
 
 -- a word and words by their planes, one list of bits after another
 read_cut : (bits : List ℕ) (first n i : ℕ) → i < n → slice_index (take (first + n - first) (drop first bits)) i ≡ slice_index bits (first + i)

@@ -6,7 +6,6 @@
 --   last_sum                     the last sum is the word at the level
 --   step_fronts                  the fronts that a step leaves
 --   set_below, level_some, code_message      the set, the level and the message of a spot of a plan
---   written_whole                a list written whole over another
 --   stack_at                     a stack with the fronts of its message is at it
 use Rattle.std.proofs.Common.{◌≡◌, ℕ, zero, suc, ◌+◌, ◌-◌, ◌%◌, ◌<◌, ◌≤◌, List, [], ◌++◌, set, length, slice_index, slice_index_or, take, drop, Contains, refl, sym, ap, ◌∙◌, ⊎_elim, arith}
 use Rattle.std.proofs.lemmas.Bool.{cases_lt}
@@ -118,11 +117,11 @@ fronts_are C m s ws rows free inside l first is (suc i) b =
     let n : i < length s.support = omega (arith, b) in
     sym (sum_at (length s.support) i ws n) ∙ ap (λ z. slice_index_or z i []) is ∙ partial_at C m s.set i (spot_message s) n ∙ front_word_is C m s.set s (suc i) (own_set m s.set l)
 
-pub last_sum : (C : Matrix) (s : StackState) (spot : SpotState) (ws : List (List ℕ)) (word : List ℕ) → IsRoom C spot ws → length spot.support ≤ length C.rows → 0 < length spot.support → s ≡ record { code = C; spot = spot; sums = sums_of (length spot.support) ws } → word ≡ slice_index_or ws (length spot.support) word → word ≡ top_sum s
-last_sum C s spot ws word room few some e at_word =
+pub last_sum : (C : Matrix) (s : StackState) (spot : SpotState) (ws : List (List ℕ)) → IsRoom C spot ws → length spot.support ≤ length C.rows → 0 < length spot.support → s ≡ record { code = C; spot = spot; sums = sums_of (length spot.support) ws } → slice_index_or ws (length spot.support) [] ≡ top_sum s
+last_sum C s spot ws room few some e =
     let long = length_sums (length spot.support) ws (omega (arith, room.many, few)) in
     let at : suc (length (sums_of (length spot.support) ws) - 1) ≡ length spot.support = omega (arith, long, some) in
-    at_word ∙ get_or_default ws (length spot.support) word [] (omega (arith, room.many, few)) ∙ rw e (sym (sum_at (length spot.support) (length (sums_of (length spot.support) ws) - 1) ws (omega (arith, long, some)) ∙ ap (λ j. slice_index_or ws j []) at))
+    rw e (sym (sum_at (length spot.support) (length (sums_of (length spot.support) ws) - 1) ws (omega (arith, long, some)) ∙ ap (λ j. slice_index_or ws j []) at))
 
 pub step_fronts : (C : Matrix) (s t : SpotState) (i : ℕ) (ws : List (List ℕ)) → AreFronts C s (length s.support) ws → IsFirstChange s t i → t.set ≡ s.set → AreFronts C t i ws
 step_fronts C s t i ws fronts change e n l =
@@ -142,9 +141,6 @@ pub code_message : (C : Matrix) (plan : PlanSize) (s : SpotState) → IsPlanOf p
 code_message C plan s h l = rw (← h.dimension, ← h.field) l
 
 -- a list written whole over another of its length
-pub written_whole : (n : ℕ) (ws xs : List (List ℕ)) → n ≡ length ws → take n (ws ++ drop (length ws) xs) ≡ ws
-written_whole n ws xs e = ap (λ m. take m (ws ++ drop (length ws) xs)) e ∙ take-append_seam ws (drop (length ws) xs)
-
 pub stack_at : (C code : Matrix) (m : ℕ) (spot : SpotState) (ws vs : List (List ℕ)) → code ≡ C → spot.set < m → Contains (messages (length C.rows) (size C.field) (length spot.support)) (spot_message spot) → 0 < length spot.support → IsRoom C spot ws → AreFronts C spot (length spot.support) ws → vs ≡ ws → IsStackAt C m (record { code = code; spot = spot; sums = sums_of (length spot.support) vs })
 stack_at C code m spot ws vs e l message some room fronts same = record {
   code = e;

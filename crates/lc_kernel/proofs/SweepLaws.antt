@@ -35,7 +35,8 @@ use Rattle.lc_place.proofs.Coefficients.{nonzero_first, length-leading_lists}
 use Rattle.lc_place.proofs.Supports.{next_support, support_next, support_shape, IsSupport}
 use Rattle.lc_place.proofs.Messages.{message_of, message_part, message_next, next_leading, turned, leading_next, leading_shape, supports_are, from_contains, to_contains}
 use Rattle.lc_kernel.specs.Values.{IsSpotAt}
-use Rattle.lc_kernel.specs.Packed.{others, part_at, pair_of, AreStarts}
+use Rattle.lc_kernel.specs.Packed.{others, pair_of, AreStarts}
+use Rattle.lc_planes.specs.Planes.{part_at}
 use Rattle.lc_kernel.specs.Planes.{plane_at, bits_apart, IsPlaneSum}
 use Rattle.lc_kernel.specs.Least.{IsFirstBelow}
 use Rattle.lc_kernel.specs.Sums.{front_word}

@@ -18,7 +18,8 @@ use Rattle.lc_kernel.specs.declared.grid.GridPart.{GridPart}
 use Rattle.lc_kernel.specs.Grids.{IsGridPart, AreGridParts, AreGrids}
 use Rattle.lc_infoset.specs.Bound.{set_at}
 use Rattle.lc_kernel.specs.declared.parts.Part.{Part}
-use Rattle.lc_kernel.specs.Packed.{others, part_at, IsPart}
+use Rattle.lc_kernel.specs.Packed.{others, IsPart}
+use Rattle.lc_planes.specs.Planes.{part_at}
 use Rattle.lc_kernel.specs.Tables.{AreParts, AreTables}
 use Rattle.lc_kernel.proofs.PackLaws.{outside_inside}
 

@@ -28,7 +28,8 @@ use Rattle.lc_place.specs.Place.{PlanSize, SpotState, spot_message}
 use Rattle.lc_place.proofs.Messages.{message_of, from_contains, to_contains}
 use Rattle.lc_kernel.specs.Kernel.{IsPlanOf}
 use Rattle.lc_kernel.specs.Values.{IsSpotAt, IsLeastValue}
-use Rattle.lc_kernel.specs.Packed.{others, part_at}
+use Rattle.lc_kernel.specs.Packed.{others}
+use Rattle.lc_planes.specs.Planes.{part_at}
 use Rattle.lc_kernel.specs.Planes.{plane_at, apart, bits_apart}
 use Rattle.lc_kernel.specs.Least.{IsFirstLeast, AreCounted}
 use Rattle.lc_kernel.specs.Sums.{front_word}

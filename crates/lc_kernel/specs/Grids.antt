@@ -11,7 +11,8 @@ use Rattle.lc_algebra.specs.Matrix.{Matrix}
 use Rattle.lc_enumeration.specs.Search.{set_count}
 use Rattle.lc_kernel.specs.declared.grid.Grid.{Grid}
 use Rattle.lc_kernel.specs.declared.grid.GridPart.{GridPart}
-use Rattle.lc_kernel.specs.Packed.{others, part_at, AreStarts}
+use Rattle.lc_kernel.specs.Packed.{others, AreStarts}
+use Rattle.lc_planes.specs.Planes.{part_at}
 use Rattle.lc_kernel.specs.Grid.{tail_count, tails_in, AreTailPlanes}
 use Rattle.lc_kernel.specs.Fronts.{HasFronts}
 

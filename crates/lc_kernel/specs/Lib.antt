@@ -10,3 +10,4 @@ pub mod Fronts
 pub mod Sweeps
 pub mod Grids
 pub mod Halves
+pub mod PlaneSums

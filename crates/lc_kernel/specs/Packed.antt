@@ -1,7 +1,6 @@
 -- Words over 2 elements as numbers, and the sums of some rows of an information set.
 --   outside n set           the columns below n that aren't in the set
 --   others C j              the columns outside the basis of set j
---   part_at cols b          part b of some columns: 64 of them from 64 b on, or what is left
 --   bits_at cols w          the packed symbols of a word at some columns
 --   row_sum rows u          the exclusive or of the rows at some places
 --   EndsAt k t a s          from index s on, the supports of t of k places are those of the places from a on
@@ -29,9 +28,6 @@ outside n set = filter (λ c. not (is_member set c)) (below n)
 
 abbrev pub others : Matrix → ℕ → List ℕ
 others C j = outside C.columns (set_at C j).basis
-
-abbrev pub part_at : List ℕ → ℕ → List ℕ
-part_at cols b = take 64 (drop (64 * b) cols)
 
 unfoldable pub bits_at : List ℕ → List ℕ → ℕ
 bits_at cols w = packed (restrict cols w)

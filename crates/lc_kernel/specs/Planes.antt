@@ -1,5 +1,4 @@
--- Words over any field as bits: plane j of a word has bit j of the number of each symbol.
---   plane j w               the number whose bits are the bits j of the symbols of w, the first one the lowest
+-- Words over any field by their planes of bits.
 --   plane_at j cols w       plane j of the symbols of a word at some columns
 --   bits_apart n u bits m e      the bits at which one of the first n planes u of a word differs from that of word e of m words
 --   apart n u v             the bits at which one of the first n planes of two words differ
@@ -10,16 +9,12 @@
 --   trit_sum a b c d        a plane of a sum over 3 elements, from the planes of two words: a and c are the same plane as that of the sum
 --   digit_planes a b c d    over 9 elements, from the four planes of a word: where the low digit to the base 3 of its symbols is 1
 --                           and 2, and where the high one is
-use Rattle.std.specs.Prelude.{◌≡◌, ℕ, zero, suc, ◌+◌, ◌*◌, ◌^◌, ◌<◌, ◌≤◌, List, [], ◌∷◌, length, map, bit_and, bit_or, bit_xor, slice_index}
-use Rattle.std.specs.Int.{bit_at}
+use Rattle.std.specs.Prelude.{◌≡◌, ℕ, zero, suc, ◌+◌, ◌*◌, ◌^◌, ◌<◌, ◌≤◌, List, [], ◌∷◌, length, bit_and, bit_or, bit_xor, slice_index}
 use Rattle.lc_algebra.specs.declared.FieldName.{FieldName}
 use Rattle.lc_algebra.specs.Field.{size}
 use Rattle.lc_algebra.specs.Word.{Fits, word_sum}
 use Rattle.lc_algebra.specs.SpanLaws.{restrict}
-use Rattle.lc_vec.specs.Packed.{packed}
-
-unfoldable pub plane : ℕ → List ℕ → ℕ
-plane j w = packed (map (λ a. bit_at a j) w)
+use Rattle.lc_planes.specs.Planes.{plane}
 
 abbrev pub plane_at : ℕ → List ℕ → List ℕ → ℕ
 plane_at j cols w = plane j (restrict cols w)

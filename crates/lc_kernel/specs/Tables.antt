@@ -10,7 +10,8 @@ use Rattle.lc_algebra.specs.Matrix.{Matrix}
 use Rattle.lc_enumeration.specs.Search.{set_count}
 use Rattle.lc_kernel.specs.declared.parts.Part.{Part}
 use Rattle.lc_kernel.specs.declared.table.Table.{Table}
-use Rattle.lc_kernel.specs.Packed.{others, part_at, AreStarts, IsPart}
+use Rattle.lc_kernel.specs.Packed.{others, AreStarts, IsPart}
+use Rattle.lc_planes.specs.Planes.{part_at}
 
 abbrev pub AreParts : Matrix → ℕ → ℕ → List Part → Type 0
 AreParts C j t ps = (b : ℕ) (p : Part) → slice_get ps b ≡ Some p → IsPart C j t (part_at (others C j) b) p.rows.items p.sums.items

@@ -15,6 +15,7 @@ mod planes;
 mod runs;
 mod scratch;
 mod stack;
+mod sums;
 mod sweeps;
 mod table;
 mod tails;

@@ -1,10 +1,10 @@
 //! The nonzero multiples of the rows of all sets.
 
-ghost use Rattle.std.specs.Prelude.{◌≡◌, ℕ, ◌+◌, ◌-◌, ◌*◌, ◌/◌, ◌%◌, ◌<◌, ◌≤◌, [], length, slice_index_or, IfOk};
+ghost use Rattle.std.specs.Prelude.{◌≡◌, ℕ, ◌+◌, ◌-◌, ◌*◌, ◌/◌, ◌%◌, ◌^◌, ◌<◌, ◌≤◌, [], length, slice_index_or, IfOk};
 ghost use Rattle.lc_algebra.specs.Field.{size};
 ghost use Rattle.lc_algebra.specs.Word.{IsWord, scale};
 ghost use Rattle.lc_enumeration.specs.Search.{set_count, generator_at};
-ghost use Rattle.lc_kernel.specs.Sums.{AreMultiples, multiple_at};
+ghost use Rattle.lc_kernel.specs.Sums.{AreMultiples, multiple_at, multiple_index};
 
 use lc_field::NoMemory;
 use lc_infoset::Sets;
@@ -66,9 +66,21 @@ pub(crate) fn multiple_of<'a>(
     ensures is { result.now ≡ scale sets.now.field c (slice_index_or (generator_at sets.now j) i []) }
     ensures word { IsWord sets.now.field sets.now.columns result.now }
 {
+    &multiples[place_in(sets, j, i, c)]
+}
+
+/// The index of the multiple by the nonzero element `c` of row `i` of set `j`.
+#[inline]
+pub(crate) fn place_in(sets: &Sets, j: usize, i: usize, c: u8) -> usize
+    requires set { j < set_count sets.now }
+    requires row { i < length sets.now.rows }
+    requires element { (1 ≤ c) × (c < size sets.now.field) }
+    ensures is { result ≡ multiple_index sets.now j i (c - 1) }
+    ensures few { result < 2 ^ 21 }
+{
     let _n = sets.length();
     let _m = sets.count();
     let _f = sets.field();
     let row = j * sets.dimension() + i;
-    &multiples[row * nonzero(sets) + (c as usize - 1)]
+    row * nonzero(sets) + (c as usize - 1)
 }

@@ -1,8 +1,8 @@
 //! The word at a place.
 
-ghost use Rattle.std.specs.Prelude.{◌≡◌, IfOk, IsOk, None};
+ghost use Rattle.std.specs.Prelude.{◌≡◌, ◌<◌, IfOk, IsOk, None, length};
 ghost use Rattle.lc_enumeration.specs.Search.{word_at as word_at_place};
-ghost use Rattle.lc_kernel.specs.Kernel.{IsPlanOf};
+ghost use Rattle.lc_kernel.specs.Kernel.{IsPlanOf, top_sum};
 
 use crate::stack::Stack;
 use lc_field::NoMemory;
@@ -36,5 +36,18 @@ pub fn word_at(
     }
     let mut stack = Stack::new(alloc, sets)?;
     stack.go_to(sets, plan, block, offset);
-    Ok(Some(stack.top().copy(alloc)?))
+    Ok(Some(word_of(alloc, &stack)?))
+}
+
+// The word of a stack's message.
+fn word_of(alloc: Global, stack: &Stack) -> Result<Word, NoMemory>
+    requires at { 0 < length stack.now.spot.support }
+    ensures is { IfOk result (λ w. w ≡ top_sum stack.now) }
+{
+    let n = stack.length();
+    let mut symbols = Vec::with_capacity(alloc, n)?;
+    for i in 0..n {
+        symbols.push(stack.symbol(i))?;
+    }
+    Ok(Word::from_vec(symbols))
 }

@@ -1,9 +1,10 @@
 //! The bits of the symbols of words, as numbers, and where words differ.
 
 ghost use Rattle.std.specs.Prelude.{◌≡◌, ℕ, ◌+◌, ◌*◌, ◌/◌, ◌^◌, ◌<◌, ◌≤◌, length, slice_index, bit_or, bit_xor, count_ones};
-ghost use Rattle.lc_kernel.specs.Planes.{plane, plane_at, bits_apart};
+ghost use Rattle.lc_kernel.specs.Planes.{plane_at, bits_apart};
+ghost use Rattle.lc_planes.specs.Planes.{plane};
 
-use std::simd::prelude::*;
+use lc_planes::plane_of;
 
 /// The symbols of a word at some columns, at most 64, and then zeros.
 pub(crate) fn gather(word: &[u8], columns: &[usize]) -> [u8; 64]
@@ -16,15 +17,6 @@ pub(crate) fn gather(word: &[u8], columns: &[usize]) -> [u8; 64]
         block[t] = word[columns[t]];
     }
     block
-}
-
-/// Bit `bit` of each of 64 symbols: the first symbol's is the lowest.
-pub(crate) fn plane_of(block: &[u8; 64], bit: usize) -> u64
-    requires bit { bit < 8 }
-    ensures is { result ≡ plane bit block.now }
-{
-    let ones = u8x64::from_array(*block) & u8x64::splat(1 << bit);
-    ones.simd_ne(u8x64::splat(0)).to_bitmask()
 }
 
 /// The first planes of the symbols of a word at some columns, at most 64.

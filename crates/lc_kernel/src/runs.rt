@@ -10,7 +10,8 @@ ghost use Rattle.lc_enumeration.specs.Search.{set_count, block_words, block_leas
 ghost use Rattle.lc_place.specs.Place.{spot_message};
 ghost use Rattle.lc_kernel.specs.Kernel.{IsPlanOf};
 ghost use Rattle.lc_kernel.specs.Values.{IsSpotAt};
-ghost use Rattle.lc_kernel.specs.Packed.{others, part_at, bits_at, tail_of, pair_of, AreStarts};
+ghost use Rattle.lc_kernel.specs.Packed.{others, bits_at, tail_of, pair_of, AreStarts};
+ghost use Rattle.lc_planes.specs.Planes.{part_at};
 ghost use Rattle.lc_kernel.specs.Tables.{IsTable};
 ghost use Rattle.lc_kernel.specs.Least.{AreCounted};
 ghost use Rattle.lc_kernel.specs.Sums.{front_word};

@@ -9,7 +9,8 @@ ghost use Rattle.lc_kernel.specs.Sums.{AreMultiples};
 ghost use Rattle.lc_enumeration.specs.Search.{set_count};
 
 use crate::grid::{Grid, grid_of};
-use crate::stack::{Stack, zeros};
+use crate::stack::Stack;
+use crate::sums::zeros;
 use crate::sweeps::MOST_HEADS;
 use crate::table::{Table, table_of};
 use lc_field::NoMemory;

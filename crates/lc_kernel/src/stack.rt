@@ -1,30 +1,30 @@
 //! A stack of sums: the words of the fronts of a message.
 
-ghost use Rattle.std.specs.Prelude.{◌≡◌, ℕ, ◌+◌, ◌-◌, ◌*◌, ◌<◌, ◌≤◌, List, [], Some, None, length, set, slice_get, slice_index, slice_index_or, is_some, if◌then◌else◌, IfOk, IfSome, MatchOption};
-ghost use Rattle.std.specs.List.{Contains};
-ghost use Rattle.lc_algebra.specs.Field.{size};
-ghost use Rattle.lc_algebra.specs.Word.{IsWord, word_sum, zero_word, scale, weight as weight_of};
+ghost use Rattle.std.specs.Prelude.{◌≡◌, ℕ, ◌+◌, ◌-◌, ◌*◌, ◌<◌, ◌≤◌, [], Some, None, length, slice_get, slice_index, is_some, if◌then◌else◌, IfOk, IfSome};
+ghost use Rattle.lc_algebra.specs.Word.{weight as weight_of};
 ghost use Rattle.lc_enumeration.specs.Message.{messages};
 ghost use Rattle.lc_enumeration.specs.Plan.{total, phase_set, phase_level, blocks_before, block_length, IsInPhase};
-ghost use Rattle.lc_enumeration.specs.Search.{set_count, generator_at};
 ghost use Rattle.lc_place.specs.Place.{spot_message, IsFirstChange};
 ghost use Rattle.lc_kernel.specs.Kernel.{IsPlanOf, IsStackAt, top_sum};
-ghost use Rattle.lc_kernel.specs.Sums.{AreFronts, AreMultiples, IsRoom};
+ghost use Rattle.lc_kernel.specs.Sums.{AreMultiples};
+ghost use Rattle.lc_kernel.specs.PlaneSums.{words_of, AreKept, AreZeros};
 ghost use Rattle.std.specs.Arc.{arc_value};
 ghost use Rattle.lc_kernel.specs.Values.{IsAtOffset};
 
-use crate::multiples::{multiple_of, multiples_of};
+use crate::multiples::multiples_of;
+use crate::sums::Sums;
 use lc_field::NoMemory;
 use lc_infoset::Sets;
 use lc_matrix::Matrix;
 use lc_place::{Plan, Spot};
-use lc_vec::{Word, weight};
+use lc_vec::Word;
 use std::alloc::Global;
 use std::marker::Model;
 use std::sync::Arc;
 
 /// A message, and the words of its fronts: of its first entry, of its first two, and so on. A step to the
-/// next message makes only the words again from the first changed entry on.
+/// next message makes only the words again from the first changed entry on. Over 2, 4, 8 and 16 elements it keeps
+/// them as planes of bits, beside the nonzero multiples of the rows of all sets as planes, which are made once.
 ///
 /// Contracts see it as the code of the sets that it was made for, its spot, and the list of these words,
 /// its sums.
@@ -32,8 +32,7 @@ use std::sync::Arc;
 pub struct Stack {
     code: Matrix,
     spot: Spot,
-    // the zero word, and then the sums
-    words: Vec<Word>,
+    sums: Sums,
     // the multiples of the rows of all sets, shared by the stacks for them
     multiples: Arc<Vec<Word>>,
 }
@@ -42,13 +41,14 @@ impl Model for Stack {
     ghost use Rattle.std.specs.Prelude.{length};
     ghost use Rattle.lc_kernel.specs.Kernel.{StackState};
     ghost use Rattle.lc_kernel.specs.Sums.{IsRoom, AreMultiples, sums_of};
+    ghost use Rattle.lc_kernel.specs.PlaneSums.{words_of, AreKept};
     ghost use Rattle.std.specs.Arc.{arc_value};
 
     ghost Value = { StackState };
 
-    ghost view = { λ s. record { code = s.code; spot = s.spot; sums = sums_of (length s.spot.support) s.words.items } };
+    ghost view = { λ s. record { code = s.code; spot = s.spot; sums = sums_of (length s.spot.support) (words_of s.sums) } };
 
-    ghost invariant = { λ s. IsRoom s.code s.spot s.words.items × AreMultiples s.code (arc_value s.multiples).items };
+    ghost invariant = { λ s. IsRoom s.code s.spot (words_of s.sums) × AreMultiples s.code (arc_value s.multiples).items × AreKept s.code s.sums };
 }
 
 impl Stack {
@@ -57,10 +57,12 @@ impl Stack {
         ensures code { IfOk result (λ s. s.code ≡ sets.now) }
         ensures none { IfOk result (λ s. s.sums ≡ []) }
     {
-        let Ok(multiples) = Arc::new(alloc, multiples_of(alloc, sets)?) else {
+        let multiples = multiples_of(alloc, sets)?;
+        let sums = Sums::new(alloc, sets, &multiples)?;
+        let Ok(shared) = Arc::new(alloc, multiples) else {
             return Err(NoMemory);
         };
-        Stack::of(alloc, sets.code(), multiples)
+        Stack::of(alloc, sets.code(), shared, sums)
     }
 
     /// A stack for messages of the same sets, which is at no message yet. It shares the multiples of their rows.
@@ -71,12 +73,20 @@ impl Stack {
         let Ok(multiples) = Arc::try_clone(&self.multiples) else {
             return Err(NoMemory);
         };
-        Stack::of(alloc, &self.code, multiples)
+        let sums = self.sums.another(alloc, &self.code)?;
+        Stack::of(alloc, &self.code, multiples, sums)
     }
 
     // A stack for messages of the sets of a code, which is at no message yet.
-    fn of(alloc: Global, code: &Matrix, multiples: Arc<Vec<Word>>) -> Result<Stack, NoMemory>
+    fn of(
+        alloc: Global,
+        code: &Matrix,
+        multiples: Arc<Vec<Word>>,
+        sums: Sums,
+    ) -> Result<Stack, NoMemory>
         requires multiples { AreMultiples code.now (arc_value multiples).items }
+        requires kept { AreKept code.now sums }
+        requires zero { AreZeros code.now (words_of sums) }
         ensures code { IfOk result (λ s. s.code ≡ code.now) }
         ensures none { IfOk result (λ s. s.sums ≡ []) }
     {
@@ -86,7 +96,7 @@ impl Stack {
         Ok(Stack {
             code: code.copy(alloc)?,
             spot,
-            words: zeros(alloc, code.rows() + 1, code.cols())?,
+            sums,
             multiples,
         })
     }
@@ -107,7 +117,8 @@ impl Stack {
         let _k = sets.dimension();
         plan.start_of(block, &mut self.spot);
         let level = self.spot.support().len();
-        refresh(sets, &self.multiples, &self.spot, &mut self.words, 0, level);
+        self.sums
+            .refresh(sets, &self.multiples, &self.spot, 0, level);
     }
 
     /// Goes to the next message of the level. Returns how many sums it made again: those from the first
@@ -129,14 +140,8 @@ impl Stack {
             return None;
         };
         let level = self.spot.support().len();
-        refresh(
-            sets,
-            &self.multiples,
-            &self.spot,
-            &mut self.words,
-            first,
-            level,
-        );
+        self.sums
+            .refresh(sets, &self.multiples, &self.spot, first, level);
         Some(level - first)
     }
 
@@ -146,7 +151,7 @@ impl Stack {
         ensures is { result ≡ weight_of (top_sum self.now) }
         ensures few { result ≤ self.now.code.columns }
     {
-        weight(self.top().symbols())
+        self.sums.weight(self.spot.support().len())
     }
 
     /// Symbol `i` of the word of the message, from 0. The stack is at a message of its sets, and `i` is below
@@ -156,7 +161,7 @@ impl Stack {
         requires inside { i < self.now.code.columns }
         ensures is { result ≡ slice_index (top_sum self.now) i }
     {
-        self.top().symbols()[i]
+        self.sums.symbol(self.spot.support().len(), i)
     }
 
     // Goes to the first message of a block.
@@ -202,10 +207,12 @@ impl Stack {
         &self.multiples
     }
 
-    // The length of the code.
+    // The length of the code, and of the word of the message.
     pub(crate) fn length(&self) -> usize
         ensures is { result ≡ self.now.code.columns }
+        ensures word { 0 < length self.now.spot.support → length (top_sum self.now) ≡ result }
     {
+        let _few = self.spot.support();
         self.code.cols()
     }
 
@@ -215,73 +222,4 @@ impl Stack {
     {
         self.code.rows()
     }
-
-    // The word of the message.
-    pub(crate) fn top(&self) -> &Word
-        requires at { 0 < length self.now.spot.support }
-        ensures is { result.now ≡ top_sum self.now }
-        ensures word { IsWord self.now.code.field self.now.code.columns result.now }
-    {
-        &self.words[self.spot.support().len()]
-    }
-}
-
-/// So many zero words of n symbols.
-pub(crate) fn zeros(alloc: Global, many: usize, n: usize) -> Result<Vec<Word>, NoMemory>
-    ensures many { IfOk result (λ ws. length ws.items ≡ many) }
-    ensures zero { IfOk result (λ ws. (i : ℕ) → i < many → slice_index_or ws.items i [] ≡ zero_word n) }
-{
-    let mut words = Vec::with_capacity(alloc, many)?;
-    for _i in 0..many {
-        words.push(Word::zero(alloc, n)?)?;
-    }
-    Ok(words)
-}
-
-/// Makes the sums of the first `to` entries again, those of the first `from` being there.
-pub(crate) fn refresh(
-    sets: &Sets,
-    multiples: &[Word],
-    spot: &Spot,
-    words: &mut [Word],
-    from: usize,
-    to: usize,
-)
-    requires multiples { AreMultiples sets.now multiples.now }
-    requires set { spot.now.set < set_count sets.now }
-    requires message { Contains (messages (length sets.now.rows) (size sets.now.field) (length spot.now.support)) (spot_message spot.now) }
-    requires room { IsRoom sets.now spot.now words.old }
-    requires fronts { AreFronts sets.now spot.now from words.old }
-    requires order { from ≤ to }
-    requires inside { to ≤ length spot.now.support }
-    ensures room { IsRoom sets.now spot.now words.new }
-    ensures fronts { AreFronts sets.now spot.now to words.new }
-{
-    let _k = sets.dimension();
-    for i in from..to {
-        extend(sets, multiples, spot, words, i);
-    }
-}
-
-// Makes the sum of entry i from the one before it.
-fn extend(sets: &Sets, multiples: &[Word], spot: &Spot, words: &mut [Word], i: usize)
-    requires multiples { AreMultiples sets.now multiples.now }
-    requires set { spot.now.set < set_count sets.now }
-    requires entry { i < length spot.now.support }
-    requires entries { length spot.now.coefficients ≡ length spot.now.support }
-    requires row { slice_index spot.now.support i < length sets.now.rows }
-    requires element { (1 ≤ slice_index spot.now.coefficients i) × (slice_index spot.now.coefficients i < size sets.now.field) }
-    requires many { i + 1 < length words.old }
-    requires words { (t : ℕ) → t < length words.old → IsWord sets.now.field sets.now.columns (slice_index_or words.old t []) }
-    ensures is { words.new ≡ set words.old (i + 1) (word_sum sets.now.field (slice_index_or words.old i []) (scale sets.now.field (slice_index spot.now.coefficients i) (slice_index_or (generator_at sets.now spot.now.set) (slice_index spot.now.support i) []))) }
-{
-    let other = multiple_of(
-        sets,
-        multiples,
-        spot.set(),
-        spot.support()[i],
-        spot.coefficients()[i],
-    );
-    let (before, rest) = words.split_at_mut(i + 1);
-    rest[0].put_added(sets.field(), before[i].symbols(), other.symbols());
 }

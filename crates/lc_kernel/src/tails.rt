@@ -10,7 +10,8 @@ ghost use Rattle.lc_enumeration.specs.Search.{set_count, block_words, block_leas
 ghost use Rattle.lc_place.specs.Place.{spot_message};
 ghost use Rattle.lc_kernel.specs.Kernel.{IsPlanOf};
 ghost use Rattle.lc_kernel.specs.Values.{IsSpotAt};
-ghost use Rattle.lc_kernel.specs.Packed.{others, part_at};
+ghost use Rattle.lc_kernel.specs.Packed.{others};
+ghost use Rattle.lc_planes.specs.Planes.{part_at};
 ghost use Rattle.lc_algebra.specs.SpanLaws.{restrict};
 ghost use Rattle.lc_algebra.specs.Word.{IsWord};
 ghost use Rattle.lc_kernel.specs.Grid.{tail_count, tail_index, tail_word, tails_in, negative, IsTailRun};
@@ -25,7 +26,7 @@ use crate::grid::Grid;
 use crate::multiples::nonzero;
 use crate::planes::{add_apart, pack};
 use crate::runs::pair_index;
-use crate::stack::refresh;
+use crate::sums::refresh;
 use lc_infoset::Sets;
 use lc_place::{Plan, Spot};
 use lc_vec::Word;

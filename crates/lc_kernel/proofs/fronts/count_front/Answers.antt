@@ -1,7 +1,8 @@
 use Rattle.std.proofs.Common.{◌+◌, ◌-◌, ◌*◌, ◌≤◌, [], length, take, slice_index, slice_index_or, sym, ap, subst, ◌∙◌, arith}
 use Rattle.lc_algebra.proofs.RemainderLaws.{index-zeros}
 use Rattle.lc_enumeration.specs.Search.{block_words}
-use Rattle.lc_kernel.specs.Packed.{others, part_at}
+use Rattle.lc_kernel.specs.Packed.{others}
+use Rattle.lc_planes.specs.Planes.{part_at}
 use Rattle.lc_kernel.specs.Grid.{AreTailPlanes}
 use Rattle.lc_kernel.specs.Sums.{front_word}
 use Rattle.lc_kernel.specs.Least.{AreCounted}

@@ -1,7 +1,8 @@
 use Rattle.std.proofs.Common.{◌≡◌, ◌-◌, ◌*◌, length, drop, slice_index, refl, ap, subst, ◌∙◌, arith}
 use Rattle.std.proofs.lemmas.List.{length-take}
 use Rattle.lc_algebra.specs.Field.{size}
-use Rattle.lc_kernel.specs.Packed.{others, part_at}
+use Rattle.lc_kernel.specs.Packed.{others}
+use Rattle.lc_planes.specs.Planes.{part_at}
 use Rattle.lc_kernel.specs.Fronts.{AreRowPlanes}
 use Rattle.lc_kernel.proofs.TableLaws.{one_grid_part, cut_inside}
 use Rattle.lc_kernel.proofs.grid.rows_of.Goals.{After-as_slice-columns}

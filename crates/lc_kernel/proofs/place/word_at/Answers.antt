@@ -21,8 +21,8 @@ returns-in_err-stack-clause-none c = λ none.
     let found = c.phase_of-phase.ensures.found in
     absurd (word_there c.args.sets.now c.args.plan.now c.args.place found.0 c.requires.plan found.1 (omega (arith, c.block_len.ensures.exact found.0 found.1, c.if-offset-block_len.false)) none)
 
-pub returns-in_err-copy-clause-none : goal.returns-in_err-copy-clause-none
-returns-in_err-copy-clause-none c = λ none.
+pub returns-in_err-word_of-clause-none : goal.returns-in_err-word_of-clause-none
+returns-in_err-word_of-clause-none c = λ none.
     let found = c.phase_of-phase.ensures.found in
     absurd (word_there c.args.sets.now c.args.plan.now c.args.place found.0 c.requires.plan found.1 (omega (arith, c.block_len.ensures.exact found.0 found.1, c.if-offset-block_len.false)) none)
 
@@ -30,5 +30,4 @@ pub returns-clause-at : goal.returns-clause-at
 returns-clause-at c =
     let plan = c.args.plan.now in
     let found = c.phase_of-phase.ensures.found in
-    let word = c.in_ok-copy.ensures.same ∙ c.top.ensures.is in
-    ap Some word ∙ sym (at_word c.args.sets.now plan c.args.place found.0 c.go_to.new.self c.requires.plan found.1 c.go_to.ensures.at)
+    ap Some c.in_ok-word_of.ensures.is ∙ sym (at_word c.args.sets.now plan c.args.place found.0 c.go_to.new.self c.requires.plan found.1 c.go_to.ensures.at)

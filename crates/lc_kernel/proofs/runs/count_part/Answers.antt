@@ -4,7 +4,8 @@ use Rattle.lc_algebra.specs.Word.{weight}
 use Rattle.lc_algebra.specs.SpanLaws.{restrict}
 use Rattle.lc_enumeration.specs.Search.{block_words}
 use Rattle.lc_kernel.specs.Least.{AreCounted}
-use Rattle.lc_kernel.specs.Packed.{others, part_at, IsPart}
+use Rattle.lc_kernel.specs.Packed.{others, IsPart}
+use Rattle.lc_planes.specs.Planes.{part_at}
 use Rattle.lc_kernel.proofs.PackLaws.{others_few}
 use Rattle.lc_kernel.proofs.SupportLaws.{tails_few}
 use Rattle.lc_kernel.proofs.RunLaws.{run_at, part_counted, counted_few}

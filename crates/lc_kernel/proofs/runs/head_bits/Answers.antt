@@ -1,5 +1,6 @@
 use Rattle.std.proofs.Common.{◌≡◌, ◌+◌, ◌<◌, suc, length, bit_xor, slice_index, sym, ap, ◌∙◌, arith}
-use Rattle.lc_kernel.specs.Packed.{others, part_at, bits_at}
+use Rattle.lc_kernel.specs.Packed.{others, bits_at}
+use Rattle.lc_planes.specs.Planes.{part_at}
 use Rattle.lc_kernel.specs.Sums.{front_word}
 use Rattle.lc_kernel.proofs.FrontLaws.{entries_are}
 use Rattle.lc_kernel.proofs.PackLaws.{bits_none, bits_more}

@@ -1,5 +1,6 @@
 use Rattle.std.proofs.Common.{◌≡◌}
-use Rattle.lc_kernel.specs.Packed.{others, part_at, bits_at}
+use Rattle.lc_kernel.specs.Packed.{others, bits_at}
+use Rattle.lc_planes.specs.Planes.{part_at}
 use Rattle.lc_kernel.specs.Sums.{front_word}
 use Rattle.lc_kernel.proofs.runs.head_bits.Given as goal
 

@@ -4,7 +4,8 @@ use Rattle.std.proofs.lemmas.Option.{slice_get_within}
 use Rattle.lc_enumeration.specs.Message.{supports_from}
 use Rattle.lc_enumeration.proofs.SearchLaws.{few_in_block}
 use Rattle.lc_kernel.specs.declared.grid.GridPart.{GridPart}
-use Rattle.lc_kernel.specs.Packed.{others, part_at, pair_of}
+use Rattle.lc_kernel.specs.Packed.{others, pair_of}
+use Rattle.lc_planes.specs.Planes.{part_at}
 use Rattle.lc_kernel.specs.Grid.{tail_count, tails_in, AreTailPlanes}
 use Rattle.lc_kernel.specs.Grids.{IsGridPart}
 use Rattle.lc_kernel.specs.Sweeps.{listed_spot}

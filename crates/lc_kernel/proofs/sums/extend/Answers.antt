@@ -1,6 +1,6 @@
 use Rattle.std.proofs.Common.{◌+◌, ◌<◌, length, refl, sym, ap, ◌∙◌, arith}
 use Rattle.lc_vec.proofs.PartLaws.{part_before, part_after, part_put}
-use Rattle.lc_kernel.proofs.stack.extend.Goals as goal
+use Rattle.lc_kernel.proofs.sums.extend.Goals as goal
 
 pub put_added-requires-clause-to : goal.put_added-requires-clause-to
 put_added-requires-clause-to c =

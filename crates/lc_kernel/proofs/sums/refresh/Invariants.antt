@@ -1,5 +1,5 @@
 use Rattle.lc_kernel.specs.Sums.{AreFronts, IsRoom}
-use Rattle.lc_kernel.proofs.stack.refresh.Given as goal
+use Rattle.lc_kernel.proofs.sums.refresh.Given as goal
 
 abbrev pub invariant-loop-i : goal.invariant-loop-i
 invariant-loop-i l = record {

@@ -1,7 +1,7 @@
 use Rattle.std.proofs.Common.{◌<◌, length, arith}
 use Rattle.lc_kernel.proofs.FrontLaws.{entries_are}
 use Rattle.lc_kernel.proofs.SumLaws.{front_put}
-use Rattle.lc_kernel.proofs.stack.refresh.Goals as goal
+use Rattle.lc_kernel.proofs.sums.refresh.Goals as goal
 
 pub extend-requires-clause-entries : goal.extend-requires-clause-entries
 extend-requires-clause-entries c = (entries_are c.args.sets.now c.args.spot.now c.requires.message).many

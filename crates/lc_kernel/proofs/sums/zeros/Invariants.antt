@@ -1,6 +1,6 @@
 use Rattle.std.proofs.Common.{◌≡◌, ℕ, ◌<◌, [], length, slice_index_or}
 use Rattle.lc_algebra.specs.Word.{zero_word}
-use Rattle.lc_kernel.proofs.stack.zeros.Given as goal
+use Rattle.lc_kernel.proofs.sums.zeros.Given as goal
 
 abbrev pub invariant-loop-i : goal.invariant-loop-i
 invariant-loop-i l = record {
