@@ -1,3 +1,4 @@
+pub mod LeadLaws
 pub mod PackingLaws
 pub mod WalkLaws
 pub mod WordLaws

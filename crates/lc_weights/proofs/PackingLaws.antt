@@ -1,32 +1,22 @@
 -- Words as bits, in parts of 64 columns, and at how many places they differ.
---   plane_end, plane_step, plane_room      a plane of the symbols of a part, from the last one on
---   plane_whole                  all symbols of the part
+--   part_planes                  the planes of the symbols of a part
 --   planes_more, places_more     one plane and one part more
---   places_are                   a word and the negative of another differ at as many places as the weight of their sum
-use Rattle.std.proofs.Common.{◌≡◌, ℕ, zero, suc, ◌+◌, ◌-◌, ◌*◌, ◌/◌, ◌^◌, ◌<◌, ◌≤◌, min, List, [], length, map, take, drop, bit_and, bit_or, bit_xor, count_ones, slice_index, slice_index_or, refl, sym, ap, ap₂, subst, ◌∙◌, arith}
-use Rattle.std.specs.Int.{bit_at}
-use Rattle.std.proofs.Math.Nat.{pow-le-pow_right}
-use Rattle.std.proofs.Math.Seq.{drop-cons}
-use Rattle.std.proofs.lemmas.Nat.{and_mask}
-use Rattle.std.proofs.lemmas.Nat.Bits.{bit_at-lt}
-use Rattle.std.proofs.lemmas.List.{get_or-take, get_or-drop, get_or-map, ext_get_or, length-take, length-drop, length-map, drop_all}
+--   places_are                   two words differ at as many places as the weight of one less the other
+use Rattle.std.proofs.Common.{◌≡◌, ℕ, zero, suc, ◌+◌, ◌-◌, ◌*◌, ◌^◌, ◌<◌, ◌≤◌, min, List, [], length, take, drop, bit_or, bit_xor, count_ones, slice_index, slice_index_or, refl, sym, ap, ap₂, subst, ◌∙◌, arith}
+use Rattle.std.proofs.lemmas.List.{get_or-take, get_or-drop, ext_get_or, length-take, length-drop}
 use Rattle.lc_algebra.specs.declared.FieldName.{FieldName}
-use Rattle.lc_algebra.specs.declared.FieldName.TheVariants.{Gf2}
-use Rattle.lc_algebra.specs.Field.{size}
-use Rattle.lc_algebra.specs.Word.{IsWord, Fits, word_sum, weight}
+use Rattle.lc_algebra.specs.Field.{size, neg}
+use Rattle.lc_algebra.specs.Word.{IsWord, word_sum, scale, weight}
 use Rattle.lc_algebra.specs.Span.{below}
 use Rattle.lc_algebra.specs.SpanLaws.{restrict}
-use Rattle.lc_algebra.proofs.EmbeddingTests.{size_two}
-use Rattle.lc_algebra.proofs.WordLaws.{length_scale, length_word_sum}
+use Rattle.lc_algebra.proofs.WordLaws.{length_scale, length_word_sum, IsWord_scale, scale_scale, one_scale, neg_one_twice}
 use Rattle.lc_algebra.proofs.SpanLaws.{length_below, index_below}
 use Rattle.lc_algebra.proofs.ColumnLaws.{length_restrict, index_restrict}
-use Rattle.lc_vec.specs.Packed.{packed}
-use Rattle.lc_vec.proofs.PackLaws.{packed_small}
 use Rattle.lc_kernel.specs.Packed.{part_at}
 use Rattle.lc_kernel.specs.Planes.{plane, plane_at, apart}
 use Rattle.lc_kernel.specs.Grid.{negative}
 use Rattle.lc_kernel.proofs.PackLaws.{part_none, part_more, part_all}
-use Rattle.lc_kernel.proofs.PlaneLaws.{plane_cons, plane_none}
+use Rattle.lc_kernel.proofs.PlaneLaws.{block_planes}
 use Rattle.lc_kernel.proofs.GridLaws.{tail_ones}
 use Rattle.lc_weights.specs.Packing.{IsPacked, planes_apart, places_apart}
 
@@ -42,53 +32,14 @@ column_is w i t l =
     let short = length_part w i in
     get_or-take 64 (drop (64 * i) (below (length w))) t 0 (omega (arith, l, short)) ∙ get_or-drop (64 * i) (below (length w)) t 0 ∙ index_below (length w) (64 * i + t) 0 (omega (arith, l, short))
 
--- the symbols of a part
-abbrev symbols_of : List ℕ → ℕ → List ℕ
-symbols_of w i = restrict (columns_of w i) w
-
-length_symbols : (w : List ℕ) (i : ℕ) → length (symbols_of w i) ≡ min 64 (length w - 64 * i)
-length_symbols w i = length_restrict (columns_of w i) w ∙ length_part w i
-
-plane_small : (p : ℕ) (u : List ℕ) → plane p u < 2 ^ length u
-unfolding plane
-plane_small p u =
-    let bits = map (λ a. bit_at a p) u in
-    let fits : Fits Gf2 bits = λ i l. rw (get_or-map (λ a. bit_at a p) u i 0 0 (omega (arith, l, length-map u (λ a. bit_at a p)))) (omega (arith, bit_at-lt (slice_index u i) p, size_two)) in
-    subst (λ n. packed bits < 2 ^ n) (length-map u (λ a. bit_at a p)) (packed_small bits fits)
-
-plane_over : (p m : ℕ) (u : List ℕ) → length u ≤ m → plane p (drop m u) ≡ 0
-plane_over p m u l = ap (plane p) (drop_all m u l) ∙ plane_none p
-
-pub plane_end : (w : List ℕ) (i p start at : ℕ) → start ≡ min (64 * i) (length w) → at ≡ min (start + 64) (length w) → 0 ≡ plane p (drop (at - start) (symbols_of w i))
-plane_end w i p start at s e = sym (plane_over p (at - start) (symbols_of w i) (omega (arith, s, e, length_symbols w i)))
-
-pub plane_step : (w : List ℕ) (i p start at bits bit : ℕ) → start ≡ min (64 * i) (length w) → start < at → at ≤ start + 64 → at ≤ length w → bits ≡ plane p (drop (at - start) (symbols_of w i)) → bit ≡ bit_at (slice_index w (at - 1)) p → bits * 2 + bit ≡ plane p (drop (at - 1 - start) (symbols_of w i))
-plane_step w i p start at bits bit s l few inside e b =
-    let t = at - 1 - start in
-    let u = symbols_of w i in
-    let here : t < length u = omega (arith, s, l, few, inside, length_symbols w i) in
-    let column : t < length (columns_of w i) = omega (arith, s, l, few, inside, length_part w i) in
-    let from : 64 * i + t ≡ at - 1 = omega (arith, s, l, inside) in
-    let next : suc t ≡ at - start = omega (arith, l) in
-    let symbol : slice_index u t ≡ slice_index w (at - 1) = index_restrict (columns_of w i) w t column ∙ ap (slice_index w) (column_is w i t column ∙ from) in
-    sym (
-    ap (plane p) (drop-cons u t 0 here) ∙ plane_cons p (slice_index u t) (drop (suc t) u) ∙ ap (λ n. plane p (drop n u) * 2 + bit_at (slice_index u t) p) next
-    ∙ ap₂ (λ x y. x * 2 + y) (sym e) (ap (λ a. bit_at a p) symbol ∙ sym b)
-    )
-
-pub plane_room : (w : List ℕ) (i p start at bits : ℕ) → start ≡ min (64 * i) (length w) → start < at → bits ≡ plane p (drop (at - start) (symbols_of w i)) → bits < 2 ^ 63
-plane_room w i p start at bits s l e =
-    let u = drop (at - start) (symbols_of w i) in
-    let short : length u ≤ 63 = omega (arith, l, length-drop (at - start) (symbols_of w i), length_symbols w i) in
-    omega (arith, e, plane_small p u, pow-le-pow_right {n = 2} (omega arith) short)
-
-pub plane_whole : (w : List ℕ) (i p start at bits : ℕ) → at ≤ start → bits ≡ plane p (drop (at - start) (symbols_of w i)) → bits ≡ plane_at p (part_at (below (length w)) i) w
-plane_whole w i p start at bits l e =
-    let none : at - start ≡ 0 = omega (arith, l) in
-    e ∙ ap (λ n. plane p (drop n (symbols_of w i))) none
-
-pub bit_shown : (a p : ℕ) → bit_and (a / 2 ^ p) 1 ≡ bit_at a p
-bit_shown a p = and_mask (a / 2 ^ p) 1
+-- the symbols of a part, and then zeros
+pub part_planes : (w block : List ℕ) (i start many : ℕ) → start ≡ min (64 * i) (length w) → many ≡ min (length w - start) 64 → length block ≡ 64 → ((t : ℕ) → t < many → slice_index block t ≡ slice_index w (start + t)) → ((t : ℕ) → many ≤ t → slice_index block t ≡ 0) → (j : ℕ) → plane j block ≡ plane_at j (part_at (below (length w)) i) w
+part_planes w block i start many s m long done rest =
+    let short = length_part w i in
+    let same : length (columns_of w i) ≡ many = omega (arith, short, s, m) in
+    block_planes (columns_of w i) w block (omega (arith, short)) long (λ t l.
+    let from : start + t ≡ 64 * i + t = omega (arith, s, m, same, l) in
+    done t (omega (arith, l, same)) ∙ ap (slice_index w) (from ∙ sym (column_is w i t l))) (λ t l. rest t (omega (arith, l, same)))
 
 pub planes_more : (p : ℕ) (x y : List ℕ) → planes_apart (p + 1) x y ≡ bit_or (bit_xor (slice_index x p) (slice_index y p)) (planes_apart p x y)
 planes_more p x y =
@@ -124,8 +75,11 @@ restrict_all w =
     let inside : i < length w = omega (arith, l, length_restrict (below (length w)) w, length_below (length w)) in
     index_restrict (below (length w)) w i (omega (arith, inside, length_below (length w))) ∙ ap (slice_index w) (index_below (length w) i 0 inside))
 
-pub places_are : (f : FieldName) (P N n : ℕ) (u v : List ℕ) (x y : List (List ℕ)) → size f ≤ 2 ^ P → n ≤ 64 * N → IsWord f n u → IsWord f n v → IsPacked P N u x → IsPacked P N (negative f v) y → places_apart P N x y ≡ weight (word_sum f u v)
+pub places_are : (f : FieldName) (P N n : ℕ) (u v : List ℕ) (x y : List (List ℕ)) → size f ≤ 2 ^ P → n ≤ 64 * N → IsWord f n u → IsWord f n v → IsPacked P N u x → IsPacked P N v y → places_apart P N x y ≡ weight (word_sum f u (negative f v))
 places_are f P N n u v x y s narrow h k a b =
-    let w = word_sum f u v in
-    let long : length w ≡ n = length_word_sum f u v (h.long ∙ sym k.long) ∙ k.long in
-    parts_are f P N n N u v x y s h k a b (omega arith) ∙ part_all (below n) w N (omega (arith, narrow, length_below n)) ∙ ap (λ z. weight (restrict (below z) w)) (sym long) ∙ ap weight (restrict_all w)
+    let o = negative f v in
+    let w = word_sum f u o in
+    let turned : IsWord f n o = IsWord_scale f n (neg f 1) v k.long in
+    let back : negative f o ≡ v = scale_scale f (neg f 1) (neg f 1) v ∙ ap (λ c. scale f c v) (neg_one_twice f) ∙ one_scale f v k.fits in
+    let long : length w ≡ n = length_word_sum f u o (h.long ∙ sym turned.long) ∙ turned.long in
+    parts_are f P N n N u o x y s h turned a (subst (λ z. IsPacked P N z y) (sym back) b) (omega arith) ∙ part_all (below n) w N (omega (arith, narrow, length_below n)) ∙ ap (λ z. weight (restrict (below z) w)) (sym long) ∙ ap weight (restrict_all w)

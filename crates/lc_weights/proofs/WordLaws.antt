@@ -1,6 +1,6 @@
 -- Lists of the words of some rows.
---   sums_none, sums_more, sums_all       the sums of a multiple of a row and some words
---   multiples_none, multiples_more       those of each multiple
+--   sums_none, sums_more                 the sums of a word and some words
+--   multiples_none, multiples_more, sums_fit      those of each multiple of a row
 --   words_between f n rows i to          the words of the rows from place i up to the one before `to`
 --   rows_none, rows_more                 none of these rows, and one row more
 --   words_are_words, between_are_words, between_are_rows      they are words
@@ -8,47 +8,59 @@
 use Rattle.std.proofs.Common.{◌≡◌, ℕ, suc, ◌+◌, ◌-◌, ◌<◌, ◌≤◌, List, [], ◌∷◌, ◌++◌, length, map, flat_map, take, drop, sum_by, slice_index_or, refl, sym, ap, ap₂, ◌∙◌, arith, rules}
 use Rattle.std.proofs.Math.Seq.{drop-cons}
 use Rattle.std.proofs.lemmas.Grind.{flat_map-append}
-use Rattle.std.proofs.lemmas.List.{append_assoc, map_more, take_all}
-use Rattle.std.proofs.lemmas.List.Elements.{All-from_get_or, All-take, All-drop, Contains-get_or}
+use Rattle.std.proofs.lemmas.List.{append_assoc, map_more}
+use Rattle.std.proofs.lemmas.List.Elements.{All-from_get_or, All-tail, All-take, All-drop, Contains-get_or}
 use Rattle.std.proofs.lemmas.List.Sums.{sum_by-cons}
 use Rattle.lc_algebra.specs.declared.FieldName.{FieldName}
 use Rattle.lc_algebra.specs.Field.{size}
 use Rattle.lc_algebra.specs.Word.{IsWord, zero_word, word_sum, scale}
 use Rattle.lc_algebra.specs.Matrix.{AreRows}
 use Rattle.lc_algebra.specs.Span.{below, words}
-use Rattle.lc_algebra.proofs.WordLaws.{sum_comm, sum_assoc, zero_sum}
+use Rattle.lc_algebra.proofs.WordLaws.{sum_comm, sum_assoc, zero_sum, zero_scale, length_scale}
 use Rattle.lc_algebra.proofs.SpanLaws.{span_word, word_of_member}
 use Rattle.lc_macwilliams.proofs.CountLaws.{sum_same, sum_map, sum_flat_map}
 
-abbrev sums_of : FieldName → ℕ → List ℕ → List (List ℕ) → List (List ℕ)
-sums_of f c row ws = map (word_sum f (scale f c row)) ws
+pub sums_none : (f : FieldName) (word : List ℕ) (ws before : List (List ℕ)) → before ≡ before ++ map (word_sum f word) (take 0 ws)
+sums_none f word ws before = search rules
+
+pub sums_more : (f : FieldName) (i : ℕ) (word sum : List ℕ) (ws before now after : List (List ℕ)) → i < length ws → now ≡ before ++ map (word_sum f word) (take i ws) → sum ≡ word_sum f (slice_index_or ws i []) word → after ≡ now ++ sum ∷ [] → after ≡ before ++ map (word_sum f word) (take (i + 1) ws)
+sums_more f i word sum ws before now after l e s push =
+    let turned : sum ≡ word_sum f word (slice_index_or ws i []) = s ∙ sum_comm f (slice_index_or ws i []) word in
+    push ∙ ap₂ (λ x y. x ++ y ∷ []) e turned ∙ append_assoc before (map (word_sum f word) (take i ws)) (word_sum f word (slice_index_or ws i []) ∷ [])
+    ∙ ap (λ x. before ++ x) (sym (map_more (word_sum f word) ws i [] l))
 
 abbrev multiples_of : FieldName → List ℕ → List (List ℕ) → ℕ → List (List ℕ)
-multiples_of f row ws n = flat_map (λ c. sums_of f c row ws) (below n)
+multiples_of f row ws n = flat_map (λ c. map (word_sum f (scale f c row)) ws) (below n)
 
-pub sums_none : (f : FieldName) (c : ℕ) (row : List ℕ) (ws before : List (List ℕ)) → before ≡ before ++ sums_of f c row (take 0 ws)
-sums_none f c row ws before = search rules
+-- the sums with the multiple by 0
+same_words : (f : FieldName) (n : ℕ) (ws : List (List ℕ)) → AreRows f n ws → map (word_sum f (zero_word n)) ws ≡ ws
+same_words f n [] r = refl
+same_words f n (w ∷ ws) r = ap₂ (λ x y. x ∷ y) (zero_sum f n w (r 0 [] (omega arith))) (same_words f n ws (All-tail (IsWord f n) w ws r))
 
-pub sums_more : (f : FieldName) (c i : ℕ) (row sum : List ℕ) (ws before now after : List (List ℕ)) → i < length ws → now ≡ before ++ sums_of f c row (take i ws) → sum ≡ word_sum f (slice_index_or ws i []) (scale f c row) → after ≡ now ++ sum ∷ [] → after ≡ before ++ sums_of f c row (take (i + 1) ws)
-sums_more f c i row sum ws before now after l e s push =
-    let turned : sum ≡ word_sum f (scale f c row) (slice_index_or ws i []) = s ∙ sum_comm f (slice_index_or ws i []) (scale f c row) in
-    push ∙ ap₂ (λ x y. x ++ y ∷ []) e turned ∙ append_assoc before (sums_of f c row (take i ws)) (word_sum f (scale f c row) (slice_index_or ws i []) ∷ [])
-    ∙ ap (λ x. before ++ x) (sym (map_more (word_sum f (scale f c row)) ws i [] l))
-
-pub sums_all : (f : FieldName) (c i : ℕ) (row : List ℕ) (ws before after : List (List ℕ)) → length ws ≤ i → after ≡ before ++ sums_of f c row (take i ws) → after ≡ before ++ sums_of f c row ws
-sums_all f c i row ws before after l e = e ∙ ap (λ x. before ++ sums_of f c row x) (take_all i ws l)
-
-pub multiples_none : (f : FieldName) (row : List ℕ) (ws : List (List ℕ)) → [] ≡ multiples_of f row ws 0
+one_more : (f : FieldName) (c : ℕ) (row : List ℕ) (ws : List (List ℕ)) → multiples_of f row ws (c + 1) ≡ multiples_of f row ws c ++ map (word_sum f (scale f c row)) ws
 unfolding below
-multiples_none f row ws = refl
-
-pub multiples_more : (f : FieldName) (c : ℕ) (row : List ℕ) (ws now after : List (List ℕ)) → now ≡ multiples_of f row ws c → after ≡ now ++ sums_of f c row ws → after ≡ multiples_of f row ws (c + 1)
-unfolding below
-multiples_more f c row ws now after e s =
+one_more f c row ws =
     let next : c + 1 ≡ suc c = omega arith in
-    let g = λ (c : ℕ). sums_of f c row ws in
+    let g = λ (c : ℕ). map (word_sum f (scale f c row)) ws in
     let one : flat_map g (c ∷ []) ≡ g c = search rules in
-    s ∙ ap₂ (λ x y. x ++ y) e (sym one) ∙ sym (flat_map-append g (below c) (c ∷ [])) ∙ ap (multiples_of f row ws) (sym next)
+    ap (multiples_of f row ws) next ∙ flat_map-append g (below c) (c ∷ []) ∙ ap (λ x. multiples_of f row ws c ++ x) one
+
+pub multiples_none : (f : FieldName) (row : List ℕ) (ws sums : List (List ℕ)) → AreRows f (length row) ws → sums ≡ [] → ws ++ sums ≡ multiples_of f row ws 1
+unfolding below
+multiples_none f row ws sums r none =
+    let zero : scale f 0 row ≡ zero_word (length row) = zero_scale f (length row) row refl in
+    let first : multiples_of f row ws 0 ≡ [] = refl in
+    let one : multiples_of f row ws 1 ≡ ws = one_more f 0 row ws ∙ ap₂ (λ x u. x ++ map (word_sum f u) ws) first zero ∙ same_words f (length row) ws r in
+    let end : ws ++ [] ≡ ws = search rules in
+    ap (λ x. ws ++ x) none ∙ end ∙ sym one
+
+pub multiples_more : (f : FieldName) (c : ℕ) (row multiple : List ℕ) (ws shown now after : List (List ℕ)) → ws ++ now ≡ multiples_of f row ws c → multiple ≡ scale f c row → shown ≡ ws → after ≡ now ++ map (word_sum f multiple) shown → ws ++ after ≡ multiples_of f row ws (c + 1)
+multiples_more f c row multiple ws shown now after e m same s =
+    ap (λ x. ws ++ x) (s ∙ ap₂ (λ u z. now ++ map (word_sum f u) z) m same) ∙ sym (append_assoc ws now (map (word_sum f (scale f c row)) ws)) ∙ ap (λ x. x ++ map (word_sum f (scale f c row)) ws) e ∙ sym (one_more f c row ws)
+
+-- words of the length of a multiple of a row
+pub sums_fit : (f : FieldName) (c : ℕ) (row multiple : List ℕ) (ws shown : List (List ℕ)) → AreRows f (length row) ws → multiple ≡ scale f c row → shown ≡ ws → AreRows f (length multiple) shown
+sums_fit f c row multiple ws shown r m same = rw (m, same, length_scale f c row) r
 
 -- the words of the rows from place i up to the one before `to`
 abbrev pub words_between : FieldName → ℕ → List (List ℕ) → ℕ → ℕ → List (List ℕ)

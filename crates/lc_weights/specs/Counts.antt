@@ -6,8 +6,10 @@
 --   IsRoomOf P N m room             a room for counting m words at once, at most 4,096, given as P planes of N parts: it has a count for each
 --                                   weight up to 64 N
 --   words_counted j rooms           how many words of weight j these rooms have counted, together
---   AreCounts C rooms               the rooms have counted the words of C, and have a count for each weight up to the length
-use Rattle.std.specs.Prelude.{◌≡◌, ℕ, ◌+◌, ◌*◌, ◌<◌, ◌≤◌, ◌==◌, List, [], length, take, slice_index, slice_index_or, All, sum_by, count_by}
+--   AreCounts C first rooms         these counts and the rooms have counted the words of C, those in the rooms for all their nonzero
+--                                   multiples; all have a count for each weight up to the length
+use Rattle.std.specs.Prelude.{◌≡◌, ℕ, ◌+◌, ◌-◌, ◌*◌, ◌<◌, ◌≤◌, ◌==◌, List, [], length, take, slice_index, slice_index_or, All, sum_by, count_by}
+use Rattle.lc_algebra.specs.Field.{size}
 use Rattle.lc_algebra.specs.Matrix.{Matrix}
 use Rattle.lc_enumeration.specs.Distribution.{count_of_weight}
 use Rattle.lc_weights.specs.declared.blocks.CountRoom.{CountRoom}
@@ -32,6 +34,7 @@ pub record IsRoomOf (P N m : ℕ) (room : CountRoom) : Type 0 where
 abbrev pub words_counted : ℕ → List CountRoom → ℕ
 words_counted j rooms = sum_by (λ room. slice_index room.counts.items j) rooms
 
-pub record AreCounts (C : Matrix) (rooms : List CountRoom) : Type 0 where
+pub record AreCounts (C : Matrix) (first : List ℕ) (rooms : List CountRoom) : Type 0 where
+  pub some : C.columns < length first
   pub long : All (λ (room : CountRoom). C.columns < length room.counts.items) rooms
-  pub sum : (j : ℕ) → count_of_weight C.field C.columns C.rows j ≡ words_counted j rooms
+  pub sum : (j : ℕ) → count_of_weight C.field C.columns C.rows j ≡ slice_index first j + (size C.field - 1) * words_counted j rooms

@@ -13,9 +13,8 @@ pub(crate) struct CountRoom {
     pub(crate) counts: Vec<u64>,
 }
 
-/// The blocks of the words of a code: the sums of a head and each tail, where the heads are the words of its first rows
-/// and the tails those of the others. The heads and the negatives of the tails are given as bits. A block adds the
-/// numbers of its words of each weight, and has the value 0.
+/// The blocks of the words of a code, by two lists of words given as bits, heads and tails: a block adds to each count how
+/// many tails differ from its head at so many places as the count's index, and has the value 0.
 #[derive(Clone, Copy)]
 pub(crate) struct CountBlocks<'a, const P: usize, const N: usize> {
     pub(crate) heads: &'a [[[u64; P]; N]],

@@ -1,15 +1,14 @@
 //! Words as bits: in parts of 64 columns, each part as planes.
-ghost use Rattle.std.specs.Prelude.{◌≡◌, ℕ, ◌*◌, ◌<◌, ◌≤◌, length, slice_index, map, All, IfOk};
-ghost use Rattle.lc_algebra.specs.Word.{Fits};
+ghost use Rattle.std.specs.Prelude.{◌≡◌, ℕ, ◌<◌, ◌≤◌, length, slice_index, IfOk};
 ghost use Rattle.lc_algebra.specs.Span.{below};
 ghost use Rattle.lc_kernel.specs.Packed.{part_at};
-ghost use Rattle.lc_kernel.specs.Planes.{plane_at};
-ghost use Rattle.lc_kernel.specs.Grid.{negative};
+ghost use Rattle.lc_kernel.specs.Planes.{plane, plane_at};
 ghost use Rattle.lc_weights.specs.Packing.{IsPacked, ArePacked};
 
-use lc_field::{Field, NoMemory};
-use lc_vec::{Word, scale};
+use lc_field::NoMemory;
+use lc_vec::Word;
 use std::alloc::Global;
+use std::simd::prelude::*;
 
 /// Some words as bits, in their order.
 pub(crate) fn pack_words<const P: usize, const N: usize>(
@@ -27,38 +26,8 @@ pub(crate) fn pack_words<const P: usize, const N: usize>(
     Ok(bits)
 }
 
-/// The negatives of some words as bits, in their order.
-pub(crate) fn pack_negatives<const P: usize, const N: usize>(
-    alloc: Global,
-    field: &Field,
-    words: &[Word],
-) -> Result<Vec<[[u64; P]; N]>, NoMemory>
-    requires planes { P ≤ 4 }
-    requires parts { N ≤ 4 }
-    requires words { All (Fits field.now) words.now }
-    ensures are { IfOk result (λ bits. ArePacked P N (map (negative field.now) words.now) bits.items) }
-{
-    let mut bits = Vec::with_capacity(alloc, words.len())?;
-    for i in 0..words.len() {
-        let negative = negative_of(alloc, field, &words[i])?;
-        bits.push(pack::<P, N>(negative.symbols()))?;
-    }
-    Ok(bits)
-}
-
-// The negative of a word.
-#[tactic(auto, using(lc_algebra::proofs::FieldLaws::one_inside))]
-fn negative_of(alloc: Global, field: &Field, word: &Word) -> Result<Word, NoMemory>
-    requires word { Fits field.now word.now }
-    ensures is { IfOk result (λ w. w ≡ negative field.now word.now) }
-{
-    let mut symbols = word.symbols().to_vec(alloc)?;
-    scale(field, &mut symbols, field.neg(1));
-    Ok(Word::from_vec(symbols))
-}
-
-// A word as bits: the first P planes of its first N parts.
-fn pack<const P: usize, const N: usize>(word: &[u8]) -> [[u64; P]; N]
+/// A word as bits: the first P planes of its first N parts.
+pub(crate) fn pack<const P: usize, const N: usize>(word: &[u8]) -> [[u64; P]; N]
     requires planes { P ≤ 4 }
     requires parts { N ≤ 4 }
     ensures is { IsPacked P N word.now result }
@@ -76,25 +45,33 @@ fn pack_part<const P: usize>(word: &[u8], i: usize) -> [u64; P]
     requires part { i < 4 }
     ensures are { (p : ℕ) → p < P → slice_index result p ≡ plane_at p (part_at (below (length word.now)) i) word.now }
 {
+    let block = part_of(word, i);
     let mut bits = [0; P];
     for p in 0..P {
-        bits[p] = plane_of(word, i, p as u8);
+        bits[p] = plane_of(&block, p);
     }
     bits
 }
 
-// Plane `p` of a part of a word: the first symbol's bit is the lowest.
-fn plane_of(word: &[u8], i: usize, p: u8) -> u64
+// The symbols of a part of a word, at most 64, and then zeros.
+fn part_of(word: &[u8], i: usize) -> [u8; 64]
     requires part { i < 4 }
-    requires plane { p < 4 }
-    ensures is { result ≡ plane_at p (part_at (below (length word.now)) i) word.now }
+    ensures planes { (j : ℕ) → plane j result ≡ plane_at j (part_at (below (length word.now)) i) word.now }
 {
     let start = (64 * i).min(word.len());
-    let mut at = (start + 64).min(word.len());
-    let mut bits: u64 = 0;
-    while at > start {
-        at -= 1;
-        bits = bits * 2 + ((word[at] >> p) & 1) as u64;
+    let many = (word.len() - start).min(64);
+    let mut block = [0; 64];
+    for t in 0..many {
+        block[t] = word[start + t];
     }
-    bits
+    block
+}
+
+// A plane of 64 symbols: the first symbol's bit is the lowest.
+fn plane_of(block: &[u8; 64], bit: usize) -> u64
+    requires bit { bit < 8 }
+    ensures is { result ≡ plane bit block.now }
+{
+    let ones = u8x64::from_array(*block) & u8x64::splat(1 << bit);
+    ones.simd_ne(u8x64::splat(0)).to_bitmask()
 }

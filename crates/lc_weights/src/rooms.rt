@@ -1,23 +1,32 @@
 //! The rooms of the workers that count the words of a code.
-ghost use Rattle.std.specs.Prelude.{◌≡◌, ℕ, ◌-◌, ◌*◌, ◌^◌, ◌≤◌, length, take, drop, map, All, sum_by, IfOk};
+ghost use Rattle.std.specs.Prelude.{◌≡◌, ℕ, ◌+◌, ◌-◌, ◌*◌, ◌^◌, ◌≤◌, length, take, drop, slice_index, All, sum_by, IfOk};
 ghost use Rattle.lc_algebra.specs.Field.{size};
 ghost use Rattle.lc_algebra.specs.Span.{words};
 ghost use Rattle.lc_enumeration.specs.Message.{numbers_from};
-ghost use Rattle.lc_kernel.specs.Grid.{negative};
+ghost use Rattle.lc_weights.specs.Leads.{leads};
 ghost use Rattle.lc_weights.specs.Packing.{ArePacked};
-ghost use Rattle.lc_weights.specs.Counts.{block_count, words_counted, IsRoomOf, AreCounts};
+ghost use Rattle.lc_weights.specs.Counts.{apart_count, block_count, words_counted, IsRoomOf, AreCounts};
 
 use crate::blocks::{CountBlocks, CountRoom};
-use crate::packing::{pack_negatives, pack_words};
-use crate::words::words_of;
+use crate::packing::{pack, pack_words};
+use crate::walk::tally;
+use crate::words::{leads_of, words_of};
 use lc_code::Code;
 use lc_crew::run_round;
 use lc_field::NoMemory;
 use lc_io::OpenGate;
+use lc_vec::Word;
 use std::alloc::Global;
 use std::thread::Threads;
 
-/// The rooms of so many workers, who have counted the words of a code.
+/// How many words of each weight workers have counted: the tails alone, and in rooms the sums of each head and each tail.
+#[derive(Drop)]
+pub(crate) struct Counted {
+    pub(crate) first: Vec<u64>,
+    pub(crate) rooms: Vec<CountRoom>,
+}
+
+/// What so many workers count of the words of a code.
 ///
 /// The words are given as P planes of N parts, which is enough for the field and the length. The code has at most 2^24
 /// words. There are 1 to 256 workers.
@@ -26,19 +35,22 @@ pub(crate) fn count_rooms<R: Threads + Sync, const P: usize, const N: usize>(
     alloc: Global,
     code: &Code,
     workers: u32,
-) -> Result<Vec<CountRoom>, NoMemory>
+) -> Result<Counted, NoMemory>
     requires planes { (size code.now.field ≤ 2 ^ P) × (P ≤ 4) }
     requires parts { (code.now.columns ≤ 64 * N) × (N ≤ 4) }
     requires small { size code.now.field ^ length code.now.rows ≤ 2 ^ 24 }
     requires workers { (1 ≤ workers) × (workers ≤ 256) }
-    ensures counted { IfOk result (λ rooms. AreCounts code.now rooms.items) }
+    ensures counted { IfOk result (λ c. AreCounts code.now c.first.items c.rooms.items) }
 {
     let _matrix = code.matrix();
     let split = split_of(code);
     let heads = heads_of::<P, N>(alloc, code, split)?;
     let tails = tails_of::<P, N>(alloc, code, split)?;
+    let word = Word::zero(alloc, code.length())?;
+    let zero = pack::<P, N>(word.symbols());
+    let first = first_counts(alloc, &zero, tails.as_slice())?;
     let rooms = run_rooms(rt, alloc, heads.as_slice(), tails.as_slice(), workers)?;
-    Ok(rooms)
+    Ok(Counted { first, rooms })
 }
 
 // How many of the first rows of a code make up heads: the others, which make up tails, have at most 4,096 words.
@@ -66,7 +78,7 @@ fn tail_rows(q: u64, k: usize) -> usize
     rows
 }
 
-// The heads as bits: the words of the first `split` rows.
+// The heads as bits: the words of the first `split` rows whose first coefficient other than 0 is 1.
 fn heads_of<const P: usize, const N: usize>(
     alloc: Global,
     code: &Code,
@@ -75,14 +87,14 @@ fn heads_of<const P: usize, const N: usize>(
     requires planes { P ≤ 4 }
     requires parts { N ≤ 4 }
     requires split { split ≤ length code.now.rows }
-    ensures are { IfOk result (λ hs. ArePacked P N (words code.now.field code.now.columns (take split code.now.rows)) hs.items) }
+    ensures are { IfOk result (λ hs. ArePacked P N (leads code.now.field code.now.columns (take split code.now.rows)) hs.items) }
 {
-    let list = words_of(alloc, code, 0, split)?;
+    let list = leads_of(alloc, code, split)?;
     let heads = pack_words(alloc, list.as_slice())?;
     Ok(heads)
 }
 
-// The negatives of the tails as bits: the tails are the words of the rows from `split` on.
+// The tails as bits: the words of the rows from `split` on.
 fn tails_of<const P: usize, const N: usize>(
     alloc: Global,
     code: &Code,
@@ -91,15 +103,30 @@ fn tails_of<const P: usize, const N: usize>(
     requires planes { P ≤ 4 }
     requires parts { N ≤ 4 }
     requires split { split ≤ length code.now.rows }
-    ensures are { IfOk result (λ ts. ArePacked P N (map (negative code.now.field) (words code.now.field code.now.columns (drop split code.now.rows))) ts.items) }
+    ensures are { IfOk result (λ ts. ArePacked P N (words code.now.field code.now.columns (drop split code.now.rows)) ts.items) }
 {
-    let _matrix = code.matrix();
     let list = words_of(alloc, code, split, code.dimension())?;
-    let tails = pack_negatives(alloc, code.field(), list.as_slice())?;
+    let tails = pack_words(alloc, list.as_slice())?;
     Ok(tails)
 }
 
-// The rooms of so many workers, who have done all blocks of some heads and tails.
+// How many tails differ from the zero word at so many places as the count's index.
+fn first_counts<const P: usize, const N: usize>(
+    alloc: Global,
+    zero: &[[u64; P]; N],
+    tails: &[[[u64; P]; N]],
+) -> Result<Vec<u64>, NoMemory>
+    requires parts { N ≤ 4 }
+    requires few { length tails.now ≤ 4096 }
+    ensures long { IfOk result (λ a. length a.items ≡ 64 * N + 1) }
+    ensures are { IfOk result (λ a. (j : ℕ) → slice_index a.items j ≡ apart_count P N zero.now tails.now j) }
+{
+    let mut counts = vec![in alloc; 0u64; 64 * N + 1]?;
+    tally(zero, tails, &mut counts);
+    Ok(counts)
+}
+
+// The rooms of so many workers, or of one for each head if these are fewer, who have done all blocks of some heads and tails.
 fn run_rooms<R: Threads + Sync, const P: usize, const N: usize>(
     rt: &R,
     alloc: Global,
@@ -120,8 +147,9 @@ fn run_rooms<R: Threads + Sync, const P: usize, const N: usize>(
     rooms.push(CountRoom { counts })?;
     let blocks = CountBlocks { heads, tails };
     let total = heads.len() as u64;
+    let hired = workers.min(heads.len().max(1).min(256) as u32);
     let Ok(_closed) = run_round(
-        rt, alloc, &blocks, 0, total, 0, workers, &mut rooms, &OpenGate,
+        rt, alloc, &blocks, 0, total, 0, hired, &mut rooms, &OpenGate,
     ) else {
         return Err(NoMemory);
     };

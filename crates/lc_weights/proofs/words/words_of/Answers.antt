@@ -1,4 +1,4 @@
-use Rattle.std.proofs.Common.{ap, ◌∙◌, arith}
+use Rattle.std.proofs.Common.{refl, ap, ◌∙◌, arith}
 use Rattle.lc_algebra.specs.Word.{zero_word}
 use Rattle.lc_weights.proofs.WordLaws.{rows_none, rows_more, between_are_rows}
 use Rattle.lc_weights.proofs.words.words_of.Goals as goal
@@ -13,7 +13,7 @@ loop-i-init c = record {
 pub with_row-requires-clause-words : goal.with_row-requires-clause-words
 with_row-requires-clause-words c =
     let C = c.args.code.now in
-    between_are_rows C.field c.field.result.now C.columns c.loop-i.i c.args.to c.row.result.now C.rows c.loop-i.list.items c.deref.result.now c.matrix-matrix.ensures.rows c.field.ensures.is c.row.ensures.word.long c.deref.ensures.value c.loop-i.invariant.are
+    between_are_rows C.field c.field.result.now C.columns c.loop-i.i c.args.to c.row.result.now C.rows c.loop-i.list.items c.loop-i.list.items c.matrix-matrix.ensures.rows c.field.ensures.is c.row.ensures.word.long refl c.loop-i.invariant.are
 
 pub loop-i-preserved : goal.loop-i-preserved
 loop-i-preserved c =
@@ -21,5 +21,5 @@ loop-i-preserved c =
     record {
       least = omega (arith, c.loop-i-test.true);
       most = omega (arith, c.loop-i.invariant.most);
-      are = rows_more C.field c.field.result.now C.columns c.loop-i.i c.args.to c.row.result.now C.rows c.loop-i.list.items c.deref.result.now c.in_ok-list-2.list.items (omega (arith, c.loop-i-test.true)) c.loop-i.invariant.most c.requires.to c.field.ensures.is c.row.ensures.is c.deref.ensures.value c.loop-i.invariant.are c.in_ok-list-2.ensures.are;
+      are = rows_more C.field c.field.result.now C.columns c.loop-i.i c.args.to c.row.result.now C.rows c.loop-i.list.items c.loop-i.list.items c.in_ok-list-2.list.items (omega (arith, c.loop-i-test.true)) c.loop-i.invariant.most c.requires.to c.field.ensures.is c.row.ensures.is refl c.loop-i.invariant.are c.in_ok-list-2.ensures.are;
     }
