@@ -12,8 +12,8 @@ use Rattle.lc_algebra.specs.SpanLaws.{restrict}
 use Rattle.lc_algebra.proofs.WordLaws.{length_scale, length_word_sum, IsWord_scale, scale_scale, one_scale, neg_one_twice}
 use Rattle.lc_algebra.proofs.SpanLaws.{length_below, index_below}
 use Rattle.lc_algebra.proofs.ColumnLaws.{length_restrict, index_restrict}
-use Rattle.lc_kernel.specs.Packed.{part_at}
-use Rattle.lc_kernel.specs.Planes.{plane, plane_at, apart}
+use Rattle.lc_planes.specs.Planes.{plane, part_at}
+use Rattle.lc_kernel.specs.Planes.{plane_at, apart}
 use Rattle.lc_kernel.specs.Grid.{negative}
 use Rattle.lc_kernel.proofs.PackLaws.{part_none, part_more, part_all}
 use Rattle.lc_kernel.proofs.PlaneLaws.{block_planes}

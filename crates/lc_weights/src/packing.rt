@@ -1,8 +1,8 @@
 //! Words as bits: in parts of 64 columns, each part as planes.
 ghost use Rattle.std.specs.Prelude.{◌≡◌, ℕ, ◌<◌, ◌≤◌, length, slice_index, IfOk};
 ghost use Rattle.lc_algebra.specs.Span.{below};
-ghost use Rattle.lc_kernel.specs.Packed.{part_at};
-ghost use Rattle.lc_kernel.specs.Planes.{plane, plane_at};
+ghost use Rattle.lc_planes.specs.Planes.{plane, part_at};
+ghost use Rattle.lc_kernel.specs.Planes.{plane_at};
 ghost use Rattle.lc_weights.specs.Packing.{IsPacked, ArePacked};
 
 use lc_field::NoMemory;

@@ -1,6 +1,6 @@
 use Rattle.std.proofs.Common.{◌≡◌, ◌<◌, ℕ, [], length, slice_index, slice_index_or}
 use Rattle.lc_algebra.specs.Span.{below}
-use Rattle.lc_kernel.specs.Packed.{part_at}
+use Rattle.lc_planes.specs.Planes.{part_at}
 use Rattle.lc_kernel.specs.Planes.{plane_at}
 use Rattle.lc_weights.proofs.packing.pack.Given as goal
 

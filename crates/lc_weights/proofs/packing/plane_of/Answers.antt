@@ -1,6 +1,6 @@
 use Rattle.std.proofs.Common.{rules}
 use Rattle.std.proofs.lemmas.Nat.{one_shl}
-use Rattle.lc_kernel.proofs.PlaneLaws.{plane_mask}
+use Rattle.lc_planes.proofs.PlaneLaws.{plane_mask}
 use Rattle.lc_weights.proofs.packing.plane_of.Goals as goal
 
 pub returns : goal.returns
