@@ -15,7 +15,6 @@ pub mod FrontPlanes
 pub mod RowLaws
 pub mod ListLaws
 pub mod SweepLaws
-pub mod WeightLaws
 pub mod BeyondLaws
 pub mod TailCounts
 pub mod GroupLaws

@@ -5,7 +5,7 @@
 --   run_word                   the bits of a word of a run: those of its head and of its tail
 --   run_ones                   how many nonzero symbols a word of a run has in a part of the columns
 --   run_at, part_counted, counted_few      the counts of a run after one more part, and their bound
---   block_weight, block_weight_most      the weight of a word of a block
+--   block_weight           the weight of a word of a block
 --   last_message, last_long, next_offset      the last message of a head, how long it is, and the one after it
 --   spot_next                  the spot after a step
 --   index_of_pair, index_of_triple      the index of a spot's last two places, and of its last three
@@ -368,15 +368,6 @@ block_weight C plan p b n s h rows free set_is phase spot l =
     let level : w ≡ length s.support = at.level ∙ sym here.level in
     let weighs : weight (front_word C t w) ≡ w + weight (restrict (others C t.set) (front_word C t w)) = weight_of_word C t rows free (omega (arith, same, set_is)) at.message (omega (arith, level, spot.level)) in
     ap weight at.read ∙ weighs ∙ ap (λ z. z + weight (restrict (others C t.set) (front_word C t w))) level ∙ ap (λ z. length s.support + weight (restrict (others C z) (front_word C t w))) same ∙ ap (λ z. length s.support + weight (restrict (others C s.set) z)) (sym at.read)
-
--- it is at most the length
-pub block_weight_most : (C : Matrix) (plan : PlanSize) (p b n : ℕ) → IsPlanOf plan C → AreRows C.field C.columns C.rows → AreIndependent C.field C.columns C.rows → IsInPhase (length C.rows) (size C.field) plan.m p b → n < length (block_words C plan.m b) → weight (slice_index_or (block_words C plan.m b) n []) ≤ C.columns
-block_weight_most C plan p b n h rows free phase l =
-    let found = block_front C plan.m p b n phase l in
-    let t = found.0 in
-    let inside = (set_below C plan p t.set h found.1.set).1 in
-    let word = front_word_fits C t (length t.support) (generates C t.set rows free inside) in
-    omega (arith, ap weight found.1.read, weight_at_most_length (front_word C t (length t.support)), word.long)
 
 -- the spot after a step
 pub spot_next : (C : Matrix) (plan : PlanSize) (b n : ℕ) (s t : SpotState) (o : Bool) → IsPlanOf plan C → IsSpotAt C plan.m b n s → n + 1 < length (block_words C plan.m b) → ((i : ℕ) → slice_get (messages plan.k plan.q (length s.support)) i ≡ Some (spot_message s) → slice_get (messages plan.k plan.q (length s.support)) (i + 1) ≡ (if o then Some (spot_message t) else None)) → Contains (messages plan.k plan.q (length t.support)) (spot_message t) → length t.support ≡ length s.support → t.set ≡ s.set → IsSpotAt C plan.m b (n + 1) t

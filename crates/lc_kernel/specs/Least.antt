@@ -4,7 +4,6 @@
 --   IsFirstLeast n f v i        number i is v, all are at least v, and those before it are greater
 --   IsFirstBelow n f bound v i      v is the least of the bound and these numbers, and if it is below the bound, i is the first index that has it
 --   AreCounted cols ws from n counts      the first n counts are the weights, at some columns, of the words from index from on
---   AreWeights ws n weights        the first n numbers are the weights of the first n of these words
 use Rattle.std.specs.Prelude.{◌≡◌, ℕ, ◌+◌, ◌<◌, ◌≤◌, List, [], slice_index, slice_index_or}
 use Rattle.lc_algebra.specs.Word.{weight}
 use Rattle.lc_algebra.specs.SpanLaws.{restrict}
@@ -34,6 +33,3 @@ pub record IsFirstBelow (n : ℕ) (f : ℕ → ℕ) (bound v i : ℕ) : Type 0 w
 
 abbrev pub AreCounted : List ℕ → List (List ℕ) → ℕ → ℕ → List ℕ → Type 0
 AreCounted cols ws from n counts = (i : ℕ) → i < n → slice_index counts i ≡ weight (restrict cols (slice_index_or ws (from + i) []))
-
-abbrev pub AreWeights : List (List ℕ) → ℕ → List ℕ → Type 0
-AreWeights ws n weights = (i : ℕ) → i < n → slice_index weights i ≡ weight (slice_index_or ws i [])

@@ -140,7 +140,8 @@ fn sum_thirteen(u: &[u64; 4], v: &[u64; 4]) -> [u64; 4]
 
 // Where the digits to the base 3 of the symbols over 9 elements are 1 and 2: the low ones, and then the high ones.
 fn digits(x: &[u64; 4]) -> [u64; 4]
-    ensures is { result ≡ digit_planes (slice_index x.now 0) (slice_index x.now 1) (slice_index x.now 2) (slice_index x.now 3) }
+    ensures is { result ≡ digit_planes (slice_index x.now 0) (slice_index x.now 1) (slice_index x.now 2)
+        (slice_index x.now 3) }
 {
     let six = x[1] & x[2];
     let three = (x[2] | (x[0] & x[1])) ^ six;

@@ -7,7 +7,8 @@ ghost use Rattle.lc_kernel.specs.Least.{IsLeastOr, IsFirstLeast};
 pub(crate) fn add_ones(sums: &[u64], prefix: u64, counts: &mut [u32])
     requires lengths { length sums.now ≡ length counts.old }
     requires few { (i : ℕ) → i < length counts.old → slice_index counts.old i ≤ 255 }
-    ensures is { (i : ℕ) → i < length counts.old → slice_index counts.new i ≡ slice_index counts.old i + count_ones (bit_xor (slice_index sums.now i) prefix) }
+    ensures is { (i : ℕ) → i < length counts.old →
+        slice_index counts.new i ≡ slice_index counts.old i + count_ones (bit_xor (slice_index sums.now i) prefix) }
 {
     for i in 0..counts.len() {
         let ones = (sums[i] ^ prefix).count_ones();
@@ -18,7 +19,8 @@ pub(crate) fn add_ones(sums: &[u64], prefix: u64, counts: &mut [u32])
 /// Puts in place of each count the number of ones of a sum and the prefix.
 pub(crate) fn put_ones(sums: &[u64], prefix: u64, counts: &mut [u32])
     requires lengths { length sums.now ≡ length counts.old }
-    ensures is { (i : ℕ) → i < length counts.old → slice_index counts.new i ≡ count_ones (bit_xor (slice_index sums.now i) prefix) }
+    ensures is { (i : ℕ) → i < length counts.old →
+        slice_index counts.new i ≡ count_ones (bit_xor (slice_index sums.now i) prefix) }
 {
     for i in 0..counts.len() {
         counts[i] = (sums[i] ^ prefix).count_ones();

@@ -49,7 +49,8 @@ pub(crate) fn row_planes(
     requires few { length columns.now ≤ 64 }
     requires inside { (t : ℕ) → t < length columns.now → slice_index columns.now t < sets.now.columns }
     requires planes { planes ≤ 4 }
-    ensures are { IfOk result (λ rows. AreRowPlanes sets.now j columns.now planes (length sets.now.rows * (size sets.now.field - 1)) rows.items) }
+    ensures are { IfOk result (λ rows. AreRowPlanes sets.now j columns.now planes
+        (length sets.now.rows * (size sets.now.field - 1)) rows.items) }
 {
     let elements = nonzero(sets);
     let k = sets.dimension();
@@ -66,11 +67,14 @@ pub(crate) fn row_planes(
 // The planes of the sum of the first i + 1 entries, from those of the first i.
 fn next_front(sets: &Sets, grid: &Grid, spot: &Spot, front: &[u64; 4], i: usize) -> [u64; 4]
     requires set { spot.now.set < set_count sets.now }
-    requires message { Contains (messages (length sets.now.rows) (size sets.now.field) (length spot.now.support)) (spot_message spot.now) }
+    requires message { Contains (messages (length sets.now.rows) (size sets.now.field) (length spot.now.support))
+        (spot_message spot.now) }
     requires kept { IsKept sets.now spot.now.set grid.now.planes grid.now.rows.items }
     requires entry { i < length spot.now.support }
-    requires front { ArePlanes (part_at (others sets.now spot.now.set) 0) grid.now.planes (front_word sets.now spot.now i) front.now }
-    ensures is { ArePlanes (part_at (others sets.now spot.now.set) 0) grid.now.planes (front_word sets.now spot.now (i + 1)) result }
+    requires front { ArePlanes (part_at (others sets.now spot.now.set) 0) grid.now.planes
+        (front_word sets.now spot.now i) front.now }
+    ensures is { ArePlanes (part_at (others sets.now spot.now.set) 0) grid.now.planes
+        (front_word sets.now spot.now (i + 1)) result }
 {
     let _k = sets.dimension();
     let _n = sets.length();
@@ -91,7 +95,8 @@ fn refresh_planes(
     to: usize,
 )
     requires set { spot.now.set < set_count sets.now }
-    requires message { Contains (messages (length sets.now.rows) (size sets.now.field) (length spot.now.support)) (spot_message spot.now) }
+    requires message { Contains (messages (length sets.now.rows) (size sets.now.field) (length spot.now.support))
+        (spot_message spot.now) }
     requires kept { IsKept sets.now spot.now.set grid.now.planes grid.now.rows.items }
     requires many { length fronts.old ≡ length sets.now.rows + 1 }
     requires fronts { AreFrontPlanes sets.now spot.now grid.now.planes from fronts.old }
@@ -119,11 +124,15 @@ fn count_front(
     done: u64,
     counts: &mut [u32],
 )
-    requires run { IsTailRun sets.now plan.now.m block spot.now (front_word sets.now spot.now (length spot.now.support - 2)) done start (length counts.old) }
-    requires grid { IsGrid sets.now spot.now.set grid.now.planes grid.now.tails grid.now.parts.items grid.now.starts.items }
+    requires run { IsTailRun sets.now plan.now.m block spot.now
+        (front_word sets.now spot.now (length spot.now.support - 2)) done start (length counts.old) }
+    requires grid { IsGrid sets.now spot.now.set grid.now.planes grid.now.tails grid.now.parts.items
+        grid.now.starts.items }
     requires alone { length grid.now.parts.items ≡ 1 }
-    requires head { ArePlanes (part_at (others sets.now spot.now.set) 0) grid.now.planes (front_word sets.now spot.now (length spot.now.support - 2)) head.now }
-    ensures counted { AreCounted (others sets.now spot.now.set) (block_words sets.now plan.now.m block) done (length counts.old) counts.new }
+    requires head { ArePlanes (part_at (others sets.now spot.now.set) 0) grid.now.planes
+        (front_word sets.now spot.now (length spot.now.support - 2)) head.now }
+    ensures counted { AreCounted (others sets.now spot.now.set) (block_words sets.now plan.now.m block) done
+        (length counts.old) counts.new }
 {
     let _n = sets.length();
     counts.fill(0);
@@ -148,13 +157,17 @@ fn one_front(
     requires set { spot.now.set < set_count sets.now }
     requires at { IsSpotAt sets.now plan.now.m block done spot.now }
     requires level { 3 ≤ length spot.now.support }
-    requires grid { IsGrid sets.now spot.now.set grid.now.planes grid.now.tails grid.now.parts.items grid.now.starts.items }
+    requires grid { IsGrid sets.now spot.now.set grid.now.planes grid.now.tails grid.now.parts.items
+        grid.now.starts.items }
     requires alone { length grid.now.parts.items ≡ 1 }
-    requires head { ArePlanes (part_at (others sets.now spot.now.set) 0) grid.now.planes (front_word sets.now spot.now (length spot.now.support - 2)) head.now }
+    requires head { ArePlanes (part_at (others sets.now spot.now.set) 0) grid.now.planes
+        (front_word sets.now spot.now (length spot.now.support - 2)) head.now }
     requires some { done < length counts.old }
     requires words { length counts.old ≡ length (block_words sets.now plan.now.m block) }
-    requires counted { AreCounted (others sets.now spot.now.set) (block_words sets.now plan.now.m block) 0 done counts.old }
-    ensures counted { AreCounted (others sets.now spot.now.set) (block_words sets.now plan.now.m block) 0 (done + result) counts.new }
+    requires counted { AreCounted (others sets.now spot.now.set)
+        (block_words sets.now plan.now.m block) 0 done counts.old }
+    ensures counted { AreCounted (others sets.now spot.now.set) (block_words sets.now plan.now.m block) 0
+        (done + result) counts.new }
     ensures some { 0 < result }
     ensures within { done + result ≤ length counts.old }
     ensures end { done + result < length counts.old → tail_index sets.now spot.now + result ≡ tail_count sets.now }
@@ -179,9 +192,9 @@ fn one_front(
     count
 }
 
-/// Counts the nonzero symbols, outside the basis, of the words of a block of a level of at least 3, from its
-/// first message on.
-pub(crate) fn count_fronts(
+// Counts the nonzero symbols, outside the basis, of the words of a block of a level of at least 3, from its
+// first message on.
+fn count_fronts(
     sets: &Sets,
     plan: &Plan,
     block: u64,
@@ -195,13 +208,15 @@ pub(crate) fn count_fronts(
     requires set { spot.old.set < set_count sets.now }
     requires at { IsSpotAt sets.now plan.now.m block 0 spot.old }
     requires level { 3 ≤ length spot.old.support }
-    requires grid { IsGrid sets.now spot.old.set grid.now.planes grid.now.tails grid.now.parts.items grid.now.starts.items }
+    requires grid { IsGrid sets.now spot.old.set grid.now.planes grid.now.tails grid.now.parts.items
+        grid.now.starts.items }
     requires alone { length grid.now.parts.items ≡ 1 }
     requires kept { IsKept sets.now spot.old.set grid.now.planes grid.now.rows.items }
     requires many { length fronts.old ≡ length sets.now.rows + 1 }
     requires some { 0 < length counts.old }
     requires words { length counts.old ≡ length (block_words sets.now plan.now.m block) }
-    ensures counted { AreCounted (others sets.now spot.old.set) (block_words sets.now plan.now.m block) 0 (length counts.old) counts.new }
+    ensures counted { AreCounted (others sets.now spot.old.set) (block_words sets.now plan.now.m block) 0
+        (length counts.old) counts.new }
     ensures room { spot.new.room ≡ spot.old.room }
 {
     let _k = sets.dimension();
@@ -233,8 +248,11 @@ pub(crate) fn count_fronts(
 // The least of the counts of a block, and the first word that has it.
 fn first_counted(sets: &Sets, plan: &Plan, block: u64, set: usize, counts: &[u32]) -> (u32, usize)
     requires some { 0 < length counts.now }
-    requires counted { AreCounted (others sets.now set) (block_words sets.now plan.now.m block) 0 (length counts.now) counts.now }
-    ensures is { IsFirstLeast (length counts.now) (λ i. weight (restrict (others sets.now set) (slice_index_or (block_words sets.now plan.now.m block) i []))) result.0 result.1 }
+    requires counted { AreCounted (others sets.now set) (block_words sets.now plan.now.m block) 0
+        (length counts.now) counts.now }
+    ensures is { IsFirstLeast (length counts.now)
+        (λ i. weight (restrict (others sets.now set)
+        (slice_index_or (block_words sets.now plan.now.m block) i []))) result.0 result.1 }
     ensures few { result.0 ≤ 255 }
 {
     let _n = sets.length();
@@ -263,7 +281,8 @@ pub(crate) fn least_words(
     requires set { spot.old.set < set_count sets.now }
     requires at { IsSpotAt sets.now plan.now.m block 0 spot.old }
     requires level { 3 ≤ length spot.old.support }
-    requires grid { IsGrid sets.now spot.old.set grid.now.planes grid.now.tails grid.now.parts.items grid.now.starts.items }
+    requires grid { IsGrid sets.now spot.old.set grid.now.planes grid.now.tails grid.now.parts.items
+        grid.now.starts.items }
     requires kept { HasFronts sets.now spot.old.set grid.now.planes (length grid.now.parts.items) grid.now.rows.items }
     requires multiples { AreMultiples sets.now multiples.now }
     requires room { IsRoom sets.now spot.old heads.old }
@@ -273,7 +292,9 @@ pub(crate) fn least_words(
     requires some { 0 < length counts.old }
     requires counts { length counts.old ≤ 4096 }
     requires words { length counts.old ≡ length (block_words sets.now plan.now.m block) }
-    ensures is { IsFirstLeast (length counts.old) (λ i. weight (restrict (others sets.now spot.old.set) (slice_index_or (block_words sets.now plan.now.m block) i []))) result.0 result.1 }
+    ensures is { IsFirstLeast (length counts.old)
+        (λ i. weight (restrict (others sets.now spot.old.set)
+        (slice_index_or (block_words sets.now plan.now.m block) i []))) result.0 result.1 }
     ensures few { result.0 ≤ 255 }
     ensures room { spot.new.room ≡ spot.old.room }
     ensures heads { IsRoom sets.now spot.new heads.new }

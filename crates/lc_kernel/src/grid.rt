@@ -121,7 +121,8 @@ fn push_row(
     requires row { a < length sets.now.rows }
     requires first { EndsAt (length sets.now.rows) 2 a first }
     requires tails { AreTails sets.now j (first * tail_count sets.now) words.old.items }
-    ensures tails { IfOk result (λ _. AreTails sets.now j ((first + (length sets.now.rows - a - 1)) * tail_count sets.now) words.new.items) }
+    ensures tails { IfOk result (λ _. AreTails sets.now j
+        ((first + (length sets.now.rows - a - 1)) * tail_count sets.now) words.new.items) }
 {
     let _n = sets.length();
     let k = sets.dimension();
@@ -141,7 +142,8 @@ fn all_tails(
     requires multiples { AreMultiples sets.now multiples.now }
     requires set { j < set_count sets.now }
     ensures are { IfOk result (λ ws. AreTails sets.now j (tails_in sets.now) ws.items) }
-    ensures few { IfOk result (λ ws. length ws.items ≤ length sets.now.rows * length sets.now.rows * tail_count sets.now) }
+    ensures few { IfOk result (λ ws. length ws.items ≤ length sets.now.rows * length sets.now.rows * tail_count
+        sets.now) }
 {
     let _n = sets.length();
     let k = sets.dimension();
@@ -163,10 +165,14 @@ fn push_plane(
 ) -> Result<(), NoMemory>
     requires few { length columns.now ≤ 64 }
     requires plane { plane < 8 }
-    requires inside { (i t : ℕ) → i < length words.now → t < length columns.now → slice_index columns.now t < length (slice_index_or words.now i []) }
+    requires inside { (i t : ℕ) → i < length words.now → t < length columns.now →
+        slice_index columns.now t < length (slice_index_or words.now i []) }
     ensures long { IfOk result (λ _. length bits.new.items ≡ length bits.old.items + length words.now) }
-    ensures before { IfOk result (λ _. (i : ℕ) → i < length bits.old.items → slice_index bits.new.items i ≡ slice_index bits.old.items i) }
-    ensures after { IfOk result (λ _. (e : ℕ) → e < length words.now → slice_index bits.new.items (length bits.old.items + e) ≡ plane_at plane columns.now (slice_index_or words.now e [])) }
+    ensures before { IfOk result (λ _. (i : ℕ) → i < length bits.old.items →
+        slice_index bits.new.items i ≡ slice_index bits.old.items i) }
+    ensures after { IfOk result (λ _. (e : ℕ) → e < length words.now →
+        slice_index bits.new.items (length bits.old.items + e)
+        ≡ plane_at plane columns.now (slice_index_or words.now e [])) }
 {
     for e in 0..words.len() {
         let block = gather(words[e].symbols(), columns);
@@ -184,7 +190,8 @@ fn planes_of(
 ) -> Result<Vec<u64>, NoMemory>
     requires few { length columns.now ≤ 64 }
     requires planes { planes ≤ 4 }
-    requires inside { (i t : ℕ) → i < length words.now → t < length columns.now → slice_index columns.now t < length (slice_index_or words.now i []) }
+    requires inside { (i t : ℕ) → i < length words.now → t < length columns.now →
+        slice_index columns.now t < length (slice_index_or words.now i []) }
     ensures are { IfOk result (λ bits. ArePlanesOf columns.now planes words.now bits.items) }
 {
     let mut bits = Vec::new(alloc);
@@ -230,7 +237,8 @@ fn grid_part(
 ) -> Result<GridPart, NoMemory>
     requires few { length columns.now ≤ 64 }
     requires planes { planes ≤ 4 }
-    requires inside { (i t : ℕ) → i < length words.now → t < length columns.now → slice_index columns.now t < length (slice_index_or words.now i []) }
+    requires inside { (i t : ℕ) → i < length words.now → t < length columns.now →
+        slice_index columns.now t < length (slice_index_or words.now i []) }
     ensures columns { IfOk result (λ p. p.columns.items ≡ columns.now) }
     ensures bits { IfOk result (λ p. ArePlanesOf columns.now planes words.now p.bits.items) }
 {
@@ -282,8 +290,10 @@ pub(crate) fn grid_of(
 ) -> Result<Option<Grid>, NoMemory>
     requires multiples { AreMultiples sets.now multiples.now }
     requires set { j < set_count sets.now }
-    ensures is { IfOk result (λ o. (g : _) → o ≡ Some g → IsGrid sets.now j g.planes g.tails g.parts.items g.starts.items) }
-    ensures fronts { IfOk result (λ o. (g : _) → o ≡ Some g → HasFronts sets.now j g.planes (length g.parts.items) g.rows.items) }
+    ensures is { IfOk result (λ o. (g : _) → o ≡ Some g →
+        IsGrid sets.now j g.planes g.tails g.parts.items g.starts.items) }
+    ensures fronts { IfOk result (λ o. (g : _) → o ≡ Some g →
+        HasFronts sets.now j g.planes (length g.parts.items) g.rows.items) }
     ensures some { IfOk result (λ o. (g : _) → o ≡ Some g → HasRoom sets.now) }
     ensures none { IfOk result (λ o. o ≡ None → LacksRoom sets.now) }
 {
@@ -339,7 +349,9 @@ fn rows_of(
     requires set { j < set_count sets.now }
     requires planes { planes ≤ 4 }
     requires parts { AreGridParts sets.now j planes parts.now }
-    ensures are { IfOk result (λ rows. length parts.now ≡ 1 → AreRowPlanes sets.now j (part_at (others sets.now j) 0) planes (length sets.now.rows * (size sets.now.field - 1)) rows.items) }
+    ensures are { IfOk result (λ rows. length parts.now ≡ 1 →
+        AreRowPlanes sets.now j (part_at (others sets.now j) 0) planes
+        (length sets.now.rows * (size sets.now.field - 1)) rows.items) }
 {
     let many = parts.len();
     if many != 1 {

@@ -1,5 +1,5 @@
-//! The kernel of a search: the least word of a block, the weights of its words, and the word at a place. (The method is
-//! that of Brouwer and Zimmermann, as Grassl describes it.)
+//! The kernel of a search: the least word of a block, and the word at a place. (The method is that of Brouwer and Zimmermann,
+//! as Grassl describes it.)
 #![tactic(auto)]
 
 mod adders;
@@ -19,10 +19,8 @@ mod sums;
 mod sweeps;
 mod table;
 mod tails;
-mod weigh;
 
 pub use block::least;
 pub use place::word_at;
 pub use scratch::Scratch;
 pub use stack::Stack;
-pub use weigh::weights;

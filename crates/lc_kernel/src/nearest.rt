@@ -23,7 +23,8 @@ pub(crate) struct Halves<'a> {
 #[inline]
 fn row_two(ones: &[u64], twos: &[u64], p: u64, r: u64, bound: u32) -> u32
     requires twos { length twos.now ≡ length ones.now }
-    ensures is { IsLeastOr (length ones.now) (λ i. count_ones (bit_or (bit_xor r (slice_index twos.now i)) (bit_xor p (slice_index ones.now i)))) bound result }
+    ensures is { IsLeastOr (length ones.now) (λ i. count_ones
+        (bit_or (bit_xor r (slice_index twos.now i)) (bit_xor p (slice_index ones.now i)))) bound result }
 {
     let mut least = bound;
     for i in 0..ones.len() {
@@ -41,7 +42,9 @@ fn row_two(ones: &[u64], twos: &[u64], p: u64, r: u64, bound: u32) -> u32
 fn row_three(ones: &[u64], twos: &[u64], fours: &[u64], p: u64, r: u64, s: u64, bound: u32) -> u32
     requires twos { length twos.now ≡ length ones.now }
     requires fours { length fours.now ≡ length ones.now }
-    ensures is { IsLeastOr (length ones.now) (λ i. count_ones (bit_or (bit_xor s (slice_index fours.now i)) (bit_or (bit_xor r (slice_index twos.now i)) (bit_xor p (slice_index ones.now i))))) bound result }
+    ensures is { IsLeastOr (length ones.now) (λ i. count_ones
+        (bit_or (bit_xor s (slice_index fours.now i))
+        (bit_or (bit_xor r (slice_index twos.now i)) (bit_xor p (slice_index ones.now i))))) bound result }
 {
     let mut least = bound;
     for i in 0..ones.len() {
@@ -67,7 +70,11 @@ fn row_four(
     requires twos { length twos.now ≡ length ones.now }
     requires fours { length fours.now ≡ length ones.now }
     requires eights { length eights.now ≡ length ones.now }
-    ensures is { IsLeastOr (length ones.now) (λ i. count_ones (bit_or (bit_xor (slice_index head.now 3) (slice_index eights.now i)) (bit_or (bit_xor (slice_index head.now 2) (slice_index fours.now i)) (bit_or (bit_xor (slice_index head.now 1) (slice_index twos.now i)) (bit_xor (slice_index head.now 0) (slice_index ones.now i)))))) bound result }
+    ensures is { IsLeastOr (length ones.now) (λ i. count_ones
+        (bit_or (bit_xor (slice_index head.now 3) (slice_index eights.now i))
+        (bit_or (bit_xor (slice_index head.now 2) (slice_index fours.now i))
+        (bit_or (bit_xor (slice_index head.now 1) (slice_index twos.now i))
+        (bit_xor (slice_index head.now 0) (slice_index ones.now i)))))) bound result }
 {
     let mut least = bound;
     for i in 0..ones.len() {
@@ -85,7 +92,9 @@ fn row_four(
 // planes.
 fn rows_two(ones: &[u64], twos: &[u64], heads: &[[u64; 4]], bound: u32) -> u32
     requires twos { length twos.now ≡ length ones.now }
-    ensures is { IsLeastPairOr (length heads.now) (length ones.now) (λ h t. count_ones (bit_or (bit_xor (slice_index (slice_index_or heads.now h []) 1) (slice_index twos.now t)) (bit_xor (slice_index (slice_index_or heads.now h []) 0) (slice_index ones.now t)))) bound result }
+    ensures is { IsLeastPairOr (length heads.now) (length ones.now)
+        (λ h t. count_ones (bit_or (bit_xor (slice_index (slice_index_or heads.now h []) 1) (slice_index twos.now t))
+        (bit_xor (slice_index (slice_index_or heads.now h []) 0) (slice_index ones.now t)))) bound result }
 {
     let mut least = bound;
     for row in 0..heads.len() {
@@ -99,7 +108,10 @@ fn rows_two(ones: &[u64], twos: &[u64], heads: &[[u64; 4]], bound: u32) -> u32
 fn rows_three(ones: &[u64], twos: &[u64], fours: &[u64], heads: &[[u64; 4]], bound: u32) -> u32
     requires twos { length twos.now ≡ length ones.now }
     requires fours { length fours.now ≡ length ones.now }
-    ensures is { IsLeastPairOr (length heads.now) (length ones.now) (λ h t. count_ones (bit_or (bit_xor (slice_index (slice_index_or heads.now h []) 2) (slice_index fours.now t)) (bit_or (bit_xor (slice_index (slice_index_or heads.now h []) 1) (slice_index twos.now t)) (bit_xor (slice_index (slice_index_or heads.now h []) 0) (slice_index ones.now t))))) bound result }
+    ensures is { IsLeastPairOr (length heads.now) (length ones.now)
+        (λ h t. count_ones (bit_or (bit_xor (slice_index (slice_index_or heads.now h []) 2) (slice_index fours.now t))
+        (bit_or (bit_xor (slice_index (slice_index_or heads.now h []) 1) (slice_index twos.now t))
+        (bit_xor (slice_index (slice_index_or heads.now h []) 0) (slice_index ones.now t))))) bound result }
 {
     let mut least = bound;
     for row in 0..heads.len() {
@@ -121,7 +133,12 @@ fn rows_four(
     requires twos { length twos.now ≡ length ones.now }
     requires fours { length fours.now ≡ length ones.now }
     requires eights { length eights.now ≡ length ones.now }
-    ensures is { IsLeastPairOr (length heads.now) (length ones.now) (λ h t. count_ones (bit_or (bit_xor (slice_index (slice_index_or heads.now h []) 3) (slice_index eights.now t)) (bit_or (bit_xor (slice_index (slice_index_or heads.now h []) 2) (slice_index fours.now t)) (bit_or (bit_xor (slice_index (slice_index_or heads.now h []) 1) (slice_index twos.now t)) (bit_xor (slice_index (slice_index_or heads.now h []) 0) (slice_index ones.now t)))))) bound result }
+    ensures is { IsLeastPairOr (length heads.now) (length ones.now)
+        (λ h t. count_ones (bit_or (bit_xor (slice_index (slice_index_or heads.now h []) 3)
+        (slice_index eights.now t)) (bit_or
+        (bit_xor (slice_index (slice_index_or heads.now h []) 2) (slice_index fours.now t))
+        (bit_or (bit_xor (slice_index (slice_index_or heads.now h []) 1) (slice_index twos.now t))
+        (bit_xor (slice_index (slice_index_or heads.now h []) 0) (slice_index ones.now t)))))) bound result }
 {
     let mut least = bound;
     for row in 0..heads.len() {
@@ -133,7 +150,8 @@ fn rows_four(
 // The same for the tails of some words, by all planes.
 fn rows_apart(halves: &Halves<'_>, heads: &[[u64; 4]], bound: u32) -> u32
     requires halves { AreHalves halves.now }
-    ensures is { IsLeastPairOr (length heads.now) halves.now.tails (λ h t. tail_apart halves.now (slice_index_or heads.now h []) t) bound result }
+    ensures is { IsLeastPairOr (length heads.now) halves.now.tails
+        (λ h t. tail_apart halves.now (slice_index_or heads.now h []) t) bound result }
 {
     let Halves {
         planes,
@@ -183,7 +201,8 @@ fn are_beyond(halves: &Halves<'_>, first: usize, many: usize, bound: u32) -> boo
     requires halves { AreHalves halves.now }
     requires inside { first + many ≤ length halves.now.heads.now * halves.now.tails }
     ensures low { result ≡ true → (i : ℕ) → i < many → bound ≤ symbols_apart halves.now (first + i) }
-    ensures all { AreWholeHeads halves.now first many → ((i : ℕ) → i < many → bound ≤ symbols_apart halves.now (first + i)) → result ≡ true }
+    ensures all { AreWholeHeads halves.now first many →
+        ((i : ℕ) → i < many → bound ≤ symbols_apart halves.now (first + i)) → result ≡ true }
     ensures whole { result ≡ true → AreWholeHeads halves.now first many }
 {
     let tails = halves.tails;
@@ -225,7 +244,8 @@ fn first_below(
 ) -> (u32, usize)
     requires halves { AreHalves halves.now }
     requires room { tail + length counts.old ≤ halves.now.tails }
-    ensures is { IsFirstBelow (length counts.old) (λ i. tail_apart halves.now head.now (tail + i)) bound result.0 result.1 }
+    ensures is { IsFirstBelow (length counts.old)
+        (λ i. tail_apart halves.now head.now (tail + i)) bound result.0 result.1 }
 {
     counts.fill(0);
     let start = halves.start + tail;

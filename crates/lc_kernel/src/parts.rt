@@ -191,8 +191,10 @@ fn longer_sums(
 // Pushes the sums of a row and each of some sums.
 fn push_sums(row: u64, sums: &[u64], longer: &mut Vec<u64>) -> Result<(), NoMemory>
     ensures long { IfOk result (λ _. length longer.new.items ≡ length longer.old.items + length sums.now) }
-    ensures before { IfOk result (λ _. (r : ℕ) → r < length longer.old.items → slice_index longer.new.items r ≡ slice_index longer.old.items r) }
-    ensures after { IfOk result (λ _. (x : ℕ) → x < length sums.now → slice_index longer.new.items (length longer.old.items + x) ≡ bit_xor row (slice_index sums.now x)) }
+    ensures before { IfOk result (λ _. (r : ℕ) → r < length longer.old.items →
+        slice_index longer.new.items r ≡ slice_index longer.old.items r) }
+    ensures after { IfOk result (λ _. (x : ℕ) → x < length sums.now →
+        slice_index longer.new.items (length longer.old.items + x) ≡ bit_xor row (slice_index sums.now x)) }
 {
     for i in 0..sums.len() {
         longer.push(row ^ sums[i])?;

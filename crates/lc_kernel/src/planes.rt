@@ -39,7 +39,9 @@ fn add_two(ones: &[u64], twos: &[u64], p: u64, r: u64, counts: &mut [u32])
     requires ones { length ones.now ≡ length counts.old }
     requires twos { length twos.now ≡ length counts.old }
     requires few { (i : ℕ) → i < length counts.old → slice_index counts.old i ≤ 255 }
-    ensures is { (i : ℕ) → i < length counts.old → slice_index counts.new i ≡ slice_index counts.old i + count_ones (bit_or (bit_xor r (slice_index twos.now i)) (bit_xor p (slice_index ones.now i))) }
+    ensures is { (i : ℕ) → i < length counts.old →
+        slice_index counts.new i ≡ slice_index counts.old i + count_ones
+        (bit_or (bit_xor r (slice_index twos.now i)) (bit_xor p (slice_index ones.now i))) }
 {
     for i in 0..counts.len() {
         let apart = (r ^ twos[i]) | (p ^ ones[i]);
@@ -54,7 +56,10 @@ fn add_three(ones: &[u64], twos: &[u64], fours: &[u64], p: u64, r: u64, s: u64, 
     requires twos { length twos.now ≡ length counts.old }
     requires fours { length fours.now ≡ length counts.old }
     requires few { (i : ℕ) → i < length counts.old → slice_index counts.old i ≤ 255 }
-    ensures is { (i : ℕ) → i < length counts.old → slice_index counts.new i ≡ slice_index counts.old i + count_ones (bit_or (bit_xor s (slice_index fours.now i)) (bit_or (bit_xor r (slice_index twos.now i)) (bit_xor p (slice_index ones.now i)))) }
+    ensures is { (i : ℕ) → i < length counts.old →
+        slice_index counts.new i ≡ slice_index counts.old i + count_ones
+        (bit_or (bit_xor s (slice_index fours.now i))
+        (bit_or (bit_xor r (slice_index twos.now i)) (bit_xor p (slice_index ones.now i)))) }
 {
     for i in 0..counts.len() {
         let apart = (s ^ fours[i]) | ((r ^ twos[i]) | (p ^ ones[i]));
@@ -80,7 +85,11 @@ fn add_four(
     requires fours { length fours.now ≡ length counts.old }
     requires eights { length eights.now ≡ length counts.old }
     requires few { (i : ℕ) → i < length counts.old → slice_index counts.old i ≤ 255 }
-    ensures is { (i : ℕ) → i < length counts.old → slice_index counts.new i ≡ slice_index counts.old i + count_ones (bit_or (bit_xor t (slice_index eights.now i)) (bit_or (bit_xor s (slice_index fours.now i)) (bit_or (bit_xor r (slice_index twos.now i)) (bit_xor p (slice_index ones.now i))))) }
+    ensures is { (i : ℕ) → i < length counts.old →
+        slice_index counts.new i ≡ slice_index counts.old i + count_ones
+        (bit_or (bit_xor t (slice_index eights.now i))
+        (bit_or (bit_xor s (slice_index fours.now i))
+        (bit_or (bit_xor r (slice_index twos.now i)) (bit_xor p (slice_index ones.now i))))) }
 {
     for i in 0..counts.len() {
         let low = (r ^ twos[i]) | (p ^ ones[i]);
@@ -106,7 +115,9 @@ pub(crate) fn add_apart(
     requires room { start + length counts.old ≤ words }
     requires small { words ≤ 2 ^ 18 }
     requires few { (i : ℕ) → i < length counts.old → slice_index counts.old i ≤ 255 }
-    ensures is { (i : ℕ) → i < length counts.old → slice_index counts.new i ≡ slice_index counts.old i + count_ones (bits_apart planes head.now bits.now words (start + i)) }
+    ensures is { (i : ℕ) → i < length counts.old →
+        slice_index counts.new i ≡ slice_index counts.old i + count_ones
+        (bits_apart planes head.now bits.now words (start + i)) }
 {
     let many = counts.len();
     let second = words + start;

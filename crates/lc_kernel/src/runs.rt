@@ -23,7 +23,8 @@ use lc_place::{Plan, Spot};
 
 /// The index of the pair of the last two places of a spot.
 pub(crate) fn pair_index(sets: &Sets, starts: &[usize], spot: &Spot) -> usize
-    requires message { Contains (messages (length sets.now.rows) (size sets.now.field) (length spot.now.support)) (spot_message spot.now) }
+    requires message { Contains (messages (length sets.now.rows) (size sets.now.field) (length spot.now.support))
+        (spot_message spot.now) }
     requires level { 2 ≤ length spot.now.support }
     requires starts { AreStarts (length sets.now.rows) 2 starts.now }
     ensures is { slice_get (supports_from 0 (length sets.now.rows) 2) result ≡ Some (pair_of spot.now) }
@@ -40,10 +41,12 @@ pub(crate) fn pair_index(sets: &Sets, starts: &[usize], spot: &Spot) -> usize
 
 // The index of the tail of a spot: of its last places, as many as the tails of the table have.
 fn tail_index(sets: &Sets, table: &Table, spot: &Spot) -> usize
-    requires message { Contains (messages (length sets.now.rows) (size sets.now.field) (length spot.now.support)) (spot_message spot.now) }
+    requires message { Contains (messages (length sets.now.rows) (size sets.now.field) (length spot.now.support))
+        (spot_message spot.now) }
     requires level { table.now.tail ≤ length spot.now.support }
     requires table { IsTable sets.now spot.now.set table.now }
-    ensures is { slice_get (supports_from 0 (length sets.now.rows) table.now.tail) result ≡ Some (tail_of table.now.tail spot.now) }
+    ensures is { slice_get (supports_from 0 (length sets.now.rows) table.now.tail) result
+        ≡ Some (tail_of table.now.tail spot.now) }
     ensures inside { result < length (supports_from 0 (length sets.now.rows) table.now.tail) }
 {
     let _k = sets.dimension();
@@ -60,11 +63,13 @@ fn tail_index(sets: &Sets, table: &Table, spot: &Spot) -> usize
 // The bits, in a part of the columns, of the word of the entries of a spot before its tail.
 fn head_bits(sets: &Sets, table: &Table, part: usize, spot: &Spot) -> u64
     requires set { spot.now.set < set_count sets.now }
-    requires message { Contains (messages (length sets.now.rows) (size sets.now.field) (length spot.now.support)) (spot_message spot.now) }
+    requires message { Contains (messages (length sets.now.rows) (size sets.now.field) (length spot.now.support))
+        (spot_message spot.now) }
     requires level { table.now.tail ≤ length spot.now.support }
     requires table { IsTable sets.now spot.now.set table.now }
     requires part { part < length table.now.parts.items }
-    ensures is { result ≡ bits_at (part_at (others sets.now spot.now.set) part) (front_word sets.now spot.now (length spot.now.support - table.now.tail)) }
+    ensures is { result ≡ bits_at (part_at (others sets.now spot.now.set) part)
+        (front_word sets.now spot.now (length spot.now.support - table.now.tail)) }
 {
     let _k = sets.dimension();
     let _n = sets.length();
@@ -95,11 +100,14 @@ fn count_part(
     requires level { table.now.tail ≤ length spot.now.support }
     requires table { IsTable sets.now spot.now.set table.now }
     requires part { part < length table.now.parts.items }
-    requires start { slice_get (supports_from 0 (length sets.now.rows) table.now.tail) start ≡ Some (tail_of table.now.tail spot.now) }
+    requires start { slice_get (supports_from 0 (length sets.now.rows) table.now.tail) start
+        ≡ Some (tail_of table.now.tail spot.now) }
     requires tails { start + length counts.old ≤ length (supports_from 0 (length sets.now.rows) table.now.tail) }
     requires words { done + length counts.old ≤ length (block_words sets.now plan.now.m block) }
-    requires counted { 0 < part → AreCounted (take (64 * part) (others sets.now spot.now.set)) (block_words sets.now plan.now.m block) done (length counts.old) counts.old }
-    ensures counted { AreCounted (take (64 * (part + 1)) (others sets.now spot.now.set)) (block_words sets.now plan.now.m block) done (length counts.old) counts.new }
+    requires counted { 0 < part → AreCounted (take (64 * part) (others sets.now spot.now.set))
+        (block_words sets.now plan.now.m block) done (length counts.old) counts.old }
+    ensures counted { AreCounted (take (64 * (part + 1)) (others sets.now spot.now.set))
+        (block_words sets.now plan.now.m block) done (length counts.old) counts.new }
 {
     let _n = sets.length();
     let _k = sets.dimension();
@@ -129,10 +137,12 @@ fn count_run(
     requires at { IsSpotAt sets.now plan.now.m block done spot.now }
     requires level { table.now.tail ≤ length spot.now.support }
     requires table { IsTable sets.now spot.now.set table.now }
-    requires start { slice_get (supports_from 0 (length sets.now.rows) table.now.tail) start ≡ Some (tail_of table.now.tail spot.now) }
+    requires start { slice_get (supports_from 0 (length sets.now.rows) table.now.tail) start
+        ≡ Some (tail_of table.now.tail spot.now) }
     requires tails { start + length counts.old ≤ length (supports_from 0 (length sets.now.rows) table.now.tail) }
     requires words { done + length counts.old ≤ length (block_words sets.now plan.now.m block) }
-    ensures counted { AreCounted (others sets.now spot.now.set) (block_words sets.now plan.now.m block) done (length counts.old) counts.new }
+    ensures counted { AreCounted (others sets.now spot.now.set) (block_words sets.now plan.now.m block) done
+        (length counts.old) counts.new }
 {
     for part in 0..table.parts.len() {
         count_part(sets, plan, block, table, part, spot, start, done, counts);
@@ -154,7 +164,9 @@ fn next_head(
     requires level { table.now.tail ≤ length spot.old.support }
     requires table { IsTable sets.now spot.old.set table.now }
     requires later { from < done }
-    requires end { (r : ℕ) × (slice_get (supports_from 0 (length sets.now.rows) table.now.tail) r ≡ Some (tail_of table.now.tail spot.old)) × (r + (done - from) ≡ length (supports_from 0 (length sets.now.rows) table.now.tail)) }
+    requires end { (r : ℕ) × (slice_get (supports_from 0 (length sets.now.rows) table.now.tail) r
+        ≡ Some (tail_of table.now.tail spot.old))
+        × (r + (done - from) ≡ length (supports_from 0 (length sets.now.rows) table.now.tail)) }
     requires inside { done < length (block_words sets.now plan.now.m block) }
     ensures at { IsSpotAt sets.now plan.now.m block done spot.new }
     ensures level { length spot.new.support ≡ length spot.old.support }
@@ -184,11 +196,16 @@ fn one_run(
     requires table { IsTable sets.now spot.now.set table.now }
     requires some { done < length counts.old }
     requires words { length counts.old ≡ length (block_words sets.now plan.now.m block) }
-    requires counted { AreCounted (others sets.now spot.now.set) (block_words sets.now plan.now.m block) 0 done counts.old }
-    ensures counted { AreCounted (others sets.now spot.now.set) (block_words sets.now plan.now.m block) 0 (done + result) counts.new }
+    requires counted { AreCounted (others sets.now spot.now.set)
+        (block_words sets.now plan.now.m block) 0 done counts.old }
+    ensures counted { AreCounted (others sets.now spot.now.set) (block_words sets.now plan.now.m block) 0
+        (done + result) counts.new }
     ensures some { 0 < result }
     ensures within { done + result ≤ length counts.old }
-    ensures end { done + result < length counts.old → (r : ℕ) × (slice_get (supports_from 0 (length sets.now.rows) table.now.tail) r ≡ Some (tail_of table.now.tail spot.now)) × (r + result ≡ length (supports_from 0 (length sets.now.rows) table.now.tail)) }
+    ensures end { done + result < length counts.old →
+        (r : ℕ) × (slice_get (supports_from 0 (length sets.now.rows) table.now.tail) r
+        ≡ Some (tail_of table.now.tail spot.now))
+        × (r + result ≡ length (supports_from 0 (length sets.now.rows) table.now.tail)) }
 {
     let start = tail_index(sets, table, spot);
     let tails = table.parts[0].sums.len();
@@ -207,9 +224,9 @@ fn one_run(
     count
 }
 
-/// Counts the nonzero symbols, outside the basis, of the words of a block of a level that has tails, from its first
-/// message on.
-pub(crate) fn count_block(
+// Counts the nonzero symbols, outside the basis, of the words of a block of a level that has tails, from its first
+// message on.
+fn count_block(
     sets: &Sets,
     plan: &Plan,
     block: u64,
@@ -225,7 +242,8 @@ pub(crate) fn count_block(
     requires table { IsTable sets.now spot.old.set table.now }
     requires some { 0 < length counts.old }
     requires words { length counts.old ≡ length (block_words sets.now plan.now.m block) }
-    ensures counted { AreCounted (others sets.now spot.old.set) (block_words sets.now plan.now.m block) 0 (length counts.old) counts.new }
+    ensures counted { AreCounted (others sets.now spot.old.set) (block_words sets.now plan.now.m block) 0
+        (length counts.old) counts.new }
     ensures room { spot.new.room ≡ spot.old.room }
 {
     let mut done = 0;

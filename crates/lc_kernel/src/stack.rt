@@ -109,9 +109,13 @@ impl Stack {
         requires block { block < total plan.now.k plan.now.q plan.now.m }
         requires stack { self.old.code ≡ sets.now }
         ensures at { IsStackAt sets.now plan.now.m self.new }
-        ensures first { (p : ℕ) → IsInPhase plan.now.k plan.now.q plan.now.m p block → slice_get (messages plan.now.k plan.now.q (phase_level plan.now.m p)) (4096 * (block - blocks_before plan.now.k plan.now.q plan.now.m p)) ≡ Some (spot_message self.new.spot) }
-        ensures level { (p : ℕ) → IsInPhase plan.now.k plan.now.q plan.now.m p block → length self.new.spot.support ≡ phase_level plan.now.m p }
-        ensures set { (p : ℕ) → IsInPhase plan.now.k plan.now.q plan.now.m p block → self.new.spot.set ≡ phase_set plan.now.m p }
+        ensures first { (p : ℕ) → IsInPhase plan.now.k plan.now.q plan.now.m p block →
+            slice_get (messages plan.now.k plan.now.q (phase_level plan.now.m p))
+            (4096 * (block - blocks_before plan.now.k plan.now.q plan.now.m p)) ≡ Some (spot_message self.new.spot) }
+        ensures level { (p : ℕ) → IsInPhase plan.now.k plan.now.q plan.now.m p block →
+            length self.new.spot.support ≡ phase_level plan.now.m p }
+        ensures set { (p : ℕ) → IsInPhase plan.now.k plan.now.q plan.now.m p block →
+            self.new.spot.set ≡ phase_set plan.now.m p }
     {
         let _phase = plan.phase_of(block);
         let _k = sets.dimension();
@@ -129,8 +133,12 @@ impl Stack {
         requires plan { IsPlanOf plan.now sets.now }
         requires at { IsStackAt sets.now plan.now.m self.old }
         ensures at { IsStackAt sets.now plan.now.m self.new }
-        ensures next { (n : ℕ) → slice_get (messages plan.now.k plan.now.q (length self.old.spot.support)) n ≡ Some (spot_message self.old.spot) → slice_get (messages plan.now.k plan.now.q (length self.old.spot.support)) (n + 1) ≡ (if is_some result then Some (spot_message self.new.spot) else None) }
-        ensures again { IfSome result (λ made. (i : ℕ) × IsFirstChange self.old.spot self.new.spot i × (made + i ≡ length self.new.spot.support)) }
+        ensures next { (n : ℕ) → slice_get (messages plan.now.k plan.now.q (length self.old.spot.support)) n
+            ≡ Some (spot_message self.old.spot) →
+            slice_get (messages plan.now.k plan.now.q (length self.old.spot.support)) (n + 1)
+            ≡ (if is_some result then Some (spot_message self.new.spot) else None) }
+        ensures again { IfSome result (λ made. (i : ℕ) × IsFirstChange self.old.spot self.new.spot i
+            × (made + i ≡ length self.new.spot.support)) }
         ensures last { result ≡ None → self.new ≡ self.old }
         ensures level { length self.new.spot.support ≡ length self.old.spot.support }
         ensures set { self.new.spot.set ≡ self.old.spot.set }
@@ -179,7 +187,8 @@ impl Stack {
         requires plan { IsPlanOf plan.now sets.now }
         requires block { block < total plan.now.k plan.now.q plan.now.m }
         requires some { 0 < offset }
-        requires inside { (p : ℕ) → IsInPhase plan.now.k plan.now.q plan.now.m p block → offset < block_length plan.now.k plan.now.q plan.now.m p block }
+        requires inside { (p : ℕ) → IsInPhase plan.now.k plan.now.q plan.now.m p block →
+            offset < block_length plan.now.k plan.now.q plan.now.m p block }
         requires at { IsAtOffset sets.now plan.now.m block (offset - 1) self.old }
         ensures at { IsAtOffset sets.now plan.now.m block offset self.new }
     {
@@ -190,7 +199,8 @@ impl Stack {
     pub(crate) fn go_to(&mut self, sets: &Sets, plan: &Plan, block: u64, offset: u64)
         requires plan { IsPlanOf plan.now sets.now }
         requires block { block < total plan.now.k plan.now.q plan.now.m }
-        requires inside { (p : ℕ) → IsInPhase plan.now.k plan.now.q plan.now.m p block → offset < block_length plan.now.k plan.now.q plan.now.m p block }
+        requires inside { (p : ℕ) → IsInPhase plan.now.k plan.now.q plan.now.m p block →
+            offset < block_length plan.now.k plan.now.q plan.now.m p block }
         requires stack { self.old.code ≡ sets.now }
         ensures at { IsAtOffset sets.now plan.now.m block offset self.new }
     {

@@ -86,7 +86,8 @@ impl Sums {
         requires kept { AreKept sets.now self.old }
         requires multiples { AreMultiples sets.now multiples.now }
         requires set { spot.now.set < set_count sets.now }
-        requires message { Contains (messages (length sets.now.rows) (size sets.now.field) (length spot.now.support)) (spot_message spot.now) }
+        requires message { Contains (messages (length sets.now.rows) (size sets.now.field) (length spot.now.support))
+            (spot_message spot.now) }
         requires room { IsRoom sets.now spot.now (words_of self.old) }
         requires fronts { AreFronts sets.now spot.now from (words_of self.old) }
         requires order { from ≤ to }
@@ -185,7 +186,8 @@ pub(crate) fn refresh(
 )
     requires multiples { AreMultiples sets.now multiples.now }
     requires set { spot.now.set < set_count sets.now }
-    requires message { Contains (messages (length sets.now.rows) (size sets.now.field) (length spot.now.support)) (spot_message spot.now) }
+    requires message { Contains (messages (length sets.now.rows) (size sets.now.field) (length spot.now.support))
+        (spot_message spot.now) }
     requires room { IsRoom sets.now spot.now words.old }
     requires fronts { AreFronts sets.now spot.now from words.old }
     requires order { from ≤ to }
@@ -206,10 +208,15 @@ fn extend(sets: &Sets, multiples: &[Word], spot: &Spot, words: &mut [Word], i: u
     requires entry { i < length spot.now.support }
     requires entries { length spot.now.coefficients ≡ length spot.now.support }
     requires row { slice_index spot.now.support i < length sets.now.rows }
-    requires element { (1 ≤ slice_index spot.now.coefficients i) × (slice_index spot.now.coefficients i < size sets.now.field) }
+    requires element { (1 ≤ slice_index spot.now.coefficients i)
+        × (slice_index spot.now.coefficients i < size sets.now.field) }
     requires many { i + 1 < length words.old }
-    requires words { (t : ℕ) → t < length words.old → IsWord sets.now.field sets.now.columns (slice_index_or words.old t []) }
-    ensures is { words.new ≡ set words.old (i + 1) (word_sum sets.now.field (slice_index_or words.old i []) (scale sets.now.field (slice_index spot.now.coefficients i) (slice_index_or (generator_at sets.now spot.now.set) (slice_index spot.now.support i) []))) }
+    requires words { (t : ℕ) → t < length words.old →
+        IsWord sets.now.field sets.now.columns (slice_index_or words.old t []) }
+    ensures is { words.new ≡ set words.old (i + 1)
+        (word_sum sets.now.field (slice_index_or words.old i [])
+        (scale sets.now.field (slice_index spot.now.coefficients i)
+        (slice_index_or (generator_at sets.now spot.now.set) (slice_index spot.now.support i) []))) }
 {
     let other = multiple_of(
         sets,
@@ -234,7 +241,8 @@ fn refresh_planes(
     requires over { AreOver sets.now words.old }
     requires multiples { ArePlaneMultiples sets.now multiples.now }
     requires set { spot.now.set < set_count sets.now }
-    requires message { Contains (messages (length sets.now.rows) (size sets.now.field) (length spot.now.support)) (spot_message spot.now) }
+    requires message { Contains (messages (length sets.now.rows) (size sets.now.field) (length spot.now.support))
+        (spot_message spot.now) }
     requires room { IsRoom sets.now spot.now (symbols_in words.old) }
     requires fronts { AreFronts sets.now spot.now from (symbols_in words.old) }
     requires order { from ≤ to }
@@ -257,10 +265,15 @@ fn extend_planes(sets: &Sets, multiples: &[Planes], spot: &Spot, words: &mut [Pl
     requires entry { i < length spot.now.support }
     requires entries { length spot.now.coefficients ≡ length spot.now.support }
     requires row { slice_index spot.now.support i < length sets.now.rows }
-    requires element { (1 ≤ slice_index spot.now.coefficients i) × (slice_index spot.now.coefficients i < size sets.now.field) }
+    requires element { (1 ≤ slice_index spot.now.coefficients i)
+        × (slice_index spot.now.coefficients i < size sets.now.field) }
     requires many { i + 1 < length words.old }
-    requires words { (t : ℕ) → t < length words.old → IsWord sets.now.field sets.now.columns (slice_index_or (symbols_in words.old) t []) }
-    ensures is { symbols_in words.new ≡ set (symbols_in words.old) (i + 1) (word_sum sets.now.field (slice_index_or (symbols_in words.old) i []) (scale sets.now.field (slice_index spot.now.coefficients i) (slice_index_or (generator_at sets.now spot.now.set) (slice_index spot.now.support i) []))) }
+    requires words { (t : ℕ) → t < length words.old →
+        IsWord sets.now.field sets.now.columns (slice_index_or (symbols_in words.old) t []) }
+    ensures is { symbols_in words.new ≡ set (symbols_in words.old) (i + 1)
+        (word_sum sets.now.field (slice_index_or (symbols_in words.old) i [])
+        (scale sets.now.field (slice_index spot.now.coefficients i)
+        (slice_index_or (generator_at sets.now spot.now.set) (slice_index spot.now.support i) []))) }
     ensures over { AreOver sets.now words.new }
 {
     let other = planes_at(

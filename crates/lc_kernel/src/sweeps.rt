@@ -59,10 +59,12 @@ pub(crate) fn head_count(sets: &Sets, level: usize) -> Option<usize>
 
 // The index of the coefficients of a spot among the lists of its level.
 fn list_of(sets: &Sets, spot: &Spot) -> usize
-    requires message { Contains (messages (length sets.now.rows) (size sets.now.field) (length spot.now.support)) (spot_message spot.now) }
+    requires message { Contains (messages (length sets.now.rows) (size sets.now.field) (length spot.now.support))
+        (spot_message spot.now) }
     requires level { 3 ≤ length spot.now.support }
     requires few { list_count sets.now (length spot.now.support) ≤ 2 ^ 18 }
-    ensures is { slice_get (leading_lists (size sets.now.field) (length spot.now.support)) result ≡ Some spot.now.coefficients }
+    ensures is { slice_get (leading_lists (size sets.now.field) (length spot.now.support)) result
+        ≡ Some spot.now.coefficients }
 {
     let elements = nonzero(sets);
     let coefficients = spot.coefficients();
@@ -171,7 +173,9 @@ fn least_support(
     requires heads { AreHeads sets.now set support.now grid.now.planes (length support.now - 2) heads.now }
     requires lists { list + length counts.old ≤ list_count sets.now (length support.now) }
     requires words { done + length counts.old ≤ length (block_words sets.now plan.now.m block) }
-    ensures is { IsFirstBelow (length counts.old) (λ i. weight (restrict (others sets.now set) (slice_index_or (block_words sets.now plan.now.m block) (done + i) []))) bound result.0 result.1 }
+    ensures is { IsFirstBelow (length counts.old)
+        (λ i. weight (restrict (others sets.now set)
+        (slice_index_or (block_words sets.now plan.now.m block) (done + i) []))) bound result.0 result.1 }
 {
     let _k = sets.dimension();
     let _n = sets.length();
@@ -197,10 +201,12 @@ fn least_support(
 fn next_support(support: &mut [usize], k: usize) -> Option<usize>
     requires few { k ≤ 255 }
     requires rises { Contains (supports_from 0 k (length support.old)) support.old }
-    ensures next { IfSome result (λ _. (n : ℕ) → slice_get (supports_from 0 k (length support.old)) n ≡ Some support.old → slice_get (supports_from 0 k (length support.old)) (n + 1) ≡ Some support.new) }
+    ensures next { IfSome result (λ _. (n : ℕ) → slice_get (supports_from 0 k (length support.old)) n
+        ≡ Some support.old → slice_get (supports_from 0 k (length support.old)) (n + 1) ≡ Some support.new) }
     ensures inside { IfSome result (λ i. i < length support.old) }
     ensures same { IfSome result (λ i. take i support.new ≡ take i support.old) }
-    ensures last { IfNone result ((n : ℕ) → slice_get (supports_from 0 k (length support.old)) n ≡ Some support.old → slice_get (supports_from 0 k (length support.old)) (n + 1) ≡ None) }
+    ensures last { IfNone result ((n : ℕ) → slice_get (supports_from 0 k (length support.old)) n ≡ Some support.old →
+        slice_get (supports_from 0 k (length support.old)) (n + 1) ≡ None) }
 {
     let many = support.len();
     let mut place = many;
@@ -219,7 +225,8 @@ fn move_on(support: &mut [usize], place: usize)
     requires inside { place < length support.old }
     requires room { slice_index support.old place + (length support.old - place) < 256 }
     ensures before { (u : ℕ) → u < place → slice_index support.new u ≡ slice_index support.old u }
-    ensures later { (u : ℕ) → place ≤ u → u < length support.old → slice_index support.new u ≡ slice_index support.old place + 1 + (u - place) }
+    ensures later { (u : ℕ) → place ≤ u → u < length support.old →
+        slice_index support.new u ≡ slice_index support.old place + 1 + (u - place) }
 {
     let mut column = support[place];
     for later in place..support.len() {
@@ -293,7 +300,8 @@ pub(crate) fn least_sweeps(
     requires set { spot.now.set < set_count sets.now }
     requires at { IsSpotAt sets.now plan.now.m block 0 spot.now }
     requires level { 3 ≤ length spot.now.support }
-    requires grid { IsGrid sets.now spot.now.set grid.now.planes grid.now.tails grid.now.parts.items grid.now.starts.items }
+    requires grid { IsGrid sets.now spot.now.set grid.now.planes grid.now.tails grid.now.parts.items
+        grid.now.starts.items }
     requires alone { length grid.now.parts.items ≡ 1 }
     requires kept { IsKept sets.now spot.now.set grid.now.planes grid.now.rows.items }
     requires places { length support.old ≡ length spot.now.support }
@@ -302,7 +310,9 @@ pub(crate) fn least_sweeps(
     requires some { 0 < length counts.old }
     requires counts { length counts.old ≤ 4096 }
     requires words { length counts.old ≡ length (block_words sets.now plan.now.m block) }
-    ensures is { IsFirstBelow (length counts.old) (λ i. weight (restrict (others sets.now spot.now.set) (slice_index_or (block_words sets.now plan.now.m block) i []))) 256 result.0 result.1 }
+    ensures is { IsFirstBelow (length counts.old)
+        (λ i. weight (restrict (others sets.now spot.now.set)
+        (slice_index_or (block_words sets.now plan.now.m block) i []))) 256 result.0 result.1 }
 {
     let elements = nonzero(sets);
     let set = spot.set();

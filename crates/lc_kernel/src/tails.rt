@@ -33,7 +33,8 @@ use lc_vec::Word;
 
 /// The index of the pair of the last two coefficients of a spot.
 pub(crate) fn tail_of(sets: &Sets, spot: &Spot) -> usize
-    requires message { Contains (messages (length sets.now.rows) (size sets.now.field) (length spot.now.support)) (spot_message spot.now) }
+    requires message { Contains (messages (length sets.now.rows) (size sets.now.field) (length spot.now.support))
+        (spot_message spot.now) }
     requires level { 3 ≤ length spot.now.support }
     ensures is { result ≡ tail_index sets.now spot.now }
     ensures inside { result < tail_count sets.now }
@@ -61,10 +62,13 @@ fn add_part(
     counts: &mut [u32],
 )
     requires run { IsTailRun sets.now plan.now.m block spot.now head.now done start (length counts.old) }
-    requires grid { IsGrid sets.now spot.now.set grid.now.planes grid.now.tails grid.now.parts.items grid.now.starts.items }
+    requires grid { IsGrid sets.now spot.now.set grid.now.planes grid.now.tails grid.now.parts.items
+        grid.now.starts.items }
     requires part { part < length grid.now.parts.items }
-    requires counted { AreCounted (take (64 * part) (others sets.now spot.now.set)) (block_words sets.now plan.now.m block) done (length counts.old) counts.old }
-    ensures counted { AreCounted (take (64 * (part + 1)) (others sets.now spot.now.set)) (block_words sets.now plan.now.m block) done (length counts.old) counts.new }
+    requires counted { AreCounted (take (64 * part) (others sets.now spot.now.set))
+        (block_words sets.now plan.now.m block) done (length counts.old) counts.old }
+    ensures counted { AreCounted (take (64 * (part + 1)) (others sets.now spot.now.set))
+        (block_words sets.now plan.now.m block) done (length counts.old) counts.new }
 {
     let _n = sets.length();
     let table = &grid.parts[part];
@@ -87,8 +91,10 @@ fn count_run(
     counts: &mut [u32],
 )
     requires run { IsTailRun sets.now plan.now.m block spot.now head.now done start (length counts.old) }
-    requires grid { IsGrid sets.now spot.now.set grid.now.planes grid.now.tails grid.now.parts.items grid.now.starts.items }
-    ensures counted { AreCounted (others sets.now spot.now.set) (block_words sets.now plan.now.m block) done (length counts.old) counts.new }
+    requires grid { IsGrid sets.now spot.now.set grid.now.planes grid.now.tails grid.now.parts.items
+        grid.now.starts.items }
+    ensures counted { AreCounted (others sets.now spot.now.set) (block_words sets.now plan.now.m block) done
+        (length counts.old) counts.new }
 {
     counts.fill(0);
     for part in 0..grid.parts.len() {
@@ -114,12 +120,15 @@ fn one_run(
     requires set { spot.now.set < set_count sets.now }
     requires at { IsSpotAt sets.now plan.now.m block done spot.now }
     requires level { 3 ≤ length spot.now.support }
-    requires grid { IsGrid sets.now spot.now.set grid.now.planes grid.now.tails grid.now.parts.items grid.now.starts.items }
+    requires grid { IsGrid sets.now spot.now.set grid.now.planes grid.now.tails grid.now.parts.items
+        grid.now.starts.items }
     requires head { head.now ≡ front_word sets.now spot.now (length spot.now.support - 2) }
     requires some { done < length counts.old }
     requires words { length counts.old ≡ length (block_words sets.now plan.now.m block) }
-    requires counted { AreCounted (others sets.now spot.now.set) (block_words sets.now plan.now.m block) 0 done counts.old }
-    ensures counted { AreCounted (others sets.now spot.now.set) (block_words sets.now plan.now.m block) 0 (done + result) counts.new }
+    requires counted { AreCounted (others sets.now spot.now.set)
+        (block_words sets.now plan.now.m block) 0 done counts.old }
+    ensures counted { AreCounted (others sets.now spot.now.set) (block_words sets.now plan.now.m block) 0
+        (done + result) counts.new }
     ensures some { 0 < result }
     ensures within { done + result ≤ length counts.old }
     ensures end { done + result < length counts.old → tail_index sets.now spot.now + result ≡ tail_count sets.now }
@@ -192,12 +201,14 @@ pub(crate) fn count_tails(
     requires set { spot.old.set < set_count sets.now }
     requires at { IsSpotAt sets.now plan.now.m block 0 spot.old }
     requires level { 3 ≤ length spot.old.support }
-    requires grid { IsGrid sets.now spot.old.set grid.now.planes grid.now.tails grid.now.parts.items grid.now.starts.items }
+    requires grid { IsGrid sets.now spot.old.set grid.now.planes grid.now.tails grid.now.parts.items
+        grid.now.starts.items }
     requires multiples { AreMultiples sets.now multiples.now }
     requires room { IsRoom sets.now spot.old heads.old }
     requires some { 0 < length counts.old }
     requires words { length counts.old ≡ length (block_words sets.now plan.now.m block) }
-    ensures counted { AreCounted (others sets.now spot.old.set) (block_words sets.now plan.now.m block) 0 (length counts.old) counts.new }
+    ensures counted { AreCounted (others sets.now spot.old.set) (block_words sets.now plan.now.m block) 0
+        (length counts.old) counts.new }
     ensures room { spot.new.room ≡ spot.old.room }
     ensures heads { IsRoom sets.now spot.new heads.new }
 {
@@ -244,7 +255,8 @@ pub(crate) fn by_tails(
     requires set { spot.old.set < set_count sets.now }
     requires at { IsSpotAt sets.now plan.now.m block 0 spot.old }
     requires level { 3 ≤ length spot.old.support }
-    requires grid { IsGrid sets.now spot.old.set grid.now.planes grid.now.tails grid.now.parts.items grid.now.starts.items }
+    requires grid { IsGrid sets.now spot.old.set grid.now.planes grid.now.tails grid.now.parts.items
+        grid.now.starts.items }
     requires kept { HasFronts sets.now spot.old.set grid.now.planes (length grid.now.parts.items) grid.now.rows.items }
     requires multiples { AreMultiples sets.now multiples.now }
     requires room { IsRoom sets.now spot.old heads.old }

@@ -73,7 +73,8 @@ pub(crate) fn put_blocks(to: &mut [[u64; 4]], first: &[[u64; 4]], second: &[[u64
 // How many of the symbols of a block are not 0.
 #[inline]
 fn ones_of(block: &[u64; 4]) -> u32
-    ensures is { result ≡ count_ones (bit_or (slice_index block.now 3) (bit_or (slice_index block.now 2) (bit_or (slice_index block.now 1) (slice_index block.now 0)))) }
+    ensures is { result ≡ count_ones (bit_or (slice_index block.now 3)
+        (bit_or (slice_index block.now 2) (bit_or (slice_index block.now 1) (slice_index block.now 0)))) }
 {
     let low = block[1] | block[0];
     let any = block[3] | (block[2] | low);

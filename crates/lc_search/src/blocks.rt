@@ -67,7 +67,8 @@ pub fn work<G: Gate + Sync>(
     requires blocks { start + board.now.count ≤ total plan.now.k plan.now.q plan.now.m }
     requires scratch { scratch.old ≡ sets.now }
     ensures table { seat.new.table ≡ seat.old.table }
-    ensures worked { HasWorked (λ x. block_value sets.now plan.now.m (start + x)) board.now.count seat.old.view seat.new.view }
+    ensures worked { HasWorked (λ x. block_value sets.now plan.now.m
+        (start + x)) board.now.count seat.old.view seat.new.view }
     ensures scratch { scratch.new ≡ scratch.old }
 {
     let blocks = SearchBlocks { sets, plan };

@@ -23,18 +23,32 @@ ghost use Rattle.lc_search.specs.Course.{IsTrueState, IsReached};
 /// answer has; so rounds end at the answer.
 pub fn rounds_reach_the_answer()
     ensures first { (C : Matrix) (budget : ℕ) → IsTrueState (first_state C budget) }
-    ensures round { (s : SearchState) (limit : ℕ) → 0 < length s.code.rows → s.budget ≤ 2 ^ 40 → IsTrueState s → answer_in s ≡ None → 1 ≤ limit → IsTrueState (after_search_round s limit) × (s.progress.blocks < (after_search_round s limit).progress.blocks) }
-    ensures reached { (s t : SearchState) → 0 < length s.code.rows → s.budget ≤ 2 ^ 40 → IsTrueState s → IsReached s t → IsTrueState t }
-    ensures answer { (s : SearchState) (a : Answer) → 0 < length s.code.rows → s.budget ≤ 2 ^ 40 → IsTrueState s → answer_in s ≡ Some a → a ≡ answer (divisor_of s.code) s.code s.budget }
-    ensures holds { (s : SearchState) (a : Answer) → AreRows s.code.field s.code.columns s.code.rows → AreIndependent s.code.field s.code.columns s.code.rows → 0 < length s.code.rows → s.budget ≤ 2 ^ 40 → IsTrueState s → answer_in s ≡ Some a → AnswerHolds s.code a }
-    ensures distance { (s : SearchState) (x : Found) (l : ℕ) → AreRows s.code.field s.code.columns s.code.rows → AreIndependent s.code.field s.code.columns s.code.rows → 0 < length s.code.rows → s.budget ≤ 2 ^ 40 → IsTrueState s → answer_in s ≡ Some (exact x l) → IsDistance s.code.field s.code.columns s.code.rows x.weight × HasWord s.code x }
-    ensures whole { (s : SearchState) (a : Answer) → 0 < length s.code.rows → s.code.columns ≤ 255 → s.budget ≤ 2 ^ 40 → set_count s.code * ((size s.code.field ^ length s.code.rows - 1) / (size s.code.field - 1)) ≤ s.budget → IsTrueState s → answer_in s ≡ Some a → (x : Found) × (l : ℕ) × (a ≡ exact x l) }
+    ensures round { (s : SearchState) (limit : ℕ) → 0 < length s.code.rows → s.budget ≤ 2 ^ 40 → IsTrueState s →
+        answer_in s ≡ None → 1 ≤ limit → IsTrueState (after_search_round s limit)
+        × (s.progress.blocks < (after_search_round s limit).progress.blocks) }
+    ensures reached { (s t : SearchState) → 0 < length s.code.rows → s.budget ≤ 2 ^ 40 → IsTrueState s → IsReached s t →
+        IsTrueState t }
+    ensures answer { (s : SearchState) (a : Answer) → 0 < length s.code.rows → s.budget ≤ 2 ^ 40 → IsTrueState s →
+        answer_in s ≡ Some a → a ≡ answer (divisor_of s.code) s.code s.budget }
+    ensures holds { (s : SearchState) (a : Answer) → AreRows s.code.field s.code.columns s.code.rows →
+        AreIndependent s.code.field s.code.columns s.code.rows → 0 < length s.code.rows → s.budget ≤ 2 ^ 40 →
+        IsTrueState s → answer_in s ≡ Some a → AnswerHolds s.code a }
+    ensures distance { (s : SearchState) (x : Found) (l : ℕ) → AreRows s.code.field s.code.columns s.code.rows →
+        AreIndependent s.code.field s.code.columns s.code.rows → 0 < length s.code.rows → s.budget ≤ 2 ^ 40 →
+        IsTrueState s → answer_in s ≡ Some (exact x l) →
+        IsDistance s.code.field s.code.columns s.code.rows x.weight × HasWord s.code x }
+    ensures whole { (s : SearchState) (a : Answer) → 0 < length s.code.rows → s.code.columns ≤ 255 → s.budget ≤ 2 ^ 40 →
+        set_count s.code * ((size s.code.field ^ length s.code.rows - 1) / (size s.code.field - 1)) ≤ s.budget →
+        IsTrueState s → answer_in s ≡ Some a → (x : Found) × (l : ℕ) × (a ≡ exact x l) }
 {}
 
 /// What a search has for its best word is a word: a record that fits the code has a nonzero word of the code at its place with
 /// its weight, and the state after a round of a search whose record fits fits too. So the weight that an answer tells is that
 /// of a word of the code, also after a search was resumed from a record that wasn't written by one.
 pub fn records_that_fit_have_words()
-    ensures word { (C : Matrix) (blocks : ℕ) (x : Found) → AreRows C.field C.columns C.rows → AreIndependent C.field C.columns C.rows → fits C blocks x ≡ true → HasWord C x }
-    ensures after { (s : SearchState) (limit : ℕ) → fits s.code s.progress.blocks (found_of s.progress) ≡ true → fits s.code (after_search_round s limit).progress.blocks (found_of (after_search_round s limit).progress) ≡ true }
+    ensures word { (C : Matrix) (blocks : ℕ) (x : Found) → AreRows C.field C.columns C.rows →
+        AreIndependent C.field C.columns C.rows → fits C blocks x ≡ true → HasWord C x }
+    ensures after { (s : SearchState) (limit : ℕ) → fits s.code s.progress.blocks (found_of s.progress) ≡ true →
+        fits s.code (after_search_round s limit).progress.blocks (found_of (after_search_round s limit).progress)
+        ≡ true }
 {}

@@ -62,7 +62,8 @@ impl Search {
         requires dimension { 0 < length code.now.rows }
         requires budget { budget ≤ 2 ^ 40 }
         requires blocks { blocks ≤ budget }
-        ensures resumed { MatchResult result (λ s. IsResumed code.now budget blocks weight place s) (λ e. IsUnfit code.now blocks weight place e) }
+        ensures resumed { MatchResult result (λ s. IsResumed code.now budget blocks weight place s)
+            (λ e. IsUnfit code.now blocks weight place e) }
     {
         let sets = sets_of(alloc, code)?;
         let plan = plan_of(alloc, &sets)?;

@@ -67,7 +67,15 @@ pub(crate) fn search_at(
     requires plan { plan ≡ whole_plan sets }
     requires budget { (budget ≤ 2 ^ 40) × (blocks ≤ budget) }
     requires word { (weight ≤ 255) × (place < 2 ^ 52) }
-    ensures is { IfOk result (λ s. s ≡ record { code = sets; budget = budget; progress = record { blocks = blocks; weight = weight; place = place } }) }
+    ensures is { IfOk result (λ s. s ≡ record {
+      code = sets;
+      budget = budget;
+      progress = record {
+        blocks = blocks;
+        weight = weight;
+        place = place;
+      };
+    }) }
 {
     let mut levels = vec![in alloc; 0u64; sets.count()]?;
     put_levels(&sets, &plan, blocks, &mut levels);
@@ -135,7 +143,8 @@ impl Search {
     // weight.
     #[tactic(auto, using(crate::proofs::StateLaws::bound_laws))]
     fn bound(&self) -> u64
-        ensures is { result ≡ bound (divisor_of self.now.code) self.now.code self.now.progress.blocks self.now.progress.weight }
+        ensures is { result ≡ bound (divisor_of self.now.code) self.now.code self.now.progress.blocks
+            self.now.progress.weight }
     {
         bound_of_levels(&self.sets, &self.levels, self.weight)
     }
@@ -174,7 +183,8 @@ impl Search {
         ensures some { 1 ≤ result }
         ensures few { result ≤ 256 }
         ensures limited { result ≤ limit }
-        ensures inside { self.now.progress.blocks + result ≤ total (length self.now.code.rows) (size self.now.code.field) (set_count self.now.code) }
+        ensures inside { self.now.progress.blocks + result ≤ total (length self.now.code.rows)
+            (size self.now.code.field) (set_count self.now.code) }
         ensures within { self.now.progress.blocks + result ≤ self.now.budget }
     {
         let _some = self.sets.dimension();
@@ -186,7 +196,16 @@ impl Search {
     fn move_on(&mut self, done: u64, weight: u64, place: u64)
         requires blocks { self.old.progress.blocks + done ≤ self.old.budget }
         requires word { (weight ≤ 255) × (place < 2 ^ 52) }
-        ensures is { self.new ≡ record { code = self.old.code; budget = self.old.budget; progress = record { blocks = self.old.progress.blocks + done; weight = weight; place = place } } }
+        ensures is { self.new ≡ record {
+          code = self.old.code;
+          budget = self.old.budget;
+          progress = record {
+            blocks =
+                self.old.progress.blocks + done;
+            weight = weight;
+            place = place;
+          };
+        } }
     {
         self.blocks += done;
         self.weight = weight;
@@ -212,9 +231,12 @@ impl Search {
         requires workers { (1 ≤ workers) × (workers ≤ 256) }
         requires limit { 1 ≤ limit }
         ensures state { IfOk result (λ _. self.new ≡ after_search_round self.old limit) }
-        ensures record { IfOk result (λ r. IsRecordOf self.new (round_length self.old.code self.old.budget (Some limit) self.old.progress.blocks) r) }
+        ensures record { IfOk result (λ r. IsRecordOf self.new
+            (round_length self.old.code self.old.budget (Some limit) self.old.progress.blocks) r) }
         ensures kept { (self.new.code ≡ self.old.code) × (self.new.budget ≡ self.old.budget) }
-        ensures more { IfOk result (λ r. (1 ≤ r.done) × (r.done ≤ limit) × (self.new.progress.blocks ≡ self.old.progress.blocks + r.done) × (self.new.progress.blocks ≤ self.new.budget)) }
+        ensures more { IfOk result (λ r. (1 ≤ r.done) × (r.done ≤ limit)
+            × (self.new.progress.blocks ≡ self.old.progress.blocks + r.done)
+            × (self.new.progress.blocks ≤ self.new.budget)) }
         ensures no_memory { OnErr result (self.new ≡ self.old) }
     {
         let done = self.length_of_round(limit);
