@@ -43,7 +43,6 @@ use Rattle.lc_kernel.proofs.FrontLaws.{entries_are, generates, front_word_is, fr
 use Rattle.lc_kernel.proofs.PackLaws.{weight_of_word, tail_ones, bits_more, part_more}
 use Rattle.lc_enumeration.proofs.SearchLaws.{few_in_block}
 use Rattle.lc_kernel.proofs.SupportLaws.{tail_pair, pair_at, tail_at, starts_rise, last_tail}
-use Rattle.lc_kernel.proofs.SumLaws.{set_below}
 use Rattle.lc_kernel.proofs.ScanLaws.{block_word, block_long, next_is}
 
 pub support_parts : (s : List ℕ) → 2 ≤ length s → s ≡ take (length s - 2) s ++ slice_index s (length s - 2) ∷ slice_index s (length s - 1) ∷ []
