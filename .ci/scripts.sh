@@ -181,6 +181,8 @@ check_against_reference() {
     agrees altered 250
     agrees noise 200
     agrees searched 500
+    check 'nearest words under budgets: the program and the reference program agree' python3 -B tests/nearest_words.py "$program"
+    agrees near 400
 }
 
 check_certificates() {

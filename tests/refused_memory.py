@@ -65,6 +65,9 @@ Certificate(HammingCode(3, GF(2))); ScanCertificate(HammingCode(2, GF(3))); Cert
     "weight distributions": b"""
 WeightDistribution(HammingCode(3, GF(2))); WeightDistribution(NullCode(4, GF(2))); WeightDistribution(HammingCode(5, GF(2)));
 """,
+    "nearest words": b"""
+NearestWord(HammingCode(3, GF(2)), [1,1,0,0,0,1,1]); NearestWord(NullCode(2, GF(3)), [2,1]); NearestWord(TernaryGolayCode(), [1,2,0,0,0,0,0,0,0,0,1]);
+""",
     "a code with too many words": b"WeightDistribution(WholeSpaceCode(64, GF(2)));",
     "a fault with numbers": b"""
 x := 3; x; Dimension(HammingCode(2, GF(2))); GoppaCode([1,1], [0,1,2,0], GF(4), GF(2));

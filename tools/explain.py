@@ -257,7 +257,7 @@ def divisors_told(length, size):
 
 COMBINED = ("ExtendedCode", "PuncturedCode", "ShortenedCode", "EvenWeightSubcode", "DirectSumCode", "UUVCode",
             "DirectProductCode", "IntersectionCode", "ConcatenatedCode")
-OF_WORDS = ("IsCodeword", "Decode", "AlgebraicDecode")
+OF_WORDS = ("IsCodeword", "Decode", "AlgebraicDecode", "NearestWord")
 BY_LISTS = ("GeneratorPolCode", "CheckPolCode", "GoppaCode", "AlternantCode")
 
 

@@ -12,19 +12,22 @@ prints COUNT scripts of that kind, each as a Python literal; `tools/compare.py` 
     altered    the same, with a few bytes changed, left out or put in
     noise      bytes, most of them from those that scripts are made of, and deep nesting and wide numbers
     searched   distances, certificates and weight distributions of codes of up to 30 symbols, and of codes made from them
+    near       nearest words in codes of up to 30 symbols
 """
 import random
 import sys
 from dataclasses import dataclass, replace
 
+from linear_algebra import Field
+
 SIZES = (2, 3, 4, 5, 7, 8, 9, 11, 13, 16)
 LARGE_SIZES = (25, 27, 32, 64, 81, 128, 243, 256)
 NAMES = ("C", "D", "x", "rows", "F", "a_1")
-UNKNOWN = ("Distance", "NearestWord", "BchCode", "Extended", "Foo", "hammingCode", "GF_", "Golay", "z")
+UNKNOWN = ("Distance", "NearWord", "BchCode", "Extended", "Foo", "hammingCode", "GF_", "Golay", "z")
 CALLS = ("GF", "Weight", "Dimension", "DualCode", "IsCodeword", "Decode", "HammingCode", "ReedMullerCode", "CheckMat", "BCHCode", "GoppaCode",
-         "ExtendedCode", "UUVCode", "PuncturedCode", "BinaryGolayCode")
+         "ExtendedCode", "UUVCode", "PuncturedCode", "BinaryGolayCode", "NearestWord")
 SIGNS = "()[],;:=#_ \n\tab19GF"
-KINDS = ("valid", "refused", "unfit", "cut", "altered", "noise", "searched")
+KINDS = ("valid", "refused", "unfit", "cut", "altered", "noise", "searched", "near")
 
 
 @dataclass
@@ -272,7 +275,7 @@ class Maker:
             if way < 5:
                 return f"{self.pick(('MinimumDistance', 'MinimumDistance', 'Certificate', 'ScanCertificate', 'WeightDistribution'))}({code.text})"
             if way < 7:
-                return f"AlgebraicDecode({code.text},{self.word(code)})"
+                return f"{self.pick(('AlgebraicDecode', 'NearestWord'))}({code.text},{self.word(code)})"
         return self.least()
 
     def least(self):
@@ -299,6 +302,21 @@ class Maker:
         elif way == 2:
             code = f"ShortenedCode({code},[{self.below(length - 1)}])"
         return f"{self.pick(('MinimumDistance', 'MinimumDistance', 'Certificate', 'ScanCertificate', 'WeightDistribution'))}({code});".encode()
+
+    def near(self):
+        """A nearest word in a code by rows: of a random word, or of a word of the code with a few errors."""
+        size, length = self.size(), 2 + self.below(29)
+        most = {2: 9, 3: 5, 4: 4}.get(size, 3)
+        field = Field(size)
+        rows = [[self.below(size) if self.chance(0.7) else 0 for _ in range(length)] for _ in range(1 + self.below(most))]
+        word = [self.below(size) for _ in range(length)]
+        if self.chance(0.7):
+            word = [0] * length
+            for row in rows:
+                word = field.add_scaled(word, self.below(size), row)
+            for _ in range(self.below(6)):
+                word[self.below(length)] = self.below(size)
+        return f"NearestWord(GeneratorMatCode({self.text(rows)},{self.field(size)}),{self.text(word)});".encode()
 
     def blank(self):
         return self.pick(("", "", "\n", " ", "\r\n", "\t", " # a comment\n", "#;(\xff\n"))
@@ -372,6 +390,8 @@ def scripts(kind, count):
             yield noise(others)
         elif kind == "searched":
             yield others.searched()
+        elif kind == "near":
+            yield others.near()
         else:
             script = others.pick(bases).script()
             yield script[:others.below(len(script) + 1)] if kind == "cut" else altered(others, script)

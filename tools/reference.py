@@ -21,6 +21,7 @@ from math import comb
 
 import field_tables
 import linear_algebra
+import near_search
 import search
 from linear_algebra import Field, span
 
@@ -892,6 +893,15 @@ def weight_distribution_line(code):
     return text_of([sum(dual[j] * krawtchouk(q, n, w, j) for j in range(n + 1)) // q ** (n - k) for w in range(n + 1)])
 
 
+def nearest_word_line(session, code, word):
+    """The nearest word and its distance, or two numbers between which it lies, by error patterns under the session's budget."""
+    need_word(code, word)
+    is_exact, low, distance, near, blocks = near_search.nearest(code.size, code.length, code.rows, word, session.budget)
+    if is_exact:
+        return f"nearest {text_of(near)} at {distance} blocks {blocks}"
+    return f"nearest between {low} and {distance} word {text_of(near)} blocks {blocks}"
+
+
 # name: the kinds of the arguments in each form of the call, and the function
 CALLS = {
     "GF": ([("number",)], gf),
@@ -940,6 +950,7 @@ QUERIES = {
     "Certificate": ([("code",)], lambda session, code: certificate_line(session, code, "levels")),
     "ScanCertificate": ([("code",)], lambda session, code: certificate_line(session, code, "scan")),
     "WeightDistribution": ([("code",)], lambda _, code: weight_distribution_line(code)),
+    "NearestWord": ([("code", "numbers")], nearest_word_line),
 }
 
 

@@ -134,6 +134,8 @@ WORD_CALLS = [
     ("Decode(NullCode(3,GF(2)),[2])", "12"),
     ("Decode(NullCode(21,GF(2)),[1])", "12"),
     (f"Decode(NullCode(21,GF(2)),{twos(21)})", "3 2"),
+    ("NearestWord(NullCode(3,GF(2)),[2])", "12"),
+    ("NearestWord(HammingCode(3,GF(2)),[1,2])", "12"),
     ("AlgebraicDecode(NullCode(3,GF(2)),[1])", "18"),
     ("AlgebraicDecode(NullCode(3,GF(2)),[2,0,0])", "18"),
     ("AlgebraicDecode(ReedSolomonCode(3,2),[4])", "12"),

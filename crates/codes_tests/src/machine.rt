@@ -12,6 +12,7 @@ fn printed(step: &Step) -> &[u8] {
         Step::Fault(line) => line.as_slice(),
         Step::Need(_) => b"a query\n",
         Step::Weights(_) => b"a distribution\n",
+        Step::Near(..) => b"a nearest word\n",
         Step::Silent => b"",
         Step::End => b"",
     }

@@ -1,6 +1,7 @@
 -- Definitions that a proof opens together, under one name.
 --   refusals_of_calls      a refusal as the outcome of a call
 --   lines_of_values        the line of a value, a decoder's answer among them
+--   lines_of_nearest_words      the line of a nearest word
 --   bound_calls, bound_queries      the forms of calls, and what they make of values
 use Rattle.std.specs.Prelude.{⊤}
 use Rattle.lc_language.specs.Calls.{value_forms, query_forms, bind, bind_query}
@@ -8,6 +9,8 @@ use Rattle.lc_language.specs.Refusal.{refusal_from, refuse}
 use Rattle.lc_language.specs.Evaluation.{refuse_call}
 use Rattle.lc_language.specs.Meaning.{decoded}
 use Rattle.lc_language.specs.Print.{value_line, value_text}
+use Rattle.lc_formats.specs.Text.{line}
+use Rattle.lc_language.specs.Query.{near_text}
 
 unfoldable pub refusals_of_calls : ⊤
 unfolding refusal_from refuse refuse_call
@@ -16,6 +19,10 @@ refusals_of_calls = tt
 unfoldable pub lines_of_values : ⊤
 unfolding decoded value_line value_text
 lines_of_values = tt
+
+unfoldable pub lines_of_nearest_words : ⊤
+unfolding line near_text
+lines_of_nearest_words = tt
 
 unfoldable pub bound_calls : ⊤
 unfolding value_forms bind

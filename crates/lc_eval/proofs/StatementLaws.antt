@@ -2,8 +2,9 @@
 --   affects_map                                what an effect is of a wider relation
 --   alone_fault, alone_given, query_alone      an expression that stands alone, and a query
 --   first_left                                 the statement that is next, and those after it
---   silent_step, line_step, need_step, count_step, fault_step      a step that binds a name, that prints a line, that asks a query,
---                                              that counts the words of a code, and that ends in a fault
+--   silent_step, line_step, need_step, count_step, near_step, fault_step      a step that binds a name, that prints a line, that
+--                                              asks a query, that counts the words of a code, that asks for a nearest word, and that
+--                                              ends in a fault
 use Rattle.std.proofs.Common.{◌≡◌, ℕ, zero, suc, ◌+◌, ◌<◌, [], ◌∷◌, length, drop, get_or, arith, add-one, List, Some, None, Result, Ok, Err, refl, sym, ap, subst, ◌∙◌}
 use Rattle.std.specs.Global.{Vec}
 use Rattle.std.proofs.lemmas.List.{drop_all}
@@ -12,7 +13,7 @@ use Rattle.lc_language.specs.declared.QueryCall.{QueryCall}
 use Rattle.lc_grammar.specs.Tree as tree
 use Rattle.lc_language.specs.Value as language
 use Rattle.lc_language.specs.Print.{value_line, fault_line}
-use Rattle.lc_language.specs.Evaluation.{gives, refused, prints, counts, fails, fail_with, Step, Evaluates, StepsOf, StepsAsQuery, query_of, Refused, Steps, binds}
+use Rattle.lc_language.specs.Evaluation.{gives, refused, prints, counts, nears, fails, fail_with, Step, Evaluates, StepsOf, StepsAsQuery, query_of, Refused, Steps, binds}
 use Rattle.lc_eval.specs.Built.{built_calls}
 use Rattle.lc_eval.specs.Names.{IsBound}
 use Rattle.lc_eval.specs.declared.values.Value.{Value}
@@ -26,7 +27,7 @@ use Rattle.lc_eval.specs.Evaluated.{AffectsOrFails, need_of}
 use Rattle.lc_parse.specs.declared.tree.Statement.{Statement}
 use Rattle.lc_parse.specs.Views.{statement_of}
 use Rattle.lc_eval.specs.declared.machine.Query.{Query}
-use Rattle.lc_eval.specs.declared.machine.Step.TheVariants.{Line, Silent, Need, Weights, Fault}
+use Rattle.lc_eval.specs.declared.machine.Step.TheVariants.{Line, Silent, Need, Weights, Near, Fault}
 use Rattle.lc_eval.specs.Machine.{State, Does}
 
 pub affects_map : (r : Result Effect Stop) (P Q : Step → Type 0) → ((step : Step) → P step → Q step) → AffectsOrFails r P → AffectsOrFails r Q
@@ -34,6 +35,7 @@ affects_map (Ok (effect.Binds b)) P Q g h = g (binds (binding_of b)) h
 affects_map (Ok (effect.Prints l)) P Q g h = g (prints l.items) h
 affects_map (Ok (effect.Needs q)) P Q g h = g (need_of q) h
 affects_map (Ok (effect.Counts C)) P Q g h = g (counts C) h
+affects_map (Ok (effect.Nears C x)) P Q g h = g (nears C x) h
 affects_map (Ok (effect.Fails l)) P Q g h = (h.0, g (fails h.0) h.1, h.2)
 affects_map (Err (stop.Refused r)) P Q g h = g (fails (refused_of r)) h
 affects_map (Err stop.NoMemory) P Q g h = tt
@@ -81,6 +83,9 @@ module _ (old : State) (env : List language.Binding) (ss : List Statement) (next
 
   pub count_step : (C : Matrix) → state_at env ss next ≡ old → next < length ss → s ≡ get_or ss next s → Steps built_calls env (statement_of s) (counts C) → Does old (Weights C) (state_at env ss (next + 1))
   count_step C view l is h = subst (λ o. Does o (Weights C) (state_at env ss (next + 1))) view (s, (drop (next + 1) ss, first_left ss next s l is, (h, refl)))
+
+  pub near_step : (C : Matrix) (x : List ℕ) → state_at env ss next ≡ old → next < length ss → s ≡ get_or ss next s → Steps built_calls env (statement_of s) (nears C x) → Does old (Near C x) (state_at env ss (next + 1))
+  near_step C x view l is h = subst (λ o. Does o (Near C x) (state_at env ss (next + 1))) view (s, (drop (next + 1) ss, first_left ss next s l is, (h, refl)))
 
   pub fault_step : (text : Vec ℕ) (r : Refused) (n : ℕ) → state_at env ss next ≡ old → next < length ss → s ≡ get_or ss next s → Steps built_calls env (statement_of s) (fails r) → text.items ≡ fault_line r.number r.place r.values → n ≡ length ss → Does old (Fault text) (state_at env ss n)
   fault_step text r n view l is h line ends =

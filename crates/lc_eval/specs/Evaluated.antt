@@ -16,7 +16,7 @@ use Rattle.lc_language.specs.Print.{fault_line}
 use Rattle.lc_language.specs.Query as language
 use Rattle.lc_language.specs.Query.{distance, by_levels, by_scan}
 use Rattle.lc_language.specs.Evaluation as evaluation
-use Rattle.lc_language.specs.Evaluation.{Outcomes, all_give, one_refused, Step, prints, binds, asks, counts, fails, query_of}
+use Rattle.lc_language.specs.Evaluation.{Outcomes, all_give, one_refused, Step, prints, binds, asks, counts, nears, fails, query_of}
 use Rattle.lc_eval.specs.Built.{built_calls, query_call_of, IsAsked}
 use Rattle.lc_eval.specs.Value.{values_of, binding_of, refused_of}
 use Rattle.lc_eval.specs.declared.calls.QueryCall.{QueryCall}
@@ -48,6 +48,7 @@ Affects (effect.Binds b) P = P (binds (binding_of b))
 Affects (effect.Prints l) P = P (prints l.items)
 Affects (effect.Needs q) P = P (need_of q)
 Affects (effect.Counts C) P = P (counts C)
+Affects (effect.Nears C x) P = P (nears C x)
 Affects (effect.Fails l) P = (r : evaluation.Refused) × P (fails r) × (l.items ≡ fault_line r.number r.place r.values)
 
 abbrev pub AffectsOrFails : Result Effect Stop → (Step → Type 0) → Type 0

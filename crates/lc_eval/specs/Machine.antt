@@ -14,7 +14,7 @@ use Rattle.lc_eval.specs.Built.{built_calls}
 use Rattle.lc_eval.specs.Names.{IsBound}
 use Rattle.lc_eval.specs.Evaluated.{need_of}
 use Rattle.lc_eval.specs.declared.machine.Step.{Step}
-use Rattle.lc_eval.specs.declared.machine.Step.TheVariants.{Line, Silent, Need, Weights, Fault, End}
+use Rattle.lc_eval.specs.declared.machine.Step.TheVariants.{Line, Silent, Need, Weights, Near, Fault, End}
 
 pub record State : Type 0 where
   pub bindings : List Binding
@@ -28,5 +28,6 @@ Does old (Line text) new = AtFirst (λ s rest. Steps built_calls old.bindings (s
 Does old Silent new = AtFirst (λ s rest. (b : Binding) × Steps built_calls old.bindings (statement_of s) (evaluation.binds b) × IsBound b old.bindings new.bindings × (new.left ≡ rest)) old
 Does old (Need q) new = AtFirst (λ s rest. Steps built_calls old.bindings (statement_of s) (need_of q) × (new ≡ record { bindings = old.bindings; left = rest })) old
 Does old (Weights C) new = AtFirst (λ s rest. Steps built_calls old.bindings (statement_of s) (evaluation.counts C) × (new ≡ record { bindings = old.bindings; left = rest })) old
+Does old (Near C x) new = AtFirst (λ s rest. Steps built_calls old.bindings (statement_of s) (evaluation.nears C x) × (new ≡ record { bindings = old.bindings; left = rest })) old
 Does old (Fault text) new = AtFirst (λ s rest. (r : Refused) × Steps built_calls old.bindings (statement_of s) (evaluation.fails r) × (text.items ≡ fault_line r.number r.place r.values) × (new ≡ record { bindings = old.bindings; left = [] })) old
 Does old End new = (old.left ≡ []) × (new ≡ old)

@@ -36,6 +36,7 @@ pub(crate) enum QueryCall {
     Certificate,
     ScanCertificate,
     WeightDistribution,
+    NearestWord,
 }
 
 /// The calls.
@@ -107,6 +108,7 @@ static TABLE: &[Row] = &rows! {
     Call::Query(QueryCall::Certificate) => "Certificate" [Code];
     Call::Query(QueryCall::ScanCertificate) => "ScanCertificate" [Code];
     Call::Query(QueryCall::WeightDistribution) => "WeightDistribution" [Code];
+    Call::Query(QueryCall::NearestWord) => "NearestWord" [Code, Numbers];
 };
 
 // The rows of all built calls.
@@ -250,6 +252,7 @@ pub(crate) enum BoundQuery<'a> {
     Certificate(&'a Code),
     ScanCertificate(&'a Code),
     WeightDistribution(&'a Code),
+    NearestWord(&'a Code, &'a [u64]),
 }
 
 impl Asks for BoundQuery<'_> {
@@ -262,6 +265,7 @@ impl Asks for BoundQuery<'_> {
       | BoundQuery.Certificate C ↦ language.certificate C.now
       | BoundQuery.ScanCertificate C ↦ language.scan_certificate C.now
       | BoundQuery.WeightDistribution C ↦ language.weight_distribution C.now
+      | BoundQuery.NearestWord C x ↦ language.nearest_word C.now x.now
     ] };
 }
 
@@ -534,6 +538,10 @@ pub(crate) fn bind_query(call: QueryCall, arguments: &[Value]) -> Option<BoundQu
         QueryCall::WeightDistribution => {
             let [a] = arguments else { return None };
             Some(BoundQuery::WeightDistribution(&a.code()?.code))
+        }
+        QueryCall::NearestWord => {
+            let [a, b] = arguments else { return None };
+            Some(BoundQuery::NearestWord(&a.code()?.code, b.numbers()?))
         }
     }
 }

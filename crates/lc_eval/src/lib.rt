@@ -14,6 +14,7 @@ mod lists;
 mod machine;
 mod made;
 mod names;
+mod nearest;
 mod queries;
 mod refusals;
 mod rows;
@@ -23,4 +24,5 @@ mod values;
 mod wide;
 
 pub use laws::{misfits_are_arguments, names_after_an_assignment};
+pub use lines::nearest_line;
 pub use machine::{Machine, Query, QueryKind, Step};

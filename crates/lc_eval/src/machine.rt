@@ -10,6 +10,7 @@ use crate::values::Binding;
 use lc_code::Code;
 use lc_field::NoMemory;
 use lc_parse::Script;
+use lc_vec::Word;
 use std::alloc::Global;
 use std::marker::Model;
 
@@ -44,6 +45,9 @@ pub enum Step {
     Need(Query),
     /// the statement prints the weight distribution of this code, which `lc_macwilliams::refusal` doesn't refuse
     Weights(Code),
+    /// the statement prints a word of this code that is nearest to this word, or what is known of it within the budget; the code
+    /// has dimension at least 1, and the word is of its length and over its field
+    Near(Code, Word),
     /// the fault line, with its newline; no statement is done after it
     Fault(Vec<u8>),
     /// no statement is left
@@ -116,6 +120,10 @@ impl Machine {
             Effect::Counts(code) => {
                 self.next += 1;
                 Ok(Step::Weights(code))
+            }
+            Effect::Nears(code, word) => {
+                self.next += 1;
+                Ok(Step::Near(code, word))
             }
             Effect::Fails(line) => {
                 self.next = self.script.statements.len();

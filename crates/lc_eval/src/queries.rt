@@ -12,6 +12,7 @@ ghost use Rattle.lc_eval.specs.Least.{IsLeastLine};
 use crate::calls::{Asks, BoundQuery};
 use crate::decoding::algebraic_decode;
 use crate::machine::{Query, QueryKind};
+use crate::nearest::nearest_word;
 use crate::refusals::{NO_DISTRIBUTION, Refused, Stop, TOO_MANY_WORDS, fault, refused_as};
 use crate::rows::{rows_of, words_of};
 use crate::statement::Effect;
@@ -65,6 +66,7 @@ pub(crate) fn answer(alloc: Global, place: usize, query: BoundQuery<'_>) -> Resu
         BoundQuery::Certificate(code) => asked(alloc, QueryKind::Levels, code),
         BoundQuery::ScanCertificate(code) => asked(alloc, QueryKind::Scan, code),
         BoundQuery::WeightDistribution(code) => weight_distribution(alloc, place, code),
+        BoundQuery::NearestWord(code, list) => nearest_word(alloc, place, code, list),
         BoundQuery::AlgebraicDecode(code, list) => algebraic_decode(alloc, place, code, list),
     }
 }

@@ -20,6 +20,7 @@ use lc_code::Code;
 use lc_field::NoMemory;
 use lc_parse::{Expr, Node, Statement};
 use lc_print::fault_line;
+use lc_vec::Word;
 use std::alloc::Global;
 
 /// What a statement does.
@@ -33,6 +34,8 @@ pub(crate) enum Effect {
     Needs(Query),
     /// it needs the weight distribution of a code
     Counts(Code),
+    /// it needs a word of a code that is nearest to a word
+    Nears(Code, Word),
     /// it has a fault, whose line this is
     Fails(Vec<u8>),
 }

@@ -1,6 +1,6 @@
--- Each need of a script, and each code whose words it counts, is a code over a symbol field, of length at most 255, with reduced rows.
+-- Each need of a script, and each code whose words it counts or to which it asks for nearest words, is a code over a symbol field, of length at most 255, with reduced rows.
 --   evaluates_shaped, evaluates_all_shaped, evaluates_list_shaped      what expressions evaluate to, if the names have such values
---   steps_shaped         what a statement binds, asks for or counts
+--   steps_shaped         what a statement binds, asks for, counts or asks nearest words of
 --   needs_shaped         the needs of some statements
 --   met_shaped           those that a session meets
 use Rattle.std.proofs.Common.{◌≡◌, ◌⊎◌, ◌<◌, ℕ, Bool, true, false, List, [], ◌∷◌, length, take, Option, Some, None, sym, subst, ⊎_elim}
@@ -129,7 +129,7 @@ HasShape (binds b) = IsShaped b.value
 HasShape (prints l) = Unit {0}
 HasShape (asks kind C) = IsCodeOfRows C
 HasShape (counts C) = IsCodeOfRows C
-HasShape (nears C x) = Unit {0}
+HasShape (nears C x) = IsCodeOfRows C
 HasShape (fails r) = Unit {0}
 
 told : (step other : Step) → step ≡ other → HasShape other → HasShape step
@@ -154,7 +154,7 @@ by_query (bound.scan_certificate C) step s h = by_asks _ C step s h
 by_query (bound.weight_distribution C) step s h = told step (counts C) h s
 by_query (bound.alternant_certificate C None x) step s h = absurd h
 by_query (bound.alternant_certificate C (Some form) x) step s h = told step _ h tt
-by_query (bound.nearest_word C x) step s h = ⊎_elim (λ (a : (length C.rows ≡ 0) × (step ≡ prints (near_line C x 0))). told step _ a.1 tt) (λ (a : (0 < length C.rows) × (step ≡ nears C x)). told step _ a.1 tt) h
+by_query (bound.nearest_word C x) step s h = ⊎_elim (λ (a : (length C.rows ≡ 0) × (step ≡ prints (near_line C x 0))). told step _ a.1 tt) (λ (a : (0 < length C.rows) × (step ≡ nears C x)). told step (nears C x) a.1 s) h
 
 by_all : (c : QueryCall) (place : ℕ) (kinds : List Kind) (es : Exprs) (os : Outcomes) (step : Step) → AreGiven os → QueriesAll c place kinds es os step → HasShape step
 by_all c place kinds es (one_refused r) step s h = told step (fails r) h tt

@@ -200,6 +200,7 @@ HaveQueryShapes (bound.minimum_distance C) = IsCodeOfRows C
 HaveQueryShapes (bound.certificate C) = IsCodeOfRows C
 HaveQueryShapes (bound.scan_certificate C) = IsCodeOfRows C
 HaveQueryShapes (bound.weight_distribution C) = IsCodeOfRows C
+HaveQueryShapes (bound.nearest_word C x) = IsCodeOfRows C
 HaveQueryShapes _ = Unit {0}
 
 queries_shaped : (c : QueryCall) → InForms HaveQueryShapes (query_forms c)
@@ -211,7 +212,7 @@ queries_shaped query.Certificate = (λ C h. h, tt)
 queries_shaped query.ScanCertificate = (λ C h. h, tt)
 queries_shaped query.WeightDistribution = (λ C h. h, tt)
 queries_shaped query.AlternantCertificate = (λ C h x. tt, tt)
-queries_shaped query.NearestWord = (λ C h x. tt, tt)
+queries_shaped query.NearestWord = (λ C h x. h, tt)
 
 -- ---- all calls
 

@@ -11,4 +11,5 @@ pub mod GroundLaws
 pub mod CertificateLaws
 pub mod StoredLaws
 pub mod CountedLaws
+pub mod NearestLaws
 pub mod PrintedLaws

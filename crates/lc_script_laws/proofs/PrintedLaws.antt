@@ -1,10 +1,10 @@
--- What a script prints of its searches and of the words that it counts is true.
+-- What a script prints of its searches, of the words that it counts and for nearest words is true.
 --   exact_stated, bracket_stated      the line of a distance, and that of a bracket
 --   dear_or_text         the line of a certificate says a cost or a length, or is the text of one that can be afforded
 --   certificate_said     the line of a certificate
 --   line_true            the line of a query on a code that a script searches
---   text_made            a text is made of pieces, of which those of the queries on codes are the lines of its needs, and the weight
---                        distributions those of the codes that it counts
+--   text_made            a text is made of pieces, of which those of the queries on codes are the lines of its needs, the weight
+--                        distributions those of the codes that it counts, and the others those of its queries for nearest words
 --   text_true            and these are true
 --   needs_true           the answers for the needs of a script are true
 --   large_exact, large_stated      a budget of as many blocks as all sets together have messages gives an exact answer
@@ -31,16 +31,18 @@ use Rattle.lc_language.specs.Print.{fault_line}
 use Rattle.lc_language.specs.Query.{QueryKind, distance, by_levels, by_scan, longest, certificate_of, no_certificate_line, certificate_line, word_at_place, distance_answer_line, certificate_answer_line, query_line, distribution_line, near_line}
 use Rattle.lc_language.specs.Evaluation.{Step, Steps, binds, prints, asks, counts, nears, fails, Prints, Runs, IsText}
 use Rattle.lc_session_rules.specs.Needs.{Needs, IsNeeds, MeetsFirst}
+use Rattle.lc_session_rules.specs.Nears.{Nears, AreNears}
 use Rattle.lc_session_rules.proofs.AnswerLaws.{met_whole}
 use Rattle.lc_session_rules.proofs.AskLaws.{met_rows}
 use Rattle.lc_certify.specs.Accepted.{IsSearchable, IsAcceptedFor}
 use Rattle.lc_certify.proofs.ValidLaws.{code_distance, valid_at, exact_at}
 use Rattle.lc_certify.proofs.AcceptedLaws.{told_accepted, shaped_at}
 use Rattle.lc_script_laws.specs.Counted.{Counts, AreCounted}
-use Rattle.lc_script_laws.specs.Printed.{Piece, plain, asked, counted, pieces_text, codes_in, counted_in, StatesDistance, StatesBracket, SaysBetween, SaysDear, IsTrueLine, IsTruePiece}
+use Rattle.lc_script_laws.specs.Printed.{Piece, plain, asked, counted, nearest, pieces_text, codes_in, counted_in, nears_in, StatesDistance, StatesBracket, SaysBetween, SaysDear, IsTrueLine, IsTruePiece}
 use Rattle.lc_script_laws.proofs.AskShapes.{AreCodesOfRows}
 use Rattle.lc_script_laws.proofs.CertificateLaws.{need_searchable}
 use Rattle.lc_script_laws.proofs.CountedLaws.{distribution_stated, counted_shaped}
+use Rattle.lc_script_laws.proofs.NearestLaws.{AreNearQueries, nears_asked, near_stated}
 
 -- ---- distances
 
@@ -147,43 +149,44 @@ line_true table bytes needs met i C at by_scan budget = certificate_said by_scan
 
 -- the text of some statements is made of pieces
 abbrev IsMade : List Call → ℕ → List Binding → List Statement → List ℕ → Type 0
-IsMade table budget env ss text = (pieces : List Piece) × (text ≡ pieces_text budget pieces) × Needs table env ss (codes_in pieces) × Counts table env ss (counted_in pieces)
+IsMade table budget env ss text = (pieces : List Piece) × (text ≡ pieces_text budget pieces) × Needs table env ss (codes_in pieces) × Counts table env ss (counted_in pieces) × Nears table env ss (nears_in pieces)
 
 goes_on : (table : List Call) (budget : ℕ) (env : List Binding) (s : Statement) (ss : List Statement) (step : Step) (text : List ℕ) (ends : Bool) → Steps table env s step
     → ((later : List Binding) (rest : List ℕ) → Runs table budget later ss rest ends → IsMade table budget later ss rest)
     → Prints budget env step (λ later. Runs table budget later ss) text ends → IsMade table budget env (s ∷ ss) text
-goes_on table budget env s ss (binds b) text ends steps later runs = let all = later (b ∷ env) text runs in (all.0, all.1, (binds b, steps, all.2), (binds b, steps, all.3))
-goes_on table budget env s ss (prints l) text ends steps later (rest, runs, is) = let all = later env rest runs in (plain l ∷ all.0, is ∙ ap (λ (t : List ℕ). l ++ t) all.1, (prints l, steps, all.2), (prints l, steps, all.3))
+goes_on table budget env s ss (binds b) text ends steps later runs = let all = later (b ∷ env) text runs in (all.0, all.1, (binds b, steps, all.2), (binds b, steps, all.3), (binds b, steps, all.4))
+goes_on table budget env s ss (prints l) text ends steps later (rest, runs, is) = let all = later env rest runs in (plain l ∷ all.0, is ∙ ap (λ (t : List ℕ). l ++ t) all.1, (prints l, steps, all.2), (prints l, steps, all.3), (prints l, steps, all.4))
 goes_on table budget env s ss (asks kind C) text ends steps later (rest, runs, is) =
-    let all = later env rest runs in (asked kind C ∷ all.0, is ∙ ap (λ (t : List ℕ). query_line kind C budget ++ t) all.1, (asks kind C, steps, (codes_in all.0, all.2, refl)), (asks kind C, steps, all.3))
-goes_on table budget env s ss (counts C) text ends steps later (rest, runs, is) = let all = later env rest runs in (counted C ∷ all.0, is ∙ ap (λ (t : List ℕ). distribution_line C ++ t) all.1, (counts C, steps, all.2), (counts C, steps, (counted_in all.0, all.3, refl)))
-goes_on table budget env s ss (nears C x) text ends steps later (rest, runs, is) = let all = later env rest runs in (plain (near_line C x budget) ∷ all.0, is ∙ ap (λ (t : List ℕ). near_line C x budget ++ t) all.1, (nears C x, steps, all.2), (nears C x, steps, all.3))
-goes_on table budget env s ss (fails r) text ends steps later (is, ended) = (plain text ∷ [], sym (append-nil text), (fails r, steps, refl), (fails r, steps, refl))
+    let all = later env rest runs in (asked kind C ∷ all.0, is ∙ ap (λ (t : List ℕ). query_line kind C budget ++ t) all.1, (asks kind C, steps, (codes_in all.0, all.2, refl)), (asks kind C, steps, all.3), (asks kind C, steps, all.4))
+goes_on table budget env s ss (counts C) text ends steps later (rest, runs, is) = let all = later env rest runs in (counted C ∷ all.0, is ∙ ap (λ (t : List ℕ). distribution_line C ++ t) all.1, (counts C, steps, all.2), (counts C, steps, (counted_in all.0, all.3, refl)), (counts C, steps, all.4))
+goes_on table budget env s ss (nears C x) text ends steps later (rest, runs, is) = let all = later env rest runs in (nearest C x ∷ all.0, is ∙ ap (λ (t : List ℕ). near_line C x budget ++ t) all.1, (nears C x, steps, all.2), (nears C x, steps, all.3), (nears C x, steps, (nears_in all.0, all.4, refl)))
+goes_on table budget env s ss (fails r) text ends steps later (is, ended) = (plain text ∷ [], sym (append-nil text), (fails r, steps, refl), (fails r, steps, refl), (fails r, steps, refl))
 
 made : (table : List Call) (budget : ℕ) (env : List Binding) (ss : List Statement) (text : List ℕ) (ends : Bool) → Runs table budget env ss text ends → IsMade table budget env ss text
-made table budget env [] text ends (is, ended) = ([], is, refl, refl)
+made table budget env [] text ends (is, ended) = ([], is, refl, refl, refl)
 made table budget env (s ∷ ss) text ends (step, steps, runs) = goes_on table budget env s ss step text ends steps (λ later rest r. made table budget later ss rest ends r) runs
 
-pub text_made : (table : List Call) (budget : ℕ) (bytes text : List ℕ) (ends : Bool) → IsText table budget bytes text ends → (pieces : List Piece) × (text ≡ pieces_text budget pieces) × IsNeeds table bytes (codes_in pieces) × AreCounted table bytes (counted_in pieces)
+pub text_made : (table : List Call) (budget : ℕ) (bytes text : List ℕ) (ends : Bool) → IsText table budget bytes text ends → (pieces : List Piece) × (text ≡ pieces_text budget pieces) × IsNeeds table bytes (codes_in pieces) × AreCounted table bytes (counted_in pieces) × AreNears table bytes (nears_in pieces)
 text_made table budget bytes text ends is =
     ⊎_elim
-    (λ (a : (ss : List Statement) × Reads bytes ss × Runs table budget [] ss text ends). (let m = made table budget [] a.0 text ends a.2 in (m.0, m.1, inl (a.0, a.1, m.2), inl (a.0, a.1, m.3))))
-    (λ (a : (fault : Fault) × IsFault bytes fault × (text ≡ fault_line fault.number fault.place []) × (ends ≡ true)). (plain text ∷ [], sym (append-nil text), inr (a.0, a.1, refl), inr (a.0, a.1, refl))) is
+    (λ (a : (ss : List Statement) × Reads bytes ss × Runs table budget [] ss text ends). (let m = made table budget [] a.0 text ends a.2 in (m.0, m.1, inl (a.0, a.1, m.2), inl (a.0, a.1, m.3), inl (a.0, a.1, m.4))))
+    (λ (a : (fault : Fault) × IsFault bytes fault × (text ≡ fault_line fault.number fault.place []) × (ends ≡ true)). (plain text ∷ [], sym (append-nil text), inr (a.0, a.1, refl), inr (a.0, a.1, refl), inr (a.0, a.1, refl))) is
 
-each_true : (budget : ℕ) (pieces : List Piece) → ((i : ℕ) (C : Matrix) → slice_get (codes_in pieces) i ≡ Some C → (kind : QueryKind) → IsTrueLine kind C budget (query_line kind C budget)) → AreCodesOfRows (counted_in pieces) → All (IsTruePiece budget) pieces
-each_true budget [] all rows = All-nil (IsTruePiece budget)
-each_true budget (plain text ∷ pieces) all rows = All-cons (IsTruePiece budget) (plain text) pieces tt (each_true budget pieces all rows)
-each_true budget (asked kind C ∷ pieces) all rows = All-cons (IsTruePiece budget) (asked kind C) pieces (all 0 C refl kind) (each_true budget pieces (λ i D at. all (suc i) D at) rows)
-each_true budget (counted C ∷ pieces) all rows = All-cons (IsTruePiece budget) (counted C) pieces (distribution_stated C rows.0) (each_true budget pieces all rows.1)
+each_true : (budget : ℕ) (pieces : List Piece) → ((i : ℕ) (C : Matrix) → slice_get (codes_in pieces) i ≡ Some C → (kind : QueryKind) → IsTrueLine kind C budget (query_line kind C budget)) → AreCodesOfRows (counted_in pieces) → AreNearQueries (nears_in pieces) → All (IsTruePiece budget) pieces
+each_true budget [] all rows words = All-nil (IsTruePiece budget)
+each_true budget (plain text ∷ pieces) all rows words = All-cons (IsTruePiece budget) (plain text) pieces tt (each_true budget pieces all rows words)
+each_true budget (asked kind C ∷ pieces) all rows words = All-cons (IsTruePiece budget) (asked kind C) pieces (all 0 C refl kind) (each_true budget pieces (λ i D at. all (suc i) D at) rows words)
+each_true budget (counted C ∷ pieces) all rows words = All-cons (IsTruePiece budget) (counted C) pieces (distribution_stated C rows.0) (each_true budget pieces all rows.1 words)
+each_true budget (nearest C x ∷ pieces) all rows words = All-cons (IsTruePiece budget) (nearest C x) pieces (near_stated budget (record { code = C; word = x }) words.0) (each_true budget pieces all rows words.1)
 
 needs_met : (table : List Call) (bytes : List ℕ) (needs : List Matrix) → IsNeeds table bytes needs → MeetsFirst table bytes needs
 needs_met table bytes needs all =
     ⊎_elim (λ (a : (ss : List Statement) × Reads bytes ss × Needs table [] ss needs). met_whole table bytes a.0 needs a.1 a.2) (λ (a : (fault : Fault) × IsFault bytes fault × (needs ≡ [])). inl a.2) all
 
-pub text_true : (table : List Call) (budget : ℕ) (bytes text : List ℕ) (ends : Bool) → IsText table budget bytes text ends → (pieces : List Piece) × (text ≡ pieces_text budget pieces) × IsNeeds table bytes (codes_in pieces) × AreCounted table bytes (counted_in pieces) × All (IsTruePiece budget) pieces
+pub text_true : (table : List Call) (budget : ℕ) (bytes text : List ℕ) (ends : Bool) → IsText table budget bytes text ends → (pieces : List Piece) × (text ≡ pieces_text budget pieces) × IsNeeds table bytes (codes_in pieces) × AreCounted table bytes (counted_in pieces) × AreNears table bytes (nears_in pieces) × All (IsTruePiece budget) pieces
 text_true table budget bytes text ends is =
-    let (pieces, same, needs, codes) = text_made table budget bytes text ends is in
-    (pieces, same, needs, codes, each_true budget pieces (λ i C at kind. line_true table bytes (codes_in pieces) (needs_met table bytes (codes_in pieces) needs) i C at kind budget) (counted_shaped table bytes (counted_in pieces) codes))
+    let (pieces, same, needs, codes, near) = text_made table budget bytes text ends is in
+    (pieces, same, needs, codes, near, each_true budget pieces (λ i C at kind. line_true table bytes (codes_in pieces) (needs_met table bytes (codes_in pieces) needs) i C at kind budget) (counted_shaped table bytes (counted_in pieces) codes) (nears_asked table bytes (nears_in pieces) near))
 
 each_holds : (budget : ℕ) (needs : List Matrix) → ((i : ℕ) (C : Matrix) → slice_get needs i ≡ Some C → IsSearchable C) → All (λ C. AnswerHolds C (answer (divisor_of C) C budget)) needs
 each_holds budget [] all = All-nil (λ C. AnswerHolds C (answer (divisor_of C) C budget))

@@ -1,3 +1,4 @@
 pub mod Counted
+pub mod Nearest
 pub mod Printed
 pub mod Shapes

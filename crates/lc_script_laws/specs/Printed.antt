@@ -1,8 +1,9 @@
--- What a script prints of its searches and of the words that it counts, and when that is true.
---   Piece, piece_text budget p       a piece of a text: a plain one, what a query on a code prints under the budget, or the weight
---                                    distribution of a code
+-- What a script prints of its searches, of the words that it counts and for nearest words, and when that is true.
+--   Piece, piece_text budget p       a piece of a text: a plain one, what a query on a code prints under the budget, the weight
+--                                    distribution of a code, or what a query for a nearest word prints under the budget
 --   pieces_text budget pieces        the text of some pieces, one after another
 --   codes_in pieces, counted_in pieces      the codes of the queries among them; those of the distributions
+--   nears_in pieces                  the codes and words of the queries for nearest words
 --   StatesDistance C text            the line states the minimum distance of the code and a word of the code that has this weight
 --   StatesBracket C budget text      the line states two numbers between which the minimum distance lies, and a word of the code that has
 --                                    the greater weight
@@ -12,7 +13,7 @@
 --                                    numbers are q^k together
 --   IsTrueLine kind C budget text    the line of a query is true: a distance or a bracket; or a certificate that is accepted for the
 --                                    code, a bracket, or a cost or a length
---   IsTruePiece budget p             so is a piece that is the line of a query or a distribution
+--   IsTruePiece budget p             so is a piece that is the line of a query, a distribution or a nearest word
 use Rattle.std.specs.Prelude.{◌≡◌, ℕ, ◌+◌, ◌^◌, ◌<◌, ◌≤◌, ◌⊎◌, List, [], ◌∷◌, ◌++◌, length, slice_index, sum, codes, decimal, ⊤}
 use Rattle.lc_algebra.specs.Field.{size}
 use Rattle.lc_algebra.specs.Word.{weight}
@@ -20,19 +21,23 @@ use Rattle.lc_algebra.specs.Span.{InSpan, IsDistance}
 use Rattle.lc_algebra.specs.Matrix.{Matrix}
 use Rattle.lc_formats.specs.Text.{line, numbers_text}
 use Rattle.lc_language.specs.Print.{distance_line, bracket_line}
-use Rattle.lc_language.specs.Query.{QueryKind, distance, by_levels, by_scan, no_certificate_line, query_line, distribution_line}
+use Rattle.lc_language.specs.Query.{QueryKind, distance, by_levels, by_scan, no_certificate_line, query_line, distribution_line, near_line}
+use Rattle.lc_session_rules.specs.Nears.{NearQuery}
 use Rattle.lc_certify.specs.Accepted.{IsAcceptedFor}
 use Rattle.lc_script_laws.specs.Counted.{HasWordsOfWeight}
+use Rattle.lc_script_laws.specs.Nearest.{IsTrueNear}
 
 pub data Piece : Type 0 where
   plain : List ℕ → Piece
   asked : QueryKind → Matrix → Piece
   counted : Matrix → Piece
+  nearest : Matrix → List ℕ → Piece
 
 abbrev pub piece_text : ℕ → Piece → List ℕ
 piece_text budget (plain text) = text
 piece_text budget (asked kind C) = query_line kind C budget
 piece_text budget (counted C) = distribution_line C
+piece_text budget (nearest C x) = near_line C x budget
 
 abbrev pub pieces_text : ℕ → List Piece → List ℕ
 pieces_text budget [] = []
@@ -43,12 +48,21 @@ codes_in [] = []
 codes_in (plain text ∷ pieces) = codes_in pieces
 codes_in (asked kind C ∷ pieces) = C ∷ codes_in pieces
 codes_in (counted C ∷ pieces) = codes_in pieces
+codes_in (nearest C x ∷ pieces) = codes_in pieces
 
 abbrev pub counted_in : List Piece → List Matrix
 counted_in [] = []
 counted_in (plain text ∷ pieces) = counted_in pieces
 counted_in (asked kind C ∷ pieces) = counted_in pieces
 counted_in (counted C ∷ pieces) = C ∷ counted_in pieces
+counted_in (nearest C x ∷ pieces) = counted_in pieces
+
+abbrev pub nears_in : List Piece → List NearQuery
+nears_in [] = []
+nears_in (plain text ∷ pieces) = nears_in pieces
+nears_in (asked kind C ∷ pieces) = nears_in pieces
+nears_in (counted C ∷ pieces) = nears_in pieces
+nears_in (nearest C x ∷ pieces) = record { code = C; word = x } ∷ nears_in pieces
 
 pub record StatesDistance (C : Matrix) (text : List ℕ) : Type 0 where
   pub distance : ℕ
@@ -97,3 +111,4 @@ abbrev pub IsTruePiece : ℕ → Piece → Type 0
 IsTruePiece budget (plain text) = ⊤
 IsTruePiece budget (asked kind C) = IsTrueLine kind C budget (query_line kind C budget)
 IsTruePiece budget (counted C) = StatesDistribution C (distribution_line C)
+IsTruePiece budget (nearest C x) = IsTrueNear C x budget (near_line C x budget)

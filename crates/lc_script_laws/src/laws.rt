@@ -8,11 +8,12 @@ ghost use Rattle.lc_enumeration.specs.Records.{SessionStep};
 ghost use Rattle.lc_formats.specs.Checkpoint.{Checkpoint};
 ghost use Rattle.lc_io.specs.Vaults.{Slots};
 ghost use Rattle.lc_language.specs.declared.Call.{Call};
-ghost use Rattle.lc_language.specs.Query.{QueryKind, distance, by_levels, by_scan, query_line, distribution_line};
+ghost use Rattle.lc_language.specs.Query.{QueryKind, distance, by_levels, by_scan, query_line, distribution_line, near_line};
 ghost use Rattle.lc_language.specs.Evaluation.{IsText};
 ghost use Rattle.lc_eval.specs.Built.{built_calls};
 ghost use Rattle.lc_session_rules.specs.Options.{run, resume};
 ghost use Rattle.lc_session_rules.specs.Needs.{IsNeeds, MeetsFirst};
+ghost use Rattle.lc_session_rules.specs.Nears.{NearQuery, AreNears, NearsHold};
 ghost use Rattle.lc_session_rules.specs.Slots.{turn_after, IsTrueCheckpoint, AreTrueSlots};
 ghost use Rattle.lc_session_rules.specs.Endings.{Ending, done};
 ghost use Rattle.lc_session_rules.specs.Session.{Outside, most_bytes, keeps, IsSession};
@@ -20,7 +21,8 @@ ghost use Rattle.lc_session_rules.specs.Promises.{PrintsText, StartsTruly, Store
 ghost use Rattle.lc_session_rules.specs.Chain.{Chain, IsGround, HasBegun, TearsSo};
 ghost use Rattle.lc_certify.specs.Accepted.{SaysNone, IsAcceptedFor};
 ghost use Rattle.lc_script_laws.specs.Counted.{AreCounted};
-ghost use Rattle.lc_script_laws.specs.Printed.{Piece, pieces_text, codes_in, counted_in, StatesDistance, StatesDistribution, IsTrueLine, IsTruePiece};
+ghost use Rattle.lc_script_laws.specs.Printed.{Piece, pieces_text, codes_in, counted_in, nears_in, StatesDistance, StatesDistribution, IsTrueLine, IsTruePiece};
+ghost use Rattle.lc_script_laws.specs.Nearest.{StatesNearest, IsTrueNear};
 ghost use Rattle.lc_script_laws.specs.Shapes.{IsCodeOfRows};
 
 /// Bytes print at most one text: whatever satisfies the definition of the text of a script is the same text,
@@ -46,13 +48,14 @@ pub fn scripts_print_accepted_certificates()
 {}
 
 /// What a script prints of its searches is true. Its text is made of pieces, of which those of its queries on codes are, in their
-/// order, the lines of the codes that it searches, under its budget, and the weight distributions those of the codes that it counts.
+/// order, the lines of the codes that it searches, under its budget, the weight distributions those of the codes that it counts, and
+/// what it prints for nearest words that of its queries for these.
 /// The line of a query states the minimum distance of the code and a word of
 /// it that has this weight; or two numbers between which the minimum distance lies, and a word that has the greater weight; or it is
 /// a certificate of which `check` answers that it is accepted, with the minimum distance; or it says that there is no certificate,
 /// with two such numbers, or since it costs too much or is too long. Under every budget the answers for these codes are true.
 pub fn printed_answers_are_true()
-    ensures text { (table : List Call) (budget : ℕ) (bytes text : List ℕ) (ends : Bool) → IsText table budget bytes text ends → (pieces : List Piece) × (text ≡ pieces_text budget pieces) × IsNeeds table bytes (codes_in pieces) × AreCounted table bytes (counted_in pieces) × All (IsTruePiece budget) pieces }
+    ensures text { (table : List Call) (budget : ℕ) (bytes text : List ℕ) (ends : Bool) → IsText table budget bytes text ends → (pieces : List Piece) × (text ≡ pieces_text budget pieces) × IsNeeds table bytes (codes_in pieces) × AreCounted table bytes (counted_in pieces) × AreNears table bytes (nears_in pieces) × All (IsTruePiece budget) pieces }
     ensures line { (table : List Call) (bytes : List ℕ) (needs : List Matrix) → MeetsFirst table bytes needs → (i : ℕ) (C : Matrix) → slice_get needs i ≡ Some C → (kind : QueryKind) (budget : ℕ) → IsTrueLine kind C budget (query_line kind C budget) }
     ensures truth { (table : List Call) (bytes : List ℕ) (needs : List Matrix) (budget : ℕ) → MeetsFirst table bytes needs → All (λ C. AnswerHolds C (answer (divisor_of C) C budget)) needs }
 {}
@@ -63,6 +66,18 @@ pub fn printed_answers_are_true()
 pub fn printed_distributions_are_true()
     ensures { (table : List Call) (bytes : List ℕ) (codes : List Matrix) → AreCounted table bytes codes
         → All (λ C. StatesDistribution C (distribution_line C)) codes }
+{}
+
+/// What a script prints for a nearest word is true, under every budget. The line of a query states a word of the code and its distance
+/// from the given word, and no word of the code is nearer; or it states the blocks of the budget, a word of the code with its distance,
+/// and a number such that no word of the code is nearer than that. So the least distance lies between the two numbers. If the budget is
+/// at least m q^k blocks and at most 2^40, for a code of dimension k over q elements with m information sets, it states a nearest word.
+pub fn printed_nearest_words_are_true()
+    ensures holds { (table : List Call) (bytes : List ℕ) (budget : ℕ) → NearsHold table bytes budget }
+    ensures line { (table : List Call) (bytes : List ℕ) (queries : List NearQuery) (budget : ℕ) → AreNears table bytes queries
+        → All (λ q. IsTrueNear q.code q.word budget (near_line q.code q.word budget)) queries }
+    ensures large { (table : List Call) (bytes : List ℕ) (queries : List NearQuery) (budget : ℕ) → AreNears table bytes queries
+        → All (λ q. set_count q.code * size q.code.field ^ length q.code.rows ≤ budget → budget ≤ 2 ^ 40 → StatesNearest q.code q.word (near_line q.code q.word budget)) queries }
 {}
 
 /// If the budget is at least m (q^k - 1)/(q - 1) blocks and at most 2^40, for a code of dimension k over q elements with m information

@@ -1,5 +1,6 @@
 //! Laws of the scripts that are made of the calls that are built: what they ask for, that their text is the only one, that its
-//! answers and weight distributions are true and its certificates accepted, and what sessions that follow one another over the slots of a vault print.
+//! answers, weight distributions and nearest words are true and its certificates accepted, and what sessions that follow one another
+//! over the slots of a vault print.
 //!
 //! Each function proves what its clauses say, and does nothing when it is run.
 #![tactic(auto)]
@@ -8,6 +9,6 @@ mod laws;
 
 pub use laws::{
     chains_print_the_text, large_budgets_answer_exactly, needs_are_codes, one_text,
-    printed_answers_are_true, printed_distributions_are_true, scripts_are_ground,
-    scripts_print_accepted_certificates, stored_slots_hold_true_checkpoints,
+    printed_answers_are_true, printed_distributions_are_true, printed_nearest_words_are_true,
+    scripts_are_ground, scripts_print_accepted_certificates, stored_slots_hold_true_checkpoints,
 };

@@ -33,6 +33,7 @@ use Rattle.lc_session.specs.declared.status.Status.{Status}
 use Rattle.lc_session.specs.Ending.{ending_of}
 use Rattle.lc_session.specs.Closing.{Closes}
 use Rattle.lc_script_laws.proofs.GroundLaws.{one_step_built}
+use Rattle.lc_script_laws.proofs.NearestLaws.{nears_true}
 use Rattle.lc_session.proofs.ScriptEnds.{run_ends, resume_ends}
 
 pub few_needs : (given bytes : List ℕ) → given ≡ bytes → length bytes ≤ most_bytes → ((needs : List Matrix) → MeetsFirst built_calls given needs → 15 * length needs ≤ length given) → (needs : List Matrix) → MeetsFirst built_calls given needs → length needs < 70000
@@ -69,7 +70,7 @@ run_session_of args asked old source source_faults bytes given held faults first
     let w = started afresh asked.budget asked.slice asked.keep digest 0 (around held faults old.watchers) in
     let same : w ≡ world asked bytes afresh 0 held old = same_world asked bytes digest afresh 0 held faults old hashed calm in
     let ready : IsReady args asked old source source_faults bytes held = record { accepted = accepted; searches = inl runs; read = read; quiet = quiet; begun = λ k. begun_run asked old.vault held runs (begun k); unkept = unkept } in
-    run_ends args asked old source source_faults bytes held ready (one_script bytes) one_step_built (no_both bytes) small last now sink sink_faults r s runs (subst (λ (b : List ℕ). Found (world asked bytes afresh 0 held old) b r last now) same_given (subst (λ (x : World). Found x given r last now) same (found w goes))) closed
+    run_ends args asked old source source_faults bytes held ready (one_script bytes) one_step_built (no_both bytes) small (nears_true built_calls bytes asked.budget) last now sink sink_faults r s runs (subst (λ (b : List ℕ). Found (world asked bytes afresh 0 held old) b r last now) same_given (subst (λ (x : World). Found x given r last now) same (found w goes))) closed
 
 pub resume_session_of : (args : List (List ℕ)) (asked : Settings) (old : Outside) (source : Option (List ℕ)) (source_faults : ℕ) (bytes given : List ℕ) (held : Option Slots) (faults : ℕ) (p : Checkpoint) (first last : Course) (r : Result Text Halt) (now : Around) (sink : Option (List ℕ)) (sink_faults : ℕ) (s : Status)
     → options all_options args ≡ settings asked → asked.command ≡ resume → asked.budget ≤ 2 ^ 40 → WasRead old.source source bytes → source_faults ≡ old.source_faults
@@ -85,4 +86,4 @@ resume_session_of args asked old source source_faults bytes given held faults p 
     ap (λ (n : ℕ). started b n asked.slice asked.keep p.script (next_turn p.turn) (around held faults old.watchers)) names.1 ∙ same_world asked bytes p.script b (next_turn p.turn) held faults old names.0 calm
     ∙ ap (λ (o : Option Slots). world asked bytes b (next_turn p.turn) o old) same_slots in
     let ready : IsReady args asked old source source_faults bytes old.vault = record { accepted = accepted; searches = inr resumes; read = read; quiet = quiet; begun = λ k. begun_resume asked old.vault resumes; unkept = λ k. refl } in
-    resume_ends args asked old source source_faults bytes old.vault ready (one_script bytes) one_step_built (no_both bytes) small last now sink sink_faults p taken named (next_turn p.turn) refl resumes r s (subst (λ (d : List ℕ). Found (world asked bytes b (next_turn p.turn) old.vault old) d r last now) same_given (subst (λ (x : World). Found x given r last now) same (found w goes))) closed
+    resume_ends args asked old source source_faults bytes old.vault ready (one_script bytes) one_step_built (no_both bytes) small (nears_true built_calls bytes asked.budget) last now sink sink_faults p taken named (next_turn p.turn) refl resumes r s (subst (λ (d : List ℕ). Found (world asked bytes b (next_turn p.turn) old.vault old) d r last now) same_given (subst (λ (x : World). Found x given r last now) same (found w goes))) closed

@@ -1,12 +1,21 @@
--- A query that searches asks for a code with rows, and one that counts for a code whose weight distribution is computed.
+-- A query that searches asks for a code with rows, one that counts for a code whose weight distribution is computed, and one for a
+-- nearest word for a code with rows and a word of its length over its field.
 --   asked_rows           the code that a statement asks for has rows
 --   counted_allowed      the weight distribution of the code that a statement counts isn't refused
+--   near_allowed         the code to which a statement asks for a nearest word has rows, and the word is one of its length and field
 --   met_rows             the needs that a session meets have rows
-use Rattle.std.proofs.Common.{◌≡◌, ◌<◌, ℕ, zero, suc, List, [], ◌∷◌, length, take, Option, Some, None, option_map, refl, sym, ap, subst, ◌∙◌, ⊎_elim}
+use Rattle.std.proofs.Common.{◌≡◌, ◌<◌, ◌==◌, ℕ, zero, suc, true, false, nat_lt, slice_index, List, [], ◌∷◌, length, take, Option, Some, None, option_map, refl, sym, ap, subst, ◌∙◌, ⊎_elim}
 use Rattle.std.specs.Prelude.{MatchOption, slice_get}
+use Rattle.std.proofs.lemmas.Bool.{cases_Bool, eqb-true}
+use Rattle.std.proofs.lemmas.Bool.Decides.{Decides-ltb}
+use Rattle.std.proofs.lemmas.List.Sums.{AllPass-from_list_all}
+use Rattle.lc_algebra.specs.declared.FieldName.{FieldName}
 use Rattle.lc_algebra.specs.Field.{size}
+use Rattle.lc_algebra.specs.Word.{Fits, IsWord}
 use Rattle.lc_algebra.specs.Matrix.{Matrix}
 use Rattle.lc_enumeration.specs.Distribution.{NoDistribution, distribution_refusal}
+use Rattle.lc_constructions.specs.Refusal.{refuse_if}
+use Rattle.lc_constructions.specs.Refusals.{are_elements}
 use Rattle.lc_grammar.specs.Tree.{Expr, Exprs, number, name, call, list, count_of, Statement}
 use Rattle.lc_grammar.specs.Grammar.{Reads}
 use Rattle.lc_language.specs.declared.Call.{Call}
@@ -16,7 +25,7 @@ use Rattle.lc_language.specs.Calls.{signature_for, BoundQuery, bind_query, query
 use Rattle.lc_language.specs.declared.QueryCall.{QueryCall}
 use Rattle.lc_language.specs.declared.Kind.{Kind}
 use Rattle.lc_language.specs.Value.{Binding}
-use Rattle.lc_language.specs.Refusal.{refuse, first_of, no_distribution}
+use Rattle.lc_language.specs.Refusal.{refuse, first_of, from_codes, word_refusals, no_distribution}
 use Rattle.lc_language.specs.Query.{QueryKind, query_line, near_line}
 use Rattle.lc_language.specs.Evaluation.{Outcome, gives, refused, Outcomes, all_give, one_refused, refuse_at, refuse_call, Evaluates, EvaluatesAll, Assigns, Step, binds, prints, asks, counts, nears, fails, AsksOf, Queries, QueriesTo, QueriesAll, query_of, fail_with, StepsAsQuery, StepsOf, Steps}
 use Rattle.lc_session_rules.specs.Needs.{NeedsOn, Needs, MeetsFirst}
@@ -26,7 +35,7 @@ IsAllowed (binds b) = Unit {0}
 IsAllowed (prints l) = Unit {0}
 IsAllowed (asks kind C) = 0 < length C.rows
 IsAllowed (counts C) = distribution_refusal (size C.field) C.columns (length C.rows) ≡ None
-IsAllowed (nears C x) = Unit {0}
+IsAllowed (nears C x) = (0 < length C.rows) × IsWord C.field C.columns x
 IsAllowed (fails r) = Unit {0}
 
 from_option : {A : Type 0} (o : Option A) (P : Type 0) (Q : A → Type 0) (R : Type 0) → (o ≡ None → P → R) → ((a : A) → Q a → R) → MatchOption o P Q → R
@@ -54,6 +63,26 @@ allowed : (C : Matrix) → query_refusal_of (bound.weight_distribution C) ≡ No
 unfolding query_refusal_of query_refusals_of no_distribution
 allowed C e = none_refused (distribution_refusal (size C.field) C.columns (length C.rows)) e
 
+uneven : (C : Matrix) (x : List ℕ) → (length x == C.columns) ≡ false → query_refusal_of (bound.nearest_word C x) ≡ None → ⊥
+unfolding query_refusal_of query_refusals_of from_codes word_refusals first_of refuse_if
+uneven C x t e = (let f = rw t at e in cc)
+
+unfit : (C : Matrix) (x : List ℕ) → (length x == C.columns) ≡ true → are_elements C.field x ≡ false → query_refusal_of (bound.nearest_word C x) ≡ None → ⊥
+unfolding query_refusal_of query_refusals_of from_codes word_refusals first_of refuse_if
+unfit C x t k e = (let f = rw (t, k) at e in cc)
+
+elements_fit : (f : FieldName) (x : List ℕ) → are_elements f x ≡ true → Fits f x
+unfolding are_elements
+elements_fit f x h k l = (Decides-ltb (slice_index x k) (size f)).0 (AllPass-from_list_all (λ a. nat_lt a (size f)) x h k 0 l)
+
+near_word : (C : Matrix) (x : List ℕ) → query_refusal_of (bound.nearest_word C x) ≡ None → IsWord C.field C.columns x
+near_word C x e =
+    ⊎_elim
+    (λ (t : (length x == C.columns) ≡ true).
+    ⊎_elim (λ (k : are_elements C.field x ≡ true). record { long = eqb-true (length x) C.columns t; fits = elements_fit C.field x k })
+    (λ (k : are_elements C.field x ≡ false). absurd (unfit C x t k e)) (cases_Bool (are_elements C.field x)))
+    (λ (t : (length x == C.columns) ≡ false). absurd (uneven C x t e)) (cases_Bool (length x == C.columns))
+
 by_query : (b : BoundQuery) (step : Step) → query_refusal_of b ≡ None → Queries b step → IsAllowed step
 by_query (bound.algebraic_decode C None x) step n h = absurd h
 by_query (bound.algebraic_decode C (Some form) x) step n h = told step _ h.2 tt
@@ -64,7 +93,7 @@ by_query (bound.scan_certificate C) step n h = by_asks _ C step h
 by_query (bound.weight_distribution C) step n h = told step (counts C) h (allowed C n)
 by_query (bound.alternant_certificate C None x) step n h = absurd h
 by_query (bound.alternant_certificate C (Some form) x) step n h = told step _ h tt
-by_query (bound.nearest_word C x) step n h = ⊎_elim (λ (a : (length C.rows ≡ 0) × (step ≡ prints (near_line C x 0))). told step _ a.1 tt) (λ (a : (0 < length C.rows) × (step ≡ nears C x)). told step _ a.1 tt) h
+by_query (bound.nearest_word C x) step n h = ⊎_elim (λ (a : (length C.rows ≡ 0) × (step ≡ prints (near_line C x 0))). told step _ a.1 tt) (λ (a : (0 < length C.rows) × (step ≡ nears C x)). told step (nears C x) a.1 (a.0, near_word C x n)) h
 
 by_all : (c : QueryCall) (place : ℕ) (kinds : List Kind) (es : Exprs) (os : Outcomes) (step : Step) → QueriesAll c place kinds es os step → IsAllowed step
 by_all c place kinds es (one_refused r) step h = told step (fails r) h tt
@@ -93,6 +122,9 @@ asked_rows table env s kind C h = steps_of_allowed table env s.target s.expr (as
 
 pub counted_allowed : (table : List Call) (env : List Binding) (s : Statement) (C : Matrix) → Steps table env s (counts C) → distribution_refusal (size C.field) C.columns (length C.rows) ≡ None
 counted_allowed table env s C h = steps_of_allowed table env s.target s.expr (counts C) h
+
+pub near_allowed : (table : List Call) (env : List Binding) (s : Statement) (C : Matrix) (x : List ℕ) → Steps table env s (nears C x) → (0 < length C.rows) × IsWord C.field C.columns x
+near_allowed table env s C x h = steps_of_allowed table env s.target s.expr (nears C x) h
 
 -- ---- the needs of a session
 

@@ -12,6 +12,7 @@
 --   sink_fails            a fault of the sink: a front of the text was written, and not all of it
 --   unwritten             only the text and the line of a certificate are written
 --   worded                what `resume` prints over any vault: its words are in the codes
+--   nearest_so            what `run` and `resume` print for nearest words is true
 --   paused_once           with checkpoints kept, a watcher that is handed back paused once at most, and then the session is paused
 use Rattle.std.proofs.Common.{◌≡◌, ◌⊎◌, ⊎_elim, inl, inr, ◌+◌, ℕ, Bool, refl, sym, subst, ◌∙◌}
 use Rattle.std.specs.Prelude.{List, [], ◌∷◌, ◌++◌, true, false, Option, Some, length, IsTrue, Contains}
@@ -32,9 +33,10 @@ use Rattle.lc_language.specs.Evaluation.{IsText}
 use Rattle.lc_session_rules.specs.Options.{Command, run, resume, check, summary, Settings}
 use Rattle.lc_session_rules.specs.Summary.{summary_text}
 use Rattle.lc_session_rules.specs.Answers.{IsTextBy, HasWords}
+use Rattle.lc_session_rules.specs.Nears.{NearsHold}
 use Rattle.lc_session_rules.specs.Slots.{takes, choice}
 use Rattle.lc_session_rules.specs.Endings.{Ending, done, usage, paused, source_fault, sink_fault, vault_fault, no_memory, no_checkpoint, damaged_checkpoint, other_script, rejected, too_long, unfit}
-use Rattle.lc_session_rules.specs.Session.{Outside, Course, records_of, Reads, Replies, Judges, Resumes, Starts, Ends, Stores, Writes, Counts, Finds, checks, resumes, IsAccepted, IsSession}
+use Rattle.lc_session_rules.specs.Session.{Outside, Course, records_of, Reads, Replies, Judges, Resumes, Starts, Ends, Stores, Writes, Counts, Finds, keeps, checks, resumes, IsAccepted, IsSession}
 use Rattle.lc_session_rules.specs.Promises.{StartsTruly, ends_early}
 
 of_check : (command : Command) → IsTrue (checks command) → command ≡ check
@@ -174,6 +176,15 @@ writes_so (unfit query told found) text old new w ends fails judged = w
 
 pub unwritten : (table : List Call) (args : List (List ℕ)) (old new : Outside) (ending : Ending) (s : IsSession table args old new ending) → ((n : ℕ) → ¬ (ending ≡ done n)) → ¬ (ending ≡ sink_fault) → ((r : Reason) → ¬ (ending ≡ rejected r)) → new.sink ≡ old.sink
 unwritten table args old new ending s = writes_so ending s.course.text old.sink new.sink s.written
+
+pub nearest_so : (table : List Call) (args : List (List ℕ)) (old new : Outside) (n : ℕ) (s : IsSession table args old new (done n)) → IsTrue (keeps s.asked.command) → NearsHold table s.course.bytes s.asked.budget
+nearest_so table args old new n s k = by s.asked.command k s.replied.0
+  where
+    by : (c : Command) → IsTrue (keeps c) → Replies table c s.asked old.vault s.course → NearsHold table s.course.bytes s.asked.budget
+    by run k reply = reply.1.near
+    by resume k reply = reply.1.near
+    by check k reply = absurd (let e = k in cc)
+    by summary k reply = absurd (let e = k in cc)
 
 pub worded : (table : List Call) (args : List (List ℕ)) (old new : Outside) (n : ℕ) (s : IsSession table args old new (done n)) → s.asked.command ≡ resume → (answers : List Answer) × IsTextBy table s.asked.budget s.course.bytes answers s.course.text s.course.is_faulty × HasWords s.course.needs answers × Appends old.sink new.sink s.course.text
 worded table args old new n s c =

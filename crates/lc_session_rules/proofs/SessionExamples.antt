@@ -7,18 +7,22 @@
 --   asks_nothing                 the empty script asks nothing
 --   asks_once, asks_twice        two statements that ask for the distance of the Hamming code, and the first of them alone
 --   asks_near                    a statement that asks for the nearest word asks nothing else, and one for the distance no nearest word
+--   no_statements, nears_nothing      no bytes are the script without statements, which asks for no nearest word
 --   true_slots                   a true checkpoint in slot Zero and torn bytes in slot One
 --   wrong_slot                   the same checkpoint in slot One isn't as a session leaves it
 --   zero_first                   `run` that couldn't empty the slots, and left slot Zero as it was, left slot One as it was
 --   no_words                     the whole contract of a session without arguments
 --   runs_nothing                 the whole contract of `run` over the empty script
 --   no_false_fault               no session over the empty script ends with a fault of the source whose count stands still
-use Rattle.std.proofs.Common.{◌≡◌, ℕ, refl, inl, inr, ap, arith, ◌∙◌, ⊎_elim}
+use Rattle.std.proofs.Common.{◌≡◌, ℕ, ◌+◌, length, All, refl, sym, inl, inr, ap, subst, arith, ◌∙◌, ⊎_elim}
+use Rattle.std.proofs.lemmas.List.{length-append}
+use Rattle.std.proofs.lemmas.List.Elements.{All-nil}
 use Rattle.std.specs.Prelude.{List, [], ◌∷◌, ◌++◌, ◌^◌, map, codes, false, Bool, Option, Some, None, take, nat_lt}
 use Rattle.std.specs.List.{list_all}
 use Rattle.sha2.specs.Sha256.{sha256}
 use Rattle.lc_algebra.specs.Matrix.{Matrix}
 use Rattle.lc_enumeration.specs.Records.{SessionStep, fresh_start, no_steps, session_from, session_rounds}
+use Rattle.lc_enumeration.specs.NearWord.{near_answer, NearHolds}
 use Rattle.lc_enumeration.proofs.SearchExamples.{hamming}
 use Rattle.lc_enumeration.proofs.NearExamples.{one_error}
 use Rattle.lc_formats.specs.Checkpoint.{Checkpoint, point, refused as unread, damaged, checkpoint_text, checkpoint_in}
@@ -28,6 +32,8 @@ use Rattle.lc_formats.proofs.Evaluated.{checkpoint_computes, claim_computes}
 use Rattle.lc_formats.proofs.TruthExamples.{after, is_true_after_one}
 use Rattle.lc_formats.proofs.CheckpointExamples.{plainly, reads_plainly}
 use Rattle.lc_grammar.specs.Token.{ended, scan_within, scan}
+use Rattle.lc_grammar.specs.declared.Token.{Token}
+use Rattle.lc_grammar.specs.Grammar.{Reads, Fault, IsFault}
 use Rattle.lc_grammar.specs.Tree.{number, name, call, list, none, more, Statement, count_of}
 use Rattle.lc_io.specs.declared.vault.Slot.TheVariants.{Zero, One}
 use Rattle.lc_io.specs.Vaults.{Slots, empty_slots}
@@ -42,7 +48,7 @@ use Rattle.lc_language.specs.Evaluation.{asks, nears, gives, all_give, first_mis
 use Rattle.lc_language.proofs.TextExamples.{text_of_nothing}
 use Rattle.lc_session_rules.specs.Options.{run, settings, all_options, options, settings_of, command_text, key_text, row, row_named, same_key, place_of_key, checked, options_from}
 use Rattle.lc_session_rules.specs.Needs.{IsNeeds, Needs, MeetsFirst}
-use Rattle.lc_session_rules.specs.Nears.{Nears}
+use Rattle.lc_session_rules.specs.Nears.{Nears, NearsHold}
 use Rattle.lc_session_rules.specs.Slots.{slot_of, next_turn, stored_bytes, slots_after, later_of, chosen, choice_among, is_empty, choice, nothing_stored, none_decodes, IsTornOr, AreTrueSlots}
 use Rattle.lc_session_rules.specs.Session.{Outside, Course, AreHalfEmptied, IsSession}
 use Rattle.lc_session_rules.specs.Endings.{done, usage, paused, source_fault, sink_fault, vault_fault, no_memory, no_checkpoint, damaged_checkpoint, other_script, rejected, too_long, unfit, ending_number, said, ending_line}
@@ -153,6 +159,23 @@ near_once =
 pub asks_near : Nears all_calls bound_to_hamming (ask ∷ ask_near ∷ []) (record { code = hamming; word = one_error } ∷ []) × Needs all_calls bound_to_hamming (ask ∷ ask_near ∷ []) (hamming ∷ [])
 asks_near = ((asks distance hamming, asks_once, (nears hamming one_error, near_once, ([], refl, refl))), (asks distance hamming, asks_once, ([], (nears hamming one_error, near_once, refl), refl)))
 
+pub no_statements : (ss : List Statement) → Reads [] ss → ss ≡ []
+unfolding scan scan_within ended
+no_statements [] h = refl
+no_statements (s ∷ ss) h =
+    let (us, (vs, all, (front, (middle, (last, split, target, expr, ends))), later)) = h.script in
+    let whole : 0 ≡ length us + length vs = ap (λ (ts : List Token). length ts) all ∙ length-append us vs in
+    let some : length us ≡ length front + (length middle + 1) = ap (λ (ts : List Token). length ts) split ∙ length-append front (middle ++ last ∷ []) ∙ ap (λ n. length front + n) (length-append middle (last ∷ [])) in
+    absurd (omega (arith, whole, some))
+
+pub nears_nothing : (table : List Call) (budget : ℕ) → NearsHold table [] budget
+nears_nothing table budget queries all = subst (All (λ q. NearHolds q.code q.word (near_answer q.code q.word budget))) (sym none) (All-nil (λ q. NearHolds q.code q.word (near_answer q.code q.word budget)))
+  where
+    none : queries ≡ []
+    none =
+        ⊎_elim (λ (a : (ss : List Statement) × Reads [] ss × Nears table [] ss queries). subst (λ ss. Nears table [] ss queries) (no_statements a.0 a.1) a.2)
+        (λ (a : (fault : Fault) × IsFault [] fault × (queries ≡ [])). a.2) all
+
 abbrev pub quiet : Outside
 quiet = record { source = Some []; source_faults = 0; sink = Some []; sink_faults = 0; vault = None; vault_faults = 0; watchers = [] }
 
@@ -181,7 +204,7 @@ runs_nothing = record {
   ended = record { all = refl; unstopped = rw no_rounds refl; unpaused = λ kept. refl };
   heard = Kept.no_more;
   stored = refl;
-  replied = ((asks_nothing all_calls, record { printed = text_of_nothing (2 ^ 20); truth = λ k d l. absurd (omega (arith, l)) }), refl, tt);
+  replied = ((asks_nothing all_calls, record { printed = text_of_nothing (2 ^ 20); truth = λ k d l. absurd (omega (arith, l)); near = nears_nothing all_calls (2 ^ 20) }), refl, tt);
   written = refl;
   counted = record { source = refl; sink = refl; vault = refl };
 }

@@ -1,7 +1,7 @@
 -- The statements of a script, one after another, with what they ask and print.
 --   begun                nothing is done
---   by_line, by_binding, by_need, by_count      after a statement that prints a line, binds a name, asks a need, or counts the words
---                        of a code
+--   by_line, by_binding, by_need, by_count, by_near      after a statement that prints a line, binds a name, asks a need, counts the
+--                        words of a code, or asks for a nearest word
 --   at_end, at_end_asks  at the end of the script
 --   at_fault, at_fault_asks      after a statement that fails
 --   met_so_far, met_with_next      the needs of the statements done, and with the one that is asked now
@@ -12,9 +12,9 @@ use Rattle.lc_enumeration.specs.Search.{Answer}
 use Rattle.lc_grammar.specs.Tree.{Statement}
 use Rattle.lc_language.specs.declared.Call.{Call}
 use Rattle.lc_language.specs.Value.{Binding}
-use Rattle.lc_language.specs.Query.{QueryKind, distribution_line}
+use Rattle.lc_language.specs.Query.{QueryKind, distribution_line, near_line}
 use Rattle.lc_language.specs.Print.{fault_line}
-use Rattle.lc_language.specs.Evaluation.{Refused, Steps, binds, prints, asks, counts, fails}
+use Rattle.lc_language.specs.Evaluation.{Refused, Steps, binds, prints, asks, counts, nears, fails}
 use Rattle.lc_session_rules.specs.Needs.{Needs}
 use Rattle.lc_session_rules.specs.Answers.{answer_line, RunsBy}
 use Rattle.lc_session_rules.specs.Statements.{HaveDone}
@@ -74,6 +74,15 @@ module _ (table : List Call) (budget : ℕ) (start now : List Binding) (first : 
     asks_so = λ tail more k. subst (λ (ns : List Matrix). Needs table start ((h.done ++ s ∷ []) ++ tail) (ns ++ more)) (append-nil needs) (asks_after now [] (λ tail more k. (counts C, steps, k)) tail more k);
     prints_so = λ tail others rest ends k. subst (λ (l : List Answer). RunsBy table budget start ((h.done ++ s ∷ []) ++ tail) (l ++ others) ((text ++ distribution_line C) ++ rest) ends) (append-nil answers)
         (prints_after now [] (distribution_line C) (λ tail others rest ends k. (counts C, steps, (rest, k, refl))) tail others rest ends k);
+  }
+
+  pub by_near : (C : Matrix) (x : List ℕ) → Steps table now s (nears C x) → HaveDone table budget start now first left needs answers (text ++ near_line C x budget)
+  by_near C x steps = record {
+    done = h.done ++ s ∷ [];
+    split = split_after;
+    asks_so = λ tail more k. subst (λ (ns : List Matrix). Needs table start ((h.done ++ s ∷ []) ++ tail) (ns ++ more)) (append-nil needs) (asks_after now [] (λ tail more k. (nears C x, steps, k)) tail more k);
+    prints_so = λ tail others rest ends k. subst (λ (l : List Answer). RunsBy table budget start ((h.done ++ s ∷ []) ++ tail) (l ++ others) ((text ++ near_line C x budget) ++ rest) ends) (append-nil answers)
+        (prints_after now [] (near_line C x budget) (λ tail others rest ends k. (nears C x, steps, (rest, k, refl))) tail others rest ends k);
   }
 
   pub by_binding : (b : Binding) (later : List Binding) → Steps table now s (binds b) → AreSame later (b ∷ now) → HaveDone table budget start later first left needs answers text

@@ -1,7 +1,6 @@
 -- The queries of a script for a word of a code that is nearest to a given word, and when what is printed of them is true. They search,
--- but are no needs: no checkpoint keeps anything of them. `NearsHold` is to be a field of `IsScriptText` beside `truth`, as
--- `near : NearsHold table course.bytes asked.budget`, and one of `IsResumedText`. It is none yet: no call that is built asks for a
--- nearest word, so over the table of those it would say nothing.
+-- but are no needs: no checkpoint keeps anything of them. Whoever prints their lines answers each of them truly: `NearsHold` is a
+-- field of `IsScriptText` and of `IsResumedText`.
 --   NearQuery                        a code and a word
 --   NearsOn env step later queries   what a statement adds to the queries of those after it
 --   Nears table env ss queries       the queries of some statements, in their order

@@ -47,6 +47,7 @@ use Rattle.lc_language.specs.declared.Call.{Call}
 use Rattle.lc_language.specs.Evaluation.{IsText}
 use Rattle.lc_session_rules.specs.Options.{Command, run, resume, check, summary, Settings, Options, settings, usage as refuses, options, all_options}
 use Rattle.lc_session_rules.specs.Needs.{IsNeeds, MeetsFirst}
+use Rattle.lc_session_rules.specs.Nears.{NearsHold}
 use Rattle.lc_session_rules.specs.Answers.{IsTextBy, Settle, HasWords}
 use Rattle.lc_session_rules.specs.Slots.{slot_of, next_turn, turn_after, slots_after, IsTrueCheckpoint, Choice, nothing_stored, none_decodes, takes, choice, is_for}
 use Rattle.lc_session_rules.specs.Summary.{summary_code, summary_text}
@@ -331,19 +332,21 @@ abbrev pub Stores : Bool → Ending → Settings → Course → Option Slots →
 Stores true ending asked course old new = StoresIfKept ending asked course old new
 Stores false ending asked course old new = new ≡ old
 
--- the text of the script under its budget, whatever the workers, the slice, the watchers and the sessions before were; each need is
--- answered truly
+-- the text of the script under its budget, whatever the workers, the slice, the watchers and the sessions before were; each need and
+-- each query for a nearest word is answered truly
 pub record IsScriptText (table : List Call) (asked : Settings) (course : Course) : Type 0 where
   pub printed : IsText table asked.budget course.bytes course.text course.is_faulty
   pub truth : All (λ C. AnswerHolds C (answer (divisor_of C) C asked.budget)) course.needs
+  pub near : NearsHold table course.bytes asked.budget
 
--- what `resume` prints over any vault: the answers are those of the records used and the rounds done, and their words are there.
--- If the checkpoint that it took is true, it is the text of the script
+-- what `resume` prints over any vault: the answers are those of the records used and the rounds done, and their words are there;
+-- each query for a nearest word is answered truly. If the checkpoint that it took is true, it is the text of the script
 pub record IsResumedText (table : List Call) (asked : Settings) (held : Option Slots) (course : Course) : Type 0 where
   pub answers : List Answer
   pub settled : Settle asked.budget course.needs (rounds_of asked course).settled answers
   pub printed : IsTextBy table asked.budget course.bytes answers course.text course.is_faulty
   pub words : HasWords course.needs answers
+  pub near : NearsHold table course.bytes asked.budget
   pub honest : (p : Checkpoint) → GoesOnFrom asked held course p → IsTrueCheckpoint table course.bytes asked.budget p → IsScriptText table asked course
 
 -- what the text is, by the command: that of the script, by its search or by the records of a checkpoint; the line of the

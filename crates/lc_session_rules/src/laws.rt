@@ -23,6 +23,7 @@ ghost use Rattle.lc_language.specs.Value.{Binding};
 ghost use Rattle.lc_language.specs.Evaluation.{Runs, IsText};
 ghost use Rattle.lc_session_rules.specs.Options.{run, resume, check, summary, Settings, settings, usage as refuses, all_options, options};
 ghost use Rattle.lc_session_rules.specs.Needs.{Needs, IsNeeds, MeetsFirst, NoFault};
+ghost use Rattle.lc_session_rules.specs.Nears.{NearsHold};
 ghost use Rattle.lc_session_rules.specs.Answers.{RunsBy, IsTextBy, Settle, answers_of, HasWords};
 ghost use Rattle.lc_session_rules.specs.Slots.{slot_of, turn_after, takes, choice, IsTrueCheckpoint, AreTrueSlots};
 ghost use Rattle.lc_session_rules.specs.Endings.{Ending, done, usage, paused, source_fault, sink_fault, vault_fault, no_memory, other_script, rejected};
@@ -50,8 +51,9 @@ pub fn sessions_answer_what_was_asked()
 /// arguments, its source or its slots, before its searches began, told no record and left the sink, the vault and the watchers as they
 /// were. If the sink fails, it took a front of the text, and not all of it; the text is that of the script, if
 /// the session started afresh or from a true checkpoint. Under every other ending but for a finished or rejected session the sink is
-/// as it was. Over any slots the words that `resume` prints are nonzero words of the codes, with their weights. If checkpoints are
-/// kept, a watcher that is handed back has answered Pause once at most, and then the session is paused.
+/// as it was. Over any slots the words that `resume` prints are nonzero words of the codes, with their weights. What a session of
+/// `run` or `resume` that finishes prints for its queries for nearest words is true. If checkpoints are kept, a watcher that is handed
+/// back has answered Pause once at most, and then the session is paused.
 pub fn sessions_say_what_they_did()
     ensures paused { (table : List Call) (args : List (List ℕ)) (old new : Outside) (query blocks : ℕ) (s : IsSession table args old new (paused query blocks))
         → ((before : List SessionStep) × (last : SessionStep) × (s.course.told ≡ before ++ last ∷ []) × (last.note.need ≡ query) × (last.note.blocks ≡ blocks)) × (s.asked.keep ≡ true) × (new.sink ≡ old.sink) }
@@ -74,6 +76,7 @@ pub fn sessions_say_what_they_did()
     ensures written { (table : List Call) (args : List (List ℕ)) (old new : Outside) (ending : Ending) (s : IsSession table args old new ending) → ((n : ℕ) → ¬ (ending ≡ done n)) → ¬ (ending ≡ sink_fault) → ((r : Reason) → ¬ (ending ≡ rejected r)) → new.sink ≡ old.sink }
     ensures words { (table : List Call) (args : List (List ℕ)) (old new : Outside) (n : ℕ) (s : IsSession table args old new (done n)) → s.asked.command ≡ resume
         → (answers : List Answer) × IsTextBy table s.asked.budget s.course.bytes answers s.course.text s.course.is_faulty × HasWords s.course.needs answers × Appends old.sink new.sink s.course.text }
+    ensures nearest { (table : List Call) (args : List (List ℕ)) (old new : Outside) (n : ℕ) (s : IsSession table args old new (done n)) → IsTrue (keeps s.asked.command) → NearsHold table s.course.bytes s.asked.budget }
     ensures paused_once { (table : List Call) (args : List (List ℕ)) (old new : Outside) (ending : Ending) (s : IsSession table args old new ending) → s.asked.keep ≡ true → (v : Hearing) → Contains new.watchers v
         → (w : Hearing) × Contains old.watchers w × ((v.pauses ≡ w.pauses) ⊎ ((v.pauses ≡ w.pauses + 1) × ((query blocks : ℕ) × (ending ≡ paused query blocks)))) }
 {}

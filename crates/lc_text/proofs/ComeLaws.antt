@@ -1,6 +1,6 @@
 -- A session on its way, statement by statement.
 --   at_first             it has done no statement
---   after_line, after_silent, after_need, after_count     it has done one more
+--   after_line, after_silent, after_need, after_count, after_near     it has done one more
 --   few_met              it has met few needs
 --   starved_here, starved_next       memory is refused, before a need or after it
 --   halts_here           it ends at a need
@@ -22,7 +22,7 @@ use Rattle.lc_eval.specs.Evaluated.{kind_of}
 use Rattle.lc_eval.specs.declared.machine.Query.{Query}
 use Rattle.lc_eval.specs.declared.machine.Step.{Step}
 use Rattle.lc_eval.specs.declared.machine.Step.TheVariants as step
-use Rattle.lc_language.specs.Query.{distribution_line}
+use Rattle.lc_language.specs.Query.{distribution_line, near_line}
 use Rattle.lc_session_rules.specs.Needs.{Needs}
 use Rattle.lc_session_rules.specs.Answers.{answer_line}
 use Rattle.lc_rounds.specs.Way.{Around}
@@ -36,7 +36,7 @@ use Rattle.lc_rounds.proofs.NeedLaws.{starving}
 use Rattle.lc_text.specs.declared.statements.Text.{Text}
 use Rattle.lc_text.specs.Text.{HasCome, Finishes, Ends}
 use Rattle.lc_session_rules.specs.Statements.{HaveDone}
-use Rattle.lc_text.proofs.TextLaws.{IsWritten, on_line, on_silent, on_need, on_count, met_next, met_now, whole, faulty, finished_so, records_left, halted, ended_as, IsEnded}
+use Rattle.lc_text.proofs.TextLaws.{IsWritten, on_line, on_silent, on_need, on_count, on_near, met_next, met_now, whole, faulty, finished_so, records_left, halted, ended_as, IsEnded}
 
 -- the text with one more line
 pub added : {A E : Type 0} (r : Result A E) (old new line given other : List ℕ) → is_err r ≡ false → new ≡ (if is_ok r then old ++ given else other) → given ≡ line → new ≡ old ++ line
@@ -94,6 +94,16 @@ module _ (budget : ℕ) (first : List tree.Statement) (before : Course) (start :
     needs = h.needs;
     answers = h.answers;
     statements = on_count budget first old new C h.needs h.answers text line later d l e h.statements;
+    met = h.met;
+    ranged = h.ranged;
+    goes = h.goes;
+  }
+
+  pub after_near : (C : Matrix) (x line later : List ℕ) → Does old (step.Near C x) new → line ≡ near_line C x budget → later ≡ text ++ line → HasCome budget first before start new c later now
+  after_near C x line later d l e = record {
+    needs = h.needs;
+    answers = h.answers;
+    statements = on_near budget first old new C x h.needs h.answers text line later d l e h.statements;
     met = h.met;
     ranged = h.ranged;
     goes = h.goes;
@@ -161,6 +171,7 @@ only_ends old new (step.Line l) d none = absurd (no_first old.left d.0 d.1.0 d.1
 only_ends old new step.Silent d none = absurd (no_first old.left d.0 d.1.0 d.1.1 none)
 only_ends old new (step.Need q) d none = absurd (no_first old.left d.0 d.1.0 d.1.1 none)
 only_ends old new (step.Weights C) d none = absurd (no_first old.left d.0 d.1.0 d.1.1 none)
+only_ends old new (step.Near C x) d none = absurd (no_first old.left d.0 d.1.0 d.1.1 none)
 only_ends old new (step.Fault l) d none = absurd (no_first old.left d.0 d.1.0 d.1.1 none)
 only_ends old new step.End d none = refl
 
@@ -179,6 +190,9 @@ module _ (first : State) (before : Course) (m new : State) (c : Course) (u : IsU
 
   pub no_count : (C : Matrix) → Does m (step.Weights C) new → first.left ≡ [] → ⊥
   no_count C d none = (let e = only_ends m new (step.Weights C) d (u none).0 in cc)
+
+  pub no_near : (C : Matrix) (x : List ℕ) → Does m (step.Near C x) new → first.left ≡ [] → ⊥
+  no_near C x d none = (let e = only_ends m new (step.Near C x) d (u none).0 in cc)
 
   pub no_fault : (l : _) → Does m (step.Fault l) new → first.left ≡ [] → ⊥
   no_fault l d none = (let e = only_ends m new (step.Fault l) d (u none).0 in cc)

@@ -23,6 +23,7 @@ use Rattle.lc_io.specs.Vaults.{Slots}
 use Rattle.lc_eval.specs.Built.{built_calls}
 use Rattle.lc_session_rules.specs.Options.{run, resume, Settings}
 use Rattle.lc_session_rules.specs.Needs.{Needs, IsNeeds, MeetsFirst, OneScript, OneStep, NoFault}
+use Rattle.lc_session_rules.specs.Nears.{NearsHold}
 use Rattle.lc_session_rules.specs.Answers.{Settle, answers_of}
 use Rattle.lc_session_rules.specs.Slots.{next_turn, takes, is_for, IsTrueCheckpoint}
 use Rattle.lc_session_rules.specs.Session.{Outside, Finds, GoesOnFrom, IsResumed, IsScriptText, Replies, Resumes}
@@ -45,7 +46,7 @@ pub whole_met : (bytes : List ℕ) (needs : List Matrix) → IsNeeds built_calls
 whole_met bytes needs all =
     ⊎_elim (λ (a : (ss : List Statement) × Reads bytes ss × Needs built_calls [] ss needs). met_whole built_calls bytes a.0 needs a.1 a.2) (λ (a : (fault : Fault) × IsFault bytes fault × (needs ≡ [])). inl a.2) all
 
-module _ (bytes : List ℕ) (script : OneScript bytes) (one : OneStep built_calls) (sound : NoFault bytes) (asked : Settings) (small : asked.budget ≤ 2 ^ 40) (old : Outside) (held : Option Slots) (turn : ℕ) where
+module _ (bytes : List ℕ) (script : OneScript bytes) (one : OneStep built_calls) (sound : NoFault bytes) (asked : Settings) (small : asked.budget ≤ 2 ^ 40) (near : NearsHold built_calls bytes asked.budget) (old : Outside) (held : Option Slots) (turn : ℕ) where
   settled_so : (t : Text) (c : Course) (now : Around) (b : Beginning) (h : Prints (world asked bytes b turn held old) bytes t c now) → Settle asked.budget h.needs (session_rounds divisor_of h.needs asked.budget asked.slice (begins b h.needs)).settled h.answers
   settled_so t c now b h = subst (λ (l : List Progress). Settle asked.budget h.needs l h.answers) (sym (ap (λ (r : SessionRounds). r.settled) h.rounds_are)) h.answered.settle
 
@@ -53,6 +54,7 @@ module _ (bytes : List ℕ) (script : OneScript bytes) (one : OneStep built_call
   script_text_of t c now b h left same = record {
     printed = text_by_search built_calls asked.budget bytes h.needs h.answers t.bytes.items t.ends script one sound h.asks_all same h.prints_all;
     truth = h.answered.truth;
+    near = near;
   }
 
   pub run_replies : (t : Text) (c : Course) (now : Around) (h : Prints (world asked bytes afresh turn held old) bytes t c now) → asked.command ≡ run → Replies built_calls asked.command asked old.vault (course_of bytes afresh turn h.needs h.told [] h.way.is_paused t.bytes.items t.ends)
@@ -81,6 +83,7 @@ module _ (bytes : List ℕ) (script : OneScript bytes) (one : OneStep built_call
             settled = settled_so t c now from h;
             printed = h.prints_all;
             words = h.answered.words;
+            near = near;
             honest = λ q goes holds.
                 let over = λ (s : Start). session_rounds divisor_of h.needs asked.budget asked.slice s in
                 let unstopped : (over (start_of h.needs q)).is_stopped ≡ false = subst (λ (s : Start). (over s).is_stopped ≡ false) goes.start (ap (λ (r : SessionRounds). r.is_stopped) h.rounds_are) in

@@ -1,6 +1,7 @@
 -- The text of a script, statement by statement.
---   on_line, on_silent, on_need, on_count      after a statement
---   need_rows, count_allowed         the code of a need has rows, and the distribution of one that is counted isn't refused
+--   on_line, on_silent, on_need, on_count, on_near      after a statement
+--   need_rows, count_allowed, near_allowed      the code of a need has rows, the distribution of one that is counted isn't refused, and
+--                        a nearest word is asked of a code with rows and for a word of its length and field
 --   met_next, met_now    the needs that are met, with the one that a statement asks, and without
 --   IsWritten            what a script asks and prints
 --   whole, faulty        that is the text at the end of the script, and after a statement that fails
@@ -11,6 +12,7 @@
 use Rattle.std.proofs.Common.{◌≡◌, ◌<◌, ◌+◌, inl, inr, ⊎_elim, ℕ, suc, Bool, true, false, is_some, List, [], ◌∷◌, ◌++◌, length, map, Option, Some, None, option_map, refl, sym, ap, subst, ◌∙◌, arith, Result, Ok, Err, MatchResult}
 use Rattle.std.proofs.lemmas.List.{append-nil, length-map}
 use Rattle.lc_algebra.specs.Field.{size}
+use Rattle.lc_algebra.specs.Word.{IsWord}
 use Rattle.lc_algebra.specs.Matrix.{Matrix}
 use Rattle.lc_algebra.specs.Divisor.{divisor_of}
 use Rattle.lc_enumeration.specs.Search.{Answer}
@@ -25,7 +27,7 @@ use Rattle.lc_eval.specs.Machine.{State, Does}
 use Rattle.lc_eval.specs.Evaluated.{kind_of}
 use Rattle.lc_eval.specs.declared.machine.Query.{Query}
 use Rattle.lc_eval.specs.declared.machine.Step.TheVariants as step
-use Rattle.lc_language.specs.Query.{distribution_line}
+use Rattle.lc_language.specs.Query.{distribution_line, near_line}
 use Rattle.lc_session_rules.specs.Needs.{Needs}
 use Rattle.lc_session_rules.specs.Answers.{RunsBy, answer_line}
 use Rattle.lc_rounds.specs.Way.{Around, IsOnItsWay}
@@ -33,7 +35,8 @@ use Rattle.lc_session_rules.specs.Course.{begins, Stands}
 use Rattle.lc_session_rules.specs.Statements.{HaveDone}
 use Rattle.lc_session_rules.proofs.FrontLaws.{ends_here}
 use Rattle.lc_session_rules.proofs.AskLaws.{asked_rows, counted_allowed}
-use Rattle.lc_session_rules.proofs.StatementLaws.{by_line, by_binding, by_need, by_count, at_fault, at_fault_asks, at_end, at_end_asks, met_with_next, met_so_far}
+use Rattle.lc_session_rules.proofs.AskLaws as asks
+use Rattle.lc_session_rules.proofs.StatementLaws.{by_line, by_binding, by_need, by_count, by_near, at_fault, at_fault_asks, at_end, at_end_asks, met_with_next, met_so_far}
 use Rattle.lc_session_rules.proofs.PlaceLaws.{left_over}
 use Rattle.lc_rounds.specs.declared.course.Course.{Course}
 use Rattle.lc_rounds.specs.declared.need.Halt.{Halt}
@@ -75,6 +78,15 @@ on_count budget first old new C needs answers text line later d l e h =
 
 pub count_allowed : (old new : State) (C : Matrix) → Does old (step.Weights C) new → distribution_refusal (size C.field) C.columns (length C.rows) ≡ None
 count_allowed old new C d = counted_allowed built_calls old.bindings (statement_of d.0) C d.1.2.0
+
+pub on_near : (budget : ℕ) (first : List tree.Statement) (old new : State) (C : Matrix) (x : List ℕ) (needs : List Matrix) (answers : List Answer) (text line later : List ℕ) → Does old (step.Near C x) new → line ≡ near_line C x budget → later ≡ text ++ line → Done budget first old needs answers text → Done budget first new needs answers later
+on_near budget first old new C x needs answers text line later d l e h =
+    let at = split_left budget first old d.0 d.1.0 needs answers text d.1.1 h in
+    let on = by_near built_calls budget [] old.bindings first (statement_of d.0) (map statement_of d.1.0) needs answers text at C x d.1.2.0 in
+    subst (λ (t : List ℕ). Done budget first new needs answers t) (ap (λ (x : List ℕ). text ++ x) (sym l) ∙ sym e) (subst (λ (m : State). Done budget first m needs answers (text ++ near_line C x budget)) (sym d.1.2.1) on)
+
+pub near_allowed : (old new : State) (C : Matrix) (x : List ℕ) → Does old (step.Near C x) new → (0 < length C.rows) × IsWord C.field C.columns x
+near_allowed old new C x d = asks.near_allowed built_calls old.bindings (statement_of d.0) C x d.1.2.0
 
 pub need_rows : (old new : State) (q : Query) → Does old (step.Need q) new → 0 < length q.code.rows
 need_rows old new q d = asked_rows built_calls old.bindings (statement_of d.0) (kind_of q.kind) q.code d.1.2.0

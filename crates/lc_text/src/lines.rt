@@ -1,10 +1,11 @@
-//! The lines of queries that searches answer, or that count words.
-ghost use Rattle.std.specs.Prelude.{◌≡◌, ◌≤◌, Some, None, length, true, IfOk};
+//! The lines of queries that searches answer, that count words, or that look for nearest words.
+ghost use Rattle.std.specs.Prelude.{◌≡◌, ◌^◌, ◌<◌, ◌≤◌, Some, None, length, true, IfOk};
 ghost use Rattle.lc_algebra.specs.Field.{size};
+ghost use Rattle.lc_algebra.specs.Word.{IsWord};
 ghost use Rattle.lc_enumeration.specs.Distribution.{distribution_refusal};
 ghost use Rattle.lc_enumeration.specs.Search.{fits};
 ghost use Rattle.lc_enumeration.specs.Records.{found_of};
-ghost use Rattle.lc_language.specs.Query.{distance_answer_line, certificate_answer_line, distribution_line};
+ghost use Rattle.lc_language.specs.Query.{distance_answer_line, certificate_answer_line, distribution_line, near_line};
 ghost use Rattle.lc_certify.specs.Claims.{kind_of as way_kind};
 ghost use Rattle.lc_eval.specs.Evaluated.{kind_of};
 ghost use Rattle.lc_search.specs.State.{answer_in, answer_of};
@@ -12,10 +13,12 @@ ghost use Rattle.lc_session_rules.specs.Answers.{answer_line};
 
 use lc_certify::{Way, exact_line};
 use lc_code::Code;
-use lc_eval::QueryKind;
+use lc_coset::nearest;
+use lc_eval::{QueryKind, nearest_line};
 use lc_field::NoMemory;
 use lc_print::{bracket_line, certificate_bracket_line, distance_line, list_line};
 use lc_search::{Answer, Search};
+use lc_vec::Word;
 use lc_weights::distribution;
 use std::alloc::Global;
 use std::thread::Threads;
@@ -97,4 +100,34 @@ pub(crate) fn distribution_line<R: Threads + Sync>(
 {
     let counts = distribution(rt, alloc, code, workers)?;
     list_line(alloc, counts.as_slice())
+}
+
+/// The line that `NearestWord` prints of a code and a word. Refused only for want of memory.
+///
+/// The code has dimension at least 1, and the word has its length and is over its field. The budget is at most 2^40 blocks, and
+/// there are 1 to 256 workers, who search.
+#[tactic(auto, unfolding(lc_language::specs::Query::near_line))]
+pub(crate) fn near_line<R: Threads + Sync>(
+    rt: &R,
+    alloc: Global,
+    workers: u32,
+    budget: u64,
+    code: &Code,
+    word: &Word,
+) -> Result<Vec<u8>, NoMemory>
+    requires workers { (1 ≤ workers) × (workers ≤ 256) }
+    requires budget { budget ≤ 2 ^ 40 }
+    requires dimension { 0 < length code.now.rows }
+    requires word { IsWord code.now.field code.now.columns word.now }
+    ensures { IfOk result (λ line. line.items ≡ near_line code.now word.now budget) }
+{
+    let near = nearest(rt, alloc, code, word.symbols(), budget, workers)?;
+    nearest_line(
+        alloc,
+        near.exact,
+        near.low,
+        near.weight,
+        &near.word,
+        near.blocks,
+    )
 }

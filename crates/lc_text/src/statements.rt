@@ -10,7 +10,7 @@ ghost use Rattle.lc_rounds.specs.Way.{around};
 ghost use Rattle.lc_rounds.specs.Going.{World, IsRanged, Goes};
 ghost use Rattle.lc_text.specs.Text.{Finishes, Ends};
 
-use crate::lines::distribution_line;
+use crate::lines::{distribution_line, near_line};
 use crate::queries::need_line;
 use lc_eval::{Machine, Step};
 use lc_io::{Gate, Vault, Watcher};
@@ -74,6 +74,7 @@ pub(crate) fn text_of<R: Threads + Sync, V: Vault, W: Watcher, G: Gate + Sync>(
         (λ halt. Ends w (map statement_of machine.old.left) course.new (around (V.contents vault.new) (V.faults vault.new) (map (hearing W.heard W.coming W.pauses) watchers.new.items)) halt) }
     ensures nothing { machine.old.left ≡ [] → is_some course.old.current ≡ false → IsOk result }
 {
+    let budget = course.pace.point.budget;
     let mut bytes = Vec::new(alloc);
     'statements: loop {
         let Ok(step) = machine.step(alloc) else {
@@ -107,6 +108,14 @@ pub(crate) fn text_of<R: Threads + Sync, V: Vault, W: Watcher, G: Gate + Sync>(
             }
             Step::Weights(code) => {
                 let Ok(line) = distribution_line(rt, alloc, workers, &code) else {
+                    return Err(Halt::Stop(Stop::NoMemory));
+                };
+                if bytes.extend_from_slice(&line).is_err() {
+                    return Err(Halt::Stop(Stop::NoMemory));
+                }
+            }
+            Step::Near(code, word) => {
+                let Ok(line) = near_line(rt, alloc, workers, budget, &code, &word) else {
                     return Err(Halt::Stop(Stop::NoMemory));
                 };
                 if bytes.extend_from_slice(&line).is_err() {

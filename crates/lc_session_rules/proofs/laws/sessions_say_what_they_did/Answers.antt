@@ -1,4 +1,4 @@
-use Rattle.lc_session_rules.proofs.SaidLaws.{paused_at, fault_counts, memory_counts, other_named, unkept, accepted_so, rejected_so, summed, unfailed, counted_so, early_so, source_fails, sink_fails, unwritten, worded, paused_once}
+use Rattle.lc_session_rules.proofs.SaidLaws.{paused_at, fault_counts, memory_counts, other_named, unkept, accepted_so, rejected_so, summed, unfailed, counted_so, early_so, source_fails, sink_fails, unwritten, worded, nearest_so, paused_once}
 use Rattle.lc_session_rules.proofs.laws.sessions_say_what_they_did.Goals as goal
 
 pub returns-clause-paused : goal.returns-clause-paused
@@ -42,6 +42,9 @@ returns-clause-written _ = unwritten
 
 pub returns-clause-words : goal.returns-clause-words
 returns-clause-words _ = worded
+
+pub returns-clause-nearest : goal.returns-clause-nearest
+returns-clause-nearest _ = nearest_so
 
 pub returns-clause-paused_once : goal.returns-clause-paused_once
 returns-clause-paused_once _ = paused_once

@@ -1,6 +1,6 @@
 use Rattle.std.proofs.Common.{◌∙◌, is_some, sym, ap, refl}
-use Rattle.lc_text.proofs.TextLaws.{need_rows, count_allowed}
-use Rattle.lc_text.proofs.ComeLaws.{at_first, added, after_line, after_silent, after_need, after_count, few_met, starved_here, starved_next, halts_here, whole_result, faulty_result, no_line, not_silent, no_need, no_count, no_fault, is_ended}
+use Rattle.lc_text.proofs.TextLaws.{need_rows, count_allowed, near_allowed}
+use Rattle.lc_text.proofs.ComeLaws.{at_first, added, after_line, after_silent, after_need, after_count, after_near, few_met, starved_here, starved_next, halts_here, whole_result, faulty_result, no_line, not_silent, no_need, no_count, no_near, no_fault, is_ended}
 use Rattle.lc_text.proofs.statements.text_of.Goals as goal
 
 pub statements-init : goal.statements-init
@@ -56,20 +56,42 @@ returns-in_default-distribution_line-clause-ends g c w h = starved_here _ _ _ _ 
 pub returns-then-is_err-3-clause-ends : goal.returns-then-is_err-3-clause-ends
 returns-then-is_err-3-clause-ends g c w h = starved_here _ _ _ _ _ c.statements.machine _ _ _ c.statements.invariant.0 w h
 
-pub statements-preserved : goal.statements-preserved
-statements-preserved g c = (
+pub statements-preserved-in-Weights : goal.statements-preserved-in-Weights
+statements-preserved-in-Weights g c = (
   after_count _ _ _ _ _ c.step.new.self _ _ _ c.statements.invariant.0 c.in-Weights.code c.in-Ok-distribution_line.line.items c.extend_from_slice-in-Weights.new.self.items (rw c.in-Weights.is at c.in-Ok.ensures.does) c.in-Ok-distribution_line.ensures
       (added c.extend_from_slice-in-Weights.result c.statements.bytes.items c.extend_from_slice-in-Weights.new.self.items c.in-Ok-distribution_line.line.items c.deref-in-Weights.result.now _ (sym c.is_err-in-Weights.ensures.value ∙ c.if-is_err-3.false) c.extend_from_slice-in-Weights.ensures.items c.deref-in-Weights.ensures.value),
   λ none. absurd (no_count c.args.machine.now c.args.course.now c.statements.machine c.step.new.self c.statements.course c.statements.invariant.1 c.in-Weights.code (rw c.in-Weights.is at c.in-Ok.ensures.does) none),
 )
 
+pub near_line-requires-clause-budget : goal.near_line-requires-clause-budget
+near_line-requires-clause-budget g c _ _ = c.requires.ranged.small
+
+pub near_line-requires-clause-dimension : goal.near_line-requires-clause-dimension
+near_line-requires-clause-dimension g c _ _ = (near_allowed c.statements.machine c.step.new.self c.in-Near.code c.in-Near.word (rw c.in-Near.is at c.in-Ok.ensures.does)).0
+
+pub near_line-requires-clause-word : goal.near_line-requires-clause-word
+near_line-requires-clause-word g c _ _ = (near_allowed c.statements.machine c.step.new.self c.in-Near.code c.in-Near.word (rw c.in-Near.is at c.in-Ok.ensures.does)).1
+
+pub returns-in_default-near_line-clause-ends : goal.returns-in_default-near_line-clause-ends
+returns-in_default-near_line-clause-ends g c w h = starved_here _ _ _ _ _ c.statements.machine _ _ _ c.statements.invariant.0 w h
+
 pub returns-then-is_err-4-clause-ends : goal.returns-then-is_err-4-clause-ends
 returns-then-is_err-4-clause-ends g c w h = starved_here _ _ _ _ _ c.statements.machine _ _ _ c.statements.invariant.0 w h
+
+pub statements-preserved : goal.statements-preserved
+statements-preserved g c = (
+  after_near _ _ _ _ _ c.step.new.self _ _ _ c.statements.invariant.0 c.in-Near.code c.in-Near.word c.in-Ok-near_line.line.items c.extend_from_slice-in-Near.new.self.items (rw c.in-Near.is at c.in-Ok.ensures.does) c.in-Ok-near_line.ensures
+      (added c.extend_from_slice-in-Near.result c.statements.bytes.items c.extend_from_slice-in-Near.new.self.items c.in-Ok-near_line.line.items c.deref-in-Near.result.now _ (sym c.is_err-in-Near.ensures.value ∙ c.if-is_err-4.false) c.extend_from_slice-in-Near.ensures.items c.deref-in-Near.ensures.value),
+  λ none. absurd (no_near c.args.machine.now c.args.course.now c.statements.machine c.step.new.self c.statements.course c.statements.invariant.1 c.in-Near.code c.in-Near.word (rw c.in-Near.is at c.in-Ok.ensures.does) none),
+)
+
+pub returns-then-is_err-5-clause-ends : goal.returns-then-is_err-5-clause-ends
+returns-then-is_err-5-clause-ends g c w h = starved_here _ _ _ _ _ c.statements.machine _ _ _ c.statements.invariant.0 w h
 
 pub returns-in-Fault-clause-ends : goal.returns-in-Fault-clause-ends
 returns-in-Fault-clause-ends g c w h =
     faulty_result _ _ _ _ _ c.step.new.self _ _ _ c.statements.invariant.0 c.in-Fault.line c.extend_from_slice-in-Fault.new.self.items (rw c.in-Fault.is at c.in-Ok.ensures.does)
-    (added c.extend_from_slice-in-Fault.result c.statements.bytes.items c.extend_from_slice-in-Fault.new.self.items c.in-Fault.line.items c.deref-in-Fault.result.now _ (sym c.is_err-in-Fault.ensures.value ∙ c.if-is_err-4.false) c.extend_from_slice-in-Fault.ensures.items c.deref-in-Fault.ensures.value)
+    (added c.extend_from_slice-in-Fault.result c.statements.bytes.items c.extend_from_slice-in-Fault.new.self.items c.in-Fault.line.items c.deref-in-Fault.result.now _ (sym c.is_err-in-Fault.ensures.value ∙ c.if-is_err-5.false) c.extend_from_slice-in-Fault.ensures.items c.deref-in-Fault.ensures.value)
     w (sym h.of.budget) h c.ended.result c.ended.ensures
 
 pub returns-in-End-clause-ends : goal.returns-in-End-clause-ends
@@ -90,8 +112,14 @@ returns-in_default-distribution_line-clause-nothing g c none _ = absurd (no_coun
 pub returns-then-is_err-3-clause-nothing : goal.returns-then-is_err-3-clause-nothing
 returns-then-is_err-3-clause-nothing g c none _ = absurd (no_count c.args.machine.now c.args.course.now c.statements.machine c.step.new.self c.statements.course c.statements.invariant.1 c.in-Weights.code (rw c.in-Weights.is at c.in-Ok.ensures.does) none)
 
+pub returns-in_default-near_line-clause-nothing : goal.returns-in_default-near_line-clause-nothing
+returns-in_default-near_line-clause-nothing g c none _ = absurd (no_near c.args.machine.now c.args.course.now c.statements.machine c.step.new.self c.statements.course c.statements.invariant.1 c.in-Near.code c.in-Near.word (rw c.in-Near.is at c.in-Ok.ensures.does) none)
+
 pub returns-then-is_err-4-clause-nothing : goal.returns-then-is_err-4-clause-nothing
-returns-then-is_err-4-clause-nothing g c none _ = absurd (no_fault c.args.machine.now c.args.course.now c.statements.machine c.step.new.self c.statements.course c.statements.invariant.1 c.in-Fault.line (rw c.in-Fault.is at c.in-Ok.ensures.does) none)
+returns-then-is_err-4-clause-nothing g c none _ = absurd (no_near c.args.machine.now c.args.course.now c.statements.machine c.step.new.self c.statements.course c.statements.invariant.1 c.in-Near.code c.in-Near.word (rw c.in-Near.is at c.in-Ok.ensures.does) none)
+
+pub returns-then-is_err-5-clause-nothing : goal.returns-then-is_err-5-clause-nothing
+returns-then-is_err-5-clause-nothing g c none _ = absurd (no_fault c.args.machine.now c.args.course.now c.statements.machine c.step.new.self c.statements.course c.statements.invariant.1 c.in-Fault.line (rw c.in-Fault.is at c.in-Ok.ensures.does) none)
 
 pub returns-in-Fault-clause-nothing : goal.returns-in-Fault-clause-nothing
 returns-in-Fault-clause-nothing g c none _ = absurd (no_fault c.args.machine.now c.args.course.now c.statements.machine c.step.new.self c.statements.course c.statements.invariant.1 c.in-Fault.line (rw c.in-Fault.is at c.in-Ok.ensures.does) none)

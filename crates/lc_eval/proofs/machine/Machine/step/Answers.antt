@@ -1,6 +1,6 @@
 use Rattle.std.proofs.Common.{arith}
 use Rattle.lc_eval.specs.Value.{binding_of}
-use Rattle.lc_eval.proofs.StatementLaws.{silent_step, line_step, need_step, count_step, fault_step}
+use Rattle.lc_eval.proofs.StatementLaws.{silent_step, line_step, need_step, count_step, near_step, fault_step}
 use Rattle.lc_eval.proofs.machine.Machine.step.Goals as goal
 
 pub returns-in_ok-bind-in-Binds-clause-does : goal.returns-in_ok-bind-in-Binds-clause-does
@@ -42,3 +42,11 @@ returns-in-Counts-clause-does c =
     let found = rw c.deref.ensures.value at c.in-Some.ensures.lookup in
     let h = rw c.in-Counts.is at c.in_ok-name.ensures in
     count_step c.args.self.now m.names m.script.statements.items m.next s c.in-Counts.code c.self.view_is found.3.0 found.1 h
+
+pub returns-in-Nears-clause-does : goal.returns-in-Nears-clause-does
+returns-in-Nears-clause-does c =
+    let m = c.self.inside in
+    let s = c.in-Some.statement.now in
+    let found = rw c.deref.ensures.value at c.in-Some.ensures.lookup in
+    let h = rw c.in-Nears.is at c.in_ok-name.ensures in
+    near_step c.args.self.now m.names m.script.statements.items m.next s c.in-Nears.code c.in-Nears.word c.self.view_is found.3.0 found.1 h
