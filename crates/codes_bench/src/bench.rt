@@ -22,6 +22,9 @@ pub enum Bench {
     /// the least words of the blocks of a level: the size of the field, the length and the dimension of a code, and the
     /// level
     Least(u64, usize, usize, usize),
+    /// going from message to message of level 4 with a stack: the size of the field, and the length of a code of
+    /// dimension 32
+    Stack(u64, usize),
     /// counting the words of a code of length 64 by their weights: the size of the field, and the dimension
     Count(u64, usize),
     /// the innermost loop of the kernel alone, over long runs, for symbols of this many bits
@@ -57,7 +60,7 @@ pub enum Searches {
 }
 
 /// The benches with their names.
-pub static BENCHES: [(&str, Bench); 50] = [
+pub static BENCHES: [(&str, Bench); 60] = [
     ("add_scaled_2", Bench::AddScaled(2)),
     ("add_scaled_3", Bench::AddScaled(3)),
     ("add_scaled_4", Bench::AddScaled(4)),
@@ -88,6 +91,16 @@ pub static BENCHES: [(&str, Bench); 50] = [
     ("kernel_11", Bench::Least(11, 24, 8, 5)),
     ("kernel_13", Bench::Least(13, 24, 8, 5)),
     ("kernel_16", Bench::Least(16, 30, 15, 4)),
+    ("stack_2", Bench::Stack(2, 64)),
+    ("stack_2_255", Bench::Stack(2, 255)),
+    ("stack_3", Bench::Stack(3, 64)),
+    ("stack_3_255", Bench::Stack(3, 255)),
+    ("stack_4", Bench::Stack(4, 64)),
+    ("stack_4_255", Bench::Stack(4, 255)),
+    ("stack_8", Bench::Stack(8, 64)),
+    ("stack_8_255", Bench::Stack(8, 255)),
+    ("stack_16", Bench::Stack(16, 64)),
+    ("stack_16_255", Bench::Stack(16, 255)),
     ("count_2", Bench::Count(2, 24)),
     ("count_3", Bench::Count(3, 15)),
     ("count_4", Bench::Count(4, 12)),

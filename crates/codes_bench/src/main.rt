@@ -13,6 +13,7 @@ mod messages;
 mod rate;
 mod scripts;
 mod searches;
+mod stacks;
 mod words;
 
 use bench::{BENCHES, Bench, Decoder, Searches, bench_named};
@@ -60,6 +61,7 @@ fn measure<R: Clock + AllocGlobal + Threads + Sync>(rt: &R, bench: Bench) -> Res
         Bench::StepBinary => messages::step_rate(rt, 45, 5, 2),
         Bench::StepQuaternary => messages::step_rate(rt, 20, 4, 4),
         Bench::Least(q, n, k, level) => kernel::least_rate(rt, q, n, k, level),
+        Bench::Stack(q, n) => stacks::stack_rate(rt, q, n),
         Bench::Count(q, k) => counts::count_rate(rt, q, k),
         Bench::Limit(planes) => limits::limit_rate(rt, planes),
         Bench::Decoder(decoder) => measure_decoder(rt, decoder),

@@ -162,7 +162,7 @@ pub(crate) fn blocks_are_walked(
 }
 
 // Fields, with lengths and dimensions of codes, whose first blocks are walked.
-static WALKED: [(u64, usize, usize, u64); 12] = [
+static WALKED: [(u64, usize, usize, u64); 16] = [
     (2, 9, 5, 40),
     (2, 65, 16, 9),
     (3, 8, 4, 40),
@@ -175,6 +175,10 @@ static WALKED: [(u64, usize, usize, u64); 12] = [
     (11, 5, 2, 40),
     (13, 4, 2, 40),
     (16, 4, 2, 40),
+    (2, 255, 3, 9),
+    (4, 63, 3, 9),
+    (8, 64, 2, 9),
+    (16, 65, 2, 9),
 ];
 
 #[test]
