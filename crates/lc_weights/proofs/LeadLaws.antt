@@ -1,7 +1,7 @@
 -- Sums over the words of some rows, up to multiples.
 --   sum_scaled        a nonzero multiple of each word in its place
 --   sum_of_leads      a sum of what a word and its nonzero multiples share, by the words whose first coefficient is 1
---   leads_none, leads_more, leads_all      these words, row by row
+--   leads_more, leads_all      these words, row by row
 use Rattle.std.proofs.Common.{◌≡◌, ℕ, suc, ◌+◌, ◌-◌, ◌*◌, ◌<◌, ◌≤◌, List, [], ◌∷◌, ◌++◌, length, map, take, drop, sum_by, slice_index_or, Contains, refl, sym, ap, ap₂, subst, ◌∙◌, arith, rules}
 use Rattle.std.proofs.Math.Nat.{mul-add, mul-zero}
 use Rattle.std.proofs.Math.Seq.{drop-cons}
@@ -83,12 +83,7 @@ sum_of_leads f n (x ∷ rows) g r shared =
     let times : (q - 1) * sum_by g (leads f n (x ∷ rows)) ≡ (q - 1) * m + (q - 1) * sum_by g (leads f n rows) = ap (λ z. (q - 1) * z) listed ∙ mul-add (q - 1) m (sum_by g (leads f n rows)) in
     omega (arith, whole, parts, first, others, count, times, sum_of_leads f n rows g rest shared)
 
--- the leads of the rows from place i up to the one before `to`, and those before
-pub leads_none : (f : FieldName) (n to : ℕ) (rows now : List (List ℕ)) → now ≡ [] → now ++ leads f n (take (to - 0) (drop 0 rows)) ≡ leads f n (take to rows)
-leads_none f n to rows now none =
-    let same : to - 0 ≡ to = omega arith in
-    ap₂ (λ a m. a ++ leads f n (take m rows)) none same
-
+-- the leads of the rows from place i up to the one before `to`, after those before
 pub leads_more : (f g : FieldName) (n i to : ℕ) (row : List ℕ) (rows ws shown now after whole : List (List ℕ)) → i < to → to ≤ length rows → g ≡ f → row ≡ slice_index_or rows i [] → shown ≡ ws → ws ≡ words f n (take (to - (i + 1)) (drop (i + 1) rows)) → after ≡ now ++ map (word_sum g row) shown
     → now ++ leads f n (take (to - i) (drop i rows)) ≡ whole → after ++ leads f n (take (to - (i + 1)) (drop (i + 1) rows)) ≡ whole
 unfolding leads

@@ -1,6 +1,5 @@
 pub mod LeadLaws
 pub mod PackingLaws
-pub mod WalkLaws
 pub mod WordLaws
 pub mod RoomLaws
 pub mod ChoiceLaws

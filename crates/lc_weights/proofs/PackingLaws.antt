@@ -1,6 +1,5 @@
 -- Words as bits, in parts of 64 columns, and at how many places they differ.
 --   part_planes                  the planes of the symbols of a part
---   planes_more, places_more     one plane and one part more
 --   places_are                   two words differ at as many places as the weight of one less the other
 use Rattle.std.proofs.Common.{◌≡◌, ℕ, zero, suc, ◌+◌, ◌-◌, ◌*◌, ◌^◌, ◌<◌, ◌≤◌, min, List, [], length, take, drop, bit_or, bit_xor, count_ones, slice_index, slice_index_or, refl, sym, ap, ap₂, subst, ◌∙◌, arith}
 use Rattle.std.proofs.lemmas.List.{get_or-take, get_or-drop, ext_get_or, length-take, length-drop}
@@ -40,16 +39,6 @@ part_planes w block i start many s m long done rest =
     block_planes (columns_of w i) w block (omega (arith, short)) long (λ t l.
     let from : start + t ≡ 64 * i + t = omega (arith, s, m, same, l) in
     done t (omega (arith, l, same)) ∙ ap (slice_index w) (from ∙ sym (column_is w i t l))) (λ t l. rest t (omega (arith, l, same)))
-
-pub planes_more : (p : ℕ) (x y : List ℕ) → planes_apart (p + 1) x y ≡ bit_or (bit_xor (slice_index x p) (slice_index y p)) (planes_apart p x y)
-planes_more p x y =
-    let next : p + 1 ≡ suc p = omega arith in
-    ap (λ n. planes_apart n x y) next
-
-pub places_more : (P i : ℕ) (x y : List (List ℕ)) → places_apart P (i + 1) x y ≡ places_apart P i x y + count_ones (planes_apart P (slice_index_or x i []) (slice_index_or y i []))
-places_more P i x y =
-    let next : i + 1 ≡ suc i = omega arith in
-    ap (λ n. places_apart P n x y) next
 
 -- by the planes of the words
 planes_are : (P : ℕ) (x y u v : List ℕ) → ((p : ℕ) → p < P → slice_index x p ≡ plane p u) → ((p : ℕ) → p < P → slice_index y p ≡ plane p v) → planes_apart P x y ≡ apart P u v

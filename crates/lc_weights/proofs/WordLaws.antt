@@ -1,5 +1,5 @@
 -- Lists of the words of some rows.
---   sums_none, sums_more                 the sums of a word and some words
+--   sums_more                            the sums of a word and some words
 --   multiples_none, multiples_more, sums_fit      those of each multiple of a row
 --   words_between f n rows i to          the words of the rows from place i up to the one before `to`
 --   rows_none, rows_more                 none of these rows, and one row more
@@ -19,9 +19,6 @@ use Rattle.lc_algebra.specs.Span.{below, words}
 use Rattle.lc_algebra.proofs.WordLaws.{sum_comm, sum_assoc, zero_sum, zero_scale, length_scale}
 use Rattle.lc_algebra.proofs.SpanLaws.{span_word, word_of_member}
 use Rattle.lc_macwilliams.proofs.CountLaws.{sum_same, sum_map, sum_flat_map}
-
-pub sums_none : (f : FieldName) (word : List ℕ) (ws before : List (List ℕ)) → before ≡ before ++ map (word_sum f word) (take 0 ws)
-sums_none f word ws before = search rules
 
 pub sums_more : (f : FieldName) (i : ℕ) (word sum : List ℕ) (ws before now after : List (List ℕ)) → i < length ws → now ≡ before ++ map (word_sum f word) (take i ws) → sum ≡ word_sum f (slice_index_or ws i []) word → after ≡ now ++ sum ∷ [] → after ≡ before ++ map (word_sum f word) (take (i + 1) ws)
 sums_more f i word sum ws before now after l e s push =

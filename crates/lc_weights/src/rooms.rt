@@ -87,7 +87,8 @@ fn heads_of<const P: usize, const N: usize>(
     requires planes { P ≤ 4 }
     requires parts { N ≤ 4 }
     requires split { split ≤ length code.now.rows }
-    ensures are { IfOk result (λ hs. ArePacked P N (leads code.now.field code.now.columns (take split code.now.rows)) hs.items) }
+    ensures are { IfOk result
+        (λ hs. ArePacked P N (leads code.now.field code.now.columns (take split code.now.rows)) hs.items) }
 {
     let list = leads_of(alloc, code, split)?;
     let heads = pack_words(alloc, list.as_slice())?;
@@ -103,7 +104,8 @@ fn tails_of<const P: usize, const N: usize>(
     requires planes { P ≤ 4 }
     requires parts { N ≤ 4 }
     requires split { split ≤ length code.now.rows }
-    ensures are { IfOk result (λ ts. ArePacked P N (words code.now.field code.now.columns (drop split code.now.rows)) ts.items) }
+    ensures are { IfOk result
+        (λ ts. ArePacked P N (words code.now.field code.now.columns (drop split code.now.rows)) ts.items) }
 {
     let list = words_of(alloc, code, split, code.dimension())?;
     let tails = pack_words(alloc, list.as_slice())?;
@@ -140,7 +142,8 @@ fn run_rooms<R: Threads + Sync, const P: usize, const N: usize>(
     requires few { length tails.now ≤ 4096 }
     requires heads { length heads.now ≤ 2 ^ 40 }
     ensures rooms { IfOk result (λ rooms. All (IsRoomOf P N (length tails.now)) rooms.items) }
-    ensures sums { IfOk result (λ rooms. (j : ℕ) → words_counted j rooms.items ≡ sum_by (λ b. block_count P N heads.now tails.now b j) (numbers_from 0 (length heads.now))) }
+    ensures sums { IfOk result (λ rooms. (j : ℕ) → words_counted j rooms.items
+        ≡ sum_by (λ b. block_count P N heads.now tails.now b j) (numbers_from 0 (length heads.now))) }
 {
     let mut rooms = Vec::with_capacity(alloc, 1)?;
     let counts = vec![in alloc; 0u64; 64 * N + 1]?;

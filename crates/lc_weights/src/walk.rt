@@ -16,7 +16,8 @@ pub(crate) fn tally<const P: usize, const N: usize>(
     requires long { length counts.old ≡ 64 * N + 1 }
     requires low { (j : ℕ) → slice_index counts.old j ≤ 2 ^ 53 }
     ensures long { length counts.new ≡ length counts.old }
-    ensures added { (j : ℕ) → slice_index counts.new j ≡ slice_index counts.old j + apart_count P N head.now tails.now j }
+    ensures added { (j : ℕ) → slice_index counts.new j
+        ≡ slice_index counts.old j + apart_count P N head.now tails.now j }
 {
     for i in 0..tails.len() {
         counts[places_apart(head, &tails[i])] += 1;

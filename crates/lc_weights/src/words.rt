@@ -42,7 +42,8 @@ pub(crate) fn words_of(
 ) -> Result<Vec<Word>, NoMemory>
     requires from { from ≤ to }
     requires to { to ≤ length code.now.rows }
-    ensures are { IfOk result (λ ws. ws.items ≡ words code.now.field code.now.columns (take (to - from) (drop from code.now.rows))) }
+    ensures are { IfOk result (λ ws. ws.items
+        ≡ words code.now.field code.now.columns (take (to - from) (drop from code.now.rows))) }
 {
     let _matrix = code.matrix();
     let mut list = Vec::with_capacity(alloc, 1)?;
@@ -65,7 +66,8 @@ fn with_row(
 ) -> Result<Vec<Word>, NoMemory>
     requires row { Fits field.now row.now }
     requires words { AreRows field.now (length row.now) list.items }
-    ensures are { IfOk result (λ ws. ws.items ≡ flat_map (λ c. map (word_sum field.now (scale_of field.now c row.now)) list.items) (below (size field.now))) }
+    ensures are { IfOk result (λ ws. ws.items
+        ≡ flat_map (λ c. map (word_sum field.now (scale_of field.now c row.now)) list.items) (below (size field.now))) }
 {
     let mut list = list;
     let mut sums = Vec::new(alloc);
