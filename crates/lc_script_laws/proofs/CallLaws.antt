@@ -216,7 +216,7 @@ queries_shaped query.Certificate = (λ C h. h.0, tt)
 queries_shaped query.ScanCertificate = (λ C h. h.0, tt)
 queries_shaped query.WeightDistribution = (λ C h. h.0, tt)
 queries_shaped query.AlternantCertificate = (λ C h x. tt, tt)
-queries_shaped query.NearestWord = (λ C h x. h, tt)
+queries_shaped query.NearestWord = (λ C h x. h.0, tt)
 
 -- ---- all calls
 
