@@ -21,7 +21,7 @@ use std::thread::Threads;
 const LONGEST_ROUND: u64 = 256;
 
 // The larger code is made before the first phase of which so many blocks are to be done.
-const MANY: u64 = 16;
+const MANY: u64 = 2;
 
 /// What changes in a search: the best word, a room of its own, what the workers of earlier rounds worked in, and the larger code,
 /// if it is made, and whether that was tried.
