@@ -177,8 +177,8 @@ def make_module(bitcode, to):
         run("clang", "--target=x86_64-unknown-linux-gnu", "--no-default-config", "-S", "-emit-llvm", "-O0", "-Xclang", "-disable-llvm-passes", "-x", "ir", bitcode, "-o", made("native.ll"))
         with open(made("native.ll"), encoding="utf-8") as lines, open(made("codes.ll"), "w", encoding="utf-8") as out:
             out.writelines(line + "\n" for line in retarget.retargeted(lines))
-        # by a name alone, so that no path is in the module
-        run("clang", *target, "-O3", "-c", "-x", "ir", "codes.ll", "-o", "codes.o", cwd=folder)
+        # (a fifth smaller than by -O3, and as fast; by a name alone, so that no path is in the module)
+        run("clang", *target, "-Os", "-c", "-x", "ir", "codes.ll", "-o", "codes.o", cwd=folder)
         run("clang", *target, "-O2", "-std=c17", "-ffreestanding", "-fno-builtin", "-Wall", "-Wextra", "-Wno-unused-parameter", "-Werror", "-c", HERE / "host.c", "-o", "host.o", cwd=folder)
         run("wasm-ld", "--stack-first", "-z", f"stack-size={STACK}", "--no-entry", "--gc-sections", "--strip-all", "-o", "codes.wasm", "codes.o", "host.o", cwd=folder)
         Path(to).write_bytes(Path(made("codes.wasm")).read_bytes())
