@@ -21,6 +21,8 @@ mod matrices;
 #[cfg(test)]
 mod polynomials;
 #[cfg(test)]
+mod relations;
+#[cfg(test)]
 mod shapes;
 #[cfg(test)]
 mod words;

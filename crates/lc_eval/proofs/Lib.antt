@@ -14,4 +14,5 @@ pub mod CyclicCalls
 pub mod MisfitLaws
 pub mod StockLaws
 pub mod DecodeLaws
+pub mod RelationLaws
 pub mod Opened

@@ -16,6 +16,7 @@ mod made;
 mod names;
 mod queries;
 mod refusals;
+mod relations;
 mod rows;
 mod statement;
 mod stock;

@@ -2,7 +2,7 @@
 --   subcode_by_rows      a code lies in another exactly if its rows do
 --   same_by_rows         two codes are the same exactly if their reduced generator matrices are
 --   rows_differ, rows_agree      matrices with another number of rows, or with one row that differs, and equal ones
-use Rattle.std.proofs.Common.{◌≡◌, ◌≢◌, ℕ, ◌<◌, ◌↔◌, Bool, IsTrue, List, [], length, slice_index_or, All, refl, sym, ap, subst, ◌∙◌, arith}
+use Rattle.std.proofs.Common.{◌≡◌, ◌≢◌, ℕ, ◌<◌, ◌↔◌, Bool, IsTrue, List, [], length, slice_index_or, All, sym, ap, subst}
 use Rattle.std.proofs.lemmas.List.{ext_get_or}
 use Rattle.lc_algebra.specs.declared.FieldName.{FieldName}
 use Rattle.lc_algebra.specs.Span.{InSpan}

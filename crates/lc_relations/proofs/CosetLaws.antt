@@ -2,14 +2,14 @@
 --   orthogonal_syndrome      a syndrome is zero exactly if the word has dot 0 with each row
 --   zero_syndrome            exactly the words of the code have the zero syndrome
 --   same_syndrome            two words have one syndrome exactly if they differ by a word of the code
-use Rattle.std.proofs.Common.{◌≡◌, ℕ, suc, ◌↔◌, List, [], ◌∷◌, length, map, refl, sym, ap, ap₂, ◌∙◌, All, arith}
+use Rattle.std.proofs.Common.{◌≡◌, ℕ, ◌↔◌, List, [], ◌∷◌, length, map, refl, sym, ap, ap₂, ◌∙◌, All, arith}
 use Rattle.std.proofs.lemmas.List.Elements.{All-head, All-tail, All-cons}
 use Rattle.lc_algebra.specs.declared.FieldName.{FieldName}
 use Rattle.lc_algebra.specs.Field.{add, neg}
 use Rattle.lc_algebra.specs.Word.{IsWord, zero_word, word_sum, scale, difference, word_dot}
 use Rattle.lc_algebra.specs.Matrix.{Matrix, AreRows, IsReduced, IsOrthogonal}
 use Rattle.lc_algebra.proofs.FieldLaws.{add_neg, neg_one_mul}
-use Rattle.lc_algebra.proofs.WordLaws.{dot_sum, dot_scale, dot_inside, length_scale, IsWord_difference}
+use Rattle.lc_algebra.proofs.WordLaws.{dot_sum, dot_scale, length_scale, IsWord_difference}
 use Rattle.lc_constructions.specs.Code.{InCode, IsCode}
 use Rattle.lc_constructions.specs.Combined.{InDual}
 use Rattle.lc_constructions.specs.Coset.{AreInOneCoset, syndrome, IsParityCheck}

@@ -4,12 +4,12 @@
 --   apart_turned                 it is the same from either side
 --   apart_triangle               by way of a third list it is not shorter
 --   apart_weight                 of words over a field it is the weight of the difference
-use Rattle.std.proofs.Common.{◌≡◌, ◌≢◌, ℕ, suc, ◌+◌, ◌==◌, not, cond, ◌≤◌, ◌<◌, ◌↔◌, List, [], ◌∷◌, length, refl, sym, ap, ap₂, ◌∙◌, ⊎_elim, arith, inr}
+use Rattle.std.proofs.Common.{◌≡◌, ◌≢◌, ℕ, suc, ◌+◌, ◌==◌, not, cond, ◌≤◌, ◌<◌, ◌↔◌, List, [], ◌∷◌, length, refl, sym, ap, ap₂, ◌∙◌, ⊎_elim, arith}
 use Rattle.std.specs.List.{zip}
 use Rattle.std.proofs.lemmas.List.Sums.{sum_by-cons}
 use Rattle.std.proofs.lemmas.Bool.{cases_eq, eq-eqb, ne_eqb}
 use Rattle.lc_algebra.specs.declared.FieldName.{FieldName}
-use Rattle.lc_algebra.specs.Field.{size, add, neg, mul}
+use Rattle.lc_algebra.specs.Field.{add, neg, mul}
 use Rattle.lc_algebra.specs.Word.{Fits, IsWord, word_sum, scale, difference, weight, distance}
 use Rattle.lc_algebra.proofs.FieldLaws.{add_neg, neg_one_mul, subtract_zero}
 use Rattle.lc_algebra.proofs.WordLaws.{fits_head, fits_tail, weight_zero_head, weight_other_head}

@@ -4,15 +4,14 @@
 --   leading_of            the symbols of its codeword where the rows begin are the message
 --   message_is            they are the only message of a word of the code
 --   message_exists, message_back, message_inside      each codeword has a message, and each message a codeword
-use Rattle.std.proofs.Common.{◌≡◌, ◌≢◌, ℕ, zero, suc, ◌+◌, ◌-◌, ◌<◌, ◌≤◌, ◌↔◌, Bool, IsTrue, true, false, not, ◌==◌, List, [], ◌∷◌, length, map, take, drop, slice_index, slice_index_or, Some, refl, sym, ap, subst, ◌∙◌, arith, lt-ltb}
+use Rattle.std.proofs.Common.{◌≡◌, ℕ, ◌+◌, ◌<◌, ◌≤◌, not, ◌==◌, List, [], length, drop, slice_index, slice_index_or, Some, refl, sym, ap, subst, ◌∙◌, arith, lt-ltb}
 use Rattle.std.specs.List.{position_or_len}
 use Rattle.std.proofs.lemmas.List.{drop_more, drop_all, get_or-map, length-map, ext_get_or}
 use Rattle.std.proofs.lemmas.List.Sums.{position_or_len_is}
 use Rattle.lc_algebra.specs.declared.FieldName.{FieldName}
-use Rattle.lc_algebra.specs.Field.{size}
-use Rattle.lc_algebra.specs.Word.{Fits, IsWord, zero_word, word_sum, scale, first_nonzero}
-use Rattle.lc_algebra.specs.Span.{combine, InSpan}
-use Rattle.lc_algebra.specs.Matrix.{Matrix, AreRows, HasPivots, IsReduced, entry}
+use Rattle.lc_algebra.specs.Word.{IsWord, zero_word, word_sum, scale, first_nonzero}
+use Rattle.lc_algebra.specs.Span.{combine}
+use Rattle.lc_algebra.specs.Matrix.{Matrix, AreRows, HasPivots, IsReduced}
 use Rattle.lc_algebra.proofs.WordLaws.{IsWord_zero, IsWord_sum, length_scale, sum_comm}
 use Rattle.lc_algebra.proofs.SpanLaws.{combination_of_word, word_of_combination}
 use Rattle.lc_algebra.proofs.ColumnLaws.{unit_symbol}

@@ -5,14 +5,14 @@
 --   message_uneven, message_no_elements, message_fine           messages
 --   augmented_uneven, augmented_no_elements, augmented_fine     rows that are added to a code
 --   augmented_rows                      rows that aren't refused are words
-use Rattle.std.proofs.Common.{◌≡◌, ◌≢◌, ℕ, ◌<◌, ◌≤◌, ◌↔◌, true, false, Bool, ◌==◌, IsTrue, Some, None, nat_lt, List, length, slice_index, slice_index_or, All, refl, sym, ◌∙◌, ⊎_elim, true≢false}
+use Rattle.std.proofs.Common.{◌≡◌, ◌≢◌, ℕ, ◌<◌, ◌≤◌, ◌↔◌, true, false, Bool, ◌==◌, IsTrue, Some, None, List, length, slice_index_or, All, refl, sym, ◌∙◌}
 use Rattle.std.specs.List.{list_all}
 use Rattle.std.proofs.lemmas.List.Sums.{AllPass-from_list_all}
 use Rattle.std.proofs.lemmas.Bool.{eq-eqb, ne_eqb, lt-ltb, le-ltb}
 use Rattle.std.proofs.lemmas.Bool.Decides.{Decides-eqb}
 use Rattle.lc_algebra.specs.declared.FieldName.{FieldName}
 use Rattle.lc_algebra.specs.Field.{size, is_symbol}
-use Rattle.lc_algebra.specs.Word.{Fits, IsWord}
+use Rattle.lc_algebra.specs.Word.{Fits}
 use Rattle.lc_algebra.specs.Matrix.{Matrix, AreRows}
 use Rattle.lc_constructions.specs.declared.refusal.CodeRefusal.TheVariants.{BadArgument, LengthsDiffer, FieldTooLarge}
 use Rattle.lc_constructions.specs.Refusal.{refuse_if, first_refusal}

@@ -1,7 +1,7 @@
 -- What holds of rows that are tried one after another.
 --   all_more      of one row more
 --   all_told      after the last row: the answer is that it holds of all
-use Rattle.std.proofs.Common.{◌≡◌, ℕ, ◌+◌, ◌<◌, ◌≤◌, ◌↔◌, IsTrue, true, List, [], ◌∷◌, ◌++◌, length, take, slice_index_or, All, refl, sym, subst, ap, ◌∙◌}
+use Rattle.std.proofs.Common.{◌≡◌, ℕ, ◌+◌, ◌<◌, ◌≤◌, ◌↔◌, IsTrue, true, List, length, take, slice_index_or, All, refl, subst}
 use Rattle.std.proofs.lemmas.List.{take_more, take_all}
 use Rattle.std.proofs.lemmas.List.Elements.{All-push}
 

@@ -5,7 +5,7 @@
 --   shift_word, shift_linear               the cyclic shift of a sum is the sum of the shifts, and that of a multiple the multiple
 --   cyclic_by_rows             a code is cyclic exactly if the shift of each row is in it
 --   turned                     the shift is the word turned by one coordinate
-use Rattle.std.proofs.Common.{◌≡◌, ◌≢◌, ℕ, zero, suc, ◌+◌, ◌-◌, ◌<◌, ◌≤◌, ◌↔◌, Bool, IsTrue, true, false, List, [], ◌∷◌, ◌++◌, length, map, take, drop, slice_index, slice_index_or, All, refl, sym, ap, ap₂, subst, ◌∙◌, ⊎_elim, arith, true≢false}
+use Rattle.std.proofs.Common.{◌≡◌, ℕ, zero, suc, ◌-◌, ◌<◌, ◌≤◌, ◌↔◌, Bool, IsTrue, true, false, List, [], ◌∷◌, ◌++◌, length, map, take, drop, slice_index_or, All, refl, sym, ap, ap₂, subst, ◌∙◌, ⊎_elim, arith, true≢false}
 use Rattle.std.specs.Bool.{OnFalse}
 use Rattle.std.specs.List.{slice_rotate_right}
 use Rattle.std.proofs.Math.Seq.{take-append_seam, drop-append_seam}
@@ -26,7 +26,7 @@ use Rattle.lc_constructions.specs.Code.{InCode, IsCode}
 use Rattle.lc_constructions.specs.Combined.{InDual}
 use Rattle.lc_language.specs.Relations.{IsSelfOrthogonal, IsSelfDual, IsCyclic, shifted}
 use Rattle.lc_code.proofs.CodeLaws.{orthogonal_dual}
-use Rattle.lc_combine.proofs.GeneratedLaws.{IsLinear, image_rows, image_span}
+use Rattle.lc_combine.proofs.GeneratedLaws.{IsLinear, image_span}
 
 -- ---- codes in their dual
 

@@ -2,9 +2,8 @@
 --   augmented_members      the words of the rows of a code and of further rows
 --   augmented_code         so the code of all these rows is the code with the further rows
 --   union_is               with the rows of another code it is the sum of the two
-use Rattle.std.proofs.Common.{◌≡◌, ℕ, ◌↔◌, List, [], ◌∷◌, ◌++◌, refl, sym, ap, subst, ◌∙◌}
+use Rattle.std.proofs.Common.{◌≡◌, ℕ, ◌↔◌, List, ◌++◌, sym, subst}
 use Rattle.lc_algebra.specs.declared.FieldName.{FieldName}
-use Rattle.lc_algebra.specs.Word.{IsWord, word_sum}
 use Rattle.lc_algebra.specs.Span.{InSpan}
 use Rattle.lc_algebra.specs.Matrix.{Matrix, AreRows}
 use Rattle.lc_algebra.proofs.SpanLaws.{span_word}

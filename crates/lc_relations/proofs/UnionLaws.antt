@@ -4,16 +4,16 @@
 --   extended             rows of one code that are independent of another one and of a part of it, and make up for it
 --   union_dimension      the dimensions of the sum and of the intersection add up to those of the codes
 --   augmented_union      a code with further rows is its sum with the code of these rows
-use Rattle.std.proofs.Common.{◌≡◌, ℕ, ◌+◌, ◌<◌, ◌↔◌, ◌⊎◌, List, [], ◌∷◌, ◌++◌, length, refl, sym, ap, ap₂, subst, ◌∙◌, ⊎_elim, arith}
+use Rattle.std.proofs.Common.{◌≡◌, ℕ, ◌+◌, ◌↔◌, List, [], ◌∷◌, ◌++◌, length, sym, ap, ap₂, subst, ◌∙◌, ⊎_elim, arith}
 use Rattle.std.proofs.lemmas.List.{length-append}
 use Rattle.std.proofs.lemmas.List.Elements.{All-head, All-tail, All-cons}
 use Rattle.lc_algebra.specs.declared.FieldName.{FieldName}
-use Rattle.lc_algebra.specs.Field.{size, add, neg}
+use Rattle.lc_algebra.specs.Field.{add, neg}
 use Rattle.lc_algebra.specs.Word.{IsWord, zero_word, word_sum, scale, word_dot}
 use Rattle.lc_algebra.specs.Span.{InSpan, SameSpan, AreIndependent}
 use Rattle.lc_algebra.specs.Matrix.{Matrix, AreRows, IsReduced}
 use Rattle.lc_algebra.proofs.FieldLaws.{add_zero, zero_inside}
-use Rattle.lc_algebra.proofs.WordLaws.{sum_comm, sum_zero, zero_sum, sum_dot, multiple_undone, one_scale, IsWord_sum}
+use Rattle.lc_algebra.proofs.WordLaws.{sum_comm, sum_zero, zero_sum, sum_dot, multiple_undone, one_scale}
 use Rattle.lc_algebra.proofs.SpanLaws.{span_word, span_zero, span_sum, span_scale, span_more, span_decided}
 use Rattle.lc_algebra.proofs.ReducedLaws.{reduced_independent}
 use Rattle.lc_algebra.proofs.DimensionLaws.{dimension_unique}

@@ -1,7 +1,7 @@
 //! Whether a code lies in its dual, is its dual, or is cyclic.
 ghost use Rattle.std.specs.Prelude.{◌≡◌, ◌↔◌, ◌<◌, ◌≤◌, ℕ, All, [], length, slice_index_or, IsTrue, IfOk};
 ghost use Rattle.std.specs.Bool.{OnTrue, OnFalse};
-ghost use Rattle.lc_algebra.specs.Word.{IsWord, word_dot};
+ghost use Rattle.lc_algebra.specs.Word.{word_dot};
 ghost use Rattle.lc_constructions.specs.Code.{InCode};
 ghost use Rattle.lc_language.specs.Relations.{IsSelfOrthogonal, IsSelfDual, IsCyclic, shifted};
 

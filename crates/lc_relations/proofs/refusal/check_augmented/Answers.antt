@@ -1,4 +1,4 @@
-use Rattle.std.proofs.Common.{◌≡◌, ◌∙◌, ◌==◌, ◌↔◌, true, false, IsTrue, length, All, sym, subst, arith}
+use Rattle.std.proofs.Common.{◌≡◌, ◌==◌, ◌↔◌, true, false, IsTrue, length, All, subst, arith}
 use Rattle.std.specs.List.{list_all}
 use Rattle.lc_algebra.specs.Word.{Fits}
 use Rattle.lc_relations.proofs.RefusalLaws.{augmented_uneven, augmented_no_elements, augmented_fine}
