@@ -29,8 +29,10 @@ pub fn is_self_orthogonal(code: &Code) -> bool
 // Whether the dot of row j with each row up to row j is 0.
 fn is_orthogonal_to_earlier(code: &Code, j: usize) -> bool
     requires row { j < length code.now.rows }
-    ensures yes { OnTrue result ((i : ℕ) → i ≤ j → word_dot code.now.field (slice_index_or code.now.rows i []) (slice_index_or code.now.rows j []) ≡ 0) }
-    ensures no { OnFalse result (((i : ℕ) → i ≤ j → word_dot code.now.field (slice_index_or code.now.rows i []) (slice_index_or code.now.rows j []) ≡ 0) → ⊥) }
+    ensures yes { OnTrue result ((i : ℕ) → i ≤ j →
+        word_dot code.now.field (slice_index_or code.now.rows i []) (slice_index_or code.now.rows j []) ≡ 0) }
+    ensures no { OnFalse result (((i : ℕ) → i ≤ j →
+        word_dot code.now.field (slice_index_or code.now.rows i []) (slice_index_or code.now.rows j []) ≡ 0) → ⊥) }
 {
     for i in 0..=j {
         if dot(code.field(), code.row(i), code.row(j)) != 0 {

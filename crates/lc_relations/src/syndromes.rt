@@ -17,7 +17,8 @@ use std::alloc::Global;
 /// The word has as many symbols of the code's field as the code's length.
 pub fn syndrome(alloc: Global, code: &Code, word: &[u8]) -> Result<Word, NoMemory>
     requires word { IsWord code.now.field code.now.columns word.now }
-    ensures is { IfOk result (λ s. (H : Matrix) × IsCode code.now.field code.now.columns (InDual code.now) H × (s ≡ syndrome_of code.now.field H.rows word.now)) }
+    ensures is { IfOk result (λ s. (H : Matrix) × IsCode code.now.field code.now.columns (InDual code.now) H ×
+        (s ≡ syndrome_of code.now.field H.rows word.now)) }
 {
     let dual = code.dual(alloc)?;
     Ok(dots(alloc, &dual, word)?)
