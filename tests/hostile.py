@@ -111,6 +111,7 @@ def large_scripts():
     yield "least words of one row", filled(b"LeastWord([[1]],GF(2));"), DONE
     yield "decodings of one word", filled(b"Decode(C,[1,0,1]);", b"C:=RepetitionCode(3,GF(2));"), DONE
     yield "nearest words of one word", filled(b"NearestWord(C,[1,0,1]);", b"C:=RepetitionCode(3,GF(2));"), DONE
+    yield "sums of words", filled(b"x:=AddWords(x,[1,0,1],GF(2));", b"x:=[0,0,0];"), DONE
     yield "names that are bound and looked up", names(50000), DONE
     yield "a list of 500,000 numbers", b"Weight([" + b",".join([b"1"] * 500000) + b"]);", DONE
     yield "a name of a million letters", b"n" * 1000000 + b":=1;", DONE

@@ -51,6 +51,11 @@ C := HammingCode(3, GF(2)); D := RepetitionCode(7, GF(2)); ExtendedCode(C); Punc
 EvenWeightSubcode(C); DirectSumCode(C, D); UUVCode(C, D); DirectProductCode(C, D); IntersectionCode(C, DualCode(C));
 ConcatenatedCode(ReedSolomonCode(3, 2), GeneratorMatCode([[1,0,1],[0,1,1]], GF(2)));
 """,
+    "words and codes": b"""
+C := HammingCode(3, GF(2)); c := Encode(C, [1,0,1,1]); x := AddWords(c, [0,0,0,0,1,0,0], GF(2)); Syndrome(C, x); InformationWord(C, c);
+ScaleWord(2, [1,2,0], GF(3)); DistanceCodeword(c, x); UnionCode(C, RepetitionCode(7, GF(2))); AugmentedCode(C, [[1,0,0,0,0,0,0]]);
+IsSubcode(DualCode(C), C); IsSameCode(C, C); IsSelfOrthogonalCode(C); IsSelfDualCode(C); IsCyclicCode(C); InformationWord(C, x);
+""",
     "decoders": b"""
 C := BCHCode(15, 5, GF(2)); w := [1,0,0,0,1,0,0,0,0,0,0,0,0,0,0]; Decode(C, w); AlgebraicDecode(C, w);
 AlgebraicDecode(C, [1,1,1,0,1,0,0,1,0,0,0,0,0,0,1]); Decode(HammingCode(2, GF(3)), [1,1,1,1]); LeastWord([[1,1,0],[0,1,1]], GF(2));

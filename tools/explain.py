@@ -52,6 +52,7 @@ MEANINGS = {
     45: "the value is of the wrong kind, or a query is not a statement of its own",
     46: "the call takes another number of arguments",
     47: "the code and its dual have too many words to count",
+    50: "the list is not a word of the code",
 }
 EMPTY = "the file is empty: a script that prints nothing; as a certificate it is rejected, by reason 30"
 SIGNS = {"name": "a name", "number": "a number"}
@@ -217,6 +218,17 @@ def combined_refusal(name, values, fault):
     return f"the inner code has dimension {dimension}; {a.size} is {b.size}^{degree}, so it needs {degree}"
 
 
+def two_lists_refusal(name, values, fault):
+    """Why two words, or an element and a word, are refused."""
+    if fault.number == 12:
+        return f"the first list has {len(values[0])} entries, the second {len(values[1])}"
+    argument, size = fault.values[0], values[2].size
+    given = values[argument - 1]
+    if reference.is_number(given):
+        return f"it is {given}; the elements of GF({size}) are 0 to {size - 1}"
+    return too_large([given], size).replace("of row 1 ", f"of argument {argument} ")
+
+
 def length_refusal(name, values):
     if name in ("GoppaCode", "AlternantCode"):
         return f"here are {counted(len(values[1]), 'point')}; a code has 1 to {LONGEST}"
@@ -257,8 +269,9 @@ def divisors_told(length, size):
 
 
 COMBINED = ("ExtendedCode", "PuncturedCode", "ShortenedCode", "EvenWeightSubcode", "DirectSumCode", "UUVCode",
-            "DirectProductCode", "IntersectionCode", "ConcatenatedCode")
-OF_WORDS = ("IsCodeword", "Decode", "AlgebraicDecode", "AlternantCertificate", "NearestWord")
+            "DirectProductCode", "IntersectionCode", "UnionCode", "IsSubcode", "IsSameCode", "ConcatenatedCode")
+OF_WORDS = ("IsCodeword", "Decode", "AlgebraicDecode", "AlternantCertificate", "NearestWord", "Syndrome", "InformationWord")
+OF_TWO_LISTS = ("AddWords", "ScaleWord", "DistanceCodeword")
 BY_LISTS = ("GeneratorPolCode", "CheckPolCode", "GoppaCode", "AlternantCode")
 
 
@@ -306,11 +319,20 @@ def refusal(expr, fault, names):
         return f"in {values[1]} variables the length 2^{values[1]} is above {LONGEST}"
     if number == 2:
         return f"the length {values[0]} is not one of 1 to {LONGEST}"
+    if name in OF_TWO_LISTS:
+        return two_lists_refusal(name, values, fault)
+    if number == 12 and name == "Encode":
+        return f"the list has {len(values[1])} entries; a message of this code has as many as `Dimension(C)` says"
+    if number == 12 and name == "AugmentedCode":
+        row = next(i for i, r in enumerate(values[1]) if len(r) != values[0].length)
+        return f"row {row + 1} has {len(values[1][row])} entries, the words of the code have {values[0].length}"
     if number == 12 and name in OF_WORDS:
         return f"the list has {len(values[1])} entries, the words of the code have {values[0].length}"
     if number == 12:
         return uneven(values[0])
-    if number == 3 and name in OF_WORDS:
+    if number == 3 and name == "AugmentedCode":
+        return too_large(values[1], values[0].size)
+    if number == 3 and name in OF_WORDS + ("Encode",):
         return too_large([values[1]], values[0].size).replace("of row 1 ", "of the list ")
     if number == 3 and name == "HammingCode":
         return f"a Hamming code has at least 2 checks, here {values[0]}"
@@ -327,6 +349,8 @@ def refusal(expr, fault, names):
         if weight != distance:
             return f"it has weight {weight}; it must have weight {distance}, one more than the {counted(distance - 1, 'check')} of the form"
         return f"it has weight {weight}, one more than the {counted(distance - 1, 'check')} of the form, but isn't in the code"
+    if number == 50:
+        return "`Decode(C, x)` gives a nearest word of the code"
     if number == 47:
         return distribution_told(values[0].size, values[0].length, *fault.values)
     if number == 16:

@@ -25,7 +25,7 @@ LARGE_SIZES = (25, 27, 32, 64, 81, 128, 243, 256)
 NAMES = ("C", "D", "x", "rows", "F", "a_1")
 UNKNOWN = ("Distance", "NearWord", "BchCode", "Extended", "Foo", "hammingCode", "GF_", "Golay", "z")
 CALLS = ("GF", "Weight", "Dimension", "DualCode", "IsCodeword", "Decode", "HammingCode", "ReedMullerCode", "CheckMat", "BCHCode", "GoppaCode",
-         "ExtendedCode", "UUVCode", "PuncturedCode", "BinaryGolayCode", "NearestWord")
+         "ExtendedCode", "UUVCode", "PuncturedCode", "BinaryGolayCode", "NearestWord", "Syndrome", "IsSubcode", "AddWords", "Encode", "AugmentedCode")
 SIGNS = "()[],;:=#_ \n\tab19GF"
 KINDS = ("valid", "refused", "unfit", "cut", "altered", "noise", "searched", "near")
 
@@ -126,7 +126,7 @@ class Maker:
 
     def combined(self, depth):
         call = self.pick(("ExtendedCode", "PuncturedCode", "ShortenedCode", "EvenWeightSubcode", "DirectSumCode", "UUVCode",
-                          "DirectProductCode", "IntersectionCode", "ConcatenatedCode"))
+                          "DirectProductCode", "IntersectionCode", "ConcatenatedCode", "UnionCode", "AugmentedCode"))
         if call == "ConcatenatedCode":
             size, degree = self.pick(((2, 1), (2, 2), (2, 3), (2, 4), (3, 1), (3, 2), (4, 1), (4, 2), (5, 1)))
             outer = self.over(size**degree, 1 + self.below(5))
@@ -137,13 +137,16 @@ class Maker:
         if call in ("PuncturedCode", "ShortenedCode"):
             places = self.coordinates(a.length)
             return self.zeros(f"{call}({a.text},{self.text(places)})", max(1, a.length - len(places)), a.size)
+        if call == "AugmentedCode":
+            rows = [self.row(a.size, min(a.length, 300)) for _ in range(self.below(3))]
+            return self.zeros(f"{call}({a.text},{self.text(rows)})", a.length, a.size)
         if call == "ExtendedCode" or (call == "EvenWeightSubcode" and (a.size == 2 or self.chance(self.faults))):
             return self.zeros(f"{call}({a.text})", a.length + (call == "ExtendedCode"), a.size)
         if call == "EvenWeightSubcode":
             return a
-        same = call in ("UUVCode", "IntersectionCode") and not self.chance(self.faults)
+        same = call in ("UUVCode", "IntersectionCode", "UnionCode") and not self.chance(self.faults)
         b = self.over(a.size, a.length if same else 1 + self.below(6))
-        length = {"DirectProductCode": a.length * b.length, "IntersectionCode": a.length}.get(call, a.length + b.length)
+        length = {"DirectProductCode": a.length * b.length, "IntersectionCode": a.length, "UnionCode": a.length}.get(call, a.length + b.length)
         return self.zeros(f"{call}({a.text},{b.text})", length, a.size)
 
     def cyclic_or_formed(self):
@@ -237,20 +240,52 @@ class Maker:
             return self.field(self.size())
         if kind == "number":
             if depth and self.chance(0.4):
-                call = self.pick(("Dimension", "WordLength", "Weight"))
+                call = self.pick(("Dimension", "WordLength", "Weight", "DistanceCodeword"))
+                if call == "DistanceCodeword":
+                    return f"{call}({','.join(self.two_words(3))})"
                 return f"{call}({self.expr('numbers' if call == 'Weight' else 'code', depth - 1)})"
             return self.text(self.below(20))
         if kind == "numbers":
             code = self.code(depth - 1) if depth and self.chance(0.5) else None
             if code and (code.length <= (6 if code.size <= 4 else 3) or code.length > 20 and self.chance(0.1)):
                 return f"Decode({code.text},{self.word(code)})"
+            if depth and self.chance(0.5):
+                return self.made_word(code or self.code(depth - 1))
             return self.text(self.row(self.size(), self.below(7)))
         if kind == "lists":
             if depth and self.chance(0.5):
                 return f"{self.pick(('GeneratorMat', 'CheckMat'))}({self.expr('code', depth - 1)})"
             return self.text(self.matrix(self.size(), self.below(5), 3))
         code = self.code(depth)
+        if self.chance(0.5):
+            return self.told_of(code)
         return f"IsCodeword({code.text},{self.word(code)})"
+
+    def two_words(self, size):
+        """Two words of one length, or sometimes of two."""
+        length = self.below(7)
+        return [self.text(self.row(size, length)) for _ in range(2)]
+
+    def made_word(self, code):
+        """A syndrome, the message of a word, a codeword, a sum or a multiple."""
+        if self.chance(0.5):
+            return f"{self.pick(('Syndrome', 'InformationWord'))}({code.text},{self.word(code)})"
+        if self.chance(0.4):
+            rows = [self.row(2, 5) for _ in range(1 + self.below(3))]
+            text = f"GeneratorMatCode({self.text(rows)},GF(2))"
+            return f"Encode({text},{self.text(self.row(2, self.below(3) + 1))})"
+        size = self.size()
+        if self.chance(0.5):
+            return f"AddWords({','.join(self.two_words(size))},{self.field(size)})"
+        return f"ScaleWord({self.text(self.below(size + 1))},{self.text(self.row(size, self.below(7)))},{self.field(size)})"
+
+    def told_of(self, code):
+        """Whether a code lies in another one, or in its dual, is the same, its own dual or cyclic."""
+        call = self.pick(("IsSubcode", "IsSameCode", "IsSelfOrthogonalCode", "IsSelfDualCode", "IsCyclicCode"))
+        if call not in ("IsSubcode", "IsSameCode"):
+            return f"{call}({code.text})"
+        other = f"DualCode({code.text})" if self.chance(0.3) else self.over(code.size, code.length).text
+        return f"{call}({code.text},{other})" if self.chance(0.5) else f"{call}({other},{code.text})"
 
     def misfit(self, depth):
         kinds = ("number", "numbers", "lists", "code", "field", "truth")

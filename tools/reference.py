@@ -729,6 +729,101 @@ def errors_of_weight(code, word, weight):
                 yield error
 
 
+# ---- what words and codes have to do with each other --------------------------------------------------------------
+
+def dot(field, u, v):
+    total = 0
+    for a, b in zip(u, v):
+        total = field.sums[total][field.products[a][b]]
+    return total
+
+
+def syndrome(code, word):
+    need_word(code, word)
+    field = arithmetic(code.size)
+    return [dot(field, row, word) for row in dual_of(code).rows]
+
+
+def is_subcode(a, b):
+    need_same_field(a, b)
+    need_same_length(a, b)
+    return all(is_in(b, row) for row in a.rows)
+
+
+def is_same_code(a, b):
+    return is_subcode(a, b) and is_subcode(b, a)
+
+
+def is_self_orthogonal_code(code):
+    return is_subcode(code, dual_of(code))
+
+
+def is_self_dual_code(code):
+    return is_same_code(code, dual_of(code))
+
+
+def is_cyclic_code(code):
+    return all(is_in(code, row[-1:] + row[:-1]) for row in code.rows)
+
+
+def need_equal_lengths(x, y):
+    if len(x) != len(y):
+        raise Refused(12)
+
+
+def add_words(x, y, field):
+    need_symbol_field(field)
+    need_equal_lengths(x, y)
+    need_entries(x, field.size, 1)
+    need_entries(y, field.size, 2)
+    sums = arithmetic(field.size).sums
+    return [sums[a][b] for a, b in zip(x, y)]
+
+
+def scale_word(c, x, field):
+    need_symbol_field(field)
+    need_entries([c], field.size, 1)
+    need_entries(x, field.size, 2)
+    products = arithmetic(field.size).products
+    return [products[c][a] for a in x]
+
+
+def distance_codeword(x, y):
+    need_equal_lengths(x, y)
+    return sum(1 for a, b in zip(x, y) if a != b)
+
+
+def encode(code, message):
+    need_equal_lengths(message, code.rows)
+    need_entries(message, code.size, 2)
+    field, total = arithmetic(code.size), [0] * code.length
+    for a, row in zip(message, code.rows):
+        total = field.add_scaled(total, a, row)
+    return list(total)
+
+
+def information_word(code, word):
+    """Each row is alone in the column of its first symbol, so the word has the row's coefficient there."""
+    need_word(code, word)
+    if not is_in(code, word):
+        raise Refused(50)
+    return [word[first_nonzero(row)] for row in code.rows]
+
+
+def union_code(a, b):
+    need_same_field(a, b)
+    need_same_length(a, b)
+    return code_of_rows(a.size, a.length, a.rows + b.rows)
+
+
+def augmented_code(code, rows):
+    for row in rows:
+        need_equal_lengths(row, range(code.length))
+    for row in rows:
+        need_entries(row, code.size, 2)
+    return code_of_rows(code.size, code.length, code.rows + rows)
+
+
 def less(code, word, error):
     field = arithmetic(code.size)
     return list(field.add_scaled(list(word), negative(field, 1), error))
@@ -939,6 +1034,19 @@ CALLS = {
     "Weight": ([("numbers",)], weight_of),
     "IsCodeword": ([("code", "numbers")], is_codeword),
     "Decode": ([("code", "numbers")], decode),
+    "Syndrome": ([("code", "numbers")], syndrome),
+    "IsSubcode": ([("code", "code")], is_subcode),
+    "IsSameCode": ([("code", "code")], is_same_code),
+    "IsSelfOrthogonalCode": ([("code",)], is_self_orthogonal_code),
+    "IsSelfDualCode": ([("code",)], is_self_dual_code),
+    "IsCyclicCode": ([("code",)], is_cyclic_code),
+    "AddWords": ([("numbers", "numbers", "field")], add_words),
+    "ScaleWord": ([("number", "numbers", "field")], scale_word),
+    "DistanceCodeword": ([("numbers", "numbers")], distance_codeword),
+    "Encode": ([("code", "numbers")], encode),
+    "InformationWord": ([("code", "numbers")], information_word),
+    "UnionCode": ([("code", "code")], union_code),
+    "AugmentedCode": ([("code", "lists")], augmented_code),
 }
 # these print a line of their own, and stand only as a whole statement; the functions get the session first
 QUERIES = {

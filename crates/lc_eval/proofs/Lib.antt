@@ -16,4 +16,5 @@ pub mod MisfitLaws
 pub mod StockLaws
 pub mod DecodeLaws
 pub mod NearLaws
+pub mod RelationLaws
 pub mod Opened

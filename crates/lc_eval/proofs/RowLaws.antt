@@ -1,11 +1,12 @@
 -- Numbers of a script as symbols of words.
 --   clamped_each                     each row by itself
---   columns_same                     the length of a matrix
+--   columns_same, lengths_same       the length of a matrix, and of its rows
 --   clamped_refusals                 a matrix is refused by its numbers as by its symbols
 --   elements_same, row_kept          the entries of a row
+--   entries_same, rows_kept          those of a matrix
 --   none_here                        the first refusal does not apply
 --   fine_same, fine_rows             a matrix that isn't refused holds elements alone
-use Rattle.std.proofs.Common.{◌≡◌, ℕ, ◌<◌, ◌≤◌, min, Bool, true, false, not, nat_lt, ◌==◌, ◌&&◌, List, [], ◌∷◌, length, map, Vec, Global, Option, None, is_none, slice_index_or, slice_index, refl, sym, ap, ⊎_elim, true≢false, arith}
+use Rattle.std.proofs.Common.{◌≡◌, ℕ, ◌<◌, ◌≤◌, min, Bool, true, false, not, nat_lt, ◌==◌, List, [], ◌∷◌, length, map, Vec, Global, Option, None, is_none, slice_index_or, slice_index, refl, sym, ap, ⊎_elim, true≢false, arith}
 use Rattle.std.specs.List.{list_all}
 use Rattle.std.proofs.lemmas.List.{length-map}
 use Rattle.std.proofs.lemmas.List.Sums.{AllPass-from_list_all}
@@ -33,7 +34,7 @@ unfolding columns_of
 columns_same [] = refl
 columns_same (row ∷ rows) = length-map row (λ a. min a 255)
 
-lengths_same : (n : ℕ) (rows : List (List ℕ)) → list_all (λ row. length row == n) (clamped_rows rows) ≡ list_all (λ row. length row == n) rows
+pub lengths_same : (n : ℕ) (rows : List (List ℕ)) → list_all (λ row. length row == n) (clamped_rows rows) ≡ list_all (λ row. length row == n) rows
 lengths_same n [] = refl
 lengths_same n (row ∷ rows) = rw (length-map row (λ a. min a 255), lengths_same n rows) refl
 
@@ -54,7 +55,7 @@ pub elements_same : (f : FieldName) (u : List ℕ) → size f ≤ 16 → are_ele
 unfolding are_elements
 elements_same f u h = row_same (size f) u h
 
-entries_same : (f : FieldName) (rows : List (List ℕ)) → size f ≤ 16 → have_elements f (clamped_rows rows) ≡ have_elements f rows
+pub entries_same : (f : FieldName) (rows : List (List ℕ)) → size f ≤ 16 → have_elements f (clamped_rows rows) ≡ have_elements f rows
 unfolding have_elements
 entries_same f [] h = refl
 entries_same f (row ∷ rows) h = let t : have_elements f (clamped_rows rows) ≡ have_elements f rows = entries_same f rows h in rw (elements_same f row h, t) refl
@@ -99,7 +100,7 @@ row_kept q (a ∷ u) s h =
     let e : min a 255 ≡ a = omega (arith, l, s) in
     rw (e, row_kept q u s p.1) refl
 
-rows_kept : (f : FieldName) (rows : List (List ℕ)) → size f ≤ 16 → have_elements f (clamped_rows rows) ≡ true → clamped_rows rows ≡ rows
+pub rows_kept : (f : FieldName) (rows : List (List ℕ)) → size f ≤ 16 → have_elements f (clamped_rows rows) ≡ true → clamped_rows rows ≡ rows
 unfolding have_elements are_elements
 rows_kept f [] s h = refl
 rows_kept f (row ∷ rows) s h =

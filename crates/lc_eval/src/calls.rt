@@ -20,6 +20,10 @@ use crate::decoding::{decode, is_codeword};
 use crate::forms::{alternant_code, formed, goppa_code};
 use crate::made::{check_mat_code, code_value, generator_mat_code, gf, made, nonzero, rows_value};
 use crate::refusals::Stop;
+use crate::relations::{
+    add_words, augmented_code, distance_codeword, encode, information_word, is_same_code,
+    is_subcode, scale_word, syndrome,
+};
 use crate::stock::Stock;
 use crate::values::Value;
 use lc_code::Code;
@@ -103,6 +107,19 @@ static TABLE: &[Row] = &rows! {
     Call::Value(ValueCall::Weight) => "Weight" [Numbers];
     Call::Value(ValueCall::IsCodeword) => "IsCodeword" [Code, Numbers];
     Call::Value(ValueCall::Decode) => "Decode" [Code, Numbers];
+    Call::Value(ValueCall::Syndrome) => "Syndrome" [Code, Numbers];
+    Call::Value(ValueCall::IsSubcode) => "IsSubcode" [Code, Code];
+    Call::Value(ValueCall::IsSameCode) => "IsSameCode" [Code, Code];
+    Call::Value(ValueCall::IsSelfOrthogonalCode) => "IsSelfOrthogonalCode" [Code];
+    Call::Value(ValueCall::IsSelfDualCode) => "IsSelfDualCode" [Code];
+    Call::Value(ValueCall::IsCyclicCode) => "IsCyclicCode" [Code];
+    Call::Value(ValueCall::AddWords) => "AddWords" [Numbers, Numbers, Field];
+    Call::Value(ValueCall::ScaleWord) => "ScaleWord" [Number, Numbers, Field];
+    Call::Value(ValueCall::DistanceCodeword) => "DistanceCodeword" [Numbers, Numbers];
+    Call::Value(ValueCall::Encode) => "Encode" [Code, Numbers];
+    Call::Value(ValueCall::InformationWord) => "InformationWord" [Code, Numbers];
+    Call::Value(ValueCall::UnionCode) => "UnionCode" [Code, Code];
+    Call::Value(ValueCall::AugmentedCode) => "AugmentedCode" [Code, Lists];
     Call::Query(QueryCall::AlgebraicDecode) => "AlgebraicDecode" [Code, Numbers];
     Call::Query(QueryCall::LeastWord) => "LeastWord" [Lists, Field];
     Call::Query(QueryCall::MinimumDistance) => "MinimumDistance" [Code];
@@ -202,6 +219,19 @@ pub(crate) enum BoundCall<'a> {
     Weight(&'a [u64]),
     IsCodeword(&'a Code, &'a [u64]),
     Decode(&'a Code, &'a [u64]),
+    Syndrome(&'a Code, &'a [u64]),
+    IsSubcode(&'a Code, &'a Code),
+    IsSameCode(&'a Code, &'a Code),
+    IsSelfOrthogonalCode(&'a Code),
+    IsSelfDualCode(&'a Code),
+    IsCyclicCode(&'a Code),
+    AddWords(&'a [u64], &'a [u64], &'a Field),
+    ScaleWord(u64, &'a [u64], &'a Field),
+    DistanceCodeword(&'a [u64], &'a [u64]),
+    Encode(&'a Code, &'a [u64]),
+    InformationWord(&'a Code, &'a [u64]),
+    UnionCode(&'a Code, &'a Code),
+    AugmentedCode(&'a Code, &'a [Vec<u64>]),
 }
 
 impl Means for BoundCall<'_> {
@@ -243,6 +273,19 @@ impl Means for BoundCall<'_> {
       | BoundCall.Weight x ↦ language.weight_of x.now
       | BoundCall.IsCodeword C x ↦ language.is_codeword C.now x.now
       | BoundCall.Decode C x ↦ language.decode C.now x.now
+      | BoundCall.Syndrome C x ↦ language.syndrome_of C.now x.now
+      | BoundCall.IsSubcode C D ↦ language.is_subcode C.now D.now
+      | BoundCall.IsSameCode C D ↦ language.is_same_code C.now D.now
+      | BoundCall.IsSelfOrthogonalCode C ↦ language.is_self_orthogonal_code C.now
+      | BoundCall.IsSelfDualCode C ↦ language.is_self_dual_code C.now
+      | BoundCall.IsCyclicCode C ↦ language.is_cyclic_code C.now
+      | BoundCall.AddWords x y f ↦ language.add_words x.now y.now f.now
+      | BoundCall.ScaleWord c x f ↦ language.scale_word c x.now f.now
+      | BoundCall.DistanceCodeword x y ↦ language.distance_codeword x.now y.now
+      | BoundCall.Encode C u ↦ language.encode C.now u.now
+      | BoundCall.InformationWord C x ↦ language.information_word C.now x.now
+      | BoundCall.UnionCode C D ↦ language.union_code C.now D.now
+      | BoundCall.AugmentedCode C rows ↦ language.augmented_code C.now (rows_of rows.now)
     ] };
 }
 
@@ -318,6 +361,9 @@ fn with_one<'a>(call: ValueCall, a: &'a Value) -> Option<BoundCall<'a>>
         ValueCall::GeneratorMat => Some(BoundCall::GeneratorMat(&a.code()?.code)),
         ValueCall::CheckMat => Some(BoundCall::CheckMat(&a.code()?.code)),
         ValueCall::Weight => Some(BoundCall::Weight(a.numbers()?)),
+        ValueCall::IsSelfOrthogonalCode => Some(BoundCall::IsSelfOrthogonalCode(&a.code()?.code)),
+        ValueCall::IsSelfDualCode => Some(BoundCall::IsSelfDualCode(&a.code()?.code)),
+        ValueCall::IsCyclicCode => Some(BoundCall::IsCyclicCode(&a.code()?.code)),
         _ => None,
     }
 }
@@ -357,6 +403,18 @@ fn with_two<'a>(call: ValueCall, a: &'a Value, b: &'a Value) -> Option<BoundCall
         )),
         ValueCall::IsCodeword => Some(BoundCall::IsCodeword(&a.code()?.code, b.numbers()?)),
         ValueCall::Decode => Some(BoundCall::Decode(&a.code()?.code, b.numbers()?)),
+        ValueCall::Syndrome => Some(BoundCall::Syndrome(&a.code()?.code, b.numbers()?)),
+        ValueCall::IsSubcode => Some(BoundCall::IsSubcode(&a.code()?.code, &b.code()?.code)),
+        ValueCall::IsSameCode => Some(BoundCall::IsSameCode(&a.code()?.code, &b.code()?.code)),
+        ValueCall::DistanceCodeword => {
+            Some(BoundCall::DistanceCodeword(a.numbers()?, b.numbers()?))
+        }
+        ValueCall::Encode => Some(BoundCall::Encode(&a.code()?.code, b.numbers()?)),
+        ValueCall::InformationWord => {
+            Some(BoundCall::InformationWord(&a.code()?.code, b.numbers()?))
+        }
+        ValueCall::UnionCode => Some(BoundCall::UnionCode(&a.code()?.code, &b.code()?.code)),
+        ValueCall::AugmentedCode => Some(BoundCall::AugmentedCode(&a.code()?.code, b.lists()?)),
         _ => None,
     }
 }
@@ -383,6 +441,8 @@ fn with_three<'a>(
             c.field()?,
         )),
         ValueCall::BchCode => Some(BoundCall::BchCode(a.number()?, 1, b.number()?, c.field()?)),
+        ValueCall::AddWords => Some(BoundCall::AddWords(a.numbers()?, b.numbers()?, c.field()?)),
+        ValueCall::ScaleWord => Some(BoundCall::ScaleWord(a.number()?, b.numbers()?, c.field()?)),
         _ => None,
     }
 }
@@ -510,6 +570,23 @@ pub(crate) fn apply(
         BoundCall::Weight(list) => Ok(Value::Number(nonzero(list) as u64)),
         BoundCall::IsCodeword(code, list) => is_codeword(alloc, place, code, list),
         BoundCall::Decode(code, list) => decode(alloc, stock, place, code, list),
+        BoundCall::Syndrome(code, list) => syndrome(alloc, place, code, list),
+        BoundCall::IsSubcode(a, b) => is_subcode(alloc, place, a, b),
+        BoundCall::IsSameCode(a, b) => is_same_code(alloc, place, a, b),
+        BoundCall::IsSelfOrthogonalCode(code) => {
+            Ok(Value::Truth(lc_relations::is_self_orthogonal(code)))
+        }
+        BoundCall::IsSelfDualCode(code) => {
+            Ok(Value::Truth(lc_relations::is_self_dual(alloc, code)?))
+        }
+        BoundCall::IsCyclicCode(code) => Ok(Value::Truth(lc_relations::is_cyclic(alloc, code)?)),
+        BoundCall::AddWords(x, y, field) => add_words(alloc, place, x, y, field),
+        BoundCall::ScaleWord(c, x, field) => scale_word(alloc, place, c, x, field),
+        BoundCall::DistanceCodeword(x, y) => distance_codeword(alloc, place, x, y),
+        BoundCall::Encode(code, list) => encode(alloc, place, code, list),
+        BoundCall::InformationWord(code, list) => information_word(alloc, place, code, list),
+        BoundCall::UnionCode(a, b) => made(alloc, place, lc_relations::union_of(alloc, a, b)),
+        BoundCall::AugmentedCode(code, rows) => augmented_code(alloc, place, code, rows),
     }
 }
 

@@ -68,8 +68,8 @@ fn too_many_cosets(alloc: Global, place: usize, n: usize) -> Result<Refused, NoM
     })
 }
 
-// A word as a value.
-fn word_value(alloc: Global, symbols: &[u8]) -> Result<Value, NoMemory>
+/// A word as a value.
+pub(crate) fn word_value(alloc: Global, symbols: &[u8]) -> Result<Value, NoMemory>
     ensures { IfOk result (λ v. value_of v ≡ language.numbers symbols.now) }
 {
     Ok(Value::Numbers(Rc::new(alloc, list_of(alloc, symbols)?)?))

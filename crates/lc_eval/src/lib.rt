@@ -18,6 +18,7 @@ mod names;
 mod nearest;
 mod queries;
 mod refusals;
+mod relations;
 mod rows;
 mod statement;
 mod stock;

@@ -28,6 +28,8 @@ pub(crate) const MISFIT: u8 = 45;
 pub(crate) const WRONG_COUNT: u8 = 46;
 /// The code and its dual have too many words for the numbers of words of each weight.
 pub(crate) const NO_DISTRIBUTION: u8 = 47;
+/// The word is not in the code.
+pub(crate) const NOT_A_CODEWORD: u8 = 50;
 
 /// A fault: its number, its offset in the script, and the numbers that are printed after it.
 #[derive(Drop)]

@@ -2,3 +2,4 @@ pub mod LanguageExamples
 pub mod LineExamples
 pub mod QueryExamples
 pub mod TextExamples
+pub mod RelationExamples

@@ -2,8 +2,8 @@
 -- a statement of its own, without `:=`, that prints a line of its own.
 --   BoundCall                      a call that gives a value, with its arguments; b of a BCH code is 1 if it isn't given
 --   BoundQuery                     a query with its arguments; the alternant form of a code, if it has one, counts for two of them
---   value_name c, query_name c     its name (GUAVA manual; LeastWord, ConcatenatedCode, the certificates, WeightDistribution and
---                                  NearestWord are this project's own)
+--   value_name c, query_name c     its name (GUAVA manual; LeastWord, ConcatenatedCode, the certificates, WeightDistribution,
+--                                  NearestWord, IsSubcode, IsSameCode, AddWords, ScaleWord and Encode are this project's own)
 --   value_forms c, query_forms c   its forms: the kinds of its arguments, and the call with them; BCHCode has two
 --   refusals_of b, query_refusals_of b      its refusals in their order
 --   refusal_of b, query_refusal_of b        the first of them
@@ -24,7 +24,8 @@ use Rattle.lc_algebra.specs.declared.FieldName.{FieldName}
 use Rattle.lc_algebra.specs.declared.FieldName.TheVariants.{Gf2, Gf3}
 use Rattle.lc_algebra.specs.Field.{size}
 use Rattle.lc_algebra.specs.Polynomial.{Divides, x_power_minus_one}
-use Rattle.lc_algebra.specs.Word.{weight}
+use Rattle.lc_algebra.specs.Word.{word_sum, scale, weight}
+use Rattle.lc_algebra.specs.Span.{combine}
 use Rattle.lc_algebra.specs.Matrix.{Matrix}
 use Rattle.lc_constructions.specs.Code.{InCode, IsCode, CheckedBy}
 use Rattle.lc_constructions.specs.Basic.{GeneratedBy, IsConstant, IsAny, IsZero, hamming_checks, hamming_length, reed_muller_rows}
@@ -32,6 +33,7 @@ use Rattle.lc_constructions.specs.Cyclic.{all_fields, trimmed, IsMultipleOf, IsC
 use Rattle.lc_constructions.specs.Alternant.{AlternantForm, IsAlternantWord, IsGoppaWord, goppa_form}
 use Rattle.lc_constructions.specs.Combined.{InDual, InExtended, InPunctured, InShortened, InEvenWeight, InDirectSum, InUuv, InDirectProduct, InIntersection}
 use Rattle.lc_constructions.specs.Concatenated.{InConcatenated}
+use Rattle.lc_constructions.specs.Coset.{syndrome}
 use Rattle.lc_constructions.specs.Nearest.{IsNearest}
 use Rattle.lc_constructions.specs.Refusals.{columns_of, matrix_refusals, length_refusals, hamming_refusals, reed_muller_refusals, cyclic_refusals, bch_refusals, reed_solomon_refusals, goppa_refusals, alternant_refusals, extended_refusals, deleted_refusals, even_weight_refusals, direct_sum_refusals, uuv_refusals, direct_product_refusals, intersection_refusals, concatenated_refusals}
 use Rattle.lc_formats.specs.Text.{same_bytes}
@@ -47,6 +49,7 @@ use Rattle.lc_language.specs.Value.{Value, number, field, numbers, lists, truth}
 use Rattle.lc_language.specs.Forms.{Form, form, one, kinds_of, bound}
 use Rattle.lc_language.specs.Refusal.{Refusal, refuse, when, first_of, from_codes, word_refusals, coset_refusal, no_form, not_attained, no_distribution}
 use Rattle.lc_language.specs.Meaning.{Made, MadeWith, IsGolay, IsExtendedGolay, IsBch, IsReedSolomon}
+use Rattle.lc_language.specs.Relations.{hamming_distance, IsSubcode, IsSameCode, IsSelfOrthogonal, IsSelfDual, IsCyclic, IsMessageOf, InUnion, InAugmented, add_refusals, scale_refusals, distance_refusals, message_refusals, augmented_refusals, not_codeword}
 
 pub data BoundCall : Type 0 where
   gf : ℕ → BoundCall
@@ -84,6 +87,19 @@ pub data BoundCall : Type 0 where
   weight_of : List ℕ → BoundCall
   is_codeword : Matrix → List ℕ → BoundCall
   decode : Matrix → List ℕ → BoundCall
+  syndrome_of : Matrix → List ℕ → BoundCall
+  is_subcode : Matrix → Matrix → BoundCall
+  is_same_code : Matrix → Matrix → BoundCall
+  is_self_orthogonal_code : Matrix → BoundCall
+  is_self_dual_code : Matrix → BoundCall
+  is_cyclic_code : Matrix → BoundCall
+  add_words : List ℕ → List ℕ → FieldName → BoundCall
+  scale_word : ℕ → List ℕ → FieldName → BoundCall
+  distance_codeword : List ℕ → List ℕ → BoundCall
+  encode : Matrix → List ℕ → BoundCall
+  information_word : Matrix → List ℕ → BoundCall
+  union_code : Matrix → Matrix → BoundCall
+  augmented_code : Matrix → List (List ℕ) → BoundCall
 
 pub data BoundQuery : Type 0 where
   algebraic_decode : Matrix → Option AlternantForm → List ℕ → BoundQuery
@@ -133,6 +149,19 @@ value_name call.CheckMat = codes "CheckMat"
 value_name call.Weight = codes "Weight"
 value_name call.IsCodeword = codes "IsCodeword"
 value_name call.Decode = codes "Decode"
+value_name call.Syndrome = codes "Syndrome"
+value_name call.IsSubcode = codes "IsSubcode"
+value_name call.IsSameCode = codes "IsSameCode"
+value_name call.IsSelfOrthogonalCode = codes "IsSelfOrthogonalCode"
+value_name call.IsSelfDualCode = codes "IsSelfDualCode"
+value_name call.IsCyclicCode = codes "IsCyclicCode"
+value_name call.AddWords = codes "AddWords"
+value_name call.ScaleWord = codes "ScaleWord"
+value_name call.DistanceCodeword = codes "DistanceCodeword"
+value_name call.Encode = codes "Encode"
+value_name call.InformationWord = codes "InformationWord"
+value_name call.UnionCode = codes "UnionCode"
+value_name call.AugmentedCode = codes "AugmentedCode"
 
 unfoldable pub query_name : QueryCall → List ℕ
 query_name query.AlgebraicDecode = codes "AlgebraicDecode"
@@ -182,6 +211,19 @@ value_forms call.CheckMat = one (Code ∷ []) (λ C. check_mat C.code)
 value_forms call.Weight = one (Numbers ∷ []) weight_of
 value_forms call.IsCodeword = one (Code ∷ Numbers ∷ []) (λ C x. is_codeword C.code x)
 value_forms call.Decode = one (Code ∷ Numbers ∷ []) (λ C x. decode C.code x)
+value_forms call.Syndrome = one (Code ∷ Numbers ∷ []) (λ C x. syndrome_of C.code x)
+value_forms call.IsSubcode = one (Code ∷ Code ∷ []) (λ C D. is_subcode C.code D.code)
+value_forms call.IsSameCode = one (Code ∷ Code ∷ []) (λ C D. is_same_code C.code D.code)
+value_forms call.IsSelfOrthogonalCode = one (Code ∷ []) (λ C. is_self_orthogonal_code C.code)
+value_forms call.IsSelfDualCode = one (Code ∷ []) (λ C. is_self_dual_code C.code)
+value_forms call.IsCyclicCode = one (Code ∷ []) (λ C. is_cyclic_code C.code)
+value_forms call.AddWords = one (Numbers ∷ Numbers ∷ Field ∷ []) add_words
+value_forms call.ScaleWord = one (Number ∷ Numbers ∷ Field ∷ []) scale_word
+value_forms call.DistanceCodeword = one (Numbers ∷ Numbers ∷ []) distance_codeword
+value_forms call.Encode = one (Code ∷ Numbers ∷ []) (λ C u. encode C.code u)
+value_forms call.InformationWord = one (Code ∷ Numbers ∷ []) (λ C x. information_word C.code x)
+value_forms call.UnionCode = one (Code ∷ Code ∷ []) (λ C D. union_code C.code D.code)
+value_forms call.AugmentedCode = one (Code ∷ Lists ∷ []) (λ C rows. augmented_code C.code rows)
 
 unfoldable pub query_forms : QueryCall → List (Form BoundQuery)
 query_forms query.AlgebraicDecode = one (Code ∷ Numbers ∷ []) (λ C x. algebraic_decode C.code C.form x)
@@ -232,6 +274,19 @@ refusals_of (check_mat C) = []
 refusals_of (weight_of x) = []
 refusals_of (is_codeword C x) = from_codes (word_refusals C x)
 refusals_of (decode C x) = from_codes (word_refusals C x) ++ coset_refusal C ∷ []
+refusals_of (syndrome_of C x) = from_codes (word_refusals C x)
+refusals_of (is_subcode C D) = from_codes (intersection_refusals C D)
+refusals_of (is_same_code C D) = from_codes (intersection_refusals C D)
+refusals_of (is_self_orthogonal_code C) = []
+refusals_of (is_self_dual_code C) = []
+refusals_of (is_cyclic_code C) = []
+refusals_of (add_words x y f) = from_codes (add_refusals f x y)
+refusals_of (scale_word c x f) = from_codes (scale_refusals f c x)
+refusals_of (distance_codeword x y) = from_codes (distance_refusals x y)
+refusals_of (encode C u) = from_codes (message_refusals C u)
+refusals_of (information_word C x) = from_codes (word_refusals C x) ++ not_codeword C x ∷ []
+refusals_of (union_code C D) = from_codes (intersection_refusals C D)
+refusals_of (augmented_code C rows) = from_codes (augmented_refusals C rows)
 
 unfoldable pub refusal_of : BoundCall → Option Refusal
 refusal_of b = first_of (refusals_of b)
@@ -289,6 +344,19 @@ Gives (check_mat C) v = (D : Matrix) × IsCode C.field C.columns (InDual C) D ×
 Gives (weight_of x) v = v ≡ number (weight x)
 Gives (is_codeword C x) v = (b : Bool) × (v ≡ truth b) × (IsTrue b ↔ InCode C x)
 Gives (decode C x) v = (w : List ℕ) × IsNearest C x w × (v ≡ numbers w)
+Gives (syndrome_of C x) v = (H : Matrix) × IsCode C.field C.columns (InDual C) H × (v ≡ numbers (syndrome C.field H.rows x))
+Gives (is_subcode C D) v = (b : Bool) × (v ≡ truth b) × (IsTrue b ↔ IsSubcode C D)
+Gives (is_same_code C D) v = (b : Bool) × (v ≡ truth b) × (IsTrue b ↔ IsSameCode C D)
+Gives (is_self_orthogonal_code C) v = (b : Bool) × (v ≡ truth b) × (IsTrue b ↔ IsSelfOrthogonal C)
+Gives (is_self_dual_code C) v = (b : Bool) × (v ≡ truth b) × (IsTrue b ↔ IsSelfDual C)
+Gives (is_cyclic_code C) v = (b : Bool) × (v ≡ truth b) × (IsTrue b ↔ IsCyclic C)
+Gives (add_words x y f) v = v ≡ numbers (word_sum f x y)
+Gives (scale_word c x f) v = v ≡ numbers (scale f c x)
+Gives (distance_codeword x y) v = v ≡ number (hamming_distance x y)
+Gives (encode C u) v = v ≡ numbers (combine C.field C.columns u C.rows)
+Gives (information_word C x) v = (u : List ℕ) × IsMessageOf C x u × (v ≡ numbers u)
+Gives (union_code C D) v = Made C.field C.columns (InUnion C D) v
+Gives (augmented_code C rows) v = Made C.field C.columns (InAugmented C rows) v
 
 abbrev pub IsNotDivisor : BoundCall → Type 0
 IsNotDivisor (generator_pol_code x n f) = ¬ Divides f (trimmed x) (x_power_minus_one f n)
@@ -298,7 +366,7 @@ IsNotDivisor _ = ⊥
 -- ---- the table
 
 unfoldable pub value_calls : List ValueCall
-value_calls = call.Gf ∷ call.GeneratorMatCode ∷ call.CheckMatCode ∷ call.RepetitionCode ∷ call.WholeSpaceCode ∷ call.NullCode ∷ call.HammingCode ∷ call.ReedMullerCode ∷ call.GeneratorPolCode ∷ call.CheckPolCode ∷ call.BinaryGolayCode ∷ call.TernaryGolayCode ∷ call.ExtendedBinaryGolayCode ∷ call.ExtendedTernaryGolayCode ∷ call.BchCode ∷ call.ReedSolomonCode ∷ call.GoppaCode ∷ call.AlternantCode ∷ call.DualCode ∷ call.ExtendedCode ∷ call.PuncturedCode ∷ call.ShortenedCode ∷ call.EvenWeightSubcode ∷ call.DirectSumCode ∷ call.UuvCode ∷ call.DirectProductCode ∷ call.IntersectionCode ∷ call.ConcatenatedCode ∷ call.Dimension ∷ call.WordLength ∷ call.GeneratorMat ∷ call.CheckMat ∷ call.Weight ∷ call.IsCodeword ∷ call.Decode ∷ []
+value_calls = call.Gf ∷ call.GeneratorMatCode ∷ call.CheckMatCode ∷ call.RepetitionCode ∷ call.WholeSpaceCode ∷ call.NullCode ∷ call.HammingCode ∷ call.ReedMullerCode ∷ call.GeneratorPolCode ∷ call.CheckPolCode ∷ call.BinaryGolayCode ∷ call.TernaryGolayCode ∷ call.ExtendedBinaryGolayCode ∷ call.ExtendedTernaryGolayCode ∷ call.BchCode ∷ call.ReedSolomonCode ∷ call.GoppaCode ∷ call.AlternantCode ∷ call.DualCode ∷ call.ExtendedCode ∷ call.PuncturedCode ∷ call.ShortenedCode ∷ call.EvenWeightSubcode ∷ call.DirectSumCode ∷ call.UuvCode ∷ call.DirectProductCode ∷ call.IntersectionCode ∷ call.ConcatenatedCode ∷ call.Dimension ∷ call.WordLength ∷ call.GeneratorMat ∷ call.CheckMat ∷ call.Weight ∷ call.IsCodeword ∷ call.Decode ∷ call.Syndrome ∷ call.IsSubcode ∷ call.IsSameCode ∷ call.IsSelfOrthogonalCode ∷ call.IsSelfDualCode ∷ call.IsCyclicCode ∷ call.AddWords ∷ call.ScaleWord ∷ call.DistanceCodeword ∷ call.Encode ∷ call.InformationWord ∷ call.UnionCode ∷ call.AugmentedCode ∷ []
 
 unfoldable pub query_calls : List QueryCall
 query_calls = query.AlgebraicDecode ∷ query.LeastWord ∷ query.MinimumDistance ∷ query.Certificate ∷ query.ScanCertificate ∷ query.WeightDistribution ∷ query.AlternantCertificate ∷ query.NearestWord ∷ []

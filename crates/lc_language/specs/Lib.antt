@@ -5,4 +5,5 @@ pub mod Meaning
 pub mod Print
 pub mod Query
 pub mod Refusal
+pub mod Relations
 pub mod Value

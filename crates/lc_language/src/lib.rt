@@ -55,6 +55,19 @@ pub enum ValueCall {
     Weight,
     IsCodeword,
     Decode,
+    Syndrome,
+    IsSubcode,
+    IsSameCode,
+    IsSelfOrthogonalCode,
+    IsSelfDualCode,
+    IsCyclicCode,
+    AddWords,
+    ScaleWord,
+    DistanceCodeword,
+    Encode,
+    InformationWord,
+    UnionCode,
+    AugmentedCode,
 }
 
 /// The calls that are statements of their own: each prints a line of its own.

@@ -19,6 +19,7 @@ use Rattle.lc_algebra.specs.Matrix.{Matrix}
 use Rattle.lc_algebra.proofs.EmbeddingTests.{told_by_size}
 use Rattle.lc_constructions.specs.Code.{InCode, IsCode}
 use Rattle.lc_constructions.specs.Combined.{InDual}
+use Rattle.lc_constructions.specs.Coset.{syndrome}
 use Rattle.lc_constructions.specs.Nearest.{IsNearest}
 use Rattle.lc_constructions.specs.Refusals.{columns_of, matrix_refusals, length_refusals, hamming_refusals, reed_muller_refusals, cyclic_refusals, bch_refusals, goppa_refusals, form_refusals, alternant_refusals, extended_refusals, direct_sum_refusals, uuv_refusals, direct_product_refusals, degree_over, nested_refusals, concatenated_refusals}
 use Rattle.lc_constructions.specs.Basic.{hamming_length}
@@ -29,7 +30,8 @@ use Rattle.lc_language.specs.declared.ValueCall.{ValueCall}
 use Rattle.lc_language.specs.declared.ValueCall.TheVariants as call
 use Rattle.lc_language.specs.declared.QueryCall.{QueryCall}
 use Rattle.lc_language.specs.declared.QueryCall.TheVariants as query
-use Rattle.lc_language.specs.Value.{Value, numbers, field, lists, truth}
+use Rattle.lc_language.specs.Value.{Value, numbers, field, lists}
+use Rattle.lc_language.specs.Relations.{IsSubcode, IsSameCode, IsSelfOrthogonal, IsSelfDual, IsCyclic, IsMessageOf}
 use Rattle.lc_language.specs.Calls as bound
 use Rattle.lc_language.specs.Calls.{BoundCall, BoundQuery, value_forms, query_forms, refusals_of, refusal_of, Gives, bind, bind_query}
 use Rattle.lc_language.specs.Query.{distance, by_levels, by_scan, form_line}
@@ -39,7 +41,7 @@ use Rattle.lc_eval.specs.Built.{built_calls}
 use Rattle.lc_script_laws.specs.Shapes.{IsCodeOfRows}
 use Rattle.lc_script_laws.proofs.AtMostOne.{One, one_value, one_some}
 use Rattle.lc_script_laws.proofs.OneNearest.{nearest_one}
-use Rattle.lc_script_laws.proofs.OneValue.{code_one, made_one, extended_golay_one, bch_one, reed_solomon_one, same_truth, prints_least_one, asks_one, nears_one, decoded_by_form}
+use Rattle.lc_script_laws.proofs.OneValue.{code_one, made_one, extended_golay_one, bch_one, reed_solomon_one, truth_one, message_one, prints_least_one, asks_one, nears_one, decoded_by_form}
 use Rattle.lc_script_laws.proofs.FormedLaws.{bch_formed, solomon_formed, goppa_formed, alternant_formed}
 use Rattle.lc_script_laws.proofs.ShapeLaws.{IsShaped, AreShaped, InForms, bound_shaped, shaped_as, made_shaped, formed_shaped, IsAllowed, none_refuses, allowed, short, binary, ternary}
 
@@ -77,8 +79,21 @@ gives_one (bound.word_length C) r = one_value _
 gives_one (bound.generator_mat C) r = one_value _
 gives_one (bound.check_mat C) r = one_some (IsCode C.field C.columns (InDual C)) (λ D v. v ≡ lists D.rows) (code_one _ _ _) (λ D. one_value (lists D.rows))
 gives_one (bound.weight_of x) r = one_value _
-gives_one (bound.is_codeword C x) r = λ v w a b. a.1 ∙ ap (λ (t : Bool). truth t) (same_truth a.0 b.0 (InCode C x) a.2 b.2) ∙ sym b.1
+gives_one (bound.is_codeword C x) r = truth_one (InCode C x)
 gives_one (bound.decode C x) r = one_some (IsNearest C x) (λ w v. v ≡ numbers w) (nearest_one C x r) (λ w. one_value (numbers w))
+gives_one (bound.syndrome_of C x) r = one_some (IsCode C.field C.columns (InDual C)) (λ H v. v ≡ numbers (syndrome C.field H.rows x)) (code_one _ _ _) (λ H. one_value (numbers (syndrome C.field H.rows x)))
+gives_one (bound.is_subcode C D) r = truth_one (IsSubcode C D)
+gives_one (bound.is_same_code C D) r = truth_one (IsSameCode C D)
+gives_one (bound.is_self_orthogonal_code C) r = truth_one (IsSelfOrthogonal C)
+gives_one (bound.is_self_dual_code C) r = truth_one (IsSelfDual C)
+gives_one (bound.is_cyclic_code C) r = truth_one (IsCyclic C)
+gives_one (bound.add_words x y f) r = one_value _
+gives_one (bound.scale_word c x f) r = one_value _
+gives_one (bound.distance_codeword x y) r = one_value _
+gives_one (bound.encode C u) r = one_value _
+gives_one (bound.information_word C x) r = one_some (IsMessageOf C x) (λ u v. v ≡ numbers u) (message_one C x) (λ u. one_value (numbers u))
+gives_one (bound.union_code C D) r = made_one _ _ _ _
+gives_one (bound.augmented_code C rows) r = made_one _ _ _ _
 
 pub queries_one : (b : BoundQuery) → One (Queries b)
 queries_one (bound.algebraic_decode C form x) = decoded_by_form C x form
@@ -198,6 +213,19 @@ calls_shaped call.CheckMat = (λ C h v e g. shaped_as v _ g.2 tt, tt)
 calls_shaped call.Weight = (λ x v e g. shaped_as v _ g tt, tt)
 calls_shaped call.IsCodeword = (λ C h x v e g. shaped_as v _ g.1 tt, tt)
 calls_shaped call.Decode = (λ C h x v e g. shaped_as v _ g.2 tt, tt)
+calls_shaped call.Syndrome = (λ C h x v e g. shaped_as v _ g.2 tt, tt)
+calls_shaped call.IsSubcode = (λ C h D k v e g. shaped_as v _ g.1 tt, tt)
+calls_shaped call.IsSameCode = (λ C h D k v e g. shaped_as v _ g.1 tt, tt)
+calls_shaped call.IsSelfOrthogonalCode = (λ C h v e g. shaped_as v _ g.1 tt, tt)
+calls_shaped call.IsSelfDualCode = (λ C h v e g. shaped_as v _ g.1 tt, tt)
+calls_shaped call.IsCyclicCode = (λ C h v e g. shaped_as v _ g.1 tt, tt)
+calls_shaped call.AddWords = (λ x y f v e g. shaped_as v _ g tt, tt)
+calls_shaped call.ScaleWord = (λ c x f v e g. shaped_as v _ g tt, tt)
+calls_shaped call.DistanceCodeword = (λ x y v e g. shaped_as v _ g tt, tt)
+calls_shaped call.Encode = (λ C h u v e g. shaped_as v _ g tt, tt)
+calls_shaped call.InformationWord = (λ C h x v e g. shaped_as v _ g.2 tt, tt)
+calls_shaped call.UnionCode = (λ C h D k v e g. made_shaped _ _ _ v (h.0.long, h.0.symbol) g, tt)
+calls_shaped call.AugmentedCode = (λ C h rows v e g. made_shaped _ _ _ v (h.0.long, h.0.symbol) g, tt)
 
 abbrev pub HaveQueryShapes : BoundQuery → Type 0
 HaveQueryShapes (bound.minimum_distance C) = IsCodeOfRows C

@@ -5,7 +5,8 @@
 --   prints_least_one         what is printed of it
 --   asks_one, nears_one      what a query does that a search answers
 --   decoded_by_form          what a decoder answers
---   same_truth               the truth value of a fact
+--   same_truth, truth_one    the truth value of a fact
+--   message_one              the message of a codeword
 use Rattle.std.proofs.Common.{◌≡◌, ℕ, ◌+◌, ◌%◌, ◌↔◌, Bool, true, false, List, None, Some, Option, refl, sym, ap, ap₂, subst, ◌∙◌, ⊎_elim, inl, inr, arith}
 use Rattle.std.specs.Prelude.{IsTrue}
 use Rattle.lc_algebra.specs.declared.FieldName.{FieldName}
@@ -20,7 +21,8 @@ use Rattle.lc_constructions.specs.Code.{IsCode}
 use Rattle.lc_constructions.specs.Cyclic.{IsMultipleOf, locator_field, IsBchWord, IsReedSolomonWord}
 use Rattle.lc_constructions.specs.Alternant.{AlternantForm, bch_form}
 use Rattle.lc_constructions.specs.Combined.{InExtended}
-use Rattle.lc_language.specs.Value.{code}
+use Rattle.lc_language.specs.Value.{code, truth}
+use Rattle.lc_language.specs.Relations.{IsMessageOf}
 use Rattle.lc_constructions.specs.Refusals.{columns_of}
 use Rattle.lc_language.specs.Meaning.{IsCodeValue, Made, MadeWith, IsExtendedGolay, IsBch, IsReedSolomon, decoded}
 use Rattle.lc_language.specs.Print.{value_line, least_line, least_none_line}
@@ -75,6 +77,12 @@ same_truth true true P h k = refl
 same_truth true false P h k = sym (k.1 (h.0 refl))
 same_truth false true P h k = h.1 (k.0 refl)
 same_truth false false P h k = refl
+
+pub truth_one : (P : Type 0) → One (λ v. (b : Bool) × (v ≡ truth b) × (IsTrue b ↔ P))
+truth_one P = λ v w a b. a.1 ∙ ap (λ (t : Bool). truth t) (same_truth a.0 b.0 P a.2 b.2) ∙ sym b.1
+
+pub message_one : (C : Matrix) (x : List ℕ) → One (IsMessageOf C x)
+message_one C x = λ u v p q. sym (p.only v q.word q.encoded)
 
 pub extended_golay_one : (f : FieldName) (n : ℕ) (g : List ℕ) → One (IsExtendedGolay f n g)
 extended_golay_one f n g = one_some (IsCode f n (IsMultipleOf f n g)) (λ C v. Made f (n + 1) (InExtended C) v) (code_one f n (IsMultipleOf f n g)) (λ C. made_one f (n + 1) (InExtended C) None)

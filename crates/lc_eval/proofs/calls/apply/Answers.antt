@@ -7,7 +7,8 @@ use Rattle.lc_constructions.specs.Combined.{InExtended, InPunctured, InShortened
 use Rattle.lc_constructions.specs.Concatenated.{InConcatenated}
 use Rattle.lc_constructions.specs.Refusals.{length_refusals, hamming_refusals, reed_muller_refusals, extended_refusals, deleted_refusals, even_weight_refusals, direct_sum_refusals, uuv_refusals, direct_product_refusals, intersection_refusals, concatenated_refusals}
 use Rattle.lc_language.specs.Calls as bound
-use Rattle.lc_language.specs.Value.{number}
+use Rattle.lc_language.specs.Value.{number, truth}
+use Rattle.lc_language.specs.Relations.{InUnion}
 use Rattle.lc_language.specs.Calls.{refusals_of}
 use Rattle.lc_eval.specs.Value.{value_of}
 use Rattle.lc_eval.proofs.AnswerLaws.{made_applies, never_refused}
@@ -139,3 +140,28 @@ formed-requires-clause-few c = bch_few c.in-BchCode.field.now c.in-BchCode.n c.i
 
 pub formed-requires-in-ReedSolomonCode-clause-few : goal.formed-requires-in-ReedSolomonCode-clause-few
 formed-requires-in-ReedSolomonCode-clause-few c = reed_solomon_few c.in-ReedSolomonCode.n c.in-ReedSolomonCode.d c.reed_solomon.result c.reed_solomon.ensures.refused c.reed_solomon.ensures.size c.reed_solomon.ensures.form
+
+pub returns-in-IsSelfOrthogonalCode : goal.returns-in-IsSelfOrthogonalCode
+unfolding refusals_of
+returns-in-IsSelfOrthogonalCode c =
+    let t = c.is_self_orthogonal.result in
+    rw c.in-IsSelfOrthogonalCode.is (never_refused c.args.place (bound.is_self_orthogonal_code c.in-IsSelfOrthogonalCode.code.now) (truth t) refl (λ n. n) (t, refl, c.is_self_orthogonal.ensures.is))
+
+pub returns-in_ok-is_self_dual-in-IsSelfDualCode : goal.returns-in_ok-is_self_dual-in-IsSelfDualCode
+unfolding refusals_of
+returns-in_ok-is_self_dual-in-IsSelfDualCode c =
+    let t = c.in_ok-is_self_dual-in-IsSelfDualCode.field-0 in
+    rw c.in-IsSelfDualCode.is (never_refused c.args.place (bound.is_self_dual_code c.in-IsSelfDualCode.code.now) (truth t) refl (λ n. n) (t, refl, c.in_ok-is_self_dual-in-IsSelfDualCode.ensures.is))
+
+pub returns-in_ok-is_cyclic-in-IsCyclicCode : goal.returns-in_ok-is_cyclic-in-IsCyclicCode
+unfolding refusals_of
+returns-in_ok-is_cyclic-in-IsCyclicCode c =
+    let t = c.in_ok-is_cyclic-in-IsCyclicCode.field-0 in
+    rw c.in-IsCyclicCode.is (never_refused c.args.place (bound.is_cyclic_code c.in-IsCyclicCode.code.now) (truth t) refl (λ n. n) (t, refl, c.in_ok-is_cyclic-in-IsCyclicCode.ensures.is))
+
+pub returns-in-UnionCode : goal.returns-in-UnionCode
+unfolding refusals_of
+returns-in-UnionCode c =
+    let C = c.in-UnionCode.a.now in
+    let D = c.in-UnionCode.b.now in
+    rw c.in-UnionCode.is (made_applies c.args.place (bound.union_code C D) (intersection_refusals C D) C.field C.columns (InUnion C D) c.union_of.result c.made-in-UnionCode.result refl (λ n. n) (λ v h. h) c.union_of.ensures.code c.union_of.ensures.refused c.made-in-UnionCode.ensures.is)

@@ -1,0 +1,169 @@
+//! What calls on words, on a code and a word, and on two codes give.
+ghost use Rattle.lc_language.specs.Calls as bound;
+ghost use Rattle.lc_language.specs.Value as language;
+ghost use Rattle.lc_language.specs.Evaluation.{AppliesTo};
+ghost use Rattle.lc_eval.specs.Applied.{Answers};
+ghost use Rattle.lc_eval.specs.Made.{IsMadeAs};
+ghost use Rattle.lc_eval.specs.Value.{rows_of};
+
+use crate::decoding::{checked, word_value};
+use crate::made::made;
+use crate::refusals::{NOT_A_CODEWORD, Stop, fault, refused_as};
+use crate::rows::{word_of, words_of};
+use crate::values::Value;
+use lc_code::{Code, CodeRefusal};
+use lc_field::Field;
+use lc_vec::Word;
+use std::alloc::Global;
+
+// A truth value, or the refusal of its arguments at this offset.
+fn truth(alloc: Global, place: usize, answer: Result<bool, CodeRefusal>) -> Result<Value, Stop>
+    ensures is { IsMadeAs language.truth answer place result }
+{
+    match answer {
+        Ok(holds) => Ok(Value::Truth(holds)),
+        Err(refusal) => Err(refused_as(alloc, place, refusal)),
+    }
+}
+
+// A number, or the refusal of its arguments at this offset.
+fn number(alloc: Global, place: usize, answer: Result<usize, CodeRefusal>) -> Result<Value, Stop>
+    ensures is { IsMadeAs language.number answer place result }
+{
+    match answer {
+        Ok(number) => Ok(Value::Number(number as u64)),
+        Err(refusal) => Err(refused_as(alloc, place, refusal)),
+    }
+}
+
+// A word, or the refusal of its arguments at this offset.
+fn made_word(alloc: Global, place: usize, word: Result<Word, CodeRefusal>) -> Result<Value, Stop>
+    ensures is { IsMadeAs language.numbers word place result }
+{
+    match word {
+        Ok(word) => Ok(word_value(alloc, word.symbols())?),
+        Err(refusal) => Err(refused_as(alloc, place, refusal)),
+    }
+}
+
+/// The syndrome of a list of symbols.
+pub(crate) fn syndrome(
+    alloc: Global,
+    place: usize,
+    code: &Code,
+    list: &[u64],
+) -> Result<Value, Stop>
+    ensures { Answers result (AppliesTo place (bound.syndrome_of code.now list.now)) }
+{
+    let word = checked(alloc, place, code, list)?;
+    let dots = lc_relations::syndrome(alloc, code, word.symbols())?;
+    Ok(word_value(alloc, dots.symbols())?)
+}
+
+/// Whether each word of the first code is one of the second.
+pub(crate) fn is_subcode(alloc: Global, place: usize, a: &Code, b: &Code) -> Result<Value, Stop>
+    ensures { Answers result (AppliesTo place (bound.is_subcode a.now b.now)) }
+{
+    truth(alloc, place, lc_relations::is_subcode(alloc, a, b))
+}
+
+/// Whether two codes have the same words.
+pub(crate) fn is_same_code(alloc: Global, place: usize, a: &Code, b: &Code) -> Result<Value, Stop>
+    ensures { Answers result (AppliesTo place (bound.is_same_code a.now b.now)) }
+{
+    truth(alloc, place, lc_relations::is_same_code(a, b))
+}
+
+/// The sum of two lists of symbols.
+pub(crate) fn add_words(
+    alloc: Global,
+    place: usize,
+    x: &[u64],
+    y: &[u64],
+    field: &Field,
+) -> Result<Value, Stop>
+    ensures { Answers result (AppliesTo place (bound.add_words x.now y.now field.now)) }
+{
+    let u = word_of(alloc, x)?;
+    let v = word_of(alloc, y)?;
+    made_word(
+        alloc,
+        place,
+        lc_relations::add_words(alloc, field, u.symbols(), v.symbols()),
+    )
+}
+
+/// The multiple of a list of symbols by an element.
+pub(crate) fn scale_word(
+    alloc: Global,
+    place: usize,
+    c: u64,
+    x: &[u64],
+    field: &Field,
+) -> Result<Value, Stop>
+    ensures { Answers result (AppliesTo place (bound.scale_word c x.now field.now)) }
+{
+    let u = word_of(alloc, x)?;
+    let element = c.min(255) as u8;
+    made_word(
+        alloc,
+        place,
+        lc_relations::scale_word(alloc, field, element, u.symbols()),
+    )
+}
+
+/// The number of coordinates in which two lists differ.
+pub(crate) fn distance_codeword(
+    alloc: Global,
+    place: usize,
+    x: &[u64],
+    y: &[u64],
+) -> Result<Value, Stop>
+    ensures { Answers result (AppliesTo place (bound.distance_codeword x.now y.now)) }
+{
+    number(alloc, place, lc_relations::hamming_distance(x, y))
+}
+
+/// The codeword of a list of symbols, its message.
+pub(crate) fn encode(alloc: Global, place: usize, code: &Code, list: &[u64]) -> Result<Value, Stop>
+    ensures { Answers result (AppliesTo place (bound.encode code.now list.now)) }
+{
+    let _field = code.field();
+    let message = word_of(alloc, list)?;
+    made_word(
+        alloc,
+        place,
+        lc_relations::encode(alloc, code, message.symbols()),
+    )
+}
+
+/// The message of a codeword.
+pub(crate) fn information_word(
+    alloc: Global,
+    place: usize,
+    code: &Code,
+    list: &[u64],
+) -> Result<Value, Stop>
+    ensures { Answers result (AppliesTo place (bound.information_word code.now list.now)) }
+{
+    let word = checked(alloc, place, code, list)?;
+    match lc_relations::message_of(alloc, code, word.symbols())? {
+        Some(message) => Ok(word_value(alloc, message.symbols())?),
+        None => Err(Stop::Refused(fault(alloc, NOT_A_CODEWORD, place))),
+    }
+}
+
+/// A code with further rows.
+#[tactic(auto, using(crate::proofs::RelationLaws::augmented_applies))]
+pub(crate) fn augmented_code(
+    alloc: Global,
+    place: usize,
+    code: &Code,
+    rows: &[Vec<u64>],
+) -> Result<Value, Stop>
+    ensures { Answers result (AppliesTo place (bound.augmented_code code.now (rows_of rows.now))) }
+{
+    let _field = code.field();
+    let words = words_of(alloc, rows)?;
+    made(alloc, place, lc_relations::augmented(alloc, code, &words))
+}

@@ -1,0 +1,9 @@
+pub mod RowLaws
+pub mod RefusalLaws
+pub mod ComparisonLaws
+pub mod StructureLaws
+pub mod EncodingLaws
+pub mod SumLaws
+pub mod CosetLaws
+pub mod DistanceLaws
+pub mod UnionLaws
