@@ -12,7 +12,9 @@ use std::alloc::Global;
 // The name and the value of an argument: what comes before its first `=`, and what comes after it. None if it has none.
 #[tactic(auto, using(crate::proofs::TextLaws::split_told))]
 fn parts_of(argument: &str) -> Option<(&str, &str)>
-    ensures { MatchOption result ((list_any is_equals argument.now ≡ false) × (name_of argument.now ≡ argument.now)) (λ x. (list_any is_equals argument.now ≡ true) × (x.0.now ≡ name_of argument.now) × (x.1.now ≡ after_first is_equals argument.now)) }
+    ensures { MatchOption result ((list_any is_equals argument.now ≡ false) × (name_of argument.now ≡ argument.now))
+        (λ x. (list_any is_equals argument.now ≡ true) × (x.0.now ≡ name_of argument.now)
+        × (x.1.now ≡ after_first is_equals argument.now)) }
 {
     argument.split_once('=')
 }
@@ -80,7 +82,8 @@ fn with_argument(
     argument: &str,
 ) -> Option<Settings>
     requires { IsCourse (command_for command) (words_of before.now) asked }
-    ensures { MatchOption result (IsRefusedAfter (command_for command) (words_of before.now) argument.now) (λ next. IsCourse (command_for command) (words_of before.now ++ argument.now ∷ []) next) }
+    ensures { MatchOption result (IsRefusedAfter (command_for command) (words_of before.now) argument.now)
+        (λ next. IsCourse (command_for command) (words_of before.now ++ argument.now ∷ []) next) }
 {
     let Some((name, value)) = parts_of(argument) else {
         return None;
@@ -97,8 +100,10 @@ fn with_argument(
 // What is asked for in the end, unless a slice comes without keep=yes or a summary without a seed.
 fn checked(asked: Settings, arguments: &[String]) -> Result<Settings, usize>
     requires { IsCourse (command_for asked.command) (words_of arguments.now) asked }
-    ensures { MatchResult result (λ a. (options_from (keys_of (command_for asked.command)) (words_of arguments.now) [] (settings_of (command_for asked.command)) ≡ settings (settings_for a)) × IsWithin a)
-        (λ i. options_from (keys_of (command_for asked.command)) (words_of arguments.now) [] (settings_of (command_for asked.command)) ≡ usage i) }
+    ensures { MatchResult result (λ a. (options_from (keys_of (command_for asked.command)) (words_of arguments.now) []
+        (settings_of (command_for asked.command)) ≡ settings (settings_for a)) × IsWithin a)
+        (λ i. options_from (keys_of (command_for asked.command)) (words_of arguments.now) []
+        (settings_of (command_for asked.command)) ≡ usage i) }
 {
     if let Some(place) = place_of(arguments, Key::Slice) {
         return if asked.keep { Ok(asked) } else { Err(place) };
@@ -114,8 +119,10 @@ fn checked(asked: Settings, arguments: &[String]) -> Result<Settings, usize>
 
 // What the arguments after the command ask for, or the index of the one that is refused, counted from the command.
 fn settings_in(command: Command, arguments: &[String]) -> Result<Settings, usize>
-    ensures { MatchResult result (λ a. (options_from (keys_of (command_for command)) (words_of arguments.now) [] (settings_of (command_for command)) ≡ settings (settings_for a)) × IsWithin a)
-        (λ i. options_from (keys_of (command_for command)) (words_of arguments.now) [] (settings_of (command_for command)) ≡ usage i) }
+    ensures { MatchResult result (λ a. (options_from (keys_of (command_for command)) (words_of arguments.now) []
+        (settings_of (command_for command)) ≡ settings (settings_for a)) × IsWithin a)
+        (λ i. options_from (keys_of (command_for command)) (words_of arguments.now) []
+        (settings_of (command_for command)) ≡ usage i) }
 {
     let mut asked = Settings {
         command,
@@ -137,8 +144,8 @@ fn settings_in(command: Command, arguments: &[String]) -> Result<Settings, usize
 
 // What the arguments of the command line ask for, or the index of the one that is refused.
 fn settings_by(words: &[String]) -> Result<Settings, usize>
-    ensures { MatchResult result (λ a. (options all_options (words_of words.now) ≡ settings (settings_for a)) × IsWithin a)
-        (λ i. options all_options (words_of words.now) ≡ usage i) }
+    ensures { MatchResult result (λ a. (options all_options (words_of words.now) ≡ settings (settings_for a))
+        × IsWithin a) (λ i. options all_options (words_of words.now) ≡ usage i) }
 {
     let Some((first, others)) = words.split_first() else {
         return Err(0);
@@ -157,8 +164,8 @@ fn settings_by(words: &[String]) -> Result<Settings, usize>
 /// Refused with the index of the first argument that is wrong, or that would have to be there. It takes no memory, so it is
 /// never refused for want of it.
 pub fn options(_alloc: Global, words: &[String]) -> Result<Settings, OptionRefusal>
-    ensures { MatchResult result (λ a. (options all_options (words_of words.now) ≡ settings (settings_for a)) × IsWithin a)
-        (λ r. Refuses r (options all_options (words_of words.now))) }
+    ensures { MatchResult result (λ a. (options all_options (words_of words.now) ≡ settings (settings_for a))
+        × IsWithin a) (λ r. Refuses r (options all_options (words_of words.now))) }
 {
     match settings_by(words) {
         Ok(settings) => Ok(settings),

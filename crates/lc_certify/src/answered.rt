@@ -26,7 +26,9 @@ pub fn exact_line(
     place: u64,
 ) -> Result<Vec<u8>, NoMemory>
     requires word { HasWord search.now.code (record { weight = weight; place = place }) }
-    ensures is { IfOk result (λ line. line.items ≡ certificate_answer_line (kind_of way) search.now.code (exact (record { weight = weight; place = place }) search.now.progress.blocks)) }
+    ensures is { IfOk result (λ line. line.items
+        ≡ certificate_answer_line (kind_of way) search.now.code
+        (exact (record { weight = weight; place = place }) search.now.progress.blocks)) }
 {
     let _rows = search.sets().dimension();
     let word = search.word(alloc, place)?;

@@ -58,9 +58,11 @@ pub fn certificate_of(
 ) -> Result<Certificate, NoMemory>
     requires word { IsWord search.now.code.field search.now.code.columns word }
     requires positive { 1 ≤ weight }
-    ensures is { IfOk result (λ c. seen_certificate c ≡ certificate_of (kind_of way) search.now.code word weight search.now.progress.blocks) }
+    ensures is { IfOk result (λ c. seen_certificate c
+        ≡ certificate_of (kind_of way) search.now.code word weight search.now.progress.blocks) }
     ensures shaped { IfOk result (λ c. IsShaped (seen_certificate c)) }
-    ensures valid { IfOk result (λ c. IsExactAt search.now.code word weight search.now.progress.blocks → cost (seen_certificate c) ≤ 2 ^ 32 → IsValid (seen_certificate c)) }
+    ensures valid { IfOk result (λ c. IsExactAt search.now.code word weight search.now.progress.blocks →
+        cost (seen_certificate c) ≤ 2 ^ 32 → IsValid (seen_certificate c)) }
 {
     let sets = search.sets();
     let _some = sets.dimension();

@@ -40,7 +40,8 @@ fn claim_at(alloc: Global, search: &Search, j: usize) -> Result<SetClaim, NoMemo
 /// All sets of the code, each with the last level of it that is done.
 #[tactic(auto, using(crate::proofs::ClaimLaws::claims_none, crate::proofs::ClaimLaws::claims_more))]
 pub(crate) fn claims_of(alloc: Global, search: &Search) -> Result<Vec<SetClaim>, NoMemory>
-    ensures are { IfOk result (λ v. map claim_of v.items ≡ map (claim_at search.now.code search.now.progress.blocks) (below (set_count search.now.code))) }
+    ensures are { IfOk result (λ v. map claim_of v.items
+        ≡ map (claim_at search.now.code search.now.progress.blocks) (below (set_count search.now.code))) }
 {
     let many = search.sets().count();
     let mut claims = Vec::with_capacity(alloc, many)?;

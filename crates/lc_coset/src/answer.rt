@@ -224,7 +224,8 @@ impl Ending {
 fn ends_by(_frame: &Frame, phase: CosetPhase, last: u64) -> bool
     requires phase { IsPhaseOf _frame.now phase }
     requires last { (phase.first ≤ last) × (last < 2 ^ 40) }
-    ensures is { result ≡ nat_le (coset_blocks_before (length _frame.now.sets.rows) (size _frame.now.sets.field) (set_count _frame.now.sets) (suc phase.number)) last }
+    ensures is { result ≡ nat_le (coset_blocks_before (length _frame.now.sets.rows) (size _frame.now.sets.field)
+        (set_count _frame.now.sets) (suc phase.number)) last }
 {
     (phase.patterns + 4095) / 4096 <= last - phase.first
 }
@@ -233,11 +234,14 @@ fn ends_by(_frame: &Frame, phase: CosetPhase, last: u64) -> bool
 fn phase_of(frame: &Frame, number: usize, first: u64, budget: u64) -> CosetPhase
     requires frame { IsFrame frame.now }
     requires one { number < coset_phases (length frame.now.sets.rows) (set_count frame.now.sets) }
-    requires first { first ≡ coset_blocks_before (length frame.now.sets.rows) (size frame.now.sets.field) (set_count frame.now.sets) number }
+    requires first { first ≡ coset_blocks_before (length frame.now.sets.rows) (size frame.now.sets.field)
+        (set_count frame.now.sets) number }
     requires budget { (first ≤ budget) × (budget ≤ 2 ^ 40) }
     ensures phase { IsPhaseOf frame.now result }
     ensures number { (result.number ≡ number) × (result.first ≡ first) }
-    ensures blocks { first + result.blocks ≡ min budget (coset_blocks_before (length frame.now.sets.rows) (size frame.now.sets.field) (set_count frame.now.sets) (suc number)) }
+    ensures blocks { first + result.blocks ≡ min budget
+        (coset_blocks_before (length frame.now.sets.rows) (size frame.now.sets.field) (set_count frame.now.sets)
+        (suc number)) }
 {
     let _some = frame.sets.dimension();
     let m = frame.sets.count();
@@ -266,7 +270,8 @@ fn search<R: Threads + Sync>(
     requires state { IsStateAt frame.now 0 state.old }
     requires budget { budget ≤ 2 ^ 40 }
     requires workers { (1 ≤ workers) × (workers ≤ 256) }
-    ensures is { IfOk result (λ e. ending_near e.exact e.low e.blocks state.new.best ≡ near_answer frame.now.sets frame.now.word budget) }
+    ensures is { IfOk result (λ e. ending_near e.exact e.low e.blocks state.new.best
+        ≡ near_answer frame.now.sets frame.now.word budget) }
 {
     let _many = frame.sets.dimension();
     let last = budget.min(CUT - 1);

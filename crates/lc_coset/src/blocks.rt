@@ -98,7 +98,8 @@ fn value_of_block(
     requires fits { IsFitting frame.now phase led.now desk.old }
     requires block { block < phase.blocks }
     ensures fits { IsFitting frame.now phase led.now desk.new }
-    ensures is { option_map board_value (least_in (near_in_block frame.now.sets frame.now.word (phase.first + block))) ≡ Some result }
+    ensures is { option_map board_value (least_in (near_in_block frame.now.sets frame.now.word (phase.first + block)))
+        ≡ Some result }
 {
     if let Some(led) = led {
         if let Some(scratch) = &mut desk.scratch {
@@ -118,7 +119,8 @@ pub(crate) fn least_of(frame: &Frame, phase: CosetPhase, block: u64, room: &mut 
     requires block { block < phase.blocks }
     requires room { IsRoomOf frame.now.sets room.old }
     ensures room { IsRoomOf frame.now.sets room.new }
-    ensures is { option_map board_value (least_in (near_in_block frame.now.sets frame.now.word (phase.first + block))) ≡ Some result }
+    ensures is { option_map board_value (least_in (near_in_block frame.now.sets frame.now.word (phase.first + block)))
+        ≡ Some result }
 {
     let (sets, plan, left) = (&frame.sets, &frame.plan, &frame.lefts[phase.set]);
     let rank = block * 4096;

@@ -12,8 +12,11 @@ use lc_infoset::Sets;
 /// The phase begins below block 2^40.
 pub(crate) fn bound_at(sets: &Sets, phase: usize) -> u64
     requires inside { phase ≤ coset_phases (length sets.now.rows) (set_count sets.now) }
-    requires uncut { coset_blocks_before (length sets.now.rows) (size sets.now.field) (set_count sets.now) phase < 2 ^ 40 }
-    ensures is { result ≡ near_sum (length sets.now.rows) (ranks_of sets.now) (levels_done sets.now (coset_blocks_before (length sets.now.rows) (size sets.now.field) (set_count sets.now) phase)) }
+    requires uncut { coset_blocks_before (length sets.now.rows) (size sets.now.field)
+        (set_count sets.now) phase < 2 ^ 40 }
+    ensures is { result ≡ near_sum (length sets.now.rows) (ranks_of sets.now)
+        (levels_done sets.now (coset_blocks_before (length sets.now.rows) (size sets.now.field)
+        (set_count sets.now) phase)) }
 {
     let _long = sets.length();
     let _many = sets.dimension();
@@ -28,7 +31,8 @@ pub(crate) fn bound_at(sets: &Sets, phase: usize) -> u64
 fn bound_on(sets: &Sets, phase: usize, j: usize) -> u64
     requires set { j < set_count sets.now }
     requires few { phase < 2 ^ 17 }
-    ensures is { result ≡ (phase + (set_count sets.now - 1 - j)) / set_count sets.now - (length sets.now.rows - length (set_at sets.now j).fresh) }
+    ensures is { result ≡ (phase + (set_count sets.now - 1 - j)) / set_count sets.now -
+        (length sets.now.rows - length (set_at sets.now j).fresh) }
     ensures few { result < 2 ^ 18 }
 {
     let _long = sets.length();

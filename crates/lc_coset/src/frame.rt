@@ -67,7 +67,8 @@ fn add_first(sets: &Sets, word: &[u8], j: usize, first: &mut [u8])
     requires set { j < set_count sets.now }
     requires word { IsWord sets.now.field sets.now.columns word.now }
     requires zero { first.old ≡ zero_word sets.now.columns }
-    ensures is { first.new ≡ combine sets.now.field sets.now.columns (restrict (set_at sets.now j).basis word.now) (generator_at sets.now j) }
+    ensures is { first.new ≡ combine sets.now.field sets.now.columns (restrict (set_at sets.now j).basis word.now)
+        (generator_at sets.now j) }
 {
     let basis = sets.basis(j);
     let mut i = sets.dimension();

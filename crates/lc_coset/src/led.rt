@@ -113,7 +113,8 @@ fn has_set(alloc: Global, led: &Sets, sets: &Sets, left: &Word, j: usize) -> Res
     requires larger { length led.now.rows ≡ length sets.now.rows + 1 }
     requires set { j < set_count sets.now }
     requires led_set { j < set_count led.now }
-    ensures so { IfOk result (λ b. IsTrue b → generator_at led.now j ≡ led_rows (set_count sets.now) left.now (generator_at sets.now j)) }
+    ensures so { IfOk result (λ b. IsTrue b → generator_at led.now j
+        ≡ led_rows (set_count sets.now) left.now (generator_at sets.now j)) }
 {
     let _code = sets.dimension();
     let _larger = led.dimension();
@@ -234,7 +235,8 @@ pub(crate) fn least_led(
     requires whole { HasBlock led.now phase block }
     requires scratch { scratch.old ≡ led.now.sets }
     ensures scratch { scratch.new ≡ scratch.old }
-    ensures is { option_map board_value (least_in (near_in_block frame.now.sets frame.now.word (phase.first + block))) ≡ Some result }
+    ensures is { option_map board_value (least_in (near_in_block frame.now.sets frame.now.word (phase.first + block)))
+        ≡ Some result }
 {
     let count = frame.sets.count() as u64;
     let at = led.starts[phase.number] + block;

@@ -84,7 +84,10 @@ fn extend(sets: &Sets, left: &Word, j: usize, spot: &Spot, sums: &mut [Word], i:
     requires many { i + 1 < length sums.old }
     requires word { IsWord sets.now.field sets.now.columns (slice_index_or sums.old i []) }
     requires long { length (slice_index_or sums.old (i + 1) []) ≡ sets.now.columns }
-    ensures is { sums.new ≡ set sums.old (i + 1) (word_sum sets.now.field (slice_index_or sums.old i []) (scale sets.now.field (slice_index spot.now.coefficients i) (slice_index_or (left.now ∷ generator_at sets.now j) (slice_index spot.now.support i) []))) }
+    ensures is { sums.new ≡ set sums.old (i + 1)
+        (word_sum sets.now.field (slice_index_or sums.old i [])
+        (scale sets.now.field (slice_index spot.now.coefficients i)
+        (slice_index_or (left.now ∷ generator_at sets.now j) (slice_index spot.now.support i) []))) }
 {
     let row = row_of(sets, left, j, spot.support()[i]);
     let c = spot.coefficients()[i];
@@ -104,7 +107,8 @@ fn refresh(
 )
     requires set { set < set_count sets.now }
     requires left { IsWord sets.now.field sets.now.columns left.now }
-    requires message { Contains (messages (suc (length sets.now.rows)) (size sets.now.field) (length spot.now.support)) (spot_message spot.now) }
+    requires message { Contains (messages (suc (length sets.now.rows)) (size sets.now.field) (length spot.now.support))
+        (spot_message spot.now) }
     requires walk { IsWalk (walk_matrix sets.now left.now set) spot.now from sums.old }
     requires order { from ≤ to }
     requires inside { to ≤ length spot.now.support }

@@ -371,7 +371,8 @@ fn with_one<'a>(call: ValueCall, a: &'a Value) -> Option<BoundCall<'a>>
 // The call with two arguments.
 #[tactic(auto, unfolding(crate::proofs::Opened::bound_calls))]
 fn with_two<'a>(call: ValueCall, a: &'a Value, b: &'a Value) -> Option<BoundCall<'a>>
-    ensures { option_map ⟦<BoundCall<'static> as Means>⟧.meaning result ≡ language.bind call (value_of a.now ∷ value_of b.now ∷ []) }
+    ensures { option_map ⟦<BoundCall<'static> as Means>⟧.meaning result
+        ≡ language.bind call (value_of a.now ∷ value_of b.now ∷ []) }
 {
     match call {
         ValueCall::GeneratorMatCode => Some(BoundCall::GeneratorMatCode(a.lists()?, b.field()?)),
@@ -427,7 +428,8 @@ fn with_three<'a>(
     b: &'a Value,
     c: &'a Value,
 ) -> Option<BoundCall<'a>>
-    ensures { option_map ⟦<BoundCall<'static> as Means>⟧.meaning result ≡ language.bind call (value_of a.now ∷ value_of b.now ∷ value_of c.now ∷ []) }
+    ensures { option_map ⟦<BoundCall<'static> as Means>⟧.meaning result
+        ≡ language.bind call (value_of a.now ∷ value_of b.now ∷ value_of c.now ∷ []) }
 {
     match call {
         ValueCall::GeneratorPolCode => Some(BoundCall::GeneratorPolCode(
@@ -456,7 +458,8 @@ fn with_four<'a>(
     c: &'a Value,
     d: &'a Value,
 ) -> Option<BoundCall<'a>>
-    ensures { option_map ⟦<BoundCall<'static> as Means>⟧.meaning result ≡ language.bind call (value_of a.now ∷ value_of b.now ∷ value_of c.now ∷ value_of d.now ∷ []) }
+    ensures { option_map ⟦<BoundCall<'static> as Means>⟧.meaning result
+        ≡ language.bind call (value_of a.now ∷ value_of b.now ∷ value_of c.now ∷ value_of d.now ∷ []) }
 {
     match call {
         ValueCall::GoppaCode => Some(BoundCall::GoppaCode(
@@ -485,7 +488,8 @@ fn with_five<'a>(
     d: &'a Value,
     e: &'a Value,
 ) -> Option<BoundCall<'a>>
-    ensures { option_map ⟦<BoundCall<'static> as Means>⟧.meaning result ≡ language.bind call (value_of a.now ∷ value_of b.now ∷ value_of c.now ∷ value_of d.now ∷ value_of e.now ∷ []) }
+    ensures { option_map ⟦<BoundCall<'static> as Means>⟧.meaning result
+        ≡ language.bind call (value_of a.now ∷ value_of b.now ∷ value_of c.now ∷ value_of d.now ∷ value_of e.now ∷ []) }
 {
     match call {
         ValueCall::AlternantCode => Some(BoundCall::AlternantCode(
@@ -593,7 +597,8 @@ pub(crate) fn apply(
 /// The query with these arguments; None if they are not of its kinds.
 #[tactic(auto, unfolding(crate::proofs::Opened::bound_queries))]
 pub(crate) fn bind_query(call: QueryCall, arguments: &[Value]) -> Option<BoundQuery<'_>>
-    ensures { option_map ⟦<BoundQuery<'static> as Asks>⟧.asked result ≡ language.bind_query (query_call_of call) (values_of arguments.now) }
+    ensures { option_map ⟦<BoundQuery<'static> as Asks>⟧.asked result
+        ≡ language.bind_query (query_call_of call) (values_of arguments.now) }
 {
     match call {
         QueryCall::AlgebraicDecode => {

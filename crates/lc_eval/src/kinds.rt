@@ -49,7 +49,8 @@ pub(crate) fn misfit(
     arguments: &[Expr],
     values: &[Value],
 ) -> Stop
-    ensures { IsStop result (refuse_at 45 (evaluation.misfit_place place kinds.now (trees_of arguments.now) (values_of values.now))) }
+    ensures { IsStop result (refuse_at 45 (evaluation.misfit_place place kinds.now (trees_of arguments.now)
+        (values_of values.now))) }
 {
     let first = first_misfit(kinds, arguments, values).unwrap_or(place);
     Stop::Refused(fault(alloc, MISFIT, first))

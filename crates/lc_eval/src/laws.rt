@@ -14,11 +14,17 @@ ghost use Rattle.lc_eval.specs.Names.{IsBound};
 /// argument has an offset, which is that of the fault.
 #[tactic(auto, using(crate::proofs::MisfitLaws::misfits_are_arguments_laws))]
 pub fn misfits_are_arguments()
-    ensures calls { (c : ValueCall) (es : Exprs) (vs : List Value) (kinds : List Kind) → signature_for (call.Value c) (count_of es) ≡ Some kinds → count_of es ≡ length vs → (bind c vs ≡ None) ↔ ((place : ℕ) × (first_misfit kinds es vs ≡ Some place)) }
-    ensures queries { (c : QueryCall) (es : Exprs) (vs : List Value) (kinds : List Kind) → signature_for (call.Query c) (count_of es) ≡ Some kinds → count_of es ≡ length vs → (bind_query c vs ≡ None) ↔ ((place : ℕ) × (first_misfit kinds es vs ≡ Some place)) }
+    ensures calls { (c : ValueCall) (es : Exprs) (vs : List Value) (kinds : List Kind) →
+        signature_for (call.Value c) (count_of es) ≡ Some kinds → count_of es ≡ length vs →
+        (bind c vs ≡ None) ↔ ((place : ℕ) × (first_misfit kinds es vs ≡ Some place)) }
+    ensures queries { (c : QueryCall) (es : Exprs) (vs : List Value) (kinds : List Kind) →
+        signature_for (call.Query c) (count_of es) ≡ Some kinds → count_of es ≡ length vs →
+        (bind_query c vs ≡ None) ↔ ((place : ℕ) × (first_misfit kinds es vs ≡ Some place)) }
 {}
 
 /// After an assignment its name has the new value, every other name has the value that it had, and a name that had none has none.
 pub fn names_after_an_assignment()
-    ensures { (b : Binding) (old new : List Binding) → IsBound b old new ↔ ((value_named b.name new ≡ Some b.value) × ((x : List ℕ) → x ≢ b.name → value_named x new ≡ value_named x old)) }
+    ensures { (b : Binding) (old new : List Binding) →
+        IsBound b old new ↔ ((value_named b.name new ≡ Some b.value)
+        × ((x : List ℕ) → x ≢ b.name → value_named x new ≡ value_named x old)) }
 {}

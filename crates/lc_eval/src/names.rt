@@ -46,7 +46,8 @@ impl Names {
 
     /// Assigns a value to a name; the one that it had is freed. If no memory is left the names are as before.
     pub(crate) fn bind(&mut self, name: String, value: Value) -> Result<(), NoMemory>
-        ensures bound { IfOk result (λ _. IsBound (record { name = string_bytes name; value = value_of value }) self.old self.new) }
+        ensures bound { IfOk result (λ _. IsBound (record { name = string_bytes name; value = value_of value }) self.old
+            self.new) }
         ensures kept { IfErr result (λ _. self.new ≡ self.old) }
     {
         self.values.insert(name, value)?;

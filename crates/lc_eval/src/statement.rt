@@ -118,7 +118,8 @@ fn ask(
     arguments: &[Expr],
 ) -> Result<Effect, Stop>
     requires row { IsAsked row.now call }
-    ensures { (x : List ℕ) → AffectsOrFails result (StepsAsQuery built_calls names.now (query_call_of call) (tree.call place x (trees_of arguments.now))) }
+    ensures { (x : List ℕ) → AffectsOrFails result
+        (StepsAsQuery built_calls names.now (query_call_of call) (tree.call place x (trees_of arguments.now))) }
 {
     let Some(kinds) = row.kinds(arguments.len()) else {
         return Err(Stop::Refused(fault(alloc, WRONG_COUNT, place)));

@@ -77,7 +77,8 @@ pub fn code_line(alloc: Global, n: usize, k: usize, q: u64) -> Result<Vec<u8>, N
 
 // The two bounds of a distance.
 fn push_bounds(text: &mut Vec<u8>, low: u64, high: u64) -> Result<(), NoMemory>
-    ensures { OnOk result (text.new.items ≡ text.old.items ++ codes " between " ++ decimal low ++ codes " and " ++ decimal high) }
+    ensures { OnOk result (text.new.items ≡ text.old.items ++ codes " between " ++ decimal low ++ codes " and " ++
+        decimal high) }
 {
     push_text(text, b" between ")?;
     push_number(text, low)?;
@@ -195,7 +196,8 @@ pub fn certificate_none_line(alloc: Global) -> Result<Vec<u8>, NoMemory>
 /// What a query for a certificate prints of bounds, if the search ended before the answer was known:
 /// `certificate none between 1 and 3`.
 pub fn certificate_bracket_line(alloc: Global, low: u64, high: u64) -> Result<Vec<u8>, NoMemory>
-    ensures { IfOk result (λ v. v.items ≡ line (codes "certificate none between " ++ decimal low ++ codes " and " ++ decimal high)) }
+    ensures { IfOk result (λ v. v.items ≡ line
+        (codes "certificate none between " ++ decimal low ++ codes " and " ++ decimal high)) }
 {
     let mut text = Vec::new(alloc);
     push_text(&mut text, b"certificate none")?;

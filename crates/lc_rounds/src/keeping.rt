@@ -50,9 +50,11 @@ pub(crate) fn keep_point<V: Vault>(
     point: &Checkpoint,
 ) -> Result<(), Unkept>
     requires writable { IsWritable (point_of point.now) }
-    ensures kept { OnOk result (PutsIf keep (slot_of point.now.turn) (checkpoint_text (point_of point.now)) (V.contents vault.old) (V.contents vault.new)) }
+    ensures kept { OnOk result (PutsIf keep (slot_of point.now.turn) (checkpoint_text (point_of point.now))
+        (V.contents vault.old) (V.contents vault.new)) }
     ensures quiet { OnOk result (V.faults vault.new ≡ V.faults vault.old) }
-    ensures unkept { IfErr result (λ e. PutFails keep (slot_of point.now.turn) (V.contents vault.old) (V.contents vault.new) (V.faults vault.old) (V.faults vault.new) e) }
+    ensures unkept { IfErr result (λ e. PutFails keep (slot_of point.now.turn) (V.contents vault.old)
+        (V.contents vault.new) (V.faults vault.old) (V.faults vault.new) e) }
     ensures idle { keep ≡ false → IsOk result }
 {
     if !keep {

@@ -91,10 +91,12 @@ fn pass_over(alloc: Global, course: &mut Course, code: &Code) -> Result<Answered
     requires rows { 0 < length code.now.rows }
     requires ranged { IsRanged course.old }
     requires settled { course.old.met < length course.old.pace.point.settled.items }
-    ensures goes { (w : World) (needs : List Matrix) (answers : List enumeration.Answer) (now : Around) → IsNext w needs code.now answers course.old now → MatchResult result
-        (λ x. Goes w (needs ++ code.now ∷ []) (answers ++ answer_of x.answer ∷ []) course.new now)
+    ensures goes { (w : World) (needs : List Matrix) (answers : List enumeration.Answer) (now : Around) →
+        IsNext w needs code.now answers course.old now →
+        MatchResult result (λ x. Goes w (needs ++ code.now ∷ []) (answers ++ answer_of x.answer ∷ []) course.new now)
         (λ halt. Halts w needs code.now course.new now halt) }
-    ensures answered { IfOk result (λ x. (x.search.code ≡ code.now) × (answer_in x.search ≡ Some (answer_of x.answer)) × (fits x.search.code x.search.progress.blocks (found_of x.search.progress) ≡ true)) }
+    ensures answered { IfOk result (λ x. (x.search.code ≡ code.now) × (answer_in x.search ≡ Some (answer_of x.answer))
+        × (fits x.search.code x.search.progress.blocks (found_of x.search.progress) ≡ true)) }
     ensures ranged { IfOk result (λ _. IsRanged course.new) }
     ensures same { IfOk result (λ _. course.new.met ≡ course.old.met + 1) }
 {
@@ -125,10 +127,18 @@ fn search_on<R: Threads + Sync, V: Vault, W: Watcher, G: Gate + Sync>(
     requires ranged { IsRanged course.old }
     requires few { course.old.met < 70000 }
     requires settled { length course.old.pace.point.settled.items ≡ course.old.met }
-    ensures goes { (w : World) (needs : List Matrix) (answers : List enumeration.Answer) → IsNext w needs code.now answers course.old (around (V.contents vault.old) (V.faults vault.old) (map (hearing W.heard W.coming W.pauses) watchers.old.items)) → MatchResult result
-        (λ x. Goes w (needs ++ code.now ∷ []) (answers ++ answer_of x.answer ∷ []) course.new (around (V.contents vault.new) (V.faults vault.new) (map (hearing W.heard W.coming W.pauses) watchers.new.items)))
-        (λ halt. Halts w needs code.now course.new (around (V.contents vault.new) (V.faults vault.new) (map (hearing W.heard W.coming W.pauses) watchers.new.items)) halt) }
-    ensures answered { IfOk result (λ x. (x.search.code ≡ code.now) × (answer_in x.search ≡ Some (answer_of x.answer)) × (fits x.search.code x.search.progress.blocks (found_of x.search.progress) ≡ true)) }
+    ensures goes { (w : World) (needs : List Matrix) (answers : List enumeration.Answer) →
+        IsNext w needs code.now answers course.old
+        (around (V.contents vault.old) (V.faults vault.old)
+        (map (hearing W.heard W.coming W.pauses) watchers.old.items)) →
+        MatchResult result (λ x. Goes w (needs ++ code.now ∷ []) (answers ++ answer_of x.answer ∷ []) course.new
+        (around (V.contents vault.new) (V.faults vault.new)
+        (map (hearing W.heard W.coming W.pauses) watchers.new.items)))
+        (λ halt. Halts w needs code.now course.new
+        (around (V.contents vault.new) (V.faults vault.new)
+        (map (hearing W.heard W.coming W.pauses) watchers.new.items)) halt) }
+    ensures answered { IfOk result (λ x. (x.search.code ≡ code.now) × (answer_in x.search ≡ Some (answer_of x.answer))
+        × (fits x.search.code x.search.progress.blocks (found_of x.search.progress) ≡ true)) }
     ensures ranged { IfOk result (λ _. IsRanged course.new) }
     ensures same { IfOk result (λ _. course.new.met ≡ course.old.met + 1) }
 {
@@ -177,10 +187,18 @@ pub fn answer_need<R: Threads + Sync, V: Vault, W: Watcher, G: Gate + Sync>(
     requires rows { 0 < length code.now.rows }
     requires ranged { IsRanged course.old }
     requires few { course.old.met < 70000 }
-    ensures goes { (w : World) (needs : List Matrix) (answers : List enumeration.Answer) → Goes w needs answers course.old (around (V.contents vault.old) (V.faults vault.old) (map (hearing W.heard W.coming W.pauses) watchers.old.items)) → MatchResult result
-        (λ x. Goes w (needs ++ code.now ∷ []) (answers ++ answer_of x.answer ∷ []) course.new (around (V.contents vault.new) (V.faults vault.new) (map (hearing W.heard W.coming W.pauses) watchers.new.items)))
-        (λ halt. Halts w needs code.now course.new (around (V.contents vault.new) (V.faults vault.new) (map (hearing W.heard W.coming W.pauses) watchers.new.items)) halt) }
-    ensures answered { IfOk result (λ x. (x.search.code ≡ code.now) × (answer_in x.search ≡ Some (answer_of x.answer)) × (fits x.search.code x.search.progress.blocks (found_of x.search.progress) ≡ true)) }
+    ensures goes { (w : World) (needs : List Matrix) (answers : List enumeration.Answer) →
+        Goes w needs answers course.old
+        (around (V.contents vault.old) (V.faults vault.old)
+        (map (hearing W.heard W.coming W.pauses) watchers.old.items)) →
+        MatchResult result (λ x. Goes w (needs ++ code.now ∷ []) (answers ++ answer_of x.answer ∷ []) course.new
+        (around (V.contents vault.new) (V.faults vault.new)
+        (map (hearing W.heard W.coming W.pauses) watchers.new.items)))
+        (λ halt. Halts w needs code.now course.new
+        (around (V.contents vault.new) (V.faults vault.new)
+        (map (hearing W.heard W.coming W.pauses) watchers.new.items)) halt) }
+    ensures answered { IfOk result (λ x. (x.search.code ≡ code.now) × (answer_in x.search ≡ Some (answer_of x.answer))
+        × (fits x.search.code x.search.progress.blocks (found_of x.search.progress) ≡ true)) }
     ensures ranged { IfOk result (λ _. IsRanged course.new) }
     ensures same { IfOk result (λ _. course.new.met ≡ course.old.met + 1) }
 {

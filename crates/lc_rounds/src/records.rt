@@ -43,7 +43,8 @@ pub(crate) fn passed(
     requires rows { 0 < length code.now.rows }
     requires budget { budget ≤ 2 ^ 40 }
     requires blocks { kept.blocks ≤ budget }
-    ensures { MatchResult result (λ x. IsPassed code.now budget (settled_of kept) x) (λ h. IsNotPassed code.now budget (settled_of kept) h) }
+    ensures { MatchResult result (λ x. IsPassed code.now budget (settled_of kept) x)
+        (λ h. IsNotPassed code.now budget (settled_of kept) h) }
 {
     let search = match Search::resume_at(
         alloc,
@@ -79,7 +80,8 @@ pub(crate) fn begun(
     requires rows { 0 < length code.now.rows }
     requires budget { budget ≤ 2 ^ 40 }
     requires blocks { IfSome current (λ r. r.blocks ≤ budget) }
-    ensures { MatchResult result (λ s. IsBegun code.now budget (option_map settled_of current) s) (λ h. IsNotBegun code.now (option_map settled_of current) h) }
+    ensures { MatchResult result (λ s. IsBegun code.now budget (option_map settled_of current) s)
+        (λ h. IsNotBegun code.now (option_map settled_of current) h) }
 {
     let Some(kept) = current else {
         return match Search::start(alloc, code, budget) {

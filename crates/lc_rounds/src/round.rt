@@ -91,7 +91,8 @@ pub(crate) fn do_round<R: Threads + Sync, G: Gate + Sync>(
     ensures search { IfOk result (λ _. search.new ≡ after_next pace.old search.old) }
     ensures further { IfOk result (λ _. search.old.progress.blocks < search.new.progress.blocks) }
     ensures progress { IfOk result (λ _. IsProgress search.old.budget (next_state pace.old search.old)) }
-    ensures fitting { IfOk result (λ _. fits search.new.code search.new.progress.blocks (found_of search.new.progress) ≡ true) }
+    ensures fitting { IfOk result (λ _. fits search.new.code search.new.progress.blocks (found_of search.new.progress)
+        ≡ true) }
     ensures record { IfOk result (λ r. r ≡ record_of (next_step pace.old search.old).note) }
     ensures pace { IfOk result (λ _. pace.new ≡ at_round pace.old search.old) }
     ensures no_memory { OnErr result ((search.new ≡ search.old) × (pace.new ≡ pace.old)) }

@@ -61,15 +61,21 @@ fn pass_round<R: Threads + Sync, V: Vault, W: Watcher, G: Gate + Sync>(
     requires few { length pace.old.point.settled.items < 70000 }
     requires settled { All (IsProgress search.old.budget) (map settled_of pace.old.point.settled.items) }
     requires room { pace.old.told + (search.old.budget - search.old.progress.blocks) < 2 ^ 64 }
-    ensures goes { (o : Origin) (told : List SessionStep)
-        → IsOnItsWay o told pace.old (around (V.contents vault.old) (V.faults vault.old) (map (hearing W.heard W.coming W.pauses) watchers.old.items))
-        → MatchResult result
-        (λ _. IsOnItsWay o (told ++ next_step pace.old search.old ∷ []) pace.new (around (V.contents vault.new) (V.faults vault.new) (map (hearing W.heard W.coming W.pauses) watchers.new.items)))
-        (λ stop. StopsAt o told (next_step pace.old search.old) pace.new (around (V.contents vault.new) (V.faults vault.new) (map (hearing W.heard W.coming W.pauses) watchers.new.items)) stop) }
+    ensures goes { (o : Origin) (told : List SessionStep) →
+        IsOnItsWay o told pace.old (around (V.contents vault.old) (V.faults vault.old)
+        (map (hearing W.heard W.coming W.pauses) watchers.old.items)) →
+        MatchResult result (λ _. IsOnItsWay o (told ++ next_step pace.old search.old ∷ []) pace.new
+        (around (V.contents vault.new) (V.faults vault.new)
+        (map (hearing W.heard W.coming W.pauses) watchers.new.items)))
+        (λ stop. StopsAt o told (next_step pace.old search.old) pace.new
+        (around (V.contents vault.new) (V.faults vault.new)
+        (map (hearing W.heard W.coming W.pauses) watchers.new.items)) stop) }
     ensures pace { OnOk result (pace.new ≡ after_step pace.old search.old) }
     ensures search { OnOk result (search.new ≡ after_next pace.old search.old) }
-    ensures further { OnOk result ((search.old.progress.blocks < search.new.progress.blocks) × (search.new.progress.blocks ≤ search.old.budget)) }
-    ensures same { IsSameSession pace.old pace.new × (search.new.code ≡ search.old.code) × (search.new.budget ≡ search.old.budget) }
+    ensures further { OnOk result ((search.old.progress.blocks < search.new.progress.blocks)
+        × (search.new.progress.blocks ≤ search.old.budget)) }
+    ensures same { IsSameSession pace.old pace.new × (search.new.code ≡ search.old.code)
+        × (search.new.budget ≡ search.old.budget) }
     ensures onward { search.old.progress.blocks ≤ search.new.progress.blocks }
     ensures turn { pace.new.point.turn ≤ 2 ^ 60 }
     ensures fitting { fits search.new.code search.new.progress.blocks (found_of search.new.progress) ≡ true }
@@ -118,19 +124,28 @@ pub fn search_need<R: Threads + Sync, V: Vault, W: Watcher, G: Gate + Sync>(
     requires room { pace.old.told + search.old.budget < 2 ^ 64 }
     requires slice { pace.old.keep ≡ false → pace.old.slice ≡ None }
 
-    ensures goes { (o : Origin) (before : List SessionStep)
-        → IsOnItsWay o before pace.old (around (V.contents vault.old) (V.faults vault.old) (map (hearing W.heard W.coming W.pauses) watchers.old.items))
-        → Went before (steps_left pace.old search.old)
+    ensures goes { (o : Origin) (before : List SessionStep) →
+        IsOnItsWay o before pace.old (around (V.contents vault.old) (V.faults vault.old)
+        (map (hearing W.heard W.coming W.pauses) watchers.old.items)) →
+        Went before (steps_left pace.old search.old)
         (λ told left. MatchResult result
-        (λ _. (left ≡ []) × ((rounds_left pace.old search.old).is_stopped ≡ false) × IsOnItsWay o told pace.new (around (V.contents vault.new) (V.faults vault.new) (map (hearing W.heard W.coming W.pauses) watchers.new.items)))
-        (λ stop. HasStopped o told left (rounds_left pace.old search.old).is_stopped pace.new (around (V.contents vault.new) (V.faults vault.new) (map (hearing W.heard W.coming W.pauses) watchers.new.items)) stop)) }
+        (λ _. (left ≡ []) × ((rounds_left pace.old search.old).is_stopped ≡ false)
+        × IsOnItsWay o told pace.new (around (V.contents vault.new) (V.faults vault.new)
+        (map (hearing W.heard W.coming W.pauses) watchers.new.items)))
+        (λ stop. HasStopped o told left (rounds_left pace.old search.old).is_stopped pace.new
+        (around (V.contents vault.new) (V.faults vault.new)
+        (map (hearing W.heard W.coming W.pauses) watchers.new.items)) stop)) }
     ensures answer { IfOk result (λ a. answer_in search.new ≡ Some (answer_of a)) }
-    ensures state { IfOk result (λ _. search.new.progress ≡ last_state search.old.progress (rounds_left pace.old search.old).states) }
+    ensures state { IfOk result (λ _. search.new.progress
+        ≡ last_state search.old.progress (rounds_left pace.old search.old).states) }
     ensures search { (search.new.code ≡ search.old.code) × (search.new.budget ≡ search.old.budget) }
     ensures fitting { fits search.new.code search.new.progress.blocks (found_of search.new.progress) ≡ true }
     ensures slice { IfOk result (λ _. pace.new.slice ≡ (rounds_left pace.old search.old).left) }
-    ensures pace { (pace.new.keep ≡ pace.old.keep) × (pace.new.told ≤ pace.old.told + (search.new.progress.blocks - search.old.progress.blocks)) }
-    ensures point { (pace.new.point.version ≡ 2) × (pace.new.point.script ≡ pace.old.point.script) × (pace.new.point.budget ≡ pace.old.point.budget) × (pace.new.point.settled ≡ pace.old.point.settled) × (pace.new.point.turn ≤ 2 ^ 60) }
+    ensures pace { (pace.new.keep ≡ pace.old.keep)
+        × (pace.new.told ≤ pace.old.told + (search.new.progress.blocks - search.old.progress.blocks)) }
+    ensures point { (pace.new.point.version ≡ 2) × (pace.new.point.script ≡ pace.old.point.script)
+        × (pace.new.point.budget ≡ pace.old.point.budget) × (pace.new.point.settled ≡ pace.old.point.settled)
+        × (pace.new.point.turn ≤ 2 ^ 60) }
 {
     loop {
         if let Some(answer) = search.finished() {

@@ -75,7 +75,10 @@ pub fn resumed(keep: bool, slice: Option<u64>, point: Checkpoint) -> Course
     requires kept { keep ≡ false → slice ≡ None }
     ensures ranged { IsRanged result }
     ensures unmet { result.met ≡ 0 }
-    ensures starts { (now : Around) → Goes (started (after point.version (map settled_of point.settled.items) (current_of (point_of point))) point.budget slice keep point.script (next_turn point.turn) now) [] [] result now }
+    ensures starts { (now : Around) → Goes (started
+        (after point.version (map settled_of point.settled.items)
+        (current_of (point_of point))) point.budget slice keep point.script
+        (next_turn point.turn) now) [] [] result now }
 {
     let version = point.version;
     let current = Settled {

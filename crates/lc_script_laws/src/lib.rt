@@ -10,6 +10,6 @@ mod laws;
 pub use laws::{
     chains_print_the_text, large_budgets_answer_exactly, needs_are_codes, one_text,
     printed_answers_are_true, printed_distributions_are_true, printed_forms_are_accepted,
-    printed_nearest_words_are_true,
-    scripts_are_ground, scripts_print_accepted_certificates, stored_slots_hold_true_checkpoints,
+    printed_nearest_words_are_true, scripts_are_ground, scripts_print_accepted_certificates,
+    stored_slots_hold_true_checkpoints,
 };

@@ -24,10 +24,10 @@ pub(crate) fn check<S: Source, K: Sink>(
 ) -> Status
     requires within { IsWithin _asked }
     requires checks { _asked.command ≡ Command.Check }
-    ensures { (args : List (List ℕ)) (now : Around) → options all_options args ≡ settings (settings_for _asked) → IsSession built_calls args
-        (outside_of (S.rest source.old) (S.faults source.old) (K.written sink.old) (K.faults sink.old) now)
-        (outside_of (S.rest source.new) (S.faults source.new) (K.written sink.new) (K.faults sink.new) now)
-        (ending_of result) }
+    ensures { (args : List (List ℕ)) (now : Around) → options all_options args ≡ settings (settings_for _asked) →
+        IsSession built_calls args (outside_of (S.rest source.old) (S.faults source.old) (K.written sink.old)
+        (K.faults sink.old) now) (outside_of (S.rest source.new) (S.faults source.new) (K.written sink.new)
+        (K.faults sink.new) now) (ending_of result) }
 {
     let bytes = match input(alloc, source) {
         Ok(bytes) => bytes,

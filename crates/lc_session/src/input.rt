@@ -29,9 +29,12 @@ pub(crate) fn input<S: Source>(alloc: Global, source: &mut S) -> Result<Vec<u8>,
     ensures ended { OnOk result (IsAtEnd (S.rest source.new)) }
     ensures too_long { IsErrOf result InputRefusal.TooLong → GaveTooMuch (S.rest source.old) (S.rest source.new) }
     ensures failed { IsErrOf result InputRefusal.Failed → HasRisen (S.faults source.old) (S.faults source.new) }
-    ensures before { IsErrOf result InputRefusal.Failed → GaveLess (S.rest source.old) (S.rest source.new) (most_bytes + 1) }
-    ensures front { IsErrOf result InputRefusal.NoMemory → GaveFront (S.rest source.old) (S.rest source.new) (most_bytes + 1) }
-    ensures kept { IsErrOf result InputRefusal.NoMemory → GaveSome (S.rest source.old) (S.rest source.new) (most_bytes + 1) }
+    ensures before { IsErrOf result InputRefusal.Failed →
+        GaveLess (S.rest source.old) (S.rest source.new) (most_bytes + 1) }
+    ensures front { IsErrOf result InputRefusal.NoMemory →
+        GaveFront (S.rest source.old) (S.rest source.new) (most_bytes + 1) }
+    ensures kept { IsErrOf result InputRefusal.NoMemory →
+        GaveSome (S.rest source.old) (S.rest source.new) (most_bytes + 1) }
     ensures count { (IsErrOf result InputRefusal.Failed → ⊥) → S.faults source.new ≡ S.faults source.old }
 {
     let bytes = match read_to_limit(alloc, source, MOST_BYTES + 1) {

@@ -48,7 +48,8 @@ fn status_of(course: &Course, halt: Halt) -> Status
 
 // Writes the text, if there is one.
 fn closed<K: Sink>(sink: &mut K, course: &Course, found: Result<Text, Halt>) -> Status
-    ensures { Closes found course.now (K.written sink.old) (K.written sink.new) (K.faults sink.old) (K.faults sink.new) result }
+    ensures { Closes found course.now (K.written sink.old) (K.written sink.new) (K.faults sink.old)
+        (K.faults sink.new) result }
 {
     match found {
         Ok(text) => match write_whole(sink, &text.bytes) {
@@ -61,10 +62,12 @@ fn closed<K: Sink>(sink: &mut K, course: &Course, found: Result<Text, Halt>) -> 
 
 // Empties the slots, if checkpoints are kept.
 fn cleared<V: Vault>(vault: &mut V, keep: bool) -> Result<(), Failed>
-    ensures emptied { OnOk result (keep ≡ true → WhereTold (V.contents vault.old) (V.contents vault.new) (λ before after. after ≡ empty_slots)) }
+    ensures emptied { OnOk result (keep ≡ true → WhereTold (V.contents vault.old) (V.contents vault.new)
+        (λ before after. after ≡ empty_slots)) }
     ensures kept { OnOk result (keep ≡ false → V.contents vault.new ≡ V.contents vault.old) }
     ensures half { OnErr result ((keep ≡ true) × WhereTold (V.contents vault.old) (V.contents vault.new) AreHalfEmptied) }
-    ensures count { MatchResult result (λ _. V.faults vault.new ≡ V.faults vault.old) (λ _. HasRisen (V.faults vault.old) (V.faults vault.new)) }
+    ensures count { MatchResult result (λ _. V.faults vault.new ≡ V.faults vault.old)
+        (λ _. HasRisen (V.faults vault.old) (V.faults vault.new)) }
 {
     if !keep {
         return Ok(());
@@ -86,10 +89,13 @@ pub(crate) fn run<R: Threads + Sync, S: Source, K: Sink, V: Vault, W: Watcher, G
 ) -> Status
     requires within { IsWithin asked }
     requires runs { asked.command ≡ Command.Run }
-    ensures session { (args : List (List ℕ)) → options all_options args ≡ settings (settings_for asked) → IsSession built_calls args
-        (outside_of (S.rest source.old) (S.faults source.old) (K.written sink.old) (K.faults sink.old) (around (V.contents vault.old) (V.faults vault.old) (map (hearing W.heard W.coming W.pauses) watchers.old.items)))
-        (outside_of (S.rest source.new) (S.faults source.new) (K.written sink.new) (K.faults sink.new) (around (V.contents vault.new) (V.faults vault.new) (map (hearing W.heard W.coming W.pauses) watchers.new.items)))
-        (ending_of result) }
+    ensures session { (args : List (List ℕ)) → options all_options args ≡ settings (settings_for asked) →
+        IsSession built_calls args (outside_of (S.rest source.old) (S.faults source.old) (K.written sink.old)
+        (K.faults sink.old) (around (V.contents vault.old) (V.faults vault.old)
+        (map (hearing W.heard W.coming W.pauses) watchers.old.items)))
+        (outside_of (S.rest source.new) (S.faults source.new) (K.written sink.new) (K.faults sink.new)
+        (around (V.contents vault.new) (V.faults vault.new)
+        (map (hearing W.heard W.coming W.pauses) watchers.new.items))) (ending_of result) }
     ensures nothing { S.rest source.old ≡ Some [] → (told : ℕ) → result ≢ Status.NoMemory told }
 {
     let bytes = match input(alloc, source) {
@@ -131,10 +137,13 @@ pub(crate) fn resume<R: Threads + Sync, S: Source, K: Sink, V: Vault, W: Watcher
 ) -> Status
     requires within { IsWithin asked }
     requires resumes { asked.command ≡ Command.Resume }
-    ensures { (args : List (List ℕ)) → options all_options args ≡ settings (settings_for asked) → IsSession built_calls args
-        (outside_of (S.rest source.old) (S.faults source.old) (K.written sink.old) (K.faults sink.old) (around (V.contents vault.old) (V.faults vault.old) (map (hearing W.heard W.coming W.pauses) watchers.old.items)))
-        (outside_of (S.rest source.new) (S.faults source.new) (K.written sink.new) (K.faults sink.new) (around (V.contents vault.new) (V.faults vault.new) (map (hearing W.heard W.coming W.pauses) watchers.new.items)))
-        (ending_of result) }
+    ensures { (args : List (List ℕ)) → options all_options args ≡ settings (settings_for asked) →
+        IsSession built_calls args (outside_of (S.rest source.old) (S.faults source.old) (K.written sink.old)
+        (K.faults sink.old) (around (V.contents vault.old) (V.faults vault.old)
+        (map (hearing W.heard W.coming W.pauses) watchers.old.items)))
+        (outside_of (S.rest source.new) (S.faults source.new) (K.written sink.new) (K.faults sink.new)
+        (around (V.contents vault.new) (V.faults vault.new)
+        (map (hearing W.heard W.coming W.pauses) watchers.new.items))) (ending_of result) }
 {
     let bytes = match input(alloc, source) {
         Ok(bytes) => bytes,

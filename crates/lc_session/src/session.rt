@@ -31,10 +31,14 @@ fn session<R: Threads + Sync, S: Source, K: Sink, V: Vault, W: Watcher, G: Gate 
     gate: &G,
 ) -> Status
     ensures session { IsSession built_calls (words_of words.now)
-        (outside_of (S.rest source.old) (S.faults source.old) (K.written sink.old) (K.faults sink.old) (around (V.contents vault.old) (V.faults vault.old) (map (hearing W.heard W.coming W.pauses) watchers.old.items)))
-        (outside_of (S.rest source.new) (S.faults source.new) (K.written sink.new) (K.faults sink.new) (around (V.contents vault.new) (V.faults vault.new) (map (hearing W.heard W.coming W.pauses) watchers.new.items)))
-        (ending_of result) }
-    ensures nothing { (asked : Settings) → options all_options (words_of words.now) ≡ settings asked → asked.command ≡ line.run → S.rest source.old ≡ Some [] → (told : ℕ) → result ≢ Status.NoMemory told }
+        (outside_of (S.rest source.old) (S.faults source.old) (K.written sink.old) (K.faults sink.old)
+        (around (V.contents vault.old) (V.faults vault.old)
+        (map (hearing W.heard W.coming W.pauses) watchers.old.items)))
+        (outside_of (S.rest source.new) (S.faults source.new) (K.written sink.new) (K.faults sink.new)
+        (around (V.contents vault.new) (V.faults vault.new)
+        (map (hearing W.heard W.coming W.pauses) watchers.new.items))) (ending_of result) }
+    ensures nothing { (asked : Settings) → options all_options (words_of words.now) ≡ settings asked →
+        asked.command ≡ line.run → S.rest source.old ≡ Some [] → (told : ℕ) → result ≢ Status.NoMemory told }
 {
     let asked = match options(alloc, words) {
         Ok(asked) => asked,
@@ -82,11 +86,15 @@ pub fn run_session<R: Threads + Sync, S: Source, K: Sink, V: Vault, G: Gate + Sy
     gate: &G,
 ) -> Status
     ensures session { IsSession built_calls (words_of words.now)
-        (outside_of (S.rest source.old) (S.faults source.old) (K.written sink.old) (K.faults sink.old) (around (V.contents vault.old) (V.faults vault.old) (map (hearing (λ w. heard w) (λ w. coming w) (λ w. pauses w)) watchers.old.items)))
-        (outside_of (S.rest source.new) (S.faults source.new) (K.written sink.new) (K.faults sink.new) (around (V.contents vault.new) (V.faults vault.new) (map (hearing (λ w. heard w) (λ w. coming w) (λ w. pauses w)) watchers.new.items)))
-        (ending_of result) }
+        (outside_of (S.rest source.old) (S.faults source.old) (K.written sink.old) (K.faults sink.old)
+        (around (V.contents vault.old) (V.faults vault.old)
+        (map (hearing (λ w. heard w) (λ w. coming w) (λ w. pauses w)) watchers.old.items)))
+        (outside_of (S.rest source.new) (S.faults source.new) (K.written sink.new) (K.faults sink.new)
+        (around (V.contents vault.new) (V.faults vault.new)
+        (map (hearing (λ w. heard w) (λ w. coming w) (λ w. pauses w)) watchers.new.items))) (ending_of result) }
     // `run` does not end for want of memory if the source gives no byte.
-    ensures nothing { (asked : Settings) → options all_options (words_of words.now) ≡ settings asked → asked.command ≡ line.run → S.rest source.old ≡ Some [] → (told : ℕ) → result ≢ Status.NoMemory told }
+    ensures nothing { (asked : Settings) → options all_options (words_of words.now) ≡ settings asked →
+        asked.command ≡ line.run → S.rest source.old ≡ Some [] → (told : ℕ) → result ≢ Status.NoMemory told }
 {
     session(rt, alloc, words, source, sink, vault, watchers, gate)
 }

@@ -31,10 +31,14 @@ pub(crate) fn summary<R: Threads + Sync, K: Sink, V: Vault, W: Watcher, G: Gate 
 ) -> Status
     requires within { IsWithin asked }
     requires sums { asked.command ≡ Command.Summary }
-    ensures { (args : List (List ℕ)) (source : Option (List ℕ)) (source_faults : ℕ) → options all_options args ≡ settings (settings_for asked) → IsSession built_calls args
-        (outside_of source source_faults (K.written sink.old) (K.faults sink.old) (around (V.contents vault.old) (V.faults vault.old) (map (hearing W.heard W.coming W.pauses) watchers.old.items)))
-        (outside_of source source_faults (K.written sink.new) (K.faults sink.new) (around (V.contents vault.new) (V.faults vault.new) (map (hearing W.heard W.coming W.pauses) watchers.new.items)))
-        (ending_of result) }
+    ensures { (args : List (List ℕ)) (source : Option (List ℕ)) (source_faults : ℕ) →
+        options all_options args ≡ settings (settings_for asked) →
+        IsSession built_calls args (outside_of source source_faults (K.written sink.old) (K.faults sink.old)
+        (around (V.contents vault.old) (V.faults vault.old)
+        (map (hearing W.heard W.coming W.pauses) watchers.old.items)))
+        (outside_of source source_faults (K.written sink.new) (K.faults sink.new)
+        (around (V.contents vault.new) (V.faults vault.new)
+        (map (hearing W.heard W.coming W.pauses) watchers.new.items))) (ending_of result) }
 {
     let Ok(code) = summary_code(alloc, asked.number) else {
         return Status::NoMemory { told: 0 };

@@ -10,7 +10,8 @@ use lc_json::is_same;
 // The text that an argument names.
 #[tactic(auto, unfolding(crate::specs::Texts::named_text))]
 fn text_of<'a>(word: &str, help: &'a str, version: &'a str) -> Option<&'a str>
-    ensures { MatchOption result (named_text help.now version.now word.now ≡ None) (λ text. named_text help.now version.now word.now ≡ Some text.now) }
+    ensures { MatchOption result (named_text help.now version.now word.now ≡ None)
+        (λ text. named_text help.now version.now word.now ≡ Some text.now) }
 {
     if is_same(b"--help", word.as_bytes()) {
         return Some(help);
@@ -30,7 +31,8 @@ pub fn told_text<K: Sink>(
     version: &str,
     sink: &mut K,
 ) -> Option<Status>
-    ensures { IsTold (text_asked help.now version.now (words_of words.now)) (K.written sink.old) (K.written sink.new) (K.faults sink.old) (K.faults sink.new) result }
+    ensures { IsTold (text_asked help.now version.now (words_of words.now)) (K.written sink.old) (K.written sink.new)
+        (K.faults sink.old) (K.faults sink.new) result }
 {
     if words.len() != 1 {
         return None;

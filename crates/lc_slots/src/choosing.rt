@@ -65,7 +65,8 @@ fn chosen_by<V: Vault>(alloc: Global, vault: &mut V, buf: &mut [u8]) -> Result<F
     ensures is { IfOk result (λ f. IfSome (V.contents vault.old) (λ slots. choice slots ≡ choice_of f)) }
     ensures ranged { IfOk result (λ f. IsInRangeIfTaken f) }
     ensures same { V.contents vault.new ≡ V.contents vault.old }
-    ensures count { MatchResult result (λ _. V.faults vault.new ≡ V.faults vault.old) (λ e. CountsLoad e (V.faults vault.old) (V.faults vault.new)) }
+    ensures count { MatchResult result (λ _. V.faults vault.new ≡ V.faults vault.old)
+        (λ e. CountsLoad e (V.faults vault.old) (V.faults vault.new)) }
 {
     let zero = held_by(alloc, vault, Slot::Zero, buf)?;
     let one = held_by(alloc, vault, Slot::One, buf)?;
@@ -87,7 +88,8 @@ pub fn chosen<V: Vault>(alloc: Global, vault: &mut V) -> Result<Found, LoadRefus
     ensures is { IfOk result (λ f. IfSome (V.contents vault.old) (λ slots. choice slots ≡ choice_of f)) }
     ensures ranged { IfOk result (λ f. IsInRangeIfTaken f) }
     ensures same { V.contents vault.new ≡ V.contents vault.old }
-    ensures count { MatchResult result (λ _. V.faults vault.new ≡ V.faults vault.old) (λ e. CountsLoad e (V.faults vault.old) (V.faults vault.new)) }
+    ensures count { MatchResult result (λ _. V.faults vault.new ≡ V.faults vault.old)
+        (λ e. CountsLoad e (V.faults vault.old) (V.faults vault.new)) }
 {
     let mut buf = buffer(alloc, ROOM)?;
     chosen_by(alloc, vault, &mut buf)

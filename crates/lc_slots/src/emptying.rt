@@ -12,9 +12,11 @@ use lc_io::{Failed, Slot, Vault};
 /// holds any bytes. Takes no memory.
 #[tactic(auto, using(crate::proofs::EmptyLaws::emptied_laws))]
 pub fn emptied<V: Vault>(vault: &mut V) -> Result<(), Failed>
-    ensures emptied { OnOk result (WhereTold (V.contents vault.old) (V.contents vault.new) (λ before after. after ≡ empty_slots)) }
+    ensures emptied { OnOk result (WhereTold (V.contents vault.old) (V.contents vault.new)
+        (λ before after. after ≡ empty_slots)) }
     ensures half { OnErr result (WhereTold (V.contents vault.old) (V.contents vault.new) AreHalfEmptied) }
-    ensures count { MatchResult result (λ _. V.faults vault.new ≡ V.faults vault.old) (λ _. HasRisen (V.faults vault.old) (V.faults vault.new)) }
+    ensures count { MatchResult result (λ _. V.faults vault.new ≡ V.faults vault.old)
+        (λ _. HasRisen (V.faults vault.old) (V.faults vault.new)) }
 {
     match vault.store(Slot::Zero, &[]) {
         Ok(()) => vault.store(Slot::One, &[]),

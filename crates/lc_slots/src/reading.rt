@@ -76,7 +76,8 @@ pub(crate) fn held_by<V: Vault>(
     ensures is { IfOk result (λ h. IfSome (V.contents vault.old) (λ slots. IsRead h (in_slot slot slots))) }
     ensures ranged { IfOk result (λ h. IsRanged h) }
     ensures same { V.contents vault.new ≡ V.contents vault.old }
-    ensures count { MatchResult result (λ _. V.faults vault.new ≡ V.faults vault.old) (λ e. CountsLoad e (V.faults vault.old) (V.faults vault.new)) }
+    ensures count { MatchResult result (λ _. V.faults vault.new ≡ V.faults vault.old)
+        (λ e. CountsLoad e (V.faults vault.old) (V.faults vault.new)) }
     ensures damaged { IfSome (V.contents vault.old)
         (λ slots. checkpoint_in (in_slot slot slots) ≡ refused damaged → IfErr result (λ e. e ≡ refusal.VaultFault)) }
 {

@@ -54,7 +54,8 @@ fn certificate_line_of(
 ) -> Result<Vec<u8>, NoMemory>
     requires fitting { fits search.now.code search.now.progress.blocks (found_of search.now.progress) ≡ true }
     requires answered { answer_in search.now ≡ Some (answer_of answer) }
-    ensures { IfOk result (λ line. line.items ≡ certificate_answer_line (way_kind way) search.now.code (answer_of answer)) }
+    ensures { IfOk result (λ line. line.items
+        ≡ certificate_answer_line (way_kind way) search.now.code (answer_of answer)) }
 {
     let _rows = search.sets().dimension();
     match answer {

@@ -35,9 +35,21 @@ pub fn need_line<R: Threads + Sync, V: Vault, W: Watcher, G: Gate + Sync>(
     requires rows { 0 < length code.now.rows }
     requires ranged { IsRanged course.old }
     requires few { course.old.met < 70000 }
-    ensures goes { MatchResult result
-        (λ line. (a : Answer) × (line.items ≡ answer_line (kind_of kind) code.now a) × ((w : World) (needs : List Matrix) (answers : List Answer) → Goes w needs answers course.old (around (V.contents vault.old) (V.faults vault.old) (map (hearing W.heard W.coming W.pauses) watchers.old.items)) → Goes w (needs ++ code.now ∷ []) (answers ++ a ∷ []) course.new (around (V.contents vault.new) (V.faults vault.new) (map (hearing W.heard W.coming W.pauses) watchers.new.items))))
-        (λ halt. (w : World) (needs : List Matrix) (answers : List Answer) → Goes w needs answers course.old (around (V.contents vault.old) (V.faults vault.old) (map (hearing W.heard W.coming W.pauses) watchers.old.items)) → Halts w needs code.now course.new (around (V.contents vault.new) (V.faults vault.new) (map (hearing W.heard W.coming W.pauses) watchers.new.items)) halt) }
+    ensures goes { MatchResult result (λ line. (a : Answer) × (line.items ≡ answer_line (kind_of kind) code.now a)
+        × ((w : World) (needs : List Matrix) (answers : List Answer) →
+        Goes w needs answers course.old
+        (around (V.contents vault.old) (V.faults vault.old)
+        (map (hearing W.heard W.coming W.pauses) watchers.old.items)) →
+        Goes w (needs ++ code.now ∷ []) (answers ++ a ∷ []) course.new
+        (around (V.contents vault.new) (V.faults vault.new)
+        (map (hearing W.heard W.coming W.pauses) watchers.new.items))))
+        (λ halt. (w : World) (needs : List Matrix) (answers : List Answer) →
+        Goes w needs answers course.old
+        (around (V.contents vault.old) (V.faults vault.old)
+        (map (hearing W.heard W.coming W.pauses) watchers.old.items)) →
+        Halts w needs code.now course.new
+        (around (V.contents vault.new) (V.faults vault.new)
+        (map (hearing W.heard W.coming W.pauses) watchers.new.items)) halt) }
     ensures ranged { IfOk result (λ _. IsRanged course.new) }
     ensures same { IfOk result (λ _. course.new.met ≡ course.old.met + 1) }
 {

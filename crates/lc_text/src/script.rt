@@ -37,9 +37,15 @@ pub fn script_text<R: Threads + Sync, V: Vault, W: Watcher, G: Gate + Sync>(
     requires ranged { IsRanged course.old }
     requires unmet { course.old.met ≡ 0 }
     requires few { (needs : List Matrix) → MeetsFirst built_calls bytes.now needs → length needs < 70000 }
-    ensures ends { (w : World) → Goes w [] [] course.old (around (V.contents vault.old) (V.faults vault.old) (map (hearing W.heard W.coming W.pauses) watchers.old.items)) → MatchResult result
-        (λ t. Prints w bytes.now t course.new (around (V.contents vault.new) (V.faults vault.new) (map (hearing W.heard W.coming W.pauses) watchers.new.items)))
-        (λ halt. EndsBefore w bytes.now course.new (around (V.contents vault.new) (V.faults vault.new) (map (hearing W.heard W.coming W.pauses) watchers.new.items)) halt) }
+    ensures ends { (w : World) → Goes w [] [] course.old
+        (around (V.contents vault.old) (V.faults vault.old)
+        (map (hearing W.heard W.coming W.pauses) watchers.old.items)) →
+        MatchResult result (λ t. Prints w bytes.now t course.new
+        (around (V.contents vault.new) (V.faults vault.new)
+        (map (hearing W.heard W.coming W.pauses) watchers.new.items)))
+        (λ halt. EndsBefore w bytes.now course.new
+        (around (V.contents vault.new) (V.faults vault.new)
+        (map (hearing W.heard W.coming W.pauses) watchers.new.items)) halt) }
     ensures nothing { bytes.now ≡ [] → is_some course.old.current ≡ false → IsOk result }
 {
     let script = match parse(alloc, bytes) {

@@ -38,8 +38,9 @@ impl Text {
 
 /// The text, unless a record of the checkpoint is left.
 pub(crate) fn ended(course: &Course, bytes: Vec<u8>, ends: bool) -> Result<Text, Halt>
-    ensures { MatchResult result (λ t. (is_some course.now.current ≡ false) × (t.bytes.items ≡ bytes.items) × (t.ends ≡ ends))
-        (λ h. (is_some course.now.current ≡ true) × (h ≡ Halt.Unfit (length course.now.pace.point.settled.items + 1) 0)) }
+    ensures { MatchResult result (λ t. (is_some course.now.current ≡ false) × (t.bytes.items ≡ bytes.items)
+        × (t.ends ≡ ends)) (λ h. (is_some course.now.current ≡ true)
+        × (h ≡ Halt.Unfit (length course.now.pace.point.settled.items + 1) 0)) }
 {
     if course.current.is_some() {
         return Err(Halt::Unfit {
@@ -68,10 +69,17 @@ pub(crate) fn text_of<R: Threads + Sync, V: Vault, W: Watcher, G: Gate + Sync>(
     requires ranged { IsRanged course.old }
     requires unmet { course.old.met ≡ 0 }
     requires unbound { machine.old.bindings ≡ [] }
-    requires few { (n : ℕ) (needs : List Matrix) → Needs built_calls [] (take n (map statement_of machine.old.left)) needs → length needs < 70000 }
-    ensures ends { (w : World) → Goes w [] [] course.old (around (V.contents vault.old) (V.faults vault.old) (map (hearing W.heard W.coming W.pauses) watchers.old.items)) → MatchResult result
-        (λ t. Finishes w (map statement_of machine.old.left) t course.new (around (V.contents vault.new) (V.faults vault.new) (map (hearing W.heard W.coming W.pauses) watchers.new.items)))
-        (λ halt. Ends w (map statement_of machine.old.left) course.new (around (V.contents vault.new) (V.faults vault.new) (map (hearing W.heard W.coming W.pauses) watchers.new.items)) halt) }
+    requires few { (n : ℕ) (needs : List Matrix) →
+        Needs built_calls [] (take n (map statement_of machine.old.left)) needs → length needs < 70000 }
+    ensures ends { (w : World) → Goes w [] [] course.old
+        (around (V.contents vault.old) (V.faults vault.old)
+        (map (hearing W.heard W.coming W.pauses) watchers.old.items)) →
+        MatchResult result (λ t. Finishes w (map statement_of machine.old.left) t course.new
+        (around (V.contents vault.new) (V.faults vault.new)
+        (map (hearing W.heard W.coming W.pauses) watchers.new.items)))
+        (λ halt. Ends w (map statement_of machine.old.left) course.new
+        (around (V.contents vault.new) (V.faults vault.new)
+        (map (hearing W.heard W.coming W.pauses) watchers.new.items)) halt) }
     ensures nothing { machine.old.left ≡ [] → is_some course.old.current ≡ false → IsOk result }
 {
     let budget = course.pace.point.budget;

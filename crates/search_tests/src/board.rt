@@ -53,11 +53,13 @@ fn work_all<R: Threads + Sync>(rt: &R, board: &Board, workers: &mut [Worker])
     join_mut(
         rt,
         &mut ||
-            requires { IsSync R.row × All (λ w. (w.seat.table ≡ board.now.table) × AllReported w.seat.view.book) front.now }
+            requires { IsSync R.row × All (λ w. (w.seat.table ≡ board.now.table)
+                × AllReported w.seat.view.book) front.now }
             ensures { All (λ w. w.seat.table ≡ board.entry.now.table) front.exit.now }
         { work_all(rt, board, front) },
         &mut ||
-            requires { IsSync R.row × All (λ w. (w.seat.table ≡ board.now.table) × AllReported w.seat.view.book) back.now }
+            requires { IsSync R.row × All (λ w. (w.seat.table ≡ board.now.table)
+                × AllReported w.seat.view.book) back.now }
             ensures { All (λ w. w.seat.table ≡ board.entry.now.table) back.exit.now }
         { work_all(rt, board, back) },
     );
@@ -74,7 +76,8 @@ fn least_value() -> u64 {
 
 fn new_worker(alloc: Global, board: &Board, root: &mut BoardSeat) -> Result<Worker, AllocError>
     requires { (root.old.table ≡ board.now.table) × (root.old.view.root ≡ true) × (root.old.view.made < 256) }
-    ensures root { (root.new.table ≡ root.old.table) × (root.new.view.root ≡ true) × (root.new.view.made ≡ root.old.view.made + 1) }
+    ensures root { (root.new.table ≡ root.old.table) × (root.new.view.root ≡ true)
+        × (root.new.view.made ≡ root.old.view.made + 1) }
     ensures new { IfOk result (λ w. (w.seat.table ≡ board.now.table) × AllReported w.seat.view.book) }
 {
     let seat = board.split(root);
@@ -87,7 +90,8 @@ fn hire(alloc: Global, board: &Board, root: &mut BoardSeat) -> Result<Vec<Worker
     requires { (root.old.table ≡ board.now.table) × (root.old.view.root ≡ true) × (root.old.view.made ≡ 1) }
     ensures root { (root.new.table ≡ root.old.table) × (root.new.view.root ≡ true) }
     ensures made { IfOk result (λ ws. root.new.view.made ≡ length ws.items + 1) }
-    ensures workers { IfOk result (λ ws. All (λ w. (w.seat.table ≡ board.now.table) × AllReported w.seat.view.book) ws.items) }
+    ensures workers { IfOk result (λ ws. All (λ w. (w.seat.table ≡ board.now.table)
+        × AllReported w.seat.view.book) ws.items) }
 {
     let mut workers = Vec::new(alloc);
     for _ in 0..4u32 {
@@ -98,7 +102,8 @@ fn hire(alloc: Global, board: &Board, root: &mut BoardSeat) -> Result<Vec<Worker
 
 fn run<R: Threads + Sync>(rt: &R, board: &Board, workers: &mut Vec<Worker>)
     requires { All (λ w. (w.seat.table ≡ board.now.table) × AllReported w.seat.view.book) workers.old.items }
-    ensures { All (λ w. w.seat.table ≡ board.now.table) workers.new.items × (length workers.new.items ≡ length workers.old.items) }
+    ensures { All (λ w. w.seat.table ≡ board.now.table) workers.new.items
+        × (length workers.new.items ≡ length workers.old.items) }
 {
     work_all(rt, board, workers.as_mut_slice());
 }
