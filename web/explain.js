@@ -98,6 +98,32 @@ function combinedRefusal(name, values, fault) {
   return `the inner code has dimension ${dimension}; ${a.size} is ${b.size}^${degree}, so it needs ${degree}`;
 }
 
+// why two words, or an element and a word, are refused
+function twoListsRefusal(values, fault) {
+  if (fault.number === 12) return `the first list has ${values[0].length} entries, the second ${values[1].length}`;
+  const [argument] = fault.values;
+  const { size } = values[2];
+  const given = values[argument - 1];
+  if (isNumeric(given)) return `it is ${given}; the elements of GF(${size}) are 0 to ${size - 1}`;
+  return tooLarge([given], size).replaceAll('of row 1 ', `of argument ${argument} `);
+}
+
+function lengthsRefusal(name, values) {
+  if (name === 'Encode') return `the list has ${values[1].length} entries; a message of this code has as many as \`Dimension(C)\` says`;
+  if (name === 'AugmentedCode') {
+    const row = values[1].findIndex((r) => r.length !== values[0].length);
+    return `row ${row + 1} has ${values[1][row].length} entries, the words of the code have ${values[0].length}`;
+  }
+  if (OF_WORDS.includes(name)) return `the list has ${values[1].length} entries, the words of the code have ${values[0].length}`;
+  return uneven(values[0]);
+}
+
+function attainedRefusal(weight, distance) {
+  const checks = `one more than the ${counted(distance - 1, 'check')} of the form`;
+  if (weight !== distance) return `it has weight ${weight}; it must have weight ${distance}, ${checks}`;
+  return `it has weight ${weight}, ${checks}, but isn't in the code`;
+}
+
 function lengthRefusal(name, values) {
   if (['GoppaCode', 'AlternantCode'].includes(name)) return `here are ${counted(values[1].length, 'point')}; a code has 1 to ${TEXTS.longest}`;
   return `the length ${['GeneratorPolCode', 'CheckPolCode'].includes(name) ? values[1] : values[0]} is not one of 1 to ${TEXTS.longest}`;
@@ -128,8 +154,9 @@ function divisorsTold(length, size) {
   return `over GF(${size}) the irreducible divisors of x^${length} - 1 are ${all}${part < length ? `, each ${length / part} times` : ''}`;
 }
 
-const COMBINED = ['ExtendedCode', 'PuncturedCode', 'ShortenedCode', 'EvenWeightSubcode', 'DirectSumCode', 'UUVCode', 'DirectProductCode', 'IntersectionCode', 'ConcatenatedCode'];
-const OF_WORDS = ['IsCodeword', 'Decode', 'AlgebraicDecode', 'NearestWord'];
+const COMBINED = ['ExtendedCode', 'PuncturedCode', 'ShortenedCode', 'EvenWeightSubcode', 'DirectSumCode', 'UUVCode', 'DirectProductCode', 'IntersectionCode', 'UnionCode', 'IsSubcode', 'IsSameCode', 'ConcatenatedCode'];
+const OF_WORDS = ['IsCodeword', 'Decode', 'AlgebraicDecode', 'AlternantCertificate', 'NearestWord', 'Syndrome', 'InformationWord'];
+const OF_TWO_LISTS = ['AddWords', 'ScaleWord', 'DistanceCodeword'];
 const BY_LISTS = ['GeneratorPolCode', 'CheckPolCode', 'GoppaCode', 'AlternantCode'];
 
 function distributionTold(q, n, k, r) {
@@ -145,7 +172,8 @@ function matrixLengthRefusal(name, values) {
 }
 
 function argumentRefusal(name, values) {
-  if (OF_WORDS.includes(name)) return tooLargeInList(values[1], values[0].size);
+  if (name === 'AugmentedCode') return tooLarge(values[1], values[0].size);
+  if (OF_WORDS.includes(name) || name === 'Encode') return tooLargeInList(values[1], values[0].size);
   if (name === 'HammingCode') return `a Hamming code has at least 2 checks, here ${values[0]}`;
   if (name === 'ReedMullerCode') return `the order ${values[0]} is above the number of variables ${values[1]}`;
   return tooLarge(values[0], values[1].size);
@@ -172,11 +200,13 @@ function refusal(name, values, fault) {
   if (number === 6) return designRefusal(name, values);
   if (number === 7) return `it would have ${BigInt(values[0]) + 1n}; the sizes for codes are ${SYMBOL_SIZES.join(', ')}`;
   if (number === 2) return matrixLengthRefusal(name, values);
-  if (number === 12 && OF_WORDS.includes(name)) return `the list has ${values[1].length} entries, the words of the code have ${values[0].length}`;
-  if (number === 12) return uneven(values[0]);
+  if (OF_TWO_LISTS.includes(name)) return twoListsRefusal(values, fault);
+  if (number === 12) return lengthsRefusal(name, values);
   if (number === 3) return argumentRefusal(name, values);
   if (number === 15) return `${values[0].size}^${fault.values[0]} is above 2^20`;
   if (number === 18) return 'only BCHCode, ReedSolomonCode, GoppaCode and AlternantCode make codes that have one';
+  if (number === 19) return attainedRefusal(...fault.values);
+  if (number === 50) return '`Decode(C, x)` gives a nearest word of the code';
   if (number === 47) return distributionTold(values[0].size, values[0].length, ...fault.values);
   if (number === 16) return `${values[0].length} rows over GF(${values[1].size}) have ${values[1].size}^${values[0].length} words, more than 65,536`;
   return '';
