@@ -1,5 +1,5 @@
-//! Tests of information sets, plans and the kernel, of the outside, of boards and of searches, by values from outside. They stand
-//! here so that no crate is proved twice, once with its tests.
+//! Tests of information sets, plans and the kernel, of the outside, of boards, of searches and of weight distributions, by values
+//! from outside. They stand here so that no crate is proved twice, once with its tests.
 #![tactic(auto)]
 
 #[cfg(test)]
@@ -8,6 +8,8 @@ mod adapters;
 mod blocks;
 #[cfg(test)]
 mod board;
+#[cfg(test)]
+mod distributions;
 #[cfg(test)]
 mod folder;
 #[cfg(test)]

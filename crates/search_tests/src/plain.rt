@@ -25,7 +25,7 @@ pub(crate) fn sums_over(field: &Field) -> Sums {
 }
 
 // Adds a multiple of a row to a word, by the sums of its element.
-fn add_row(sums: &[u8; 256], row: &[u8], word: &mut [u8]) {
+pub(crate) fn add_row(sums: &[u8; 256], row: &[u8], word: &mut [u8]) {
     for column in 0..word.len().min(row.len()) {
         let place = (word[column] % 16) as usize * 16 + (row[column] % 16) as usize;
         word[column] = sums[place];
