@@ -22,6 +22,8 @@ pub enum Bench {
     /// the least words of the blocks of a level: the size of the field, the length and the dimension of a code, and the
     /// level
     Least(u64, usize, usize, usize),
+    /// nearest words by error patterns: the size of the field, the length and the dimension of a code
+    Near(u64, usize, usize),
     /// counting the words of a code of length 64 by their weights: the size of the field, and the dimension
     Count(u64, usize),
     /// the innermost loop of the kernel alone, over long runs, for symbols of this many bits
@@ -57,7 +59,7 @@ pub enum Searches {
 }
 
 /// The benches with their names.
-pub static BENCHES: [(&str, Bench); 50] = [
+pub static BENCHES: [(&str, Bench); 56] = [
     ("add_scaled_2", Bench::AddScaled(2)),
     ("add_scaled_3", Bench::AddScaled(3)),
     ("add_scaled_4", Bench::AddScaled(4)),
@@ -88,6 +90,12 @@ pub static BENCHES: [(&str, Bench); 50] = [
     ("kernel_11", Bench::Least(11, 24, 8, 5)),
     ("kernel_13", Bench::Least(13, 24, 8, 5)),
     ("kernel_16", Bench::Least(16, 30, 15, 4)),
+    ("kernel_3_81", Bench::Least(3, 81, 27, 6)),
+    ("kernel_4_60", Bench::Least(4, 60, 20, 6)),
+    ("near_2", Bench::Near(2, 127, 36)),
+    ("near_3", Bench::Near(3, 81, 27)),
+    ("near_4", Bench::Near(4, 60, 20)),
+    ("near_16", Bench::Near(16, 30, 15)),
     ("count_2", Bench::Count(2, 24)),
     ("count_3", Bench::Count(3, 15)),
     ("count_4", Bench::Count(4, 12)),
