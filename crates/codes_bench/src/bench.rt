@@ -25,6 +25,8 @@ pub enum Bench {
     /// going from message to message of level 4 with a stack: the size of the field, and the length of a code of
     /// dimension 32
     Stack(u64, usize),
+    /// nearest words by error patterns: the size of the field, the length and the dimension of a code
+    Near(u64, usize, usize),
     /// counting the words of a code of length 64 by their weights: the size of the field, and the dimension
     Count(u64, usize),
     /// the innermost loop of the kernel alone, over long runs, for symbols of this many bits
@@ -60,7 +62,7 @@ pub enum Searches {
 }
 
 /// The benches with their names.
-pub static BENCHES: [(&str, Bench); 60] = [
+pub static BENCHES: [(&str, Bench); 66] = [
     ("add_scaled_2", Bench::AddScaled(2)),
     ("add_scaled_3", Bench::AddScaled(3)),
     ("add_scaled_4", Bench::AddScaled(4)),
@@ -101,6 +103,12 @@ pub static BENCHES: [(&str, Bench); 60] = [
     ("stack_8_255", Bench::Stack(8, 255)),
     ("stack_16", Bench::Stack(16, 64)),
     ("stack_16_255", Bench::Stack(16, 255)),
+    ("kernel_3_81", Bench::Least(3, 81, 27, 6)),
+    ("kernel_4_60", Bench::Least(4, 60, 20, 6)),
+    ("near_2", Bench::Near(2, 127, 36)),
+    ("near_3", Bench::Near(3, 81, 27)),
+    ("near_4", Bench::Near(4, 60, 20)),
+    ("near_16", Bench::Near(16, 30, 15)),
     ("count_2", Bench::Count(2, 24)),
     ("count_3", Bench::Count(3, 15)),
     ("count_4", Bench::Count(4, 12)),

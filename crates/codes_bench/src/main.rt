@@ -10,6 +10,7 @@ mod kernel;
 mod limits;
 mod linear;
 mod messages;
+mod near;
 mod rate;
 mod scripts;
 mod searches;
@@ -62,6 +63,7 @@ fn measure<R: Clock + AllocGlobal + Threads + Sync>(rt: &R, bench: Bench) -> Res
         Bench::StepQuaternary => messages::step_rate(rt, 20, 4, 4),
         Bench::Least(q, n, k, level) => kernel::least_rate(rt, q, n, k, level),
         Bench::Stack(q, n) => stacks::stack_rate(rt, q, n),
+        Bench::Near(q, n, k) => near::near_rate(rt, q, n, k),
         Bench::Count(q, k) => counts::count_rate(rt, q, k),
         Bench::Limit(planes) => limits::limit_rate(rt, planes),
         Bench::Decoder(decoder) => measure_decoder(rt, decoder),

@@ -1,6 +1,7 @@
 -- A whole block of a phase, by the larger code.
 --   led_many                   how many rows the larger code has
---   led_item                   a word of the larger code's block: ones, and then what the pattern's word leaves of the given word
+--   led_at_block fr ph b       the number of a block of a phase, in the larger code's plan
+--   LedItem, led_item          a word of the larger code's block: ones, and then what the pattern's word leaves of the given word
 --   values_least               the least value of the words of a list
 --   start_at                   the first block of the phase, as it is looked up
 --   led_small                  the block's number is below 2^40

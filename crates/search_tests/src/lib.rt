@@ -1,5 +1,5 @@
-//! Tests of information sets, plans and the kernel, of the outside, of boards, of searches and of weight distributions, by values
-//! from outside. They stand here so that no crate is proved twice, once with its tests.
+//! Tests of information sets, plans and the kernel, of the outside, of boards, of searches, of weight distributions and of nearest
+//! words, by values from outside. They stand here so that no crate is proved twice, once with its tests.
 #![tactic(auto)]
 
 #[cfg(test)]
@@ -18,6 +18,8 @@ mod gate;
 mod infosets;
 #[cfg(test)]
 mod kernel;
+#[cfg(test)]
+mod near;
 #[cfg(test)]
 mod outside;
 #[cfg(test)]
