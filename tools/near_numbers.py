@@ -1,5 +1,5 @@
 #!/usr/bin/env python3
-"""The answers of the searches for nearest words of crates/search_tests, read from the definitions.
+"""The answers of the searches for nearest words of crates/kernel_tests, read from the definitions.
 
 Stands beside the product and shares nothing with it: for each phase it lists the error patterns of a level on an information set in
 their order, adds up what each leaves of the given word, and keeps the least pair of distance and place; before each phase it computes

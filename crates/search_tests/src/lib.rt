@@ -1,42 +1,20 @@
-//! Tests of information sets, plans and the kernel, of the outside, of boards, of searches, of weight distributions and of nearest
-//! words, by values from outside. They stand here so that no crate is proved twice, once with its tests.
+//! Tests of the outside and its adapters, of boards and of searches, by values from outside. They stand here so that no crate is
+//! proved twice, once with its tests.
 #![tactic(auto)]
 
 #[cfg(test)]
 mod adapters;
 #[cfg(test)]
-mod blocks;
-#[cfg(test)]
 mod board;
-#[cfg(test)]
-mod distributions;
 #[cfg(test)]
 mod folder;
 #[cfg(test)]
 mod gate;
 #[cfg(test)]
-mod infosets;
-#[cfg(test)]
-mod kernel;
-#[cfg(test)]
-mod near;
-#[cfg(test)]
 mod outside;
-#[cfg(test)]
-mod plain;
-#[cfg(test)]
-mod plan;
-#[cfg(test)]
-mod planted;
 #[cfg(test)]
 mod search;
 #[cfg(test)]
-mod shapes;
-#[cfg(test)]
 mod shifts;
-#[cfg(test)]
-mod stack;
-#[cfg(test)]
-mod tasks;
 #[cfg(test)]
 mod watching;

@@ -1,12 +1,10 @@
 use Rattle.std.proofs.Common.{◌≡◌, length, Contains}
 use Rattle.lc_enumeration.specs.Message.{messages}
-use Rattle.lc_kernel.specs.Kernel.{IsStackAt}
 use Rattle.lc_place.specs.Place.{spot_message}
-use Rattle.search_tests.proofs.stack.block_is_walked.Given as goal
+use Rattle.kernel_tests.proofs.plain.plain_least.Given as goal
 
 abbrev pub invariant-loop-offset : goal.invariant-loop-offset
 invariant-loop-offset l = record {
-  at : IsStackAt l.sets l.plan.m l.stack;
   message : Contains (messages l.plan.k l.plan.q (length l.spot.support)) (spot_message l.spot);
   room : l.spot.room ≡ l.fn.spot.room;
 }

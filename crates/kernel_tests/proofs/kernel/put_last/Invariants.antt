@@ -1,7 +1,7 @@
 use Rattle.std.proofs.Common.{◌≡◌, length, Contains}
 use Rattle.lc_enumeration.specs.Message.{messages}
 use Rattle.lc_place.specs.Place.{spot_message}
-use Rattle.search_tests.proofs.kernel.put_last.Given as goal
+use Rattle.kernel_tests.proofs.kernel.put_last.Given as goal
 
 abbrev pub invariant-loop-offset : goal.invariant-loop-offset
 invariant-loop-offset l = record {

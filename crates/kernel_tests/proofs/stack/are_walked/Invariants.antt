@@ -1,5 +1,5 @@
 use Rattle.std.proofs.Common.{◌≡◌}
-use Rattle.search_tests.proofs.stack.are_walked.Given as goal
+use Rattle.kernel_tests.proofs.stack.are_walked.Given as goal
 
 abbrev pub invariant-loop-block : goal.invariant-loop-block
 invariant-loop-block l = record {

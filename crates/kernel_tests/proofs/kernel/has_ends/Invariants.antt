@@ -1,5 +1,5 @@
 use Rattle.std.proofs.Common.{◌≡◌}
-use Rattle.search_tests.proofs.kernel.has_ends.Given as goal
+use Rattle.kernel_tests.proofs.kernel.has_ends.Given as goal
 
 abbrev pub invariant-loop-block : goal.invariant-loop-block
 invariant-loop-block l = l.spot.room ≡ l.fn.spot.room
