@@ -51,8 +51,8 @@ const TURNS: u64 = 1 << 26;
 // How often a session is tried until its other blocks come in time, since a busy machine may not run the other worker meanwhile.
 const TRIES: u64 = 200;
 
-// A gate that holds the report of one block until the other blocks of the round have come to it. It keeps whether they came, and
-// which workers did.
+// A gate that holds the report of one block, and of the first of the round, until the other blocks of the round have come to it: so
+// one worker can't do them all before the other one has started. It keeps whether they came, and which workers did.
 #[derive(Drop)]
 struct WaitingGate {
     flags: u64,
@@ -92,12 +92,11 @@ impl WaitingGate {
 impl Gate for WaitingGate {
     fn before_report(&self, worker: u32, block: u64) {
         self.workers.fetch_or(1 << worker.min(2), Ordering::SeqCst);
-        if block > 63 {
+        if block > 63 || self.flags & (1 << block) == 0 {
             return;
         }
-        self.blocks
-            .fetch_or(self.flags & (1 << block), Ordering::SeqCst);
-        if block == self.held {
+        let before = self.blocks.fetch_or(1 << block, Ordering::SeqCst);
+        if before == 0 || block == self.held {
             self.wait();
         }
     }
