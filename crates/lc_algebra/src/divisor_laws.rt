@@ -10,9 +10,11 @@ use crate::FieldName;
 /// no other number; rows with the same words have the same.
 pub fn weights_have_a_divisor(field: FieldName)
     ensures greatest { (n : ℕ) (rows : List (List ℕ)) → IsWeightDivisor field n rows (weight_divisor field n rows) }
-    ensures one { (n d e : ℕ) (rows : List (List ℕ)) → IsWeightDivisor field n rows d → IsWeightDivisor field n rows e → d ≡ e }
+    ensures one { (n d e : ℕ) (rows : List (List ℕ)) → IsWeightDivisor field n rows d → IsWeightDivisor field n rows e →
+        d ≡ e }
     ensures positive { (n : ℕ) (rows : List (List ℕ)) → 1 ≤ weight_divisor field n rows }
-    ensures told_by_words { (n : ℕ) (rows others : List (List ℕ)) → SameSpan field n rows others → weight_divisor field n rows ≡ weight_divisor field n others }
+    ensures told_by_words { (n : ℕ) (rows others : List (List ℕ)) → SameSpan field n rows others →
+        weight_divisor field n rows ≡ weight_divisor field n others }
 {}
 
 /// Rounding up gives the least multiple that is at least the number; so a multiple that is at least the

@@ -29,10 +29,12 @@ pub fn product_is_remainder(field: FieldName)
 #[tactic(auto, using(crate::proofs::FieldRecords::powers_of_primitive_laws))]
 pub fn powers_of_primitive(field: FieldName)
     ensures primitive { IsPrimitive field (shape_of field).primitive }
-    ensures exponents { (n : ℕ) → pow field (shape_of field).primitive (n % (size field - 1)) ≡ pow field (shape_of field).primitive n }
+    ensures exponents { (n : ℕ) → pow field (shape_of field).primitive (n % (size field - 1))
+        ≡ pow field (shape_of field).primitive n }
     ensures size_power { (a : ℕ) → a < size field → pow field a (size field) ≡ a }
     ensures characteristic_power { (a b : ℕ) → a < size field → b < size field →
-        pow field (add field a b) (shape_of field).characteristic ≡ add field (pow field a (shape_of field).characteristic) (pow field b (shape_of field).characteristic) }
+        pow field (add field a b) (shape_of field).characteristic
+        ≡ add field (pow field a (shape_of field).characteristic) (pow field b (shape_of field).characteristic) }
 {}
 
 /// If a field lies in a larger one, the embedding takes its elements to distinct elements of the
@@ -41,5 +43,6 @@ pub fn powers_of_primitive(field: FieldName)
 pub fn embedding_keeps_arithmetic(small: FieldName, large: FieldName)
     ensures embedding { IsSubfield small large → IsEmbedding small large (embed small large) }
     ensures itself { (a : ℕ) → a < size small → embed small small a ≡ a }
-    ensures residues { IsSubfield small large → (a : ℕ) → a < (shape_of small).characteristic → embed small large a ≡ a }
+    ensures residues { IsSubfield small large → (a : ℕ) → a < (shape_of small).characteristic →
+        embed small large a ≡ a }
 {}

@@ -86,7 +86,9 @@ fn syndrome(alloc: Global, form: &Alternant, images: &[u8], j: usize) -> Result<
     requires multipliers { Fits form.now.locator form.now.multipliers }
     requires symbols { length images.now ≡ length form.now.points }
     requires images { Fits form.now.locator images.now }
-    ensures is { IfOk result (λ s. s ≡ word_dot form.now.locator images.now (check_row form.now.locator form.now.points form.now.multipliers j)) }
+    ensures is { IfOk result
+        (λ s. s ≡ word_dot form.now.locator images.now
+        (check_row form.now.locator form.now.points form.now.multipliers j)) }
     ensures below { IfOk result (λ s. s < size form.now.locator) }
 {
     let row = check_entries(alloc, &form.locator, &form.points, &form.multipliers, j)?;

@@ -147,7 +147,8 @@ fn subtracted(
     requires word { Fits field.now word.now }
     requires errors { IsWord locator.now (length word.now) errors.now }
     ensures word { IfOk result (λ o. IfSome o (λ w. IsWord field.now (length word.now) w)) }
-    ensures one { IfOk result (λ o. (u : List ℕ) → IsWord field.now (length word.now) u → errors.now ≡ map (embed field.now locator.now) (difference field.now word.now u) → o ≡ Some u) }
+    ensures one { IfOk result (λ o. (u : List ℕ) → IsWord field.now (length word.now) u →
+        errors.now ≡ map (embed field.now locator.now) (difference field.now word.now u) → o ≡ Some u) }
 {
     let mut symbols = Vec::with_capacity(alloc, word.len())?;
     for i in 0..word.len() {

@@ -26,7 +26,8 @@ pub(crate) fn errors_at_zeros(
     requires right { Fits locator.now right.now }
     requires few { length (chosen values.now points.now) ≤ length right.now }
     ensures word { IfOk result (λ o. IfSome o (λ e. IsWord locator.now (length points.now) e)) }
-    ensures one { IfOk result (λ o. (z : List ℕ) → IsWord locator.now (length points.now) z → IsZeroBut values.now z → HasSums locator.now points.now multipliers.now z right.now → o ≡ Some z) }
+    ensures one { IfOk result (λ o. (z : List ℕ) → IsWord locator.now (length points.now) z → IsZeroBut values.now z →
+        HasSums locator.now points.now multipliers.now z right.now → o ≡ Some z) }
 {
     let points = chosen(alloc, values, points)?;
     let multipliers = chosen(alloc, values, multipliers)?;
@@ -51,7 +52,8 @@ fn solution(
     requires right { Fits locator.now right.now }
     requires few { length points.now ≤ length right.now }
     ensures word { IfOk result (λ o. IfSome o (λ w. IsWord locator.now (length points.now) w)) }
-    ensures one { IfOk result (λ o. (z : List ℕ) → IsWord locator.now (length points.now) z → HasSums locator.now points.now multipliers.now z right.now → o ≡ Some z) }
+    ensures one { IfOk result (λ o. (z : List ℕ) → IsWord locator.now (length points.now) z →
+        HasSums locator.now points.now multipliers.now z right.now → o ≡ Some z) }
 {
     let rows = check_rows(alloc, locator, points, multipliers, right.len())?;
     let system = Matrix::from_rows(alloc, locator, points.len(), &rows)?;

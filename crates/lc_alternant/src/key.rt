@@ -67,7 +67,8 @@ fn key_rows(alloc: Global, syndromes: &[u8], t: usize) -> Result<Vec<Word>, NoMe
 #[tactic(auto, using(crate::proofs::StepLaws::values_at_laws))]
 fn values_at(alloc: Global, polynomial: &Poly, points: &[u8]) -> Result<Vec<u8>, NoMemory>
     requires points { Fits polynomial.now.field points.now }
-    ensures are { IfOk result (λ vs. vs.items ≡ map (value_at polynomial.now.field polynomial.now.coefficients) points.now) }
+    ensures are { IfOk result
+        (λ vs. vs.items ≡ map (value_at polynomial.now.field polynomial.now.coefficients) points.now) }
 {
     let mut values = Vec::with_capacity(alloc, points.len())?;
     for i in 0..points.len() {

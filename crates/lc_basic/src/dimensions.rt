@@ -23,7 +23,9 @@ pub fn dimensions_of_trivial_codes(field: FieldName)
 /// Hamming codes with `r` checks have dimension n - r, where n is their length (MacWilliams and Sloane, chapter 1).
 #[tactic(auto, using(crate::proofs::HammingDimension::hamming_dimension))]
 pub fn dimension_of_hamming_codes(field: FieldName)
-    ensures hamming { (r : ℕ) (C : Matrix) → IsCode field (hamming_length (size field) r) (CheckedBy field (hamming_checks (size field) r)) C → length C.rows + r ≡ hamming_length (size field) r }
+    ensures hamming { (r : ℕ) (C : Matrix) →
+        IsCode field (hamming_length (size field) r) (CheckedBy field (hamming_checks (size field) r)) C →
+        length C.rows + r ≡ hamming_length (size field) r }
 {}
 
 /// The rows of a Reed-Muller code of order `r` in `m` variables, one for each product of at most `r` of them, are independent; so its
@@ -31,5 +33,6 @@ pub fn dimension_of_hamming_codes(field: FieldName)
 #[tactic(auto, using(crate::proofs::ReedMullerDimension::dimension_of_reed_muller_codes_laws))]
 pub fn dimension_of_reed_muller_codes()
     ensures rows { (r m : ℕ) → AreIndependent Gf2 (2 ^ m) (reed_muller_rows r m) }
-    ensures dimension { (r m : ℕ) (C : Matrix) → IsCode Gf2 (2 ^ m) (GeneratedBy Gf2 (2 ^ m) (reed_muller_rows r m)) C → length C.rows ≡ sum_by (choose m) (below (r + 1)) }
+    ensures dimension { (r m : ℕ) (C : Matrix) → IsCode Gf2 (2 ^ m) (GeneratedBy Gf2 (2 ^ m) (reed_muller_rows r m)) C →
+        length C.rows ≡ sum_by (choose m) (below (r + 1)) }
 {}

@@ -21,7 +21,9 @@ use std::alloc::Global;
 /// more than 16 elements, FieldTooLarge; `r` is below 2, BadArgument(1); n is above 255, BadLength. `r` may be any number.
 #[tactic(auto, using(lc_constructions::proofs::RefusalLaws::refused_or_not))]
 pub fn hamming(alloc: Global, r: u64, field: &Field) -> Result<Code, CodeRefusal>
-    ensures code { IfOk result (λ c. IsCode field.now (hamming_length (size field.now) r) (CheckedBy field.now (hamming_checks (size field.now) r)) c) }
+    ensures code { IfOk result
+        (λ c. IsCode field.now (hamming_length (size field.now) r)
+        (CheckedBy field.now (hamming_checks (size field.now) r)) c) }
     ensures refused { IsRefusedAs result (first_refusal (hamming_refusals field.now r)) }
     ensures first { RefusesFirst result (first_refusal (hamming_refusals field.now r)) }
 {
@@ -76,7 +78,9 @@ fn code_of_columns(alloc: Global, r: usize, field: &Field) -> Result<Code, NoMem
     requires symbol { IsTrue (is_symbol field.now) }
     requires least { 2 ≤ r }
     requires most { hamming_length (size field.now) r ≤ 255 }
-    ensures code { IfOk result (λ c. IsCode field.now (hamming_length (size field.now) r) (CheckedBy field.now (hamming_checks (size field.now) r)) c) }
+    ensures code { IfOk result
+        (λ c. IsCode field.now (hamming_length (size field.now) r)
+        (CheckedBy field.now (hamming_checks (size field.now) r)) c) }
 {
     let q = field.size() as u64;
     let checks = check_rows(alloc, q, r as u64)?;

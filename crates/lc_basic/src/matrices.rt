@@ -19,7 +19,8 @@ use std::alloc::Global;
 /// isn't below the size of the field, BadArgument(1).
 #[tactic(auto, using(lc_constructions::proofs::RefusalLaws::refused_or_not))]
 pub fn generator_mat(alloc: Global, rows: &[Word], field: &Field) -> Result<Code, CodeRefusal>
-    ensures code { IfOk result (λ c. IsCode field.now (columns_of rows.now) (GeneratedBy field.now (columns_of rows.now) rows.now) c) }
+    ensures code { IfOk result
+        (λ c. IsCode field.now (columns_of rows.now) (GeneratedBy field.now (columns_of rows.now) rows.now) c) }
     ensures refused { IsRefusedAs result (first_refusal (matrix_refusals field.now rows.now)) }
     ensures first { RefusesFirst result (first_refusal (matrix_refusals field.now rows.now)) }
 {

@@ -52,7 +52,8 @@ impl Board {
     pub fn open(alloc: Global, count: u64, first: u64) -> Result<(Board, BoardSeat), NoMemory>
         requires { count ≤ 2 ^ 40 }
         ensures board { IfOk result (λ r. (r.0.first ≡ first) × (r.0.count ≡ count)) }
-        ensures seat { IfOk result (λ r. (r.1.table ≡ r.0.table) × (r.1.view ≡ root_view (record { first = first; count = count }))) }
+        ensures seat { IfOk result
+            (λ r. (r.1.table ≡ r.0.table) × (r.1.view ≡ root_view (record { first = first; count = count }))) }
     {
         let terms = Terms { first, count };
         let (table, seat) = Table::of_words(alloc, &[0, first, first, count], &terms)?;
@@ -109,7 +110,8 @@ impl Board {
         requires seats { All (λ s. s.table ≡ self.table) seats.items }
         requires all { length seats.items + 1 ≡ root.view.made }
         ensures count { result.count ≡ self.count }
-        ensures drawn { (next : ℕ) × StandOnce next (drawn_numbers (books_of root seats.items)) × (result.claimed ≡ min next self.count) }
+        ensures drawn { (next : ℕ) × StandOnce next (drawn_numbers (books_of root seats.items))
+            × (result.claimed ≡ min next self.count) }
         ensures best { result.best ≡ least self.first (reported_values (books_of root seats.items)) }
     {
         let Board { table, count } = self;
@@ -136,7 +138,8 @@ fn take_in(
     requires root { (root.table_id ≡ table.now.table_id) × (root.me.0.spent ≡ false) × (root.me.0.root ≡ true) }
     requires words { table.now.table_id.words ≡ 4 }
     requires seats { All (λ s. s.table ≡ table.now.table_id) seats.items }
-    ensures { (result.table_id ≡ root.table_id) × (result.id ≡ root.id) × (result.me.0 ≡ joined_all root.me.0 seats.items) }
+    ensures { (result.table_id ≡ root.table_id) × (result.id ≡ root.id)
+        × (result.me.0 ≡ joined_all root.me.0 seats.items) }
 {
     for other in seats {
         let BoardSeat { seat } = other;

@@ -27,7 +27,8 @@ pub fn law_of_rounds()
 /// number below the count that a seat drew and hasn't reported is the block that it holds, and a seat that drew a
 /// number at or above the count is past.
 pub fn law_of_boards()
-    ensures rule { (t : Terms) (s : State (Unit {0}) View) → ⟦<Ruled as TableRule<(), View, Terms>>⟧.holds t s ↔ IsRuled t s.words s.views }
+    ensures rule { (t : Terms) (s : State (Unit {0}) View) → ⟦<Ruled as TableRule<(), View, Terms>>⟧.holds t s
+        ↔ IsRuled t s.words s.views }
     ensures opened { OpensUnderTheRule }
     ensures claimed { ClaimKeepsTheRule }
     ensures reported { ReportKeepsTheRule }

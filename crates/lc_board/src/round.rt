@@ -244,7 +244,8 @@ impl RoundState {
 
     fn report(&mut self, actor: u32, value: u64) -> Result<bool, NoMemory>
         ensures answer { IfOk result (λ done. IsTrue done ↔ Possible self.old (Report actor value)) }
-        ensures state { IfOk result (λ done. self.new ≡ (if done then moved self.old (Report actor value) else self.old)) }
+        ensures state { IfOk result
+            (λ done. self.new ≡ (if done then moved self.old (Report actor value) else self.old)) }
         ensures no_memory { OnErr result (self.new ≡ self.old) }
         ensures needed { OnErr result (Possible self.old (Report actor value)) }
     {

@@ -137,8 +137,11 @@ pub fn is_beyond_limit(cert: &Certificate) -> bool
 // Checks that the object of a certificate has no other keys, and that the certificate is within the limits.
 #[tactic(auto, using(crate::proofs::PartLaws::check_closed_laws))]
 fn check_closed(object: &Value, cert: &Certificate) -> Result<(), CertRefusal>
-    ensures is { IfOk result (λ _. closed (members_in (view object.now)) (reads_as (certificate_of cert.now)) ≡ reads_as (certificate_of cert.now)) }
-    ensures refused { IfErr result (λ e. IsRefusedAs e (closed (members_in (view object.now)) (reads_as (certificate_of cert.now)))) }
+    ensures is { IfOk result
+        (λ _. closed (members_in (view object.now)) (reads_as (certificate_of cert.now))
+        ≡ reads_as (certificate_of cert.now)) }
+    ensures refused { IfErr result
+        (λ e. IsRefusedAs e (closed (members_in (view object.now)) (reads_as (certificate_of cert.now)))) }
 {
     if !has_keys(object, key_count(&cert.basis_of)) || !are_set_keys(object) {
         return Err(CertRefusal::Shape(11));

@@ -59,7 +59,8 @@ fn word_of(
 // The rows that values list: at least one, all of the first one's length, which isn't 0.
 #[tactic(auto, using(crate::proofs::RowLaws::rows_of_laws))]
 fn rows_of(alloc: Global, field: FieldName, items: &[Value]) -> Result<Option<Vec<Word>>, NoMemory>
-    ensures is { IfOk result (λ o. option_map (λ v. v.items) o ≡ provided (are_rows field) (each (map numbers_of (map view items.now)))) }
+    ensures is { IfOk result
+        (λ o. option_map (λ v. v.items) o ≡ provided (are_rows field) (each (map numbers_of (map view items.now)))) }
 {
     let [first, ..] = items else {
         return Ok(None);
@@ -88,7 +89,8 @@ pub(crate) fn rows_at(
     object: &Value,
     field: FieldName,
 ) -> Result<Option<Vec<Word>>, NoMemory>
-    ensures is { IfOk result (λ o. option_map (λ v. v.items) o ≡ provided (are_rows field) (rows_at (members_in (view object.now)))) }
+    ensures is { IfOk result
+        (λ o. option_map (λ v. v.items) o ≡ provided (are_rows field) (rows_at (members_in (view object.now)))) }
 {
     match array_at(object, "rows") {
         Some(items) => rows_of(alloc, field, items),

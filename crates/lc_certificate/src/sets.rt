@@ -51,7 +51,8 @@ fn are_places(n: u64, places: &[u64]) -> bool
 // The coordinates listed at a key of a set.
 #[tactic(auto, using(crate::proofs::SetLaws::places_at_laws))]
 fn places_at(alloc: Global, set: &Value, key: &str, n: u64) -> Result<Option<Vec<u64>>, NoMemory>
-    ensures is { IfOk result (λ o. option_map (λ v. v.items) o ≡ provided (are_places n) (list_at key.now (members_in (view set.now)))) }
+    ensures is { IfOk result
+        (λ o. option_map (λ v. v.items) o ≡ provided (are_places n) (list_at key.now (members_in (view set.now)))) }
 {
     let Some(places) = list_at(alloc, set, key)? else {
         return Ok(None);
@@ -86,7 +87,8 @@ fn set_of(alloc: Global, n: u64, set: &Value) -> Result<Option<SetClaim>, NoMemo
 // The sets that objects state.
 #[tactic(auto, using(crate::proofs::SetLaws::sets_of_laws))]
 fn sets_of(alloc: Global, n: u64, sets: &[Value]) -> Result<Option<Vec<SetClaim>>, NoMemory>
-    ensures is { IfOk result (λ o. option_map (λ v. map claim_of v.items) o ≡ each (map (λ v. claim_in n (members_in (view v))) sets.now)) }
+    ensures is { IfOk result
+        (λ o. option_map (λ v. map claim_of v.items) o ≡ each (map (λ v. claim_in n (members_in (view v))) sets.now)) }
 {
     let mut claims = Vec::with_capacity(alloc, sets.len())?;
     for set in sets {
@@ -115,7 +117,8 @@ fn have_three_keys(items: &[Value]) -> bool
 // The values that state the sets of an object: at least one, and all of them objects.
 #[tactic(auto, using(crate::proofs::SetLaws::sets_at_laws))]
 fn sets_at(object: &Value) -> Option<&Vec<Value>>
-    ensures is { option_map (λ v. map (λ x. members_in (view x)) v.now.items) result ≡ sets_at (members_in (view object.now)) }
+    ensures is { option_map (λ v. map (λ x. members_in (view x)) v.now.items) result
+        ≡ sets_at (members_in (view object.now)) }
 {
     let Some(items) = array_at(object, "sets") else {
         return None;
@@ -223,7 +226,8 @@ fn levels_at(alloc: Global, object: &Value, n: u64) -> Result<Proof, CertRefusal
 #[tactic(auto, using(crate::proofs::SetLaws::proof_at_laws))]
 pub(crate) fn proof_at(alloc: Global, object: &Value, n: u64) -> Result<Proof, CertRefusal>
     ensures is { IfOk result (λ p. (make : formats.Proof → formats.Certificate)
-        → way_in (members_in (view object.now)) n make (way_at (members_in (view object.now))) ≡ reads_as (make (proof_of p))) }
+        → way_in (members_in (view object.now)) n make (way_at (members_in (view object.now)))
+        ≡ reads_as (make (proof_of p))) }
     ensures refused { IfErr result (λ e. (make : formats.Proof → formats.Certificate)
         → IsRefusedAs e (way_in (members_in (view object.now)) n make (way_at (members_in (view object.now))))) }
 {

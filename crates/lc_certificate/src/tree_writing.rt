@@ -81,7 +81,8 @@ fn push_form(
     multipliers: &[u8],
     r: u64,
 ) -> Result<(), NoMemory>
-    ensures { OnOk result (text.new.items ≡ text.old.items ++ tree_text (alternant locator points.now multipliers.now r)) }
+    ensures { OnOk result
+        (text.new.items ≡ text.old.items ++ tree_text (alternant locator points.now multipliers.now r)) }
 {
     push_form_head(text, locator, multipliers)?;
     push_form_tail(text, points, r)?;
@@ -158,7 +159,8 @@ fn push_pair(
     left: &Claim,
     right: &Claim,
 ) -> Result<(), NoMemory>
-    ensures is { OnOk result (text.new.items ≡ text.old.items ++ tree_text (pair (pair_of kind) (claim_of left.now) (claim_of right.now))) }
+    ensures is { OnOk result
+        (text.new.items ≡ text.old.items ++ tree_text (pair (pair_of kind) (claim_of left.now) (claim_of right.now))) }
 {
     push_pair_head(text, kind)?;
     push_tree(text, left)?;
@@ -171,7 +173,8 @@ fn push_pair(
 // A concatenation.
 #[cycle(push_tree)]
 fn push_concat(text: &mut Vec<u8>, large: u64, outer: &Claim, inner: &Claim) -> Result<(), NoMemory>
-    ensures is { OnOk result (text.new.items ≡ text.old.items ++ tree_text (concat large (claim_of outer.now) (claim_of inner.now))) }
+    ensures is { OnOk result
+        (text.new.items ≡ text.old.items ++ tree_text (concat large (claim_of outer.now) (claim_of inner.now))) }
 {
     push_text(text, b"{\"inner\":")?;
     push_tree(text, inner)?;
@@ -202,7 +205,8 @@ fn push_places(
     of: &Claim,
     places: &[u64],
 ) -> Result<(), NoMemory>
-    ensures is { OnOk result (text.new.items ≡ text.old.items ++ tree_text (at_places (place_of kind) (claim_of of.now) places.now)) }
+    ensures is { OnOk result
+        (text.new.items ≡ text.old.items ++ tree_text (at_places (place_of kind) (claim_of of.now) places.now)) }
 {
     push_place_head(text, kind)?;
     push_tree(text, of)?;

@@ -79,7 +79,10 @@ pub(crate) fn lighter_in_bits(
     requires packed { ArePacked rows.now bits.now }
     requires front { (t : ℕ) → t < depth → slice_index support.old t < length rows.now.rows }
     requires sum { sum ≡ front_bits rows.now (take depth support.old) }
-    ensures is { found result (slice_index_or sums.new width []) ≡ find (is_lighter distance) (words_over rows.now.field rows.now.columns rows.now.rows (take depth support.old) from (length rows.now.rows - from) (width - depth)) }
+    ensures is { found result (slice_index_or sums.new width [])
+        ≡ find (is_lighter distance)
+        (words_over rows.now.field rows.now.columns rows.now.rows (take depth support.old) from
+        (length rows.now.rows - from) (width - depth)) }
     ensures sums { AreSums rows.now sums.new }
     ensures long { length support.new ≡ length support.old }
     ensures front { take depth support.new ≡ take depth support.old }

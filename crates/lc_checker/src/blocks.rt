@@ -24,7 +24,9 @@ pub(crate) fn has_light<const N: usize>(
     requires binary { rows.now.field ≡ Gf2 }
     requires narrow { rows.now.columns ≤ 64 * N }
     requires few { N ≤ 4 }
-    ensures none { IfOk result (λ b. b ≡ false → None ≡ find (is_lighter distance) (words_from rows.now.field rows.now.columns rows.now.rows 1 level)) }
+    ensures none { IfOk result
+        (λ b. b ≡ false → None
+        ≡ find (is_lighter distance) (words_from rows.now.field rows.now.columns rows.now.rows 1 level)) }
 {
     let bits = rows_in_blocks::<N>(alloc, rows)?;
     let light = some_light(&bits, distance, level, 0, [0; N]);
@@ -70,7 +72,8 @@ fn block(word: &[u8], i: usize) -> &[u8]
 // The bits of the sum of two words.
 #[inline]
 fn sum_of<const N: usize>(sum: [u64; N], row: &[u64; N]) -> [u64; N]
-    ensures are { (u v : List ℕ) → length u ≡ length v → Fits Gf2 u → Fits Gf2 v → AreBlocks N sum.entry u → AreBlocks N row.now v → AreBlocks N result (word_sum Gf2 u v) }
+    ensures are { (u v : List ℕ) → length u ≡ length v → Fits Gf2 u → Fits Gf2 v → AreBlocks N sum.entry u →
+        AreBlocks N row.now v → AreBlocks N result (word_sum Gf2 u v) }
 {
     let mut next = sum;
     for i in 0..N {
@@ -93,7 +96,8 @@ fn ones_of(block: u64) -> u64
 #[inline]
 fn is_light<const N: usize>(bits: &[u64; N], distance: u64) -> bool
     requires few { N ≤ 4 }
-    ensures is { (w : List ℕ) → Fits Gf2 w → length w ≤ 64 * N → AreBlocks N bits.now w → result ≡ is_lighter distance w }
+    ensures is { (w : List ℕ) → Fits Gf2 w → length w ≤ 64 * N → AreBlocks N bits.now w →
+        result ≡ is_lighter distance w }
 {
     let mut w = 0;
     for i in 0..N {
@@ -112,7 +116,8 @@ fn some_light<const N: usize>(
     sum: [u64; N],
 ) -> bool
     requires few { N ≤ 4 }
-    ensures heavy { result ≡ false → (C : MatrixValue) (a : List ℕ) → AreInBlocks C N bits.now → IsWord C.field C.columns a → AreBlocks N sum.entry a → AreHeavy distance C a from width }
+    ensures heavy { result ≡ false → (C : MatrixValue) (a : List ℕ) → AreInBlocks C N bits.now →
+        IsWord C.field C.columns a → AreBlocks N sum.entry a → AreHeavy distance C a from width }
 {
     for place in from..bits.len() {
         let next = sum_of(sum, &bits[place]);

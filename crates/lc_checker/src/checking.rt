@@ -106,7 +106,8 @@ fn verdict_of_words(alloc: Global, cert: &Certificate, code: &Matrix) -> Result<
     requires shaped { IsShaped (certificate_of cert.now) }
     requires code { IsCodeOf (certificate_of cert.now) code.now }
     requires word { (later : FormatsVerdict) → word_reasons (certificate_of cert.now) later ≡ later }
-    requires sets { (later : FormatsVerdict) → set_reasons (certificate_of cert.now) (certificate_of cert.now).proof later ≡ later }
+    requires sets { (later : FormatsVerdict) →
+        set_reasons (certificate_of cert.now) (certificate_of cert.now).proof later ≡ later }
     ensures is { IfOk result (λ v. verdict_of v ≡ verdict (certificate_of cert.now)) }
 {
     match seen_lighter(alloc, cert, code)? {

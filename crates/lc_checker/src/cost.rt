@@ -30,7 +30,8 @@ pub(crate) fn messages_of(
 ) -> Result<u64, NoMemory>
     requires dimension { k ≤ 255 }
     requires field { (1 ≤ q) × (q ≤ 256) }
-    ensures is { IfOk result (λ n. n ≡ capped (sum (map (λ claim. messages_through k q (min claim.level k)) (map claim_of claims.now)))) }
+    ensures is { IfOk result
+        (λ n. n ≡ capped (sum (map (λ claim. messages_through k q (min claim.level k)) (map claim_of claims.now)))) }
 {
     let through = messages_up_to(alloc, k, q)?;
     Ok(sum_of(k, q, &through, claims))
@@ -39,7 +40,8 @@ pub(crate) fn messages_of(
 // The sum over the sets of what the table has for their levels.
 fn sum_of(k: usize, _q: u64, through: &[u64], claims: &[SetClaim]) -> u64
     requires table { IsThrough k _q (k + 1) through.now }
-    ensures is { result ≡ capped (sum (map (λ claim. messages_through k _q (min claim.level k)) (map claim_of claims.now))) }
+    ensures is { result ≡ capped
+        (sum (map (λ claim. messages_through k _q (min claim.level k)) (map claim_of claims.now))) }
 {
     let mut total: u64 = 0;
     for i in 0..claims.len() {

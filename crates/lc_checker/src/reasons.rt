@@ -31,7 +31,8 @@ pub(crate) fn word_reason(
     requires shaped { IsShaped (certificate_of cert.now) }
     requires rows { IsMatrixOf (certificate_of cert.now) rows.now }
     requires code { IsCodeOf (certificate_of cert.now) code.now }
-    ensures is { IfOk result (λ o. (later : FormatsVerdict) → word_reasons (certificate_of cert.now) later ≡ or_else (reasons_of o) later) }
+    ensures is { IfOk result
+        (λ o. (later : FormatsVerdict) → word_reasons (certificate_of cert.now) later ≡ or_else (reasons_of o) later) }
 {
     let words = cost(alloc, cert, code)?;
     if MOST_WORDS < words {
@@ -74,7 +75,9 @@ pub(crate) fn set_reason(
     requires shaped { IsShaped (certificate_of cert.now) }
     requires rows { IsMatrixOf (certificate_of cert.now) rows.now }
     requires code { IsCodeOf (certificate_of cert.now) code.now }
-    ensures is { IfOk result (λ o. (later : FormatsVerdict) → set_reasons (certificate_of cert.now) (certificate_of cert.now).proof later ≡ or_else (reasons_of o) later) }
+    ensures is { IfOk result
+        (λ o. (later : FormatsVerdict) → set_reasons (certificate_of cert.now) (certificate_of cert.now).proof later
+        ≡ or_else (reasons_of o) later) }
 {
     match &cert.basis_of {
         Proof::Scan => Ok(None),
@@ -98,7 +101,9 @@ fn levels_reason(
     requires dimension { length code.now.rows ≤ 255 }
     requires columns { rows.now.columns ≡ code.now.columns }
     requires shaped { All (IsShapedSet code.now.columns) (map claim_of claims.now) }
-    ensures is { IfOk result (λ o. (c : FormatsCertificate) → IsMatrixOf c rows.now → IsCodeOf c code.now → c.distance ≡ distance → (later : FormatsVerdict) → set_reasons c (levels (map claim_of claims.now)) later ≡ or_else (reasons_of o) later) }
+    ensures is { IfOk result (λ o. (c : FormatsCertificate) → IsMatrixOf c rows.now → IsCodeOf c code.now →
+        c.distance ≡ distance → (later : FormatsVerdict) → set_reasons c (levels (map claim_of claims.now)) later
+        ≡ or_else (reasons_of o) later) }
 {
     match first_dependent(alloc, code, claims)? {
         Some(number) => Ok(Some(Reason::SetNotInformation(number))),
@@ -112,7 +117,9 @@ fn apart_reason(rows: &Matrix, code: &Matrix, distance: u64, claims: &[SetClaim]
     requires dimension { length code.now.rows ≤ 255 }
     requires columns { rows.now.columns ≡ code.now.columns }
     requires shaped { All (IsShapedSet code.now.columns) (map claim_of claims.now) }
-    ensures is { (c : FormatsCertificate) → IsMatrixOf c rows.now → IsCodeOf c code.now → c.distance ≡ distance → None ≡ first_dependent_of c 1 (map claim_of claims.now) → (later : FormatsVerdict) → set_reasons c (levels (map claim_of claims.now)) later ≡ or_else (reasons_of result) later }
+    ensures is { (c : FormatsCertificate) → IsMatrixOf c rows.now → IsCodeOf c code.now → c.distance ≡ distance →
+        None ≡ first_dependent_of c 1 (map claim_of claims.now) → (later : FormatsVerdict) →
+        set_reasons c (levels (map claim_of claims.now)) later ≡ or_else (reasons_of result) later }
 {
     match least_overlap(code.cols(), claims) {
         Some(place) => Some(Reason::FreshOverlap(place)),
@@ -125,7 +132,10 @@ fn bound_reason(rows: &Matrix, k: usize, distance: u64, claims: &[SetClaim]) -> 
     requires few { length claims.now ≤ 255 }
     requires dimension { k ≤ 255 }
     requires shaped { All (IsShapedSet rows.now.columns) (map claim_of claims.now) }
-    ensures is { (c : FormatsCertificate) (code : MatrixValue) → IsMatrixOf c rows.now → IsCodeOf c code → length code.rows ≡ k → c.distance ≡ distance → reasons_of result ≡ when (not (reaches c (map claim_of claims.now))) (bound_short (claimed_sum_of c (map claim_of claims.now))) }
+    ensures is { (c : FormatsCertificate) (code : MatrixValue) → IsMatrixOf c rows.now → IsCodeOf c code →
+        length code.rows ≡ k → c.distance ≡ distance →
+        reasons_of result ≡ when (not (reaches c (map claim_of claims.now)))
+        (bound_short (claimed_sum_of c (map claim_of claims.now))) }
 {
     if has_whole_level(k, claims) {
         return None;

@@ -24,7 +24,8 @@ pub(crate) fn seen_lighter(
 ) -> Result<Option<Word>, NoMemory>
     requires shaped { IsShaped (certificate_of cert.now) }
     requires code { IsCodeOf (certificate_of cert.now) code.now }
-    requires sets { (later : FormatsVerdict) → set_reasons (certificate_of cert.now) (certificate_of cert.now).proof later ≡ later }
+    requires sets { (later : FormatsVerdict) →
+        set_reasons (certificate_of cert.now) (certificate_of cert.now).proof later ≡ later }
     ensures is { IfOk result (λ w. w ≡ first_lighter_of (certificate_of cert.now)) }
 {
     match &cert.basis_of {
@@ -49,7 +50,8 @@ fn sets_lighter(
     requires dimension { length code.now.rows ≤ 255 }
     requires shaped { All (IsShapedSet code.now.columns) (map claim_of claims.now) }
     requires sets { All (IsSetOf code.now) (map claim_of claims.now) }
-    ensures is { IfOk result (λ w. (c : FormatsCertificate) → IsCodeOf c code.now → w ≡ find (is_lighter distance) (seen_by c (levels (map claim_of claims.now)))) }
+    ensures is { IfOk result (λ w. (c : FormatsCertificate) → IsCodeOf c code.now →
+        w ≡ find (is_lighter distance) (seen_by c (levels (map claim_of claims.now)))) }
 {
     for i in 0..claims.len() {
         match set_lighter(alloc, code, distance, &claims[i])? {
@@ -70,7 +72,10 @@ fn set_lighter(
     requires dimension { length code.now.rows ≤ 255 }
     requires inside { All (λ c. c < code.now.columns) (claim_of claim.now).basis }
     requires set { IsSetOf code.now (claim_of claim.now) }
-    ensures is { IfOk result (λ w. (c : FormatsCertificate) → IsCodeOf c code.now → w ≡ find (is_lighter distance) (words_through c.field (code_length c) (systematic c.field (code_length c) c.rows (claim_of claim.now).basis) (code_dimension c) (level_in c (claim_of claim.now)))) }
+    ensures is { IfOk result (λ w. (c : FormatsCertificate) → IsCodeOf c code.now →
+        w ≡ find (is_lighter distance)
+        (words_through c.field (code_length c) (systematic c.field (code_length c) c.rows (claim_of claim.now).basis)
+        (code_dimension c) (level_in c (claim_of claim.now)))) }
 {
     let k = code.rows();
     let set = columns_of(alloc, &claim.basis)?;

@@ -22,7 +22,8 @@ pub(crate) fn first_dependent(
     claims: &[SetClaim],
 ) -> Result<Option<u64>, NoMemory>
     requires shaped { All (IsShapedSet code.now.columns) (map claim_of claims.now) }
-    ensures is { IfOk result (λ o. (c : Certificate) → IsCodeOf c code.now → o ≡ first_dependent c 1 (map claim_of claims.now)) }
+    ensures is { IfOk result (λ o. (c : Certificate) → IsCodeOf c code.now →
+        o ≡ first_dependent c 1 (map claim_of claims.now)) }
 {
     for i in 0..claims.len() {
         if !is_information_set(alloc, code, &claims[i].basis)? {
@@ -92,7 +93,9 @@ pub(crate) fn claimed_sum(rows: &Matrix, k: usize, claims: &[SetClaim]) -> u64
     requires few { length claims.now ≤ 255 }
     requires dimension { k ≤ 255 }
     requires shaped { All (IsShapedSet rows.now.columns) (map claim_of claims.now) }
-    ensures is { result ≡ rounded (divisor_of rows.now) (max 1 (bound_sum k (map (λ claim. length claim.fresh) (map claim_of claims.now)) (map (λ claim. min claim.level k) (map claim_of claims.now)))) }
+    ensures is { result ≡ rounded (divisor_of rows.now)
+        (max 1 (bound_sum k (map (λ claim. length claim.fresh) (map claim_of claims.now))
+        (map (λ claim. min claim.level k) (map claim_of claims.now)))) }
 {
     let d = rows.divisor();
     let sum = sum_of(k, claims);
@@ -104,7 +107,8 @@ pub(crate) fn claimed_sum(rows: &Matrix, k: usize, claims: &[SetClaim]) -> u64
 fn sum_of(k: usize, claims: &[SetClaim]) -> u64
     requires few { length claims.now ≤ 255 }
     requires dimension { k ≤ 255 }
-    ensures is { result ≡ bound_sum k (map (λ claim. length claim.fresh) (map claim_of claims.now)) (map (λ claim. min claim.level k) (map claim_of claims.now)) }
+    ensures is { result ≡ bound_sum k (map (λ claim. length claim.fresh) (map claim_of claims.now))
+        (map (λ claim. min claim.level k) (map claim_of claims.now)) }
     ensures few { result ≤ 65280 }
 {
     let mut sum = 0;

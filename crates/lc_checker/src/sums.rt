@@ -22,7 +22,9 @@ pub(crate) fn has_lighter_sum(
 ) -> Result<bool, NoMemory>
     requires rows { length rows.now.rows ≤ 255 }
     requires level { level ≤ length rows.now.rows }
-    ensures none { IfOk result (λ b. b ≡ false → None ≡ find (lighter_than distance) (words_from rows.now.field rows.now.columns rows.now.rows 1 level)) }
+    ensures none { IfOk result
+        (λ b. b ≡ false → None
+        ≡ find (lighter_than distance) (words_from rows.now.field rows.now.columns rows.now.rows 1 level)) }
 {
     let multiples = multiples_of(alloc, rows)?;
     let mut sums = zeros(alloc, level + 2, rows.cols())?;
@@ -69,7 +71,9 @@ fn put_multiple(
     requires many { depth + 1 < length sums.old }
     requires multiples { AreMultiples rows.now multiples.now }
     requires sums { AreSums rows.now sums.old }
-    ensures is { slice_index_or sums.new (depth + 1) [] ≡ word_sum rows.now.field (slice_index_or sums.old depth []) (scale rows.now.field c (slice_index_or rows.now.rows place [])) }
+    ensures is { slice_index_or sums.new (depth + 1) []
+        ≡ word_sum rows.now.field (slice_index_or sums.old depth [])
+        (scale rows.now.field c (slice_index_or rows.now.rows place [])) }
     ensures sums { AreSums rows.now sums.new }
     ensures kept { (t : ℕ) → t ≤ depth → slice_index_or sums.new t [] ≡ slice_index_or sums.old t [] }
 {
@@ -134,7 +138,8 @@ fn some_lighter_word(
     requires rows { length rows.now.rows ≤ 255 }
     requires multiples { AreMultiples rows.now multiples.now }
     requires sums { AreSums rows.now sums.old }
-    ensures none { result ≡ false → None ≡ find (lighter_than distance) (words_from rows.now.field rows.now.columns rows.now.rows 1 level) }
+    ensures none { result ≡ false →
+        None ≡ find (lighter_than distance) (words_from rows.now.field rows.now.columns rows.now.rows 1 level) }
     ensures sums { AreSums rows.now sums.new }
 {
     for place in 0..rows.rows() {

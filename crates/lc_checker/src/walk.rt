@@ -25,7 +25,8 @@ pub(crate) fn first_lighter(
 ) -> Result<Option<Word>, NoMemory>
     requires level { level ≤ length rows.now.rows }
     requires rows { length rows.now.rows ≤ 255 }
-    ensures is { IfOk result (λ w. w ≡ find (is_lighter distance) (words_from rows.now.field rows.now.columns rows.now.rows 1 level)) }
+    ensures is { IfOk result
+        (λ w. w ≡ find (is_lighter distance) (words_from rows.now.field rows.now.columns rows.now.rows 1 level)) }
 {
     if !has_lighter(alloc, rows, distance, level)? {
         return Ok(None);
@@ -39,7 +40,9 @@ pub(crate) fn first_lighter(
 fn has_lighter(alloc: Global, rows: &Matrix, distance: u64, level: usize) -> Result<bool, NoMemory>
     requires level { level ≤ length rows.now.rows }
     requires rows { length rows.now.rows ≤ 255 }
-    ensures none { IfOk result (λ b. b ≡ false → None ≡ find (is_lighter distance) (words_from rows.now.field rows.now.columns rows.now.rows 1 level)) }
+    ensures none { IfOk result
+        (λ b. b ≡ false → None
+        ≡ find (is_lighter distance) (words_from rows.now.field rows.now.columns rows.now.rows 1 level)) }
 {
     if rows.field().size() != 2 || 256 < rows.cols() {
         return has_lighter_sum(alloc, rows, distance, level);
@@ -63,7 +66,8 @@ fn first_in_order(
 ) -> Result<Option<Word>, NoMemory>
     requires level { level ≤ length rows.now.rows }
     requires rows { length rows.now.rows ≤ 255 }
-    ensures is { IfOk result (λ w. w ≡ find (is_lighter distance) (words_from rows.now.field rows.now.columns rows.now.rows 1 level)) }
+    ensures is { IfOk result
+        (λ w. w ≡ find (is_lighter distance) (words_from rows.now.field rows.now.columns rows.now.rows 1 level)) }
 {
     let mut sums = zeros(alloc, level + 1, rows.cols())?;
     let mut support = vec![in alloc; 0usize; level]?;
@@ -91,8 +95,11 @@ fn lighter_through(
     requires many { level < length sums.old }
     requires sums { AreSums rows.now sums.old }
     ensures inside { IfSome result (λ w. w ≤ level) }
-    ensures some { IfSome result (λ w. Some (slice_index_or sums.new w []) ≡ find (is_lighter distance) (words_from rows.now.field rows.now.columns rows.now.rows 1 level)) }
-    ensures none { IfNone result (None ≡ find (is_lighter distance) (words_from rows.now.field rows.now.columns rows.now.rows 1 level)) }
+    ensures some { IfSome result
+        (λ w. Some (slice_index_or sums.new w [])
+        ≡ find (is_lighter distance) (words_from rows.now.field rows.now.columns rows.now.rows 1 level)) }
+    ensures none { IfNone result
+        (None ≡ find (is_lighter distance) (words_from rows.now.field rows.now.columns rows.now.rows 1 level)) }
 {
     for w in 1..level + 1 {
         if lighter_on_level(rows, bits, distance, w, support, sums) {
@@ -118,7 +125,9 @@ fn lighter_on_level(
     requires many { width < length sums.old }
     requires sums { AreSums rows.now sums.old }
     requires packed { 0 < length bits.now → ArePacked rows.now bits.now }
-    ensures is { found result (slice_index_or sums.new width []) ≡ find (is_lighter distance) (words_over rows.now.field rows.now.columns rows.now.rows [] 0 (length rows.now.rows - 0) (width - 0)) }
+    ensures is { found result (slice_index_or sums.new width [])
+        ≡ find (is_lighter distance)
+        (words_over rows.now.field rows.now.columns rows.now.rows [] 0 (length rows.now.rows - 0) (width - 0)) }
     ensures sums { AreSums rows.now sums.new }
     ensures long { length support.new ≡ length support.old }
 {
@@ -159,7 +168,10 @@ fn lighter_over(
     requires many { width < length sums.old }
     requires sums { AreSums rows.now sums.old }
     requires front { (t : ℕ) → t < depth → slice_index support.old t < length rows.now.rows }
-    ensures is { found result (slice_index_or sums.new width []) ≡ find (is_lighter distance) (words_over rows.now.field rows.now.columns rows.now.rows (take depth support.old) from (length rows.now.rows - from) (width - depth)) }
+    ensures is { found result (slice_index_or sums.new width [])
+        ≡ find (is_lighter distance)
+        (words_over rows.now.field rows.now.columns rows.now.rows (take depth support.old) from
+        (length rows.now.rows - from) (width - depth)) }
     ensures sums { AreSums rows.now sums.new }
     ensures long { length support.new ≡ length support.old }
     ensures front { take depth support.new ≡ take depth support.old }
@@ -184,7 +196,8 @@ pub(crate) fn lighter_on(rows: &Matrix, distance: u64, support: &[usize], sums: 
     requires inside { All (λ p. p < length rows.now.rows) support.now }
     requires many { length support.now < length sums.old }
     requires sums { AreSums rows.now sums.old }
-    ensures is { found result (slice_index_or sums.new (length support.now) []) ≡ find (is_lighter distance) (support_words rows.now.field rows.now.columns rows.now.rows support.now) }
+    ensures is { found result (slice_index_or sums.new (length support.now) [])
+        ≡ find (is_lighter distance) (support_words rows.now.field rows.now.columns rows.now.rows support.now) }
     ensures sums { AreSums rows.now sums.new }
 {
     put_row(rows, support[0], 1, sums, 0);
@@ -203,7 +216,9 @@ fn lighter_along(
     requires inside { All (λ p. p < length rows.now.rows) support.now }
     requires many { length support.now < length sums.old }
     requires sums { AreSums rows.now sums.old }
-    ensures is { found result (slice_index_or sums.new (length support.now) []) ≡ find (is_lighter distance) (words_along rows.now.field rows.now.rows (slice_index_or sums.old depth []) (drop depth support.now)) }
+    ensures is { found result (slice_index_or sums.new (length support.now) [])
+        ≡ find (is_lighter distance)
+        (words_along rows.now.field rows.now.rows (slice_index_or sums.old depth []) (drop depth support.now)) }
     ensures sums { AreSums rows.now sums.new }
     ensures kept { (t : ℕ) → t ≤ depth → slice_index_or sums.new t [] ≡ slice_index_or sums.old t [] }
 {
@@ -225,7 +240,9 @@ fn put_row(rows: &Matrix, place: usize, c: u8, sums: &mut [Word], depth: usize)
     requires element { c < size rows.now.field }
     requires many { depth + 1 < length sums.old }
     requires sums { AreSums rows.now sums.old }
-    ensures is { slice_index_or sums.new (depth + 1) [] ≡ word_sum rows.now.field (slice_index_or sums.old depth []) (scale rows.now.field c (slice_index_or rows.now.rows place [])) }
+    ensures is { slice_index_or sums.new (depth + 1) []
+        ≡ word_sum rows.now.field (slice_index_or sums.old depth [])
+        (scale rows.now.field c (slice_index_or rows.now.rows place [])) }
     ensures sums { AreSums rows.now sums.new }
     ensures kept { (t : ℕ) → t ≤ depth → slice_index_or sums.new t [] ≡ slice_index_or sums.old t [] }
 {

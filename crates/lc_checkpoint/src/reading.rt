@@ -65,7 +65,8 @@ fn script_at(object: &Value) -> Option<[u8; 32]>
 // The blocks, the weight and the place that three values state.
 #[tactic(auto, using(crate::proofs::SettledLaws::triple_from_laws))]
 fn triple_from(items: &[Value]) -> Option<Settled>
-    ensures is { option_map settled_of result ≡ option_and_then triple_of (each (map (λ v. plain_number (view v)) items.now)) }
+    ensures is { option_map settled_of result
+        ≡ option_and_then triple_of (each (map (λ v. plain_number (view v)) items.now)) }
 {
     if items.len() != 3 {
         return None;
@@ -129,7 +130,8 @@ fn settled_list(
     budget: u64,
     items: &[Value],
 ) -> Result<Option<Vec<Settled>>, NoMemory>
-    ensures is { IfOk result (λ o. option_map (λ v. map settled_of v.items) o ≡ each (map (settled_in budget) (map view items.now))) }
+    ensures is { IfOk result
+        (λ o. option_map (λ v. map settled_of v.items) o ≡ each (map (settled_in budget) (map view items.now))) }
 {
     let mut settled = Vec::with_capacity(alloc, items.len())?;
     for item in items {
@@ -144,7 +146,8 @@ fn settled_list(
 // The settled needs of an object, at most 131,072.
 #[tactic(auto, using(crate::proofs::SettledLaws::done_at_laws))]
 fn done_at(alloc: Global, object: &Value, budget: u64) -> Result<Option<Vec<Settled>>, NoMemory>
-    ensures is { IfOk result (λ o. option_map (λ v. map settled_of v.items) o ≡ done_in budget (members_in (view object.now))) }
+    ensures is { IfOk result
+        (λ o. option_map (λ v. map settled_of v.items) o ≡ done_in budget (members_in (view object.now))) }
 {
     match array_at(object, "done") {
         Some(items) => {
@@ -225,8 +228,12 @@ fn is_known(version: u64) -> bool
 // The checkpoint that the body is.
 #[tactic(auto, using(crate::proofs::PointLaws::point_from_laws))]
 fn point_from(alloc: Global, body: &Value) -> Result<Checkpoint, CheckpointRefusal>
-    ensures is { IfOk result (λ p. versioned (members_in (view body.now)) (number_at (codes "version") (members_in (view body.now))) ≡ point (point_of p)) }
-    ensures refused { IfErr result (λ e. IsRefusedAs e (versioned (members_in (view body.now)) (number_at (codes "version") (members_in (view body.now))))) }
+    ensures is { IfOk result
+        (λ p. versioned (members_in (view body.now)) (number_at (codes "version") (members_in (view body.now)))
+        ≡ point (point_of p)) }
+    ensures refused { IfErr result
+        (λ e. IsRefusedAs e (versioned (members_in (view body.now))
+        (number_at (codes "version") (members_in (view body.now))))) }
 {
     let Some(version) = number_at(body, "version") else {
         return Err(CheckpointRefusal::Shape);

@@ -30,7 +30,8 @@ fn push_settled(text: &mut Vec<u8>, settled: &Settled) -> Result<(), NoMemory>
 
 // Each settled need with a comma before it.
 fn push_led_settled(text: &mut Vec<u8>, settled: &[Settled]) -> Result<(), NoMemory>
-    ensures { OnOk result (text.new.items ≡ text.old.items ++ flat_map (λ s. 44 ∷ settled_text (settled_of s)) settled.now) }
+    ensures { OnOk result
+        (text.new.items ≡ text.old.items ++ flat_map (λ s. 44 ∷ settled_text (settled_of s)) settled.now) }
 {
     for one in settled {
         text.push(b',')?;

@@ -65,7 +65,9 @@ fn add_coordinates(
 ) -> Result<(), NoMemory>
     requires symbol { IsTrue (is_symbol field.now) }
     requires entries { (k : ℕ) → k < length entries.now → slice_index entries.now k < length numbers.now }
-    ensures added { IfOk result (λ _. rows.new.items ≡ rows.old.items ++ map (λ i. coordinate_row field.now degree numbers.now i entries.now) (below degree)) }
+    ensures added { IfOk result
+        (λ _. rows.new.items ≡ rows.old.items ++ map (λ i. coordinate_row field.now degree numbers.now i entries.now)
+        (below degree)) }
 {
     for i in 0..degree {
         let row = coordinate_row(alloc, field, degree, numbers, entries, i)?;
@@ -140,7 +142,8 @@ fn relative_degree(field: &Field, locator: &Field) -> u8
 fn element(field: &Field, locator: &Field, degree: u8, t: u8) -> u8
     requires symbol { IsTrue (is_symbol field.now) }
     requires subfield { IsSubfield field.now locator.now }
-    ensures is { result ≡ value_at locator.now (map (embed field.now locator.now) (digits (size field.now) degree t)) (shape_of locator.now).primitive }
+    ensures is { result ≡ value_at locator.now (map (embed field.now locator.now) (digits (size field.now) degree t))
+        (shape_of locator.now).primitive }
     ensures below { result < size locator.now }
 {
     if degree == 0 {

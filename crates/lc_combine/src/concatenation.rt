@@ -26,7 +26,8 @@ use std::alloc::Global;
 /// the inner code isn't the exponent, InnerDimension of both; the product of the lengths is above 255, BadLength.
 #[tactic(auto, using(lc_constructions::proofs::RefusalLaws::refused_or_not))]
 pub fn concatenated(alloc: Global, outer: &Code, inner: &Code) -> Result<Code, CodeRefusal>
-    ensures code { IfOk result (λ c. IsCode inner.now.field (outer.now.columns * inner.now.columns) (InConcatenated outer.now inner.now) c) }
+    ensures code { IfOk result
+        (λ c. IsCode inner.now.field (outer.now.columns * inner.now.columns) (InConcatenated outer.now inner.now) c) }
     ensures refused { IsRefusedAs result (first_refusal (concatenated_refusals outer.now inner.now)) }
     ensures first { RefusesFirst result (first_refusal (concatenated_refusals outer.now inner.now)) }
 {
@@ -38,7 +39,8 @@ fn replaced_words(alloc: Global, outer: &Code, inner: &Code) -> Result<Code, NoM
     requires degree { degree_over (size inner.now.field) (size outer.now.field) ≡ Some (length inner.now.rows) }
     requires least { 1 ≤ outer.now.columns * inner.now.columns }
     requires most { outer.now.columns * inner.now.columns ≤ longest }
-    ensures code { IfOk result (λ c. IsCode inner.now.field (outer.now.columns * inner.now.columns) (InConcatenated outer.now inner.now) c) }
+    ensures code { IfOk result
+        (λ c. IsCode inner.now.field (outer.now.columns * inner.now.columns) (InConcatenated outer.now inner.now) c) }
 {
     let _first = outer.matrix();
     let _second = inner.matrix();
@@ -51,7 +53,9 @@ fn replaced_words(alloc: Global, outer: &Code, inner: &Code) -> Result<Code, NoM
 #[tactic(auto, using(crate::proofs::ReplacedLaws::replaced_rows_laws))]
 fn replaced_rows(alloc: Global, outer: &Code, inner: &Code) -> Result<Vec<Word>, NoMemory>
     requires degree { degree_over (size inner.now.field) (size outer.now.field) ≡ Some (length inner.now.rows) }
-    ensures are { IfOk result (λ rows. AreReplaced outer.now inner.now (outer_rows outer.now.field (length inner.now.rows) outer.now.rows) rows.items) }
+    ensures are { IfOk result
+        (λ rows. AreReplaced outer.now inner.now
+        (outer_rows outer.now.field (length inner.now.rows) outer.now.rows) rows.items) }
 {
     let mut rows = Vec::new(alloc);
     for i in 0..outer.dimension() {
@@ -71,7 +75,10 @@ fn push_multiples(
 ) -> Result<(), NoMemory>
     requires degree { degree_over (size inner.now.field) (size outer.now.field) ≡ Some (length inner.now.rows) }
     requires row { i < length outer.now.rows }
-    ensures pushed { IfOk result (λ _. (us : List (List ℕ)) → AreReplaced outer.now inner.now us rows.old.items → AreReplaced outer.now inner.now (us ++ power_multiples outer.now.field (length inner.now.rows) (slice_index_or outer.now.rows i [])) rows.new.items) }
+    ensures pushed { IfOk result (λ _. (us : List (List ℕ)) → AreReplaced outer.now inner.now us rows.old.items →
+        AreReplaced outer.now inner.now
+        (us ++ power_multiples outer.now.field (length inner.now.rows)
+        (slice_index_or outer.now.rows i [])) rows.new.items) }
 {
     let field = outer.field();
     let mut word = Vec::from_slice(alloc, outer.row(i))?;
@@ -129,7 +136,8 @@ fn expansion(outer: &Field, inner: &Field, s: usize, a: u8) -> u16
 #[tactic(auto, using(crate::proofs::ReplacedLaws::value_laws))]
 fn value(outer: &Field, inner: &Field, s: usize, x: u16) -> u8
     requires subfield { IsSubfield inner.now outer.now }
-    ensures is { result ≡ value_at outer.now (map (embed inner.now outer.now) (digits (size inner.now) s x)) (shape_of outer.now).primitive }
+    ensures is { result ≡ value_at outer.now (map (embed inner.now outer.now) (digits (size inner.now) s x))
+        (shape_of outer.now).primitive }
     ensures below { result < size outer.now }
 {
     if s == 0 {
@@ -146,7 +154,9 @@ fn value(outer: &Field, inner: &Field, s: usize, x: u16) -> u8
 // Adds the multiples of the rows by the digits of x to the zero word.
 fn combine(inner: &Code, x: u16, image: &mut [u8])
     requires zero { image.old ≡ zero_word inner.now.columns }
-    ensures is { image.new ≡ combine inner.now.field inner.now.columns (digits (size inner.now.field) (length inner.now.rows) x) inner.now.rows }
+    ensures is { image.new
+        ≡ combine inner.now.field inner.now.columns
+        (digits (size inner.now.field) (length inner.now.rows) x) inner.now.rows }
 {
     let _matrix = inner.matrix();
     let q = inner.field().size();

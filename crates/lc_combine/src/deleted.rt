@@ -18,7 +18,8 @@ use std::alloc::Global;
 /// Refused: the coordinates aren't strictly rising, one of them is the length or more, or they are all coordinates, BadPositions.
 #[tactic(auto, using(lc_constructions::proofs::RefusalLaws::refused_or_not))]
 pub fn punctured(alloc: Global, code: &Code, places: &[u64]) -> Result<Code, CodeRefusal>
-    ensures code { IfOk result (λ c. IsCode code.now.field (code.now.columns - length places.now) (InPunctured code.now places.now) c) }
+    ensures code { IfOk result
+        (λ c. IsCode code.now.field (code.now.columns - length places.now) (InPunctured code.now places.now) c) }
     ensures refused { IsRefusedAs result (first_refusal (deleted_refusals code.now places.now)) }
     ensures first { RefusesFirst result (first_refusal (deleted_refusals code.now places.now)) }
 {
@@ -30,7 +31,8 @@ pub fn punctured(alloc: Global, code: &Code, places: &[u64]) -> Result<Code, Cod
 fn punctured_words(alloc: Global, code: &Code, places: &[u64]) -> Result<Code, NoMemory>
     requires fine { first_refusal (deleted_refusals code.now places.now) ≡ None }
     requires count { length places.now < code.now.columns }
-    ensures code { IfOk result (λ c. IsCode code.now.field (code.now.columns - length places.now) (InPunctured code.now places.now) c) }
+    ensures code { IfOk result
+        (λ c. IsCode code.now.field (code.now.columns - length places.now) (InPunctured code.now places.now) c) }
 {
     let _matrix = code.matrix();
     let rows = punctured_rows(alloc, code, places)?;
@@ -43,7 +45,8 @@ fn punctured_words(alloc: Global, code: &Code, places: &[u64]) -> Result<Code, N
 /// Refused: the coordinates aren't strictly rising, one of them is the length or more, or they are all coordinates, BadPositions.
 #[tactic(auto, using(lc_constructions::proofs::RefusalLaws::refused_or_not))]
 pub fn shortened(alloc: Global, code: &Code, places: &[u64]) -> Result<Code, CodeRefusal>
-    ensures code { IfOk result (λ c. IsCode code.now.field (code.now.columns - length places.now) (InShortened code.now places.now) c) }
+    ensures code { IfOk result
+        (λ c. IsCode code.now.field (code.now.columns - length places.now) (InShortened code.now places.now) c) }
     ensures refused { IsRefusedAs result (first_refusal (deleted_refusals code.now places.now)) }
     ensures first { RefusesFirst result (first_refusal (deleted_refusals code.now places.now)) }
 {
@@ -56,7 +59,8 @@ pub fn shortened(alloc: Global, code: &Code, places: &[u64]) -> Result<Code, Cod
 fn shortened_words(alloc: Global, code: &Code, places: &[u64]) -> Result<Code, NoMemory>
     requires fine { first_refusal (deleted_refusals code.now places.now) ≡ None }
     requires count { length places.now < code.now.columns }
-    ensures code { IfOk result (λ c. IsCode code.now.field (code.now.columns - length places.now) (InShortened code.now places.now) c) }
+    ensures code { IfOk result
+        (λ c. IsCode code.now.field (code.now.columns - length places.now) (InShortened code.now places.now) c) }
 {
     let _matrix = code.matrix();
     let dual = code.dual(alloc)?;

@@ -20,7 +20,8 @@ use std::alloc::Global;
 /// Refused in this order: the fields differ, FieldsDiffer; the product of the lengths is above 255, BadLength.
 #[tactic(auto, using(lc_constructions::proofs::RefusalLaws::refused_or_not))]
 pub fn direct_product(alloc: Global, a: &Code, b: &Code) -> Result<Code, CodeRefusal>
-    ensures code { IfOk result (λ c. IsCode a.now.field (a.now.columns * b.now.columns) (InDirectProduct a.now b.now) c) }
+    ensures code { IfOk result
+        (λ c. IsCode a.now.field (a.now.columns * b.now.columns) (InDirectProduct a.now b.now) c) }
     ensures refused { IsRefusedAs result (first_refusal (direct_product_refusals a.now b.now)) }
     ensures first { RefusesFirst result (first_refusal (direct_product_refusals a.now b.now)) }
 {
@@ -32,7 +33,8 @@ fn product_words(alloc: Global, a: &Code, b: &Code) -> Result<Code, NoMemory>
     requires field { a.now.field ≡ b.now.field }
     requires least { 1 ≤ a.now.columns * b.now.columns }
     requires most { a.now.columns * b.now.columns ≤ longest }
-    ensures code { IfOk result (λ c. IsCode a.now.field (a.now.columns * b.now.columns) (InDirectProduct a.now b.now) c) }
+    ensures code { IfOk result
+        (λ c. IsCode a.now.field (a.now.columns * b.now.columns) (InDirectProduct a.now b.now) c) }
 {
     let _first = a.matrix();
     let _second = b.matrix();

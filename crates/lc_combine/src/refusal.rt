@@ -160,7 +160,8 @@ pub(crate) fn check_uuv(a: &Code, b: &Code) -> Result<(), CodeRefusal>
 #[tactic(auto, using(crate::proofs::NestedLaws::check_concatenated_laws))]
 pub(crate) fn check_concatenated(outer: &Code, inner: &Code) -> Result<(), CodeRefusal>
     ensures is { IsChecked result (first_refusal (concatenated_refusals outer.now inner.now)) }
-    ensures degree { IfOk result (λ _. degree_over (size inner.now.field) (size outer.now.field) ≡ Some (length inner.now.rows)) }
+    ensures degree { IfOk result
+        (λ _. degree_over (size inner.now.field) (size outer.now.field) ≡ Some (length inner.now.rows)) }
     ensures least { IfOk result (λ _. 1 ≤ outer.now.columns * inner.now.columns) }
     ensures most { IfOk result (λ _. outer.now.columns * inner.now.columns ≤ longest) }
 {
@@ -175,7 +176,8 @@ pub(crate) fn check_concatenated(outer: &Code, inner: &Code) -> Result<(), CodeR
 fn check_nested(outer: &Code, inner: &Code, s: usize) -> Result<(), CodeRefusal>
     requires degree { degree_over (size inner.now.field) (size outer.now.field) ≡ Some s }
     ensures is { IsChecked result (first_refusal (concatenated_refusals outer.now inner.now)) }
-    ensures degree { IfOk result (λ _. degree_over (size inner.now.field) (size outer.now.field) ≡ Some (length inner.now.rows)) }
+    ensures degree { IfOk result
+        (λ _. degree_over (size inner.now.field) (size outer.now.field) ≡ Some (length inner.now.rows)) }
     ensures least { IfOk result (λ _. 1 ≤ outer.now.columns * inner.now.columns) }
     ensures most { IfOk result (λ _. outer.now.columns * inner.now.columns ≤ longest) }
 {

@@ -34,7 +34,8 @@ pub trait Blocks {
         requires low { (j : ℕ) → Self.tally self.now room.old j ≤ 2 ^ 53 }
         ensures is { result ≡ Self.value self.now block }
         ensures room { Self.fits self.now room.new }
-        ensures added { (j : ℕ) → Self.tally self.now room.new j ≡ Self.tally self.now room.old j + Self.share self.now block j }
+        ensures added { (j : ℕ) →
+            Self.tally self.now room.new j ≡ Self.tally self.now room.old j + Self.share self.now block j }
         ensures few { (j : ℕ) → Self.share self.now block j ≤ 4096 };
 
     /// Makes one room more, whose counts are 0, beside another, with which it may share what no block changes. Refused only

@@ -28,7 +28,8 @@ fn run<W: Send + Drop, B: Blocks<Room = W>, G: Gate + Sync>(
     requires ready { IsReady (B.fits blocks.now) (B.tally blocks.now) board.now worker.old }
     requires blocks { start + board.now.count ≤ B.total blocks.now }
     requires few { B.total blocks.now ≤ 2 ^ 40 }
-    ensures done { IsDone (B.tally blocks.now) (λ x. B.value blocks.now (start + x)) (λ x. B.share blocks.now (start + x)) board.now worker.new }
+    ensures done { IsDone (B.tally blocks.now) (λ x. B.value blocks.now (start + x))
+        (λ x. B.share blocks.now (start + x)) board.now worker.new }
     ensures room { B.fits blocks.now worker.new.room }
     ensures station { station worker.new ≡ station worker.old }
 {
@@ -54,7 +55,8 @@ pub(crate) fn run_all<
     requires ready { All (IsReady (B.fits blocks.now) (B.tally blocks.now) board.now) workers.old }
     requires blocks { start + board.now.count ≤ B.total blocks.now }
     requires few { B.total blocks.now ≤ 2 ^ 40 }
-    ensures { HaveDone (B.fits blocks.now) (B.tally blocks.now) (λ x. B.value blocks.now (start + x)) (λ x. B.share blocks.now (start + x)) board.now workers.old workers.new }
+    ensures { HaveDone (B.fits blocks.now) (B.tally blocks.now) (λ x. B.value blocks.now (start + x))
+        (λ x. B.share blocks.now (start + x)) board.now workers.old workers.new }
 {
     if workers.len() < 2 {
         if !workers.is_empty() {
@@ -82,18 +84,28 @@ fn run_both<R: Threads + Sync, G: Gate + Sync, W: Send + Drop, B: Blocks<Room = 
     requires back { All (IsReady (B.fits blocks.now) (B.tally blocks.now) board.now) back.old }
     requires blocks { start + board.now.count ≤ B.total blocks.now }
     requires few { B.total blocks.now ≤ 2 ^ 40 }
-    ensures front { HaveDone (B.fits blocks.now) (B.tally blocks.now) (λ x. B.value blocks.now (start + x)) (λ x. B.share blocks.now (start + x)) board.now front.old front.new }
-    ensures back { HaveDone (B.fits blocks.now) (B.tally blocks.now) (λ x. B.value blocks.now (start + x)) (λ x. B.share blocks.now (start + x)) board.now back.old back.new }
+    ensures front { HaveDone (B.fits blocks.now) (B.tally blocks.now) (λ x. B.value blocks.now (start + x))
+        (λ x. B.share blocks.now (start + x)) board.now front.old front.new }
+    ensures back { HaveDone (B.fits blocks.now) (B.tally blocks.now) (λ x. B.value blocks.now (start + x))
+        (λ x. B.share blocks.now (start + x)) board.now back.old back.new }
 {
     join_mut(
         rt,
         &mut ||
-            requires { IsSync R.row × IsSync G.row × IsSync B.row × All (IsReady (B.fits blocks.now) (B.tally blocks.now) board.now) front.now × (start + board.now.count ≤ B.total blocks.now) × (B.total blocks.now ≤ 2 ^ 40) }
-            ensures { HaveDone (B.fits blocks.entry.now) (B.tally blocks.entry.now) (λ x. B.value blocks.entry.now (start + x)) (λ x. B.share blocks.entry.now (start + x)) board.entry.now front.entry.now front.exit.now }
+            requires { IsSync R.row × IsSync G.row × IsSync B.row
+                × All (IsReady (B.fits blocks.now) (B.tally blocks.now) board.now) front.now
+                × (start + board.now.count ≤ B.total blocks.now) × (B.total blocks.now ≤ 2 ^ 40) }
+            ensures { HaveDone (B.fits blocks.entry.now) (B.tally blocks.entry.now)
+                (λ x. B.value blocks.entry.now (start + x))
+                (λ x. B.share blocks.entry.now (start + x)) board.entry.now front.entry.now front.exit.now }
         { run_all(rt, blocks, start, board, gate, front) },
         &mut ||
-            requires { IsSync R.row × IsSync G.row × IsSync B.row × All (IsReady (B.fits blocks.now) (B.tally blocks.now) board.now) back.now × (start + board.now.count ≤ B.total blocks.now) × (B.total blocks.now ≤ 2 ^ 40) }
-            ensures { HaveDone (B.fits blocks.entry.now) (B.tally blocks.entry.now) (λ x. B.value blocks.entry.now (start + x)) (λ x. B.share blocks.entry.now (start + x)) board.entry.now back.entry.now back.exit.now }
+            requires { IsSync R.row × IsSync G.row × IsSync B.row
+                × All (IsReady (B.fits blocks.now) (B.tally blocks.now) board.now) back.now
+                × (start + board.now.count ≤ B.total blocks.now) × (B.total blocks.now ≤ 2 ^ 40) }
+            ensures { HaveDone (B.fits blocks.entry.now) (B.tally blocks.entry.now)
+                (λ x. B.value blocks.entry.now (start + x))
+                (λ x. B.share blocks.entry.now (start + x)) board.entry.now back.entry.now back.exit.now }
         { run_all(rt, blocks, start, board, gate, back) },
     );
 }
@@ -110,7 +122,8 @@ pub(crate) fn run_list<R: Threads + Sync, G: Gate + Sync, B: Blocks + Sync>(
     requires ready { All (IsReady (B.fits blocks.now) (B.tally blocks.now) board.now) workers.old.items }
     requires blocks { start + board.now.count ≤ B.total blocks.now }
     requires few { B.total blocks.now ≤ 2 ^ 40 }
-    ensures { HaveDone (B.fits blocks.now) (B.tally blocks.now) (λ x. B.value blocks.now (start + x)) (λ x. B.share blocks.now (start + x)) board.now workers.old.items workers.new.items }
+    ensures { HaveDone (B.fits blocks.now) (B.tally blocks.now) (λ x. B.value blocks.now (start + x))
+        (λ x. B.share blocks.now (start + x)) board.now workers.old.items workers.new.items }
 {
     run_all(rt, blocks, start, board, gate, workers.as_mut_slice());
 }

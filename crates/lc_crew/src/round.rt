@@ -119,7 +119,11 @@ fn close_all<W: Send + Drop>(
     requires place { length spare.old.items + length workers.items ≤ vec_capacity spare.old }
     ensures spare { spare.new.items ≡ spare.old.items ++ map (λ w. w.room) workers.items }
     ensures count { result.count ≡ board.count }
-    ensures closed { (tally : W → ℕ → ℕ) (value : ℕ → ℕ) (share : ℕ → ℕ → ℕ) (start : ℕ) → All (IsDone tally (λ x. value (start + x)) (λ x. share (start + x)) board) workers.items → (result.claimed ≡ board.count) × (result.best ≡ least_over value board.first start board.count) × ((j : ℕ) → sum_by (λ w. tally w j) (map (λ w. w.room) workers.items) ≡ sum_by (λ b. share b j) (numbers_from start board.count)) }
+    ensures closed { (tally : W → ℕ → ℕ) (value : ℕ → ℕ) (share : ℕ → ℕ → ℕ) (start : ℕ) →
+        All (IsDone tally (λ x. value (start + x)) (λ x. share (start + x)) board) workers.items →
+        (result.claimed ≡ board.count) × (result.best ≡ least_over value board.first start board.count)
+        × ((j : ℕ) → sum_by (λ w. tally w j) (map (λ w. w.room) workers.items)
+        ≡ sum_by (λ b. share b j) (numbers_from start board.count)) }
 {
     let Some(last) = workers.pop() else {
         unreachable!()
@@ -163,7 +167,9 @@ pub fn run_round<R: Threads + Sync, G: Gate + Sync, B: Blocks + Sync>(
     ensures count { IfOk result (λ r. r.count ≡ count) }
     ensures claimed { IfOk result (λ r. r.claimed ≡ count) }
     ensures best { IfOk result (λ r. r.best ≡ least_over (B.value blocks.now) first start count) }
-    ensures sums { IfOk result (λ _. (j : ℕ) → sum_by (λ w. B.tally blocks.now w j) spare.new.items ≡ sum_by (λ b. B.share blocks.now b j) (numbers_from start count)) }
+    ensures sums { IfOk result
+        (λ _. (j : ℕ) → sum_by (λ w. B.tally blocks.now w j) spare.new.items
+        ≡ sum_by (λ b. B.share blocks.now b j) (numbers_from start count)) }
     ensures no_memory { OnErr result (All (IsFresh (B.fits blocks.now) (B.tally blocks.now)) spare.new.items) }
 {
     let (board, root) = Board::open(alloc, count, first)?;

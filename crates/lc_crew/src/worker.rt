@@ -29,7 +29,9 @@ pub fn work<B: Blocks, G: Gate + Sync>(
     requires room { B.fits blocks.now room.old }
     requires low { (j : ℕ) → B.tally blocks.now room.old j ≤ 2 ^ 52 }
     ensures table { seat.new.table ≡ seat.old.table }
-    ensures worked { HasWorked (λ x. B.value blocks.now (start + x)) (λ x. B.share blocks.now (start + x)) board.now.count seat.old.view (B.tally blocks.now room.old) seat.new.view (B.tally blocks.now room.new) }
+    ensures worked { HasWorked (λ x. B.value blocks.now (start + x))
+        (λ x. B.share blocks.now (start + x)) board.now.count seat.old.view (B.tally blocks.now room.old) seat.new.view
+        (B.tally blocks.now room.new) }
     ensures room { B.fits blocks.now room.new }
 {
     while let Some(number) = board.claim(seat) {

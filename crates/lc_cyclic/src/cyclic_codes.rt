@@ -25,8 +25,10 @@ use std::alloc::Global;
 /// the polynomial doesn't divide x^n - 1, NotADivisor.
 pub fn generator_pol(alloc: Global, list: &[u8], n: u64, field: &Field) -> Result<Code, CodeRefusal>
     ensures code { IfOk result (λ c. IsCode field.now n (IsMultipleOf field.now n (trimmed list.now)) c) }
-    ensures refused { (divides : Bool) → DividesPowerLess field.now list.now n divides → IsRefusedAs result (first_refusal (cyclic_refusals field.now list.now n divides)) }
-    ensures first { (divides : Bool) → DividesPowerLess field.now list.now n divides → RefusesFirst result (first_refusal (cyclic_refusals field.now list.now n divides)) }
+    ensures refused { (divides : Bool) → DividesPowerLess field.now list.now n divides →
+        IsRefusedAs result (first_refusal (cyclic_refusals field.now list.now n divides)) }
+    ensures first { (divides : Bool) → DividesPowerLess field.now list.now n divides →
+        RefusesFirst result (first_refusal (cyclic_refusals field.now list.now n divides)) }
 {
     check_cyclic(field, list, n)?;
     Ok(generated(alloc, field, trimmed(list), n as usize)?)
@@ -39,8 +41,10 @@ pub fn generator_pol(alloc: Global, list: &[u8], n: u64, field: &Field) -> Resul
 /// Its dimension is the degree of the polynomial. Refused as `generator_pol` is, in the same order.
 pub fn check_pol(alloc: Global, list: &[u8], n: u64, field: &Field) -> Result<Code, CodeRefusal>
     ensures code { IfOk result (λ c. IsCode field.now n (IsCheckedBy field.now n (trimmed list.now)) c) }
-    ensures refused { (divides : Bool) → DividesPowerLess field.now list.now n divides → IsRefusedAs result (first_refusal (cyclic_refusals field.now list.now n divides)) }
-    ensures first { (divides : Bool) → DividesPowerLess field.now list.now n divides → RefusesFirst result (first_refusal (cyclic_refusals field.now list.now n divides)) }
+    ensures refused { (divides : Bool) → DividesPowerLess field.now list.now n divides →
+        IsRefusedAs result (first_refusal (cyclic_refusals field.now list.now n divides)) }
+    ensures first { (divides : Bool) → DividesPowerLess field.now list.now n divides →
+        RefusesFirst result (first_refusal (cyclic_refusals field.now list.now n divides)) }
 {
     check_cyclic(field, list, n)?;
     Ok(checked(alloc, field, list, n as usize)?)
@@ -49,7 +53,8 @@ pub fn check_pol(alloc: Global, list: &[u8], n: u64, field: &Field) -> Result<Co
 // Checks the arguments of a cyclic code.
 #[tactic(auto, using(crate::proofs::CyclicRefusals::check_cyclic_laws))]
 fn check_cyclic(field: &Field, list: &[u8], n: u64) -> Result<(), CodeRefusal>
-    ensures is { (divides : Bool) → DividesPowerLess field.now list.now n divides → IsChecked result (first_refusal (cyclic_refusals field.now list.now n divides)) }
+    ensures is { (divides : Bool) → DividesPowerLess field.now list.now n divides →
+        IsChecked result (first_refusal (cyclic_refusals field.now list.now n divides)) }
     ensures symbol { IfOk result (λ _. IsTrue (is_symbol field.now)) }
     ensures least { IfOk result (λ _. 1 ≤ n) }
     ensures most { IfOk result (λ _. n ≤ longest) }
@@ -123,7 +128,9 @@ fn cofactor(alloc: Global, field: &Field, list: &[u8], n: usize) -> Result<Poly,
     requires nonzero { 0 < length (trimmed list.now) }
     requires divides { Divides field.now (trimmed list.now) (x_power_minus_one field.now n) }
     ensures field { IfOk result (λ p. p.field ≡ field.now) }
-    ensures cofactor { IfOk result (λ p. SamePolynomial (x_power_minus_one field.now n) (poly_product field.now p.coefficients (trimmed list.now))) }
+    ensures cofactor { IfOk result
+        (λ p. SamePolynomial (x_power_minus_one field.now n)
+        (poly_product field.now p.coefficients (trimmed list.now))) }
 {
     let polynomial = Poly::from_list(alloc, field, list)?;
     let power = x_power_minus_one(alloc, field, n)?;

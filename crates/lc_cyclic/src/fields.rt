@@ -77,7 +77,8 @@ pub(crate) fn locator_size(field: &Field, n: u64) -> Option<u64>
 fn is_locator(field: &Field, n: u64, shape: &Shape) -> bool
     requires least { 1 ≤ n }
     requires size { 1 ≤ shape.now.size }
-    ensures is { result ≡ holds_root (shape_of field.now).characteristic (shape_of field.now).degree n shape.now.characteristic shape.now.degree shape.now.size }
+    ensures is { result ≡ holds_root (shape_of field.now).characteristic
+        (shape_of field.now).degree n shape.now.characteristic shape.now.degree shape.now.size }
 {
     if shape.characteristic != field.characteristic() {
         return false;

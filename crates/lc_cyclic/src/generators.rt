@@ -76,7 +76,9 @@ fn with_zero(
     requires subfield { IsSubfield field.now locator.now }
     requires element { zero < size locator.now }
     ensures field { IfOk result (λ p. p.field ≡ field.now) }
-    ensures product { IfOk result (λ p. (u : List ℕ) × IsMinimal field.now locator.now zero u × (p.coefficients ≡ trimmed (poly_product field.now generator.now.coefficients u))) }
+    ensures product { IfOk result
+        (λ p. (u : List ℕ) × IsMinimal field.now locator.now zero u
+        × (p.coefficients ≡ trimmed (poly_product field.now generator.now.coefficients u))) }
 {
     let factor = minimal(alloc, locator, field, zero)?;
     Ok(generator.mul(alloc, &factor)?)

@@ -73,7 +73,8 @@ fn pair_at(
     field: FieldName,
     kind: PairKind,
 ) -> Result<Option<Claim>, NoMemory>
-    ensures is { IfOk result (λ o. option_map claim_of o ≡ kind_claim most field (members_in (view object.now)) (of_pair (pair_of kind))) }
+    ensures is { IfOk result
+        (λ o. option_map claim_of o ≡ kind_claim most field (members_in (view object.now)) (of_pair (pair_of kind))) }
 {
     if !has_keys(object, 3) {
         return Ok(None);
@@ -98,7 +99,8 @@ fn concat_at(
     object: &Value,
     field: FieldName,
 ) -> Result<Option<Claim>, NoMemory>
-    ensures is { IfOk result (λ o. option_map claim_of o ≡ kind_claim most field (members_in (view object.now)) of_concat) }
+    ensures is { IfOk result
+        (λ o. option_map claim_of o ≡ kind_claim most field (members_in (view object.now)) of_concat) }
 {
     if !has_keys(object, 4) {
         return Ok(None);
@@ -141,7 +143,8 @@ fn subcode_at(
     object: &Value,
     field: FieldName,
 ) -> Result<Option<Claim>, NoMemory>
-    ensures is { IfOk result (λ o. option_map claim_of o ≡ kind_claim most field (members_in (view object.now)) of_subcode) }
+    ensures is { IfOk result
+        (λ o. option_map claim_of o ≡ kind_claim most field (members_in (view object.now)) of_subcode) }
 {
     if !has_keys(object, 3) {
         return Ok(None);
@@ -166,7 +169,9 @@ fn places_at(
     field: FieldName,
     kind: PlaceKind,
 ) -> Result<Option<Claim>, NoMemory>
-    ensures is { IfOk result (λ o. option_map claim_of o ≡ kind_claim most field (members_in (view object.now)) (of_places (place_of kind))) }
+    ensures is { IfOk result
+        (λ o. option_map claim_of o
+        ≡ kind_claim most field (members_in (view object.now)) (of_places (place_of kind))) }
 {
     if !has_keys(object, 3) {
         return Ok(None);
@@ -190,7 +195,8 @@ fn extend_at(
     object: &Value,
     field: FieldName,
 ) -> Result<Option<Claim>, NoMemory>
-    ensures is { IfOk result (λ o. option_map claim_of o ≡ kind_claim most field (members_in (view object.now)) of_extend) }
+    ensures is { IfOk result
+        (λ o. option_map claim_of o ≡ kind_claim most field (members_in (view object.now)) of_extend) }
 {
     if !has_keys(object, 2) {
         return Ok(None);

@@ -23,7 +23,9 @@ pub(crate) fn search_at(
     object: &Value,
     field: FieldName,
 ) -> Result<Option<Claim>, NoMemory>
-    ensures is { IfOk result (λ o. option_map claim_of o ≡ search_of (members_in (view object.now)) (parts_in (members_in (view object.now)) field)) }
+    ensures is { IfOk result
+        (λ o. option_map claim_of o
+        ≡ search_of (members_in (view object.now)) (parts_in (members_in (view object.now)) field)) }
 {
     match parts_of(alloc, object, field) {
         Ok(cert) => Ok(search_with(object, cert)),
@@ -37,7 +39,8 @@ pub(crate) fn search_at(
 // The search of a certificate, if the object has no keys but those of the claim.
 #[tactic(auto, using(crate::proofs::LeafLaws::search_with_laws), unfolding(lc_certificate::specs::Trees::claim_of))]
 fn search_with(object: &Value, cert: Certificate) -> Option<Claim>
-    ensures is { option_map claim_of result ≡ search_of (members_in (view object.now)) (reads_as (certificate_of cert)) }
+    ensures is { option_map claim_of result
+        ≡ search_of (members_in (view object.now)) (reads_as (certificate_of cert)) }
 {
     if !has_keys(object, key_count(&cert.basis_of) - 1) {
         return None;

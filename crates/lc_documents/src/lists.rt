@@ -50,7 +50,8 @@ pub(crate) fn tree_word(
     object: &Value,
     field: FieldName,
 ) -> Result<Option<Word>, NoMemory>
-    ensures is { IfOk result (λ o. o ≡ provided (is_tree_word field) (list_at (codes "word") (members_in (view object.now)))) }
+    ensures is { IfOk result
+        (λ o. o ≡ provided (is_tree_word field) (list_at (codes "word") (members_in (view object.now)))) }
 {
     let Some(numbers) = list_at(alloc, object, "word")? else {
         return Ok(None);
@@ -75,7 +76,9 @@ fn word_of(alloc: Global, field: FieldName, value: &Value) -> Result<Option<Word
 // The words over the field that values list.
 #[tactic(auto, using(crate::proofs::ListLaws::words_of_laws))]
 fn words_of(alloc: Global, field: FieldName, items: &[Value]) -> Result<Option<Vec<Word>>, NoMemory>
-    ensures is { IfOk result (λ o. option_map (λ v. v.items) o ≡ provided (have_elements field) (each (map numbers_of (map view items.now)))) }
+    ensures is { IfOk result
+        (λ o. option_map (λ v. v.items) o
+        ≡ provided (have_elements field) (each (map numbers_of (map view items.now)))) }
 {
     let mut words = Vec::with_capacity(alloc, items.len())?;
     for item in items {
@@ -94,7 +97,8 @@ pub(crate) fn words_at(
     object: &Value,
     field: FieldName,
 ) -> Result<Option<Vec<Word>>, NoMemory>
-    ensures is { IfOk result (λ o. option_map (λ v. v.items) o ≡ provided (have_elements field) (rows_at (members_in (view object.now)))) }
+    ensures is { IfOk result
+        (λ o. option_map (λ v. v.items) o ≡ provided (have_elements field) (rows_at (members_in (view object.now)))) }
 {
     match array_at(object, "rows") {
         Some(items) => words_of(alloc, field, items),

@@ -35,7 +35,9 @@ fn is_tree(value: &Value) -> bool
 #[tactic(auto, using(crate::proofs::DocumentLaws::top_claim_laws))]
 fn top_claim(alloc: Global, value: &Value, field: FieldName) -> Result<Option<Claim>, NoMemory>
     requires nests { members_depth (members_in (view value.now)) < 127 }
-    ensures is { IfOk result (λ o. option_map claim_of o ≡ option_and_then (claim_from (members_depth (members_in (view value.now))) field) (object_at (codes "claim") (members_in (view value.now)))) }
+    ensures is { IfOk result
+        (λ o. option_map claim_of o ≡ option_and_then (claim_from (members_depth (members_in (view value.now))) field)
+        (object_at (codes "claim") (members_in (view value.now)))) }
 {
     part_of(alloc, 127, value, "claim", field)
 }
@@ -44,7 +46,8 @@ fn top_claim(alloc: Global, value: &Value, field: FieldName) -> Result<Option<Cl
 #[tactic(auto, using(crate::proofs::DocumentLaws::are_sets_closed_laws))]
 fn are_sets_closed(value: &Value) -> bool
     requires nests { members_depth (members_in (view value.now)) < 127 }
-    ensures is { result ≡ all_of (are_closed (members_depth (members_in (view value.now)))) (object_at (codes "claim") (members_in (view value.now))) }
+    ensures is { result ≡ all_of (are_closed (members_depth (members_in (view value.now))))
+        (object_at (codes "claim") (members_in (view value.now))) }
 {
     are_closed_at(127, value, "claim")
 }
@@ -53,8 +56,10 @@ fn are_sets_closed(value: &Value) -> bool
 #[tactic(auto, using(crate::proofs::DocumentLaws::check_closed_laws))]
 fn check_closed(value: &Value, built: &Built) -> Result<(), CertRefusal>
     requires nests { members_depth (members_in (view value.now)) < 127 }
-    ensures is { IfOk result (λ _. tree_closed (members_in (view value.now)) (built_of built.now) ≡ document (tree (built_of built.now))) }
-    ensures refused { IfErr result (λ e. IsUnreadAs e (tree_closed (members_in (view value.now)) (built_of built.now))) }
+    ensures is { IfOk result
+        (λ _. tree_closed (members_in (view value.now)) (built_of built.now) ≡ document (tree (built_of built.now))) }
+    ensures refused { IfErr result
+        (λ e. IsUnreadAs e (tree_closed (members_in (view value.now)) (built_of built.now))) }
 {
     if !has_keys(value, 5) || !are_sets_closed(value) {
         return Err(CertRefusal::Shape(11));
@@ -69,8 +74,10 @@ fn check_closed(value: &Value, built: &Built) -> Result<(), CertRefusal>
 #[tactic(auto, using(crate::proofs::DocumentLaws::built_from_laws))]
 fn built_from(alloc: Global, value: &Value) -> Result<Built, CertRefusal>
     requires nests { members_depth (members_in (view value.now)) < 127 }
-    ensures is { IfOk result (λ b. tree_field_in (members_in (view value.now)) (field_at (members_in (view value.now))) ≡ document (tree (built_of b))) }
-    ensures refused { IfErr result (λ e. IsUnreadAs e (tree_field_in (members_in (view value.now)) (field_at (members_in (view value.now))))) }
+    ensures is { IfOk result (λ b. tree_field_in (members_in (view value.now)) (field_at (members_in (view value.now)))
+        ≡ document (tree (built_of b))) }
+    ensures refused { IfErr result
+        (λ e. IsUnreadAs e (tree_field_in (members_in (view value.now)) (field_at (members_in (view value.now))))) }
 {
     let Some(field) = field_at(value) else {
         return Err(CertRefusal::Shape(3));

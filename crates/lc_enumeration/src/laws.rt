@@ -18,9 +18,11 @@ use lc_algebra::FieldName;
 /// What is found in some blocks is the weights and places of the words at their places; the words of a
 /// block are those of its messages, in the phase that it belongs to.
 pub fn found_words_are_at_their_places()
-    ensures found { (C : Matrix) (m first count : ℕ) (x : Found) → Contains (found_from C m first count) x ↔ IsFoundBetween C m first count x }
+    ensures found { (C : Matrix) (m first count : ℕ) (x : Found) →
+        Contains (found_from C m first count) x ↔ IsFoundBetween C m first count x }
     ensures phase { (k q m p b : ℕ) → IsInPhase k q m p b → phase_of k q m b ≡ Some p }
-    ensures block { (C : Matrix) (m p b : ℕ) → IsInPhase (length C.rows) (size C.field) m p b → block_words C m b ≡ map (word_of C m p) (block_messages (length C.rows) (size C.field) m p b) }
+    ensures block { (C : Matrix) (m p b : ℕ) → IsInPhase (length C.rows) (size C.field) m p b →
+        block_words C m b ≡ map (word_of C m p) (block_messages (length C.rows) (size C.field) m p b) }
 {}
 
 /// The least of some words is one of them that no other beats, and there is only one such. For places
@@ -29,17 +31,21 @@ pub fn least_word_is_unbeaten()
     ensures least { (a : Found) (others : List Found) → IsLeastOf (a ∷ others) (least_of a others) }
     ensures least_in { (founds : List Found) (x : Found) → least_in founds ≡ Some x → IsLeastOf founds x }
     ensures one { (founds : List Found) (x y : Found) → IsLeastOf founds x → IsLeastOf founds y → x ≡ y }
-    ensures board { (a b : Found) → a.place < 2 ^ 52 → b.place < 2 ^ 52 → beats a b ≡ nat_lt (board_value a) (board_value b) }
+    ensures board { (a b : Found) → a.place < 2 ^ 52 → b.place < 2 ^ 52 →
+        beats a b ≡ nat_lt (board_value a) (board_value b) }
 {}
 
 /// Rounds keep the best word: the best after some more blocks is the least of the best before them and of
 /// what is found in them. So the states of a search that begins at the best word are the best words
 /// after their blocks; the word at place 0 is the best after no blocks.
 pub fn rounds_keep_the_best_word()
-    ensures after { (C : Matrix) (m l count : ℕ) → best C m (l + count) ≡ least_of (best C m l) (found_from C m l count) }
+    ensures after { (C : Matrix) (m l count : ℕ) →
+        best C m (l + count) ≡ least_of (best C m l) (found_from C m l count) }
     ensures first { (C : Matrix) → IsBestAt C (first_progress C) }
-    ensures rounds { (d : ℕ) (C : Matrix) (budget : ℕ) (slice : Option ℕ) (state : Progress) → IsBestAt C state → All (IsBestAt C) (rounds d C budget slice state).states }
-    ensures last { (d : ℕ) (C : Matrix) (budget : ℕ) (slice : Option ℕ) (state : Progress) → IsBestAt C state → IsBestAt C (last_state state (rounds d C budget slice state).states) }
+    ensures rounds { (d : ℕ) (C : Matrix) (budget : ℕ) (slice : Option ℕ) (state : Progress) → IsBestAt C state →
+        All (IsBestAt C) (rounds d C budget slice state).states }
+    ensures last { (d : ℕ) (C : Matrix) (budget : ℕ) (slice : Option ℕ) (state : Progress) → IsBestAt C state →
+        IsBestAt C (last_state state (rounds d C budget slice state).states) }
 {}
 
 /// The tests that the definitions compute with say what they are named for: that a number is in a list,
@@ -48,7 +54,8 @@ pub fn rounds_keep_the_best_word()
 pub fn tests_are_exact(field: FieldName)
     ensures member { (set : List ℕ) (c : ℕ) → (is_member set c ≡ true) ↔ Contains set c }
     ensures same { (u v : List ℕ) → (same_word u v ≡ true) ↔ (u ≡ v) }
-    ensures span { (n : ℕ) (rows : List (List ℕ)) (w : List ℕ) → (in_span field n rows w ≡ true) ↔ InSpan field n rows w }
+    ensures span { (n : ℕ) (rows : List (List ℕ)) (w : List ℕ) →
+        (in_span field n rows w ≡ true) ↔ InSpan field n rows w }
     ensures zero_on { (set w : List ℕ) → (is_zero_on set w ≡ true) ↔ IsZeroOn set w }
     ensures zero_outside { (set w : List ℕ) → (is_zero_outside set w ≡ true) ↔ IsZeroOutside set w }
 {}

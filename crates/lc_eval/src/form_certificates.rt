@@ -109,7 +109,8 @@ pub(crate) fn alternant_certificate(
     code: &CodeValue,
     list: &[u64],
 ) -> Result<Effect, Stop>
-    ensures { AffectsOrFails result (QueriesTo place (bound.alternant_certificate code.now.code code.now.form list.now)) }
+    ensures { AffectsOrFails result
+        (QueriesTo place (bound.alternant_certificate code.now.code code.now.form list.now)) }
 {
     let Some(form) = &code.form else {
         return Err(Stop::Refused(fault(alloc, NO_FORM, place)));

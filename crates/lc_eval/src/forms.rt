@@ -68,7 +68,8 @@ pub(crate) fn alternant_code(
     locator: &Field,
     field: &Field,
 ) -> Result<Value, Stop>
-    ensures { Answers result (AppliesTo place (bound.alternant_code r points.now multipliers.now locator.now field.now)) }
+    ensures { Answers result
+        (AppliesTo place (bound.alternant_code r points.now multipliers.now locator.now field.now)) }
 {
     if is_wide(points) || is_wide(multipliers) {
         let refusal = refuse_alternant(field, locator, r, points, multipliers);

@@ -31,7 +31,8 @@ pub fn valid_certificates_are_accepted()
 /// and it is enough to read one more than are allowed.
 pub fn checkpoints_are_read_back()
     ensures ranged { (bytes : List ℕ) (p : Checkpoint) → checkpoint_in bytes ≡ point p → IsInRange p }
-    ensures back { (p : Checkpoint) → IsInRange p → length (checkpoint_text p) ≤ 4194304 → checkpoint_in (checkpoint_text p) ≡ point p }
+    ensures back { (p : Checkpoint) → IsInRange p → length (checkpoint_text p) ≤ 4194304 →
+        checkpoint_in (checkpoint_text p) ≡ point p }
     ensures short { (p : Checkpoint) → IsInRange p → length p.settled < 70000 → length (checkpoint_text p) ≤ 4194304 }
     ensures longer { (bytes : List ℕ) → checkpoint_in (take 4194305 bytes) ≡ checkpoint_in bytes }
 {}
@@ -47,7 +48,8 @@ pub fn documents_are_read_back()
 /// A claim has at most one outcome, and a certificate by construction at most one verdict. It is accepted
 /// exactly if it is valid.
 pub fn valid_trees_are_accepted()
-    ensures outcome { (f : FieldName) (number : ℕ) (claim : Claim) (o p : Outcome) → HasOutcome f number claim o → HasOutcome f number claim p → o ≡ p }
+    ensures outcome { (f : FieldName) (number : ℕ) (claim : Claim) (o p : Outcome) → HasOutcome f number claim o →
+        HasOutcome f number claim p → o ≡ p }
     ensures verdict { (b : Built) (v w : Verdict) → IsTreeVerdict b v → IsTreeVerdict b w → v ≡ w }
     ensures accepted { (b : Built) → IsTreeVerdict b accepted ↔ IsValidTree b }
 {}

@@ -27,11 +27,15 @@ pub fn alternant(
     locator: &Field,
     field: &Field,
 ) -> Result<FormedCode, CodeRefusal>
-    ensures code { IfOk result (λ c. IsCode field.now (length points.now) (IsAlternantWord field.now (alternant_form locator.now points.now multipliers.now r)) c.code) }
+    ensures code { IfOk result
+        (λ c. IsCode field.now (length points.now)
+        (IsAlternantWord field.now (alternant_form locator.now points.now multipliers.now r)) c.code) }
     ensures form { IfOk result (λ c. c.form ≡ alternant_form locator.now points.now multipliers.now r) }
     ensures formed { IfOk result (λ c. IsFormOf c.code c.form) }
-    ensures refused { IsRefusedAs result (first_refusal (alternant_refusals field.now locator.now r points.now multipliers.now)) }
-    ensures first { RefusesFirst result (first_refusal (alternant_refusals field.now locator.now r points.now multipliers.now)) }
+    ensures refused { IsRefusedAs result
+        (first_refusal (alternant_refusals field.now locator.now r points.now multipliers.now)) }
+    ensures first { RefusesFirst result
+        (first_refusal (alternant_refusals field.now locator.now r points.now multipliers.now)) }
 {
     check_alternant(field, locator, r, points, multipliers)?;
     let form = form_of(alloc, locator, points, multipliers, r as usize)?;
@@ -55,9 +59,15 @@ pub fn subfield_subcode(
     locator: &Field,
     field: &Field,
 ) -> Result<Code, CodeRefusal>
-    ensures code { IfOk result (λ c. IsCode field.now (length points.now) (IsAlternantWord field.now (alternant_form locator.now points.now multipliers.now r)) c) }
-    ensures refused { IsRefusedAs result (first_refusal (form_refusals field.now locator.now (nat_lt (length points.now) r) points.now multipliers.now)) }
-    ensures first { RefusesFirst result (first_refusal (form_refusals field.now locator.now (nat_lt (length points.now) r) points.now multipliers.now)) }
+    ensures code { IfOk result
+        (λ c. IsCode field.now (length points.now)
+        (IsAlternantWord field.now (alternant_form locator.now points.now multipliers.now r)) c) }
+    ensures refused { IsRefusedAs result
+        (first_refusal (form_refusals field.now locator.now
+        (nat_lt (length points.now) r) points.now multipliers.now)) }
+    ensures first { RefusesFirst result
+        (first_refusal (form_refusals field.now locator.now
+        (nat_lt (length points.now) r) points.now multipliers.now)) }
 {
     let bad_count = (points.len() as u64) < r;
     check_form(field, locator, bad_count, points, multipliers)?;
@@ -92,8 +102,10 @@ fn check_alternant(
     points: &[u8],
     multipliers: &[u8],
 ) -> Result<(), CodeRefusal>
-    ensures is { IsChecked result (first_refusal (alternant_refusals field.now locator.now r points.now multipliers.now)) }
-    ensures form { IfOk result (λ _. (s : ℕ) → IsForm field.now (alternant_form locator.now points.now multipliers.now s)) }
+    ensures is { IsChecked result
+        (first_refusal (alternant_refusals field.now locator.now r points.now multipliers.now)) }
+    ensures form { IfOk result
+        (λ _. (s : ℕ) → IsForm field.now (alternant_form locator.now points.now multipliers.now s)) }
 {
     let bad_count = r == 0 || (points.len() as u64) < r;
     check_form(field, locator, bad_count, points, multipliers)

@@ -33,7 +33,9 @@ pub fn goppa(
     locator: &Field,
     field: &Field,
 ) -> Result<FormedCode, CodeRefusal>
-    ensures code { IfOk result (λ c. IsCode field.now (length points.now) (IsGoppaWord field.now locator.now (trimmed list.now) points.now) c.code) }
+    ensures code { IfOk result
+        (λ c. IsCode field.now (length points.now)
+        (IsGoppaWord field.now locator.now (trimmed list.now) points.now) c.code) }
     ensures form { IfOk result (λ c. c.form ≡ goppa_form locator.now (trimmed list.now) points.now) }
     ensures formed { IfOk result (λ c. IsFormOf c.code c.form) }
     ensures refused { IsRefusedAs result (first_refusal (goppa_refusals field.now locator.now list.now points.now)) }
@@ -81,7 +83,8 @@ fn check_values(locator: &Field, list: &[u8], points: &[u8]) -> Result<(), CodeR
     requires list { Fits locator.now list.now }
     requires points { Fits locator.now points.now }
     ensures is { IsChecked result (root_at locator.now list.now points.now) }
-    ensures nonzero { IfOk result (λ _. (i : ℕ) → i < length points.now → 0 < value_at locator.now list.now (slice_index points.now i)) }
+    ensures nonzero { IfOk result
+        (λ _. (i : ℕ) → i < length points.now → 0 < value_at locator.now list.now (slice_index points.now i)) }
 {
     match root_at(locator, list, points) {
         Some(refusal) => Err(refusal),

@@ -25,7 +25,8 @@ pub(crate) fn root_at(locator: &Field, list: &[u8], points: &[u8]) -> Option<Cod
     requires list { Fits locator.now list.now }
     requires points { Fits locator.now points.now }
     ensures is { result ≡ root_at locator.now list.now points.now }
-    ensures nonzero { IsNone result → (i : ℕ) → i < length points.now → 0 < value_at locator.now list.now (slice_index points.now i) }
+    ensures nonzero { IsNone result → (i : ℕ) → i < length points.now →
+        0 < value_at locator.now list.now (slice_index points.now i) }
 {
     for i in 0..points.len() {
         if value(locator, list, points[i]) == 0 {

@@ -55,8 +55,10 @@ pub(crate) fn check_form(
     points: &[u8],
     multipliers: &[u8],
 ) -> Result<(), CodeRefusal>
-    ensures is { IsChecked result (first_refusal (form_refusals field.now locator.now bad_count points.now multipliers.now)) }
-    ensures form { IfOk result (λ _. (r : ℕ) → IsForm field.now (alternant_form locator.now points.now multipliers.now r)) }
+    ensures is { IsChecked result
+        (first_refusal (form_refusals field.now locator.now bad_count points.now multipliers.now)) }
+    ensures form { IfOk result
+        (λ _. (r : ℕ) → IsForm field.now (alternant_form locator.now points.now multipliers.now r)) }
 {
     if !field.is_symbol() {
         return Err(CodeRefusal::FieldTooLarge);

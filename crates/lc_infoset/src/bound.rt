@@ -17,8 +17,10 @@ impl Sets {
     pub fn bound(&self, levels: &[u64]) -> u64
         requires count { length levels.now ≡ set_count self.now }
         requires below { All (λ w. w < length self.now.rows) levels.now }
-        ensures is { result ≡ rounded (divisor_of self.now) (max 1 (bound_sum (length self.now.rows) (ranks_of self.now) levels.now)) }
-        ensures bound { (weight : ℕ) → bound_of (divisor_of self.now) (length self.now.rows) (ranks_of self.now) levels.now weight ≡ result }
+        ensures is { result ≡ rounded (divisor_of self.now)
+            (max 1 (bound_sum (length self.now.rows) (ranks_of self.now) levels.now)) }
+        ensures bound { (weight : ℕ) →
+            bound_of (divisor_of self.now) (length self.now.rows) (ranks_of self.now) levels.now weight ≡ result }
     {
         let least = self.sum_of(levels).max(1);
         let d = self.divisor();

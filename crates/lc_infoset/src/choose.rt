@@ -16,7 +16,8 @@ use std::alloc::Global;
 #[tactic(auto, using(crate::proofs::NextLaws::next_set_laws))]
 pub(crate) fn next_set(alloc: Global, code: &Matrix, used: &[usize]) -> Result<KeptSet, NoMemory>
     requires independent { AreIndependent code.now.field code.now.columns code.now.rows }
-    ensures is { IfOk result (λ s. s ≡ set_state code.now (next_set_of code.now.field code.now.columns code.now.rows used.now)) }
+    ensures is { IfOk result
+        (λ s. s ≡ set_state code.now (next_set_of code.now.field code.now.columns code.now.rows used.now)) }
 {
     let _height = code.rows();
     let n = code.cols();
@@ -58,7 +59,8 @@ pub(crate) fn unused_columns(
 
 #[tactic(auto, using(crate::proofs::NextLaws::push_unused_laws))]
 fn push_unused(n: usize, used: &[usize], order: &mut Vec<usize>) -> Result<(), NoMemory>
-    ensures are { IfOk result (λ _. order.new.items ≡ order.old.items ++ filter (λ c. not (is_member used.now c)) (below n)) }
+    ensures are { IfOk result
+        (λ _. order.new.items ≡ order.old.items ++ filter (λ c. not (is_member used.now c)) (below n)) }
 {
     for c in 0..n {
         if !holds(used, c) {

@@ -184,7 +184,8 @@ fn push_sets(
     sets: &mut Vec<KeptSet>,
 ) -> Result<(), NoMemory>
     requires independent { AreIndependent code.now.field code.now.columns code.now.rows }
-    ensures are { IfOk result (λ _. sets.new.items ≡ sets.old.items ++ states_after code.now used.old.items code.now.columns) }
+    ensures are { IfOk result
+        (λ _. sets.new.items ≡ sets.old.items ++ states_after code.now used.old.items code.now.columns) }
 {
     for _i in 0..code.cols() {
         if !push_next(alloc, code, used, sets)? {
@@ -204,8 +205,12 @@ fn push_next(
     sets: &mut Vec<KeptSet>,
 ) -> Result<bool, NoMemory>
     requires independent { AreIndependent code.now.field code.now.columns code.now.rows }
-    ensures more { IfOk result (λ more. OnTrue more ((m : ℕ) → sets.old.items ++ states_after code.now used.old.items (m + 1) ≡ sets.new.items ++ states_after code.now used.new.items m)) }
-    ensures done { IfOk result (λ more. OnFalse more ((m : ℕ) → sets.old.items ++ states_after code.now used.old.items (m + 1) ≡ sets.new.items)) }
+    ensures more { IfOk result
+        (λ more. OnTrue more ((m : ℕ) → sets.old.items ++ states_after code.now used.old.items (m + 1)
+        ≡ sets.new.items ++ states_after code.now used.new.items m)) }
+    ensures done { IfOk result
+        (λ more. OnFalse more
+        ((m : ℕ) → sets.old.items ++ states_after code.now used.old.items (m + 1) ≡ sets.new.items)) }
 {
     if has_too_few(alloc, code, used)? {
         return Ok(false);
@@ -221,7 +226,8 @@ fn push_next(
 
 // Whether the columns that aren't used are fewer than half of k.
 fn has_too_few(alloc: Global, code: &Matrix, used: &[usize]) -> Result<bool, NoMemory>
-    ensures few { IfOk result (λ few. OnTrue few ((old : List SetState) (m : ℕ) → old ++ states_after code.now used.now (m + 1) ≡ old)) }
+    ensures few { IfOk result
+        (λ few. OnTrue few ((old : List SetState) (m : ℕ) → old ++ states_after code.now used.now (m + 1) ≡ old)) }
 {
     let n = code.cols();
     let unused = unused_columns(alloc, n, used)?;

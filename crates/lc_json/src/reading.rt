@@ -40,7 +40,8 @@ pub fn number_at(object: &Value, key: &str) -> Option<u64>
 
 /// The text at a key of an object, if a string stands there.
 pub fn text_at<'v>(object: &'v Value, key: &str) -> Option<&'v str>
-    ensures is { option_map (λ s. s.now) result ≡ option_and_then as_str (get_member key.now (members_in (view object.now))) }
+    ensures is { option_map (λ s. s.now) result
+        ≡ option_and_then as_str (get_member key.now (members_in (view object.now))) }
 {
     match object.get(key) {
         Some(value) => value.as_str(),

@@ -43,7 +43,8 @@ impl Best {
     // Whether a nonzero word of this weight takes the place of the best one.
     fn yields_to(&self, weight: usize, word: &[u8]) -> bool
         requires { weight ≡ weight_of word.now }
-        ensures { IsTrue result ↔ ((weight_of self.now.symbols.items ≡ 0) ⊎ ComesNoLater word.now self.now.symbols.items) }
+        ensures { IsTrue result
+            ↔ ((weight_of self.now.symbols.items ≡ 0) ⊎ ComesNoLater word.now self.now.symbols.items) }
     {
         self.weight == 0
             || weight < self.weight
@@ -69,7 +70,8 @@ fn scan(field: &Field, rows: &[Word], sum: &mut [u8], best: &mut Best)
     requires rows { AreRows field.now (length sum.old) rows.now }
     requires sum { Fits field.now sum.old }
     requires best { length best.old.symbols.items ≡ length sum.old }
-    ensures first { IsFirst (IsInCoset field.now (length sum.old) rows.now sum.old) best.old.symbols.items best.new.symbols.items }
+    ensures first { IsFirst
+        (IsInCoset field.now (length sum.old) rows.now sum.old) best.old.symbols.items best.new.symbols.items }
     ensures length { length best.new.symbols.items ≡ length best.old.symbols.items }
     ensures sum { sum.new ≡ sum.old }
 {

@@ -93,8 +93,12 @@ impl Matrix {
     // Whether the dot of row j and each row before it is 0.
     fn is_orthogonal_to_earlier(&self, j: usize) -> bool
         requires row { j < length self.now.rows }
-        ensures yes { OnTrue result ((i : ℕ) → i < j → word_dot self.now.field (slice_index_or self.now.rows i []) (slice_index_or self.now.rows j []) ≡ 0) }
-        ensures no { OnFalse result (((i : ℕ) → i < j → word_dot self.now.field (slice_index_or self.now.rows i []) (slice_index_or self.now.rows j []) ≡ 0) → ⊥) }
+        ensures yes { OnTrue result
+            ((i : ℕ) → i < j → word_dot self.now.field (slice_index_or self.now.rows i [])
+            (slice_index_or self.now.rows j []) ≡ 0) }
+        ensures no { OnFalse result
+            (((i : ℕ) → i < j → word_dot self.now.field (slice_index_or self.now.rows i [])
+            (slice_index_or self.now.rows j []) ≡ 0) → ⊥) }
     {
         for i in 0..j {
             if dot(self.field(), self.row(i), self.row(j)) != 0 {

@@ -25,7 +25,8 @@ impl Matrix {
 
     /// The rank: the number of rows of the reduced row echelon form.
     pub fn rank(&self, alloc: Global) -> Result<usize, NoMemory>
-        ensures is { IfOk result (λ r. (e : List (List ℕ)) → IsEchelon self.now.field self.now.columns self.now.rows e → length e ≡ r) }
+        ensures is { IfOk result (λ r. (e : List (List ℕ)) → IsEchelon self.now.field self.now.columns self.now.rows e →
+            length e ≡ r) }
     {
         let matrix = self.echelon(alloc)?;
         Ok(matrix.rows())
@@ -38,7 +39,8 @@ impl Matrix {
         requires inside { All (λ c. c < self.now.columns) set.now }
         ensures field { IfOk result (λ o. IfSome o (λ m. m.field ≡ self.now.field)) }
         ensures columns { IfOk result (λ o. IfSome o (λ m. m.columns ≡ self.now.columns)) }
-        ensures systematic { IfOk result (λ o. IfSome o (λ m. IsSystematic self.now.field self.now.columns self.now.rows set.now m.rows)) }
+        ensures systematic { IfOk result
+            (λ o. IfSome o (λ m. IsSystematic self.now.field self.now.columns self.now.rows set.now m.rows)) }
         ensures exact { IfOk result (λ o. IsSome o ↔ AreIndependentColumns self.now.field self.now.rows set.now) }
     {
         let _height = self.rows();
@@ -87,7 +89,8 @@ impl Matrix {
     /// Whether the word is a sum of multiples of the rows. It has one symbol for each column, an element of the field.
     pub fn in_span(&self, alloc: Global, word: &[u8]) -> Result<bool, NoMemory>
         requires word { IsWord self.now.field self.now.columns word.now }
-        ensures is { IfOk result (λ inside. IsTrue inside ↔ InSpan self.now.field self.now.columns self.now.rows word.now) }
+        ensures is { IfOk result
+            (λ inside. IsTrue inside ↔ InSpan self.now.field self.now.columns self.now.rows word.now) }
     {
         let (matrix, places) = self.pivoted(alloc)?;
         let mut rest = Vec::from_slice(alloc, word)?;
@@ -110,7 +113,8 @@ impl Matrix {
     fn subtract_rows(&self, places: &[usize], rest: &mut [u8])
         requires pivots { HasPivots self.now.columns places.now self.now.rows }
         requires word { IsWord self.now.field self.now.columns rest.old }
-        ensures rest { IsRest self.now.field self.now.columns places.now self.now.rows rest.old (length places.now) rest.new }
+        ensures rest { IsRest self.now.field self.now.columns places.now self.now.rows rest.old
+            (length places.now) rest.new }
     {
         let _height = self.rows();
         for i in 0..places.len() {
@@ -123,7 +127,9 @@ impl Matrix {
         requires row { i < length self.now.rows }
         requires column { p < self.now.columns }
         requires word { IsWord self.now.field self.now.columns rest.old }
-        ensures is { rest.new ≡ word_sum self.now.field rest.old (scale self.now.field (neg self.now.field (slice_index rest.old p)) (slice_index_or self.now.rows i [])) }
+        ensures is { rest.new
+            ≡ word_sum self.now.field rest.old
+            (scale self.now.field (neg self.now.field (slice_index rest.old p)) (slice_index_or self.now.rows i [])) }
     {
         let field = self.field();
         let c = field.neg(rest[p]);

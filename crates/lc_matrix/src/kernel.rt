@@ -17,7 +17,9 @@ impl Matrix {
     pub fn kernel(&self, alloc: Global) -> Result<Matrix, NoMemory>
         ensures field { IfOk result (λ m. m.field ≡ self.now.field) }
         ensures columns { IfOk result (λ m. m.columns ≡ self.now.columns) }
-        ensures kernel { IfOk result (λ m. IsReducedGenerator self.now.field self.now.columns (IsOrthogonal self.now.field self.now.rows) m.rows) }
+        ensures kernel { IfOk result
+            (λ m. IsReducedGenerator self.now.field self.now.columns
+            (IsOrthogonal self.now.field self.now.rows) m.rows) }
     {
         let _height = self.rows();
         let mut matrix = self.copy(alloc)?;
@@ -47,7 +49,9 @@ impl Matrix {
         requires reduced { IsReducedBack self.now.columns places.now self.now.rows }
         ensures field { IfOk result (λ m. m.field ≡ self.now.field) }
         ensures columns { IfOk result (λ m. m.columns ≡ self.now.columns) }
-        ensures kernel { IfOk result (λ m. (free : List ℕ) × IsFree places.now self.now.columns free × AreKernelWords self.now.field self.now.columns places.now self.now.rows free (length free) m.rows) }
+        ensures kernel { IfOk result
+            (λ m. (free : List ℕ) × IsFree places.now self.now.columns free
+            × AreKernelWords self.now.field self.now.columns places.now self.now.rows free (length free) m.rows) }
     {
         let kernel = Matrix::empty(alloc, self.field(), self.cols())?;
         let free = free_columns(alloc, places, self.cols())?;
@@ -72,7 +76,9 @@ impl Matrix {
         requires none { kernel.old.rows ≡ [] }
         ensures field { kernel.new.field ≡ self.now.field }
         ensures columns { kernel.new.columns ≡ self.now.columns }
-        ensures words { IfOk result (λ _. AreKernelWords self.now.field self.now.columns places.now self.now.rows free.now (length free.now) kernel.new.rows) }
+        ensures words { IfOk result
+            (λ _. AreKernelWords self.now.field self.now.columns places.now self.now.rows free.now
+            (length free.now) kernel.new.rows) }
     {
         let _width = self.cols();
         for i in 0..free.len() {
@@ -88,7 +94,8 @@ impl Matrix {
         requires reduced { IsReducedBack self.now.columns places.now self.now.rows }
         requires column { j < self.now.columns }
         requires free { (k : ℕ) → k < length places.now → slice_index places.now k ≢ j }
-        ensures is { IfOk result (λ w. IsKernelWord self.now.field self.now.columns places.now self.now.rows j (length places.now) w.items) }
+        ensures is { IfOk result
+            (λ w. IsKernelWord self.now.field self.now.columns places.now self.now.rows j (length places.now) w.items) }
     {
         let mut word = zeros(alloc, self.cols())?;
         word[j] = 1;
@@ -122,7 +129,8 @@ fn turned(alloc: Global, n: usize) -> Result<Vec<usize>, NoMemory>
 fn turned_places(alloc: Global, n: usize, at: &[usize]) -> Result<Vec<usize>, NoMemory>
     requires inside { (i : ℕ) → i < length at.now → slice_index at.now i < n }
     ensures count { IfOk result (λ ps. length ps.items ≡ length at.now) }
-    ensures are { IfOk result (λ ps. (i : ℕ) → i < length at.now → slice_index ps.items i ≡ n - 1 - slice_index at.now i) }
+    ensures are { IfOk result
+        (λ ps. (i : ℕ) → i < length at.now → slice_index ps.items i ≡ n - 1 - slice_index at.now i) }
 {
     let mut places = Vec::new(alloc);
     for p in at {

@@ -132,7 +132,9 @@ impl Matrix {
         requires element { c < size self.old.field }
         ensures field { self.new.field ≡ self.old.field }
         ensures columns { self.new.columns ≡ self.old.columns }
-        ensures rows { self.new.rows ≡ set self.old.rows i (word_sum self.old.field (slice_index_or self.old.rows i []) (scale_of self.old.field c from.now)) }
+        ensures rows { self.new.rows
+            ≡ set self.old.rows i
+            (word_sum self.old.field (slice_index_or self.old.rows i []) (scale_of self.old.field c from.now)) }
     {
         let start = i * self.width;
         add_scaled(
@@ -150,7 +152,8 @@ impl Matrix {
         requires element { c < size self.old.field }
         ensures field { self.new.field ≡ self.old.field }
         ensures columns { self.new.columns ≡ self.old.columns }
-        ensures rows { self.new.rows ≡ set self.old.rows i (scale_of self.old.field c (slice_index_or self.old.rows i [])) }
+        ensures rows { self.new.rows
+            ≡ set self.old.rows i (scale_of self.old.field c (slice_index_or self.old.rows i [])) }
     {
         let start = i * self.width;
         scale(&self.field, &mut self.symbols[start..start + self.width], c);

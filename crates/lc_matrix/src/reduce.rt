@@ -173,7 +173,10 @@ impl Matrix {
         ensures field { self.new.field ≡ self.old.field }
         ensures columns { self.new.columns ≡ self.old.columns }
         ensures left { j ≡ r → self.new.rows ≡ self.old.rows }
-        ensures cleared { j ≢ r → self.new.rows ≡ set self.old.rows j (word_sum self.old.field (slice_index_or self.old.rows j []) (scale self.old.field (neg self.old.field (entry self.old.rows j c)) pivot.now)) }
+        ensures cleared { j ≢ r →
+            self.new.rows ≡ set self.old.rows j
+            (word_sum self.old.field (slice_index_or self.old.rows j [])
+            (scale self.old.field (neg self.old.field (entry self.old.rows j c)) pivot.now)) }
     {
         if j == r {
             return;

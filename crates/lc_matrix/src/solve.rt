@@ -18,7 +18,9 @@ impl Matrix {
         requires right { IsWord self.now.field (length self.now.rows) right.now }
         ensures word { IfOk result (λ o. IfSome o (λ w. IsWord self.now.field self.now.columns w)) }
         ensures solves { IfOk result (λ o. IfSome o (λ w. Solves self.now.field self.now.rows right.now w)) }
-        ensures exact { IfOk result (λ o. IsSome o ↔ ((w : List ℕ) × IsWord self.now.field self.now.columns w × Solves self.now.field self.now.rows right.now w)) }
+        ensures exact { IfOk result
+            (λ o. IsSome o ↔ ((w : List ℕ) × IsWord self.now.field self.now.columns w
+            × Solves self.now.field self.now.rows right.now w)) }
     {
         let _height = self.rows();
         let matrix = self.augment(alloc, right)?;
@@ -63,7 +65,8 @@ impl Matrix {
         requires room { length matrix.old.rows + 1 < 2 ^ 64 }
         ensures field { matrix.new.field ≡ self.now.field }
         ensures columns { matrix.new.columns ≡ self.now.columns + 1 }
-        ensures rows { IfOk result (λ _. matrix.new.rows ≡ matrix.old.rows ++ (slice_index_or self.now.rows i [] ++ b ∷ []) ∷ []) }
+        ensures rows { IfOk result
+            (λ _. matrix.new.rows ≡ matrix.old.rows ++ (slice_index_or self.now.rows i [] ++ b ∷ []) ∷ []) }
     {
         row.clear();
         row.extend_from_slice(self.row(i))?;

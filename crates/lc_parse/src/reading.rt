@@ -152,7 +152,9 @@ fn expression<'a>(
 
 // The rest after a parenthesis that opens, if one comes first.
 fn opening(tokens: &[Token], depth: usize) -> Result<Option<&[Token]>, ParseRefusal>
-    ensures read { IfOk result (λ o. MatchOption o (IsNotFirst Open tokens.now) (λ rest. IsBehind Open tokens.now rest.now × (depth < deepest))) }
+    ensures read { IfOk result
+        (λ o. MatchOption o (IsNotFirst Open tokens.now)
+        (λ rest. IsBehind Open tokens.now rest.now × (depth < deepest))) }
     ensures refused { IfErr result (λ e. IsTooDeepFirst tokens.now depth e) }
 {
     match tokens.split_first() {
@@ -181,9 +183,11 @@ fn named_expression<'a>(
     requires name { first.now.kind ≡ Name }
     requires within { AreWithin source.now.bytes.now tokens.now }
     ensures read { IfOk result (λ r. (a : Around) → depth_of a ≡ depth
-        → Stays source.now.bytes.now source.now.ending (named a first.now.start (text_of source.now.bytes.now first.now)) tokens.now (done a (tree_of r.0)) r.1.now) }
+        → Stays source.now.bytes.now source.now.ending
+        (named a first.now.start (text_of source.now.bytes.now first.now)) tokens.now (done a (tree_of r.0)) r.1.now) }
     ensures refused { IfErr result (λ e. (a : Around) → depth_of a ≡ depth
-        → Refuses source.now.bytes.now source.now.ending (named a first.now.start (text_of source.now.bytes.now first.now)) tokens.now e) }
+        → Refuses source.now.bytes.now source.now.ending
+        (named a first.now.start (text_of source.now.bytes.now first.now)) tokens.now e) }
     ensures rest { IfOk result (λ r. AreWithin source.now.bytes.now r.1.now) }
     ensures shorter { IfOk result (λ r. length r.1.now ≤ length tokens.now) }
 {
@@ -220,7 +224,8 @@ fn expressions<'a>(
 ) -> Result<(Vec<Expr>, &'a [Token]), ParseRefusal>
     requires { AreWithin source.now.bytes.now tokens.now }
     ensures read { IfOk result (λ r. (b : Bracket) (a : Around) → closing b ≡ closer → depth_of a + 1 ≡ depth
-        → Stays source.now.bytes.now source.now.ending (opened b a) tokens.now (done a (filled b (trees_of r.0.items))) r.1.now) }
+        → Stays source.now.bytes.now source.now.ending (opened b a) tokens.now
+        (done a (filled b (trees_of r.0.items))) r.1.now) }
     ensures refused { IfErr result (λ e. (b : Bracket) (a : Around) → closing b ≡ closer → depth_of a + 1 ≡ depth
         → Refuses source.now.bytes.now source.now.ending (opened b a) tokens.now e) }
     ensures rest { IfOk result (λ r. AreWithin source.now.bytes.now r.1.now) }
@@ -265,7 +270,8 @@ fn target<'a>(
     requires some { 0 < length tokens.now }
     requires within { AreWithin source.now.bytes.now tokens.now }
     ensures read { IfOk result (λ r. (ss : List trees.Statement)
-        → Stays source.now.bytes.now source.now.ending (start ss) tokens.now (want (statement ss (option_map string_bytes r.0))) r.1.now) }
+        → Stays source.now.bytes.now source.now.ending (start ss) tokens.now
+        (want (statement ss (option_map string_bytes r.0))) r.1.now) }
     ensures refused { IfErr result (λ e. e ≡ ParseRefusal.NoMemory) }
     ensures rest { IfOk result (λ r. AreWithin source.now.bytes.now r.1.now) }
     ensures shorter { IfOk result (λ r. length r.1.now ≤ length tokens.now) }
@@ -284,7 +290,8 @@ fn statement_first<'a>(
     requires some { 0 < length tokens.now }
     requires within { AreWithin source.now.bytes.now tokens.now }
     ensures read { IfOk result (λ r. (ss : List trees.Statement)
-        → Stays source.now.bytes.now source.now.ending (start ss) tokens.now (start (ss ++ statement_of r.0 ∷ [])) r.1.now) }
+        → Stays source.now.bytes.now source.now.ending (start ss) tokens.now
+        (start (ss ++ statement_of r.0 ∷ [])) r.1.now) }
     ensures refused { IfErr result (λ e. (ss : List trees.Statement)
         → Refuses source.now.bytes.now source.now.ending (start ss) tokens.now e) }
     ensures rest { IfOk result (λ r. AreWithin source.now.bytes.now r.1.now) }
@@ -312,7 +319,8 @@ fn token_refusal(ending: Ending) -> Option<ParseRefusal>
 // The statements of all the tokens.
 fn statements(source: &Source<'_>, tokens: &[Token]) -> Result<Vec<Statement>, ParseRefusal>
     requires { AreWithin source.now.bytes.now tokens.now }
-    ensures read { IfOk result (λ v. course source.now.bytes.now deepest (start []) tokens.now (ending_of source.now.ending)
+    ensures read { IfOk result
+        (λ v. course source.now.bytes.now deepest (start []) tokens.now (ending_of source.now.ending)
         ≡ read (map statement_of v.items)) }
     ensures refused { IfErr result (λ e. Refuses source.now.bytes.now source.now.ending (start []) tokens.now e) }
     ensures nothing { (place : ℕ) → ending_of source.now.ending ≡ script_end place → tokens.now ≡ [] → IsOk result }
@@ -337,9 +345,11 @@ fn statements(source: &Source<'_>, tokens: &[Token]) -> Result<Vec<Statement>, P
 /// never do.
 pub fn tokens(alloc: Global, bytes: &[u8]) -> Result<Vec<Token>, ParseRefusal>
     // What it returns are the script's tokens, up to its end.
-    ensures read { IfOk result (λ v. ((scan bytes.now).ending ≡ script_end (length bytes.now)) × (v.items ≡ (scan bytes.now).tokens)) }
+    ensures read { IfOk result
+        (λ v. ((scan bytes.now).ending ≡ script_end (length bytes.now)) × (v.items ≡ (scan bytes.now).tokens)) }
     // It returns them if the tokens go up to the end, unless memory runs out.
-    ensures readable { (scan bytes.now).ending ≡ script_end (length bytes.now) → IsReadAs result (λ v. v.items ≡ (scan bytes.now).tokens) }
+    ensures readable { (scan bytes.now).ending ≡ script_end (length bytes.now) →
+        IsReadAs result (λ v. v.items ≡ (scan bytes.now).tokens) }
 
     ensures fault { IfErr result (λ e. IsRefusedAs e (TokenFault (scan bytes.now).ending)) }
     ensures faulty { (f : Fault) → TokenFault (scan bytes.now).ending f → IsFaultAs result f }

@@ -61,9 +61,12 @@ pub(crate) fn reset(coefficients: &mut [u8], top: u8, place: usize) -> usize
 /// The last place of a support that can move on, with all after it, and stay below `k`.
 pub(crate) fn last_movable(support: &[usize], k: usize) -> Option<usize>
     requires { (u : ℕ) → u < length support.now → slice_index support.now u + (length support.now - u) ≤ k }
-    ensures inside { MatchOption result ((u : ℕ) → u < length support.now → k ≤ slice_index support.now u + (length support.now - u)) (λ j. j < length support.now) }
+    ensures inside { MatchOption result
+        ((u : ℕ) → u < length support.now → k ≤ slice_index support.now u + (length support.now - u))
+        (λ j. j < length support.now) }
     ensures room { IfSome result (λ j. slice_index support.now j + (length support.now - j) < k) }
-    ensures later { IfSome result (λ j. (u : ℕ) → j < u → u < length support.now → k ≤ slice_index support.now u + (length support.now - u)) }
+    ensures later { IfSome result (λ j. (u : ℕ) → j < u → u < length support.now →
+        k ≤ slice_index support.now u + (length support.now - u)) }
 {
     let mut room = 0;
     let mut place = support.len();
@@ -82,7 +85,8 @@ pub(crate) fn move_on(support: &mut [usize], place: usize)
     requires inside { place < length support.old }
     requires room { slice_index support.old place + (length support.old - place) < 256 }
     ensures before { (u : ℕ) → u < place → slice_index support.new u ≡ slice_index support.old u }
-    ensures later { (u : ℕ) → place ≤ u → u < length support.old → slice_index support.new u ≡ slice_index support.old place + 1 + (u - place) }
+    ensures later { (u : ℕ) → place ≤ u → u < length support.old →
+        slice_index support.new u ≡ slice_index support.old place + 1 + (u - place) }
 {
     let mut column = support[place];
     for later in place..support.len() {
@@ -95,7 +99,8 @@ pub(crate) fn move_on(support: &mut [usize], place: usize)
 pub(crate) fn move_to_end(support: &mut [usize], place: usize, k: usize)
     requires inside { place ≤ length support.old }
     requires room { length support.old - place ≤ k }
-    ensures is { support.new ≡ take place support.old ++ numbers_from (k - (length support.old - place)) (length support.old - place) }
+    ensures is { support.new ≡ take place support.old ++ numbers_from (k - (length support.old - place))
+        (length support.old - place) }
 {
     let many = support.len();
     for later in place..many {

@@ -43,7 +43,8 @@ impl Size {
         requires starts { IsTable (start_entry self.now.k self.now.q self.now.m) (self.now.k + 1) starts.now }
         requires counts { IsTable (count_entry self.now.k self.now.q) self.now.k counts.now }
         requires inside { block < start_entry self.now.k self.now.q self.now.m self.now.k }
-        ensures found { (p : ℕ) × IsInPhase self.now.k self.now.q self.now.m p block × (plan_phase result ≡ phase_at self.now.k self.now.q self.now.m p) }
+        ensures found { (p : ℕ) × IsInPhase self.now.k self.now.q self.now.m p block
+            × (plan_phase result ≡ phase_at self.now.k self.now.q self.now.m p) }
         ensures level { (1 ≤ result.level) × (result.level ≤ self.now.k) }
         ensures set { result.set < self.now.m }
     {

@@ -76,8 +76,10 @@ impl Plan {
     /// The phase of a block below the total.
     pub fn phase_of(&self, block: u64) -> Phase
         requires { block < total self.now.k self.now.q self.now.m }
-        ensures found { (p : ℕ) × IsInPhase self.now.k self.now.q self.now.m p block × (plan_phase result ≡ phase_at self.now.k self.now.q self.now.m p) }
-        ensures only { (p : ℕ) → IsInPhase self.now.k self.now.q self.now.m p block → plan_phase result ≡ phase_at self.now.k self.now.q self.now.m p }
+        ensures found { (p : ℕ) × IsInPhase self.now.k self.now.q self.now.m p block
+            × (plan_phase result ≡ phase_at self.now.k self.now.q self.now.m p) }
+        ensures only { (p : ℕ) → IsInPhase self.now.k self.now.q self.now.m p block →
+            plan_phase result ≡ phase_at self.now.k self.now.q self.now.m p }
         ensures level { (1 ≤ result.level) × (result.level ≤ self.now.k) }
         ensures set { result.set < self.now.m }
         ensures around { (result.start ≤ block) × (block < result.end) }
@@ -89,8 +91,10 @@ impl Plan {
     /// The end of the phase of a block below the total: the block after its last one, at most 2^40.
     pub fn phase_end(&self, block: u64) -> u64
         requires { block < total self.now.k self.now.q self.now.m }
-        ensures found { (p : ℕ) × IsInPhase self.now.k self.now.q self.now.m p block × (result ≡ (phase_at self.now.k self.now.q self.now.m p).end) }
-        ensures only { (p : ℕ) → IsInPhase self.now.k self.now.q self.now.m p block → result ≡ (phase_at self.now.k self.now.q self.now.m p).end }
+        ensures found { (p : ℕ) × IsInPhase self.now.k self.now.q self.now.m p block
+            × (result ≡ (phase_at self.now.k self.now.q self.now.m p).end) }
+        ensures only { (p : ℕ) → IsInPhase self.now.k self.now.q self.now.m p block →
+            result ≡ (phase_at self.now.k self.now.q self.now.m p).end }
         ensures after { block < result }
     {
         self.phase_of(block).end
@@ -100,7 +104,8 @@ impl Plan {
     /// the level, at least 1.
     pub fn block_len(&self, block: u64) -> u64
         requires { block < total self.now.k self.now.q self.now.m }
-        ensures exact { (p : ℕ) → IsInPhase self.now.k self.now.q self.now.m p block → result ≡ block_length self.now.k self.now.q self.now.m p block }
+        ensures exact { (p : ℕ) → IsInPhase self.now.k self.now.q self.now.m p block →
+            result ≡ block_length self.now.k self.now.q self.now.m p block }
         ensures some { 1 ≤ result }
         ensures few { result ≤ 4096 }
     {
@@ -114,9 +119,13 @@ impl Plan {
     pub fn start_of(&self, block: u64, spot: &mut Spot)
         requires inside { block < total self.now.k self.now.q self.now.m }
         requires room { self.now.k ≤ spot.old.room }
-        ensures first { (p : ℕ) → IsInPhase self.now.k self.now.q self.now.m p block → slice_get (messages self.now.k self.now.q (phase_level self.now.m p)) (4096 * (block - blocks_before self.now.k self.now.q self.now.m p)) ≡ Some (spot_message spot.new) }
-        ensures level { (p : ℕ) → IsInPhase self.now.k self.now.q self.now.m p block → length spot.new.support ≡ phase_level self.now.m p }
-        ensures set { (p : ℕ) → IsInPhase self.now.k self.now.q self.now.m p block → spot.new.set ≡ phase_set self.now.m p }
+        ensures first { (p : ℕ) → IsInPhase self.now.k self.now.q self.now.m p block →
+            slice_get (messages self.now.k self.now.q (phase_level self.now.m p))
+            (4096 * (block - blocks_before self.now.k self.now.q self.now.m p)) ≡ Some (spot_message spot.new) }
+        ensures level { (p : ℕ) → IsInPhase self.now.k self.now.q self.now.m p block →
+            length spot.new.support ≡ phase_level self.now.m p }
+        ensures set { (p : ℕ) → IsInPhase self.now.k self.now.q self.now.m p block →
+            spot.new.set ≡ phase_set self.now.m p }
         ensures message { Contains (messages self.now.k self.now.q (length spot.new.support)) (spot_message spot.new) }
         ensures room { spot.new.room ≡ spot.old.room }
     {
@@ -177,7 +186,10 @@ impl Plan {
     /// as before. The spot's support and coefficients are a message of this plan.
     pub fn step(&self, spot: &mut Spot) -> Option<usize>
         requires { Contains (messages self.now.k self.now.q (length spot.old.support)) (spot_message spot.old) }
-        ensures next { (n : ℕ) → slice_get (messages self.now.k self.now.q (length spot.old.support)) n ≡ Some (spot_message spot.old) → slice_get (messages self.now.k self.now.q (length spot.old.support)) (n + 1) ≡ (if is_some result then Some (spot_message spot.new) else None) }
+        ensures next { (n : ℕ) → slice_get (messages self.now.k self.now.q (length spot.old.support)) n
+            ≡ Some (spot_message spot.old) →
+            slice_get (messages self.now.k self.now.q (length spot.old.support)) (n + 1)
+            ≡ (if is_some result then Some (spot_message spot.new) else None) }
         ensures change { IfSome result (λ i. IsFirstChange spot.old spot.new i) }
         ensures last { result ≡ None → spot.new ≡ spot.old }
         ensures message { Contains (messages self.now.k self.now.q (length spot.new.support)) (spot_message spot.new) }
@@ -203,7 +215,10 @@ impl Plan {
     /// as before. The spot's support and coefficients are a message of this plan.
     pub fn next(&self, spot: &mut Spot) -> bool
         requires { Contains (messages self.now.k self.now.q (length spot.old.support)) (spot_message spot.old) }
-        ensures next { (n : ℕ) → slice_get (messages self.now.k self.now.q (length spot.old.support)) n ≡ Some (spot_message spot.old) → slice_get (messages self.now.k self.now.q (length spot.old.support)) (n + 1) ≡ (if result then Some (spot_message spot.new) else None) }
+        ensures next { (n : ℕ) → slice_get (messages self.now.k self.now.q (length spot.old.support)) n
+            ≡ Some (spot_message spot.old) →
+            slice_get (messages self.now.k self.now.q (length spot.old.support)) (n + 1)
+            ≡ (if result then Some (spot_message spot.new) else None) }
         ensures last { result ≡ false → spot.new ≡ spot.old }
         ensures message { Contains (messages self.now.k self.now.q (length spot.new.support)) (spot_message spot.new) }
         ensures level { length spot.new.support ≡ length spot.old.support }
@@ -218,11 +233,20 @@ impl Plan {
     /// level says, the first one 1, each once. With `start_of`, which begins at the first message of a block, and `step`,
     /// which goes from each message to the next, the whole phase is listed.
     pub fn lists_each_message_once(&self)
-        ensures blocks { (p : ℕ) → flat_map (block_messages self.now.k self.now.q self.now.m p) (numbers_from (blocks_before self.now.k self.now.q self.now.m p) (level_blocks self.now.k self.now.q (phase_level self.now.m p))) ≡ messages self.now.k self.now.q (phase_level self.now.m p) }
-        ensures places { (p b t : ℕ) → t < 4096 → slice_get (block_messages self.now.k self.now.q self.now.m p b) t ≡ slice_get (messages self.now.k self.now.q (phase_level self.now.m p)) (4096 * (b - blocks_before self.now.k self.now.q self.now.m p) + t) }
+        ensures blocks { (p : ℕ) →
+            flat_map (block_messages self.now.k self.now.q self.now.m p)
+            (numbers_from (blocks_before self.now.k self.now.q self.now.m p)
+            (level_blocks self.now.k self.now.q (phase_level self.now.m p)))
+            ≡ messages self.now.k self.now.q (phase_level self.now.m p) }
+        ensures places { (p b t : ℕ) → t < 4096 → slice_get (block_messages self.now.k self.now.q self.now.m p b) t
+            ≡ slice_get (messages self.now.k self.now.q (phase_level self.now.m p))
+            (4096 * (b - blocks_before self.now.k self.now.q self.now.m p) + t) }
         ensures order { (w : ℕ) → AllPairs MessageLess (messages self.now.k self.now.q w) }
-        ensures vectors { (w : ℕ) (v : List ℕ) → 1 ≤ w → Contains (map (vector_of self.now.k) (messages self.now.k self.now.q w)) v ↔ IsLeadingVector self.now.k self.now.q w v }
-        ensures once { (w : ℕ) → AllPairs (λ u v. u ≢ v) (map (vector_of self.now.k) (messages self.now.k self.now.q w)) }
+        ensures vectors { (w : ℕ) (v : List ℕ) → 1 ≤ w →
+            Contains (map (vector_of self.now.k) (messages self.now.k self.now.q w)) v
+            ↔ IsLeadingVector self.now.k self.now.q w v }
+        ensures once { (w : ℕ) →
+            AllPairs (λ u v. u ≢ v) (map (vector_of self.now.k) (messages self.now.k self.now.q w)) }
         ensures count { (w : ℕ) → length (messages self.now.k self.now.q w) ≡ message_count self.now.k self.now.q w }
     {
         let _field = self.size.q;

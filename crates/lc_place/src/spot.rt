@@ -53,7 +53,8 @@ impl Spot {
     pub fn to_last_places(&mut self, count: usize, k: usize)
         requires some { count ≤ length self.old.support }
         requires places { count ≤ k }
-        ensures support { self.new.support ≡ take (length self.old.support - count) self.old.support ++ numbers_from (k - count) count }
+        ensures support { self.new.support ≡ take (length self.old.support - count) self.old.support ++ numbers_from
+            (k - count) count }
         ensures coefficients { self.new.coefficients ≡ self.old.coefficients }
         ensures set { self.new.set ≡ self.old.set }
         ensures room { self.new.room ≡ self.old.room }
@@ -65,7 +66,8 @@ impl Spot {
     /// Sets the last two coefficients to `top`, and leaves all else. There are at least two coefficients.
     pub fn to_last_tail(&mut self, top: u8)
         requires two { 2 ≤ length self.old.coefficients }
-        ensures coefficients { self.new.coefficients ≡ take (length self.old.coefficients - 2) self.old.coefficients ++ top ∷ top ∷ [] }
+        ensures coefficients { self.new.coefficients
+            ≡ take (length self.old.coefficients - 2) self.old.coefficients ++ top ∷ top ∷ [] }
         ensures support { self.new.support ≡ self.old.support }
         ensures set { self.new.set ≡ self.old.set }
         ensures room { self.new.room ≡ self.old.room }

@@ -47,7 +47,9 @@ pub(crate) fn add_multiple(field: &Field, to: &mut [u8], at: usize, from: &[u8],
     ensures length { length to.new ≡ length to.old }
     ensures fits { Fits field.now to.new }
     ensures before { (i : ℕ) → i < at → slice_index to.new i ≡ slice_index to.old i }
-    ensures sum { (i : ℕ) → slice_index to.new (at + i) ≡ add field.now (slice_index to.old (at + i)) (mul field.now factor (slice_index from.now i)) }
+    ensures sum { (i : ℕ) →
+        slice_index to.new (at + i)
+        ≡ add field.now (slice_index to.old (at + i)) (mul field.now factor (slice_index from.now i)) }
 {
     for i in 0..from.len() {
         to[at + i] = field.add(to[at + i], field.mul(factor, from[i]));
@@ -133,7 +135,9 @@ pub(crate) fn divide_in_place(field: &Field, work: &mut [u8], by: &[u8])
     requires leads { 0 < slice_index by.now (length by.now - 1) }
     ensures length { length work.new ≡ length work.old }
     ensures fits { Fits field.now work.new }
-    ensures division { SamePolynomial work.old (poly_sum field.now (poly_product field.now (drop (length by.now - 1) work.new) by.now) (take (length by.now - 1) work.new)) }
+    ensures division { SamePolynomial work.old
+        (poly_sum field.now (poly_product field.now (drop (length by.now - 1) work.new) by.now)
+        (take (length by.now - 1) work.new)) }
 {
     let degree = by.len() - 1;
     if work.len() <= degree {
@@ -161,7 +165,10 @@ pub(crate) fn divided(
     requires nonzero { 0 < length by.now }
     requires leads { 0 < slice_index by.now (length by.now - 1) }
     ensures fits { IfOk result (λ w. Fits field.now w.items) }
-    ensures division { IfOk result (λ w. SamePolynomial list.now (poly_sum field.now (poly_product field.now (drop (length by.now - 1) w.items) by.now) (take (length by.now - 1) w.items))) }
+    ensures division { IfOk result
+        (λ w. SamePolynomial list.now
+        (poly_sum field.now (poly_product field.now (drop (length by.now - 1) w.items) by.now)
+        (take (length by.now - 1) w.items))) }
 {
     let mut work = copied(alloc, list)?;
     divide_in_place(field, &mut work, by);

@@ -28,7 +28,8 @@ fn marked(alloc: Global, n: u64, q: u64, i: u64) -> Result<Vec<bool>, NoMemory>
     requires most_q { q ≤ 16 }
     requires inside { i < n }
     ensures length { IfOk result (λ seen. length seen.items ≡ n) }
-    ensures marks { IfOk result (λ seen. (x : ℕ) → (slice_index_or seen.items x false ≡ true) ↔ ((j : ℕ) × (x ≡ (i * q ^ j) % n))) }
+    ensures marks { IfOk result
+        (λ seen. (x : ℕ) → (slice_index_or seen.items x false ≡ true) ↔ ((j : ℕ) × (x ≡ (i * q ^ j) % n))) }
 {
     let mut seen = unmarked(alloc, n as usize)?;
     mark(&mut seen, n, q, i);

@@ -74,7 +74,8 @@ impl Poly {
     pub fn mul(&self, alloc: Global, other: &Poly) -> Result<Poly, NoMemory>
         requires field { self.now.field ≡ other.now.field }
         ensures field { IfOk result (λ p. p.field ≡ self.now.field) }
-        ensures product { IfOk result (λ p. p.coefficients ≡ trimmed (poly_product self.now.field self.now.coefficients other.now.coefficients)) }
+        ensures product { IfOk result
+            (λ p. p.coefficients ≡ trimmed (poly_product self.now.field self.now.coefficients other.now.coefficients)) }
     {
         let product = product(alloc, &self.field, &self.coefficients, &other.coefficients)?;
         Poly::from_list(alloc, &self.field, &product)
@@ -87,7 +88,8 @@ impl Poly {
         requires nonzero { by.now.coefficients ≢ [] }
         ensures quotient_field { IfOk result (λ p. p.0.field ≡ self.now.field) }
         ensures remainder_field { IfOk result (λ p. p.1.field ≡ self.now.field) }
-        ensures division { IfOk result (λ p. IsDivision self.now.field self.now.coefficients by.now.coefficients p.0.coefficients p.1.coefficients) }
+        ensures division { IfOk result (λ p. IsDivision self.now.field
+            self.now.coefficients by.now.coefficients p.0.coefficients p.1.coefficients) }
     {
         parts(alloc, &self.field, &self.coefficients, &by.coefficients)
     }

@@ -65,7 +65,8 @@ fn cleared<V: Vault>(vault: &mut V, keep: bool) -> Result<(), Failed>
     ensures emptied { OnOk result (keep ≡ true → WhereTold (V.contents vault.old) (V.contents vault.new)
         (λ before after. after ≡ empty_slots)) }
     ensures kept { OnOk result (keep ≡ false → V.contents vault.new ≡ V.contents vault.old) }
-    ensures half { OnErr result ((keep ≡ true) × WhereTold (V.contents vault.old) (V.contents vault.new) AreHalfEmptied) }
+    ensures half { OnErr result
+        ((keep ≡ true) × WhereTold (V.contents vault.old) (V.contents vault.new) AreHalfEmptied) }
     ensures count { MatchResult result (λ _. V.faults vault.new ≡ V.faults vault.old)
         (λ _. HasRisen (V.faults vault.old) (V.faults vault.new)) }
 {

@@ -54,10 +54,12 @@ impl Level {
         requires leaders { HasLeaders syndromes.now }
         requires light { self.now.weight < 2 ^ 16 }
         requires level { IsLevel syndromes.now self.now.weight self.now.syndromes.items self.now.firsts.items }
-        requires table { IsTable syndromes.now (self.now.weight + 1) steps.old.coordinates.items steps.old.symbols.items [] }
+        requires table { IsTable syndromes.now
+            (self.now.weight + 1) steps.old.coordinates.items steps.old.symbols.items [] }
         ensures weight { IfOk result (λ l. l.weight ≡ self.now.weight + 1) }
         ensures level { IfOk result (λ l. IsLevel syndromes.now l.weight l.syndromes.items l.firsts.items) }
-        ensures table { IfOk result (λ l. IsTable syndromes.now (l.weight + 1) steps.new.coordinates.items steps.new.symbols.items []) }
+        ensures table { IfOk result
+            (λ l. IsTable syndromes.now (l.weight + 1) steps.new.coordinates.items steps.new.symbols.items []) }
     {
         let n = syndromes.length();
         let mut next = Level {
@@ -85,7 +87,8 @@ impl Level {
         requires level { IsLevel syndromes.now self.now.weight self.now.syndromes.items self.now.firsts.items }
         requires state { Grows syndromes.now (coordinate + 1) (size syndromes.now.field) 0 self.now steps.old next.old }
         ensures weight { next.new.weight ≡ next.old.weight }
-        ensures state { IfOk result (λ _. Grows syndromes.now coordinate (size syndromes.now.field) 0 self.now steps.new next.new) }
+        ensures state { IfOk result
+            (λ _. Grows syndromes.now coordinate (size syndromes.now.field) 0 self.now steps.new next.new) }
     {
         if steps.is_whole() {
             return Ok(());
@@ -115,11 +118,13 @@ impl Level {
         requires element { mark.symbol < size syndromes.now.field }
         requires small { mark.symbol < 16 }
         requires nonzero { 0 < mark.symbol }
-        requires number { mark.number ≡ syndrome_number syndromes.now (unit syndromes.now.columns mark.coordinate mark.symbol) }
+        requires number { mark.number
+            ≡ syndrome_number syndromes.now (unit syndromes.now.columns mark.coordinate mark.symbol) }
         requires level { IsLevel syndromes.now self.now.weight self.now.syndromes.items self.now.firsts.items }
         requires state { Grows syndromes.now mark.coordinate mark.symbol 0 self.now steps.old next.old }
         ensures weight { next.new.weight ≡ next.old.weight }
-        ensures state { IfOk result (λ _. Grows syndromes.now mark.coordinate (mark.symbol + 1) 0 self.now steps.new next.new) }
+        ensures state { IfOk result
+            (λ _. Grows syndromes.now mark.coordinate (mark.symbol + 1) 0 self.now steps.new next.new) }
     {
         for place in 0..self.syndromes.len() {
             self.offer(syndromes, mark, place, steps, next)?;
@@ -142,12 +147,14 @@ impl Level {
         requires element { mark.symbol < size syndromes.now.field }
         requires small { mark.symbol < 16 }
         requires nonzero { 0 < mark.symbol }
-        requires number { mark.number ≡ syndrome_number syndromes.now (unit syndromes.now.columns mark.coordinate mark.symbol) }
+        requires number { mark.number
+            ≡ syndrome_number syndromes.now (unit syndromes.now.columns mark.coordinate mark.symbol) }
         requires level { IsLevel syndromes.now self.now.weight self.now.syndromes.items self.now.firsts.items }
         requires place { place < length self.now.syndromes.items }
         requires state { Grows syndromes.now mark.coordinate mark.symbol place self.now steps.old next.old }
         ensures weight { next.new.weight ≡ next.old.weight }
-        ensures state { IfOk result (λ _. Grows syndromes.now mark.coordinate mark.symbol (place + 1) self.now steps.new next.new) }
+        ensures state { IfOk result
+            (λ _. Grows syndromes.now mark.coordinate mark.symbol (place + 1) self.now steps.new next.new) }
     {
         if self.firsts[place] as usize <= mark.coordinate {
             return Ok(());

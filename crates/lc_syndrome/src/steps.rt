@@ -43,7 +43,8 @@ impl Steps {
 
     /// Whether each syndrome has its leader.
     pub(crate) fn is_whole(&self) -> bool
-        ensures whole { IsTrue result → (s : ℕ) → s < length self.now.symbols.items → slice_index self.now.symbols.items s ≢ unknown }
+        ensures whole { IsTrue result → (s : ℕ) → s < length self.now.symbols.items →
+            slice_index self.now.symbols.items s ≢ unknown }
     {
         for symbol in self.symbols.iter() {
             if *symbol == UNKNOWN {
@@ -60,7 +61,8 @@ impl Steps {
         requires steps { IsSteps syndromes.now self.now.coordinates.items self.now.symbols.items }
         requires leader { (e : List ℕ) × Leads syndromes.now e × (syndrome_number syndromes.now e ≡ number) }
         requires word { IsWord syndromes.now.field syndromes.now.columns word.old }
-        ensures is { (e : List ℕ) → Leads syndromes.now e → syndrome_number syndromes.now e ≡ number → word.new ≡ difference syndromes.now.field word.old e }
+        ensures is { (e : List ℕ) → Leads syndromes.now e → syndrome_number syndromes.now e ≡ number →
+            word.new ≡ difference syndromes.now.field word.old e }
     {
         let field = syndromes.field();
         let mut rest = number;

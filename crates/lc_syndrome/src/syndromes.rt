@@ -137,7 +137,8 @@ fn digit_sum(field: &Field, m: usize, a: u32, b: u32) -> u32
 fn unit_numbers(alloc: Global, checks: &Matrix) -> Result<Vec<u32>, NoMemory>
     requires most { checks.now.columns ≤ longest }
     requires few { coset_count checks.now ≤ 2 ^ 20 }
-    ensures are { IfOk result (λ numbers. IsNumberedTo checks.now (checks.now.columns * size checks.now.field) numbers.items) }
+    ensures are { IfOk result
+        (λ numbers. IsNumberedTo checks.now (checks.now.columns * size checks.now.field) numbers.items) }
 {
     let q = checks.field().size() as usize;
     let mut word = vec![in alloc; 0u8; checks.cols()]?;

@@ -50,7 +50,8 @@ pub fn check_built(alloc: Global, built: &Built) -> Result<Verdict, NoMemory>
 // The verdict if a claim is refused.
 #[tactic(auto, using(crate::proofs::VerdictLaws::stopped), unfolding(crate::proofs::Opened::seen))]
 fn stopped(stop: &Stop) -> Result<Verdict, NoMemory>
-    ensures is { IfOk result (λ v. (b : FormatsBuilt) → IsOutcomeOf (Err stop.now) (HasOutcome b.field 0 b.claim) → IsTreeVerdict b (verdict_of v)) }
+    ensures is { IfOk result (λ v. (b : FormatsBuilt) → IsOutcomeOf (Err stop.now) (HasOutcome b.field 0 b.claim) →
+        IsTreeVerdict b (verdict_of v)) }
 {
     match stop {
         Stop::Refused(number, refusal) => {

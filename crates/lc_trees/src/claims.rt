@@ -65,7 +65,8 @@ fn pair(
     requires symbol { IsTrue (is_symbol field.now) }
     requires shaped { IsShapedClaim field.now (pair (pair_of kind) (claim_of left.now) (claim_of right.now)) }
     requires few { number + claim_total (pair (pair_of kind) (claim_of left.now) (claim_of right.now)) ≤ 1024 }
-    ensures is { IsOutcomeOf result (HasOutcome field.now number (pair (pair_of kind) (claim_of left.now) (claim_of right.now))) }
+    ensures is { IsOutcomeOf result
+        (HasOutcome field.now number (pair (pair_of kind) (claim_of left.now) (claim_of right.now))) }
 {
     let one = made(alloc, field, left, number + 1)?;
     let two = made(alloc, field, right, number + 1 + total(left))?;
@@ -85,7 +86,8 @@ fn concat(
     requires symbol { IsTrue (is_symbol field.now) }
     requires shaped { IsShapedClaim field.now (concat large (claim_of outer.now) (claim_of inner.now)) }
     requires few { number + claim_total (concat large (claim_of outer.now) (claim_of inner.now)) ≤ 1024 }
-    ensures is { IsOutcomeOf result (HasOutcome field.now number (concat large (claim_of outer.now) (claim_of inner.now))) }
+    ensures is { IsOutcomeOf result
+        (HasOutcome field.now number (concat large (claim_of outer.now) (claim_of inner.now))) }
 {
     let Ok(larger) = Field::of(alloc, large) else {
         return Err(Stop::NoMemory);
@@ -126,7 +128,8 @@ fn at_places(
     requires symbol { IsTrue (is_symbol field.now) }
     requires shaped { IsShapedClaim field.now (at_places (place_of kind) (claim_of of.now) places.now) }
     requires few { number + claim_total (at_places (place_of kind) (claim_of of.now) places.now) ≤ 1024 }
-    ensures is { IsOutcomeOf result (HasOutcome field.now number (at_places (place_of kind) (claim_of of.now) places.now)) }
+    ensures is { IsOutcomeOf result
+        (HasOutcome field.now number (at_places (place_of kind) (claim_of of.now) places.now)) }
 {
     let one = made(alloc, field, of, number + 1)?;
     placed(alloc, number, kind, places, &one)

@@ -24,7 +24,8 @@ pub(crate) fn combined(
     one: &Made,
     two: &Made,
 ) -> Result<Made, Stop>
-    ensures is { IsOutcomeOf result (PairOutcome number (pair_of kind) one.now.code one.now.bound two.now.code two.now.bound) }
+    ensures is { IsOutcomeOf result
+        (PairOutcome number (pair_of kind) one.now.code one.now.bound two.now.code two.now.bound) }
 {
     let first = one.bound as u64;
     let second = two.bound as u64;

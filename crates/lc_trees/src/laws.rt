@@ -19,5 +19,6 @@ pub fn claims_bound_their_codes()
 pub fn valid_trees_prove_the_distance()
     ensures sound { SoundTrees }
     ensures accepted { (b : Built) → IsShapedTree b → IsTreeVerdict b accepted → IsProvenTree b }
-    ensures checked { (bytes : List ℕ) (d : Document) → document_in bytes ≡ document d → IsVerdict (document d) accepted → Proves d }
+    ensures checked { (bytes : List ℕ) (d : Document) → document_in bytes ≡ document d →
+        IsVerdict (document d) accepted → Proves d }
 {}
