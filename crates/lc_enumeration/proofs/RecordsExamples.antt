@@ -43,39 +43,39 @@ reached blocks weight place = record { blocks = blocks; weight = weight; place =
 abbrev pub starting : List Progress → Option Progress → Start
 starting settled current = record { settled = settled; current = current }
 
-pub heard : records ones (hamming ∷ []) (2 ^ 20) None fresh_start ≡ heard_at 0 1 2 ∷ heard_at 0 2 3 ∷ []
+pub heard : records ones (hamming ∷ []) (2 ^ 20) 256 None fresh_start ≡ heard_at 0 1 2 ∷ heard_at 0 2 3 ∷ []
 unfolding digits number plus minus times top up times_x product shape shape_of size coefficients add mul word_sum scale below combine words supports supports_from numbers_from nonzero_lists leading_lists messages vector_from vector_of choose message_count cut phase_level phase_set level_blocks blocks_before total phase_at phase_ends block_messages place_of plan_phases phase_of same_word in_span greedy is_member first_basis columns_in_order with_fresh next_set sets_after information_sets unit_word systematic sets_of set_count ranks_of generator_at word_of block_words word_at beats found_along found_in_block found_from least_of found_first found_below best last_that is_whole_below level_below levels_below bound_sum bound_of bound is_done ends_of may_end finished weight_at fits fits_settled rounded found_of progress_of first_progress end_of_phase within_slice round_length after_round note_of is_used_up state_first no_round less_slice rounds_within rounds last_state fresh_start step_of no_steps steps_first session_from session_rounds records first_divisible start_before used_start misfit_at count_current too_many misfit_from misfit
 heard = refl
 
-pub sliced : records ones (hamming ∷ hamming ∷ []) (2 ^ 20) (Some 3) fresh_start ≡ heard_at 0 1 2 ∷ heard_at 0 2 3 ∷ heard_at 1 1 2 ∷ []
+pub sliced : records ones (hamming ∷ hamming ∷ []) (2 ^ 20) 256 (Some 3) fresh_start ≡ heard_at 0 1 2 ∷ heard_at 0 2 3 ∷ heard_at 1 1 2 ∷ []
 unfolding digits number plus minus times top up times_x product shape shape_of size coefficients add mul word_sum scale below combine words supports supports_from numbers_from nonzero_lists leading_lists messages vector_from vector_of choose message_count cut phase_level phase_set level_blocks blocks_before total phase_at phase_ends block_messages place_of plan_phases phase_of same_word in_span greedy is_member first_basis columns_in_order with_fresh next_set sets_after information_sets unit_word systematic sets_of set_count ranks_of generator_at word_of block_words word_at beats found_along found_in_block found_from least_of found_first found_below best last_that is_whole_below level_below levels_below bound_sum bound_of bound is_done ends_of may_end finished weight_at fits fits_settled rounded found_of progress_of first_progress end_of_phase within_slice round_length after_round note_of is_used_up state_first no_round less_slice rounds_within rounds last_state fresh_start step_of no_steps steps_first session_from session_rounds records first_divisible start_before used_start misfit_at count_current too_many misfit_from misfit
 sliced = refl
 
-pub stops : map (λ left. (rounds 1 hamming (2 ^ 20) (Some left) (reached 0 3 0)).is_stopped) (0 ∷ 1 ∷ 2 ∷ []) ≡ true ∷ true ∷ false ∷ []
+pub stops : map (λ left. (rounds 1 hamming (2 ^ 20) 256 (Some left) (reached 0 3 0)).is_stopped) (0 ∷ 1 ∷ 2 ∷ []) ≡ true ∷ true ∷ false ∷ []
 unfolding digits number plus minus times top up times_x product shape shape_of size coefficients add mul word_sum scale below combine words supports supports_from numbers_from nonzero_lists leading_lists messages vector_from vector_of choose message_count cut phase_level phase_set level_blocks blocks_before total phase_at phase_ends block_messages place_of plan_phases phase_of same_word in_span greedy is_member first_basis columns_in_order with_fresh next_set sets_after information_sets unit_word systematic sets_of set_count ranks_of generator_at word_of block_words word_at beats found_along found_in_block found_from least_of found_first found_below best last_that is_whole_below level_below levels_below bound_sum bound_of bound is_done ends_of may_end finished weight_at fits fits_settled rounded found_of progress_of first_progress end_of_phase within_slice round_length after_round note_of is_used_up state_first no_round less_slice rounds_within rounds last_state fresh_start step_of no_steps steps_first session_from session_rounds records first_divisible start_before used_start misfit_at count_current too_many misfit_from misfit
 stops = refl
 
-pub one_need : session_rounds ones (hamming ∷ []) (2 ^ 20) (Some 2) fresh_start ≡ record { steps = record { note = heard_at 0 1 2; settled = []; state = reached 1 3 0 } ∷ record { note = heard_at 0 2 3; settled = []; state = reached 2 3 0 } ∷ []; settled = (reached 2 3 0 ∷ []); left = Some 0; is_stopped = false }
+pub one_need : session_rounds ones (hamming ∷ []) (2 ^ 20) 256 (Some 2) fresh_start ≡ record { steps = record { note = heard_at 0 1 2; settled = []; state = reached 1 3 0 } ∷ record { note = heard_at 0 2 3; settled = []; state = reached 2 3 0 } ∷ []; settled = (reached 2 3 0 ∷ []); left = Some 0; is_stopped = false }
 unfolding digits number plus minus times top up times_x product shape shape_of size coefficients add mul word_sum scale below combine words supports supports_from numbers_from nonzero_lists leading_lists messages vector_from vector_of choose message_count cut phase_level phase_set level_blocks blocks_before total phase_at phase_ends block_messages place_of plan_phases phase_of same_word in_span greedy is_member first_basis columns_in_order with_fresh next_set sets_after information_sets unit_word systematic sets_of set_count ranks_of generator_at word_of block_words word_at beats found_along found_in_block found_from least_of found_first found_below best last_that is_whole_below level_below levels_below bound_sum bound_of bound is_done ends_of may_end finished weight_at fits fits_settled rounded found_of progress_of first_progress end_of_phase within_slice round_length after_round note_of is_used_up state_first no_round less_slice rounds_within rounds last_state fresh_start step_of no_steps steps_first session_from session_rounds records first_divisible start_before used_start misfit_at count_current too_many misfit_from misfit
 one_need = refl
 
-pub two_needs : session_rounds ones (hamming ∷ hamming ∷ []) (2 ^ 20) (Some 2) fresh_start ≡ record { steps = record { note = heard_at 0 1 2; settled = []; state = reached 1 3 0 } ∷ record { note = heard_at 0 2 3; settled = []; state = reached 2 3 0 } ∷ []; settled = (reached 2 3 0 ∷ []); left = Some 0; is_stopped = true }
+pub two_needs : session_rounds ones (hamming ∷ hamming ∷ []) (2 ^ 20) 256 (Some 2) fresh_start ≡ record { steps = record { note = heard_at 0 1 2; settled = []; state = reached 1 3 0 } ∷ record { note = heard_at 0 2 3; settled = []; state = reached 2 3 0 } ∷ []; settled = (reached 2 3 0 ∷ []); left = Some 0; is_stopped = true }
 unfolding digits number plus minus times top up times_x product shape shape_of size coefficients add mul word_sum scale below combine words supports supports_from numbers_from nonzero_lists leading_lists messages vector_from vector_of choose message_count cut phase_level phase_set level_blocks blocks_before total phase_at phase_ends block_messages place_of plan_phases phase_of same_word in_span greedy is_member first_basis columns_in_order with_fresh next_set sets_after information_sets unit_word systematic sets_of set_count ranks_of generator_at word_of block_words word_at beats found_along found_in_block found_from least_of found_first found_below best last_that is_whole_below level_below levels_below bound_sum bound_of bound is_done ends_of may_end finished weight_at fits fits_settled rounded found_of progress_of first_progress end_of_phase within_slice round_length after_round note_of is_used_up state_first no_round less_slice rounds_within rounds last_state fresh_start step_of no_steps steps_first session_from session_rounds records first_divisible start_before used_start misfit_at count_current too_many misfit_from misfit
 two_needs = refl
 
-pub kept : session_rounds ones (hamming ∷ hamming ∷ []) (2 ^ 20) None fresh_start ≡ record { steps = record { note = heard_at 0 1 2; settled = []; state = reached 1 3 0 } ∷ record { note = heard_at 0 2 3; settled = []; state = reached 2 3 0 } ∷ record { note = heard_at 1 1 2; settled = (reached 2 3 0 ∷ []); state = reached 1 3 0 } ∷ record { note = heard_at 1 2 3; settled = (reached 2 3 0 ∷ []); state = reached 2 3 0 } ∷ []; settled = reached 2 3 0 ∷ reached 2 3 0 ∷ []; left = None; is_stopped = false }
+pub kept : session_rounds ones (hamming ∷ hamming ∷ []) (2 ^ 20) 256 None fresh_start ≡ record { steps = record { note = heard_at 0 1 2; settled = []; state = reached 1 3 0 } ∷ record { note = heard_at 0 2 3; settled = []; state = reached 2 3 0 } ∷ record { note = heard_at 1 1 2; settled = (reached 2 3 0 ∷ []); state = reached 1 3 0 } ∷ record { note = heard_at 1 2 3; settled = (reached 2 3 0 ∷ []); state = reached 2 3 0 } ∷ []; settled = reached 2 3 0 ∷ reached 2 3 0 ∷ []; left = None; is_stopped = false }
 unfolding digits number plus minus times top up times_x product shape shape_of size coefficients add mul word_sum scale below combine words supports supports_from numbers_from nonzero_lists leading_lists messages vector_from vector_of choose message_count cut phase_level phase_set level_blocks blocks_before total phase_at phase_ends block_messages place_of plan_phases phase_of same_word in_span greedy is_member first_basis columns_in_order with_fresh next_set sets_after information_sets unit_word systematic sets_of set_count ranks_of generator_at word_of block_words word_at beats found_along found_in_block found_from least_of found_first found_below best last_that is_whole_below level_below levels_below bound_sum bound_of bound is_done ends_of may_end finished weight_at fits fits_settled rounded found_of progress_of first_progress end_of_phase within_slice round_length after_round note_of is_used_up state_first no_round less_slice rounds_within rounds last_state fresh_start step_of no_steps steps_first session_from session_rounds records first_divisible start_before used_start misfit_at count_current too_many misfit_from misfit
 kept = refl
 
-pub resumed : records ones (hamming ∷ hamming ∷ []) (2 ^ 20) None (starting (reached 2 3 0 ∷ []) (Some (reached 1 3 0))) ≡ heard_at 1 2 3 ∷ []
+pub resumed : records ones (hamming ∷ hamming ∷ []) (2 ^ 20) 256 None (starting (reached 2 3 0 ∷ []) (Some (reached 1 3 0))) ≡ heard_at 1 2 3 ∷ []
 unfolding digits number plus minus times top up times_x product shape shape_of size coefficients add mul word_sum scale below combine words supports supports_from numbers_from nonzero_lists leading_lists messages vector_from vector_of choose message_count cut phase_level phase_set level_blocks blocks_before total phase_at phase_ends block_messages place_of plan_phases phase_of same_word in_span greedy is_member first_basis columns_in_order with_fresh next_set sets_after information_sets unit_word systematic sets_of set_count ranks_of generator_at word_of block_words word_at beats found_along found_in_block found_from least_of found_first found_below best last_that is_whole_below level_below levels_below bound_sum bound_of bound is_done ends_of may_end finished weight_at fits fits_settled rounded found_of progress_of first_progress end_of_phase within_slice round_length after_round note_of is_used_up state_first no_round less_slice rounds_within rounds last_state fresh_start step_of no_steps steps_first session_from session_rounds records first_divisible start_before used_start misfit_at count_current too_many misfit_from misfit
 resumed = refl
 
-pub next_slice : (session_rounds ones (hamming ∷ hamming ∷ []) (2 ^ 20) (Some 5) fresh_start).left ≡ Some 1
+pub next_slice : (session_rounds ones (hamming ∷ hamming ∷ []) (2 ^ 20) 256 (Some 5) fresh_start).left ≡ Some 1
 unfolding digits number plus minus times top up times_x product shape shape_of size coefficients add mul word_sum scale below combine words supports supports_from numbers_from nonzero_lists leading_lists messages vector_from vector_of choose message_count cut phase_level phase_set level_blocks blocks_before total phase_at phase_ends block_messages place_of plan_phases phase_of same_word in_span greedy is_member first_basis columns_in_order with_fresh next_set sets_after information_sets unit_word systematic sets_of set_count ranks_of generator_at word_of block_words word_at beats found_along found_in_block found_from least_of found_first found_below best last_that is_whole_below level_below levels_below bound_sum bound_of bound is_done ends_of may_end finished weight_at fits fits_settled rounded found_of progress_of first_progress end_of_phase within_slice round_length after_round note_of is_used_up state_first no_round less_slice rounds_within rounds last_state fresh_start step_of no_steps steps_first session_from session_rounds records first_divisible start_before used_start misfit_at count_current too_many misfit_from misfit
 next_slice = refl
 
-pub at_end : records ones (hamming ∷ []) (2 ^ 20) None (starting (reached 2 3 0 ∷ []) None) ≡ []
+pub at_end : records ones (hamming ∷ []) (2 ^ 20) 256 None (starting (reached 2 3 0 ∷ []) None) ≡ []
 unfolding digits number plus minus times top up times_x product shape shape_of size coefficients add mul word_sum scale below combine words supports supports_from numbers_from nonzero_lists leading_lists messages vector_from vector_of choose message_count cut phase_level phase_set level_blocks blocks_before total phase_at phase_ends block_messages place_of plan_phases phase_of same_word in_span greedy is_member first_basis columns_in_order with_fresh next_set sets_after information_sets unit_word systematic sets_of set_count ranks_of generator_at word_of block_words word_at beats found_along found_in_block found_from least_of found_first found_below best last_that is_whole_below level_below levels_below bound_sum bound_of bound is_done ends_of may_end finished weight_at fits fits_settled rounded found_of progress_of first_progress end_of_phase within_slice round_length after_round note_of is_used_up state_first no_round less_slice rounds_within rounds last_state fresh_start step_of no_steps steps_first session_from session_rounds records first_divisible start_before used_start misfit_at count_current too_many misfit_from misfit
 at_end = refl
 
@@ -99,10 +99,10 @@ pub used : used_start divisor_of (hamming ∷ extended ∷ hamming ∷ []) 2 (re
 unfolding digits number plus minus times top up times_x product shape shape_of size coefficients add mul word_sum scale below combine words supports supports_from numbers_from nonzero_lists leading_lists messages vector_from vector_of choose message_count cut phase_level phase_set level_blocks blocks_before total phase_at phase_ends block_messages place_of plan_phases phase_of same_word in_span greedy is_member first_basis columns_in_order with_fresh next_set sets_after information_sets unit_word systematic sets_of set_count ranks_of generator_at word_of block_words word_at beats found_along found_in_block found_from least_of found_first found_below best last_that is_whole_below level_below levels_below bound_sum bound_of bound is_done ends_of may_end finished weight_at fits fits_settled rounded found_of progress_of first_progress end_of_phase within_slice round_length after_round note_of is_used_up state_first no_round less_slice rounds_within rounds last_state fresh_start step_of no_steps steps_first session_from session_rounds records first_divisible start_before used_start misfit_at count_current too_many misfit_from misfit possible_divisors divides_weights weight_divisor divisor_of
 used = refl
 
-pub divisible : records divisor_of (extended ∷ hamming ∷ []) (2 ^ 20) None fresh_start ≡ heard_at 1 1 2 ∷ heard_at 1 2 3 ∷ []
+pub divisible : records divisor_of (extended ∷ hamming ∷ []) (2 ^ 20) 256 None fresh_start ≡ heard_at 1 1 2 ∷ heard_at 1 2 3 ∷ []
 unfolding digits number plus minus times top up times_x product shape shape_of size coefficients add mul word_sum scale below combine words supports supports_from numbers_from nonzero_lists leading_lists messages vector_from vector_of choose message_count cut phase_level phase_set level_blocks blocks_before total phase_at phase_ends block_messages place_of plan_phases phase_of same_word in_span greedy is_member first_basis columns_in_order with_fresh next_set sets_after information_sets unit_word systematic sets_of set_count ranks_of generator_at word_of block_words word_at beats found_along found_in_block found_from least_of found_first found_below best last_that is_whole_below level_below levels_below bound_sum bound_of bound is_done ends_of may_end finished weight_at fits fits_settled rounded found_of progress_of first_progress end_of_phase within_slice round_length after_round note_of is_used_up state_first no_round less_slice rounds_within rounds last_state fresh_start step_of no_steps steps_first session_from session_rounds records first_divisible start_before used_start misfit_at count_current too_many misfit_from misfit possible_divisors divides_weights weight_divisor divisor_of
 divisible = refl
 
-pub by_one : records ones (extended ∷ []) (2 ^ 20) None fresh_start ≡ record { need = 0; blocks = 1; bound = 3; best = 4 } ∷ record { need = 0; blocks = 2; bound = 4; best = 4 } ∷ []
+pub by_one : records ones (extended ∷ []) (2 ^ 20) 256 None fresh_start ≡ record { need = 0; blocks = 1; bound = 3; best = 4 } ∷ record { need = 0; blocks = 2; bound = 4; best = 4 } ∷ []
 unfolding digits number plus minus times top up times_x product shape shape_of size coefficients add mul word_sum scale below combine words supports supports_from numbers_from nonzero_lists leading_lists messages vector_from vector_of choose message_count cut phase_level phase_set level_blocks blocks_before total phase_at phase_ends block_messages place_of plan_phases phase_of same_word in_span greedy is_member first_basis columns_in_order with_fresh next_set sets_after information_sets unit_word systematic sets_of set_count ranks_of generator_at word_of block_words word_at beats found_along found_in_block found_from least_of found_first found_below best last_that is_whole_below level_below levels_below bound_sum bound_of bound is_done ends_of may_end finished weight_at fits fits_settled rounded found_of progress_of first_progress end_of_phase within_slice round_length after_round note_of is_used_up state_first no_round less_slice rounds_within rounds last_state fresh_start step_of no_steps steps_first session_from session_rounds records first_divisible start_before used_start misfit_at count_current too_many misfit_from misfit possible_divisors divides_weights weight_divisor divisor_of
 by_one = refl

@@ -55,19 +55,19 @@ either_used P false x y p q = q
 abbrev AreBest : Matrix → Rounds → Type 0
 AreBest C r = All (IsBestAt C) r.states
 
-pub rounds_are_best : (most d : ℕ) (C : Matrix) (budget : ℕ) (slice : Option ℕ) (s : Progress) → IsBestAt C s → All (IsBestAt C) (rounds_within most d C budget slice s).states
+pub rounds_are_best : (most d : ℕ) (C : Matrix) (budget longest : ℕ) (slice : Option ℕ) (s : Progress) → IsBestAt C s → All (IsBestAt C) (rounds_within most d C budget longest slice s).states
 unfolding rounds_within state_first no_round
-rounds_are_best zero d C budget slice s h = All-nil (IsBestAt C)
-rounds_are_best (suc most) d C budget slice s h =
-    let next = after_round C s (round_length C budget slice s.blocks) in
-    let rest = rounds_within most d C budget (less_slice slice (round_length C budget slice s.blocks)) next in
-    let best_next = round_is_best C s (round_length C budget slice s.blocks) h in
+rounds_are_best zero d C budget longest slice s h = All-nil (IsBestAt C)
+rounds_are_best (suc most) d C budget longest slice s h =
+    let next = after_round C s (round_length C budget longest slice s.blocks) in
+    let rest = rounds_within most d C budget longest (less_slice slice (round_length C budget longest slice s.blocks)) next in
+    let best_next = round_is_best C s (round_length C budget longest slice s.blocks) h in
     either_answered (AreBest C) (finished d C budget s.blocks (found_of s)) (no_round slice false)
     (elim (is_used_up slice) as (λ _. Rounds) [ true ↦ no_round slice true | false ↦ state_first next rest ])
     (All-nil (IsBestAt C))
     (either_used (AreBest C) (is_used_up slice) (no_round slice true) (state_first next rest)
     (All-nil (IsBestAt C))
-    (All-cons (IsBestAt C) next rest.states best_next (rounds_are_best most d C budget (less_slice slice (round_length C budget slice s.blocks)) next best_next)))
+    (All-cons (IsBestAt C) next rest.states best_next (rounds_are_best most d C budget longest (less_slice slice (round_length C budget longest slice s.blocks)) next best_next)))
 
 pub last_is_best : (C : Matrix) (states : List Progress) (s : Progress) → IsBestAt C s → All (IsBestAt C) states → IsBestAt C (last_state s states)
 unfolding last_state
@@ -82,9 +82,9 @@ first_is_best C = sym (same_or_not (beats (found_first C (set_count C)) (found_f
     same_or_not true = refl
     same_or_not false = refl
 
-pub search_is_best : (d : ℕ) (C : Matrix) (budget : ℕ) (slice : Option ℕ) (s : Progress) → IsBestAt C s → All (IsBestAt C) (rounds d C budget slice s).states
+pub search_is_best : (d : ℕ) (C : Matrix) (budget longest : ℕ) (slice : Option ℕ) (s : Progress) → IsBestAt C s → All (IsBestAt C) (rounds d C budget longest slice s).states
 unfolding rounds
-search_is_best d C budget slice s h = rounds_are_best (suc (budget - s.blocks)) d C budget slice s h
+search_is_best d C budget longest slice s h = rounds_are_best (suc (budget - s.blocks)) d C budget longest slice s h
 
-pub end_is_best : (d : ℕ) (C : Matrix) (budget : ℕ) (slice : Option ℕ) (s : Progress) → IsBestAt C s → IsBestAt C (last_state s (rounds d C budget slice s).states)
-end_is_best d C budget slice s h = last_is_best C (rounds d C budget slice s).states s h (search_is_best d C budget slice s h)
+pub end_is_best : (d : ℕ) (C : Matrix) (budget longest : ℕ) (slice : Option ℕ) (s : Progress) → IsBestAt C s → IsBestAt C (last_state s (rounds d C budget longest slice s).states)
+end_is_best d C budget longest slice s h = last_is_best C (rounds d C budget longest slice s).states s h (search_is_best d C budget longest slice s h)

@@ -36,19 +36,19 @@ step blocks bound = record { note = heard blocks bound; settled = []; state = at
 abbrev pub from : Progress → Start
 from s = record { settled = []; current = Some s }
 
-pub first_slice : session_rounds (by 1) (reed_muller_code ∷ []) (2 ^ 20) (Some 2) fresh_start ≡ record { steps = step 1 3 ∷ step 2 4 ∷ []; settled = []; left = Some 0; is_stopped = true }
+pub first_slice : session_rounds (by 1) (reed_muller_code ∷ []) (2 ^ 20) 256 (Some 2) fresh_start ≡ record { steps = step 1 3 ∷ step 2 4 ∷ []; settled = []; left = Some 0; is_stopped = true }
 unfolding digits number plus minus times top up times_x product shape shape_of size coefficients add mul word_sum scale below combine words supports supports_from numbers_from nonzero_lists leading_lists messages vector_from vector_of choose message_count cut phase_level phase_set level_blocks blocks_before total phase_at phase_ends block_messages place_of phase_of plan_phases same_word in_span greedy is_member first_basis columns_in_order with_fresh next_set sets_after information_sets unit_word systematic sets_of set_count ranks_of generator_at word_of block_words word_at beats found_along found_in_block found_from least_of found_first found_below best last_that is_whole_below level_below levels_below bound_sum bound_of bound is_done ends_of may_end finished rounded found_of progress_of first_progress end_of_phase within_slice round_length after_round note_of is_used_up state_first no_round less_slice rounds_within rounds last_state fresh_start step_of no_steps steps_first session_from session_rounds records first_divisible start_before used_start
 first_slice = refl
 
-pub second_slice : session_rounds (by 1) (reed_muller_code ∷ []) (2 ^ 20) (Some 3) (from (at 2)) ≡ record { steps = step 3 5 ∷ step 4 6 ∷ step 5 7 ∷ []; settled = []; left = Some 0; is_stopped = true }
+pub second_slice : session_rounds (by 1) (reed_muller_code ∷ []) (2 ^ 20) 256 (Some 3) (from (at 2)) ≡ record { steps = step 3 5 ∷ step 4 6 ∷ step 5 7 ∷ []; settled = []; left = Some 0; is_stopped = true }
 unfolding digits number plus minus times top up times_x product shape shape_of size coefficients add mul word_sum scale below combine words supports supports_from numbers_from nonzero_lists leading_lists messages vector_from vector_of choose message_count cut phase_level phase_set level_blocks blocks_before total phase_at phase_ends block_messages place_of phase_of plan_phases same_word in_span greedy is_member first_basis columns_in_order with_fresh next_set sets_after information_sets unit_word systematic sets_of set_count ranks_of generator_at word_of block_words word_at beats found_along found_in_block found_from least_of found_first found_below best last_that is_whole_below level_below levels_below bound_sum bound_of bound is_done ends_of may_end finished rounded found_of progress_of first_progress end_of_phase within_slice round_length after_round note_of is_used_up state_first no_round less_slice rounds_within rounds last_state fresh_start step_of no_steps steps_first session_from session_rounds records first_divisible start_before used_start
 second_slice = refl
 
-pub last_session : session_rounds (by 1) (reed_muller_code ∷ []) (2 ^ 20) None (from (at 5)) ≡ record { steps = step 6 8 ∷ []; settled = at 6 ∷ []; left = None; is_stopped = false }
+pub last_session : session_rounds (by 1) (reed_muller_code ∷ []) (2 ^ 20) 256 None (from (at 5)) ≡ record { steps = step 6 8 ∷ []; settled = at 6 ∷ []; left = None; is_stopped = false }
 unfolding digits number plus minus times top up times_x product shape shape_of size coefficients add mul word_sum scale below combine words supports supports_from numbers_from nonzero_lists leading_lists messages vector_from vector_of choose message_count cut phase_level phase_set level_blocks blocks_before total phase_at phase_ends block_messages place_of phase_of plan_phases same_word in_span greedy is_member first_basis columns_in_order with_fresh next_set sets_after information_sets unit_word systematic sets_of set_count ranks_of generator_at word_of block_words word_at beats found_along found_in_block found_from least_of found_first found_below best last_that is_whole_below level_below levels_below bound_sum bound_of bound is_done ends_of may_end finished rounded found_of progress_of first_progress end_of_phase within_slice round_length after_round note_of is_used_up state_first no_round less_slice rounds_within rounds last_state fresh_start step_of no_steps steps_first session_from session_rounds records first_divisible start_before used_start
 last_session = refl
 
-pub divisible_records : records (by 4) (reed_muller_code ∷ []) (2 ^ 20) None fresh_start ≡ heard 1 4 ∷ heard 2 4 ∷ heard 3 8 ∷ []
+pub divisible_records : records (by 4) (reed_muller_code ∷ []) (2 ^ 20) 256 None fresh_start ≡ heard 1 4 ∷ heard 2 4 ∷ heard 3 8 ∷ []
 unfolding digits number plus minus times top up times_x product shape shape_of size coefficients add mul word_sum scale below combine words supports supports_from numbers_from nonzero_lists leading_lists messages vector_from vector_of choose message_count cut phase_level phase_set level_blocks blocks_before total phase_at phase_ends block_messages place_of phase_of plan_phases same_word in_span greedy is_member first_basis columns_in_order with_fresh next_set sets_after information_sets unit_word systematic sets_of set_count ranks_of generator_at word_of block_words word_at beats found_along found_in_block found_from least_of found_first found_below best last_that is_whole_below level_below levels_below bound_sum bound_of bound is_done ends_of may_end finished rounded found_of progress_of first_progress end_of_phase within_slice round_length after_round note_of is_used_up state_first no_round less_slice rounds_within rounds last_state fresh_start step_of no_steps steps_first session_from session_rounds records first_divisible start_before used_start
 divisible_records = refl
 

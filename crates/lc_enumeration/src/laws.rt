@@ -42,10 +42,11 @@ pub fn rounds_keep_the_best_word()
     ensures after { (C : Matrix) (m l count : ℕ) →
         best C m (l + count) ≡ least_of (best C m l) (found_from C m l count) }
     ensures first { (C : Matrix) → IsBestAt C (first_progress C) }
-    ensures rounds { (d : ℕ) (C : Matrix) (budget : ℕ) (slice : Option ℕ) (state : Progress) → IsBestAt C state →
-        All (IsBestAt C) (rounds d C budget slice state).states }
-    ensures last { (d : ℕ) (C : Matrix) (budget : ℕ) (slice : Option ℕ) (state : Progress) → IsBestAt C state →
-        IsBestAt C (last_state state (rounds d C budget slice state).states) }
+    ensures rounds { (d : ℕ) (C : Matrix) (budget longest : ℕ) (slice : Option ℕ) (state : Progress) →
+        IsBestAt C state →
+        All (IsBestAt C) (rounds d C budget longest slice state).states }
+    ensures last { (d : ℕ) (C : Matrix) (budget longest : ℕ) (slice : Option ℕ) (state : Progress) → IsBestAt C state →
+        IsBestAt C (last_state state (rounds d C budget longest slice state).states) }
 {}
 
 /// The tests that the definitions compute with say what they are named for: that a number is in a list,

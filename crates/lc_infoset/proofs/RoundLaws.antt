@@ -10,7 +10,7 @@
 --   some_crossing              the phase that the cut ends
 --   end_between                the end of a phase, between a block and a later phase end
 --   some_end                   before the answer's blocks there is a phase end
---   round_within               a round does a block at least, and none past the answer's blocks
+--   round_within               a round of at most some blocks does a block at least, and none past the answer's blocks
 --   Between, Ended, rounds_end so the rounds end at the answer, if the slice doesn't stop them
 use Rattle.std.proofs.Common.{◌≡◌, ℕ, zero, suc, ◌+◌, ◌-◌, ◌*◌, ◌<◌, ◌≤◌, ◌⊎◌, min, Bool, true, false, ◌&&◌, ◌||◌, ◌==◌, nat_le, nat_lt, if◌then◌else◌, find, filter, cond, List, [], ◌∷◌, ◌++◌, length, map, Option, Some, None, is_some, unwrap_or, Contains, refl, sym, ap, subst, ◌∙◌, inl, inr, ⊎_elim, arith}
 use Rattle.std.proofs.lemmas.Bool.{cases_Bool, cases_lt, and_parts, and_from, or_cases, or_left, or_right, leb-true, ltb-true, le-leb, lt-ltb, false≢true, eqb-true, eq-eqb}
@@ -360,9 +360,9 @@ slice_within None n u p = (p, omega arith)
 slice_within (Some zero) n u p = absurd (false≢true (sym u))
 slice_within (Some (suc left)) n u p = (omega (arith, p), omega arith)
 
-round_is : (C : Matrix) (budget : ℕ) (slice : Option ℕ) (l : ℕ) → round_length C budget slice l ≡ within_slice slice (min 256 (min (end_of_phase C l - l) (budget - l)))
+round_is : (C : Matrix) (budget longest : ℕ) (slice : Option ℕ) (l : ℕ) → round_length C budget longest slice l ≡ within_slice slice (min longest (min (end_of_phase C l - l) (budget - l)))
 unfolding round_length
-round_is C budget slice l = refl
+round_is C budget longest slice l = refl
 
 pub target_within : (d : ℕ) (C : Matrix) (budget : ℕ) (o : Option ℕ) → find (is_done d C) (done_list C budget) ≡ o → target o budget ≤ budget
 target_within d C budget None f = omega arith
@@ -372,16 +372,16 @@ before_target : (budget : ℕ) (o : Option ℕ) (l x : ℕ) → x ≤ budget →
 before_target budget None l x few h = few
 before_target budget (Some e) l x few h = h e refl
 
-pub round_within : (d : ℕ) (C : Matrix) (budget : ℕ) (slice o : Option ℕ) (l : ℕ) → 0 < length C.rows → 0 < set_count C → budget ≤ cut → find (is_done d C) (done_list C budget) ≡ o → l < target o budget → is_used_up slice ≡ false → (0 < round_length C budget slice l) × (l + round_length C budget slice l ≤ target o budget)
-round_within d C budget slice o l rows sets small f less used =
+pub round_within : (d : ℕ) (C : Matrix) (budget longest : ℕ) (slice o : Option ℕ) (l : ℕ) → 0 < length C.rows → 0 < set_count C → budget ≤ cut → 0 < longest → find (is_done d C) (done_list C budget) ≡ o → l < target o budget → is_used_up slice ≡ false → (0 < round_length C budget longest slice l) × (l + round_length C budget longest slice l ≤ target o budget)
+round_within d C budget longest slice o l rows sets small long f less used =
     let t = some_end d C budget o l rows sets small f less in
     let b = end_between C l t.0 t.1 t.2 t.3 in
     let most = target_within d C budget o f in
-    let n = min 256 (min (end_of_phase C l - l) (budget - l)) in
-    let s = slice_within slice n used (omega (arith, b.0, less, most)) in
-    let is = round_is C budget slice l in (
+    let n = min longest (min (end_of_phase C l - l) (budget - l)) in
+    let s = slice_within slice n used (omega (arith, long, b.0, less, most)) in
+    let is = round_is C budget longest slice l in (
       omega (arith, is, s.0),
-      before_target budget o l (l + round_length C budget slice l) (omega (arith, is, s.1, less, most)) (λ e g. omega (arith, is, s.1, b.0, b.1, t.4 e g)),
+      before_target budget o l (l + round_length C budget longest slice l) (omega (arith, is, s.1, less, most)) (λ e g. omega (arith, is, s.1, b.0, b.1, t.4 e g)),
     )
 
 -- a state that the rounds from a state go through: the best at more blocks, but no more than the answer's
@@ -407,13 +407,13 @@ used_up None e = absurd (false≢true e)
 used_up (Some zero) e = refl
 used_up (Some (suc n)) e = absurd (false≢true e)
 
-pub rounds_end : (most d : ℕ) (C : Matrix) (budget : ℕ) (slice o : Option ℕ) (s : Progress) → 0 < length C.rows → 0 < set_count C → budget ≤ cut → find (is_done d C) (done_list C budget) ≡ o → budget - s.blocks < most → IsBestAt C s → s.blocks ≤ target o budget → Ended d C budget o s (rounds_within most d C budget slice s)
+pub rounds_end : (most d : ℕ) (C : Matrix) (budget longest : ℕ) (slice o : Option ℕ) (s : Progress) → 0 < length C.rows → 0 < set_count C → budget ≤ cut → 0 < longest → find (is_done d C) (done_list C budget) ≡ o → budget - s.blocks < most → IsBestAt C s → s.blocks ≤ target o budget → Ended d C budget o s (rounds_within most d C budget longest slice s)
 unfolding rounds_within state_first no_round last_state
-rounds_end zero d C budget slice o s rows sets small f fuel h few = absurd (omega (arith, fuel))
-rounds_end (suc most) d C budget slice o s rows sets small f fuel h few =
-    let count = round_length C budget slice s.blocks in
+rounds_end zero d C budget longest slice o s rows sets small long f fuel h few = absurd (omega (arith, fuel))
+rounds_end (suc most) d C budget longest slice o s rows sets small long f fuel h few =
+    let count = round_length C budget longest slice s.blocks in
     let next = after_round C s count in
-    let rest = rounds_within most d C budget (less_slice slice count) next in
+    let rest = rounds_within most d C budget longest (less_slice slice count) next in
     let go = λ (b : Bool). elim b as (λ _. Rounds) [ true ↦ no_round slice true | false ↦ state_first next rest ] in
     let on = λ (a : Option Answer). elim a as (λ _. Rounds) [ Some _ ↦ no_round slice false | None ↦ go (is_used_up slice) ] in
     let goal = λ (r : Rounds). Ended d C budget o s r in
@@ -431,12 +431,12 @@ rounds_end (suc most) d C budget slice o s rows sets small f fuel h few =
       stops = λ e. (more, used_up slice u);
     }))
     (λ u.
-    let w = round_within d C budget slice o s.blocks rows sets small f less u in
+    let w = round_within d C budget longest slice o s.blocks rows sets small long f less u in
     let blocks = next_blocks C s count in
     let best_next = round_is_best C s count h in
     let up : s.blocks < next.blocks = omega (arith, blocks, w.0) in
     let few_next : next.blocks ≤ target o budget = omega (arith, blocks, w.1) in
-    let r = rounds_end most d C budget (less_slice slice count) o next rows sets small f (omega (arith, fuel, blocks, w.0, less, target_within d C budget o f)) best_next few_next in
+    let r = rounds_end most d C budget longest (less_slice slice count) o next rows sets small long f (omega (arith, fuel, blocks, w.0, less, target_within d C budget o f)) best_next few_next in
     subst (λ (b : Bool). goal (go b)) (sym u) (record {
       each = λ t l. ⊎_elim
           (λ e. subst (Between C o budget s) e (record { best = best_next; more = up; few = few_next }))

@@ -45,12 +45,12 @@ pub record SearchEnds (d : ℕ) (C : Matrix) (budget : ℕ) (s : Progress) (r : 
   pub settles : r.is_stopped ≡ false → IsSettled d C budget (last_state s r.states)
   pub stops : r.is_stopped ≡ true → (finished d C budget (last_state s r.states).blocks (found_of (last_state s r.states)) ≡ None) × (r.left ≡ Some 0)
 
-pub search_ends : (d : ℕ) (C : Matrix) (budget : ℕ) (slice : Option ℕ) (s : Progress) → 0 < length C.rows → budget ≤ cut → IsUnderway d C budget s → SearchEnds d C budget s (rounds d C budget slice s)
+pub search_ends : (d : ℕ) (C : Matrix) (budget longest : ℕ) (slice : Option ℕ) (s : Progress) → 0 < length C.rows → budget ≤ cut → 0 < longest → IsUnderway d C budget s → SearchEnds d C budget s (rounds d C budget longest slice s)
 unfolding rounds
-search_ends d C budget slice s rows small h =
+search_ends d C budget longest slice s rows small long h =
     let o = find (is_done d C) (done_list C budget) in
     let blocks = target_is d C budget rows in
-    let e = rounds_end (suc (budget - s.blocks)) d C budget slice o s rows (some_set C) small refl (omega arith) h.best (omega (arith, h.few, blocks)) in
+    let e = rounds_end (suc (budget - s.blocks)) d C budget longest slice o s rows (some_set C) small long refl (omega arith) h.best (omega (arith, h.few, blocks)) in
     record {
       each = λ t l. let b = e.each t l in (record { best = b.best; few = omega (arith, b.few, blocks) }, b.more);
       last = record { best = e.best; few = omega (arith, e.few, blocks) };
@@ -132,21 +132,21 @@ ended_is_true divisor needs budget settled left h = record {
   stops = λ t. absurd (false≢true t);
 }
 
-pub session_from_is_true : (divisor : Matrix → ℕ) (rest : List Matrix) (budget : ℕ) (slice : Option ℕ) (settled : List Progress) (current : Option Progress) (before : List Matrix) → HaveRows rest → budget ≤ cut → AreSettled divisor budget before settled → IsUnderwayNext divisor budget rest current → TrueSession divisor (before ++ rest) budget (session_from divisor rest budget slice settled current)
+pub session_from_is_true : (divisor : Matrix → ℕ) (rest : List Matrix) (budget longest : ℕ) (slice : Option ℕ) (settled : List Progress) (current : Option Progress) (before : List Matrix) → HaveRows rest → budget ≤ cut → 0 < longest → AreSettled divisor budget before settled → IsUnderwayNext divisor budget rest current → TrueSession divisor (before ++ rest) budget (session_from divisor rest budget longest slice settled current)
 unfolding session_from
-session_from_is_true divisor [] budget slice settled current before rows small h under =
+session_from_is_true divisor [] budget longest slice settled current before rows small long h under =
     subst (λ needs. TrueSession divisor needs budget (no_steps settled slice false)) (sym (append-nil before)) (ended_is_true divisor before budget settled slice h)
-session_from_is_true divisor (C ∷ needs) budget slice settled current before rows small h under =
+session_from_is_true divisor (C ∷ needs) budget longest slice settled current before rows small long h under =
     let s = unwrap_or current (first_progress C) in
-    let r = rounds (divisor C) C budget slice s in
+    let r = rounds (divisor C) C budget longest slice s in
     let last = last_state s r.states in
-    let e = search_ends (divisor C) C budget slice s (All-head (λ (D : Matrix). 0 < length D.rows) C needs rows) small (state_underway divisor C needs budget current under) in
-    let later = λ (b : Bool). cond b (no_steps settled r.left true) (session_from divisor needs budget r.left (settled ++ last ∷ []) None) in
+    let e = search_ends (divisor C) C budget longest slice s (All-head (λ (D : Matrix). 0 < length D.rows) C needs rows) small long (state_underway divisor C needs budget current under) in
+    let later = λ (b : Bool). cond b (no_steps settled r.left true) (session_from divisor needs budget longest r.left (settled ++ last ∷ []) None) in
     let goal = λ (b : Bool). TrueSession divisor (before ++ C ∷ needs) budget (steps_first (map (step_of (divisor C) C settled) r.states) (later b)) in
     ⊎_elim
     (λ t. subst goal (sym t) (add_search divisor budget before C needs settled s r (later true) h e (stopped_is_true divisor (before ++ C ∷ needs) budget settled r.left (e.stops t).1)))
     (λ t.
-    let more = session_from_is_true divisor needs budget r.left (settled ++ last ∷ []) None (before ++ C ∷ []) (All-tail (λ (D : Matrix). 0 < length D.rows) C needs rows) small (settled_one_more divisor budget before settled C last h (e.settles t)) tt in
+    let more = session_from_is_true divisor needs budget longest r.left (settled ++ last ∷ []) None (before ++ C ∷ []) (All-tail (λ (D : Matrix). 0 < length D.rows) C needs rows) small long (settled_one_more divisor budget before settled C last h (e.settles t)) tt in
     subst goal (sym t) (add_search divisor budget before C needs settled s r (later false) h e (subst (λ all. TrueSession divisor all budget (later false)) (append_assoc before (C ∷ []) needs) more)))
     (cases_Bool r.is_stopped)
 
@@ -158,14 +158,14 @@ pub rows_after : (before after : List Matrix) → HaveRows (before ++ after) →
 rows_after [] after h = h
 rows_after (C ∷ before) after h = rows_after before after (All-tail (λ (D : Matrix). 0 < length D.rows) C (before ++ after) h)
 
-pub session_is_true : (divisor : Matrix → ℕ) (needs : List Matrix) (budget : ℕ) (slice : Option ℕ) (start : Start) → HaveRows needs → budget ≤ cut → IsTrueStart divisor needs budget start → TrueSession divisor needs budget (session_rounds divisor needs budget slice start)
+pub session_is_true : (divisor : Matrix → ℕ) (needs : List Matrix) (budget longest : ℕ) (slice : Option ℕ) (start : Start) → HaveRows needs → budget ≤ cut → 0 < longest → IsTrueStart divisor needs budget start → TrueSession divisor needs budget (session_rounds divisor needs budget longest slice start)
 unfolding session_rounds
-session_is_true divisor needs budget slice start rows small h =
+session_is_true divisor needs budget longest slice start rows small long h =
     let many = settled_many divisor budget h.before start.settled h.settled in
     let rest : drop (length start.settled) needs ≡ h.after = ap (λ n. drop n needs) (sym many) ∙ ap (drop (length h.before)) h.split ∙ drop_many h.before h.after in
-    let is = session_from_is_true divisor h.after budget slice start.settled start.current h.before (rows_after h.before h.after (subst HaveRows h.split rows)) small h.settled h.current in
-    subst (λ all. TrueSession divisor all budget (session_from divisor (drop (length start.settled) needs) budget slice start.settled start.current)) (sym h.split)
-    (subst (λ l. TrueSession divisor (h.before ++ h.after) budget (session_from divisor l budget slice start.settled start.current)) (sym rest) is)
+    let is = session_from_is_true divisor h.after budget longest slice start.settled start.current h.before (rows_after h.before h.after (subst HaveRows h.split rows)) small long h.settled h.current in
+    subst (λ all. TrueSession divisor all budget (session_from divisor (drop (length start.settled) needs) budget longest slice start.settled start.current)) (sym h.split)
+    (subst (λ l. TrueSession divisor (h.before ++ h.after) budget (session_from divisor l budget longest slice start.settled start.current)) (sym rest) is)
 
 pub fresh_is_true : (divisor : Matrix → ℕ) (needs : List Matrix) (budget : ℕ) → IsTrueStart divisor needs budget fresh_start
 unfolding fresh_start
@@ -190,20 +190,20 @@ resumed_is_true divisor needs budget step h = record {
 at_most_cut : (budget : ℕ) → budget ≤ 2 ^ 40 → budget ≤ cut
 at_most_cut budget l = omega (arith, l, cut_is)
 
-pub rounds_underway : (d : ℕ) (C : Matrix) (budget : ℕ) (slice : Option ℕ) (s t : Progress) → 0 < length C.rows → budget ≤ 2 ^ 40 → IsUnderway d C budget s → Contains (rounds d C budget slice s).states t → IsUnderway d C budget t × (s.blocks < t.blocks)
-rounds_underway d C budget slice s t rows small h l = (search_ends d C budget slice s rows (at_most_cut budget small) h).each t l
+pub rounds_underway : (d : ℕ) (C : Matrix) (budget longest : ℕ) (slice : Option ℕ) (s t : Progress) → 0 < length C.rows → budget ≤ 2 ^ 40 → 0 < longest → IsUnderway d C budget s → Contains (rounds d C budget longest slice s).states t → IsUnderway d C budget t × (s.blocks < t.blocks)
+rounds_underway d C budget longest slice s t rows small long h l = (search_ends d C budget longest slice s rows (at_most_cut budget small) long h).each t l
 
-pub rounds_settle : (d : ℕ) (C : Matrix) (budget : ℕ) (slice : Option ℕ) (s : Progress) → 0 < length C.rows → budget ≤ 2 ^ 40 → IsUnderway d C budget s → (rounds d C budget slice s).is_stopped ≡ false → IsSettled d C budget (last_state s (rounds d C budget slice s).states)
-rounds_settle d C budget slice s rows small h e = (search_ends d C budget slice s rows (at_most_cut budget small) h).settles e
+pub rounds_settle : (d : ℕ) (C : Matrix) (budget longest : ℕ) (slice : Option ℕ) (s : Progress) → 0 < length C.rows → budget ≤ 2 ^ 40 → 0 < longest → IsUnderway d C budget s → (rounds d C budget longest slice s).is_stopped ≡ false → IsSettled d C budget (last_state s (rounds d C budget longest slice s).states)
+rounds_settle d C budget longest slice s rows small long h e = (search_ends d C budget longest slice s rows (at_most_cut budget small) long h).settles e
 
-pub rounds_stop : (d : ℕ) (C : Matrix) (budget : ℕ) (slice : Option ℕ) (s : Progress) → 0 < length C.rows → budget ≤ 2 ^ 40 → IsUnderway d C budget s → (rounds d C budget slice s).is_stopped ≡ true → (finished d C budget (last_state s (rounds d C budget slice s).states).blocks (found_of (last_state s (rounds d C budget slice s).states)) ≡ None) × ((rounds d C budget slice s).left ≡ Some 0)
-rounds_stop d C budget slice s rows small h e = (search_ends d C budget slice s rows (at_most_cut budget small) h).stops e
+pub rounds_stop : (d : ℕ) (C : Matrix) (budget longest : ℕ) (slice : Option ℕ) (s : Progress) → 0 < length C.rows → budget ≤ 2 ^ 40 → 0 < longest → IsUnderway d C budget s → (rounds d C budget longest slice s).is_stopped ≡ true → (finished d C budget (last_state s (rounds d C budget longest slice s).states).blocks (found_of (last_state s (rounds d C budget longest slice s).states)) ≡ None) × ((rounds d C budget longest slice s).left ≡ Some 0)
+rounds_stop d C budget longest slice s rows small long h e = (search_ends d C budget longest slice s rows (at_most_cut budget small) long h).stops e
 
-pub session_steps : (divisor : Matrix → ℕ) (needs : List Matrix) (budget : ℕ) (slice : Option ℕ) (start : Start) (step : SessionStep) → HaveRows needs → budget ≤ 2 ^ 40 → IsTrueStart divisor needs budget start → Contains (session_rounds divisor needs budget slice start).steps step → IsTrueStep divisor needs budget step
-session_steps divisor needs budget slice start step rows small h l = (session_is_true divisor needs budget slice start rows (at_most_cut budget small) h).steps step l
+pub session_steps : (divisor : Matrix → ℕ) (needs : List Matrix) (budget longest : ℕ) (slice : Option ℕ) (start : Start) (step : SessionStep) → HaveRows needs → budget ≤ 2 ^ 40 → 0 < longest → IsTrueStart divisor needs budget start → Contains (session_rounds divisor needs budget longest slice start).steps step → IsTrueStep divisor needs budget step
+session_steps divisor needs budget longest slice start step rows small long h l = (session_is_true divisor needs budget longest slice start rows (at_most_cut budget small) long h).steps step l
 
-pub session_settles : (divisor : Matrix → ℕ) (needs : List Matrix) (budget : ℕ) (slice : Option ℕ) (start : Start) → HaveRows needs → budget ≤ 2 ^ 40 → IsTrueStart divisor needs budget start → (session_rounds divisor needs budget slice start).is_stopped ≡ false → AreSettled divisor budget needs (session_rounds divisor needs budget slice start).settled
-session_settles divisor needs budget slice start rows small h e = (session_is_true divisor needs budget slice start rows (at_most_cut budget small) h).settled e
+pub session_settles : (divisor : Matrix → ℕ) (needs : List Matrix) (budget longest : ℕ) (slice : Option ℕ) (start : Start) → HaveRows needs → budget ≤ 2 ^ 40 → 0 < longest → IsTrueStart divisor needs budget start → (session_rounds divisor needs budget longest slice start).is_stopped ≡ false → AreSettled divisor budget needs (session_rounds divisor needs budget longest slice start).settled
+session_settles divisor needs budget longest slice start rows small long h e = (session_is_true divisor needs budget longest slice start rows (at_most_cut budget small) long h).settled e
 
-pub session_stops : (divisor : Matrix → ℕ) (needs : List Matrix) (budget : ℕ) (slice : Option ℕ) (start : Start) → HaveRows needs → budget ≤ 2 ^ 40 → IsTrueStart divisor needs budget start → (session_rounds divisor needs budget slice start).is_stopped ≡ true → (session_rounds divisor needs budget slice start).left ≡ Some 0
-session_stops divisor needs budget slice start rows small h e = (session_is_true divisor needs budget slice start rows (at_most_cut budget small) h).stops e
+pub session_stops : (divisor : Matrix → ℕ) (needs : List Matrix) (budget longest : ℕ) (slice : Option ℕ) (start : Start) → HaveRows needs → budget ≤ 2 ^ 40 → 0 < longest → IsTrueStart divisor needs budget start → (session_rounds divisor needs budget longest slice start).is_stopped ≡ true → (session_rounds divisor needs budget longest slice start).left ≡ Some 0
+session_stops divisor needs budget longest slice start rows small long h e = (session_is_true divisor needs budget longest slice start rows (at_most_cut budget small) long h).stops e

@@ -111,17 +111,21 @@ pub fn answers_are_true()
 /// and no more than the answer's; and if the slice doesn't stop them, the search is finished with its answer
 /// in the last one. If it does, the slice is used up and the search isn't finished.
 pub fn rounds_end_at_the_answer()
-    ensures underway { (d : ℕ) (C : Matrix) (budget : ℕ) (slice : Option ℕ) (s t : Progress) → 0 < length C.rows →
-        budget ≤ 2 ^ 40 → IsUnderway d C budget s → Contains (rounds d C budget slice s).states t →
+    ensures underway { (d : ℕ) (C : Matrix) (budget longest : ℕ) (slice : Option ℕ) (s t : Progress) →
+        0 < length C.rows →
+        budget ≤ 2 ^ 40 → 0 < longest → IsUnderway d C budget s →
+        Contains (rounds d C budget longest slice s).states t →
         IsUnderway d C budget t × (s.blocks < t.blocks) }
-    ensures settled { (d : ℕ) (C : Matrix) (budget : ℕ) (slice : Option ℕ) (s : Progress) → 0 < length C.rows →
-        budget ≤ 2 ^ 40 → IsUnderway d C budget s → (rounds d C budget slice s).is_stopped ≡ false →
-        IsSettled d C budget (last_state s (rounds d C budget slice s).states) }
-    ensures stopped { (d : ℕ) (C : Matrix) (budget : ℕ) (slice : Option ℕ) (s : Progress) → 0 < length C.rows →
-        budget ≤ 2 ^ 40 → IsUnderway d C budget s → (rounds d C budget slice s).is_stopped ≡ true →
-        (finished d C budget (last_state s (rounds d C budget slice s).states).blocks
-        (found_of (last_state s (rounds d C budget slice s).states)) ≡ None)
-        × ((rounds d C budget slice s).left ≡ Some 0) }
+    ensures settled { (d : ℕ) (C : Matrix) (budget longest : ℕ) (slice : Option ℕ) (s : Progress) → 0 < length C.rows →
+        budget ≤ 2 ^ 40 → 0 < longest → IsUnderway d C budget s →
+        (rounds d C budget longest slice s).is_stopped ≡ false →
+        IsSettled d C budget (last_state s (rounds d C budget longest slice s).states) }
+    ensures stopped { (d : ℕ) (C : Matrix) (budget longest : ℕ) (slice : Option ℕ) (s : Progress) → 0 < length C.rows →
+        budget ≤ 2 ^ 40 → 0 < longest → IsUnderway d C budget s →
+        (rounds d C budget longest slice s).is_stopped ≡ true →
+        (finished d C budget (last_state s (rounds d C budget longest slice s).states).blocks
+        (found_of (last_state s (rounds d C budget longest slice s).states)) ≡ None)
+        × ((rounds d C budget longest slice s).left ≡ Some 0) }
 {}
 
 /// With a budget of at most 2^40 blocks and needs that have a row, a session from a true start goes through
@@ -129,18 +133,23 @@ pub fn rounds_end_at_the_answer()
 /// start is true, and so is one after a true step; so over any sessions, stops and resumptions every need is
 /// settled with its answer.
 pub fn true_starts_have_true_steps()
-    ensures steps { (divisor : Matrix → ℕ) (needs : List Matrix) (budget : ℕ) (slice : Option ℕ) (start : Start)
-        (step : SessionStep) → All (λ (C : Matrix). 0 < length C.rows) needs → budget ≤ 2 ^ 40 →
-        IsTrueStart divisor needs budget start → Contains (session_rounds divisor needs budget slice start).steps step →
+    ensures steps { (divisor : Matrix → ℕ) (needs : List Matrix) (budget longest : ℕ) (slice : Option ℕ) (start : Start)
+        (step : SessionStep) → All (λ (C : Matrix). 0 < length C.rows) needs → budget ≤ 2 ^ 40 → 0 < longest →
+        IsTrueStart divisor needs budget start →
+        Contains (session_rounds divisor needs budget longest slice start).steps step →
         IsTrueStep divisor needs budget step }
-    ensures settled { (divisor : Matrix → ℕ) (needs : List Matrix) (budget : ℕ) (slice : Option ℕ) (start : Start) →
-        All (λ (C : Matrix). 0 < length C.rows) needs → budget ≤ 2 ^ 40 → IsTrueStart divisor needs budget start →
-        (session_rounds divisor needs budget slice start).is_stopped ≡ false →
-        AreSettled divisor budget needs (session_rounds divisor needs budget slice start).settled }
-    ensures stopped { (divisor : Matrix → ℕ) (needs : List Matrix) (budget : ℕ) (slice : Option ℕ) (start : Start) →
-        All (λ (C : Matrix). 0 < length C.rows) needs → budget ≤ 2 ^ 40 → IsTrueStart divisor needs budget start →
-        (session_rounds divisor needs budget slice start).is_stopped ≡ true →
-        (session_rounds divisor needs budget slice start).left ≡ Some 0 }
+    ensures settled { (divisor : Matrix → ℕ) (needs : List Matrix) (budget longest : ℕ) (slice : Option ℕ)
+        (start : Start) →
+        All (λ (C : Matrix). 0 < length C.rows) needs → budget ≤ 2 ^ 40 → 0 < longest →
+        IsTrueStart divisor needs budget start →
+        (session_rounds divisor needs budget longest slice start).is_stopped ≡ false →
+        AreSettled divisor budget needs (session_rounds divisor needs budget longest slice start).settled }
+    ensures stopped { (divisor : Matrix → ℕ) (needs : List Matrix) (budget longest : ℕ) (slice : Option ℕ)
+        (start : Start) →
+        All (λ (C : Matrix). 0 < length C.rows) needs → budget ≤ 2 ^ 40 → 0 < longest →
+        IsTrueStart divisor needs budget start →
+        (session_rounds divisor needs budget longest slice start).is_stopped ≡ true →
+        (session_rounds divisor needs budget longest slice start).left ≡ Some 0 }
     ensures fresh { (divisor : Matrix → ℕ) (needs : List Matrix) (budget : ℕ) →
         IsTrueStart divisor needs budget fresh_start }
     ensures resumed { (divisor : Matrix → ℕ) (needs : List Matrix) (budget : ℕ) (step : SessionStep) →
