@@ -10,11 +10,13 @@
 #![tactic(auto)]
 
 mod blocks;
+mod busy;
 mod halves;
 mod round;
 mod worker;
 
 pub use blocks::Blocks;
+pub use busy::hands;
 pub use lc_board::{NoMemory, RoundResult};
 pub use round::run_round;
 pub use worker::work;

@@ -12,7 +12,7 @@ use Rattle.lc_algebra.specs.Field.{size}
 use Rattle.lc_algebra.specs.Span.{AreIndependent}
 use Rattle.lc_algebra.specs.Matrix.{AreRows}
 use Rattle.lc_enumeration.specs.Search.{Found, Answer, exact, set_count, answer, finished}
-use Rattle.lc_enumeration.specs.Records.{Progress, Rounds, found_of, round_length, after_round, is_used_up, state_first, no_round, less_slice, rounds_within, rounds, last_state}
+use Rattle.lc_enumeration.specs.Records.{Progress, Rounds, found_of, default_round, round_length, after_round, is_used_up, state_first, no_round, less_slice, rounds_within, rounds, last_state}
 use Rattle.lc_enumeration.specs.Truth.{IsSettled, AnswerHolds}
 use Rattle.lc_infoset.proofs.SearchTruth.{own_answer}
 use Rattle.lc_infoset.proofs.PlanCount.{whole_budget}
@@ -25,42 +25,43 @@ unfolding first_state
 first_true C budget = first_underway (divisor_of C) C budget
 
 -- the first of the rounds from a state that isn't finished
-first_round : (d : ℕ) (C : Matrix) (budget limit : ℕ) (s : Progress) → finished d C budget s.blocks (found_of s) ≡ None → 1 ≤ limit → Contains (rounds d C budget (Some limit) s).states (after_round C s (round_length C budget (Some limit) s.blocks))
+first_round : (d : ℕ) (C : Matrix) (budget longest limit : ℕ) (s : Progress) → finished d C budget s.blocks (found_of s) ≡ None → 1 ≤ limit → Contains (rounds d C budget longest (Some limit) s).states (after_round C s (round_length C budget longest (Some limit) s.blocks))
 unfolding rounds rounds_within state_first no_round is_used_up
-first_round d C budget zero s e l = absurd (omega (arith, l))
-first_round d C budget (suc limit) s e l =
-    let count = round_length C budget (Some (suc limit)) s.blocks in
+first_round d C budget longest zero s e l = absurd (omega (arith, l))
+first_round d C budget longest (suc limit) s e l =
+    let count = round_length C budget longest (Some (suc limit)) s.blocks in
     let next = after_round C s count in
-    let rest = rounds_within (budget - s.blocks) d C budget (less_slice (Some (suc limit)) count) next in
+    let rest = rounds_within (budget - s.blocks) d C budget longest (less_slice (Some (suc limit)) count) next in
     let on = λ (a : Option Answer). elim a as (λ _. Rounds) [ Some _ ↦ no_round (Some (suc limit)) false | None ↦ state_first next rest ] in
     subst (λ (a : Option Answer). Contains (on a).states next) (sym e) (contains_head next rest.states)
 
-pub round_true : (s : SearchState) (limit : ℕ) → 0 < length s.code.rows → s.budget ≤ 2 ^ 40 → IsTrueState s → answer_in s ≡ None → 1 ≤ limit → IsTrueState (after_search_round s limit) × (s.progress.blocks < (after_search_round s limit).progress.blocks)
+pub round_true : (s : SearchState) (longest limit : ℕ) → 0 < length s.code.rows → s.budget ≤ 2 ^ 40 → IsTrueState s → answer_in s ≡ None → 1 ≤ longest → 1 ≤ limit
+    → IsTrueState (after_search_round s longest limit) × (s.progress.blocks < (after_search_round s longest limit).progress.blocks)
 unfolding after_search_round
-round_true s limit rows small h going l =
-    rounds_underway (divisor_of s.code) s.code s.budget (Some limit) s.progress (after_round s.code s.progress (round_length s.code s.budget (Some limit) s.progress.blocks)) rows small h
-    (first_round (divisor_of s.code) s.code s.budget limit s.progress going l)
+round_true s longest limit rows small h going long l =
+    rounds_underway (divisor_of s.code) s.code s.budget longest (Some limit) s.progress (after_round s.code s.progress (round_length s.code s.budget longest (Some limit) s.progress.blocks)) rows small long h
+    (first_round (divisor_of s.code) s.code s.budget longest limit s.progress going l)
 
 pub reached_true : (s t : SearchState) → 0 < length s.code.rows → s.budget ≤ 2 ^ 40 → IsTrueState s → IsReached s t → IsTrueState t
 unfolding after_search_round
 reached_true s t rows small h (same_state _) = h
-reached_true s t rows small h (one_round _ _ limit l going r) = reached_true (after_search_round s limit) t rows small (round_true s limit rows small h going l).0 r
+reached_true s t rows small h (one_round _ _ longest limit long l going r) = reached_true (after_search_round s longest limit) t rows small (round_true s longest limit rows small h going long l).0 r
 
 -- there are no rounds after an answer
-no_more : (d : ℕ) (C : Matrix) (budget : ℕ) (s : Progress) (a : Answer) → finished d C budget s.blocks (found_of s) ≡ Some a → rounds d C budget None s ≡ no_round None false
+no_more : (d : ℕ) (C : Matrix) (budget : ℕ) (s : Progress) (a : Answer) → finished d C budget s.blocks (found_of s) ≡ Some a → rounds d C budget default_round None s ≡ no_round None false
 unfolding rounds rounds_within is_used_up
 no_more d C budget s a e =
-    let count = round_length C budget None s.blocks in
+    let count = round_length C budget default_round None s.blocks in
     let next = after_round C s count in
-    let rest = rounds_within (budget - s.blocks) d C budget (less_slice None count) next in
+    let rest = rounds_within (budget - s.blocks) d C budget default_round (less_slice None count) next in
     ap (λ (b : Option Answer). elim b as (λ _. Rounds) [ Some _ ↦ no_round None false | None ↦ state_first next rest ]) e
 
 pub answer_true : (s : SearchState) (a : Answer) → 0 < length s.code.rows → s.budget ≤ 2 ^ 40 → IsTrueState s → answer_in s ≡ Some a → a ≡ answer (divisor_of s.code) s.code s.budget
-unfolding no_round last_state
+unfolding no_round last_state default_round
 answer_true s a rows small h e =
     let d = divisor_of s.code in
     let none = no_more d s.code s.budget s.progress a e in
-    let settled : IsSettled d s.code s.budget (last_state s.progress (rounds d s.code s.budget None s.progress).states) = rounds_settle d s.code s.budget None s.progress rows small h (ap (λ (r : Rounds). r.is_stopped) none) in
+    let settled : IsSettled d s.code s.budget (last_state s.progress (rounds d s.code s.budget default_round None s.progress).states) = rounds_settle d s.code s.budget default_round None s.progress rows small (omega arith) h (ap (λ (r : Rounds). r.is_stopped) none) in
     let here : IsSettled d s.code s.budget s.progress = subst (λ (r : Rounds). IsSettled d s.code s.budget (last_state s.progress r.states)) none settled in
     ap (λ (o : Option Answer). unwrap_or o a) (sym e ∙ here)
 

@@ -185,6 +185,6 @@ end_of_is C l p h =
     let z = blocks_least k q m (suc p) (suc r) (omega (arith, more)) in
     omega (arith, x, y, z, f, t.2, b.1)
 
-pub round_is : (C : Matrix) (budget limit l : ℕ) → round_length C budget (Some limit) l ≡ min limit (min 256 (min (end_of_phase C l - l) (budget - l)))
+pub round_is : (C : Matrix) (budget longest limit l : ℕ) → round_length C budget longest (Some limit) l ≡ min limit (min longest (min (end_of_phase C l - l) (budget - l)))
 unfolding round_length within_slice
-round_is C budget limit l = refl
+round_is C budget longest limit l = refl

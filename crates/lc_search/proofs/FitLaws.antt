@@ -113,6 +113,6 @@ fits_on C l n x t =
     fits_from C (l + n) y f.word.0 (inr (omega (arith, before))) f.word.1 f.word.2)
     (contains_cases x y (found_from C (set_count C) l n) (least_is x (found_from C (set_count C) l n)).one)
 
-pub fits_after : (s : SearchState) (limit : ℕ) → fits s.code s.progress.blocks (found_of s.progress) ≡ true → fits s.code (after_search_round s limit).progress.blocks (found_of (after_search_round s limit).progress) ≡ true
+pub fits_after : (s : SearchState) (longest limit : ℕ) → fits s.code s.progress.blocks (found_of s.progress) ≡ true → fits s.code (after_search_round s longest limit).progress.blocks (found_of (after_search_round s longest limit).progress) ≡ true
 unfolding after_search_round after_round progress_of found_of
-fits_after s limit t = fits_on s.code s.progress.blocks (round_length s.code s.budget (Some limit) s.progress.blocks) (found_of s.progress) t
+fits_after s longest limit t = fits_on s.code s.progress.blocks (round_length s.code s.budget longest (Some limit) s.progress.blocks) (found_of s.progress) t

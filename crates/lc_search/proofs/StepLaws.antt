@@ -48,13 +48,13 @@ end_within C plan l e is f =
     let inside = g.1.phase in
     omega (arith, g.2, end_is k q m g.0, total_is k q m, blocks_least k q m (suc g.0) (k * m) inside)
 
-pub round_made : (s : SearchState) (plan : PlanSize) (limit e n : ℕ) → plan ≡ whole_plan s.code → (p : ℕ) × IsInPhase plan.k plan.q plan.m p s.progress.blocks × (e ≡ (phase_at plan.k plan.q plan.m p).end)
-    → n ≡ min limit (min 256 (min (e - s.progress.blocks) (s.budget - s.progress.blocks))) → n ≡ round_length s.code s.budget (Some limit) s.progress.blocks
+pub round_made : (s : SearchState) (plan : PlanSize) (longest limit e n : ℕ) → plan ≡ whole_plan s.code → (p : ℕ) × IsInPhase plan.k plan.q plan.m p s.progress.blocks × (e ≡ (phase_at plan.k plan.q plan.m p).end)
+    → n ≡ min limit (min longest (min (e - s.progress.blocks) (s.budget - s.progress.blocks))) → n ≡ round_length s.code s.budget longest (Some limit) s.progress.blocks
 unfolding EndOf
-round_made s plan limit e n is f counted =
+round_made s plan longest limit e n is f counted =
     let g : EndOf (whole_plan s.code) s.progress.blocks e = subst (λ (p : PlanSize). EndOf p s.progress.blocks e) is f in
     let same = end_of_is s.code s.progress.blocks g.0 g.1 in
-    let long = round_is s.code s.budget limit s.progress.blocks in
+    let long = round_is s.code s.budget longest limit s.progress.blocks in
     omega (arith, counted, same, g.2, long)
 
 pub found_made : (C : Matrix) (plan : PlanSize) (start count first weight place w p : ℕ) (closed : Closing) → plan ≡ whole_plan C → start + count ≤ total plan.k plan.q plan.m → place < 2 ^ 52 → first ≡ weight * 2 ^ 52 + place
@@ -80,10 +80,10 @@ found_made C plan start count first weight place w p closed is inside near value
       best = t.value ∙ ap board_value (sym pair);
     }
 
-pub round_after : (s : SearchState) (limit done : ℕ) (r : RoundFound) → done ≡ round_length s.code s.budget (Some limit) s.progress.blocks → IsFoundIn s.code s.progress.blocks done s.progress.weight s.progress.place r
-    → ◌≡◌ {A = SearchState} (record { code = s.code; budget = s.budget; progress = record { blocks = s.progress.blocks + done; weight = r.weight; place = r.place } }) (after_search_round s limit)
+pub round_after : (s : SearchState) (longest limit done : ℕ) (r : RoundFound) → done ≡ round_length s.code s.budget longest (Some limit) s.progress.blocks → IsFoundIn s.code s.progress.blocks done s.progress.weight s.progress.place r
+    → ◌≡◌ {A = SearchState} (record { code = s.code; budget = s.budget; progress = record { blocks = s.progress.blocks + done; weight = r.weight; place = r.place } }) (after_search_round s longest limit)
 unfolding after_search_round after_round progress_of found_of
-round_after s limit done r e f =
+round_after s longest limit done r e f =
     let to : ℕ → Found → SearchState = λ n x. record { code = s.code; budget = s.budget; progress = record { blocks = s.progress.blocks + n; weight = x.weight; place = x.place } } in
     ap (to done) f.pair ∙ ap (λ n. to n (least_of (found_of s.progress) (found_from s.code (set_count s.code) s.progress.blocks n))) e
 

@@ -31,8 +31,8 @@ first_state C budget = record { code = C; budget = budget; progress = first_prog
 abbrev pub answer_in : SearchState → Option search.Answer
 answer_in s = finished (divisor_of s.code) s.code s.budget s.progress.blocks (found_of s.progress)
 
-unfoldable pub after_search_round : SearchState → ℕ → SearchState
-after_search_round s limit = record { code = s.code; budget = s.budget; progress = after_round s.code s.progress (round_length s.code s.budget (Some limit) s.progress.blocks) }
+unfoldable pub after_search_round : SearchState → ℕ → ℕ → SearchState
+after_search_round s longest limit = record { code = s.code; budget = s.budget; progress = after_round s.code s.progress (round_length s.code s.budget longest (Some limit) s.progress.blocks) }
 
 abbrev pub whole_plan : Matrix → PlanSize
 whole_plan C = record { k = length C.rows; q = size C.field; m = set_count C }

@@ -13,7 +13,7 @@ ghost use Rattle.lc_enumeration.specs.Truth.{HasWord, AnswerHolds};
 ghost use Rattle.lc_search.specs.State.{SearchState, first_state, answer_in, after_search_round};
 ghost use Rattle.lc_search.specs.Course.{IsTrueState, IsReached};
 
-/// The states of a search after any rounds, whatever their limits and workers: from a true state, one whose word is the best
+/// The states of a search after any rounds, whatever their lengths, limits and workers: from a true state, one whose word is the best
 /// after no more blocks than the answer has, all are true. The state of a search that starts is true, and so is one that is
 /// resumed from a true state.
 ///
@@ -23,9 +23,10 @@ ghost use Rattle.lc_search.specs.Course.{IsTrueState, IsReached};
 /// answer has; so rounds end at the answer.
 pub fn rounds_reach_the_answer()
     ensures first { (C : Matrix) (budget : ℕ) → IsTrueState (first_state C budget) }
-    ensures round { (s : SearchState) (limit : ℕ) → 0 < length s.code.rows → s.budget ≤ 2 ^ 40 → IsTrueState s →
-        answer_in s ≡ None → 1 ≤ limit → IsTrueState (after_search_round s limit)
-        × (s.progress.blocks < (after_search_round s limit).progress.blocks) }
+    ensures round { (s : SearchState) (longest limit : ℕ) → 0 < length s.code.rows → s.budget ≤ 2 ^ 40 →
+        IsTrueState s → answer_in s ≡ None → 1 ≤ longest → 1 ≤ limit →
+        IsTrueState (after_search_round s longest limit)
+        × (s.progress.blocks < (after_search_round s longest limit).progress.blocks) }
     ensures reached { (s t : SearchState) → 0 < length s.code.rows → s.budget ≤ 2 ^ 40 → IsTrueState s → IsReached s t →
         IsTrueState t }
     ensures answer { (s : SearchState) (a : Answer) → 0 < length s.code.rows → s.budget ≤ 2 ^ 40 → IsTrueState s →
@@ -48,7 +49,8 @@ pub fn rounds_reach_the_answer()
 pub fn records_that_fit_have_words()
     ensures word { (C : Matrix) (blocks : ℕ) (x : Found) → AreRows C.field C.columns C.rows →
         AreIndependent C.field C.columns C.rows → fits C blocks x ≡ true → HasWord C x }
-    ensures after { (s : SearchState) (limit : ℕ) → fits s.code s.progress.blocks (found_of s.progress) ≡ true →
-        fits s.code (after_search_round s limit).progress.blocks (found_of (after_search_round s limit).progress)
-        ≡ true }
+    ensures after { (s : SearchState) (longest limit : ℕ) →
+        fits s.code s.progress.blocks (found_of s.progress) ≡ true →
+        fits s.code (after_search_round s longest limit).progress.blocks
+        (found_of (after_search_round s longest limit).progress) ≡ true }
 {}

@@ -2,7 +2,7 @@
 ghost use Rattle.std.specs.Prelude.{◌≡◌, ℕ, ◌+◌, ◌^◌, ◌≤◌, ◌<◌, length, All, Some, None, true, IfOk, OnErr, option_map, is_some};
 ghost use Rattle.lc_algebra.specs.Divisor.{divisor_of};
 ghost use Rattle.lc_enumeration.specs.Search.{set_count, level_below, bound, word_at as word_at_place};
-ghost use Rattle.lc_enumeration.specs.Records.{round_length};
+ghost use Rattle.lc_enumeration.specs.Records.{default_round, round_length};
 ghost use Rattle.lc_enumeration.specs.Plan.{total};
 ghost use Rattle.lc_algebra.specs.Field.{size};
 ghost use Rattle.lc_search.specs.State.{SearchState, first_state, answer_in, answer_of, whole_plan, after_search_round, IsRecordOf};
@@ -12,6 +12,7 @@ use crate::level::{may_be_exact, put_levels};
 use crate::parts::{bound_of_levels, plan_of, sets_of, weight_at};
 use crate::round::find_in_round;
 use lc_code::Code;
+use lc_crew::hands;
 use lc_field::NoMemory;
 use lc_infoset::Sets;
 use lc_io::Gate;
@@ -22,8 +23,8 @@ use std::alloc::Global;
 use std::marker::Model;
 use std::thread::Threads;
 
-// At most so many blocks are done in one round.
-const LONGEST_ROUND: u64 = 256;
+// At most so many blocks are done in one round, unless another longest round is asked for.
+const DEFAULT_ROUND: u64 = 256;
 
 /// A search for the minimum distance of a code by the method of Brouwer and Zimmermann (Grassl, Searching for linear codes
 /// with large minimum distance). It does the blocks of its plan one after the other, in rounds, up to its budget.
@@ -174,14 +175,16 @@ impl Search {
         None
     }
 
-    // How many blocks a round does, if the search goes on: what is left of the phase, of the budget and of the limit, at most
-    // 256.
-    fn length_of_round(&self, limit: u64) -> u64
+    // How many blocks a round does, if the search goes on: what is left of the phase, of the budget and of the limit, and no
+    // more than the longest one.
+    fn length_of_round(&self, longest: u64, limit: u64) -> u64
         requires going { answer_in self.now ≡ None }
+        requires longest { 1 ≤ longest }
         requires limit { 1 ≤ limit }
-        ensures is { result ≡ round_length self.now.code self.now.budget (Some limit) self.now.progress.blocks }
+        ensures is { result ≡ round_length self.now.code self.now.budget longest (Some limit)
+            self.now.progress.blocks }
         ensures some { 1 ≤ result }
-        ensures few { result ≤ 256 }
+        ensures few { result ≤ longest }
         ensures limited { result ≤ limit }
         ensures inside { self.now.progress.blocks + result ≤ total (length self.now.code.rows)
             (size self.now.code.field) (set_count self.now.code) }
@@ -189,7 +192,7 @@ impl Search {
     {
         let _some = self.sets.dimension();
         let left = self.plan.phase_end(self.blocks) - self.blocks;
-        limit.min(LONGEST_ROUND.min(left.min(self.budget - self.blocks)))
+        limit.min(longest.min(left.min(self.budget - self.blocks)))
     }
 
     // Goes on by so many blocks, after which the best word has this weight and this place.
@@ -214,7 +217,7 @@ impl Search {
     }
 
     /// Does the next blocks: as many as are left of the phase, of the budget and of `limit`, at most 256, by so many workers, or
-    /// by as many as there are blocks. Afterwards the best word is the least of the one before and of the words of these blocks.
+    /// by fewer where there are few blocks. Afterwards the best word is the least of the one before and of the words of these blocks.
     ///
     /// The search isn't finished, there are 1 to 256 workers, and the limit is at least 1. Workers are numbered from 0; each
     /// passes the gate before each of its reports. One worker starts no thread. All memory is taken before the first claim; if
@@ -230,16 +233,46 @@ impl Search {
         requires going { answer_in self.old ≡ None }
         requires workers { (1 ≤ workers) × (workers ≤ 256) }
         requires limit { 1 ≤ limit }
-        ensures state { IfOk result (λ _. self.new ≡ after_search_round self.old limit) }
+        ensures state { IfOk result (λ _. self.new ≡ after_search_round self.old default_round limit) }
         ensures record { IfOk result (λ r. IsRecordOf self.new
-            (round_length self.old.code self.old.budget (Some limit) self.old.progress.blocks) r) }
+            (round_length self.old.code self.old.budget default_round (Some limit) self.old.progress.blocks) r) }
         ensures kept { (self.new.code ≡ self.old.code) × (self.new.budget ≡ self.old.budget) }
         ensures more { IfOk result (λ r. (1 ≤ r.done) × (r.done ≤ limit)
             × (self.new.progress.blocks ≡ self.old.progress.blocks + r.done)
             × (self.new.progress.blocks ≤ self.new.budget)) }
         ensures no_memory { OnErr result (self.new ≡ self.old) }
     {
-        let done = self.length_of_round(limit);
+        self.round_within(rt, alloc, workers, DEFAULT_ROUND, limit, gate)
+    }
+
+    /// Does the next blocks as `round` does, in a round of at most `longest` blocks, which is 1 to 2^20.
+    ///
+    /// The search isn't finished, there are 1 to 256 workers, and the limit is at least 1. Workers are numbered from 0; each
+    /// passes the gate before each of its reports. One worker starts no thread. All memory is taken before the first claim; if
+    /// there is none, the search is as before.
+    pub fn round_within<R: Threads + Sync, G: Gate + Sync>(
+        &mut self,
+        rt: &R,
+        alloc: Global,
+        workers: u32,
+        longest: u64,
+        limit: u64,
+        gate: &G,
+    ) -> Result<RoundRecord, NoMemory>
+        requires going { answer_in self.old ≡ None }
+        requires workers { (1 ≤ workers) × (workers ≤ 256) }
+        requires longest { (1 ≤ longest) × (longest ≤ 2 ^ 20) }
+        requires limit { 1 ≤ limit }
+        ensures state { IfOk result (λ _. self.new ≡ after_search_round self.old longest limit) }
+        ensures record { IfOk result (λ r. IsRecordOf self.new
+            (round_length self.old.code self.old.budget longest (Some limit) self.old.progress.blocks) r) }
+        ensures kept { (self.new.code ≡ self.old.code) × (self.new.budget ≡ self.old.budget) }
+        ensures more { IfOk result (λ r. (1 ≤ r.done) × (r.done ≤ limit)
+            × (self.new.progress.blocks ≡ self.old.progress.blocks + r.done)
+            × (self.new.progress.blocks ≤ self.new.budget)) }
+        ensures no_memory { OnErr result (self.new ≡ self.old) }
+    {
+        let done = self.length_of_round(longest, limit);
         let found = find_in_round(
             rt,
             alloc,
@@ -249,7 +282,7 @@ impl Search {
             done,
             self.weight,
             self.place,
-            workers.min(done as u32),
+            hands(workers, done),
             &mut self.spare,
             gate,
         )?;

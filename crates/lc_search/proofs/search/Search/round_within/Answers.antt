@@ -2,15 +2,15 @@ use Rattle.std.proofs.Common.{◌≡◌, Some, ap, sym, subst, ◌∙◌}
 use Rattle.lc_enumeration.specs.Records.{round_length}
 use Rattle.lc_search.specs.State.{SearchState, after_search_round}
 use Rattle.lc_search.proofs.StepLaws.{round_after, value_after}
-use Rattle.lc_search.proofs.search.Search.round.Goals as goal
+use Rattle.lc_search.proofs.search.Search.round_within.Goals as goal
 
 pub returns-clause-state : goal.returns-clause-state
 returns-clause-state g c =
     let s = c.self.inside in
-    let done = subst (λ (t : SearchState). c.length_of_round-done.result ≡ round_length t.code t.budget (Some c.args.limit) t.progress.blocks) (sym c.self.view_is) c.length_of_round-done.ensures.is in
+    let done = subst (λ (t : SearchState). c.length_of_round-done.result ≡ round_length t.code t.budget c.args.longest (Some c.args.limit) t.progress.blocks) (sym c.self.view_is) c.length_of_round-done.ensures.is in
     c.move_on.ensures.is
-    ∙ round_after (record { code = s.sets; budget = s.budget; progress = record { blocks = s.blocks; weight = s.weight; place = s.place } }) c.args.limit c.length_of_round-done.result c.in_ok-found.found done c.in_ok-found.ensures.found
-    ∙ ap (λ (t : SearchState). after_search_round t c.args.limit) c.self.view_is
+    ∙ round_after (record { code = s.sets; budget = s.budget; progress = record { blocks = s.blocks; weight = s.weight; place = s.place } }) c.args.longest c.args.limit c.length_of_round-done.result c.in_ok-found.found done c.in_ok-found.ensures.found
+    ∙ ap (λ (t : SearchState). after_search_round t c.args.longest c.args.limit) c.self.view_is
 
 pub returns-clause-record : goal.returns-clause-record
 returns-clause-record g c =
