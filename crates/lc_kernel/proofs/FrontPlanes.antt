@@ -24,14 +24,14 @@ use Rattle.lc_enumeration.specs.Message.{messages}
 use Rattle.lc_enumeration.specs.Search.{set_count, generator_at}
 use Rattle.lc_place.specs.Place.{SpotState, spot_message}
 use Rattle.lc_kernel.specs.Packed.{others}
-use Rattle.lc_planes.specs.Planes.{part_at}
-use Rattle.lc_kernel.specs.Planes.{plane_at, IsPlaneSum}
+use Rattle.lc_planes.specs.Planes.{part_at, plane_at}
+use Rattle.lc_kernel.specs.Planes.{IsPlaneSum}
 use Rattle.lc_planes.specs.Planes.{plane}
 use Rattle.lc_kernel.specs.Sums.{front_word}
 use Rattle.lc_kernel.specs.Fronts.{ArePlanes, AreRowPlanes, AreFrontPlanes, IsKept, HasFronts}
 use Rattle.lc_planes.proofs.PlaneLaws.{plane_none, plane_cons}
 use Rattle.lc_kernel.proofs.FrontLaws.{entries_are, generates, front_next, front_first, front_word_fits}
-use Rattle.lc_kernel.proofs.PackLaws.{restrict_fits}
+use Rattle.lc_planes.proofs.ApartLaws.{restrict_fits}
 
 pub planes_sum : (f : FieldName) (n c : ℕ) (cols u v x y z : List ℕ) → size f ≤ 2 ^ n → n ≤ 4 → IsWord f c u → IsWord f c v → IsPlaneSum f x y z → ArePlanes cols n u x → ArePlanes cols n v y → ArePlanes cols n (word_sum f u v) z
 planes_sum f n c cols u v x y z fits few a b sum h k p l =

@@ -2,7 +2,6 @@
 --   next_tail                    the pair of elements after a pair
 --   tails_along                  the messages after a message, from pair to pair
 --   last_two                     the last two of a list by their index
---   tail_ones                    the weight of a sum at some columns, by its planes
 --   tail_run_word, tail_run_pair, tail_run_ones      a word of a run, its tail, and its nonzero symbols
 --   tails_more, grid_parts_pushed      tails and parts with one more
 --   cut_in_words                 some columns are inside the tails
@@ -35,21 +34,19 @@ use Rattle.lc_place.specs.Place.{SpotState, spot_message}
 use Rattle.lc_place.proofs.Coefficients.{next_numbers, carried}
 use Rattle.lc_place.proofs.Supports.{next_support}
 use Rattle.lc_place.proofs.Messages.{message_of, next_leading, turned, message_next, to_contains}
-use Rattle.lc_kernel.specs.Planes.{apart, plane_at}
 use Rattle.lc_kernel.specs.Packed.{others, pair_of}
-use Rattle.lc_planes.specs.Planes.{part_at}
+use Rattle.lc_planes.specs.Planes.{part_at, apart, plane_at, negative}
 use Rattle.lc_kernel.specs.Least.{AreCounted}
 use Rattle.lc_kernel.specs.Sums.{front_word}
 use Rattle.lc_kernel.specs.declared.grid.GridPart.{GridPart}
-use Rattle.lc_kernel.specs.Grid.{tail_pair, tail_count, tail_index, tail_word, tails_in, negative, AreTails, ArePlanesOf, AreTailPlanes, IsTailRun}
+use Rattle.lc_kernel.specs.Grid.{tail_pair, tail_count, tail_index, tail_word, tails_in, AreTails, ArePlanesOf, AreTailPlanes, IsTailRun}
 use Rattle.lc_kernel.specs.Grids.{AreGridParts, IsGridPart}
 use Rattle.lc_kernel.proofs.SupportLaws.{same_pair}
 use Rattle.lc_kernel.proofs.TableLaws.{all_pushed, part_cut, cut_inside}
 use Rattle.lc_kernel.proofs.FrontLaws.{entries_are, generates, front_next, front_same, front_word_is, front_word_fits, front_whole}
-use Rattle.lc_kernel.proofs.PlaneLaws.{ones_apart}
+use Rattle.lc_planes.proofs.ApartLaws.{ones_apart, restrict_fits}
 use Rattle.lc_kernel.proofs.RunLaws.{support_parts, first_of_pair, second_of_pair}
 use Rattle.lc_kernel.proofs.ScanLaws.{block_word}
-use Rattle.lc_kernel.proofs.PackLaws.{restrict_fits}
 
 -- the list after a list that ends with two numbers
 
@@ -121,21 +118,6 @@ tails_along k q w n t (suc j) s h l some inside at =
     let a : n + suc j ≡ suc (n + j) = omega arith in
     let b : t + suc j ≡ t + j + 1 = omega arith in
     rw (a, b) (message_step k q w (n + j) (t + j) s h l some (omega (arith, inside)) before)
-
--- the nonzero symbols of a sum at some columns
-negative_is : (f : FieldName) (u : List ℕ) → negative f u ≡ map (neg f) u
-unfolding scale
-negative_is f [] = refl
-negative_is f (a ∷ u) = cc (neg_one_mul f a, negative_is f u)
-
-pub tail_ones : (f : FieldName) (n p : ℕ) (cols head tail : List ℕ) → size f ≤ 2 ^ p → IsWord f n head → IsWord f n tail → weight (restrict cols (word_sum f head tail)) ≡ count_ones (apart p (restrict cols head) (restrict cols (negative f tail)))
-tail_ones f n p cols head tail s h t =
-    let u = restrict cols head in
-    let v = restrict cols tail in
-    let turned_tail : restrict cols (negative f tail) ≡ map (neg f) v = restrict_scale f cols (neg f 1) tail ∙ negative_is f v in
-    ap weight (restrict_sum f cols head tail (h.long ∙ sym t.long))
-    ∙ sym (ones_apart f p u v s (length_restrict cols head ∙ sym (length_restrict cols tail)) (restrict_fits f n cols head h) (restrict_fits f n cols tail t))
-    ∙ ap (λ x. count_ones (apart p u x)) (sym turned_tail)
 
 -- the last two of a list by their index
 pub last_two : (q : ℕ) (u : List ℕ) (i j : ℕ) → 1 ≤ slice_index u i → 1 ≤ slice_index u j → slice_index u j < q → slice_index u i ∷ slice_index u j ∷ [] ≡ tail_pair q ((slice_index u i - 1) * (q - 1) + (slice_index u j - 1))

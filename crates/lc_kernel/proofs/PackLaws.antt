@@ -3,7 +3,6 @@
 --   weight_split                 the weight of a word, by its symbols in a set and outside it
 --   symbols_of                   a word has its message on the basis of its set
 --   weight_of_word               the weight of a message's word: its level, and its symbols outside the basis
---   part_none, part_more, part_all      the weight at some columns, part by part
 --   outside_inside, others_few      the columns outside a set are columns
 --   pack_none, pack_step, pack_room      the bits of a word, from its last column on
 --   bits_none, bits_more         the bits of the word of an entry more
@@ -105,9 +104,6 @@ weight_of_word C s rows free l message some =
 
 -- over 2 elements
 
-pub restrict_fits : (f : FieldName) (n : ℕ) (cols u : List ℕ) → IsWord f n u → Fits f (restrict cols u)
-restrict_fits f n cols u h i l = rw (index_restrict cols u i (omega (arith, l, length_restrict cols u))) (fits_symbol f u h.fits (slice_index cols i))
-
 sum_of_bits : (f : FieldName) (u v : List ℕ) → f ≡ Gf2 → length u ≡ length v → Fits f u → Fits f v → packed (word_sum f u v) ≡ bit_xor (packed u) (packed v)
 sum_of_bits f u v e = rw e (packed_sum u v)
 
@@ -139,20 +135,6 @@ bits_more C cols s bits i e rows free l message b m =
     let one : slice_index s.coefficients i ≡ 1 = omega (arith, low, t.element i m, size_is) in
     let next : front_word C s (suc i) ≡ word_sum C.field (front_word C s i) row = front_next C s i g t m ∙ ap (word_sum C.field (front_word C s i)) (ap (λ c. scale C.field c row) one ∙ one_scale C.field row word.fits) in
     ap (bits_at cols) next ∙ tail_sum C cols (front_word C s i) row e (front_word_fits C s i g) word ∙ ap (bit_xor (bits_at cols (front_word C s i))) (sym (b.bits r (t.row i m)))
-
-pub part_more : (cols w : List ℕ) (b : ℕ) → weight (restrict (take (64 * (b + 1)) cols) w) ≡ weight (restrict (take (64 * b) cols) w) + weight (restrict (part_at cols b) w)
-part_more cols w b =
-    let more : 64 * (b + 1) ≡ 64 * b + 64 = omega arith in
-    let parts : take (64 * (b + 1)) cols ≡ take (64 * b) cols ++ part_at cols b = ap (λ n. take n cols) more ∙ take-add (64 * b) 64 cols in
-    let both = sum_by-append (λ y. cond (has_symbol w y) 1 0) (take (64 * b) cols) (part_at cols b) in
-    let whole = weight_restrict (take (64 * (b + 1)) cols) w ∙ ap (count_by (has_symbol w)) parts in
-    omega (arith, whole, both, weight_restrict (take (64 * b) cols) w, weight_restrict (part_at cols b) w)
-
-pub part_none : (cols w : List ℕ) → weight (restrict (take (64 * 0) cols) w) ≡ 0
-part_none cols w = refl
-
-pub part_all : (cols w : List ℕ) (b : ℕ) → length cols ≤ 64 * b → weight (restrict (take (64 * b) cols) w) ≡ weight (restrict cols w)
-part_all cols w b l = ap (λ z. weight (restrict z w)) (take_all (64 * b) cols l)
 
 pub others_few : (C : Matrix) (j : ℕ) → length (others C j) ≤ C.columns
 others_few C j =

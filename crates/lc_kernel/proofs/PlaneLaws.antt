@@ -1,6 +1,4 @@
 -- Words over any field as bits.
---   ones_apart                   the weight of a sum: where one word differs from the negative of the other
---   block_planes                 the planes of a block of symbols, with zeros after them
 --   added_next                   counts with one more of them added to
 --   apart_two, apart_three, apart_four      where a word differs from one of some words, by two, three or four planes
 --   by_planes                    the number of symbols at which they differ, by all planes
@@ -24,76 +22,9 @@ use Rattle.lc_algebra.specs.SpanLaws.{restrict}
 use Rattle.lc_algebra.proofs.ColumnLaws.{length_restrict, index_restrict}
 use Rattle.lc_field.proofs.SumLaws.{xor_add}
 use Rattle.lc_vec.specs.Packed.{packed}
-use Rattle.lc_kernel.specs.Planes.{plane_at, apart, bits_apart}
-use Rattle.lc_planes.specs.Planes.{plane}
+use Rattle.lc_kernel.specs.Planes.{bits_apart}
+use Rattle.lc_planes.specs.Planes.{plane, plane_at, apart}
 use Rattle.lc_planes.proofs.PlaneLaws.{plane_cons, two_bits, or_bits, XorBits, bits_of, ones_bit, plane_padded}
-
--- whether one of the first n bits of two numbers differs
-abbrev differ : ℕ → ℕ → ℕ → ℕ
-differ zero a b = 0
-differ (suc j) a b = bit_or (bit_xor (bit_at a j) (bit_at b j)) (differ j a b)
-
-differ_small : (n a b : ℕ) → differ n a b < 2
-differ_small zero a b = omega arith
-differ_small (suc j) a b = (or_bits (bit_xor (bit_at a j) (bit_at b j)) (differ j a b) (bits_of a b j).small (differ_small j a b)).small
-
-differ_same : (n a : ℕ) → differ n a a ≡ 0
-differ_same zero a = refl
-differ_same (suc j) a = ap (λ x. bit_or x (differ j a a)) ((bits_of a a j).same refl) ∙ ap (bit_or 0) (differ_same j a)
-
-differ_none : (n a b : ℕ) → differ n a b ≡ 0 → (i : ℕ) → i < n → bit_at a i ≡ bit_at b i
-differ_none zero a b e i l = absurd (omega (arith, l))
-differ_none (suc j) a b e i l =
-    let t = (or_bits (bit_xor (bit_at a j) (bit_at b j)) (differ j a b) (bits_of a b j).small (differ_small j a b)).none e in
-    ⊎_elim
-    (λ m. differ_none j a b t.1 i m)
-    (λ m. let last : i ≡ j = omega (arith, l, m) in ap (bit_at a) last ∙ (bits_of a b j).none t.0 ∙ ap (bit_at b) (sym last))
-    (cases_lt i j)
-
-differ_other : (n a b : ℕ) → a < 2 ^ n → b < 2 ^ n → a ≢ b → differ n a b ≡ 1
-differ_other n a b l m other = ⊎_elim
-    (λ e. absurd (other (same_from_bits_below n a b l m (differ_none n a b e))))
-    (λ e. e)
-    (two_bits (differ n a b) (differ_small n a b))
-
-apart_nil : (n : ℕ) → apart n [] [] ≡ 0
-unfolding plane packed
-apart_nil zero = refl
-apart_nil (suc j) = ap (bit_or 0) (apart_nil j)
-
-apart_cons : (n a b : ℕ) (u v : List ℕ) → apart n (a ∷ u) (b ∷ v) ≡ apart n u v * 2 + differ n a b
-apart_cons zero a b u v = refl
-apart_cons (suc j) a b u v =
-    let x = xor_block 1 (plane j u) (plane j v) (bit_at a j) (bit_at b j) (bit_at-lt a j) (bit_at-lt b j) in
-    let first : bit_xor (plane j (a ∷ u)) (plane j (b ∷ v)) ≡ bit_xor (plane j u) (plane j v) * 2 + bit_xor (bit_at a j) (bit_at b j) = ap (λ z. bit_xor z (plane j (b ∷ v))) (plane_cons j a u) ∙ ap (bit_xor (plane j u * 2 + bit_at a j)) (plane_cons j b v) ∙ x in
-    ap (λ z. bit_or z (apart j (a ∷ u) (b ∷ v))) first ∙ ap (bit_or (bit_xor (plane j u) (plane j v) * 2 + bit_xor (bit_at a j) (bit_at b j))) (apart_cons j a b u v)
-    ∙ or_block 1 (bit_xor (plane j u) (plane j v)) (apart j u v) (bit_xor (bit_at a j) (bit_at b j)) (differ j a b) (bits_of a b j).small (differ_small j a b)
-
-cell : (f : FieldName) (n a b : ℕ) → size f ≤ 2 ^ n → a < size f → b < size f → differ n a (neg f b) ≡ cond (not (add f a b == 0)) 1 0
-cell f n a b s l m = elim (cases_eq a (neg f b)) [
-  | inl e ↦ rw e (differ_same n (neg f b) ∙ sym (ap (λ x. cond (not (x == 0)) 1 0) (neg_add f b)))
-  | inr other ↦ (
-      let some : add f a b ≢ 0 = λ z. other (subtract_zero f a (neg f b) l (neg_inside f b) (ap (add f a) (neg_neg f b m) ∙ z)) in
-      differ_other n a (neg f b) (omega (arith, l, s)) (omega (arith, neg_inside f b, s)) other ∙ sym (ap (λ x. cond (not x) 1 0) (ne_eqb (add f a b) 0 some))
-      )
-]
-
-pub ones_apart : (f : FieldName) (n : ℕ) (u v : List ℕ) → size f ≤ 2 ^ n → length u ≡ length v → Fits f u → Fits f v → count_ones (apart n u (map (neg f) v)) ≡ weight (word_sum f u v)
-unfolding ones word_sum
-ones_apart f n [] [] s e h i = ap count_ones (apart_nil n)
-ones_apart f n [] (b ∷ v) s e h i = absurd (omega (arith, e))
-ones_apart f n (a ∷ u) [] s e h i = absurd (omega (arith, e))
-ones_apart f n (a ∷ u) (b ∷ v) s e h i =
-    let t = ones_apart f n u v s (omega (arith, e)) (fits_tail f a u h) (fits_tail f b v i) in
-    let c = cell f n a b s (fits_head f a u h) (fits_head f b v i) in
-    ap count_ones (apart_cons n a (neg f b) u (map (neg f) v)) ∙ ones_cat 1 (apart n u (map (neg f) v)) (differ n a (neg f b)) (differ_small n a (neg f b)) ∙ ones_bit (differ n a (neg f b)) (apart n u (map (neg f) v)) (differ_small n a (neg f b))
-    ∙ omega (arith, t, c, weight_cons (add f a b) (word_sum f u v))
-
--- a block with the symbols of a word at some columns, and then zeros
-pub block_planes : (cols word block : List ℕ) → length cols ≤ 64 → length block ≡ 64 → ((t : ℕ) → t < length cols → slice_index block t ≡ slice_index word (slice_index cols t)) → ((t : ℕ) → length cols ≤ t → slice_index block t ≡ 0) → (j : ℕ) → plane j block ≡ plane_at j cols word
-block_planes cols word block few long h rest j =
-    let many = length_restrict cols word in
-    plane_padded j (restrict cols word) block (omega (arith, many, few, long)) (λ t l. h t (omega (arith, l, many)) ∙ sym (index_restrict cols word t (omega (arith, l, many)))) (λ t l. rest t (omega (arith, l, many)))
 
 -- a word and words by their planes, one list of bits after another
 read_cut : (bits : List ℕ) (first n i : ℕ) → i < n → slice_index (take (first + n - first) (drop first bits)) i ≡ slice_index bits (first + i)

@@ -40,7 +40,8 @@ use Rattle.lc_kernel.specs.Packed.{others, bits_at, row_sum, head_of, tail_of, p
 use Rattle.lc_planes.specs.Planes.{part_at}
 use Rattle.lc_kernel.specs.Least.{AreCounted}
 use Rattle.lc_kernel.proofs.FrontLaws.{entries_are, generates, front_word_is, front_word_fits, front_whole, front_same}
-use Rattle.lc_kernel.proofs.PackLaws.{weight_of_word, tail_ones, bits_more, part_more}
+use Rattle.lc_kernel.proofs.PackLaws.{weight_of_word, tail_ones, bits_more}
+use Rattle.lc_planes.proofs.ApartLaws.{part_more}
 use Rattle.lc_enumeration.proofs.SearchLaws.{few_in_block}
 use Rattle.lc_kernel.proofs.SupportLaws.{tail_pair, pair_at, tail_at, starts_rise, last_tail}
 use Rattle.lc_kernel.proofs.ScanLaws.{block_word, block_long, next_is}

@@ -36,8 +36,8 @@ use Rattle.lc_place.proofs.Supports.{next_support, support_next, support_shape, 
 use Rattle.lc_place.proofs.Messages.{message_of, message_part, message_next, next_leading, turned, leading_next, leading_shape, supports_are, from_contains, to_contains}
 use Rattle.lc_kernel.specs.Values.{IsSpotAt}
 use Rattle.lc_kernel.specs.Packed.{others, pair_of, AreStarts}
-use Rattle.lc_planes.specs.Planes.{part_at}
-use Rattle.lc_kernel.specs.Planes.{plane_at, bits_apart, IsPlaneSum}
+use Rattle.lc_planes.specs.Planes.{part_at, plane_at}
+use Rattle.lc_kernel.specs.Planes.{bits_apart, IsPlaneSum}
 use Rattle.lc_kernel.specs.Least.{IsFirstBelow}
 use Rattle.lc_kernel.specs.Sums.{front_word}
 use Rattle.lc_kernel.specs.Grid.{tail_pair, tail_count, tail_index, tails_in, AreTailPlanes, IsTailRun}
@@ -48,7 +48,7 @@ use Rattle.lc_kernel.proofs.FrontPlanes.{front_planes_next}
 use Rattle.lc_kernel.proofs.GridLaws.{tail_run_ones, tail_run_room}
 use Rattle.lc_kernel.proofs.TailLaws.{bits_of_run}
 use Rattle.lc_kernel.proofs.LeastLaws.{below_same}
-use Rattle.lc_kernel.proofs.PackLaws.{part_more, part_none, part_all}
+use Rattle.lc_planes.proofs.ApartLaws.{part_more, part_none, part_all}
 use Rattle.lc_kernel.proofs.RunLaws.{first_of_pair, second_of_pair, inside_level, pair_read, index_of_pair}
 use Rattle.lc_kernel.proofs.ListLaws.{one_list, leading_split, leading_pair, leading_there, listed_message, listed_along, listed_turn}
 

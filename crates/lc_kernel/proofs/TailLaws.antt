@@ -29,14 +29,15 @@ use Rattle.lc_place.proofs.Messages.{message_of, from_contains, to_contains}
 use Rattle.lc_kernel.specs.Kernel.{IsPlanOf}
 use Rattle.lc_kernel.specs.Values.{IsSpotAt, IsLeastValue}
 use Rattle.lc_kernel.specs.Packed.{others}
-use Rattle.lc_planes.specs.Planes.{part_at}
-use Rattle.lc_kernel.specs.Planes.{plane_at, apart, bits_apart}
+use Rattle.lc_planes.specs.Planes.{part_at, plane_at, apart, negative}
+use Rattle.lc_kernel.specs.Planes.{bits_apart}
 use Rattle.lc_kernel.specs.Least.{IsFirstLeast, AreCounted}
 use Rattle.lc_kernel.specs.Sums.{front_word}
-use Rattle.lc_kernel.specs.Grid.{tail_pair, tail_count, tail_index, tail_word, tails_in, negative, AreTailPlanes, IsTailRun}
+use Rattle.lc_kernel.specs.Grid.{tail_pair, tail_count, tail_index, tail_word, tails_in, AreTailPlanes, IsTailRun}
 use Rattle.lc_kernel.proofs.FrontLaws.{entries_are, front_same}
 use Rattle.lc_kernel.proofs.GridLaws.{tails_along, last_two, tail_run_ones, tail_run_room}
-use Rattle.lc_kernel.proofs.PackLaws.{part_more, others_few}
+use Rattle.lc_kernel.proofs.PackLaws.{others_few}
+use Rattle.lc_planes.proofs.ApartLaws.{part_more}
 use Rattle.lc_kernel.proofs.RunLaws.{support_parts, block_weight, spot_next}
 use Rattle.lc_kernel.proofs.ScanLaws.{block_value_of_words}
 use Rattle.lc_kernel.proofs.LeastLaws.{least_value}

@@ -11,8 +11,7 @@ use Rattle.lc_algebra.specs.Matrix.{Matrix}
 use Rattle.lc_enumeration.specs.Search.{generator_at}
 use Rattle.lc_place.specs.Place.{SpotState}
 use Rattle.lc_kernel.specs.Packed.{others}
-use Rattle.lc_planes.specs.Planes.{part_at}
-use Rattle.lc_kernel.specs.Planes.{plane_at}
+use Rattle.lc_planes.specs.Planes.{part_at, plane_at}
 use Rattle.lc_kernel.specs.Sums.{front_word}
 
 abbrev pub ArePlanes : List ℕ → ℕ → List ℕ → List ℕ → Type 0

@@ -2,7 +2,6 @@
 --   tail_count C            how many pairs of nonzero elements the field has
 --   tail_pair q t           pair t of nonzero elements of q, in lexicographic order
 --   tail_word C j a b t     the sum of the multiples by pair t of rows a and b of set j
---   negative f w            the negative of a word
 --   tails_in C              how many tails a set has
 --   AreTails C j n ws       the negatives of the first n tails: by the pairs of rows, and then by the pairs of elements
 --   ArePlanesOf cols n ws bits      the first n planes of some words at some columns, plane by plane
@@ -22,7 +21,7 @@ use Rattle.lc_place.specs.Place.{SpotState}
 use Rattle.lc_kernel.specs.Values.{IsSpotAt}
 use Rattle.lc_kernel.specs.Packed.{pair_of}
 use Rattle.lc_kernel.specs.Sums.{front_word}
-use Rattle.lc_kernel.specs.Planes.{plane_at}
+use Rattle.lc_planes.specs.Planes.{plane_at}
 
 abbrev pub tail_count : Matrix → ℕ
 tail_count C = (size C.field - 1) * (size C.field - 1)
@@ -32,9 +31,6 @@ tail_pair q t = (t / (q - 1) + 1) ∷ (t % (q - 1) + 1) ∷ []
 
 abbrev pub tail_word : Matrix → ℕ → ℕ → ℕ → ℕ → List ℕ
 tail_word C j a b t = word_sum C.field (scale C.field (t / (size C.field - 1) + 1) (slice_index_or (generator_at C j) a [])) (scale C.field (t % (size C.field - 1) + 1) (slice_index_or (generator_at C j) b []))
-
-abbrev pub negative : FieldName → List ℕ → List ℕ
-negative f w = scale f (neg f 1) w
 
 abbrev pub tails_in : Matrix → ℕ
 tails_in C = length (supports_from 0 (length C.rows) 2) * tail_count C

@@ -1,7 +1,5 @@
 -- Words over any field by their planes of bits.
---   plane_at j cols w       plane j of the symbols of a word at some columns
 --   bits_apart n u bits m e      the bits at which one of the first n planes u of a word differs from that of word e of m words
---   apart n u v             the bits at which one of the first n planes of two words differ
 --   HasPlanes n w x         the first n numbers of a list are the planes of a word
 --   IsPlaneSum f x y z      z has the planes of the sum of any two words over f whose planes are x and y
 --   sum_carry n x y         what the lowest n bits of the sum of two numbers carry, at each place, from the bits of the numbers
@@ -15,13 +13,6 @@ use Rattle.lc_algebra.specs.Field.{size}
 use Rattle.lc_algebra.specs.Word.{Fits, word_sum}
 use Rattle.lc_algebra.specs.SpanLaws.{restrict}
 use Rattle.lc_planes.specs.Planes.{plane}
-
-abbrev pub plane_at : ℕ → List ℕ → List ℕ → ℕ
-plane_at j cols w = plane j (restrict cols w)
-
-abbrev pub apart : ℕ → List ℕ → List ℕ → ℕ
-apart zero u v = 0
-apart (suc j) u v = bit_or (bit_xor (plane j u) (plane j v)) (apart j u v)
 
 abbrev pub bits_apart : ℕ → List ℕ → List ℕ → ℕ → ℕ → ℕ
 bits_apart zero u bits m e = 0

@@ -14,8 +14,8 @@ use Rattle.lc_enumeration.specs.Message.{supports_from, leading_lists}
 use Rattle.lc_place.specs.Place.{SpotState}
 use Rattle.lc_kernel.specs.Values.{IsSpotAt}
 use Rattle.lc_kernel.specs.Packed.{others}
-use Rattle.lc_planes.specs.Planes.{part_at}
-use Rattle.lc_kernel.specs.Planes.{plane_at, IsPlaneSum}
+use Rattle.lc_planes.specs.Planes.{part_at, plane_at}
+use Rattle.lc_kernel.specs.Planes.{IsPlaneSum}
 use Rattle.lc_kernel.specs.Sums.{front_word}
 
 abbrev pub list_count : Matrix → ℕ → ℕ

@@ -6,10 +6,9 @@ ghost use Rattle.lc_algebra.specs.Word.{IsWord};
 ghost use Rattle.lc_enumeration.specs.Message.{supports_from};
 ghost use Rattle.lc_enumeration.specs.Search.{set_count};
 ghost use Rattle.lc_kernel.specs.Packed.{others, EndsAt};
-ghost use Rattle.lc_planes.specs.Planes.{part_at};
-ghost use Rattle.lc_kernel.specs.Planes.{plane_at};
+ghost use Rattle.lc_planes.specs.Planes.{part_at, plane_at, negative};
 ghost use Rattle.lc_kernel.specs.Sums.{AreMultiples};
-ghost use Rattle.lc_kernel.specs.Grid.{tail_count, tail_word, tails_in, negative, AreTails, ArePlanesOf};
+ghost use Rattle.lc_kernel.specs.Grid.{tail_count, tail_word, tails_in, AreTails, ArePlanesOf};
 ghost use Rattle.lc_kernel.specs.Grids.{HasRoom, LacksRoom, AreGridParts, IsGrid};
 ghost use Rattle.lc_kernel.specs.Fronts.{AreRowPlanes, HasFronts};
 

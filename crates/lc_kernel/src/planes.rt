@@ -1,8 +1,8 @@
 //! The bits of the symbols of words, as numbers, and where words differ.
 
 ghost use Rattle.std.specs.Prelude.{◌≡◌, ℕ, ◌+◌, ◌*◌, ◌/◌, ◌^◌, ◌<◌, ◌≤◌, length, slice_index, bit_or, bit_xor, count_ones};
-ghost use Rattle.lc_kernel.specs.Planes.{plane_at, bits_apart};
-ghost use Rattle.lc_planes.specs.Planes.{plane};
+ghost use Rattle.lc_kernel.specs.Planes.{bits_apart};
+ghost use Rattle.lc_planes.specs.Planes.{plane, plane_at};
 
 use lc_planes::plane_of;
 

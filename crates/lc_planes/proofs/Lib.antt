@@ -1,2 +1,5 @@
 pub mod PlaneLaws
 pub mod BlockLaws
+pub mod ApartLaws
+pub mod PackingLaws
+pub mod WordLaws

@@ -1,5 +1,4 @@
 pub mod LeadLaws
-pub mod PackingLaws
 pub mod WordLaws
 pub mod RoomLaws
 pub mod ChoiceLaws

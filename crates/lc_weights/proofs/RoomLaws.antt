@@ -22,16 +22,17 @@ use Rattle.lc_algebra.proofs.WordLaws.{IsWord_zero, IsWord_sum, scale_sum, sum_f
 use Rattle.lc_algebra.proofs.SpanLaws.{length_below, index_below, length_words}
 use Rattle.lc_enumeration.specs.Message.{numbers_from}
 use Rattle.lc_enumeration.specs.Distribution.{count_of_weight}
-use Rattle.lc_kernel.specs.Grid.{negative}
+use Rattle.lc_planes.specs.Planes.{negative}
 use Rattle.lc_macwilliams.proofs.CountLaws.{sum_same, below_numbers}
 use Rattle.lc_macwilliams.proofs.SolveLaws.{count_small}
 use Rattle.lc_weights.specs.declared.blocks.CountRoom.{CountRoom}
 use Rattle.lc_weights.specs.Leads.{leads}
-use Rattle.lc_weights.specs.Packing.{IsPacked, ArePacked, places_apart}
+use Rattle.lc_planes.specs.Packing.{IsPacked, ArePacked, places_apart}
 use Rattle.lc_weights.specs.Counts.{apart_count, block_count, words_counted, IsRoomOf, AreCounts}
 use Rattle.lc_weights.proofs.LeadLaws.{sum_scaled, sum_of_leads}
-use Rattle.lc_weights.proofs.PackingLaws.{places_are}
-use Rattle.lc_weights.proofs.WordLaws.{words_apart, words_are_words}
+use Rattle.lc_planes.proofs.PackingLaws.{places_are}
+use Rattle.lc_weights.proofs.WordLaws.{words_apart}
+use Rattle.lc_planes.proofs.WordLaws.{words_are_words}
 
 -- sums over two lists, entry by entry
 sum_matched : {X Y : Type 0} (g : X → ℕ) (h : Y → ℕ) (d : X) (e : Y) (xs : List X) (ys : List Y) → length xs ≡ length ys → ((i : ℕ) → i < length ys → g (slice_index_or xs i d) ≡ h (slice_index_or ys i e)) → sum_by g xs ≡ sum_by h ys

@@ -13,7 +13,7 @@ use Rattle.lc_algebra.specs.Field.{size}
 use Rattle.lc_algebra.specs.Matrix.{Matrix}
 use Rattle.lc_enumeration.specs.Distribution.{count_of_weight}
 use Rattle.lc_weights.specs.declared.blocks.CountRoom.{CountRoom}
-use Rattle.lc_weights.specs.Packing.{places_apart}
+use Rattle.lc_planes.specs.Packing.{places_apart}
 
 abbrev pub apart_count : ℕ → ℕ → List (List ℕ) → List (List (List ℕ)) → ℕ → ℕ
 apart_count P N h xs j = count_by (λ x. places_apart P N h x == j) xs

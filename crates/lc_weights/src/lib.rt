@@ -13,7 +13,6 @@
 mod blocks;
 mod choice;
 mod counted;
-mod packing;
 mod rooms;
 mod walk;
 mod words;

@@ -4,13 +4,12 @@ ghost use Rattle.lc_algebra.specs.Field.{size};
 ghost use Rattle.lc_algebra.specs.Span.{words};
 ghost use Rattle.lc_enumeration.specs.Message.{numbers_from};
 ghost use Rattle.lc_weights.specs.Leads.{leads};
-ghost use Rattle.lc_weights.specs.Packing.{ArePacked};
+ghost use Rattle.lc_planes.specs.Packing.{ArePacked};
 ghost use Rattle.lc_weights.specs.Counts.{apart_count, block_count, words_counted, IsRoomOf, AreCounts};
 
 use crate::blocks::{CountBlocks, CountRoom};
-use crate::packing::{pack, pack_words};
 use crate::walk::tally;
-use crate::words::{leads_of, words_of};
+use crate::words::leads_of;
 use lc_code::Code;
 use lc_crew::run_round;
 use lc_field::NoMemory;
@@ -107,7 +106,7 @@ fn tails_of<const P: usize, const N: usize>(
     ensures are { IfOk result
         (λ ts. ArePacked P N (words code.now.field code.now.columns (drop split code.now.rows)) ts.items) }
 {
-    let list = words_of(alloc, code, split, code.dimension())?;
+    let list = words_of(alloc, code.matrix(), split, code.dimension())?;
     let tails = pack_words(alloc, list.as_slice())?;
     Ok(tails)
 }

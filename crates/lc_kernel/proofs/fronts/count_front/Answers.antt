@@ -8,7 +8,7 @@ use Rattle.lc_kernel.specs.Sums.{front_word}
 use Rattle.lc_kernel.specs.Least.{AreCounted}
 use Rattle.lc_kernel.proofs.GridLaws.{tail_run_room}
 use Rattle.lc_kernel.proofs.TailLaws.{tails_counted}
-use Rattle.lc_kernel.proofs.PackLaws.{part_none, part_all}
+use Rattle.lc_planes.proofs.ApartLaws.{part_none, part_all}
 use Rattle.lc_kernel.proofs.TableLaws.{one_grid_part}
 use Rattle.lc_kernel.proofs.fronts.count_front.Goals as goal
 

@@ -1,5 +1,5 @@
 use Rattle.std.proofs.Common.{◌≡◌, ◌+◌, ◌<◌, ℕ, [], length, slice_index, slice_index_or}
-use Rattle.lc_kernel.specs.Planes.{plane_at}
+use Rattle.lc_planes.specs.Planes.{plane_at}
 use Rattle.lc_kernel.proofs.grid.push_plane.Given as goal
 
 abbrev pub invariant-loop-e : goal.invariant-loop-e

@@ -1,6 +1,6 @@
 use Rattle.std.proofs.Common.{refl, arith}
 use Rattle.lc_algebra.proofs.RemainderLaws.{index-zeros}
-use Rattle.lc_kernel.proofs.PlaneLaws.{block_planes}
+use Rattle.lc_planes.proofs.ApartLaws.{block_planes}
 use Rattle.lc_kernel.proofs.planes.gather.Goals as goal
 
 pub loop-t-init : goal.loop-t-init

@@ -1,5 +1,5 @@
 use Rattle.std.proofs.Common.{◌≡◌, ◌<◌, ℕ, length, slice_index}
-use Rattle.lc_kernel.specs.Planes.{plane_at}
+use Rattle.lc_planes.specs.Planes.{plane_at}
 use Rattle.lc_kernel.proofs.planes.pack.Given as goal
 
 abbrev pub invariant-loop-j : goal.invariant-loop-j

@@ -1,9 +1,8 @@
 use Rattle.std.proofs.Common.{◌-◌, ◌*◌, ◌≤◌, length, take, drop, slice_index, refl, sym, ap, subst, ◌∙◌, arith}
 use Rattle.std.proofs.lemmas.List.{length-take}
 use Rattle.lc_algebra.specs.Word.{IsWord}
-use Rattle.lc_kernel.specs.Planes.{plane_at}
 use Rattle.lc_kernel.specs.Packed.{others}
-use Rattle.lc_planes.specs.Planes.{part_at}
+use Rattle.lc_planes.specs.Planes.{part_at, plane_at}
 use Rattle.lc_kernel.specs.Grid.{AreTailPlanes}
 use Rattle.lc_kernel.proofs.FrontLaws.{generates, front_word_fits}
 use Rattle.lc_kernel.proofs.GridLaws.{tail_run_room}

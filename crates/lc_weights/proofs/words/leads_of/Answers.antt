@@ -1,5 +1,5 @@
 use Rattle.std.proofs.Common.{◌+◌, arith}
-use Rattle.lc_weights.proofs.WordLaws.{between_are_rows}
+use Rattle.lc_planes.proofs.WordLaws.{between_are_rows}
 use Rattle.lc_weights.proofs.LeadLaws.{leads_more, leads_all}
 use Rattle.lc_weights.proofs.words.leads_of.Goals as goal
 

@@ -1,8 +1,7 @@
 use Rattle.std.proofs.Common.{◌≡◌, ◌<◌, ℕ, length, slice_index}
 use Rattle.lc_algebra.specs.Span.{below}
-use Rattle.lc_planes.specs.Planes.{part_at}
-use Rattle.lc_kernel.specs.Planes.{plane_at}
-use Rattle.lc_weights.proofs.packing.pack_part.Given as goal
+use Rattle.lc_planes.specs.Planes.{part_at, plane_at}
+use Rattle.lc_planes.proofs.packing.pack_part.Given as goal
 
 abbrev pub invariant-loop-p : goal.invariant-loop-p
 invariant-loop-p g l = record {

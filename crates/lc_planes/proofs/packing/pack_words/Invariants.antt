@@ -1,6 +1,6 @@
 use Rattle.std.proofs.Common.{◌≡◌, ◌<◌, ℕ, [], length, slice_index_or}
-use Rattle.lc_weights.specs.Packing.{IsPacked}
-use Rattle.lc_weights.proofs.packing.pack_words.Given as goal
+use Rattle.lc_planes.specs.Packing.{IsPacked}
+use Rattle.lc_planes.proofs.packing.pack_words.Given as goal
 
 abbrev pub invariant-loop-i : goal.invariant-loop-i
 invariant-loop-i g l = record {

@@ -6,8 +6,7 @@
 --   places_apart P N x y     at how many places two words differ, by the first P planes of their first N parts
 use Rattle.std.specs.Prelude.{◌≡◌, ℕ, zero, suc, ◌+◌, ◌<◌, List, [], length, slice_index, slice_index_or, bit_or, bit_xor, count_ones}
 use Rattle.lc_algebra.specs.Span.{below}
-use Rattle.lc_planes.specs.Planes.{part_at}
-use Rattle.lc_kernel.specs.Planes.{plane_at}
+use Rattle.lc_planes.specs.Planes.{part_at, plane_at}
 
 pub record IsPacked (P N : ℕ) (w : List ℕ) (x : List (List ℕ)) : Type 0 where
   pub plane : (i p : ℕ) → i < N → p < P → slice_index (slice_index_or x i []) p ≡ plane_at p (part_at (below (length w)) i) w

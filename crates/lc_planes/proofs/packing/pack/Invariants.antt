@@ -1,8 +1,7 @@
 use Rattle.std.proofs.Common.{◌≡◌, ◌<◌, ℕ, [], length, slice_index, slice_index_or}
 use Rattle.lc_algebra.specs.Span.{below}
-use Rattle.lc_planes.specs.Planes.{part_at}
-use Rattle.lc_kernel.specs.Planes.{plane_at}
-use Rattle.lc_weights.proofs.packing.pack.Given as goal
+use Rattle.lc_planes.specs.Planes.{part_at, plane_at}
+use Rattle.lc_planes.proofs.packing.pack.Given as goal
 
 abbrev pub invariant-loop-i : goal.invariant-loop-i
 invariant-loop-i g l = record {

@@ -1,7 +1,7 @@
 use Rattle.std.proofs.Common.{refl, arith}
 use Rattle.lc_algebra.proofs.RemainderLaws.{index-zeros}
-use Rattle.lc_weights.proofs.PackingLaws.{part_planes}
-use Rattle.lc_weights.proofs.packing.part_of.Goals as goal
+use Rattle.lc_planes.proofs.PackingLaws.{part_planes}
+use Rattle.lc_planes.proofs.packing.part_of.Goals as goal
 
 pub loop-t-init : goal.loop-t-init
 loop-t-init c = record { long = refl; done = λ i l. absurd (omega (arith, l)); rest = λ i l. index-zeros 64 i }

@@ -11,13 +11,9 @@ use Rattle.lc_algebra.specs.SpanLaws.{restrict}
 use Rattle.lc_algebra.proofs.WordLaws.{length_scale, length_word_sum, IsWord_scale, scale_scale, one_scale, neg_one_twice}
 use Rattle.lc_algebra.proofs.SpanLaws.{length_below, index_below}
 use Rattle.lc_algebra.proofs.ColumnLaws.{length_restrict, index_restrict}
-use Rattle.lc_planes.specs.Planes.{plane, part_at}
-use Rattle.lc_kernel.specs.Planes.{plane_at, apart}
-use Rattle.lc_kernel.specs.Grid.{negative}
-use Rattle.lc_kernel.proofs.PackLaws.{part_none, part_more, part_all}
-use Rattle.lc_kernel.proofs.PlaneLaws.{block_planes}
-use Rattle.lc_kernel.proofs.GridLaws.{tail_ones}
-use Rattle.lc_weights.specs.Packing.{IsPacked, planes_apart, places_apart}
+use Rattle.lc_planes.specs.Planes.{plane, part_at, plane_at, apart, negative}
+use Rattle.lc_planes.specs.Packing.{IsPacked, planes_apart, places_apart}
+use Rattle.lc_planes.proofs.ApartLaws.{block_planes, part_none, part_more, part_all, tail_ones}
 
 -- the columns of a part
 abbrev columns_of : List ℕ → ℕ → List ℕ

@@ -1,6 +1,6 @@
 use Rattle.std.proofs.Common.{◌≡◌, ◌*◌, ◌≤◌}
-use Rattle.lc_weights.specs.Packing.{places_apart}
-use Rattle.lc_weights.proofs.walk.places_apart.Given as goal
+use Rattle.lc_planes.specs.Packing.{places_apart}
+use Rattle.lc_planes.proofs.packing.places_apart.Given as goal
 
 abbrev pub invariant-loop-i : goal.invariant-loop-i
 invariant-loop-i g l = record {
