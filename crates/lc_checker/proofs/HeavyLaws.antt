@@ -5,6 +5,9 @@
 --   heavy_none                no sum of no rows
 --   none_found                if all sums of up to m rows are heavy, no word of the levels 1 to m is lighter
 --   firsts_found              it is enough that those whose first coefficient is 1 are
+--   no_support                the only support of no place
+--   find_nothing              nothing is found that passes a test if nothing does
+--   IsSplit, split            a support and its first place
 --   multiple_at               a multiple of a row in the list of multiples
 use Rattle.std.proofs.Common.{◌≡◌, ℕ, zero, suc, ◌+◌, ◌-◌, ◌*◌, ◌<◌, ◌≤◌, Bool, false, List, [], ◌∷◌, ◌++◌, map, find, length, slice_index_or, Contains, None, refl, sym, ap, ap₂, subst, ◌∙◌, ⊎_elim, arith, mul_comm, flat_map}
 use Rattle.std.proofs.lemmas.Nat.{mul-add-lt, div-mul-add, mod-mul-add}
@@ -39,7 +42,7 @@ pub supports_more : (i k j : ℕ) → supports_from i (suc k) (suc j) ≡ map (�
 unfolding supports_from
 supports_more i k j = refl
 
-no_support : (i k : ℕ) (s : List ℕ) → Contains (supports_from i k 0) s → [] ≡ s
+pub no_support : (i k : ℕ) (s : List ℕ) → Contains (supports_from i k 0) s → [] ≡ s
 unfolding supports_from
 no_support i k s c = ⊎_elim (λ e. e) (λ x. absurd (no_member s x)) (contains_cases [] s [] c)
 
@@ -96,7 +99,7 @@ heavy_none d C a i m e j s w z l c h = absurd (omega (arith, e, z, l))
 
 -- ---- all levels
 
-find_nothing : (test : List ℕ → Bool) (xs : List (List ℕ)) → ((w : List ℕ) → Contains xs w → test w ≡ false) → None ≡ find test xs
+pub find_nothing : (test : List ℕ → Bool) (xs : List (List ℕ)) → ((w : List ℕ) → Contains xs w → test w ≡ false) → None ≡ find test xs
 find_nothing test [] h = refl
 find_nothing test (x ∷ xs) h = rw (h x (contains_head x xs)) (find_nothing test xs (λ w c. h w (contains_tail x w xs c)))
 
@@ -127,7 +130,7 @@ none_found d C m heavy = find_nothing (is_lighter d) (words_from C.field C.colum
     (λ j s u z l. heavy j s u z (omega (arith, l, r.1))) v.2)
 
 -- a support and its first place
-record IsSplit (i n j : ℕ) (s : List ℕ) : Type 0 where
+pub record IsSplit (i n j : ℕ) (s : List ℕ) : Type 0 where
   pub place : ℕ
   pub rest : List ℕ
   pub is : s ≡ place ∷ rest
@@ -135,7 +138,7 @@ record IsSplit (i n j : ℕ) (s : List ℕ) : Type 0 where
   pub before : place < i + n
   pub later : Contains (supports_from (place + 1) (i + n - (place + 1)) j) rest
 
-split : (i n j : ℕ) (s : List ℕ) → Contains (supports_from i n (suc j)) s → IsSplit i n j s
+pub split : (i n j : ℕ) (s : List ℕ) → Contains (supports_from i n (suc j)) s → IsSplit i n j s
 split i zero j s c = absurd (no_member s (subst (λ xs. Contains xs s) (supports_none i (suc j) (omega arith)) c))
 split i (suc n) j s c =
     ⊎_elim

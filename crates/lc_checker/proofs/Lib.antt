@@ -8,3 +8,4 @@ pub mod PackedLaws
 pub mod BlockLaws
 pub mod HeavyLaws
 pub mod Opened
+pub mod HeadLaws

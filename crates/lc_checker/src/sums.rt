@@ -33,7 +33,7 @@ pub(crate) fn has_lighter_sum(
 }
 
 // The multiples of the rows by 1, 2, .., row by row.
-fn multiples_of(alloc: Global, rows: &Matrix) -> Result<Vec<Word>, NoMemory>
+pub(crate) fn multiples_of(alloc: Global, rows: &Matrix) -> Result<Vec<Word>, NoMemory>
     requires rows { length rows.now.rows ≤ 255 }
     ensures are { IfOk result (λ ms. AreMultiples rows.now ms.items) }
 {
@@ -57,7 +57,7 @@ fn multiple(alloc: Global, rows: &Matrix, i: usize, c: u8) -> Result<Word, NoMem
 }
 
 // Makes the sum after `depth` + 1 rows from the one after `depth`: adds `c` times the row at `place`.
-fn put_multiple(
+pub(crate) fn put_multiple(
     rows: &Matrix,
     multiples: &[Word],
     place: usize,

@@ -9,6 +9,7 @@ ghost use Rattle.lc_checker.specs.Walk.{AreSums, words_along, support_words, wor
 
 use crate::bits::{lighter_in_bits, packed_rows};
 use crate::blocks::has_light;
+use crate::heads::spans_lighter;
 use crate::sums::has_lighter_sum;
 use lc_field::NoMemory;
 use lc_matrix::Matrix;
@@ -35,7 +36,7 @@ pub(crate) fn first_lighter(
     Ok(word)
 }
 
-// Whether there is such a word.
+// Whether there is such a word, or, for all levels at once, a lighter word at all.
 #[tactic(auto, using(crate::proofs::PackedLaws::binary_field))]
 fn has_lighter(alloc: Global, rows: &Matrix, distance: u64, level: usize) -> Result<bool, NoMemory>
     requires level { level ≤ length rows.now.rows }
@@ -44,6 +45,10 @@ fn has_lighter(alloc: Global, rows: &Matrix, distance: u64, level: usize) -> Res
         (λ b. b ≡ false → None
         ≡ find (is_lighter distance) (words_from rows.now.field rows.now.columns rows.now.rows 1 level)) }
 {
+    if level == rows.rows() && rows.field().size() <= 16 && rows.cols() <= 256 {
+        let light = spans_lighter(alloc, rows, distance)?;
+        return Ok(light);
+    }
     if rows.field().size() != 2 || 256 < rows.cols() {
         return has_lighter_sum(alloc, rows, distance, level);
     }

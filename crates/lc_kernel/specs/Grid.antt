@@ -21,7 +21,7 @@ use Rattle.lc_place.specs.Place.{SpotState}
 use Rattle.lc_kernel.specs.Values.{IsSpotAt}
 use Rattle.lc_kernel.specs.Packed.{pair_of}
 use Rattle.lc_kernel.specs.Sums.{front_word}
-use Rattle.lc_planes.specs.Planes.{plane_at}
+use Rattle.lc_planes.specs.Planes.{plane_at, negative}
 
 abbrev pub tail_count : Matrix → ℕ
 tail_count C = (size C.field - 1) * (size C.field - 1)

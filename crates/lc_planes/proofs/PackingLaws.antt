@@ -1,7 +1,9 @@
 -- Words as bits, in parts of 64 columns, and at how many places they differ.
+--   array_small                  a word given as bits takes few bytes
 --   part_planes                  the planes of the symbols of a part
 --   places_are                   two words differ at as many places as the weight of one less the other
 use Rattle.std.proofs.Common.{◌≡◌, ℕ, zero, suc, ◌+◌, ◌-◌, ◌*◌, ◌^◌, ◌<◌, ◌≤◌, min, List, [], length, take, drop, bit_or, bit_xor, count_ones, slice_index, slice_index_or, refl, sym, ap, ap₂, subst, ◌∙◌, arith}
+use Rattle.std.proofs.Math.Nat.{mul-le-mul}
 use Rattle.std.proofs.lemmas.List.{get_or-take, get_or-drop, ext_get_or, length-take, length-drop}
 use Rattle.lc_algebra.specs.declared.FieldName.{FieldName}
 use Rattle.lc_algebra.specs.Field.{size, neg}
@@ -14,6 +16,11 @@ use Rattle.lc_algebra.proofs.ColumnLaws.{length_restrict, index_restrict}
 use Rattle.lc_planes.specs.Planes.{plane, part_at, plane_at, apart, negative}
 use Rattle.lc_planes.specs.Packing.{IsPacked, planes_apart, places_apart}
 use Rattle.lc_planes.proofs.ApartLaws.{block_planes, part_none, part_more, part_all, tail_ones}
+
+pub array_small : (P N : ℕ) → P ≤ 4 → N ≤ 4 → N * (P * 8) < 2 ^ 63
+array_small P N planes parts =
+    let few : P * 8 ≤ 32 = omega (arith, planes) in
+    omega (arith, mul-le-mul parts few)
 
 -- the columns of a part
 abbrev columns_of : List ℕ → ℕ → List ℕ

@@ -11,4 +11,4 @@ mod words;
 pub use block::plane_of;
 pub use packing::{pack, pack_words, places_apart};
 pub use planes::Planes;
-pub use words::{push_sums, words_of};
+pub use words::{push_sums, tail_rows, words_of};

@@ -1,5 +1,5 @@
 //! The words that some rows span, one after another.
-ghost use Rattle.std.specs.Prelude.{◌≡◌, ◌-◌, ◌<◌, ◌≤◌, ◌++◌, length, take, drop, map, flat_map, IfOk};
+ghost use Rattle.std.specs.Prelude.{◌≡◌, ◌-◌, ◌^◌, ◌<◌, ◌≤◌, ◌++◌, length, take, drop, map, flat_map, IfOk};
 ghost use Rattle.lc_algebra.specs.Field.{size};
 ghost use Rattle.lc_algebra.specs.Word.{Fits, word_sum, scale as scale_of};
 ghost use Rattle.lc_algebra.specs.Matrix.{AreRows};
@@ -82,4 +82,20 @@ pub fn push_sums(
         sums.push(sum)?;
     }
     Ok(())
+}
+
+/// As many of k rows over q elements as have at most 4,096 words: those of the tails, where each word of a code is the sum of a word
+/// of its first rows, a head, and one of the others, a tail. q is 2 to 16.
+pub fn tail_rows(q: u64, k: usize) -> usize
+    requires elements { (2 ≤ q) × (q ≤ 16) }
+    ensures most { result ≤ k }
+    ensures few { q ^ result ≤ 4096 }
+{
+    let mut words = 1;
+    let mut rows = 0;
+    while rows < k && words * q <= 4096 {
+        words *= q;
+        rows += 1;
+    }
+    rows
 }

@@ -1,14 +1,13 @@
 -- What the rooms of the workers have counted.
 --   apart_are                  at how many places tails differ from a word, by the weights of its sums with tails
 --   blocks_are                 the words of each weight, by the tails alone and block by block
---   array_small                a word given as bits takes few bytes
 --   heads_few, tails_few       how many heads and tails there are
 --   rooms_counted              the words of a code, by its heads and tails
 --   counted_few, products_few, product_few      how large the counts are
 --   weights_there              there is a count for each weight up to the length
 use Rattle.std.proofs.Common.{◌≡◌, ℕ, suc, ◌+◌, ◌-◌, ◌*◌, ◌^◌, ◌<◌, ◌≤◌, ◌==◌, cond, List, [], ◌∷◌, ◌++◌, length, map, take, drop, slice_index, slice_index_or, sum_by, refl, sym, ap, ap₂, ◌∙◌, subst, arith}
 use Rattle.std.specs.Prelude.{All}
-use Rattle.std.proofs.Math.Nat.{mul-le-mul, mul-le-mul_right, pow-le-pow_right, pow-zero, pow-suc, le-mul_of_pos_right, mul_comm}
+use Rattle.std.proofs.Math.Nat.{mul-le-mul_right, pow-le-pow_right, pow-zero, pow-suc, le-mul_of_pos_right, mul_comm}
 use Rattle.std.proofs.lemmas.List.{length-append, length-map, length-take-le, length-drop, take-append-drop}
 use Rattle.std.proofs.lemmas.List.Sums.{sum_by-cons}
 use Rattle.std.proofs.lemmas.List.Elements.{All-nil, All-tail, All-append, All-map, All-weaker, All-get_or, All-take, All-drop}
@@ -99,11 +98,6 @@ length_leads f n (x ∷ xs) =
     let here : length (leads f n (x ∷ xs)) ≡ q ^ length xs + length (leads f n xs) = length-append (map (word_sum f x) (words f n xs)) (leads f n xs) ∙ ap (λ m. m + length (leads f n xs)) (length-map (words f n xs) (word_sum f x) ∙ length_words f n xs) in
     let two : 2 * q ^ length xs ≤ q * q ^ length xs = mul-le-mul_right (q ^ length xs) (omega (arith, one_inside f)) in
     omega (arith, here, length_leads f n xs, two, pow-suc q (length xs), mul_comm q (q ^ length xs))
-
-pub array_small : (P N : ℕ) → P ≤ 4 → N ≤ 4 → N * (P * 8) < 2 ^ 63
-array_small P N planes parts =
-    let few : P * 8 ≤ 32 = omega (arith, planes) in
-    omega (arith, mul-le-mul parts few)
 
 pub heads_few : (f : FieldName) (P N n s : ℕ) (rows : List (List ℕ)) (heads : List (List (List ℕ))) → ArePacked P N (leads f n (take s rows)) heads → s ≤ length rows → size f ^ length rows ≤ 2 ^ 24 → length heads ≤ 2 ^ 40
 heads_few f P N n s rows heads a l small =

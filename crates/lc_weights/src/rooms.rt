@@ -14,6 +14,7 @@ use lc_code::Code;
 use lc_crew::run_round;
 use lc_field::NoMemory;
 use lc_io::OpenGate;
+use lc_planes::{pack, pack_words, tail_rows, words_of};
 use lc_vec::Word;
 use std::alloc::Global;
 use std::thread::Threads;
@@ -60,21 +61,6 @@ fn split_of(code: &Code) -> usize
 {
     let k = code.dimension();
     k - tail_rows(code.field().size() as u64, k)
-}
-
-// As many of k rows over q elements as have at most 4,096 words.
-fn tail_rows(q: u64, k: usize) -> usize
-    requires elements { (2 ≤ q) × (q ≤ 16) }
-    ensures most { result ≤ k }
-    ensures few { q ^ result ≤ 4096 }
-{
-    let mut words = 1;
-    let mut rows = 0;
-    while rows < k && words * q <= 4096 {
-        words *= q;
-        rows += 1;
-    }
-    rows
 }
 
 // The heads as bits: the words of the first `split` rows whose first coefficient other than 0 is 1.

@@ -1,6 +1,7 @@
 use Rattle.std.proofs.Common.{◌*◌, ◌^◌, ◌<◌, ◌≤◌, ◌∙◌, length, ap, arith}
 use Rattle.lc_algebra.specs.Word.{zero_word}
-use Rattle.lc_weights.proofs.RoomLaws.{array_small, heads_few, tails_few, rooms_counted}
+use Rattle.lc_planes.proofs.PackingLaws.{array_small}
+use Rattle.lc_weights.proofs.RoomLaws.{heads_few, tails_few, rooms_counted}
 use Rattle.lc_weights.proofs.rooms.count_rooms.Goals as goal
 
 pub first_counts-requires : goal.first_counts-requires
