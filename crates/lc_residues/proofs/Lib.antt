@@ -1,0 +1,3 @@
+pub mod ResidueTests
+pub mod PeriodLaws
+pub mod CodeLaws
