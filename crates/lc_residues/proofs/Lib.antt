@@ -1,3 +1,9 @@
 pub mod ResidueTests
 pub mod PeriodLaws
 pub mod CodeLaws
+pub mod PickLaws
+pub mod ModLaws
+pub mod ShiftLaws
+pub mod CharacterLaws
+pub mod MultiplierLaws
+pub mod KeptLaws

@@ -2,7 +2,9 @@
 #![tactic(auto)]
 
 mod codes;
+mod laws;
 mod periods;
 mod residues;
 
 pub use codes::quadratic_residue;
+pub use laws::residue_codes_have_their_symmetries;
