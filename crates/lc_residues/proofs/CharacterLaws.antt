@@ -4,6 +4,7 @@
 --   euler_test n a         the criterion at a, and that the power n - 2 of a is its inverse
 --   character              the power (n - 1) / 2
 --   inverse_there          each number that isn't 0 modulo n has an inverse
+--   criterion              the criterion as a test
 --   residue_times, other_times       a residue times i is a residue exactly if i is; another number times i exactly if i isn't
 use Rattle.std.proofs.Common.{◌≡◌, ◌≢◌, ℕ, zero, suc, ◌-◌, ◌*◌, ◌/◌, ◌%◌, ◌^◌, ◌<◌, ◌≤◌, Bool, true, false, not, if◌then◌else◌, ◌==◌, ◌&&◌, ◌||◌, refl, sym, ap, ap₂, subst, ◌∙◌, ⊎_elim, arith, true≢false}
 use Rattle.std.proofs.Math.Nat.{mod-lt, mod-mod, mod-eq_of_lt, mul_comm, mul_assoc, one-mul, mul-one, mul-zero, zero-mod}
@@ -17,7 +18,7 @@ use Rattle.lc_language.specs.QuadraticResidues.{is_odd_prime, is_residue}
 use Rattle.lc_residues.proofs.ResidueTests.{prime_parts, residue_parts, residue_from}
 use Rattle.lc_residues.proofs.ModLaws.{power_mod}
 
-unfoldable square_below : ℕ → ℕ → ℕ → Bool
+unfoldable pub square_below : ℕ → ℕ → ℕ → Bool
 square_below n a zero = false
 square_below n a (suc k) = (k * k % n == a) || square_below n a k
 
@@ -52,7 +53,7 @@ square_is n a (suc k) h =
     (λ t. let (j, l, e) = square_is n a k t in (j, omega (arith, l), e))
     (or_cases (k * k % n == a) (square_below n a k) h)
 
-residue_by_squares : (n a : ℕ) → a < n → a ≢ 0 → is_residue n a ≡ square_below n a n
+pub residue_by_squares : (n a : ℕ) → a < n → a ≢ 0 → is_residue n a ≡ square_below n a n
 residue_by_squares n a l z =
     let same : a % n ≡ a = mod-eq_of_lt l in
     same_test (is_residue n a) (square_below n a n)
@@ -153,3 +154,10 @@ other_times n a i l h z r m o =
     let e = signs_times n a i l h z m o in
     let s : sign n (is_residue n a) * sign n (is_residue n i) % n ≡ sign n (not (is_residue n i)) = ap (λ b. sign n b * sign n (is_residue n i) % n) r ∙ turned_sign n (is_residue n i) p (prime_told n l h).1 in
     sign_told n (is_residue n (a * i % n)) (not (is_residue n i)) p (e ∙ s)
+
+sign_one : (n : ℕ) (b : Bool) → 2 < n → (sign n b == 1) ≡ b
+sign_one n true l = refl
+sign_one n false l = ne_eqb (n - 1) 1 (λ e. omega (arith, l, e))
+
+pub criterion : (n a : ℕ) → n ≤ 255 → is_odd_prime n ≡ true → a < n → a ≢ 0 → (a ^ ((n - 1) / 2) % n == 1) ≡ is_residue n a
+criterion n a l h m z = ap (λ k. k == 1) (euler n a l h m z).character ∙ sign_one n (is_residue n a) (positive n h)

@@ -7,3 +7,8 @@ pub mod ShiftLaws
 pub mod CharacterLaws
 pub mod MultiplierLaws
 pub mod KeptLaws
+pub mod PrimeFieldLaws
+pub mod CountLaws
+pub mod DualLaws
+pub mod OrthogonalLaws
+pub mod DimensionLaws

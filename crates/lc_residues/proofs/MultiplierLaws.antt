@@ -1,5 +1,6 @@
 -- The words of a quadratic residue code, with their coordinates multiplied by a number modulo n.
 --   ones_multiplied, ones_moved      the word of ones stays
+--   nonzero_symbol b, symbol_zero, symbol_nonzero, index_residue       the symbols of the residue word
 --   shift_multiplied       a shift of a word, multiplied by r, is a shift of the word multiplied by r
 --   residue_multiplied     the residue word multiplied by a residue is the same
 --   other_multiplied       multiplied by another number it is the word of ones less that of the other period
@@ -47,18 +48,18 @@ shift_multiplied n r k m w a b e =
 
 -- ---- symbols
 
-abbrev nonzero_symbol : Bool → ℕ
+abbrev pub nonzero_symbol : Bool → ℕ
 nonzero_symbol b = if b then 1 else 0
 
-symbol_zero : (f : FieldName) (n t i : ℕ) → i ≡ 0 → residue_symbol f n t i ≡ neg f t
+pub symbol_zero : (f : FieldName) (n t i : ℕ) → i ≡ 0 → residue_symbol f n t i ≡ neg f t
 unfolding residue_symbol
 symbol_zero f n t i e = rw e refl
 
-symbol_nonzero : (f : FieldName) (n t i : ℕ) → i ≢ 0 → residue_symbol f n t i ≡ nonzero_symbol (is_residue n i)
+pub symbol_nonzero : (f : FieldName) (n t i : ℕ) → i ≢ 0 → residue_symbol f n t i ≡ nonzero_symbol (is_residue n i)
 unfolding residue_symbol
 symbol_nonzero f n t i z = let no : (i == 0) ≡ false = ne_eqb i 0 z in rw no refl
 
-index_residue : (f : FieldName) (n t i : ℕ) → i < n → slice_index (residue_word f n t) i ≡ residue_symbol f n t i
+pub index_residue : (f : FieldName) (n t i : ℕ) → i < n → slice_index (residue_word f n t) i ≡ residue_symbol f n t i
 unfolding residue_word
 index_residue f n t i l = index_mapped (residue_symbol f n t) n i l
 

@@ -1,5 +1,6 @@
 -- Gaussian periods in the symbol fields, by a test of each length.
 --   period_there, period_missing      there is a period of each length at which the code is asked for
+--   least_period           the least one is a period
 --   period_found           the first one that the loop meets is the least
 use Rattle.std.proofs.Common.{◌≡◌, ℕ, zero, suc, ◌+◌, ◌<◌, ◌≤◌, Bool, true, false, not, ◌||◌, refl, sym, subst, ◌∙◌, ⊎_elim, arith, true≢false}
 use Rattle.std.specs.Prelude.{IsTrue}
@@ -14,7 +15,7 @@ use Rattle.lc_algebra.specs.Span.{below}
 use Rattle.lc_algebra.proofs.SpanLaws.{contains_below}
 use Rattle.lc_algebra.proofs.SpanSearch.{any_contains}
 use Rattle.lc_algebra.proofs.FieldTests.{below as each_below, below_each}
-use Rattle.lc_constructions.proofs.InverseLaws.{goes_on, stops}
+use Rattle.lc_constructions.proofs.InverseLaws.{goes_on, stops, found_before}
 use Rattle.lc_language.specs.QuadraticResidues.{is_odd_prime, is_residue, is_residue_length, period_norm, is_period, period}
 
 unfoldable there_test : FieldName → ℕ → Bool
@@ -51,3 +52,10 @@ first_told test start (suc count) i l m t h =
 pub period_found : (f : FieldName) (n t : ℕ) → t < size f → is_period f n t ≡ true → ((k : ℕ) → k < t → is_period f n k ≡ false) → t ≡ period f n
 unfolding period first_that
 period_found f n t l e h = sym (first_told (is_period f n) 0 (size f) t (omega arith) (omega (arith, l)) e (λ k a b. h k b))
+
+pub least_period : (f : FieldName) (n : ℕ) → IsTrue (is_symbol f) → n ≤ 255 → IsTrue (is_residue_length (size f) n) → (period f n < size f) × IsTrue (is_period f n (period f n))
+unfolding period first_that
+least_period f n a l b =
+    let (t, p, e) = period_there f n a l b in
+    let (q, r) = found_before (is_period f n) 0 (size f) t (omega arith) (omega (arith, p)) e in
+    (omega (arith, r), q)

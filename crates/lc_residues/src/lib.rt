@@ -7,4 +7,4 @@ mod periods;
 mod residues;
 
 pub use codes::quadratic_residue;
-pub use laws::residue_codes_have_their_symmetries;
+pub use laws::{quadratic_residue_codes, residue_codes_have_their_symmetries};
