@@ -13,7 +13,7 @@
 --   InResidueCode f n t w     w is a word of the quadratic residue code of the period t: a sum of multiples of these rows
 --   multiplied n r w          the word whose symbol at coordinate i is that of w at r i modulo n
 --   IsQuadraticResidueCode f n C      C is a quadratic residue code of length n that has the word of ones: a cyclic code of dimension
---                             (n + 1) / 2 that the maps of i to r i keep, for each residue r. There are two
+--                             (n + 1) / 2 that the maps of i to r i keep, for each residue r
 -- When the call is refused:
 --   not_residue_length f n    53: n is no odd prime modulo which the size of the field is a quadratic residue
 use Rattle.std.specs.Prelude.{◌≡◌, ℕ, ◌+◌, ◌-◌, ◌*◌, ◌/◌, ◌%◌, ◌<◌, Bool, not, nat_lt, ◌==◌, ◌&&◌, ◌||◌, if◌then◌else◌, IsTrue, List, [], ◌∷◌, length, map, replicate, slice_index, Option}

@@ -12,3 +12,4 @@ pub mod CountLaws
 pub mod DualLaws
 pub mod OrthogonalLaws
 pub mod DimensionLaws
+pub mod ResidueExamples
