@@ -7,10 +7,12 @@
 use Rattle.std.proofs.Common.{◌≡◌, ◌≢◌, ℕ, zero, suc, ◌+◌, ◌-◌, ◌*◌, ◌/◌, ◌%◌, ◌^◌, ◌<◌, ◌≤◌, Bool, true, false, if◌then◌else◌, ◌==◌, List, [], ◌∷◌, length, map, slice_index, refl, sym, ap, ap₂, subst, ◌∙◌, ⊎_elim, arith}
 use Rattle.std.proofs.Math.Nat.{mod-lt, mod-eq_of_lt, mod_self, zero-mod, add-mod_right, zero-mul, one-mul}
 use Rattle.std.proofs.lemmas.Bool.{cases_lt, cases_eq, ne_eqb}
+use Rattle.std.proofs.lemmas.List.{get_or_past}
 use Rattle.lc_algebra.specs.declared.FieldName.{FieldName}
 use Rattle.lc_algebra.specs.Field.{shape_of, size, add, neg, mul}
 use Rattle.lc_algebra.specs.Word.{IsWord, word_sum, scale, word_dot}
 use Rattle.lc_algebra.specs.Span.{below}
+use Rattle.lc_algebra.proofs.CommonLaws.{small_bit}
 use Rattle.lc_algebra.proofs.FieldTests.{above_one_characteristic}
 use Rattle.lc_algebra.proofs.FieldLaws.{one_inside, neg_inside, zero_add, add_zero, add_comm, add_assoc, add_neg, add_mul, mul_one, one_mul, zero_mul, mul_zero, neg_zero}
 use Rattle.lc_algebra.proofs.WordLaws.{index_word_sum, index_scale, length_word_sum, length_scale, word_symbol, IsWord_sum, IsWord_scale, dot_comm, dot_sum, sum_dot, dot_scale, scale_dot, dot_inside}
@@ -48,27 +50,18 @@ dot_of_bits f (a ∷ u) (b ∷ v) h k =
 
 -- ---- the word of the residues
 
-small_bit : (b : Bool) → (if b then 1 else 0) < 2
-small_bit true = omega arith
-small_bit false = omega arith
-
-past_end : (w : List ℕ) (i : ℕ) → length w ≤ i → slice_index w i ≡ 0
-past_end [] i l = refl
-past_end (a ∷ w) zero l = absurd (omega (arith, l))
-past_end (a ∷ w) (suc i) l = past_end w i (omega (arith, l))
-
 bits_small : (n : ℕ) → AreBits (bits n)
 bits_small n i =
     ⊎_elim
     (λ l. subst (λ a. a < 2) (sym (index_bits n i l)) (small_bit (i ^ ((n - 1) / 2) % n == 1)))
-    (λ l. let e : slice_index (bits n) i ≡ 0 = past_end (bits n) i (omega (arith, l, length_bits n)) in omega (arith, e))
+    (λ l. let e : slice_index (bits n) i ≡ 0 = get_or_past (bits n) i 0 (omega (arith, l, length_bits n)) in omega (arith, e))
     (cases_lt i n)
 
 picks_small : (n : ℕ) (h : ℕ → ℕ) (w : List ℕ) → AreBits w → AreBits (map (λ i. slice_index w (h i)) (below n))
 picks_small n h w k i =
     ⊎_elim
     (λ l. subst (λ a. a < 2) (sym (index_mapped (λ i. slice_index w (h i)) n i l)) (k (h i)))
-    (λ l. let e : slice_index (map (λ i. slice_index w (h i)) (below n)) i ≡ 0 = past_end (map (λ i. slice_index w (h i)) (below n)) i (omega (arith, l, length_mapped (λ i. slice_index w (h i)) n)) in omega (arith, e))
+    (λ l. let e : slice_index (map (λ i. slice_index w (h i)) (below n)) i ≡ 0 = get_or_past (map (λ i. slice_index w (h i)) (below n)) i 0 (omega (arith, l, length_mapped (λ i. slice_index w (h i)) n)) in omega (arith, e))
     (cases_lt i n)
 
 turned_small : (n : ℕ) (w : List ℕ) → AreBits w → AreBits (turned n w)

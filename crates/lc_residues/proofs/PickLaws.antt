@@ -5,9 +5,8 @@
 --   index_shift, shifts_linear, index_multiplied, multiplied_linear      the same of shifts and of multiplied words
 --   same_picks             words with the same symbols below n are equal
 --   span_kept              a linear map that takes the rows to words of other rows takes all words there
-use Rattle.std.proofs.Common.{◌≡◌, ℕ, ◌+◌, ◌-◌, ◌*◌, ◌%◌, ◌<◌, List, [], ◌∷◌, length, map, slice_index, All, sym, ap, ◌∙◌, arith}
+use Rattle.std.proofs.Common.{◌≡◌, ℕ, ◌+◌, ◌-◌, ◌*◌, ◌%◌, ◌<◌, List, length, map, slice_index, All, sym, ap, ◌∙◌, arith}
 use Rattle.std.proofs.lemmas.List.{length-map, get_or-map, ext_get_or}
-use Rattle.std.proofs.lemmas.List.Elements.{All-cons, All-head, All-tail}
 use Rattle.lc_algebra.specs.declared.FieldName.{FieldName}
 use Rattle.lc_algebra.specs.Word.{IsWord, zero_word, word_sum, scale}
 use Rattle.lc_algebra.specs.Span.{below, InSpan}
@@ -15,6 +14,7 @@ use Rattle.lc_algebra.specs.Matrix.{AreRows}
 use Rattle.lc_algebra.proofs.WordLaws.{word_symbol, index_word_sum, index_scale, index_zero_word, length_word_sum, length_scale, length_zero_word}
 use Rattle.lc_algebra.proofs.SpanLaws.{length_below, index_below, span_within}
 use Rattle.lc_combine.proofs.GeneratedLaws.{IsLinear, image_span}
+use Rattle.lc_relations.proofs.StructureLaws.{mapped}
 use Rattle.lc_language.specs.QuadraticResidues.{cyclic_shift, multiplied}
 use Rattle.lc_residues.proofs.CodeLaws.{mapped_word}
 
@@ -91,10 +91,6 @@ pub multiplied_linear : (f : FieldName) (n r : ℕ) → IsLinear f n n (multipli
 unfolding picked multiplied
 multiplied_linear f n r = picked_linear f n (λ i. r * i % n)
 
-mapped_all : (h : List ℕ → List ℕ) (P : List ℕ → Type 0) (rows : List (List ℕ)) → All (λ row. P (h row)) rows → All P (map h rows)
-mapped_all h P [] k = λ i d l. absurd (omega (arith, l))
-mapped_all h P (row ∷ rows) k = All-cons P (h row) (map h rows) (All-head (λ row. P (h row)) row rows k) (mapped_all h P rows (All-tail (λ row. P (h row)) row rows k))
-
 pub span_kept : (f : FieldName) (n : ℕ) (h : List ℕ → List ℕ) (rows others : List (List ℕ)) (w : List ℕ) → IsLinear f n n h → AreRows f n rows → AreRows f n others → All (λ row. InSpan f n others (h row)) rows → InSpan f n rows w → InSpan f n others (h w)
 span_kept f n h rows others w a r s k i =
-    span_within f n (map h rows) others (h w) s (mapped_all h (InSpan f n others) rows k) (image_span f n n h rows w a r i)
+    span_within f n (map h rows) others (h w) s (mapped h (InSpan f n others) rows k) (image_span f n n h rows w a r i)

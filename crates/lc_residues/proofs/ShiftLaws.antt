@@ -16,6 +16,7 @@ use Rattle.lc_algebra.specs.Residue.{top, up}
 use Rattle.lc_algebra.specs.Span.{below, InSpan}
 use Rattle.lc_algebra.proofs.SpanLaws.{contains_head, contains_tail, map_contains, below_contains, span_of_member}
 use Rattle.lc_code.proofs.CoordinateLaws.{told_all}
+use Rattle.lc_relations.proofs.StructureLaws.{length_up}
 use Rattle.lc_language.specs.Relations.{shifted}
 use Rattle.lc_language.specs.QuadraticResidues.{residue_word, cyclic_shift, residue_rows}
 use Rattle.lc_residues.proofs.CodeLaws.{residue_word_is, residue_words}
@@ -40,11 +41,6 @@ up_later c [] i l = absurd (omega (arith, l))
 up_later c (a ∷ []) i l = absurd (omega (arith, l))
 up_later c (a ∷ b ∷ w) zero l = refl
 up_later c (a ∷ b ∷ w) (suc i) l = up_later a (b ∷ w) i (omega (arith, l))
-
-length_up : (c : ℕ) (w : List ℕ) → length (up c w) ≡ length w
-unfolding up
-length_up c [] = refl
-length_up c (a ∷ w) = ap suc (length_up a w)
 
 index_shifted : (n : ℕ) (w : List ℕ) (i : ℕ) → length w ≡ n → i < n → slice_index (shifted w) i ≡ slice_index w ((i + (n - 1)) % n)
 unfolding shifted
