@@ -40,7 +40,7 @@ C := GeneratorMatCode([[1,1,0,1],[0,1,1,1],[1,0,1,0]], GF(2)); C; GeneratorMat(C
 D := CheckMatCode([[1,2,3,1],[0,1,1,2]], GF(5)); D; IsCodeword(D, [0,0,0,0]); Weight([1,0,2]); LeastWord(GeneratorMat(C), GF(2));
 """,
     "cyclic codes": b"""
-GeneratorPolCode([1,1,0,1], 7, GF(2)); CheckPolCode([1,1,0,1], 7, GF(2)); BinaryGolayCode(); TernaryGolayCode();
+GeneratorPolCode([1,1,0,1], 7, GF(2)); CheckPolCode([1,1,0,1], 7, GF(2)); BinaryGolayCode(); TernaryGolayCode(); QRCode(7, GF(2));
 ExtendedBinaryGolayCode(); ExtendedTernaryGolayCode(); BCHCode(15, 5, GF(2)); BCHCode(15, 2, 4, GF(2)); ReedSolomonCode(8, 3);
 """,
     "codes by points": b"""

@@ -53,6 +53,7 @@ MEANINGS = {
     46: "the call takes another number of arguments",
     47: "the code and its dual have too many words to count",
     50: "the list is not a word of the code",
+    53: "there are no quadratic residue codes of this length over the field",
 }
 EMPTY = "the file is empty: a script that prints nothing; as a certificate it is rejected, by reason 30"
 SIGNS = {"name": "a name", "number": "a number"}
@@ -268,6 +269,18 @@ def divisors_told(length, size):
     return f"over GF({size}) the irreducible divisors of x^{length} - 1 are {told}{times}"
 
 
+def no_residue_length(length, field):
+    """Why the length is none of a quadratic residue code."""
+    divisor = next((d for d in range(2, length) if length % d == 0), None)
+    if length < 3:
+        return f"{length} is no odd prime"
+    if divisor:
+        return f"{length} is no prime: {divisor} divides it"
+    if field.size % length == 0:
+        return f"{field.size} is 0 modulo {length}"
+    return f"{field.size} is not a square modulo {length}"
+
+
 COMBINED = ("ExtendedCode", "PuncturedCode", "ShortenedCode", "EvenWeightSubcode", "DirectSumCode", "UUVCode",
             "DirectProductCode", "IntersectionCode", "UnionCode", "IsSubcode", "IsSameCode", "ConcatenatedCode")
 OF_WORDS = ("IsCodeword", "Decode", "AlgebraicDecode", "AlternantCertificate", "NearestWord", "Syndrome", "InformationWord")
@@ -351,6 +364,8 @@ def refusal(expr, fault, names):
         return f"it has weight {weight}, one more than the {counted(distance - 1, 'check')} of the form, but isn't in the code"
     if number == 50:
         return "`Decode(C, x)` gives a nearest word of the code"
+    if number == 53:
+        return no_residue_length(*values)
     if number == 47:
         return distribution_told(values[0].size, values[0].length, *fault.values)
     if number == 16:

@@ -150,7 +150,7 @@ class Maker:
         return self.zeros(f"{call}({a.text},{b.text})", length, a.size)
 
     def cyclic_or_formed(self):
-        way = self.below(6)
+        way = self.below(7)
         if way == 0:
             call, length, size = self.pick((("BinaryGolayCode", 23, 2), ("TernaryGolayCode", 11, 3), ("ExtendedBinaryGolayCode", 24, 2),
                                             ("ExtendedTernaryGolayCode", 12, 3)))
@@ -166,6 +166,10 @@ class Maker:
             length = self.pick((0, 5, 6, 14, 24, 255)) if self.chance(self.faults) else self.pick((1, 2, 3, 4, 6, 7, 8, 10, 12, 15))
             distance = self.pick((0, length + 1, 2**64 - 1)) if self.chance(self.faults) else 1 + self.below(max(1, length))
             return self.zeros(f"ReedSolomonCode({length},{distance})", max(1, length), length + 1)
+        if way == 4:
+            size, length = self.pick(((2, 7), (2, 17), (2, 23), (3, 11), (3, 13), (4, 3), (4, 5), (5, 11), (7, 3), (8, 7), (9, 5), (11, 5), (13, 3), (16, 7)))
+            length = self.pick((0, 1, 2, 9, 15, 19, 256, 2**64 - 1)) if self.chance(self.faults) else length
+            return Made(f"QRCode({length},{self.field(size)})", max(1, length), size, [1] * min(max(1, length), 300))
         if way == 3:
             size = self.pick((2, 2, 2, 3, 4, 5, 8, 9, 16))
             fine = {2: (1, 3, 5, 7, 9, 15, 21, 31, 63), 3: (1, 2, 4, 8, 13, 20, 26, 40), 4: (1, 3, 5, 15, 7, 9, 21), 5: (1, 2, 3, 4, 6, 8, 12, 24),
@@ -174,7 +178,7 @@ class Maker:
             distance = self.pick((0, 1, length + 1)) if self.chance(self.faults) else min(max(1, length), 2 + self.below(6))
             first = "" if self.chance(0.5) else f"{self.pick((0, 1, 2, 3, length, length + 1, 2**64 - 1))},"
             return self.zeros(f"BCHCode({length},{first}{distance},{self.field(size)})", max(1, length), size)
-        return self.by_points(way == 4)
+        return self.by_points(way == 5)
 
     def by_points(self, goppa):
         small, large = self.pick(((2, 8), (2, 16), (2, 4), (3, 9), (4, 16), (5, 5), (3, 27), (5, 25), (2, 32), (2, 64), (7, 7)))

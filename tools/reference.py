@@ -508,6 +508,25 @@ def check_pol_code(polynomial, length, field):
     return code_of_checks(field.size, length, [[h[(i - j) % length] for j in range(length)] for i in range(length)])
 
 
+def squares_modulo(n):
+    return {i * i % n for i in range(1, n)} - {0}
+
+
+def qr_code(length, field):
+    """The shifts of the word of the squares, less a constant, and the word of ones."""
+    need_symbol_field(field)
+    need_length(length)
+    squares = squares_modulo(length)
+    if length < 3 or not all(length % d for d in range(2, length)) or field.size % length not in squares:
+        raise Refused(53)
+    numbers = arithmetic(field.size)
+    one_by_one = lambda n: 0 if n == 0 else numbers.sums[one_by_one(n - 1)][1]
+    constant = one_by_one((length + 1) // 4) if length % 4 == 3 else negative(numbers, one_by_one((length - 1) // 4))
+    t = next(t for t in range(field.size) if numbers.sums[numbers.sums[numbers.products[t][t]][t]][constant] == 0)
+    word = [int(i in squares) if i else negative(numbers, t) for i in range(length)]
+    return code_of_rows(field.size, length, [[1] * length] + [[word[(i - j) % length] for i in range(length)] for j in range(length)])
+
+
 def binary_golay_code():
     return generator_pol_code([1, 0, 1, 0, 1, 1, 1, 0, 0, 0, 1, 1], 23, FieldValue(2))
 
@@ -1009,6 +1028,7 @@ CALLS = {
     "ReedMullerCode": ([("number", "number")], reed_muller_code),
     "GeneratorPolCode": ([("numbers", "number", "field")], generator_pol_code),
     "CheckPolCode": ([("numbers", "number", "field")], check_pol_code),
+    "QRCode": ([("number", "field")], qr_code),
     "BinaryGolayCode": ([()], binary_golay_code),
     "TernaryGolayCode": ([()], ternary_golay_code),
     "ExtendedBinaryGolayCode": ([()], lambda: extended_code(binary_golay_code())),

@@ -184,6 +184,7 @@ def calls():
     yield from [("ReedMullerCode(9,8)", "2"), ("ReedSolomonCode(5,9)", "7"), ("ReedSolomonCode(0,1)", "7")]
     for name in ("GeneratorPolCode", "CheckPolCode"):
         yield from polynomial_calls(name)
+    yield from [("QRCode(256,GF(25))", "17"), ("QRCode(15,GF(27))", "17"), ("QRCode(0,GF(3))", "2"), ("QRCode(256,GF(3))", "2")]
     for begin in ("", "0,", "7,"):
         yield from bch_calls(begin)
     yield from GOPPA_CALLS + ALTERNANT_CALLS + COMBINED_CALLS + WORD_CALLS + LEAST_WORD_CALLS

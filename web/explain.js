@@ -98,6 +98,14 @@ function combinedRefusal(name, values, fault) {
   return `the inner code has dimension ${dimension}; ${a.size} is ${b.size}^${degree}, so it needs ${degree}`;
 }
 
+// why the length is none of a quadratic residue code
+function noResidueLength(length, size) {
+  if (length < 3) return `${length} is no odd prime`;
+  for (let d = 2; d < length; d++) if (length % d === 0) return `${length} is no prime: ${d} divides it`;
+  if (size % length === 0) return `${size} is 0 modulo ${length}`;
+  return `${size} is not a square modulo ${length}`;
+}
+
 // why two words, or an element and a word, are refused
 function twoListsRefusal(values, fault) {
   if (fault.number === 12) return `the first list has ${values[0].length} entries, the second ${values[1].length}`;
@@ -206,6 +214,7 @@ function refusal(name, values, fault) {
   if (number === 15) return `${values[0].size}^${fault.values[0]} is above 2^20`;
   if (number === 18) return 'only BCHCode, ReedSolomonCode, GoppaCode and AlternantCode make codes that have one';
   if (number === 19) return attainedRefusal(...fault.values);
+  if (number === 53) return noResidueLength(values[0], values[1].size);
   if (number === 50) return '`Decode(C, x)` gives a nearest word of the code';
   if (number === 47) return distributionTold(values[0].size, values[0].length, ...fault.values);
   if (number === 16) return `${values[0].length} rows over GF(${values[1].size}) have ${values[1].size}^${values[0].length} words, more than 65,536`;

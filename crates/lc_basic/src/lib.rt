@@ -15,4 +15,5 @@ pub use dimensions::{
 pub use hamming_codes::hamming;
 pub use matrices::{check_mat, generator_mat};
 pub use reed_muller_codes::reed_muller;
+pub use refusal::check_length;
 pub use trivial::{null_code, repetition, whole_space};

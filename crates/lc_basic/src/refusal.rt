@@ -23,9 +23,10 @@ pub(crate) fn is_length(n: u64) -> bool
     1 <= n && n <= 255
 }
 
-// Checks a field and a length.
+/// Checks the field and the length of a code. Refused in this order: the field has more than 16 elements, FieldTooLarge; `n` is 0 or
+/// above 255, BadLength. No memory is taken.
 #[tactic(auto, using(crate::proofs::RefusalLaws::check_length_laws))]
-pub(crate) fn check_length(field: &Field, n: u64) -> Result<(), CodeRefusal>
+pub fn check_length(field: &Field, n: u64) -> Result<(), CodeRefusal>
     ensures is { IsChecked result (first_refusal (length_refusals field.now n)) }
     ensures symbol { IfOk result (λ _. IsTrue (is_symbol field.now)) }
     ensures least { IfOk result (λ _. 1 ≤ n) }

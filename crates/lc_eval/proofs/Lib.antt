@@ -12,6 +12,7 @@ pub mod WideLaws
 pub mod FormLaws
 pub mod FormCertificateLaws
 pub mod CyclicCalls
+pub mod ResidueCalls
 pub mod MisfitLaws
 pub mod StockLaws
 pub mod DecodeLaws

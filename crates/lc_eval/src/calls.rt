@@ -15,6 +15,7 @@ ghost use Rattle.lc_eval.specs.Value.{value_of, values_of, rows_of};
 use crate::code_value::CodeValue;
 use crate::cyclic::{
     check_pol_code, extended_binary_golay_code, extended_ternary_golay_code, generator_pol_code,
+    qr_code,
 };
 use crate::decoding::{decode, is_codeword};
 use crate::forms::{alternant_code, formed, goppa_code};
@@ -80,6 +81,7 @@ static TABLE: &[Row] = &rows! {
     Call::Value(ValueCall::ReedMullerCode) => "ReedMullerCode" [Number, Number];
     Call::Value(ValueCall::GeneratorPolCode) => "GeneratorPolCode" [Numbers, Number, Field];
     Call::Value(ValueCall::CheckPolCode) => "CheckPolCode" [Numbers, Number, Field];
+    Call::Value(ValueCall::QrCode) => "QRCode" [Number, Field];
     Call::Value(ValueCall::BinaryGolayCode) => "BinaryGolayCode" [];
     Call::Value(ValueCall::TernaryGolayCode) => "TernaryGolayCode" [];
     Call::Value(ValueCall::ExtendedBinaryGolayCode) => "ExtendedBinaryGolayCode" [];
@@ -194,6 +196,7 @@ pub(crate) enum BoundCall<'a> {
     ReedMullerCode(u64, u64),
     GeneratorPolCode(&'a [u64], u64, &'a Field),
     CheckPolCode(&'a [u64], u64, &'a Field),
+    QrCode(u64, &'a Field),
     BinaryGolayCode,
     TernaryGolayCode,
     ExtendedBinaryGolayCode,
@@ -248,6 +251,7 @@ impl Means for BoundCall<'_> {
       | BoundCall.ReedMullerCode r m ↦ language.reed_muller_code r m
       | BoundCall.GeneratorPolCode x n f ↦ language.generator_pol_code x.now n f.now
       | BoundCall.CheckPolCode x n f ↦ language.check_pol_code x.now n f.now
+      | BoundCall.QrCode n f ↦ language.qr_code n f.now
       | BoundCall.BinaryGolayCode ↦ language.binary_golay_code
       | BoundCall.TernaryGolayCode ↦ language.ternary_golay_code
       | BoundCall.ExtendedBinaryGolayCode ↦ language.extended_binary_golay_code
@@ -382,6 +386,7 @@ fn with_two<'a>(call: ValueCall, a: &'a Value, b: &'a Value) -> Option<BoundCall
         ValueCall::NullCode => Some(BoundCall::NullCode(a.number()?, b.field()?)),
         ValueCall::HammingCode => Some(BoundCall::HammingCode(a.number()?, b.field()?)),
         ValueCall::ReedMullerCode => Some(BoundCall::ReedMullerCode(a.number()?, b.number()?)),
+        ValueCall::QrCode => Some(BoundCall::QrCode(a.number()?, b.field()?)),
         ValueCall::ReedSolomonCode => Some(BoundCall::ReedSolomonCode(a.number()?, b.number()?)),
         ValueCall::PuncturedCode => Some(BoundCall::PuncturedCode(&a.code()?.code, b.numbers()?)),
         ValueCall::ShortenedCode => Some(BoundCall::ShortenedCode(&a.code()?.code, b.numbers()?)),
@@ -529,6 +534,7 @@ pub(crate) fn apply(
             generator_pol_code(alloc, place, list, n, field)
         }
         BoundCall::CheckPolCode(list, n, field) => check_pol_code(alloc, place, list, n, field),
+        BoundCall::QrCode(n, field) => qr_code(alloc, place, n, field),
         BoundCall::BinaryGolayCode => Ok(code_value(alloc, lc_cyclic::binary_golay(alloc)?)?),
         BoundCall::TernaryGolayCode => Ok(code_value(alloc, lc_cyclic::ternary_golay(alloc)?)?),
         BoundCall::ExtendedBinaryGolayCode => extended_binary_golay_code(alloc, place),

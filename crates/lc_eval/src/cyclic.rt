@@ -1,10 +1,10 @@
-//! What the calls give that make a cyclic code by its polynomial, or an extended Golay code.
+//! What the calls give that make a cyclic code by its polynomial, a quadratic residue code, or an extended Golay code.
 ghost use Rattle.lc_language.specs.Calls as bound;
 ghost use Rattle.lc_language.specs.Evaluation.{AppliesTo};
 ghost use Rattle.lc_eval.specs.Applied.{Answers};
 
-use crate::made::made;
-use crate::refusals::Stop;
+use crate::made::{code_value, made};
+use crate::refusals::{NO_RESIDUE_LENGTH, Stop, fault, refused_as};
 use crate::rows::word_of;
 use crate::values::Value;
 use lc_field::Field;
@@ -46,6 +46,17 @@ pub(crate) fn check_pol_code(
         place,
         lc_cyclic::check_pol(alloc, x.symbols(), n, field),
     )
+}
+
+/// A quadratic residue code.
+pub(crate) fn qr_code(alloc: Global, place: usize, n: u64, field: &Field) -> Result<Value, Stop>
+    ensures { Answers result (AppliesTo place (bound.qr_code n field.now)) }
+{
+    match lc_residues::quadratic_residue(alloc, n, field) {
+        Ok(Some(code)) => Ok(code_value(alloc, code)?),
+        Ok(None) => Err(Stop::Refused(fault(alloc, NO_RESIDUE_LENGTH, place))),
+        Err(refusal) => Err(refused_as(alloc, place, refusal)),
+    }
 }
 
 /// The extended binary Golay code.

@@ -49,6 +49,7 @@ use Rattle.lc_language.specs.Value.{Value, number, field, numbers, lists, truth}
 use Rattle.lc_language.specs.Forms.{Form, form, one, kinds_of, bound}
 use Rattle.lc_language.specs.Refusal.{Refusal, refuse, when, first_of, from_codes, word_refusals, coset_refusal, no_form, not_attained, no_distribution}
 use Rattle.lc_language.specs.Meaning.{Made, MadeWith, IsGolay, IsExtendedGolay, IsBch, IsReedSolomon}
+use Rattle.lc_language.specs.QuadraticResidues.{InResidueCode, period, not_residue_length}
 use Rattle.lc_language.specs.Relations.{hamming_distance, IsSubcode, IsSameCode, IsSelfOrthogonal, IsSelfDual, IsCyclic, IsMessageOf, InUnion, InAugmented, add_refusals, scale_refusals, distance_refusals, message_refusals, augmented_refusals, not_codeword}
 
 pub data BoundCall : Type 0 where
@@ -62,6 +63,7 @@ pub data BoundCall : Type 0 where
   reed_muller_code : ℕ → ℕ → BoundCall
   generator_pol_code : List ℕ → ℕ → FieldName → BoundCall
   check_pol_code : List ℕ → ℕ → FieldName → BoundCall
+  qr_code : ℕ → FieldName → BoundCall
   binary_golay_code : BoundCall
   ternary_golay_code : BoundCall
   extended_binary_golay_code : BoundCall
@@ -124,6 +126,7 @@ value_name call.HammingCode = codes "HammingCode"
 value_name call.ReedMullerCode = codes "ReedMullerCode"
 value_name call.GeneratorPolCode = codes "GeneratorPolCode"
 value_name call.CheckPolCode = codes "CheckPolCode"
+value_name call.QrCode = codes "QRCode"
 value_name call.BinaryGolayCode = codes "BinaryGolayCode"
 value_name call.TernaryGolayCode = codes "TernaryGolayCode"
 value_name call.ExtendedBinaryGolayCode = codes "ExtendedBinaryGolayCode"
@@ -186,6 +189,7 @@ value_forms call.HammingCode = one (Number ∷ Field ∷ []) hamming_code
 value_forms call.ReedMullerCode = one (Number ∷ Number ∷ []) reed_muller_code
 value_forms call.GeneratorPolCode = one (Numbers ∷ Number ∷ Field ∷ []) generator_pol_code
 value_forms call.CheckPolCode = one (Numbers ∷ Number ∷ Field ∷ []) check_pol_code
+value_forms call.QrCode = one (Number ∷ Field ∷ []) qr_code
 value_forms call.BinaryGolayCode = one [] binary_golay_code
 value_forms call.TernaryGolayCode = one [] ternary_golay_code
 value_forms call.ExtendedBinaryGolayCode = one [] extended_binary_golay_code
@@ -249,6 +253,7 @@ refusals_of (hamming_code r f) = from_codes (hamming_refusals f r)
 refusals_of (reed_muller_code r m) = from_codes (reed_muller_refusals r m)
 refusals_of (generator_pol_code x n f) = from_codes (cyclic_refusals f x n true)
 refusals_of (check_pol_code x n f) = from_codes (cyclic_refusals f x n true)
+refusals_of (qr_code n f) = from_codes (length_refusals f n) ++ not_residue_length f n ∷ []
 refusals_of binary_golay_code = []
 refusals_of ternary_golay_code = []
 refusals_of extended_binary_golay_code = []
@@ -317,6 +322,7 @@ Gives (hamming_code r f) v = Made f (hamming_length (size f) r) (CheckedBy f (ha
 Gives (reed_muller_code r m) v = Made Gf2 (2 ^ m) (GeneratedBy Gf2 (2 ^ m) (reed_muller_rows r m)) v
 Gives (generator_pol_code x n f) v = Made f n (IsMultipleOf f n (trimmed x)) v
 Gives (check_pol_code x n f) v = Made f n (IsCheckedBy f n (trimmed x)) v
+Gives (qr_code n f) v = Made f n (InResidueCode f n (period f n)) v
 Gives binary_golay_code v = IsGolay Gf2 23 binary_golay_generator v
 Gives ternary_golay_code v = IsGolay Gf3 11 ternary_golay_generator v
 Gives extended_binary_golay_code v = IsExtendedGolay Gf2 23 binary_golay_generator v
@@ -366,7 +372,7 @@ IsNotDivisor _ = ⊥
 -- ---- the table
 
 unfoldable pub value_calls : List ValueCall
-value_calls = call.Gf ∷ call.GeneratorMatCode ∷ call.CheckMatCode ∷ call.RepetitionCode ∷ call.WholeSpaceCode ∷ call.NullCode ∷ call.HammingCode ∷ call.ReedMullerCode ∷ call.GeneratorPolCode ∷ call.CheckPolCode ∷ call.BinaryGolayCode ∷ call.TernaryGolayCode ∷ call.ExtendedBinaryGolayCode ∷ call.ExtendedTernaryGolayCode ∷ call.BchCode ∷ call.ReedSolomonCode ∷ call.GoppaCode ∷ call.AlternantCode ∷ call.DualCode ∷ call.ExtendedCode ∷ call.PuncturedCode ∷ call.ShortenedCode ∷ call.EvenWeightSubcode ∷ call.DirectSumCode ∷ call.UuvCode ∷ call.DirectProductCode ∷ call.IntersectionCode ∷ call.ConcatenatedCode ∷ call.Dimension ∷ call.WordLength ∷ call.GeneratorMat ∷ call.CheckMat ∷ call.Weight ∷ call.IsCodeword ∷ call.Decode ∷ call.Syndrome ∷ call.IsSubcode ∷ call.IsSameCode ∷ call.IsSelfOrthogonalCode ∷ call.IsSelfDualCode ∷ call.IsCyclicCode ∷ call.AddWords ∷ call.ScaleWord ∷ call.DistanceCodeword ∷ call.Encode ∷ call.InformationWord ∷ call.UnionCode ∷ call.AugmentedCode ∷ []
+value_calls = call.Gf ∷ call.GeneratorMatCode ∷ call.CheckMatCode ∷ call.RepetitionCode ∷ call.WholeSpaceCode ∷ call.NullCode ∷ call.HammingCode ∷ call.ReedMullerCode ∷ call.GeneratorPolCode ∷ call.CheckPolCode ∷ call.QrCode ∷ call.BinaryGolayCode ∷ call.TernaryGolayCode ∷ call.ExtendedBinaryGolayCode ∷ call.ExtendedTernaryGolayCode ∷ call.BchCode ∷ call.ReedSolomonCode ∷ call.GoppaCode ∷ call.AlternantCode ∷ call.DualCode ∷ call.ExtendedCode ∷ call.PuncturedCode ∷ call.ShortenedCode ∷ call.EvenWeightSubcode ∷ call.DirectSumCode ∷ call.UuvCode ∷ call.DirectProductCode ∷ call.IntersectionCode ∷ call.ConcatenatedCode ∷ call.Dimension ∷ call.WordLength ∷ call.GeneratorMat ∷ call.CheckMat ∷ call.Weight ∷ call.IsCodeword ∷ call.Decode ∷ call.Syndrome ∷ call.IsSubcode ∷ call.IsSameCode ∷ call.IsSelfOrthogonalCode ∷ call.IsSelfDualCode ∷ call.IsCyclicCode ∷ call.AddWords ∷ call.ScaleWord ∷ call.DistanceCodeword ∷ call.Encode ∷ call.InformationWord ∷ call.UnionCode ∷ call.AugmentedCode ∷ []
 
 unfoldable pub query_calls : List QueryCall
 query_calls = query.AlgebraicDecode ∷ query.LeastWord ∷ query.MinimumDistance ∷ query.Certificate ∷ query.ScanCertificate ∷ query.WeightDistribution ∷ query.AlternantCertificate ∷ query.NearestWord ∷ []

@@ -3,6 +3,7 @@ pub mod Evaluation
 pub mod Forms
 pub mod Meaning
 pub mod Print
+pub mod QuadraticResidues
 pub mod Query
 pub mod Refusal
 pub mod Relations

@@ -30,6 +30,7 @@ pub enum ValueCall {
     ReedMullerCode,
     GeneratorPolCode,
     CheckPolCode,
+    QrCode,
     BinaryGolayCode,
     TernaryGolayCode,
     ExtendedBinaryGolayCode,

@@ -2,7 +2,9 @@
 --   orthogonal_by_rows, not_orthogonal      a code lies in its dual exactly if every two rows, of which the second may be the first,
 --                              have dot 0
 --   dual_by_rows               a code is its dual exactly if both have the same reduced generator matrix
+--   length_up              moving the symbols on keeps the length
 --   shift_word, shift_linear               the cyclic shift of a sum is the sum of the shifts, and that of a multiple the multiple
+--   mapped                 what holds of the images of some words holds of each entry of the list of images
 --   cyclic_by_rows             a code is cyclic exactly if the shift of each row is in it
 --   turned                     the shift is the word turned by one coordinate
 use Rattle.std.proofs.Common.{◌≡◌, ℕ, zero, suc, ◌-◌, ◌<◌, ◌≤◌, ◌↔◌, Bool, IsTrue, true, false, List, [], ◌∷◌, ◌++◌, length, map, take, drop, slice_index_or, All, refl, sym, ap, ap₂, subst, ◌∙◌, ⊎_elim, arith, true≢false}
@@ -74,7 +76,7 @@ dual_by_rows C H b r p d h =
 
 -- ---- cyclic codes
 
-length_up : (c : ℕ) (w : List ℕ) → length (up c w) ≡ length w
+pub length_up : (c : ℕ) (w : List ℕ) → length (up c w) ≡ length w
 unfolding up
 length_up c [] = refl
 length_up c (a ∷ w) = ap suc (length_up a w)
@@ -153,7 +155,7 @@ shift_linear f n = record {
   multiples = λ c u a. shift_scale f c u;
 }
 
-mapped : (h : List ℕ → List ℕ) (P : List ℕ → Type 0) (rows : List (List ℕ)) → All (λ row. P (h row)) rows → All P (map h rows)
+pub mapped : (h : List ℕ → List ℕ) (P : List ℕ → Type 0) (rows : List (List ℕ)) → All (λ row. P (h row)) rows → All P (map h rows)
 mapped h P [] k = λ i d l. absurd (omega (arith, l))
 mapped h P (row ∷ rows) k = All-cons P (h row) (map h rows) (All-head (λ row. P (h row)) row rows k) (mapped h P rows (All-tail (λ row. P (h row)) row rows k))
 

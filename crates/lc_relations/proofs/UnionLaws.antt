@@ -1,6 +1,8 @@
 -- The dual and the dimension of a sum of codes.
 --   in_union_left, in_union_right      the words of both codes are in the sum
 --   union_dual           the dual of the sum is the intersection of the duals
+--   behind               the words of the last rows of a list are words of the list
+--   second_of            of a sum, the second word is it less the first
 --   extended             rows of one code that are independent of another one and of a part of it, and make up for it
 --   union_dimension      the dimensions of the sum and of the intersection add up to those of the codes
 --   augmented_union      a code with further rows is its sum with the code of these rows
@@ -82,7 +84,7 @@ union_dual C D U H K E x y r s c d e k =
 
 -- ---- the dimension
 
-behind : (f : FieldName) (n : ℕ) (rows others : List (List ℕ)) (w : List ℕ) → AreRows f n rows → AreRows f n others → InSpan f n others w → InSpan f n (rows ++ others) w
+pub behind : (f : FieldName) (n : ℕ) (rows others : List (List ℕ)) (w : List ℕ) → AreRows f n rows → AreRows f n others → InSpan f n others w → InSpan f n (rows ++ others) w
 behind f n [] others w r s i = i
 behind f n (g ∷ rows) others w r s i =
     let t = All-tail (IsWord f n) g rows r in
@@ -137,7 +139,7 @@ extended f n base part (g ∷ rows) b p r h k into =
     (span_decided f n (t.added ++ base) g)
 
 -- of a sum, the second word is it less the first
-second_of : (f : FieldName) (n : ℕ) (a b : List ℕ) → IsWord f n a → IsWord f n b → word_sum f (word_sum f a b) (scale f (neg f 1) a) ≡ b
+pub second_of : (f : FieldName) (n : ℕ) (a b : List ℕ) → IsWord f n a → IsWord f n b → word_sum f (word_sum f a b) (scale f (neg f 1) a) ≡ b
 second_of f n a b p q =
     ap (λ u. word_sum f u (scale f (neg f 1) a)) (sum_comm f a b ∙ ap (word_sum f b) (sym (one_scale f a p.fits))) ∙ multiple_undone f n 1 b a q p.long
 

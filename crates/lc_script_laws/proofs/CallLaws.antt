@@ -9,7 +9,7 @@
 --   IsDeterminate c          whatever its arguments, the call gives one value, or does one thing
 --   built_one                the calls that are built are such
 --   bind_shaped, bind_query_shaped       shaped arguments bind a call, and a query, of which this holds
-use Rattle.std.proofs.Common.{◌≡◌, ◌≤◌, ◌+◌, ◌*◌, ◌%◌, ◌^◌, ℕ, Bool, true, List, [], ◌∷◌, length, Option, None, Some, refl, sym, ap, ◌∙◌, arith}
+use Rattle.std.proofs.Common.{◌≡◌, ◌≤◌, ◌+◌, ◌*◌, ◌%◌, ◌^◌, ℕ, Bool, true, List, [], ◌∷◌, ◌++◌, length, Option, None, Some, refl, sym, ap, ◌∙◌, arith}
 use Rattle.std.specs.Prelude.{IsTrue}
 use Rattle.std.specs.List.{AllByRecursion}
 use Rattle.lc_algebra.specs.declared.FieldName.{FieldName}
@@ -23,7 +23,8 @@ use Rattle.lc_constructions.specs.Coset.{syndrome}
 use Rattle.lc_constructions.specs.Nearest.{IsNearest}
 use Rattle.lc_constructions.specs.Refusals.{columns_of, matrix_refusals, length_refusals, hamming_refusals, reed_muller_refusals, cyclic_refusals, bch_refusals, goppa_refusals, form_refusals, alternant_refusals, extended_refusals, direct_sum_refusals, uuv_refusals, direct_product_refusals, degree_over, nested_refusals, concatenated_refusals}
 use Rattle.lc_constructions.specs.Basic.{hamming_length}
-use Rattle.lc_language.specs.Refusal.{first_of, from_codes}
+use Rattle.lc_language.specs.Refusal.{Refusal, first_of, from_codes}
+use Rattle.lc_language.specs.QuadraticResidues.{not_residue_length}
 use Rattle.lc_language.specs.declared.Call.{Call}
 use Rattle.lc_language.specs.declared.Call.TheVariants.{Value as Value_, Query}
 use Rattle.lc_language.specs.declared.ValueCall.{ValueCall}
@@ -56,6 +57,7 @@ gives_one (bound.hamming_code r f) e = made_one _ _ _ _
 gives_one (bound.reed_muller_code r m) e = made_one _ _ _ _
 gives_one (bound.generator_pol_code x n f) r = made_one _ _ _ _
 gives_one (bound.check_pol_code x n f) r = made_one _ _ _ _
+gives_one (bound.qr_code n f) r = made_one _ _ _ _
 gives_one bound.binary_golay_code r = made_one _ _ _ _
 gives_one bound.ternary_golay_code r = made_one _ _ _ _
 gives_one bound.extended_binary_golay_code r = extended_golay_one _ _ _
@@ -115,6 +117,15 @@ matrix_allowed f rows e = let h = none_refuses _ e in allowed f (columns_of rows
 length_allowed : (f : FieldName) (n : ℕ) → first_of (from_codes (length_refusals f n)) ≡ None → IsAllowed f n
 unfolding length_refusals
 length_allowed f n e = let h = none_refuses _ e in allowed f n h.0 h.1.0
+
+first_before : (xs ys : List (Option Refusal)) → first_of (xs ++ ys) ≡ None → first_of xs ≡ None
+unfolding first_of
+first_before [] ys e = refl
+first_before (None ∷ xs) ys e = first_before xs ys e
+first_before (Some r ∷ xs) ys e = e
+
+residue_allowed : (f : FieldName) (n : ℕ) → first_of (from_codes (length_refusals f n) ++ not_residue_length f n ∷ []) ≡ None → IsAllowed f n
+residue_allowed f n e = length_allowed f n (first_before (from_codes (length_refusals f n)) _ e)
 
 cyclic_allowed : (f : FieldName) (x : List ℕ) (n : ℕ) → first_of (from_codes (cyclic_refusals f x n true)) ≡ None → IsAllowed f n
 unfolding cyclic_refusals
@@ -185,6 +196,7 @@ calls_shaped call.HammingCode = (λ r f v e g. made_shaped _ _ _ v (hamming_allo
 calls_shaped call.ReedMullerCode = (λ r m v e g. made_shaped Gf2 _ _ v (reed_muller_short r m e, binary) g, tt)
 calls_shaped call.GeneratorPolCode = (λ x n f v e g. made_shaped _ _ _ v (cyclic_allowed f x n e) g, tt)
 calls_shaped call.CheckPolCode = (λ x n f v e g. made_shaped _ _ _ v (cyclic_allowed f x n e) g, tt)
+calls_shaped call.QrCode = (λ n f v e g. made_shaped _ _ _ v (residue_allowed f n e) g, tt)
 calls_shaped call.BinaryGolayCode = (λ v e g. made_shaped Gf2 _ _ v (omega arith, binary) g, tt)
 calls_shaped call.TernaryGolayCode = (λ v e g. made_shaped Gf3 _ _ v (omega arith, ternary) g, tt)
 calls_shaped call.ExtendedBinaryGolayCode = (λ v e g. made_shaped Gf2 _ _ v (omega arith, binary) g.2, tt)

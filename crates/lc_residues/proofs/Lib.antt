@@ -1,0 +1,15 @@
+pub mod ResidueTests
+pub mod PeriodLaws
+pub mod CodeLaws
+pub mod PickLaws
+pub mod ModLaws
+pub mod ShiftLaws
+pub mod CharacterLaws
+pub mod MultiplierLaws
+pub mod KeptLaws
+pub mod PrimeFieldLaws
+pub mod CountLaws
+pub mod DualLaws
+pub mod OrthogonalLaws
+pub mod DimensionLaws
+pub mod ResidueExamples

@@ -1,0 +1,12 @@
+use Rattle.lc_residues.proofs.PeriodLaws.{least_period}
+use Rattle.lc_residues.proofs.PrimeFieldLaws.{periods_apart}
+use Rattle.lc_residues.proofs.DimensionLaws.{residue_dimension, is_quadratic_residue}
+use Rattle.lc_residues.proofs.laws.quadratic_residue_codes.Goals as goal
+
+pub returns : goal.returns
+returns c = record {
+  least = least_period c.args.field;
+  other = periods_apart c.args.field;
+  dimension = residue_dimension c.args.field;
+  code = is_quadratic_residue c.args.field;
+}
