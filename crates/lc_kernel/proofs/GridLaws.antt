@@ -44,7 +44,7 @@ use Rattle.lc_kernel.specs.Grids.{AreGridParts, IsGridPart}
 use Rattle.lc_kernel.proofs.SupportLaws.{same_pair}
 use Rattle.lc_kernel.proofs.TableLaws.{all_pushed, part_cut, cut_inside}
 use Rattle.lc_kernel.proofs.FrontLaws.{entries_are, generates, front_next, front_same, front_word_is, front_word_fits, front_whole}
-use Rattle.lc_planes.proofs.ApartLaws.{ones_apart, restrict_fits}
+use Rattle.lc_planes.proofs.ApartLaws.{restrict_fits, tail_ones}
 use Rattle.lc_kernel.proofs.RunLaws.{support_parts, first_of_pair, second_of_pair}
 use Rattle.lc_kernel.proofs.ScanLaws.{block_word}
 

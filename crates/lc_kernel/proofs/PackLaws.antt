@@ -47,6 +47,7 @@ use Rattle.lc_vec.specs.Packed.{packed}
 use Rattle.lc_vec.proofs.PackLaws.{packed_sum, packed_ones, packed_small, packed_nil, packed_drop, zero_packed}
 use Rattle.lc_kernel.specs.Packed.{outside, others, bits_at, AreRowBits}
 use Rattle.lc_planes.specs.Planes.{part_at}
+use Rattle.lc_planes.proofs.ApartLaws.{restrict_fits}
 
 count_split : {X : Type 0} (h p : X → Bool) (xs : List X) → count_by h xs ≡ count_by h (filter p xs) + count_by h (filter (λ x. not (p x)) xs)
 count_split h p [] = refl
