@@ -6,7 +6,7 @@
 --   tails_more, grid_parts_pushed      tails and parts with one more
 --   cut_in_words                 some columns are inside the tails
 --   tail_run_room, counted_joined, run_joined      what a run reads and writes
-use Rattle.std.proofs.Common.{◌≡◌, ℕ, zero, suc, ◌+◌, ◌-◌, ◌*◌, ◌/◌, ◌%◌, ◌^◌, ◌<◌, ◌≤◌, List, [], ◌∷◌, ◌++◌, min, length, take, drop, map, Some, None, count_ones, slice_get, slice_index, slice_index_or, Contains, refl, sym, ap, subst, ◌∙◌, ⊎_elim, arith, mod-lt, length-append}
+use Rattle.std.proofs.Common.{◌≡◌, ℕ, zero, suc, ◌+◌, ◌-◌, ◌*◌, ◌/◌, ◌%◌, ◌^◌, ◌<◌, ◌≤◌, List, [], ◌∷◌, ◌++◌, min, length, take, drop, Some, None, count_ones, slice_get, slice_index, slice_index_or, Contains, refl, sym, ap, subst, ◌∙◌, ⊎_elim, arith, mod-lt, length-append}
 use Rattle.std.specs.Option.{option_map}
 use Rattle.std.proofs.lemmas.Bool.{cases_lt}
 use Rattle.std.proofs.lemmas.Bool.Decides.{nat_tests}
@@ -17,14 +17,11 @@ use Rattle.std.proofs.lemmas.Nat.{div-mul-add, mod-mul-add, div_below, div-add-m
 use Rattle.std.proofs.lemmas.Option.{get_or_from_slice_get, slice_get_within}
 use Rattle.std.proofs.Math.ListN.{get_or-append}
 use Rattle.std.proofs.Math.Seq.{take-append_seam, get_or-append_seam}
-use Rattle.lc_algebra.specs.declared.FieldName.{FieldName}
-use Rattle.lc_algebra.specs.Field.{size, neg}
+use Rattle.lc_algebra.specs.Field.{size}
 use Rattle.lc_algebra.specs.Word.{IsWord, word_sum, scale, weight}
 use Rattle.lc_algebra.specs.Matrix.{Matrix}
 use Rattle.lc_algebra.specs.SpanLaws.{restrict}
 use Rattle.lc_algebra.proofs.WordLaws.{sum_assoc, IsWord_sum, IsWord_scale}
-use Rattle.lc_algebra.proofs.FieldLaws.{neg_one_mul}
-use Rattle.lc_algebra.proofs.ColumnLaws.{restrict_sum, restrict_scale, length_restrict}
 use Rattle.lc_algebra.proofs.FieldLaws.{one_inside}
 use Rattle.lc_enumeration.specs.Message.{messages, supports_from}
 use Rattle.lc_enumeration.specs.Plan.{phase_level, blocks_before, IsInPhase}
@@ -44,7 +41,7 @@ use Rattle.lc_kernel.specs.Grids.{AreGridParts, IsGridPart}
 use Rattle.lc_kernel.proofs.SupportLaws.{same_pair}
 use Rattle.lc_kernel.proofs.TableLaws.{all_pushed, part_cut, cut_inside}
 use Rattle.lc_kernel.proofs.FrontLaws.{entries_are, generates, front_next, front_same, front_word_is, front_word_fits, front_whole}
-use Rattle.lc_planes.proofs.ApartLaws.{ones_apart, restrict_fits}
+use Rattle.lc_planes.proofs.ApartLaws.{tail_ones}
 use Rattle.lc_kernel.proofs.RunLaws.{support_parts, first_of_pair, second_of_pair}
 use Rattle.lc_kernel.proofs.ScanLaws.{block_word}
 

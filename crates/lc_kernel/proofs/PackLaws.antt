@@ -6,12 +6,11 @@
 --   outside_inside, others_few      the columns outside a set are columns
 --   pack_none, pack_step, pack_room      the bits of a word, from its last column on
 --   bits_none, bits_more         the bits of the word of an entry more
-use Rattle.std.proofs.Common.{◌≡◌, ℕ, suc, ◌+◌, ◌-◌, ◌*◌, ◌^◌, ◌<◌, ◌≤◌, Bool, not, cond, if◌then◌else◌, List, [], ◌∷◌, length, take, drop, ◌++◌, filter, bit_xor, count_ones, count_by, slice_index, slice_index_or, Contains, refl, sym, ap, ◌∙◌, ⊎_elim, arith}
+use Rattle.std.proofs.Common.{◌≡◌, ℕ, suc, ◌+◌, ◌-◌, ◌*◌, ◌^◌, ◌<◌, ◌≤◌, Bool, not, if◌then◌else◌, List, [], ◌∷◌, length, drop, filter, bit_xor, count_ones, count_by, slice_index, slice_index_or, Contains, refl, sym, ap, ◌∙◌, ⊎_elim, arith}
 use Rattle.std.proofs.Math.Nat.{pow-le-pow_right}
-use Rattle.std.proofs.Math.Seq.{take-add}
 use Rattle.std.proofs.lemmas.Bool.{cases_Bool, eq-eqb, ne_eqb}
-use Rattle.std.proofs.lemmas.List.{get_or_default, ext_get_or, drop_all, take_all, length-drop, get_or-drop}
-use Rattle.std.proofs.lemmas.List.Sums.{sum_by-append, length-filter, count_by-le-length}
+use Rattle.std.proofs.lemmas.List.{get_or_default, ext_get_or, drop_all, length-drop, get_or-drop}
+use Rattle.std.proofs.lemmas.List.Sums.{length-filter, count_by-le-length}
 use Rattle.lc_algebra.specs.declared.FieldName.{FieldName}
 use Rattle.lc_algebra.specs.declared.FieldName.TheVariants.{Gf2}
 use Rattle.lc_algebra.specs.Field.{size}
@@ -46,7 +45,7 @@ use Rattle.lc_kernel.proofs.FrontLaws.{entries_are, generates, front_first, fron
 use Rattle.lc_vec.specs.Packed.{packed}
 use Rattle.lc_vec.proofs.PackLaws.{packed_sum, packed_ones, packed_small, packed_nil, packed_drop, zero_packed}
 use Rattle.lc_kernel.specs.Packed.{outside, others, bits_at, AreRowBits}
-use Rattle.lc_planes.specs.Planes.{part_at}
+use Rattle.lc_planes.proofs.ApartLaws.{restrict_fits}
 
 count_split : {X : Type 0} (h p : X → Bool) (xs : List X) → count_by h xs ≡ count_by h (filter p xs) + count_by h (filter (λ x. not (p x)) xs)
 count_split h p [] = refl

@@ -2,29 +2,14 @@
 --   added_next                   counts with one more of them added to
 --   apart_two, apart_three, apart_four      where a word differs from one of some words, by two, three or four planes
 --   by_planes                    the number of symbols at which they differ, by all planes
-use Rattle.std.proofs.Common.{◌≡◌, ◌≢◌, ◌⊎◌, ℕ, zero, suc, ◌+◌, ◌-◌, ◌*◌, ◌%◌, ◌^◌, ◌<◌, ◌≤◌, not, cond, ◌==◌, List, [], ◌∷◌, length, take, drop, set, map, replicate, slice_index, bit_and, bit_or, bit_xor, count_ones, refl, sym, ap, ◌∙◌, inl, inr, ⊎_elim, arith, w8}
-use Rattle.std.specs.Int.{bit_at}
-use Rattle.std.proofs.lemmas.Bool.{cases_lt, cases_eq, ne_eqb}
-use Rattle.std.proofs.lemmas.Nat.{xor_block, or_block, ones_cat, pow_pos}
-use Rattle.std.proofs.lemmas.Nat.Bits.{bit_at-lt, bit_at-zero, bit_at_xor, and_pow, same_from_bits_below}
-use Rattle.std.proofs.lemmas.Simd.{bitmask_splat, zip2_splat, length-zip2, map-map}
+use Rattle.std.proofs.Common.{◌≡◌, ℕ, ◌+◌, ◌-◌, ◌*◌, ◌<◌, ◌≤◌, List, length, take, drop, set, slice_index, bit_or, bit_xor, count_ones, sym, ap, ◌∙◌, ⊎_elim, arith}
+use Rattle.std.proofs.lemmas.Bool.{cases_lt}
 use Rattle.std.specs.Int.Bits.{or_zero_r}
 use Rattle.std.proofs.lemmas.List.{get_or-take, get_or-drop, get_or-set_same, get_or-set_other}
 use lib.Count.{ones}
-use lib.Lanes.{zip2, mask_l, top}
-use mir.Val.{bits, hbits}
-use Rattle.lc_algebra.specs.declared.FieldName.{FieldName}
-use Rattle.lc_algebra.specs.Field.{size, add, neg, shape_of}
-use Rattle.lc_algebra.specs.Word.{Fits, word_sum, weight}
-use Rattle.lc_algebra.proofs.FieldLaws.{neg_inside, neg_add, neg_neg, subtract_zero}
-use Rattle.lc_algebra.proofs.WordLaws.{weight_cons, fits_head, fits_tail}
-use Rattle.lc_algebra.specs.SpanLaws.{restrict}
-use Rattle.lc_algebra.proofs.ColumnLaws.{length_restrict, index_restrict}
-use Rattle.lc_field.proofs.SumLaws.{xor_add}
-use Rattle.lc_vec.specs.Packed.{packed}
+use mir.Val.{bits}
 use Rattle.lc_kernel.specs.Planes.{bits_apart}
-use Rattle.lc_planes.specs.Planes.{plane, plane_at, apart}
-use Rattle.lc_planes.proofs.PlaneLaws.{plane_cons, two_bits, or_bits, XorBits, bits_of, ones_bit, plane_padded}
+use Rattle.lc_planes.specs.Planes.{apart}
 
 -- a word and words by their planes, one list of bits after another
 read_cut : (bits : List ℕ) (first n i : ℕ) → i < n → slice_index (take (first + n - first) (drop first bits)) i ≡ slice_index bits (first + i)

@@ -6,11 +6,10 @@
 --   cut_put, planes_put, over_put      another word written over the one there
 --   over_pushed, symbols_pushed      a word more
 --   same_symbols                 words as planes with the symbols of some words
-use Rattle.std.proofs.Common.{◌≡◌, ℕ, zero, suc, ◌+◌, ◌<◌, ◌≤◌, List, [], ◌∷◌, ◌++◌, set, length, map, slice_index_or, refl, sym, ap, subst, ◌∙◌, ⊎_elim, arith}
-use Rattle.std.specs.List.{All}
+use Rattle.std.proofs.Common.{◌≡◌, ℕ, ◌+◌, ◌<◌, List, [], ◌∷◌, ◌++◌, set, length, slice_index_or, refl, sym, ap, subst, ◌∙◌, ⊎_elim, arith}
 use Rattle.std.proofs.Math.ListN.{get_or-append}
 use Rattle.std.proofs.lemmas.Bool.{cases_lt}
-use Rattle.std.proofs.lemmas.List.{get_or_default, get_or-append-add, get_or-map, get_or_push, ext_get_or, length-map, map-append, map-set}
+use Rattle.std.proofs.lemmas.List.{get_or-append-add, get_or-map, get_or_push, ext_get_or, length-map, map-append, map-set}
 use Rattle.std.proofs.lemmas.List.Elements.{All-get_or, All-set, All-append}
 use Rattle.lc_algebra.specs.Matrix.{Matrix}
 use Rattle.lc_planes.specs.Planes.{PlanesState}

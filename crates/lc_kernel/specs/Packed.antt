@@ -11,7 +11,7 @@
 --   IsPart C j t cols rows sums    the rows of set j over 2 elements at some columns, and the sums of t of them
 --   head_of t s, tail_of t s       the support of a message but its last t places, and these
 --   pair_of s               its last two places
-use Rattle.std.specs.Prelude.{◌≡◌, ℕ, ◌+◌, ◌-◌, ◌*◌, ◌<◌, ◌≤◌, not, List, [], ◌∷◌, length, take, drop, Some, filter, bit_xor, slice_get, slice_index, slice_index_or}
+use Rattle.std.specs.Prelude.{◌≡◌, ℕ, ◌+◌, ◌-◌, ◌<◌, ◌≤◌, not, List, [], ◌∷◌, length, take, drop, Some, filter, bit_xor, slice_get, slice_index, slice_index_or}
 use Rattle.lc_algebra.specs.declared.FieldName.TheVariants.{Gf2}
 use Rattle.lc_algebra.specs.Span.{below}
 use Rattle.lc_algebra.specs.Matrix.{Matrix}

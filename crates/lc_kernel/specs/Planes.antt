@@ -11,7 +11,6 @@ use Rattle.std.specs.Prelude.{◌≡◌, ℕ, zero, suc, ◌+◌, ◌*◌, ◌^�
 use Rattle.lc_algebra.specs.declared.FieldName.{FieldName}
 use Rattle.lc_algebra.specs.Field.{size}
 use Rattle.lc_algebra.specs.Word.{Fits, word_sum}
-use Rattle.lc_algebra.specs.SpanLaws.{restrict}
 use Rattle.lc_planes.specs.Planes.{plane}
 
 abbrev pub bits_apart : ℕ → List ℕ → List ℕ → ℕ → ℕ → ℕ

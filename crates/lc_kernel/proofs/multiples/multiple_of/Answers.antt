@@ -1,9 +1,3 @@
-use Rattle.std.proofs.Common.{◌≡◌, ◌+◌, ◌-◌, ◌<◌, [], length, slice_index_or, ap, ◌∙◌, arith}
-use Rattle.std.proofs.lemmas.List.{get_or_default}
-use Rattle.lc_algebra.specs.Field.{size}
-use Rattle.lc_algebra.specs.Word.{scale}
-use Rattle.lc_enumeration.specs.Search.{generator_at}
-use Rattle.lc_kernel.specs.Sums.{multiple_index}
 use Rattle.lc_kernel.proofs.MultipleLaws.{multiple_inside, multiple_read, multiple_word}
 use Rattle.lc_kernel.proofs.multiples.multiple_of.Goals as goal
 

@@ -1,4 +1,4 @@
-use Rattle.std.proofs.Common.{◌≤◌, ◌<◌, ◌/◌, ◌%◌, sym, ap, ◌∙◌, Some, arith}
+use Rattle.std.proofs.Common.{◌≤◌, ◌/◌, ◌%◌, sym, ap, ◌∙◌, Some, arith}
 use Rattle.lc_enumeration.specs.Plan.{total, block_length}
 use Rattle.lc_kernel.proofs.ScanLaws.{past_plan, past_block, at_word, word_there}
 use Rattle.lc_kernel.proofs.place.word_at.Goals as goal

@@ -1,6 +1,6 @@
 use Rattle.std.proofs.Common.{◌+◌, ◌<◌, set, length, refl, sym, ap, ◌∙◌, arith}
 use Rattle.lc_kernel.specs.PlaneSums.{symbols_in}
-use Rattle.lc_kernel.proofs.PlaneSumLaws.{IsOver, symbols_long, before_cut, after_cut, cut_put, planes_put, over_put}
+use Rattle.lc_kernel.proofs.PlaneSumLaws.{before_cut, after_cut, cut_put, planes_put, over_put}
 use Rattle.lc_kernel.proofs.sums.extend_planes.Goals as goal
 
 pub put_added-requires-clause-to : goal.put_added-requires-clause-to

@@ -1,4 +1,4 @@
-use Rattle.std.proofs.Common.{◌<◌, length, sym, arith}
+use Rattle.std.proofs.Common.{◌<◌, length, arith}
 use Rattle.lc_kernel.specs.PlaneSums.{symbols_in}
 use Rattle.lc_kernel.proofs.MultipleLaws.{multiple_inside, multiple_read, multiple_word}
 use Rattle.lc_kernel.proofs.PlaneSumLaws.{symbols_long, read_at, over_at}

@@ -1,5 +1,4 @@
 use Rattle.std.proofs.Common.{◌≡◌, length, arith}
-use Rattle.lc_kernel.specs.PlaneSums.{symbols_in}
 use Rattle.lc_kernel.proofs.PlaneSumLaws.{same_symbols}
 use Rattle.lc_kernel.proofs.sums.planes_of.Goals as goal
 

@@ -1,4 +1,4 @@
-use Rattle.std.proofs.Common.{◌+◌, ◌*◌, ap, ◌∙◌, arith}
+use Rattle.std.proofs.Common.{arith}
 use Rattle.lc_kernel.proofs.RowLaws.{row_before}
 use Rattle.lc_kernel.proofs.sweeps.place_before.Goals as goal
 

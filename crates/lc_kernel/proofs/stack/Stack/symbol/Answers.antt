@@ -1,7 +1,5 @@
-use Rattle.std.proofs.Common.{◌≡◌, ◌<◌, ◌≤◌, [], length, slice_index, slice_index_or, ap, sym, ◌∙◌, arith}
-use Rattle.lc_algebra.specs.Word.{weight}
-use Rattle.lc_algebra.specs.Matrix.{Matrix}
-use Rattle.lc_kernel.specs.Kernel.{StackState, top_sum}
+use Rattle.std.proofs.Common.{◌<◌, ◌≤◌, [], length, slice_index, slice_index_or, ap, sym, ◌∙◌, arith}
+use Rattle.lc_kernel.specs.Kernel.{StackState}
 use Rattle.lc_kernel.specs.PlaneSums.{words_of}
 use Rattle.lc_kernel.proofs.SumLaws.{last_sum}
 use Rattle.lc_kernel.proofs.stack.Stack.symbol.Goals as goal
