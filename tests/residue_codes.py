@@ -4,7 +4,8 @@
 
 For each odd prime up to 255 and each size of a field of codes that is a square modulo it there are two polynomials, and their product
 times x - 1 is x^n - 1; PROGRAM takes each call with n up to 127 over up to four elements, and says that its code has dimension
-(n + 1)/2. The distances of some are those of MacWilliams and Sloane, chapter 16. Prints what fails, and ends with 1 if something does.
+(n + 1)/2, and that `QRCode` gives one of the two. The distances of some are those of MacWilliams and Sloane, chapter 16. Prints what
+fails, and ends with 1 if something does.
 """
 import subprocess
 import sys
@@ -56,6 +57,12 @@ def main():
     for (n, q, call), line in zip(calls, answers(program, "".join(f"{call};" for _, _, call in calls))):
         if line != f"code [{n},{(n + 1) // 2}] GF({q})":
             failed.append(f"{call}: {line}")
+    pairs = [(n, q, residue_code.residue_codes(n, q)) for n, q in some]
+    asked = "".join(f"IsSameCode(QRCode({n},GF({q})),{call});" for n, q, both in pairs for call in both)
+    said = iter(answers(program, asked))
+    for n, q, _ in pairs:
+        if {next(said, ""), next(said, "")} != {"true", "false"}:
+            failed.append(f"QRCode({n},GF({q})) is not one of the two codes")
     told = [(n, q, call, d) for (n, q), d in DISTANCES.items() for call in residue_code.residue_codes(n, q)]
     for (n, q, call, d), line in zip(told, answers(program, "".join(f"MinimumDistance({call});" for _, _, call, _ in told))):
         if not line.startswith(f"distance {d} "):

@@ -23,6 +23,8 @@ mod planes;
 #[cfg(test)]
 mod polynomials;
 #[cfg(test)]
+mod quadratic_residues;
+#[cfg(test)]
 mod relations;
 #[cfg(test)]
 mod shapes;

@@ -6,6 +6,7 @@
 --   multiplied_back        words multiplied by a number and by its inverse are the same
 --   residue_dimension      the dimension is (n + 1) / 2
 --   is_quadratic_residue   the code of the least period is a quadratic residue code
+--   common_constant        the words that both codes have are the words of equal symbols
 use Rattle.std.proofs.Common.{◌≡◌, ◌≢◌, ℕ, zero, suc, ◌+◌, ◌-◌, ◌*◌, ◌/◌, ◌%◌, ◌<◌, ◌≤◌, ◌==◌, ◌&&◌, ◌||◌, not, Bool, true, false, if◌then◌else◌, List, [], ◌∷◌, ◌++◌, length, map, replicate, slice_index, slice_index_or, All, IsTrue, refl, sym, ap, ap₂, subst, ◌∙◌, ⊎_elim, arith, true≢false}
 use Rattle.std.proofs.Math.Nat.{mod-lt, mod-eq_of_lt, mul_comm, mul-zero, zero-mod, add-mod_right, mod_self, mul-div_cancel}
 use Rattle.std.proofs.lemmas.Nat.{mul-mod_second}
@@ -26,7 +27,8 @@ use Rattle.lc_algebra.proofs.DimensionLaws.{dimension_unique, independent_at_mos
 use Rattle.lc_basic.proofs.FamilyLaws.{one_row, no_rows, index_ones, ones_constant}
 use Rattle.lc_code.proofs.CoordinateLaws.{told_all}
 use Rattle.lc_combine.proofs.GeneratedLaws.{span_parted, rows_append, image_span, span_image}
-use Rattle.lc_constructions.specs.Code.{IsCode}
+use Rattle.lc_constructions.specs.Code.{InCode, IsCode}
+use Rattle.lc_constructions.specs.Basic.{IsConstant}
 use Rattle.lc_constructions.proofs.ClosedLaws.{span_of_both}
 use Rattle.lc_enumeration.specs.InformationSet.{unit_word}
 use Rattle.lc_enumeration.proofs.GreedyLaws.{length_unit, index_unit}
@@ -38,7 +40,7 @@ use Rattle.lc_residues.specs.Periods.{other_period}
 use Rattle.lc_residues.proofs.ResidueTests.{prime_parts, residue_from}
 use Rattle.lc_residues.proofs.CodeLaws.{residue_word_is, residue_words}
 use Rattle.lc_residues.proofs.PeriodLaws.{least_period}
-use Rattle.lc_residues.proofs.KeptLaws.{residue_cyclic, residue_kept, residue_ones}
+use Rattle.lc_residues.proofs.KeptLaws.{words_of, residue_cyclic, residue_kept, residue_ones}
 use Rattle.lc_residues.proofs.PickLaws.{same_picks, index_shift, length_shift, index_multiplied, length_multiplied, multiplied_linear, span_kept, shifts_linear}
 use Rattle.lc_residues.proofs.ShiftLaws.{ones_in, shift_in}
 use Rattle.lc_residues.proofs.CharacterLaws.{square_below, residue_by_squares, inverse_there, inverse_times, other_times}
@@ -349,3 +351,13 @@ is_quadratic_residue f n C y l a c =
       ones = residue_ones f n t C c;
       dimension = residue_dimension f n t C y l a m e c;
     }
+
+pub common_constant : (f : FieldName) (n t : ℕ) (C D : Matrix) (w : List ℕ) → IsTrue (is_symbol f) → n ≤ 255 → IsTrue (is_residue_length (size f) n) → t < size f → IsTrue (is_period f n t) → IsCode f n (InResidueCode f n t) C → IsCode f n (InResidueCode f n (other_period f t)) D → InCode C w → InCode D w → IsConstant w
+unfolding is_residue_length
+common_constant f n t C D w y l a m e c d i k =
+    let (h, q) = and_parts (is_odd_prime n) (is_residue n (size f)) a in
+    let (r, z) = periods_apart f n t y l a m e in
+    let first = (words_of f n t C w c).0 i in
+    let second = (words_of f n (other_period f t) D w d).0 k in
+    let long = (span_word f n (residue_rows f n t) w (residue_words f n t) first).long in
+    λ x j u v. symbols_equal f n t x w l h m e r z (omega (arith, u, long)) first second ∙ sym (symbols_equal f n t j w l h m e r z (omega (arith, v, long)) first second)

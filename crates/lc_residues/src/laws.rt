@@ -3,6 +3,7 @@ ghost use Rattle.std.specs.Prelude.{◌≡◌, ◌≢◌, ℕ, ◌+◌, ◌/◌,
 ghost use Rattle.lc_algebra.specs.Field.{size, is_symbol};
 ghost use Rattle.lc_algebra.specs.Matrix.{Matrix};
 ghost use Rattle.lc_constructions.specs.Code.{InCode, IsCode};
+ghost use Rattle.lc_constructions.specs.Basic.{IsConstant};
 ghost use Rattle.lc_language.specs.Relations.{IsCyclic};
 ghost use Rattle.lc_language.specs.QuadraticResidues.{is_odd_prime, is_residue, is_residue_length, is_period, period};
 ghost use Rattle.lc_language.specs.QuadraticResidues.{residue_word, InResidueCode, multiplied, IsQuadraticResidueCode};
@@ -28,9 +29,9 @@ pub fn residue_codes_have_their_symmetries(field: FieldName)
 {}
 
 /// The size of the field is a quadratic residue modulo n, an odd prime below 256. Then the least period is a period, and there is
-/// another one; the code of each period has dimension (n + 1) / 2; and the code of the least period is a quadratic residue code: it is
-/// cyclic, has the word of ones and this dimension, and the multiplication of the coordinates by a residue keeps it (MacWilliams and
-/// Sloane, chapter 16).
+/// another one; the code of each period has dimension (n + 1) / 2; a word of the codes of both has equal symbols; and the code of the
+/// least period is a quadratic residue code: it is cyclic, has the word of ones and this dimension, and the multiplication of the
+/// coordinates by a residue keeps it (MacWilliams and Sloane, chapter 16).
 pub fn quadratic_residue_codes(field: FieldName)
     ensures least { (n : ℕ) → IsTrue (is_symbol field) → n ≤ 255 → IsTrue (is_residue_length (size field) n) →
         (period field n < size field) × IsTrue (is_period field n (period field n)) }
@@ -40,6 +41,10 @@ pub fn quadratic_residue_codes(field: FieldName)
     ensures dimension { (n t : ℕ) (C : Matrix) → IsTrue (is_symbol field) → n ≤ 255 →
         IsTrue (is_residue_length (size field) n) → t < size field → IsTrue (is_period field n t) →
         IsCode field n (InResidueCode field n t) C → length C.rows ≡ (n + 1) / 2 }
+    ensures common { (n t : ℕ) (C D : Matrix) (w : List ℕ) → IsTrue (is_symbol field) → n ≤ 255 →
+        IsTrue (is_residue_length (size field) n) → t < size field → IsTrue (is_period field n t) →
+        IsCode field n (InResidueCode field n t) C →
+        IsCode field n (InResidueCode field n (other_period field t)) D → InCode C w → InCode D w → IsConstant w }
     ensures code { (n : ℕ) (C : Matrix) → IsTrue (is_symbol field) → n ≤ 255 →
         IsTrue (is_residue_length (size field) n) → IsCode field n (InResidueCode field n (period field n)) C →
         IsQuadraticResidueCode field n C }

@@ -1,6 +1,6 @@
 use Rattle.lc_residues.proofs.PeriodLaws.{least_period}
 use Rattle.lc_residues.proofs.PrimeFieldLaws.{periods_apart}
-use Rattle.lc_residues.proofs.DimensionLaws.{residue_dimension, is_quadratic_residue}
+use Rattle.lc_residues.proofs.DimensionLaws.{residue_dimension, common_constant, is_quadratic_residue}
 use Rattle.lc_residues.proofs.laws.quadratic_residue_codes.Goals as goal
 
 pub returns : goal.returns
@@ -8,5 +8,6 @@ returns c = record {
   least = least_period c.args.field;
   other = periods_apart c.args.field;
   dimension = residue_dimension c.args.field;
+  common = common_constant c.args.field;
   code = is_quadratic_residue c.args.field;
 }
