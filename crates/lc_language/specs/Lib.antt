@@ -1,4 +1,5 @@
 pub mod Calls
+pub mod Erasures
 pub mod Evaluation
 pub mod Forms
 pub mod Meaning
@@ -6,4 +7,6 @@ pub mod Print
 pub mod Query
 pub mod Refusal
 pub mod Relations
+pub mod Residual
+pub mod Trace
 pub mod Value
