@@ -9,6 +9,7 @@ pub mod SubcodeLaws
 pub mod ProductLaws
 pub mod NestedLaws
 pub mod ReplacedLaws
+pub mod PowerSpan
 pub mod ConcatenatedLaws
 pub mod BoundLaws
 pub mod DimensionLaws

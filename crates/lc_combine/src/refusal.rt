@@ -107,9 +107,9 @@ fn leave(places: &[u64], n: usize) -> bool
     places.iter().any(|p| n as u64 <= *p)
 }
 
-// Whether each coordinate is below the next one.
+/// Whether each number is below the next one.
 #[tactic(auto, using(lc_constructions::proofs::RisingLaws::is_rising_laws))]
-fn is_rising(places: &[u64]) -> bool
+pub fn is_rising(places: &[u64]) -> bool
     ensures is { result ≡ is_rising places.now }
 {
     for i in 1..places.len() {

@@ -17,5 +17,6 @@ pub mod MisfitLaws
 pub mod StockLaws
 pub mod DecodeLaws
 pub mod NearLaws
+pub mod ErasureLaws
 pub mod RelationLaws
 pub mod Opened

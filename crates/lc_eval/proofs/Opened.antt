@@ -3,6 +3,7 @@
 --   lines_of_values        the line of a value, a decoder's answer among them
 --   certificates_of_forms  the certificate by construction of a form, and what the program's own stands for
 --   lines_of_nearest_words      the line of a nearest word
+--   lines_of_fillings           the line of a word with erasures
 --   bound_calls, bound_queries      the forms of calls, and what they make of values
 use Rattle.std.specs.Prelude.{⊤}
 use Rattle.lc_formats.specs.Claim.{form_certificate}
@@ -11,7 +12,7 @@ use Rattle.lc_language.specs.Calls.{value_forms, query_forms, bind, bind_query}
 use Rattle.lc_language.specs.Refusal.{refusal_from, refuse}
 use Rattle.lc_language.specs.Evaluation.{refuse_call}
 use Rattle.lc_language.specs.Meaning.{decoded}
-use Rattle.lc_language.specs.Print.{value_line, value_text}
+use Rattle.lc_language.specs.Print.{value_line, value_text, filling_line}
 use Rattle.lc_formats.specs.Text.{line}
 use Rattle.lc_language.specs.Query.{near_text}
 
@@ -30,6 +31,10 @@ certificates_of_forms = tt
 unfoldable pub lines_of_nearest_words : ⊤
 unfolding line near_text
 lines_of_nearest_words = tt
+
+unfoldable pub lines_of_fillings : ⊤
+unfolding value_line value_text filling_line
+lines_of_fillings = tt
 
 unfoldable pub bound_calls : ⊤
 unfolding value_forms bind

@@ -1,6 +1,6 @@
 -- The calls that are built.
 --   query_call_of c, call_of c      the call of the table of all calls that a call of the machine stands for
---   built_calls                  the calls that are built, in the order of that table: all that give a value, and seven queries
+--   built_calls                  the calls that are built, in the order of that table: all that give a value, and nine queries
 --   forms_of row                 the kinds of the arguments in each form of a row's call
 --   IsRowOf x row                the row is that of the built call with the name x
 --   IsAsked row c                and that call is the query c
@@ -26,13 +26,14 @@ query_call_of q.ScanCertificate = query.ScanCertificate
 query_call_of q.WeightDistribution = query.WeightDistribution
 query_call_of q.AlternantCertificate = query.AlternantCertificate
 query_call_of q.NearestWord = query.NearestWord
+query_call_of q.FillErasures = query.FillErasures
 
 abbrev pub call_of : Call → language.Call
 call_of (call.Value c) = Value c
 call_of (call.Query c) = Query (query_call_of c)
 
 unfoldable pub built_calls : List language.Call
-built_calls = map Value value_calls ++ Query query.AlgebraicDecode ∷ Query query.LeastWord ∷ Query query.MinimumDistance ∷ Query query.Certificate ∷ Query query.ScanCertificate ∷ Query query.WeightDistribution ∷ Query query.AlternantCertificate ∷ Query query.NearestWord ∷ []
+built_calls = map Value value_calls ++ Query query.AlgebraicDecode ∷ Query query.LeastWord ∷ Query query.MinimumDistance ∷ Query query.Certificate ∷ Query query.ScanCertificate ∷ Query query.WeightDistribution ∷ Query query.AlternantCertificate ∷ Query query.NearestWord ∷ Query query.FillErasures ∷ []
 
 abbrev pub forms_of : Row → List (List Kind)
 forms_of row = map (λ kinds. kinds.now) row.forms.now

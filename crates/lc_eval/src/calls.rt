@@ -43,6 +43,7 @@ pub(crate) enum QueryCall {
     WeightDistribution,
     AlternantCertificate,
     NearestWord,
+    FillErasures,
 }
 
 /// The calls.
@@ -130,6 +131,7 @@ static TABLE: &[Row] = &rows! {
     Call::Query(QueryCall::WeightDistribution) => "WeightDistribution" [Code];
     Call::Query(QueryCall::AlternantCertificate) => "AlternantCertificate" [Code, Numbers];
     Call::Query(QueryCall::NearestWord) => "NearestWord" [Code, Numbers];
+    Call::Query(QueryCall::FillErasures) => "FillErasures" [Code, Numbers, Numbers];
 };
 
 // The rows of all built calls.
@@ -303,6 +305,7 @@ pub(crate) enum BoundQuery<'a> {
     WeightDistribution(&'a Code),
     AlternantCertificate(&'a CodeValue, &'a [u64]),
     NearestWord(&'a Code, &'a [u64]),
+    FillErasures(&'a Code, &'a [u64], &'a [u64]),
 }
 
 impl Asks for BoundQuery<'_> {
@@ -317,6 +320,7 @@ impl Asks for BoundQuery<'_> {
       | BoundQuery.WeightDistribution C ↦ language.weight_distribution C.now
       | BoundQuery.AlternantCertificate C x ↦ language.alternant_certificate C.now.code C.now.form x.now
       | BoundQuery.NearestWord C x ↦ language.nearest_word C.now x.now
+      | BoundQuery.FillErasures C x erased ↦ language.fill_erasures C.now x.now erased.now
     ] };
 }
 
@@ -638,6 +642,11 @@ pub(crate) fn bind_query(call: QueryCall, arguments: &[Value]) -> Option<BoundQu
         QueryCall::NearestWord => {
             let [a, b] = arguments else { return None };
             Some(BoundQuery::NearestWord(&a.code()?.code, b.numbers()?))
+        }
+        QueryCall::FillErasures => {
+            let [a, b, c] = arguments else { return None };
+            let code = &a.code()?.code;
+            Some(BoundQuery::FillErasures(code, b.numbers()?, c.numbers()?))
         }
     }
 }

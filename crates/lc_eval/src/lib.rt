@@ -5,6 +5,7 @@ mod calls;
 mod code_value;
 mod cyclic;
 mod decoding;
+mod erasures;
 mod evaluate;
 mod form_certificates;
 mod forms;

@@ -11,6 +11,7 @@ ghost use Rattle.lc_eval.specs.Least.{IsLeastLine};
 
 use crate::calls::{Asks, BoundQuery};
 use crate::decoding::algebraic_decode;
+use crate::erasures::fill_erasures;
 use crate::form_certificates::alternant_certificate;
 use crate::machine::{Query, QueryKind};
 use crate::nearest::nearest_word;
@@ -68,6 +69,9 @@ pub(crate) fn answer(alloc: Global, place: usize, query: BoundQuery<'_>) -> Resu
         BoundQuery::ScanCertificate(code) => asked(alloc, QueryKind::Scan, code),
         BoundQuery::WeightDistribution(code) => weight_distribution(alloc, place, code),
         BoundQuery::NearestWord(code, list) => nearest_word(alloc, place, code, list),
+        BoundQuery::FillErasures(code, list, erased) => {
+            fill_erasures(alloc, place, code, list, erased)
+        }
         BoundQuery::AlgebraicDecode(code, list) => algebraic_decode(alloc, place, code, list),
         BoundQuery::AlternantCertificate(code, list) => {
             alternant_certificate(alloc, place, code, list)

@@ -3,7 +3,7 @@
 --   BoundCall                      a call that gives a value, with its arguments; b of a BCH code is 1 if it isn't given
 --   BoundQuery                     a query with its arguments; the alternant form of a code, if it has one, counts for two of them
 --   value_name c, query_name c     its name (GUAVA manual; LeastWord, ConcatenatedCode, the certificates, WeightDistribution,
---                                  NearestWord, IsSubcode, IsSameCode, AddWords, ScaleWord and Encode are this project's own)
+--                                  NearestWord, FillErasures, IsSubcode, IsSameCode, AddWords, ScaleWord and Encode are this project's own)
 --   value_forms c, query_forms c   its forms: the kinds of its arguments, and the call with them; BCHCode has two
 --   refusals_of b, query_refusals_of b      its refusals in their order
 --   refusal_of b, query_refusal_of b        the first of them
@@ -51,6 +51,7 @@ use Rattle.lc_language.specs.Refusal.{Refusal, refuse, when, first_of, from_code
 use Rattle.lc_language.specs.Meaning.{Made, MadeWith, IsGolay, IsExtendedGolay, IsBch, IsReedSolomon}
 use Rattle.lc_language.specs.QuadraticResidues.{InResidueCode, period, not_residue_length}
 use Rattle.lc_language.specs.Relations.{hamming_distance, IsSubcode, IsSameCode, IsSelfOrthogonal, IsSelfDual, IsCyclic, IsMessageOf, InUnion, InAugmented, add_refusals, scale_refusals, distance_refusals, message_refusals, augmented_refusals, not_codeword}
+use Rattle.lc_language.specs.Erasures.{erased_refusals}
 
 pub data BoundCall : Type 0 where
   gf : ℕ → BoundCall
@@ -112,6 +113,7 @@ pub data BoundQuery : Type 0 where
   weight_distribution : Matrix → BoundQuery
   alternant_certificate : Matrix → Option AlternantForm → List ℕ → BoundQuery
   nearest_word : Matrix → List ℕ → BoundQuery
+  fill_erasures : Matrix → List ℕ → List ℕ → BoundQuery
 
 -- ---- names
 
@@ -175,6 +177,7 @@ query_name query.ScanCertificate = codes "ScanCertificate"
 query_name query.WeightDistribution = codes "WeightDistribution"
 query_name query.AlternantCertificate = codes "AlternantCertificate"
 query_name query.NearestWord = codes "NearestWord"
+query_name query.FillErasures = codes "FillErasures"
 
 -- ---- forms
 
@@ -238,6 +241,7 @@ query_forms query.ScanCertificate = one (Code ∷ []) (λ C. scan_certificate C.
 query_forms query.WeightDistribution = one (Code ∷ []) (λ C. weight_distribution C.code)
 query_forms query.AlternantCertificate = one (Code ∷ Numbers ∷ []) (λ C x. alternant_certificate C.code C.form x)
 query_forms query.NearestWord = one (Code ∷ Numbers ∷ []) (λ C x. nearest_word C.code x)
+query_forms query.FillErasures = one (Code ∷ Numbers ∷ Numbers ∷ []) (λ C x erased. fill_erasures C.code x erased)
 
 -- ---- refusals
 
@@ -305,6 +309,7 @@ query_refusals_of (scan_certificate C) = []
 query_refusals_of (weight_distribution C) = no_distribution C ∷ []
 query_refusals_of (alternant_certificate C form x) = no_form form ∷ from_codes (word_refusals C x) ++ not_attained C form x ∷ []
 query_refusals_of (nearest_word C x) = from_codes (word_refusals C x)
+query_refusals_of (fill_erasures C x erased) = from_codes (word_refusals C x) ++ from_codes (erased_refusals C erased)
 
 unfoldable pub query_refusal_of : BoundQuery → Option Refusal
 query_refusal_of b = first_of (query_refusals_of b)
@@ -375,7 +380,7 @@ unfoldable pub value_calls : List ValueCall
 value_calls = call.Gf ∷ call.GeneratorMatCode ∷ call.CheckMatCode ∷ call.RepetitionCode ∷ call.WholeSpaceCode ∷ call.NullCode ∷ call.HammingCode ∷ call.ReedMullerCode ∷ call.GeneratorPolCode ∷ call.CheckPolCode ∷ call.QrCode ∷ call.BinaryGolayCode ∷ call.TernaryGolayCode ∷ call.ExtendedBinaryGolayCode ∷ call.ExtendedTernaryGolayCode ∷ call.BchCode ∷ call.ReedSolomonCode ∷ call.GoppaCode ∷ call.AlternantCode ∷ call.DualCode ∷ call.ExtendedCode ∷ call.PuncturedCode ∷ call.ShortenedCode ∷ call.EvenWeightSubcode ∷ call.DirectSumCode ∷ call.UuvCode ∷ call.DirectProductCode ∷ call.IntersectionCode ∷ call.ConcatenatedCode ∷ call.Dimension ∷ call.WordLength ∷ call.GeneratorMat ∷ call.CheckMat ∷ call.Weight ∷ call.IsCodeword ∷ call.Decode ∷ call.Syndrome ∷ call.IsSubcode ∷ call.IsSameCode ∷ call.IsSelfOrthogonalCode ∷ call.IsSelfDualCode ∷ call.IsCyclicCode ∷ call.AddWords ∷ call.ScaleWord ∷ call.DistanceCodeword ∷ call.Encode ∷ call.InformationWord ∷ call.UnionCode ∷ call.AugmentedCode ∷ []
 
 unfoldable pub query_calls : List QueryCall
-query_calls = query.AlgebraicDecode ∷ query.LeastWord ∷ query.MinimumDistance ∷ query.Certificate ∷ query.ScanCertificate ∷ query.WeightDistribution ∷ query.AlternantCertificate ∷ query.NearestWord ∷ []
+query_calls = query.AlgebraicDecode ∷ query.LeastWord ∷ query.MinimumDistance ∷ query.Certificate ∷ query.ScanCertificate ∷ query.WeightDistribution ∷ query.AlternantCertificate ∷ query.NearestWord ∷ query.FillErasures ∷ []
 
 unfoldable pub all_calls : List Call
 all_calls = map Value_ value_calls ++ map Query query_calls

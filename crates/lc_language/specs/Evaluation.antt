@@ -39,7 +39,8 @@ use Rattle.lc_language.specs.Refusal.{Refusal}
 use Rattle.lc_constructions.specs.Refusals.{columns_of}
 use Rattle.lc_constructions.specs.Nearest.{IsDecoded}
 use Rattle.lc_language.specs.Meaning.{decoded}
-use Rattle.lc_language.specs.Print.{value_line, fault_line, least_line, least_none_line}
+use Rattle.lc_language.specs.Erasures.{Filling, IsFilling}
+use Rattle.lc_language.specs.Print.{value_line, fault_line, least_line, least_none_line, filling_line}
 use Rattle.lc_language.specs.Query.{QueryKind, distance, by_levels, by_scan, query_line, form_line, distribution_line, near_line}
 
 pub record Refused : Type 0 where
@@ -173,6 +174,7 @@ Queries (bound.weight_distribution C) step = step ≡ counts C
 Queries (bound.alternant_certificate C None x) step = ⊥
 Queries (bound.alternant_certificate C (Some form) x) step = step ≡ prints (form_line C form x)
 Queries (bound.nearest_word C x) step = NearsOf C x step
+Queries (bound.fill_erasures C x erased) step = (a : Filling) × IsFilling C x erased a × (step ≡ prints (filling_line a))
 
 unfoldable pub fail_with : Outcome → Step
 fail_with (gives v) = prints (value_line v)

@@ -1,4 +1,5 @@
 pub mod Calls
+pub mod Erasures
 pub mod Evaluation
 pub mod Forms
 pub mod Meaning
@@ -7,4 +8,6 @@ pub mod QuadraticResidues
 pub mod Query
 pub mod Refusal
 pub mod Relations
+pub mod Residual
+pub mod Trace
 pub mod Value

@@ -2,10 +2,12 @@
 --   value_line v                           a value's line
 --   fault_line n place values              a fault's line
 --   least_line d w, least_none_line        what LeastWord prints
+--   filling_line a                         what FillErasures prints: the word, `none` or `many`
 --   distance_line, bracket_line, distance_none_line      what MinimumDistance prints
 use Rattle.std.specs.Prelude.{ℕ, true, false, List, ◌++◌, length, codes, decimal}
 use Rattle.lc_algebra.specs.Field.{size}
 use Rattle.lc_language.specs.Value.{Value, number, field, numbers, lists, code, truth, nothing}
+use Rattle.lc_language.specs.Erasures.{Filling, filled, unfilled, ambiguous}
 use Rattle.lc_formats.specs.Text.{numbers_text, lists_text, line, with_values}
 
 unfoldable pub field_text : ℕ → List ℕ
@@ -35,6 +37,11 @@ least_line d w = line (codes "least " ++ decimal d ++ codes " word " ++ numbers_
 
 unfoldable pub least_none_line : List ℕ
 least_none_line = line (codes "least none")
+
+unfoldable pub filling_line : Filling → List ℕ
+filling_line (filled w) = line (numbers_text w)
+filling_line unfilled = line (codes "none")
+filling_line ambiguous = line (codes "many")
 
 unfoldable pub distance_line : ℕ → List ℕ → ℕ → List ℕ
 distance_line d w blocks = line (codes "distance " ++ decimal d ++ codes " word " ++ numbers_text w ++ codes " blocks " ++ decimal blocks)

@@ -82,6 +82,7 @@ pub enum QueryCall {
     WeightDistribution,
     AlternantCertificate,
     NearestWord,
+    FillErasures,
 }
 
 /// The calls of the script language.

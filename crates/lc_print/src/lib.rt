@@ -7,7 +7,8 @@ ghost use Rattle.std.specs.Prelude.{◌≡◌, ◌++◌, map, codes, IfOk, OnOk,
 ghost use Rattle.lc_language.specs.Query.{no_certificate_line};
 ghost use Rattle.lc_language.specs.Value.{truth, nothing};
 ghost use Rattle.lc_formats.specs.Text.{line, numbers_text, lists_text, with_values};
-ghost use Rattle.lc_language.specs.Print.{value_line, field_text, code_text, least_line as least_text, least_none_line as least_none_text, distance_line as distance_text, distance_none_line as distance_none_text, bracket_line as bracket_text, fault_line as fault_text};
+ghost use Rattle.lc_language.specs.Print.{value_line, field_text, code_text, least_line as least_text, least_none_line as least_none_text, distance_line as distance_text, distance_none_line as distance_none_text, bracket_line as bracket_text, fault_line as fault_text, filling_line};
+ghost use Rattle.lc_language.specs.Erasures.{ambiguous};
 
 mod pieces;
 
@@ -111,6 +112,14 @@ pub fn none_line(alloc: Global) -> Result<Vec<u8>, NoMemory>
     ensures { IfOk result (λ v. v.items ≡ value_line nothing) }
 {
     text_line(alloc, b"none")
+}
+
+/// What is printed of erased symbols that several codewords fill: `many`.
+#[tactic(auto, unfolding(lc_language::specs::Print::filling_line))]
+pub fn many_line(alloc: Global) -> Result<Vec<u8>, NoMemory>
+    ensures { IfOk result (λ v. v.items ≡ filling_line ambiguous) }
+{
+    text_line(alloc, b"many")
 }
 
 /// What a search for a least word prints: `least 2 word [0,1,1]`, `d` being the weight of the word.

@@ -25,11 +25,11 @@ pub fn encode(alloc: Global, code: &Code, message: &[u8]) -> Result<Word, CodeRe
     ensures first { RefusesFirst result (first_refusal (message_refusals code.now message.now)) }
 {
     check_message(code, message)?;
-    Ok(encoded(alloc, code, message)?)
+    Ok(codeword_of(alloc, code, message)?)
 }
 
-// The sum of the rows, each times its symbol of the message.
-fn encoded(alloc: Global, code: &Code, message: &[u8]) -> Result<Word, NoMemory>
+/// The codeword of a message, which has as many symbols of the code's field as the code has dimensions.
+pub fn codeword_of(alloc: Global, code: &Code, message: &[u8]) -> Result<Word, NoMemory>
     requires message { IsWord code.now.field (length code.now.rows) message.now }
     ensures is { IfOk result (λ w. w ≡ combine code.now.field code.now.columns message.now code.now.rows) }
 {

@@ -12,7 +12,7 @@ mod syndromes;
 mod words;
 
 pub use comparison::{is_same_code, is_subcode};
-pub use encoding::{encode, message_of};
+pub use encoding::{codeword_of, encode, message_of};
 pub use laws::{
     distance_is_a_metric, encoding_is_one_to_one, sums_of_codes, syndromes_tell_cosets,
 };

@@ -42,7 +42,7 @@ use Rattle.lc_eval.specs.Built.{built_calls}
 use Rattle.lc_script_laws.specs.Shapes.{IsCodeOfRows}
 use Rattle.lc_script_laws.proofs.AtMostOne.{One, one_value, one_some}
 use Rattle.lc_script_laws.proofs.OneNearest.{nearest_one}
-use Rattle.lc_script_laws.proofs.OneValue.{code_one, made_one, extended_golay_one, bch_one, reed_solomon_one, truth_one, message_one, prints_least_one, asks_one, nears_one, decoded_by_form}
+use Rattle.lc_script_laws.proofs.OneValue.{code_one, made_one, extended_golay_one, bch_one, reed_solomon_one, truth_one, message_one, prints_least_one, prints_filling_one, asks_one, nears_one, decoded_by_form}
 use Rattle.lc_script_laws.proofs.FormedLaws.{bch_formed, solomon_formed, goppa_formed, alternant_formed}
 use Rattle.lc_script_laws.proofs.ShapeLaws.{IsShaped, AreShaped, InForms, bound_shaped, shaped_as, made_shaped, formed_shaped, IsAllowed, none_refuses, allowed, short, binary, ternary}
 
@@ -107,6 +107,7 @@ queries_one (bound.weight_distribution C) = one_value (counts C)
 queries_one (bound.alternant_certificate C None x) = λ s t h k. absurd h
 queries_one (bound.alternant_certificate C (Some form) x) = one_value (prints (form_line C form x))
 queries_one (bound.nearest_word C x) = nears_one C x
+queries_one (bound.fill_erasures C x erased) = prints_filling_one C x erased
 
 -- ---- codes that aren't refused are short, and over symbol fields
 
@@ -257,6 +258,7 @@ queries_shaped query.ScanCertificate = (λ C h. h.0, tt)
 queries_shaped query.WeightDistribution = (λ C h. h.0, tt)
 queries_shaped query.AlternantCertificate = (λ C h x. tt, tt)
 queries_shaped query.NearestWord = (λ C h x. h.0, tt)
+queries_shaped query.FillErasures = (λ C h x erased. tt, tt)
 
 -- ---- all calls
 

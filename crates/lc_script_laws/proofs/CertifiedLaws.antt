@@ -114,6 +114,7 @@ module _ (table : List Call) (env : List Binding) (s : Statement) (l : List ℕ)
   by_bound (bound.scan_certificate C) place on asked h = absurd on
   by_bound (bound.weight_distribution C) place on asked h = absurd on
   by_bound (bound.nearest_word C x) place on asked h = absurd on
+  by_bound (bound.fill_erasures C x erased) place on asked h = absurd on
 
   by_values : (place : ℕ) (x : List ℕ) (es : Exprs) (kinds : List Kind) (os : Outcomes) → AreBound env → s.target ≡ None → s.expr ≡ call place x es → call_named table x ≡ Some (Query query.AlternantCertificate)
       → EvaluatesAll table env es os → QueriesAll query.AlternantCertificate place kinds es os (prints l) → IsCertified table env s l

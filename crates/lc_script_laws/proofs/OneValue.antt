@@ -3,6 +3,7 @@
 --   extended_golay_one, bch_one, reed_solomon_one      so are the values of these codes
 --   least_one                the first nonzero word of some rows
 --   prints_least_one         what is printed of it
+--   prints_filling_one       what is printed of a word with erasures
 --   asks_one, nears_one      what a query does that a search answers
 --   decoded_by_form          what a decoder answers
 --   same_truth, truth_one    the truth value of a fact
@@ -25,13 +26,14 @@ use Rattle.lc_language.specs.Value.{code, truth}
 use Rattle.lc_language.specs.Relations.{IsMessageOf}
 use Rattle.lc_constructions.specs.Refusals.{columns_of}
 use Rattle.lc_language.specs.Meaning.{IsCodeValue, Made, MadeWith, IsExtendedGolay, IsBch, IsReedSolomon, decoded}
-use Rattle.lc_language.specs.Print.{value_line, least_line, least_none_line}
+use Rattle.lc_language.specs.Print.{value_line, least_line, least_none_line, filling_line}
+use Rattle.lc_language.specs.Erasures.{Filling, filled, unfilled, ambiguous, IsFilling}
 use Rattle.lc_constructions.specs.Nearest.{IsDecoded}
 use Rattle.lc_constructions.proofs.NearestLaws.{decoded_once}
 use Rattle.lc_language.specs.Query.{QueryKind}
 use Rattle.lc_language.specs.Evaluation.{Step, prints, PrintsLeast, AsksOf, NearsOf, Queries}
 use Rattle.lc_script_laws.proofs.AtMostOne.{One, one_value, one_some}
-use Rattle.lc_language.specs.Calls.{algebraic_decode}
+use Rattle.lc_language.specs.Calls.{algebraic_decode, fill_erasures}
 use Rattle.lc_session_rules.proofs.ScriptTruth.{some_same}
 
 -- ---- codes
@@ -112,3 +114,17 @@ nears_one C x s t (inr a) (inr b) = a.1 ∙ sym b.1
 pub decoded_by_form : (C : Matrix) (x : List ℕ) (form : Option AlternantForm) → One (Queries (algebraic_decode C form x))
 decoded_by_form C x None = λ s t h k. absurd h
 decoded_by_form C x (Some form) = one_some (IsDecoded C form x) (λ o s. s ≡ prints (value_line (decoded o))) (decoded_once C form x) (λ o. one_value (prints (value_line (decoded o))))
+
+filling_one : (C : Matrix) (x erased : List ℕ) → One (IsFilling C x erased)
+filling_one C x erased (filled v) (filled w) p q = ap (λ (u : List ℕ). filled u) (q.1 v p.0)
+filling_one C x erased (filled v) unfilled p q = absurd (q v p.0)
+filling_one C x erased (filled v) ambiguous p (a, (b, f, g, n)) = absurd (n (p.1 a f ∙ sym (p.1 b g)))
+filling_one C x erased unfilled (filled w) p q = absurd (p w q.0)
+filling_one C x erased unfilled unfilled p q = refl
+filling_one C x erased unfilled ambiguous p (a, (b, f, g, n)) = absurd (p a f)
+filling_one C x erased ambiguous (filled w) (a, (b, f, g, n)) q = absurd (n (q.1 a f ∙ sym (q.1 b g)))
+filling_one C x erased ambiguous unfilled (a, (b, f, g, n)) q = absurd (q a f)
+filling_one C x erased ambiguous ambiguous p q = refl
+
+pub prints_filling_one : (C : Matrix) (x erased : List ℕ) → One (Queries (fill_erasures C x erased))
+prints_filling_one C x erased = one_some (IsFilling C x erased) (λ a s. s ≡ prints (filling_line a)) (filling_one C x erased) (λ a. one_value (prints (filling_line a)))

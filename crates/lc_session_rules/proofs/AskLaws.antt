@@ -94,6 +94,7 @@ by_query (bound.weight_distribution C) step n h = told step (counts C) h (allowe
 by_query (bound.alternant_certificate C None x) step n h = absurd h
 by_query (bound.alternant_certificate C (Some form) x) step n h = told step _ h tt
 by_query (bound.nearest_word C x) step n h = ⊎_elim (λ (a : (length C.rows ≡ 0) × (step ≡ prints (near_line C x 0))). told step _ a.1 tt) (λ (a : (0 < length C.rows) × (step ≡ nears C x)). told step (nears C x) a.1 (a.0, near_word C x n)) h
+by_query (bound.fill_erasures C x erased) step n h = told step _ h.2 tt
 
 by_all : (c : QueryCall) (place : ℕ) (kinds : List Kind) (es : Exprs) (os : Outcomes) (step : Step) → QueriesAll c place kinds es os step → IsAllowed step
 by_all c place kinds es (one_refused r) step h = told step (fails r) h tt

@@ -50,6 +50,7 @@ query_long query.ScanCertificate n kinds e = (let l = one_form (Code ∷ []) kin
 query_long query.WeightDistribution n kinds e = (let l = one_form (Code ∷ []) kinds n e in omega (arith, l))
 query_long query.AlternantCertificate n kinds e = (let l = one_form (Code ∷ Numbers ∷ []) kinds n e in omega (arith, l))
 query_long query.NearestWord n kinds e = (let l = one_form (Code ∷ Numbers ∷ []) kinds n e in omega (arith, l))
+query_long query.FillErasures n kinds e = (let l = one_form (Code ∷ Numbers ∷ Numbers ∷ []) kinds n e in omega (arith, l))
 
 abbrev is_ask : Step → Bool
 is_ask (asks kind C) = true

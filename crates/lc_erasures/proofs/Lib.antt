@@ -1,0 +1,4 @@
+pub mod RefusalLaws
+pub mod SystemLaws
+pub mod FillingLaws
+pub mod ErasureLaws
