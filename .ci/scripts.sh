@@ -257,6 +257,7 @@ check_explanations() {
     check 'a call of tools/residue_code.py for each length' python3 -B tests/residue_codes.py "$program"
     check 'tools/plot.py on weight distributions' python3 -B tests/plots.py "$program"
     check 'the plans of tools/plan.py beside searches over each field' python3 -B tests/plans.py "$program"
+    check 'the line of progress at a terminal' python3 -B tests/progress.py "$program"
     check 'the second checker takes a file' second_checker_takes_a_file
     check 'the programs for people are good filters' are_good_filters
 }

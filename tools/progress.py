@@ -21,7 +21,7 @@ import plan
 import search
 from reference import Fault
 
-PAUSE = 0.2  # seconds between two looks at the clock
+PAUSE = 0.1  # seconds between two looks at the clock
 SPAN = 20.0  # seconds over which a rate is taken
 
 
