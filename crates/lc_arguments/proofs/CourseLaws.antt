@@ -8,7 +8,8 @@ use Rattle.std.specs.Prelude.{if◌then◌else◌, is_some, option_map, ◌||◌
 use Rattle.std.specs.List.{list_any, after_first}
 use Rattle.std.proofs.lemmas.List.{drop_all, at_drop_more, get_or-map, take_more, take-append-drop, length-take-le, append-nil, append_assoc, map-append, length-append, length-map}
 use Rattle.lc_formats.specs.Text.{same_bytes}
-use Rattle.lc_session_rules.specs.Options.{Command, run, resume, check, summary, Key, workers, budget, slice, keep, seed, Settings, Options, settings, usage, row_named, all_options, options, options_from, checked, settings_of, key_named, key_text, same_key, place_of_key, put_key, number_within, yes_or_no}
+use Rattle.lc_enumeration.specs.Records.{default_round}
+use Rattle.lc_session_rules.specs.Options.{Command, run, resume, check, summary, Key, workers, round, budget, slice, keep, seed, Settings, Options, settings, usage, row_named, all_options, options, options_from, checked, settings_of, key_named, key_text, same_key, place_of_key, put_key, number_within, yes_or_no}
 use Rattle.lc_session_rules.proofs.OptionExamples.{no_words}
 use Rattle.lc_grammar.specs.Token.{widest}
 use Rattle.lc_arguments.specs.declared.request.Settings.{Settings as Asked}
@@ -91,6 +92,7 @@ mapped P g (Some x) next e f =
 put_same : (key : Key) (text : List ℕ) (s next : Settings) → put_key key text s ≡ Some next → next.command ≡ s.command
 unfolding put_key
 put_same workers text s next e = mapped (λ t. t.command ≡ s.command) (λ n. record s { workers = n }) (number_within 1 256 text) next e (λ n h. refl)
+put_same round text s next e = mapped (λ t. t.command ≡ s.command) (λ n. record s { round = n }) (number_within 1 (2 ^ 20) text) next e (λ n h. refl)
 put_same budget text s next e = mapped (λ t. t.command ≡ s.command) (λ n. record s { budget = n }) (number_within 0 (2 ^ 40) text) next e (λ n h. refl)
 put_same slice text s next e = mapped (λ t. t.command ≡ s.command) (λ n. record s { slice = Some n }) (number_within 1 (2 ^ 40) text) next e (λ n h. refl)
 put_same keep text s next e = mapped (λ t. t.command ≡ s.command) (λ b. record s { keep = b }) (yes_or_no text) next e (λ b h. refl)
@@ -99,6 +101,7 @@ put_same seed text s next e = mapped (λ t. t.command ≡ s.command) (λ n. reco
 put_slice : (key : Key) (text : List ℕ) (s next : Settings) → put_key key text s ≡ Some next → same_key slice key ≡ false → next.slice ≡ s.slice
 unfolding put_key same_key key_text same_bytes
 put_slice workers text s next e f = mapped (λ t. t.slice ≡ s.slice) (λ n. record s { workers = n }) (number_within 1 256 text) next e (λ n h. refl)
+put_slice round text s next e f = mapped (λ t. t.slice ≡ s.slice) (λ n. record s { round = n }) (number_within 1 (2 ^ 20) text) next e (λ n h. refl)
 put_slice budget text s next e f = mapped (λ t. t.slice ≡ s.slice) (λ n. record s { budget = n }) (number_within 0 (2 ^ 40) text) next e (λ n h. refl)
 put_slice slice text s next e f = absurd cc
 put_slice keep text s next e f = mapped (λ t. t.slice ≡ s.slice) (λ b. record s { keep = b }) (yes_or_no text) next e (λ b h. refl)
@@ -107,6 +110,7 @@ put_slice seed text s next e f = mapped (λ t. t.slice ≡ s.slice) (λ n. recor
 -- the command keeps checkpoints, if it has this key and the key is keep
 abbrev KeepsIf : Key → Command → Type 0
 KeepsIf workers c = Unit {0}
+KeepsIf round c = Unit {0}
 KeepsIf budget c = Unit {0}
 KeepsIf slice c = Unit {0}
 KeepsIf keep c = CanKeep c
@@ -114,11 +118,12 @@ KeepsIf seed c = Unit {0}
 
 put_within : (key : Key) (text : List ℕ) (s next : Settings) → put_key key text s ≡ Some next → KeepsIf key s.command → AreWithin s → AreWithin next
 unfolding put_key
-put_within workers text s next e k w = mapped AreWithin (λ n. record s { workers = n }) (number_within 1 256 text) next e (λ n h. record { some_workers = in_range 1 256 n text h; few_blocks = w.few_blocks; sliced = w.sliced; kept = w.kept })
-put_within budget text s next e k w = mapped AreWithin (λ n. record s { budget = n }) (number_within 0 (2 ^ 40) text) next e (λ n h. record { some_workers = w.some_workers; few_blocks = (in_range 0 (2 ^ 40) n text h).1; sliced = w.sliced; kept = w.kept })
-put_within slice text s next e k w = mapped AreWithin (λ n. record s { slice = Some n }) (number_within 1 (2 ^ 40) text) next e (λ n h. record { some_workers = w.some_workers; few_blocks = w.few_blocks; sliced = in_range 1 (2 ^ 40) n text h; kept = w.kept })
-put_within keep text s next e k w = mapped AreWithin (λ b. record s { keep = b }) (yes_or_no text) next e (λ b h. record { some_workers = w.some_workers; few_blocks = w.few_blocks; sliced = w.sliced; kept = λ t. k })
-put_within seed text s next e k w = mapped AreWithin (λ n. record s { number = n }) (number_within 0 widest text) next e (λ n h. record { some_workers = w.some_workers; few_blocks = w.few_blocks; sliced = w.sliced; kept = w.kept })
+put_within workers text s next e k w = mapped AreWithin (λ n. record s { workers = n }) (number_within 1 256 text) next e (λ n h. record { some_workers = in_range 1 256 n text h; some_blocks = w.some_blocks; few_blocks = w.few_blocks; sliced = w.sliced; kept = w.kept })
+put_within round text s next e k w = mapped AreWithin (λ n. record s { round = n }) (number_within 1 (2 ^ 20) text) next e (λ n h. record { some_workers = w.some_workers; some_blocks = in_range 1 (2 ^ 20) n text h; few_blocks = w.few_blocks; sliced = w.sliced; kept = w.kept })
+put_within budget text s next e k w = mapped AreWithin (λ n. record s { budget = n }) (number_within 0 (2 ^ 40) text) next e (λ n h. record { some_workers = w.some_workers; some_blocks = w.some_blocks; few_blocks = (in_range 0 (2 ^ 40) n text h).1; sliced = w.sliced; kept = w.kept })
+put_within slice text s next e k w = mapped AreWithin (λ n. record s { slice = Some n }) (number_within 1 (2 ^ 40) text) next e (λ n h. record { some_workers = w.some_workers; some_blocks = w.some_blocks; few_blocks = w.few_blocks; sliced = in_range 1 (2 ^ 40) n text h; kept = w.kept })
+put_within keep text s next e k w = mapped AreWithin (λ b. record s { keep = b }) (yes_or_no text) next e (λ b h. record { some_workers = w.some_workers; some_blocks = w.some_blocks; few_blocks = w.few_blocks; sliced = w.sliced; kept = λ t. k })
+put_within seed text s next e k w = mapped AreWithin (λ n. record s { number = n }) (number_within 0 widest text) next e (λ n h. record { some_workers = w.some_workers; some_blocks = w.some_blocks; few_blocks = w.few_blocks; sliced = w.sliced; kept = w.kept })
 
 -- a key of a command that is keep is a key of run or resume
 if_some : (t : Bool) (k key : Key) (o : Option Key) (P : Key → Type 0) → (if t then Some k else o) ≡ Some key → P k → (o ≡ Some key → P key) → P key
@@ -130,6 +135,7 @@ unfolding key_named
 keeps_if run text key e = any_key key where
   any_key : (k : Key) → KeepsIf k run
   any_key workers = tt
+  any_key round = tt
   any_key budget = tt
   any_key slice = tt
   any_key keep = tt
@@ -137,6 +143,7 @@ keeps_if run text key e = any_key key where
 keeps_if resume text key e = any_key key where
   any_key : (k : Key) → KeepsIf k resume
   any_key workers = tt
+  any_key round = tt
   any_key budget = tt
   any_key slice = tt
   any_key keep = tt
@@ -144,9 +151,10 @@ keeps_if resume text key e = any_key key where
 keeps_if check text key e = absurd cc
 keeps_if summary text key e =
     let P : Key → Type 0 = λ k. KeepsIf k summary in
-    if_some (same_bytes (key_text seed) text) seed key (key_named (workers ∷ budget ∷ []) text) P e tt
-    (λ f. if_some (same_bytes (key_text workers) text) workers key (key_named (budget ∷ []) text) P f tt
-    (λ g. if_some (same_bytes (key_text budget) text) budget key (key_named [] text) P g tt (λ h. absurd cc)))
+    if_some (same_bytes (key_text seed) text) seed key (key_named (workers ∷ round ∷ budget ∷ []) text) P e tt
+    (λ f. if_some (same_bytes (key_text workers) text) workers key (key_named (round ∷ budget ∷ []) text) P f tt
+    (λ g. if_some (same_bytes (key_text round) text) round key (key_named (budget ∷ []) text) P g tt
+    (λ h. if_some (same_bytes (key_text budget) text) budget key (key_named [] text) P h tt (λ i. absurd cc))))
 
 -- ---- what is asked for in the end
 
@@ -174,18 +182,18 @@ checked_plain found s summary e is other = absurd (other refl)
 
 -- ---- the arguments so far
 
-first_settings : (c : Command) (a : Asked) → command_for a.command ≡ c → a.workers ≡ 1 → a.budget ≡ 2 ^ 20 → a.slice ≡ None → a.keep ≡ false → a.number ≡ 0 → settings_of c ≡ settings_for a
-unfolding settings_of
-first_settings c a same w b s k n = cc
+first_settings : (c : Command) (a : Asked) → command_for a.command ≡ c → a.workers ≡ 1 → a.round ≡ 256 → a.budget ≡ 2 ^ 20 → a.slice ≡ None → a.keep ≡ false → a.number ≡ 0 → settings_of c ≡ settings_for a
+unfolding settings_of default_round
+first_settings c a same w r b s k n = cc
 
-pub course_first : (c : Command) (a : Asked) → command_for a.command ≡ c → a.workers ≡ 1 → a.budget ≡ 2 ^ 20 → a.slice ≡ None → a.keep ≡ false → a.number ≡ 0 → IsCourse c [] a
-course_first c a same w b s k n = record {
+pub course_first : (c : Command) (a : Asked) → command_for a.command ≡ c → a.workers ≡ 1 → a.round ≡ 256 → a.budget ≡ 2 ^ 20 → a.slice ≡ None → a.keep ≡ false → a.number ≡ 0 → IsCourse c [] a
+course_first c a same w r b s k n = record {
   found = [];
   named = refl;
   same = same;
-  within = record { some_workers = (omega (arith, w), omega (arith, w)); few_blocks = omega (arith, b); sliced = rw s tt; kept = λ t. absurd cc };
+  within = record { some_workers = (omega (arith, w), omega (arith, w)); some_blocks = (omega (arith, r), omega (arith, r)); few_blocks = omega (arith, b); sliced = rw s tt; kept = λ t. absurd cc };
   unsliced = λ e. s;
-  reached = λ rest. ap (options_from (keys_of c) rest []) (first_settings c a same w b s k n);
+  reached = λ rest. ap (options_from (keys_of c) rest []) (first_settings c a same w r b s k n);
 }
 
 module _ (c : Command) (before : List (List ℕ)) (a : Asked) (course : IsCourse c before a) where

@@ -36,6 +36,7 @@ command_for command.Summary = words.summary
 
 abbrev pub key_for : Key → words.Key
 key_for key.Workers = words.workers
+key_for key.Round = words.round
 key_for key.Budget = words.budget
 key_for key.Slice = words.slice
 key_for key.Keep = words.keep
@@ -43,16 +44,16 @@ key_for key.Seed = words.seed
 
 -- the keys of a command
 abbrev pub keys_of : words.Command → List words.Key
-keys_of words.run = words.workers ∷ words.budget ∷ words.slice ∷ words.keep ∷ []
-keys_of words.resume = words.workers ∷ words.budget ∷ words.slice ∷ words.keep ∷ []
+keys_of words.run = words.workers ∷ words.round ∷ words.budget ∷ words.slice ∷ words.keep ∷ []
+keys_of words.resume = words.workers ∷ words.round ∷ words.budget ∷ words.slice ∷ words.keep ∷ []
 keys_of words.check = []
-keys_of words.summary = words.seed ∷ words.workers ∷ words.budget ∷ []
+keys_of words.summary = words.seed ∷ words.workers ∷ words.round ∷ words.budget ∷ []
 
 abbrev pub row_of : Command → CommandRow
 row_of c = row (command_for c) (keys_of (command_for c))
 
 abbrev pub settings_for : Asked → Settings
-settings_for a = record { command = command_for a.command; workers = a.workers; budget = a.budget; slice = a.slice; keep = a.keep; number = a.number }
+settings_for a = record { command = command_for a.command; workers = a.workers; round = a.round; budget = a.budget; slice = a.slice; keep = a.keep; number = a.number }
 
 abbrev pub Refuses : OptionRefusal → words.Options → Type 0
 Refuses (refusal.Usage i) o = o ≡ usage i
@@ -67,6 +68,7 @@ CanKeep words.summary = ⊥
 
 pub record AreWithin (s : Settings) : Type 0 where
   pub some_workers : (1 ≤ s.workers) × (s.workers ≤ 256)
+  pub some_blocks : (1 ≤ s.round) × (s.round ≤ 2 ^ 20)
   pub few_blocks : s.budget ≤ 2 ^ 40
   pub sliced : IfSome s.slice (λ n. (1 ≤ n) × (n ≤ 2 ^ 40))
   pub kept : s.keep ≡ true → CanKeep s.command

@@ -52,6 +52,10 @@ fn with_value(asked: Settings, key: Key, value: &str) -> Option<Settings>
             let workers = number_within(value, 1, 256)? as u32;
             Some(Settings { workers, ..asked })
         }
+        Key::Round => {
+            let round = number_within(value, 1, 1 << 20)?;
+            Some(Settings { round, ..asked })
+        }
         Key::Budget => {
             let budget = number_within(value, 0, 1 << 40)?;
             Some(Settings { budget, ..asked })
@@ -127,6 +131,7 @@ fn settings_in(command: Command, arguments: &[String]) -> Result<Settings, usize
     let mut asked = Settings {
         command,
         workers: 1,
+        round: 256,
         budget: 1 << 20,
         slice: None,
         keep: false,
@@ -157,9 +162,9 @@ fn settings_by(words: &[String]) -> Result<Settings, usize>
 }
 
 /// What the arguments of the command line ask for. The first one is the command: `run` or `resume`, after which there may be
-/// `workers=N`, `budget=N`, `slice=N` and `keep=yes` or `keep=no`; `check` alone; or `summary`, after which there is `seed=N`
-/// and there may be `workers=N` and `budget=N`. The keys come in any order, each at most once, and a slice only with
-/// `keep=yes`.
+/// `workers=N`, `round=N`, `budget=N`, `slice=N` and `keep=yes` or `keep=no`; `check` alone; or `summary`, after which there is
+/// `seed=N` and there may be `workers=N`, `round=N` and `budget=N`. The keys come in any order, each at most once, and a slice
+/// only with `keep=yes`.
 ///
 /// Refused with the index of the first argument that is wrong, or that would have to be there. It takes no memory, so it is
 /// never refused for want of it.

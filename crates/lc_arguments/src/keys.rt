@@ -11,15 +11,16 @@ use lc_json::is_same;
 #[derive(Clone, Copy)]
 pub(crate) enum Key {
     Workers,
+    Round,
     Budget,
     Slice,
     Keep,
     Seed,
 }
 
-const SEARCH_KEYS: [Key; 4] = [Key::Workers, Key::Budget, Key::Slice, Key::Keep];
+const SEARCH_KEYS: [Key; 5] = [Key::Workers, Key::Round, Key::Budget, Key::Slice, Key::Keep];
 
-const SUMMARY_KEYS: [Key; 3] = [Key::Seed, Key::Workers, Key::Budget];
+const SUMMARY_KEYS: [Key; 4] = [Key::Seed, Key::Workers, Key::Round, Key::Budget];
 
 // Whether a text is this name.
 pub(crate) fn is_text(text: &str, name: &str) -> bool
@@ -36,6 +37,7 @@ impl Key {
     {
         match self {
             Key::Workers => "workers",
+            Key::Round => "round",
             Key::Budget => "budget",
             Key::Slice => "slice",
             Key::Keep => "keep",

@@ -22,6 +22,8 @@ pub struct Settings {
     pub command: Command,
     /// How many workers a round has, 1 to 256.
     pub workers: u32,
+    /// How many blocks a round has at most, 1 to 2^20.
+    pub round: u64,
     /// How many blocks a search may take, at most 2^40.
     pub budget: u64,
     /// How many blocks a session may take before it pauses, 1 to 2^40; None if it takes as many as it needs.

@@ -43,13 +43,13 @@ place_shown s value near is = omega (arith, near, is)
 
 module _ (pace : Pace) (s t : SearchState) (limit : ℕ) (r : RoundRecord) where
   pub round_done : (C : Matrix) → C ≡ s.code → AreRows C.field C.columns C.rows → AreIndependent C.field C.columns C.rows → C.columns ≤ 255 → s.budget ≤ 2 ^ 40 → fits s.code s.progress.blocks (found_of s.progress) ≡ true
-      → t ≡ after_search_round s limit → round_length s.code s.budget (Some limit) s.progress.blocks ≡ round_length s.code s.budget pace.slice s.progress.blocks → s.progress.blocks < t.progress.blocks → t.progress.blocks ≤ t.budget
-      → IsRecordOf t (round_length s.code s.budget (Some limit) s.progress.blocks) r → IsDone pace s t r
+      → t ≡ after_search_round s pace.longest limit → round_length s.code s.budget pace.longest (Some limit) s.progress.blocks ≡ round_length s.code s.budget pace.longest pace.slice s.progress.blocks → s.progress.blocks < t.progress.blocks → t.progress.blocks ≤ t.budget
+      → IsRecordOf t (round_length s.code s.budget pace.longest (Some limit) s.progress.blocks) r → IsDone pace s t r
   unfolding after_search_round
   round_done C code rows independent long small h e same further few tells =
       let next = next_state pace s in
       let at : t ≡ after_next pace s = e ∙ ap (λ (n : ℕ). record { code = s.code; budget = s.budget; progress = after_round s.code s.progress n }) same in
-      let fit : fits s.code next.blocks (found_of next) ≡ true = subst (λ (n : ℕ). fits s.code (after_round s.code s.progress n).blocks (found_of (after_round s.code s.progress n)) ≡ true) same (fits_after s limit h) in
+      let fit : fits s.code next.blocks (found_of next) ≡ true = subst (λ (n : ℕ). fits s.code (after_round s.code s.progress n).blocks (found_of (after_round s.code s.progress n)) ≡ true) same (fits_after s pace.longest limit h) in
       let words : AreRows s.code.field s.code.columns s.code.rows = subst (λ (D : Matrix). AreRows D.field D.columns D.rows) code rows in
       let free : AreIndependent s.code.field s.code.columns s.code.rows = subst (λ (D : Matrix). AreIndependent D.field D.columns D.rows) code independent in
       let short : s.code.columns ≤ 255 = subst (λ (D : Matrix). D.columns ≤ 255) code long in
@@ -67,7 +67,7 @@ module _ (pace : Pace) (s t : SearchState) (limit : ℕ) (r : RoundRecord) where
         bound = tells.bound_is ∙ ap (λ (u : SearchState). bound (divisor_of u.code) u.code u.progress.blocks u.progress.weight) at;
       }
 
-pub pace_is : (pace : Pace) (s : SearchState) (slice : Option ℕ) (blocks weight place : ℕ) → slice ≡ less_slice pace.slice (round_length s.code s.budget pace.slice s.progress.blocks) → blocks ≡ (next_state pace s).blocks → weight ≡ (next_state pace s).weight → place ≡ (next_state pace s).place
+pub pace_is : (pace : Pace) (s : SearchState) (slice : Option ℕ) (blocks weight place : ℕ) → slice ≡ less_slice pace.slice (round_length s.code s.budget pace.longest pace.slice s.progress.blocks) → blocks ≡ (next_state pace s).blocks → weight ≡ (next_state pace s).weight → place ≡ (next_state pace s).place
     → ◌≡◌ {A = Pace} (record pace { slice = slice; point = record pace.point { blocks = blocks; weight = weight; place = place } }) (at_round pace s)
 pace_is pace s slice blocks weight place left done light near = λ i. record pace { slice = left i; point = record pace.point { blocks = done i; weight = light i; place = near i } }
 

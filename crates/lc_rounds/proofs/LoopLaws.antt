@@ -27,7 +27,7 @@ step_at pace s = step_of (divisor_of s.code) s.code (map settled_of pace.point.s
 
 pub record GoesOn (first : Pace) (start : SearchState) (entry : Around) (pace : Pace) (s : SearchState) (now : Around) : Type 0 where
   pub past : List Progress
-  pub passed : IsPassed (rounds_left first start) start.progress (divisor_of s.code) s.code s.budget pace.slice s.progress past
+  pub passed : IsPassed (rounds_left first start) start.progress (divisor_of s.code) s.code s.budget pace.longest pace.slice s.progress past
   pub goes : (o : Origin) (before : List SessionStep) → IsOnItsWay o before first entry → IsOnItsWay o (before ++ map (step_at first start) past) pace now
   pub code : s.code ≡ start.code
   pub budget : s.budget ≡ start.budget
@@ -42,11 +42,11 @@ pub record GoesOn (first : Pace) (start : SearchState) (entry : Around) (pace : 
 pub goes_first : (pace : Pace) (s : SearchState) (now : Around) → pace.point.turn ≤ 2 ^ 60 → fits s.code s.progress.blocks (found_of s.progress) ≡ true → (pace.keep ≡ false → pace.slice ≡ None) → GoesOn pace s now pace s now
 goes_first pace s now turn fitting kept = record {
   past = [];
-  passed = passed_none (divisor_of s.code) s.code s.budget pace.slice s.progress;
+  passed = passed_none (divisor_of s.code) s.code s.budget pace.longest pace.slice s.progress;
   goes = λ o before h. subst (λ (t : List SessionStep). IsOnItsWay o t pace now) (sym (append-nil before)) h;
   code = refl;
   budget = refl;
-  same = record { keep = refl; version = refl; script = refl; budget = refl; settled = refl };
+  same = record { keep = refl; longest = refl; version = refl; script = refl; budget = refl; settled = refl };
   turn = turn;
   fitting = fitting;
   further = omega arith;
@@ -58,6 +58,7 @@ goes_first pace s now turn fitting kept = record {
 same_twice : (a b c : Pace) → IsSameSession a b → IsSameSession b c → IsSameSession a c
 same_twice a b c g h = record {
   keep = h.keep ∙ g.keep;
+  longest = h.longest ∙ g.longest;
   version = h.version ∙ g.version;
   script = h.script ∙ g.script;
   budget = h.budget ∙ g.budget;
@@ -85,11 +86,11 @@ module _ (first : Pace) (start : SearchState) (entry : Around) (pace : Pace) (s 
       → ((o : Origin) (told : List SessionStep) → IsOnItsWay o told pace now → IsOnItsWay o (told ++ next_step pace s ∷ []) later then)
       → GoesOn first start entry later t then
   goes_next later t then going open_yet is at further within same turn fitting told step =
-      let passed = passed_more (rounds_left first start) start.progress (divisor_of s.code) s.code s.budget pace.slice s.progress g.past g.passed going open_yet (subst (λ (u : SearchState). s.progress.blocks < u.progress.blocks) at further) (subst (λ (u : SearchState). u.progress.blocks ≤ s.budget) at within) in
+      let passed = passed_more (rounds_left first start) start.progress (divisor_of s.code) s.code s.budget pace.longest pace.slice s.progress g.past g.passed going open_yet (subst (λ (u : SearchState). s.progress.blocks < u.progress.blocks) at further) (subst (λ (u : SearchState). u.progress.blocks ≤ s.budget) at within) in
       record {
         past = g.past ++ next_state pace s ∷ [];
-        passed = subst (λ (u : SearchState). IsPassed (rounds_left first start) start.progress (divisor_of u.code) u.code u.budget later.slice u.progress (g.past ++ next_state pace s ∷ [])) (sym at)
-            (subst (λ (p : Pace). IsPassed (rounds_left first start) start.progress (divisor_of s.code) s.code s.budget p.slice (next_state pace s) (g.past ++ next_state pace s ∷ [])) (sym is) passed);
+        passed = subst (λ (u : SearchState). IsPassed (rounds_left first start) start.progress (divisor_of u.code) u.code u.budget later.longest later.slice u.progress (g.past ++ next_state pace s ∷ [])) (sym at)
+            (subst (λ (p : Pace). IsPassed (rounds_left first start) start.progress (divisor_of s.code) s.code s.budget p.longest p.slice (next_state pace s) (g.past ++ next_state pace s ∷ [])) (sym is) passed);
         goes = λ o before h. subst (λ (l : List SessionStep). IsOnItsWay o l later then) (longer before) (step o (before ++ map (step_at first start) g.past) (g.goes o before h));
         code = ap (λ (u : SearchState). u.code) at ∙ g.code;
         budget = ap (λ (u : SearchState). u.budget) at ∙ g.budget;
@@ -105,7 +106,7 @@ module _ (first : Pace) (start : SearchState) (entry : Around) (pace : Pace) (s 
   pub ends_answered : (a : Answer) → answer_in s ≡ Some a → (o : Origin) (before : List SessionStep) → IsOnItsWay o before first entry
       → Went before (steps_left first start) (λ told left. (left ≡ []) × ((rounds_left first start).is_stopped ≡ false) × IsOnItsWay o told pace now)
   ends_answered a e o before h =
-      let done = passed_all (rounds_left first start) start.progress (divisor_of s.code) s.code s.budget pace.slice s.progress g.past a g.passed e in
+      let done = passed_all (rounds_left first start) start.progress (divisor_of s.code) s.code s.budget pace.longest pace.slice s.progress g.past a g.passed e in
       record {
         told = map (step_at first start) g.past;
         left = [];
@@ -115,14 +116,14 @@ module _ (first : Pace) (start : SearchState) (entry : Around) (pace : Pace) (s 
 
   pub state_answered : (a : Answer) → answer_in s ≡ Some a → (s.progress ≡ last_state start.progress (rounds_left first start).states) × (pace.slice ≡ (rounds_left first start).left)
   state_answered a e =
-      let done = passed_all (rounds_left first start) start.progress (divisor_of s.code) s.code s.budget pace.slice s.progress g.past a g.passed e in
+      let done = passed_all (rounds_left first start) start.progress (divisor_of s.code) s.code s.budget pace.longest pace.slice s.progress g.past a g.passed e in
       (sym g.passed.last ∙ ap (last_state start.progress) (sym done.0), sym done.1)
 
   pub ends_used_up : answer_in s ≡ None → is_used_up pace.slice ≡ true → (o : Origin) (before : List SessionStep) → IsOnItsWay o before first entry
       → Went before (steps_left first start) (λ told left. HasStopped o told left (rounds_left first start).is_stopped pace now Paused)
   ends_used_up e u o before h =
       let z = used_up pace.slice u in
-      let up = passed_up (rounds_left first start) start.progress (divisor_of s.code) s.code s.budget pace.slice s.progress g.past g.passed e u in
+      let up = passed_up (rounds_left first start) start.progress (divisor_of s.code) s.code s.budget pace.longest pace.slice s.progress g.past g.passed e u in
       let w = g.goes o before h in
       let keep = must_keep pace.keep refl in
       record {
@@ -145,7 +146,7 @@ module _ (first : Pace) (start : SearchState) (entry : Around) (pace : Pace) (s 
   stopped_front : answer_in s ≡ None → is_used_up pace.slice ≡ false
       → (rest : List Progress) × (steps_left first start ≡ map (step_at first start) (g.past ++ next_state pace s ∷ []) ++ map (step_at first start) rest)
   stopped_front going open_yet =
-      let f = passed_front (rounds_left first start) start.progress (divisor_of s.code) s.code s.budget pace.slice s.progress g.past g.passed going open_yet in
+      let f = passed_front (rounds_left first start) start.progress (divisor_of s.code) s.code s.budget pace.longest pace.slice s.progress g.past g.passed going open_yet in
       (f.0, ap (map (step_at first start)) f.1 ∙ map-append (step_at first start) (g.past ++ next_state pace s ∷ []) f.0)
 
   pub ends_stopped : (later : Pace) (then : Around) (stop : Stop) → answer_in s ≡ None → is_used_up pace.slice ≡ false → ((o : Origin) (told : List SessionStep) → IsOnItsWay o told pace now → StopsAt o told (next_step pace s) later then stop)

@@ -2,7 +2,7 @@
 --   first_way            it is on its way
 --   none_answered, waits_first      nothing is met
 --   course_from, starts_ranged, starts_resumed      it starts from a checkpoint
-use Rattle.std.proofs.Common.{◌≡◌, ◌<◌, ◌+◌, map, ℕ, Bool, true, false, List, [], Option, Some, None, IfSome, inl, refl, arith}
+use Rattle.std.proofs.Common.{◌≡◌, ◌<◌, ◌≤◌, ◌+◌, ◌^◌, map, ℕ, Bool, true, false, List, [], Option, Some, None, IfSome, inl, refl, arith}
 use Rattle.std.proofs.lemmas.List.Elements.{All-nil}
 use Rattle.lc_algebra.specs.Matrix.{Matrix}
 use Rattle.lc_algebra.specs.Divisor.{divisor_of}
@@ -53,12 +53,13 @@ unfolding first_divisible
 waits_first version budget slice settled current = record { begun = refl; silent = refl; same = refl; rest = settled; split = refl; fitting = tt; whole = λ v. refl }
 
 -- a session that starts from a checkpoint
-abbrev pub course_from : Checkpoint → Bool → Option ℕ → Record → ℕ → Course
-course_from p keep slice last turn = record {
+abbrev pub course_from : Checkpoint → Bool → ℕ → Option ℕ → Record → ℕ → Course
+course_from p keep longest slice last turn = record {
   pace = record {
     keep = keep;
     told = 0;
     last = last;
+    longest = longest;
     slice = slice;
     point = record { version = 2; script = p.script; budget = p.budget; turn = turn; settled = p.settled; blocks = p.blocks; weight = p.weight; place = p.place };
   };
@@ -67,10 +68,11 @@ course_from p keep slice last turn = record {
   current = Some (record { blocks = p.blocks; weight = p.weight; place = p.place });
 }
 
-pub starts_ranged : (p : Checkpoint) (keep : Bool) (slice : Option ℕ) (last : Record) (turn : ℕ) → IsInRange (point_of p) → (keep ≡ false → slice ≡ None) → turn ≡ next_turn p.turn → IsRanged (course_from p keep slice last turn)
+pub starts_ranged : (p : Checkpoint) (keep : Bool) (longest : ℕ) (slice : Option ℕ) (last : Record) (turn : ℕ) → IsInRange (point_of p) → (1 ≤ longest) × (longest ≤ 2 ^ 20) → (keep ≡ false → slice ≡ None) → turn ≡ next_turn p.turn → IsRanged (course_from p keep longest slice last turn)
 unfolding point_of settled_of current_of next_turn
-starts_ranged p keep slice last turn h kept is = record {
+starts_ranged p keep longest slice last turn h long kept is = record {
   version = refl;
+  longest = long;
   turn = omega (arith, is);
   small = h.small;
   settled = h.records;
@@ -80,15 +82,15 @@ starts_ranged p keep slice last turn h kept is = record {
   many = omega arith;
 }
 
-pub starts_resumed : (p : Checkpoint) (keep : Bool) (slice : Option ℕ) (last : Record) (turn : ℕ) (now : Around) → IfSome slice (λ n. 0 < n) → turn ≡ next_turn p.turn
-    → Goes (started (after p.version (map settled_of p.settled.items) (current_of (point_of p))) p.budget slice keep p.script (next_turn p.turn) now) [] [] (course_from p keep slice last turn) now
+pub starts_resumed : (p : Checkpoint) (keep : Bool) (longest : ℕ) (slice : Option ℕ) (last : Record) (turn : ℕ) (now : Around) → IfSome slice (λ n. 0 < n) → turn ≡ next_turn p.turn
+    → Goes (started (after p.version (map settled_of p.settled.items) (current_of (point_of p))) p.budget longest slice keep p.script (next_turn p.turn) now) [] [] (course_from p keep longest slice last turn) now
 unfolding point_of settled_of current_of next_turn
-starts_resumed p keep slice last turn now some is = record {
+starts_resumed p keep longest slice last turn now some is = record {
   told = [];
   done = [];
   stands = waits_first p.version p.budget slice (map settled_of p.settled.items) (record { blocks = p.blocks; weight = p.weight; place = p.place });
-  way = first_way (next_turn p.turn) (course_from p keep slice last turn).pace now refl is some;
+  way = first_way (next_turn p.turn) (course_from p keep longest slice last turn).pace now refl is some;
   met = refl;
-  of = record { keep = refl; digest = refl; budget = refl };
+  of = record { keep = refl; digest = refl; budget = refl; longest = refl };
   answered = none_answered p.budget;
 }

@@ -1,7 +1,7 @@
 -- A session on its way through the needs of its script.
---   World                    what stays the same: what it starts from, its budget, its slice, whether it keeps checkpoints, the
---                            SHA-256 of its script, and where it began to tell
---   started b budget slice keep digest turn now      the world of a session that begins now
+--   World                    what stays the same: what it starts from, its budget, its longest round, its slice, whether it keeps
+--                            checkpoints, the SHA-256 of its script, and where it began to tell
+--   started b budget longest slice keep digest turn now      the world of a session that begins now
 --   IsOf w p                 the session at this pace is of that world
 --   settled_in c             the settled needs of the session
 --   rounds_from w needs      the rounds of the searches of these needs
@@ -33,28 +33,31 @@ use Rattle.lc_rounds.specs.declared.need.Halt.TheVariants as halt
 pub record World : Type 0 where
   pub beginning : Beginning
   pub budget : ℕ
+  pub longest : ℕ
   pub slice : Option ℕ
   pub keep : Bool
   pub digest : List ℕ
   pub origin : Origin
 
-abbrev pub started : Beginning → ℕ → Option ℕ → Bool → List ℕ → ℕ → Around → World
-started b budget slice keep digest turn now = record { beginning = b; budget = budget; slice = slice; keep = keep; digest = digest; origin = record { turn = turn; around = now } }
+abbrev pub started : Beginning → ℕ → ℕ → Option ℕ → Bool → List ℕ → ℕ → Around → World
+started b budget longest slice keep digest turn now = record { beginning = b; budget = budget; longest = longest; slice = slice; keep = keep; digest = digest; origin = record { turn = turn; around = now } }
 
--- the session has the budget, the script and the checkpoints of the world
+-- the session has the budget, the longest round, the script and the checkpoints of the world
 pub record IsOf (w : World) (p : Pace) : Type 0 where
   pub keep : p.keep ≡ w.keep
   pub digest : p.point.script ≡ w.digest
   pub budget : p.point.budget ≡ w.budget
+  pub longest : p.longest ≡ w.longest
 
 abbrev pub settled_in : Course → List Progress
 settled_in c = map settled_of c.pace.point.settled.items
 
 abbrev pub rounds_from : World → List Matrix → SessionRounds
-rounds_from w needs = session_rounds divisor_of needs w.budget w.slice (begins w.beginning needs)
+rounds_from w needs = session_rounds divisor_of needs w.budget w.longest w.slice (begins w.beginning needs)
 
 pub record IsRanged (c : Course) : Type 0 where
   pub version : c.pace.point.version ≡ 2
+  pub longest : (1 ≤ c.pace.longest) × (c.pace.longest ≤ 2 ^ 20)
   pub turn : c.pace.point.turn ≤ 2 ^ 60
   pub small : c.pace.point.budget ≤ 2 ^ 40
   pub settled : All (IsProgress c.pace.point.budget) (settled_in c)
@@ -72,7 +75,7 @@ pub record AreAnswered (budget : ℕ) (needs : List Matrix) (done : List Progres
 pub record Goes (w : World) (needs : List Matrix) (answers : List Answer) (c : Course) (now : Around) : Type 0 where
   pub told : List SessionStep
   pub done : List Progress
-  pub stands : Stands w.beginning c.version w.budget w.slice needs told (settled_in c) c.pace.slice done (option_map settled_of c.current)
+  pub stands : Stands w.beginning c.version w.budget w.longest w.slice needs told (settled_in c) c.pace.slice done (option_map settled_of c.current)
   pub way : IsOnItsWay w.origin told c.pace now
   pub met : c.met ≡ length needs
   pub of : IsOf w c.pace
@@ -82,14 +85,14 @@ abbrev pub IsUncut : ℕ → Matrix → Type 0
 IsUncut version C = (version == 1) ≡ true → nat_lt 1 (divisor_of C) ≡ false
 
 -- the records of a checkpoint are left, or none is
-abbrev pub NextStands : Beginning → ℕ → ℕ → Option ℕ → List Matrix → Matrix → List SessionStep → List Progress → Option ℕ → List Progress → Option Progress → Type 0
-NextStands b version budget slice needs C told settled left done (Some current) = Waits b version budget slice needs told settled left done current × IsUncut version C
-NextStands b version budget slice needs C told settled left done None = AtNeed b budget slice needs C told (record { settled = settled; current = None }) left done
+abbrev pub NextStands : Beginning → ℕ → ℕ → ℕ → Option ℕ → List Matrix → Matrix → List SessionStep → List Progress → Option ℕ → List Progress → Option Progress → Type 0
+NextStands b version budget longest slice needs C told settled left done (Some current) = Waits b version budget slice needs told settled left done current × IsUncut version C
+NextStands b version budget longest slice needs C told settled left done None = AtNeed b budget longest slice needs C told (record { settled = settled; current = None }) left done
 
 pub record IsNext (w : World) (needs : List Matrix) (C : Matrix) (answers : List Answer) (c : Course) (now : Around) : Type 0 where
   pub told : List SessionStep
   pub done : List Progress
-  pub stands : NextStands w.beginning c.version w.budget w.slice needs C told (settled_in c) c.pace.slice done (option_map settled_of c.current)
+  pub stands : NextStands w.beginning c.version w.budget w.longest w.slice needs C told (settled_in c) c.pace.slice done (option_map settled_of c.current)
   pub way : IsOnItsWay w.origin told c.pace now
   pub met : c.met ≡ length needs
   pub of : IsOf w c.pace

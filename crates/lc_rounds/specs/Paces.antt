@@ -9,6 +9,7 @@ pub record IsSame (p q : Pace) : Type 0 where
   pub told : q.told ≡ p.told
   pub last : q.last ≡ p.last
   pub slice : q.slice ≡ p.slice
+  pub longest : q.longest ≡ p.longest
   pub turn : q.point.turn ≡ p.point.turn
   pub script : q.point.script ≡ p.point.script
   pub budget : q.point.budget ≡ p.point.budget

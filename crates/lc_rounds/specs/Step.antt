@@ -32,7 +32,7 @@ use Rattle.lc_rounds.specs.declared.keeping.Unkept.TheVariants as unkept
 use Rattle.lc_rounds.specs.Way.{Around, Origin, HasStopped}
 
 abbrev pub next_state : Pace → SearchState → Progress
-next_state pace s = after_round s.code s.progress (round_length s.code s.budget pace.slice s.progress.blocks)
+next_state pace s = after_round s.code s.progress (round_length s.code s.budget pace.longest pace.slice s.progress.blocks)
 
 abbrev pub after_next : Pace → SearchState → SearchState
 after_next pace s = record { code = s.code; budget = s.budget; progress = next_state pace s }
@@ -46,7 +46,7 @@ pub record IsDone (pace : Pace) (s t : SearchState) (r : RoundRecord) : Type 0 w
   pub fitting : fits t.code t.progress.blocks (found_of t.progress) ≡ true
   pub further : s.progress.blocks < t.progress.blocks
   pub progress : IsProgress s.budget (next_state pace s)
-  pub done : r.done ≡ round_length s.code s.budget pace.slice s.progress.blocks
+  pub done : r.done ≡ round_length s.code s.budget pace.longest pace.slice s.progress.blocks
   pub blocks : r.blocks ≡ (next_state pace s).blocks
   pub weight : r.best ≡ (next_state pace s).weight
   pub place : r.closed.best % 2 ^ 52 ≡ (next_state pace s).place
@@ -55,7 +55,7 @@ pub record IsDone (pace : Pace) (s t : SearchState) (r : RoundRecord) : Type 0 w
 -- once the round was done
 abbrev pub at_round : Pace → SearchState → Pace
 at_round pace s = record pace {
-  slice = less_slice pace.slice (round_length s.code s.budget pace.slice s.progress.blocks);
+  slice = less_slice pace.slice (round_length s.code s.budget pace.longest pace.slice s.progress.blocks);
   point = record pace.point { blocks = (next_state pace s).blocks; weight = (next_state pace s).weight; place = (next_state pace s).place };
 }
 
@@ -77,6 +77,7 @@ PutFails keep slot old new faults now unkept.NoMemory = (new ≡ old) × (now �
 
 pub record IsSameSession (old new : Pace) : Type 0 where
   pub keep : new.keep ≡ old.keep
+  pub longest : new.longest ≡ old.longest
   pub version : new.point.version ≡ old.point.version
   pub script : new.point.script ≡ old.point.script
   pub budget : new.point.budget ≡ old.point.budget

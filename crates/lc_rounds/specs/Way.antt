@@ -29,7 +29,7 @@ use Rattle.lc_rounds.specs.declared.rounds.Stop.TheVariants.{Paused, VaultFault,
 
 -- the rounds of a search from its state on
 abbrev pub rounds_left : Pace → SearchState → Rounds
-rounds_left pace s = rounds (divisor_of s.code) s.code s.budget pace.slice s.progress
+rounds_left pace s = rounds (divisor_of s.code) s.code s.budget pace.longest pace.slice s.progress
 
 abbrev pub steps_left : Pace → SearchState → List SessionStep
 steps_left pace s = map (step_of (divisor_of s.code) s.code (map settled_of pace.point.settled.items)) (rounds_left pace s).states

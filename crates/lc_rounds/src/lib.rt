@@ -3,6 +3,7 @@
 #![tactic(auto)]
 
 mod course;
+mod crew;
 mod keeping;
 mod laws;
 mod need;
@@ -13,6 +14,7 @@ mod rounds;
 mod starting;
 
 pub use course::Course;
+pub use crew::Crew;
 pub use laws::searches_start_fitting;
 pub use need::{Halt, answer_need};
 pub use pace::Pace;

@@ -13,6 +13,7 @@ ghost use Rattle.lc_rounds.specs.Paces.{IsSame};
 ghost use Rattle.lc_rounds.specs.Going.{World, IsRanged, Goes, IsNext, Halts};
 
 use crate::course::Course;
+use crate::crew::Crew;
 use crate::records::{Answered, begun, passed};
 use crate::rounds::{Stop, search_need};
 use lc_checkpoint::Settled;
@@ -113,16 +114,12 @@ fn pass_over(alloc: Global, course: &mut Course, code: &Code) -> Result<Answered
 // Searches for the answer of a need that isn't settled.
 #[tactic(auto, using(crate::proofs::RecordLaws::current_within))]
 fn search_on<R: Threads + Sync, V: Vault, W: Watcher, G: Gate + Sync>(
-    rt: &R,
-    alloc: Global,
-    workers: u32,
-    gate: &G,
+    crew: &Crew<'_, R, G>,
     vault: &mut V,
     watchers: &mut Vec<W>,
     course: &mut Course,
     code: &Code,
 ) -> Result<Answered, Halt>
-    requires workers { (1 ≤ workers) × (workers ≤ 256) }
     requires rows { 0 < length code.now.rows }
     requires ranged { IsRanged course.old }
     requires few { course.old.met < 70000 }
@@ -142,20 +139,11 @@ fn search_on<R: Threads + Sync, V: Vault, W: Watcher, G: Gate + Sync>(
     ensures ranged { IfOk result (λ _. IsRanged course.new) }
     ensures same { IfOk result (λ _. course.new.met ≡ course.old.met + 1) }
 {
-    let mut search = match begun(alloc, code, course.pace.point.budget, course.current) {
+    let mut search = match begun(crew.alloc, code, course.pace.point.budget, course.current) {
         Ok(search) => search,
         Err(halt) => return Err(halt),
     };
-    let answer = match search_need(
-        rt,
-        alloc,
-        workers,
-        gate,
-        vault,
-        watchers,
-        &mut course.pace,
-        &mut search,
-    ) {
+    let answer = match search_need(crew, vault, watchers, &mut course.pace, &mut search) {
         Ok(answer) => answer,
         Err(stop) => return Err(Halt::Stop(stop)),
     };
@@ -172,18 +160,14 @@ fn search_on<R: Threads + Sync, V: Vault, W: Watcher, G: Gate + Sync>(
 
 /// Answers the next need of a session: by the record of a checkpoint, if it has one there, else by its search.
 ///
-/// There are 1 to 256 workers, the code has dimension at least 1, and fewer than 70,000 needs were met.
+/// The code has dimension at least 1, and fewer than 70,000 needs were met.
 pub fn answer_need<R: Threads + Sync, V: Vault, W: Watcher, G: Gate + Sync>(
-    rt: &R,
-    alloc: Global,
-    workers: u32,
-    gate: &G,
+    crew: &Crew<'_, R, G>,
     vault: &mut V,
     watchers: &mut Vec<W>,
     course: &mut Course,
     code: &Code,
 ) -> Result<Answered, Halt>
-    requires workers { (1 ≤ workers) × (workers ≤ 256) }
     requires rows { 0 < length code.now.rows }
     requires ranged { IsRanged course.old }
     requires few { course.old.met < 70000 }
@@ -204,10 +188,10 @@ pub fn answer_need<R: Threads + Sync, V: Vault, W: Watcher, G: Gate + Sync>(
 {
     if begins_anew(course, code) {
         cut(course);
-        return search_on(rt, alloc, workers, gate, vault, watchers, course, code);
+        return search_on(crew, vault, watchers, course, code);
     }
     if (course.met as usize) < course.pace.point.settled.len() {
-        return pass_over(alloc, course, code);
+        return pass_over(crew.alloc, course, code);
     }
-    search_on(rt, alloc, workers, gate, vault, watchers, course, code)
+    search_on(crew, vault, watchers, course, code)
 }

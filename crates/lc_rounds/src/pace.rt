@@ -19,6 +19,8 @@ pub struct Pace {
     pub told: u64,
     /// The last record told; any record if none was.
     pub last: Record,
+    /// How many blocks a round does at most, 1 to 2^20.
+    pub longest: u64,
     /// How many blocks the session may still do, if it has a slice.
     pub slice: Option<u64>,
     /// The next checkpoint: its version is 2, its turn is that of the next checkpoint, and its settled needs are those of the

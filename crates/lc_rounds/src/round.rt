@@ -8,30 +8,29 @@ ghost use Rattle.lc_search.specs.State.{answer_in};
 ghost use Rattle.lc_session_rules.specs.Session.{record_of};
 ghost use Rattle.lc_rounds.specs.Step.{next_state, after_next, next_step, IsDone, at_round};
 
+use crate::crew::Crew;
 use crate::pace::Pace;
 use lc_field::NoMemory;
 use lc_io::{Gate, Record};
 use lc_search::{RoundRecord, Search};
-use std::alloc::Global;
 use std::thread::Threads;
-
-// A round does at most so many blocks.
-const LONGEST_ROUND: u64 = 256;
 
 // What a board shows is the weight of the best word times this, plus its place.
 const PLACES: u64 = 1 << 52;
 
 // How many blocks the next round may do at most.
 #[tactic(auto, using(crate::proofs::SliceLaws::limit_of_laws))]
-fn limit_of(slice: Option<u64>) -> u64
+fn limit_of(longest: u64, slice: Option<u64>) -> u64
+    requires longest { 1 ≤ longest }
     requires left { is_used_up slice ≡ false }
     ensures some { 1 ≤ result }
     ensures within { IfSome slice (λ left. result ≤ left) }
-    ensures is { (C : Matrix) (budget l : ℕ) → round_length C budget (Some result) l ≡ round_length C budget slice l }
+    ensures is { (C : Matrix) (budget l : ℕ) →
+        round_length C budget longest (Some result) l ≡ round_length C budget longest slice l }
 {
     match slice {
-        Some(left) => left.min(LONGEST_ROUND),
-        None => LONGEST_ROUND,
+        Some(left) => left,
+        None => longest,
     }
 }
 
@@ -49,17 +48,14 @@ fn left_of(slice: Option<u64>, done: u64) -> Option<u64>
 
 // Does the next round of the search.
 fn next_round<R: Threads + Sync, G: Gate + Sync>(
-    rt: &R,
-    alloc: Global,
-    workers: u32,
-    gate: &G,
+    crew: &Crew<'_, R, G>,
     pace: &Pace,
     search: &mut Search,
 ) -> Result<RoundRecord, NoMemory>
-    requires workers { (1 ≤ workers) × (workers ≤ 256) }
     requires budget { search.old.budget ≤ 2 ^ 40 }
     requires fitting { fits search.old.code search.old.progress.blocks (found_of search.old.progress) ≡ true }
     requires going { answer_in search.old ≡ None }
+    requires longest { (1 ≤ pace.now.longest) × (pace.now.longest ≤ 2 ^ 20) }
     requires left { is_used_up pace.now.slice ≡ false }
     ensures done { IfOk result (λ r. IsDone pace.now search.old search.new r) }
     ensures short { IfOk result (λ r. IfSome pace.now.slice (λ left. r.done ≤ left)) }
@@ -68,7 +64,15 @@ fn next_round<R: Threads + Sync, G: Gate + Sync>(
     let sets = search.sets();
     let _dimension = sets.dimension();
     let _length = sets.length();
-    let round = search.round(rt, alloc, workers, limit_of(pace.slice), gate)?;
+    let limit = limit_of(pace.longest, pace.slice);
+    let round = search.round_within(
+        crew.rt,
+        crew.alloc,
+        crew.workers,
+        pace.longest,
+        limit,
+        crew.gate,
+    )?;
     Ok(round)
 }
 
@@ -76,17 +80,14 @@ fn next_round<R: Threads + Sync, G: Gate + Sync>(
 /// round.
 #[tactic(auto, using(crate::proofs::DoneLaws::note_is, crate::proofs::DoneLaws::pace_is))]
 pub(crate) fn do_round<R: Threads + Sync, G: Gate + Sync>(
-    rt: &R,
-    alloc: Global,
-    workers: u32,
-    gate: &G,
+    crew: &Crew<'_, R, G>,
     pace: &mut Pace,
     search: &mut Search,
 ) -> Result<Record, NoMemory>
-    requires workers { (1 ≤ workers) × (workers ≤ 256) }
     requires budget { search.old.budget ≤ 2 ^ 40 }
     requires fitting { fits search.old.code search.old.progress.blocks (found_of search.old.progress) ≡ true }
     requires going { answer_in search.old ≡ None }
+    requires longest { (1 ≤ pace.old.longest) × (pace.old.longest ≤ 2 ^ 20) }
     requires left { is_used_up pace.old.slice ≡ false }
     ensures search { IfOk result (λ _. search.new ≡ after_next pace.old search.old) }
     ensures further { IfOk result (λ _. search.old.progress.blocks < search.new.progress.blocks) }
@@ -97,7 +98,7 @@ pub(crate) fn do_round<R: Threads + Sync, G: Gate + Sync>(
     ensures pace { IfOk result (λ _. pace.new ≡ at_round pace.old search.old) }
     ensures no_memory { OnErr result ((search.new ≡ search.old) × (pace.new ≡ pace.old)) }
 {
-    let round = next_round(rt, alloc, workers, gate, pace, search)?;
+    let round = next_round(crew, pace, search)?;
     pace.slice = left_of(pace.slice, round.done);
     pace.point.blocks = round.blocks;
     pace.point.weight = round.best;

@@ -9,13 +9,13 @@ ghost use Rattle.lc_search.specs.State.{answer_in, answer_of};
 ghost use Rattle.lc_rounds.specs.Step.{next_step, after_step, after_next, IsSameSession, StopsAt};
 ghost use Rattle.lc_rounds.specs.Way.{rounds_left, steps_left, around, Origin, IsOnItsWay, HasStopped, Went};
 
+use crate::crew::Crew;
 use crate::keeping::{Unkept, has_bytes, keep_point};
 use crate::pace::Pace;
 use crate::round::do_round;
 use lc_field::NoMemory;
 use lc_io::{Gate, Vault, Watcher};
 use lc_search::{Answer, Search, tell};
-use std::alloc::Global;
 use std::thread::Threads;
 
 /// Why a session stops before its search is answered.
@@ -42,19 +42,16 @@ fn is_used_up(slice: Option<u64>) -> bool
 
 // Does a round of the search, stores its checkpoint, if the session keeps its checkpoints, and tells its record.
 fn pass_round<R: Threads + Sync, V: Vault, W: Watcher, G: Gate + Sync>(
-    rt: &R,
-    alloc: Global,
-    workers: u32,
-    gate: &G,
+    crew: &Crew<'_, R, G>,
     vault: &mut V,
     watchers: &mut Vec<W>,
     pace: &mut Pace,
     search: &mut Search,
 ) -> Result<(), Stop>
-    requires workers { (1 ≤ workers) × (workers ≤ 256) }
     requires budget { (search.old.budget ≤ 2 ^ 40) × (pace.old.point.budget ≡ search.old.budget) }
     requires fitting { fits search.old.code search.old.progress.blocks (found_of search.old.progress) ≡ true }
     requires going { answer_in search.old ≡ None }
+    requires longest { (1 ≤ pace.old.longest) × (pace.old.longest ≤ 2 ^ 20) }
     requires left { is_used_up pace.old.slice ≡ false }
     requires version { pace.old.point.version ≡ 2 }
     requires turn { pace.old.point.turn ≤ 2 ^ 60 }
@@ -81,12 +78,12 @@ fn pass_round<R: Threads + Sync, V: Vault, W: Watcher, G: Gate + Sync>(
     ensures fitting { fits search.new.code search.new.progress.blocks (found_of search.new.progress) ≡ true }
     ensures told { pace.new.told ≤ pace.old.told + (search.new.progress.blocks - search.old.progress.blocks) }
 {
-    let record = match do_round(rt, alloc, workers, gate, pace, search) {
+    let record = match do_round(crew, pace, search) {
         Ok(record) => record,
         Err(NoMemory) => return Err(Stop::NoMemory),
     };
     has_bytes(&pace.point.script);
-    match keep_point(alloc, vault, pace.keep, &pace.point) {
+    match keep_point(crew.alloc, vault, pace.keep, &pace.point) {
         Ok(()) => {}
         Err(Unkept::VaultFault) => return Err(Stop::VaultFault),
         Err(Unkept::NoMemory) => return Err(Stop::NoMemory),
@@ -102,19 +99,15 @@ fn pass_round<R: Threads + Sync, V: Vault, W: Watcher, G: Gate + Sync>(
 /// Does the rounds of a search until it is answered. After each round its checkpoint is stored, if the session keeps its
 /// checkpoints, and then its record is told to the watchers.
 ///
-/// There are 1 to 256 workers. The search has the budget of the session's checkpoint, and its state fits its code. Fewer than
-/// 70,000 needs are settled. The turn is at most 2^60.
+/// A round has 1 to 2^20 blocks at most. The search has the budget of the session's checkpoint, and its state fits its code.
+/// Fewer than 70,000 needs are settled. The turn is at most 2^60.
 pub fn search_need<R: Threads + Sync, V: Vault, W: Watcher, G: Gate + Sync>(
-    rt: &R,
-    alloc: Global,
-    workers: u32,
-    gate: &G,
+    crew: &Crew<'_, R, G>,
     vault: &mut V,
     watchers: &mut Vec<W>,
     pace: &mut Pace,
     search: &mut Search,
 ) -> Result<Answer, Stop>
-    requires workers { (1 ≤ workers) × (workers ≤ 256) }
     requires budget { (search.old.budget ≤ 2 ^ 40) × (pace.old.point.budget ≡ search.old.budget) }
     requires fitting { fits search.old.code search.old.progress.blocks (found_of search.old.progress) ≡ true }
     requires version { pace.old.point.version ≡ 2 }
@@ -122,8 +115,8 @@ pub fn search_need<R: Threads + Sync, V: Vault, W: Watcher, G: Gate + Sync>(
     requires few { length pace.old.point.settled.items < 70000 }
     requires settled { All (IsProgress search.old.budget) (map settled_of pace.old.point.settled.items) }
     requires room { pace.old.told + search.old.budget < 2 ^ 64 }
+    requires longest { (1 ≤ pace.old.longest) × (pace.old.longest ≤ 2 ^ 20) }
     requires slice { pace.old.keep ≡ false → pace.old.slice ≡ None }
-
     ensures goes { (o : Origin) (before : List SessionStep) →
         IsOnItsWay o before pace.old (around (V.contents vault.old) (V.faults vault.old)
         (map (hearing W.heard W.coming W.pauses) watchers.old.items)) →
@@ -141,6 +134,7 @@ pub fn search_need<R: Threads + Sync, V: Vault, W: Watcher, G: Gate + Sync>(
     ensures search { (search.new.code ≡ search.old.code) × (search.new.budget ≡ search.old.budget) }
     ensures fitting { fits search.new.code search.new.progress.blocks (found_of search.new.progress) ≡ true }
     ensures slice { IfOk result (λ _. pace.new.slice ≡ (rounds_left pace.old search.old).left) }
+    ensures longest { pace.new.longest ≡ pace.old.longest }
     ensures pace { (pace.new.keep ≡ pace.old.keep)
         × (pace.new.told ≤ pace.old.told + (search.new.progress.blocks - search.old.progress.blocks)) }
     ensures point { (pace.new.point.version ≡ 2) × (pace.new.point.script ≡ pace.old.point.script)
@@ -154,7 +148,7 @@ pub fn search_need<R: Threads + Sync, V: Vault, W: Watcher, G: Gate + Sync>(
         if is_used_up(pace.slice) {
             return Err(Stop::Paused);
         }
-        match pass_round(rt, alloc, workers, gate, vault, watchers, pace, search) {
+        match pass_round(crew, vault, watchers, pace, search) {
             Ok(()) => {}
             Err(stop) => return Err(stop),
         }

@@ -23,30 +23,33 @@ fn no_record() -> Record {
     }
 }
 
-/// A session that starts afresh, with this budget of blocks for each search, and this slice if it has one, of at least one block.
-/// `script` is the SHA-256 of its script.
+/// A session that starts afresh, with this budget of blocks for each search, rounds of at most `longest` blocks, and this slice if
+/// it has one, of at least one block. `script` is the SHA-256 of its script.
 ///
-/// The budget is at most 2^40. There is a slice only if checkpoints are kept.
+/// The budget is at most 2^40, and `longest` is 1 to 2^20. There is a slice only if checkpoints are kept.
 pub fn afresh(
     alloc: Global,
     keep: bool,
+    longest: u64,
     slice: Option<u64>,
     budget: u64,
     script: [u8; 32],
 ) -> Course
     requires budget { budget ≤ 2 ^ 40 }
+    requires longest { (1 ≤ longest) × (longest ≤ 2 ^ 20) }
     requires slice { IfSome slice (λ n. 0 < n) }
     requires kept { keep ≡ false → slice ≡ None }
     ensures ranged { IsRanged result }
     ensures unmet { result.met ≡ 0 }
     ensures fresh { is_some result.current ≡ false }
-    ensures starts { (now : Around) → Goes (started afresh budget slice keep script 0 now) [] [] result now }
+    ensures starts { (now : Around) → Goes (started afresh budget longest slice keep script 0 now) [] [] result now }
 {
     Course {
         pace: Pace {
             keep,
             told: 0,
             last: no_record(),
+            longest,
             slice,
             point: Checkpoint {
                 version: 2,
@@ -67,17 +70,18 @@ pub fn afresh(
 
 /// A session that starts from a checkpoint of its script and budget.
 ///
-/// The checkpoint is in range, and the slice is as for one that starts afresh.
+/// The checkpoint is in range, and `longest` and the slice are as for one that starts afresh.
 #[tactic(auto, unfolding(crate::proofs::Opened::points_and_turns))]
-pub fn resumed(keep: bool, slice: Option<u64>, point: Checkpoint) -> Course
+pub fn resumed(keep: bool, longest: u64, slice: Option<u64>, point: Checkpoint) -> Course
     requires ranged { IsInRange (point_of point) }
+    requires longest { (1 ≤ longest) × (longest ≤ 2 ^ 20) }
     requires slice { IfSome slice (λ n. 0 < n) }
     requires kept { keep ≡ false → slice ≡ None }
     ensures ranged { IsRanged result }
     ensures unmet { result.met ≡ 0 }
     ensures starts { (now : Around) → Goes (started
         (after point.version (map settled_of point.settled.items)
-        (current_of (point_of point))) point.budget slice keep point.script
+        (current_of (point_of point))) point.budget longest slice keep point.script
         (next_turn point.turn) now) [] [] result now }
 {
     let version = point.version;
@@ -92,6 +96,7 @@ pub fn resumed(keep: bool, slice: Option<u64>, point: Checkpoint) -> Course
             keep,
             told: 0,
             last: no_record(),
+            longest,
             slice,
             point: Checkpoint {
                 version: 2,

@@ -23,7 +23,7 @@ use Rattle.lc_script_laws.proofs.CallLaws.{built_one}
 use Rattle.lc_script_laws.proofs.OneText.{steps_one}
 use Rattle.lc_script_laws.proofs.AskShapes.{met_shaped}
 use Rattle.lc_script_laws.proofs.RangeLaws.{true_read_back}
-use Rattle.lc_script_laws.proofs.BudgetLaws.{options_small}
+use Rattle.lc_session_rules.proofs.OptionLaws.{options_usual}
 
 pub one_step_built : OneStep built_calls
 one_step_built env s = steps_one built_calls env built_one s
@@ -50,7 +50,7 @@ chains_are_true bytes budget short small version slots chain = chains.chains_are
 
 small_budget : (args : List (List ℕ)) (o : Options) (asked : Settings) (old new : Outside) (n : ℕ) → options all_options args ≡ o → Accepts o asked old new (done n) → asked.budget ≤ 2 ^ 40
 small_budget args (refuses i) asked old new n e h = absurd (let ended : done n ≡ usage i = h.1 in cc)
-small_budget args (settings s) asked old new n e h = subst (λ (t : Settings). t.budget ≤ 2 ^ 40) (sym h.0) (options_small all_options args s e)
+small_budget args (settings s) asked old new n e h = subst (λ (t : Settings). t.budget ≤ 2 ^ 40) (sym h.0) (options_usual all_options args s e).budget_is
 
 short_script : (args : List (List ℕ)) (old new : Outside) (n : ℕ) (s : IsSession built_calls args old new (done n)) → s.asked.command ≡ resume → length s.course.bytes ≤ most_bytes
 short_script args old new n s resumes =

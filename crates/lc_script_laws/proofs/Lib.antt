@@ -7,7 +7,6 @@ pub mod CallLaws
 pub mod OneText
 pub mod AskShapes
 pub mod RangeLaws
-pub mod BudgetLaws
 pub mod GroundLaws
 pub mod CertificateLaws
 pub mod StoredLaws

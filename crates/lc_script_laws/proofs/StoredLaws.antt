@@ -21,7 +21,7 @@ use Rattle.lc_session_rules.specs.Chain.{HasBegun, TearsSo}
 use Rattle.lc_session_rules.proofs.GroundLaws as chains
 use Rattle.lc_session_rules.proofs.StoredTruly.{IsGrounded, grounded_stores, grounded_afresh, grounded_early, grounded_stay}
 use Rattle.lc_script_laws.proofs.GroundLaws.{script_is_ground}
-use Rattle.lc_script_laws.proofs.BudgetLaws.{options_small}
+use Rattle.lc_session_rules.proofs.OptionLaws.{options_usual}
 
 -- a session that told a record has read its script
 read_whole : (ending : Ending) (asked : Settings) (old new : Option (List ℕ)) (course : Course) → ReadsScript ending old new course → Ends ending asked course → (course.told ≡ []) ⊎ (length course.bytes ≤ most_bytes)
@@ -53,7 +53,7 @@ refused_silent ending i asked course e ends = subst (λ (x : Ending). Ends x ask
 grounded_by : (args : List (List ℕ)) (o : Options) (asked : Settings) (old new : Outside) (ending : Ending) (course : Course) → options all_options args ≡ o → Accepts o asked old new ending → Ends ending asked course → (course.told ≡ []) ⊎ (length course.bytes ≤ most_bytes) → IsGrounded built_calls asked course
 grounded_by args (refuses i) asked old new ending course is h ends read = inl (refused_silent ending i asked course h.1 ends)
 grounded_by args (settings s) asked old new ending course is h ends (inl e) = inl e
-grounded_by args (settings s) asked old new ending course is h ends (inr short) = inr (script_is_ground course.bytes asked.budget short (subst (λ (t : Settings). t.budget ≤ 2 ^ 40) (sym h.0) (options_small all_options args s is)))
+grounded_by args (settings s) asked old new ending course is h ends (inr short) = inr (script_is_ground course.bytes asked.budget short (subst (λ (t : Settings). t.budget ≤ 2 ^ 40) (sym h.0) (options_usual all_options args s is).budget_is))
 
 -- whatever the slots, if the command is one that keeps checkpoints
 reads_if_kept : (c : Command) (ending : Ending) (asked : Settings) (old new : Option (List ℕ)) (course : Course) → IsTrue (keeps c) → Reads c ending old new course → Ends ending asked course → (course.told ≡ []) ⊎ (length course.bytes ≤ most_bytes)

@@ -222,6 +222,7 @@ impl Search {
     /// The search isn't finished, there are 1 to 256 workers, and the limit is at least 1. Workers are numbered from 0; each
     /// passes the gate before each of its reports. One worker starts no thread. All memory is taken before the first claim; if
     /// there is none, the search is as before.
+    #[tactic(auto, unfolding(lc_enumeration::specs::Records::default_round))]
     pub fn round<R: Threads + Sync, G: Gate + Sync>(
         &mut self,
         rt: &R,

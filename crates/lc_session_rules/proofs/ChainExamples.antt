@@ -42,20 +42,20 @@ unfoldable pub rounds_compute : ⊤
 unfolding truth_computes progress_of first_progress end_of_phase within_slice round_length after_round note_of is_used_up state_first no_round less_slice rounds_within rounds last_state fresh_start step_of no_steps steps_first session_from session_rounds start_in
 rounds_compute = tt
 
-pub first_session : session_rounds divisor_of (hamming ∷ []) (2 ^ 20) (Some 1) fresh_start ≡ record { steps = first_step ∷ []; settled = []; left = Some 0; is_stopped = true }
+pub first_session : session_rounds divisor_of (hamming ∷ []) (2 ^ 20) 256 (Some 1) fresh_start ≡ record { steps = first_step ∷ []; settled = []; left = Some 0; is_stopped = true }
 unfolding rounds_compute
 first_session = refl
 
-pub second_session : (digest : List ℕ) → session_rounds divisor_of (hamming ∷ []) (2 ^ 20) None (start_in divisor_of (hamming ∷ []) (point_of 2 digest (2 ^ 20) 0 first_step)) ≡ record { steps = second_step ∷ []; settled = reached 2 ∷ []; left = None; is_stopped = false }
+pub second_session : (digest : List ℕ) → session_rounds divisor_of (hamming ∷ []) (2 ^ 20) 256 None (start_in divisor_of (hamming ∷ []) (point_of 2 digest (2 ^ 20) 0 first_step)) ≡ record { steps = second_step ∷ []; settled = reached 2 ∷ []; left = None; is_stopped = false }
 unfolding rounds_compute point_of
 second_session digest = refl
 
 -- what `run slice=1 keep=yes` and `resume keep=yes` ask for
 abbrev pub sliced : Settings
-sliced = record { command = run; workers = 1; budget = 2 ^ 20; slice = Some 1; keep = true; number = 0 }
+sliced = record { command = run; workers = 1; round = 256; budget = 2 ^ 20; slice = Some 1; keep = true; number = 0 }
 
 abbrev pub unsliced : Settings
-unsliced = record { command = resume; workers = 1; budget = 2 ^ 20; slice = None; keep = true; number = 0 }
+unsliced = record { command = resume; workers = 1; round = 256; budget = 2 ^ 20; slice = None; keep = true; number = 0 }
 
 abbrev pub first_course : List ℕ → Course
 first_course bytes = record { bytes = bytes; needs = hamming ∷ []; start = fresh_start; turn = 0; told = first_step ∷ []; left = []; is_paused = false; text = []; is_faulty = false }
@@ -101,11 +101,11 @@ slots_after_both bytes = refl
 
 first_goes : (table : List Call) (bytes : List ℕ) → MeetsFirst table bytes (hamming ∷ []) → Goes 2 table bytes (2 ^ 20) (hamming ∷ []) fresh_start (first_step ∷ [])
 unfolding divisor_in
-first_goes table bytes met = record { version_is = inr refl; met = met; slice = Some 1; left = []; rounds = rw first_session refl }
+first_goes table bytes met = record { version_is = inr refl; met = met; longest = 256; long = omega arith; slice = Some 1; left = []; rounds = rw first_session refl }
 
 second_goes : (table : List Call) (bytes : List ℕ) → MeetsFirst table bytes (hamming ∷ []) → Goes 2 table bytes (2 ^ 20) (hamming ∷ []) (start_in (divisor_in 2) (hamming ∷ []) (point_of 2 (sha256 bytes) (2 ^ 20) 0 first_step)) (second_step ∷ [])
 unfolding divisor_in
-second_goes table bytes met = record { version_is = inr refl; met = met; slice = None; left = []; rounds = rw (second_session (sha256 bytes)) refl }
+second_goes table bytes met = record { version_is = inr refl; met = met; longest = 256; long = omega arith; slice = None; left = []; rounds = rw (second_session (sha256 bytes)) refl }
 
 -- where the first checkpoint is the one chosen, as it is because its text is read back
 pub chain : (table : List Call) (bytes : List ℕ) → MeetsFirst table bytes (hamming ∷ []) → chosen (after_first bytes) ≡ Some (point_of 2 (sha256 bytes) (2 ^ 20) 0 first_step) → Chain table bytes (2 ^ 20) 2 (after_both bytes)

@@ -141,14 +141,14 @@ unfolding divisor_in
 at_most_one version D is = omega (arith, ltb-false 1 (divisor_in version D) is, one_at_least version D)
 
 -- where no need is left the session does no round, so that nothing needs to be shown of its start
-true_from : (version : ℕ) (needs : List Matrix) (digest : List ℕ) (budget : ℕ) → IsVersion version
-    → ((i : ℕ) (C : Matrix) → slice_get needs i ≡ Some C → (slice : Option ℕ) (s : Progress) → IsBestAt C s → s.blocks ≤ answer_blocks (answer (divisor_in version C) C budget) → EndsAtAnswer (divisor_in version C) C budget slice s)
+true_from : (version : ℕ) (needs : List Matrix) (digest : List ℕ) (budget longest : ℕ) → IsVersion version
+    → ((i : ℕ) (C : Matrix) → slice_get needs i ≡ Some C → (slice : Option ℕ) (s : Progress) → IsBestAt C s → s.blocks ≤ answer_blocks (answer (divisor_in version C) C budget) → EndsAtAnswer (divisor_in version C) C budget longest slice s)
     → (slice : Option ℕ) (settled : List Progress) (current : Option Progress) (turn : ℕ) (left : List Matrix) → drop (length settled) needs ≡ left → ((C : Matrix) → slice_get needs (length settled) ≡ Some C → IsTrueStart version needs budget settled current turn)
-    → AreTrueSteps version needs digest budget turn (session_from (divisor_in version) left budget slice settled current).steps
+    → AreTrueSteps version needs digest budget turn (session_from (divisor_in version) left budget longest slice settled current).steps
 unfolding session_from no_steps
-true_from version needs digest budget known ends slice settled current turn [] is start = tt
-true_from version needs digest budget known ends slice settled current turn (C ∷ left) is start =
-    session_true version needs digest budget known ends (C ∷ left) slice settled current turn is (start C (need_at needs (length settled) C left is))
+true_from version needs digest budget longest known ends slice settled current turn [] is start = tt
+true_from version needs digest budget longest known ends slice settled current turn (C ∷ left) is start =
+    session_true version needs digest budget longest known ends (C ∷ left) slice settled current turn is (start C (need_at needs (length settled) C left is))
 
 -- where a session starts that uses all records of a true checkpoint, or those before a need
 pub record IsUsed (p : Checkpoint) (needs : List Matrix) (version : ℕ) (o : Option ℕ) : Type 0 where
@@ -178,16 +178,16 @@ start_some bytes budget version needs front p i one holds agree within allowed f
     (omega (arith, allowed))
 
 -- a session that goes on from a true checkpoint does steps whose checkpoints are true
-resumed_truly : (table : List Call) (bytes : List ℕ) (budget version : ℕ) (needs front : List Matrix) (p : Checkpoint) → IsGround table bytes budget → IsVersion version → MeetsFirst table bytes needs → MeetsFirst table bytes front → IsTrueFor front (sha256 bytes) budget p
-    → (slice o : Option ℕ) → IsUsed p needs version o → AreTrueSteps version needs (sha256 bytes) budget (next_turn p.turn) (session_rounds (divisor_in version) needs budget slice (start_before p.settled (current_of p) o)).steps
+resumed_truly : (table : List Call) (bytes : List ℕ) (budget longest version : ℕ) (needs front : List Matrix) (p : Checkpoint) → 0 < longest → IsGround table bytes budget → IsVersion version → MeetsFirst table bytes needs → MeetsFirst table bytes front → IsTrueFor front (sha256 bytes) budget p
+    → (slice o : Option ℕ) → IsUsed p needs version o → AreTrueSteps version needs (sha256 bytes) budget (next_turn p.turn) (session_rounds (divisor_in version) needs budget longest slice (start_before p.settled (current_of p) o)).steps
 unfolding session_rounds start_before
-resumed_truly table bytes budget version needs front p ground known met met_front holds slice None used =
+resumed_truly table bytes budget longest version needs front p long ground known met met_front holds slice None used =
     let u = used.all refl in
-    true_from version needs (sha256 bytes) budget known (searches_end table bytes budget ground version needs met) slice p.settled (Some (current_of p)) (next_turn p.turn) (drop (length p.settled) needs) refl
+    true_from version needs (sha256 bytes) budget longest known (searches_end table bytes budget longest long ground version needs met) slice p.settled (Some (current_of p)) (next_turn p.turn) (drop (length p.settled) needs) refl
     (λ C at. start_all bytes budget version needs front p (met_agree table bytes ground.script ground.step front needs met_front met) holds u.0 u.1 (let w = slice_get_within needs (length p.settled) C at in omega (arith, w)))
-resumed_truly table bytes budget version needs front p ground known met met_front holds slice (Some i) used =
+resumed_truly table bytes budget longest version needs front p long ground known met met_front holds slice (Some i) used =
     let u = used.some i refl in
-    true_from version needs (sha256 bytes) budget known (searches_end table bytes budget ground version needs met) slice (take i p.settled) None (next_turn p.turn) (drop (length (take i p.settled)) needs) refl
+    true_from version needs (sha256 bytes) budget longest known (searches_end table bytes budget longest long ground version needs met) slice (take i p.settled) None (next_turn p.turn) (drop (length (take i p.settled)) needs) refl
     (λ C at. start_some bytes budget version needs front p i (met_agree table bytes ground.script ground.step front needs met_front met) holds u.0 u.1 u.2 (let w = slice_get_within needs (length (take i p.settled)) C at in omega (arith, w)))
 
 -- a version that isn't 1 is used whole
@@ -290,10 +290,10 @@ used_first p needs version first known early = record {
 }
 
 -- which records are used is by the version of the checkpoint
-pub resumed_start : (table : List Call) (bytes : List ℕ) (budget version : ℕ) (needs front : List Matrix) (p : Checkpoint) → IsGround table bytes budget → IsVersion version → IsVersion p.version → p.version ≤ version → MeetsFirst table bytes needs → MeetsFirst table bytes front → IsTrueFor front (sha256 bytes) budget p
-    → (slice : Option ℕ) → AreTrueSteps version needs (sha256 bytes) budget (next_turn p.turn) (session_rounds (divisor_in version) needs budget slice (start_in (divisor_in version) needs p)).steps
+pub resumed_start : (table : List Call) (bytes : List ℕ) (budget longest version : ℕ) (needs front : List Matrix) (p : Checkpoint) → 0 < longest → IsGround table bytes budget → IsVersion version → IsVersion p.version → p.version ≤ version → MeetsFirst table bytes needs → MeetsFirst table bytes front → IsTrueFor front (sha256 bytes) budget p
+    → (slice : Option ℕ) → AreTrueSteps version needs (sha256 bytes) budget (next_turn p.turn) (session_rounds (divisor_in version) needs budget longest slice (start_in (divisor_in version) needs p)).steps
 unfolding start_in used_start
-resumed_start table bytes budget version needs front p ground known kind l met met_front holds slice =
+resumed_start table bytes budget longest version needs front p long ground known kind l met met_front holds slice =
     by_kind kind
   where
     first-test : p.version ≡ 1 → (p.version == 1) ≡ true
@@ -305,9 +305,9 @@ resumed_start table bytes budget version needs front p ground known kind l met m
     newest : p.version ≡ 2 → p.version ≡ version
     newest e = ⊎_elim (λ (f : version ≡ 1). absurd (omega (arith, e, f, l))) (λ (f : version ≡ 2). e ∙ sym f) known
 
-    by_kind : IsVersion p.version → AreTrueSteps version needs (sha256 bytes) budget (next_turn p.turn) (session_rounds (divisor_in version) needs budget slice (start_before p.settled (current_of p) (if p.version == 1 then first_divisible (divisor_in version) (take (suc (length p.settled)) needs) else None))).steps
-    by_kind (inl first) = rw (first-test first) (resumed_truly table bytes budget version needs front p ground known met met_front holds slice (first_divisible (divisor_in version) (take (suc (length p.settled)) needs)) (used_first p needs version first known (early_enough table bytes budget p ground first (front, met_front, holds))))
-    by_kind (inr second) = rw (second-test second) (resumed_truly table bytes budget version needs front p ground known met met_front holds slice None (used_whole p needs version (newest second)))
+    by_kind : IsVersion p.version → AreTrueSteps version needs (sha256 bytes) budget (next_turn p.turn) (session_rounds (divisor_in version) needs budget longest slice (start_before p.settled (current_of p) (if p.version == 1 then first_divisible (divisor_in version) (take (suc (length p.settled)) needs) else None))).steps
+    by_kind (inl first) = rw (first-test first) (resumed_truly table bytes budget longest version needs front p long ground known met met_front holds slice (first_divisible (divisor_in version) (take (suc (length p.settled)) needs)) (used_first p needs version first known (early_enough table bytes budget p ground first (front, met_front, holds))))
+    by_kind (inr second) = rw (second-test second) (resumed_truly table bytes budget longest version needs front p long ground known met met_front holds slice None (used_whole p needs version (newest second)))
 
 pub empty_is_none : checkpoint_in [] ≡ refused damaged
 unfolding checkpoint_computes checkpoint_in
@@ -318,24 +318,24 @@ kept_empty table bytes budget version Zero = rw empty_is_none tt
 kept_empty table bytes budget version One = rw empty_is_none tt
 
 goes_truly : (version : ℕ) (table : List Call) (bytes : List ℕ) (budget : ℕ) (needs : List Matrix) (start : Start) (told : List SessionStep) (turn : ℕ) (g : Goes version table bytes budget needs start told)
-    → AreTrueSteps version needs (sha256 bytes) budget turn (session_rounds (divisor_in version) needs budget g.slice start).steps → AreTrueSteps version needs (sha256 bytes) budget turn told
+    → AreTrueSteps version needs (sha256 bytes) budget turn (session_rounds (divisor_in version) needs budget g.longest g.slice start).steps → AreTrueSteps version needs (sha256 bytes) budget turn told
 goes_truly version table bytes budget needs start told turn g all = true_front version needs (sha256 bytes) budget turn told g.left (subst (AreTrueSteps version needs (sha256 bytes) budget turn) g.rounds all)
 
-pub begun_truly : (table : List Call) (bytes : List ℕ) (budget version : ℕ) (needs : List Matrix) → IsGround table bytes budget → IsVersion version → MeetsFirst table bytes needs → (slice : Option ℕ) → AreTrueSteps version needs (sha256 bytes) budget 0 (session_rounds (divisor_in version) needs budget slice fresh_start).steps
+pub begun_truly : (table : List Call) (bytes : List ℕ) (budget longest version : ℕ) (needs : List Matrix) → 0 < longest → IsGround table bytes budget → IsVersion version → MeetsFirst table bytes needs → (slice : Option ℕ) → AreTrueSteps version needs (sha256 bytes) budget 0 (session_rounds (divisor_in version) needs budget longest slice fresh_start).steps
 unfolding session_rounds fresh_start
-begun_truly table bytes budget version needs ground known met slice =
-    true_from version needs (sha256 bytes) budget known (searches_end table bytes budget ground version needs met) slice [] None 0 needs refl (λ C at. starts_next version needs budget [] 0 tt (omega arith))
+begun_truly table bytes budget longest version needs long ground known met slice =
+    true_from version needs (sha256 bytes) budget longest known (searches_end table bytes budget longest long ground version needs met) slice [] None 0 needs refl (λ C at. starts_next version needs budget [] 0 tt (omega arith))
 
 pub chains_kept : (table : List Call) (bytes : List ℕ) (budget version : ℕ) (slots : Slots) → IsGround table bytes budget → Chain table bytes budget version slots → AreKept table bytes budget version slots
 chains_kept table bytes budget _ _ ground (Chain.begun version needs told slots g left) =
     kept_leaves table bytes budget version needs ground g.version_is g.met told 0 empty_slots slots (kept_empty table bytes budget version)
-    (goes_truly version table bytes budget needs fresh_start told 0 g (begun_truly table bytes budget version needs ground g.version_is g.met g.slice)) left
+    (goes_truly version table bytes budget needs fresh_start told 0 g (begun_truly table bytes budget g.longest version needs g.long ground g.version_is g.met g.slice)) left
 chains_kept table bytes budget _ _ ground (Chain.resumed version later needs p told before slots chain l took g left) =
     let kept = chains_kept table bytes budget version before ground chain in
     let at = chosen_kept table bytes budget version before p kept took in
     let holds = at.1.true_for in
     kept_leaves table bytes budget later needs ground g.version_is g.met told (next_turn p.turn) before slots (kept_later table bytes budget version later before l kept)
-    (goes_truly later table bytes budget needs (start_in (divisor_in later) needs p) told (next_turn p.turn) g (resumed_start table bytes budget later needs holds.0 p ground g.version_is at.1.known (omega (arith, l, at.1.old)) g.met holds.1 holds.2 g.slice)) left
+    (goes_truly later table bytes budget needs (start_in (divisor_in later) needs p) told (next_turn p.turn) g (resumed_start table bytes budget g.longest later needs holds.0 p g.long ground g.version_is at.1.known (omega (arith, l, at.1.old)) g.met holds.1 holds.2 g.slice)) left
 
 as_resumed : (table : List Call) (bytes : List ℕ) (budget version : ℕ) (slot : Slot) (read : ReadCheckpoint) → IsKept table bytes budget version slot read → IsTornOr slot table bytes budget read
 as_resumed table bytes budget version slot (point p) h = (h.true_for, h.placed)

@@ -28,13 +28,13 @@ use Rattle.lc_session_rules.specs.Slots.{IsTrueCheckpoint}
 use Rattle.lc_session_rules.specs.Chain.{Rises, EndsAtAnswer, IsGround}
 use Rattle.lc_session_rules.proofs.TrueSteps.{AreSettled, blocks_of, parts_of}
 
-search_rises : (most d : ℕ) (C : Matrix) (budget : ℕ) (slice o : Option ℕ) (s : Progress) → 0 < length C.rows → 0 < set_count C → budget ≤ cut → find (is_done d C) (done_list C budget) ≡ o → IsBestAt C s → s.blocks ≤ target o budget → Rises C (target o budget) s.blocks (rounds_within most d C budget slice s).states
+search_rises : (most d : ℕ) (C : Matrix) (budget longest : ℕ) (slice o : Option ℕ) (s : Progress) → 0 < length C.rows → 0 < set_count C → budget ≤ cut → 0 < longest → find (is_done d C) (done_list C budget) ≡ o → IsBestAt C s → s.blocks ≤ target o budget → Rises C (target o budget) s.blocks (rounds_within most d C budget longest slice s).states
 unfolding rounds_within state_first no_round
-search_rises zero d C budget slice o s rows sets small f h few = tt
-search_rises (suc most) d C budget slice o s rows sets small f h few =
-    let count = round_length C budget slice s.blocks in
+search_rises zero d C budget longest slice o s rows sets small long f h few = tt
+search_rises (suc most) d C budget longest slice o s rows sets small long f h few =
+    let count = round_length C budget longest slice s.blocks in
     let next = after_round C s count in
-    let rest = rounds_within most d C budget (less_slice slice count) next in
+    let rest = rounds_within most d C budget longest (less_slice slice count) next in
     let go = λ (b : Bool). elim b as (λ _. Rounds) [ true ↦ no_round slice true | false ↦ state_first next rest ] in
     let on = λ (a : Option Answer). elim a as (λ _. Rounds) [ Some _ ↦ no_round slice false | None ↦ go (is_used_up slice) ] in
     let goal = λ (r : Rounds). Rises C (target o budget) s.blocks r.states in
@@ -45,11 +45,11 @@ search_rises (suc most) d C budget slice o s rows sets small f h few =
     (⊎_elim
     (λ u. subst (λ (b : Bool). goal (go b)) (sym u) tt)
     (λ u.
-    let w = round_within d C budget slice o s.blocks rows sets small f less u in
+    let w = round_within d C budget longest slice o s.blocks rows sets small long f less u in
     let blocks = next_blocks C s count in
     let best_next = round_is_best C s count h in
     let few_next : next.blocks ≤ target o budget = omega (arith, blocks, w.1) in
-    subst (λ (b : Bool). goal (go b)) (sym u) (omega (arith, blocks, w.0), few_next, best_next, search_rises most d C budget (less_slice slice count) o next rows sets small f best_next few_next))
+    subst (λ (b : Bool). goal (go b)) (sym u) (omega (arith, blocks, w.0), few_next, best_next, search_rises most d C budget longest (less_slice slice count) o next rows sets small long f best_next few_next))
     (cases_Bool (is_used_up slice))))
     (λ least. subst (λ (a : Option Answer). goal (on a)) (sym (state.here (omega (arith, least, few)))) tt)
     (cases_lt s.blocks (target o budget))
@@ -70,14 +70,14 @@ settles_so d C budget s a is =
     by_end false true e = (let same : bracket (bound d C s.blocks (found_of s).weight) (found_of s) s.blocks ≡ a = (let f = e in cc) in subst (SettlesAs s) same (refl, refl))
     by_end false false e = absurd (let f = e in cc)
 
-pub ends_at_answer : (d : ℕ) (C : Matrix) (budget : ℕ) (slice : Option ℕ) (s : Progress) → 0 < length C.rows → budget ≤ 2 ^ 40 → IsBestAt C s → s.blocks ≤ answer_blocks (answer d C budget) → EndsAtAnswer d C budget slice s
+pub ends_at_answer : (d : ℕ) (C : Matrix) (budget longest : ℕ) (slice : Option ℕ) (s : Progress) → 0 < length C.rows → budget ≤ 2 ^ 40 → 0 < longest → IsBestAt C s → s.blocks ≤ answer_blocks (answer d C budget) → EndsAtAnswer d C budget longest slice s
 unfolding rounds cut
-ends_at_answer d C budget slice s rows small h few =
+ends_at_answer d C budget longest slice s rows small long h few =
     let o = find (is_done d C) (done_list C budget) in
     let most : target o budget ≡ answer_blocks (answer d C budget) = sym (target_is d C budget rows) in
-    let e = search_ends d C budget slice s rows small (record { best = h; few = few }) in
+    let e = search_ends d C budget longest slice s rows small long (record { best = h; few = few }) in
     record {
-      rises = subst (λ (n : ℕ). Rises C n s.blocks (rounds d C budget slice s).states) most (search_rises (suc (budget - s.blocks)) d C budget slice o s rows (some_set C) small refl h (omega (arith, few, most)));
+      rises = subst (λ (n : ℕ). Rises C n s.blocks (rounds d C budget longest slice s).states) most (search_rises (suc (budget - s.blocks)) d C budget longest slice o s rows (some_set C) small long refl h (omega (arith, few, most)));
       ends = λ unstopped. e.settles unstopped;
     }
 
@@ -139,6 +139,6 @@ true_turn table bytes budget ground p holds =
     (λ (e : p.version ≡ 2). let some : turn_allowance p.version ≡ 2 ^ 57 = ap turn_allowance e in omega (arith, within, some)) holds.2.known
 
 -- what the searches of a script do, as chains need it
-pub searches_end : (table : List Call) (bytes : List ℕ) (budget : ℕ) → IsGround table bytes budget → (version : ℕ) (needs : List Matrix) → MeetsFirst table bytes needs → (i : ℕ) (C : Matrix) → slice_get needs i ≡ Some C → (slice : Option ℕ) (s : Progress) → IsBestAt C s → s.blocks ≤ answer_blocks (answer (divisor_in version C) C budget)
-    → EndsAtAnswer (divisor_in version C) C budget slice s
-searches_end table bytes budget ground version needs met i C at slice s h few = ends_at_answer (divisor_in version C) C budget slice s (ground.rows needs met i C at) ground.small h few
+pub searches_end : (table : List Call) (bytes : List ℕ) (budget longest : ℕ) → 0 < longest → IsGround table bytes budget → (version : ℕ) (needs : List Matrix) → MeetsFirst table bytes needs → (i : ℕ) (C : Matrix) → slice_get needs i ≡ Some C → (slice : Option ℕ) (s : Progress) → IsBestAt C s → s.blocks ≤ answer_blocks (answer (divisor_in version C) C budget)
+    → EndsAtAnswer (divisor_in version C) C budget longest slice s
+searches_end table bytes budget longest long ground version needs met i C at slice s h few = ends_at_answer (divisor_in version C) C budget longest slice s (ground.rows needs met i C at) ground.small long h few

@@ -5,7 +5,7 @@
 --   used_settles         a session that goes on from the records used settles each need
 --   chosen_true          over true slots the checkpoint that is taken is true
 --   fresh_text, resumed_text      the text of `run`, and that of `resume` from a true checkpoint
-use Rattle.std.proofs.Common.{◌≡◌, ◌+◌, ◌≤◌, ⊎_elim, ◌⊎◌, inl, inr, ℕ, zero, suc, Bool, true, false, List, [], ◌∷◌, length, drop, take, refl, sym, ap, subst, ◌∙◌, arith}
+use Rattle.std.proofs.Common.{◌≡◌, ◌+◌, ◌≤◌, ⊎_elim, ◌⊎◌, inl, inr, ℕ, zero, suc, Bool, true, false, List, [], ◌∷◌, length, drop, take, refl, sym, ap, subst, ◌∙◌, arith, ◌<◌}
 use Rattle.std.specs.Prelude.{Option, Some, None, if◌then◌else◌, ◌==◌, nat_lt}
 use Rattle.sha2.specs.Sha256.{sha256}
 use Rattle.lc_algebra.specs.Matrix.{Matrix}
@@ -89,17 +89,17 @@ pub fits_within : (divisor : Matrix → ℕ) (needs : List Matrix) (budget : ℕ
 unfolding misfit
 fits_within divisor needs budget start is = fits_from divisor 0 needs budget start.settled start.current is
 
-used_settles : (table : List Call) (bytes : List ℕ) (budget : ℕ) (needs front : List Matrix) (p : Checkpoint) → IsGround table bytes budget → MeetsFirst table bytes needs → MeetsFirst table bytes front → IsTrueFor front (sha256 bytes) budget p → (slice o : Option ℕ) → IsUsed p needs 2 o
-    → length (start_before p.settled (current_of p) o).settled ≤ length needs → (session_rounds (divisor_in 2) needs budget slice (start_before p.settled (current_of p) o)).is_stopped ≡ false
-    → AreAllSettled 2 budget needs (session_rounds (divisor_in 2) needs budget slice (start_before p.settled (current_of p) o)).settled
+used_settles : (table : List Call) (bytes : List ℕ) (budget longest : ℕ) (needs front : List Matrix) (p : Checkpoint) → 0 < longest → IsGround table bytes budget → MeetsFirst table bytes needs → MeetsFirst table bytes front → IsTrueFor front (sha256 bytes) budget p → (slice o : Option ℕ) → IsUsed p needs 2 o
+    → length (start_before p.settled (current_of p) o).settled ≤ length needs → (session_rounds (divisor_in 2) needs budget longest slice (start_before p.settled (current_of p) o)).is_stopped ≡ false
+    → AreAllSettled 2 budget needs (session_rounds (divisor_in 2) needs budget longest slice (start_before p.settled (current_of p) o)).settled
 unfolding session_rounds start_before
-used_settles table bytes budget needs front p ground met met_front holds slice None used within unstopped =
+used_settles table bytes budget longest needs front p long ground met met_front holds slice None used within unstopped =
     let u = used.all refl in
-    session_settles 2 needs (sha256 bytes) budget (inr refl) (searches_end table bytes budget ground 2 needs met) (drop (length p.settled) needs) slice p.settled (Some (current_of p)) (next_turn p.turn) refl within
+    session_settles 2 needs (sha256 bytes) budget longest (inr refl) (searches_end table bytes budget longest long ground 2 needs met) (drop (length p.settled) needs) slice p.settled (Some (current_of p)) (next_turn p.turn) refl within
     (start_all bytes budget 2 needs front p (met_agree table bytes ground.script ground.step front needs met_front met) holds u.0 u.1 within) unstopped
-used_settles table bytes budget needs front p ground met met_front holds slice (Some i) used within unstopped =
+used_settles table bytes budget longest needs front p long ground met met_front holds slice (Some i) used within unstopped =
     let u = used.some i refl in
-    session_settles 2 needs (sha256 bytes) budget (inr refl) (searches_end table bytes budget ground 2 needs met) (drop (length (take i p.settled)) needs) slice (take i p.settled) None (next_turn p.turn) refl within
+    session_settles 2 needs (sha256 bytes) budget longest (inr refl) (searches_end table bytes budget longest long ground 2 needs met) (drop (length (take i p.settled)) needs) slice (take i p.settled) None (next_turn p.turn) refl within
     (start_some bytes budget 2 needs front p i (met_agree table bytes ground.script ground.step front needs met_front met) holds u.0 u.1 u.2 within) unstopped
 
 first_test : (p : Checkpoint) → p.version ≡ 1 → (p.version == 1) ≡ true
@@ -108,30 +108,30 @@ first_test p e = rw e refl
 second_test : (p : Checkpoint) → p.version ≡ 2 → (p.version == 1) ≡ false
 second_test p e = rw e refl
 
-resumed_settles : (table : List Call) (bytes : List ℕ) (budget : ℕ) (needs front : List Matrix) (p : Checkpoint) → IsGround table bytes budget → MeetsFirst table bytes needs → MeetsFirst table bytes front → IsTrueFor front (sha256 bytes) budget p → IsVersion p.version → (slice : Option ℕ)
-    → length (start_of needs p).settled ≤ length needs → (session_rounds divisor_of needs budget slice (start_of needs p)).is_stopped ≡ false → AreAllSettled 2 budget needs (session_rounds divisor_of needs budget slice (start_of needs p)).settled
+resumed_settles : (table : List Call) (bytes : List ℕ) (budget longest : ℕ) (needs front : List Matrix) (p : Checkpoint) → 0 < longest → IsGround table bytes budget → MeetsFirst table bytes needs → MeetsFirst table bytes front → IsTrueFor front (sha256 bytes) budget p → IsVersion p.version → (slice : Option ℕ)
+    → length (start_of needs p).settled ≤ length needs → (session_rounds divisor_of needs budget longest slice (start_of needs p)).is_stopped ≡ false → AreAllSettled 2 budget needs (session_rounds divisor_of needs budget longest slice (start_of needs p)).settled
 unfolding start_of used_start divisor_in
-resumed_settles table bytes budget needs front p ground met met_front holds (inl first) slice =
-    rw (first_test p first) (used_settles table bytes budget needs front p ground met met_front holds slice (first_divisible divisor_of (take (suc (length p.settled)) needs)) (used_first p needs 2 first (inr refl) (early_enough table bytes budget p ground first (front, met_front, holds))))
-resumed_settles table bytes budget needs front p ground met met_front holds (inr second) slice =
-    rw (second_test p second) (used_settles table bytes budget needs front p ground met met_front holds slice None (used_whole p needs 2 second))
+resumed_settles table bytes budget longest needs front p long ground met met_front holds (inl first) slice =
+    rw (first_test p first) (used_settles table bytes budget longest needs front p long ground met met_front holds slice (first_divisible divisor_of (take (suc (length p.settled)) needs)) (used_first p needs 2 first (inr refl) (early_enough table bytes budget p ground first (front, met_front, holds))))
+resumed_settles table bytes budget longest needs front p long ground met met_front holds (inr second) slice =
+    rw (second_test p second) (used_settles table bytes budget longest needs front p long ground met met_front holds slice None (used_whole p needs 2 second))
 
-fresh_settles : (table : List Call) (bytes : List ℕ) (budget : ℕ) (needs : List Matrix) → IsGround table bytes budget → MeetsFirst table bytes needs → (slice : Option ℕ) → (session_rounds divisor_of needs budget slice fresh_start).is_stopped ≡ false → AreAllSettled 2 budget needs (session_rounds divisor_of needs budget slice fresh_start).settled
+fresh_settles : (table : List Call) (bytes : List ℕ) (budget longest : ℕ) (needs : List Matrix) → 0 < longest → IsGround table bytes budget → MeetsFirst table bytes needs → (slice : Option ℕ) → (session_rounds divisor_of needs budget longest slice fresh_start).is_stopped ≡ false → AreAllSettled 2 budget needs (session_rounds divisor_of needs budget longest slice fresh_start).settled
 unfolding session_rounds fresh_start divisor_in
-fresh_settles table bytes budget needs ground met slice unstopped =
-    session_settles 2 needs (sha256 bytes) budget (inr refl) (searches_end table bytes budget ground 2 needs met) needs slice [] None 0 refl (omega arith) (starts_next 2 needs budget [] 0 tt (omega arith)) unstopped
+fresh_settles table bytes budget longest needs long ground met slice unstopped =
+    session_settles 2 needs (sha256 bytes) budget longest (inr refl) (searches_end table bytes budget longest long ground 2 needs met) needs slice [] None 0 refl (omega arith) (starts_next 2 needs budget [] 0 tt (omega arith)) unstopped
 
 -- what settles each need gives the answers of the search
 by_search : (table : List Call) (bytes : List ℕ) (budget : ℕ) (needs : List Matrix) (states : List Progress) (answers : List Answer) → IsGround table bytes budget → MeetsFirst table bytes needs → AreAllSettled 2 budget needs states → Settle budget needs states answers → answers ≡ answers_of needs budget
 unfolding divisor_in
 by_search table bytes budget needs states answers ground met all settle = settled_answers budget needs states answers (λ i C at s h. h) all.0 all.1 settle
 
-pub fresh_text : (table : List Call) (asked : Settings) (course : Course) → IsGround table course.bytes asked.budget → NoFault course.bytes → IsFresh course → IsNeeds table course.bytes course.needs → (rounds_of asked course).is_stopped ≡ false
+pub fresh_text : (table : List Call) (asked : Settings) (course : Course) → 1 ≤ asked.round → IsGround table course.bytes asked.budget → NoFault course.bytes → IsFresh course → IsNeeds table course.bytes course.needs → (rounds_of asked course).is_stopped ≡ false
     → (answers : List Answer) → Settle asked.budget course.needs (rounds_of asked course).settled answers → IsTextBy table asked.budget course.bytes answers course.text course.is_faulty → IsText table asked.budget course.bytes course.text course.is_faulty
-fresh_text table asked course ground sound fresh all unstopped answers settle by =
+fresh_text table asked course long ground sound fresh all unstopped answers settle by =
     let met = whole_met table course.bytes course.needs all in
-    let over = λ (t : Start). session_rounds divisor_of course.needs asked.budget asked.slice t in
-    let settled = fresh_settles table course.bytes asked.budget course.needs ground met asked.slice (sym (ap (λ (t : Start). (over t).is_stopped) fresh.start) ∙ unstopped) in
+    let over = λ (t : Start). session_rounds divisor_of course.needs asked.budget asked.round asked.slice t in
+    let settled = fresh_settles table course.bytes asked.budget asked.round course.needs long ground met asked.slice (sym (ap (λ (t : Start). (over t).is_stopped) fresh.start) ∙ unstopped) in
     let mine : Settle asked.budget course.needs (over fresh_start).settled answers = subst (λ (t : Start). Settle asked.budget course.needs (over t).settled answers) fresh.start settle in
     text_by_search table asked.budget course.bytes course.needs answers course.text course.is_faulty ground.script ground.step sound all (by_search table course.bytes asked.budget course.needs (over fresh_start).settled answers ground met settled mine) by
 
@@ -156,13 +156,13 @@ chosen_true table bytes budget slots p both is =
     (λ (e : checkpoint_in slots.one_slot ≡ point p). (let h : IsTornOr One table bytes budget (point p) = rw e at both.1 in h.0))
     (taken_from (checkpoint_in slots.zero_slot) (checkpoint_in slots.one_slot) p is)
 
-pub resumed_text : (table : List Call) (asked : Settings) (held : Option Slots) (course : Course) (p : Checkpoint) → IsGround table course.bytes asked.budget → NoFault course.bytes → GoesOnFrom asked held course p → IsTrueCheckpoint table course.bytes asked.budget p → Fits asked course
+pub resumed_text : (table : List Call) (asked : Settings) (held : Option Slots) (course : Course) (p : Checkpoint) → 1 ≤ asked.round → IsGround table course.bytes asked.budget → NoFault course.bytes → GoesOnFrom asked held course p → IsTrueCheckpoint table course.bytes asked.budget p → Fits asked course
     → IsNeeds table course.bytes course.needs → (rounds_of asked course).is_stopped ≡ false
     → (answers : List Answer) → Settle asked.budget course.needs (rounds_of asked course).settled answers → IsTextBy table asked.budget course.bytes answers course.text course.is_faulty → IsText table asked.budget course.bytes course.text course.is_faulty
-resumed_text table asked held course p ground sound from (front, met_front, holds) fits all unstopped answers settle by =
+resumed_text table asked held course p long ground sound from (front, met_front, holds) fits all unstopped answers settle by =
     let met = whole_met table course.bytes course.needs all in
-    let over = λ (t : Start). session_rounds divisor_of course.needs asked.budget asked.slice t in
+    let over = λ (t : Start). session_rounds divisor_of course.needs asked.budget asked.round asked.slice t in
     let few : length (start_of course.needs p).settled ≤ length course.needs = subst (λ (t : Start). length t.settled ≤ length course.needs) from.start (fits_within divisor_of course.needs asked.budget course.start fits) in
-    let settled = resumed_settles table course.bytes asked.budget course.needs front p ground met met_front holds holds.known asked.slice few (sym (ap (λ (t : Start). (over t).is_stopped) from.start) ∙ unstopped) in
+    let settled = resumed_settles table course.bytes asked.budget asked.round course.needs front p long ground met met_front holds holds.known asked.slice few (sym (ap (λ (t : Start). (over t).is_stopped) from.start) ∙ unstopped) in
     let mine : Settle asked.budget course.needs (over (start_of course.needs p)).settled answers = subst (λ (t : Start). Settle asked.budget course.needs (over t).settled answers) from.start settle in
     text_by_search table asked.budget course.bytes course.needs answers course.text course.is_faulty ground.script ground.step sound all (by_search table course.bytes asked.budget course.needs (over (start_of course.needs p)).settled answers ground met settled mine) by

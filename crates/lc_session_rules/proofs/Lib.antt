@@ -1,6 +1,7 @@
 pub mod SlotsAfter
 pub mod AnswerLaws
 pub mod OptionExamples
+pub mod OptionLaws
 pub mod SessionExamples
 pub mod RoundExamples
 pub mod SummaryExamples

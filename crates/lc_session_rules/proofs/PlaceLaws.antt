@@ -25,10 +25,10 @@ unfolding steps_first
 nothing_told r = refl
 
 -- nothing is resumed
-pub starts : (budget : ℕ) (slice : Option ℕ) → Came afresh budget slice [] [] [] slice []
+pub starts : (budget longest : ℕ) (slice : Option ℕ) → Came afresh budget longest slice [] [] [] slice []
 unfolding fresh_start
-starts budget slice = record {
-  goes = λ more. nothing_told (session_rounds divisor_of more budget slice (record { settled = []; current = None }));
+starts budget longest slice = record {
+  goes = λ more. nothing_told (session_rounds divisor_of more budget longest slice (record { settled = []; current = None }));
   as_many = refl;
   fits = λ more. fits_anew divisor_of budget [] more [] tt;
   all = refl;
@@ -41,7 +41,7 @@ split_at [] (t ∷ rest) (suc i) s e at = absurd (omega (arith, e))
 split_at (t ∷ done) rest zero s e at = absurd (omega (arith, e))
 split_at (t ∷ done) rest (suc i) s e at = split_at done rest i s (omega (arith, e)) at
 
-module _ (b : Beginning) (version budget : ℕ) (slice : Option ℕ) (needs : List Matrix) (told : List SessionStep) (settled : List Progress) (left : Option ℕ) (done : List Progress) (current : Progress) (w : Waits b version budget slice needs told settled left done current) where
+module _ (b : Beginning) (version budget longest : ℕ) (slice : Option ℕ) (needs : List Matrix) (told : List SessionStep) (settled : List Progress) (left : Option ℕ) (done : List Progress) (current : Progress) (w : Waits b version budget slice needs told settled left done current) where
   done_long : length done ≡ length needs
   done_long = fitting_length divisor_of budget needs done w.fitting
 
@@ -100,17 +100,17 @@ module _ (b : Beginning) (version budget : ℕ) (slice : Option ℕ) (needs : Li
       ap (take (suc (length settled))) (sym (append_assoc needs (C ∷ []) more)) ∙ take_front (needs ++ C ∷ []) more (suc (length settled)) (omega (arith, e, length-append needs (C ∷ []))) in
       ap (λ (x : Beginning). begins x (needs ++ C ∷ more)) w.begun ∙ starts_whole divisor_of version settled current (needs ++ C ∷ more) (needs ++ C ∷ []) up_to (whole_more divisor_of version needs C w.whole uncut)
 
-  goes_from : (C : Matrix) (now : Start) → ((more : List Matrix) → begins b (needs ++ C ∷ more) ≡ now) → GoesSo divisor_of budget (begins b) slice needs (C ∷ []) told now left
+  goes_from : (C : Matrix) (now : Start) → ((more : List Matrix) → begins b (needs ++ C ∷ more) ≡ now) → GoesSo divisor_of budget longest (begins b) slice needs (C ∷ []) told now left
   goes_from C now h more =
       let all = needs ++ C ∷ more in
-      ap (session_rounds divisor_of all budget slice) (h more)
-      ∙ nothing_told (session_rounds divisor_of all budget slice now)
-      ∙ ap (λ (l : List SessionStep). steps_first l (session_rounds divisor_of all budget slice now)) (sym w.silent)
-      ∙ ap (λ (o : Option ℕ). steps_first told (session_rounds divisor_of all budget o now)) (sym w.same)
+      ap (session_rounds divisor_of all budget longest slice) (h more)
+      ∙ nothing_told (session_rounds divisor_of all budget longest slice now)
+      ∙ ap (λ (l : List SessionStep). steps_first l (session_rounds divisor_of all budget longest slice now)) (sym w.silent)
+      ∙ ap (λ (o : Option ℕ). steps_first told (session_rounds divisor_of all budget longest o now)) (sym w.same)
 
   -- the record of the current need fits
   pub enters : (C : Matrix) → length settled ≡ length needs → ((version == 1) ≡ true → nat_lt 1 (divisor_of C) ≡ false) → fits C current.blocks (found_of current) ≡ true
-      → AtNeed b budget slice needs C told (record { settled = settled; current = Some current }) left done
+      → AtNeed b budget longest slice needs C told (record { settled = settled; current = Some current }) left done
   enters C e uncut fit = record {
     goes = goes_from C (record { settled = settled; current = Some current }) (λ more. starts_here C more e uncut);
     as_many = e;
@@ -129,7 +129,7 @@ module _ (b : Beginning) (version budget : ℕ) (slice : Option ℕ) (needs : Li
   cut_here C more v divisible = ap (λ (x : Beginning). begins x (needs ++ C ∷ more)) w.begun ∙ starts_before divisor_of version settled current needs C more v within w.whole divisible
 
   -- the session starts anew at this need
-  pub starts_anew : (C : Matrix) → (version == 1) ≡ true → nat_lt 1 (divisor_of C) ≡ true → AtNeed b budget slice needs C told (record { settled = take (length needs) settled; current = None }) left done
+  pub starts_anew : (C : Matrix) → (version == 1) ≡ true → nat_lt 1 (divisor_of C) ≡ true → AtNeed b budget longest slice needs C told (record { settled = take (length needs) settled; current = None }) left done
   starts_anew C v divisible = record {
     goes = goes_from C (record { settled = take (length needs) settled; current = None }) (λ more. cut_here C more v divisible);
     as_many = ap (λ (l : List Progress). length l) front ∙ done_long;
@@ -144,24 +144,24 @@ module _ (b : Beginning) (version budget : ℕ) (slice : Option ℕ) (needs : Li
       ∙ unfit_end divisor_of budget needs done w.rest current w.fitting
       ∙ ap (λ (l : List Progress). Some (record { need = length needs; told = suc (length l); found = 0 })) (sym w.split)
 
-pub waits_quietly : (b : Beginning) (version budget : ℕ) (slice : Option ℕ) (needs : List Matrix) (told : List SessionStep) (settled : List Progress) (left : Option ℕ) (done : List Progress) (current : Progress) → Waits b version budget slice needs told settled left done current
-    → session_rounds divisor_of needs budget slice (begins b needs) ≡ no_steps settled slice false
-waits_quietly b version budget slice needs told settled left done current w =
-    let l = within b version budget slice needs told settled left done current w in
-    ap (session_rounds divisor_of needs budget slice) (starts_so b version budget slice needs told settled left done current w needs (omega (arith, l)) w.whole)
-    ∙ none_left divisor_of budget needs slice (record { settled = settled; current = Some current }) l
+pub waits_quietly : (b : Beginning) (version budget longest : ℕ) (slice : Option ℕ) (needs : List Matrix) (told : List SessionStep) (settled : List Progress) (left : Option ℕ) (done : List Progress) (current : Progress) → Waits b version budget slice needs told settled left done current
+    → session_rounds divisor_of needs budget longest slice (begins b needs) ≡ no_steps settled slice false
+waits_quietly b version budget longest slice needs told settled left done current w =
+    let l = within b version budget longest slice needs told settled left done current w in
+    ap (session_rounds divisor_of needs budget longest slice) (starts_so b version budget longest slice needs told settled left done current w needs (omega (arith, l)) w.whole)
+    ∙ none_left divisor_of budget longest needs slice (record { settled = settled; current = Some current }) l
 
-pub goes_to : (b : Beginning) (budget : ℕ) (slice : Option ℕ) (needs : List Matrix) (told : List SessionStep) (settled : List Progress) (left : Option ℕ) (done : List Progress) (C : Matrix) → Came b budget slice needs told settled left done → AtNeed b budget slice needs C told (record { settled = settled; current = None }) left done
-goes_to b budget slice needs told settled left done C h = record { goes = λ more. h.goes (C ∷ more); as_many = h.as_many; fits = λ more. h.fits (C ∷ more); all = h.all }
+pub goes_to : (b : Beginning) (budget longest : ℕ) (slice : Option ℕ) (needs : List Matrix) (told : List SessionStep) (settled : List Progress) (left : Option ℕ) (done : List Progress) (C : Matrix) → Came b budget longest slice needs told settled left done → AtNeed b budget longest slice needs C told (record { settled = settled; current = None }) left done
+goes_to b budget longest slice needs told settled left done C h = record { goes = λ more. h.goes (C ∷ more); as_many = h.as_many; fits = λ more. h.fits (C ∷ more); all = h.all }
 
 -- the search of the need has ended
-pub has_searched : (b : Beginning) (budget : ℕ) (slice : Option ℕ) (needs : List Matrix) (C : Matrix) (told : List SessionStep) (now : Start) (left : Option ℕ) (done : List Progress) → AtNeed b budget slice needs C told now left done
-    → (rounds (divisor_of C) C budget left (state_at C now)).is_stopped ≡ false
-    → Came b budget slice (needs ++ C ∷ []) (told ++ steps_at divisor_of budget C left now) (start_next divisor_of budget C left now).settled (rounds (divisor_of C) C budget left (state_at C now)).left (done ++ last_state (state_at C now) (states_at divisor_of budget C left now) ∷ [])
-has_searched b budget slice needs C told now left done h unstopped =
-    let last = last_state (state_at C now) (states_at divisor_of budget C left now) in
+pub has_searched : (b : Beginning) (budget longest : ℕ) (slice : Option ℕ) (needs : List Matrix) (C : Matrix) (told : List SessionStep) (now : Start) (left : Option ℕ) (done : List Progress) → AtNeed b budget longest slice needs C told now left done
+    → (rounds (divisor_of C) C budget longest left (state_at C now)).is_stopped ≡ false
+    → Came b budget longest slice (needs ++ C ∷ []) (told ++ steps_at divisor_of budget longest C left now) (start_next divisor_of budget longest C left now).settled (rounds (divisor_of C) C budget longest left (state_at C now)).left (done ++ last_state (state_at C now) (states_at divisor_of budget longest C left now) ∷ [])
+has_searched b budget longest slice needs C told now left done h unstopped =
+    let last = last_state (state_at C now) (states_at divisor_of budget longest C left now) in
     record {
-      goes = searched divisor_of budget (begins b) slice needs C told now left h.goes h.as_many unstopped;
+      goes = searched divisor_of budget longest (begins b) slice needs C told now left h.goes h.as_many unstopped;
       as_many = length-append now.settled (last ∷ []) ∙ ap (λ (n : ℕ). n + 1) h.as_many ∙ sym (length-append needs (C ∷ []));
       fits = λ more. subst (λ (ns : List Matrix). misfit divisor_of ns budget (begins b ns) ≡ None) (sym (append_assoc needs (C ∷ []) more)) (h.fits more);
       all = ap (λ (l : List Progress). l ++ last ∷ []) h.all;

@@ -16,7 +16,7 @@ use Rattle.std.proofs.lemmas.Bool.{leb-true}
 use Rattle.sha2.specs.Sha256.{sha256}
 use Rattle.lc_algebra.specs.Matrix.{Matrix}
 use Rattle.lc_algebra.specs.Divisor.{divisor_of}
-use Rattle.lc_enumeration.specs.Records.{SessionStep, SessionRounds, fresh_start, no_steps, session_from, session_rounds}
+use Rattle.lc_enumeration.specs.Records.{SessionStep, SessionRounds, fresh_start, no_steps, session_from, session_rounds, default_round}
 use Rattle.lc_enumeration.specs.Fitting.{misfit}
 use Rattle.lc_enumeration.proofs.SearchExamples.{hamming}
 use Rattle.lc_formats.specs.Checkpoint.{Checkpoint, point, refused as unread, damaged, checkpoint_text, checkpoint_in}
@@ -57,7 +57,7 @@ abbrev pub sliced_arguments : List (List ℕ)
 sliced_arguments = codes "run" ∷ codes "slice=1" ∷ codes "keep=yes" ∷ []
 
 reads_sliced : options all_options sliced_arguments ≡ settings sliced
-unfolding is_digit number_from number_of widest same_bytes command_text key_text row all_options settings_of number_in number_within yes_or_no put_key key_named row_named same_key place_of_key checked options_from options
+unfolding is_digit number_from number_of widest same_bytes command_text key_text row all_options default_round settings_of number_in number_within yes_or_no put_key key_named row_named same_key place_of_key checked options_from options
 reads_sliced = refl
 
 -- a source that gives the script, and the slots before
@@ -104,7 +104,7 @@ sliced_no_text n old new only told s =
     let whole : IsWhole sliced s.course = subst (λ (a : Settings). IsWhole a s.course) same s.ended in
     let bytes = gave_whole old.source new.source script s.course.bytes told read in
     let needs = only s.course.needs (subst (λ (b : List ℕ). IsNeeds all_calls b s.course.needs) (sym bytes) reply.0) in
-    let rounds : session_rounds divisor_of s.course.needs (2 ^ 20) (Some 1) s.course.start ≡ session_rounds divisor_of (hamming ∷ []) (2 ^ 20) (Some 1) fresh_start = rw (needs, fresh.start) refl in
+    let rounds : session_rounds divisor_of s.course.needs (2 ^ 20) 256 (Some 1) s.course.start ≡ session_rounds divisor_of (hamming ∷ []) (2 ^ 20) 256 (Some 1) fresh_start = rw (needs, fresh.start) refl in
     let stopped : true ≡ false = sym (ap (λ (r : SessionRounds). r.is_stopped) (rounds ∙ first_session)) ∙ whole.unstopped in
     cc
 
@@ -125,7 +125,7 @@ some_end told query blocks (before, last, is, need, done_) none = by before (sym
     by [] e = cc
     by (t ∷ before) e = cc
 
-nothing_searched : (session_rounds divisor_of [] (2 ^ 20) (Some 1) fresh_start).steps ≡ []
+nothing_searched : (session_rounds divisor_of [] (2 ^ 20) 256 (Some 1) fresh_start).steps ≡ []
 unfolding session_rounds session_from no_steps fresh_start
 nothing_searched = refl
 
@@ -175,13 +175,13 @@ abbrev pub kept_arguments : List (List ℕ)
 kept_arguments = codes "run" ∷ codes "keep=yes" ∷ []
 
 abbrev pub kept_settings : Settings
-kept_settings = record { command = run; workers = 1; budget = 2 ^ 20; slice = None; keep = true; number = 0 }
+kept_settings = record { command = run; workers = 1; round = 256; budget = 2 ^ 20; slice = None; keep = true; number = 0 }
 
 reads_kept : options all_options kept_arguments ≡ settings kept_settings
-unfolding is_digit number_from number_of widest same_bytes command_text key_text row all_options settings_of number_in number_within yes_or_no put_key key_named row_named same_key place_of_key checked options_from options
+unfolding is_digit number_from number_of widest same_bytes command_text key_text row all_options default_round settings_of number_in number_within yes_or_no put_key key_named row_named same_key place_of_key checked options_from options
 reads_kept = refl
 
-whole_session : session_rounds divisor_of (hamming ∷ []) (2 ^ 20) None fresh_start ≡ record { steps = first_step ∷ second_step ∷ []; settled = second_step.state ∷ []; left = None; is_stopped = false }
+whole_session : session_rounds divisor_of (hamming ∷ []) (2 ^ 20) 256 None fresh_start ≡ record { steps = first_step ∷ second_step ∷ []; settled = second_step.state ∷ []; left = None; is_stopped = false }
 unfolding rounds_compute
 whole_session = refl
 
@@ -251,10 +251,10 @@ abbrev pub resume_arguments : List (List ℕ)
 resume_arguments = codes "resume" ∷ codes "keep=yes" ∷ []
 
 abbrev pub resume_settings : Settings
-resume_settings = record { command = resume; workers = 1; budget = 2 ^ 20; slice = None; keep = true; number = 0 }
+resume_settings = record { command = resume; workers = 1; round = 256; budget = 2 ^ 20; slice = None; keep = true; number = 0 }
 
 reads_resume : options all_options resume_arguments ≡ settings resume_settings
-unfolding is_digit number_from number_of widest same_bytes command_text key_text row all_options settings_of number_in number_within yes_or_no put_key key_named row_named same_key place_of_key checked options_from options
+unfolding is_digit number_from number_of widest same_bytes command_text key_text row all_options default_round settings_of number_in number_within yes_or_no put_key key_named row_named same_key place_of_key checked options_from options
 reads_resume = refl
 
 abbrev pub older_slots : Slots
@@ -284,7 +284,7 @@ fits_older : misfit divisor_of (hamming ∷ []) (2 ^ 20) (start_of (hamming ∷ 
 unfolding truth_computes
 fits_older = refl
 
-older_rounds : session_rounds divisor_of (hamming ∷ []) (2 ^ 20) None (start_of (hamming ∷ []) older) ≡ record { steps = second_step ∷ []; settled = second_step.state ∷ []; left = None; is_stopped = false }
+older_rounds : session_rounds divisor_of (hamming ∷ []) (2 ^ 20) 256 None (start_of (hamming ∷ []) older) ≡ record { steps = second_step ∷ []; settled = second_step.state ∷ []; left = None; is_stopped = false }
 unfolding rounds_compute
 older_rounds = refl
 
@@ -319,7 +319,7 @@ resumed_no_text n old new before heard s = no_text resume_arguments resume_setti
 only_older : (p : Checkpoint) → choice older_slots ≡ takes p → p ≡ older
 only_older p is = (let e : takes p ≡ takes older = sym is ∙ takes_older in cc)
 
-nothing_resumed : (session_rounds divisor_of [] (2 ^ 20) None (start_of [] older)).steps ≡ []
+nothing_resumed : (session_rounds divisor_of [] (2 ^ 20) 256 None (start_of [] older)).steps ≡ []
 unfolding rounds_compute
 nothing_resumed = refl
 

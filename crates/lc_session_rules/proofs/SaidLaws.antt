@@ -83,7 +83,7 @@ rejected_so table args old new reason s =
     let reply : Replies table check s.asked old.vault s.course = subst (λ c. Replies table c s.asked old.vault s.course) (of_check s.asked.command s.possible) s.replied.0 in
     (s.replied.1, reply.0, s.written)
 
-pub summed : (table : List Call) (args : List (List ℕ)) (old new : Outside) (n : ℕ) (s : IsSession table args old new (done n)) → s.asked.command ≡ summary → Appends old.sink new.sink (summary_text s.asked.number s.asked.budget) × (new.source ≡ old.source)
+pub summed : (table : List Call) (args : List (List ℕ)) (old new : Outside) (n : ℕ) (s : IsSession table args old new (done n)) → s.asked.command ≡ summary → Appends old.sink new.sink (summary_text s.asked.number s.asked.budget s.asked.round) × (new.source ≡ old.source)
 summed table args old new n s c =
     let reply : Replies table summary s.asked old.vault s.course = subst (λ c. Replies table c s.asked old.vault s.course) c s.replied.0 in
     let read : Reads summary (done n) old.source new.source s.course = subst (λ c. Reads c (done n) old.source new.source s.course) c s.read in
@@ -148,7 +148,7 @@ source_fails table args old new s = s.counted.0
 
 -- the text that a session prints, by its command
 says_so : (table : List Call) (c : Command) (asked : Settings) (held : Option Slots) (course : Course) → Starts table c sink_fault asked held course → Replies table c asked held course
-    → (StartsTruly table c asked held course → IsText table asked.budget course.bytes course.text course.is_faulty) × (c ≡ check → IsCheckText course.bytes course.text) × (c ≡ summary → course.text ≡ summary_text asked.number asked.budget)
+    → (StartsTruly table c asked held course → IsText table asked.budget course.bytes course.text course.is_faulty) × (c ≡ check → IsCheckText course.bytes course.text) × (c ≡ summary → course.text ≡ summary_text asked.number asked.budget asked.round)
 says_so table run asked held course started reply = (λ truly. reply.1.printed, λ e. absurd (let f = e in cc), λ e. absurd (let f = e in cc))
 says_so table resume asked held course started reply = (λ truly. (reply.1.honest started.0.0 started.0.1 (truly started.0.0 started.0.1)).printed, λ e. absurd (let f = e in cc), λ e. absurd (let f = e in cc))
 says_so table check asked held course started reply = (λ truly. absurd truly, λ e. reply.0, λ e. absurd (let f = e in cc))
@@ -156,7 +156,7 @@ says_so table summary asked held course started reply = (λ truly. absurd truly,
 
 pub sink_fails : (table : List Call) (args : List (List ℕ)) (old new : Outside) (s : IsSession table args old new sink_fault)
     → HasRisen old.sink_faults new.sink_faults × AppendsPart old.sink new.sink s.course.text
-    × (StartsTruly table s.asked.command s.asked old.vault s.course → IsText table s.asked.budget s.course.bytes s.course.text s.course.is_faulty) × (s.asked.command ≡ check → IsCheckText s.course.bytes s.course.text) × (s.asked.command ≡ summary → s.course.text ≡ summary_text s.asked.number s.asked.budget)
+    × (StartsTruly table s.asked.command s.asked old.vault s.course → IsText table s.asked.budget s.course.bytes s.course.text s.course.is_faulty) × (s.asked.command ≡ check → IsCheckText s.course.bytes s.course.text) × (s.asked.command ≡ summary → s.course.text ≡ summary_text s.asked.number s.asked.budget s.asked.round)
 sink_fails table args old new s = let says = says_so table s.asked.command s.asked old.vault s.course s.started s.replied in (s.counted.1, s.written, says.0, says.1, says.2)
 
 writes_so : (ending : Ending) (text : List ℕ) (old new : Option (List ℕ)) → Writes ending text old new → ((n : ℕ) → ¬ (ending ≡ done n)) → ¬ (ending ≡ sink_fault) → ((r : Reason) → ¬ (ending ≡ rejected r)) → new ≡ old

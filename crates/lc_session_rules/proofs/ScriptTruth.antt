@@ -44,12 +44,12 @@ all_rows : (needs : List Matrix) → HaveRows needs → AllRows needs
 all_rows [] h = All-nil (λ (C : Matrix). 0 < length C.rows)
 all_rows (C ∷ needs) h = All-cons (λ (D : Matrix). 0 < length D.rows) C needs (h 0 C refl) (all_rows needs (λ i D at. h (suc i) D at))
 
-start_answers : (table : List Call) (bytes : List ℕ) (budget : ℕ) (needs : List Matrix) (slice : Option ℕ) (start : Start) (answers : List Answer) → budget ≤ 2 ^ 40 → MeetsFirst table bytes needs → IsTrueStart divisor_of needs budget start → (session_rounds divisor_of needs budget slice start).is_stopped ≡ false → Settle budget needs (session_rounds divisor_of needs budget slice start).settled answers → answers ≡ answers_of needs budget
-start_answers table bytes budget needs slice start answers small met true_start unstopped settle =
-    answers_are budget needs (session_rounds divisor_of needs budget slice start).settled answers (session_settles divisor_of needs budget slice start (all_rows needs (met_rows table bytes needs met)) small true_start unstopped) settle
+start_answers : (table : List Call) (bytes : List ℕ) (budget longest : ℕ) (needs : List Matrix) (slice : Option ℕ) (start : Start) (answers : List Answer) → budget ≤ 2 ^ 40 → 0 < longest → MeetsFirst table bytes needs → IsTrueStart divisor_of needs budget start → (session_rounds divisor_of needs budget longest slice start).is_stopped ≡ false → Settle budget needs (session_rounds divisor_of needs budget longest slice start).settled answers → answers ≡ answers_of needs budget
+start_answers table bytes budget longest needs slice start answers small some met true_start unstopped settle =
+    answers_are budget needs (session_rounds divisor_of needs budget longest slice start).settled answers (session_settles divisor_of needs budget longest slice start (all_rows needs (met_rows table bytes needs met)) small some true_start unstopped) settle
 
-pub fresh_answers : (table : List Call) (bytes : List ℕ) (budget : ℕ) (needs : List Matrix) (slice : Option ℕ) (answers : List Answer) → budget ≤ 2 ^ 40 → MeetsFirst table bytes needs → (session_rounds divisor_of needs budget slice fresh_start).is_stopped ≡ false → Settle budget needs (session_rounds divisor_of needs budget slice fresh_start).settled answers → answers ≡ answers_of needs budget
-fresh_answers table bytes budget needs slice answers small met unstopped settle = start_answers table bytes budget needs slice fresh_start answers small met (fresh_is_true divisor_of needs budget) unstopped settle
+pub fresh_answers : (table : List Call) (bytes : List ℕ) (budget longest : ℕ) (needs : List Matrix) (slice : Option ℕ) (answers : List Answer) → budget ≤ 2 ^ 40 → 0 < longest → MeetsFirst table bytes needs → (session_rounds divisor_of needs budget longest slice fresh_start).is_stopped ≡ false → Settle budget needs (session_rounds divisor_of needs budget longest slice fresh_start).settled answers → answers ≡ answers_of needs budget
+fresh_answers table bytes budget longest needs slice answers small some met unstopped settle = start_answers table bytes budget longest needs slice fresh_start answers small some met (fresh_is_true divisor_of needs budget) unstopped settle
 
 -- ---- from a true checkpoint
 
@@ -104,7 +104,7 @@ start_true table bytes budget needs p script one met long holds = used_true p.ve
 pub rows_all : (table : List Call) (bytes : List ℕ) (needs : List Matrix) → MeetsFirst table bytes needs → AllRows needs
 rows_all table bytes needs met = all_rows needs (met_rows table bytes needs met)
 
-pub true_answers : (table : List Call) (bytes : List ℕ) (budget : ℕ) (needs : List Matrix) (slice : Option ℕ) (answers : List Answer) (p : Checkpoint) → OneScript bytes → OneStep table → budget ≤ 2 ^ 40 → MeetsFirst table bytes needs → length p.settled < length needs → IsTrueCheckpoint table bytes budget p
-    → (session_rounds divisor_of needs budget slice (start_of needs p)).is_stopped ≡ false → Settle budget needs (session_rounds divisor_of needs budget slice (start_of needs p)).settled answers → answers ≡ answers_of needs budget
-true_answers table bytes budget needs slice answers p script one small met long holds unstopped settle =
-    start_answers table bytes budget needs slice (start_of needs p) answers small met (start_true table bytes budget needs p script one met long holds) unstopped settle
+pub true_answers : (table : List Call) (bytes : List ℕ) (budget longest : ℕ) (needs : List Matrix) (slice : Option ℕ) (answers : List Answer) (p : Checkpoint) → OneScript bytes → OneStep table → budget ≤ 2 ^ 40 → 0 < longest → MeetsFirst table bytes needs → length p.settled < length needs → IsTrueCheckpoint table bytes budget p
+    → (session_rounds divisor_of needs budget longest slice (start_of needs p)).is_stopped ≡ false → Settle budget needs (session_rounds divisor_of needs budget longest slice (start_of needs p)).settled answers → answers ≡ answers_of needs budget
+true_answers table bytes budget longest needs slice answers p script one small some met long holds unstopped settle =
+    start_answers table bytes budget longest needs slice (start_of needs p) answers small some met (start_true table bytes budget needs p script one met long holds) unstopped settle

@@ -4,11 +4,11 @@
 --   resumed_torn         and then a store failed
 --   resume_goes_on       `resume`, however it ends, leaves slots of a chain
 --   run_begins           `run` does, once it emptied the slots
-use Rattle.std.proofs.Common.{◌≡◌, ◌≤◌, ⊎_elim, inl, inr, ℕ, Bool, true, false, List, [], ◌++◌, refl, ap, subst, ◌∙◌, arith}
+use Rattle.std.proofs.Common.{◌≡◌, ◌≤◌, ⊎_elim, inl, inr, ℕ, Bool, true, false, List, [], ◌++◌, refl, sym, ap, subst, ◌∙◌, arith, ◌⊎◌}
 use Rattle.std.specs.Prelude.{Option, Some, None, if◌then◌else◌, ◌&&◌}
 use Rattle.sha2.specs.Sha256.{sha256}
 use Rattle.lc_algebra.specs.Divisor.{divisor_of}
-use Rattle.lc_enumeration.specs.Records.{Start, fresh_start, session_rounds}
+use Rattle.lc_enumeration.specs.Records.{Start, fresh_start, session_rounds, SessionStep}
 use Rattle.lc_formats.specs.Checkpoint.{Checkpoint}
 use Rattle.lc_formats.specs.Truth.{divisor_in, start_of}
 use Rattle.lc_io.specs.Vaults.{Slots, empty_slots, in_slot, put}
@@ -19,6 +19,8 @@ use Rattle.lc_session_rules.specs.Slots.{nothing_stored, takes, choice_among, ch
 use Rattle.lc_session_rules.specs.Endings.{Ending, done, usage, paused, source_fault, sink_fault, vault_fault, no_memory, no_checkpoint, damaged_checkpoint, other_script, rejected, too_long, unfit}
 use Rattle.lc_session_rules.specs.Session.{Outside, Course, rounds_of, Finds, GoesOnFrom, IsResumed, IsFresh, Fits, Starts, Meets, begin_with, told_slots, Keeps, Tears, FailsFirst, IsStarted, Stores, StoresIfKept, IsSession}
 use Rattle.lc_session_rules.specs.Chain.{IsLeft, Leaves, Goes, Chain, HasBegun, TearsSo, GoesOn}
+use Rattle.lc_algebra.specs.Matrix.{Matrix}
+use Rattle.lc_session_rules.proofs.OptionLaws.{told_long}
 
 pub chosen_is : (slots : Slots) (p : Checkpoint) → choice slots ≡ takes p → chosen slots ≡ Some p
 unfolding choice choice_among
@@ -29,15 +31,30 @@ chosen_is slots p is = by_empty (is_empty slots.zero_slot && is_empty slots.one_
     by_empty false None e = absurd (let f = e in cc)
     by_empty false (Some q) e = (let f = e in cc)
 
-goes_resumed : (table : List Call) (asked : Settings) (course : Course) (held : Option Slots) (before : Slots) (p : Checkpoint) → held ≡ Some before → GoesOnFrom asked held course p → MeetsFirst table course.bytes course.needs → (rounds_of asked course).steps ≡ course.told ++ course.left
-    → Goes 2 table course.bytes asked.budget course.needs (start_in (divisor_in 2) course.needs p) course.told
-unfolding divisor_in start_in start_of
-goes_resumed table asked course held before p told from met rounds = record {
+-- a session that told nothing
+silently : (table : List Call) (bytes : List ℕ) (budget : ℕ) (needs : List Matrix) (start : Start) (told : List SessionStep) → MeetsFirst table bytes needs → told ≡ [] → Goes 2 table bytes budget needs start told
+silently table bytes budget needs start told met none = record {
   version_is = inr refl;
   met = met;
+  longest = 1;
+  long = omega arith;
+  slice = None;
+  left = (session_rounds (divisor_in 2) needs budget 1 None start).steps;
+  rounds = ap (λ (l : List SessionStep). l ++ (session_rounds (divisor_in 2) needs budget 1 None start).steps) (sym none);
+}
+
+goes_resumed : (table : List Call) (asked : Settings) (course : Course) (held : Option Slots) (before : Slots) (p : Checkpoint) → held ≡ Some before → GoesOnFrom asked held course p → MeetsFirst table course.bytes course.needs → (rounds_of asked course).steps ≡ course.told ++ course.left → (course.told ≡ []) ⊎ (1 ≤ asked.round)
+    → Goes 2 table course.bytes asked.budget course.needs (start_in (divisor_in 2) course.needs p) course.told
+unfolding divisor_in start_in start_of
+goes_resumed table asked course held before p told from met rounds (inl none) = silently table course.bytes asked.budget course.needs (start_in (divisor_in 2) course.needs p) course.told met none
+goes_resumed table asked course held before p told from met rounds (inr long) = record {
+  version_is = inr refl;
+  met = met;
+  longest = asked.round;
+  long = long;
   slice = asked.slice;
   left = course.left;
-  rounds = subst (λ (t : Start). (session_rounds divisor_of course.needs asked.budget asked.slice t).steps ≡ course.told ++ course.left) from.start rounds;
+  rounds = subst (λ (t : Start). (session_rounds divisor_of course.needs asked.budget asked.round asked.slice t).steps ≡ course.told ++ course.left) from.start rounds;
 }
 
 -- the premises on a session of a chain, as its course has them
@@ -48,6 +65,7 @@ record IsNext (table : List Call) (asked : Settings) (course : Course) (held : O
   pub chain : Chain table course.bytes asked.budget version before
   pub met : MeetsFirst table course.bytes course.needs
   pub rounds : (rounds_of asked course).steps ≡ course.told ++ course.left
+  pub long : (course.told ≡ []) ⊎ (1 ≤ asked.round)
 
 unchanged : (table : List Call) (asked : Settings) (course : Course) (held new : Option Slots) (version : ℕ) (before : Slots) → IsNext table asked course held version before → new ≡ held → GoesOn table course.bytes asked.budget new
 unchanged table asked course held new version before n same = (before, same ∙ n.told, (version, n.known, n.chain))
@@ -57,7 +75,7 @@ resumed_leaves : (table : List Call) (asked : Settings) (course : Course) (held 
 resumed_leaves table asked course held version before after n (p, from) leaves =
     Chain.resumed version 2 course.needs p course.told before after n.chain n.known
     (chosen_is before p (let found : Finds (Some before) (takes p) = subst (λ (h : Option Slots). Finds h (takes p)) n.told from.found in found))
-    (goes_resumed table asked course held before p n.told from n.met n.rounds)
+    (goes_resumed table asked course held before p n.told from n.met n.rounds n.long)
     (subst (λ (t : ℕ). Leaves 2 (sha256 course.bytes) asked.budget t course.told before after) from.turn leaves)
 
 -- a session that resumes finds the slots as it left them to be
@@ -105,7 +123,7 @@ pub resume_goes_on : (table : List Call) (args : List (List ℕ)) (old new : Out
     → Chain table s.course.bytes s.asked.budget version before → ((after : Slots) → new.vault ≡ Some after → TearsSo s.asked s.course before after) → GoesOn table s.course.bytes s.asked.budget new.vault
 resume_goes_on table args old new ending s version before resumes keeps told known chain so =
     resume_by table ending s.asked s.course old.vault new.vault version before
-    (record { resumes = resumes; told = told; known = known; chain = chain; met = subst (λ (c : Command). Meets table s.asked c s.course) resumes s.met; rounds = s.rounds })
+    (record { resumes = resumes; told = told; known = known; chain = chain; met = subst (λ (c : Command). Meets table s.asked c s.course) resumes s.met; rounds = s.rounds; long = told_long table args old new ending s })
     so (subst (λ (c : Command). Starts table c ending s.asked old.vault s.course) resumes s.started) (kept_stores s.asked.keep ending s.asked s.course old.vault new.vault keeps s.stored)
 
 -- the premises on a `run`, as its course has them
@@ -115,16 +133,24 @@ record IsFirst (table : List Call) (asked : Settings) (course : Course) (held : 
   pub fresh : IsFresh course
   pub met : MeetsFirst table course.bytes course.needs
   pub rounds : (rounds_of asked course).steps ≡ course.told ++ course.left
+  pub long : (course.told ≡ []) ⊎ (1 ≤ asked.round)
 
 goes_first : (table : List Call) (asked : Settings) (course : Course) (held : Option Slots) (before : Slots) → IsFirst table asked course held before → Goes 2 table course.bytes asked.budget course.needs fresh_start course.told
 unfolding divisor_in
-goes_first table asked course held before f = record {
-  version_is = inr refl;
-  met = f.met;
-  slice = asked.slice;
-  left = course.left;
-  rounds = subst (λ (t : Start). (session_rounds divisor_of course.needs asked.budget asked.slice t).steps ≡ course.told ++ course.left) f.fresh.start f.rounds;
-}
+goes_first table asked course held before f =
+    by f.long
+  where
+    by : (course.told ≡ []) ⊎ (1 ≤ asked.round) → Goes 2 table course.bytes asked.budget course.needs fresh_start course.told
+    by (inl none) = silently table course.bytes asked.budget course.needs fresh_start course.told f.met none
+    by (inr long) = record {
+      version_is = inr refl;
+      met = f.met;
+      longest = asked.round;
+      long = long;
+      slice = asked.slice;
+      left = course.left;
+      rounds = subst (λ (t : Start). (session_rounds divisor_of course.needs asked.budget asked.round asked.slice t).steps ≡ course.told ++ course.left) f.fresh.start f.rounds;
+    }
 
 emptied_so : (asked : Settings) (course : Course) (before : Slots) → asked.command ≡ run → told_slots asked course before ≡ slots_after 2 (sha256 course.bytes) asked.budget course.turn course.told empty_slots
 emptied_so asked course before is = ap (λ (c : Command). slots_after 2 (sha256 course.bytes) asked.budget course.turn course.told (begin_with c before)) is
@@ -169,5 +195,5 @@ pub run_begins : (table : List Call) (args : List (List ℕ)) (old new : Outside
     → HasBegun ending s.course → ((after : Slots) → new.vault ≡ Some after → TearsSo s.asked s.course before after) → GoesOn table s.course.bytes s.asked.budget new.vault
 run_begins table args old new ending s before runs keeps told begun so =
     run_by table ending s.asked s.course old.vault new.vault before
-    (record { runs = runs; told = told; fresh = subst (λ (c : Command). Starts table c ending s.asked old.vault s.course) runs s.started; met = subst (λ (c : Command). Meets table s.asked c s.course) runs s.met; rounds = s.rounds })
+    (record { runs = runs; told = told; fresh = subst (λ (c : Command). Starts table c ending s.asked old.vault s.course) runs s.started; met = subst (λ (c : Command). Meets table s.asked c s.course) runs s.met; rounds = s.rounds; long = told_long table args old new ending s })
     begun so (kept_stores s.asked.keep ending s.asked s.course old.vault new.vault keeps s.stored)

@@ -21,7 +21,7 @@ use Rattle.std.specs.Prelude.{List, [], ◌∷◌, ◌++◌, ◌^◌, map, codes
 use Rattle.std.specs.List.{list_all}
 use Rattle.sha2.specs.Sha256.{sha256}
 use Rattle.lc_algebra.specs.Matrix.{Matrix}
-use Rattle.lc_enumeration.specs.Records.{SessionStep, fresh_start, no_steps, session_from, session_rounds}
+use Rattle.lc_enumeration.specs.Records.{SessionStep, fresh_start, no_steps, session_from, session_rounds, default_round}
 use Rattle.lc_enumeration.specs.NearWord.{near_answer, NearHolds}
 use Rattle.lc_enumeration.proofs.SearchExamples.{hamming}
 use Rattle.lc_enumeration.proofs.NearExamples.{one_error}
@@ -182,16 +182,16 @@ quiet = record { source = Some []; source_faults = 0; sink = Some []; sink_fault
 abbrev pub nothing_done : Course
 nothing_done = record { bytes = []; needs = []; start = fresh_start; turn = 0; told = []; left = []; is_paused = false; text = []; is_faulty = false }
 
-no_rounds : (divisor : Matrix → ℕ) (budget : ℕ) (slice : Option ℕ) → session_rounds divisor [] budget slice fresh_start ≡ record { steps = []; settled = []; left = slice; is_stopped = false }
+no_rounds : (divisor : Matrix → ℕ) (budget longest : ℕ) (slice : Option ℕ) → session_rounds divisor [] budget longest slice fresh_start ≡ record { steps = []; settled = []; left = slice; is_stopped = false }
 unfolding session_rounds session_from no_steps fresh_start
-no_rounds divisor budget slice = refl
+no_rounds divisor budget longest slice = refl
 
 reads_run : options all_options (codes "run" ∷ []) ≡ settings (settings_of run)
-unfolding same_bytes command_text key_text row all_options settings_of row_named same_key place_of_key checked options_from options
+unfolding same_bytes command_text key_text row all_options default_round settings_of row_named same_key place_of_key checked options_from options
 reads_run = refl
 
 pub runs_nothing : IsSession all_calls (codes "run" ∷ []) quiet quiet (done 0)
-unfolding settings_of
+unfolding default_round settings_of
 runs_nothing = record {
   asked = settings_of run;
   course = nothing_done;
@@ -210,7 +210,7 @@ runs_nothing = record {
 }
 
 pub no_words : IsSession all_calls [] quiet quiet (usage 0)
-unfolding settings_of
+unfolding default_round settings_of
 no_words = record {
   asked = settings_of run;
   course = nothing_done;

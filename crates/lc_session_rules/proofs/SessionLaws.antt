@@ -42,24 +42,24 @@ unfolding no_round state_first
 unsliced_step None next rest h = h
 unsliced_step (Some a) next rest h = (refl, refl)
 
-unsliced_rounds : (most d : ℕ) (C : Matrix) (budget : ℕ) (state : Progress) → ((rounds_within most d C budget None state).is_stopped ≡ false) × ((rounds_within most d C budget None state).left ≡ None)
+unsliced_rounds : (most d : ℕ) (C : Matrix) (budget longest : ℕ) (state : Progress) → ((rounds_within most d C budget longest None state).is_stopped ≡ false) × ((rounds_within most d C budget longest None state).left ≡ None)
 unfolding rounds_within no_round state_first is_used_up less_slice
-unsliced_rounds zero d C budget state = (refl, refl)
-unsliced_rounds (suc most) d C budget state =
-    let next = after_round C state (round_length C budget None state.blocks) in
-    unsliced_step (finished d C budget state.blocks (found_of state)) next (rounds_within most d C budget None next) (unsliced_rounds most d C budget next)
+unsliced_rounds zero d C budget longest state = (refl, refl)
+unsliced_rounds (suc most) d C budget longest state =
+    let next = after_round C state (round_length C budget longest None state.blocks) in
+    unsliced_step (finished d C budget state.blocks (found_of state)) next (rounds_within most d C budget longest None next) (unsliced_rounds most d C budget longest next)
 
-unsliced_from : (divisor : Matrix → ℕ) (needs : List Matrix) (budget : ℕ) (settled : List Progress) (current : Option Progress) → (session_from divisor needs budget None settled current).is_stopped ≡ false
+unsliced_from : (divisor : Matrix → ℕ) (needs : List Matrix) (budget longest : ℕ) (settled : List Progress) (current : Option Progress) → (session_from divisor needs budget longest None settled current).is_stopped ≡ false
 unfolding session_from no_steps steps_first rounds
-unsliced_from divisor [] budget settled current = refl
-unsliced_from divisor (C ∷ needs) budget settled current =
+unsliced_from divisor [] budget longest settled current = refl
+unsliced_from divisor (C ∷ needs) budget longest settled current =
     let s = unwrap_or current (first_progress C) in
-    let r = unsliced_rounds (suc (budget - s.blocks)) (divisor C) C budget s in
-    rw (r.0, r.1) (unsliced_from divisor needs budget (settled ++ last_state s (rounds (divisor C) C budget None s).states ∷ []) None)
+    let r = unsliced_rounds (suc (budget - s.blocks)) (divisor C) C budget longest s in
+    rw (r.0, r.1) (unsliced_from divisor needs budget longest (settled ++ last_state s (rounds (divisor C) C budget longest None s).states ∷ []) None)
 
-pub unsliced : (divisor : Matrix → ℕ) (needs : List Matrix) (budget : ℕ) (start : Start) → (session_rounds divisor needs budget None start).is_stopped ≡ false
+pub unsliced : (divisor : Matrix → ℕ) (needs : List Matrix) (budget longest : ℕ) (start : Start) → (session_rounds divisor needs budget longest None start).is_stopped ≡ false
 unfolding session_rounds
-unsliced divisor needs budget start = unsliced_from divisor (drop (length start.settled) needs) budget start.settled start.current
+unsliced divisor needs budget longest start = unsliced_from divisor (drop (length start.settled) needs) budget longest start.settled start.current
 
 -- what `resume` finds is what the premise says
 one_choice : (held : Option Slots) (slots : Slots) (c d : Choice) → held ≡ Some slots → choice slots ≡ c → Finds held d → d ≡ c
@@ -82,7 +82,7 @@ not_too_much (Some held) (Some left) bytes is within (given, size, gave) =
 
 stops_not : (asked : Settings) (course : Course) → asked.slice ≡ None → (rounds_of asked course).is_stopped ≡ true → ⊥
 stops_not asked course none stopped =
-    let open_end : (rounds_of asked course).is_stopped ≡ false = rw none (unsliced divisor_of course.needs asked.budget course.start) in
+    let open_end : (rounds_of asked course).is_stopped ≡ false = rw none (unsliced divisor_of course.needs asked.budget asked.round course.start) in
     (let e : true ≡ false = sym stopped ∙ open_end in cc)
 
 reads_script : (command : Command) (ending : Ending) (old new : Option (List ℕ)) (course : Course) → IsTrue (reads command) → Reads command ending old new course → ReadsScript ending old new course

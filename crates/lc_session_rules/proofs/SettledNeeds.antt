@@ -36,26 +36,26 @@ none_left [] k is = omega arith
 none_left (D ∷ needs) zero is = absurd (let e = is in cc)
 none_left (D ∷ needs) (suc k) is = (let l = none_left needs k is in omega (arith, l))
 
-pub session_settles : (version : ℕ) (needs : List Matrix) (digest : List ℕ) (budget : ℕ) → (version ≡ 1) ⊎ (version ≡ 2)
-    → ((i : ℕ) (C : Matrix) → slice_get needs i ≡ Some C → (slice : Option ℕ) (s : Progress) → IsBestAt C s → s.blocks ≤ answer_blocks (answer (divisor_in version C) C budget) → EndsAtAnswer (divisor_in version C) C budget slice s)
+pub session_settles : (version : ℕ) (needs : List Matrix) (digest : List ℕ) (budget longest : ℕ) → (version ≡ 1) ⊎ (version ≡ 2)
+    → ((i : ℕ) (C : Matrix) → slice_get needs i ≡ Some C → (slice : Option ℕ) (s : Progress) → IsBestAt C s → s.blocks ≤ answer_blocks (answer (divisor_in version C) C budget) → EndsAtAnswer (divisor_in version C) C budget longest slice s)
     → (left : List Matrix) (slice : Option ℕ) (settled : List Progress) (current : Option Progress) (turn : ℕ) → drop (length settled) needs ≡ left → length settled ≤ length needs → IsTrueStart version needs budget settled current turn
-    → (session_from (divisor_in version) left budget slice settled current).is_stopped ≡ false → AreAllSettled version budget needs (session_from (divisor_in version) left budget slice settled current).settled
+    → (session_from (divisor_in version) left budget longest slice settled current).is_stopped ≡ false → AreAllSettled version budget needs (session_from (divisor_in version) left budget longest slice settled current).settled
 unfolding session_from steps_first no_steps
-session_settles version needs digest budget known ends [] slice settled current turn is within start unstopped =
+session_settles version needs digest budget longest known ends [] slice settled current turn is within start unstopped =
     (start.done, (let l = none_left needs (length settled) is in omega (arith, l, within)))
-session_settles version needs digest budget known ends (C ∷ left) slice settled current turn is within start unstopped =
+session_settles version needs digest budget longest known ends (C ∷ left) slice settled current turn is within start unstopped =
     let s = unwrap_or current (first_progress C) in
     let at = need_at needs (length settled) C left is in
-    let r = rounds (divisor_in version C) C budget slice s in
+    let r = rounds (divisor_in version C) C budget longest slice s in
     let e = ends (length settled) C at slice s (start.best C at).0 (start.best C at).1 in
     let last = last_state s r.states in
     let steps = map (step_of (divisor_in version C) C settled) r.states in
     let n = need_true version needs digest budget known settled C start.done at r.states s turn e.rises (start.early C at) in
-    let later = session_from (divisor_in version) left budget r.left (settled ++ last ∷ []) None in
+    let later = session_from (divisor_in version) left budget longest r.left (settled ++ last ∷ []) None in
     let u = unless_stopped r.is_stopped settled r.left later unstopped in
     let one = settled_one (divisor_in version) budget needs settled C left last start.done is (e.ends u.0) in
     let few : length (settled ++ last ∷ []) ≤ length needs = (let a = length-append settled (last ∷ []) in let b = one_less needs (length settled) C left is in omega (arith, a, b)) in
-    let all = session_settles version needs digest budget known ends left r.left (settled ++ last ∷ []) None (turn_after turn steps) one.1 few
+    let all = session_settles version needs digest budget longest known ends left r.left (settled ++ last ∷ []) None (turn_after turn steps) one.1 few
     (starts_next version needs budget (settled ++ last ∷ []) (turn_after turn steps) one.0 (omega (arith, n.1, blocks_more settled last)))
     (sym (ap (λ (x : SessionRounds). x.is_stopped) u.1) ∙ unstopped) in
     subst (λ (x : SessionRounds). AreAllSettled version budget needs x.settled) (sym u.1) all

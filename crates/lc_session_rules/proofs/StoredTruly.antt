@@ -36,16 +36,17 @@ use Rattle.lc_session_rules.proofs.GroundLaws.{true_turn}
 use Rattle.lc_session_rules.proofs.ChainLaws.{begun_truly, resumed_start}
 use Rattle.lc_session_rules.proofs.SessionChains.{chosen_is, kept_stores}
 use Rattle.lc_session_rules.proofs.HonestLaws.{chosen_true}
+use Rattle.lc_session_rules.proofs.OptionLaws.{told_long}
 
 -- ---- the steps told
 
-run_steps : (table : List Call) (asked : Settings) (course : Course) → IsGround table course.bytes asked.budget → IsFresh course → MeetsFirst table course.bytes course.needs → (rounds_of asked course).steps ≡ course.told ++ course.left
+run_steps : (table : List Call) (asked : Settings) (course : Course) → 1 ≤ asked.round → IsGround table course.bytes asked.budget → IsFresh course → MeetsFirst table course.bytes course.needs → (rounds_of asked course).steps ≡ course.told ++ course.left
     → AreTrueSteps 2 course.needs (sha256 course.bytes) asked.budget course.turn course.told
 unfolding divisor_in
-run_steps table asked course ground fresh met rounds =
+run_steps table asked course long ground fresh met rounds =
     let d = sha256 course.bytes in
-    let over = λ (t : Start). (session_rounds divisor_of course.needs asked.budget asked.slice t).steps in
-    let all : AreTrueSteps 2 course.needs d asked.budget 0 (over fresh_start) = begun_truly table course.bytes asked.budget 2 course.needs ground (inr refl) met asked.slice in
+    let over = λ (t : Start). (session_rounds divisor_of course.needs asked.budget asked.round asked.slice t).steps in
+    let all : AreTrueSteps 2 course.needs d asked.budget 0 (over fresh_start) = begun_truly table course.bytes asked.budget asked.round 2 course.needs long ground (inr refl) met asked.slice in
     let mine : over fresh_start ≡ course.told ++ course.left = subst (λ (t : Start). over t ≡ course.told ++ course.left) fresh.start rounds in
     subst (λ (t : ℕ). AreTrueSteps 2 course.needs d asked.budget t course.told) (sym fresh.turn) (true_front 2 course.needs d asked.budget 0 course.told course.left (subst (AreTrueSteps 2 course.needs d asked.budget 0) mine all))
 
@@ -53,14 +54,14 @@ at_most_two : (version : ℕ) → (version ≡ 1) ⊎ (version ≡ 2) → versio
 at_most_two version (inl e) = omega (arith, e)
 at_most_two version (inr e) = omega (arith, e)
 
-resume_steps : (table : List Call) (asked : Settings) (held : Option Slots) (course : Course) (p : Checkpoint) → IsGround table course.bytes asked.budget → GoesOnFrom asked held course p → IsTrueCheckpoint table course.bytes asked.budget p → MeetsFirst table course.bytes course.needs → (rounds_of asked course).steps ≡ course.told ++ course.left
+resume_steps : (table : List Call) (asked : Settings) (held : Option Slots) (course : Course) (p : Checkpoint) → 1 ≤ asked.round → IsGround table course.bytes asked.budget → GoesOnFrom asked held course p → IsTrueCheckpoint table course.bytes asked.budget p → MeetsFirst table course.bytes course.needs → (rounds_of asked course).steps ≡ course.told ++ course.left
     → AreTrueSteps 2 course.needs (sha256 course.bytes) asked.budget course.turn course.told
 unfolding divisor_in start_in start_of
-resume_steps table asked held course p ground from (front, met_front, holds) met rounds =
+resume_steps table asked held course p long ground from (front, met_front, holds) met rounds =
     let d = sha256 course.bytes in
-    let over = λ (t : Start). (session_rounds divisor_of course.needs asked.budget asked.slice t).steps in
+    let over = λ (t : Start). (session_rounds divisor_of course.needs asked.budget asked.round asked.slice t).steps in
     let all : AreTrueSteps 2 course.needs d asked.budget (next_turn p.turn) (over (start_of course.needs p)) =
-    resumed_start table course.bytes asked.budget 2 course.needs front p ground (inr refl) holds.known (at_most_two p.version holds.known) met met_front holds asked.slice in
+    resumed_start table course.bytes asked.budget asked.round 2 course.needs front p long ground (inr refl) holds.known (at_most_two p.version holds.known) met met_front holds asked.slice in
     let mine : over (start_of course.needs p) ≡ course.told ++ course.left = subst (λ (t : Start). over t ≡ course.told ++ course.left) from.start rounds in
     subst (λ (t : ℕ). AreTrueSteps 2 course.needs d asked.budget t course.told) (sym from.turn) (true_front 2 course.needs d asked.budget (next_turn p.turn) course.told course.left (subst (AreTrueSteps 2 course.needs d asked.budget (next_turn p.turn)) mine all))
 
@@ -97,15 +98,16 @@ record DoesTruly (table : List Call) (asked : Settings) (course : Course) : Type
   steps : AreTrueSteps 2 course.needs (sha256 course.bytes) asked.budget course.turn course.told
 
 does_truly : (table : List Call) (ending : Ending) (asked : Settings) (held : Option Slots) (course : Course) (c : Command) → StartsTruly table c asked held course → Starts table c ending asked held course → Meets table asked c course → Ends ending asked course → (rounds_of asked course).steps ≡ course.told ++ course.left
-    → IsGrounded table asked course → (course.told ≡ []) ⊎ DoesTruly table asked course
-does_truly table ending asked held course c truly started met ended rounds (inl e) = inl e
-does_truly table ending asked held course run truly started met ended rounds (inr ground) = inr (record { ground = ground; met = met; steps = run_steps table asked course ground started met rounds })
-does_truly table ending asked held course resume truly started met ended rounds (inr ground) =
+    → (course.told ≡ []) ⊎ (1 ≤ asked.round) → IsGrounded table asked course → (course.told ≡ []) ⊎ DoesTruly table asked course
+does_truly table ending asked held course c truly started met ended rounds (inl e) ground = inl e
+does_truly table ending asked held course c truly started met ended rounds (inr long) (inl e) = inl e
+does_truly table ending asked held course run truly started met ended rounds (inr long) (inr ground) = inr (record { ground = ground; met = met; steps = run_steps table asked course long ground started met rounds })
+does_truly table ending asked held course resume truly started met ended rounds (inr long) (inr ground) =
     ⊎_elim (λ (e : course.told ≡ []). inl e)
-    (λ (r : IsResumed asked held course). inr (record { ground = ground; met = met; steps = resume_steps table asked held course r.0 ground r.1 (truly r.0 r.1) met rounds }))
+    (λ (r : IsResumed asked held course). inr (record { ground = ground; met = met; steps = resume_steps table asked held course r.0 long ground r.1 (truly r.0 r.1) met rounds }))
     (resumed_or_silent table ending asked held course started ended)
-does_truly table ending asked held course check truly started met ended rounds (inr ground) = absurd truly
-does_truly table ending asked held course summary truly started met ended rounds (inr ground) = absurd truly
+does_truly table ending asked held course check truly started met ended rounds (inr long) (inr ground) = absurd truly
+does_truly table ending asked held course summary truly started met ended rounds (inr long) (inr ground) = absurd truly
 
 -- ---- the slots
 
@@ -253,7 +255,7 @@ module _ (table : List Call) (asked : Settings) (course : Course) (old new : Out
 -- ---- sessions
 
 truly_so : (table : List Call) (args : List (List ℕ)) (old new : Outside) (ending : Ending) (s : IsSession table args old new ending) → IsGrounded table s.asked s.course → StartsTruly table s.asked.command s.asked old.vault s.course → (s.course.told ≡ []) ⊎ DoesTruly table s.asked s.course
-truly_so table args old new ending s ground truly = does_truly table ending s.asked old.vault s.course s.asked.command truly s.started s.met s.ended s.rounds ground
+truly_so table args old new ending s ground truly = does_truly table ending s.asked old.vault s.course s.asked.command truly s.started s.met s.ended s.rounds (told_long table args old new ending s) ground
 
 pub grounded_stores : (table : List Call) (args : List (List ℕ)) (old new : Outside) (ending : Ending) (s : IsSession table args old new ending) → IsGrounded table s.asked s.course → StartsTruly table s.asked.command s.asked old.vault s.course → s.asked.keep ≡ true → StoresTruly table s.asked s.course old new
 grounded_stores table args old new ending s ground truly keeps =

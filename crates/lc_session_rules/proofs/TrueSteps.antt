@@ -163,22 +163,22 @@ starts_next version needs budget settled turn all l = record {
   early = λ C is. omega (arith, l);
 }
 
-pub session_true : (version : ℕ) (needs : List Matrix) (digest : List ℕ) (budget : ℕ) → (version ≡ 1) ⊎ (version ≡ 2)
-    → ((i : ℕ) (C : Matrix) → slice_get needs i ≡ Some C → (slice : Option ℕ) (s : Progress) → IsBestAt C s → s.blocks ≤ answer_blocks (answer (divisor_in version C) C budget) → EndsAtAnswer (divisor_in version C) C budget slice s)
+pub session_true : (version : ℕ) (needs : List Matrix) (digest : List ℕ) (budget longest : ℕ) → (version ≡ 1) ⊎ (version ≡ 2)
+    → ((i : ℕ) (C : Matrix) → slice_get needs i ≡ Some C → (slice : Option ℕ) (s : Progress) → IsBestAt C s → s.blocks ≤ answer_blocks (answer (divisor_in version C) C budget) → EndsAtAnswer (divisor_in version C) C budget longest slice s)
     → (left : List Matrix) (slice : Option ℕ) (settled : List Progress) (current : Option Progress) (turn : ℕ) → drop (length settled) needs ≡ left → IsTrueStart version needs budget settled current turn
-    → AreTrueSteps version needs digest budget turn (session_from (divisor_in version) left budget slice settled current).steps
+    → AreTrueSteps version needs digest budget turn (session_from (divisor_in version) left budget longest slice settled current).steps
 unfolding session_from steps_first no_steps
-session_true version needs digest budget known ends [] slice settled current turn is start = tt
-session_true version needs digest budget known ends (C ∷ left) slice settled current turn is start =
+session_true version needs digest budget longest known ends [] slice settled current turn is start = tt
+session_true version needs digest budget longest known ends (C ∷ left) slice settled current turn is start =
     let s = unwrap_or current (first_progress C) in
     let at = need_at needs (length settled) C left is in
-    let r = rounds (divisor_in version C) C budget slice s in
+    let r = rounds (divisor_in version C) C budget longest slice s in
     let e = ends (length settled) C at slice s (start.best C at).0 (start.best C at).1 in
     let steps = map (step_of (divisor_in version C) C settled) r.states in
     let n = need_true version needs digest budget known settled C start.done at r.states s turn e.rises (start.early C at) in
     true_append version needs digest budget turn steps _ n.0
-    (unless_stopped version needs digest budget (turn_after turn steps) r.is_stopped settled r.left (session_from (divisor_in version) left budget r.left (settled ++ last_state s r.states ∷ []) None)
+    (unless_stopped version needs digest budget (turn_after turn steps) r.is_stopped settled r.left (session_from (divisor_in version) left budget longest r.left (settled ++ last_state s r.states ∷ []) None)
     (λ unstopped.
     let one = settled_one (divisor_in version) budget needs settled C left (last_state s r.states) start.done is (e.ends unstopped) in
-    session_true version needs digest budget known ends left r.left (settled ++ last_state s r.states ∷ []) None (turn_after turn steps) one.1
+    session_true version needs digest budget longest known ends left r.left (settled ++ last_state s r.states ∷ []) None (turn_after turn steps) one.1
     (starts_next version needs budget (settled ++ last_state s r.states ∷ []) (turn_after turn steps) one.0 (omega (arith, n.1, blocks_more settled (last_state s r.states))))))

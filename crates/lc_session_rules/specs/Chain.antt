@@ -3,14 +3,15 @@
 --                                        no checkpoint, or the bytes that were there
 --   Leaves version digest budget turn told before after      a session whose first checkpoint has this turn stored those of these
 --                                        steps; a store after them may have failed
---   Goes version table bytes budget needs start told        these are the first steps of a session from a start on
+--   Goes version table bytes budget needs start told        these are the first steps of a session from a start on, by rounds of any
+--                                        longest length
 --   Chain version table bytes budget slots                  the slots after a chain of sessions: a `run` that emptied them, and then
 --                                        any number of `resume`. Sessions that wrote version 1 come before those that write version 2
 --   HasBegun ending course               a `run` emptied the slots: it ended with its text or paused, or it told a record
 --   TearsSo asked course before after    a store of a session that failed left in its slot what such a store may leave
 --   GoesOn table bytes budget new        the vault tells slots that are those of a chain
 --   Rises C most blocks states           the states of a search rise, are best words, and have no more blocks than this
---   EndsAtAnswer d C budget slice s      its rounds do so up to the blocks of the answer, and end at it unless the slice stops them
+--   EndsAtAnswer d C budget longest slice s      its rounds do so up to the blocks of the answer, and end at it unless the slice stops them
 --   IsGround table bytes budget          what the law of chains rests on
 --   ChainsAreTrue table bytes budget     the law of chains: they leave the slots as `resume` asks for them
 use Rattle.std.specs.Prelude.{◌≡◌, ℕ, ◌⊎◌, ◌≤◌, List, ◌++◌, Option, Some, [], ◌∷◌, ◌<◌, ◌^◌, false, slice_get, length}
@@ -42,13 +43,16 @@ Leaves version digest budget turn told slots after =
     × IsLeft (in_slot (slot_of (turn_after turn told)) (slots_after version digest budget turn told slots)) held
     × (after ≡ put (slot_of (turn_after turn told)) held (slots_after version digest budget turn told slots)))
 
--- the steps told are the first of those from the start on; the needs are those of the first statements
+-- the steps told are the first of those from the start on; the needs are those of the first statements. Sessions of a chain may
+-- have longest rounds of different lengths
 pub record Goes (version : ℕ) (table : List Call) (bytes : List ℕ) (budget : ℕ) (needs : List Matrix) (start : Start) (told : List SessionStep) : Type 0 where
   pub version_is : IsVersion version
   pub met : MeetsFirst table bytes needs
+  pub longest : ℕ
+  pub long : 0 < longest
   pub slice : Option ℕ
   pub left : List SessionStep
-  pub rounds : (session_rounds (divisor_in version) needs budget slice start).steps ≡ told ++ left
+  pub rounds : (session_rounds (divisor_in version) needs budget longest slice start).steps ≡ told ++ left
 
 pub data Chain (table : List Call) (bytes : List ℕ) (budget : ℕ) : ℕ → Slots → Type 0 where
   begun : (version : ℕ) (needs : List Matrix) (told : List SessionStep) (slots : Slots) → Goes version table bytes budget needs fresh_start told → Leaves version (sha256 bytes) budget 0 told empty_slots slots → Chain table bytes budget version slots
@@ -82,9 +86,9 @@ Rises C most blocks [] = Unit {0}
 Rises C most blocks (s ∷ states) = (blocks < s.blocks) × (s.blocks ≤ most) × IsBestAt C s × Rises C most s.blocks states
 
 -- and its last one is the answer, unless the slice stopped it
-pub record EndsAtAnswer (d : ℕ) (C : Matrix) (budget : ℕ) (slice : Option ℕ) (s : Progress) : Type 0 where
-  pub rises : Rises C (answer_blocks (answer d C budget)) s.blocks (rounds d C budget slice s).states
-  pub ends : (rounds d C budget slice s).is_stopped ≡ false → IsSettled d C budget (last_state s (rounds d C budget slice s).states)
+pub record EndsAtAnswer (d : ℕ) (C : Matrix) (budget longest : ℕ) (slice : Option ℕ) (s : Progress) : Type 0 where
+  pub rises : Rises C (answer_blocks (answer d C budget)) s.blocks (rounds d C budget longest slice s).states
+  pub ends : (rounds d C budget longest slice s).is_stopped ≡ false → IsSettled d C budget (last_state s (rounds d C budget longest slice s).states)
 
 -- what the law of chains rests on: facts of the language and of the format of checkpoints
 pub record IsGround (table : List Call) (bytes : List ℕ) (budget : ℕ) : Type 0 where

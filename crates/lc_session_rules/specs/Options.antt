@@ -1,7 +1,8 @@
 -- The words of the command line, read from the left. The first word is the command, and every further word is key=value.
 --   Command                   run, resume, check or summary
---   Key                       workers, budget, slice, keep, seed
---   Settings                  what the words ask for; a number is the value of seed, 0 where there is none
+--   Key                       workers, round, budget, slice, keep, seed
+--   Settings                  what the words ask for: `round` is the longest round, in blocks; a number is the value of seed, 0
+--                             where there is none
 --   CommandRow                a command with its keys; of a table of such rows, a command or key that it lacks is an unknown one
 --   all_options               the table with all of them
 --   run_and_check             the table of a program that knows `run` with the keys workers and budget, and `check`
@@ -10,6 +11,7 @@
 --   options table words       the settings, or the index of the word that is refused
 use Rattle.std.specs.Prelude.{ℕ, suc, ◌^◌, Bool, true, false, not, nat_le, ◌==◌, ◌&&◌, ◌||◌, if◌then◌else◌, List, [], ◌∷◌, ◌++◌, length, codes, Option, Some, None, is_some, option_map, option_and_then, slice_index}
 use Rattle.std.specs.List.{list_all, list_any, before_first, after_first}
+use Rattle.lc_enumeration.specs.Records.{default_round}
 use Rattle.lc_grammar.specs.Token.{is_digit, number_of, widest}
 use Rattle.lc_formats.specs.Text.{same_bytes}
 
@@ -21,6 +23,7 @@ pub data Command : Type 0 where
 
 pub data Key : Type 0 where
   workers : Key
+  round : Key
   budget : Key
   slice : Key
   keep : Key
@@ -34,6 +37,7 @@ command_text summary = codes "summary"
 
 unfoldable pub key_text : Key → List ℕ
 key_text workers = codes "workers"
+key_text round = codes "round"
 key_text budget = codes "budget"
 key_text slice = codes "slice"
 key_text keep = codes "keep"
@@ -47,7 +51,7 @@ unfoldable pub row : Command → List Key → CommandRow
 row c keys = record { command = c; keys = keys }
 
 unfoldable pub all_options : List CommandRow
-all_options = row run (workers ∷ budget ∷ slice ∷ keep ∷ []) ∷ row resume (workers ∷ budget ∷ slice ∷ keep ∷ []) ∷ row check [] ∷ row summary (seed ∷ workers ∷ budget ∷ []) ∷ []
+all_options = row run (workers ∷ round ∷ budget ∷ slice ∷ keep ∷ []) ∷ row resume (workers ∷ round ∷ budget ∷ slice ∷ keep ∷ []) ∷ row check [] ∷ row summary (seed ∷ workers ∷ round ∷ budget ∷ []) ∷ []
 
 unfoldable pub run_and_check : List CommandRow
 run_and_check = row run (workers ∷ budget ∷ []) ∷ row check [] ∷ []
@@ -55,13 +59,14 @@ run_and_check = row run (workers ∷ budget ∷ []) ∷ row check [] ∷ []
 pub record Settings : Type 0 where
   pub command : Command
   pub workers : ℕ
+  pub round : ℕ
   pub budget : ℕ
   pub slice : Option ℕ
   pub keep : Bool
   pub number : ℕ
 
 unfoldable pub settings_of : Command → Settings
-settings_of c = record { command = c; workers = 1; budget = 2 ^ 20; slice = None; keep = false; number = 0 }
+settings_of c = record { command = c; workers = 1; round = default_round; budget = 2 ^ 20; slice = None; keep = false; number = 0 }
 
 -- one to twenty digits, the first one not 0 unless it is the only one, and a number of at most 64 bits
 unfoldable pub number_in : List ℕ → Option ℕ
@@ -75,6 +80,7 @@ yes_or_no text = (if same_bytes text (codes "yes") then Some true else (if same_
 
 unfoldable pub put_key : Key → List ℕ → Settings → Option Settings
 put_key workers text s = option_map (λ n. record s { workers = n }) (number_within 1 256 text)
+put_key round text s = option_map (λ n. record s { round = n }) (number_within 1 (2 ^ 20) text)
 put_key budget text s = option_map (λ n. record s { budget = n }) (number_within 0 (2 ^ 40) text)
 put_key slice text s = option_map (λ n. record s { slice = Some n }) (number_within 1 (2 ^ 40) text)
 put_key keep text s = option_map (λ b. record s { keep = b }) (yes_or_no text)

@@ -77,7 +77,7 @@ abbrev pub most_bytes : ℕ
 most_bytes = 2 ^ 20
 
 abbrev pub rounds_of : Settings → Course → SessionRounds
-rounds_of asked course = session_rounds divisor_of course.needs asked.budget asked.slice course.start
+rounds_of asked course = session_rounds divisor_of course.needs asked.budget asked.round asked.slice course.start
 
 -- the record of a note, as watchers hear it
 abbrev pub record_of : Note → Record
@@ -356,7 +356,7 @@ Replies table run asked held course = IsNeeds table course.bytes course.needs ×
 Replies table resume asked held course = IsNeeds table course.bytes course.needs × IsResumedText table asked held course
 Replies table check asked held course = IsCheckText course.bytes course.text × (course.is_faulty ≡ false)
 Replies table summary asked held course =
-    (course.text ≡ summary_text asked.number asked.budget) × (course.is_faulty ≡ false) × (course.needs ≡ summary_code asked.number ∷ [])
+    (course.text ≡ summary_text asked.number asked.budget asked.round) × (course.is_faulty ≡ false) × (course.needs ≡ summary_code asked.number ∷ [])
     × AnswerHolds (summary_code asked.number) (answer (divisor_of (summary_code asked.number)) (summary_code asked.number) asked.budget)
 
 -- the bytes are a certificate of either version that is accepted, and its distance is that of its rows, or of the code that its

@@ -2,7 +2,8 @@
 --   generator_words n g             the first n words of the generator
 --   summary_row i word              row i: the unit vector i of length 24, and then the 24 lowest bits of the word, the lowest first
 --   summary_code seed               the code over 2 elements of length 48 that the 24 rows of the seed span
---   summary_text seed budget        the line: the distance line of the code, and how many rounds the search took
+--   summary_text seed budget longest        the line: the distance line of the code, and how many rounds of at most so many blocks
+--                                   the search took
 use Rattle.std.specs.Prelude.{ℕ, zero, suc, ◌-◌, ◌/◌, ◌%◌, ◌^◌, List, [], ◌∷◌, ◌++◌, length, map, take, codes, decimal, None}
 use Rattle.rand_core.specs.Pcg32Seed.{pcg32_seed}
 use Rattle.rand_pcg.specs.Lcg.{Lcg}
@@ -37,10 +38,10 @@ summary_code seed = record { field = Gf2; columns = 48; rows = summary_rows 0 (g
 unfoldable pub without_newline : List ℕ → List ℕ
 without_newline text = take (length text - 1) text
 
-unfoldable pub round_count : Matrix → ℕ → ℕ
-round_count C budget = length (records divisor_of (C ∷ []) budget None fresh_start)
+unfoldable pub round_count : Matrix → ℕ → ℕ → ℕ
+round_count C budget longest = length (records divisor_of (C ∷ []) budget longest None fresh_start)
 
-unfoldable pub summary_text : ℕ → ℕ → List ℕ
-summary_text seed budget =
+unfoldable pub summary_text : ℕ → ℕ → ℕ → List ℕ
+summary_text seed budget longest =
     line (codes "summary seed " ++ decimal seed ++ codes " " ++ without_newline (query_line distance (summary_code seed) budget)
-    ++ codes " rounds " ++ decimal (round_count (summary_code seed) budget))
+    ++ codes " rounds " ++ decimal (round_count (summary_code seed) budget longest))

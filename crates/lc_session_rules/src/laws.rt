@@ -85,7 +85,8 @@ pub fn sessions_say_what_they_did()
         × Appends old.sink new.sink s.course.text }
     ensures summary { (table : List Call) (args : List (List ℕ)) (old new : Outside) (n : ℕ)
         (s : IsSession table args old new (done n)) → s.asked.command ≡ summary →
-        Appends old.sink new.sink (summary_text s.asked.number s.asked.budget) × (new.source ≡ old.source) }
+        Appends old.sink new.sink (summary_text s.asked.number s.asked.budget s.asked.round)
+        × (new.source ≡ old.source) }
     ensures unfailed { (table : List Call) (args : List (List ℕ)) (old new : Outside) (n : ℕ)
         (s : IsSession table args old new (done n)) →
         (new.source_faults ≡ old.source_faults) × (new.sink_faults ≡ old.sink_faults)
@@ -106,7 +107,7 @@ pub fn sessions_say_what_they_did()
         × (StartsTruly table s.asked.command s.asked old.vault s.course →
         IsText table s.asked.budget s.course.bytes s.course.text s.course.is_faulty)
         × (s.asked.command ≡ check → IsCheckText s.course.bytes s.course.text)
-        × (s.asked.command ≡ summary → s.course.text ≡ summary_text s.asked.number s.asked.budget) }
+        × (s.asked.command ≡ summary → s.course.text ≡ summary_text s.asked.number s.asked.budget s.asked.round) }
     ensures written { (table : List Call) (args : List (List ℕ)) (old new : Outside) (ending : Ending)
         (s : IsSession table args old new ending) → ((n : ℕ) → ¬ (ending ≡ done n)) → ¬ (ending ≡ sink_fault) →
         ((r : Reason) → ¬ (ending ≡ rejected r)) → new.sink ≡ old.sink }
@@ -220,7 +221,7 @@ pub fn pauses_are_those_of_watchers_handed_back()
 {}
 
 /// Chains of sessions leave both slots as `resume` asks for them: each holds a true checkpoint in the slot
-/// of its turn, or none.
+/// of its turn, or none. Each session of a chain may have a longest round of its own.
 pub fn chains_leave_true_slots()
     ensures { (table : List Call) (bytes : List ℕ) (budget : ℕ) → ChainsAreTrue table bytes budget }
 {}
@@ -246,14 +247,15 @@ pub fn sessions_make_up_chains()
 /// If a session answered each need of its script by what its records and rounds settle, its text is the text
 /// of the script: always if it started afresh, and if the checkpoint is true from which it resumed.
 pub fn sessions_that_start_truly_print_the_text()
-    ensures fresh { (table : List Call) (asked : Settings) (course : Course) →
+    ensures fresh { (table : List Call) (asked : Settings) (course : Course) → 1 ≤ asked.round →
         IsGround table course.bytes asked.budget → NoFault course.bytes → IsFresh course →
         IsNeeds table course.bytes course.needs → (rounds_of asked course).is_stopped ≡ false →
         (answers : List Answer) → Settle asked.budget course.needs (rounds_of asked course).settled answers →
         IsTextBy table asked.budget course.bytes answers course.text course.is_faulty →
         IsText table asked.budget course.bytes course.text course.is_faulty }
     ensures resumed { (table : List Call) (asked : Settings) (held : Option Slots) (course : Course) (p : Checkpoint) →
-        IsGround table course.bytes asked.budget → NoFault course.bytes → GoesOnFrom asked held course p →
+        1 ≤ asked.round → IsGround table course.bytes asked.budget → NoFault course.bytes →
+        GoesOnFrom asked held course p →
         IsTrueCheckpoint table course.bytes asked.budget p → Fits asked course →
         IsNeeds table course.bytes course.needs → (rounds_of asked course).is_stopped ≡ false →
         (answers : List Answer) → Settle asked.budget course.needs (rounds_of asked course).settled answers →
@@ -261,7 +263,7 @@ pub fn sessions_that_start_truly_print_the_text()
         IsText table asked.budget course.bytes course.text course.is_faulty }
 {}
 
-/// A session that finishes prints the text of its script under its budget, whatever its workers, its slice
+/// A session that finishes prints the text of its script under its budget, whatever its workers, its longest round, its slice
 /// and the sessions before it were: `run` always, and `resume` from a true checkpoint. So it does over slots each
 /// of which is empty, holds no checkpoint or a true one, and over the slots of a chain, which are such.
 pub fn finished_sessions_print_the_text()

@@ -19,39 +19,40 @@ ghost use Rattle.lc_session_rules.specs.Course.{GoesSo, state_at, steps_at, star
 /// are those before and those of the search; the slice stops it there exactly if it stops the search; and if
 /// it doesn't, the session goes on with the state of the search settled. At the end of its needs it is done.
 pub fn sessions_go_need_by_need()
-    ensures met { (divisor : Matrix → ℕ) (budget : ℕ) (begin : List Matrix → Start) (slice : Option ℕ)
+    ensures met { (divisor : Matrix → ℕ) (budget longest : ℕ) (begin : List Matrix → Start) (slice : Option ℕ)
         (needs : List Matrix) (C : Matrix) (told : List SessionStep) (now : Start) (left : Option ℕ) →
-        GoesSo divisor budget begin slice needs (C ∷ []) told now left → length now.settled ≡ length needs →
-        ((session_rounds divisor (needs ++ C ∷ []) budget slice (begin (needs ++ C ∷ []))).steps
-        ≡ told ++ steps_at divisor budget C left now)
-        × ((session_rounds divisor (needs ++ C ∷ []) budget slice (begin (needs ++ C ∷ []))).is_stopped
-        ≡ (rounds (divisor C) C budget left (state_at C now)).is_stopped) }
-    ensures on { (divisor : Matrix → ℕ) (budget : ℕ) (begin : List Matrix → Start) (slice : Option ℕ)
+        GoesSo divisor budget longest begin slice needs (C ∷ []) told now left → length now.settled ≡ length needs →
+        ((session_rounds divisor (needs ++ C ∷ []) budget longest slice (begin (needs ++ C ∷ []))).steps
+        ≡ told ++ steps_at divisor budget longest C left now)
+        × ((session_rounds divisor (needs ++ C ∷ []) budget longest slice (begin (needs ++ C ∷ []))).is_stopped
+        ≡ (rounds (divisor C) C budget longest left (state_at C now)).is_stopped) }
+    ensures on { (divisor : Matrix → ℕ) (budget longest : ℕ) (begin : List Matrix → Start) (slice : Option ℕ)
         (needs : List Matrix) (C : Matrix) (told : List SessionStep) (now : Start) (left : Option ℕ) →
-        GoesSo divisor budget begin slice needs (C ∷ []) told now left → length now.settled ≡ length needs →
-        (rounds (divisor C) C budget left (state_at C now)).is_stopped ≡ false →
-        GoesSo divisor budget begin slice (needs ++ C ∷ []) [] (told ++ steps_at divisor budget C left now)
-        (start_next divisor budget C left now) (rounds (divisor C) C budget left (state_at C now)).left }
-    ensures ends { (divisor : Matrix → ℕ) (budget : ℕ) (begin : List Matrix → Start) (slice : Option ℕ)
+        GoesSo divisor budget longest begin slice needs (C ∷ []) told now left → length now.settled ≡ length needs →
+        (rounds (divisor C) C budget longest left (state_at C now)).is_stopped ≡ false →
+        GoesSo divisor budget longest begin slice (needs ++ C ∷ []) []
+        (told ++ steps_at divisor budget longest C left now) (start_next divisor budget longest C left now)
+        (rounds (divisor C) C budget longest left (state_at C now)).left }
+    ensures ends { (divisor : Matrix → ℕ) (budget longest : ℕ) (begin : List Matrix → Start) (slice : Option ℕ)
         (needs : List Matrix) (told : List SessionStep) (now : Start) (left : Option ℕ) →
-        GoesSo divisor budget begin slice needs [] told now left → length needs ≤ length now.settled →
-        session_rounds divisor needs budget slice (begin needs)
+        GoesSo divisor budget longest begin slice needs [] told now left → length needs ≤ length now.settled →
+        session_rounds divisor needs budget longest slice (begin needs)
         ≡ record { steps = told; settled = now.settled; left = left; is_stopped = false } }
 {}
 
 /// A session that nothing stopped settles its needs by the answers of the search, if it started afresh or
 /// from a true checkpoint whose settled needs are fewer than those of the script.
 pub fn unstopped_sessions_answer_by_the_search()
-    ensures fresh { (table : List Call) (bytes : List ℕ) (budget : ℕ) (needs : List Matrix) (slice : Option ℕ)
-        (answers : List Answer) → budget ≤ 2 ^ 40 → MeetsFirst table bytes needs →
-        (session_rounds divisor_of needs budget slice fresh_start).is_stopped ≡ false →
-        Settle budget needs (session_rounds divisor_of needs budget slice fresh_start).settled answers →
+    ensures fresh { (table : List Call) (bytes : List ℕ) (budget longest : ℕ) (needs : List Matrix) (slice : Option ℕ)
+        (answers : List Answer) → budget ≤ 2 ^ 40 → 0 < longest → MeetsFirst table bytes needs →
+        (session_rounds divisor_of needs budget longest slice fresh_start).is_stopped ≡ false →
+        Settle budget needs (session_rounds divisor_of needs budget longest slice fresh_start).settled answers →
         answers ≡ answers_of needs budget }
-    ensures resumed { (table : List Call) (bytes : List ℕ) (budget : ℕ) (needs : List Matrix) (slice : Option ℕ)
-        (answers : List Answer) (p : Checkpoint) → OneScript bytes → OneStep table → budget ≤ 2 ^ 40 →
+    ensures resumed { (table : List Call) (bytes : List ℕ) (budget longest : ℕ) (needs : List Matrix) (slice : Option ℕ)
+        (answers : List Answer) (p : Checkpoint) → OneScript bytes → OneStep table → budget ≤ 2 ^ 40 → 0 < longest →
         MeetsFirst table bytes needs → length p.settled < length needs → IsTrueCheckpoint table bytes budget p →
-        (session_rounds divisor_of needs budget slice (start_of needs p)).is_stopped ≡ false →
-        Settle budget needs (session_rounds divisor_of needs budget slice (start_of needs p)).settled answers →
+        (session_rounds divisor_of needs budget longest slice (start_of needs p)).is_stopped ≡ false →
+        Settle budget needs (session_rounds divisor_of needs budget longest slice (start_of needs p)).settled answers →
         answers ≡ answers_of needs budget }
 {}
 

@@ -13,8 +13,9 @@ use std::alloc::Global;
 #[tactic(auto, unfolding(crate::proofs::Opened::summary_texts))]
 pub fn summary_line(alloc: Global, seed: u64, line: &[u8], rounds: u64) -> Result<Vec<u8>, NoMemory>
     ensures is { IfOk result (λ text. text.items ≡ summary_line seed line.now rounds) }
-    ensures summary { IfOk result (λ text. (budget : ℕ) → line.now ≡ query_line distance (summary_code seed) budget →
-        rounds ≡ round_count (summary_code seed) budget → text.items ≡ summary_text seed budget) }
+    ensures summary { IfOk result (λ text. (budget longest : ℕ) →
+        line.now ≡ query_line distance (summary_code seed) budget →
+        rounds ≡ round_count (summary_code seed) budget longest → text.items ≡ summary_text seed budget longest) }
 {
     let mut text = Vec::new(alloc);
     text.extend_from_slice(b"summary seed ")?;

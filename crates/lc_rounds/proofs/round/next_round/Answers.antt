@@ -7,5 +7,5 @@ returns-clause-done g c =
     let sets = c.dimension-dimension.ensures in
     let long = c.length-length.ensures in
     let m = c.in_ok-round.ensures.more in
-    round_done c.args.pace.now c.args.search.now c.round.new.self c.limit_of.result c.in_ok-round.round _ c.sets-sets.ensures.is sets.rows sets.independent (omega (arith, long.is, long.most)) c.requires.budget c.requires.fitting c.in_ok-round.ensures.state (c.limit_of.ensures.is _ _ _)
+    round_done c.args.pace.now c.args.search.now c.round_within.new.self c.limit_of-limit.result c.in_ok-round.round _ c.sets-sets.ensures.is sets.rows sets.independent (omega (arith, long.is, long.most)) c.requires.budget c.requires.fitting c.in_ok-round.ensures.state (c.limit_of-limit.ensures.is _ _ _)
     (omega (arith, m.0, m.2)) m.3 c.in_ok-round.ensures.record
