@@ -62,7 +62,7 @@ pub enum Searches {
 }
 
 /// The benches with their names.
-pub static BENCHES: [(&str, Bench); 66] = [
+pub static BENCHES: [(&str, Bench); 68] = [
     ("add_scaled_2", Bench::AddScaled(2)),
     ("add_scaled_3", Bench::AddScaled(3)),
     ("add_scaled_4", Bench::AddScaled(4)),
@@ -105,10 +105,12 @@ pub static BENCHES: [(&str, Bench); 66] = [
     ("stack_16_255", Bench::Stack(16, 255)),
     ("kernel_3_81", Bench::Least(3, 81, 27, 6)),
     ("kernel_4_60", Bench::Least(4, 60, 20, 6)),
+    ("kernel_4_90", Bench::Least(4, 90, 30, 6)),
+    ("kernel_16_60", Bench::Least(16, 60, 30, 4)),
     ("near_2", Bench::Near(2, 127, 36)),
     ("near_3", Bench::Near(3, 81, 27)),
-    ("near_4", Bench::Near(4, 60, 20)),
-    ("near_16", Bench::Near(16, 30, 15)),
+    ("near_4", Bench::Near(4, 90, 30)),
+    ("near_16", Bench::Near(16, 60, 30)),
     ("count_2", Bench::Count(2, 24)),
     ("count_3", Bench::Count(3, 15)),
     ("count_4", Bench::Count(4, 12)),

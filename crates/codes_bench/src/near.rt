@@ -10,7 +10,7 @@ use std::thread::Threads;
 use std::time::Instant;
 
 /// How many blocks are done.
-const BLOCKS: u64 = 20_000;
+const BLOCKS: u64 = 100_000;
 
 // The rate of a search for a word of the code that is nearest to a pseudo-random one, with one worker, in words.
 fn near_of<R: Clock + AllocGlobal + Threads + Sync>(rt: &R, code: &Code) -> Result<Rate, Failure> {
