@@ -7,6 +7,5 @@ pub mod Print
 pub mod Query
 pub mod Refusal
 pub mod Relations
-pub mod Residual
 pub mod Trace
 pub mod Value
