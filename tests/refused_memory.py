@@ -50,10 +50,11 @@ GoppaCode([1,1,1], [0,1,2,3,4,5,6,7], GF(8), GF(2)); AlternantCode(2, [1,2,3,4],
 C := HammingCode(3, GF(2)); D := RepetitionCode(7, GF(2)); ExtendedCode(C); PuncturedCode(C, [1,3]); ShortenedCode(C, [2]);
 EvenWeightSubcode(C); DirectSumCode(C, D); UUVCode(C, D); DirectProductCode(C, D); IntersectionCode(C, DualCode(C));
 ConcatenatedCode(ReedSolomonCode(3, 2), GeneratorMatCode([[1,0,1],[0,1,1]], GF(2)));
+TraceCode(ReedSolomonCode(3, 2), GF(2)); SubfieldSubcode(ReedSolomonCode(3, 2), GF(2));
 """,
     "words and codes": b"""
 C := HammingCode(3, GF(2)); c := Encode(C, [1,0,1,1]); x := AddWords(c, [0,0,0,0,1,0,0], GF(2)); Syndrome(C, x); InformationWord(C, c);
-ScaleWord(2, [1,2,0], GF(3)); DistanceCodeword(c, x); UnionCode(C, RepetitionCode(7, GF(2))); AugmentedCode(C, [[1,0,0,0,0,0,0]]);
+ScaleWord(2, [1,2,0], GF(3)); DistanceCodeword(c, x); UnionCode(C, RepetitionCode(7, GF(2))); AugmentedCode(C, [[1,0,0,0,0,0,0]]); FillErasures(C, c, [1,2]);
 IsSubcode(DualCode(C), C); IsSameCode(C, C); IsSelfOrthogonalCode(C); IsSelfDualCode(C); IsCyclicCode(C); InformationWord(C, x);
 """,
     "decoders": b"""

@@ -34,10 +34,10 @@ MEANINGS = {
     7: "no field for codes has one element more than this length",
     8: "two points are equal",
     9: "the polynomial is 0 at a point",
-    10: "the field of the code doesn't lie in the field of the points",
+    10: "the one field doesn't lie in the other",
     11: "the fields of the codes don't fit each other",
     12: "lengths differ",
-    13: "the coordinates can't be taken away",
+    13: "the list of coordinates is bad",
     14: "the inner code has the wrong dimension",
     15: "the code has too many cosets to keep a leader of each",
     16: "these rows have too many words to look at each",
@@ -283,7 +283,7 @@ def no_residue_length(length, field):
 
 COMBINED = ("ExtendedCode", "PuncturedCode", "ShortenedCode", "EvenWeightSubcode", "DirectSumCode", "UUVCode",
             "DirectProductCode", "IntersectionCode", "UnionCode", "IsSubcode", "IsSameCode", "ConcatenatedCode")
-OF_WORDS = ("IsCodeword", "Decode", "AlgebraicDecode", "AlternantCertificate", "NearestWord", "Syndrome", "InformationWord")
+OF_WORDS = ("IsCodeword", "Decode", "AlgebraicDecode", "AlternantCertificate", "NearestWord", "Syndrome", "InformationWord", "FillErasures")
 OF_TWO_LISTS = ("AddWords", "ScaleWord", "DistanceCodeword")
 BY_LISTS = ("GeneratorPolCode", "CheckPolCode", "GoppaCode", "AlternantCode")
 
@@ -334,6 +334,8 @@ def refusal(expr, fault, names):
         return f"the length {values[0]} is not one of 1 to {LONGEST}"
     if name in OF_TWO_LISTS:
         return two_lists_refusal(name, values, fault)
+    if number == 13:
+        return coordinates_refusal(values[0], values[2])
     if number == 12 and name == "Encode":
         return f"the list has {len(values[1])} entries; a message of this code has as many as `Dimension(C)` says"
     if number == 12 and name == "AugmentedCode":

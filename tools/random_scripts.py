@@ -25,7 +25,8 @@ LARGE_SIZES = (25, 27, 32, 64, 81, 128, 243, 256)
 NAMES = ("C", "D", "x", "rows", "F", "a_1")
 UNKNOWN = ("Distance", "NearWord", "BchCode", "Extended", "Foo", "hammingCode", "GF_", "Golay", "z")
 CALLS = ("GF", "Weight", "Dimension", "DualCode", "IsCodeword", "Decode", "HammingCode", "ReedMullerCode", "CheckMat", "BCHCode", "GoppaCode",
-         "ExtendedCode", "UUVCode", "PuncturedCode", "BinaryGolayCode", "NearestWord", "Syndrome", "IsSubcode", "AddWords", "Encode", "AugmentedCode")
+         "ExtendedCode", "UUVCode", "PuncturedCode", "BinaryGolayCode", "NearestWord", "Syndrome", "IsSubcode", "AddWords", "Encode", "AugmentedCode", "TraceCode",
+         "FillErasures")
 SIGNS = "()[],;:=#_ \n\tab19GF"
 KINDS = ("valid", "refused", "unfit", "cut", "altered", "noise", "searched", "near")
 
@@ -126,7 +127,8 @@ class Maker:
 
     def combined(self, depth):
         call = self.pick(("ExtendedCode", "PuncturedCode", "ShortenedCode", "EvenWeightSubcode", "DirectSumCode", "UUVCode",
-                          "DirectProductCode", "IntersectionCode", "ConcatenatedCode", "UnionCode", "AugmentedCode"))
+                          "DirectProductCode", "IntersectionCode", "ConcatenatedCode", "UnionCode", "AugmentedCode", "TraceCode",
+                          "SubfieldSubcode"))
         if call == "ConcatenatedCode":
             size, degree = self.pick(((2, 1), (2, 2), (2, 3), (2, 4), (3, 1), (3, 2), (4, 1), (4, 2), (5, 1)))
             outer = self.over(size**degree, 1 + self.below(5))
@@ -137,6 +139,10 @@ class Maker:
         if call in ("PuncturedCode", "ShortenedCode"):
             places = self.coordinates(a.length)
             return self.zeros(f"{call}({a.text},{self.text(places)})", max(1, a.length - len(places)), a.size)
+        if call in ("TraceCode", "SubfieldSubcode"):
+            size = self.pick([q for q in (2, 3, 4, 5, 7, 8, 9, 11, 13, 16) if any(q**s == a.size for s in range(1, 5))])
+            size = self.size() if self.chance(self.faults) else size
+            return self.zeros(f"{call}({a.text},{self.field(size)})", a.length, size)
         if call == "AugmentedCode":
             rows = [self.row(a.size, min(a.length, 300)) for _ in range(self.below(3))]
             return self.zeros(f"{call}({a.text},{self.text(rows)})", a.length, a.size)
@@ -315,6 +321,8 @@ class Maker:
                 return f"{self.pick(('MinimumDistance', 'MinimumDistance', 'Certificate', 'ScanCertificate', 'WeightDistribution'))}({code.text})"
             if way < 7:
                 return f"{self.pick(('AlgebraicDecode', 'AlternantCertificate', 'NearestWord'))}({code.text},{self.word(code)})"
+            if way == 7:
+                return f"FillErasures({code.text},{self.word(code)},{self.text(self.coordinates(code.length))})"
         return self.least()
 
     def least(self):

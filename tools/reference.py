@@ -829,6 +829,59 @@ def information_word(code, word):
     return [word[first_nonzero(row)] for row in code.rows]
 
 
+def fill_erasures_line(code, word, erased):
+    """The one codeword with the symbols of the word off the erased coordinates, or `none`, or `many`: the rows without these
+    coordinates are reduced, each with the whole row beside it; a row that is 0 there leaves a choice."""
+    need_word(code, word)
+    if erased != sorted(set(erased)) or any(p >= code.length for p in erased):
+        raise Refused(13)
+    kept = [i for i in range(code.length) if i not in erased]
+    rows = reduce_rows(code.size, len(kept) + code.length, [[row[i] for i in kept] + row for row in code.rows])
+    field, rest, total, several = arithmetic(code.size), [word[i] for i in kept], [0] * code.length, False
+    for row in rows:
+        place = first_nonzero(row)
+        if place >= len(kept):
+            several = True
+            continue
+        c = rest[place]
+        rest = field.add_scaled(rest, negative(field, c), row[:len(kept)])
+        total = field.add_scaled(total, c, row[len(kept):])
+    if any(rest):
+        return "none"
+    return "many" if several else text_of(list(total))
+
+
+def need_field_inside(code, field):
+    need_symbol_field(field)
+    if not is_subfield(field.size, code.size):
+        raise Refused(10)
+
+
+@lru_cache(maxsize=None)
+def trace(small, large, a):
+    """The element of the small field that stands for a + a^q + a^(q^2) + .., with as many terms as the degree."""
+    field, total, exponent = arithmetic(large), 0, 1
+    while exponent < large:
+        total = field.sums[total][power(field, a, exponent)]
+        exponent *= small
+    return next(b for b in range(small) if embed(small, large, b) == total)
+
+
+def trace_code(code, field):
+    """The traces of all multiples of the rows generate it."""
+    need_field_inside(code, field)
+    large = arithmetic(code.size)
+    multiples = [[large.products[c][a] for a in row] for row in code.rows for c in range(1, code.size)]
+    return code_of_rows(field.size, code.length, [[trace(field.size, code.size, a) for a in row] for row in multiples])
+
+
+def subfield_subcode(code, field):
+    """A word over the small field has dot product 0 with a row of the dual if the dot products with the traces of all multiples of
+    this row are 0."""
+    need_field_inside(code, field)
+    return dual_of(trace_code(dual_of(code), field))
+
+
 def union_code(a, b):
     need_same_field(a, b)
     need_same_length(a, b)
@@ -1067,6 +1120,8 @@ CALLS = {
     "InformationWord": ([("code", "numbers")], information_word),
     "UnionCode": ([("code", "code")], union_code),
     "AugmentedCode": ([("code", "lists")], augmented_code),
+    "TraceCode": ([("code", "field")], trace_code),
+    "SubfieldSubcode": ([("code", "field")], subfield_subcode),
 }
 # these print a line of their own, and stand only as a whole statement; the functions get the session first
 QUERIES = {
@@ -1078,6 +1133,7 @@ QUERIES = {
     "ScanCertificate": ([("code",)], lambda session, code: certificate_line(session, code, "scan")),
     "WeightDistribution": ([("code",)], lambda _, code: weight_distribution_line(code)),
     "NearestWord": ([("code", "numbers")], nearest_word_line),
+    "FillErasures": ([("code", "numbers", "numbers")], lambda _, code, word, erased: fill_erasures_line(code, word, erased)),
 }
 
 

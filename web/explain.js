@@ -163,7 +163,7 @@ function divisorsTold(length, size) {
 }
 
 const COMBINED = ['ExtendedCode', 'PuncturedCode', 'ShortenedCode', 'EvenWeightSubcode', 'DirectSumCode', 'UUVCode', 'DirectProductCode', 'IntersectionCode', 'UnionCode', 'IsSubcode', 'IsSameCode', 'ConcatenatedCode'];
-const OF_WORDS = ['IsCodeword', 'Decode', 'AlgebraicDecode', 'AlternantCertificate', 'NearestWord', 'Syndrome', 'InformationWord'];
+const OF_WORDS = ['IsCodeword', 'Decode', 'AlgebraicDecode', 'AlternantCertificate', 'NearestWord', 'Syndrome', 'InformationWord', 'FillErasures'];
 const OF_TWO_LISTS = ['AddWords', 'ScaleWord', 'DistanceCodeword'];
 const BY_LISTS = ['GeneratorPolCode', 'CheckPolCode', 'GoppaCode', 'AlternantCode'];
 
@@ -209,6 +209,7 @@ function refusal(name, values, fault) {
   if (number === 7) return `it would have ${BigInt(values[0]) + 1n}; the sizes for codes are ${SYMBOL_SIZES.join(', ')}`;
   if (number === 2) return matrixLengthRefusal(name, values);
   if (OF_TWO_LISTS.includes(name)) return twoListsRefusal(values, fault);
+  if (number === 13) return coordinatesRefusal(values[0], values[2]);
   if (number === 12) return lengthsRefusal(name, values);
   if (number === 3) return argumentRefusal(name, values);
   if (number === 15) return `${values[0].size}^${fault.values[0]} is above 2^20`;

@@ -3,24 +3,23 @@
 --   weight_erased          a word that is 0 off the erasures is no heavier than there are erasures
 --   several_far            so there aren't several for fewer erasures than the minimum distance
 --   corrected              and a codeword that was changed at them is the answer
-use Rattle.std.proofs.Common.{◌≡◌, ◌≢◌, ℕ, suc, ◌+◌, ◌-◌, ◌<◌, ◌≤◌, ◌↔◌, Bool, true, false, cond, not, nat_le, ◌==◌, List, [], ◌∷◌, length, slice_index, Contains, None, is_some, refl, sym, ap, subst, ◌∙◌, ⊎_elim, true≢false, arith}
+use Rattle.std.proofs.Common.{◌≡◌, ◌≢◌, ℕ, suc, ◌+◌, ◌-◌, ◌<◌, ◌≤◌, Bool, true, false, cond, not, nat_le, ◌==◌, List, [], ◌∷◌, length, slice_index, Contains, None, is_some, refl, sym, ap, subst, ◌∙◌, true≢false, arith}
 use Rattle.std.specs.List.{list_any}
 use Rattle.std.proofs.lemmas.Bool.{eq-eqb, or_parts}
-use Rattle.lc_algebra.specs.declared.FieldName.{FieldName}
 use Rattle.lc_algebra.specs.Field.{add, neg}
 use Rattle.lc_algebra.specs.Word.{IsWord, zero_word, word_sum, difference, weight}
-use Rattle.lc_algebra.specs.Span.{InSpan, IsDistance}
+use Rattle.lc_algebra.specs.Span.{IsDistance}
 use Rattle.lc_algebra.specs.Matrix.{Matrix, AreRows}
 use Rattle.lc_algebra.proofs.FieldLaws.{zero_add, add_neg}
-use Rattle.lc_algebra.proofs.WordLaws.{index_zero_word, length_zero_word, length_difference, index_difference, index_word_sum, length_word_sum, word_symbol, weight_zero_head, positive_weight, same_from_difference, IsWord_difference}
+use Rattle.lc_algebra.proofs.WordLaws.{index_zero_word, length_zero_word, length_difference, index_difference, index_word_sum, length_word_sum, word_symbol, weight_zero_head, positive_weight, same_from_difference}
 use Rattle.lc_algebra.proofs.SpanLaws.{span_word, span_sum, span_difference}
-use Rattle.lc_algebra.proofs.SpanSearch.{any_contains, contains_any}
+use Rattle.lc_algebra.proofs.SpanSearch.{contains_any}
 use Rattle.lc_constructions.specs.declared.refusal.CodeRefusal.TheVariants.{BadPositions}
 use Rattle.lc_constructions.specs.Code.{InCode}
 use Rattle.lc_constructions.specs.Combined.{without_from, without}
 use Rattle.lc_constructions.specs.Refusal.{refuse_if, first_refusal}
 use Rattle.lc_constructions.specs.Refusals.{is_rising}
-use Rattle.lc_constructions.proofs.WithoutLaws.{length_without, kept, taken, not_not}
+use Rattle.lc_constructions.proofs.WithoutLaws.{length_without, not_not}
 use Rattle.lc_combine.proofs.ImageDimension.{weight_removed}
 use Rattle.lc_language.specs.Erasures.{AgreesOff, Fills, Filling, filled, unfilled, ambiguous, IsFilling, erased_refusals}
 use Rattle.lc_erasures.proofs.FillingLaws.{sum_differs}

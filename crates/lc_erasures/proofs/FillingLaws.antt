@@ -6,18 +6,18 @@
 --   two_messages           a word other than zero that is orthogonal to each equation: there are two
 --   one_message            no such word: the codeword of a solution is the only one
 --   unfilled_told, ambiguous_told, filled_told      the same of a matrix of the equations and its kernel
-use Rattle.std.proofs.Common.{◌≡◌, ◌≢◌, ℕ, ◌+◌, ◌<◌, ◌↔◌, List, [], ◌∷◌, length, slice_index, slice_index_or, Contains, Some, None, IsSome, Option, IfSome, true≢false, refl, sym, ap, subst, ◌∙◌, arith}
+use Rattle.std.proofs.Common.{◌≡◌, ◌≢◌, ℕ, ◌<◌, ◌↔◌, List, [], ◌∷◌, length, slice_index, slice_index_or, Some, None, IsSome, Option, IfSome, true≢false, refl, sym, ap, subst, ◌∙◌, arith}
 use Rattle.lc_algebra.specs.declared.FieldName.{FieldName}
 use Rattle.lc_algebra.specs.Field.{neg}
 use Rattle.lc_algebra.specs.Word.{IsWord, zero_word, word_sum, scale, difference}
 use Rattle.lc_algebra.specs.Span.{combine, InSpan}
 use Rattle.lc_algebra.specs.Matrix.{Matrix, AreRows, IsReduced, IsReducedGenerator, IsOrthogonal}
-use Rattle.lc_algebra.proofs.WordLaws.{index_zero_word, sum_assoc, sum_negative, sum_zero, IsWord_sum, IsWord_difference, length_scale, same_from_difference, difference_self}
+use Rattle.lc_algebra.proofs.WordLaws.{index_zero_word, sum_assoc, sum_negative, sum_zero, IsWord_sum, IsWord_difference, same_from_difference}
 use Rattle.lc_algebra.proofs.SpanLaws.{combination_of_word, word_of_combination, length_combine, coefficients_unique, span_row}
 use Rattle.lc_algebra.proofs.ReducedLaws.{reduced_independent}
 use Rattle.lc_matrix.specs.Solve.{Solves}
-use Rattle.lc_language.specs.Erasures.{AgreesOff, Fills, Filling, filled, unfilled, ambiguous, IsFilling}
-use Rattle.lc_erasures.specs.System.{IsKnown, IsSystem}
+use Rattle.lc_language.specs.Erasures.{Fills, filled, unfilled, ambiguous, IsFilling}
+use Rattle.lc_erasures.specs.System.{IsSystem}
 use Rattle.lc_erasures.proofs.SystemLaws.{solves_difference, solves_sum}
 
 pub fills_message : (C : Matrix) (x erased : List ℕ) (columns : List (List ℕ)) (symbols u : List ℕ) → IsWord C.field C.columns x

@@ -2,15 +2,15 @@
 --   erasures_fault         a list that is no word
 --   erasures_refused       coordinates that are refused
 --   erasures_told          the line of the answer
-use Rattle.std.proofs.Common.{◌≡◌, ◌≢◌, ℕ, List, [], ◌∷◌, Option, Some, None, Ok, Err, option_map, refl, sym, ap, subst, ◌∙◌}
+use Rattle.std.proofs.Common.{◌≡◌, ℕ, List, Option, Some, None, Ok, Err, option_map, ap, subst, ◌∙◌}
 use Rattle.lc_algebra.specs.Matrix.{Matrix}
 use Rattle.lc_constructions.specs.declared.refusal.CodeRefusal.{CodeRefusal}
 use Rattle.lc_constructions.specs.Refusal.{first_refusal, IsRefusedAs}
 use Rattle.lc_language.specs.Calls.{fill_erasures, query_refusals_of, query_refusal_of}
-use Rattle.lc_language.specs.Refusal.{Refusal, first_of, refusal_from, from_codes, word_refusals}
+use Rattle.lc_language.specs.Refusal.{first_of, refusal_from, from_codes, word_refusals}
 use Rattle.lc_language.specs.Print.{filling_line}
 use Rattle.lc_language.specs.Erasures.{IsFilling, erased_refusals}
-use Rattle.lc_language.specs.Evaluation.{prints, fails, fail_with, refused, refuse_call, QueriesTo}
+use Rattle.lc_language.specs.Evaluation.{prints, QueriesTo}
 use Rattle.lc_erasures.specs.declared.erasures.Filling.{Filling}
 use Rattle.lc_erasures.specs.Filling.{filling_of}
 use Rattle.lc_eval.specs.declared.refusals.Stop.{Stop}
@@ -18,7 +18,6 @@ use Rattle.lc_eval.specs.declared.refusals.Stop.TheVariants as stop
 use Rattle.lc_eval.specs.Checked.{IsRight, IsChecked}
 use Rattle.lc_eval.specs.Evaluated.{AffectsOrFails}
 use Rattle.lc_eval.specs.Made.{IsMade}
-use Rattle.lc_eval.specs.Value.{refused_of}
 use Rattle.lc_eval.proofs.AnswerLaws.{first_from_codes}
 use Rattle.lc_eval.proofs.QueryLaws.{first_stays, first_behind, fails_so}
 

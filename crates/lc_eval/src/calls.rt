@@ -123,6 +123,8 @@ static TABLE: &[Row] = &rows! {
     Call::Value(ValueCall::InformationWord) => "InformationWord" [Code, Numbers];
     Call::Value(ValueCall::UnionCode) => "UnionCode" [Code, Code];
     Call::Value(ValueCall::AugmentedCode) => "AugmentedCode" [Code, Lists];
+    Call::Value(ValueCall::TraceCode) => "TraceCode" [Code, Field];
+    Call::Value(ValueCall::SubfieldSubcode) => "SubfieldSubcode" [Code, Field];
     Call::Query(QueryCall::AlgebraicDecode) => "AlgebraicDecode" [Code, Numbers];
     Call::Query(QueryCall::LeastWord) => "LeastWord" [Lists, Field];
     Call::Query(QueryCall::MinimumDistance) => "MinimumDistance" [Code];
@@ -237,6 +239,8 @@ pub(crate) enum BoundCall<'a> {
     InformationWord(&'a Code, &'a [u64]),
     UnionCode(&'a Code, &'a Code),
     AugmentedCode(&'a Code, &'a [Vec<u64>]),
+    TraceCode(&'a Code, &'a Field),
+    SubfieldSubcode(&'a Code, &'a Field),
 }
 
 impl Means for BoundCall<'_> {
@@ -292,6 +296,8 @@ impl Means for BoundCall<'_> {
       | BoundCall.InformationWord C x ↦ language.information_word C.now x.now
       | BoundCall.UnionCode C D ↦ language.union_code C.now D.now
       | BoundCall.AugmentedCode C rows ↦ language.augmented_code C.now (rows_of rows.now)
+      | BoundCall.TraceCode C f ↦ language.trace_code C.now f.now
+      | BoundCall.SubfieldSubcode C f ↦ language.subfield_subcode C.now f.now
     ] };
 }
 
@@ -425,6 +431,10 @@ fn with_two<'a>(call: ValueCall, a: &'a Value, b: &'a Value) -> Option<BoundCall
         }
         ValueCall::UnionCode => Some(BoundCall::UnionCode(&a.code()?.code, &b.code()?.code)),
         ValueCall::AugmentedCode => Some(BoundCall::AugmentedCode(&a.code()?.code, b.lists()?)),
+        ValueCall::TraceCode => Some(BoundCall::TraceCode(&a.code()?.code, b.field()?)),
+        ValueCall::SubfieldSubcode => {
+            Some(BoundCall::SubfieldSubcode(&a.code()?.code, b.field()?))
+        }
         _ => None,
     }
 }
@@ -601,6 +611,12 @@ pub(crate) fn apply(
         BoundCall::InformationWord(code, list) => information_word(alloc, place, code, list),
         BoundCall::UnionCode(a, b) => made(alloc, place, lc_relations::union_of(alloc, a, b)),
         BoundCall::AugmentedCode(code, rows) => augmented_code(alloc, place, code, rows),
+        BoundCall::TraceCode(code, field) => {
+            made(alloc, place, lc_trace::trace_code(alloc, code, field))
+        }
+        BoundCall::SubfieldSubcode(code, field) => {
+            made(alloc, place, lc_trace::subfield_subcode(alloc, code, field))
+        }
     }
 }
 

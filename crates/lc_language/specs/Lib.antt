@@ -8,6 +8,5 @@ pub mod QuadraticResidues
 pub mod Query
 pub mod Refusal
 pub mod Relations
-pub mod Residual
 pub mod Trace
 pub mod Value

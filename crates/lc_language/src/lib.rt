@@ -69,6 +69,8 @@ pub enum ValueCall {
     InformationWord,
     UnionCode,
     AugmentedCode,
+    TraceCode,
+    SubfieldSubcode,
 }
 
 /// The calls that are statements of their own: each prints a line of its own.

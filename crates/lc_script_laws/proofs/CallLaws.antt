@@ -32,6 +32,7 @@ use Rattle.lc_language.specs.declared.ValueCall.TheVariants as call
 use Rattle.lc_language.specs.declared.QueryCall.{QueryCall}
 use Rattle.lc_language.specs.declared.QueryCall.TheVariants as query
 use Rattle.lc_language.specs.Value.{Value, numbers, field, lists}
+use Rattle.lc_language.specs.Trace.{subfield_refusals}
 use Rattle.lc_language.specs.Relations.{IsSubcode, IsSameCode, IsSelfOrthogonal, IsSelfDual, IsCyclic, IsMessageOf}
 use Rattle.lc_language.specs.Calls as bound
 use Rattle.lc_language.specs.Calls.{BoundCall, BoundQuery, value_forms, query_forms, refusals_of, refusal_of, Gives, bind, bind_query}
@@ -44,7 +45,7 @@ use Rattle.lc_script_laws.proofs.AtMostOne.{One, one_value, one_some}
 use Rattle.lc_script_laws.proofs.OneNearest.{nearest_one}
 use Rattle.lc_script_laws.proofs.OneValue.{code_one, made_one, extended_golay_one, bch_one, reed_solomon_one, truth_one, message_one, prints_least_one, prints_filling_one, asks_one, nears_one, decoded_by_form}
 use Rattle.lc_script_laws.proofs.FormedLaws.{bch_formed, solomon_formed, goppa_formed, alternant_formed}
-use Rattle.lc_script_laws.proofs.ShapeLaws.{IsShaped, AreShaped, InForms, bound_shaped, shaped_as, made_shaped, formed_shaped, IsAllowed, none_refuses, allowed, short, binary, ternary}
+use Rattle.lc_script_laws.proofs.ShapeLaws.{IsShaped, AreShaped, InForms, bound_shaped, shaped_as, made_shaped, formed_shaped, IsAllowed, none_refuses, allowed, short, over_symbols, binary, ternary}
 
 pub gives_one : (b : BoundCall) → refusal_of b ≡ None → One (Gives b)
 gives_one (bound.gf q) r = one_some (λ f. size f ≡ q) (λ f v. v ≡ field f) (λ f g a b. told_by_size f g (a ∙ sym b)) (λ f. one_value (field f))
@@ -96,6 +97,8 @@ gives_one (bound.encode C u) r = one_value _
 gives_one (bound.information_word C x) r = one_some (IsMessageOf C x) (λ u v. v ≡ numbers u) (message_one C x) (λ u. one_value (numbers u))
 gives_one (bound.union_code C D) r = made_one _ _ _ _
 gives_one (bound.augmented_code C rows) r = made_one _ _ _ _
+gives_one (bound.trace_code C f) r = made_one _ _ _ _
+gives_one (bound.subfield_subcode C f) r = made_one _ _ _ _
 
 pub queries_one : (b : BoundQuery) → One (Queries b)
 queries_one (bound.algebraic_decode C form x) = decoded_by_form C x form
@@ -177,6 +180,10 @@ concatenated_short : (C D : Matrix) → first_of (from_codes (concatenated_refus
 unfolding concatenated_refusals
 concatenated_short C D e = nested_short C D (degree_over (size D.field) (size C.field)) e
 
+subfield_allowed : (C : Matrix) (f : FieldName) → C.columns ≤ 255 → first_of (from_codes (subfield_refusals C f)) ≡ None → IsAllowed f C.columns
+unfolding subfield_refusals
+subfield_allowed C f l e = (l, over_symbols f (none_refuses _ e).0)
+
 solomon_allowed : (f : FieldName) (n : ℕ) → size f ≡ n + 1 → IsTrue (is_symbol f) → IsAllowed f n
 solomon_allowed f n e h = let few = small_size f h in (omega (arith, few, e), h)
 
@@ -239,6 +246,8 @@ calls_shaped call.Encode = (λ C h u v e g. shaped_as v _ g tt, tt)
 calls_shaped call.InformationWord = (λ C h x v e g. shaped_as v _ g.2 tt, tt)
 calls_shaped call.UnionCode = (λ C h D k v e g. made_shaped _ _ _ v (h.0.long, h.0.symbol) g, tt)
 calls_shaped call.AugmentedCode = (λ C h rows v e g. made_shaped _ _ _ v (h.0.long, h.0.symbol) g, tt)
+calls_shaped call.TraceCode = (λ C h f v e g. made_shaped _ _ _ v (subfield_allowed C.code f h.0.long e) g, tt)
+calls_shaped call.SubfieldSubcode = (λ C h f v e g. made_shaped _ _ _ v (subfield_allowed C.code f h.0.long e) g, tt)
 
 abbrev pub HaveQueryShapes : BoundQuery → Type 0
 HaveQueryShapes (bound.minimum_distance C) = IsCodeOfRows C

@@ -3,7 +3,7 @@
 --   IsShapedCode C           a code's value: the code is one of rows, and has its form
 --   IsShaped v               if the value is a code, it is such
 --   none_refuses             the refusals of what isn't refused
---   IsAllowed f n            a code over f of length n may be made; allowed, short      so it may, if it isn't refused
+--   IsAllowed f n            a code over f of length n may be made; allowed, short, over_symbols      so it may, if it isn't refused
 --   from_option, from_known  by cases on an option
 --   made_shaped, formed_shaped, shaped_as      a code's value without a form, one with a form, and a value that is told, are shaped
 --   ForAny, ForAll, InForms  what holds of all that a form of a call makes of shaped values, and so do several
@@ -83,7 +83,7 @@ pub short : (n : ℕ) → bad_length n ≡ None → n ≤ 255
 unfolding bad_length is_length
 short n e = leb-true n 255 (second_test (nat_le 1 n) (nat_le n 255) (by_test (nat_le 1 n && nat_le n 255) _ e))
 
-over_symbols : (f : FieldName) → too_large f ≡ None → is_symbol f ≡ true
+pub over_symbols : (f : FieldName) → too_large f ≡ None → is_symbol f ≡ true
 unfolding too_large
 over_symbols f e = by_test (is_symbol f) _ e
 

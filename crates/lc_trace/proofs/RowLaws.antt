@@ -5,7 +5,7 @@
 --   sum_none, sum_more                    the sum of the powers that the trace stands for
 --   power_first, power_next               these powers
 --   degrees_same                          both definitions of the degree of a field over another
-use Rattle.std.proofs.Common.{◌≡◌, ℕ, zero, suc, ◌+◌, ◌*◌, ◌^◌, ◌<◌, ◌≤◌, List, [], ◌∷◌, ◌++◌, length, map, take, slice_index, slice_index_or, refl, sym, ap, ap₂, subst, ◌∙◌, ⊎_elim, arith}
+use Rattle.std.proofs.Common.{◌≡◌, ℕ, suc, ◌+◌, ◌^◌, ◌<◌, ◌≤◌, List, [], ◌∷◌, ◌++◌, length, map, take, slice_index, slice_index_or, refl, sym, ap, ap₂, subst, ◌∙◌, ⊎_elim, arith}
 use Rattle.std.proofs.lemmas.List.{take_more, take_all, map-append, append_assoc, append-nil, length-append, get_or_append_left}
 use Rattle.std.proofs.lemmas.Grind.{flat_map-append, pow_more}
 use Rattle.std.proofs.Math.Nat.{pow-zero}

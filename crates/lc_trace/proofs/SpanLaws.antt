@@ -6,12 +6,12 @@
 --   subcode_dual           the words of the subfield subcode are orthogonal to the words of traces of the dual
 --   subcode_code, subcode_told       so the subfield subcode is the dual of the trace code of the dual
 --   delsarte               and the trace code of the dual is the dual of the subfield subcode
-use Rattle.std.proofs.Common.{◌≡◌, ℕ, ◌<◌, ◌↔◌, List, [], ◌∷◌, length, map, slice_index, slice_index_or, Contains, All, refl, sym, ap, subst, ◌∙◌, arith}
+use Rattle.std.proofs.Common.{◌≡◌, ℕ, ◌<◌, ◌↔◌, List, map, slice_index, slice_index_or, Contains, sym, ap, subst, ◌∙◌, arith}
 use Rattle.std.specs.Prelude.{IsTrue}
 use Rattle.std.proofs.lemmas.List.{get_or-map, length-map}
 use Rattle.std.proofs.lemmas.List.Elements.{Contains-get_or, All-contains}
 use Rattle.lc_algebra.specs.declared.FieldName.{FieldName}
-use Rattle.lc_algebra.specs.Field.{shape_of, size, is_symbol, mul, pow}
+use Rattle.lc_algebra.specs.Field.{shape_of, size, is_symbol, pow}
 use Rattle.lc_algebra.specs.Residue.{digits}
 use Rattle.lc_algebra.specs.Polynomial.{value_at}
 use Rattle.lc_algebra.specs.Embedding.{IsSubfield, embed}
@@ -33,7 +33,7 @@ use Rattle.lc_combine.proofs.GeneratedLaws.{generated_by}
 use Rattle.lc_combine.proofs.SumLaws.{shaped}
 use Rattle.lc_combine.proofs.DualLaws.{dual_orthogonal}
 use Rattle.lc_combine.proofs.PowerSpan.{IsClosedOver, multiple_by_powers, closed_over_span, closed_span}
-use Rattle.lc_language.specs.Trace.{extension_degree, IsTrace, IsTraceWord, InTrace, InSubfieldSubcode}
+use Rattle.lc_language.specs.Trace.{IsTrace, IsTraceWord, InTrace, InSubfieldSubcode}
 use Rattle.lc_trace.specs.Traces.{AreTraces, traced, traced_rows}
 use Rattle.lc_trace.proofs.TraceLaws.{trace_once, trace_told, trace_zero, word_once, word_added, word_scaled, word_zero, word_inside, word_exists, dot_trace, traces_closed}
 

@@ -1,12 +1,13 @@
 -- Traces of elements and of words from a symbol field to a smaller one (MacWilliams and Sloane, chapter 4).
 --   trace_once, trace_exists       each element has one trace
+--   trace_reached          and each element of the smaller field is one
 --   trace_added, trace_scaled, trace_zero      it is linear over the smaller field
 --   trace_told             an element is 0 if each of its multiples has trace 0
 --   word_once, word_added, word_scaled, word_zero, word_inside      so of words, symbol by symbol
 --   word_exists            each word has a word of traces
 --   dot_trace              the trace of the dot with a word over the smaller field is the dot with the traces
 --   traces_closed          the words of traces of the words of a code are a linear code
-use Rattle.std.proofs.Common.{◌≡◌, ℕ, zero, suc, ◌+◌, ◌<◌, ◌≤◌, List, [], ◌∷◌, length, map, slice_index, refl, sym, ap, ap₂, subst, ◌∙◌, ⊎_elim, arith}
+use Rattle.std.proofs.Common.{◌≡◌, ℕ, zero, suc, ◌<◌, ◌≤◌, List, [], ◌∷◌, length, map, slice_index, refl, sym, ap, ap₂, subst, ◌∙◌, ⊎_elim, arith}
 use Rattle.std.specs.Prelude.{IsTrue}
 use Rattle.std.proofs.lemmas.Bool.{cases_lt}
 use Rattle.lc_algebra.specs.declared.FieldName.{FieldName}
@@ -14,14 +15,14 @@ use Rattle.lc_algebra.specs.Field.{size, is_symbol, add, mul}
 use Rattle.lc_algebra.specs.Embedding.{IsSubfield, embed}
 use Rattle.lc_algebra.specs.Word.{Fits, IsWord, zero_word, word_sum, scale, word_dot}
 use Rattle.lc_algebra.specs.Matrix.{Matrix, AreRows}
-use Rattle.lc_algebra.proofs.FieldLaws.{zero_inside, add_inside, mul_inside, zero_mul, mul_comm}
-use Rattle.lc_algebra.proofs.EmbeddingLaws.{embed_inside, embed_add, embed_mul, embed_zero, embed_injective}
-use Rattle.lc_algebra.proofs.WordLaws.{same_words, index_word_sum, index_scale, index_zero_word, length_word_sum, length_scale, length_zero_word, fits_head, fits_tail, word_symbol, dot_inside}
+use Rattle.lc_algebra.proofs.FieldLaws.{zero_inside, add_inside, mul_inside, zero_mul}
+use Rattle.lc_algebra.proofs.EmbeddingLaws.{embed_add, embed_mul, embed_zero, embed_injective}
+use Rattle.lc_algebra.proofs.WordLaws.{same_words, index_word_sum, index_scale, index_zero_word, length_word_sum, length_scale, fits_head, fits_tail, word_symbol, dot_inside}
 use Rattle.lc_algebra.proofs.SpanLaws.{span_word, span_zero, span_sum, span_scale}
 use Rattle.lc_matrix.proofs.PlaceLaws.{past_end}
-use Rattle.lc_constructions.specs.Code.{InCode, IsClosed}
+use Rattle.lc_constructions.specs.Code.{IsClosed}
 use Rattle.lc_language.specs.Trace.{IsTrace, IsTraceWord, InTrace}
-use Rattle.lc_trace.proofs.TraceTests.{sum_of, trace_there, sum_added, sum_scaled, sum_told}
+use Rattle.lc_trace.proofs.TraceTests.{sum_of, trace_there, sum_added, sum_scaled, sum_told, sum_reached}
 
 -- ---- elements
 
@@ -31,6 +32,10 @@ trace_once F K a b c t p q = embed_injective F K b c t p.inside q.inside (p.is �
 pub trace_exists : (F K : FieldName) (a : ℕ) → IsTrue (is_symbol K) → IsSubfield F K → a < size K → (b : ℕ) × IsTrace F K a b
 unfolding sum_of
 trace_exists F K a s t l = let (b, m, e) = trace_there F K a s t l in (b, record { inside = m; is = e })
+
+pub trace_reached : (F K : FieldName) (b : ℕ) → IsTrue (is_symbol K) → IsSubfield F K → b < size F → (a : ℕ) × (a < size K) × IsTrace F K a b
+unfolding sum_of
+trace_reached F K b s t l = let (a, m, e) = sum_reached F K b s t l in (a, m, record { inside = l; is = sym e })
 
 pub trace_added : (F K : FieldName) (a b c d : ℕ) → IsTrue (is_symbol K) → IsSubfield F K → a < size K → c < size K → IsTrace F K a b → IsTrace F K c d → IsTrace F K (add K a c) (add F b d)
 unfolding sum_of

@@ -1,10 +1,11 @@
 -- What is told of the traces of the symbol fields by computing with their elements: of each field to each symbol field in it.
 --   sum_of F K a               the sum of the powers whose value the trace stands for
---   finds, keeps_sums, keeps_multiples, is_found      what is tested, of one field over another
+--   finds, keeps_sums, keeps_multiples, is_found, reaches      what is tested, of one field over another
 --   trace_there                each sum stands for an element of the smaller field
 --   sum_added, sum_scaled      it keeps sums, and multiples by elements of the smaller field
 --   sum_told                   an element all of whose multiples have trace 0 is 0
-use Rattle.std.proofs.Common.{◌≡◌, ℕ, zero, suc, ◌+◌, ◌/◌, ◌%◌, ◌^◌, ◌<◌, Bool, true, false, not, nat_lt, ◌==◌, ◌&&◌, ◌||◌, List, [], ◌∷◌, Contains, refl, sym, ap, subst, ◌∙◌, ⊎_elim, true≢false, arith}
+--   sum_reached                each element of the smaller field is a trace
+use Rattle.std.proofs.Common.{◌≡◌, ℕ, ◌<◌, Bool, true, false, not, ◌==◌, ◌&&◌, ◌||◌, refl, sym, ap, ◌∙◌, ⊎_elim, true≢false}
 use Rattle.std.specs.Prelude.{IsTrue}
 use Rattle.std.specs.List.{list_any, list_all}
 use Rattle.std.proofs.lemmas.Bool.{eqb-true, eq-eqb, ne_eqb, cases_eq}
@@ -37,6 +38,9 @@ keeps_multiples F K = list_all (λ c. list_all (λ a. sum_of F K (mul K (embed F
 unfoldable is_found : FieldName → FieldName → Bool
 is_found F K = list_all (λ a. (a == 0) || list_any (λ x. not (sum_of F K (mul K x a) == 0)) (below (size K))) (below (size K))
 
+unfoldable reaches : FieldName → FieldName → Bool
+reaches F K = list_all (λ b. list_any (λ a. sum_of F K a == embed F K b) (below (size K))) (below (size F))
+
 unfoldable tests : (FieldName → FieldName → Bool) → FieldName → FieldName → Bool
 tests test K F = not (is_symbol K && is_subfield F K) || test F K
 
@@ -55,6 +59,10 @@ all_keep_multiples = refl
 all_found : list_all (λ K. list_all (tests is_found K) all_fields) all_fields ≡ true
 unfolding digits number plus minus times top up times_x product shape shape_of size is_symbol coefficients add mul pow value_at first_from first_that root embed is_subfield below all_fields extension_degree trace_sum sum_of is_found tests
 all_found = refl
+
+all_reached : list_all (λ K. list_all (tests reaches K) all_fields) all_fields ≡ true
+unfolding digits number plus minus times top up times_x product shape shape_of size is_symbol coefficients add mul pow value_at first_from first_that root embed is_subfield below all_fields extension_degree trace_sum sum_of reaches tests
+all_reached = refl
 
 passed : (test : FieldName → FieldName → Bool) (F K : FieldName) → list_all (λ K. list_all (tests test K) all_fields) all_fields ≡ true → IsTrue (is_symbol K) → IsSubfield F K → test F K ≡ true
 unfolding tests
@@ -101,3 +109,10 @@ sum_told F K a s t l h =
     let (x, c, e) = any_contains (q a) (below (size K)) (or_second (a == 0) (list_any (q a) (below (size K))) (ne_eqb a 0 n) p) in
     absurd (not_zero (sum_of F K (mul K x a)) e (h x (contains_below (size K) x c))))
     (cases_eq a 0)
+
+pub sum_reached : (F K : FieldName) (b : ℕ) → IsTrue (is_symbol K) → IsSubfield F K → b < size F → (a : ℕ) × (a < size K) × (sum_of F K a ≡ embed F K b)
+unfolding reaches
+sum_reached F K b s t l =
+    let p = passes (λ b. list_any (λ a. sum_of F K a == embed F K b) (below (size K))) (below (size F)) b (passed reaches F K all_reached s t) (below_contains (size F) b l) in
+    let (a, c, e) = any_contains (λ a. sum_of F K a == embed F K b) (below (size K)) p in
+    (a, contains_below (size K) a c, eqb-true (sum_of F K a) (embed F K b) e)

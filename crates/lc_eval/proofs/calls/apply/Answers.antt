@@ -14,6 +14,7 @@ use Rattle.lc_eval.specs.Value.{value_of}
 use Rattle.lc_eval.proofs.AnswerLaws.{made_applies, never_refused}
 use Rattle.lc_eval.proofs.FormCertificateLaws.{bch_few, reed_solomon_few}
 use Rattle.lc_eval.proofs.FormLaws.{bch_applies, reed_solomon_applies}
+use Rattle.lc_language.specs.Trace.{InTrace, InSubfieldSubcode, subfield_refusals}
 use Rattle.lc_eval.proofs.calls.apply.Goals as goal
 
 pub returns-in-RepetitionCode : goal.returns-in-RepetitionCode
@@ -114,6 +115,20 @@ returns-in-ConcatenatedCode c =
     let C = c.in-ConcatenatedCode.outer.now in
     let D = c.in-ConcatenatedCode.inner.now in
     rw c.in-ConcatenatedCode.is (made_applies c.args.place (bound.concatenated_code C D) (concatenated_refusals C D) D.field (C.columns * D.columns) (InConcatenated C D) c.concatenated.result c.made-in-ConcatenatedCode.result refl (λ n. n) (λ v h. h) c.concatenated.ensures.code c.concatenated.ensures.refused c.made-in-ConcatenatedCode.ensures.is)
+
+pub returns-in-TraceCode : goal.returns-in-TraceCode
+unfolding refusals_of
+returns-in-TraceCode c =
+    let C = c.in-TraceCode.code.now in
+    let f = c.in-TraceCode.field.now in
+    rw c.in-TraceCode.is (made_applies c.args.place (bound.trace_code C f) (subfield_refusals C f) f C.columns (InTrace C f) c.trace_code.result c.made-in-TraceCode.result refl (λ n. n) (λ v h. h) c.trace_code.ensures.code c.trace_code.ensures.refused c.made-in-TraceCode.ensures.is)
+
+pub returns-in-SubfieldSubcode : goal.returns-in-SubfieldSubcode
+unfolding refusals_of
+returns-in-SubfieldSubcode c =
+    let C = c.in-SubfieldSubcode.code.now in
+    let f = c.in-SubfieldSubcode.field.now in
+    rw c.in-SubfieldSubcode.is (made_applies c.args.place (bound.subfield_subcode C f) (subfield_refusals C f) f C.columns (InSubfieldSubcode C f) c.subfield_subcode.result c.made-in-SubfieldSubcode.result refl (λ n. n) (λ v h. h) c.subfield_subcode.ensures.code c.subfield_subcode.ensures.refused c.made-in-SubfieldSubcode.ensures.is)
 
 pub returns-in-Dimension : goal.returns-in-Dimension
 unfolding refusals_of
