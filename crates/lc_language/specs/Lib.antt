@@ -1,4 +1,6 @@
 pub mod Calls
+pub mod Circulant
+pub mod ConstructionX
 pub mod Evaluation
 pub mod Forms
 pub mod Meaning
