@@ -14,12 +14,12 @@ use lc_field::{Field, NoMemory};
 use lc_vec::Word;
 use std::alloc::Global;
 
-/// The circulant code of a word `x` of `n` symbols: the code that the n cyclic shifts of the word span, each by one coordinate more
-/// to the right (MacWilliams and Sloane, chapter 16).
+/// The circulant code of a word `x` of `n` symbols: the code that the n cyclic shifts of the word span, each by one coordinate
+/// more to the right (MacWilliams and Sloane, chapter 16).
 ///
-/// It is the smallest cyclic code that contains the word. Refused in this order: the field has more than 16 elements, FieldTooLarge;
-/// `n` is 0 or above 255, BadLength; the word hasn't n symbols, LengthsDiffer; a symbol isn't below the size of the field,
-/// BadArgument(1).
+/// It is the smallest cyclic code that contains the word. Refused in this order: the field has more than 16 elements,
+/// FieldTooLarge; `n` is 0 or above 255, BadLength; the word hasn't n symbols, LengthsDiffer; a symbol isn't below the size of
+/// the field, BadArgument(1).
 #[tactic(auto, using(lc_constructions::proofs::RefusalLaws::refused_or_not))]
 pub fn circulant(alloc: Global, x: &[u8], n: u64, field: &Field) -> Result<Code, CodeRefusal>
     ensures code { IfOk result (λ c. IsCode field.now n (GeneratedBy field.now n (circulant n x.now)) c) }
@@ -38,19 +38,20 @@ fn shifts_of_one(alloc: Global, x: &[u8], field: &Field) -> Result<Code, NoMemor
     requires most { length x.now ≤ longest }
     requires word { IsWord field.now (length x.now) x.now }
     ensures code { IfOk result
-        (λ c. IsCode field.now (length x.now) (GeneratedBy field.now (length x.now) (circulant (length x.now) x.now)) c) }
+        (λ c. IsCode field.now (length x.now)
+        (GeneratedBy field.now (length x.now) (circulant (length x.now) x.now)) c) }
 {
     let words = vec![in alloc; Word::from_slice(alloc, x)?]?;
     Ok(side_by_side(alloc, &words, x.len(), field)?)
 }
 
-/// The quasi-cyclic code of some words of `n` symbols: the code whose generator matrix has the circulant matrices of the words side
-/// by side. Row i of it is each word after i cyclic shifts to the right, one after the other (MacWilliams and Sloane, chapter 16;
-/// GUAVA manual, `QuasiCyclicCode`).
+/// The quasi-cyclic code of some words of `n` symbols: its generator matrix has the circulant matrices of the words side by side.
+/// Row i of it is each word after i cyclic shifts to the right, one after the other (MacWilliams and Sloane, chapter 16; GUAVA
+/// manual, `QuasiCyclicCode`).
 ///
-/// Its length is `n` times the number of words. Refused in this order: the field has more than 16 elements, FieldTooLarge; `n` is 0,
-/// there is no word, or the length is above 255, BadLength; a word hasn't n symbols, LengthsDiffer; a symbol isn't below the size of
-/// the field, BadArgument(1).
+/// Its length is `n` times the number of words. Refused in this order: the field has more than 16 elements, FieldTooLarge; `n` is
+/// 0, there is no word, or the length is above 255, BadLength; a word hasn't n symbols, LengthsDiffer; a symbol isn't below the
+/// size of the field, BadArgument(1).
 #[tactic(auto, using(lc_constructions::proofs::RefusalLaws::refused_or_not))]
 pub fn quasi_cyclic(
     alloc: Global,

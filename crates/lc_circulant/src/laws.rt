@@ -9,8 +9,8 @@ ghost use Rattle.lc_language.specs.Relations.{IsSubcode, IsCyclic};
 ghost use Rattle.lc_language.specs.Circulant.{circulant, circulants, joined, IsQuasiCyclic};
 
 /// The code of the circulant matrices of some words is quasi-cyclic, contains the words one after the other, and lies in each
-/// quasi-cyclic code that contains them. That of one word is its circulant code, which is cyclic and lies in each cyclic code that
-/// contains the word (MacWilliams and Sloane, chapter 16).
+/// quasi-cyclic code that contains them. That of one word is its circulant code, which is cyclic and lies in each cyclic code
+/// that contains the word (MacWilliams and Sloane, chapter 16).
 pub fn circulants_shift()
     ensures closed { (f : FieldName) (n : ℕ) (xs : List (List ℕ)) (C : Matrix) → 1 ≤ n → AreRows f n xs →
         IsCode f (length xs * n) (GeneratedBy f (length xs * n) (circulants n xs)) C → IsQuasiCyclic n C }

@@ -1,4 +1,4 @@
-//! Codes whose words stay words if each of their parts is shifted by one coordinate, all at once: by circulant matrices side by side.
+//! Codes by circulant matrices side by side: the cyclic shift of all parts of a word at once is a word again.
 #![tactic(auto)]
 
 mod circulants;

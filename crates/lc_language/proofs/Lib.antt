@@ -3,3 +3,4 @@ pub mod LineExamples
 pub mod QueryExamples
 pub mod TextExamples
 pub mod RelationExamples
+pub mod RefusalLaws

@@ -4,6 +4,7 @@
 --   in_union_left, in_union_right      the words of both codes are in the sum
 --   union_dual           the dual of the sum is the intersection of the duals
 --   extended             rows of one code that are independent of another one and of a part of it, and make up for it
+--   second_of            of a sum, the second word is it less the first
 --   union_dimension      the dimensions of the sum and of the intersection add up to those of the codes
 --   augmented_union      a code with further rows is its sum with the code of these rows
 use Rattle.std.proofs.Common.{◌≡◌, ℕ, ◌+◌, ◌↔◌, List, [], ◌∷◌, ◌++◌, length, sym, ap, ap₂, subst, ◌∙◌, ⊎_elim, arith}
@@ -136,8 +137,7 @@ extended f n base part (g ∷ rows) b p r h k into =
     })
     (span_decided f n (t.added ++ base) g)
 
--- of a sum, the second word is it less the first
-second_of : (f : FieldName) (n : ℕ) (a b : List ℕ) → IsWord f n a → IsWord f n b → word_sum f (word_sum f a b) (scale f (neg f 1) a) ≡ b
+pub second_of : (f : FieldName) (n : ℕ) (a b : List ℕ) → IsWord f n a → IsWord f n b → word_sum f (word_sum f a b) (scale f (neg f 1) a) ≡ b
 second_of f n a b p q =
     ap (λ u. word_sum f u (scale f (neg f 1) a)) (sum_comm f a b ∙ ap (word_sum f b) (sym (one_scale f a p.fits))) ∙ multiple_undone f n 1 b a q p.long
 

@@ -11,7 +11,7 @@ mod sums;
 mod syndromes;
 mod words;
 
-pub use comparison::{is_same_code, is_subcode};
+pub use comparison::{is_same_code, is_subcode, lies_in};
 pub use encoding::{encode, message_of};
 pub use laws::{
     distance_is_a_metric, encoding_is_one_to_one, sums_of_codes, syndromes_tell_cosets,
