@@ -13,6 +13,7 @@ ghost use Rattle.lc_eval.specs.Applied.{Answers};
 ghost use Rattle.lc_eval.specs.Value.{value_of, values_of, rows_of};
 
 use crate::code_value::CodeValue;
+use crate::construction::{circulant_code, construction_x_code, quasi_cyclic_code};
 use crate::cyclic::{
     check_pol_code, extended_binary_golay_code, extended_ternary_golay_code, generator_pol_code,
 };
@@ -120,6 +121,9 @@ static TABLE: &[Row] = &rows! {
     Call::Value(ValueCall::InformationWord) => "InformationWord" [Code, Numbers];
     Call::Value(ValueCall::UnionCode) => "UnionCode" [Code, Code];
     Call::Value(ValueCall::AugmentedCode) => "AugmentedCode" [Code, Lists];
+    Call::Value(ValueCall::CirculantCode) => "CirculantCode" [Numbers, Number, Field];
+    Call::Value(ValueCall::QuasiCyclicCode) => "QuasiCyclicCode" [Lists, Number, Field];
+    Call::Value(ValueCall::ConstructionXCode) => "ConstructionXCode" [Code, Code, Code];
     Call::Query(QueryCall::AlgebraicDecode) => "AlgebraicDecode" [Code, Numbers];
     Call::Query(QueryCall::LeastWord) => "LeastWord" [Lists, Field];
     Call::Query(QueryCall::MinimumDistance) => "MinimumDistance" [Code];
@@ -232,6 +236,9 @@ pub(crate) enum BoundCall<'a> {
     InformationWord(&'a Code, &'a [u64]),
     UnionCode(&'a Code, &'a Code),
     AugmentedCode(&'a Code, &'a [Vec<u64>]),
+    CirculantCode(&'a [u64], u64, &'a Field),
+    QuasiCyclicCode(&'a [Vec<u64>], u64, &'a Field),
+    ConstructionXCode(&'a Code, &'a Code, &'a Code),
 }
 
 impl Means for BoundCall<'_> {
@@ -286,6 +293,9 @@ impl Means for BoundCall<'_> {
       | BoundCall.InformationWord C x ↦ language.information_word C.now x.now
       | BoundCall.UnionCode C D ↦ language.union_code C.now D.now
       | BoundCall.AugmentedCode C rows ↦ language.augmented_code C.now (rows_of rows.now)
+      | BoundCall.CirculantCode x n f ↦ language.circulant_code x.now n f.now
+      | BoundCall.QuasiCyclicCode xs n f ↦ language.quasi_cyclic_code (rows_of xs.now) n f.now
+      | BoundCall.ConstructionXCode C D E ↦ language.construction_x_code C.now D.now E.now
     ] };
 }
 
@@ -445,6 +455,21 @@ fn with_three<'a>(
         ValueCall::BchCode => Some(BoundCall::BchCode(a.number()?, 1, b.number()?, c.field()?)),
         ValueCall::AddWords => Some(BoundCall::AddWords(a.numbers()?, b.numbers()?, c.field()?)),
         ValueCall::ScaleWord => Some(BoundCall::ScaleWord(a.number()?, b.numbers()?, c.field()?)),
+        ValueCall::CirculantCode => Some(BoundCall::CirculantCode(
+            a.numbers()?,
+            b.number()?,
+            c.field()?,
+        )),
+        ValueCall::QuasiCyclicCode => Some(BoundCall::QuasiCyclicCode(
+            a.lists()?,
+            b.number()?,
+            c.field()?,
+        )),
+        ValueCall::ConstructionXCode => Some(BoundCall::ConstructionXCode(
+            &a.code()?.code,
+            &b.code()?.code,
+            &c.code()?.code,
+        )),
         _ => None,
     }
 }
@@ -591,6 +616,11 @@ pub(crate) fn apply(
         BoundCall::InformationWord(code, list) => information_word(alloc, place, code, list),
         BoundCall::UnionCode(a, b) => made(alloc, place, lc_relations::union_of(alloc, a, b)),
         BoundCall::AugmentedCode(code, rows) => augmented_code(alloc, place, code, rows),
+        BoundCall::CirculantCode(x, n, field) => circulant_code(alloc, place, x, n, field),
+        BoundCall::QuasiCyclicCode(words, n, field) => {
+            quasi_cyclic_code(alloc, place, words, n, field)
+        }
+        BoundCall::ConstructionXCode(c, d, e) => construction_x_code(alloc, place, c, d, e),
     }
 }
 

@@ -30,6 +30,8 @@ pub(crate) const WRONG_COUNT: u8 = 46;
 pub(crate) const NO_DISTRIBUTION: u8 = 47;
 /// The word is not in the code.
 pub(crate) const NOT_A_CODEWORD: u8 = 50;
+/// The second code is not a subcode of the first.
+pub(crate) const NOT_A_SUBCODE: u8 = 51;
 
 /// A fault: its number, its offset in the script, and the numbers that are printed after it.
 #[derive(Drop)]

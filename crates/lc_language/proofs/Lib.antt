@@ -1,3 +1,4 @@
+pub mod ConstructionExamples
 pub mod LanguageExamples
 pub mod LineExamples
 pub mod QueryExamples

@@ -5,7 +5,9 @@
 --                              complement, G the one of E
 --   has_subcode C D            each row of D is a word of C
 --   not_subcode C D            51: D is no subcode of C
---   construction_x_refusals C D E      when it is refused: 11, 12, 51, 14 with the dimension of E and the one that it should have, 2
+--   unlike_codes C D E, unfit_tail C D E      the refusals before that one: 11, 12; and those after it: 14 with the dimension of E and
+--                              the one that it should have, 2
+--   construction_x_refusals C D E      when it is refused: these, in their order
 use Rattle.std.specs.Prelude.{◌≡◌, ℕ, ◌+◌, ◌-◌, ◌==◌, Bool, not, List, [], ◌∷◌, ◌++◌, length, slice_index, All, Option, Some}
 use Rattle.std.specs.List.{list_all}
 use Rattle.lc_algebra.specs.Word.{IsWord, word_sum, first_nonzero}
@@ -35,7 +37,6 @@ has_subcode C D = list_all (in_span C.field C.columns C.rows) D.rows
 unfoldable pub not_subcode : Matrix → Matrix → Option Refusal
 not_subcode C D = when (not (has_subcode C D)) (refuse 51 [])
 
--- what is looked at before the words, and after them
 unfoldable pub unlike_codes : Matrix → Matrix → Matrix → List (Option CodeRefusal)
 unlike_codes C D E = fields_differ C D ∷ fields_differ C E ∷ lengths_differ C D ∷ []
 

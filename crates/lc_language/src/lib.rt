@@ -68,6 +68,9 @@ pub enum ValueCall {
     InformationWord,
     UnionCode,
     AugmentedCode,
+    CirculantCode,
+    QuasiCyclicCode,
+    ConstructionXCode,
 }
 
 /// The calls that are statements of their own: each prints a line of its own.
