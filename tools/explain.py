@@ -38,7 +38,7 @@ MEANINGS = {
     11: "the fields of the codes don't fit each other",
     12: "lengths differ",
     13: "the list of coordinates is bad",
-    14: "the inner code has the wrong dimension",
+    14: "the inner code, or that of the tails, has the wrong dimension",
     15: "the code has too many cosets to keep a leader of each",
     16: "these rows have too many words to look at each",
     17: "the field is too large: codes are over fields of at most 16 elements",
@@ -53,6 +53,7 @@ MEANINGS = {
     46: "the call takes another number of arguments",
     47: "the code and its dual have too many words to count",
     50: "the list is not a word of the code",
+    51: "the second code is not a subcode of the first",
     53: "there are no quadratic residue codes of this length over the field",
 }
 EMPTY = "the file is empty: a script that prints nothing; as a certificate it is rejected, by reason 30"
@@ -219,6 +220,42 @@ def combined_refusal(name, values, fault):
     return f"the inner code has dimension {dimension}; {a.size} is {b.size}^{degree}, so it needs {degree}"
 
 
+def entries(count):
+    return "1 entry" if count == 1 else f"{count} entries"
+
+
+def circulant_refusal(name, values, fault):
+    """Why a word, or some words, whose cyclic shifts span a code are refused."""
+    words, n, field = values
+    one = name == "CirculantCode"
+    if fault.number == 2 and not one and not words:
+        return "the matrix has no rows"
+    if fault.number == 2:
+        return f"the length {n if one else f'{n} times {len(words)}'} is not one of 1 to {LONGEST}"
+    if fault.number == 12 and one:
+        return f"the list has {entries(len(words))}, n is {n}"
+    if fault.number == 12:
+        row = next(i for i, r in enumerate(words) if len(r) != n)
+        return f"row {row + 1} has {entries(len(words[row]))}, n is {n}"
+    return too_large([words], field.size).replace("of row 1 ", "of the list ") if one else too_large(words, field.size)
+
+
+def construction_x_refusal(values, fault):
+    """Why a code, a subcode and a code for the tails are refused."""
+    code, part, tails = values
+    if fault.number == 11:
+        other, which = (part, "second") if part.size != code.size else (tails, "third")
+        return f"the first code is over GF({code.size}), the {which} over GF({other.size})"
+    if fault.number == 12:
+        return f"the first code has length {code.length}, the second {part.length}"
+    if fault.number == 51:
+        return "`IsSubcode` says whether each word of a code is one of another code"
+    if fault.number == 14:
+        dimension, wanted = fault.values
+        return f"the third code has dimension {dimension}; the first one has {counted(wanted, 'dimension')} more than the second"
+    return f"the length {code.length} + {tails.length} is above {LONGEST}"
+
+
 def two_lists_refusal(name, values, fault):
     """Why two words, or an element and a word, are refused."""
     if fault.number == 12:
@@ -285,6 +322,7 @@ COMBINED = ("ExtendedCode", "PuncturedCode", "ShortenedCode", "EvenWeightSubcode
             "DirectProductCode", "IntersectionCode", "UnionCode", "IsSubcode", "IsSameCode", "ConcatenatedCode")
 OF_WORDS = ("IsCodeword", "Decode", "AlgebraicDecode", "AlternantCertificate", "NearestWord", "Syndrome", "InformationWord", "FillErasures")
 OF_TWO_LISTS = ("AddWords", "ScaleWord", "DistanceCodeword")
+BY_SHIFTS = ("CirculantCode", "QuasiCyclicCode")
 BY_LISTS = ("GeneratorPolCode", "CheckPolCode", "GoppaCode", "AlternantCode")
 
 
@@ -307,6 +345,10 @@ def refusal(expr, fault, names):
         return f"GF({values[-1].size}) has more than 16 elements; the sizes for codes are {', '.join(str(q) for q in SYMBOL_SIZES)}"
     if name in COMBINED:
         return combined_refusal(name, values, fault)
+    if name in BY_SHIFTS:
+        return circulant_refusal(name, values, fault)
+    if name == "ConstructionXCode":
+        return construction_x_refusal(values, fault)
     if number == 2 and name in BY_LISTS:
         return length_refusal(name, values)
     if number == 10:

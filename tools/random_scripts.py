@@ -25,8 +25,8 @@ LARGE_SIZES = (25, 27, 32, 64, 81, 128, 243, 256)
 NAMES = ("C", "D", "x", "rows", "F", "a_1")
 UNKNOWN = ("Distance", "NearWord", "BchCode", "Extended", "Foo", "hammingCode", "GF_", "Golay", "z")
 CALLS = ("GF", "Weight", "Dimension", "DualCode", "IsCodeword", "Decode", "HammingCode", "ReedMullerCode", "CheckMat", "BCHCode", "GoppaCode",
-         "ExtendedCode", "UUVCode", "PuncturedCode", "BinaryGolayCode", "NearestWord", "Syndrome", "IsSubcode", "AddWords", "Encode", "AugmentedCode", "TraceCode",
-         "FillErasures")
+         "ExtendedCode", "UUVCode", "PuncturedCode", "BinaryGolayCode", "NearestWord", "Syndrome", "IsSubcode", "AddWords", "Encode", "AugmentedCode",
+         "TraceCode", "FillErasures", "CirculantCode", "QuasiCyclicCode", "ConstructionXCode")
 SIGNS = "()[],;:=#_ \n\tab19GF"
 KINDS = ("valid", "refused", "unfit", "cut", "altered", "noise", "searched", "near")
 
@@ -128,7 +128,9 @@ class Maker:
     def combined(self, depth):
         call = self.pick(("ExtendedCode", "PuncturedCode", "ShortenedCode", "EvenWeightSubcode", "DirectSumCode", "UUVCode",
                           "DirectProductCode", "IntersectionCode", "ConcatenatedCode", "UnionCode", "AugmentedCode", "TraceCode",
-                          "SubfieldSubcode"))
+                          "SubfieldSubcode", "ConstructionXCode"))
+        if call == "ConstructionXCode":
+            return self.with_tails()
         if call == "ConcatenatedCode":
             size, degree = self.pick(((2, 1), (2, 2), (2, 3), (2, 4), (3, 1), (3, 2), (4, 1), (4, 2), (5, 1)))
             outer = self.over(size**degree, 1 + self.below(5))
@@ -155,8 +157,35 @@ class Maker:
         length = {"DirectProductCode": a.length * b.length, "IntersectionCode": a.length, "UnionCode": a.length}.get(call, a.length + b.length)
         return self.zeros(f"{call}({a.text},{b.text})", length, a.size)
 
+    def with_tails(self):
+        """Construction X of a whole space or a code by rows, of a subcode and of a code for the tails, which fit most of the time."""
+        size, n = self.size(), 2 + self.below(5)
+        whole, k = self.pick(((f"WholeSpaceCode({n},GF({size}))", n), (f"DualCode(RepetitionCode({n},GF({size})))", n - 1)))
+        parts = [(f"NullCode({n},GF({size}))", 0), (whole, k)]
+        parts += [(f"RepetitionCode({n},GF({size}))", 1)] if k == n else []
+        parts += [(f"GeneratorMatCode([{self.text([1, 1] + [0] * (n - 2))}],GF({size}))", 1)] if k == n or size in (2, 4, 8, 16) else []
+        part, j = self.pick(parts)
+        if self.chance(self.faults):
+            part = self.over(size, n + self.below(2)).text
+        left = max(0, k - j + (self.pick((-1, 1)) if self.chance(self.faults) else 0))
+        length = left if left and self.chance(0.5) else left + 1
+        tails = f"WholeSpaceCode({length},GF({size}))" if length == left else f"DualCode(RepetitionCode({length},GF({size})))"
+        if self.chance(self.faults / 2):
+            tails = self.over(size, self.length()).text
+        return self.zeros(f"ConstructionXCode({whole},{part},{tails})", n + length, size)
+
+    def by_shifts(self):
+        size, n = self.size(), 1 + self.below(6)
+        given = self.pick((0, n + 1, 256, 2**64 - 1)) if self.chance(self.faults / 2) else n
+        if self.chance(0.4):
+            return self.zeros(f"CirculantCode({self.text(self.row(size, n))},{given},{self.field(size)})", n, size)
+        words = self.matrix(size, n, 3)
+        return self.zeros(f"QuasiCyclicCode({self.text(words)},{given},{self.field(size)})", max(1, n * len(words)), size)
+
     def cyclic_or_formed(self):
-        way = self.below(7)
+        way = self.below(8)
+        if way == 7:
+            return self.by_shifts()
         if way == 0:
             call, length, size = self.pick((("BinaryGolayCode", 23, 2), ("TernaryGolayCode", 11, 3), ("ExtendedBinaryGolayCode", 24, 2),
                                             ("ExtendedTernaryGolayCode", 12, 3)))

@@ -896,6 +896,44 @@ def augmented_code(code, rows):
     return code_of_rows(code.size, code.length, code.rows + rows)
 
 
+def shifted_by(word, i):
+    return word[len(word) - i:] + word[:len(word) - i]
+
+
+def circulant_code(word, n, field):
+    need_symbol_field(field)
+    need_length(n)
+    need_equal_lengths(word, range(n))
+    need_entries(word, field.size, 1)
+    return code_of_rows(field.size, n, [shifted_by(word, i) for i in range(n)])
+
+
+def quasi_cyclic_code(words, n, field):
+    need_symbol_field(field)
+    need_length(n * len(words))
+    for word in words:
+        need_equal_lengths(word, range(n))
+    need_entries([a for word in words for a in word], field.size, 1)
+    return code_of_rows(field.size, n * len(words), [[a for word in words for a in shifted_by(word, i)] for i in range(n)])
+
+
+def construction_x_code(code, part, tails):
+    """The words of the code that are 0 where a row of the part begins are as many as the code has for each word of the part."""
+    need_same_field(code, part)
+    need_same_field(code, tails)
+    need_same_length(code, part)
+    if not all(is_in(code, row) for row in part.rows):
+        raise Refused(51)
+    wanted = len(code.rows) - len(part.rows)
+    if len(tails.rows) != wanted:
+        raise Refused(14, len(tails.rows), wanted)
+    need_length(code.length + tails.length)
+    leads = [first_nonzero(row) for row in part.rows]
+    others = with_checks(code, [[int(i == p) for i in range(code.length)] for p in leads])
+    rows = [row + [0] * tails.length for row in part.rows] + [u + v for u, v in zip(others.rows, tails.rows)]
+    return code_of_rows(code.size, code.length + tails.length, rows)
+
+
 def less(code, word, error):
     field = arithmetic(code.size)
     return list(field.add_scaled(list(word), negative(field, 1), error))
@@ -1122,6 +1160,9 @@ CALLS = {
     "AugmentedCode": ([("code", "lists")], augmented_code),
     "TraceCode": ([("code", "field")], trace_code),
     "SubfieldSubcode": ([("code", "field")], subfield_subcode),
+    "CirculantCode": ([("numbers", "number", "field")], circulant_code),
+    "QuasiCyclicCode": ([("lists", "number", "field")], quasi_cyclic_code),
+    "ConstructionXCode": ([("code", "code", "code")], construction_x_code),
 }
 # these print a line of their own, and stand only as a whole statement; the functions get the session first
 QUERIES = {

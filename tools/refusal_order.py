@@ -134,6 +134,21 @@ COMBINED_CALLS = [
     ("ConcatenatedCode(NullCode(3,GF(4)),NullCode(4,GF(3)))", "11"),
     ("ConcatenatedCode(NullCode(255,GF(4)),NullCode(4,GF(3)))", "11"),
     ("ConcatenatedCode(NullCode(255,GF(4)),NullCode(4,GF(2)))", "14 0 2"),
+    ("CirculantCode([25],0,GF(25))", "17"),
+    ("CirculantCode([1],2,GF(25))", "17"),
+    ("CirculantCode([1],0,GF(2))", "2"),
+    ("CirculantCode([2],256,GF(2))", "2"),
+    ("CirculantCode([2],2,GF(2))", "12"),
+    ("QuasiCyclicCode([],3,GF(25))", "17"),
+    ("QuasiCyclicCode([[25],[1,1]],1,GF(25))", "17"),
+    ("QuasiCyclicCode([[2],[1]],0,GF(2))", "2"),
+    ("QuasiCyclicCode([[2],[1]],128,GF(2))", "2"),
+    ("QuasiCyclicCode([[2,0],[1]],2,GF(2))", "12"),
+    ("ConstructionXCode(NullCode(3,GF(2)),NullCode(4,GF(3)),NullCode(1,GF(2)))", "11"),
+    ("ConstructionXCode(NullCode(3,GF(2)),NullCode(4,GF(2)),NullCode(1,GF(3)))", "11"),
+    ("ConstructionXCode(NullCode(3,GF(2)),WholeSpaceCode(4,GF(2)),NullCode(1,GF(2)))", "12"),
+    ("ConstructionXCode(NullCode(3,GF(2)),WholeSpaceCode(3,GF(2)),WholeSpaceCode(1,GF(2)))", "51"),
+    ("ConstructionXCode(NullCode(255,GF(2)),NullCode(255,GF(2)),WholeSpaceCode(1,GF(2)))", "14 1 0"),
 ]
 
 WORD_CALLS = [

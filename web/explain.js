@@ -104,6 +104,33 @@ function noResidueLength(length, size) {
   for (let d = 2; d < length; d++) if (length % d === 0) return `${length} is no prime: ${d} divides it`;
   if (size % length === 0) return `${size} is 0 modulo ${length}`;
   return `${size} is not a square modulo ${length}`;
+const entries = (count) => (count === 1 ? '1 entry' : `${count} entries`);
+
+// why a word, or some words, whose cyclic shifts span a code are refused
+function circulantRefusal(name, values, fault) {
+  const [words, n, { size }] = values;
+  const one = name === 'CirculantCode';
+  if (fault.number === 2 && !one && !words.length) return 'the matrix has no rows';
+  if (fault.number === 2) return `the length ${one ? n : `${n} times ${words.length}`} is not one of 1 to ${TEXTS.longest}`;
+  if (fault.number === 12 && one) return `the list has ${entries(words.length)}, n is ${n}`;
+  if (fault.number === 12) {
+    const row = words.findIndex((r) => BigInt(r.length) !== BigInt(n));
+    return `row ${row + 1} has ${entries(words[row].length)}, n is ${n}`;
+  }
+  return one ? tooLargeInList(words, size) : tooLarge(words, size);
+}
+
+// why a code, a subcode and a code for the tails are refused
+function constructionXRefusal(values, fault) {
+  const [code, part, tails] = values;
+  if (fault.number === 11) {
+    const [other, which] = part.size === code.size ? [tails, 'third'] : [part, 'second'];
+    return `the first code is over GF(${code.size}), the ${which} over GF(${other.size})`;
+  }
+  if (fault.number === 12) return `the first code has length ${code.length}, the second ${part.length}`;
+  if (fault.number === 51) return '`IsSubcode` says whether each word of a code is one of another code';
+  if (fault.number === 14) return `the third code has dimension ${fault.values[0]}; the first one has ${counted(fault.values[1], 'dimension')} more than the second`;
+  return `the length ${code.length} + ${tails.length} is above ${TEXTS.longest}`;
 }
 
 // why two words, or an element and a word, are refused
@@ -165,6 +192,7 @@ function divisorsTold(length, size) {
 const COMBINED = ['ExtendedCode', 'PuncturedCode', 'ShortenedCode', 'EvenWeightSubcode', 'DirectSumCode', 'UUVCode', 'DirectProductCode', 'IntersectionCode', 'UnionCode', 'IsSubcode', 'IsSameCode', 'ConcatenatedCode'];
 const OF_WORDS = ['IsCodeword', 'Decode', 'AlgebraicDecode', 'AlternantCertificate', 'NearestWord', 'Syndrome', 'InformationWord', 'FillErasures'];
 const OF_TWO_LISTS = ['AddWords', 'ScaleWord', 'DistanceCodeword'];
+const BY_SHIFTS = ['CirculantCode', 'QuasiCyclicCode'];
 const BY_LISTS = ['GeneratorPolCode', 'CheckPolCode', 'GoppaCode', 'AlternantCode'];
 
 function distributionTold(q, n, k, r) {
@@ -200,6 +228,8 @@ function refusal(name, values, fault) {
   if (number === 1) return `${values[0]} is not the size of a field here; the sizes are ${TEXTS.fieldSizes.join(', ')}`;
   if (number === 17) return `GF(${last.size}) has more than 16 elements; the sizes for codes are ${SYMBOL_SIZES.join(', ')}`;
   if (COMBINED.includes(name)) return combinedRefusal(name, values, fault);
+  if (BY_SHIFTS.includes(name)) return circulantRefusal(name, values, fault);
+  if (name === 'ConstructionXCode') return constructionXRefusal(values, fault);
   if (number === 2 && BY_LISTS.includes(name)) return lengthRefusal(name, values);
   if (number === 10) return `${values[values.length - 2].size} is no power of ${last.size}`;
   if (number === 4) return divisorsTold(values[1], values[2].size);

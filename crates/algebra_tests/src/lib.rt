@@ -29,4 +29,6 @@ mod relations;
 #[cfg(test)]
 mod shapes;
 #[cfg(test)]
+mod shifts;
+#[cfg(test)]
 mod words;

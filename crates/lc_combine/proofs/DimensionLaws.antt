@@ -43,7 +43,7 @@ length_taken zero l u e = (refl, omega (arith, e))
 length_taken (suc k) l [] e = absurd (omega (arith, e))
 length_taken (suc k) l (a ∷ u) e = let t = length_taken k l u (omega (arith, e)) in (omega (arith, t.0), t.1)
 
-independent_parts : (f : FieldName) (n : ℕ) (xs ys : List (List ℕ)) → AreRows f n ys → ((cs bs : List ℕ) → IsWord f (length xs) cs → IsWord f (length ys) bs → word_sum f (combine f n cs xs) (combine f n bs ys) ≡ zero_word n → (cs ≡ zero_word (length xs)) × (bs ≡ zero_word (length ys))) → AreIndependent f n (xs ++ ys)
+pub independent_parts : (f : FieldName) (n : ℕ) (xs ys : List (List ℕ)) → AreRows f n ys → ((cs bs : List ℕ) → IsWord f (length xs) cs → IsWord f (length ys) bs → word_sum f (combine f n cs xs) (combine f n bs ys) ≡ zero_word n → (cs ≡ zero_word (length xs)) × (bs ≡ zero_word (length ys))) → AreIndependent f n (xs ++ ys)
 independent_parts f n xs ys r h es w z =
     let k = length xs in
     let l = length ys in

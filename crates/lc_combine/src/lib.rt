@@ -20,5 +20,5 @@ pub use laws::{
 };
 pub use products::direct_product;
 pub use refusal::is_rising;
-pub use subcodes::{even_weight, intersection};
-pub use sums::{direct_sum, uuv};
+pub use subcodes::{even_weight, intersection, push_rows};
+pub use sums::{direct_sum, push_left, uuv};

@@ -83,8 +83,8 @@ fn common_checks(alloc: Global, a: &Code, b: &Code) -> Result<Vec<Word>, NoMemor
     Ok(checks)
 }
 
-// Pushes each row of the code.
-fn push_rows(alloc: Global, code: &Code, rows: &mut Vec<Word>) -> Result<(), NoMemory>
+/// Pushes each row of the code.
+pub fn push_rows(alloc: Global, code: &Code, rows: &mut Vec<Word>) -> Result<(), NoMemory>
     ensures pushed { IfOk result (λ _. rows.new.items ≡ rows.old.items ++ code.now.rows) }
 {
     for i in 0..code.dimension() {

@@ -88,8 +88,8 @@ fn uuv_rows(alloc: Global, a: &Code, b: &Code) -> Result<Vec<Word>, NoMemory>
     Ok(rows)
 }
 
-// Pushes each row of the code, followed by n zeros.
-fn push_left(alloc: Global, a: &Code, n: usize, rows: &mut Vec<Word>) -> Result<(), NoMemory>
+/// Pushes each row of the code, followed by `n` zeros. The length of the code and n add up to at most 255.
+pub fn push_left(alloc: Global, a: &Code, n: usize, rows: &mut Vec<Word>) -> Result<(), NoMemory>
     requires most { a.now.columns + n ≤ longest }
     ensures pushed { IfOk result (λ _. rows.new.items ≡ rows.old.items ++ left_rows n a.now.rows) }
 {

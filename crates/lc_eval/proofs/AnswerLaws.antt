@@ -1,5 +1,4 @@
 -- The answer of a call at its offset.
---   first_from_codes              the first refusal of a constructor is that of the call
 --   Applying                      what a call with a known refusal, or without one, answers
 --   given                         a value is no refusal
 --   always                        a call that isn't refused
@@ -19,6 +18,7 @@ use Rattle.lc_language.specs.Value as language
 use Rattle.lc_language.specs.Value.{code}
 use Rattle.lc_language.specs.Refusal.{Refusal, first_of, refusal_from, from_codes}
 use Rattle.lc_language.specs.Meaning.{Made}
+use Rattle.lc_language.proofs.RefusalLaws.{first_from_codes}
 use Rattle.lc_language.specs.Evaluation.{Outcome, gives, refused, refuse_at, refuse_call, AppliesTo}
 use Rattle.lc_eval.specs.declared.values.Value.{Value}
 use Rattle.lc_eval.specs.declared.refusals.Stop.{Stop}
@@ -35,13 +35,6 @@ Applying place b r o =
 
 pub applying : (place : ℕ) (b : BoundCall) (r : Option Refusal) (result : Result Value Stop) → refusal_of b ≡ r → Answers result (Applying place b r) → Answers result (AppliesTo place b)
 applying place b r result e h = subst (λ t. Answers result (Applying place b t)) (sym e) h
-
--- the first refusal of a list of a constructor's, as a call's
-pub first_from_codes : (rs : List (Option CodeRefusal)) → first_of (from_codes rs) ≡ option_map refusal_from (first_refusal rs)
-unfolding first_of from_codes first_refusal
-first_from_codes [] = refl
-first_from_codes (None ∷ rs) = first_from_codes rs
-first_from_codes (Some r ∷ rs) = refl
 
 pub given : (v : language.Value) (place : ℕ) (r : Refusal) → gives v ≡ refuse_call place r → ⊥
 unfolding refuse_call

@@ -11,6 +11,7 @@ pub mod QueryLaws
 pub mod WideLaws
 pub mod FormLaws
 pub mod FormCertificateLaws
+pub mod ConstructionCalls
 pub mod CyclicCalls
 pub mod ResidueCalls
 pub mod MisfitLaws

@@ -1,5 +1,5 @@
 -- What the query for a least word answers is what the definitions say.
---   first_stays, first_behind     the first refusal of two lists, one after the other
+--   first_stays, first_behind     of lc_language
 --   fails_so                     a fault of a call is that of the statement
 --   words_next, words_many, words_few      whether there are too many words
 --   least_refused                a matrix that is refused
@@ -43,7 +43,8 @@ use Rattle.lc_eval.specs.Evaluated.{AffectsOrFails}
 use Rattle.lc_eval.specs.Made.{IsMade}
 use Rattle.lc_eval.specs.Rows.{clamped, clamped_rows}
 use Rattle.lc_eval.specs.Least.{IsLeastLine}
-use Rattle.lc_eval.proofs.AnswerLaws.{first_from_codes}
+pub use Rattle.lc_language.proofs.RefusalLaws.{first_stays, first_behind}
+use Rattle.lc_language.proofs.RefusalLaws.{first_from_codes}
 use Rattle.lc_eval.proofs.RowLaws.{clamped_each, columns_same, clamped_refusals, fine_same, fine_rows}
 
 -- ---- how many words
@@ -64,18 +65,6 @@ words_few q i k words h e m =
     grind (arith, nat_tests, n)
 
 -- ---- the refusals
-
-pub first_stays : (xs ys : List (Option Refusal)) (r : Refusal) → first_of xs ≡ Some r → first_of (xs ++ ys) ≡ Some r
-unfolding first_of
-first_stays [] ys r h = absurd (true≢false (ap is_some (sym h)))
-first_stays (None ∷ xs) ys r h = first_stays xs ys r h
-first_stays (Some x ∷ xs) ys r h = h
-
-pub first_behind : (xs ys : List (Option Refusal)) → first_of xs ≡ None → first_of (xs ++ ys) ≡ first_of ys
-unfolding first_of
-first_behind [] ys h = refl
-first_behind (None ∷ xs) ys h = first_behind xs ys h
-first_behind (Some x ∷ xs) ys h = absurd (true≢false (ap is_some h))
 
 matrix_first : (rows : List (List ℕ)) (f : FieldName) (r : Refusal) → first_of (from_codes (matrix_refusals f rows)) ≡ Some r → query_refusal_of (least_word rows f) ≡ Some r
 unfolding query_refusal_of query_refusals_of

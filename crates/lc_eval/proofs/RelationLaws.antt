@@ -1,6 +1,7 @@
 -- What calls on words, on a code and a word, and on two codes give is what the definitions say.
 --   word_fault                       the refusal of a word
 --   syndrome_told                    the syndrome
+--   elements_kept, long_same         a list of numbers and the symbols that stand for them
 --   truth_applies, subcode_applies, same_applies      truth values of two codes
 --   add_applies, scale_applies, distance_applies      words
 --   encode_applies                   codewords
@@ -78,11 +79,11 @@ same_applies place C D made result c h s = truth_applies place (is_same_code C D
 
 -- ---- words
 
-elements_kept : (f : FieldName) (x : List ℕ) → size f ≤ 16 → are_elements f x ≡ true → clamped x ≡ x
+pub elements_kept : (f : FieldName) (x : List ℕ) → size f ≤ 16 → are_elements f x ≡ true → clamped x ≡ x
 unfolding are_elements
 elements_kept f x l e = row_kept (size f) x l (elements_same f x l ∙ e)
 
-long_same : (x : List ℕ) → length (clamped x) ≡ length x
+pub long_same : (x : List ℕ) → length (clamped x) ≡ length x
 long_same x = length-map x (λ a. min a 255)
 
 add_large : (f : FieldName) (x y u v : List ℕ) → is_symbol f ≡ false → first_refusal (add_refusals f x y) ≡ first_refusal (add_refusals f u v)

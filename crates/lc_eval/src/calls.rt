@@ -13,6 +13,7 @@ ghost use Rattle.lc_eval.specs.Applied.{Answers};
 ghost use Rattle.lc_eval.specs.Value.{value_of, values_of, rows_of};
 
 use crate::code_value::CodeValue;
+use crate::construction::{circulant_code, construction_x_code, quasi_cyclic_code};
 use crate::cyclic::{
     check_pol_code, extended_binary_golay_code, extended_ternary_golay_code, generator_pol_code,
     qr_code,
@@ -125,6 +126,9 @@ static TABLE: &[Row] = &rows! {
     Call::Value(ValueCall::AugmentedCode) => "AugmentedCode" [Code, Lists];
     Call::Value(ValueCall::TraceCode) => "TraceCode" [Code, Field];
     Call::Value(ValueCall::SubfieldSubcode) => "SubfieldSubcode" [Code, Field];
+    Call::Value(ValueCall::CirculantCode) => "CirculantCode" [Numbers, Number, Field];
+    Call::Value(ValueCall::QuasiCyclicCode) => "QuasiCyclicCode" [Lists, Number, Field];
+    Call::Value(ValueCall::ConstructionXCode) => "ConstructionXCode" [Code, Code, Code];
     Call::Query(QueryCall::AlgebraicDecode) => "AlgebraicDecode" [Code, Numbers];
     Call::Query(QueryCall::LeastWord) => "LeastWord" [Lists, Field];
     Call::Query(QueryCall::MinimumDistance) => "MinimumDistance" [Code];
@@ -241,6 +245,9 @@ pub(crate) enum BoundCall<'a> {
     AugmentedCode(&'a Code, &'a [Vec<u64>]),
     TraceCode(&'a Code, &'a Field),
     SubfieldSubcode(&'a Code, &'a Field),
+    CirculantCode(&'a [u64], u64, &'a Field),
+    QuasiCyclicCode(&'a [Vec<u64>], u64, &'a Field),
+    ConstructionXCode(&'a Code, &'a Code, &'a Code),
 }
 
 impl Means for BoundCall<'_> {
@@ -298,6 +305,9 @@ impl Means for BoundCall<'_> {
       | BoundCall.AugmentedCode C rows ↦ language.augmented_code C.now (rows_of rows.now)
       | BoundCall.TraceCode C f ↦ language.trace_code C.now f.now
       | BoundCall.SubfieldSubcode C f ↦ language.subfield_subcode C.now f.now
+      | BoundCall.CirculantCode x n f ↦ language.circulant_code x.now n f.now
+      | BoundCall.QuasiCyclicCode xs n f ↦ language.quasi_cyclic_code (rows_of xs.now) n f.now
+      | BoundCall.ConstructionXCode C D E ↦ language.construction_x_code C.now D.now E.now
     ] };
 }
 
@@ -464,6 +474,21 @@ fn with_three<'a>(
         ValueCall::BchCode => Some(BoundCall::BchCode(a.number()?, 1, b.number()?, c.field()?)),
         ValueCall::AddWords => Some(BoundCall::AddWords(a.numbers()?, b.numbers()?, c.field()?)),
         ValueCall::ScaleWord => Some(BoundCall::ScaleWord(a.number()?, b.numbers()?, c.field()?)),
+        ValueCall::CirculantCode => Some(BoundCall::CirculantCode(
+            a.numbers()?,
+            b.number()?,
+            c.field()?,
+        )),
+        ValueCall::QuasiCyclicCode => Some(BoundCall::QuasiCyclicCode(
+            a.lists()?,
+            b.number()?,
+            c.field()?,
+        )),
+        ValueCall::ConstructionXCode => Some(BoundCall::ConstructionXCode(
+            &a.code()?.code,
+            &b.code()?.code,
+            &c.code()?.code,
+        )),
         _ => None,
     }
 }
@@ -617,6 +642,11 @@ pub(crate) fn apply(
         BoundCall::SubfieldSubcode(code, field) => {
             made(alloc, place, lc_trace::subfield_subcode(alloc, code, field))
         }
+        BoundCall::CirculantCode(x, n, field) => circulant_code(alloc, place, x, n, field),
+        BoundCall::QuasiCyclicCode(words, n, field) => {
+            quasi_cyclic_code(alloc, place, words, n, field)
+        }
+        BoundCall::ConstructionXCode(c, d, e) => construction_x_code(alloc, place, c, d, e),
     }
 }
 

@@ -3,6 +3,7 @@
 
 mod calls;
 mod code_value;
+mod construction;
 mod cyclic;
 mod decoding;
 mod erasures;

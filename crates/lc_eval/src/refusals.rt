@@ -32,6 +32,8 @@ pub(crate) const NO_DISTRIBUTION: u8 = 47;
 pub(crate) const NOT_A_CODEWORD: u8 = 50;
 /// The length is no odd prime modulo which the size of the field is a quadratic residue.
 pub(crate) const NO_RESIDUE_LENGTH: u8 = 53;
+/// The second code is not a subcode of the first.
+pub(crate) const NOT_A_SUBCODE: u8 = 51;
 
 /// A fault: its number, its offset in the script, and the numbers that are printed after it.
 #[derive(Drop)]

@@ -3,8 +3,8 @@
 --   BoundCall                      a call that gives a value, with its arguments; b of a BCH code is 1 if it isn't given
 --   BoundQuery                     a query with its arguments; the alternant form of a code, if it has one, counts for two of them
 --   value_name c, query_name c     its name (GUAVA manual; LeastWord, ConcatenatedCode, the certificates, WeightDistribution,
---                                  NearestWord, FillErasures, TraceCode, SubfieldSubcode, IsSubcode, IsSameCode, AddWords, ScaleWord and Encode are this
---                                  project's own)
+--                                  NearestWord, FillErasures, TraceCode, SubfieldSubcode, IsSubcode, IsSameCode, AddWords, ScaleWord,
+--                                  Encode and CirculantCode are this project's own)
 --   value_forms c, query_forms c   its forms: the kinds of its arguments, and the call with them; BCHCode has two
 --   refusals_of b, query_refusals_of b      its refusals in their order
 --   refusal_of b, query_refusal_of b        the first of them
@@ -54,6 +54,8 @@ use Rattle.lc_language.specs.QuadraticResidues.{InResidueCode, period, not_resid
 use Rattle.lc_language.specs.Relations.{hamming_distance, IsSubcode, IsSameCode, IsSelfOrthogonal, IsSelfDual, IsCyclic, IsMessageOf, InUnion, InAugmented, add_refusals, scale_refusals, distance_refusals, message_refusals, augmented_refusals, not_codeword}
 use Rattle.lc_language.specs.Erasures.{erased_refusals}
 use Rattle.lc_language.specs.Trace.{InTrace, InSubfieldSubcode, subfield_refusals}
+use Rattle.lc_language.specs.Circulant.{circulant, circulants, circulant_refusals, quasi_cyclic_refusals}
+use Rattle.lc_language.specs.ConstructionX.{InConstructionX, construction_x_refusals}
 
 pub data BoundCall : Type 0 where
   gf : ℕ → BoundCall
@@ -107,6 +109,9 @@ pub data BoundCall : Type 0 where
   augmented_code : Matrix → List (List ℕ) → BoundCall
   trace_code : Matrix → FieldName → BoundCall
   subfield_subcode : Matrix → FieldName → BoundCall
+  circulant_code : List ℕ → ℕ → FieldName → BoundCall
+  quasi_cyclic_code : List (List ℕ) → ℕ → FieldName → BoundCall
+  construction_x_code : Matrix → Matrix → Matrix → BoundCall
 
 pub data BoundQuery : Type 0 where
   algebraic_decode : Matrix → Option AlternantForm → List ℕ → BoundQuery
@@ -173,6 +178,9 @@ value_name call.UnionCode = codes "UnionCode"
 value_name call.AugmentedCode = codes "AugmentedCode"
 value_name call.TraceCode = codes "TraceCode"
 value_name call.SubfieldSubcode = codes "SubfieldSubcode"
+value_name call.CirculantCode = codes "CirculantCode"
+value_name call.QuasiCyclicCode = codes "QuasiCyclicCode"
+value_name call.ConstructionXCode = codes "ConstructionXCode"
 
 unfoldable pub query_name : QueryCall → List ℕ
 query_name query.AlgebraicDecode = codes "AlgebraicDecode"
@@ -239,6 +247,9 @@ value_forms call.UnionCode = one (Code ∷ Code ∷ []) (λ C D. union_code C.co
 value_forms call.AugmentedCode = one (Code ∷ Lists ∷ []) (λ C rows. augmented_code C.code rows)
 value_forms call.TraceCode = one (Code ∷ Field ∷ []) (λ C f. trace_code C.code f)
 value_forms call.SubfieldSubcode = one (Code ∷ Field ∷ []) (λ C f. subfield_subcode C.code f)
+value_forms call.CirculantCode = one (Numbers ∷ Number ∷ Field ∷ []) circulant_code
+value_forms call.QuasiCyclicCode = one (Lists ∷ Number ∷ Field ∷ []) quasi_cyclic_code
+value_forms call.ConstructionXCode = one (Code ∷ Code ∷ Code ∷ []) (λ C D E. construction_x_code C.code D.code E.code)
 
 unfoldable pub query_forms : QueryCall → List (Form BoundQuery)
 query_forms query.AlgebraicDecode = one (Code ∷ Numbers ∷ []) (λ C x. algebraic_decode C.code C.form x)
@@ -306,6 +317,9 @@ refusals_of (union_code C D) = from_codes (intersection_refusals C D)
 refusals_of (augmented_code C rows) = from_codes (augmented_refusals C rows)
 refusals_of (trace_code C f) = from_codes (subfield_refusals C f)
 refusals_of (subfield_subcode C f) = from_codes (subfield_refusals C f)
+refusals_of (circulant_code x n f) = from_codes (circulant_refusals f x n)
+refusals_of (quasi_cyclic_code xs n f) = from_codes (quasi_cyclic_refusals f xs n)
+refusals_of (construction_x_code C D E) = construction_x_refusals C D E
 
 unfoldable pub refusal_of : BoundCall → Option Refusal
 refusal_of b = first_of (refusals_of b)
@@ -380,6 +394,9 @@ Gives (union_code C D) v = Made C.field C.columns (InUnion C D) v
 Gives (augmented_code C rows) v = Made C.field C.columns (InAugmented C rows) v
 Gives (trace_code C f) v = Made f C.columns (InTrace C f) v
 Gives (subfield_subcode C f) v = Made f C.columns (InSubfieldSubcode C f) v
+Gives (circulant_code x n f) v = Made f n (GeneratedBy f n (circulant n x)) v
+Gives (quasi_cyclic_code xs n f) v = Made f (length xs * n) (GeneratedBy f (length xs * n) (circulants n xs)) v
+Gives (construction_x_code C D E) v = Made C.field (C.columns + E.columns) (InConstructionX C D E) v
 
 abbrev pub IsNotDivisor : BoundCall → Type 0
 IsNotDivisor (generator_pol_code x n f) = ¬ Divides f (trimmed x) (x_power_minus_one f n)
@@ -389,7 +406,7 @@ IsNotDivisor _ = ⊥
 -- ---- the table
 
 unfoldable pub value_calls : List ValueCall
-value_calls = call.Gf ∷ call.GeneratorMatCode ∷ call.CheckMatCode ∷ call.RepetitionCode ∷ call.WholeSpaceCode ∷ call.NullCode ∷ call.HammingCode ∷ call.ReedMullerCode ∷ call.GeneratorPolCode ∷ call.CheckPolCode ∷ call.QrCode ∷ call.BinaryGolayCode ∷ call.TernaryGolayCode ∷ call.ExtendedBinaryGolayCode ∷ call.ExtendedTernaryGolayCode ∷ call.BchCode ∷ call.ReedSolomonCode ∷ call.GoppaCode ∷ call.AlternantCode ∷ call.DualCode ∷ call.ExtendedCode ∷ call.PuncturedCode ∷ call.ShortenedCode ∷ call.EvenWeightSubcode ∷ call.DirectSumCode ∷ call.UuvCode ∷ call.DirectProductCode ∷ call.IntersectionCode ∷ call.ConcatenatedCode ∷ call.Dimension ∷ call.WordLength ∷ call.GeneratorMat ∷ call.CheckMat ∷ call.Weight ∷ call.IsCodeword ∷ call.Decode ∷ call.Syndrome ∷ call.IsSubcode ∷ call.IsSameCode ∷ call.IsSelfOrthogonalCode ∷ call.IsSelfDualCode ∷ call.IsCyclicCode ∷ call.AddWords ∷ call.ScaleWord ∷ call.DistanceCodeword ∷ call.Encode ∷ call.InformationWord ∷ call.UnionCode ∷ call.AugmentedCode ∷ call.TraceCode ∷ call.SubfieldSubcode ∷ []
+value_calls = call.Gf ∷ call.GeneratorMatCode ∷ call.CheckMatCode ∷ call.RepetitionCode ∷ call.WholeSpaceCode ∷ call.NullCode ∷ call.HammingCode ∷ call.ReedMullerCode ∷ call.GeneratorPolCode ∷ call.CheckPolCode ∷ call.QrCode ∷ call.BinaryGolayCode ∷ call.TernaryGolayCode ∷ call.ExtendedBinaryGolayCode ∷ call.ExtendedTernaryGolayCode ∷ call.BchCode ∷ call.ReedSolomonCode ∷ call.GoppaCode ∷ call.AlternantCode ∷ call.DualCode ∷ call.ExtendedCode ∷ call.PuncturedCode ∷ call.ShortenedCode ∷ call.EvenWeightSubcode ∷ call.DirectSumCode ∷ call.UuvCode ∷ call.DirectProductCode ∷ call.IntersectionCode ∷ call.ConcatenatedCode ∷ call.Dimension ∷ call.WordLength ∷ call.GeneratorMat ∷ call.CheckMat ∷ call.Weight ∷ call.IsCodeword ∷ call.Decode ∷ call.Syndrome ∷ call.IsSubcode ∷ call.IsSameCode ∷ call.IsSelfOrthogonalCode ∷ call.IsSelfDualCode ∷ call.IsCyclicCode ∷ call.AddWords ∷ call.ScaleWord ∷ call.DistanceCodeword ∷ call.Encode ∷ call.InformationWord ∷ call.UnionCode ∷ call.AugmentedCode ∷ call.TraceCode ∷ call.SubfieldSubcode ∷ call.CirculantCode ∷ call.QuasiCyclicCode ∷ call.ConstructionXCode ∷ []
 
 unfoldable pub query_calls : List QueryCall
 query_calls = query.AlgebraicDecode ∷ query.LeastWord ∷ query.MinimumDistance ∷ query.Certificate ∷ query.ScanCertificate ∷ query.WeightDistribution ∷ query.AlternantCertificate ∷ query.NearestWord ∷ query.FillErasures ∷ []

@@ -1,5 +1,7 @@
 pub mod Calls
 pub mod Erasures
+pub mod Circulant
+pub mod ConstructionX
 pub mod Evaluation
 pub mod Forms
 pub mod Meaning

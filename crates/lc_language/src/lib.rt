@@ -71,6 +71,9 @@ pub enum ValueCall {
     AugmentedCode,
     TraceCode,
     SubfieldSubcode,
+    CirculantCode,
+    QuasiCyclicCode,
+    ConstructionXCode,
 }
 
 /// The calls that are statements of their own: each prints a line of its own.

@@ -1,6 +1,7 @@
 -- Messages and their codewords.
 --   sum_of_none, sum_of_more      the sum of no rows, and of one row more
 --   begins                a row begins at its place
+--   leading_long, leading_at      the symbols of a word where the rows begin
 --   leading_of            the symbols of its codeword where the rows begin are the message
 --   message_is            they are the only message of a word of the code
 --   message_exists, message_back, message_inside      each codeword has a message, and each message a codeword
@@ -46,7 +47,7 @@ sum_of_more C g j p i u old new row o s k l m t word h e =
 
 -- ---- the symbols where the rows begin
 
-begins : (f : FieldName) (n : ℕ) (ps : List ℕ) (rows : List (List ℕ)) (i : ℕ) → AreRows f n rows → HasPivots n ps rows → i < length rows → first_nonzero (slice_index_or rows i []) ≡ Some (slice_index ps i)
+pub begins : (f : FieldName) (n : ℕ) (ps : List ℕ) (rows : List (List ℕ)) (i : ℕ) → AreRows f n rows → HasPivots n ps rows → i < length rows → first_nonzero (slice_index_or rows i []) ≡ Some (slice_index ps i)
 begins f n ps rows i r h l =
     let row = slice_index_or rows i [] in
     let q = slice_index ps i in
@@ -54,11 +55,11 @@ begins f n ps rows i r h l =
     let e : position_or_len (λ a. not (a == 0)) row ≡ q = position_or_len_is (λ a. not (a == 0)) row q 0 (omega (arith, b)) (λ k m. ap (λ a. not (a == 0)) (h.before i k l m)) (λ _. ap (λ a. not (a == 0)) (h.leads i l)) in
     rw e (rw (lt-ltb q (length row) b) refl)
 
-leading_long : (rows : List (List ℕ)) (w : List ℕ) → length (leading_symbols rows w) ≡ length rows
+pub leading_long : (rows : List (List ℕ)) (w : List ℕ) → length (leading_symbols rows w) ≡ length rows
 unfolding leading_symbols
 leading_long rows w = length-map rows (leading_symbol w)
 
-leading_at : (f : FieldName) (n : ℕ) (ps : List ℕ) (rows : List (List ℕ)) (w : List ℕ) (i : ℕ) → AreRows f n rows → HasPivots n ps rows → i < length rows → slice_index (leading_symbols rows w) i ≡ slice_index w (slice_index ps i)
+pub leading_at : (f : FieldName) (n : ℕ) (ps : List ℕ) (rows : List (List ℕ)) (w : List ℕ) (i : ℕ) → AreRows f n rows → HasPivots n ps rows → i < length rows → slice_index (leading_symbols rows w) i ≡ slice_index w (slice_index ps i)
 unfolding leading_symbols
 leading_at f n ps rows w i r h l =
     get_or-map (leading_symbol w) rows i [] 0 l ∙ ap (symbol_at w) (begins f n ps rows i r h l)

@@ -1,4 +1,6 @@
 -- The dual and the dimension of a sum of codes.
+--   told                 the words of a code that is told by its words
+--   shared, shared_rows  the words and the rows of a code over the field and of the length of another one
 --   in_union_left, in_union_right      the words of both codes are in the sum
 --   union_dual           the dual of the sum is the intersection of the duals
 --   behind               the words of the last rows of a list are words of the list
@@ -28,21 +30,19 @@ use Rattle.lc_infoset.proofs.GreedyLaws.{independent_cons}
 use Rattle.lc_code.proofs.CodeLaws.{same_code}
 use Rattle.lc_combine.proofs.GeneratedLaws.{span_parted, rows_append}
 
--- the words of a code that is told by its words
-told : (f : FieldName) (n : ℕ) (P : List ℕ → Type 0) (C : Matrix) (w : List ℕ) → IsCode f n P C → InCode C w ↔ (IsWord f n w × P w)
+pub told : (f : FieldName) (n : ℕ) (P : List ℕ → Type 0) (C : Matrix) (w : List ℕ) → IsCode f n P C → InCode C w ↔ (IsWord f n w × P w)
 told f n P C w c = (
   (λ i. (c.generator.members w).0 (subst (λ m. InSpan f m C.rows w) c.length_is (subst (λ g. InSpan g C.columns C.rows w) c.over i))),
   (λ m. subst (λ g. InSpan g C.columns C.rows w) (sym c.over) (subst (λ k. InSpan f k C.rows w) (sym c.length_is) ((c.generator.members w).1 m))),
 )
 
--- a code over the field and the length of another one
-shared : (C D : Matrix) (w : List ℕ) → C.field ≡ D.field → C.columns ≡ D.columns → InCode D w ↔ InSpan C.field C.columns D.rows w
+pub shared : (C D : Matrix) (w : List ℕ) → C.field ≡ D.field → C.columns ≡ D.columns → InCode D w ↔ InSpan C.field C.columns D.rows w
 shared C D w x y = (
   (λ i. subst (λ m. InSpan C.field m D.rows w) (sym y) (subst (λ g. InSpan g D.columns D.rows w) (sym x) i)),
   (λ i. subst (λ m. InSpan D.field m D.rows w) y (subst (λ g. InSpan g C.columns D.rows w) x i)),
 )
 
-shared_rows : (C D : Matrix) → C.field ≡ D.field → C.columns ≡ D.columns → AreRows D.field D.columns D.rows → AreRows C.field C.columns D.rows
+pub shared_rows : (C D : Matrix) → C.field ≡ D.field → C.columns ≡ D.columns → AreRows D.field D.columns D.rows → AreRows C.field C.columns D.rows
 shared_rows C D x y r = subst (λ m. AreRows C.field m D.rows) (sym y) (subst (λ g. AreRows g D.columns D.rows) (sym x) r)
 
 pub in_union_left : (C D : Matrix) (w : List ℕ) → C.field ≡ D.field → C.columns ≡ D.columns → AreRows C.field C.columns C.rows → AreRows D.field D.columns D.rows → InCode C w → InUnion C D w

@@ -23,8 +23,8 @@ pub fn is_subcode(alloc: Global, a: &Code, b: &Code) -> Result<bool, CodeRefusal
     Ok(lies_in(alloc, a, b)?)
 }
 
-// Whether each word of the first code is one of the second. The rows are tried.
-fn lies_in(alloc: Global, a: &Code, b: &Code) -> Result<bool, NoMemory>
+/// Whether each word of `a` is a word of `b`. Both codes are over one field and have one length. The rows are tried.
+pub fn lies_in(alloc: Global, a: &Code, b: &Code) -> Result<bool, NoMemory>
     requires field { a.now.field ≡ b.now.field }
     requires columns { a.now.columns ≡ b.now.columns }
     ensures is { IfOk result (λ t. IsTrue t ↔ IsSubcode a.now b.now) }

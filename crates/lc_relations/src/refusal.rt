@@ -85,15 +85,15 @@ pub(crate) fn check_message(code: &Code, message: &[u8]) -> Result<(), CodeRefus
     Ok(())
 }
 
-// Whether each row has n entries.
-fn are_long(n: usize, rows: &[Word]) -> bool
+/// Whether each row has `n` entries.
+pub fn are_long(n: usize, rows: &[Word]) -> bool
     ensures is { result ≡ list_all (λ row. length row == n) rows.now }
 {
     rows.iter().all(|row| row.len() == n)
 }
 
-// Whether each entry is an element of the field.
-fn have_elements(field: &Field, rows: &[Word]) -> bool
+/// Whether each entry of the rows is an element of the field.
+pub fn have_elements(field: &Field, rows: &[Word]) -> bool
     ensures is { IsTrue result ↔ All (Fits field.now) rows.now }
 {
     for row in rows {

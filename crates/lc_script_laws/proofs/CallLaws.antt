@@ -34,6 +34,8 @@ use Rattle.lc_language.specs.declared.QueryCall.TheVariants as query
 use Rattle.lc_language.specs.Value.{Value, numbers, field, lists}
 use Rattle.lc_language.specs.Trace.{subfield_refusals}
 use Rattle.lc_language.specs.Relations.{IsSubcode, IsSameCode, IsSelfOrthogonal, IsSelfDual, IsCyclic, IsMessageOf}
+use Rattle.lc_language.specs.Circulant.{circulant_refusals, quasi_cyclic_refusals}
+use Rattle.lc_language.specs.ConstructionX.{not_subcode, unlike_codes, unfit_tail, construction_x_refusals}
 use Rattle.lc_language.specs.Calls as bound
 use Rattle.lc_language.specs.Calls.{BoundCall, BoundQuery, value_forms, query_forms, refusals_of, refusal_of, Gives, bind, bind_query}
 use Rattle.lc_language.specs.Query.{distance, by_levels, by_scan, form_line}
@@ -45,7 +47,7 @@ use Rattle.lc_script_laws.proofs.AtMostOne.{One, one_value, one_some}
 use Rattle.lc_script_laws.proofs.OneNearest.{nearest_one}
 use Rattle.lc_script_laws.proofs.OneValue.{code_one, made_one, extended_golay_one, bch_one, reed_solomon_one, truth_one, message_one, prints_least_one, prints_filling_one, asks_one, nears_one, decoded_by_form}
 use Rattle.lc_script_laws.proofs.FormedLaws.{bch_formed, solomon_formed, goppa_formed, alternant_formed}
-use Rattle.lc_script_laws.proofs.ShapeLaws.{IsShaped, AreShaped, InForms, bound_shaped, shaped_as, made_shaped, formed_shaped, IsAllowed, none_refuses, allowed, short, over_symbols, binary, ternary}
+use Rattle.lc_script_laws.proofs.ShapeLaws.{IsShaped, AreShaped, InForms, bound_shaped, shaped_as, made_shaped, formed_shaped, IsAllowed, none_refuses, none_behind, allowed, short, over_symbols, binary, ternary}
 
 pub gives_one : (b : BoundCall) → refusal_of b ≡ None → One (Gives b)
 gives_one (bound.gf q) r = one_some (λ f. size f ≡ q) (λ f v. v ≡ field f) (λ f g a b. told_by_size f g (a ∙ sym b)) (λ f. one_value (field f))
@@ -99,6 +101,9 @@ gives_one (bound.union_code C D) r = made_one _ _ _ _
 gives_one (bound.augmented_code C rows) r = made_one _ _ _ _
 gives_one (bound.trace_code C f) r = made_one _ _ _ _
 gives_one (bound.subfield_subcode C f) r = made_one _ _ _ _
+gives_one (bound.circulant_code x n f) r = made_one _ _ _ _
+gives_one (bound.quasi_cyclic_code xs n f) r = made_one _ _ _ _
+gives_one (bound.construction_x_code C D E) r = made_one _ _ _ _
 
 pub queries_one : (b : BoundQuery) → One (Queries b)
 queries_one (bound.algebraic_decode C form x) = decoded_by_form C x form
@@ -183,6 +188,18 @@ concatenated_short C D e = nested_short C D (degree_over (size D.field) (size C.
 subfield_allowed : (C : Matrix) (f : FieldName) → C.columns ≤ 255 → first_of (from_codes (subfield_refusals C f)) ≡ None → IsAllowed f C.columns
 unfolding subfield_refusals
 subfield_allowed C f l e = (l, over_symbols f (none_refuses _ e).0)
+circulant_allowed : (f : FieldName) (x : List ℕ) (n : ℕ) → first_of (from_codes (circulant_refusals f x n)) ≡ None → IsAllowed f n
+unfolding circulant_refusals
+circulant_allowed f x n e = let h = none_refuses _ e in allowed f n h.0 h.1.0
+
+quasi_allowed : (f : FieldName) (xs : List (List ℕ)) (n : ℕ) → first_of (from_codes (quasi_cyclic_refusals f xs n)) ≡ None → IsAllowed f (length xs * n)
+unfolding quasi_cyclic_refusals
+quasi_allowed f xs n e = let h = none_refuses _ e in allowed f (length xs * n) h.0 h.1.0
+
+construction_x_short : (C D E : Matrix) → first_of (construction_x_refusals C D E) ≡ None → C.columns + E.columns ≤ 255
+unfolding construction_x_refusals unfit_tail
+construction_x_short C D E e =
+    short (C.columns + E.columns) (none_refuses _ (none_behind (not_subcode C D ∷ []) _ (none_behind (from_codes (unlike_codes C D E)) _ e))).1.0
 
 solomon_allowed : (f : FieldName) (n : ℕ) → size f ≡ n + 1 → IsTrue (is_symbol f) → IsAllowed f n
 solomon_allowed f n e h = let few = small_size f h in (omega (arith, few, e), h)
@@ -248,6 +265,9 @@ calls_shaped call.UnionCode = (λ C h D k v e g. made_shaped _ _ _ v (h.0.long, 
 calls_shaped call.AugmentedCode = (λ C h rows v e g. made_shaped _ _ _ v (h.0.long, h.0.symbol) g, tt)
 calls_shaped call.TraceCode = (λ C h f v e g. made_shaped _ _ _ v (subfield_allowed C.code f h.0.long e) g, tt)
 calls_shaped call.SubfieldSubcode = (λ C h f v e g. made_shaped _ _ _ v (subfield_allowed C.code f h.0.long e) g, tt)
+calls_shaped call.CirculantCode = (λ x n f v e g. made_shaped _ _ _ v (circulant_allowed f x n e) g, tt)
+calls_shaped call.QuasiCyclicCode = (λ xs n f v e g. made_shaped _ _ _ v (quasi_allowed f xs n e) g, tt)
+calls_shaped call.ConstructionXCode = (λ C h D k E l v e g. made_shaped _ _ _ v (construction_x_short C.code D.code E.code e, h.0.symbol) g, tt)
 
 abbrev pub HaveQueryShapes : BoundQuery → Type 0
 HaveQueryShapes (bound.minimum_distance C) = IsCodeOfRows C

@@ -3,13 +3,14 @@
 --   IsShapedCode C           a code's value: the code is one of rows, and has its form
 --   IsShaped v               if the value is a code, it is such
 --   none_refuses             the refusals of what isn't refused
+--   none_behind              of two lists without a refusal the second one has none
 --   IsAllowed f n            a code over f of length n may be made; allowed, short, over_symbols      so it may, if it isn't refused
 --   from_option, from_known  by cases on an option
 --   made_shaped, formed_shaped, shaped_as      a code's value without a form, one with a form, and a value that is told, are shaped
 --   ForAny, ForAll, InForms  what holds of all that a form of a call makes of shaped values, and so do several
 --   found_in                 what holds of all holds of the one that is found
 --   bound_shaped             holds of what is bound
-use Rattle.std.proofs.Common.{◌≡◌, ◌≤◌, ℕ, Bool, true, false, List, [], ◌∷◌, length, Option, Some, None, refl, sym, subst}
+use Rattle.std.proofs.Common.{◌≡◌, ◌≤◌, ℕ, Bool, true, false, List, [], ◌∷◌, ◌++◌, length, Option, Some, None, refl, sym, subst}
 use Rattle.std.specs.Prelude.{MatchOption, find, cond, ◌==◌, ◌&&◌, nat_le, not}
 use Rattle.std.specs.List.{AllByRecursion}
 use Rattle.std.proofs.lemmas.Bool.{leb-true}
@@ -26,7 +27,7 @@ use Rattle.lc_language.specs.declared.Kind.{Kind}
 use Rattle.lc_language.specs.declared.Kind.TheVariants.{Number, Field, Numbers, Lists, Code}
 use Rattle.lc_language.specs.Forms.{Takes, Form, given, filled, form_for, bound}
 use Rattle.lc_language.specs.Value.{Meant, read, Value, number, field, numbers, lists, code, truth, nothing, CodeValue, code_in}
-use Rattle.lc_language.specs.Refusal.{first_of, from_codes}
+use Rattle.lc_language.specs.Refusal.{Refusal, first_of, from_codes}
 use Rattle.lc_language.specs.Meaning.{IsCodeValue}
 use Rattle.lc_script_laws.specs.Shapes.{IsCodeOfRows}
 
@@ -69,6 +70,12 @@ unfolding first_of from_codes
 none_refuses [] e = tt
 none_refuses (None ∷ rs) e = (refl, none_refuses rs e)
 none_refuses (Some r ∷ rs) e = absurd (let f = e in cc)
+
+pub none_behind : (xs ys : List (Option Refusal)) → first_of (xs ++ ys) ≡ None → first_of ys ≡ None
+unfolding first_of
+none_behind [] ys e = e
+none_behind (None ∷ xs) ys e = none_behind xs ys e
+none_behind (Some r ∷ xs) ys e = absurd (let f = e in cc)
 
 by_test : (b : Bool) (r : CodeRefusal) → refuse_if (not b) r ≡ None → b ≡ true
 unfolding refuse_if

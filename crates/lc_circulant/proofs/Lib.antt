@@ -1,0 +1,4 @@
+pub mod PartLaws
+pub mod RefusalLaws
+pub mod RowLaws
+pub mod ShiftLaws

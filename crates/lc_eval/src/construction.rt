@@ -1,0 +1,72 @@
+//! Codes by circulant matrices, and construction X.
+ghost use Rattle.lc_language.specs.Calls as bound;
+ghost use Rattle.lc_language.specs.Evaluation.{AppliesTo};
+ghost use Rattle.lc_eval.specs.Applied.{Answers};
+ghost use Rattle.lc_eval.specs.Value.{rows_of};
+
+use crate::made::{code_value, made};
+use crate::refusals::{NOT_A_SUBCODE, Stop, fault, refused_as};
+use crate::rows::{word_of, words_of};
+use crate::values::Value;
+use lc_code::Code;
+use lc_extend::ExtensionRefusal;
+use lc_field::Field;
+use std::alloc::Global;
+
+/// The code of the cyclic shifts of a list of symbols.
+#[tactic(auto, using(crate::proofs::ConstructionCalls::circulant_applies))]
+pub(crate) fn circulant_code(
+    alloc: Global,
+    place: usize,
+    x: &[u64],
+    n: u64,
+    field: &Field,
+) -> Result<Value, Stop>
+    ensures { Answers result (AppliesTo place (bound.circulant_code x.now n field.now)) }
+{
+    let word = word_of(alloc, x)?;
+    made(
+        alloc,
+        place,
+        lc_circulant::circulant(alloc, word.symbols(), n, field),
+    )
+}
+
+/// The code of the circulant matrices of some lists of symbols, side by side.
+#[tactic(auto, using(crate::proofs::ConstructionCalls::quasi_applies))]
+pub(crate) fn quasi_cyclic_code(
+    alloc: Global,
+    place: usize,
+    lists: &[Vec<u64>],
+    n: u64,
+    field: &Field,
+) -> Result<Value, Stop>
+    ensures { Answers result (AppliesTo place (bound.quasi_cyclic_code (rows_of lists.now) n field.now)) }
+{
+    let words = words_of(alloc, lists)?;
+    made(
+        alloc,
+        place,
+        lc_circulant::quasi_cyclic(alloc, &words, n, field),
+    )
+}
+
+/// The code of construction X.
+#[tactic(auto, using(crate::proofs::ConstructionCalls::construction_x_laws))]
+pub(crate) fn construction_x_code(
+    alloc: Global,
+    place: usize,
+    c: &Code,
+    d: &Code,
+    e: &Code,
+) -> Result<Value, Stop>
+    ensures { Answers result (AppliesTo place (bound.construction_x_code c.now d.now e.now)) }
+{
+    match lc_extend::construction_x(alloc, c, d, e) {
+        Ok(code) => Ok(code_value(alloc, code)?),
+        Err(ExtensionRefusal::NotASubcode) => {
+            Err(Stop::Refused(fault(alloc, NOT_A_SUBCODE, place)))
+        }
+        Err(ExtensionRefusal::Codes(refusal)) => Err(refused_as(alloc, place, refusal)),
+    }
+}
