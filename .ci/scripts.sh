@@ -341,7 +341,7 @@ jobs_say_why() {
     local folder=$room/jobs/5
     rm -f "$folder/text"
     export CODES=$program
-    ends 2 'usage: tools/cluster/job FOLDER [workers=N] [budget=N] [slice=N]' tools/cluster/job &&
+    ends 2 'usage: tools/cluster/job FOLDER [workers=N] [round=N] [budget=N] [slice=N]' tools/cluster/job &&
         ends 4 "$room/no: there is no such folder" tools/cluster/job "$room/no" && ends 4 "$room: script.codes is missing or can not be read" tools/cluster/job "$room" &&
         ends 10 "$folder: status 10, codes: checkpoint of another script or budget" tools/cluster/job "$folder" budget=1001 &&
         ends 2 "$folder: status 2, codes: word 2 refused" tools/cluster/job "$folder" budget=1e3 &&

@@ -217,7 +217,7 @@ mistakes() {
 
 # what is written below the line of the rules
 reasons() {
-    local follow='after run come workers=N, budget=N, keep=yes and slice=N, or none of them' blocks='budget is a number from 0 to 1099511627776'
+    local follow='after run come workers=N, round=N, budget=N, keep=yes and slice=N, or none of them' blocks='budget is a number from 0 to 1099511627776'
     refused 0 'a command is missing: run, resume, check or summary; see ./codes --help' &&
         refused 0 'a command is run, resume, check or summary; see ./codes --help' nonsense &&
         refused 0 'a command is run, resume, check or summary; see ./codes --help' --unproved nonsense &&
@@ -235,6 +235,7 @@ reasons() {
         refused 1 'write budget=7' run budget=007 && refused 1 'write budget=5' run Budget=5 && refused 1 "$blocks, in digits alone" run budget=1k &&
         refused 1 "$blocks" run budget=2199023255552 && refused 1 'budget takes a value after =, without blanks: budget=N' run budget 5 &&
         refused 2 'write workers=2' run keep=yes --workers=2 && refused 1 'write workers=4' resume -j4 && refused 1 'workers is a number from 1 to 256' run workers=0 &&
+        refused 1 'round is a number from 1 to 1048576' run round=1048577 && refused 1 'write round=65536' resume round=2^16 &&
         refused 1 "write workers=$(getconf _NPROCESSORS_ONLN)" run workers=auto && refused 2 'workers is there already' run workers=2 workers=2 &&
         refused 1 'write keep=yes' run keep=on && refused 1 'keep takes a value after =, without blanks: keep=yes' run keep &&
         refused 1 'slice needs keep=yes, since the session goes on from its checkpoint' run slice=5 &&
@@ -263,6 +264,12 @@ run workers=0
 run workers=02
 run workers=+2
 run workers=2 workers=2
+run round=1
+run round=1048576 workers=2
+run round=0
+run round=1048577
+run round=
+run round=2 round=2
 run budget=1099511627776
 run budget=1099511627777
 run budget=18446744073709551616
@@ -286,11 +293,14 @@ resume seed=1
 resume budget=5 keep=no slice=7
 check x
 check budget=1
+check round=1
 summary
 summary seed=1 keep=yes
 summary seed=18446744073709551616
 summary seed=18446744073709551615 seed=1
 summary budget=1 workers=2
+summary round=7
+summary round=7 seed=1
 summary seed=01
 summary seed=00
 summary budget=0 seed=18446744073709551615

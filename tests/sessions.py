@@ -4,11 +4,11 @@
     tests/sessions.py PROGRAM [KILLS]
 
 Runs PROGRAM in folders of its own: killed (SIGKILL) at KILLS random moments (200) over three scripts and resumed until it is
-done, stopped by the file codes.stop, cut in slices, over slots that are damaged, swapped, foreign or forged, over checkpoints
-of version 1, and over folders in which nothing can be stored. If strace is there, a session is also killed at each of its calls
-of the kernel on files, and each of these fails once. A session that finishes must print the text of the same script
-without checkpoints. The searches are long enough for a second or two of PROGRAM. Prints a line for each check that fails, and
-at the end 'N passed, M failed'.
+done, stopped by the file codes.stop, cut in slices, with rounds of several lengths, over slots that are damaged, swapped,
+foreign or forged, over checkpoints of version 1, and over folders in which nothing can be stored. If strace is there, a session
+is also killed at each of its calls of the kernel on files, and each of these fails once. A session that finishes must print the
+text of the same script without checkpoints. The searches are long enough for a second or two of PROGRAM. Prints a line for each
+check that fails, and at the end 'N passed, M failed'.
 """
 import hashlib
 import json
@@ -227,6 +227,43 @@ def slices(checks, program, budget):
         checks.that(status == PAUSED and err.endswith('paused at query 0 blocks %d\n' % last), 'a slice that ends between two searches')
         status, out, err = folder.session('resume', 'keep=yes')
         checks.that((status, out) == (wanted, text) and records_in(err)[0][0] == 1, 'the first search is settled, and not done again')
+
+
+def at_rounds(records, ends, longest):
+    """Of the records after each block those of the rounds of at most so many blocks, when phases and searches end at `ends`."""
+    wanted, begin = [], {}
+    for query, end in ends:
+        here = begin.get(query, 0)
+        wanted += [(query, block) for block in [*range(here + longest, end, longest), end]]
+        begin[query] = end
+    return [records[key] for key in wanted]
+
+
+def longest_rounds(checks, program):
+    """The text is the same for every longest round, and the records are those of its rounds; so in a chain of several."""
+    with Folder(program, SPEED, 1 << 20) as folder:
+        wanted, text, one = folder.session('run', 'round=1')
+        each = {tuple(r[:2]): r for r in records_in(one)}
+        checks.that(sorted(each) == [(0, l + 1) for l in range(SPEED_BLOCKS)], 'rounds of one block')
+        ends = [tuple(r[:2]) for r in records_in(folder.session('run', 'round=1048576')[2])]
+        checks.that(len(ends) < 40 and ends[-1] == (0, SPEED_BLOCKS), 'rounds of whole phases')
+        for longest in (1, 2, 3, 7, 256, 65536, 1048576):
+            for workers in (1, 4):
+                asked = 'round=%d' % longest, 'workers=%d' % workers
+                status, out, err = folder.session('run', *(asked if longest != 256 else asked[1:]))
+                right = records_in(err) == at_rounds(each, ends, longest)
+                checks.that((status, out) == (wanted, text) and right, 'rounds of %d by %d' % (longest, workers))
+        records, command = [], 'run'
+        for longest, size in ((1, 100), (7, 500), (65536, 1000), (3, 40)):
+            status, _, err = folder.session(command, 'keep=yes', 'slice=%d' % size, 'round=%d' % longest)
+            records, command = records + records_in(err), 'resume'
+            checks.that(status == PAUSED, 'a slice of rounds of %d ends with status %d' % (longest, status))
+        status, out, err = folder.session('resume', 'keep=yes', 'round=1048576', 'workers=2')
+        records += records_in(err)
+        checks.that((status, out) == (wanted, text), 'rounds of several lengths end with status %d' % status)
+        checks.that(all(each[tuple(r[:2])] == r for r in records) and tuple(records[-1][:2]) == ends[-1], 'the records of rounds of several lengths')
+        for refused in ('round=0', 'round=1048577', 'round=', 'round=07'):
+            checks.that(folder.session('run', refused)[:2] == (USAGE, b''), refused)
 
 
 def example(checks, program):
@@ -495,7 +532,7 @@ def main():
     parts = [lambda seed=seed: kill_at_random(checks, program, budget, -(-kills // LANES), seed) for seed in range(LANES)]
     for part in (stop_file, slices, changed_slots, full_disk, read_only_folder, faulty_folders, record_lines):
         parts.append(lambda part=part: part(checks, program, budget))
-    for part in (earlier_versions, example, long_checkpoints, links, dangling_stop_file, full_standard_error):
+    for part in (earlier_versions, example, longest_rounds, long_checkpoints, links, dangling_stop_file, full_standard_error):
         parts.append(lambda part=part: part(checks, program))
     for call, error in FAULTS.items():
         for what in ('signal=KILL', 'error=' + error):

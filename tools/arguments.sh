@@ -8,8 +8,9 @@
 # may_follow COMMAND KEY: whether an argument with this key may follow the command
 may_follow() {
     case $1,$2 in
-    run,workers | run,budget | run,slice | run,keep | resume,workers | resume,budget | resume,slice | resume,keep) ;;
-    summary,workers | summary,budget | summary,seed) ;;
+    run,workers | run,round | run,budget | run,slice | run,keep) ;;
+    resume,workers | resume,round | resume,budget | resume,slice | resume,keep) ;;
+    summary,workers | summary,round | summary,budget | summary,seed) ;;
     *) return 1 ;;
     esac
 }
@@ -19,6 +20,7 @@ range() {
     least=0 most=1099511627776
     case $1 in
     workers) least=1 most=256 ;;
+    round) least=1 most=1048576 ;;
     slice) least=1 ;;
     seed) most=18446744073709551615 ;;
     esac
@@ -91,7 +93,7 @@ why_no_command() {
     case $small in
     '') echo "a command is missing: run, resume, check or summary; see ./codes --help" ;;
     run | resume | check | summary) echo "the command is written $small" ;;
-    workers=* | budget=* | keep=* | slice=*) echo "a command comes first: ./codes run $1 < FILE" ;;
+    workers=* | round=* | budget=* | keep=* | slice=*) echo "a command comes first: ./codes run $1 < FILE" ;;
     seed=*) echo "a command comes first: ./codes summary $1" ;;
     *)
         if is_file_name "$1"; then
@@ -147,8 +149,8 @@ why_no_value() {
 # what may follow a command
 what_may_follow() {
     case $1 in
-    run | resume) echo "after $1 come workers=N, budget=N, keep=yes and slice=N, or none of them" ;;
-    summary) echo "after summary come seed=N, and perhaps workers=N and budget=N" ;;
+    run | resume) echo "after $1 come workers=N, round=N, budget=N, keep=yes and slice=N, or none of them" ;;
+    summary) echo "after summary come seed=N, and perhaps workers=N, round=N and budget=N" ;;
     esac
 }
 
@@ -166,7 +168,7 @@ why_refused() {
     *,-[jw]) echo "write workers=N"; return ;;
     esac
     case $key in
-    workers | budget | slice | seed | keep) ;;
+    workers | round | budget | slice | seed | keep) ;;
     *)
         if is_file_name "$2" && [ "$1" != summary ]; then
             echo "$1 reads a script from standard input: ./codes $1 < $(quoted "$2")"

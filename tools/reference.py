@@ -1,8 +1,8 @@
 #!/usr/bin/env python3
 """A second reader of scripts: what `codes run` must print, found in the plainest way.
 
-    tools/reference.py [run [workers=N] [budget=N]] < SCRIPT
-    tools/reference.py summary seed=N [workers=N] [budget=N]
+    tools/reference.py [run [workers=N] [round=N] [budget=N]] < SCRIPT
+    tools/reference.py summary seed=N [workers=N] [round=N] [budget=N]
 
 writes the text of the script to standard output and the records of its searches to standard error, and ends with its status: 0,
 or 1 where the last line is a fault line, or 2 where a word is refused, or 12 where the script has more than 1,048,576 bytes. It
@@ -988,18 +988,18 @@ def least_word_line(rows, field):
 
 
 @lru_cache(maxsize=16)
-def search_by_rows(size, length, rows, budget):
-    return search.search(size, length, [list(row) for row in rows], budget)
+def search_by_rows(size, length, rows, budget, longest):
+    return search.search(size, length, [list(row) for row in rows], budget, longest)
 
 
 class Session:
-    """The budget of the searches of a script, and the records of those that are done."""
+    """The budget of the searches of a script, the most blocks of a round, and the records of the searches that are done."""
 
-    def __init__(self, budget=BUDGET):
-        self.budget, self.searches, self.records = budget, 0, []
+    def __init__(self, budget=BUDGET, longest=search.ROUND):
+        self.budget, self.longest, self.searches, self.records = budget, longest, 0, []
 
     def answer(self, code):
-        found, rounds = search_by_rows(code.size, code.length, tuple(map(tuple, code.rows)), self.budget)
+        found, rounds = search_by_rows(code.size, code.length, tuple(map(tuple, code.rows)), self.budget, self.longest)
         self.records += [(self.searches, *record) for record in rounds]
         self.searches += 1
         return found
@@ -1287,12 +1287,18 @@ def text_and_status(script, session=None):
 # ---- the command line ---------------------------------------------------------------------------------------------
 
 KEYS = {
-    "run": ("workers", "budget", "slice", "keep"),
-    "resume": ("workers", "budget", "slice", "keep"),
+    "run": ("workers", "round", "budget", "slice", "keep"),
+    "resume": ("workers", "round", "budget", "slice", "keep"),
     "check": (),
-    "summary": ("seed", "workers", "budget"),
+    "summary": ("seed", "workers", "round", "budget"),
 }
-RANGES = {"workers": (1, 256), "budget": (0, MOST_BLOCKS), "slice": (1, MOST_BLOCKS), "seed": (0, WIDEST)}
+RANGES = {
+    "workers": (1, 256),
+    "round": (1, 2**20),
+    "budget": (0, MOST_BLOCKS),
+    "slice": (1, MOST_BLOCKS),
+    "seed": (0, WIDEST),
+}
 
 
 class Usage(Exception):
@@ -1370,7 +1376,7 @@ def ended(words, script):
         return b"", 2, b"codes: word %d refused\n" % refused.args[0]
     if command in ("resume", "check") or said.get("keep"):
         return None
-    session = Session(said.get("budget", BUDGET))
+    session = Session(said.get("budget", BUDGET), said.get("round", search.ROUND))
     if command == "summary":
         return (summary_line(session, said["seed"]) + "\n").encode(), 0, session.lines()
     text, status = text_and_status(script, session)

@@ -116,9 +116,9 @@ def weighed(field, n, rows, level):
     return words_of_level(field, n, rows, level), lambda word: sum(1 for a in word if a), list
 
 
-def search(q, n, rows, budget):
+def search(q, n, rows, budget, longest=ROUND):
     """Of independent rows, at least one: whether the distance is exact, the lower end, the weight, the word and the blocks; and
-    the records of the rounds: after each the blocks that are done, the bound and the least weight."""
+    the records of the rounds of at most `longest` blocks: after each the blocks that are done, the bound and the least weight."""
     field, k = Field(q), len(rows)
     sets = sets_of(field, n, rows)
     divisor = weights_divisor(field, sets)
@@ -133,7 +133,7 @@ def search(q, n, rows, budget):
             end = blocks + -(-comb(k, level) * (q - 1) ** (level - 1) // BLOCK)
             words, weigh, symbols = weighed(field, n, systematic, level)
             while blocks < min(end, budget, CUT):
-                last = min(end, budget, CUT, blocks + ROUND)
+                last = min(end, budget, CUT, blocks + longest)
                 for place, word in enumerate(islice(words, (last - blocks) * BLOCK), blocks * BLOCK):
                     weight = weigh(word)
                     if weight < best[0]:

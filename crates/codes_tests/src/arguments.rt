@@ -7,6 +7,7 @@ use std::test::Fail;
 const PLAIN: Settings = Settings {
     command: Command::Run,
     workers: 1,
+    round: 256,
     budget: 1_048_576,
     slice: None,
     keep: false,
@@ -14,11 +15,18 @@ const PLAIN: Settings = Settings {
 };
 
 // Command lines that are refused, and the index of the argument that is wrong or missing.
-const REFUSED: [(&str, usize); 20] = [
+const REFUSED: [(&str, usize); 27] = [
     ("", 0),
     ("walk", 0),
     ("run workers=0", 1),
     ("run workers=257", 1),
+    ("run round=0", 1),
+    ("run round=1048577", 1),
+    ("resume round=", 1),
+    ("resume round=+1", 1),
+    ("run round=7 workers=2 round=7", 3),
+    ("check round=7", 1),
+    ("summary round=7", 2),
     ("run budget=1099511627777", 1),
     ("run budget=+1", 1),
     ("run budget=01", 1),
@@ -65,8 +73,9 @@ fn refused_command_lines(rt: HostRuntime) -> Result<(), Fail> {
 
 #[test]
 fn accepted_runs(rt: HostRuntime) -> Result<(), Fail> {
-    let cases: [(&str, Settings); 4] = [
+    let cases: [(&str, Settings); 5] = [
         ("run", PLAIN),
+        ("run round=1", Settings { round: 1, ..PLAIN }),
         (
             "run budget=0 workers=256",
             Settings {
@@ -101,19 +110,21 @@ fn accepted_commands(rt: HostRuntime) -> Result<(), Fail> {
             },
         ),
         (
-            "resume slice=3 keep=yes",
+            "resume slice=3 keep=yes round=1048576",
             Settings {
                 command: Command::Resume,
+                round: 1_048_576,
                 slice: Some(3),
                 keep: true,
                 ..PLAIN
             },
         ),
         (
-            "summary workers=4 seed=18446744073709551615",
+            "summary workers=4 round=7 seed=18446744073709551615",
             Settings {
                 command: Command::Summary,
                 workers: 4,
+                round: 7,
                 number: 18_446_744_073_709_551_615,
                 ..PLAIN
             },

@@ -165,6 +165,28 @@ const CHAIN: [Session; 5] = [
     (&["resume"], GOLAY_TEXT, b""),
 ];
 
+// The sessions of a chain, each with another longest round.
+const ROUNDS: [Session; 3] = [
+    (
+        &["run", "slice=2", "keep=yes", "round=1"],
+        EMPTY,
+        b"codes: paused at query 0 blocks 2\n",
+    ),
+    (
+        &["resume", "round=7", "slice=3", "keep=yes", "workers=4"],
+        EMPTY,
+        b"codes: paused at query 0 blocks 5\n",
+    ),
+    (&["resume", "keep=yes", "round=1048576"], GOLAY_TEXT, b""),
+];
+
+#[test]
+fn each_session_has_a_longest_round_of_its_own(rt: HostRuntime) -> Result<(), Fail> {
+    let mut vault = MemoryVault::new(rt.alloc(), 512, &[])?;
+    assert!(rt; all_end(&rt, rt.alloc(), GOLAY, &mut vault, &ROUNDS)?);
+    Ok(())
+}
+
 #[test]
 fn slices_end_with_the_text(rt: HostRuntime) -> Result<(), Fail> {
     let mut vault = MemoryVault::new(rt.alloc(), 512, &[])?;

@@ -20,7 +20,7 @@ cannot_keep a c h e f k = f (subst (λ (x : Command). CanKeep (command_for x)) e
 pub check_reads : (a : Asked) → a.command ≡ command.Check → reads (command_for a.command) ≡ true
 check_reads a e = ap (λ (x : Command). reads (command_for x)) e
 
-pub check_asked : (a : Asked) → IsWithin a → a.command ≡ command.Check → settings_for a ≡ record { command = check; workers = a.workers; budget = a.budget; slice = None; keep = false; number = a.number }
+pub check_asked : (a : Asked) → IsWithin a → a.command ≡ command.Check → settings_for a ≡ record { command = check; workers = a.workers; round = a.round; budget = a.budget; slice = None; keep = false; number = a.number }
 check_asked a h e =
     let f = cannot_keep a command.Check h e (λ x. x) in
     let k = false_from_ne_true a.keep f in
@@ -28,7 +28,7 @@ check_asked a h e =
     let c = ap command_for e in
     cc
 
-pub summary_asked : (a : Asked) → IsWithin a → a.command ≡ command.Summary → settings_for a ≡ record { command = summary; workers = a.workers; budget = a.budget; slice = None; keep = false; number = a.number }
+pub summary_asked : (a : Asked) → IsWithin a → a.command ≡ command.Summary → settings_for a ≡ record { command = summary; workers = a.workers; round = a.round; budget = a.budget; slice = None; keep = false; number = a.number }
 summary_asked a h e =
     let f = cannot_keep a command.Summary h e (λ x. x) in
     let k = false_from_ne_true a.keep f in

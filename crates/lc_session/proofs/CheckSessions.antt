@@ -21,9 +21,9 @@ use Rattle.lc_checker.specs.Verdict.{reason_of}
 use Rattle.lc_checker.specs.declared.verdict.Reason as why
 use Rattle.lc_judge.specs.Judged.{judgment, IsAcceptedRead}
 
-module _ (args : List (List ℕ)) (workers budget number : ℕ) (accepted : options all_options args ≡ settings (record { command = check; workers = workers; budget = budget; slice = None; keep = false; number = number })) (now : Around) (old_source source : Option (List ℕ)) (old_source_faults source_faults : ℕ) (old_sink sink : Option (List ℕ)) (old_sink_faults sink_faults : ℕ) (bytes : List ℕ) (read : WasRead old_source source bytes) (quiet : source_faults ≡ old_source_faults) where
+module _ (args : List (List ℕ)) (workers round budget number : ℕ) (accepted : options all_options args ≡ settings (record { command = check; workers = workers; round = round; budget = budget; slice = None; keep = false; number = number })) (now : Around) (old_source source : Option (List ℕ)) (old_source_faults source_faults : ℕ) (old_sink sink : Option (List ℕ)) (old_sink_faults sink_faults : ℕ) (bytes : List ℕ) (read : WasRead old_source source bytes) (quiet : source_faults ≡ old_source_faults) where
   abbrev pub asked : Settings
-  asked = record { command = check; workers = workers; budget = budget; slice = None; keep = false; number = number }
+  asked = record { command = check; workers = workers; round = round; budget = budget; slice = None; keep = false; number = number }
 
   abbrev pub old : Outside
   old = outside_of old_source old_source_faults old_sink old_sink_faults now

@@ -171,4 +171,4 @@ refused_words args old i e = record {
 }
   where
     any_settings : Settings
-    any_settings = record { command = run; workers = 1; budget = 0; slice = None; keep = false; number = 0 }
+    any_settings = record { command = run; workers = 1; round = 256; budget = 0; slice = None; keep = false; number = 0 }

@@ -48,7 +48,7 @@ is_started_so asked held course d e h = subst (λ (x : Command). IsStarted x ask
 judges_so : (bytes : List ℕ) (c d : Command) → c ≡ d → Judges d bytes → Judges c bytes
 judges_so bytes c d e h = subst (λ (x : Command). Judges x bytes) (sym e) h
 
-module _ (args : List (List ℕ)) (asked : Settings) (old : Outside) (source : Option (List ℕ)) (source_faults : ℕ) (bytes : List ℕ) (held : Option Slots) (ready : IsReady args asked old source source_faults bytes held) (script : OneScript bytes) (one : OneStep built_calls) (sound : NoFault bytes) (small : asked.budget ≤ 2 ^ 40) (near : NearsHold built_calls bytes asked.budget) (c : Course) (now : Around) (sink : Option (List ℕ)) (sink_faults : ℕ) where
+module _ (args : List (List ℕ)) (asked : Settings) (old : Outside) (source : Option (List ℕ)) (source_faults : ℕ) (bytes : List ℕ) (held : Option Slots) (ready : IsReady args asked old source source_faults bytes held) (script : OneScript bytes) (one : OneStep built_calls) (sound : NoFault bytes) (small : asked.budget ≤ 2 ^ 40) (long : 1 ≤ asked.round) (near : NearsHold built_calls bytes asked.budget) (c : Course) (now : Around) (sink : Option (List ℕ)) (sink_faults : ℕ) where
   abbrev pub final : Outside
   final = outside_of source source_faults sink sink_faults now
 
@@ -78,12 +78,12 @@ module _ (args : List (List ℕ)) (asked : Settings) (old : Outside) (source : O
       as_status s (done (end_number t.ends)) (ap ending_of is)
       (done_session args asked old source source_faults bytes held ready afresh 0 c now t sink sink_faults h (whole_met bytes h.needs h.asks_all) (can_so (done (end_number t.ends)) asked.command run runs refl)
       (starts_so (done (end_number t.ends)) asked old.vault (course_of bytes afresh 0 h.needs h.told [] h.way.is_paused t.bytes.items t.ends) run runs (record { start = refl; turn = refl }))
-      (run_replies bytes script one sound asked small near old held 0 t c now h runs) (judges_so bytes asked.command run runs tt) written calm)
+      (run_replies bytes script one sound asked small long near old held 0 t c now h runs) (judges_so bytes asked.command run runs tt) written calm)
   run_written t s runs h (inr (is, written, risen)) =
       as_status s sink_fault (ap ending_of is)
       (unwritten_session args asked old source source_faults bytes held ready afresh 0 c now t sink sink_faults h (whole_met bytes h.needs h.asks_all) (can_so sink_fault asked.command run runs refl)
       (starts_so sink_fault asked old.vault (course_of bytes afresh 0 h.needs h.told [] h.way.is_paused t.bytes.items t.ends) run runs (record { start = refl; turn = refl }))
-      (run_replies bytes script one sound asked small near old held 0 t c now h runs) written risen)
+      (run_replies bytes script one sound asked small long near old held 0 t c now h runs) written risen)
 
   run_halted : (x : Halt) (s : Status) → asked.command ≡ run → EndsBefore (world asked bytes afresh 0 held old) bytes c now x → Closes (Err x) c old.sink sink old.sink_faults sink_faults s → IsSession built_calls args old final (ending_of s)
   run_halted (halt.Stop stop.Paused) s runs h (is, same, calm) =
@@ -116,7 +116,7 @@ module _ (args : List (List ℕ)) (asked : Settings) (old : Outside) (source : O
     its_course needs told left is_paused text faulty = course_of bytes (after p.version p.settled (current_of p)) turn needs told left is_paused text faulty
 
     taken_up : (needs : List Matrix) (told left : List SessionStep) (is_paused : Bool) (text : List ℕ) (faulty : Bool) → IsResumed asked old.vault (its_course needs told left is_paused text faulty)
-    taken_up needs told left is_paused text faulty = resumed bytes script one sound asked small near old held turn p found same_script turns needs told left is_paused text faulty
+    taken_up needs told left is_paused text faulty = resumed bytes script one sound asked small long near old held turn p found same_script turns needs told left is_paused text faulty
 
     may_be : (why : Stop) (needs : List Matrix) (told left : List SessionStep) (is_paused : Bool) → ((why ≡ stop.NoMemory) × (told ≡ [])) ⊎ (misfit divisor_of needs asked.budget (begins (after p.version p.settled (current_of p)) needs) ≡ None) → MayBeResumed asked old.vault (its_course needs told left is_paused [] false)
     may_be why needs told left is_paused (inl e) = inl e.1
@@ -130,12 +130,12 @@ module _ (args : List (List ℕ)) (asked : Settings) (old : Outside) (source : O
         as_status s (done (end_number t.ends)) (ap ending_of is)
         (done_session args asked old source source_faults bytes held ready (after p.version p.settled (current_of p)) turn c now t sink sink_faults h (whole_met bytes h.needs h.asks_all) (can_so (done (end_number t.ends)) asked.command resume resumes refl)
         (starts_resumed (done (end_number t.ends)) (its_course h.needs h.told [] h.way.is_paused t.bytes.items t.ends) (taken_up h.needs h.told [] h.way.is_paused t.bytes.items t.ends, h.fitting))
-        (resume_replies bytes script one sound asked small near old held turn p found same_script turns t c now h resumes) (judges_so bytes asked.command resume resumes tt) written calm)
+        (resume_replies bytes script one sound asked small long near old held turn p found same_script turns t c now h resumes) (judges_so bytes asked.command resume resumes tt) written calm)
     resume_written t s h (inr (is, written, risen)) =
         as_status s sink_fault (ap ending_of is)
         (unwritten_session args asked old source source_faults bytes held ready (after p.version p.settled (current_of p)) turn c now t sink sink_faults h (whole_met bytes h.needs h.asks_all) (can_so sink_fault asked.command resume resumes refl)
         (starts_resumed sink_fault (its_course h.needs h.told [] h.way.is_paused t.bytes.items t.ends) (taken_up h.needs h.told [] h.way.is_paused t.bytes.items t.ends, h.fitting))
-        (resume_replies bytes script one sound asked small near old held turn p found same_script turns t c now h resumes) written risen)
+        (resume_replies bytes script one sound asked small long near old held turn p found same_script turns t c now h resumes) written risen)
 
     resume_halted : (x : Halt) (s : Status) → EndsBefore over bytes c now x → Closes (Err x) c old.sink sink old.sink_faults sink_faults s → IsSession built_calls args old final (ending_of s)
     resume_halted (halt.Stop stop.Paused) s h (is, same, calm) =
@@ -156,7 +156,7 @@ module _ (args : List (List ℕ)) (asked : Settings) (old : Outside) (source : O
     resume_halted (halt.Unfit told found_there) s h (is, same, calm) =
         ends_as s (unfit c.met told found_there) (ap ending_of is) same calm
         (unfit_session args asked old source source_faults bytes held ready (after p.version p.settled (current_of p)) turn c now h.0 told found_there h.1 resumes h.2
-        (λ is_paused. starts_resumed (unfit c.met told found_there) (its_course h.0 [] (rounds_from over h.0).steps is_paused [] false) (resume_unfit bytes script one sound asked small near old held turn p found same_script turns c now h.0 told found_there is_paused h.1 h.2 h.3)))
+        (λ is_paused. starts_resumed (unfit c.met told found_there) (its_course h.0 [] (rounds_from over h.0).steps is_paused [] false) (resume_unfit bytes script one sound asked small long near old held turn p found same_script turns c now h.0 told found_there is_paused h.1 h.2 h.3)))
 
     pub resume_ends : (r : Result Text Halt) (s : Status) → MatchResult r (λ t. Prints over bytes t c now) (λ x. EndsBefore over bytes c now x) → Closes r c old.sink sink old.sink_faults sink_faults s → IsSession built_calls args old final (ending_of s)
     resume_ends (Ok t) s h closed = resume_written t s h closed

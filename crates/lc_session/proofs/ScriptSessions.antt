@@ -50,9 +50,9 @@ named_so digest budget p e = let a = and_parts (same_bytes p.script digest) (p.b
 abbrev Found : World → List ℕ → Result Text Halt → Course → Around → Type 0
 Found w bytes r c now = MatchResult r (λ t. Prints w bytes t c now) (λ x. EndsBefore w bytes c now x)
 
-same_world : (asked : Settings) (bytes digest : List ℕ) (b : Beginning) (turn : ℕ) (held : Option Slots) (faults : ℕ) (old : Outside) → digest ≡ sha256 bytes → faults ≡ old.vault_faults → started b asked.budget asked.slice asked.keep digest turn (around held faults old.watchers) ≡ world asked bytes b turn held old
+same_world : (asked : Settings) (bytes digest : List ℕ) (b : Beginning) (turn : ℕ) (held : Option Slots) (faults : ℕ) (old : Outside) → digest ≡ sha256 bytes → faults ≡ old.vault_faults → started b asked.budget asked.round asked.slice asked.keep digest turn (around held faults old.watchers) ≡ world asked bytes b turn held old
 same_world asked bytes digest b turn held faults old d f =
-    ap (λ (x : List ℕ). started b asked.budget asked.slice asked.keep x turn (around held faults old.watchers)) d ∙ ap (λ (n : ℕ). started b asked.budget asked.slice asked.keep (sha256 bytes) turn (around held n old.watchers)) f
+    ap (λ (x : List ℕ). started b asked.budget asked.round asked.slice asked.keep x turn (around held faults old.watchers)) d ∙ ap (λ (n : ℕ). started b asked.budget asked.round asked.slice asked.keep (sha256 bytes) turn (around held n old.watchers)) f
 
 begun_run : (asked : Settings) (old held : Option Slots) → asked.command ≡ run → WhereTold old held (λ before after. after ≡ empty_slots) → WhereTold old held (λ before now. now ≡ begin_with asked.command before)
 begun_run asked old held runs h = subst (λ (x : Command). WhereTold old held (λ before now. now ≡ begin_with x before)) (sym runs) h
@@ -61,29 +61,29 @@ begun_resume : (asked : Settings) (old : Option Slots) → asked.command ≡ res
 begun_resume asked old resumes = subst (λ (x : Command). WhereTold old old (λ before now. now ≡ begin_with x before)) (sym resumes) (WhereTold-refl old (λ before now. now ≡ before) (λ a. refl))
 
 pub run_session_of : (args : List (List ℕ)) (asked : Settings) (old : Outside) (source : Option (List ℕ)) (source_faults : ℕ) (bytes given : List ℕ) (held : Option Slots) (faults : ℕ) (first last : Course) (digest : List ℕ) (r : Result Text Halt) (now : Around) (sink : Option (List ℕ)) (sink_faults : ℕ) (s : Status)
-    → options all_options args ≡ settings asked → asked.command ≡ run → asked.budget ≤ 2 ^ 40 → WasRead old.source source bytes → source_faults ≡ old.source_faults
+    → options all_options args ≡ settings asked → asked.command ≡ run → asked.budget ≤ 2 ^ 40 → 1 ≤ asked.round → WasRead old.source source bytes → source_faults ≡ old.source_faults
     → (asked.keep ≡ true → WhereTold old.vault held (λ before after. after ≡ empty_slots)) → (asked.keep ≡ false → held ≡ old.vault) → faults ≡ old.vault_faults → digest ≡ sha256 bytes
-    → Goes (started afresh asked.budget asked.slice asked.keep digest 0 (around held faults old.watchers)) [] [] first (around held faults old.watchers)
+    → Goes (started afresh asked.budget asked.round asked.slice asked.keep digest 0 (around held faults old.watchers)) [] [] first (around held faults old.watchers)
     → ((w : World) → Goes w [] [] first (around held faults old.watchers) → MatchResult r (λ t. Prints w given t last now) (λ x. EndsBefore w given last now x)) → given ≡ bytes
     → Closes r last old.sink sink old.sink_faults sink_faults s → IsSession built_calls args old (outside_of source source_faults sink sink_faults now) (ending_of s)
-run_session_of args asked old source source_faults bytes given held faults first last digest r now sink sink_faults s accepted runs small read quiet begun unkept calm hashed goes found same_given closed =
-    let w = started afresh asked.budget asked.slice asked.keep digest 0 (around held faults old.watchers) in
+run_session_of args asked old source source_faults bytes given held faults first last digest r now sink sink_faults s accepted runs small long read quiet begun unkept calm hashed goes found same_given closed =
+    let w = started afresh asked.budget asked.round asked.slice asked.keep digest 0 (around held faults old.watchers) in
     let same : w ≡ world asked bytes afresh 0 held old = same_world asked bytes digest afresh 0 held faults old hashed calm in
     let ready : IsReady args asked old source source_faults bytes held = record { accepted = accepted; searches = inl runs; read = read; quiet = quiet; begun = λ k. begun_run asked old.vault held runs (begun k); unkept = unkept } in
-    run_ends args asked old source source_faults bytes held ready (one_script bytes) one_step_built (no_both bytes) small (nears_true built_calls bytes asked.budget) last now sink sink_faults r s runs (subst (λ (b : List ℕ). Found (world asked bytes afresh 0 held old) b r last now) same_given (subst (λ (x : World). Found x given r last now) same (found w goes))) closed
+    run_ends args asked old source source_faults bytes held ready (one_script bytes) one_step_built (no_both bytes) small long (nears_true built_calls bytes asked.budget) last now sink sink_faults r s runs (subst (λ (b : List ℕ). Found (world asked bytes afresh 0 held old) b r last now) same_given (subst (λ (x : World). Found x given r last now) same (found w goes))) closed
 
 pub resume_session_of : (args : List (List ℕ)) (asked : Settings) (old : Outside) (source : Option (List ℕ)) (source_faults : ℕ) (bytes given : List ℕ) (held : Option Slots) (faults : ℕ) (p : Checkpoint) (first last : Course) (r : Result Text Halt) (now : Around) (sink : Option (List ℕ)) (sink_faults : ℕ) (s : Status)
-    → options all_options args ≡ settings asked → asked.command ≡ resume → asked.budget ≤ 2 ^ 40 → WasRead old.source source bytes → source_faults ≡ old.source_faults
+    → options all_options args ≡ settings asked → asked.command ≡ resume → asked.budget ≤ 2 ^ 40 → 1 ≤ asked.round → WasRead old.source source bytes → source_faults ≡ old.source_faults
     → held ≡ old.vault → faults ≡ old.vault_faults → Finds old.vault (takes p) → IsTrue (is_for (sha256 bytes) asked.budget p)
-    → Goes (started (after p.version p.settled (current_of p)) p.budget asked.slice asked.keep p.script (next_turn p.turn) (around held faults old.watchers)) [] [] first (around held faults old.watchers)
+    → Goes (started (after p.version p.settled (current_of p)) p.budget asked.round asked.slice asked.keep p.script (next_turn p.turn) (around held faults old.watchers)) [] [] first (around held faults old.watchers)
     → ((w : World) → Goes w [] [] first (around held faults old.watchers) → MatchResult r (λ t. Prints w given t last now) (λ x. EndsBefore w given last now x)) → given ≡ bytes
     → Closes r last old.sink sink old.sink_faults sink_faults s → IsSession built_calls args old (outside_of source source_faults sink sink_faults now) (ending_of s)
-resume_session_of args asked old source source_faults bytes given held faults p first last r now sink sink_faults s accepted resumes small read quiet same_slots calm taken named goes found same_given closed =
+resume_session_of args asked old source source_faults bytes given held faults p first last r now sink sink_faults s accepted resumes small long read quiet same_slots calm taken named goes found same_given closed =
     let names = named_so (sha256 bytes) asked.budget p named in
     let b = after p.version p.settled (current_of p) in
-    let w = started b p.budget asked.slice asked.keep p.script (next_turn p.turn) (around held faults old.watchers) in
+    let w = started b p.budget asked.round asked.slice asked.keep p.script (next_turn p.turn) (around held faults old.watchers) in
     let same : w ≡ world asked bytes b (next_turn p.turn) old.vault old =
-    ap (λ (n : ℕ). started b n asked.slice asked.keep p.script (next_turn p.turn) (around held faults old.watchers)) names.1 ∙ same_world asked bytes p.script b (next_turn p.turn) held faults old names.0 calm
+    ap (λ (n : ℕ). started b n asked.round asked.slice asked.keep p.script (next_turn p.turn) (around held faults old.watchers)) names.1 ∙ same_world asked bytes p.script b (next_turn p.turn) held faults old names.0 calm
     ∙ ap (λ (o : Option Slots). world asked bytes b (next_turn p.turn) o old) same_slots in
     let ready : IsReady args asked old source source_faults bytes old.vault = record { accepted = accepted; searches = inr resumes; read = read; quiet = quiet; begun = λ k. begun_resume asked old.vault resumes; unkept = λ k. refl } in
-    resume_ends args asked old source source_faults bytes old.vault ready (one_script bytes) one_step_built (no_both bytes) small (nears_true built_calls bytes asked.budget) last now sink sink_faults p taken named (next_turn p.turn) refl resumes r s (subst (λ (d : List ℕ). Found (world asked bytes b (next_turn p.turn) old.vault old) d r last now) same_given (subst (λ (x : World). Found x given r last now) same (found w goes))) closed
+    resume_ends args asked old source source_faults bytes old.vault ready (one_script bytes) one_step_built (no_both bytes) small long (nears_true built_calls bytes asked.budget) last now sink sink_faults p taken named (next_turn p.turn) refl resumes r s (subst (λ (d : List ℕ). Found (world asked bytes b (next_turn p.turn) old.vault old) d r last now) same_given (subst (λ (x : World). Found x given r last now) same (found w goes))) closed

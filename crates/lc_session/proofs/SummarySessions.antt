@@ -51,32 +51,32 @@ pub code_rows : (number : ℕ) → 0 < length (summary_code number).rows
 unfolding summary_code
 code_rows number = (let e = count_rows 0 (generator_words 24 (seeded number)) ∙ many_words 24 (seeded number) in omega (arith, e))
 
-none_current : (version budget : ℕ) (slice : Option ℕ) (needs : List Matrix) (told : List SessionStep) (settled : List Progress) (left : Option ℕ) (past : List Progress) (o : Option Progress) → Stands afresh version budget slice needs told settled left past o → is_some o ≡ false
-none_current version budget slice needs told settled left past (Some s) h = absurd (let e = h.begun in cc)
-none_current version budget slice needs told settled left past None h = refl
+none_current : (version budget longest : ℕ) (slice : Option ℕ) (needs : List Matrix) (told : List SessionStep) (settled : List Progress) (left : Option ℕ) (past : List Progress) (o : Option Progress) → Stands afresh version budget longest slice needs told settled left past o → is_some o ≡ false
+none_current version budget longest slice needs told settled left past (Some s) h = absurd (let e = h.begun in cc)
+none_current version budget longest slice needs told settled left past None h = refl
 
 unmapped : {A B : Type 0} (f : A → B) (o : Option A) → is_some (option_map f o) ≡ false → is_some o ≡ false
 unmapped f None e = refl
 unmapped f (Some s) e = absurd (let g = e in cc)
 
-module _ (number budget : ℕ) (small : budget ≤ 2 ^ 40) (digest : List ℕ) (first : Around) where
+module _ (number budget longest : ℕ) (small : budget ≤ 2 ^ 40) (long : 1 ≤ longest) (digest : List ℕ) (first : Around) where
   abbrev pub code : Matrix
   code = summary_code number
 
   abbrev pub the_world : World
-  the_world = started afresh budget None false digest 0 first
+  the_world = started afresh budget longest None false digest 0 first
 
   evened : (a : Answer) (c : Course) (now : Around) → Goes the_world (code ∷ []) (a ∷ []) c now → IsEven the_world (code ∷ []) (a ∷ []) c now
-  evened a c now h = even the_world (code ∷ []) (a ∷ []) c now (unmapped settled_of c.current (none_current c.version budget None (code ∷ []) h.told (settled_in c) c.pace.slice h.done (option_map settled_of c.current) h.stands)) h
+  evened a c now h = even the_world (code ∷ []) (a ∷ []) c now (unmapped settled_of c.current (none_current c.version budget longest None (code ∷ []) h.told (settled_in c) c.pace.slice h.done (option_map settled_of c.current) h.stands)) h
 
   some_rows : HaveRows (code ∷ [])
   some_rows = All-cons (λ (C : Matrix). 0 < length C.rows) code [] (code_rows number) (All-nil (λ (C : Matrix). 0 < length C.rows))
 
   answer_is : (a : Answer) (c : Course) (now : Around) (e : IsEven the_world (code ∷ []) (a ∷ []) c now) → a ≡ answer (divisor_of code) code budget
   answer_is a c now e =
-      let r = session_rounds divisor_of (code ∷ []) budget None fresh_start in
+      let r = session_rounds divisor_of (code ∷ []) budget longest None fresh_start in
       let unstopped : r.is_stopped ≡ false = ap (λ (x : SessionRounds). x.is_stopped) e.rounds_are in
-      let settles = session_settles divisor_of (code ∷ []) budget None fresh_start some_rows small (fresh_is_true divisor_of (code ∷ []) budget) unstopped in
+      let settles = session_settles divisor_of (code ∷ []) budget longest None fresh_start some_rows small long (fresh_is_true divisor_of (code ∷ []) budget) unstopped in
       let states : r.settled ≡ settled_in c = ap (λ (x : SessionRounds). x.settled) e.rounds_are in
       let all : a ∷ [] ≡ answers_of (code ∷ []) budget = answers_are budget (code ∷ []) (settled_in c) (a ∷ []) (subst (λ (l : List Progress). AreSettled divisor_of budget (code ∷ []) l) states settles) e.answered.settle in
       (let f = all in cc)
@@ -85,23 +85,23 @@ module _ (number budget : ℕ) (small : budget ≤ 2 ^ 40) (digest : List ℕ) (
   unfolding query_line
   line_is a e = ap (answer_line distance code) e
 
-  pub rounds_told : (a : Answer) (c : Course) (now : Around) (e : IsEven the_world (code ∷ []) (a ∷ []) c now) → c.pace.told ≡ round_count code budget
+  pub rounds_told : (a : Answer) (c : Course) (now : Around) (e : IsEven the_world (code ∷ []) (a ∷ []) c now) → c.pace.told ≡ round_count code budget longest
   unfolding round_count records
   rounds_told a c now e =
-      let steps : (session_rounds divisor_of (code ∷ []) budget None fresh_start).steps ≡ e.told = ap (λ (x : SessionRounds). x.steps) e.rounds_are in
-      e.way.count ∙ ap (λ (l : List SessionStep). length l) (sym steps) ∙ sym (length-map (session_rounds divisor_of (code ∷ []) budget None fresh_start).steps (λ (s : SessionStep). s.note))
+      let steps : (session_rounds divisor_of (code ∷ []) budget longest None fresh_start).steps ≡ e.told = ap (λ (x : SessionRounds). x.steps) e.rounds_are in
+      e.way.count ∙ ap (λ (l : List SessionStep). length l) (sym steps) ∙ sym (length-map (session_rounds divisor_of (code ∷ []) budget longest None fresh_start).steps (λ (s : SessionStep). s.note))
 
   -- the text of the summary
-  pub text_is : (a : Answer) (c : Course) (now : Around) (line text : List ℕ) → Goes the_world (code ∷ []) (a ∷ []) c now → line ≡ answer_line distance code a → ((b : ℕ) → line ≡ query_line distance code b → c.pace.told ≡ round_count code b → text ≡ summary_text number b) → text ≡ summary_text number budget
+  pub text_is : (a : Answer) (c : Course) (now : Around) (line text : List ℕ) → Goes the_world (code ∷ []) (a ∷ []) c now → line ≡ answer_line distance code a → ((b l : ℕ) → line ≡ query_line distance code b → c.pace.told ≡ round_count code b l → text ≡ summary_text number b l) → text ≡ summary_text number budget longest
   text_is a c now line text h l f =
       let e = evened a c now h in
-      f budget (l ∙ line_is a (answer_is a c now e)) (rounds_told a c now e)
+      f budget longest (l ∙ line_is a (answer_is a c now e)) (rounds_told a c now e)
 
   -- ---- the session
 
   module _ (args : List (List ℕ)) (workers : ℕ) (source : Option (List ℕ)) (source_faults : ℕ) (sink : Option (List ℕ)) (sink_faults : ℕ) where
     abbrev pub asked : Settings
-    asked = record { command = summary; workers = workers; budget = budget; slice = None; keep = false; number = number }
+    asked = record { command = summary; workers = workers; round = longest; budget = budget; slice = None; keep = false; number = number }
 
     abbrev pub old : Outside
     old = outside_of source source_faults sink sink_faults first
@@ -123,10 +123,10 @@ module _ (number budget : ℕ) (small : budget ≤ 2 ^ 40) (digest : List ℕ) (
       abbrev pub went : List SessionStep → Bool → List ℕ → session.Course
       went told is_paused text = record { bytes = []; needs = code ∷ []; start = fresh_start; turn = 0; told = told; left = []; is_paused = is_paused; text = text; is_faulty = false }
 
-      replies : (a : Answer) (text : List ℕ) (h : Goes the_world (code ∷ []) (a ∷ []) c now) → text ≡ summary_text number budget → Replies built_calls summary asked first.vault (went (evened a c now h).told (evened a c now h).way.is_paused text)
+      replies : (a : Answer) (text : List ℕ) (h : Goes the_world (code ∷ []) (a ∷ []) c now) → text ≡ summary_text number budget longest → Replies built_calls summary asked first.vault (went (evened a c now h).told (evened a c now h).way.is_paused text)
       replies a text h is = (is, refl, refl, All-head (λ (C : Matrix). AnswerHolds C (answer (divisor_of C) C budget)) code [] h.answered.truth)
 
-      pub summary_done : (a : Answer) (text : List ℕ) (h : Goes the_world (code ∷ []) (a ∷ []) c now) → text ≡ summary_text number budget → Appends sink taken text → taken_faults ≡ sink_faults → IsSession built_calls args old new (done 0)
+      pub summary_done : (a : Answer) (text : List ℕ) (h : Goes the_world (code ∷ []) (a ∷ []) c now) → text ≡ summary_text number budget longest → Appends sink taken text → taken_faults ≡ sink_faults → IsSession built_calls args old new (done 0)
       summary_done a text h is written calm =
           let e = evened a c now h in
           record {
@@ -146,7 +146,7 @@ module _ (number budget : ℕ) (small : budget ≤ 2 ^ 40) (digest : List ℕ) (
             counted = record { source = refl; sink = calm; vault = e.way.quiet };
           }
 
-      pub summary_unwritten : (a : Answer) (text : List ℕ) (h : Goes the_world (code ∷ []) (a ∷ []) c now) → text ≡ summary_text number budget → AppendsPart sink taken text → HasRisen sink_faults taken_faults → IsSession built_calls args old new sink_fault
+      pub summary_unwritten : (a : Answer) (text : List ℕ) (h : Goes the_world (code ∷ []) (a ∷ []) c now) → text ≡ summary_text number budget longest → AppendsPart sink taken text → HasRisen sink_faults taken_faults → IsSession built_calls args old new sink_fault
       summary_unwritten a text h is written risen =
           let e = evened a c now h in
           record {
@@ -211,14 +211,14 @@ module _ (number budget : ℕ) (small : budget ≤ 2 ^ 40) (digest : List ℕ) (
       with_code : (C : Matrix) (a : Answer) → C ≡ code → Goes the_world (C ∷ []) (a ∷ []) c now → Goes the_world (code ∷ []) (a ∷ []) c now
       with_code C a is h = subst (λ (x : Matrix). Goes the_world (x ∷ []) (a ∷ []) c now) is h
 
-      text_so : (C : Matrix) (a : Answer) (line text : List ℕ) → C ≡ code → Goes the_world (C ∷ []) (a ∷ []) c now → line ≡ answer_line distance C a → ((b : ℕ) → line ≡ query_line distance code b → c.pace.told ≡ round_count code b → text ≡ summary_text number b) → text ≡ summary_text number budget
+      text_so : (C : Matrix) (a : Answer) (line text : List ℕ) → C ≡ code → Goes the_world (C ∷ []) (a ∷ []) c now → line ≡ answer_line distance C a → ((b l : ℕ) → line ≡ query_line distance code b → c.pace.told ≡ round_count code b l → text ≡ summary_text number b l) → text ≡ summary_text number budget longest
       text_so C a line text is h l f = text_is a c now line text (with_code C a is h) (l ∙ ap (λ (x : Matrix). answer_line distance x a) is) f
 
-      pub written_so : (C : Matrix) (a : Answer) (line text : List ℕ) → C ≡ code → Goes the_world (C ∷ []) (a ∷ []) c now → line ≡ answer_line distance C a → ((b : ℕ) → line ≡ query_line distance code b → c.pace.told ≡ round_count code b → text ≡ summary_text number b)
+      pub written_so : (C : Matrix) (a : Answer) (line text : List ℕ) → C ≡ code → Goes the_world (C ∷ []) (a ∷ []) c now → line ≡ answer_line distance C a → ((b l : ℕ) → line ≡ query_line distance code b → c.pace.told ≡ round_count code b l → text ≡ summary_text number b l)
           → Appends sink taken text → taken_faults ≡ sink_faults → IsSession built_calls args old new (done 0)
       written_so C a line text is h l f written calm = summary_done a text (with_code C a is h) (text_so C a line text is h l f) written calm
 
-      pub unwritten_so : (C : Matrix) (a : Answer) (line text : List ℕ) → C ≡ code → Goes the_world (C ∷ []) (a ∷ []) c now → line ≡ answer_line distance C a → ((b : ℕ) → line ≡ query_line distance code b → c.pace.told ≡ round_count code b → text ≡ summary_text number b)
+      pub unwritten_so : (C : Matrix) (a : Answer) (line text : List ℕ) → C ≡ code → Goes the_world (C ∷ []) (a ∷ []) c now → line ≡ answer_line distance C a → ((b l : ℕ) → line ≡ query_line distance code b → c.pace.told ≡ round_count code b l → text ≡ summary_text number b l)
           → AppendsPart sink taken text → HasRisen sink_faults taken_faults → IsSession built_calls args old new sink_fault
       unwritten_so C a line text is h l f written risen = summary_unwritten a text (with_code C a is h) (text_so C a line text is h l f) written risen
 
@@ -229,7 +229,7 @@ module _ (number budget : ℕ) (small : budget ≤ 2 ^ 40) (digest : List ℕ) (
       halted_so C x is h same calm = summary_halted x (subst (λ (y : Matrix). Halts the_world [] y c now x) is h) same calm
 
 -- memory was refused before its search
-pub summary_unstarted : (args : List (List ℕ)) (workers budget number : ℕ) (old : Outside) → options all_options args ≡ settings (record { command = summary; workers = workers; budget = budget; slice = None; keep = false; number = number }) → IsSession built_calls args old old (no_memory 0)
-summary_unstarted args workers budget number old accepted =
-    let asked : Settings = record { command = summary; workers = workers; budget = budget; slice = None; keep = false; number = number } in
+pub summary_unstarted : (args : List (List ℕ)) (workers longest budget number : ℕ) (old : Outside) → options all_options args ≡ settings (record { command = summary; workers = workers; round = longest; budget = budget; slice = None; keep = false; number = number }) → IsSession built_calls args old old (no_memory 0)
+summary_unstarted args workers longest budget number old accepted =
+    let asked : Settings = record { command = summary; workers = workers; round = longest; budget = budget; slice = None; keep = false; number = number } in
     early args asked old old [] (no_memory 0) accepted (λ i e. cc) refl refl (record { start = refl; turn = refl }) (refl, λ e. refl) refl refl tt refl (record { source = refl; sink = refl; vault = refl })

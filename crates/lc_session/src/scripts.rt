@@ -16,11 +16,10 @@ use crate::input::{InputRefusal, input};
 use crate::status::Status;
 use lc_arguments::{Command, Settings};
 use lc_io::{Failed, Gate, Sink, Source, Vault, Watcher, write_whole};
-use lc_rounds::{Course, Halt, Stop, afresh, resumed};
+use lc_rounds::{Course, Crew, Halt, Stop, afresh, resumed};
 use lc_session_rules::needs::needs_take_bytes;
 use lc_slots::{Found, LoadRefusal, chosen, digest, emptied, is_for};
 use lc_text::{Text, script_text};
-use std::alloc::Global;
 use std::thread::Threads;
 
 // How a session ends before its script.
@@ -79,14 +78,12 @@ fn cleared<V: Vault>(vault: &mut V, keep: bool) -> Result<(), Failed>
 /// The session of `run`: reads a script, empties the slots if checkpoints are kept, and writes the text of the script. It
 /// doesn't end for want of memory if the source gives no byte.
 pub(crate) fn run<R: Threads + Sync, S: Source, K: Sink, V: Vault, W: Watcher, G: Gate + Sync>(
-    rt: &R,
-    alloc: Global,
+    crew: &Crew<'_, R, G>,
     asked: Settings,
     source: &mut S,
     sink: &mut K,
     vault: &mut V,
     watchers: &mut Vec<W>,
-    gate: &G,
 ) -> Status
     requires within { IsWithin asked }
     requires runs { asked.command ≡ Command.Run }
@@ -99,7 +96,7 @@ pub(crate) fn run<R: Threads + Sync, S: Source, K: Sink, V: Vault, W: Watcher, G
         (map (hearing W.heard W.coming W.pauses) watchers.new.items))) (ending_of result) }
     ensures nothing { S.rest source.old ≡ Some [] → (told : ℕ) → result ≢ Status.NoMemory told }
 {
-    let bytes = match input(alloc, source) {
+    let bytes = match input(crew.alloc, source) {
         Ok(bytes) => bytes,
         Err(InputRefusal::Failed) => return Status::SourceFault,
         Err(InputRefusal::TooLong) => return Status::TooLong,
@@ -111,30 +108,26 @@ pub(crate) fn run<R: Threads + Sync, S: Source, K: Sink, V: Vault, W: Watcher, G
     }
     // A script of so many bytes asks for fewer than 70,000 searches.
     needs_take_bytes();
-    let mut course = afresh(alloc, asked.keep, asked.slice, asked.budget, digest(&bytes));
-    let found = script_text(
-        rt,
-        alloc,
-        asked.workers,
-        gate,
-        vault,
-        watchers,
-        &mut course,
-        &bytes,
+    let mut course = afresh(
+        crew.alloc,
+        asked.keep,
+        asked.round,
+        asked.slice,
+        asked.budget,
+        digest(&bytes),
     );
+    let found = script_text(crew, vault, watchers, &mut course, &bytes);
     closed(sink, &course, found)
 }
 
 /// The session of `resume`: reads a script, takes the checkpoint that goes on, and writes the text of the script.
 pub(crate) fn resume<R: Threads + Sync, S: Source, K: Sink, V: Vault, W: Watcher, G: Gate + Sync>(
-    rt: &R,
-    alloc: Global,
+    crew: &Crew<'_, R, G>,
     asked: Settings,
     source: &mut S,
     sink: &mut K,
     vault: &mut V,
     watchers: &mut Vec<W>,
-    gate: &G,
 ) -> Status
     requires within { IsWithin asked }
     requires resumes { asked.command ≡ Command.Resume }
@@ -146,13 +139,13 @@ pub(crate) fn resume<R: Threads + Sync, S: Source, K: Sink, V: Vault, W: Watcher
         (around (V.contents vault.new) (V.faults vault.new)
         (map (hearing W.heard W.coming W.pauses) watchers.new.items))) (ending_of result) }
 {
-    let bytes = match input(alloc, source) {
+    let bytes = match input(crew.alloc, source) {
         Ok(bytes) => bytes,
         Err(InputRefusal::Failed) => return Status::SourceFault,
         Err(InputRefusal::TooLong) => return Status::TooLong,
         Err(InputRefusal::NoMemory) => return Status::NoMemory { told: 0 },
     };
-    let point = match chosen(alloc, vault) {
+    let point = match chosen(crew.alloc, vault) {
         Ok(Found::Taken(point)) => point,
         Ok(Found::Nothing) => return Status::NoCheckpoint,
         Ok(Found::Damaged) => return Status::DamagedCheckpoint,
@@ -167,16 +160,7 @@ pub(crate) fn resume<R: Threads + Sync, S: Source, K: Sink, V: Vault, W: Watcher
     }
     // A script of so many bytes asks for fewer than 70,000 searches.
     needs_take_bytes();
-    let mut course = resumed(asked.keep, asked.slice, point);
-    let found = script_text(
-        rt,
-        alloc,
-        asked.workers,
-        gate,
-        vault,
-        watchers,
-        &mut course,
-        &bytes,
-    );
+    let mut course = resumed(asked.keep, asked.round, asked.slice, point);
+    let found = script_text(crew, vault, watchers, &mut course, &bytes);
     closed(sink, &course, found)
 }

@@ -16,6 +16,7 @@ use crate::status::Status;
 use crate::summary::summary;
 use lc_arguments::{Command, OptionRefusal, options};
 use lc_io::{Gate, Sink, Source, Vault, Watcher};
+use lc_rounds::Crew;
 use std::alloc::Global;
 use std::thread::Threads;
 
@@ -45,11 +46,17 @@ fn session<R: Threads + Sync, S: Source, K: Sink, V: Vault, W: Watcher, G: Gate 
         Err(OptionRefusal::Usage(index)) => return Status::Usage(index),
         Err(OptionRefusal::NoMemory) => return Status::NoMemory { told: 0 },
     };
+    let crew = Crew {
+        rt,
+        alloc,
+        workers: asked.workers,
+        gate,
+    };
     match asked.command {
-        Command::Run => run(rt, alloc, asked, source, sink, vault, watchers, gate),
-        Command::Resume => resume(rt, alloc, asked, source, sink, vault, watchers, gate),
+        Command::Run => run(&crew, asked, source, sink, vault, watchers),
+        Command::Resume => resume(&crew, asked, source, sink, vault, watchers),
         Command::Check => check(alloc, asked, source, sink),
-        Command::Summary => summary(rt, alloc, asked, sink, vault, watchers, gate),
+        Command::Summary => summary(&crew, asked, sink, vault, watchers),
     }
 }
 
@@ -60,8 +67,9 @@ fn session<R: Threads + Sync, S: Source, K: Sink, V: Vault, W: Watcher, G: Gate 
 /// to the sink: a line for each value and each answer, and a fault line if the script or a statement
 /// is refused, which ends the text. After the command there may be `workers=N`, N from 1 to 256, for
 /// the workers of a search; `budget=N`, N at most 2^40, for the blocks of 4,096 words that a search may
-/// take, 2^20 without it; `keep=yes` or `keep=no`; and with `keep=yes` `slice=N`, N from 1 to 2^40, for
-/// the blocks that the session may take. They come in any order, each at most once.
+/// take, 2^20 without it; `round=N`, N from 1 to 2^20, for the blocks that a round of a search may take,
+/// 256 without it; `keep=yes` or `keep=no`; and with `keep=yes` `slice=N`, N from 1 to 2^40, for the
+/// blocks that the session may take. They come in any order, each at most once.
 ///
 /// After each round of a search the watchers hear its record. With `keep=yes` a checkpoint is stored
 /// before, in slot zero and slot one by turns, and the session pauses once a watcher asks for it or the
@@ -70,7 +78,7 @@ fn session<R: Threads + Sync, S: Source, K: Sink, V: Vault, W: Watcher, G: Gate 
 ///
 /// `check`, alone, reads a certificate of at most 1,048,576 bytes, and writes a line that says whether
 /// it proves its distance, or the first reason for which it is rejected. `summary seed=N`, after which
-/// there may be `workers=N` and `budget=N`, reads nothing, and writes the line of a code of length 48.
+/// there may be `workers=N`, `round=N` and `budget=N`, reads nothing, and writes the line of a code of length 48.
 ///
 /// Nothing is written unless the whole text is ready. `run` of an empty script
 /// does not end for want of memory. The contract of a session is `IsSession` of `lc_session_rules`: what is read,

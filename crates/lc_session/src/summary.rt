@@ -13,21 +13,18 @@ use crate::status::Status;
 use lc_arguments::{Command, Settings};
 use lc_eval::QueryKind;
 use lc_io::{Gate, Sink, Vault, Watcher, write_whole};
-use lc_rounds::afresh;
+use lc_rounds::{Crew, afresh};
 use lc_summary::{summary_code, summary_line};
 use lc_text::need_line;
-use std::alloc::Global;
 use std::thread::Threads;
 
 /// The session of `summary`: writes the line of the code of a seed. It reads nothing, and leaves the vault as it is.
 pub(crate) fn summary<R: Threads + Sync, K: Sink, V: Vault, W: Watcher, G: Gate + Sync>(
-    rt: &R,
-    alloc: Global,
+    crew: &Crew<'_, R, G>,
     asked: Settings,
     sink: &mut K,
     vault: &mut V,
     watchers: &mut Vec<W>,
-    gate: &G,
 ) -> Status
     requires within { IsWithin asked }
     requires sums { asked.command ≡ Command.Summary }
@@ -40,15 +37,12 @@ pub(crate) fn summary<R: Threads + Sync, K: Sink, V: Vault, W: Watcher, G: Gate 
         (around (V.contents vault.new) (V.faults vault.new)
         (map (hearing W.heard W.coming W.pauses) watchers.new.items))) (ending_of result) }
 {
-    let Ok(code) = summary_code(alloc, asked.number) else {
+    let Ok(code) = summary_code(crew.alloc, asked.number) else {
         return Status::NoMemory { told: 0 };
     };
-    let mut course = afresh(alloc, false, None, asked.budget, [0; 32]);
+    let mut course = afresh(crew.alloc, false, asked.round, None, asked.budget, [0; 32]);
     let line = match need_line(
-        rt,
-        alloc,
-        asked.workers,
-        gate,
+        crew,
         vault,
         watchers,
         &mut course,
@@ -63,7 +57,7 @@ pub(crate) fn summary<R: Threads + Sync, K: Sink, V: Vault, W: Watcher, G: Gate 
         }
     };
     let told = course.pace.told;
-    let Ok(text) = summary_line(alloc, asked.number, &line, told) else {
+    let Ok(text) = summary_line(crew.alloc, asked.number, &line, told) else {
         return Status::NoMemory { told };
     };
     match write_whole(sink, &text) {

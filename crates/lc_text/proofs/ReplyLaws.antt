@@ -46,8 +46,8 @@ pub whole_met : (bytes : List ℕ) (needs : List Matrix) → IsNeeds built_calls
 whole_met bytes needs all =
     ⊎_elim (λ (a : (ss : List Statement) × Reads bytes ss × Needs built_calls [] ss needs). met_whole built_calls bytes a.0 needs a.1 a.2) (λ (a : (fault : Fault) × IsFault bytes fault × (needs ≡ [])). inl a.2) all
 
-module _ (bytes : List ℕ) (script : OneScript bytes) (one : OneStep built_calls) (sound : NoFault bytes) (asked : Settings) (small : asked.budget ≤ 2 ^ 40) (near : NearsHold built_calls bytes asked.budget) (old : Outside) (held : Option Slots) (turn : ℕ) where
-  settled_so : (t : Text) (c : Course) (now : Around) (b : Beginning) (h : Prints (world asked bytes b turn held old) bytes t c now) → Settle asked.budget h.needs (session_rounds divisor_of h.needs asked.budget asked.slice (begins b h.needs)).settled h.answers
+module _ (bytes : List ℕ) (script : OneScript bytes) (one : OneStep built_calls) (sound : NoFault bytes) (asked : Settings) (small : asked.budget ≤ 2 ^ 40) (long : 1 ≤ asked.round) (near : NearsHold built_calls bytes asked.budget) (old : Outside) (held : Option Slots) (turn : ℕ) where
+  settled_so : (t : Text) (c : Course) (now : Around) (b : Beginning) (h : Prints (world asked bytes b turn held old) bytes t c now) → Settle asked.budget h.needs (session_rounds divisor_of h.needs asked.budget asked.round asked.slice (begins b h.needs)).settled h.answers
   settled_so t c now b h = subst (λ (l : List Progress). Settle asked.budget h.needs l h.answers) (sym (ap (λ (r : SessionRounds). r.settled) h.rounds_are)) h.answered.settle
 
   script_text_of : (t : Text) (c : Course) (now : Around) (b : Beginning) (h : Prints (world asked bytes b turn held old) bytes t c now) (left : List SessionStep) → h.answers ≡ answers_of h.needs asked.budget → IsScriptText built_calls asked (course_of bytes b turn h.needs h.told left h.way.is_paused t.bytes.items t.ends)
@@ -59,7 +59,7 @@ module _ (bytes : List ℕ) (script : OneScript bytes) (one : OneStep built_call
 
   pub run_replies : (t : Text) (c : Course) (now : Around) (h : Prints (world asked bytes afresh turn held old) bytes t c now) → asked.command ≡ run → Replies built_calls asked.command asked old.vault (course_of bytes afresh turn h.needs h.told [] h.way.is_paused t.bytes.items t.ends)
   run_replies t c now h runs =
-      let same : h.answers ≡ answers_of h.needs asked.budget = fresh_answers built_calls bytes asked.budget h.needs asked.slice h.answers small (whole_met bytes h.needs h.asks_all) (ap (λ (r : SessionRounds). r.is_stopped) h.rounds_are) (settled_so t c now afresh h) in
+      let same : h.answers ≡ answers_of h.needs asked.budget = fresh_answers built_calls bytes asked.budget asked.round h.needs asked.slice h.answers small long (whole_met bytes h.needs h.asks_all) (ap (λ (r : SessionRounds). r.is_stopped) h.rounds_are) (settled_so t c now afresh h) in
       subst (λ x. Replies built_calls x asked old.vault (course_of bytes afresh turn h.needs h.told [] h.way.is_paused t.bytes.items t.ends)) (sym runs) (h.asks_all, script_text_of t c now afresh h [] same)
 
   module _ (p : Checkpoint) (found : Finds old.vault (takes p)) (same_script : IsTrue (is_for (sha256 bytes) asked.budget p)) (turns : turn ≡ next_turn p.turn) where
@@ -85,11 +85,11 @@ module _ (bytes : List ℕ) (script : OneScript bytes) (one : OneStep built_call
             words = h.answered.words;
             near = near;
             honest = λ q goes holds.
-                let over = λ (s : Start). session_rounds divisor_of h.needs asked.budget asked.slice s in
+                let over = λ (s : Start). session_rounds divisor_of h.needs asked.budget asked.round asked.slice s in
                 let unstopped : (over (start_of h.needs q)).is_stopped ≡ false = subst (λ (s : Start). (over s).is_stopped ≡ false) goes.start (ap (λ (r : SessionRounds). r.is_stopped) h.rounds_are) in
                 let settled : Settle asked.budget h.needs (over (start_of h.needs q)).settled h.answers = subst (λ (s : Start). Settle asked.budget h.needs (over s).settled h.answers) goes.start (settled_so t c now from h) in
                 script_text_of t c now from h []
-                (true_answers built_calls bytes asked.budget h.needs asked.slice h.answers q script one small (whole_met bytes h.needs h.asks_all) (needs_reach built_calls bytes asked.budget script one q holds h.needs sound h.asks_all) holds unstopped settled);
+                (true_answers built_calls bytes asked.budget asked.round h.needs asked.slice h.answers q script one small long (whole_met bytes h.needs h.asks_all) (needs_reach built_calls bytes asked.budget script one q holds h.needs sound h.asks_all) holds unstopped settled);
           },
         )
 

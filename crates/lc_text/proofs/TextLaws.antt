@@ -141,11 +141,11 @@ pub record IsEven (w : World) (needs : List Matrix) (answers : List Answer) (c :
 pub even : (w : World) (needs : List Matrix) (answers : List Answer) (c : Course) (now : Around) → is_some c.current ≡ false → Goes w needs answers c now → IsEven w needs answers c now
 even w needs answers c now none h = by (option_map settled_of c.current) (none_mapped settled_of c.current none) h.stands
   where
-    by : (o : Option Progress) → o ≡ None → Stands w.beginning c.version w.budget w.slice needs h.told (settled_in c) c.pace.slice h.done o → IsEven w needs answers c now
+    by : (o : Option Progress) → o ≡ None → Stands w.beginning c.version w.budget w.longest w.slice needs h.told (settled_in c) c.pace.slice h.done o → IsEven w needs answers c now
     by (Some current) e s = absurd (let f = e in cc)
     by None e s = record {
       told = h.told;
-      rounds_are = ends_here divisor_of w.budget (begins w.beginning) w.slice needs h.told (record { settled = settled_in c; current = None }) c.pace.slice s.goes (omega (arith, s.as_many));
+      rounds_are = ends_here divisor_of w.budget w.longest (begins w.beginning) w.slice needs h.told (record { settled = settled_in c; current = None }) c.pace.slice s.goes (omega (arith, s.as_many));
       way = h.way;
       of = h.of;
       fitting = subst (λ (ns : List Matrix). misfit divisor_of ns w.budget (begins w.beginning ns) ≡ None) (append-nil needs) (s.fits []);
@@ -175,10 +175,10 @@ over w needs answers c now some h = by (option_map settled_of c.current) (some_m
     long : suc (length (settled_in c)) ≡ length c.pace.point.settled.items + 1
     long = omega (arith, length-map c.pace.point.settled.items settled_of)
 
-    by : (o : Option Progress) → is_some o ≡ true → Stands w.beginning c.version w.budget w.slice needs h.told (settled_in c) c.pace.slice h.done o → IsMisfit w needs c now c.met (length c.pace.point.settled.items + 1) 0
+    by : (o : Option Progress) → is_some o ≡ true → Stands w.beginning c.version w.budget w.longest w.slice needs h.told (settled_in c) c.pace.slice h.done o → IsMisfit w needs c now c.met (length c.pace.point.settled.items + 1) 0
     by None e s = absurd (let f = e in cc)
     by (Some current) e s = record {
-      first = left_over w.beginning c.version w.budget w.slice needs h.told (settled_in c) c.pace.slice h.done current s
+      first = left_over w.beginning c.version w.budget w.longest w.slice needs h.told (settled_in c) c.pace.slice h.done current s
           ∙ ap (λ (n : ℕ). Some (record { need = n; told = suc (length (settled_in c)); found = 0 })) (sym h.met)
           ∙ ap (λ (n : ℕ). Some (record { need = c.met; told = n; found = 0 })) long;
       way = subst (λ (l : List SessionStep). IsOnItsWay w.origin l c.pace now) s.silent h.way;

@@ -17,6 +17,7 @@ abbrev pub world : Settings → List ℕ → Beginning → ℕ → Option Slots 
 world asked bytes b turn held old = record {
   beginning = b;
   budget = asked.budget;
+  longest = asked.round;
   slice = asked.slice;
   keep = asked.keep;
   digest = sha256 bytes;

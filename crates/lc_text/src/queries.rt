@@ -12,26 +12,21 @@ use crate::lines::line_of;
 use lc_code::Code;
 use lc_eval::QueryKind;
 use lc_io::{Gate, Vault, Watcher};
-use lc_rounds::{Course, Halt, Stop, answer_need};
-use std::alloc::Global;
+use lc_rounds::{Course, Crew, Halt, Stop, answer_need};
 use std::thread::Threads;
 
 /// The line that a query prints of a code, the next need of a session: by the record of a checkpoint, if it has one there, else
 /// by its search.
 ///
-/// There are 1 to 256 workers, the code has dimension at least 1, and fewer than 70,000 needs were met.
+/// The code has dimension at least 1, and fewer than 70,000 needs were met.
 pub fn need_line<R: Threads + Sync, V: Vault, W: Watcher, G: Gate + Sync>(
-    rt: &R,
-    alloc: Global,
-    workers: u32,
-    gate: &G,
+    crew: &Crew<'_, R, G>,
     vault: &mut V,
     watchers: &mut Vec<W>,
     course: &mut Course,
     kind: QueryKind,
     code: &Code,
 ) -> Result<Vec<u8>, Halt>
-    requires workers { (1 ≤ workers) × (workers ≤ 256) }
     requires rows { 0 < length code.now.rows }
     requires ranged { IsRanged course.old }
     requires few { course.old.met < 70000 }
@@ -53,11 +48,11 @@ pub fn need_line<R: Threads + Sync, V: Vault, W: Watcher, G: Gate + Sync>(
     ensures ranged { IfOk result (λ _. IsRanged course.new) }
     ensures same { IfOk result (λ _. course.new.met ≡ course.old.met + 1) }
 {
-    let found = match answer_need(rt, alloc, workers, gate, vault, watchers, course, code) {
+    let found = match answer_need(crew, vault, watchers, course, code) {
         Ok(found) => found,
         Err(halt) => return Err(halt),
     };
-    match line_of(alloc, kind, &found.search, found.answer) {
+    match line_of(crew.alloc, kind, &found.search, found.answer) {
         Ok(line) => Ok(line),
         Err(_) => Err(Halt::Stop(Stop::NoMemory)),
     }

@@ -13,27 +13,22 @@ use lc_eval::Machine;
 use lc_io::{Gate, Vault, Watcher};
 use lc_parse::{ParseRefusal, parse};
 use lc_print::fault_line;
-use lc_rounds::{Course, Halt, Stop};
-use std::alloc::Global;
+use lc_rounds::{Course, Crew, Halt, Stop};
 use std::thread::Threads;
 
 /// The text that the bytes print as a script, with the rounds of the searches that it asks for. If they are no script it is one
 /// fault line, and a statement that is refused ends it with a fault line. No bytes have a text, unless a record
 /// is left.
 ///
-/// There are 1 to 256 workers. The session has met no need, and the bytes ask for fewer than 70,000, as scripts of at most
+/// The session has met no need, and the bytes ask for fewer than 70,000, as scripts of at most
 /// 1,048,576 bytes do.
 pub fn script_text<R: Threads + Sync, V: Vault, W: Watcher, G: Gate + Sync>(
-    rt: &R,
-    alloc: Global,
-    workers: u32,
-    gate: &G,
+    crew: &Crew<'_, R, G>,
     vault: &mut V,
     watchers: &mut Vec<W>,
     course: &mut Course,
     bytes: &[u8],
 ) -> Result<Text, Halt>
-    requires workers { (1 ≤ workers) × (workers ≤ 256) }
     requires ranged { IsRanged course.old }
     requires unmet { course.old.met ≡ 0 }
     requires few { (needs : List Matrix) → MeetsFirst built_calls bytes.now needs → length needs < 70000 }
@@ -48,25 +43,16 @@ pub fn script_text<R: Threads + Sync, V: Vault, W: Watcher, G: Gate + Sync>(
         (map (hearing W.heard W.coming W.pauses) watchers.new.items)) halt) }
     ensures nothing { bytes.now ≡ [] → is_some course.old.current ≡ false → IsOk result }
 {
-    let script = match parse(alloc, bytes) {
+    let script = match parse(crew.alloc, bytes) {
         Ok(script) => script,
         Err(ParseRefusal::Fault { number, place }) => {
-            return match fault_line(alloc, number, place, &[]) {
+            return match fault_line(crew.alloc, number, place, &[]) {
                 Ok(line) => ended(course, line, true),
                 Err(_) => Err(Halt::Stop(Stop::NoMemory)),
             };
         }
         Err(ParseRefusal::NoMemory) => return Err(Halt::Stop(Stop::NoMemory)),
     };
-    let mut machine = Machine::start(alloc, script);
-    text_of(
-        rt,
-        alloc,
-        workers,
-        gate,
-        vault,
-        watchers,
-        course,
-        &mut machine,
-    )
+    let mut machine = Machine::start(crew.alloc, script);
+    text_of(crew, vault, watchers, course, &mut machine)
 }

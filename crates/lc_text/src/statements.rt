@@ -14,8 +14,7 @@ use crate::lines::{distribution_line, near_line};
 use crate::queries::need_line;
 use lc_eval::{Machine, Step};
 use lc_io::{Gate, Vault, Watcher};
-use lc_rounds::{Course, Halt, Stop};
-use std::alloc::Global;
+use lc_rounds::{Course, Crew, Halt, Stop};
 use std::thread::Threads;
 
 /// The text that a script prints.
@@ -54,18 +53,14 @@ pub(crate) fn ended(course: &Course, bytes: Vec<u8>, ends: bool) -> Result<Text,
 /// The text of the statements of a machine that has done none, with the rounds of the searches that they ask for. With no
 /// statement, and no record that is left, there is a text.
 ///
-/// There are 1 to 256 workers. The session has met no need, and the statements ask for fewer than 70,000.
+/// The session has met no need, and the statements ask for fewer than 70,000.
 pub(crate) fn text_of<R: Threads + Sync, V: Vault, W: Watcher, G: Gate + Sync>(
-    rt: &R,
-    alloc: Global,
-    workers: u32,
-    gate: &G,
+    crew: &Crew<'_, R, G>,
     vault: &mut V,
     watchers: &mut Vec<W>,
     course: &mut Course,
     machine: &mut Machine,
 ) -> Result<Text, Halt>
-    requires workers { (1 ≤ workers) × (workers ≤ 256) }
     requires ranged { IsRanged course.old }
     requires unmet { course.old.met ≡ 0 }
     requires unbound { machine.old.bindings ≡ [] }
@@ -83,9 +78,9 @@ pub(crate) fn text_of<R: Threads + Sync, V: Vault, W: Watcher, G: Gate + Sync>(
     ensures nothing { machine.old.left ≡ [] → is_some course.old.current ≡ false → IsOk result }
 {
     let budget = course.pace.point.budget;
-    let mut bytes = Vec::new(alloc);
+    let mut bytes = Vec::new(crew.alloc);
     'statements: loop {
-        let Ok(step) = machine.step(alloc) else {
+        let Ok(step) = machine.step(crew.alloc) else {
             return Err(Halt::Stop(Stop::NoMemory));
         };
         match step {
@@ -96,17 +91,7 @@ pub(crate) fn text_of<R: Threads + Sync, V: Vault, W: Watcher, G: Gate + Sync>(
             }
             Step::Silent => {}
             Step::Need(query) => {
-                let line = match need_line(
-                    rt,
-                    alloc,
-                    workers,
-                    gate,
-                    vault,
-                    watchers,
-                    course,
-                    query.kind,
-                    &query.code,
-                ) {
+                let line = match need_line(crew, vault, watchers, course, query.kind, &query.code) {
                     Ok(line) => line,
                     Err(halt) => return Err(halt),
                 };
@@ -115,7 +100,7 @@ pub(crate) fn text_of<R: Threads + Sync, V: Vault, W: Watcher, G: Gate + Sync>(
                 }
             }
             Step::Weights(code) => {
-                let Ok(line) = distribution_line(rt, alloc, workers, &code) else {
+                let Ok(line) = distribution_line(crew.rt, crew.alloc, crew.workers, &code) else {
                     return Err(Halt::Stop(Stop::NoMemory));
                 };
                 if bytes.extend_from_slice(&line).is_err() {
@@ -123,7 +108,8 @@ pub(crate) fn text_of<R: Threads + Sync, V: Vault, W: Watcher, G: Gate + Sync>(
                 }
             }
             Step::Near(code, word) => {
-                let Ok(line) = near_line(rt, alloc, workers, budget, &code, &word) else {
+                let Ok(line) = near_line(crew.rt, crew.alloc, crew.workers, budget, &code, &word)
+                else {
                     return Err(Halt::Stop(Stop::NoMemory));
                 };
                 if bytes.extend_from_slice(&line).is_err() {

@@ -24,24 +24,24 @@ returns-in-Err-NoMemory g c args now accepted =
 pub returns-in_default : goal.returns-in_default
 returns-in_default g c args now accepted =
     let a = c.args._asked in
-    starved_session args a.workers a.budget a.number (accepted ∙ ap settings (check_asked a c.requires.within c.requires.checks)) now _ _ _ _ _ _ _ _ c.in-Ok.bytes.items (record { gave = c.in-Ok.ensures.given; ended = c.in-Ok.ensures.ended; within = c.in-Ok.ensures.within }) (c.in-Ok.ensures.count (λ f. cc)) refl refl
+    starved_session args a.workers a.round a.budget a.number (accepted ∙ ap settings (check_asked a c.requires.within c.requires.checks)) now _ _ _ _ _ _ _ _ c.in-Ok.bytes.items (record { gave = c.in-Ok.ensures.given; ended = c.in-Ok.ensures.ended; within = c.in-Ok.ensures.within }) (c.in-Ok.ensures.count (λ f. cc)) refl refl
 
 pub returns-in-None : goal.returns-in-None
 returns-in-None g c args now accepted =
     let a = c.args._asked in
     let j = c.in-Ok-judge.judged in
-    done_session args a.workers a.budget a.number (accepted ∙ ap settings (check_asked a c.requires.within c.requires.checks)) now _ _ _ _ _ _ _ _ c.in-Ok.bytes.items (record { gave = c.in-Ok.ensures.given; ended = c.in-Ok.ensures.ended; within = c.in-Ok.ensures.within }) (c.in-Ok.ensures.count (λ f. cc))
+    done_session args a.workers a.round a.budget a.number (accepted ∙ ap settings (check_asked a c.requires.within c.requires.checks)) now _ _ _ _ _ _ _ _ c.in-Ok.bytes.items (record { gave = c.in-Ok.ensures.given; ended = c.in-Ok.ensures.ended; within = c.in-Ok.ensures.within }) (c.in-Ok.ensures.count (λ f. cc))
     j.text.items j.reason (rw c.deref.ensures.value at c.in-Ok-judge.ensures.text) (rw c.deref.ensures.value at c.in-Ok-judge.ensures.verdict) (rw c.deref.ensures.value at c.in-Ok-judge.ensures.proves) c.in-None.is (rw c.deref-2.ensures.value at c.in-Ok-write_whole.ensures.whole) c.in-Ok-write_whole.ensures.count
 
 pub returns-in-Ok-write_whole : goal.returns-in-Ok-write_whole
 returns-in-Ok-write_whole g c args now accepted =
     let a = c.args._asked in
     let j = c.in-Ok-judge.judged in
-    refused_session args a.workers a.budget a.number (accepted ∙ ap settings (check_asked a c.requires.within c.requires.checks)) now _ _ _ _ _ _ _ _ c.in-Ok.bytes.items (record { gave = c.in-Ok.ensures.given; ended = c.in-Ok.ensures.ended; within = c.in-Ok.ensures.within }) (c.in-Ok.ensures.count (λ f. cc))
+    refused_session args a.workers a.round a.budget a.number (accepted ∙ ap settings (check_asked a c.requires.within c.requires.checks)) now _ _ _ _ _ _ _ _ c.in-Ok.bytes.items (record { gave = c.in-Ok.ensures.given; ended = c.in-Ok.ensures.ended; within = c.in-Ok.ensures.within }) (c.in-Ok.ensures.count (λ f. cc))
     j.text.items j.reason c.in-Some.reason (rw c.deref.ensures.value at c.in-Ok-judge.ensures.text) (rw c.deref.ensures.value at c.in-Ok-judge.ensures.verdict) c.in-Some.is (rw c.deref-2.ensures.value at c.in-Ok-write_whole.ensures.whole) c.in-Ok-write_whole.ensures.count
 
 pub returns : goal.returns
 returns g c args now accepted =
     let a = c.args._asked in
-    unwritten_session args a.workers a.budget a.number (accepted ∙ ap settings (check_asked a c.requires.within c.requires.checks)) now _ _ _ _ _ _ _ _ c.in-Ok.bytes.items (record { gave = c.in-Ok.ensures.given; ended = c.in-Ok.ensures.ended; within = c.in-Ok.ensures.within }) (c.in-Ok.ensures.count (λ f. cc))
+    unwritten_session args a.workers a.round a.budget a.number (accepted ∙ ap settings (check_asked a c.requires.within c.requires.checks)) now _ _ _ _ _ _ _ _ c.in-Ok.bytes.items (record { gave = c.in-Ok.ensures.given; ended = c.in-Ok.ensures.ended; within = c.in-Ok.ensures.within }) (c.in-Ok.ensures.count (λ f. cc))
     c.in-Ok-judge.judged.text.items (rw c.deref.ensures.value at c.in-Ok-judge.ensures.text) (rw c.deref-2.ensures.value at c.in-Err.ensures.front) c.in-Err.ensures.count

@@ -63,7 +63,7 @@ unfolding point_of
 returns g c args accepted =
     let a = c.in-Ok in
     let b = c.in-Ok-Taken in
-    resume_session_of args (settings_for c.args.asked) _ _ _ a.bytes.items c.deref-2.result.now _ _ (point_of b.point) c.resumed-course.result c.script_text-found.new.course c.script_text-found.result (around _ _ _) _ _ c.closed.result accepted (ap command_for c.requires.resumes) c.requires.within.limits.few_blocks
+    resume_session_of args (settings_for c.args.asked) _ _ _ a.bytes.items c.deref-2.result.now _ _ (point_of b.point) c.resumed-course.result c.script_text-found.new.course c.script_text-found.result (around _ _ _) _ _ c.closed.result accepted (ap command_for c.requires.resumes) c.requires.within.limits.few_blocks c.requires.within.limits.some_blocks.0
     (record { gave = a.ensures.given; ended = a.ensures.ended; within = a.ensures.within }) (a.ensures.count (λ e. cc)) b.ensures.same b.ensures.count (rw b.field-0-is at b.ensures.is)
     (is_for_so c.digest.result c.deref.result.now a.bytes.items c.args.asked.budget (point_of b.point) c.is_for.result _ c.digest.ensures c.deref.ensures.value c.is_for.ensures c.if-not-is_for.false)
     (c.resumed-course.ensures.starts (around _ _ _)) c.script_text-found.ensures.ends c.deref-2.ensures.value c.closed.ensures

@@ -36,7 +36,7 @@ pub returns-clause-session : goal.returns-clause-session
 returns-clause-session g c args accepted =
     let a = c.in-Ok in
     let b = c.in-Ok-cleared in
-    run_session_of args (settings_for c.args.asked) _ _ _ a.bytes.items c.deref-2.result.now _ _ c.afresh-course.result c.script_text-found.new.course c.digest.result c.script_text-found.result (around _ _ _) _ _ c.closed.result accepted (ap command_for c.requires.runs) c.requires.within.limits.few_blocks
+    run_session_of args (settings_for c.args.asked) _ _ _ a.bytes.items c.deref-2.result.now _ _ c.afresh-course.result c.script_text-found.new.course c.digest.result c.script_text-found.result (around _ _ _) _ _ c.closed.result accepted (ap command_for c.requires.runs) c.requires.within.limits.few_blocks c.requires.within.limits.some_blocks.0
     (record { gave = a.ensures.given; ended = a.ensures.ended; within = a.ensures.within }) (a.ensures.count (λ e. cc)) b.ensures.emptied b.ensures.kept b.ensures.count (c.digest.ensures ∙ ap sha256 c.deref.ensures.value)
     (c.afresh-course.ensures.starts (around _ _ _)) c.script_text-found.ensures.ends c.deref-2.ensures.value c.closed.ensures
 
