@@ -188,6 +188,7 @@ concatenated_short C D e = nested_short C D (degree_over (size D.field) (size C.
 subfield_allowed : (C : Matrix) (f : FieldName) → C.columns ≤ 255 → first_of (from_codes (subfield_refusals C f)) ≡ None → IsAllowed f C.columns
 unfolding subfield_refusals
 subfield_allowed C f l e = (l, over_symbols f (none_refuses _ e).0)
+
 circulant_allowed : (f : FieldName) (x : List ℕ) (n : ℕ) → first_of (from_codes (circulant_refusals f x n)) ≡ None → IsAllowed f n
 unfolding circulant_refusals
 circulant_allowed f x n e = let h = none_refuses _ e in allowed f n h.0 h.1.0
