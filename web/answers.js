@@ -13,7 +13,8 @@ const FORMS = [
   { form: /^certificate none$/, says: () => 'No certificate', note: () => 'the zero word is the only one' },
   { form: /^certificate none between (\d+) and (\d+)$/, says: () => 'No certificate', note: (found) => `the budget ended the search: the distance is between ${found[1]} and ${found[2]}` },
   { form: /^certificate none cost (\d+)$/, says: () => 'No certificate', note: (found) => `a checker would have to look at ${grouped(BigInt(found[1]))} words` },
-  { form: /^none$/, says: () => 'None', note: () => 'no word of the code is near enough' },
+  { form: /^none$/, says: () => 'None', note: (_, call) => (call === 'FillErasures' ? 'no word of the code has these symbols' : 'no word of the code is near enough') },
+  { form: /^many$/, says: () => 'Many', note: () => 'several words of the code have these symbols' },
   { form: /^code \[(\d+),(\d+)\] GF\((\d+)\)$/, says: (found) => `A [${found[1]}, ${found[2]}] code over GF(${found[3]})`, note: (found) => `length ${found[1]}, dimension ${found[2]}, ${wordsTold(Number(found[3]), Number(found[2]))}` },
 ];
 const wordsTold = (size, dimension) => (size ** dimension < 1e7 ? `${grouped(size ** dimension)} ${dimension ? 'words' : 'word'}` : `${size}^${dimension} words`);
@@ -72,7 +73,7 @@ class Answers {
     if (line === 'true' || line === 'false') return [element('p', { class: `says ${line === 'true' ? 'yes' : 'no'}` }, line === 'true' ? '✓ true' : '✗ false')];
     for (const { form, says, note, word } of FORMS) {
       const found = form.exec(line);
-      if (found) return [element('p', { class: 'says' }, says(found)), ...(word ? [this.word(JSON.parse(found[word]), statement)] : []), element('p', { class: 'note' }, note(found)), ...this.chart(statement)];
+      if (found) return [element('p', { class: 'says' }, says(found)), ...(word ? [this.word(JSON.parse(found[word]), statement)] : []), element('p', { class: 'note' }, note(found, statement?.expression.value)), ...this.chart(statement)];
     }
     return [element('p', { class: 'says' }, line)];
   }

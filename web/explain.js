@@ -104,6 +104,8 @@ function noResidueLength(length, size) {
   for (let d = 2; d < length; d++) if (length % d === 0) return `${length} is no prime: ${d} divides it`;
   if (size % length === 0) return `${size} is 0 modulo ${length}`;
   return `${size} is not a square modulo ${length}`;
+}
+
 const entries = (count) => (count === 1 ? '1 entry' : `${count} entries`);
 
 // why a word, or some words, whose cyclic shifts span a code are refused

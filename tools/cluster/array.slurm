@@ -15,7 +15,7 @@ fail() {
     exit 2
 }
 
-[ $# -ge 1 ] && [ -n "${SLURM_ARRAY_TASK_ID-}" ] || fail 'usage: sbatch --array=1-N tools/cluster/array.slurm LIST [budget=N] [slice=N]'
+[ $# -ge 1 ] && [ -n "${SLURM_ARRAY_TASK_ID-}" ] || fail 'usage: sbatch --array=1-N tools/cluster/array.slurm LIST [round=N] [budget=N] [slice=N]'
 list=$1
 shift
 folder=$(sed -n "${SLURM_ARRAY_TASK_ID}p" "$list")
