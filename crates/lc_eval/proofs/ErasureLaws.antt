@@ -18,7 +18,7 @@ use Rattle.lc_eval.specs.declared.refusals.Stop.TheVariants as stop
 use Rattle.lc_eval.specs.Checked.{IsRight, IsChecked}
 use Rattle.lc_eval.specs.Evaluated.{AffectsOrFails}
 use Rattle.lc_eval.specs.Made.{IsMade}
-use Rattle.lc_eval.proofs.AnswerLaws.{first_from_codes}
+use Rattle.lc_language.proofs.RefusalLaws.{first_from_codes}
 use Rattle.lc_eval.proofs.QueryLaws.{first_stays, first_behind, fails_so}
 
 pub erasures_fault : (place : ℕ) (C : Matrix) (x erased : List ℕ) (s : Stop) → IsChecked C x place (Err s) → AffectsOrFails (Err s) (QueriesTo place (fill_erasures C x erased))

@@ -25,7 +25,8 @@ use Rattle.lc_eval.specs.declared.refusals.Stop.TheVariants as stop
 use Rattle.lc_eval.specs.Value.{refused_of}
 use Rattle.lc_eval.specs.Applied.{Answers}
 use Rattle.lc_eval.specs.Made.{IsMade}
-use Rattle.lc_eval.proofs.AnswerLaws.{applying, first_from_codes, given_by}
+use Rattle.lc_language.proofs.RefusalLaws.{first_from_codes}
+use Rattle.lc_eval.proofs.AnswerLaws.{applying, given_by}
 use Rattle.lc_eval.proofs.QueryLaws.{first_stays, first_behind}
 
 pub residue_fault : (place n : ℕ) (f : FieldName) (e : CodeRefusal) (s : Stop) → (e ≢ NoMemory → first_refusal (length_refusals f n) ≡ Some e) → IsMade (Err e) place (Err s) → Answers (Err s) (AppliesTo place (qr_code n f))
