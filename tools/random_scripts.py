@@ -142,8 +142,8 @@ class Maker:
             places = self.coordinates(a.length)
             return self.zeros(f"{call}({a.text},{self.text(places)})", max(1, a.length - len(places)), a.size)
         if call in ("TraceCode", "SubfieldSubcode"):
-            size = self.pick([q for q in (2, 3, 4, 5, 7, 8, 9, 11, 13, 16) if any(q**s == a.size for s in range(1, 5))])
-            size = self.size() if self.chance(self.faults) else size
+            inside = [q for q in SIZES if any(q**s == a.size for s in range(1, 5))]
+            size = self.pick(inside) if inside and not self.chance(self.faults) else self.size()
             return self.zeros(f"{call}({a.text},{self.field(size)})", a.length, size)
         if call == "AugmentedCode":
             rows = [self.row(a.size, min(a.length, 300)) for _ in range(self.below(3))]
