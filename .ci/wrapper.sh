@@ -355,6 +355,19 @@ cluster_recipes() {
         cat jobs/*/text | cmp - "$room/texts" && rm jobs/*/text && block 3 | sh -e && cat jobs/*/text | cmp - "$room/texts")
 }
 
+# what goes before the command: no record lines, all of them, and a word that is refused
+shows_progress_as_asked() {
+    local how
+    echo 'C := HammingCode(3,GF(2)); MinimumDistance(C);' >"$room/script"
+    "$program" run <"$room/script" >"$room/wanted" 2>/dev/null || return 1
+    for how in no lines; do
+        codes_there "progress=$how" run <"$room/script" >"$room/out" 2>"$room/err" && cmp "$room/out" "$room/wanted" || return 1
+        [ "$(grep -c '^query 0 blocks' "$room/err")" -eq "$([ "$how" = no ] && echo 0 || echo 2)" ] || { cat "$room/err"; return 1; }
+    done
+    codes_there progress=some run <"$room/script" >"$room/out" 2>"$room/err"
+    [ $? -eq 2 ] && [ ! -s "$room/out" ] && [ "$(cat "$room/err")" = 'codes: progress is line, lines or no' ]
+}
+
 explains_without_a_kit() { codes_there explain "$PWD/tests/explain/near_name.codes" >"$room/out" 2>"$room/err"; [ $? -eq 1 ] && cmp "$room/out" tests/explain/near_name.out && grep -q 'did you mean' "$room/err"; }
 
 # without any program
@@ -415,6 +428,7 @@ check_wrapper() {
     check 'codes: it asks before it overwrites checkpoints' asks_about_checkpoints
     check 'codes: mistakes end at once' mistakes
     check 'codes: it refuses what the program refuses' refuses_as_the_program
+    check 'codes: progress is shown as was asked' shows_progress_as_asked
     check 'codes: install' installs
     check 'codes: explain' explains_without_a_kit
     check 'codes: pretty' prints_prettily
