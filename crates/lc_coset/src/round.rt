@@ -9,7 +9,7 @@ use crate::blocks::{CosetPhase, Desk, PhaseBlocks};
 use crate::frame::Frame;
 use crate::led::{Led, led_of};
 use crate::walk::{PLACES, Room};
-use lc_crew::run_round;
+use lc_crew::{hands, run_round};
 use lc_field::NoMemory;
 use lc_infoset::Sets;
 use lc_io::OpenGate;
@@ -85,7 +85,6 @@ fn search_round<R: Threads + Sync>(
         led: &state.led,
     };
     let first = state.best.weight * PLACES + state.best.place;
-    let hands = workers.min(count as u32);
     let Ok(closed) = run_round(
         rt,
         alloc,
@@ -93,7 +92,7 @@ fn search_round<R: Threads + Sync>(
         start,
         count,
         first,
-        hands,
+        hands(workers, count),
         &mut state.spare,
         &OpenGate,
     ) else {

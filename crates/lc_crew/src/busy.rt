@@ -1,5 +1,5 @@
 //! How many workers a round has work for.
-ghost use Rattle.std.specs.Prelude.{◌≤◌};
+ghost use Rattle.std.specs.Prelude.{◌≡◌, ◌/◌, ◌≤◌, min, max};
 
 // A thread takes longer to start than so many blocks less one take on another.
 const WORTH_A_THREAD: u64 = 64;
@@ -14,6 +14,7 @@ pub fn hands(workers: u32, blocks: u64) -> u32
     requires workers { (1 ≤ workers) × (workers ≤ 256) }
     requires some { 1 ≤ blocks }
     ensures some { 1 ≤ result }
+    ensures are { result ≡ min workers (min blocks (max 4 (blocks / 64))) }
     ensures few { result ≤ workers }
     ensures busy { result ≤ blocks }
 {

@@ -1,5 +1,5 @@
 //! The words that some rows span, one after another.
-ghost use Rattle.std.specs.Prelude.{◌≡◌, ◌-◌, ◌^◌, ◌<◌, ◌≤◌, ◌++◌, length, take, drop, map, flat_map, IfOk};
+ghost use Rattle.std.specs.Prelude.{◌≡◌, suc, ◌-◌, ◌^◌, ◌<◌, ◌≤◌, ◌++◌, length, take, drop, map, flat_map, IfOk};
 ghost use Rattle.lc_algebra.specs.Field.{size};
 ghost use Rattle.lc_algebra.specs.Word.{Fits, word_sum, scale as scale_of};
 ghost use Rattle.lc_algebra.specs.Matrix.{AreRows};
@@ -90,6 +90,7 @@ pub fn tail_rows(q: u64, k: usize) -> usize
     requires elements { (2 ≤ q) × (q ≤ 16) }
     ensures most { result ≤ k }
     ensures few { q ^ result ≤ 4096 }
+    ensures greatest { result < k → 4096 < q ^ suc result }
 {
     let mut words = 1;
     let mut rows = 0;
