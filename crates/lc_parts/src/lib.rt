@@ -1,0 +1,6 @@
+//! One search in parts, done by many machines: what a part is, and what parts make when they are joined.
+#![tactic(auto)]
+
+mod part;
+
+pub use part::{Facts, Part};
