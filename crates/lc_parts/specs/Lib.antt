@@ -1,2 +1,4 @@
 pub mod Part
 pub mod Seen
+pub mod Along
+pub mod Cover

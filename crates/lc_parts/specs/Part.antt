@@ -2,6 +2,7 @@
 -- at least one row; the search is over all of its information sets.
 --   Part                    the first block, how many blocks, and the weight and the place of the least word
 --   part_end p              the block after the last one
+--   part_from start count x      the part of so many blocks from a block on, with this word
 --   found_in p              the weight and the place of the word
 --   IsTruePart C p          they are those of the least of the word at place 0 and the words of the part's blocks. So a part is
 --                           never without a word, and past the end of the plan it has that at place 0
@@ -23,6 +24,9 @@ pub record Part : Type 0 where
 
 unfoldable pub part_end : Part → ℕ
 part_end p = p.start + p.count
+
+unfoldable pub part_from : ℕ → ℕ → Found → Part
+part_from start count x = record { start = start; count = count; weight = x.weight; place = x.place }
 
 unfoldable pub found_in : Part → Found
 found_in p = record { weight = p.weight; place = p.place }
