@@ -1,3 +1,4 @@
 pub mod CoverLaws
 pub mod FactsLaws
 pub mod AlongLaws
+pub mod PhaseLaws

@@ -2,3 +2,4 @@ pub mod Part
 pub mod Seen
 pub mod Along
 pub mod Cover
+pub mod Levels
