@@ -14,7 +14,7 @@ use Rattle.lc_parts.specs.Part.{facts_of}
 use Rattle.lc_parts.specs.Along.{set_number, first_by, end_by, level_by, levels_by, bound_by, may_end_by, finished_at, finished_by}
 
 pub number_is : (C : Matrix) → set_number (facts_of C) ≡ set_count C
-unfolding set_number facts_of ranks_of set_count
+unfolding facts_of ranks_of set_count
 number_is C = length-map (sets_of C) (λ (s : InformationSet). length s.fresh)
 
 pub first_is : (C : Matrix) → first_by (facts_of C) ≡ first_progress C

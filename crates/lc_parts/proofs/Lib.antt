@@ -2,3 +2,5 @@ pub mod CoverLaws
 pub mod FactsLaws
 pub mod AlongLaws
 pub mod PhaseLaws
+pub mod BoundLaws
+pub mod JoinLaws

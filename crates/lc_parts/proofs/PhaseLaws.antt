@@ -7,7 +7,7 @@
 --   Ends, ends_here, ends_not   a state may be exact where a phase begins, and not inside one
 --   ends_past                   it may past the end
 --   end_here                    where the phase ends
-use Rattle.std.proofs.Common.{◌≡◌, ℕ, zero, suc, ◌+◌, ◌-◌, ◌*◌, ◌/◌, ◌%◌, ◌<◌, ◌≤◌, ◌⊎◌, min, Bool, true, false, cond, ◌&&◌, ◌||◌, ◌==◌, nat_le, nat_lt, find, filter, List, length, map, Option, Some, None, unwrap_or, Contains, refl, sym, ap, subst, ◌∙◌, inl, inr, ⊎_elim, arith}
+use Rattle.std.proofs.Common.{◌≡◌, ℕ, zero, suc, ◌+◌, ◌-◌, ◌*◌, ◌/◌, ◌%◌, ◌<◌, ◌≤◌, min, Bool, true, false, cond, ◌&&◌, ◌||◌, ◌==◌, nat_le, nat_lt, find, filter, List, map, Option, unwrap_or, Contains, refl, sym, ap, subst, ◌∙◌, ⊎_elim, arith}
 use Rattle.std.proofs.lemmas.Bool.{cases_Bool, cases_lt, and_parts, and_from, or_cases, false≢true, or_left, or_right, leb-true, ltb-true, le-leb, lt-ltb, le-ltb, eqb-true, eq-eqb, false_from_ne_true}
 use Rattle.std.proofs.lemmas.Simd.{map-map}
 use Rattle.std.proofs.Math.Nat.{mul-le-mul_right, mod-add-div', mod-lt}
@@ -17,7 +17,7 @@ use Rattle.lc_enumeration.specs.Plan.{PlanPhase, cut, total, phase_at, phase_lev
 use Rattle.lc_enumeration.specs.InformationSet.{is_member}
 use Rattle.lc_enumeration.specs.Search.{last_that, is_whole_below}
 use Rattle.lc_enumeration.proofs.MemberLaws.{member_true, true_member}
-use Rattle.lc_enumeration.proofs.PlanLaws.{cut_is, blocks_least, start_is, end_is, within}
+use Rattle.lc_enumeration.proofs.PlanLaws.{cut_is, blocks_least, end_is, within}
 use Rattle.lc_infoset.proofs.SetLaws.{filter_passes}
 use Rattle.lc_infoset.proofs.BestLaws.{find_passes, product_positive}
 use Rattle.lc_infoset.proofs.AnswerLaws.{filter_keeps, whole_is}

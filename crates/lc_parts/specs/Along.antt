@@ -23,7 +23,7 @@ use Rattle.lc_enumeration.specs.Search.{Found, Answer, exact, bracket, least_of,
 use Rattle.lc_enumeration.specs.Records.{Progress, found_of, progress_of}
 use Rattle.lc_parts.specs.Part.{Part, part_end, found_in, Facts}
 
-unfoldable pub set_number : Facts → ℕ
+abbrev pub set_number : Facts → ℕ
 set_number f = length f.ranks
 
 unfoldable pub first_by : Facts → Progress

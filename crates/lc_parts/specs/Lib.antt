@@ -3,3 +3,4 @@ pub mod Seen
 pub mod Along
 pub mod Cover
 pub mod Levels
+pub mod Joined
