@@ -8,6 +8,7 @@
 --   with_answered, with_passed, with_lesser, with_greater      the state after a part: of an answered search; if the part doesn't go
 --                                on from it; if its word is the lesser; if it isn't
 --   contradicts_is               whether a part contradicts the one taken last
+--   lines_along, lines_keep      the state after some parts
 use Rattle.std.proofs.Common.{◌≡◌, ℕ, zero, suc, max, ◌++◌, ap₂, Contains, [], ◌∷◌, ◌+◌, ◌^◌, ◌<◌, ◌≤◌, min, Bool, true, false, ◌&&◌, ◌||◌, ◌==◌, nat_le, nat_lt, if◌then◌else◌, List, map, is_some, Option, Some, None, refl, sym, ap, subst, ◌∙◌, ⊎_elim, arith}
 use Rattle.std.proofs.lemmas.Bool.{cases_lt, and_from, le-leb, eq-eqb, eqb-true, false_from_ne_true, false≢true}
 use Rattle.std.proofs.lemmas.List.{map-append}
@@ -23,8 +24,8 @@ use Rattle.lc_enumeration.proofs.MemberLaws.{member_true}
 use Rattle.lc_place.specs.declared.phase.Phase.{Phase}
 use Rattle.lc_place.specs.Place.{PlanSize, plan_phase}
 use Rattle.lc_parts.specs.Part.{Part, part_end, found_in, Facts}
-use Rattle.lc_parts.specs.Along.{set_number, end_by, level_by, levels_by, bound_by, may_end_by, finished_at, finished_by, is_answered, end_wanted, continues, after_part, with_part}
-use Rattle.lc_parts.specs.Joined.{AreUsable, JoinState, with_line, differs_from, contradicts_last, contradicts}
+use Rattle.lc_parts.specs.Along.{set_number, end_by, level_by, levels_by, bound_by, may_end_by, finished_at, finished_by, is_answered, end_wanted, continues, after_part, with_part, along}
+use Rattle.lc_parts.specs.Joined.{AreUsable, JoinState, with_line, with_lines, differs_from, contradicts_last, contradicts}
 use Rattle.lc_parts.specs.Levels.{level_in, levels_in, bound_in, plan_by}
 use Rattle.lc_parts.proofs.PhaseLaws.{level_here, level_past, ends_here, ends_past, end_here, may_end_at, found_end}
 
@@ -244,3 +245,34 @@ last_of v p = refl
 
 pub contradicts_is : (v : JoinState) (q p : Part) (b : Bool) → v.last ≡ Some q → b ≡ differs_from q p → b ≡ contradicts v p
 contradicts_is v q p b last is = is ∙ sym (last_of v p ∙ ap (λ (o : Option Part). contradicts_last o p) last ∙ last_some q p)
+
+line_is : (s : JoinState) (p : Part) → ((with_line s p).progress ≡ with_part s.facts s.budget s.progress p) × ((with_line s p).facts ≡ s.facts) × ((with_line s p).budget ≡ s.budget) × ((with_line s p).script ≡ s.script)
+unfolding with_line
+line_is s p = (refl, refl, refl, refl)
+
+-- what stays, and how far the search is
+pub record GoesAlong (s t : JoinState) (parts : List Part) : Type 0 where
+  pub progress : t.progress ≡ along s.facts s.budget s.progress parts
+  pub facts : t.facts ≡ s.facts
+  pub budget : t.budget ≡ s.budget
+  pub script : t.script ≡ s.script
+
+goes_along : (s : JoinState) (parts : List Part) → GoesAlong s (with_lines s parts) parts
+unfolding with_lines along
+goes_along s [] = record { progress = refl; facts = refl; budget = refl; script = refl }
+goes_along s (p ∷ parts) =
+    let one = line_is s p in
+    let rest = goes_along (with_line s p) parts in
+    record {
+      progress = rest.progress ∙ ap (λ (f : Facts). along f (with_line s p).budget (with_line s p).progress parts) one.1
+          ∙ ap₂ (λ b x. along s.facts b x parts) one.2 one.0;
+      facts = rest.facts ∙ one.1;
+      budget = rest.budget ∙ one.2;
+      script = rest.script ∙ one.3;
+    }
+
+pub lines_along : (s : JoinState) (parts : List Part) → (with_lines s parts).progress ≡ along s.facts s.budget s.progress parts
+lines_along s parts = (goes_along s parts).progress
+
+pub lines_keep : (s : JoinState) (parts : List Part) → ((with_lines s parts).facts ≡ s.facts) × ((with_lines s parts).budget ≡ s.budget) × ((with_lines s parts).script ≡ s.script)
+lines_keep s parts = (let g = goes_along s parts in (g.facts, g.budget, g.script))

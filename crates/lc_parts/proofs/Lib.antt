@@ -4,3 +4,4 @@ pub mod AlongLaws
 pub mod PhaseLaws
 pub mod BoundLaws
 pub mod JoinLaws
+pub mod PartExamples

@@ -7,8 +7,9 @@
 --                            that was taken last, if there is one
 --   first_state script f budget      before the first part
 --   with_line s p            after one more part
+--   with_lines s parts       after some parts more
 --   contradicts s p          the part has the range of the one that was taken last, and another word: one of them is false
-use Rattle.std.specs.Prelude.{◌≡◌, ℕ, ◌^◌, ◌≤◌, Bool, false, not, ◌==◌, ◌&&◌, List, length, Option, Some, None}
+use Rattle.std.specs.Prelude.{◌≡◌, ℕ, ◌^◌, ◌≤◌, Bool, false, not, ◌==◌, ◌&&◌, List, [], ◌∷◌, length, Option, Some, None}
 use Rattle.lc_enumeration.specs.Records.{Progress}
 use Rattle.lc_place.specs.Place.{PlanSize}
 use Rattle.lc_parts.specs.Part.{Part, Facts}
@@ -45,6 +46,10 @@ with_line s p = record {
   progress = with_part s.facts s.budget s.progress p;
   last = Some p;
 }
+
+unfoldable pub with_lines : JoinState → List Part → JoinState
+with_lines s [] = s
+with_lines s (p ∷ parts) = with_lines (with_line s p) parts
 
 unfoldable pub differs_from : Part → Part → Bool
 differs_from p q = (p.start == q.start) && ((p.count == q.count) && not ((p.weight == q.weight) && (p.place == q.place)))

@@ -1,6 +1,6 @@
 //! Parts that are joined, one after another.
 
-ghost use Rattle.std.specs.Prelude.{◌≡◌, ◌+◌, ◌^◌, ◌<◌, ◌≤◌, false, nat_le, nat_lt, ◌&&◌, IfOk};
+ghost use Rattle.std.specs.Prelude.{◌≡◌, ◌+◌, ◌^◌, ◌<◌, ◌≤◌, ◌↔◌, true, false, nat_le, nat_lt, ◌&&◌, IfOk};
 ghost use Rattle.std.specs.Bool.{OnTrue};
 ghost use Rattle.lc_enumeration.specs.Search.{beats};
 ghost use Rattle.lc_parts.specs.Part.{part_end, found_in};
@@ -142,6 +142,13 @@ impl Joined {
         reaches(part, self.blocks, wanted)
     }
 
+    /// Whether a line is of this search: it names this script and these facts.
+    pub fn is_of(&self, script: &[u8; 32], facts: &Facts) -> bool
+        ensures is { (result ≡ true) ↔ ((script.now ≡ self.now.script) × (facts_seen facts.now ≡ self.now.facts)) }
+    {
+        self.script == *script && are_same(&self.facts, facts)
+    }
+
     /// Takes one more part. If the search isn't answered, and the part has the next block and reaches no farther than it may, the
     /// search goes to the part's end, with the lesser of both words; else the part is passed over.
     pub fn take(&mut self, part: Part)
@@ -171,6 +178,17 @@ impl Joined {
             Some(last) => differs(&last, part),
         }
     }
+}
+
+// Whether two searches have the same facts.
+fn are_same(facts: &Facts, others: &Facts) -> bool
+    ensures is { (result ≡ true) ↔ (facts_seen others.now ≡ facts_seen facts.now) }
+{
+    facts.k == others.k
+        && facts.q == others.q
+        && facts.divisor == others.divisor
+        && facts.first == others.first
+        && facts.ranks.as_slice() == others.ranks.as_slice()
 }
 
 // Whether a part has a block, and ends at most at a number of blocks beyond it.

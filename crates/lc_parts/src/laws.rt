@@ -11,6 +11,7 @@ ghost use Rattle.lc_enumeration.specs.Truth.{IsSettled, IsUnderway};
 ghost use Rattle.lc_parts.specs.Part.{Part, part_from, part_end, found_in, IsTruePart, facts_of};
 ghost use Rattle.lc_parts.specs.Along.{first_by, end_by, bound_by, finished_by, is_answered, after_part, with_part, along};
 ghost use Rattle.lc_parts.specs.Cover.{Covers};
+ghost use Rattle.lc_parts.specs.Joined.{JoinState, with_lines};
 
 /// True parts have the best word of the blocks that they have, in any order, overlapping and repeated. A true part that begins
 /// no later than a best word's blocks end, and ends no earlier, makes the best word of its end with it. The word at place 0 is a
@@ -51,4 +52,12 @@ pub fn parts_keep_a_search_under_way()
     ensures answered { (C : Matrix) (budget : ℕ) (s : Progress) → 0 < length C.rows →
         IsUnderway (divisor_of C) C budget s → is_answered (facts_of C) budget s ≡ true →
         IsSettled (divisor_of C) C budget s }
+{}
+
+/// Parts that are joined one after another bring the search as far as `along` says. The script, the facts and the budget stay.
+pub fn joined_parts_go_along()
+    ensures progress { (s : JoinState) (parts : List Part) →
+        (with_lines s parts).progress ≡ along s.facts s.budget s.progress parts }
+    ensures kept { (s : JoinState) (parts : List Part) → ((with_lines s parts).facts ≡ s.facts)
+        × ((with_lines s parts).budget ≡ s.budget) × ((with_lines s parts).script ≡ s.script) }
 {}
