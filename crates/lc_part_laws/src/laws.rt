@@ -24,8 +24,8 @@ ghost use Rattle.lc_part_laws.specs.Point.{joined_state, joined_point, HoldsPoin
 /// joined true parts that brought the search by a block at least; the budget is at most 2^40 blocks. Slots that hold it, or its text,
 /// and no other checkpoint are as `resume` asks for them.
 pub fn joined_checkpoints_are_true()
-    ensures state { (table : List Call) (bytes : List ℕ) (budget : ℕ) (C : Matrix) (needs : List Matrix) (s : Progress) →
-        MeetsFirst table bytes (C ∷ needs) → IsUnderway (divisor_of C) C budget s → 1 ≤ s.blocks →
+    ensures state { (table : List Call) (bytes : List ℕ) (budget : ℕ) (C : Matrix) (needs : List Matrix)
+        (s : Progress) → MeetsFirst table bytes (C ∷ needs) → IsUnderway (divisor_of C) C budget s → 1 ≤ s.blocks →
         IsTrueCheckpoint table bytes budget (joined_point (sha256 bytes) budget s) }
     ensures joined { (table : List Call) (bytes : List ℕ) (budget : ℕ) (C : Matrix) (needs : List Matrix)
         (parts : List Part) → MeetsFirst table bytes (C ∷ needs) → budget ≤ 2 ^ 40 → All (IsTruePart C) parts →
