@@ -346,6 +346,9 @@ is_quadratic_residue f n C y l a c =
     record {
       field = c.over;
       columns = c.length_is;
+      prime = a;
+      words = c.generator.words;
+      reduced = c.generator.reduced;
       cyclic = residue_cyclic f n t C c;
       kept = λ r w k i. residue_kept f n t r C w l h k c i;
       ones = residue_ones f n t C c;
