@@ -5,11 +5,11 @@
 --   support_below, support_fine     so a word with a symbol 0 has a support at which a code may be punctured
 --   left_none, left_some, left_fine      whether a coordinate is left
 --   residual_code, residual_refused, residual_first      the code that is punctured there
-use Rattle.std.proofs.Common.{◌≡◌, ◌≢◌, ℕ, zero, suc, ◌+◌, ◌-◌, ◌<◌, ◌≤◌, Bool, true, false, not, nat_le, nat_lt, cond, ◌==◌, ◌||◌, List, [], ◌∷◌, ◌++◌, length, filter, count_by, slice_index, Option, Some, None, is_some, Result, IfOk, Contains, refl, sym, ap, subst, ◌∙◌, ⊎_elim, arith, true≢false}
+use Rattle.std.proofs.Common.{◌≡◌, ℕ, zero, suc, ◌+◌, ◌-◌, ◌<◌, ◌≤◌, Bool, true, false, not, nat_le, nat_lt, cond, ◌==◌, List, [], ◌∷◌, ◌++◌, length, filter, count_by, slice_index, Some, None, is_some, Result, IfOk, Contains, refl, sym, ap, subst, ◌∙◌, ⊎_elim, arith, true≢false}
 use Rattle.std.specs.List.{list_any}
 use Rattle.std.proofs.lemmas.Bool.{cases_Bool, cases_lt, and_parts, and_from, lt-ltb, leb-true, eqb-true, eq-eqb, ne_eqb}
 use Rattle.std.proofs.lemmas.List.{append-nil}
-use Rattle.std.proofs.lemmas.List.Elements.{filter-append, Contains-append_cases}
+use Rattle.std.proofs.lemmas.List.Elements.{filter-append}
 use Rattle.std.proofs.lemmas.List.Sums.{length-filter}
 use Rattle.lc_algebra.specs.Word.{weight}
 use Rattle.lc_algebra.specs.Span.{below}
@@ -19,7 +19,7 @@ use Rattle.lc_algebra.proofs.WordLaws.{weight_cons}
 use Rattle.lc_algebra.proofs.SpanLaws.{span_word, contains_head, contains_tail, contains_below, below_contains}
 use Rattle.lc_algebra.proofs.SpanSearch.{any_contains, contains_any}
 use Rattle.lc_constructions.specs.declared.refusal.CodeRefusal.{CodeRefusal}
-use Rattle.lc_constructions.specs.declared.refusal.CodeRefusal.TheVariants.{BadLength, NoMemory}
+use Rattle.lc_constructions.specs.declared.refusal.CodeRefusal.TheVariants.{BadLength}
 use Rattle.lc_constructions.specs.Code.{is_length, InCode, IsCode}
 use Rattle.lc_constructions.specs.Combined.{InPunctured}
 use Rattle.lc_constructions.specs.Refusal.{refuse_if, first_refusal, IsRefusedAs, RefusesFirst}
@@ -104,11 +104,11 @@ support_fine C w long some =
 
 -- ---- what is left
 
-left_none : (C : Matrix) (w : List ℕ) → C.columns ≤ weight w → first_refusal (no_coordinate C w) ≡ Some BadLength
+pub left_none : (C : Matrix) (w : List ℕ) → C.columns ≤ weight w → first_refusal (no_coordinate C w) ≡ Some BadLength
 unfolding first_refusal refuse_if bad_length no_coordinate is_length
 left_none C w l = let e : C.columns - weight w ≡ 0 = omega (arith, l) in rw e refl
 
-left_fine : (C : Matrix) (w : List ℕ) → weight w < C.columns → C.columns ≤ 255 → first_refusal (no_coordinate C w) ≡ None
+pub left_fine : (C : Matrix) (w : List ℕ) → weight w < C.columns → C.columns ≤ 255 → first_refusal (no_coordinate C w) ≡ None
 unfolding first_refusal refuse_if bad_length no_coordinate
 left_fine C w l m = rw (short_length (C.columns - weight w) (omega (arith, l)) (omega (arith, m))) refl
 

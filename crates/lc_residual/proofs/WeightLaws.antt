@@ -8,24 +8,25 @@
 --   residual_linear        removing the support of a word of a code is linear
 --   residual_kept          and it forgets the multiples of that word
 --   in_residual            a word of a residual code
+--   residual_whole         at the zero word it is the code itself
 --   multiples_in           the sums of a word of a code and the multiples of another one are in the code
 --   residual_bound, residual_least      no word of a residual code is lighter than these say
-use Rattle.std.proofs.Common.{◌≡◌, ℕ, zero, suc, ◌+◌, ◌-◌, ◌*◌, ◌<◌, ◌≤◌, Bool, true, false, not, cond, ◌==◌, List, [], ◌∷◌, length, slice_index, sum_by, count_by, Contains, refl, sym, ap, ap₂, subst, ◌∙◌, ⊎_elim, arith}
+use Rattle.std.proofs.Common.{◌≡◌, ℕ, zero, suc, ◌+◌, ◌-◌, ◌*◌, ◌<◌, ◌≤◌, Bool, true, false, not, cond, ◌==◌, List, [], ◌∷◌, length, slice_index, sum_by, Contains, refl, sym, ap, subst, ◌∙◌, arith}
 use Rattle.std.specs.List.{list_any}
-use Rattle.std.proofs.Math.Nat.{mul-zero, mul-one, mul-le-mul_left}
-use Rattle.std.proofs.lemmas.Bool.{cases_lt}
+use Rattle.std.proofs.lemmas.Bool.{ne_eqb}
 use Rattle.std.proofs.lemmas.List.Sums.{sum_by-cons}
 use Rattle.lc_algebra.specs.declared.FieldName.{FieldName}
 use Rattle.lc_algebra.specs.Field.{size, add, mul}
 use Rattle.lc_algebra.specs.Word.{Fits, IsWord, zero_word, word_sum, scale, weight}
-use Rattle.lc_algebra.specs.Span.{below, InSpan, IsWeightBound}
+use Rattle.lc_algebra.specs.Span.{below, IsWeightBound}
 use Rattle.lc_algebra.specs.Matrix.{Matrix, AreRows}
 use Rattle.lc_algebra.proofs.FieldLaws.{zero_inside, mul_zero, add_zero, add_comm}
-use Rattle.lc_algebra.proofs.WordLaws.{IsWord_scale, length_scale, sum_zero, scale_zero, fits_head, fits_tail, weight_cons, weight_zero_head, weight_other_head, zero_from_weight}
-use Rattle.lc_algebra.proofs.SpanLaws.{span_word, span_sum, span_scale, contains_head, contains_tail, contains_below, length_below}
+use Rattle.lc_algebra.proofs.WordLaws.{IsWord_scale, sum_zero, scale_zero, fits_head, fits_tail, weight_cons, weight_zero_head, weight_other_head, weight_zero_word, zero_from_weight}
+use Rattle.lc_algebra.proofs.SpanLaws.{span_word, span_sum, span_scale, contains_head, contains_tail, length_below}
 use Rattle.lc_constructions.specs.Code.{InCode, IsCode}
 use Rattle.lc_constructions.specs.Combined.{without_from, without}
 use Rattle.lc_constructions.proofs.WithoutLaws.{kept, taken}
+use Rattle.lc_language.specs.Relations.{IsSameCode}
 use Rattle.lc_language.specs.Residual.{support, InResidual}
 use Rattle.lc_combine.proofs.GeneratedLaws.{IsLinear}
 use Rattle.lc_combine.proofs.DeletedLaws.{deleted_linear}
@@ -62,6 +63,10 @@ changed f x y l m p =
 
 -- ---- all coordinates
 
+-- the first coordinate of a word that begins with another symbol than 0
+begins : (i a : ℕ) (places c : List ℕ) → ((j k : ℕ) → j ≡ i + k → list_any (λ p. j == p) places ≡ not (slice_index (suc a ∷ c) k == 0)) → list_any (λ p. i == p) places ≡ true
+begins i a places c h = h i 0 (omega arith) ∙ ap not (ne_eqb (suc a) 0 (λ e. omega (arith, e)))
+
 added : FieldName → List ℕ → List ℕ → ℕ
 added f u c = sum_by (λ a. weight (word_sum f u (scale f a c))) (below (size f))
 
@@ -86,7 +91,7 @@ added_from f i places (x ∷ u) (zero ∷ c) fu fc e h =
     omega (arith, added_more f x 0 u c, unchanged f x (fits_head f x u fu), rest, weight_zero_head c, ap (λ w. size f * weight w) here ∙ ap (λ m. size f * m) (weight_cons x (without_from (suc i) places u)))
 added_from f i places (x ∷ u) (suc y ∷ c) fu fc e h =
     let rest = added_from f (suc i) places u c (fits_tail f x u fu) (fits_tail f (suc y) c fc) (omega (arith, e)) (λ j k t. h j (suc k) (omega (arith, t))) in
-    let here : without_from i places (x ∷ u) ≡ without_from (suc i) places u = taken i places x u (h i 0 (omega arith)) in
+    let here : without_from i places (x ∷ u) ≡ without_from (suc i) places u = taken i places x u (begins i y places c h) in
     let one = changed f x (suc y) (fits_head f x u fu) (fits_head f (suc y) c fc) (omega arith) in
     omega (arith, added_more f x (suc y) u c, one, rest, ap (λ m. (size f - 1) * m) (weight_other_head (suc y) c (omega arith)), ap (λ w. size f * weight w) here)
 
@@ -99,6 +104,10 @@ sum_at_least g m [] h = omega arith
 sum_at_least g m (x ∷ xs) h = omega (arith, sum_by-cons g x xs, h x (contains_head x xs), sum_at_least g m xs (λ y c. h y (contains_tail x y xs c)))
 
 -- ---- the words of the residual code
+
+no_entry : (xs : List ℕ) → length xs ≡ 0 → xs ≡ []
+no_entry [] e = refl
+no_entry (x ∷ xs) e = absurd (omega (arith, e))
 
 abbrev pub removed : List ℕ → List ℕ → List ℕ
 removed c u = without (support c) u
@@ -114,7 +123,7 @@ none_from i places [] h = refl
 none_from i places (zero ∷ c) h =
     ap (λ w. weight w) (kept i places 0 c (h i 0 (omega arith))) ∙ weight_zero_head (without_from (suc i) places c) ∙ none_from (suc i) places c (λ j k e. h j (suc k) (omega (arith, e)))
 none_from i places (suc a ∷ c) h =
-    ap (λ w. weight w) (taken i places (suc a) c (h i 0 (omega arith))) ∙ none_from (suc i) places c (λ j k e. h j (suc k) (omega (arith, e)))
+    ap (λ w. weight w) (taken i places (suc a) c (begins i a places c h)) ∙ none_from (suc i) places c (λ j k e. h j (suc k) (omega (arith, e)))
 
 self_removed : (c : List ℕ) → weight (removed c c) ≡ 0
 unfolding without
@@ -135,6 +144,27 @@ in_residual C R c v k i = ((told C.field (C.columns - weight c) (InResidual C c)
 
 pub multiples_in : (C : Matrix) (c u : List ℕ) (a : ℕ) → AreRows C.field C.columns C.rows → InCode C c → InCode C u → InCode C (word_sum C.field u (scale C.field a c))
 multiples_in C c u a r i j = span_sum C.field C.columns C.rows u (scale C.field a c) j (span_scale C.field C.columns C.rows a c i)
+
+zero_support : (n : ℕ) → support (zero_word n) ≡ []
+zero_support n = no_entry (support (zero_word n)) (length_support (zero_word n) ∙ weight_zero_word n)
+
+nothing_removed : (i : ℕ) (u : List ℕ) → without_from i [] u ≡ u
+unfolding without_from
+nothing_removed i [] = refl
+nothing_removed i (a ∷ u) = ap (λ (w : List ℕ). a ∷ w) (nothing_removed (suc i) u)
+
+zero_removed : (n : ℕ) (u : List ℕ) → removed (zero_word n) u ≡ u
+unfolding without
+zero_removed n u = ap (λ (ps : List ℕ). without ps u) (zero_support n) ∙ nothing_removed 0 u
+
+pub residual_whole : (C R : Matrix) → AreRows C.field C.columns C.rows → IsCode C.field C.columns (InResidual C (zero_word C.columns)) R → IsSameCode R C
+residual_whole C R r k w =
+    let known = told C.field C.columns (InResidual C (zero_word C.columns)) R w k in (
+      (λ i.
+          let (u, inside, e) = (known.0 i).1 in
+          subst (InCode C) (sym (e ∙ zero_removed C.columns u)) inside),
+      (λ i. known.1 (span_word C.field C.columns C.rows w r i, (w, i, sym (zero_removed C.columns w)))),
+    )
 
 pub residual_bound : (C R : Matrix) (c v : List ℕ) (d : ℕ) → AreRows C.field C.columns C.rows → InCode C c → weight c < C.columns → IsWeightBound C.field C.columns C.rows d → IsCode C.field (C.columns - weight c) (InResidual C c) R → InCode R v → 0 < weight v → size C.field * d ≤ (size C.field - 1) * weight c + size C.field * weight v
 unfolding without
