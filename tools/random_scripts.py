@@ -186,7 +186,7 @@ class Maker:
         rows = self.matrix(size, n, 3)
         word = list(self.pick(rows)) if rows else [0] * n
         if self.chance(self.faults):
-            word = self.pick((word + [0], word[1:], self.row(size, n), [1] * n))
+            word = self.pick((word + [0], word[1:], word[1:] + [size], self.row(size, n), [1] * n))
         return self.zeros(f"ResidueCode(GeneratorMatCode({self.text(rows)},{self.field(size)}),{self.text(word)})", max(1, word.count(0)), size)
 
     def by_shifts(self):
