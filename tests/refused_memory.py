@@ -56,7 +56,7 @@ TraceCode(ReedSolomonCode(3, 2), GF(2)); SubfieldSubcode(ReedSolomonCode(3, 2), 
 C := HammingCode(3, GF(2)); c := Encode(C, [1,0,1,1]); x := AddWords(c, [0,0,0,0,1,0,0], GF(2)); Syndrome(C, x); InformationWord(C, c);
 ScaleWord(2, [1,2,0], GF(3)); DistanceCodeword(c, x); UnionCode(C, RepetitionCode(7, GF(2))); AugmentedCode(C, [[1,0,0,0,0,0,0]]); FillErasures(C, c, [1,2]);
 CirculantCode([1,1,0,1,0,0,0], 7, GF(2)); QuasiCyclicCode([[1,0,0],[0,1,1]], 3, GF(2));
-ConstructionXCode(C, RepetitionCode(7, GF(2)), WholeSpaceCode(3, GF(2))); IsSubcode(DualCode(C), C); IsSameCode(C, C); IsSelfOrthogonalCode(C); IsSelfDualCode(C); IsCyclicCode(C); InformationWord(C, x);
+ConstructionXCode(C, RepetitionCode(7, GF(2)), WholeSpaceCode(3, GF(2))); ResidueCode(C, c); IsSubcode(DualCode(C), C); IsSameCode(C, C); IsSelfOrthogonalCode(C); IsSelfDualCode(C); IsCyclicCode(C); InformationWord(C, x);
 """,
     "decoders": b"""
 C := BCHCode(15, 5, GF(2)); w := [1,0,0,0,1,0,0,0,0,0,0,0,0,0,0]; Decode(C, w); AlgebraicDecode(C, w);

@@ -320,7 +320,8 @@ def no_residue_length(length, field):
 
 COMBINED = ("ExtendedCode", "PuncturedCode", "ShortenedCode", "EvenWeightSubcode", "DirectSumCode", "UUVCode",
             "DirectProductCode", "IntersectionCode", "UnionCode", "IsSubcode", "IsSameCode", "ConcatenatedCode")
-OF_WORDS = ("IsCodeword", "Decode", "AlgebraicDecode", "AlternantCertificate", "NearestWord", "Syndrome", "InformationWord", "FillErasures")
+OF_WORDS = ("IsCodeword", "Decode", "AlgebraicDecode", "AlternantCertificate", "NearestWord", "Syndrome", "InformationWord", "ResidueCode",
+            "FillErasures")
 OF_TWO_LISTS = ("AddWords", "ScaleWord", "DistanceCodeword")
 BY_SHIFTS = ("CirculantCode", "QuasiCyclicCode")
 BY_LISTS = ("GeneratorPolCode", "CheckPolCode", "GoppaCode", "AlternantCode")
@@ -366,6 +367,8 @@ def refusal(expr, fault, names):
         return f"it is {distance}; with the length {values[0]} it is {least} to {values[0]}"
     if number == 7:
         return f"it would have {values[0] + 1}; the sizes for codes are {', '.join(str(q) for q in SYMBOL_SIZES)}"
+    if number == 2 and name == "ResidueCode":
+        return "the word is 0 nowhere, so no coordinate would be left"
     if number == 2 and isinstance(values[0], list):
         return f"the first row has {len(values[0][0])} entries; a row has 1 to {LONGEST}" if values[0] else "the matrix has no rows"
     if number == 2 and name == "HammingCode":

@@ -26,7 +26,7 @@ NAMES = ("C", "D", "x", "rows", "F", "a_1")
 UNKNOWN = ("Distance", "NearWord", "BchCode", "Extended", "Foo", "hammingCode", "GF_", "Golay", "z")
 CALLS = ("GF", "Weight", "Dimension", "DualCode", "IsCodeword", "Decode", "HammingCode", "ReedMullerCode", "CheckMat", "BCHCode", "GoppaCode",
          "ExtendedCode", "UUVCode", "PuncturedCode", "BinaryGolayCode", "NearestWord", "Syndrome", "IsSubcode", "AddWords", "Encode", "AugmentedCode",
-         "TraceCode", "FillErasures", "CirculantCode", "QuasiCyclicCode", "ConstructionXCode")
+         "TraceCode", "FillErasures", "CirculantCode", "QuasiCyclicCode", "ConstructionXCode", "ResidueCode")
 SIGNS = "()[],;:=#_ \n\tab19GF"
 KINDS = ("valid", "refused", "unfit", "cut", "altered", "noise", "searched", "near")
 
@@ -128,9 +128,11 @@ class Maker:
     def combined(self, depth):
         call = self.pick(("ExtendedCode", "PuncturedCode", "ShortenedCode", "EvenWeightSubcode", "DirectSumCode", "UUVCode",
                           "DirectProductCode", "IntersectionCode", "ConcatenatedCode", "UnionCode", "AugmentedCode", "TraceCode",
-                          "SubfieldSubcode", "ConstructionXCode"))
+                          "SubfieldSubcode", "ConstructionXCode", "ResidueCode"))
         if call == "ConstructionXCode":
             return self.with_tails()
+        if call == "ResidueCode":
+            return self.off_support()
         if call == "ConcatenatedCode":
             size, degree = self.pick(((2, 1), (2, 2), (2, 3), (2, 4), (3, 1), (3, 2), (4, 1), (4, 2), (5, 1)))
             outer = self.over(size**degree, 1 + self.below(5))
@@ -173,6 +175,19 @@ class Maker:
         if self.chance(self.faults / 2):
             tails = self.over(size, self.length()).text
         return self.zeros(f"ConstructionXCode({whole},{part},{tails})", n + length, size)
+
+    def off_support(self):
+        """The residual code of a code by rows at one of its rows, which has a 0 most of the time, or of some code at the zero word."""
+        if self.chance(0.2):
+            a = self.code(0)
+            word = self.row(a.size, min(a.length, 300)) if self.chance(self.faults) else [0] * min(a.length, 300)
+            return self.zeros(f"ResidueCode({a.text},{self.text(word)})", a.length, a.size)
+        size, n = self.size(), 2 + self.below(6)
+        rows = self.matrix(size, n, 3)
+        word = list(self.pick(rows)) if rows else [0] * n
+        if self.chance(self.faults):
+            word = self.pick((word + [0], word[1:], word[1:] + [size], self.row(size, n), [1] * n))
+        return self.zeros(f"ResidueCode(GeneratorMatCode({self.text(rows)},{self.field(size)}),{self.text(word)})", max(1, word.count(0)), size)
 
     def by_shifts(self):
         size, n = self.size(), 1 + self.below(6)

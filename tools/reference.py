@@ -934,6 +934,14 @@ def construction_x_code(code, part, tails):
     return code_of_rows(code.size, code.length + tails.length, rows)
 
 
+def residue_code(code, word):
+    need_word(code, word)
+    if not is_in(code, word):
+        raise Refused(50)
+    need_length(word.count(0))
+    return code_of_rows(code.size, word.count(0), [without(row, [i for i, a in enumerate(word) if a]) for row in code.rows])
+
+
 def less(code, word, error):
     field = arithmetic(code.size)
     return list(field.add_scaled(list(word), negative(field, 1), error))
@@ -1163,6 +1171,7 @@ CALLS = {
     "CirculantCode": ([("numbers", "number", "field")], circulant_code),
     "QuasiCyclicCode": ([("lists", "number", "field")], quasi_cyclic_code),
     "ConstructionXCode": ([("code", "code", "code")], construction_x_code),
+    "ResidueCode": ([("code", "numbers")], residue_code),
 }
 # these print a line of their own, and stand only as a whole statement; the functions get the session first
 QUERIES = {

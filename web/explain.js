@@ -192,7 +192,7 @@ function divisorsTold(length, size) {
 }
 
 const COMBINED = ['ExtendedCode', 'PuncturedCode', 'ShortenedCode', 'EvenWeightSubcode', 'DirectSumCode', 'UUVCode', 'DirectProductCode', 'IntersectionCode', 'UnionCode', 'IsSubcode', 'IsSameCode', 'ConcatenatedCode'];
-const OF_WORDS = ['IsCodeword', 'Decode', 'AlgebraicDecode', 'AlternantCertificate', 'NearestWord', 'Syndrome', 'InformationWord', 'FillErasures'];
+const OF_WORDS = ['IsCodeword', 'Decode', 'AlgebraicDecode', 'AlternantCertificate', 'NearestWord', 'Syndrome', 'InformationWord', 'ResidueCode', 'FillErasures'];
 const OF_TWO_LISTS = ['AddWords', 'ScaleWord', 'DistanceCodeword'];
 const BY_SHIFTS = ['CirculantCode', 'QuasiCyclicCode'];
 const BY_LISTS = ['GeneratorPolCode', 'CheckPolCode', 'GoppaCode', 'AlternantCode'];
@@ -204,6 +204,7 @@ function distributionTold(q, n, k, r) {
 
 function matrixLengthRefusal(name, values) {
   if (isList(values[0])) return values[0].length ? `the first row has ${values[0][0].length} entries; a row has 1 to ${TEXTS.longest}` : 'the matrix has no rows';
+  if (name === 'ResidueCode') return 'the word is 0 nowhere, so no coordinate would be left';
   if (name === 'HammingCode') return `with ${values[0]} checks over GF(${values[1].size}) the length is above ${TEXTS.longest}`;
   if (name === 'ReedMullerCode') return `in ${values[1]} variables the length 2^${values[1]} is above ${TEXTS.longest}`;
   return `the length ${values[0]} is not one of 1 to ${TEXTS.longest}`;

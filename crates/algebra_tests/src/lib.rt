@@ -27,6 +27,8 @@ mod quadratic_residues;
 #[cfg(test)]
 mod relations;
 #[cfg(test)]
+mod residuals;
+#[cfg(test)]
 mod shapes;
 #[cfg(test)]
 mod shifts;

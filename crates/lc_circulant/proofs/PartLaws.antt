@@ -5,12 +5,12 @@
 --   parts_linear           it is linear
 --   shift_row              the shift of words, one after the other
 --   rows_shift             the shift of a row of circulant matrices is a row again
---   circulants_closed      so the code of the rows is quasi-cyclic
+--   circulants_kept, circulants_closed      so the code of the rows is quasi-cyclic
 --   circulants_contain     it contains the words one after the other
 --   circulants_smallest    and lies in each quasi-cyclic code that does
 --   circulant_cyclic, circulant_smallest      of one word, the same of cyclic codes
-use Rattle.std.proofs.Common.{◌≡◌, ℕ, zero, suc, ◌+◌, ◌*◌, ◌≤◌, ◌<◌, List, [], ◌∷◌, ◌++◌, length, map, flat_map, take, drop, slice_index_or, All, refl, sym, ap, ap₂, subst, ◌∙◌, ⊎_elim, arith}
-use Rattle.std.proofs.Math.Nat.{suc-mul, zero-mul}
+use Rattle.std.proofs.Common.{◌≡◌, ℕ, zero, suc, ◌+◌, ◌*◌, ◌%◌, ◌≤◌, ◌<◌, List, [], ◌∷◌, ◌++◌, length, map, flat_map, take, drop, slice_index_or, All, refl, sym, ap, ap₂, subst, ◌∙◌, ⊎_elim, arith}
+use Rattle.std.proofs.Math.Nat.{suc-mul, zero-mul, mul-mod_left, mod_self}
 use Rattle.std.proofs.Math.Seq.{take-append_seam, drop-append_seam}
 use Rattle.std.proofs.lemmas.Bool.{cases_lt}
 use Rattle.std.proofs.lemmas.List.{append-nil, take-append-drop, length-append}
@@ -178,8 +178,8 @@ joined_shift : (n : ℕ) (us : List (List ℕ)) → All (λ u. length u ≡ n) u
 unfolding joined
 joined_shift n us h = shift_row n (λ u. u) us h ∙ sym (flat_map-map (λ u. u) shifted us)
 
-pub circulants_closed : (f : FieldName) (n : ℕ) (xs : List (List ℕ)) (C : Matrix) → 1 ≤ n → AreRows f n xs → IsCode f (length xs * n) (GeneratedBy f (length xs * n) (circulants n xs)) C → IsQuasiCyclic n C
-circulants_closed f n xs C l r c us h i =
+circulants_kept : (f : FieldName) (n : ℕ) (xs us : List (List ℕ)) (C : Matrix) → 1 ≤ n → AreRows f n xs → IsCode f (length xs * n) (GeneratedBy f (length xs * n) (circulants n xs)) C → All (λ u. length u ≡ n) us → InCode C (joined us) → InCode C (joined (map shifted us))
+circulants_kept f n xs us C l r c h i =
     let k = length xs in
     let N = k * n in
     let rows = circulants n xs in
@@ -191,6 +191,9 @@ circulants_closed f n xs C l r c us h i =
     let is : shift_parts n k (joined us) ≡ joined (map shifted us) = ap (λ j. shift_parts n j (joined us)) (sym parts) ∙ joined_shift n us h in
     let out : InSpan f N rows (joined (map shifted us)) = subst (InSpan f N rows) is inside in
     (told f N (GeneratedBy f N rows) C (joined (map shifted us)) c).1 (span_word f N rows (joined (map shifted us)) words out, out)
+
+pub circulants_closed : (f : FieldName) (n : ℕ) (xs : List (List ℕ)) (C : Matrix) → 1 ≤ n → AreRows f n xs → IsCode f (length xs * n) (GeneratedBy f (length xs * n) (circulants n xs)) C → IsQuasiCyclic n C
+circulants_closed f n xs C l r c = (ap (λ m. m % n) c.length_is ∙ mul-mod_left (length xs) n, λ us h i. circulants_kept f n xs us C l r c h i)
 
 first_row : (xs : List (List ℕ)) → row xs 0 ≡ joined xs
 unfolding joined shifted_by
@@ -211,7 +214,7 @@ row_in f n (suc i) xs D r q h =
     let us = map (shifted_by i) xs in
     let long : All (λ u. length u ≡ n) us = All-map (λ u. length u ≡ n) (shifted_by i) xs (shifts_long f n i xs r) in
     let e : joined (map shifted us) ≡ joined (map (shifted_by (suc i)) xs) = flat_map-map (λ u. u) shifted us ∙ flat_map-map shifted (shifted_by i) xs ∙ sym (flat_map-map (λ u. u) (shifted_by (suc i)) xs) in
-    subst (InCode D) e (q us long (row_in f n i xs D r q h))
+    subst (InCode D) e (q.1 us long (row_in f n i xs D r q h))
 
 pub circulants_smallest : (f : FieldName) (n : ℕ) (xs : List (List ℕ)) (C D : Matrix) → AreRows f n xs → IsCode f (length xs * n) (GeneratedBy f (length xs * n) (circulants n xs)) C → AreRows D.field D.columns D.rows → D.field ≡ f → D.columns ≡ length xs * n → IsQuasiCyclic n D → InCode D (joined xs) → IsSubcode C D
 unfolding circulants joined
@@ -242,7 +245,7 @@ one_row f n x w = All-cons (IsWord f n) x [] w (λ i d l. absurd (omega (arith, 
 pub circulant_cyclic : (f : FieldName) (n : ℕ) (x : List ℕ) (C : Matrix) → 1 ≤ n → IsWord f n x → IsCode f n (GeneratedBy f n (circulant n x)) C → IsCyclic C
 circulant_cyclic f n x C l word c w i =
     let long : length w ≡ n = ((told f n (GeneratedBy f n (circulant n x)) C w c).0 i).0.long in
-    subst (InCode C) (joined_one (shifted w)) (circulants_closed f n (x ∷ []) C l (one_row f n x word) (one_quasi f n x C c) (w ∷ []) (All-cons (λ u. length u ≡ n) w [] long (λ k d m. absurd (omega (arith, m)))) (subst (InCode C) (sym (joined_one w)) i))
+    subst (InCode C) (joined_one (shifted w)) (circulants_kept f n (x ∷ []) (w ∷ []) C l (one_row f n x word) (one_quasi f n x C c) (All-cons (λ u. length u ≡ n) w [] long (λ k d m. absurd (omega (arith, m)))) (subst (InCode C) (sym (joined_one w)) i))
 
 single : (n : ℕ) (D : Matrix) (us : List (List ℕ)) → length us ≡ 1 → IsCyclic D → InCode D (joined us) → InCode D (joined (map shifted us))
 single n D [] e q i = absurd (omega (arith, e))
@@ -250,10 +253,13 @@ single n D (u ∷ []) e q i = subst (InCode D) (sym (joined_one (shifted u))) (q
 single n D (u ∷ v ∷ us) e q i = absurd (omega (arith, e))
 
 one_part : (n : ℕ) (D : Matrix) → 1 ≤ n → D.columns ≡ n → AreRows D.field D.columns D.rows → IsCyclic D → IsQuasiCyclic n D
-one_part n D l e r q us h i =
-    let word = span_word D.field D.columns D.rows (joined us) r i in
-    let count : length us ≡ 1 = same_count (length us) 1 n (omega (arith, l)) (sym (length_joined n us h) ∙ word.long ∙ e ∙ omega (arith, suc-mul 0 n, zero-mul n)) in
-    single n D us count q i
+one_part n D l e r q = (
+  ap (λ m. m % n) e ∙ mod_self n,
+  λ us h i.
+      let word = span_word D.field D.columns D.rows (joined us) r i in
+      let count : length us ≡ 1 = same_count (length us) 1 n (omega (arith, l)) (sym (length_joined n us h) ∙ word.long ∙ e ∙ omega (arith, suc-mul 0 n, zero-mul n)) in
+      single n D us count q i,
+)
 
 pub circulant_smallest : (f : FieldName) (n : ℕ) (x : List ℕ) (C D : Matrix) → 1 ≤ n → IsWord f n x → IsCode f n (GeneratedBy f n (circulant n x)) C → AreRows D.field D.columns D.rows → D.field ≡ f → D.columns ≡ n → IsCyclic D → InCode D x → IsSubcode C D
 circulant_smallest f n x C D l word c r a b q i =

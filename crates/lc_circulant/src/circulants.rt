@@ -19,7 +19,7 @@ use std::alloc::Global;
 ///
 /// It is the smallest cyclic code that contains the word. Refused in this order: the field has more than 16 elements,
 /// FieldTooLarge; `n` is 0 or above 255, BadLength; the word hasn't n symbols, LengthsDiffer; a symbol isn't below the size of
-/// the field, BadArgument(1).
+/// the field, BadArgument(1). Fails if memory runs out.
 #[tactic(auto, using(lc_constructions::proofs::RefusalLaws::refused_or_not))]
 pub fn circulant(alloc: Global, x: &[u8], n: u64, field: &Field) -> Result<Code, CodeRefusal>
     ensures code { IfOk result (λ c. IsCode field.now n (GeneratedBy field.now n (circulant n x.now)) c) }
@@ -51,7 +51,7 @@ fn shifts_of_one(alloc: Global, x: &[u8], field: &Field) -> Result<Code, NoMemor
 ///
 /// Its length is `n` times the number of words. Refused in this order: the field has more than 16 elements, FieldTooLarge; `n` is
 /// 0, there is no word, or the length is above 255, BadLength; a word hasn't n symbols, LengthsDiffer; a symbol isn't below the
-/// size of the field, BadArgument(1).
+/// size of the field, BadArgument(1). Fails if memory runs out.
 #[tactic(auto, using(lc_constructions::proofs::RefusalLaws::refused_or_not))]
 pub fn quasi_cyclic(
     alloc: Global,

@@ -32,7 +32,7 @@ pub enum Filling {
 /// The word has as many symbols of the code's field as the code's length; those at the erased coordinates aren't looked at. The
 /// erased coordinates may be all, or none.
 ///
-/// Refused: the coordinates aren't strictly rising, or one of them is the length or more, BadPositions.
+/// Refused: the coordinates aren't strictly rising, or one of them is the length or more, BadPositions. Fails if memory runs out.
 #[tactic(auto, using(lc_constructions::proofs::RefusalLaws::refused_or_not))]
 pub fn fill_erasures(
     alloc: Global,

@@ -1,4 +1,4 @@
-//! Words of which some symbols are unknown, and residual codes.
+//! Words of which some symbols are unknown.
 #![tactic(auto)]
 
 mod erasures;

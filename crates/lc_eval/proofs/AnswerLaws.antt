@@ -4,7 +4,7 @@
 --   always                        a call that isn't refused
 --   given_by, refused_by          a value, and the refusal of a constructor of codes
 --   first_as                      so is the first refusal of a call
---   applied                       what was made, or its refusal
+--   applied_as, applied           what was made, or its refusal
 --   made_applies                  a code of the words that meet P
 --   never_refused                 a call without refusals
 use Rattle.std.proofs.Common.{◌≡◌, ℕ, ◌⊎◌, List, [], ◌∷◌, Option, Some, None, option_map, MatchOption, Result, Ok, Err, IfOk, refl, sym, ap, subst, ◌∙◌, inr}
@@ -57,14 +57,20 @@ pub first_as : (b : BoundCall) (rs : List (Option CodeRefusal)) (r : Option Code
 unfolding refusal_of
 first_as b rs r e h = ap first_of e ∙ first_from_codes rs ∙ ap (option_map refusal_from) h
 
+pub applied_as : {T : Type 0} (place : ℕ) (b : BoundCall) (first : Option CodeRefusal) (value : T → language.Value) (made : Result T CodeRefusal) (result : Result Value Stop)
+    → refusal_of b ≡ option_map refusal_from first → ¬ IsNotDivisor b
+    → ((x : T) → made ≡ Ok x → first ≡ None → Gives b (value x))
+    → IsRefusedAs made first → IsMadeAs value made place result → Answers result (AppliesTo place b)
+applied_as place b first value (Ok x) result e n g h s = always place b result (value x) (e ∙ ap (option_map refusal_from) h) n (g x refl h) s
+applied_as place b first value (Err x) (Ok v) e n g h s = absurd (given (value_of v) place (refusal_from x) s.1)
+applied_as place b first value (Err x) (Err (stop.Refused r)) e n g h s = applying place b (Some (refusal_from x)) (Err (stop.Refused r)) (e ∙ ap (option_map refusal_from) (h s.0)) s.1
+applied_as place b first value (Err x) (Err stop.NoMemory) e n g h s = tt
+
 pub applied : {T : Type 0} (place : ℕ) (b : BoundCall) (rs : List (Option CodeRefusal)) (value : T → language.Value) (made : Result T CodeRefusal) (result : Result Value Stop)
     → refusals_of b ≡ from_codes rs → ¬ IsNotDivisor b
     → ((x : T) → made ≡ Ok x → first_refusal rs ≡ None → Gives b (value x))
     → IsRefusedAs made (first_refusal rs) → IsMadeAs value made place result → Answers result (AppliesTo place b)
-applied place b rs value (Ok x) result e n g h s = always place b result (value x) (first_as b rs None e h) n (g x refl h) s
-applied place b rs value (Err x) (Ok v) e n g h s = absurd (given (value_of v) place (refusal_from x) s.1)
-applied place b rs value (Err x) (Err (stop.Refused r)) e n g h s = applying place b (Some (refusal_from x)) (Err (stop.Refused r)) (first_as b rs (Some x) e (h s.0)) s.1
-applied place b rs value (Err x) (Err stop.NoMemory) e n g h s = tt
+applied place b rs value made result e n g h s = applied_as place b (first_refusal rs) value made result (first_as b rs (first_refusal rs) e refl) n g h s
 
 pub made_applies : (place : ℕ) (b : BoundCall) (rs : List (Option CodeRefusal)) (f : FieldName) (n : ℕ) (P : List ℕ → Type 0) (made : Result Matrix CodeRefusal) (result : Result Value Stop)
     → refusals_of b ≡ from_codes rs → ¬ IsNotDivisor b → ((v : language.Value) → Made f n P v → Gives b v)

@@ -13,6 +13,7 @@ pub mod FormLaws
 pub mod FormCertificateLaws
 pub mod ConstructionCalls
 pub mod CyclicCalls
+pub mod ResidualCalls
 pub mod ResidueCalls
 pub mod MisfitLaws
 pub mod StockLaws

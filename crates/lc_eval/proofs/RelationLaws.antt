@@ -5,6 +5,7 @@
 --   truth_applies, subcode_applies, same_applies      truth values of two codes
 --   add_applies, scale_applies, distance_applies      words
 --   encode_applies                   codewords
+--   left_out                         a word that isn't in the code
 --   information_fault, information_none, information_told      messages
 --   augmented_applies                codes with further rows
 use Rattle.std.proofs.Common.{◌≡◌, ℕ, ◌<◌, ◌≤◌, ◌↔◌, min, Bool, true, false, not, nat_lt, ◌==◌, List, [], ◌∷◌, length, map, Vec, Global, Option, Some, None, Result, Err, IfOk, IfSome, IsSome, is_some, IsTrue, refl, sym, ap, ap₂, subst, ◌∙◌, ⊎_elim, arith, true≢false}
@@ -196,7 +197,7 @@ outside_first : (C : Matrix) (x : List ℕ) → first_of (from_codes (word_refus
 unfolding refusal_of refusals_of not_codeword when first_of
 outside_first C x h e = first_behind (from_codes (word_refusals C x)) _ h ∙ ap (λ t. first_of (when (not t) (refuse 50 []) ∷ [])) e
 
-left_out : (C : Matrix) (x w : List ℕ) → IsRight C x w → (InCode C w → ⊥) → in_span C.field C.columns C.rows x ≡ false
+pub left_out : (C : Matrix) (x w : List ℕ) → IsRight C x w → (InCode C w → ⊥) → in_span C.field C.columns C.rows x ≡ false
 left_out C x w h out =
     ⊎_elim
     (λ (t : in_span C.field C.columns C.rows x ≡ true). absurd (out (subst (InCode C) (sym h.same) (in_span_true C.field C.columns C.rows x t))))

@@ -13,7 +13,9 @@ ghost use Rattle.lc_eval.specs.Applied.{Answers};
 ghost use Rattle.lc_eval.specs.Value.{value_of, values_of, rows_of};
 
 use crate::code_value::CodeValue;
-use crate::construction::{circulant_code, construction_x_code, quasi_cyclic_code};
+use crate::construction::{
+    circulant_code, construction_x_code, quasi_cyclic_code, residue_code,
+};
 use crate::cyclic::{
     check_pol_code, extended_binary_golay_code, extended_ternary_golay_code, generator_pol_code,
     qr_code,
@@ -129,6 +131,7 @@ static TABLE: &[Row] = &rows! {
     Call::Value(ValueCall::CirculantCode) => "CirculantCode" [Numbers, Number, Field];
     Call::Value(ValueCall::QuasiCyclicCode) => "QuasiCyclicCode" [Lists, Number, Field];
     Call::Value(ValueCall::ConstructionXCode) => "ConstructionXCode" [Code, Code, Code];
+    Call::Value(ValueCall::ResidueCode) => "ResidueCode" [Code, Numbers];
     Call::Query(QueryCall::AlgebraicDecode) => "AlgebraicDecode" [Code, Numbers];
     Call::Query(QueryCall::LeastWord) => "LeastWord" [Lists, Field];
     Call::Query(QueryCall::MinimumDistance) => "MinimumDistance" [Code];
@@ -248,6 +251,7 @@ pub(crate) enum BoundCall<'a> {
     CirculantCode(&'a [u64], u64, &'a Field),
     QuasiCyclicCode(&'a [Vec<u64>], u64, &'a Field),
     ConstructionXCode(&'a Code, &'a Code, &'a Code),
+    ResidueCode(&'a Code, &'a [u64]),
 }
 
 impl Means for BoundCall<'_> {
@@ -308,6 +312,7 @@ impl Means for BoundCall<'_> {
       | BoundCall.CirculantCode x n f ↦ language.circulant_code x.now n f.now
       | BoundCall.QuasiCyclicCode xs n f ↦ language.quasi_cyclic_code (rows_of xs.now) n f.now
       | BoundCall.ConstructionXCode C D E ↦ language.construction_x_code C.now D.now E.now
+      | BoundCall.ResidueCode C x ↦ language.residue_code C.now x.now
     ] };
 }
 
@@ -445,6 +450,7 @@ fn with_two<'a>(call: ValueCall, a: &'a Value, b: &'a Value) -> Option<BoundCall
         ValueCall::SubfieldSubcode => {
             Some(BoundCall::SubfieldSubcode(&a.code()?.code, b.field()?))
         }
+        ValueCall::ResidueCode => Some(BoundCall::ResidueCode(&a.code()?.code, b.numbers()?)),
         _ => None,
     }
 }
@@ -647,6 +653,7 @@ pub(crate) fn apply(
             quasi_cyclic_code(alloc, place, words, n, field)
         }
         BoundCall::ConstructionXCode(c, d, e) => construction_x_code(alloc, place, c, d, e),
+        BoundCall::ResidueCode(code, list) => residue_code(alloc, place, code, list),
     }
 }
 

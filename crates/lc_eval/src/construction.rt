@@ -1,11 +1,12 @@
-//! Codes by circulant matrices, and construction X.
+//! Codes by circulant matrices, construction X, and residual codes.
 ghost use Rattle.lc_language.specs.Calls as bound;
 ghost use Rattle.lc_language.specs.Evaluation.{AppliesTo};
 ghost use Rattle.lc_eval.specs.Applied.{Answers};
 ghost use Rattle.lc_eval.specs.Value.{rows_of};
 
+use crate::decoding::checked;
 use crate::made::{code_value, made};
-use crate::refusals::{NOT_A_SUBCODE, Stop, fault, refused_as};
+use crate::refusals::{NOT_A_CODEWORD, NOT_A_SUBCODE, Stop, fault, refused_as};
 use crate::rows::{word_of, words_of};
 use crate::values::Value;
 use lc_code::Code;
@@ -69,4 +70,26 @@ pub(crate) fn construction_x_code(
         }
         Err(ExtensionRefusal::Codes(refusal)) => Err(refused_as(alloc, place, refusal)),
     }
+}
+
+/// The residual code at a list of symbols, which should be a word of the code.
+#[tactic(auto, using(crate::proofs::ResidualCalls::residue_code_laws))]
+pub(crate) fn residue_code(
+    alloc: Global,
+    place: usize,
+    code: &Code,
+    list: &[u64],
+) -> Result<Value, Stop>
+    ensures { Answers result (AppliesTo place (bound.residue_code code.now list.now)) }
+{
+    let word = checked(alloc, place, code, list)?;
+    let mut rest = word.symbols().to_vec(alloc)?;
+    if !code.contains(word.symbols(), &mut rest) {
+        return Err(Stop::Refused(fault(alloc, NOT_A_CODEWORD, place)));
+    }
+    made(
+        alloc,
+        place,
+        lc_residual::residual(alloc, code, word.symbols()),
+    )
 }

@@ -2,8 +2,9 @@
 --   alike_fields, alike_tails, alike_lengths, alike_fine      of codes that are not alike
 --   tail_dimension, tail_long, tail_fine                      of codes for the tails
 --   refused_alike, refused_subcode, refused_tail, refused_nothing      the first refusal of all
+--   first_alike, first_none          the refusal that comes before any memory is taken
 --   subcode_told                     a code lies in another one exactly if its rows do
-use Rattle.std.proofs.Common.{◌≡◌, ◌≢◌, ◌+◌, ◌-◌, ◌<◌, ◌≤◌, ◌↔◌, Bool, true, false, not, IsTrue, Some, None, [], ◌∷◌, length, option_map, slice_index_or, refl, ap, ◌∙◌}
+use Rattle.std.proofs.Common.{◌≡◌, ◌≢◌, ◌+◌, ◌-◌, ◌<◌, ◌≤◌, ◌↔◌, Bool, true, false, not, IsTrue, Option, Some, None, is_none, [], ◌∷◌, length, option_map, slice_index_or, Result, Err, refl, sym, ap, ◌∙◌, true≢false}
 use Rattle.std.specs.List.{list_all}
 use Rattle.std.proofs.lemmas.Bool.{eq-eqb, ne_eqb}
 use Rattle.std.proofs.lemmas.List.Sums.{AllPass-from_list_all, list_all-from_AllPass}
@@ -23,7 +24,8 @@ use Rattle.lc_language.specs.ConstructionX.{has_subcode, not_subcode, unlike_cod
 use Rattle.lc_language.proofs.RefusalLaws.{first_from_codes, first_stays, first_behind}
 use Rattle.lc_combine.proofs.RefusalLaws.{short_length}
 use Rattle.lc_relations.proofs.UnionLaws.{shared, shared_rows}
-use Rattle.lc_extend.specs.Told.{told}
+use Rattle.lc_extend.specs.Told.{told, IsRefusedFirst}
+use Rattle.lc_extend.specs.declared.refusal.ExtensionRefusal.{ExtensionRefusal}
 use Rattle.lc_extend.specs.declared.refusal.ExtensionRefusal.TheVariants.{Codes, NotASubcode}
 
 -- ---- codes that are not alike
@@ -86,6 +88,14 @@ refused_tail C D E e h s t = subcode_behind C D E h s ∙ first_from_codes (unfi
 
 pub refused_nothing : (C D E : Matrix) → first_refusal (unlike_codes C D E) ≡ None → has_subcode C D ≡ true → first_refusal (unfit_tail C D E) ≡ None → first_of (construction_x_refusals C D E) ≡ None
 refused_nothing C D E h s t = subcode_behind C D E h s ∙ first_from_codes (unfit_tail C D E) ∙ ap (option_map refusal_from) t
+
+pub first_alike : {T : Type 0} (result : Result T ExtensionRefusal) (r : Option CodeRefusal) (e : CodeRefusal) → result ≡ Err (Codes e) → r ≡ Some e → IsRefusedFirst result r
+first_alike result r e a s x h = let t : Some e ≡ Some x = sym s ∙ h in cc (t, a)
+
+pub first_none : {T : Type 0} (result : Result T ExtensionRefusal) (r : Option CodeRefusal) → r ≡ None → IsRefusedFirst result r
+first_none result r s e h = absurd (true≢false (ap is_none (sym s ∙ h)))
+
+pub ruleset construction_x_laws = (refused_alike, first_alike, first_none)
 
 pub subcode_told : (C D : Matrix) (b : Bool) → C.field ≡ D.field → C.columns ≡ D.columns → AreRows C.field C.columns C.rows → AreRows D.field D.columns D.rows → IsTrue b ↔ IsSubcode D C → b ≡ has_subcode C D
 unfolding has_subcode

@@ -2,8 +2,11 @@
 --   AreExtendable C D E       three codes that construction X takes, but for the length of what it gives
 --   told e                    the refusal of the language that it is
 --   IsRefusedWith result r    the result is a value only if r is None, and an error other than the want of memory only if r tells it
+--   IsRefusedFirst result r   if r is a refusal, the result is this error: it comes before any memory is taken
 use Rattle.std.specs.Prelude.{◌≡◌, ◌≢◌, ◌-◌, [], length, Option, Some, None, Result, MatchResult}
+use Rattle.std.specs.Result.{IsErrOf}
 use Rattle.lc_algebra.specs.Matrix.{Matrix, AreRows, IsReduced}
+use Rattle.lc_constructions.specs.declared.refusal.CodeRefusal.{CodeRefusal}
 use Rattle.lc_constructions.specs.declared.refusal.CodeRefusal.TheVariants.{NoMemory}
 use Rattle.lc_language.specs.Refusal.{Refusal, refuse, refusal_from}
 use Rattle.lc_language.specs.Relations.{IsSubcode}
@@ -29,3 +32,6 @@ told NotASubcode = refuse 51 []
 
 abbrev pub IsRefusedWith : {T : Type 0} → Result T ExtensionRefusal → Option Refusal → Type 0
 IsRefusedWith result r = MatchResult result (λ _. r ≡ None) (λ e. e ≢ Codes NoMemory → r ≡ Some (told e))
+
+abbrev pub IsRefusedFirst : {T : Type 0} → Result T ExtensionRefusal → Option CodeRefusal → Type 0
+IsRefusedFirst result r = (e : CodeRefusal) → r ≡ Some e → IsErrOf result (Codes e)

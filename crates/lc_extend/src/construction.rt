@@ -1,10 +1,11 @@
 //! Construction X.
 ghost use Rattle.std.specs.Prelude.{◌≡◌, ◌+◌, ◌-◌, ◌≤◌, length, IfOk};
 ghost use Rattle.lc_constructions.specs.Code.{longest, IsCode};
+ghost use Rattle.lc_constructions.specs.Refusal.{first_refusal};
 ghost use Rattle.lc_language.specs.Refusal.{first_of};
 ghost use Rattle.lc_language.specs.Relations.{IsSubcode};
-ghost use Rattle.lc_language.specs.ConstructionX.{InComplement, InConstructionX, construction_x_refusals};
-ghost use Rattle.lc_extend.specs.Told.{IsRefusedWith};
+ghost use Rattle.lc_language.specs.ConstructionX.{InComplement, InConstructionX, unlike_codes, construction_x_refusals};
+ghost use Rattle.lc_extend.specs.Told.{IsRefusedWith, IsRefusedFirst};
 
 use crate::refusal::{ExtensionRefusal, check_alike, check_tail};
 use crate::rows::{complement_checks, extended_rows};
@@ -20,12 +21,14 @@ use std::alloc::Global;
 /// rows of `d` begin. The code has each word of `c`, followed by the combination of the rows of `e` with the same coefficients;
 /// both matrices are reduced. Refused in this order: the fields differ, Codes(FieldsDiffer); the lengths of `c` and `d` differ,
 /// Codes(LengthsDiffer); `d` is not a subcode of `c`, NotASubcode; the dimension of `e` is not that of `c` less that of `d`,
-/// Codes(InnerDimension); the lengths of `c` and `e` add up to more than 255, Codes(BadLength).
-#[tactic(auto, using(crate::proofs::RefusalLaws::refused_alike))]
+/// Codes(InnerDimension); the lengths of `c` and `e` add up to more than 255, Codes(BadLength). The first two come before any memory
+/// is taken. Fails if memory runs out, Codes(NoMemory).
+#[tactic(auto, using(crate::proofs::RefusalLaws::construction_x_laws))]
 pub fn construction_x(alloc: Global, c: &Code, d: &Code, e: &Code) -> Result<Code, ExtensionRefusal>
     ensures code { IfOk result
         (λ x. IsCode c.now.field (c.now.columns + e.now.columns) (InConstructionX c.now d.now e.now) x) }
     ensures refused { IsRefusedWith result (first_of (construction_x_refusals c.now d.now e.now)) }
+    ensures first { IsRefusedFirst result (first_refusal (unlike_codes c.now d.now e.now)) }
 {
     check_alike(c, d, e)?;
     let _whole = c.matrix();

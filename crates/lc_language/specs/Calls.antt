@@ -56,6 +56,7 @@ use Rattle.lc_language.specs.Erasures.{erased_refusals}
 use Rattle.lc_language.specs.Trace.{InTrace, InSubfieldSubcode, subfield_refusals}
 use Rattle.lc_language.specs.Circulant.{circulant, circulants, circulant_refusals, quasi_cyclic_refusals}
 use Rattle.lc_language.specs.ConstructionX.{InConstructionX, construction_x_refusals}
+use Rattle.lc_language.specs.Residual.{InResidual, residual_refusals}
 
 pub data BoundCall : Type 0 where
   gf : ℕ → BoundCall
@@ -112,6 +113,7 @@ pub data BoundCall : Type 0 where
   circulant_code : List ℕ → ℕ → FieldName → BoundCall
   quasi_cyclic_code : List (List ℕ) → ℕ → FieldName → BoundCall
   construction_x_code : Matrix → Matrix → Matrix → BoundCall
+  residue_code : Matrix → List ℕ → BoundCall
 
 pub data BoundQuery : Type 0 where
   algebraic_decode : Matrix → Option AlternantForm → List ℕ → BoundQuery
@@ -181,6 +183,7 @@ value_name call.SubfieldSubcode = codes "SubfieldSubcode"
 value_name call.CirculantCode = codes "CirculantCode"
 value_name call.QuasiCyclicCode = codes "QuasiCyclicCode"
 value_name call.ConstructionXCode = codes "ConstructionXCode"
+value_name call.ResidueCode = codes "ResidueCode"
 
 unfoldable pub query_name : QueryCall → List ℕ
 query_name query.AlgebraicDecode = codes "AlgebraicDecode"
@@ -250,6 +253,7 @@ value_forms call.SubfieldSubcode = one (Code ∷ Field ∷ []) (λ C f. subfield
 value_forms call.CirculantCode = one (Numbers ∷ Number ∷ Field ∷ []) circulant_code
 value_forms call.QuasiCyclicCode = one (Lists ∷ Number ∷ Field ∷ []) quasi_cyclic_code
 value_forms call.ConstructionXCode = one (Code ∷ Code ∷ Code ∷ []) (λ C D E. construction_x_code C.code D.code E.code)
+value_forms call.ResidueCode = one (Code ∷ Numbers ∷ []) (λ C x. residue_code C.code x)
 
 unfoldable pub query_forms : QueryCall → List (Form BoundQuery)
 query_forms query.AlgebraicDecode = one (Code ∷ Numbers ∷ []) (λ C x. algebraic_decode C.code C.form x)
@@ -320,6 +324,7 @@ refusals_of (subfield_subcode C f) = from_codes (subfield_refusals C f)
 refusals_of (circulant_code x n f) = from_codes (circulant_refusals f x n)
 refusals_of (quasi_cyclic_code xs n f) = from_codes (quasi_cyclic_refusals f xs n)
 refusals_of (construction_x_code C D E) = construction_x_refusals C D E
+refusals_of (residue_code C x) = residual_refusals C x
 
 unfoldable pub refusal_of : BoundCall → Option Refusal
 refusal_of b = first_of (refusals_of b)
@@ -397,6 +402,7 @@ Gives (subfield_subcode C f) v = Made f C.columns (InSubfieldSubcode C f) v
 Gives (circulant_code x n f) v = Made f n (GeneratedBy f n (circulant n x)) v
 Gives (quasi_cyclic_code xs n f) v = Made f (length xs * n) (GeneratedBy f (length xs * n) (circulants n xs)) v
 Gives (construction_x_code C D E) v = Made C.field (C.columns + E.columns) (InConstructionX C D E) v
+Gives (residue_code C x) v = Made C.field (C.columns - weight x) (InResidual C x) v
 
 abbrev pub IsNotDivisor : BoundCall → Type 0
 IsNotDivisor (generator_pol_code x n f) = ¬ Divides f (trimmed x) (x_power_minus_one f n)
@@ -406,7 +412,7 @@ IsNotDivisor _ = ⊥
 -- ---- the table
 
 unfoldable pub value_calls : List ValueCall
-value_calls = call.Gf ∷ call.GeneratorMatCode ∷ call.CheckMatCode ∷ call.RepetitionCode ∷ call.WholeSpaceCode ∷ call.NullCode ∷ call.HammingCode ∷ call.ReedMullerCode ∷ call.GeneratorPolCode ∷ call.CheckPolCode ∷ call.QrCode ∷ call.BinaryGolayCode ∷ call.TernaryGolayCode ∷ call.ExtendedBinaryGolayCode ∷ call.ExtendedTernaryGolayCode ∷ call.BchCode ∷ call.ReedSolomonCode ∷ call.GoppaCode ∷ call.AlternantCode ∷ call.DualCode ∷ call.ExtendedCode ∷ call.PuncturedCode ∷ call.ShortenedCode ∷ call.EvenWeightSubcode ∷ call.DirectSumCode ∷ call.UuvCode ∷ call.DirectProductCode ∷ call.IntersectionCode ∷ call.ConcatenatedCode ∷ call.Dimension ∷ call.WordLength ∷ call.GeneratorMat ∷ call.CheckMat ∷ call.Weight ∷ call.IsCodeword ∷ call.Decode ∷ call.Syndrome ∷ call.IsSubcode ∷ call.IsSameCode ∷ call.IsSelfOrthogonalCode ∷ call.IsSelfDualCode ∷ call.IsCyclicCode ∷ call.AddWords ∷ call.ScaleWord ∷ call.DistanceCodeword ∷ call.Encode ∷ call.InformationWord ∷ call.UnionCode ∷ call.AugmentedCode ∷ call.TraceCode ∷ call.SubfieldSubcode ∷ call.CirculantCode ∷ call.QuasiCyclicCode ∷ call.ConstructionXCode ∷ []
+value_calls = call.Gf ∷ call.GeneratorMatCode ∷ call.CheckMatCode ∷ call.RepetitionCode ∷ call.WholeSpaceCode ∷ call.NullCode ∷ call.HammingCode ∷ call.ReedMullerCode ∷ call.GeneratorPolCode ∷ call.CheckPolCode ∷ call.QrCode ∷ call.BinaryGolayCode ∷ call.TernaryGolayCode ∷ call.ExtendedBinaryGolayCode ∷ call.ExtendedTernaryGolayCode ∷ call.BchCode ∷ call.ReedSolomonCode ∷ call.GoppaCode ∷ call.AlternantCode ∷ call.DualCode ∷ call.ExtendedCode ∷ call.PuncturedCode ∷ call.ShortenedCode ∷ call.EvenWeightSubcode ∷ call.DirectSumCode ∷ call.UuvCode ∷ call.DirectProductCode ∷ call.IntersectionCode ∷ call.ConcatenatedCode ∷ call.Dimension ∷ call.WordLength ∷ call.GeneratorMat ∷ call.CheckMat ∷ call.Weight ∷ call.IsCodeword ∷ call.Decode ∷ call.Syndrome ∷ call.IsSubcode ∷ call.IsSameCode ∷ call.IsSelfOrthogonalCode ∷ call.IsSelfDualCode ∷ call.IsCyclicCode ∷ call.AddWords ∷ call.ScaleWord ∷ call.DistanceCodeword ∷ call.Encode ∷ call.InformationWord ∷ call.UnionCode ∷ call.AugmentedCode ∷ call.TraceCode ∷ call.SubfieldSubcode ∷ call.CirculantCode ∷ call.QuasiCyclicCode ∷ call.ConstructionXCode ∷ call.ResidueCode ∷ []
 
 unfoldable pub query_calls : List QueryCall
 query_calls = query.AlgebraicDecode ∷ query.LeastWord ∷ query.MinimumDistance ∷ query.Certificate ∷ query.ScanCertificate ∷ query.WeightDistribution ∷ query.AlternantCertificate ∷ query.NearestWord ∷ query.FillErasures ∷ []

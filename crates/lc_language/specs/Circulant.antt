@@ -5,11 +5,11 @@
 --   circulants n xs         the circulant matrices of some words side by side: row i is each word after i cyclic shifts, one after
 --                           the other
 --   joined us               some words, one after the other
---   IsQuasiCyclic n C       the cyclic shift of all parts of a word of C at once is a word of C
+--   IsQuasiCyclic n C       n divides the length of C, and the cyclic shift of all parts of a word of C at once is a word of C
 -- When they are refused:
 --   circulant_refusals f x n           circulant codes: 17, 2, 12, 3 with 1
 --   quasi_cyclic_refusals f xs n       quasi-cyclic codes: 17, 2, 12, 3 with 1
-use Rattle.std.specs.Prelude.{◌≡◌, ℕ, zero, suc, ◌*◌, ◌==◌, not, List, [], ◌∷◌, length, map, flat_map, All, Option}
+use Rattle.std.specs.Prelude.{◌≡◌, ℕ, zero, suc, ◌*◌, ◌%◌, ◌==◌, not, List, [], ◌∷◌, length, map, flat_map, All, Option}
 use Rattle.std.specs.List.{list_all}
 use Rattle.lc_algebra.specs.declared.FieldName.{FieldName}
 use Rattle.lc_algebra.specs.Span.{below}
@@ -35,7 +35,7 @@ unfoldable pub joined : List (List ℕ) → List ℕ
 joined us = flat_map (λ u. u) us
 
 abbrev pub IsQuasiCyclic : ℕ → Matrix → Type 0
-IsQuasiCyclic n C = (us : List (List ℕ)) → All (λ u. length u ≡ n) us → InCode C (joined us) → InCode C (joined (map shifted us))
+IsQuasiCyclic n C = (C.columns % n ≡ 0) × ((us : List (List ℕ)) → All (λ u. length u ≡ n) us → InCode C (joined us) → InCode C (joined (map shifted us)))
 
 -- ---- refusals
 

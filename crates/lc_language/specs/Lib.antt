@@ -10,5 +10,6 @@ pub mod QuadraticResidues
 pub mod Query
 pub mod Refusal
 pub mod Relations
+pub mod Residual
 pub mod Trace
 pub mod Value

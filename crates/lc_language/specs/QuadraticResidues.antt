@@ -12,8 +12,9 @@
 --   residue_rows f n t        the word of ones, and the n cyclic shifts of the residue word
 --   InResidueCode f n t w     w is a word of the quadratic residue code of the period t: a sum of multiples of these rows
 --   multiplied n r w          the word whose symbol at coordinate i is that of w at r i modulo n
---   IsQuadraticResidueCode f n C      C is a quadratic residue code of length n that has the word of ones: a cyclic code of dimension
---                             (n + 1) / 2 that the maps of i to r i keep, for each residue r
+--   IsQuadraticResidueCode f n C      C is a quadratic residue code that has the word of ones: a cyclic code over f, given by its
+--                             reduced generator matrix, of dimension (n + 1) / 2 and of a length n that is an odd prime modulo which
+--                             the size of f is a residue; and the maps of i to r i keep it, for each residue r
 -- When the call is refused:
 --   not_residue_length f n    53: n is no odd prime modulo which the size of the field is a quadratic residue
 use Rattle.std.specs.Prelude.{◌≡◌, ℕ, ◌+◌, ◌-◌, ◌*◌, ◌/◌, ◌%◌, ◌<◌, Bool, not, nat_lt, ◌==◌, ◌&&◌, ◌||◌, if◌then◌else◌, IsTrue, List, [], ◌∷◌, length, map, replicate, slice_index, Option}
@@ -22,7 +23,7 @@ use Rattle.lc_algebra.specs.declared.FieldName.{FieldName}
 use Rattle.lc_algebra.specs.Field.{shape_of, size, add, neg, mul}
 use Rattle.lc_algebra.specs.Embedding.{first_that}
 use Rattle.lc_algebra.specs.Span.{below, InSpan}
-use Rattle.lc_algebra.specs.Matrix.{Matrix}
+use Rattle.lc_algebra.specs.Matrix.{Matrix, AreRows, IsReduced}
 use Rattle.lc_constructions.specs.Code.{InCode}
 use Rattle.lc_language.specs.Refusal.{Refusal, refuse, when}
 use Rattle.lc_language.specs.Relations.{IsCyclic}
@@ -72,6 +73,9 @@ multiplied n r w = map (λ i. slice_index w (r * i % n)) (below n)
 pub record IsQuadraticResidueCode (f : FieldName) (n : ℕ) (C : Matrix) : Type 0 where
   pub field : C.field ≡ f
   pub columns : C.columns ≡ n
+  pub prime : IsTrue (is_residue_length (size f) n)
+  pub words : AreRows f n C.rows
+  pub reduced : IsReduced n C.rows
   pub cyclic : IsCyclic C
   pub kept : (r : ℕ) (w : List ℕ) → IsTrue (is_residue n r) → InCode C w → InCode C (multiplied n r w)
   pub ones : InCode C (replicate n 1)

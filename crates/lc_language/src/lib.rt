@@ -74,6 +74,7 @@ pub enum ValueCall {
     CirculantCode,
     QuasiCyclicCode,
     ConstructionXCode,
+    ResidueCode,
 }
 
 /// The calls that are statements of their own: each prints a line of its own.

@@ -3,7 +3,6 @@
 --   combine_units, units_independent, units_span       the unit words are independent, and their sums of multiples are all words
 --   units_in               they are sums of words of both codes
 --   other_there            there is a number that is no residue, and its inverse is none
---   multiplied_back        words multiplied by a number and by its inverse are the same
 --   residue_dimension      the dimension is (n + 1) / 2
 --   is_quadratic_residue   the code of the least period is a quadratic residue code
 --   common_constant        the words that both codes have are the words of equal symbols
@@ -45,6 +44,7 @@ use Rattle.lc_residues.proofs.PickLaws.{same_picks, index_shift, length_shift, i
 use Rattle.lc_residues.proofs.ShiftLaws.{ones_in, shift_in}
 use Rattle.lc_residues.proofs.CharacterLaws.{square_below, residue_by_squares, inverse_there, inverse_times, other_times}
 use Rattle.lc_residues.proofs.MultiplierLaws.{rows_exchanged}
+use Rattle.lc_residues.proofs.ExchangeLaws.{other_inverse, multiplied_back}
 use Rattle.lc_residues.proofs.PrimeFieldLaws.{periods_apart}
 use Rattle.lc_residues.proofs.DualLaws.{unit_parts}
 use Rattle.lc_residues.proofs.OrthogonalLaws.{other_twice, symbols_equal}
@@ -205,29 +205,16 @@ pair_there n l h =
     let big = (prime_parts n h).0 in
     let p : 0 < n = omega (arith, big) in
     let nonzero : a % n ≢ 0 = λ e. z (sym (mod-eq_of_lt m) ∙ e) in
-    let (u, k) = inverse_there n a l h nonzero in
-    let b = u % n in
-    let small : b < n = mod-lt u p in
-    let one : a * b % n ≡ 1 = mul-mod_second a u n ∙ k in
-    let other : b ≢ 0 = λ e. let q : a * b % n ≡ 0 = ap (λ j. a * j % n) e ∙ ap (λ j. j % n) (mul-zero a) ∙ zero-mod n in omega (arith, q, one) in
-    let unit : 1 % n ≡ 1 = mod-eq_of_lt (omega (arith, big)) in
-    let square : is_residue n (a * b % n) ≡ true = ap (is_residue n) one ∙ residue_from n 1 1 (λ e. omega (arith, e, unit)) (omega (arith, big)) refl in
-    let turned : is_residue n (a * b % n) ≡ not (is_residue n b) = other_times n a b l h nonzero r small other in
+    let (b, one, other, q) = other_inverse n a l h nonzero r in
     record {
       first = a;
       second = b;
       first_other = r;
-      second_other = not-true (is_residue n b) (sym turned ∙ square);
+      second_other = q;
       first_nonzero = nonzero;
-      second_nonzero = λ e. other (sym (mod-eq_of_lt small) ∙ e);
+      second_nonzero = other;
       inverse = one;
     }
-
-multiplied_back : (n a b : ℕ) (w : List ℕ) → a * b % n ≡ 1 → length w ≡ n → multiplied n a (multiplied n b w) ≡ w
-multiplied_back n a b w e long =
-    same_picks n (multiplied n a (multiplied n b w)) w (length_multiplied n a (multiplied n b w)) long (λ i l.
-    let turned : b * a % n ≡ 1 = ap (λ m. m % n) (mul_comm b a) ∙ e in
-    index_multiplied n a (multiplied n b w) i l ∙ index_multiplied n b w (a * i % n) (mod-lt (a * i) (omega (arith, l))) ∙ ap (slice_index w) (inverse_times n b a i turned ∙ mod-eq_of_lt l))
 
 -- ---- the dimension
 
@@ -346,6 +333,9 @@ is_quadratic_residue f n C y l a c =
     record {
       field = c.over;
       columns = c.length_is;
+      prime = a;
+      words = c.generator.words;
+      reduced = c.generator.reduced;
       cyclic = residue_cyclic f n t C c;
       kept = λ r w k i. residue_kept f n t r C w l h k c i;
       ones = residue_ones f n t C c;

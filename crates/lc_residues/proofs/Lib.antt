@@ -10,6 +10,7 @@ pub mod KeptLaws
 pub mod PrimeFieldLaws
 pub mod CountLaws
 pub mod DualLaws
+pub mod ExchangeLaws
 pub mod OrthogonalLaws
 pub mod DimensionLaws
 pub mod ResidueExamples

@@ -20,7 +20,7 @@ use std::alloc::Global;
 /// field is a quadratic residue.
 ///
 /// Its dimension is (n + 1) / 2. Refused in this order, before that is looked at: the field has more than 16 elements,
-/// FieldTooLarge; `n` is 0 or above 255, BadLength.
+/// FieldTooLarge; `n` is 0 or above 255, BadLength. Fails if memory runs out.
 #[tactic(auto, using(lc_constructions::proofs::RefusalLaws::refused_or_not))]
 pub fn quadratic_residue(alloc: Global, n: u64, field: &Field) -> Result<Option<Code>, CodeRefusal>
     ensures code { IfOk result (λ o.

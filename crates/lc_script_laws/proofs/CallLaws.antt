@@ -104,6 +104,7 @@ gives_one (bound.subfield_subcode C f) r = made_one _ _ _ _
 gives_one (bound.circulant_code x n f) r = made_one _ _ _ _
 gives_one (bound.quasi_cyclic_code xs n f) r = made_one _ _ _ _
 gives_one (bound.construction_x_code C D E) r = made_one _ _ _ _
+gives_one (bound.residue_code C x) r = made_one _ _ _ _
 
 pub queries_one : (b : BoundQuery) → One (Queries b)
 queries_one (bound.algebraic_decode C form x) = decoded_by_form C x form
@@ -269,6 +270,7 @@ calls_shaped call.SubfieldSubcode = (λ C h f v e g. made_shaped _ _ _ v (subfie
 calls_shaped call.CirculantCode = (λ x n f v e g. made_shaped _ _ _ v (circulant_allowed f x n e) g, tt)
 calls_shaped call.QuasiCyclicCode = (λ xs n f v e g. made_shaped _ _ _ v (quasi_allowed f xs n e) g, tt)
 calls_shaped call.ConstructionXCode = (λ C h D k E l v e g. made_shaped _ _ _ v (construction_x_short C.code D.code E.code e, h.0.symbol) g, tt)
+calls_shaped call.ResidueCode = (λ C h x v e g. made_shaped _ _ _ v (omega (arith, h.0.long), h.0.symbol) g, tt)
 
 abbrev pub HaveQueryShapes : BoundQuery → Type 0
 HaveQueryShapes (bound.minimum_distance C) = IsCodeOfRows C

@@ -16,6 +16,7 @@ use std::alloc::Global;
 /// a word of the code (MacWilliams and Sloane, chapter 7; Magma and Sage have it under this name). The field may be the code's own.
 ///
 /// Refused in this order: the field has more than 16 elements, FieldTooLarge; it isn't a subfield of the code's field, NotASubfield.
+/// Fails if memory runs out.
 #[tactic(auto, using(lc_constructions::proofs::RefusalLaws::refused_or_not))]
 pub fn subfield_subcode(alloc: Global, code: &Code, field: &Field) -> Result<Code, CodeRefusal>
     ensures code { IfOk result

@@ -20,6 +20,7 @@ use std::alloc::Global;
 /// degree of the code's field over `field`, which has q elements. The field may be the code's own: then each trace is the element.
 ///
 /// Refused in this order: the field has more than 16 elements, FieldTooLarge; it isn't a subfield of the code's field, NotASubfield.
+/// Fails if memory runs out.
 #[tactic(auto, using(lc_constructions::proofs::RefusalLaws::refused_or_not))]
 pub fn trace_code(alloc: Global, code: &Code, field: &Field) -> Result<Code, CodeRefusal>
     ensures code { IfOk result (λ c. IsCode field.now code.now.columns (InTrace code.now field.now) c) }

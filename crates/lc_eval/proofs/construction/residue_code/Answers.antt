@@ -1,0 +1,8 @@
+use Rattle.std.proofs.lemmas.Result.{err_from_is_err_and}
+use Rattle.lc_eval.proofs.ResidualCalls.{residue_fault}
+use Rattle.lc_eval.proofs.construction.residue_code.Goals as goal
+
+pub returns-in_err-word : goal.returns-in_err-word
+returns-in_err-word c =
+    let p = err_from_is_err_and c.from_residual.result c.from_residual.ensures.1 in
+    rw (p.1, p.2) (residue_fault c.args.place c.args.code.now c.args.list.now c.in_err-word.field-0.0 c.in_err-word.ensures)

@@ -1,0 +1,3 @@
+pub mod DimensionLaws
+pub mod SupportLaws
+pub mod WeightLaws
