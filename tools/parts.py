@@ -117,14 +117,14 @@ def joined(lines, budget):
     ends = [0] + [end for end, _, _ in ends_of(facts["k"], facts["q"], len(facts["ranks"]))]
     most = min(budget, search.CUT)
     blocks, best = 0, (facts["first"], 0)
-    rising = sorted((said["from"], -said["count"], said["weight"], said["place"]) for _, said in parts)
+    done = [(said["from"], said["from"] + said["count"], (said["weight"], said["place"])) for _, said in parts]
     while not (blocks >= most or (blocks in ends and bound(facts, blocks, best[0]) >= best[0])):
-        end = min([end for end in ends if end > blocks] + [most])
-        usable = [part for part in rising if part[0] == blocks and blocks - part[1] <= min(end, most)]
-        if not usable:
-            later = min([part[0] for part in rising if blocks < part[0]] + [end])
-            return MISSING, "", f"codes: blocks {blocks} to {min(later, end) - 1} are missing"
-        best, blocks = min(best, usable[0][2:]), blocks - usable[0][1]
+        wanted = min([end for end in ends if end > blocks] + [most])
+        found = next((part for part in done if part[0] <= blocks < part[1] <= wanted), None)
+        if found is None:
+            later = min([part[0] for part in done if blocks < part[0]] + [wanted])
+            return MISSING, "", f"codes: blocks {blocks} to {min(later, wanted) - 1} are missing"
+        blocks, best = found[1], min(best, found[2])
     body = {"blocks": blocks, "budget": budget, "done": [], "place": best[1], "script": facts["script"], "turn": 0, "version": 2, "weight": best[0]}
     return DONE, sealed(json.dumps(body, separators=(",", ":"), sort_keys=True).encode()).decode(), ""
 
