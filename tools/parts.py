@@ -66,7 +66,10 @@ def ends_of(k, q, count):
 
 def line_of(script, start, count):
     """The line of a range of the first search of a script, without its newline; None if there is no such range."""
-    code = next((code for code, _ in plan.searches(script)), None)
+    try:
+        code = next((code for code, _ in plan.searches(script)), None)
+    except reference.Fault:
+        return None
     if code is None:
         return None
     known = Search(code)
@@ -104,16 +107,16 @@ def joined(lines, budget):
     """The status, the checkpoint, and what is said to standard error."""
     parts = [(number, said) for number, said in enumerate(map(read, lines), 1) if said is not None]
     if not parts:
-        return NO_RANGE, "", "codes: no part of a search"
+        return NO_RANGE, "", "codes: no such part"
     facts = parts[0][1]
     for number, said in parts:
         if any(said[key] != facts[key] for key in FACTS):
-            return DISAGREE, "", f"codes: lines {parts[0][0]} and {number} are of two searches"
+            return DISAGREE, "", f"codes: lines {parts[0][0]} and {number} disagree"
     ranges = {}
     for number, said in parts:
         other, found = ranges.setdefault((said["from"], said["count"]), (number, said))
         if (found["weight"], found["place"]) != (said["weight"], said["place"]):
-            return DISAGREE, "", f"codes: lines {other} and {number} are of one range and differ"
+            return DISAGREE, "", f"codes: lines {other} and {number} disagree"
     ends = [0] + [end for end, _, _ in ends_of(facts["k"], facts["q"], len(facts["ranks"]))]
     most = min(budget, search.CUT)
     blocks, best = 0, (facts["first"], 0)
@@ -138,7 +141,7 @@ def main():
     command, words = sys.argv[1:2], sys.argv[2:]
     if command == ["part"] and (asked := settings_of(words, {"from", "count"})) and len(asked) == 2:
         line = line_of(filters.read_input(), asked["from"], asked["count"])
-        print(line) if line else print("codes: no such range", file=sys.stderr)
+        print(line) if line else print("codes: no such part", file=sys.stderr)
         return DONE if line else NO_RANGE
     if command == ["join"] and (asked := settings_of(words, {"budget"})) is not None:
         status, text, error = joined(filters.read_input().decode().splitlines(), asked.get("budget", reference.BUDGET))
