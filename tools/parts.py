@@ -108,15 +108,14 @@ def joined(lines, budget):
     parts = [(number, said) for number, said in enumerate(map(read, lines), 1) if said is not None]
     if not parts:
         return NO_RANGE, "", "codes: no such part"
-    facts = parts[0][1]
-    for number, said in parts:
-        if any(said[key] != facts[key] for key in FACTS):
-            return DISAGREE, "", f"codes: lines {parts[0][0]} and {number} disagree"
-    ranges = {}
+    facts, ranges = parts[0][1], {}
     for number, said in parts:
         other, found = ranges.setdefault((said["from"], said["count"]), (number, said))
-        if (found["weight"], found["place"]) != (said["weight"], said["place"]):
-            return DISAGREE, "", f"codes: lines {other} and {number} disagree"
+        if any(said[key] != facts[key] for key in FACTS):
+            other = parts[0][0]
+        elif (found["weight"], found["place"]) == (said["weight"], said["place"]):
+            continue
+        return DISAGREE, "", f"codes: lines {other} and {number} disagree"
     ends = [0] + [end for end, _, _ in ends_of(facts["k"], facts["q"], len(facts["ranks"]))]
     most = min(budget, search.CUT)
     blocks, best = 0, (facts["first"], 0)
