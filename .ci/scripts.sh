@@ -355,7 +355,7 @@ parts_say_why() {
     echo 'MinimumDistance(BCHCode(63,7,GF(2)));' >"$folder/script.codes"
     python3 -B tools/plan.py ranges=1 rate=400000 <"$folder/script.codes" >"$folder/ranges.txt"
     export CODES=$program
-    ends 2 "usage: tools/cluster/part FOLDER 'from=A count=N' [workers=N] [round=N]" tools/cluster/part &&
+    ends 2 "usage: tools/cluster/part FOLDER 'from=A count=N' [workers=N]" tools/cluster/part &&
         ends 2 'usage: tools/cluster/join FOLDER [budget=N]' tools/cluster/join && ends 2 "$folder: no range: 1 2" tools/cluster/part "$folder" '1 2' &&
         ends 4 "$room/no: there is no such folder" tools/cluster/part "$room/no" from=0 count=1 && ends 4 "$room/empty: there are no parts" tools/cluster/join "$room/empty" &&
         ends 15 "$folder: from=1099511627775 count=1: status 15, codes: no such part" tools/cluster/part "$folder" from=1099511627775 count=1 || return 1

@@ -59,7 +59,7 @@ def strays(ends, most, chance, count):
 def job(program, script, start, count, chance_seed):
     """The line of a range, of a job that may be killed and started again."""
     chance = random.Random(chance_seed)
-    words = ["part", f"from={start}", f"count={count}", f"workers={chance.randint(1, 4)}", f"round={2 ** chance.randint(0, 16)}"]
+    words = ["part", f"from={start}", f"count={count}", f"workers={chance.randint(1, 4)}"]
     if chance.random() < 1 / 3:
         process = subprocess.Popen([program, *words], stdin=subprocess.PIPE, stdout=subprocess.PIPE, stderr=subprocess.DEVNULL)
         try:
@@ -162,7 +162,7 @@ def refusals(program):
     script = SMALL[0]
     last = ends_of(script)[-1]
     for words in (["part"], ["part", "from=0"], ["part", "count=1"], ["part", "from=0", "count=0"], ["part", "from=00", "count=1"],
-                  ["part", "from=0", "count=1", "budget=1"], ["join", "from=1"], ["join", "budget=x"]):
+                  ["part", "from=0", "count=1", "budget=1"], ["part", "count=1", "from=0"], ["part", "from=0", "count=1", "workers=257"], ["join", "from=1"], ["join", "budget=x"]):
         if (got := run(program, *words, given=script))[:2] != (2, b""):
             yield f"{words}: {got}"
     for given, words in ((script, [f"from={last}", "count=1"]), (script, [f"from={last - 1}", "count=2"]), (b"Dimension(HammingCode(3,GF(2)));", ["from=0", "count=1"]),

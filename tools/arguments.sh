@@ -11,7 +11,7 @@ may_follow() {
     run,workers | run,round | run,budget | run,slice | run,keep) ;;
     resume,workers | resume,round | resume,budget | resume,slice | resume,keep) ;;
     summary,workers | summary,round | summary,budget | summary,seed) ;;
-    part,from | part,count | part,workers | part,round) ;;
+    part,from | part,count | part,workers) ;;
     join,budget) ;;
     *) return 1 ;;
     esac
@@ -154,7 +154,7 @@ what_may_follow() {
     case $1 in
     run | resume) echo "after $1 come workers=N, round=N, budget=N, keep=yes and slice=N, or none of them" ;;
     summary) echo "after summary come seed=N, and perhaps workers=N, round=N and budget=N" ;;
-    part) echo "after part come from=N and count=N, and perhaps workers=N and round=N" ;;
+    part) echo "after part come from=N, count=N and perhaps workers=N, in this order" ;;
     join) echo "after join comes budget=N, or nothing" ;;
     esac
 }
@@ -210,13 +210,7 @@ know_arguments() {
     done
     [ -z "$slice" ] || [ "$keeps" = yes ] || refuse "$slice" "slice needs keep=yes, since the session goes on from its checkpoint"
     [ "$command" != summary ] || [ "$seeded" = yes ] || refuse $# "summary needs seed=N: ./codes summary seed=1"
-    [ "$command" = part ] || return 0
-    for key in from count; do
-        case $seen in
-        *" $key "*) ;;
-        *) refuse $# "part needs from=N and count=N: ./codes part from=0 count=1 < FILE" ;;
-        esac
-    done
+    [ "$command" != part ] || [ $# -ge 3 ] || refuse $# "part needs from=N and count=N: ./codes part from=0 count=1 < FILE"
 }
 
 # the next one, whose number is `number`
@@ -225,6 +219,10 @@ know_argument() {
     { [ "$1" != "$key" ] && may_follow "$command" "$key" && is_value "$key" "$value"; } || refuse "$number" "$(why_refused "$command" "$1")"
     case $seen in
     *" $key "*) refuse "$number" "$key is there already" ;;
+    esac
+    case $command,$number,$key in
+    part,1,from | part,2,count | part,3,workers) ;;
+    part,*) refuse "$number" "$(what_may_follow part)" ;;
     esac
     seen="$seen$key "
     case $key in

@@ -18,7 +18,7 @@ fail() {
 folder=$1 list=${2:-$1/ranges.txt} left=0
 [ -r "$list" ] || fail "$list can not be read"
 while read -r from count; do
-    "${SLURM_SUBMIT_DIR:-.}/tools/cluster/part" "$folder" "$from" "$count" "workers=$SLURM_CPUS_PER_TASK" round=65536 </dev/null || left=1
+    "${SLURM_SUBMIT_DIR:-.}/tools/cluster/part" "$folder" "$from" "$count" "workers=$SLURM_CPUS_PER_TASK" </dev/null || left=1
 done <<EOF
 $(awk -v i="$SLURM_ARRAY_TASK_ID" -v n="${SLURM_ARRAY_TASK_COUNT:-1}" 'NR % n == i % n' "$list")
 EOF
