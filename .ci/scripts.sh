@@ -348,9 +348,31 @@ jobs_say_why() {
         CODES=/no/codes ends 127 "$folder: there is no program /no/codes: set CODES to its path" tools/cluster/job "$folder" budget=1000
 }
 
+# parts that can't be done or joined say why; of a list that was done but for one range that range is missing
+parts_say_why() {
+    local folder=$room/shared
+    mkdir -p "$folder" "$room/empty"
+    echo 'MinimumDistance(BCHCode(63,7,GF(2)));' >"$folder/script.codes"
+    python3 -B tools/plan.py ranges=1 rate=400000 <"$folder/script.codes" >"$folder/ranges.txt"
+    export CODES=$program
+    ends 2 "usage: tools/cluster/part FOLDER 'from=A count=N' [workers=N]" tools/cluster/part &&
+        ends 2 'usage: tools/cluster/join FOLDER [budget=N]' tools/cluster/join && ends 2 "$folder: no range: 1 2" tools/cluster/part "$folder" '1 2' &&
+        ends 4 "$room/no: there is no such folder" tools/cluster/part "$room/no" from=0 count=1 && ends 4 "$room/empty: there are no parts" tools/cluster/join "$room/empty" &&
+        ends 15 "$folder: from=1099511627775 count=1: status 15, codes: no such part" tools/cluster/part "$folder" from=1099511627775 count=1 || return 1
+    sed 3d "$folder/ranges.txt" | xargs -P 2 -I{} tools/cluster/part "$folder" {} || return 1
+    tools/cluster/join "$folder" 2>"$room/said"
+    [ $? -eq 14 ] && grep -q 'are missing; 1 ranges of' "$room/said" && sed -n 3p "$folder/ranges.txt" | cmp - "$folder/missing.txt" &&
+        tools/cluster/part "$folder" "$(cat "$folder/missing.txt")" && tools/cluster/join "$folder" && "$program" run <"$folder/script.codes" 2>/dev/null | cmp - "$folder/text"
+}
+
+in_parts() { CODES=$program examples/in_parts.sh | cmp - examples/in_parts.out; }
+
 check_sessions() {
     check 'two jobs of tools/cluster/job beside each other' jobs_give_texts
     check 'tools/cluster/job says why it ends' jobs_say_why
+    check 'tools/cluster/part and join say why they end, and which ranges are missing' parts_say_why
+    check 'examples/in_parts.sh' in_parts
+    check 'a search in 200 random ranges, by jobs that are killed, and joined' python3 -B tests/parts.py "$program"
     check 'sessions that are killed, stopped, cut in slices and resumed' python3 -B tests/sessions.py "$program"
     check 'streams and folders that fail, and scripts at the limits of the language' python3 -B tests/hostile.py "$program"
     check '2,000 changed checkpoints: the program and tools/checkpoints.py agree' python3 -B tools/checkpoints.py "$program" 2000

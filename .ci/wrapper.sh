@@ -324,16 +324,18 @@ cluster_commands() {
     mkdir -p "$room/cluster"
     cat >"$room/cluster/parallel" <<'SH'
 #!/bin/sh
-# parallel --joblog FILE --resume-failed COMMAND {} ARGUMENT :::: LIST
-status=0
-while read -r folder; do "$4" "$folder" "$6" </dev/null || status=1; done <"$8"
+# parallel --joblog FILE --resume-failed COMMAND.. :::: LIST; {} among the words of the command is a line of the list
+status=0 command=''
+shift 3
+while [ "$1" != :::: ]; do command="$command $1" && shift; done
+while read -r line; do sh -c "$(echo "$command" | sed "s|{}|'$line'|")" </dev/null || status=1; done <"$2"
 exit $status
 SH
     cat >"$room/cluster/sbatch" <<'SH'
 #!/bin/sh
 # sbatch --array=1-N SCRIPT ARGUMENT..
-most=${1#--array=1-} task=0 SLURM_SUBMIT_DIR=$PWD SLURM_CPUS_PER_TASK=2
-export SLURM_SUBMIT_DIR SLURM_CPUS_PER_TASK
+most=${1#--array=1-} task=0 SLURM_SUBMIT_DIR=$PWD SLURM_CPUS_PER_TASK=2 SLURM_ARRAY_TASK_COUNT=$most
+export SLURM_SUBMIT_DIR SLURM_CPUS_PER_TASK SLURM_ARRAY_TASK_COUNT
 shift
 while [ $task -lt "$most" ]; do
     task=$((task + 1))
@@ -347,12 +349,15 @@ SH
 # block N: the N-th block `sh` of docs/CLUSTER.md
 block() { awk -v wanted="$1" '/^```/ { inside = /^```sh$/ && ++n == wanted; next } inside' docs/CLUSTER.md; }
 
-# the blocks of docs/CLUSTER.md as they stand, at the top of the copy: folders, their texts by `parallel`, and by Slurm once more
+# the blocks of docs/CLUSTER.md as they stand, at the top of the copy: folders, their texts by `parallel`, and by Slurm once more; and
+# one search in parts, by both
 cluster_recipes() {
     cluster_commands
     (cd "$copy" && PATH=$room/cluster:$PATH && { block 1 && block 2; } | sh -e >"$room/texts" && [ "$(wc -l <folders.txt)" -eq 4 ] &&
         [ "$(cut -d ' ' -f 1,2 "$room/texts" | sort | tr '\n' ' ')" = 'distance 21 distance 27 distance 31 distance 7 ' ] &&
-        cat jobs/*/text | cmp - "$room/texts" && rm jobs/*/text && block 3 | sh -e && cat jobs/*/text | cmp - "$room/texts")
+        cat jobs/*/text | cmp - "$room/texts" && rm jobs/*/text && block 3 | sh -e && cat jobs/*/text | cmp - "$room/texts" &&
+        block 4 | sh -e >"$room/text" && "$program" run <shared/script.codes 2>/dev/null | cmp - "$room/text" &&
+        rm -r shared/parts shared/text && block 5 | sh -e && tools/cluster/join shared && cmp shared/text "$room/text")
 }
 
 # what goes before the command: no record lines, all of them, and a word that is refused

@@ -3,8 +3,8 @@
 
     tests/sessions.py PROGRAM [KILLS]
 
-Runs PROGRAM in folders of its own: killed (SIGKILL) at KILLS random moments (200) over three scripts and resumed until it is
-done, stopped by the file codes.stop, cut in slices, with rounds of several lengths, over slots that are damaged, swapped,
+Runs PROGRAM in folders of its own: killed (SIGKILL) at KILLS random moments (200) over three scripts, with 1 to 256 workers and rounds
+of 1 to 65,536 blocks, and resumed until it is done, stopped by the file codes.stop, cut in slices, with rounds of several lengths, over slots that are damaged, swapped,
 foreign or forged, over checkpoints of version 1, and over folders in which nothing can be stored. If strace is there, a session
 is also killed at each of its calls of the kernel on files, and each of these fails once. A session that finishes must print the
 text of the same script without checkpoints. The searches are long enough for a second or two of PROGRAM. Prints a line for each
@@ -152,11 +152,13 @@ def chain(checks, program, name, budget, wanted, longest, kills, rng):
     with Folder(program, SCRIPTS[name], budget) as folder:
         command, count, place = 'run', 0, (0, 0)
         while True:
-            workers = 'workers=%d' % rng.choice([1, 2, 3])
+            workers = 'workers=%d' % rng.choice([1, 2, 3, 16, 256])
+            # the last session, which ends, has no short rounds, each of which waits for the disk
+            shape = 'round=%d' % 2 ** rng.randint(8 if count == kills else 0, 16)
             if count == kills:
-                was_killed, (status, out, _) = False, folder.session(command, 'keep=yes', workers)
+                was_killed, (status, out, _) = False, folder.session(command, 'keep=yes', workers, shape)
             else:
-                was_killed, status, out = folder.killed(command, rng.uniform(0.001, longest), 'keep=yes', workers)
+                was_killed, status, out = folder.killed(command, rng.uniform(0.001, longest), 'keep=yes', workers, shape)
             if was_killed:
                 count += 1
                 now = place_in_chain(folder)

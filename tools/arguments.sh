@@ -11,6 +11,8 @@ may_follow() {
     run,workers | run,round | run,budget | run,slice | run,keep) ;;
     resume,workers | resume,round | resume,budget | resume,slice | resume,keep) ;;
     summary,workers | summary,round | summary,budget | summary,seed) ;;
+    part,from | part,count | part,workers) ;;
+    join,budget) ;;
     *) return 1 ;;
     esac
 }
@@ -21,7 +23,7 @@ range() {
     case $1 in
     workers) least=1 most=256 ;;
     round) least=1 most=1048576 ;;
-    slice) least=1 ;;
+    slice | count) least=1 ;;
     seed) most=18446744073709551615 ;;
     esac
 }
@@ -91,15 +93,16 @@ in_small_letters() { printf '%s\n' "$1" | LC_ALL=C tr '[:upper:]' '[:lower:]'; }
 why_no_command() {
     small=$(in_small_letters "${1#"${1%%[!-]*}"}")
     case $small in
-    '') echo "a command is missing: run, resume, check or summary; see ./codes --help" ;;
-    run | resume | check | summary) echo "the command is written $small" ;;
+    '') echo "a command is missing: run, resume, check, summary, part or join; see ./codes --help" ;;
+    run | resume | check | summary | part | join) echo "the command is written $small" ;;
     workers=* | round=* | budget=* | keep=* | slice=*) echo "a command comes first: ./codes run $1 < FILE" ;;
     seed=*) echo "a command comes first: ./codes summary $1" ;;
+    from=* | count=*) echo "a command comes first: ./codes part $1" ;;
     *)
         if is_file_name "$1"; then
             echo "run reads a script from standard input: ./codes run < $(quoted "$1")"
         else
-            echo "a command is run, resume, check or summary; see ./codes --help"
+            echo "a command is run, resume, check, summary, part or join; see ./codes --help"
         fi
         ;;
     esac
@@ -151,6 +154,8 @@ what_may_follow() {
     case $1 in
     run | resume) echo "after $1 come workers=N, round=N, budget=N, keep=yes and slice=N, or none of them" ;;
     summary) echo "after summary come seed=N, and perhaps workers=N, round=N and budget=N" ;;
+    part) echo "after part come from=N, count=N and perhaps workers=N, in this order" ;;
+    join) echo "after join comes budget=N, or nothing" ;;
     esac
 }
 
@@ -168,10 +173,10 @@ why_refused() {
     *,-[jw]) echo "write workers=N"; return ;;
     esac
     case $key in
-    workers | round | budget | slice | seed | keep) ;;
+    workers | round | budget | slice | seed | keep | from | count) ;;
     *)
         if is_file_name "$2" && [ "$1" != summary ]; then
-            echo "$1 reads a script from standard input: ./codes $1 < $(quoted "$2")"
+            echo "$1 reads $([ "$1" = join ] && echo 'lines of parts' || echo 'a script') from standard input: ./codes $1 < $(quoted "$2")"
         else
             what_may_follow "$1"
         fi
@@ -193,7 +198,7 @@ why_refused() {
 know_arguments() {
     command=${1-}
     case $command in
-    run | resume | check | summary) ;;
+    run | resume | check | summary | part | join) ;;
     --version) [ $# -eq 1 ] || refuse 0 "--version stands alone" ;;
     *) refuse 0 "$(why_no_command "$command")" ;;
     esac
@@ -205,6 +210,7 @@ know_arguments() {
     done
     [ -z "$slice" ] || [ "$keeps" = yes ] || refuse "$slice" "slice needs keep=yes, since the session goes on from its checkpoint"
     [ "$command" != summary ] || [ "$seeded" = yes ] || refuse $# "summary needs seed=N: ./codes summary seed=1"
+    [ "$command" != part ] || [ $# -ge 3 ] || refuse $# "part needs from=N and count=N: ./codes part from=0 count=1 < FILE"
 }
 
 # the next one, whose number is `number`
@@ -213,6 +219,10 @@ know_argument() {
     { [ "$1" != "$key" ] && may_follow "$command" "$key" && is_value "$key" "$value"; } || refuse "$number" "$(why_refused "$command" "$1")"
     case $seen in
     *" $key "*) refuse "$number" "$key is there already" ;;
+    esac
+    case $command,$number,$key in
+    part,1,from | part,2,count | part,3,workers) ;;
+    part,*) refuse "$number" "$(what_may_follow part)" ;;
     esac
     seen="$seen$key "
     case $key in

@@ -157,7 +157,7 @@ class Names:
 
 def uneven(rows):
     row = next(i for i, r in enumerate(rows) if len(r) != len(rows[0]))
-    return f"row {row + 1} has {len(rows[row])} entries, the first row has {len(rows[0])}"
+    return f"row {row + 1} has {entries(len(rows[row]))}, the first row has {len(rows[0])}"
 
 
 def too_large(rows, size):
@@ -259,7 +259,7 @@ def construction_x_refusal(values, fault):
 def two_lists_refusal(name, values, fault):
     """Why two words, or an element and a word, are refused."""
     if fault.number == 12:
-        return f"the first list has {len(values[0])} entries, the second {len(values[1])}"
+        return f"the first list has {entries(len(values[0]))}, the second {len(values[1])}"
     argument, size = fault.values[0], values[2].size
     given = values[argument - 1]
     if reference.is_number(given):
@@ -370,7 +370,7 @@ def refusal(expr, fault, names):
     if number == 2 and name == "ResidueCode":
         return "the word is 0 nowhere, so no coordinate would be left"
     if number == 2 and isinstance(values[0], list):
-        return f"the first row has {len(values[0][0])} entries; a row has 1 to {LONGEST}" if values[0] else "the matrix has no rows"
+        return f"the first row has {entries(len(values[0][0]))}; a row has 1 to {LONGEST}" if values[0] else "the matrix has no rows"
     if number == 2 and name == "HammingCode":
         return f"with {values[0]} checks over GF({values[1].size}) the length is above {LONGEST}"
     if number == 2 and name == "ReedMullerCode":
@@ -382,12 +382,12 @@ def refusal(expr, fault, names):
     if number == 13:
         return coordinates_refusal(values[0], values[2])
     if number == 12 and name == "Encode":
-        return f"the list has {len(values[1])} entries; a message of this code has as many as `Dimension(C)` says"
+        return f"the list has {entries(len(values[1]))}; a message of this code has as many as `Dimension(C)` says"
     if number == 12 and name == "AugmentedCode":
         row = next(i for i, r in enumerate(values[1]) if len(r) != values[0].length)
-        return f"row {row + 1} has {len(values[1][row])} entries, the words of the code have {values[0].length}"
+        return f"row {row + 1} has {entries(len(values[1][row]))}, the words of the code have {values[0].length}"
     if number == 12 and name in OF_WORDS:
-        return f"the list has {len(values[1])} entries, the words of the code have {values[0].length}"
+        return f"the list has {entries(len(values[1]))}, the words of the code have {values[0].length}"
     if number == 12:
         return uneven(values[0])
     if number == 3 and name == "AugmentedCode":

@@ -2,6 +2,7 @@
 """Prints what the searches of a script have before them, without searching.
 
     tools/plan.py [budget=N] [weight=W] [rate=N] [records=FILE] < SCRIPT
+    tools/plan.py ranges=SECONDS [budget=N] [weight=W] [rate=N] < SCRIPT
 
 For each search there is a table of its phases: level, information set, blocks, the block at which the phase ends, words, the bound
 that this end gives, and how long it is until then. The search ends at the latest at the end of the last phase shown, where the bound
@@ -12,6 +13,8 @@ budget=N     the blocks of each search, as `codes run` takes it; a search that m
 weight=W     each code has a word of weight W, so a search ends where the bound is above W at the latest
 rate=N       words a second, of all workers together; without it, what one worker did on the machine of bench/README.md
 records=FILE the record lines of a session, its standard error: how far it is
+ranges=SECONDS   prints no tables, but the blocks of the script's first search cut into ranges of about so long, within its phases, in
+             their order: a line `from=A count=N` each, the words after `codes part`
 
 The script is read by tools/reference.py; weight distributions are not counted. The status is 0, or 1 if the script has a fault, whose
 line goes to standard error after the plans of the searches before it. No proof rests on this program.
@@ -185,6 +188,23 @@ def lines_of(number, code, title, settings, record):
     ]
 
 
+def ranges_of(phases, most, longest):
+    """The first block and the number of blocks of each range: within a phase, at most `longest` blocks, none after the first `most`."""
+    for phase in phases:
+        start, end = phase.until - phase.blocks, min(phase.until, most)
+        while start < end:
+            count = min(longest, end - start)
+            yield start, count
+            start += count
+
+
+def range_lines(code, settings):
+    plan = Plan(code, settings.get("weight"))
+    longest = max(1, int(settings["ranges"] * rate_of(code, settings.get("rate"))) // search.BLOCK)
+    most = min(settings.get("budget", reference.BUDGET), search.CUT)
+    return [f"from={start} count={count}" for start, count in ranges_of(plan.phases, most, longest)]
+
+
 def read_records(path):
     """The last record of each query."""
     last = {}
@@ -202,7 +222,7 @@ def settings_of(words):
         key, _, value = word.partition("=")
         if key == "records" and value:
             records = read_records(value)
-        elif key in ("budget", "weight", "rate") and value.isdecimal() and (key == "budget" or int(value) > 0):
+        elif key in ("budget", "weight", "rate", "ranges") and value.isdecimal() and (key == "budget" or int(value) > 0):
             settings[key] = int(value)
         else:
             return None
@@ -215,12 +235,16 @@ def main():
         return 0
     read = settings_of(sys.argv[1:])
     if read is None:
-        print("usage: tools/plan.py [budget=N] [weight=W] [rate=N] [records=FILE] < SCRIPT", file=sys.stderr)
+        print("usage: tools/plan.py [budget=N] [weight=W] [rate=N] [records=FILE] [ranges=SECONDS] < SCRIPT", file=sys.stderr)
         return 2
     settings, records = read
     number = 0
     try:
         for code, title in searches(filters.read_input()):
+            if "ranges" in settings:
+                for line in range_lines(code, settings):
+                    print(line)
+                return 0
             if number:
                 print()
             print("\n".join(lines_of(number, code, title, settings, records.get(number))))

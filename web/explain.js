@@ -52,7 +52,7 @@ function near(name, known) {
 
 const uneven = (rows) => {
   const row = rows.findIndex((r) => r.length !== rows[0].length);
-  return `row ${row + 1} has ${rows[row].length} entries, the first row has ${rows[0].length}`;
+  return `row ${row + 1} has ${entries(rows[row].length)}, the first row has ${rows[0].length}`;
 };
 
 function tooLarge(rows, size) {
@@ -137,7 +137,7 @@ function constructionXRefusal(values, fault) {
 
 // why two words, or an element and a word, are refused
 function twoListsRefusal(values, fault) {
-  if (fault.number === 12) return `the first list has ${values[0].length} entries, the second ${values[1].length}`;
+  if (fault.number === 12) return `the first list has ${entries(values[0].length)}, the second ${values[1].length}`;
   const [argument] = fault.values;
   const { size } = values[2];
   const given = values[argument - 1];
@@ -146,12 +146,12 @@ function twoListsRefusal(values, fault) {
 }
 
 function lengthsRefusal(name, values) {
-  if (name === 'Encode') return `the list has ${values[1].length} entries; a message of this code has as many as \`Dimension(C)\` says`;
+  if (name === 'Encode') return `the list has ${entries(values[1].length)}; a message of this code has as many as \`Dimension(C)\` says`;
   if (name === 'AugmentedCode') {
     const row = values[1].findIndex((r) => r.length !== values[0].length);
-    return `row ${row + 1} has ${values[1][row].length} entries, the words of the code have ${values[0].length}`;
+    return `row ${row + 1} has ${entries(values[1][row].length)}, the words of the code have ${values[0].length}`;
   }
-  if (OF_WORDS.includes(name)) return `the list has ${values[1].length} entries, the words of the code have ${values[0].length}`;
+  if (OF_WORDS.includes(name)) return `the list has ${entries(values[1].length)}, the words of the code have ${values[0].length}`;
   return uneven(values[0]);
 }
 
@@ -203,7 +203,7 @@ function distributionTold(q, n, k, r) {
 }
 
 function matrixLengthRefusal(name, values) {
-  if (isList(values[0])) return values[0].length ? `the first row has ${values[0][0].length} entries; a row has 1 to ${TEXTS.longest}` : 'the matrix has no rows';
+  if (isList(values[0])) return values[0].length ? `the first row has ${entries(values[0][0].length)}; a row has 1 to ${TEXTS.longest}` : 'the matrix has no rows';
   if (name === 'ResidueCode') return 'the word is 0 nowhere, so no coordinate would be left';
   if (name === 'HammingCode') return `with ${values[0]} checks over GF(${values[1].size}) the length is above ${TEXTS.longest}`;
   if (name === 'ReedMullerCode') return `in ${values[1]} variables the length 2^${values[1]} is above ${TEXTS.longest}`;

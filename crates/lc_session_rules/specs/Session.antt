@@ -383,34 +383,16 @@ end_number false = 0
 -- the first reason
 abbrev pub Replied : List Call → Ending → Settings → Option Slots → Course → Type 0
 Replied table (done n) asked held course = Replies table asked.command asked held course × (n ≡ end_number course.is_faulty) × Judges asked.command course.bytes
-Replied table (usage i) asked held course = Unit {0}
-Replied table (paused query blocks) asked held course = Unit {0}
-Replied table source_fault asked held course = Unit {0}
 Replied table sink_fault asked held course = Replies table asked.command asked held course
-Replied table (vault_fault told) asked held course = Unit {0}
-Replied table (no_memory told) asked held course = Unit {0}
-Replied table no_checkpoint asked held course = Unit {0}
-Replied table damaged_checkpoint asked held course = Unit {0}
-Replied table (other_script script budget) asked held course = Unit {0}
 Replied table (rejected reason) asked held course = Replies table asked.command asked held course × IsVerdict (document_in course.bytes) (rejects reason)
-Replied table too_long asked held course = Unit {0}
-Replied table (unfit query told found) asked held course = Unit {0}
+Replied table _ asked held course = Unit {0}
 
 -- what the sink took, by the ending: the whole text, a front of it that is not the whole, or nothing
 abbrev pub Writes : Ending → List ℕ → Option (List ℕ) → Option (List ℕ) → Type 0
 Writes (done n) text old new = Appends old new text
-Writes (usage i) text old new = new ≡ old
-Writes (paused query blocks) text old new = new ≡ old
-Writes source_fault text old new = new ≡ old
 Writes sink_fault text old new = AppendsPart old new text
-Writes (vault_fault told) text old new = new ≡ old
-Writes (no_memory told) text old new = new ≡ old
-Writes no_checkpoint text old new = new ≡ old
-Writes damaged_checkpoint text old new = new ≡ old
-Writes (other_script script budget) text old new = new ≡ old
 Writes (rejected reason) text old new = Appends old new text
-Writes too_long text old new = new ≡ old
-Writes (unfit query told found) text old new = new ≡ old
+Writes _ text old new = new ≡ old
 
 -- none of the three failed
 pub record NoneFailed (old new : Outside) : Type 0 where
@@ -420,19 +402,10 @@ pub record NoneFailed (old new : Outside) : Type 0 where
 
 -- whose count of faults rose, by the ending: that of the source, the sink or the vault that failed, and no other one
 abbrev pub Counts : Ending → Outside → Outside → Type 0
-Counts (done n) old new = NoneFailed old new
-Counts (usage i) old new = NoneFailed old new
-Counts (paused query blocks) old new = NoneFailed old new
 Counts source_fault old new = HasRisen old.source_faults new.source_faults × (new.sink_faults ≡ old.sink_faults) × (new.vault_faults ≡ old.vault_faults)
 Counts sink_fault old new = (new.source_faults ≡ old.source_faults) × HasRisen old.sink_faults new.sink_faults × (new.vault_faults ≡ old.vault_faults)
 Counts (vault_fault told) old new = (new.source_faults ≡ old.source_faults) × (new.sink_faults ≡ old.sink_faults) × HasRisen old.vault_faults new.vault_faults
-Counts (no_memory told) old new = NoneFailed old new
-Counts no_checkpoint old new = NoneFailed old new
-Counts damaged_checkpoint old new = NoneFailed old new
-Counts (other_script script budget) old new = NoneFailed old new
-Counts (rejected reason) old new = NoneFailed old new
-Counts too_long old new = NoneFailed old new
-Counts (unfit query told found) old new = NoneFailed old new
+Counts _ old new = NoneFailed old new
 
 pub record IsSession (table : List Call) (args : List (List ℕ)) (old new : Outside) (ending : Ending) : Type 0 where
   pub asked : Settings
