@@ -62,7 +62,7 @@ pub enum Searches {
 }
 
 /// The benches with their names.
-pub static BENCHES: [(&str, Bench); 68] = [
+pub static BENCHES: [(&str, Bench); 71] = [
     ("add_scaled_2", Bench::AddScaled(2)),
     ("add_scaled_3", Bench::AddScaled(3)),
     ("add_scaled_4", Bench::AddScaled(4)),
@@ -107,6 +107,9 @@ pub static BENCHES: [(&str, Bench); 68] = [
     ("kernel_4_60", Bench::Least(4, 60, 20, 6)),
     ("kernel_4_90", Bench::Least(4, 90, 30, 6)),
     ("kernel_16_60", Bench::Least(16, 60, 30, 4)),
+    ("kernel_3_120", Bench::Least(3, 120, 20, 5)),
+    ("kernel_4_115", Bench::Least(4, 115, 15, 4)),
+    ("kernel_5_98", Bench::Least(5, 98, 8, 5)),
     ("near_2", Bench::Near(2, 127, 36)),
     ("near_3", Bench::Near(3, 81, 27)),
     ("near_4", Bench::Near(4, 90, 30)),

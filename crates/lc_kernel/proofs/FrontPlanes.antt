@@ -2,7 +2,6 @@
 --   planes_sum             the planes of a sum, from those of two words
 --   zero_planes            those of the zero word
 --   front_planes_next      those of the sum of one entry more
---   fronts_made            what a table keeps
 --   front_planes_put, front_planes_first, front_planes_same      the list of them
 use Rattle.std.proofs.Common.{◌≡◌, ℕ, zero, suc, ◌+◌, ◌-◌, ◌*◌, ◌/◌, ◌%◌, ◌^◌, ◌<◌, ◌≤◌, List, [], set, length, replicate, slice_index, slice_index_or, Contains, sym, ap, ◌∙◌, ⊎_elim, arith}
 use Rattle.std.proofs.lemmas.Bool.{cases_lt}
@@ -28,7 +27,7 @@ use Rattle.lc_planes.specs.Planes.{part_at, plane_at}
 use Rattle.lc_kernel.specs.Planes.{IsPlaneSum}
 use Rattle.lc_planes.specs.Planes.{plane}
 use Rattle.lc_kernel.specs.Sums.{front_word}
-use Rattle.lc_kernel.specs.Fronts.{ArePlanes, AreRowPlanes, AreFrontPlanes, IsKept, HasFronts}
+use Rattle.lc_kernel.specs.Fronts.{ArePlanes, AreFrontPlanes, IsKept}
 use Rattle.lc_planes.proofs.PlaneLaws.{plane_none, plane_cons}
 use Rattle.lc_kernel.proofs.FrontLaws.{entries_are, generates, front_next, front_first, front_word_fits}
 use Rattle.lc_planes.proofs.ApartLaws.{restrict_fits}
@@ -45,13 +44,13 @@ zeros_plane p (suc n) = omega (arith, plane_cons p 0 (zero_word n), zeros_plane 
 pub zero_planes : (p n : ℕ) (cols : List ℕ) → plane_at p cols (zero_word n) ≡ 0
 zero_planes p n cols = ap (plane p) (restrict_zero cols n) ∙ zeros_plane p (length cols)
 
-pub front_planes_next : (C : Matrix) (s : SpotState) (n i : ℕ) (rows : List (List ℕ)) (x y z : List ℕ) → AreRows C.field C.columns C.rows → AreIndependent C.field C.columns C.rows → s.set < set_count C → Contains (messages (length C.rows) (size C.field) (length s.support)) (spot_message s) → IsKept C s.set n rows → i < length s.support
-    → ArePlanes (part_at (others C s.set) 0) n (front_word C s i) x
+pub front_planes_next : (C : Matrix) (s : SpotState) (b n i : ℕ) (rows : List (List ℕ)) (x y z : List ℕ) → AreRows C.field C.columns C.rows → AreIndependent C.field C.columns C.rows → s.set < set_count C → Contains (messages (length C.rows) (size C.field) (length s.support)) (spot_message s) → IsKept C s.set b n rows → i < length s.support
+    → ArePlanes (part_at (others C s.set) b) n (front_word C s i) x
     → y ≡ slice_index_or rows (slice_index s.support i * (size C.field - 1) + (slice_index s.coefficients i - 1)) []
     → IsPlaneSum C.field x y z
-    → ArePlanes (part_at (others C s.set) 0) n (front_word C s (i + 1)) z
-front_planes_next C s n i rows x y z words free set_is message h l front row added =
-    let cols = part_at (others C s.set) 0 in
+    → ArePlanes (part_at (others C s.set) b) n (front_word C s (i + 1)) z
+front_planes_next C s part n i rows x y z words free set_is message h l front row added =
+    let cols = part_at (others C s.set) part in
     let d = size C.field - 1 in
     let e = entries_are C s message in
     let g = generates C s.set words free set_is in
@@ -76,9 +75,9 @@ front_planes_next C s n i rows x y z words free set_is message h l front row add
     let next : suc i ≡ i + 1 = omega arith in
     λ p m. sum p m ∙ ap (plane_at p cols) (sym (front_next C s i g e l)) ∙ ap (λ t. plane_at p cols (front_word C s t)) next
 
-pub front_planes_put : (C : Matrix) (s : SpotState) (n i : ℕ) (fronts more : List (List ℕ)) (x : List ℕ) → more ≡ set fronts (i + 1) x → i + 1 < length fronts → AreFrontPlanes C s n i fronts → ArePlanes (part_at (others C s.set) 0) n (front_word C s (i + 1)) x → AreFrontPlanes C s n (i + 1) more
-front_planes_put C s n i fronts more x made inside h front t p a m =
-    let cols = part_at (others C s.set) 0 in
+pub front_planes_put : (C : Matrix) (s : SpotState) (b n i : ℕ) (fronts more : List (List ℕ)) (x : List ℕ) → more ≡ set fronts (i + 1) x → i + 1 < length fronts → AreFrontPlanes C s b n i fronts → ArePlanes (part_at (others C s.set) b) n (front_word C s (i + 1)) x → AreFrontPlanes C s b n (i + 1) more
+front_planes_put C s part n i fronts more x made inside h front t p a m =
+    let cols = part_at (others C s.set) part in
     ⊎_elim
     (λ b. ap (λ z. slice_index (slice_index_or z t []) p) made ∙ ap (λ z. slice_index z p) (get_or-set_other fronts (i + 1) t x [] (λ q. omega (arith, q, b))) ∙ h t p (omega (arith, b)) m)
     (λ b.
@@ -86,18 +85,14 @@ front_planes_put C s n i fronts more x made inside h front t p a m =
     ap (λ z. slice_index (slice_index_or z t []) p) made ∙ ap (λ z. slice_index (slice_index_or (set fronts (i + 1) x) z []) p) same ∙ ap (λ z. slice_index z p) (get_or-set_same fronts (i + 1) x [] inside) ∙ front p m ∙ ap (λ z. plane_at p cols (front_word C s z)) (sym same))
     (cases_lt t (i + 1))
 
-pub front_planes_first : (C : Matrix) (s : SpotState) (n : ℕ) (fronts more : List (List ℕ)) → AreRows C.field C.columns C.rows → AreIndependent C.field C.columns C.rows → s.set < set_count C → 0 < length fronts → more ≡ set fronts 0 (replicate 4 0) → AreFrontPlanes C s n 0 more
-front_planes_first C s n fronts more words free set_is some made t p a m =
-    let cols = part_at (others C s.set) 0 in
+pub front_planes_first : (C : Matrix) (s : SpotState) (b n : ℕ) (fronts more : List (List ℕ)) → AreRows C.field C.columns C.rows → AreIndependent C.field C.columns C.rows → s.set < set_count C → 0 < length fronts → more ≡ set fronts 0 (replicate 4 0) → AreFrontPlanes C s b n 0 more
+front_planes_first C s part n fronts more words free set_is some made t p a m =
+    let cols = part_at (others C s.set) part in
     let g = generates C s.set words free set_is in
     let same : t ≡ 0 = omega (arith, a) in
     ap (λ z. slice_index (slice_index_or z t []) p) made ∙ ap (λ z. slice_index (slice_index_or (set fronts 0 (replicate 4 0)) z []) p) same ∙ ap (λ z. slice_index z p) (get_or-set_same fronts 0 (replicate 4 0) [] some) ∙ index-zeros 4 p
     ∙ sym (zero_planes p C.columns cols) ∙ ap (plane_at p cols) (sym (front_first C s g)) ∙ ap (λ z. plane_at p cols (front_word C s z)) (sym same)
 
-pub front_planes_same : (C : Matrix) (s t : SpotState) (n i m : ℕ) (fronts : List (List ℕ)) → m ≤ i → t.set ≡ s.set → ((e : ℕ) → e ≤ m → front_word C t e ≡ front_word C s e) → AreFrontPlanes C s n i fronts → AreFrontPlanes C t n m fronts
-front_planes_same C s t n i m fronts l e same h a p b c =
-    h a p (omega (arith, b, l)) c ∙ ap (plane_at p (part_at (others C s.set) 0)) (sym (same a b)) ∙ ap (λ z. plane_at p (part_at (others C z) 0) (front_word C t a)) (sym e)
-
--- what a table keeps
-pub fronts_made : (C : Matrix) (j n parts : ℕ) (rows : List (List ℕ)) → size C.field ≤ 2 ^ n → n ≤ 4 → (parts ≡ 1 → AreRowPlanes C j (part_at (others C j) 0) n (length C.rows * (size C.field - 1)) rows) → HasFronts C j n parts rows
-fronts_made C j n parts rows fits few r e = record { fits = fits; few = few; multiples = r e }
+pub front_planes_same : (C : Matrix) (s t : SpotState) (b n i m : ℕ) (fronts : List (List ℕ)) → m ≤ i → t.set ≡ s.set → ((e : ℕ) → e ≤ m → front_word C t e ≡ front_word C s e) → AreFrontPlanes C s b n i fronts → AreFrontPlanes C t b n m fronts
+front_planes_same C s t part n i m fronts l e same h a p b c =
+    h a p (omega (arith, b, l)) c ∙ ap (plane_at p (part_at (others C s.set) part)) (sym (same a b)) ∙ ap (λ z. plane_at p (part_at (others C z) part) (front_word C t a)) (sym e)

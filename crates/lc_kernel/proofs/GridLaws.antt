@@ -4,14 +4,15 @@
 --   last_two                     the last two of a list by their index
 --   tail_run_word, tail_run_pair, tail_run_ones      a word of a run, its tail, and its nonzero symbols
 --   tails_more, grid_parts_pushed      tails and parts with one more
+--   tail_planes                  the planes of all tails
 --   cut_in_words                 some columns are inside the tails
---   tail_run_room, counted_joined, run_joined      what a run reads and writes
+--   tail_run_room                the tails of a run are tails of the set
 use Rattle.std.proofs.Common.{◌≡◌, ℕ, zero, suc, ◌+◌, ◌-◌, ◌*◌, ◌/◌, ◌%◌, ◌^◌, ◌<◌, ◌≤◌, List, [], ◌∷◌, ◌++◌, min, length, take, drop, Some, None, count_ones, slice_get, slice_index, slice_index_or, Contains, refl, sym, ap, subst, ◌∙◌, ⊎_elim, arith, mod-lt, length-append}
 use Rattle.std.specs.Option.{option_map}
 use Rattle.std.proofs.lemmas.Bool.{cases_lt}
 use Rattle.std.proofs.lemmas.Bool.Decides.{nat_tests}
 use Rattle.std.proofs.Math.Nat.{mul-le-mul_right}
-use Rattle.std.proofs.lemmas.List.{length-take, length-take-le, length-drop, get_or-take, get_or-append_right}
+use Rattle.std.proofs.lemmas.List.{length-take-le}
 use Rattle.std.proofs.lemmas.List.Elements.{All-get_or}
 use Rattle.std.proofs.lemmas.Nat.{div-mul-add, mod-mul-add, div_below, div-add-mod'}
 use Rattle.std.proofs.lemmas.Option.{get_or_from_slice_get, slice_get_within}
@@ -33,13 +34,12 @@ use Rattle.lc_place.proofs.Supports.{next_support}
 use Rattle.lc_place.proofs.Messages.{message_of, next_leading, turned, message_next, to_contains}
 use Rattle.lc_kernel.specs.Packed.{others, pair_of}
 use Rattle.lc_planes.specs.Planes.{part_at, apart, plane_at, negative}
-use Rattle.lc_kernel.specs.Least.{AreCounted}
 use Rattle.lc_kernel.specs.Sums.{front_word}
 use Rattle.lc_kernel.specs.declared.grid.GridPart.{GridPart}
 use Rattle.lc_kernel.specs.Grid.{tail_pair, tail_count, tail_index, tail_word, tails_in, AreTails, ArePlanesOf, AreTailPlanes, IsTailRun}
 use Rattle.lc_kernel.specs.Grids.{AreGridParts, IsGridPart}
 use Rattle.lc_kernel.proofs.SupportLaws.{same_pair}
-use Rattle.lc_kernel.proofs.TableLaws.{all_pushed, part_cut, cut_inside}
+use Rattle.lc_kernel.proofs.TableLaws.{all_pushed, part_cut}
 use Rattle.lc_kernel.proofs.FrontLaws.{entries_are, generates, front_next, front_same, front_word_is, front_word_fits, front_whole}
 use Rattle.lc_planes.proofs.ApartLaws.{tail_ones}
 use Rattle.lc_kernel.proofs.RunLaws.{support_parts, first_of_pair, second_of_pair}
@@ -239,21 +239,21 @@ tails_more C j pair t a b ws more w h l at is word made =
 next_product : (p L : ℕ) → (p + 1) * L ≡ p * L + L
 next_product p L = omega arith
 
-tail_planes : (C : Matrix) (j n : ℕ) (cols : List ℕ) (ws : List (List ℕ)) (bits : List ℕ) → AreTails C j (tails_in C) ws → ArePlanesOf cols n ws bits → AreTailPlanes C j cols n bits
+pub tail_planes : (C : Matrix) (j n : ℕ) (cols : List ℕ) (ws : List (List ℕ)) (bits : List ℕ) → AreTails C j (tails_in C) ws → ArePlanesOf cols n ws bits → AreTailPlanes C j cols n bits
 tail_planes C j n cols ws bits t h = record {
   long = h.long ∙ ap (λ z. n * z) t.long;
   is = λ p e a b l m at. ap (λ z. slice_index bits (p * z + e)) (sym t.long) ∙ h.is p e l (rw t.long m) ∙ ap (plane_at p cols) (t.is e a b m at);
 }
 
-pub grid_parts_pushed : (C : Matrix) (j n start end : ℕ) (cols : List ℕ) (ws : List (List ℕ)) (ps more : List GridPart) (p : GridPart) → cols ≡ others C j → AreTails C j (tails_in C) ws → start ≡ 64 * length ps → start ≤ length cols → end ≡ min (length cols) (start + 64) → AreGridParts C j n ps → p.columns.items ≡ take (end - start) (drop start cols) → ArePlanesOf (take (end - start) (drop start cols)) n ws p.bits.items → more ≡ ps ++ p ∷ [] → AreGridParts C j n more
-grid_parts_pushed C j n start end cols ws ps more p e t s l which h columns bits made =
+pub grid_parts_pushed : (C : Matrix) (j n start end : ℕ) (cols : List ℕ) (ps more : List GridPart) (p : GridPart) → cols ≡ others C j → start ≡ 64 * length ps → start ≤ length cols → end ≡ min (length cols) (start + 64) → AreGridParts C j n ps → IsGridPart C j (take (end - start) (drop start cols)) n p.rows.items p.bits.items → more ≡ ps ++ p ∷ [] → AreGridParts C j n more
+grid_parts_pushed C j n start end cols ps more p e s l which h is made =
     let cut = take (end - start) (drop start cols) in
     let part : cut ≡ part_at (others C j) (length ps) = part_cut cols (length ps) start end s l which ∙ ap (λ z. part_at z (length ps)) e in
-    all_pushed (λ b (x : GridPart). IsGridPart C j (part_at (others C j) b) n x.columns.items x.bits.items) ps more p h
-    (record { columns_are = columns ∙ part; planes = tail_planes C j n (part_at (others C j) (length ps)) ws p.bits.items t (subst (λ z. ArePlanesOf z n ws p.bits.items) part bits) }) made
+    all_pushed (λ b (x : GridPart). IsGridPart C j (part_at (others C j) b) n x.rows.items x.bits.items) ps more p h
+    (subst (λ z. IsGridPart C j z n p.rows.items p.bits.items) part is) made
 
-pub cut_in_words : (C : Matrix) (j start n : ℕ) (cols : List ℕ) (ws : List (List ℕ)) → cols ≡ others C j → AreTails C j (tails_in C) ws → (i t : ℕ) → i < length ws → t < length (take n (drop start cols)) → slice_index (take n (drop start cols)) t < length (slice_index_or ws i [])
-cut_in_words C j start n cols ws e h i t l m = omega (arith, cut_inside C j start n cols e t m, (h.words i (rw h.long at l)).long)
+pub cut_in_words : (C : Matrix) (j : ℕ) (cols : List ℕ) (ws : List (List ℕ)) → ((t : ℕ) → t < length cols → slice_index cols t < C.columns) → AreTails C j (tails_in C) ws → (i t : ℕ) → i < length ws → t < length cols → slice_index cols t < length (slice_index_or ws i [])
+cut_in_words C j cols ws inside h i t l m = omega (arith, inside t m, (h.words i (rw h.long at l)).long)
 
 -- the tails of a run are tails of the set
 pub tail_run_room : (C : Matrix) (m b n start count : ℕ) (s : SpotState) (head : List ℕ) → IsTailRun C m b s head n start count → start + count ≤ tails_in C
@@ -264,23 +264,3 @@ tail_run_room C m b n start count s head h =
     let inside : r < length pairs = slice_get_within pairs r (pair_of s) h.pair.1 in
     let rows : (r + 1) * T ≤ length pairs * T = mul-le-mul_right T (omega (arith, inside)) in
     omega (arith, rows, next_product r T, h.pair.2, h.inside)
-
--- counts before a run, and those of the run
-pub counted_joined : (cols : List ℕ) (ws : List (List ℕ)) (done n : ℕ) (old new after : List ℕ) → AreCounted cols ws 0 done old → done ≤ length old → AreCounted cols ws done n new → length new ≡ n → AreCounted cols ws 0 (done + n) (take done old ++ (new ++ after))
-counted_joined cols ws done n old new after h l g e i m =
-    let front = take done old in
-    let long : length front ≡ done = length-take-le done old l in
-    ⊎_elim
-    (λ a. get_or-append front (new ++ after) 0 i (omega (arith, a, long)) ∙ get_or-take done old i 0 a ∙ h i a)
-    (λ a.
-    let k = i - done in
-    let inside : k < length new = omega (arith, a, m, e) in
-    let place : done + k ≡ 0 + i = omega (arith, a) in
-    get_or-append_right front (new ++ after) done i 0 long a ∙ get_or-append new after 0 k inside ∙ g k (omega (arith, inside, e)) ∙ ap (λ z. weight (restrict cols (slice_index_or ws z []))) place)
-    (cases_lt i done)
-
--- the same, the run's counts being a piece of all
-pub run_joined : (cols : List ℕ) (ws : List (List ℕ)) (done n : ℕ) (old new after : List ℕ) → AreCounted cols ws 0 done old → done ≤ length old → n ≤ length old - done → AreCounted cols ws done (length (take (done + n - done) (drop done old))) new → length new ≡ length (take (done + n - done) (drop done old)) → AreCounted cols ws 0 (done + n) (take done old ++ (new ++ after))
-run_joined cols ws done n old new after h l room g e =
-    let many : length (take (done + n - done) (drop done old)) ≡ n = omega (arith, length-take (done + n - done) (drop done old), length-drop done old, l, room) in
-    counted_joined cols ws done n old new after h l (subst (λ z. AreCounted cols ws done z new) many g) (e ∙ many)

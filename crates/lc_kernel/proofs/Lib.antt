@@ -19,3 +19,4 @@ pub mod BeyondLaws
 pub mod TailCounts
 pub mod GroupLaws
 pub mod PlaneSumLaws
+pub mod PartLaws

@@ -1,6 +1,6 @@
 -- The sums of a stack, in the list that it keeps.
 --   front_put                    a sum put after the fronts before it
---   front_room, room_kept, front_start      a list of zero words has room, also for another spot, and the front of no entry
+--   front_room, front_start      a list of zero words has room, and the front of no entry
 --   length_sums, sum_at          the words after the first
 --   partial_at, sums_are, fronts_are      the sums are the partial words if and only if the list has the fronts
 --   last_sum                     the last sum is the word at the level
@@ -68,9 +68,6 @@ front_room C s ws many none room = record {
   first = none 0 (omega arith);
   room = room;
 }
-
-pub room_kept : (C : Matrix) (s t : SpotState) (ws : List (List ℕ)) → IsRoom C s ws → t.room ≡ s.room → IsRoom C t ws
-room_kept C s t ws h e = record { many = h.many; words = h.words; first = h.first; room = e ∙ h.room }
 
 pub front_start : (C : Matrix) (s : SpotState) (ws : List (List ℕ)) → AreRows C.field C.columns C.rows → AreIndependent C.field C.columns C.rows → s.set < set_count C → slice_index_or ws 0 [] ≡ zero_word C.columns → AreFronts C s 0 ws
 front_start C s ws rows free l first i m = let e : i ≡ 0 = omega (arith, m) in rw e (first ∙ sym (front_first C s (generates C s.set rows free l)))

@@ -2,17 +2,20 @@
 --   listed_start, listed_step, listed_turned      the spots with a support, from list to list, and with the next support
 --   heads_first, heads_grown, heads_kept      the heads of a support, from place to place
 --   listed_run                a word of a support as a run of one word
+--   sweep_ones                the nonzero symbols of a word with one support, at a part of the columns
 --   sweep_below               the first least word with one support
+--   sweep_counted             the counts of the words with one support after one more part
 --   head_of_word              the head and the tail of a word
 --   list_first, list_more, list_small, lists_few      the index of a list of coefficients
 --   take_same, support_is     supports
 --   listed_last               no message comes after the last one
 --   grown_kept, grown_here, grown_next      heads of one place more, from the last one down
 --   pair_of_heads, heads_less       how many these are
---   pair_there, lists_there         the pair of a support, and how many lists of coefficients it has
+--   first_listed, pair_there, lists_there      a message with a support, its pair, and how many lists of coefficients it has
+--   listed_inside             lists of coefficients are among the heads and tails
 --   turned_at, turned_none    from a list of a support past the last one
 use Rattle.std.proofs.Common.{◌≡◌, ℕ, zero, suc, ◌+◌, ◌-◌, ◌*◌, ◌/◌, ◌%◌, ◌^◌, ◌<◌, ◌≤◌, List, [], ◌∷◌, ◌++◌, length, replicate, take, Some, None, slice_get, slice_index, slice_index_or, set, count_ones, Contains, refl, sym, ap, subst, ◌∙◌, ⊎_elim, arith}
-use Rattle.std.proofs.Math.Nat.{pow-suc, pow-zero, mod-lt, pow-le-pow_right, mul-le-mul_right, le-mul_of_pos_right}
+use Rattle.std.proofs.Math.Nat.{pow-suc, pow-zero, mod-lt, pow-le-pow_right, one-le-pow, mul-le-mul_right, le-mul_of_pos_right}
 use Rattle.std.proofs.Math.Seq.{take-append_seam, get_or-append_seam, take-suc}
 use Rattle.std.proofs.lemmas.Bool.{cases_lt}
 use Rattle.std.proofs.lemmas.List.{append_assoc, get_or-set_same, get_or-set_other, get_or_default}
@@ -38,11 +41,13 @@ use Rattle.lc_kernel.specs.Values.{IsSpotAt}
 use Rattle.lc_kernel.specs.Packed.{others, pair_of, AreStarts}
 use Rattle.lc_planes.specs.Planes.{part_at, plane_at}
 use Rattle.lc_kernel.specs.Planes.{bits_apart, IsPlaneSum}
-use Rattle.lc_kernel.specs.Least.{IsFirstBelow}
+use Rattle.lc_kernel.specs.Least.{IsFirstBelow, AreCounted}
+use Rattle.lc_kernel.specs.declared.nearest.Halves.{Halves}
+use Rattle.lc_kernel.specs.Halves.{tail_apart, symbols_apart}
 use Rattle.lc_kernel.specs.Sums.{front_word}
-use Rattle.lc_kernel.specs.Grid.{tail_pair, tail_count, tail_index, tails_in, AreTailPlanes, IsTailRun}
+use Rattle.lc_kernel.specs.Grid.{tail_pair, tail_count, tail_index, tails_in, IsTailRun}
 use Rattle.lc_kernel.specs.Fronts.{ArePlanes, IsKept}
-use Rattle.lc_kernel.specs.Sweeps.{list_count, listed_spot, IsListedAt, head_word, AreHeads, IsGrown}
+use Rattle.lc_kernel.specs.Sweeps.{list_count, listed_spot, IsListedAt, head_word, AreHeads, AreHalvesOf, IsGrown}
 use Rattle.lc_kernel.proofs.FrontLaws.{entries_are, generates, front_same, front_next, front_first}
 use Rattle.lc_kernel.proofs.FrontPlanes.{front_planes_next}
 use Rattle.lc_kernel.proofs.GridLaws.{tail_run_ones, tail_run_room}
@@ -184,13 +189,13 @@ longer_message C j i e u some inside l h =
     let whole : i + rest ≡ length u = omega (arith, inside) in
     listed_message k q (length u) (e * (q - 1) ^ rest + 0) u _ h (rw whole at at)
 
-pub heads_grown : (C : Matrix) (j n i : ℕ) (u : List ℕ) (rows heads new : List (List ℕ)) → AreRows C.field C.columns C.rows → AreIndependent C.field C.columns C.rows → j < set_count C → Contains (supports_from 0 (length C.rows) (length u)) u → IsKept C j n rows → 1 ≤ i → i < length u → AreHeads C j u n i heads
+pub heads_grown : (C : Matrix) (j b n i : ℕ) (u : List ℕ) (rows heads new : List (List ℕ)) → AreRows C.field C.columns C.rows → AreIndependent C.field C.columns C.rows → j < set_count C → Contains (supports_from 0 (length C.rows) (length u)) u → IsKept C j b n rows → 1 ≤ i → i < length u → AreHeads C j u b n i heads
     → ((e : ℕ) → e < list_count C (i + 1) → IsGrown C.field (size C.field - 1) (slice_index u i) rows heads new e)
-    → AreHeads C j u n (i + 1) new
-heads_grown C j n i u rows heads new words free set_is rises kept some inside h grown_is e p l m =
+    → AreHeads C j u b n (i + 1) new
+heads_grown C j b n i u rows heads new words free set_is rises kept some inside h grown_is e p l m =
     let q = size C.field in
     let d = q - 1 in
-    let cols = part_at (others C j) 0 in
+    let cols = part_at (others C j) b in
     let least : 1 < q = one_inside C.field in
     let product : d ^ (i + 1 - 1) ≡ d ^ (i - 1) * d = ap (λ z. d ^ z) (less i some) ∙ pow-suc d (i - 1) in
     let small : e / d < d ^ (i - 1) = div_below e d (d ^ (i - 1)) (omega (arith, least)) (omega (arith, l, product)) in
@@ -206,7 +211,7 @@ heads_grown C j n i u rows heads new words free set_is rises kept some inside h 
     let front : ArePlanes cols n (front_word C t i) (slice_index_or heads (e / d) []) = λ z o. h (e / d) z small o ∙ ap (plane_at z cols) (sym before) in
     let entry : slice_index t.coefficients i ≡ e % d + 1 = ap (λ z. slice_index z i) whole ∙ ap (slice_index (a ++ ((e % d + 1) ∷ ones))) (sym long) ∙ get_or-append_seam a (e % d + 1) ones 0 in
     let row : slice_index u i * d + e % d ≡ slice_index u i * d + (slice_index t.coefficients i - 1) = omega (arith, entry) in
-    let next = front_planes_next C t n i rows (slice_index_or heads (e / d) []) (slice_index_or rows (slice_index u i * d + e % d) []) (slice_index_or new e []) words free set_is message kept inside front (ap (λ z. slice_index_or rows z []) row) (grown_is e l) in
+    let next = front_planes_next C t b n i rows (slice_index_or heads (e / d) []) (slice_index_or rows (slice_index u i * d + e % d) []) (slice_index_or new e []) words free set_is message kept inside front (ap (λ z. slice_index_or rows z []) row) (grown_is e l) in
     let list = slice_index_or (leading_lists q (i + 1)) e [] in
     let last : SpotState = record { set = j; support = u; coefficients = list; room = 0 } in
     let after : front_word C t (i + 1) ≡ head_word C j u (i + 1) e = front_same C last t (i + 1) (i + 1) (omega arith) refl refl (take_whole list ones (i + 1) (long_list q (i + 1) e l)) in
@@ -223,11 +228,11 @@ first_list q l = refl
 one_one : (d x : ℕ) → x < d ^ (1 - 1) → x ≡ 0
 one_one d x l = omega (arith, l, pow-zero d)
 
-pub heads_first : (C : Matrix) (j n : ℕ) (u : List ℕ) (rows new : List (List ℕ)) → AreRows C.field C.columns C.rows → AreIndependent C.field C.columns C.rows → j < set_count C → Contains (supports_from 0 (length C.rows) (length u)) u → IsKept C j n rows → 1 ≤ length u → slice_index_or new 0 [] ≡ slice_index_or rows (slice_index u 0 * (size C.field - 1)) [] → AreHeads C j u n 1 new
-heads_first C j n u rows new words free set_is rises kept some is x p l m =
+pub heads_first : (C : Matrix) (j b n : ℕ) (u : List ℕ) (rows new : List (List ℕ)) → AreRows C.field C.columns C.rows → AreIndependent C.field C.columns C.rows → j < set_count C → Contains (supports_from 0 (length C.rows) (length u)) u → IsKept C j b n rows → 1 ≤ length u → slice_index_or new 0 [] ≡ slice_index_or rows (slice_index u 0 * (size C.field - 1)) [] → AreHeads C j u b n 1 new
+heads_first C j b n u rows new words free set_is rises kept some is x p l m =
     let q = size C.field in
     let d = q - 1 in
-    let cols = part_at (others C j) 0 in
+    let cols = part_at (others C j) b in
     let least : 1 < q = one_inside C.field in
     let none : x ≡ 0 = one_one d x l in
     let one : 0 < list_count C 1 = omega (arith, l) in
@@ -259,12 +264,12 @@ heads_first C j n u rows new words free set_is rises kept some is x p l m =
     below_rows zero (suc k) d l s = omega (arith, s)
     below_rows (suc a) (suc k) d l s = omega (arith, below_rows a k d (omega (arith, l)) s)
 
-pub heads_kept : (C : Matrix) (j n i place : ℕ) (u v : List ℕ) (heads : List (List ℕ)) → i ≤ place → take place v ≡ take place u → AreHeads C j u n i heads → AreHeads C j v n i heads
-heads_kept C j n i place u v heads within e h x p l m =
+pub heads_kept : (C : Matrix) (j b n i place : ℕ) (u v : List ℕ) (heads : List (List ℕ)) → i ≤ place → take place v ≡ take place u → AreHeads C j u b n i heads → AreHeads C j v b n i heads
+heads_kept C j b n i place u v heads within e h x p l m =
     let a = slice_index_or (leading_lists (size C.field) i) x [] in
     let s : SpotState = record { set = j; support = u; coefficients = a; room = 0 } in
     let t : SpotState = record { set = j; support = v; coefficients = a; room = 0 } in
-    h x p l m ∙ ap (plane_at p (part_at (others C j) 0)) (sym (front_same C s t place i within refl e refl))
+    h x p l m ∙ ap (plane_at p (part_at (others C j) b)) (sym (front_same C s t place i within refl e refl))
 
 -- a word of a support
 
@@ -335,49 +340,62 @@ listed_run C m p b n j y r u words free set_is phase h pair inside =
     positive zero l = absurd (omega (arith, l))
     positive (suc d) l = omega arith
 
--- what the counts of a support need
-pub record IsSweep (C : Matrix) (m b n j y r count planes tails : ℕ) (u bits : List ℕ) (heads : List (List ℕ)) : Type 0 where
+-- what the counts of a support need, at a part of the columns
+pub record IsSweep (C : Matrix) (m b n j y part count : ℕ) (u : List ℕ) (a : Halves) : Type 0 where
   pub rows_are : AreRows C.field C.columns C.rows
   pub free : AreIndependent C.field C.columns C.rows
   pub set : j < set_count C
   pub phase : (p : ℕ) × IsInPhase (length C.rows) (size C.field) m p b
   pub at : IsListedAt C m b n j u y
-  pub pair : slice_get (supports_from 0 (length C.rows) 2) r ≡ Some (pair_of (listed_spot C j u y))
   pub inside : y + count ≤ list_count C (length u)
   pub words : n + count ≤ length (block_words C m b)
-  pub fits : size C.field ≤ 2 ^ planes
-  pub many : tails ≡ tails_in C
-  pub packed : AreTailPlanes C j (part_at (others C j) 0) planes bits
-  pub heads_are : AreHeads C j u planes (length u - 2) heads
-  pub wide : length (others C j) ≤ 64
+  pub halves : AreHalvesOf C j u part a
 
-pub sweep_ones : (C : Matrix) (m b n j y r count planes tails i : ℕ) (u bits : List ℕ) (heads : List (List ℕ)) → IsSweep C m b n j y r count planes tails u bits heads → i < count
-    → weight (restrict (others C j) (slice_index_or (block_words C m b) (n + i) [])) ≡ count_ones (bits_apart planes (slice_index_or heads ((y + i) / tail_count C) []) bits tails (r * tail_count C + (y + i) % tail_count C))
-sweep_ones C m b n j y r count planes tails i u bits heads h l =
+pub sweep_ones : (C : Matrix) (m b n j y part count i : ℕ) (u : List ℕ) (a : Halves) → IsSweep C m b n j y part count u a → i < count
+    → weight (restrict (part_at (others C j) part) (slice_index_or (block_words C m b) (n + i) [])) ≡ symbols_apart a (y + i)
+sweep_ones C m b n j y part count i u a h l =
     let q = size C.field in
     let T = tail_count C in
-    let cols = others C j in
+    let cols = part_at (others C j) part in
+    let o = h.halves in
+    let r = o.pair.0 in
     let x = (y + i) / T in
     let e = r * T + (y + i) % T in
     let s = listed_spot C j u (y + i) in
     let head = head_word C j u (length u - 2) x in
+    let top = slice_index_or a.heads.now x [] in
     let at = listed_step C m b n i j y u h.at (omega (arith, l, h.inside)) in
-    let run = listed_run C m h.phase.0 b (n + i) j (y + i) r u h.rows_are h.free h.set h.phase.1 at h.pair (omega (arith, l, h.words)) in
+    let run = listed_run C m h.phase.0 b (n + i) j (y + i) r u h.rows_are h.free h.set h.phase.1 at o.pair.1 (omega (arith, l, h.words)) in
     let parts = listed_parts q (length u) (y + i) (one_inside C.field) h.at.level (omega (arith, l, h.inside)) in
     let room : e < tails_in C = omega (arith, tail_run_room C m b (n + i) e 1 s head run) in
     let zero_more : e + 0 ≡ e = omega arith in
-    let ones : weight (restrict (part_at cols 0) (slice_index_or (block_words C m b) (n + i + 0) [])) ≡ count_ones (bits_apart planes (slice_index_or heads x []) bits tails e) = tail_run_ones C m b (n + i) e 1 0 planes (bits_apart planes (slice_index_or heads x []) bits tails e) s head (part_at cols 0) run h.fits (omega arith)
-    (λ a c there. ap (bits_apart planes (slice_index_or heads x []) bits tails) (sym zero_more) ∙ bits_of_run C j planes (part_at cols 0) head (slice_index_or heads x []) bits tails (e + 0) a c h.many h.packed (λ p o. h.heads_are x p parts.0 o) (rw zero_more room) there planes (omega arith)) in
+    let ones : weight (restrict cols (slice_index_or (block_words C m b) (n + i + 0) [])) ≡ count_ones (bits_apart a.planes top a.bits.now a.words e) = tail_run_ones C m b (n + i) e 1 0 a.planes (bits_apart a.planes top a.bits.now a.words e) s head cols run o.fits (omega arith)
+    (λ c d there. ap (bits_apart a.planes top a.bits.now a.words) (sym zero_more) ∙ bits_of_run C j a.planes cols head top a.bits.now a.words (e + 0) c d o.many o.packed (λ p k. o.heads x p parts.0 k) (rw zero_more room) there a.planes (omega arith)) in
     let here : n + i + 0 ≡ n + i = omega arith in
-    let w = slice_index_or (block_words C m b) (n + i) [] in
-    let first : weight (restrict (part_at cols 0) w) ≡ count_ones (bits_apart planes (slice_index_or heads x []) bits tails e) = ap (λ z. weight (restrict (part_at cols 0) (slice_index_or (block_words C m b) z []))) (sym here) ∙ ones in
-    omega (arith, first, part_more cols w 0, part_none cols w, part_all cols w (0 + 1) (omega (arith, h.wide)))
+    let tail : e ≡ a.start + (y + i) % a.tails = ap (λ z. z + (y + i) % T) (sym o.pair.2) ∙ ap (λ z. a.start + (y + i) % z) (sym o.tails) in
+    ap (λ z. weight (restrict cols (slice_index_or (block_words C m b) z []))) (sym here) ∙ ones
+    ∙ ap (λ z. count_ones (bits_apart a.planes top a.bits.now a.words z)) tail
+    ∙ ap (λ z. tail_apart a (slice_index_or a.heads.now ((y + i) / z) []) ((y + i) % a.tails)) (sym o.tails)
 
-pub sweep_below : (C : Matrix) (m b n j y r count planes tails bound v x : ℕ) (u bits : List ℕ) (heads : List (List ℕ)) → IsSweep C m b n j y r count planes tails u bits heads
-    → IsFirstBelow count (λ i. count_ones (bits_apart planes (slice_index_or heads ((y + i) / tail_count C) []) bits tails (r * tail_count C + (y + i) % tail_count C))) bound v x
+-- the first least word, if all columns are in one part
+pub sweep_below : (C : Matrix) (m b n j y count bound v x : ℕ) (u : List ℕ) (a : Halves) → IsSweep C m b n j y 0 count u a → length (others C j) ≤ 64
+    → IsFirstBelow count (λ i. symbols_apart a (y + i)) bound v x
     → IsFirstBelow count (λ i. weight (restrict (others C j) (slice_index_or (block_words C m b) (n + i) []))) bound v x
-sweep_below C m b n j y r count planes tails bound v x u bits heads h f =
-    below_same count _ _ bound v x (λ i l. sym (sweep_ones C m b n j y r count planes tails i u bits heads h l)) f
+sweep_below C m b n j y count bound v x u a h wide f = below_same count _ _ bound v x (λ i l. sym (ones i l)) f
+  where
+    ones : (i : ℕ) → i < count → weight (restrict (others C j) (slice_index_or (block_words C m b) (n + i) [])) ≡ symbols_apart a (y + i)
+    ones i l =
+        let cols = others C j in
+        let w = slice_index_or (block_words C m b) (n + i) [] in
+        omega (arith, sweep_ones C m b n j y 0 count i u a h l, part_more cols w 0, part_none cols w, part_all cols w (0 + 1) (omega (arith, wide)))
+
+-- the counts after one more part
+pub sweep_counted : (C : Matrix) (m b n j y part count : ℕ) (u old new : List ℕ) (a : Halves) → IsSweep C m b n j y part count u a
+    → AreCounted (take (64 * part) (others C j)) (block_words C m b) n count old
+    → ((i : ℕ) → i < count → slice_index new i ≡ slice_index old i + symbols_apart a (y + i))
+    → AreCounted (take (64 * (part + 1)) (others C j)) (block_words C m b) n count new
+sweep_counted C m b n j y part count u old new a h counted added i l =
+    omega (arith, added i l, counted i l, sweep_ones C m b n j y part count i u a h l, part_more (others C j) (slice_index_or (block_words C m b) (n + i) []) part)
 
 -- the head and the tail of a word of a run
 pub head_of_word : (n T j : ℕ) → n % T + j < T → ((n + j) / T ≡ n / T) × ((n + j) % T ≡ n % T + j)
@@ -490,6 +508,13 @@ heads_less d i w l m = pow-le-pow_right l (omega (arith, m))
 
 -- the pair of a support, and how many lists of coefficients it has
 
+-- some message with a support
+pub first_listed : (C : Matrix) (j : ℕ) (u : List ℕ) → Contains (supports_from 0 (length C.rows) (length u)) u → Contains (messages (length C.rows) (size C.field) (length u)) (spot_message (listed_spot C j u 0))
+first_listed C j u h =
+    let q = size C.field in
+    let some : 0 < list_count C (length u) = one-le-pow (length u - 1) (q - 1) (omega (arith, one_inside C.field)) in
+    listed_message (length C.rows) q (length u) 0 u _ h (leading_there q (length u) 0 some)
+
 pub pair_there : (C : Matrix) (j y : ℕ) (u starts : List ℕ) (first : ℕ) → AreStarts (length C.rows) 2 starts → Contains (messages (length C.rows) (size C.field) (length u)) (spot_message (listed_spot C j u y)) → 3 ≤ length u → first ≡ slice_index_or starts (slice_index u (length u - 2)) first → slice_get (supports_from 0 (length C.rows) 2) (first + (slice_index u (length u - 1) - slice_index u (length u - 2) - 1)) ≡ Some (pair_of (listed_spot C j u y))
 pair_there C j y u starts first h message level is =
     let s = listed_spot C j u y in
@@ -500,6 +525,12 @@ pair_there C j y u starts first h message level is =
 
 pub lists_there : (C : Matrix) (w heads e : ℕ) → 3 ≤ w → heads ≡ list_count C (w - 2) → e ≡ size C.field - 1 → list_count C w ≡ heads * (e * e)
 lists_there C w heads e level is elements = square (size C.field - 1) w level ∙ ap (λ z. z * ((size C.field - 1) * (size C.field - 1))) (sym is) ∙ ap (λ z. heads * (z * z)) (sym elements)
+
+-- lists of coefficients as heads and tails
+pub listed_inside : (C : Matrix) (j part y count : ℕ) (u : List ℕ) (a : Halves) → 3 ≤ length u → AreHalvesOf C j u part a → y + count ≤ list_count C (length u) → y + count ≤ length a.heads.now * a.tails
+listed_inside C j part y count u a level h inside =
+    let all : list_count C (length u) ≡ length a.heads.now * a.tails = lists_there C (length u) (length a.heads.now) (size C.field - 1) level h.all refl ∙ ap (λ z. length a.heads.now * z) (sym h.tails) in
+    omega (arith, all, inside)
 
 -- from a list of a support past the last one
 

@@ -2,6 +2,7 @@
 --   no_tables, no_grids          none
 --   all_pushed, one_of_all       what holds of each item of a list by its index holds of one more, and of an item that is read
 --   one_part, one_grid_part      a part of a table that is read
+--   kept_part                    the planes of its multiples
 --   part_cut, cut_inside, parts_pushed      a part of the columns, as it is cut off, and the parts with one more
 use Rattle.std.proofs.Common.{◌≡◌, ℕ, ◌+◌, ◌-◌, ◌*◌, ◌<◌, ◌≤◌, List, [], ◌∷◌, ◌++◌, min, length, take, drop, slice_index, slice_index_or, Some, sym, ap, subst, ◌∙◌, ⊎_elim, arith, length-append}
 use Rattle.std.specs.Prelude.{slice_get}
@@ -15,7 +16,8 @@ use Rattle.lc_infoset.proofs.NextLaws.{filter_more, filter_same}
 use Rattle.lc_kernel.specs.declared.grid.Grid.{Grid}
 use Rattle.lc_kernel.specs.declared.table.Table.{Table}
 use Rattle.lc_kernel.specs.declared.grid.GridPart.{GridPart}
-use Rattle.lc_kernel.specs.Grids.{IsGridPart, AreGridParts, AreGrids}
+use Rattle.lc_kernel.specs.Grids.{IsGridPart, AreGridParts, IsGrid, AreGrids}
+use Rattle.lc_kernel.specs.Fronts.{IsKept}
 use Rattle.lc_infoset.specs.Bound.{set_at}
 use Rattle.lc_kernel.specs.declared.parts.Part.{Part}
 use Rattle.lc_kernel.specs.Packed.{others, IsPart}
@@ -27,7 +29,7 @@ pub no_tables : (C : Matrix) (ts : List Table) → ts ≡ [] → AreTables C ts
 no_tables C ts e = record { each = λ j t at. absurd (omega (arith, slice_get_within ts j t at, ap length e)) }
 
 pub no_grids : (C : Matrix) (gs : List Grid) → gs ≡ [] → AreGrids C gs
-no_grids C gs e = record { each = λ j g at. absurd (omega (arith, slice_get_within gs j g at, ap length e)); fronts = λ j g at. absurd (omega (arith, slice_get_within gs j g at, ap length e)) }
+no_grids C gs e = record { each = λ j g at. absurd (omega (arith, slice_get_within gs j g at, ap length e)) }
 
 pub all_pushed : {X : Type 0} (P : ℕ → X → Type 0) (xs more : List X) (x : X) → ((i : ℕ) (y : X) → slice_get xs i ≡ Some y → P i y) → P (length xs) x → more ≡ xs ++ x ∷ [] → (i : ℕ) (y : X) → slice_get more i ≡ Some y → P i y
 all_pushed P xs more x h is made i y at =
@@ -48,8 +50,11 @@ one_of_all P xs i x h l e = h i x (slice_get-get_or xs i x l ∙ ap Some (sym e)
 pub one_part : (C : Matrix) (j t b : ℕ) (ps : List Part) (p : Part) → AreParts C j t ps → b < length ps → p ≡ slice_index_or ps b p → IsPart C j t (part_at (others C j) b) p.rows.items p.sums.items
 one_part C j t b ps p h l e = one_of_all (λ i (x : Part). IsPart C j t (part_at (others C j) i) x.rows.items x.sums.items) ps b p h l e
 
-pub one_grid_part : (C : Matrix) (j n b : ℕ) (ps : List GridPart) (p : GridPart) → AreGridParts C j n ps → b < length ps → p ≡ slice_index_or ps b p → IsGridPart C j (part_at (others C j) b) n p.columns.items p.bits.items
-one_grid_part C j n b ps p h l e = one_of_all (λ i (x : GridPart). IsGridPart C j (part_at (others C j) i) n x.columns.items x.bits.items) ps b p h l e
+pub one_grid_part : (C : Matrix) (j n b : ℕ) (ps : List GridPart) (p : GridPart) → AreGridParts C j n ps → b < length ps → p ≡ slice_index_or ps b p → IsGridPart C j (part_at (others C j) b) n p.rows.items p.bits.items
+one_grid_part C j n b ps p h l e = one_of_all (λ i (x : GridPart). IsGridPart C j (part_at (others C j) i) n x.rows.items x.bits.items) ps b p h l e
+
+pub kept_part : (C : Matrix) (j n tails b : ℕ) (ps : List GridPart) (starts : List ℕ) (p : GridPart) (rows : List (List ℕ)) → IsGrid C j n tails ps starts → b < length ps → p ≡ slice_index_or ps b p → rows ≡ p.rows.items → IsKept C j b n rows
+kept_part C j n tails b ps starts p rows h l e is = record { fits = h.planes; few = h.few; multiples = rw is (one_grid_part C j n b ps p h.parts l e).multiples }
 
 pub part_cut : (cols : List ℕ) (b start end : ℕ) → start ≡ 64 * b → start ≤ length cols → end ≡ min (length cols) (start + 64) → take (end - start) (drop start cols) ≡ part_at cols b
 part_cut cols b start end e l which =

@@ -1,11 +1,11 @@
 -- The tables of the sets of a code over more than 2 elements.
---   IsGridPart C j cols n columns bits      some columns, and the first n planes there of the negatives of all tails
+--   IsGridPart C j cols n rows bits      the first n planes, at some columns, of the nonzero multiples of the rows and of the negatives of all tails
 --   AreGridParts C j n ps      part b of the list is that for part b of the columns outside the basis of set j
 --   IsGrid C j n tails ps starts      these parts for all such columns, how many tails there are, and the first pair of each row
 --   HasRoom C, LacksRoom C     the squares of the dimension and of the number of nonzero elements have a product of at most 2^18, or a greater one
 --   AreGrids C gs              table j is that of set j
 --   AreAllGrids C gs           there is a table for each set if there is room, and else none
-use Rattle.std.specs.Prelude.{◌≡◌, ◌≢◌, ℕ, ◌*◌, ◌^◌, ◌<◌, ◌≤◌, List, Some, length, slice_get}
+use Rattle.std.specs.Prelude.{◌≡◌, ◌≢◌, ℕ, ◌-◌, ◌*◌, ◌^◌, ◌<◌, ◌≤◌, List, Some, length, slice_get}
 use Rattle.lc_algebra.specs.Field.{size}
 use Rattle.lc_algebra.specs.Matrix.{Matrix}
 use Rattle.lc_enumeration.specs.Search.{set_count}
@@ -14,14 +14,14 @@ use Rattle.lc_kernel.specs.declared.grid.GridPart.{GridPart}
 use Rattle.lc_kernel.specs.Packed.{others, AreStarts}
 use Rattle.lc_planes.specs.Planes.{part_at}
 use Rattle.lc_kernel.specs.Grid.{tail_count, tails_in, AreTailPlanes}
-use Rattle.lc_kernel.specs.Fronts.{HasFronts}
+use Rattle.lc_kernel.specs.Fronts.{AreRowPlanes}
 
-pub record IsGridPart (C : Matrix) (j : ℕ) (cols : List ℕ) (n : ℕ) (columns bits : List ℕ) : Type 0 where
-  pub columns_are : columns ≡ cols
+pub record IsGridPart (C : Matrix) (j : ℕ) (cols : List ℕ) (n : ℕ) (rows : List (List ℕ)) (bits : List ℕ) : Type 0 where
+  pub multiples : AreRowPlanes C j cols n (length C.rows * (size C.field - 1)) rows
   pub planes : AreTailPlanes C j cols n bits
 
 abbrev pub AreGridParts : Matrix → ℕ → ℕ → List GridPart → Type 0
-AreGridParts C j n ps = (b : ℕ) (p : GridPart) → slice_get ps b ≡ Some p → IsGridPart C j (part_at (others C j) b) n p.columns.items p.bits.items
+AreGridParts C j n ps = (b : ℕ) (p : GridPart) → slice_get ps b ≡ Some p → IsGridPart C j (part_at (others C j) b) n p.rows.items p.bits.items
 
 pub record IsGrid (C : Matrix) (j n tails : ℕ) (ps : List GridPart) (starts : List ℕ) : Type 0 where
   pub planes : size C.field ≤ 2 ^ n
@@ -45,4 +45,3 @@ pub record AreAllGrids (C : Matrix) (gs : List Grid) : Type 0 where
 
 pub record AreGrids (C : Matrix) (gs : List Grid) : Type 0 where
   pub each : (j : ℕ) (g : Grid) → slice_get gs j ≡ Some g → IsGrid C j g.planes g.tails g.parts.items g.starts.items
-  pub fronts : (j : ℕ) (g : Grid) → slice_get gs j ≡ Some g → HasFronts C j g.planes (length g.parts.items) g.rows.items

@@ -4,7 +4,9 @@
 --   IsFirstLeast n f v i        number i is v, all are at least v, and those before it are greater
 --   IsFirstBelow n f bound v i      v is the least of the bound and these numbers, and if it is below the bound, i is the first index that has it
 --   AreCounted cols ws from n counts      the first n counts are the weights, at some columns, of the words from index from on
-use Rattle.std.specs.Prelude.{◌≡◌, ℕ, ◌+◌, ◌<◌, ◌≤◌, List, [], slice_index, slice_index_or}
+--   ArePartCounted cols b ws n m counts      the first n of m counts are the weights of the words at the first b + 1 parts of the columns, and
+--                           the others those at the first b parts
+use Rattle.std.specs.Prelude.{◌≡◌, ℕ, ◌+◌, ◌*◌, ◌<◌, ◌≤◌, List, [], take, slice_index, slice_index_or}
 use Rattle.lc_algebra.specs.Word.{weight}
 use Rattle.lc_algebra.specs.SpanLaws.{restrict}
 
@@ -33,3 +35,7 @@ pub record IsFirstBelow (n : ℕ) (f : ℕ → ℕ) (bound v i : ℕ) : Type 0 w
 
 abbrev pub AreCounted : List ℕ → List (List ℕ) → ℕ → ℕ → List ℕ → Type 0
 AreCounted cols ws from n counts = (i : ℕ) → i < n → slice_index counts i ≡ weight (restrict cols (slice_index_or ws (from + i) []))
+
+pub record ArePartCounted (cols : List ℕ) (b : ℕ) (ws : List (List ℕ)) (n m : ℕ) (counts : List ℕ) : Type 0 where
+  pub done : (i : ℕ) → i < n → slice_index counts i ≡ weight (restrict (take (64 * (b + 1)) cols) (slice_index_or ws i []))
+  pub left : (i : ℕ) → n ≤ i → i < m → slice_index counts i ≡ weight (restrict (take (64 * b) cols) (slice_index_or ws i []))

@@ -7,7 +7,6 @@ ghost use Rattle.lc_enumeration.specs.Search.{block_least, board_value};
 ghost use Rattle.lc_kernel.specs.Kernel.{IsPlanOf, top_sum};
 ghost use Rattle.lc_kernel.specs.Tables.{AreTables};
 ghost use Rattle.lc_kernel.specs.Grids.{AreGrids};
-ghost use Rattle.lc_kernel.specs.Sums.{IsRoom};
 
 use crate::grid::Grid;
 use crate::runs::by_runs;
@@ -17,7 +16,6 @@ use crate::table::Table;
 use crate::tails::by_tails;
 use lc_infoset::Sets;
 use lc_place::{Plan, Spot};
-use lc_vec::Word;
 
 /// The least value of a block on the board: the weight times 2^52 plus the place of the lightest word of the
 /// block, the first of these.
@@ -38,7 +36,6 @@ pub fn least(sets: &Sets, plan: &Plan, block: u64, scratch: &mut Scratch) -> u64
         &scratch.tables,
         &scratch.grids,
         &mut scratch.spot,
-        &mut scratch.heads,
         &mut scratch.fronts,
         &mut scratch.places,
         &mut scratch.tops,
@@ -49,7 +46,6 @@ pub fn least(sets: &Sets, plan: &Plan, block: u64, scratch: &mut Scratch) -> u64
 
 // The same in parts: by runs if its set has a table with tails that its level can have, and else message by
 // message.
-#[tactic(auto, using(crate::proofs::SumLaws::room_kept))]
 fn least_in(
     sets: &Sets,
     plan: &Plan,
@@ -57,7 +53,6 @@ fn least_in(
     tables: &[Table],
     grids: &[Grid],
     spot: &mut Spot,
-    heads: &mut [Word],
     fronts: &mut [[u64; 4]],
     places: &mut [usize],
     tops: &mut [[u64; 4]],
@@ -68,13 +63,13 @@ fn least_in(
     requires block { block < total plan.now.k plan.now.q plan.now.m }
     requires tables { AreTables sets.now tables.now }
     requires grids { AreGrids sets.now grids.now }
-    requires heads { IsRoom sets.now spot.old heads.old }
+    requires room { spot.old.room ≡ length sets.now.rows }
     requires fronts { length fronts.old ≡ length sets.now.rows + 1 }
     requires places { length places.old ≡ length sets.now.rows }
     requires tops { length tops.old ≡ 1024 }
     requires counts { length counts.old ≡ 4096 }
     requires stack { stack.old.code ≡ sets.now }
-    ensures heads { IsRoom sets.now spot.new heads.new }
+    ensures room { spot.new.room ≡ spot.old.room }
     ensures fronts { length fronts.new ≡ length fronts.old }
     ensures places { length places.new ≡ length places.old }
     ensures tops { length tops.new ≡ length tops.old }
@@ -88,10 +83,7 @@ fn least_in(
     let level = spot.support().len();
     if level >= 3 && set < grids.len() {
         let grid = &grids[set];
-        let multiples = stack.multiples();
-        return by_tails(
-            sets, plan, block, grid, multiples, spot, heads, fronts, places, tops, counts,
-        );
+        return by_tails(sets, plan, block, grid, spot, fronts, places, tops, counts);
     }
     if set < tables.len() {
         let table = &tables[set];

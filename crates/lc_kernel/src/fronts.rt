@@ -1,13 +1,13 @@
-//! The counts of a block of words by runs, over more than 2 elements, if at most 64 columns are outside the basis. The
+//! The counts of a block of words by runs, over more than 2 elements, part by part of the columns outside the basis. The
 //! planes of the sums of the first entries of a message are kept from run to run, and come from those of the rows.
 
-ghost use Rattle.std.specs.Prelude.{◌≡◌, ℕ, ◌+◌, ◌-◌, ◌*◌, ◌<◌, ◌≤◌, ◌/◌, ◌%◌, [], Some, length, slice_index, slice_index_or, IfOk};
+ghost use Rattle.std.specs.Prelude.{◌≡◌, ℕ, ◌+◌, ◌-◌, ◌*◌, ◌<◌, ◌≤◌, ◌/◌, ◌%◌, [], Some, length, take, slice_index, slice_index_or, IfOk};
 ghost use Rattle.std.specs.List.{Contains};
 ghost use Rattle.lc_algebra.specs.Field.{size};
 ghost use Rattle.lc_algebra.specs.Word.{weight};
 ghost use Rattle.lc_algebra.specs.SpanLaws.{restrict};
 ghost use Rattle.lc_enumeration.specs.Message.{messages};
-ghost use Rattle.lc_enumeration.specs.Plan.{IsInPhase};
+ghost use Rattle.lc_enumeration.specs.Plan.{total, IsInPhase};
 ghost use Rattle.lc_enumeration.specs.Search.{set_count, block_words};
 ghost use Rattle.lc_place.specs.Place.{spot_message};
 ghost use Rattle.lc_kernel.specs.Kernel.{IsPlanOf};
@@ -16,18 +16,19 @@ ghost use Rattle.lc_kernel.specs.Packed.{others};
 ghost use Rattle.lc_planes.specs.Planes.{part_at};
 ghost use Rattle.lc_kernel.specs.Grid.{tail_count, tail_index, IsTailRun};
 ghost use Rattle.lc_kernel.specs.Grids.{IsGrid};
-ghost use Rattle.lc_kernel.specs.Fronts.{AreRowPlanes, AreFrontPlanes, ArePlanes, IsKept, HasFronts};
-ghost use Rattle.lc_kernel.specs.Least.{IsFirstLeast, AreCounted};
-ghost use Rattle.lc_kernel.specs.Sums.{front_word, AreMultiples, IsRoom};
+ghost use Rattle.lc_kernel.specs.Fronts.{AreRowPlanes, AreFrontPlanes, ArePlanes};
+ghost use Rattle.lc_kernel.specs.Least.{IsFirstLeast, AreCounted, ArePartCounted};
+ghost use Rattle.lc_kernel.specs.Sums.{front_word, AreMultiples};
 
 use crate::adders::sum_planes;
 use crate::counts::first_least;
 use crate::grid::Grid;
 use crate::multiples::{multiple_of, nonzero};
+use crate::part_counts::count_sweeps;
 use crate::planes::{add_apart, pack};
 use crate::runs::pair_index;
 use crate::sweeps::{head_count, least_sweeps};
-use crate::tails::{count_tails, pass, tail_of};
+use crate::tails::{pass, tail_of};
 use lc_field::NoMemory;
 use lc_infoset::Sets;
 use lc_place::{Plan, Spot};
@@ -65,30 +66,41 @@ pub(crate) fn row_planes(
 }
 
 // The planes of the sum of the first i + 1 entries, from those of the first i.
-fn next_front(sets: &Sets, grid: &Grid, spot: &Spot, front: &[u64; 4], i: usize) -> [u64; 4]
+fn next_front(
+    sets: &Sets,
+    grid: &Grid,
+    part: usize,
+    spot: &Spot,
+    front: &[u64; 4],
+    i: usize,
+) -> [u64; 4]
     requires set { spot.now.set < set_count sets.now }
     requires message { Contains (messages (length sets.now.rows) (size sets.now.field) (length spot.now.support))
         (spot_message spot.now) }
-    requires kept { IsKept sets.now spot.now.set grid.now.planes grid.now.rows.items }
+    requires grid { IsGrid sets.now spot.now.set grid.now.planes grid.now.tails grid.now.parts.items
+        grid.now.starts.items }
+    requires part { part < length grid.now.parts.items }
     requires entry { i < length spot.now.support }
-    requires front { ArePlanes (part_at (others sets.now spot.now.set) 0) grid.now.planes
+    requires front { ArePlanes (part_at (others sets.now spot.now.set) part) grid.now.planes
         (front_word sets.now spot.now i) front.now }
-    ensures is { ArePlanes (part_at (others sets.now spot.now.set) 0) grid.now.planes
+    ensures is { ArePlanes (part_at (others sets.now spot.now.set) part) grid.now.planes
         (front_word sets.now spot.now (i + 1)) result }
 {
     let _k = sets.dimension();
     let _n = sets.length();
     let support = spot.support();
     let coefficients = spot.coefficients();
+    let table = &grid.parts[part];
     let row = support[i] * nonzero(sets);
     let element = coefficients[i] as usize - 1;
-    sum_planes(sets.field(), front, &grid.rows[row + element])
+    sum_planes(sets.field(), front, &table.rows[row + element])
 }
 
 // Makes the planes of the sums of the first `to` entries again, those of the first `from` being there.
 fn refresh_planes(
     sets: &Sets,
     grid: &Grid,
+    part: usize,
     spot: &Spot,
     fronts: &mut [[u64; 4]],
     from: usize,
@@ -97,27 +109,30 @@ fn refresh_planes(
     requires set { spot.now.set < set_count sets.now }
     requires message { Contains (messages (length sets.now.rows) (size sets.now.field) (length spot.now.support))
         (spot_message spot.now) }
-    requires kept { IsKept sets.now spot.now.set grid.now.planes grid.now.rows.items }
+    requires grid { IsGrid sets.now spot.now.set grid.now.planes grid.now.tails grid.now.parts.items
+        grid.now.starts.items }
+    requires part { part < length grid.now.parts.items }
     requires many { length fronts.old ≡ length sets.now.rows + 1 }
-    requires fronts { AreFrontPlanes sets.now spot.now grid.now.planes from fronts.old }
+    requires fronts { AreFrontPlanes sets.now spot.now part grid.now.planes from fronts.old }
     requires order { from ≤ to }
     requires inside { to ≤ length spot.now.support }
-    ensures fronts { AreFrontPlanes sets.now spot.now grid.now.planes to fronts.new }
+    ensures fronts { AreFrontPlanes sets.now spot.now part grid.now.planes to fronts.new }
 {
     let _k = sets.dimension();
     let _n = sets.length();
     for i in from..to {
-        let front = next_front(sets, grid, spot, &fronts[i], i);
+        let front = next_front(sets, grid, part, spot, &fronts[i], i);
         fronts[i + 1] = front;
     }
 }
 
-// Counts the nonzero symbols, outside the basis, of the words of a run, from the planes of its head.
-fn count_front(
+// Adds to the counts of a run what a part of the columns has, from the planes of its head.
+fn add_front(
     sets: &Sets,
     plan: &Plan,
     block: u64,
     grid: &Grid,
+    part: usize,
     spot: &Spot,
     head: &[u64; 4],
     start: usize,
@@ -128,26 +143,28 @@ fn count_front(
         (front_word sets.now spot.now (length spot.now.support - 2)) done start (length counts.old) }
     requires grid { IsGrid sets.now spot.now.set grid.now.planes grid.now.tails grid.now.parts.items
         grid.now.starts.items }
-    requires alone { length grid.now.parts.items ≡ 1 }
-    requires head { ArePlanes (part_at (others sets.now spot.now.set) 0) grid.now.planes
+    requires part { part < length grid.now.parts.items }
+    requires head { ArePlanes (part_at (others sets.now spot.now.set) part) grid.now.planes
         (front_word sets.now spot.now (length spot.now.support - 2)) head.now }
-    ensures counted { AreCounted (others sets.now spot.now.set) (block_words sets.now plan.now.m block) done
-        (length counts.old) counts.new }
+    requires counted { AreCounted (take (64 * part) (others sets.now spot.now.set))
+        (block_words sets.now plan.now.m block) done (length counts.old) counts.old }
+    ensures counted { AreCounted (take (64 * (part + 1)) (others sets.now spot.now.set))
+        (block_words sets.now plan.now.m block) done (length counts.old) counts.new }
 {
     let _n = sets.length();
-    counts.fill(0);
-    let part = &grid.parts[0];
-    let tails = part.bits.as_slice();
+    let table = &grid.parts[part];
+    let tails = table.bits.as_slice();
     add_apart(grid.planes, tails, grid.tails, start, head, counts);
 }
 
-// Counts the words of a block up to the end of a run that begins at an offset. Returns how many words the
-// run has.
+// Adds what a part of the columns has to the counts of a run that begins at an offset of a block, up to the block's end.
+// Returns how many words the run has.
 fn one_front(
     sets: &Sets,
     plan: &Plan,
     block: u64,
     grid: &Grid,
+    part: usize,
     spot: &Spot,
     head: &[u64; 4],
     done: usize,
@@ -159,15 +176,15 @@ fn one_front(
     requires level { 3 ≤ length spot.now.support }
     requires grid { IsGrid sets.now spot.now.set grid.now.planes grid.now.tails grid.now.parts.items
         grid.now.starts.items }
-    requires alone { length grid.now.parts.items ≡ 1 }
-    requires head { ArePlanes (part_at (others sets.now spot.now.set) 0) grid.now.planes
+    requires part { part < length grid.now.parts.items }
+    requires head { ArePlanes (part_at (others sets.now spot.now.set) part) grid.now.planes
         (front_word sets.now spot.now (length spot.now.support - 2)) head.now }
     requires some { done < length counts.old }
     requires words { length counts.old ≡ length (block_words sets.now plan.now.m block) }
-    requires counted { AreCounted (others sets.now spot.now.set)
-        (block_words sets.now plan.now.m block) 0 done counts.old }
-    ensures counted { AreCounted (others sets.now spot.now.set) (block_words sets.now plan.now.m block) 0
-        (done + result) counts.new }
+    requires counted { ArePartCounted (others sets.now spot.now.set) part (block_words sets.now plan.now.m block) done
+        (length counts.old) counts.old }
+    ensures counted { ArePartCounted (others sets.now spot.now.set) part (block_words sets.now plan.now.m block)
+        (done + result) (length counts.old) counts.new }
     ensures some { 0 < result }
     ensures within { done + result ≤ length counts.old }
     ensures end { done + result < length counts.old → tail_index sets.now spot.now + result ≡ tail_count sets.now }
@@ -178,11 +195,12 @@ fn one_front(
     let start = pair_index(sets, &grid.starts, spot) * elements * elements + tail;
     let count = (elements * elements - tail).min(counts.len() - done);
     let end = done + count;
-    count_front(
+    add_front(
         sets,
         plan,
         block,
         grid,
+        part,
         spot,
         head,
         start,
@@ -192,13 +210,14 @@ fn one_front(
     count
 }
 
-// Counts the nonzero symbols, outside the basis, of the words of a block of a level of at least 3, from its
-// first message on.
-fn count_fronts(
+// Adds what a part of the columns has to the counts of the words of a block of a level of at least 3, from its first
+// message on.
+fn add_fronts(
     sets: &Sets,
     plan: &Plan,
     block: u64,
     grid: &Grid,
+    part: usize,
     spot: &mut Spot,
     fronts: &mut [[u64; 4]],
     counts: &mut [u32],
@@ -210,13 +229,15 @@ fn count_fronts(
     requires level { 3 ≤ length spot.old.support }
     requires grid { IsGrid sets.now spot.old.set grid.now.planes grid.now.tails grid.now.parts.items
         grid.now.starts.items }
-    requires alone { length grid.now.parts.items ≡ 1 }
-    requires kept { IsKept sets.now spot.old.set grid.now.planes grid.now.rows.items }
+    requires part { part < length grid.now.parts.items }
     requires many { length fronts.old ≡ length sets.now.rows + 1 }
     requires some { 0 < length counts.old }
     requires words { length counts.old ≡ length (block_words sets.now plan.now.m block) }
-    ensures counted { AreCounted (others sets.now spot.old.set) (block_words sets.now plan.now.m block) 0
-        (length counts.old) counts.new }
+    requires counted { AreCounted (take (64 * part) (others sets.now spot.old.set))
+        (block_words sets.now plan.now.m block) 0 (length counts.old) counts.old }
+    ensures counted { AreCounted (take (64 * (part + 1)) (others sets.now spot.old.set))
+        (block_words sets.now plan.now.m block) 0 (length counts.old) counts.new }
+    ensures set { spot.new.set ≡ spot.old.set }
     ensures room { spot.new.room ≡ spot.old.room }
 {
     let _k = sets.dimension();
@@ -226,12 +247,13 @@ fn count_fronts(
     let mut done = 0;
     let mut stayed = 0;
     loop {
-        refresh_planes(sets, grid, spot, fronts, stayed, level - 2);
+        refresh_planes(sets, grid, part, spot, fronts, stayed, level - 2);
         let count = one_front(
             sets,
             plan,
             block,
             grid,
+            part,
             spot,
             &fronts[level - 2],
             done,
@@ -242,6 +264,39 @@ fn count_fronts(
         }
         stayed = pass(sets, plan, block, spot, done as u64, count as u64);
         done += count;
+    }
+}
+
+// Counts the nonzero symbols, outside the basis, of the words of a block of a level of at least 3, part by part.
+fn count_fronts(
+    sets: &Sets,
+    plan: &Plan,
+    block: u64,
+    grid: &Grid,
+    spot: &mut Spot,
+    fronts: &mut [[u64; 4]],
+    counts: &mut [u32],
+)
+    requires plan { IsPlanOf plan.now sets.now }
+    requires block { block < total plan.now.k plan.now.q plan.now.m }
+    requires phase { (p : ℕ) × IsInPhase (length sets.now.rows) (size sets.now.field) plan.now.m p block }
+    requires set { spot.old.set < set_count sets.now }
+    requires at { IsSpotAt sets.now plan.now.m block 0 spot.old }
+    requires level { 3 ≤ length spot.old.support }
+    requires grid { IsGrid sets.now spot.old.set grid.now.planes grid.now.tails grid.now.parts.items
+        grid.now.starts.items }
+    requires room { spot.old.room ≡ length sets.now.rows }
+    requires many { length fronts.old ≡ length sets.now.rows + 1 }
+    requires some { 0 < length counts.old }
+    requires words { length counts.old ≡ length (block_words sets.now plan.now.m block) }
+    ensures counted { AreCounted (others sets.now spot.old.set) (block_words sets.now plan.now.m block) 0
+        (length counts.old) counts.new }
+    ensures room { spot.new.room ≡ spot.old.room }
+{
+    counts.fill(0);
+    for part in 0..grid.parts.len() {
+        plan.start_of(block, spot);
+        add_fronts(sets, plan, block, grid, part, spot, fronts, counts);
     }
 }
 
@@ -260,32 +315,28 @@ fn first_counted(sets: &Sets, plan: &Plan, block: u64, set: usize, counts: &[u32
 }
 
 /// The least number of nonzero symbols, outside the basis, of the words of a block of a level of at least 3, from its
-/// first message on, and the first word that has it: by the planes of its heads if the table keeps them, support by
-/// support if a support hasn't too many, and else by the symbols of its heads. There is a count for each word.
-#[tactic(auto, using(crate::proofs::SumLaws::room_kept))]
+/// first message on, and the first word that has it: support by support if a support hasn't too many heads, and else run
+/// by run. There is a count for each word.
 pub(crate) fn least_words(
     sets: &Sets,
     plan: &Plan,
     block: u64,
     grid: &Grid,
-    multiples: &[Word],
     spot: &mut Spot,
-    heads: &mut [Word],
     fronts: &mut [[u64; 4]],
     places: &mut [usize],
     tops: &mut [[u64; 4]],
     counts: &mut [u32],
 ) -> (u32, usize)
     requires plan { IsPlanOf plan.now sets.now }
+    requires block { block < total plan.now.k plan.now.q plan.now.m }
     requires phase { (p : ℕ) × IsInPhase (length sets.now.rows) (size sets.now.field) plan.now.m p block }
     requires set { spot.old.set < set_count sets.now }
     requires at { IsSpotAt sets.now plan.now.m block 0 spot.old }
     requires level { 3 ≤ length spot.old.support }
     requires grid { IsGrid sets.now spot.old.set grid.now.planes grid.now.tails grid.now.parts.items
         grid.now.starts.items }
-    requires kept { HasFronts sets.now spot.old.set grid.now.planes (length grid.now.parts.items) grid.now.rows.items }
-    requires multiples { AreMultiples sets.now multiples.now }
-    requires room { IsRoom sets.now spot.old heads.old }
+    requires room { spot.old.room ≡ length sets.now.rows }
     requires many { length fronts.old ≡ length sets.now.rows + 1 }
     requires places { length places.old ≡ length sets.now.rows }
     requires tops { length tops.old ≡ 1024 }
@@ -297,27 +348,19 @@ pub(crate) fn least_words(
         (slice_index_or (block_words sets.now plan.now.m block) i []))) result.0 result.1 }
     ensures few { result.0 ≤ 255 }
     ensures room { spot.new.room ≡ spot.old.room }
-    ensures heads { IsRoom sets.now spot.new heads.new }
 {
     let _n = sets.length();
     let set = spot.set();
-    if grid.parts.len() != 1 {
-        count_tails(sets, plan, block, grid, multiples, spot, heads, counts);
-        return first_counted(sets, plan, block, set, counts);
-    }
     let level = spot.support().len();
     let Some(many) = head_count(sets, level) else {
         count_fronts(sets, plan, block, grid, spot, fronts, counts);
         return first_counted(sets, plan, block, set, counts);
     };
-    least_sweeps(
-        sets,
-        plan,
-        block,
-        grid,
-        spot,
-        &mut places[..level],
-        &mut tops[..many],
-        counts,
-    )
+    let support = &mut places[..level];
+    let heads = &mut tops[..many];
+    if grid.parts.len() == 1 {
+        return least_sweeps(sets, plan, block, grid, spot, support, heads, counts);
+    }
+    count_sweeps(sets, plan, block, grid, spot, support, heads, counts);
+    first_counted(sets, plan, block, set, counts)
 }

@@ -6,11 +6,10 @@ ghost use Rattle.lc_algebra.specs.Word.{IsWord};
 ghost use Rattle.lc_enumeration.specs.Message.{supports_from};
 ghost use Rattle.lc_enumeration.specs.Search.{set_count};
 ghost use Rattle.lc_kernel.specs.Packed.{others, EndsAt};
-ghost use Rattle.lc_planes.specs.Planes.{part_at, plane_at, negative};
+ghost use Rattle.lc_planes.specs.Planes.{plane_at, negative};
 ghost use Rattle.lc_kernel.specs.Sums.{AreMultiples};
 ghost use Rattle.lc_kernel.specs.Grid.{tail_count, tail_word, tails_in, AreTails, ArePlanesOf};
-ghost use Rattle.lc_kernel.specs.Grids.{HasRoom, LacksRoom, AreGridParts, IsGrid};
-ghost use Rattle.lc_kernel.specs.Fronts.{AreRowPlanes, HasFronts};
+ghost use Rattle.lc_kernel.specs.Grids.{HasRoom, LacksRoom, IsGridPart, AreGridParts, IsGrid};
 
 use crate::fronts::row_planes;
 use crate::multiples::{multiple_of, nonzero};
@@ -26,24 +25,22 @@ use std::alloc::Global;
 /// The most tails that a table has.
 const MOST: usize = 262_144;
 
-/// For at most 64 columns outside the basis of a set: these columns, and the planes there of the negatives of all
-/// tails, plane by plane.
+/// For at most 64 columns outside the basis of a set: the planes there of the nonzero multiples of the rows, and of the
+/// negatives of all tails, plane by plane.
 #[derive(Drop)]
 pub(crate) struct GridPart {
-    pub(crate) columns: Vec<usize>,
+    pub(crate) rows: Vec<[u64; 4]>,
     pub(crate) bits: Vec<u64>,
 }
 
 /// For one set: how many planes the symbols have, how many tails there are, the parts for the columns outside its
-/// basis, 64 columns each but the last, and for each row the index of its first pair. If there is one part, it keeps
-/// also the planes of the nonzero multiples of its rows.
+/// basis, 64 columns each but the last, and for each row the index of its first pair.
 #[derive(Drop)]
 pub(crate) struct Grid {
     pub(crate) planes: usize,
     pub(crate) tails: usize,
     pub(crate) parts: Vec<GridPart>,
     pub(crate) starts: Vec<usize>,
-    pub(crate) rows: Vec<[u64; 4]>,
 }
 
 // The negative of the sum of multiples of rows a and b of set j: tail t.
@@ -204,12 +201,14 @@ fn planes_of(
 fn push_parts(
     alloc: Global,
     sets: &Sets,
+    multiples: &[Word],
     j: usize,
     columns: &[usize],
     words: &[Word],
     planes: usize,
     parts: &mut Vec<GridPart>,
 ) -> Result<(), NoMemory>
+    requires multiples { AreMultiples sets.now multiples.now }
     requires set { j < set_count sets.now }
     requires columns { columns.now ≡ others sets.now j }
     requires words { AreTails sets.now j (tails_in sets.now) words.now }
@@ -221,7 +220,8 @@ fn push_parts(
     let mut start = 0;
     while start < columns.len() {
         let end = columns.len().min(start + 64);
-        parts.push(grid_part(alloc, words, &columns[start..end], planes)?)?;
+        let cut = &columns[start..end];
+        parts.push(grid_part(alloc, sets, multiples, j, cut, words, planes)?)?;
         start = end;
     }
     Ok(())
@@ -230,22 +230,24 @@ fn push_parts(
 // The part for these columns.
 fn grid_part(
     alloc: Global,
-    words: &[Word],
+    sets: &Sets,
+    multiples: &[Word],
+    j: usize,
     columns: &[usize],
+    words: &[Word],
     planes: usize,
 ) -> Result<GridPart, NoMemory>
+    requires multiples { AreMultiples sets.now multiples.now }
+    requires set { j < set_count sets.now }
     requires few { length columns.now ≤ 64 }
+    requires inside { (t : ℕ) → t < length columns.now → slice_index columns.now t < sets.now.columns }
+    requires words { AreTails sets.now j (tails_in sets.now) words.now }
     requires planes { planes ≤ 4 }
-    requires inside { (i t : ℕ) → i < length words.now → t < length columns.now →
-        slice_index columns.now t < length (slice_index_or words.now i []) }
-    ensures columns { IfOk result (λ p. p.columns.items ≡ columns.now) }
-    ensures bits { IfOk result (λ p. ArePlanesOf columns.now planes words.now p.bits.items) }
+    ensures is { IfOk result (λ p. IsGridPart sets.now j columns.now planes p.rows.items p.bits.items) }
 {
+    let rows = row_planes(alloc, sets, multiples, j, columns, planes)?;
     let bits = planes_of(alloc, words, columns, planes)?;
-    Ok(GridPart {
-        columns: columns.to_vec(alloc)?,
-        bits,
-    })
+    Ok(GridPart { rows, bits })
 }
 
 // How many planes the symbols of the field have.
@@ -280,7 +282,6 @@ fn has_room(sets: &Sets) -> bool
 
 /// The table of set `j`. None exactly if the squares of the dimension and of the number of nonzero elements have a
 /// product above `MOST`, so that there may be too many tails.
-#[tactic(auto, using(crate::proofs::FrontPlanes::fronts_made))]
 pub(crate) fn grid_of(
     alloc: Global,
     sets: &Sets,
@@ -291,8 +292,6 @@ pub(crate) fn grid_of(
     requires set { j < set_count sets.now }
     ensures is { IfOk result (λ o. (g : _) → o ≡ Some g →
         IsGrid sets.now j g.planes g.tails g.parts.items g.starts.items) }
-    ensures fronts { IfOk result (λ o. (g : _) → o ≡ Some g →
-        HasFronts sets.now j g.planes (length g.parts.items) g.rows.items) }
     ensures some { IfOk result (λ o. (g : _) → o ≡ Some g → HasRoom sets.now) }
     ensures none { IfOk result (λ o. o ≡ None → LacksRoom sets.now) }
 {
@@ -304,14 +303,12 @@ pub(crate) fn grid_of(
     let words = all_tails(alloc, sets, multiples, j)?;
     let tails = words.len();
     let planes = plane_count(sets);
-    let parts = parts_of(alloc, sets, j, &words, planes)?;
-    let rows = rows_of(alloc, sets, multiples, j, &parts, planes)?;
+    let parts = parts_of(alloc, sets, multiples, j, &words, planes)?;
     Ok(Some(Grid {
         planes,
         tails,
         parts,
         starts,
-        rows,
     }))
 }
 
@@ -319,10 +316,12 @@ pub(crate) fn grid_of(
 fn parts_of(
     alloc: Global,
     sets: &Sets,
+    multiples: &[Word],
     j: usize,
     words: &[Word],
     planes: usize,
 ) -> Result<Vec<GridPart>, NoMemory>
+    requires multiples { AreMultiples sets.now multiples.now }
     requires set { j < set_count sets.now }
     requires words { AreTails sets.now j (tails_in sets.now) words.now }
     requires planes { planes ≤ 4 }
@@ -331,33 +330,8 @@ fn parts_of(
 {
     let columns = columns_outside(alloc, sets.length(), sets.basis(j))?;
     let mut parts = Vec::new(alloc);
-    push_parts(alloc, sets, j, &columns, words, planes, &mut parts)?;
+    push_parts(
+        alloc, sets, multiples, j, &columns, words, planes, &mut parts,
+    )?;
     Ok(parts)
-}
-
-// The planes of the nonzero multiples of the rows of set j, if there is one part.
-fn rows_of(
-    alloc: Global,
-    sets: &Sets,
-    multiples: &[Word],
-    j: usize,
-    parts: &[GridPart],
-    planes: usize,
-) -> Result<Vec<[u64; 4]>, NoMemory>
-    requires multiples { AreMultiples sets.now multiples.now }
-    requires set { j < set_count sets.now }
-    requires planes { planes ≤ 4 }
-    requires parts { AreGridParts sets.now j planes parts.now }
-    ensures are { IfOk result (λ rows. length parts.now ≡ 1 →
-        AreRowPlanes sets.now j (part_at (others sets.now j) 0) planes
-        (length sets.now.rows * (size sets.now.field - 1)) rows.items) }
-{
-    let many = parts.len();
-    if many != 1 {
-        return Ok(Vec::new(alloc));
-    }
-    let part = &parts[0];
-    let columns = part.columns.as_slice();
-    let rows = row_planes(alloc, sets, multiples, j, columns, planes)?;
-    Ok(rows)
 }

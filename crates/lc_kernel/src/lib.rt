@@ -9,6 +9,7 @@ mod fronts;
 mod grid;
 mod multiples;
 mod nearest;
+mod part_counts;
 mod parts;
 mod place;
 mod planes;

@@ -264,6 +264,37 @@ fn first_below(
     (least, place_of(counts, least))
 }
 
+/// Adds to each count the number of symbols at which the head of a word differs from its tail. Count i is for word
+/// `first` + i.
+pub(crate) fn add_halves(halves: &Halves<'_>, first: usize, counts: &mut [u32])
+    requires halves { AreHalves halves.now }
+    requires inside { first + length counts.old ≤ length halves.now.heads.now * halves.now.tails }
+    requires counts { length counts.old ≤ 4096 }
+    requires few { (i : ℕ) → i < length counts.old → slice_index counts.old i ≤ 255 }
+    ensures is { (i : ℕ) → i < length counts.old →
+        slice_index counts.new i ≡ slice_index counts.old i + symbols_apart halves.now (first + i) }
+{
+    let Halves {
+        planes,
+        bits,
+        words,
+        start,
+        tails,
+        heads,
+    } = *halves;
+    let mut head = first / tails;
+    let mut tail = first % tails;
+    let mut done = 0;
+    while done < counts.len() {
+        let end = (done + (tails - tail)).min(counts.len());
+        let part = &mut counts[done..end];
+        add_apart(planes, bits, words, start + tail, &heads[head], part);
+        head += 1;
+        tail = 0;
+        done = end;
+    }
+}
+
 /// The better of two: the least of the first `done` words with its index, and that of the words after them.
 #[inline]
 pub(crate) fn joined(least: u32, at: usize, other: u32, place: usize, done: usize) -> (u32, usize)

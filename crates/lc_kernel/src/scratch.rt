@@ -10,7 +10,6 @@ ghost use Rattle.lc_enumeration.specs.Search.{set_count};
 
 use crate::grid::{Grid, grid_of};
 use crate::stack::Stack;
-use crate::sums::zeros;
 use crate::sweeps::MOST_HEADS;
 use crate::table::{Table, table_of};
 use lc_field::NoMemory;
@@ -33,9 +32,8 @@ pub struct Scratch {
     // over more than 2 elements the tables of the sets, if there is room for them; none over 2 elements
     pub(crate) grids: Arc<Vec<Grid>>,
     pub(crate) spot: Spot,
-    // the zero word, and then the sums of the entries of a message but the last two
-    pub(crate) heads: Vec<Word>,
-    // the planes of these sums
+    // the planes, at a part of the columns, of the zero word, and then of the sums of the entries of a message but the
+    // last two
     pub(crate) fronts: Vec<[u64; 4]>,
     // a support, and the planes of the words of its first places
     pub(crate) places: Vec<usize>,
@@ -49,13 +47,12 @@ impl Model for Scratch {
     ghost use Rattle.lc_algebra.specs.Matrix.{Matrix};
     ghost use Rattle.lc_kernel.specs.Tables.{AreTables, AreAllTables};
     ghost use Rattle.lc_kernel.specs.Grids.{AreGrids, AreAllGrids};
-    ghost use Rattle.lc_kernel.specs.Sums.{IsRoom};
 
     ghost Value = { Matrix };
 
     ghost view = { λ s. s.stack.code };
 
-    ghost invariant = { λ s. AreTables s.stack.code (arc_value s.tables).items × AreGrids s.stack.code (arc_value s.grids).items × IsRoom s.stack.code s.spot s.heads.items × (length s.fronts.items ≡ length s.stack.code.rows + 1) × (length s.places.items ≡ length s.stack.code.rows) × (length s.tops.items ≡ 1024) × (length s.counts.items ≡ 4096) × AreAllTables s.stack.code (arc_value s.tables).items × AreAllGrids s.stack.code (arc_value s.grids).items };
+    ghost invariant = { λ s. AreTables s.stack.code (arc_value s.tables).items × AreGrids s.stack.code (arc_value s.grids).items × (s.spot.room ≡ length s.stack.code.rows) × (length s.fronts.items ≡ length s.stack.code.rows + 1) × (length s.places.items ≡ length s.stack.code.rows) × (length s.tops.items ≡ 1024) × (length s.counts.items ≡ 4096) × AreAllTables s.stack.code (arc_value s.tables).items × AreAllGrids s.stack.code (arc_value s.grids).items };
 }
 
 impl Scratch {
@@ -87,7 +84,6 @@ impl Scratch {
     }
 
     // The memory with a stack and tables for its sets.
-    #[tactic(auto, using(crate::proofs::SumLaws::front_room))]
     fn of(
         alloc: Global,
         stack: Stack,
@@ -104,7 +100,6 @@ impl Scratch {
         let Ok(spot) = Spot::new(alloc, k) else {
             return Err(NoMemory);
         };
-        let heads = zeros(alloc, k + 1, stack.length())?;
         let fronts = vec![in alloc; [0u64; 4]; k + 1]?;
         let places = vec![in alloc; 0usize; k]?;
         let tops = vec![in alloc; [0u64; 4]; MOST_HEADS]?;
@@ -114,7 +109,6 @@ impl Scratch {
             tables,
             grids,
             spot,
-            heads,
             fronts,
             places,
             tops,

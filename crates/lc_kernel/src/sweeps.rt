@@ -1,6 +1,6 @@
-//! The least words of blocks by supports, over more than 2 elements, if at most 64 columns are outside the basis. The
-//! planes of the words of the first places of a support, with all lists of coefficients, are its heads; they are kept
-//! from support to support.
+//! The words of blocks by supports, over more than 2 elements. The planes of the words of the first places of a support,
+//! with all lists of coefficients, at a part of the columns outside the basis, are its heads; they are kept from support
+//! to support. If that part has all these columns, no word is counted unless it may be lighter than all before.
 
 ghost use Rattle.std.specs.Prelude.{◌≡◌, ℕ, ◌+◌, ◌-◌, ◌*◌, ◌^◌, ◌<◌, ◌≤◌, ◌∷◌, [], Some, None, length, take, slice_get, slice_index, slice_index_or, IfSome, IfNone};
 ghost use Rattle.std.specs.List.{Contains};
@@ -13,12 +13,10 @@ ghost use Rattle.lc_enumeration.specs.Search.{set_count, block_words};
 ghost use Rattle.lc_place.specs.Place.{spot_message};
 ghost use Rattle.lc_kernel.specs.Values.{IsSpotAt};
 ghost use Rattle.lc_kernel.specs.Packed.{others};
-ghost use Rattle.lc_planes.specs.Planes.{part_at};
 ghost use Rattle.lc_kernel.specs.Grid.{tail_count};
 ghost use Rattle.lc_kernel.specs.Grids.{IsGrid};
-ghost use Rattle.lc_kernel.specs.Fronts.{IsKept};
 ghost use Rattle.lc_kernel.specs.Least.{IsFirstBelow};
-ghost use Rattle.lc_kernel.specs.Sweeps.{list_count, IsListedAt, AreHeads, TooManyHeads};
+ghost use Rattle.lc_kernel.specs.Sweeps.{list_count, IsListedAt, AreHeads, AreHalvesOf, TooManyHeads};
 
 use crate::adders::sum_planes;
 use crate::grid::Grid;
@@ -57,8 +55,8 @@ pub(crate) fn head_count(sets: &Sets, level: usize) -> Option<usize>
     Some(many)
 }
 
-// The index of the coefficients of a spot among the lists of its level.
-fn list_of(sets: &Sets, spot: &Spot) -> usize
+/// The index of the coefficients of a spot among the lists of its level.
+pub(crate) fn list_of(sets: &Sets, spot: &Spot) -> usize
     requires message { Contains (messages (length sets.now.rows) (size sets.now.field) (length spot.now.support))
         (spot_message spot.now) }
     requires level { 3 ≤ length spot.now.support }
@@ -94,6 +92,7 @@ fn place_before(row: usize, column: usize, columns: usize) -> (usize, usize)
 fn grow(
     sets: &Sets,
     grid: &Grid,
+    part: usize,
     set: usize,
     support: &[usize],
     i: usize,
@@ -102,17 +101,19 @@ fn grow(
 )
     requires set { set < set_count sets.now }
     requires rises { Contains (supports_from 0 (length sets.now.rows) (length support.now)) support.now }
-    requires kept { IsKept sets.now set grid.now.planes grid.now.rows.items }
+    requires grid { IsGrid sets.now set grid.now.planes grid.now.tails grid.now.parts.items grid.now.starts.items }
+    requires part { part < length grid.now.parts.items }
     requires some { 1 ≤ i }
     requires entry { i < length support.now }
     requires many { many ≡ list_count sets.now (i + 1) }
     requires room { many ≤ length heads.old }
-    requires heads { AreHeads sets.now set support.now grid.now.planes i heads.old }
-    ensures heads { AreHeads sets.now set support.now grid.now.planes (i + 1) heads.new }
+    requires heads { AreHeads sets.now set support.now part grid.now.planes i heads.old }
+    ensures heads { AreHeads sets.now set support.now part grid.now.planes (i + 1) heads.new }
 {
     let _k = sets.dimension();
     let _n = sets.length();
     let elements = nonzero(sets);
+    let table = &grid.parts[part];
     let row = support[i] * elements;
     let mut e = many;
     let mut head = many / elements;
@@ -120,31 +121,77 @@ fn grow(
     while e > 0 {
         e -= 1;
         let (above, last) = place_before(head, element, elements);
-        let sum = sum_planes(sets.field(), &heads[above], &grid.rows[row + last]);
+        let sum = sum_planes(sets.field(), &heads[above], &table.rows[row + last]);
         heads[e] = sum;
         head = above;
         element = last;
     }
 }
 
-// Makes the heads of a support.
-fn make_heads(sets: &Sets, grid: &Grid, set: usize, support: &[usize], heads: &mut [[u64; 4]])
+/// Makes the heads of a support at a part of the columns.
+pub(crate) fn make_heads(
+    sets: &Sets,
+    grid: &Grid,
+    part: usize,
+    set: usize,
+    support: &[usize],
+    heads: &mut [[u64; 4]],
+)
     requires set { set < set_count sets.now }
     requires rises { Contains (supports_from 0 (length sets.now.rows) (length support.now)) support.now }
-    requires kept { IsKept sets.now set grid.now.planes grid.now.rows.items }
+    requires grid { IsGrid sets.now set grid.now.planes grid.now.tails grid.now.parts.items grid.now.starts.items }
+    requires part { part < length grid.now.parts.items }
     requires level { 3 ≤ length support.now }
     requires room { list_count sets.now (length support.now - 2) ≤ length heads.old }
     requires few { list_count sets.now (length support.now - 2) ≤ 1024 }
-    ensures heads { AreHeads sets.now set support.now grid.now.planes (length support.now - 2) heads.new }
+    ensures heads { AreHeads sets.now set support.now part grid.now.planes (length support.now - 2) heads.new }
 {
     let _k = sets.dimension();
     let _n = sets.length();
     let elements = nonzero(sets);
-    heads[0] = grid.rows[support[0] * elements];
+    let table = &grid.parts[part];
+    heads[0] = table.rows[support[0] * elements];
     let mut many = 1;
     for i in 1..support.len() - 2 {
         many *= elements;
-        grow(sets, grid, set, support, i, many, heads);
+        grow(sets, grid, part, set, support, i, many, heads);
+    }
+}
+
+/// The words with a support, as its heads and the tails of its last two places, at a part of the columns.
+pub(crate) fn halves_of<'a>(
+    sets: &Sets,
+    grid: &'a Grid,
+    part: usize,
+    set: usize,
+    support: &[usize],
+    heads: &'a [[u64; 4]],
+) -> Halves<'a>
+    requires set { set < set_count sets.now }
+    requires rises { Contains (supports_from 0 (length sets.now.rows) (length support.now)) support.now }
+    requires level { 3 ≤ length support.now }
+    requires grid { IsGrid sets.now set grid.now.planes grid.now.tails grid.now.parts.items grid.now.starts.items }
+    requires part { part < length grid.now.parts.items }
+    requires many { length heads.now ≡ list_count sets.now (length support.now - 2) }
+    requires few { length heads.now ≤ 1024 }
+    requires heads { AreHeads sets.now set support.now part grid.now.planes (length support.now - 2) heads.now }
+    ensures are { AreHalvesOf sets.now set support.now part result }
+{
+    let _k = sets.dimension();
+    let _n = sets.length();
+    let elements = nonzero(sets);
+    let tails = elements * elements;
+    let first = support[support.len() - 2];
+    let last = support[support.len() - 1];
+    let pair = grid.starts[first] + (last - first - 1);
+    let table = &grid.parts[part];
+    Halves {
+        planes: grid.planes,
+        bits: table.bits.as_slice(),
+        words: grid.tails,
+        start: pair * tails,
+        tails,
+        heads,
     }
 }
 
@@ -170,7 +217,7 @@ fn least_support(
     requires alone { length grid.now.parts.items ≡ 1 }
     requires many { length heads.now ≡ list_count sets.now (length support.now - 2) }
     requires few { length heads.now ≤ 1024 }
-    requires heads { AreHeads sets.now set support.now grid.now.planes (length support.now - 2) heads.now }
+    requires heads { AreHeads sets.now set support.now 0 grid.now.planes (length support.now - 2) heads.now }
     requires lists { list + length counts.old ≤ list_count sets.now (length support.now) }
     requires words { done + length counts.old ≤ length (block_words sets.now plan.now.m block) }
     ensures is { IsFirstBelow (length counts.old)
@@ -179,20 +226,7 @@ fn least_support(
 {
     let _k = sets.dimension();
     let _n = sets.length();
-    let elements = nonzero(sets);
-    let tails = elements * elements;
-    let first = support[support.len() - 2];
-    let last = support[support.len() - 1];
-    let pair = grid.starts[first] + (last - first - 1);
-    let part = &grid.parts[0];
-    let halves = Halves {
-        planes: grid.planes,
-        bits: part.bits.as_slice(),
-        words: grid.tails,
-        start: pair * tails,
-        tails,
-        heads,
-    };
+    let halves = halves_of(sets, grid, 0, set, support, heads);
     nearest(&halves, list, bound, counts)
 }
 
@@ -235,13 +269,14 @@ fn move_on(support: &mut [usize], place: usize)
     }
 }
 
-// Goes from a list of a support, with so many lists left, to the first one of the next support, and makes its
-// heads.
-fn turn(
+/// Goes from a list of a support, with so many lists left, to the first one of the next support, and makes its
+/// heads.
+pub(crate) fn turn(
     sets: &Sets,
     plan: &Plan,
     block: u64,
     grid: &Grid,
+    part: usize,
     set: usize,
     support: &mut [usize],
     heads: &mut [[u64; 4]],
@@ -252,15 +287,16 @@ fn turn(
     requires phase { (p : ℕ) × IsInPhase (length sets.now.rows) (size sets.now.field) plan.now.m p block }
     requires set { set < set_count sets.now }
     requires at { IsListedAt sets.now plan.now.m block done set support.old list }
-    requires kept { IsKept sets.now set grid.now.planes grid.now.rows.items }
+    requires grid { IsGrid sets.now set grid.now.planes grid.now.tails grid.now.parts.items grid.now.starts.items }
+    requires part { part < length grid.now.parts.items }
     requires some { 0 < count }
     requires end { list + count ≡ list_count sets.now (length support.old) }
     requires inside { done + count < length (block_words sets.now plan.now.m block) }
     requires few { list_count sets.now (length support.old - 2) ≤ 1024 }
     requires room { list_count sets.now (length support.old - 2) ≤ length heads.old }
-    requires heads { AreHeads sets.now set support.old grid.now.planes (length support.old - 2) heads.old }
+    requires heads { AreHeads sets.now set support.old part grid.now.planes (length support.old - 2) heads.old }
     ensures at { IsListedAt sets.now plan.now.m block (done + count) set support.new 0 }
-    ensures heads { AreHeads sets.now set support.new grid.now.planes (length support.old - 2) heads.new }
+    ensures heads { AreHeads sets.now set support.new part grid.now.planes (length support.old - 2) heads.new }
 {
     let k = sets.dimension();
     let _n = sets.length();
@@ -268,12 +304,12 @@ fn turn(
         return;
     };
     if place + 2 < support.len() {
-        make_heads(sets, grid, set, support, heads);
+        make_heads(sets, grid, part, set, support, heads);
     }
 }
 
-// How many words come up to the end of a support, from a list on, or to the end of the block, so many words on.
-fn words_left(lists: usize, list: usize, left: usize) -> usize
+/// How many words come up to the end of a support, from a list on, or to the end of the block, so many words on.
+pub(crate) fn words_left(lists: usize, list: usize, left: usize) -> usize
     requires inside { list < lists }
     requires some { 0 < left }
     ensures some { 0 < result }
@@ -303,7 +339,6 @@ pub(crate) fn least_sweeps(
     requires grid { IsGrid sets.now spot.now.set grid.now.planes grid.now.tails grid.now.parts.items
         grid.now.starts.items }
     requires alone { length grid.now.parts.items ≡ 1 }
-    requires kept { IsKept sets.now spot.now.set grid.now.planes grid.now.rows.items }
     requires places { length support.old ≡ length spot.now.support }
     requires many { length heads.old ≡ list_count sets.now (length spot.now.support - 2) }
     requires few { length heads.old ≤ 1024 }
@@ -318,7 +353,7 @@ pub(crate) fn least_sweeps(
     let set = spot.set();
     let mut list = list_of(sets, spot);
     support.copy_from_slice(spot.support());
-    make_heads(sets, grid, set, support, heads);
+    make_heads(sets, grid, 0, set, support, heads);
     let lists = heads.len() * (elements * elements);
     let mut least = 256;
     let mut at = 0;
@@ -334,7 +369,7 @@ pub(crate) fn least_sweeps(
             return (best, index);
         }
         turn(
-            sets, plan, block, grid, set, support, heads, list, done, count,
+            sets, plan, block, grid, 0, set, support, heads, list, done, count,
         );
         least = best;
         at = index;

@@ -1,5 +1,5 @@
-//! The counts of a block of words over more than 2 elements, by runs of messages that share all but their last
-//! two coefficients.
+//! The least value of a block of words over more than 2 elements, and its runs: the messages that share all but their
+//! last two coefficients.
 
 ghost use Rattle.std.specs.Prelude.{◌≡◌, ℕ, ◌+◌, ◌-◌, ◌*◌, ◌^◌, ◌<◌, ◌≤◌, ◌/◌, ◌%◌, ◌∷◌, [], Some, length, take, slice_get, slice_index, option_map};
 ghost use Rattle.std.specs.List.{Contains};
@@ -16,19 +16,14 @@ ghost use Rattle.lc_algebra.specs.SpanLaws.{restrict};
 ghost use Rattle.lc_algebra.specs.Word.{IsWord};
 ghost use Rattle.lc_kernel.specs.Grid.{tail_count, tail_index, tail_word, tails_in, IsTailRun};
 ghost use Rattle.lc_kernel.specs.Grids.{IsGrid};
-ghost use Rattle.lc_kernel.specs.Fronts.{HasFronts};
 ghost use Rattle.lc_kernel.specs.Least.{AreCounted};
-ghost use Rattle.lc_kernel.specs.Sums.{front_word, AreMultiples, IsRoom};
+ghost use Rattle.lc_kernel.specs.Sums.{front_word};
 
 use crate::fronts::least_words;
 use crate::grid::Grid;
 use crate::multiples::nonzero;
-use crate::planes::{add_apart, pack};
-use crate::runs::pair_index;
-use crate::sums::refresh;
 use lc_infoset::Sets;
 use lc_place::{Plan, Spot};
-use lc_vec::Word;
 
 /// The index of the pair of the last two coefficients of a spot.
 pub(crate) fn tail_of(sets: &Sets, spot: &Spot) -> usize
@@ -44,112 +39,6 @@ pub(crate) fn tail_of(sets: &Sets, spot: &Spot) -> usize
     let first = coefficients[coefficients.len() - 2] as usize - 1;
     let second = coefficients[coefficients.len() - 1] as usize - 1;
     first * elements + second
-}
-
-// Adds to the counts of a run what a part of the columns has. The run's words begin at an offset of a block
-// and their tails at an index.
-fn add_part(
-    sets: &Sets,
-    plan: &Plan,
-    block: u64,
-    grid: &Grid,
-    part: usize,
-    spot: &Spot,
-    head: &Word,
-    start: usize,
-    done: u64,
-    counts: &mut [u32],
-)
-    requires run { IsTailRun sets.now plan.now.m block spot.now head.now done start (length counts.old) }
-    requires grid { IsGrid sets.now spot.now.set grid.now.planes grid.now.tails grid.now.parts.items
-        grid.now.starts.items }
-    requires part { part < length grid.now.parts.items }
-    requires counted { AreCounted (take (64 * part) (others sets.now spot.now.set))
-        (block_words sets.now plan.now.m block) done (length counts.old) counts.old }
-    ensures counted { AreCounted (take (64 * (part + 1)) (others sets.now spot.now.set))
-        (block_words sets.now plan.now.m block) done (length counts.old) counts.new }
-{
-    let _n = sets.length();
-    let table = &grid.parts[part];
-    let columns = table.columns.as_slice();
-    let tails = table.bits.as_slice();
-    let bits = pack(head.symbols(), columns, grid.planes);
-    add_apart(grid.planes, tails, grid.tails, start, &bits, counts);
-}
-
-// Counts the nonzero symbols, outside the basis, of the words of a run.
-fn count_run(
-    sets: &Sets,
-    plan: &Plan,
-    block: u64,
-    grid: &Grid,
-    spot: &Spot,
-    head: &Word,
-    start: usize,
-    done: u64,
-    counts: &mut [u32],
-)
-    requires run { IsTailRun sets.now plan.now.m block spot.now head.now done start (length counts.old) }
-    requires grid { IsGrid sets.now spot.now.set grid.now.planes grid.now.tails grid.now.parts.items
-        grid.now.starts.items }
-    ensures counted { AreCounted (others sets.now spot.now.set) (block_words sets.now plan.now.m block) done
-        (length counts.old) counts.new }
-{
-    counts.fill(0);
-    for part in 0..grid.parts.len() {
-        add_part(
-            sets, plan, block, grid, part, spot, head, start, done, counts,
-        );
-    }
-}
-
-// Counts the words of a block up to the end of a run that begins at an offset. Returns how many words the
-// run has.
-fn one_run(
-    sets: &Sets,
-    plan: &Plan,
-    block: u64,
-    grid: &Grid,
-    spot: &Spot,
-    head: &Word,
-    done: usize,
-    counts: &mut [u32],
-) -> usize
-    requires phase { (p : ℕ) × IsInPhase (length sets.now.rows) (size sets.now.field) plan.now.m p block }
-    requires set { spot.now.set < set_count sets.now }
-    requires at { IsSpotAt sets.now plan.now.m block done spot.now }
-    requires level { 3 ≤ length spot.now.support }
-    requires grid { IsGrid sets.now spot.now.set grid.now.planes grid.now.tails grid.now.parts.items
-        grid.now.starts.items }
-    requires head { head.now ≡ front_word sets.now spot.now (length spot.now.support - 2) }
-    requires some { done < length counts.old }
-    requires words { length counts.old ≡ length (block_words sets.now plan.now.m block) }
-    requires counted { AreCounted (others sets.now spot.now.set)
-        (block_words sets.now plan.now.m block) 0 done counts.old }
-    ensures counted { AreCounted (others sets.now spot.now.set) (block_words sets.now plan.now.m block) 0
-        (done + result) counts.new }
-    ensures some { 0 < result }
-    ensures within { done + result ≤ length counts.old }
-    ensures end { done + result < length counts.old → tail_index sets.now spot.now + result ≡ tail_count sets.now }
-{
-    let _k = sets.dimension();
-    let elements = nonzero(sets);
-    let tail = tail_of(sets, spot);
-    let start = pair_index(sets, &grid.starts, spot) * elements * elements + tail;
-    let count = (elements * elements - tail).min(counts.len() - done);
-    let end = done + count;
-    count_run(
-        sets,
-        plan,
-        block,
-        grid,
-        spot,
-        head,
-        start,
-        done as u64,
-        &mut counts[done..end],
-    );
-    count
 }
 
 /// Goes from a message at an offset of a block, with so many left in its run, to the first one after the run.
@@ -183,67 +72,13 @@ pub(crate) fn pass(
     }
 }
 
-/// Counts the nonzero symbols, outside the basis, of the words of a block of a level of at least 3, from its
-/// first message on.
-pub(crate) fn count_tails(
-    sets: &Sets,
-    plan: &Plan,
-    block: u64,
-    grid: &Grid,
-    multiples: &[Word],
-    spot: &mut Spot,
-    heads: &mut [Word],
-    counts: &mut [u32],
-)
-    requires plan { IsPlanOf plan.now sets.now }
-    requires phase { (p : ℕ) × IsInPhase (length sets.now.rows) (size sets.now.field) plan.now.m p block }
-    requires set { spot.old.set < set_count sets.now }
-    requires at { IsSpotAt sets.now plan.now.m block 0 spot.old }
-    requires level { 3 ≤ length spot.old.support }
-    requires grid { IsGrid sets.now spot.old.set grid.now.planes grid.now.tails grid.now.parts.items
-        grid.now.starts.items }
-    requires multiples { AreMultiples sets.now multiples.now }
-    requires room { IsRoom sets.now spot.old heads.old }
-    requires some { 0 < length counts.old }
-    requires words { length counts.old ≡ length (block_words sets.now plan.now.m block) }
-    ensures counted { AreCounted (others sets.now spot.old.set) (block_words sets.now plan.now.m block) 0
-        (length counts.old) counts.new }
-    ensures room { spot.new.room ≡ spot.old.room }
-    ensures heads { IsRoom sets.now spot.new heads.new }
-{
-    let _k = sets.dimension();
-    let level = spot.support().len();
-    let mut done = 0;
-    let mut stayed = 0;
-    loop {
-        refresh(sets, multiples, spot, heads, stayed, level - 2);
-        let count = one_run(
-            sets,
-            plan,
-            block,
-            grid,
-            spot,
-            &heads[level - 2],
-            done,
-            counts,
-        );
-        if done + count >= counts.len() {
-            return;
-        }
-        stayed = pass(sets, plan, block, spot, done as u64, count as u64);
-        done += count;
-    }
-}
-
 /// The least value of a block of a level of at least 3, over more than 2 elements, from its first message on.
 pub(crate) fn by_tails(
     sets: &Sets,
     plan: &Plan,
     block: u64,
     grid: &Grid,
-    multiples: &[Word],
     spot: &mut Spot,
-    heads: &mut [Word],
     fronts: &mut [[u64; 4]],
     places: &mut [usize],
     tops: &mut [[u64; 4]],
@@ -256,15 +91,13 @@ pub(crate) fn by_tails(
     requires level { 3 ≤ length spot.old.support }
     requires grid { IsGrid sets.now spot.old.set grid.now.planes grid.now.tails grid.now.parts.items
         grid.now.starts.items }
-    requires kept { HasFronts sets.now spot.old.set grid.now.planes (length grid.now.parts.items) grid.now.rows.items }
-    requires multiples { AreMultiples sets.now multiples.now }
-    requires room { IsRoom sets.now spot.old heads.old }
+    requires room { spot.old.room ≡ length sets.now.rows }
     requires many { length fronts.old ≡ length sets.now.rows + 1 }
     requires places { length places.old ≡ length sets.now.rows }
     requires tops { length tops.old ≡ 1024 }
     requires counts { length counts.old ≡ 4096 }
     ensures is { option_map board_value (block_least sets.now plan.now.m block) ≡ Some result }
-    ensures heads { IsRoom sets.now spot.new heads.new }
+    ensures room { spot.new.room ≡ spot.old.room }
     ensures many { length fronts.new ≡ length fronts.old }
     ensures places { length places.new ≡ length places.old }
     ensures tops { length tops.new ≡ length tops.old }
@@ -281,9 +114,7 @@ pub(crate) fn by_tails(
         plan,
         block,
         grid,
-        multiples,
         spot,
-        heads,
         fronts,
         places,
         tops,

@@ -1,10 +1,9 @@
-use Rattle.std.proofs.Common.{◌<◌, length, subst, arith}
+use Rattle.std.proofs.Common.{◌<◌, subst, arith}
 use Rattle.lc_enumeration.specs.Search.{set_count}
 use Rattle.lc_kernel.specs.declared.grid.Grid.{Grid}
 use Rattle.lc_kernel.specs.declared.table.Table.{Table}
 use Rattle.lc_kernel.specs.Values.{IsSpotAt}
 use Rattle.lc_kernel.specs.Grids.{IsGrid}
-use Rattle.lc_kernel.specs.Fronts.{HasFronts}
 use Rattle.lc_kernel.specs.Tables.{IsTable}
 use Rattle.lc_kernel.proofs.ScanLaws.{spot_at}
 use Rattle.lc_kernel.proofs.TableLaws.{one_of_all}
@@ -28,12 +27,6 @@ by_tails-requires-clause-grid c =
     let g = c.index-grids-set.result in
     let grid = one_of_all (λ j (x : Grid). IsGrid c.args.sets.now j x.planes x.tails x.parts.items x.starts.items) c.args.grids.now c.set-set.result g c.requires.grids.each (omega (arith, c.if-level-ge3.true)) c.index-grids-set.is in
     subst (λ j. IsGrid c.args.sets.now j g.planes g.tails g.parts.items g.starts.items) c.set-set.ensures grid
-
-pub by_tails-requires-clause-kept : goal.by_tails-requires-clause-kept
-by_tails-requires-clause-kept c =
-    let g = c.index-grids-set.result in
-    let fronts = one_of_all (λ j (x : Grid). HasFronts c.args.sets.now j x.planes (length x.parts.items) x.rows.items) c.args.grids.now c.set-set.result g c.requires.grids.fronts (omega (arith, c.if-level-ge3.true)) c.index-grids-set.is in
-    subst (λ j. HasFronts c.args.sets.now j g.planes (length g.parts.items) g.rows.items) c.set-set.ensures fronts
 
 pub by_runs-requires-clause-set : goal.by_runs-requires-clause-set
 by_runs-requires-clause-set c = (started (goal.at.by_runs-requires-clause-set c).After-start_of).1

@@ -1,22 +1,11 @@
-use Rattle.std.proofs.Common.{◌≡◌, ◌-◌, ◌<◌, ◌≤◌, length}
+use Rattle.std.proofs.Common.{◌≡◌, ◌*◌, length, take}
 use Rattle.lc_enumeration.specs.Search.{block_words}
-use Rattle.lc_kernel.specs.Values.{IsSpotAt}
 use Rattle.lc_kernel.specs.Packed.{others}
-use Rattle.lc_kernel.specs.Fronts.{AreFrontPlanes}
 use Rattle.lc_kernel.specs.Least.{AreCounted}
 use Rattle.lc_kernel.proofs.fronts.count_fronts.Given as goal
 
-abbrev pub decreases-loop-counts : goal.decreases-loop-counts
-decreases-loop-counts l = length l.initial.counts - l.done
-
-abbrev pub invariant-loop-counts : goal.invariant-loop-counts
-invariant-loop-counts l = record {
-  inside : l.done < length l.initial.counts;
-  set : l.spot.set ≡ l.initial.spot.set;
-  level : length l.spot.support ≡ l.level;
+abbrev pub invariant-loop-part : goal.invariant-loop-part
+invariant-loop-part l = record {
   room : l.spot.room ≡ l.initial.spot.room;
-  stayed : l.stayed ≤ l.level - 2;
-  at : IsSpotAt l.sets l.plan.m l.block l.done l.spot;
-  fronts : AreFrontPlanes l.sets l.spot l.grid.planes l.stayed l.fronts;
-  counted : AreCounted (others l.sets l.spot.set) (block_words l.sets l.plan.m l.block) 0 l.done l.counts;
+  counted : AreCounted (take (64 * l.part) (others l.sets l.initial.spot.set)) (block_words l.sets l.plan.m l.block) 0 (length l.fn.counts) l.counts;
 }

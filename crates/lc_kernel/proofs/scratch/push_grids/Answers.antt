@@ -1,7 +1,6 @@
 use Rattle.std.proofs.Common.{◌∷◌, [], length, ap, arith, length-append}
 use Rattle.lc_kernel.specs.declared.grid.Grid.{Grid}
 use Rattle.lc_kernel.specs.Grids.{IsGrid}
-use Rattle.lc_kernel.specs.Fronts.{HasFronts}
 use Rattle.lc_kernel.proofs.TableLaws.{all_pushed}
 use Rattle.lc_kernel.proofs.scratch.push_grids.Goals as goal
 
@@ -14,7 +13,6 @@ loop-j-preserved c =
       many = omega (arith, ap length c.in_ok-push.ensures.items, length-append gs (g ∷ []), c.loop-j.invariant.many);
       are = record {
         each = all_pushed (λ j (x : Grid). IsGrid C j x.planes x.tails x.parts.items x.starts.items) gs c.push.new.self.items g c.loop-j.invariant.are.each (rw c.loop-j.invariant.many (c.in_ok-grid.ensures.is g c.in-Some.is)) c.in_ok-push.ensures.items;
-        fronts = all_pushed (λ j (x : Grid). HasFronts C j x.planes (length x.parts.items) x.rows.items) gs c.push.new.self.items g c.loop-j.invariant.are.fronts (rw c.loop-j.invariant.many (c.in_ok-grid.ensures.fronts g c.in-Some.is)) c.in_ok-push.ensures.items;
       };
       room = λ _. c.in_ok-grid.ensures.some g c.in-Some.is;
     }

@@ -8,6 +8,7 @@ use Rattle.lc_kernel.specs.Planes.{IsPlaneSum}
 use Rattle.lc_kernel.specs.Sweeps.{IsGrown}
 use Rattle.lc_kernel.proofs.MultipleLaws.{symbol_size}
 use Rattle.lc_kernel.proofs.RowLaws.{row_of_place, row_some}
+use Rattle.lc_kernel.proofs.TableLaws.{kept_part}
 use Rattle.lc_kernel.proofs.SweepLaws.{support_is, AreGrown, grown_here, grown_next, heads_grown}
 use Rattle.lc_kernel.proofs.sweeps.grow.Goals as goal
 
@@ -26,12 +27,13 @@ overflow_add-row c =
 pub index-requires : goal.index-requires
 index-requires c =
     let C = c.args.sets.now in
+    let kept = kept_part C c.args.set c.args.grid.now.planes c.args.grid.now.tails c.args.part c.args.grid.now.parts.items c.args.grid.now.starts.items c.index-table.result.now c.index-table.result.now.rows.items c.requires.grid c.requires.part c.index-table.ensures refl in
     let u = c.args.support.now in
     let d = size C.field - 1 in
     let s = support_is (length C.rows) u c.requires.rises in
     let row : slice_index u c.args.i < length C.rows = omega (arith, s.high c.args.i c.requires.entry, c.requires.entry) in
     let inside = below_product (length C.rows) d (slice_index u c.args.i) c.place_before-above.result.1 row (omega (arith, c.place_before-above.ensures.inside, c.nonzero-elements.ensures.is)) in
-    let room : slice_index u c.args.i * d + c.place_before-above.result.1 < vec_len c.args.grid.now.rows = omega (arith, inside, c.requires.kept.multiples.count, c.args.grid.now.rows.ok.0) in
+    let room : slice_index u c.args.i * d + c.place_before-above.result.1 < vec_len c.index-table.result.now.rows = omega (arith, inside, kept.multiples.count, c.index-table.result.now.rows.ok.0) in
     rw c.nonzero-elements.ensures.is room
 
 pub loop-e-init : goal.loop-e-init
@@ -57,13 +59,14 @@ sum_planes-sum-requires c = record { symbol = subst (λ g. size g ≤ 16) (sym c
 pub loop-e-preserved : goal.loop-e-preserved
 loop-e-preserved c =
     let C = c.args.sets.now in
+    let kept = kept_part C c.args.set c.args.grid.now.planes c.args.grid.now.tails c.args.part c.args.grid.now.parts.items c.args.grid.now.starts.items c.index-table.result.now c.index-table.result.now.rows.items c.requires.grid c.requires.part c.index-table.ensures refl in
     let u = c.args.support.now in
     let d = size C.field - 1 in
     let a = slice_index u c.args.i in
     let n = c.loop-e.e - 1 in
     let many = c.args.many in
     let f = C.field in
-    let rows = c.args.grid.now.rows.items in
+    let rows = c.index-table.result.now.rows.items in
     let initial = c.args.heads.now in
     let old = c.loop-e.heads in
     let z = c.sum_planes-sum.result in
@@ -77,7 +80,7 @@ loop-e-preserved c =
     let place : above * e + last ≡ n = omega (arith, c.place_before-above.ensures.place, c.loop-e.invariant.place, c.loop-e-test.true) in
     let parts = row_of_place above last n e c.place_before-above.ensures.inside place in
     let at : a * e + last ≡ a * d + n % d = ap (λ t. a * t + last) c.nonzero-elements.ensures.is ∙ ap (λ t. a * d + t) (sym parts.1 ∙ ap (λ t. n % t) c.nonzero-elements.ensures.is) in
-    let row_is : c.index.result.now ≡ slice_index_or rows (a * d + n % d) [] = c.index.ensures ∙ ap (λ t. slice_index_or rows t c.index.result.now) at ∙ get_or_default rows (a * d + n % d) c.index.result.now [] (omega (arith, inside, c.requires.kept.multiples.count)) in
+    let row_is : c.index.result.now ≡ slice_index_or rows (a * d + n % d) [] = c.index.ensures ∙ ap (λ t. slice_index_or rows t c.index.result.now) at ∙ get_or_default rows (a * d + n % d) c.index.result.now [] (omega (arith, inside, kept.multiples.count)) in
     let next : n + 1 ≡ c.loop-e.e = omega (arith, c.loop-e-test.true) in
     let before : AreGrown f d a rows initial old (n + 1) many = rw next (record { done = c.loop-e.invariant.done; left = c.loop-e.invariant.left }) in
     let divided : above ≡ n / d = sym parts.0 ∙ ap (λ t. n / t) c.nonzero-elements.ensures.is in
@@ -89,7 +92,8 @@ loop-e-preserved c =
 pub returns : goal.returns
 returns c =
     let C = c.args.sets.now in
+    let kept = kept_part C c.args.set c.args.grid.now.planes c.args.grid.now.tails c.args.part c.args.grid.now.parts.items c.args.grid.now.starts.items c.index-table.result.now c.index-table.result.now.rows.items c.requires.grid c.requires.part c.index-table.ensures refl in
     record {
-      heads = heads_grown C c.args.set c.args.grid.now.planes c.args.i c.args.support.now c.args.grid.now.rows.items c.args.heads.now c.loop-e.heads c.dimension-k.ensures.rows c.dimension-k.ensures.independent c.requires.set c.requires.rises c.requires.kept c.requires.some c.requires.entry c.requires.heads
+      heads = heads_grown C c.args.set c.args.part c.args.grid.now.planes c.args.i c.args.support.now c.index-table.result.now.rows.items c.args.heads.now c.loop-e.heads c.dimension-k.ensures.rows c.dimension-k.ensures.independent c.requires.set c.requires.rises kept c.requires.some c.requires.entry c.requires.heads
           (λ e l. c.loop-e.invariant.done e (omega (arith, c.loop-e-test.false)) (omega (arith, l, c.requires.many)));
     }

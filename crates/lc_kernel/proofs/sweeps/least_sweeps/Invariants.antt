@@ -15,6 +15,6 @@ invariant-loop-counts l = record {
   inside : l.done < length l.initial.counts;
   at : IsListedAt l.sets l.plan.m l.block l.done l.set l.support l.list;
   lists : list_count l.sets (length l.support) ≡ l.lists;
-  heads : AreHeads l.sets l.set l.support l.grid.planes (length l.support - 2) l.heads;
+  heads : AreHeads l.sets l.set l.support 0 l.grid.planes (length l.support - 2) l.heads;
   first : IsFirstBelow l.done (λ i. weight (restrict (others l.sets l.set) (slice_index_or (block_words l.sets l.plan.m l.block) i []))) 256 l.least l.at;
 }

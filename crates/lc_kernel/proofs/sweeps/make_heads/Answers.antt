@@ -1,9 +1,10 @@
-use Rattle.std.proofs.Common.{◌≡◌, ◌+◌, ◌-◌, ◌*◌, ◌^◌, ◌<◌, ◌≤◌, [], length, slice_index, slice_index_or, set, vec_len, sym, ap, ◌∙◌, arith}
+use Rattle.std.proofs.Common.{◌≡◌, ◌+◌, ◌-◌, ◌*◌, ◌^◌, ◌<◌, ◌≤◌, [], length, slice_index, slice_index_or, set, vec_len, refl, sym, ap, ◌∙◌, arith}
 use Rattle.std.proofs.Math.Nat.{pow-zero, one-le-pow, mul-le-mul_right}
 use Rattle.std.proofs.lemmas.List.{get_or_default, get_or-set_same, length-set}
 use Rattle.lc_algebra.specs.Field.{size}
 use Rattle.lc_algebra.proofs.CommonLaws.{below_product}
 use Rattle.lc_kernel.specs.Sweeps.{list_count}
+use Rattle.lc_kernel.proofs.TableLaws.{kept_part}
 use Rattle.lc_kernel.proofs.SweepLaws.{support_is, heads_first, pair_of_heads, heads_less}
 use Rattle.lc_kernel.proofs.sweeps.make_heads.Goals as goal
 
@@ -16,12 +17,13 @@ overflow_mul-support c =
 pub index-requires : goal.index-requires
 index-requires c =
     let C = c.args.sets.now in
+    let kept = kept_part C c.args.set c.args.grid.now.planes c.args.grid.now.tails c.args.part c.args.grid.now.parts.items c.args.grid.now.starts.items c.index-table.result.now c.index-table.result.now.rows.items c.requires.grid c.requires.part c.index-table.ensures refl in
     let u = c.args.support.now in
     let d = size C.field - 1 in
     let s = support_is (length C.rows) u c.requires.rises in
     let row : slice_index u 0 < length C.rows = omega (arith, s.high 0 (omega (arith, c.requires.level)), c.requires.level) in
     let inside = below_product (length C.rows) d (slice_index u 0) 0 row (omega (arith, c.nonzero-elements.ensures.is, c.nonzero-elements.ensures.least)) in
-    let room : slice_index u 0 * d < vec_len c.args.grid.now.rows = omega (arith, inside, c.requires.kept.multiples.count, c.args.grid.now.rows.ok.0) in
+    let room : slice_index u 0 * d < vec_len c.index-table.result.now.rows = omega (arith, inside, kept.multiples.count, c.index-table.result.now.rows.ok.0) in
     rw c.nonzero-elements.ensures.is room
 
 pub bounds-heads-0 : goal.bounds-heads-0
@@ -32,18 +34,19 @@ bounds-heads-0 c =
 pub loop-i-init : goal.loop-i-init
 loop-i-init c =
     let C = c.args.sets.now in
+    let kept = kept_part C c.args.set c.args.grid.now.planes c.args.grid.now.tails c.args.part c.args.grid.now.parts.items c.args.grid.now.starts.items c.index-table.result.now c.index-table.result.now.rows.items c.requires.grid c.requires.part c.index-table.ensures refl in
     let u = c.args.support.now in
     let d = size C.field - 1 in
-    let rows = c.args.grid.now.rows.items in
+    let rows = c.index-table.result.now.rows.items in
     let s = support_is (length C.rows) u c.requires.rises in
     let row : slice_index u 0 < length C.rows = omega (arith, s.high 0 (omega (arith, c.requires.level)), c.requires.level) in
     let inside = below_product (length C.rows) d (slice_index u 0) 0 row (omega (arith, c.nonzero-elements.ensures.is, c.nonzero-elements.ensures.least)) in
     let some : 1 ≤ list_count C (length u - 2) = one-le-pow (length u - 2 - 1) d (omega (arith, c.nonzero-elements.ensures.is, c.nonzero-elements.ensures.least)) in
     let at : slice_index u 0 * c.nonzero-elements.result ≡ slice_index u 0 * d = ap (λ z. slice_index u 0 * z) c.nonzero-elements.ensures.is in
-    let row_is : c.index.result.now ≡ slice_index_or rows (slice_index u 0 * d) [] = c.index.ensures ∙ ap (λ t. slice_index_or rows t c.index.result.now) at ∙ get_or_default rows (slice_index u 0 * d) c.index.result.now [] (omega (arith, inside, c.requires.kept.multiples.count)) in
+    let row_is : c.index.result.now ≡ slice_index_or rows (slice_index u 0 * d) [] = c.index.ensures ∙ ap (λ t. slice_index_or rows t c.index.result.now) at ∙ get_or_default rows (slice_index u 0 * d) c.index.result.now [] (omega (arith, inside, kept.multiples.count)) in
     record {
       many = sym (pow-zero d);
-      heads = heads_first C c.args.set c.args.grid.now.planes u rows (set c.args.heads.now 0 c.index.result.now) c.dimension-k.ensures.rows c.dimension-k.ensures.independent c.requires.set c.requires.rises c.requires.kept (omega (arith, c.requires.level)) (get_or-set_same c.args.heads.now 0 c.index.result.now [] (omega (arith, some, c.requires.room)) ∙ row_is);
+      heads = heads_first C c.args.set c.args.part c.args.grid.now.planes u rows (set c.args.heads.now 0 c.index.result.now) c.dimension-k.ensures.rows c.dimension-k.ensures.independent c.requires.set c.requires.rises kept (omega (arith, c.requires.level)) (get_or-set_same c.args.heads.now 0 c.index.result.now [] (omega (arith, some, c.requires.room)) ∙ row_is);
     }
 
 pub overflow_mul-many : goal.overflow_mul-many

@@ -5,5 +5,5 @@ use Rattle.lc_kernel.proofs.sweeps.make_heads.Given as goal
 abbrev pub invariant-loop-i : goal.invariant-loop-i
 invariant-loop-i l = record {
   many : l.many ≡ list_count l.sets l.i;
-  heads : AreHeads l.sets l.set l.support l.grid.planes l.i l.heads;
+  heads : AreHeads l.sets l.set l.support l.part l.grid.planes l.i l.heads;
 }

@@ -23,4 +23,4 @@ pub returns-else-place-support-clause-at : goal.returns-else-place-support-claus
 returns-else-place-support-clause-at c = turned_at c.args.sets.now c.args.plan.now.m c.args.block c.args.done c.args.count c.args.set c.args.list c.args.support.now c.next_support.new.support c.requires.at c.requires.some c.requires.end (rw (← c.dimension-k.ensures.is) c.in-Some.ensures.next) c.next_support.auto.support
 
 pub returns-else-place-support-clause-heads : goal.returns-else-place-support-clause-heads
-returns-else-place-support-clause-heads c = heads_kept c.args.sets.now c.args.set c.args.grid.now.planes (length c.args.support.now - 2) c.in-Some.place c.args.support.now c.next_support.new.support c.args.heads.now (omega (arith, c.if-place-support.false, c.next_support.auto.support)) c.in-Some.ensures.same c.requires.heads
+returns-else-place-support-clause-heads c = heads_kept c.args.sets.now c.args.set c.args.part c.args.grid.now.planes (length c.args.support.now - 2) c.in-Some.place c.args.support.now c.next_support.new.support c.args.heads.now (omega (arith, c.if-place-support.false, c.next_support.auto.support)) c.in-Some.ensures.same c.requires.heads

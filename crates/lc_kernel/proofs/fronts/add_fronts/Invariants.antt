@@ -2,9 +2,9 @@ use Rattle.std.proofs.Common.{◌≡◌, ◌-◌, ◌<◌, ◌≤◌, length}
 use Rattle.lc_enumeration.specs.Search.{block_words}
 use Rattle.lc_kernel.specs.Values.{IsSpotAt}
 use Rattle.lc_kernel.specs.Packed.{others}
-use Rattle.lc_kernel.specs.Least.{AreCounted}
-use Rattle.lc_kernel.specs.Sums.{AreFronts, IsRoom}
-use Rattle.lc_kernel.proofs.tails.count_tails.Given as goal
+use Rattle.lc_kernel.specs.Fronts.{AreFrontPlanes}
+use Rattle.lc_kernel.specs.Least.{ArePartCounted}
+use Rattle.lc_kernel.proofs.fronts.add_fronts.Given as goal
 
 abbrev pub decreases-loop-counts : goal.decreases-loop-counts
 decreases-loop-counts l = length l.initial.counts - l.done
@@ -17,7 +17,6 @@ invariant-loop-counts l = record {
   room : l.spot.room ≡ l.initial.spot.room;
   stayed : l.stayed ≤ l.level - 2;
   at : IsSpotAt l.sets l.plan.m l.block l.done l.spot;
-  heads : IsRoom l.sets l.spot l.heads;
-  fronts : AreFronts l.sets l.spot l.stayed l.heads;
-  counted : AreCounted (others l.sets l.spot.set) (block_words l.sets l.plan.m l.block) 0 l.done l.counts;
+  fronts : AreFrontPlanes l.sets l.spot l.part l.grid.planes l.stayed l.fronts;
+  counted : ArePartCounted (others l.sets l.spot.set) l.part (block_words l.sets l.plan.m l.block) l.done (length l.initial.counts) l.counts;
 }

@@ -2,7 +2,7 @@ use Rattle.std.proofs.Common.{◌*◌, length, take}
 use Rattle.lc_enumeration.specs.Search.{block_words}
 use Rattle.lc_kernel.specs.Packed.{others}
 use Rattle.lc_kernel.specs.Least.{AreCounted}
-use Rattle.lc_kernel.proofs.tails.count_run.Given as goal
+use Rattle.lc_kernel.proofs.part_counts.count_sweeps.Given as goal
 
 abbrev pub invariant-loop-part : goal.invariant-loop-part
-invariant-loop-part l = AreCounted (take (64 * l.part) (others l.sets l.spot.set)) (block_words l.sets l.plan.m l.block) l.done (length l.initial.counts) l.counts
+invariant-loop-part l = AreCounted (take (64 * l.part) (others l.sets l.spot.set)) (block_words l.sets l.plan.m l.block) 0 (length l.fn.counts) l.counts

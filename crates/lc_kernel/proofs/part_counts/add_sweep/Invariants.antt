@@ -1,0 +1,18 @@
+use Rattle.std.proofs.Common.{◌≡◌, ◌-◌, ◌<◌, length}
+use Rattle.lc_enumeration.specs.Search.{block_words}
+use Rattle.lc_kernel.specs.Packed.{others}
+use Rattle.lc_kernel.specs.Least.{ArePartCounted}
+use Rattle.lc_kernel.specs.Sweeps.{list_count, IsListedAt, AreHeads}
+use Rattle.lc_kernel.proofs.part_counts.add_sweep.Given as goal
+
+abbrev pub decreases-loop-counts : goal.decreases-loop-counts
+decreases-loop-counts l = length l.initial.counts - l.done
+
+abbrev pub invariant-loop-counts : goal.invariant-loop-counts
+invariant-loop-counts l = record {
+  inside : l.done < length l.initial.counts;
+  at : IsListedAt l.sets l.plan.m l.block l.done l.set l.support l.list;
+  lists : list_count l.sets (length l.support) ≡ l.lists;
+  heads : AreHeads l.sets l.set l.support l.part l.grid.planes (length l.support - 2) l.heads;
+  counted : ArePartCounted (others l.sets l.set) l.part (block_words l.sets l.plan.m l.block) l.done (length l.initial.counts) l.counts;
+}
