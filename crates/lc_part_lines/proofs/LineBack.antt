@@ -4,22 +4,21 @@
 --   body_plain, body_shallow      the body's value is a plain one, and not deep
 --   rest_is                  what follows the seal and the blank is the body
 --   line_back                the line reads as what it was written for
-use Rattle.std.proofs.Common.{◌≡◌, ℕ, ◌+◌, ◌-◌, ◌^◌, ◌<◌, ◌≤◌, Bool, true, false, nat_le, ◌==◌, ◌&&◌, if◌then◌else◌, List, [], ◌∷◌, ◌++◌, length, drop, slice_index, codes, All, Option, Some, None, is_some, find, refl, sym, ap, ◌∙◌, arith}
+use Rattle.std.proofs.Common.{◌≡◌, ℕ, ◌+◌, ◌-◌, ◌^◌, ◌<◌, ◌≤◌, true, nat_le, ◌==◌, ◌&&◌, if◌then◌else◌, List, ◌∷◌, ◌++◌, length, drop, slice_index, codes, All, Option, Some, None, is_some, find, refl, ap, ◌∙◌, arith}
 use Rattle.std.specs.List.{list_all}
 use Rattle.std.proofs.Math.Seq.{drop-append-add}
-use Rattle.std.proofs.lemmas.Bool.{and_from, and_parts, le-leb, leb-true, eq-eqb, eqb-true, false≢true}
+use Rattle.std.proofs.lemmas.Bool.{and_from, and_parts, le-leb, leb-true, eqb-true, false≢true}
 use Rattle.std.proofs.lemmas.List.{length-append}
 use Rattle.sha2.specs.Sha256.{sha256}
 use Rattle.hex.specs.Hex.{encode_lower}
-use Rattle.serde_json.specs.Data.{Members, object, depth}
+use Rattle.serde_json.specs.Data.{object, depth}
 use Rattle.lc_algebra.specs.declared.FieldName.{FieldName}
 use Rattle.lc_algebra.specs.Field.{size, is_symbol}
-use Rattle.lc_enumeration.specs.Plan.{cut}
 use Rattle.lc_constructions.specs.Cyclic.{all_fields}
 use Rattle.lc_formats.specs.Text.{same_bytes}
-use Rattle.lc_formats.specs.Json.{number_json, items, numbers_json, number_at, list_at, numbers_of, provided, member_count, json_in}
+use Rattle.lc_formats.specs.Json.{number_json, number_at, list_at, member_count, json_in}
 use Rattle.lc_formats.specs.Document.{symbol_field}
-use Rattle.lc_formats.specs.Checkpoint.{damaged, other_version, number_up_to, script_in}
+use Rattle.lc_formats.specs.Checkpoint.{damaged, script_in}
 use Rattle.lc_formats.proofs.JsonLaws.{IsPlain, plain_numbers, numbers_shallow, numbers_back, json_back}
 use Rattle.lc_formats.proofs.CertificateBack.{provided_some}
 use Rattle.lc_formats.proofs.CertificateShaped.{find_passes}
@@ -61,11 +60,11 @@ pub part_back : (l : PartLine) → IsPart l.part → part_at (line_members l) �
 unfolding line_members number_at number_json part_at part_from
 part_back l h =
     let p = l.part in
-    rw (numbers_up_to 0 cut p.start (omega arith) (omega (arith, h.inside)))
-    (rw (numbers_up_to 1 cut p.count h.some (omega (arith, h.inside)))
+    rw (numbers_up_to 0 (2 ^ 40) p.start (omega arith) (omega (arith, h.inside)))
+    (rw (numbers_up_to 1 (2 ^ 40) p.count h.some (omega (arith, h.inside)))
     (rw (numbers_up_to 1 255 p.weight h.nonzero h.light)
     (rw (numbers_up_to 0 (2 ^ 52 - 1) p.place (omega arith) (omega (arith, h.near)))
-    (provided_some (λ p. nat_le (p.start + p.count) cut) p (le-leb (p.start + p.count) cut h.inside)))))
+    (provided_some (λ p. nat_le (p.start + p.count) (2 ^ 40)) p (le-leb (p.start + p.count) (2 ^ 40) h.inside)))))
 
 script_back : (l : PartLine) → IsInRange l → script_in (line_members l) ≡ Some l.script
 unfolding line_members script_in
@@ -92,13 +91,14 @@ unfolding body_in versioned line_or_shape
 body_back l h = rw (version_is l) (ap line_or_shape (members_back l h))
 
 pub body_plain : (l : PartLine) → IsInRange l → IsPlain (object (line_members l))
-unfolding line_members number_json cut
+unfolding line_members number_json
 body_plain l h =
     let p = h.part in
     let f = h.facts in
-    let ranks = plain_numbers l.facts.ranks (ranks_small l.facts.k l.facts.ranks f.few f.ranks) in
-    ((refl, omega (arith, p.inside), (refl, omega (arith, f.small), (refl, omega (arith, f.light), (refl, omega (arith, p.inside), (refl, omega (arith, f.few), (refl, omega (arith, p.near), (refl, omega (arith, size_small l.facts.q f.field), (refl, ranks, (refl, hex_is_ascii l.script, (refl, omega arith, (refl, omega (arith, p.light), tt))))))))))),
-    (tt, ((refl, tt), ((refl, (refl, tt)), ((refl, (refl, (refl, tt))), ((refl, (refl, (refl, (refl, tt)))), ((refl, (refl, (refl, (refl, (refl, tt))))), ((refl, (refl, (refl, (refl, (refl, (refl, tt)))))), ((refl, (refl, (refl, (refl, (refl, (refl, (refl, tt))))))), ((refl, (refl, (refl, (refl, (refl, (refl, (refl, (refl, tt)))))))), ((refl, (refl, (refl, (refl, (refl, (refl, (refl, (refl, (refl, tt))))))))), ((refl, (refl, (refl, (refl, (refl, (refl, (refl, (refl, (refl, (refl, tt)))))))))), tt))))))))))))
+    let ranks = plain_numbers l.facts.ranks (ranks_small l.facts.k l.facts.ranks f.few f.ranks) in (
+      (refl, omega (arith, p.inside), (refl, omega (arith, f.small), (refl, omega (arith, f.light), (refl, omega (arith, p.inside), (refl, omega (arith, f.few), (refl, omega (arith, p.near), (refl, omega (arith, size_small l.facts.q f.field), (refl, ranks, (refl, hex_is_ascii l.script, (refl, omega arith, (refl, omega (arith, p.light), tt))))))))))),
+      (tt, ((refl, tt), ((refl, (refl, tt)), ((refl, (refl, (refl, tt))), ((refl, (refl, (refl, (refl, tt)))), ((refl, (refl, (refl, (refl, (refl, tt))))), ((refl, (refl, (refl, (refl, (refl, (refl, tt)))))), ((refl, (refl, (refl, (refl, (refl, (refl, (refl, tt))))))), ((refl, (refl, (refl, (refl, (refl, (refl, (refl, (refl, tt)))))))), ((refl, (refl, (refl, (refl, (refl, (refl, (refl, (refl, (refl, tt))))))))), ((refl, (refl, (refl, (refl, (refl, (refl, (refl, (refl, (refl, (refl, tt)))))))))), tt))))))))))),
+    )
 
 body_shallow : (l : PartLine) → depth (object (line_members l)) ≤ 2
 unfolding line_members number_json

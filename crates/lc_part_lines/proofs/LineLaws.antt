@@ -9,7 +9,7 @@
 --   is_damaged, no_body, body_is                  the body
 --   damaged_answered                              bytes without a seal are answered
 --   read_ranged                                   what was read is in range
-use Rattle.std.proofs.Common.{◌≡◌, ℕ, suc, zero, ◌+◌, ◌-◌, ◌^◌, ◌<◌, ◌≤◌, ◌==◌, ◌&&◌, Bool, true, false, not, nat_le, List, [], ◌∷◌, ◌++◌, length, slice_index, get_or, take, drop, codes, Option, Some, None, is_some, option_map, option_and_then, refl, sym, ap, ◌∙◌, arith}
+use Rattle.std.proofs.Common.{◌≡◌, ℕ, suc, zero, ◌+◌, ◌-◌, ◌^◌, ◌<◌, ◌≤◌, ◌==◌, ◌&&◌, Bool, true, false, nat_le, List, [], ◌∷◌, ◌++◌, length, slice_index, get_or, take, drop, codes, Option, Some, None, refl, sym, ap, ◌∙◌, arith}
 use Rattle.std.specs.Prelude.{if◌then◌else◌, Result, Ok, Err, IfOk, IsOk}
 use Rattle.std.specs.List.{list_all}
 use Rattle.std.proofs.lemmas.Bool.{le-leb, lt-leb, false≢true}
@@ -18,17 +18,15 @@ use Rattle.hex.specs.Hex.{encode_lower}
 use Rattle.serde_json.specs.Data.{Data, null, boolean, number, string, array, object, Members}
 use Rattle.lc_algebra.proofs.CommonLaws.{and_regrouped}
 use Rattle.lc_algebra.specs.declared.FieldName.{FieldName}
-use Rattle.lc_enumeration.specs.Plan.{cut}
 use Rattle.lc_formats.specs.Text.{same_bytes}
 use Rattle.lc_formats.specs.Json.{number_at, list_at, provided, member_count, json_in}
 use Rattle.lc_formats.specs.Document.{symbol_field}
-use Rattle.lc_formats.specs.Checkpoint.{damaged, other_version, shape, number_up_to, script_in}
+use Rattle.lc_formats.specs.Checkpoint.{damaged, other_version, number_up_to, script_in}
 use Rattle.lc_formats.proofs.CheckpointBack.{same_itself, seal_length}
 use Rattle.lc_json.specs.Inside.{members_in}
 use Rattle.lc_field.specs.declared.NoMemory.{NoMemory}
 use Rattle.lc_parts.specs.Part.{Part, Facts}
-use Rattle.lc_part_lines.specs.Line.{ReadLine, line_is, refused, headed, is_headed, are_ranks, size_in, facts_from, facts_at, part_from, part_at, line_from, line_in, line_or_shape, versioned, body_in, part_in, IsInRange}
-use Rattle.lc_part_lines.specs.Line as line
+use Rattle.lc_part_lines.specs.Line.{refused, headed, is_headed, are_ranks, size_in, facts_from, facts_at, part_from, part_at, line_from, line_in, line_or_shape, versioned, body_in, part_in, IsInRange}
 use Rattle.lc_part_lines.specs.declared.line.PartLine.{PartLine}
 use Rattle.lc_part_lines.specs.declared.refusal.LineRefusal.{LineRefusal}
 use Rattle.lc_part_lines.specs.declared.refusal.LineRefusal.TheVariants.{Damaged, Version, Shape}
@@ -116,31 +114,31 @@ module _ (ms : Members) where
   pub facts_read : (k q divisor first : ℕ) (ranks : List ℕ) → Some k ≡ number_up_to 1 255 (number_at (codes "k") ms) → Some q ≡ size_in ms → Some divisor ≡ number_up_to 1 255 (number_at (codes "divisor") ms) → Some first ≡ number_up_to 1 255 (number_at (codes "first") ms) → Some ranks ≡ list_at (codes "ranks") ms → are_ranks k ranks ≡ true → facts_at ms ≡ Some (record { k = k; q = q; ranks = ranks; divisor = divisor; first = first })
   facts_read k q divisor first ranks h e d f r t = facts_tested k q divisor first ranks h e d f r ∙ ap (λ b. if b then Some (record { k = k; q = q; ranks = ranks; divisor = divisor; first = first }) else None) t
 
-  pub no_start : None ≡ number_up_to 0 cut (number_at (codes "from") ms) → part_at ms ≡ None
+  pub no_start : None ≡ number_up_to 0 (2 ^ 40) (number_at (codes "from") ms) → part_at ms ≡ None
   unfolding part_at part_from provided
   no_start h = rw (sym h) refl
 
-  pub no_count : (start : ℕ) → Some start ≡ number_up_to 0 cut (number_at (codes "from") ms) → None ≡ number_up_to 1 cut (number_at (codes "count") ms) → part_at ms ≡ None
+  pub no_count : (start : ℕ) → Some start ≡ number_up_to 0 (2 ^ 40) (number_at (codes "from") ms) → None ≡ number_up_to 1 (2 ^ 40) (number_at (codes "count") ms) → part_at ms ≡ None
   unfolding part_at part_from provided
   no_count start h c = rw (sym h) (rw (sym c) refl)
 
-  pub no_weight : (start count : ℕ) → Some start ≡ number_up_to 0 cut (number_at (codes "from") ms) → Some count ≡ number_up_to 1 cut (number_at (codes "count") ms) → None ≡ number_up_to 1 255 (number_at (codes "weight") ms) → part_at ms ≡ None
+  pub no_weight : (start count : ℕ) → Some start ≡ number_up_to 0 (2 ^ 40) (number_at (codes "from") ms) → Some count ≡ number_up_to 1 (2 ^ 40) (number_at (codes "count") ms) → None ≡ number_up_to 1 255 (number_at (codes "weight") ms) → part_at ms ≡ None
   unfolding part_at part_from provided
   no_weight start count h c w = rw (sym h) (rw (sym c) (rw (sym w) refl))
 
-  pub no_place : (start count weight : ℕ) → Some start ≡ number_up_to 0 cut (number_at (codes "from") ms) → Some count ≡ number_up_to 1 cut (number_at (codes "count") ms) → Some weight ≡ number_up_to 1 255 (number_at (codes "weight") ms) → None ≡ number_up_to 0 (2 ^ 52 - 1) (number_at (codes "place") ms) → part_at ms ≡ None
+  pub no_place : (start count weight : ℕ) → Some start ≡ number_up_to 0 (2 ^ 40) (number_at (codes "from") ms) → Some count ≡ number_up_to 1 (2 ^ 40) (number_at (codes "count") ms) → Some weight ≡ number_up_to 1 255 (number_at (codes "weight") ms) → None ≡ number_up_to 0 (2 ^ 52 - 1) (number_at (codes "place") ms) → part_at ms ≡ None
   unfolding part_at part_from provided
   no_place start count weight h c w p = rw (sym h) (rw (sym c) (rw (sym w) (rw (sym p) refl)))
 
-  part_tested : (start count weight place : ℕ) → Some start ≡ number_up_to 0 cut (number_at (codes "from") ms) → Some count ≡ number_up_to 1 cut (number_at (codes "count") ms) → Some weight ≡ number_up_to 1 255 (number_at (codes "weight") ms) → Some place ≡ number_up_to 0 (2 ^ 52 - 1) (number_at (codes "place") ms) → part_at ms ≡ (if nat_le (start + count) cut then Some (record { start = start; count = count; weight = weight; place = place }) else None)
+  part_tested : (start count weight place : ℕ) → Some start ≡ number_up_to 0 (2 ^ 40) (number_at (codes "from") ms) → Some count ≡ number_up_to 1 (2 ^ 40) (number_at (codes "count") ms) → Some weight ≡ number_up_to 1 255 (number_at (codes "weight") ms) → Some place ≡ number_up_to 0 (2 ^ 52 - 1) (number_at (codes "place") ms) → part_at ms ≡ (if nat_le (start + count) (2 ^ 40) then Some (record { start = start; count = count; weight = weight; place = place }) else None)
   unfolding part_at part_from provided
   part_tested start count weight place h c w p = rw (sym h) (rw (sym c) (rw (sym w) (rw (sym p) refl)))
 
-  pub part_past : (start count weight place : ℕ) → Some start ≡ number_up_to 0 cut (number_at (codes "from") ms) → Some count ≡ number_up_to 1 cut (number_at (codes "count") ms) → Some weight ≡ number_up_to 1 255 (number_at (codes "weight") ms) → Some place ≡ number_up_to 0 (2 ^ 52 - 1) (number_at (codes "place") ms) → cut < start + count → part_at ms ≡ None
-  part_past start count weight place h c w p l = part_tested start count weight place h c w p ∙ ap (λ b. if b then Some (record { start = start; count = count; weight = weight; place = place }) else None) (lt-leb (start + count) cut l)
+  pub part_past : (start count weight place : ℕ) → Some start ≡ number_up_to 0 (2 ^ 40) (number_at (codes "from") ms) → Some count ≡ number_up_to 1 (2 ^ 40) (number_at (codes "count") ms) → Some weight ≡ number_up_to 1 255 (number_at (codes "weight") ms) → Some place ≡ number_up_to 0 (2 ^ 52 - 1) (number_at (codes "place") ms) → 2 ^ 40 < start + count → part_at ms ≡ None
+  part_past start count weight place h c w p l = part_tested start count weight place h c w p ∙ ap (λ b. if b then Some (record { start = start; count = count; weight = weight; place = place }) else None) (lt-leb (start + count) (2 ^ 40) l)
 
-  pub part_read : (start count weight place : ℕ) → Some start ≡ number_up_to 0 cut (number_at (codes "from") ms) → Some count ≡ number_up_to 1 cut (number_at (codes "count") ms) → Some weight ≡ number_up_to 1 255 (number_at (codes "weight") ms) → Some place ≡ number_up_to 0 (2 ^ 52 - 1) (number_at (codes "place") ms) → start + count ≤ cut → part_at ms ≡ Some (record { start = start; count = count; weight = weight; place = place })
-  part_read start count weight place h c w p l = part_tested start count weight place h c w p ∙ ap (λ b. if b then Some (record { start = start; count = count; weight = weight; place = place }) else None) (le-leb (start + count) cut l)
+  pub part_read : (start count weight place : ℕ) → Some start ≡ number_up_to 0 (2 ^ 40) (number_at (codes "from") ms) → Some count ≡ number_up_to 1 (2 ^ 40) (number_at (codes "count") ms) → Some weight ≡ number_up_to 1 255 (number_at (codes "weight") ms) → Some place ≡ number_up_to 0 (2 ^ 52 - 1) (number_at (codes "place") ms) → start + count ≤ 2 ^ 40 → part_at ms ≡ Some (record { start = start; count = count; weight = weight; place = place })
+  part_read start count weight place h c w p l = part_tested start count weight place h c w p ∙ ap (λ b. if b then Some (record { start = start; count = count; weight = weight; place = place }) else None) (le-leb (start + count) (2 ^ 40) l)
 
   pub no_keys : (member_count ms == 11) ≡ false → line_in ms ≡ None
   unfolding line_in
@@ -214,9 +212,9 @@ unfolding read_of
 one_ranged bytes (Ok l) e = line_ranged bytes (line_of l) (sym e)
 one_ranged bytes (Err x) e = tt
 
-pub read_ranged : (bytes : List ℕ) (r : Result (Result PartLine LineRefusal) NoMemory) → IfOk r (λ x. read_of x ≡ part_in bytes) → IfOk r (λ x. IfOk x (λ l. IsInRange (line_of l)))
-read_ranged bytes (Ok x) e = one_ranged bytes x e
-read_ranged bytes (Err n) e = e
+pub read_ranged : (bytes : List ℕ) (d : Data) (r : Result (Result PartLine LineRefusal) NoMemory) → is_headed bytes ≡ true → Some d ≡ json_in (drop 65 bytes) → IfOk r (λ x. read_of x ≡ versioned (members_in d) (number_at (codes "version") (members_in d))) → IfOk r (λ x. IfOk x (λ l. IsInRange (line_of l)))
+read_ranged bytes d (Ok x) h j e = one_ranged bytes x (e ∙ sym (body_is bytes d h j))
+read_ranged bytes d (Err n) h j e = e
 
 pub ruleset is_headed_laws = (headed_short, headed_other, headed_blank)
 

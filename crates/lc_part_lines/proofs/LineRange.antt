@@ -2,7 +2,7 @@
 --   facts_ranged, part_ranged    what the plan and the bound are made of is, and the part is
 --   members_ranged .. body_ranged      the parts of the reading, from its end on
 --   line_ranged                a line that bytes read as is in range
-use Rattle.std.proofs.Common.{◌≡◌, ℕ, ◌+◌, ◌-◌, ◌^◌, ◌≤◌, Bool, true, false, not, nat_le, ◌==◌, ◌&&◌, if◌then◌else◌, List, length, drop, codes, Option, Some, None, is_some, option_map, option_and_then, refl, ap, arith}
+use Rattle.std.proofs.Common.{◌≡◌, ℕ, ◌+◌, ◌-◌, ◌^◌, ◌≤◌, Bool, true, false, not, nat_le, ◌==◌, ◌&&◌, if◌then◌else◌, List, length, drop, codes, Option, Some, None, is_some, option_map, option_and_then, ap, arith}
 use Rattle.std.specs.Prelude.{Result, Ok, Err}
 use Rattle.std.specs.Result.{result_ok}
 use Rattle.std.proofs.lemmas.Bool.{and_parts, leb-true, eqb-true}
@@ -11,9 +11,8 @@ use Rattle.hex.specs.Hex.{encode_lower, decode_of, IsBytes}
 use Rattle.hex.proofs.HexLemmas.{decode_of-ok}
 use Rattle.serde_json.specs.Data.{Data, Members, null, boolean, number, string, array, object}
 use Rattle.serde_json.specs.Find.{get_member, as_str}
-use Rattle.lc_enumeration.specs.Plan.{cut}
 use Rattle.lc_formats.specs.Text.{same_bytes}
-use Rattle.lc_formats.specs.Json.{number_at, list_at, provided, member_count, json_in}
+use Rattle.lc_formats.specs.Json.{number_at, list_at, member_count, json_in}
 use Rattle.lc_formats.specs.Document.{symbol_field}
 use Rattle.lc_formats.specs.Checkpoint.{damaged, other_version, number_up_to, digest_in, script_in}
 use Rattle.lc_formats.proofs.ReadLaws.{provided_inside}
@@ -99,12 +98,12 @@ was_part (Some start) (Some count) (Some weight) (Some place) p e = record {
 pub part_ranged : (ms : Members) (p : Part) → part_at ms ≡ Some p → IsPart p
 unfolding part_at
 part_ranged ms p e =
-    let s = provided_inside (λ p. nat_le (p.start + p.count) cut) (part_from (number_up_to 0 cut (number_at (codes "from") ms)) (number_up_to 1 cut (number_at (codes "count") ms)) (number_up_to 1 255 (number_at (codes "weight") ms)) (number_up_to 0 (2 ^ 52 - 1) (number_at (codes "place") ms))) p e in
+    let s = provided_inside (λ p. nat_le (p.start + p.count) (2 ^ 40)) (part_from (number_up_to 0 (2 ^ 40) (number_at (codes "from") ms)) (number_up_to 1 (2 ^ 40) (number_at (codes "count") ms)) (number_up_to 1 255 (number_at (codes "weight") ms)) (number_up_to 0 (2 ^ 52 - 1) (number_at (codes "place") ms))) p e in
     let was = was_part _ _ _ _ p s.there in
     let weight = number_ranged 1 255 (number_at (codes "weight") ms) p.weight was.weight_is in
     record {
-      some = (number_ranged 1 cut (number_at (codes "count") ms) p.count was.count_is).0;
-      inside = leb-true (p.start + p.count) cut s.passes;
+      some = (number_ranged 1 (2 ^ 40) (number_at (codes "count") ms) p.count was.count_is).0;
+      inside = leb-true (p.start + p.count) (2 ^ 40) s.passes;
       nonzero = weight.0;
       light = weight.1;
       near = omega (arith, (number_ranged 0 (2 ^ 52 - 1) (number_at (codes "place") ms) p.place was.place_is).1);

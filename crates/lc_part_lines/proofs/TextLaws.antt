@@ -1,8 +1,8 @@
 -- The text of a part's line, piece by piece.
 --   four                     a text that grows by four pieces
---   body_thirds              the text of a body
+--   body_thirds, body_made   the text of a body
 --   text_is                  the text of a line
-use Rattle.std.proofs.Common.{◌≡◌, ℕ, List, [], ◌∷◌, ◌++◌, codes, decimal, rules, ◌∙◌, ap, append_assoc}
+use Rattle.std.proofs.Common.{◌≡◌, ℕ, List, [], ◌∷◌, ◌++◌, codes, decimal, rules, ◌∙◌, ap, sym, append_assoc}
 use Rattle.sha2.specs.Sha256.{sha256}
 use Rattle.hex.specs.Hex.{encode_lower, IsBytes}
 use Rattle.json.specs.Print.{escape_byte, escape}
@@ -22,7 +22,7 @@ unfoldable flat : PartLine → List ℕ → List ℕ → List ℕ
 flat l ranks script =
     codes "{\"count\":" ++ (decimal l.part.count ++ (codes ",\"divisor\":" ++ (decimal l.facts.divisor ++ (codes ",\"first\":" ++ (decimal l.facts.first ++ (codes ",\"from\":" ++ (decimal l.part.start ++ (codes ",\"k\":" ++ (decimal l.facts.k
     ++ (codes ",\"place\":" ++ (decimal l.part.place ++ (codes ",\"q\":" ++ (decimal l.facts.q ++ (codes ",\"ranks\":" ++ (ranks
-    ++ (codes ",\"script\":\"" ++ (script ++ (codes "\",\"version\":1" ++ (codes ",\"weight\":" ++ (decimal l.part.weight ++ codes "}"))))))))))))))))))))
+    ++ (codes ",\"script\":\"" ++ (script ++ (codes "\",\"version\":" ++ (decimal 1 ++ (codes ",\"weight\":" ++ (decimal l.part.weight ++ codes "}")))))))))))))))))))))
 
 in_quotes : (h rest : List ℕ) → (h ++ 34 ∷ []) ++ rest ≡ h ++ 34 ∷ rest
 in_quotes h rest = append_assoc h (34 ∷ []) rest
@@ -33,7 +33,7 @@ body_flat l =
     let ranks = compact_text (numbers_json l.facts.ranks) in
     ap (λ t. codes "{\"count\":" ++ (decimal l.part.count ++ (codes ",\"divisor\":" ++ (decimal l.facts.divisor ++ (codes ",\"first\":" ++ (decimal l.facts.first ++ (codes ",\"from\":" ++ (decimal l.part.start ++ (codes ",\"k\":" ++ (decimal l.facts.k
     ++ (codes ",\"place\":" ++ (decimal l.part.place ++ (codes ",\"q\":" ++ (decimal l.facts.q ++ (codes ",\"ranks\":" ++ (ranks ++ (codes ",\"script\":\"" ++ t)))))))))))))))))
-    (in_quotes (escape (encode_lower l.script)) (codes ",\"version\":1" ++ (codes ",\"weight\":" ++ (decimal l.part.weight ++ codes "}"))))
+    (in_quotes (escape (encode_lower l.script)) (codes ",\"version\":" ++ (decimal 1 ++ (codes ",\"weight\":" ++ (decimal l.part.weight ++ codes "}")))))
 
 in_front : (a1 b1 a2 b2 a3 b3 a4 b4 a5 b5 s : List ℕ) → a1 ++ (b1 ++ (a2 ++ (b2 ++ (a3 ++ (b3 ++ (a4 ++ (b4 ++ (a5 ++ (b5 ++ s))))))))) ≡ ((a1 ++ b1) ++ ((a2 ++ b2) ++ ((a3 ++ b3) ++ ((a4 ++ b4) ++ (a5 ++ b5))))) ++ s
 in_front a1 b1 a2 b2 a3 b3 a4 b4 a5 b5 s = search (rules, append_assoc)
@@ -41,17 +41,17 @@ in_front a1 b1 a2 b2 a3 b3 a4 b4 a5 b5 s = search (rules, append_assoc)
 in_middle : (a1 b1 a2 b2 a3 d s : List ℕ) → a1 ++ (b1 ++ (a2 ++ (b2 ++ (a3 ++ (d ++ s))))) ≡ ((a1 ++ b1) ++ ((a2 ++ b2) ++ (a3 ++ d))) ++ s
 in_middle a1 b1 a2 b2 a3 d s = search (rules, append_assoc)
 
-in_back : (a h v a1 b1 e : List ℕ) → a ++ (h ++ (v ++ (a1 ++ (b1 ++ e)))) ≡ a ++ (h ++ (v ++ ((a1 ++ b1) ++ e)))
-in_back a h v a1 b1 e = search (rules, append_assoc)
+in_back : (a h a1 b1 a2 b2 e : List ℕ) → a ++ (h ++ (a1 ++ (b1 ++ (a2 ++ (b2 ++ e))))) ≡ a ++ (h ++ ((a1 ++ b1) ++ ((a2 ++ b2) ++ e)))
+in_back a h a1 b1 a2 b2 e = search (rules, append_assoc)
 
 flat_thirds : (l : PartLine) → flat l (numbers_text l.facts.ranks) (encode_lower l.script) ≡ front_text l ++ (middle_text l ++ back_text l)
 unfolding flat front_text middle_text back_text
 flat_thirds l =
-    let back = codes ",\"script\":\"" ++ (encode_lower l.script ++ (codes "\",\"version\":1" ++ (codes ",\"weight\":" ++ (decimal l.part.weight ++ codes "}")))) in
+    let back = codes ",\"script\":\"" ++ (encode_lower l.script ++ (codes "\",\"version\":" ++ (decimal 1 ++ (codes ",\"weight\":" ++ (decimal l.part.weight ++ codes "}"))))) in
     let middle = codes ",\"place\":" ++ (decimal l.part.place ++ (codes ",\"q\":" ++ (decimal l.facts.q ++ (codes ",\"ranks\":" ++ (numbers_text l.facts.ranks ++ back))))) in
     in_front (codes "{\"count\":") (decimal l.part.count) (codes ",\"divisor\":") (decimal l.facts.divisor) (codes ",\"first\":") (decimal l.facts.first) (codes ",\"from\":") (decimal l.part.start) (codes ",\"k\":") (decimal l.facts.k) middle
     ∙ ap (λ t. front_text l ++ t) (in_middle (codes ",\"place\":") (decimal l.part.place) (codes ",\"q\":") (decimal l.facts.q) (codes ",\"ranks\":") (numbers_text l.facts.ranks) back)
-    ∙ ap (λ t. front_text l ++ (middle_text l ++ t)) (in_back (codes ",\"script\":\"") (encode_lower l.script) (codes "\",\"version\":1") (codes ",\"weight\":") (decimal l.part.weight) (codes "}"))
+    ∙ ap (λ t. front_text l ++ (middle_text l ++ t)) (in_back (codes ",\"script\":\"") (encode_lower l.script) (codes "\",\"version\":") (decimal 1) (codes ",\"weight\":") (decimal l.part.weight) (codes "}"))
 
 pub body_thirds : (l : PartLine) → IsBytes l.script → line_body l ≡ front_text l ++ (middle_text l ++ back_text l)
 body_thirds l h =
@@ -59,6 +59,13 @@ body_thirds l h =
     ∙ ap (λ t. flat l t (escape (encode_lower l.script))) (compact_numbers l.facts.ranks)
     ∙ ap (flat l (numbers_text l.facts.ranks)) (hex_stands l.script h)
     ∙ flat_thirds l
+
+pub body_made : (l : PartLine) (t0 t1 t2 t3 : List ℕ) → IsBytes l.script → t0 ≡ [] → t1 ≡ t0 ++ front_text l → t2 ≡ t1 ++ middle_text l → t3 ≡ t2 ++ back_text l → t3 ≡ line_body l
+body_made l t0 t1 t2 t3 h e0 e1 e2 e3 =
+    e3
+    ∙ ap (λ t. t ++ back_text l) (e2 ∙ ap (λ t. t ++ middle_text l) (e1 ∙ ap (λ t. t ++ front_text l) e0))
+    ∙ append_assoc (front_text l) (middle_text l) (back_text l)
+    ∙ sym (body_thirds l h)
 
 pub text_is : (l : PartLine) (seal body t : List ℕ) → body ≡ line_body l → seal ≡ encode_lower (sha256 body) → t ≡ seal ++ 32 ∷ body → t ≡ part_line l
 unfolding part_line headed

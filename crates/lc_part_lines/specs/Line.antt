@@ -5,17 +5,16 @@
 --   part_line l                  the line, without the newline that ends it
 --   AreFacts f                   a dimension of 1 to 255, the size of a symbol field, 1 to 255 ranks of which the first is the
 --                                dimension and none is more, and a divisor and a first weight of 1 to 255
---   IsPart p                     at least one block, none at or past the cut of 2^40, a weight of 1 to 255, a place below 2^52
+--   IsPart p                     at least one block, none at or past 2^40, a weight of 1 to 255, a place below 2^52
 --   IsInRange l                  a digest of 32 bytes, such facts and such a part
 --   ReadLine                     a line, or why there is none; the reasons and their numbers are those of checkpoints
 --   part_in bytes                the line that the bytes are, or the first reason that applies why they are none
-use Rattle.std.specs.Prelude.{◌≡◌, ℕ, ◌+◌, ◌^◌, ◌-◌, ◌<◌, ◌≤◌, Bool, true, not, nat_le, ◌==◌, ◌&&◌, if◌then◌else◌, List, ◌∷◌, ◌++◌, length, slice_index, drop, codes, All, Option, Some, None, option_map, option_and_then, is_some}
+use Rattle.std.specs.Prelude.{◌≡◌, ℕ, ◌+◌, ◌^◌, ◌-◌, ◌<◌, ◌≤◌, Bool, true, not, nat_le, ◌==◌, ◌&&◌, if◌then◌else◌, List, ◌∷◌, ◌++◌, length, slice_index, drop, codes, Option, Some, None, option_map, option_and_then, is_some}
 use Rattle.std.specs.List.{list_all}
 use Rattle.sha2.specs.Sha256.{sha256}
 use Rattle.hex.specs.Hex.{encode_lower, IsBytes}
 use Rattle.serde_json.specs.Data.{Data, Members, member, no_members, object, string}
 use Rattle.serde_json.specs.Written.{compact_text}
-use Rattle.lc_enumeration.specs.Plan.{cut}
 use Rattle.lc_formats.specs.Text.{same_bytes}
 use Rattle.lc_formats.specs.Json.{number_json, numbers_json, number_at, list_at, provided, member_count, json_in}
 use Rattle.lc_formats.specs.Document.{symbol_field}
@@ -66,7 +65,7 @@ pub record AreFacts (f : Facts) : Type 0 where
 
 pub record IsPart (p : Part) : Type 0 where
   pub some : 1 ≤ p.count
-  pub inside : p.start + p.count ≤ cut
+  pub inside : p.start + p.count ≤ 2 ^ 40
   pub nonzero : 1 ≤ p.weight
   pub light : p.weight ≤ 255
   pub near : p.place < 2 ^ 52
@@ -100,7 +99,7 @@ part_from start count weight place =
     option_and_then (λ start. option_and_then (λ count. option_and_then (λ weight. option_map (λ place. record { start = start; count = count; weight = weight; place = place }) place) weight) count) start
 
 unfoldable pub part_at : Members → Option Part
-part_at ms = provided (λ p. nat_le (p.start + p.count) cut) (part_from (number_up_to 0 cut (number_at (codes "from") ms)) (number_up_to 1 cut (number_at (codes "count") ms)) (number_up_to 1 255 (number_at (codes "weight") ms)) (number_up_to 0 (2 ^ 52 - 1) (number_at (codes "place") ms)))
+part_at ms = provided (λ p. nat_le (p.start + p.count) (2 ^ 40)) (part_from (number_up_to 0 (2 ^ 40) (number_at (codes "from") ms)) (number_up_to 1 (2 ^ 40) (number_at (codes "count") ms)) (number_up_to 1 255 (number_at (codes "weight") ms)) (number_up_to 0 (2 ^ 52 - 1) (number_at (codes "place") ms)))
 
 unfoldable pub line_from : Option (List ℕ) → Option Part → Option Facts → Option PartLine
 line_from script part facts = option_and_then (λ script. option_and_then (λ part. option_map (λ facts. record { script = script; facts = facts; part = part }) facts) part) script

@@ -17,4 +17,4 @@ middle_text l =
 
 unfoldable pub back_text : PartLine → List ℕ
 back_text l =
-    codes ",\"script\":\"" ++ (encode_lower l.script ++ (codes "\",\"version\":1" ++ ((codes ",\"weight\":" ++ decimal l.part.weight) ++ codes "}")))
+    codes ",\"script\":\"" ++ (encode_lower l.script ++ ((codes "\",\"version\":" ++ decimal 1) ++ ((codes ",\"weight\":" ++ decimal l.part.weight) ++ codes "}")))

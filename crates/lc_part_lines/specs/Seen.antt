@@ -2,9 +2,9 @@
 --   line_of l                the line of a part
 --   refusal_of e             why bytes are no such line
 --   read_of r                what bytes were read as
-use Rattle.std.specs.Prelude.{ℕ, Result, Ok, Err}
+use Rattle.std.specs.Prelude.{Result, Ok, Err}
 use Rattle.lc_parts.specs.Seen.{part_of, facts_seen}
-use Rattle.lc_formats.specs.Checkpoint.{CheckpointRefusal, checkpoint_refusal_number, damaged, other_version, shape}
+use Rattle.lc_formats.specs.Checkpoint.{CheckpointRefusal, damaged, other_version, shape}
 use Rattle.lc_part_lines.specs.Line as line
 use Rattle.lc_part_lines.specs.Line.{ReadLine, line_is, refused}
 use Rattle.lc_part_lines.specs.declared.line.PartLine.{PartLine}

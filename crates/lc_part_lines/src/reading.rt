@@ -1,5 +1,5 @@
 //! How bytes are read as the line of a part.
-ghost use Rattle.std.specs.Prelude.{◌≡◌, ◌≤◌, nat_le, length, false, codes, option_map, IfOk, IsOk, IsTrue};
+ghost use Rattle.std.specs.Prelude.{◌≡◌, ◌≤◌, nat_le, length, false, codes, option_map, IfOk, IfSome, IsOk, IsTrue};
 ghost use Rattle.std.specs.List.{list_all};
 ghost use Rattle.serde_json.specs.View.{view};
 ghost use Rattle.lc_formats.specs.Json.{number_at};
@@ -43,6 +43,7 @@ fn is_headed(bytes: &[u8]) -> bool
 #[tactic(auto, using(lc_checkpoint::proofs::PointLaws::ranged_at_laws))]
 fn ranged_at(object: &Value, key: &str, low: u64, high: u64) -> Option<u64>
     ensures is { result ≡ number_up_to low high (number_at key.now (members_in (view object.now))) }
+    ensures range { IfSome result (λ n. (low ≤ n) × (n ≤ high)) }
 {
     match number_at(object, key) {
         Some(n) => {

@@ -1,5 +1,6 @@
 //! How the line of a part is written.
 ghost use Rattle.std.specs.Prelude.{◌≡◌, ◌∷◌, ◌++◌, decimal, OnOk, IfOk};
+ghost use Rattle.hex.specs.Hex.{IsBytes};
 ghost use Rattle.lc_part_lines.specs.Line.{line_body, part_line};
 ghost use Rattle.lc_part_lines.specs.Pieces.{front_text, middle_text, back_text};
 ghost use Rattle.lc_part_lines.specs.Seen.{line_of};
@@ -9,6 +10,9 @@ use crate::seal::{digits_of, seal_of};
 use lc_field::NoMemory;
 use lc_json::{push_list, push_number, push_text};
 use std::alloc::Global;
+
+// The version of the lines that are written.
+const VERSION: u64 = 1;
 
 // A number after its key.
 fn push_named(text: &mut Vec<u8>, key: &[u8], n: u64) -> Result<(), NoMemory>
@@ -48,17 +52,29 @@ fn push_back(text: &mut Vec<u8>, line: &PartLine) -> Result<(), NoMemory>
 {
     push_text(text, b",\"script\":\"")?;
     push_text(text, &digits_of(&line.script))?;
-    push_text(text, b"\",\"version\":1")?;
+    push_named(text, b"\",\"version\":", VERSION)?;
     push_named(text, b",\"weight\":", line.part.weight)?;
     push_text(text, b"}")?;
     Ok(())
 }
 
+// Says what the type of bytes says: each is below 256.
+fn are_bytes(bytes: &[u8])
+    ensures bytes { IsBytes bytes.now }
+{}
+
+// Says what the type of a digest says.
+fn has_bytes(digest: &[u8; 32])
+    ensures bytes { IsBytes digest.now }
+{
+    are_bytes(digest);
+}
+
 // The body of a line.
-#[tactic(auto, using(crate::proofs::TextLaws::body_thirds))]
 fn body_of(alloc: Global, line: &PartLine) -> Result<Vec<u8>, NoMemory>
     ensures is { IfOk result (λ body. body.items ≡ line_body (line_of line.now)) }
 {
+    has_bytes(&line.script);
     let mut body = Vec::new(alloc);
     push_front(&mut body, line)?;
     push_middle(&mut body, line)?;
