@@ -14,6 +14,8 @@ mod watching;
 
 pub use answer::{Answer, RoundRecord};
 pub use blocks::work;
+pub use parts::{plan_of, sets_of, weight_at};
 pub use resume::ResumeRefusal;
+pub use round::{RoundFound, find_in_round};
 pub use search::Search;
 pub use watching::tell;

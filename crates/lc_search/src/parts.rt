@@ -13,9 +13,9 @@ use lc_place::Plan;
 use lc_vec::weight;
 use std::alloc::Global;
 
-/// The information sets of a code of dimension at least 1.
+/// The information sets of a code of dimension at least 1. Fails if memory runs out.
 #[tactic(auto, using(lc_algebra::proofs::ReducedLaws::reduced_independent))]
-pub(crate) fn sets_of(alloc: Global, code: &Code) -> Result<Sets, NoMemory>
+pub fn sets_of(alloc: Global, code: &Code) -> Result<Sets, NoMemory>
     requires dimension { 0 < length code.now.rows }
     ensures code { IfOk result (λ s. s ≡ code.now) }
 {
@@ -24,9 +24,9 @@ pub(crate) fn sets_of(alloc: Global, code: &Code) -> Result<Sets, NoMemory>
     Sets::build(alloc, code.matrix())
 }
 
-/// The plan that goes through all sets.
+/// The plan that goes through all sets. Fails if memory runs out.
 #[tactic(auto, using(lc_code::proofs::CoordinateSteps::small_size))]
-pub(crate) fn plan_of(alloc: Global, sets: &Sets) -> Result<Plan, NoMemory>
+pub fn plan_of(alloc: Global, sets: &Sets) -> Result<Plan, NoMemory>
     ensures whole { IfOk result (λ p. p ≡ whole_plan sets.now) }
 {
     let _long = sets.length();
@@ -41,9 +41,9 @@ pub(crate) fn plan_of(alloc: Global, sets: &Sets) -> Result<Plan, NoMemory>
     Ok(plan)
 }
 
-/// The weight of the word at a place; None if there is none. The plan goes through all sets.
+/// The weight of the word at a place; None if there is none. The plan goes through all sets. Fails if memory runs out.
 #[tactic(auto, using(crate::proofs::StateLaws::plan_for, crate::proofs::StateLaws::light_word))]
-pub(crate) fn weight_at(
+pub fn weight_at(
     alloc: Global,
     sets: &Sets,
     plan: &Plan,

@@ -67,20 +67,27 @@ pub(crate) fn run_round<R: Threads + Sync, G: Gate + Sync>(
     Ok(closed)
 }
 
-// The best word after a round, and what the board showed.
+/// The best word after a round, and what the board showed.
 #[derive(Drop)]
-pub(crate) struct RoundFound {
-    pub(crate) weight: u64,
-    pub(crate) place: u64,
-    pub(crate) closed: RoundResult,
+pub struct RoundFound {
+    /// The weight of the word.
+    pub weight: u64,
+    /// The place of the word.
+    pub place: u64,
+    /// What the board of the round showed when it was closed.
+    pub closed: RoundResult,
 }
 
 // The value of a word on a board is its weight times this, plus its place.
 const PLACES: u64 = 1 << 52;
 
 /// Does the `count` blocks from `start` on, after which the best word is the least of them and of the one before, whose weight
-/// is at most 255 and whose place is below 2^52. The plan goes through all sets.
-pub(crate) fn find_in_round<R: Threads + Sync, G: Gate + Sync>(
+/// is at most 255 and whose place is below 2^52. Fails if memory runs out.
+///
+/// The plan goes through all sets and has these blocks, and there are 1 to 256 workers, numbered from 0; each passes the gate
+/// before each of its reports. One worker starts no thread. All memory is taken before the first claim. `spare` holds scratches
+/// that were made for these sets; those of this round are kept there.
+pub fn find_in_round<R: Threads + Sync, G: Gate + Sync>(
     rt: &R,
     alloc: Global,
     sets: &Sets,
