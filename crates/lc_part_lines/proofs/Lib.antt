@@ -1,0 +1,5 @@
+pub mod LineBack
+pub mod LineLaws
+pub mod LineRange
+pub mod Opened
+pub mod TextLaws
