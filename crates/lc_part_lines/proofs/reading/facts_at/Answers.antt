@@ -9,7 +9,6 @@ use Rattle.lc_part_lines.proofs.LineLaws.{facts_read}
 use Rattle.lc_part_lines.proofs.reading.facts_at.Goals as goal
 
 pub returns : goal.returns
-unfolding facts_seen
 returns c =
     let ms = members_in (view c.args.object.now) in
     let k : Some c.in-Some.k ≡ number_up_to 1 255 (number_at (codes "k") (members_in (view c.args.object.now))) = sym c.in-Some.is ∙ c.ranged_at.ensures.is in

@@ -6,7 +6,6 @@ use Rattle.lc_part_lines.proofs.LineLaws.{part_read}
 use Rattle.lc_part_lines.proofs.reading.part_at.Goals as goal
 
 pub returns : goal.returns
-unfolding part_of
 returns c =
     record {
       is = sym (part_read (members_in (view c.args.object.now)) c.in-Some.start c.in-Some-ranged_at.count c.in-Some-ranged_at-2.weight c.in-Some-ranged_at-3.place
