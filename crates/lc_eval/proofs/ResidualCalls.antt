@@ -3,7 +3,7 @@
 --   residue_behind         without one, the first refusal is whether it is in the code, and then whether a coordinate is left
 --   residue_outside        it isn't in the code
 --   residue_applies        the code, or the refusal that no coordinate is left
-use Rattle.std.proofs.Common.{◌≡◌, ℕ, ◌-◌, ◌↔◌, not, true, false, List, [], ◌∷◌, Option, Some, None, option_map, Result, Err, IfOk, Bool, refl, sym, ap, subst, ◌∙◌, IsTrue}
+use Rattle.std.proofs.Common.{◌≡◌, ℕ, ◌-◌, ◌↔◌, not, true, false, List, [], ◌∷◌, Option, Some, None, option_map, Result, Err, IfOk, Bool, refl, sym, ap, subst, ◌∙◌, IsTrue, true≢false}
 use Rattle.lc_algebra.specs.Word.{weight}
 use Rattle.lc_algebra.specs.Matrix.{Matrix}
 use Rattle.lc_constructions.specs.Code.{InCode, IsCode}
@@ -41,7 +41,7 @@ pub residue_outside : (place : ℕ) (C : Matrix) (x w : List ℕ) (b : Bool) (r 
 unfolding refuse_call refuse refuse_at when first_of
 residue_outside place C x w true r h t e m = cc
 residue_outside place C x w false r h t e m =
-    applying place (residue_code C x) (Some (refuse 50 [])) (Err (stop.Refused r)) (residue_behind C x false h.unrefused (left_out C x w h (λ i. t.1 i))) m
+    applying place (residue_code C x) (Some (refuse 50 [])) (Err (stop.Refused r)) (residue_behind C x false h.unrefused (left_out C x w h (λ i. true≢false (sym (t.1 i))))) m
 
 pub residue_applies : (place : ℕ) (C : Matrix) (x w : List ℕ) (made : Result Matrix CodeRefusal) (result : Result Value Stop) → IsRight C x w → InCode C w → IfOk made (λ R. IsCode C.field (C.columns - weight w) (InResidual C w) R) → IsRefusedAs made (first_refusal (no_coordinate C w)) → IsMade made place result → Answers result (AppliesTo place (residue_code C x))
 unfolding when first_of
@@ -54,5 +54,3 @@ residue_applies place C x w made result h i c r s =
     let is : IsCode C.field (C.columns - weight w) (InResidual C w) R = rw m at c in
     record { code_is = (R, subst (λ (u : List ℕ). IsCode C.field (C.columns - weight u) (InResidual C u) R) h.same is, refl) })
     r s
-
-pub ruleset residue_code_laws = (residue_outside, residue_applies)

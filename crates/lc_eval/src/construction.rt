@@ -73,7 +73,6 @@ pub(crate) fn construction_x_code(
 }
 
 /// The residual code at a list of symbols, which should be a word of the code.
-#[tactic(auto, using(crate::proofs::ResidualCalls::residue_code_laws))]
 pub(crate) fn residue_code(
     alloc: Global,
     place: usize,
