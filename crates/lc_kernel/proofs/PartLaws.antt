@@ -37,27 +37,42 @@ part_piece cols b done end m ws old h long within i l =
     let inside : i < n = omega (arith, l, piece_long done end old (omega (arith, within, long))) in
     get_or-take n (drop done old) i 0 inside ∙ get_or-drop done old i 0 ∙ h.left (done + i) (omega arith) (omega (arith, inside, within))
 
+-- a list of which a piece has been replaced
+record IsSpliced (n end : ℕ) (old new whole : List ℕ) : Type 0 where
+  before : (i : ℕ) → i < n → slice_index whole i ≡ slice_index old i
+  inside : (i : ℕ) → n ≤ i → i < end → slice_index whole i ≡ slice_index new (i - n)
+  after : (i : ℕ) → end ≤ i → slice_index whole i ≡ slice_index old i
+
+spliced : (n end : ℕ) (old new : List ℕ) → n ≤ end → end ≤ length old → length new ≡ length (take (end - n) (drop n old)) → IsSpliced n end old new (take n old ++ (new ++ drop (end - n) (drop n old)))
+spliced n end old new order within e =
+    let rest = drop (end - n) (drop n old) in
+    let front = take n old in
+    let front_long : length front ≡ n = length-take-le n old (omega (arith, order, within)) in
+    let new_long : length new ≡ end - n = e ∙ piece_long n end old within in
+    let later : (i : ℕ) → n ≤ i → slice_index (front ++ (new ++ rest)) i ≡ slice_index (new ++ rest) (i - n) = λ i l. get_or-append_right front (new ++ rest) n i 0 front_long l in
+    record {
+      before = λ i l. get_or-append front (new ++ rest) 0 i (omega (arith, l, front_long)) ∙ get_or-take n old i 0 l;
+      inside = λ i l m. later i l ∙ get_or-append new rest 0 (i - n) (omega (arith, l, m, new_long));
+      after = λ i l.
+          let k = i - n - (end - n) in
+          let place : n + (end - n + k) ≡ i = omega (arith, l, order) in
+          later i (omega (arith, l, order)) ∙ get_or-append_right new rest (end - n) (i - n) 0 new_long (omega (arith, l, order)) ∙ get_or-drop (end - n) (drop n old) k 0 ∙ get_or-drop n old (end - n + k) 0 ∙ ap (slice_index old) place;
+    }
+
 pub part_joined : (cols : List ℕ) (b done end m : ℕ) (ws : List (List ℕ)) (old new : List ℕ) → ArePartCounted cols b ws done m old → length old ≡ m → done ≤ end → end ≤ m
     → AreCounted (take (64 * (b + 1)) cols) ws done (length (take (end - done) (drop done old))) new → length new ≡ length (take (end - done) (drop done old))
     → ArePartCounted cols b ws end m (take done old ++ (new ++ drop (end - done) (drop done old)))
 part_joined cols b done end m ws old new h long order within g e =
-    let front = take done old in
-    let front_long : length front ≡ done = length-take-le done old (omega (arith, order, within, long)) in
+    let s = spliced done end old new order (omega (arith, within, long)) e in
     let piece : length (take (end - done) (drop done old)) ≡ end - done = piece_long done end old (omega (arith, within, long)) in
-    let new_long : length new ≡ end - done = e ∙ piece in
-    let after : (i : ℕ) → done ≤ i → slice_index (front ++ (new ++ drop (end - done) (drop done old))) i ≡ slice_index (new ++ drop (end - done) (drop done old)) (i - done) = λ i l. get_or-append_right front (new ++ drop (end - done) (drop done old)) done i 0 front_long l in
     record {
       done = λ i l. ⊎_elim
-          (λ a. get_or-append front (new ++ drop (end - done) (drop done old)) 0 i (omega (arith, a, front_long)) ∙ get_or-take done old i 0 a ∙ h.done i a)
+          (λ a. s.before i a ∙ h.done i a)
           (λ a.
-          let k = i - done in
-          let place : done + k ≡ i = omega (arith, a) in
-          after i a ∙ get_or-append new (drop (end - done) (drop done old)) 0 k (omega (arith, a, l, new_long)) ∙ g k (omega (arith, a, l, piece)) ∙ ap (λ z. weight (restrict (take (64 * (b + 1)) cols) (slice_index_or ws z []))) place)
+          let place : done + (i - done) ≡ i = omega (arith, a) in
+          s.inside i a l ∙ g (i - done) (omega (arith, a, l, piece)) ∙ ap (λ z. weight (restrict (take (64 * (b + 1)) cols) (slice_index_or ws z []))) place)
           (cases_lt i done);
-      left = λ i l o.
-          let k = i - done - (end - done) in
-          let place : done + (end - done + k) ≡ i = omega (arith, l, order) in
-          after i (omega (arith, l, order)) ∙ get_or-append_right new (drop (end - done) (drop done old)) (end - done) (i - done) 0 new_long (omega (arith, l, order)) ∙ get_or-drop (end - done) (drop done old) k 0 ∙ get_or-drop done old (end - done + k) 0 ∙ ap (slice_index old) place ∙ h.left i (omega (arith, l, order)) o;
+      left = λ i l o. s.after i l ∙ h.left i (omega (arith, l, order)) o;
     }
 
 pub parts_none : (cols : List ℕ) (m n : ℕ) (ws : List (List ℕ)) (counts : List ℕ) → counts ≡ replicate n 0 → AreCounted (take (64 * 0) cols) ws 0 m counts
@@ -70,25 +85,19 @@ pub added_piece : (f : ℕ → ℕ) (first old new : List ℕ) (n end : ℕ) →
     → ((i : ℕ) → i < length (take (end - n) (drop n old)) → slice_index new i ≡ slice_index (take (end - n) (drop n old)) i + f (n + i)) → length new ≡ length (take (end - n) (drop n old))
     → AreAdded f first (take n old ++ (new ++ drop (end - n) (drop n old))) end
 added_piece f first old new n end h order within g e =
-    let front = take n old in
-    let front_long : length front ≡ n = length-take-le n old (omega (arith, order, within)) in
+    let s = spliced n end old new order within e in
     let piece : length (take (end - n) (drop n old)) ≡ end - n = piece_long n end old within in
-    let new_long : length new ≡ end - n = e ∙ piece in
-    let after : (i : ℕ) → n ≤ i → slice_index (front ++ (new ++ drop (end - n) (drop n old))) i ≡ slice_index (new ++ drop (end - n) (drop n old)) (i - n) = λ i l. get_or-append_right front (new ++ drop (end - n) (drop n old)) n i 0 front_long l in
     record {
       done = λ i l. ⊎_elim
-          (λ a. get_or-append front (new ++ drop (end - n) (drop n old)) 0 i (omega (arith, a, front_long)) ∙ get_or-take n old i 0 a ∙ h.done i a)
+          (λ a. s.before i a ∙ h.done i a)
           (λ a.
           let k = i - n in
           let inside : k < end - n = omega (arith, a, l) in
           let place : n + k ≡ i = omega (arith, a) in
-          after i a ∙ get_or-append new (drop (end - n) (drop n old)) 0 k (omega (arith, inside, new_long)) ∙ g k (omega (arith, inside, piece))
+          s.inside i a l ∙ g k (omega (arith, inside, piece))
           ∙ ap (λ z. z + f (n + k)) (get_or-take (end - n) (drop n old) k 0 inside ∙ get_or-drop n old k 0 ∙ h.left (n + k) (omega arith)) ∙ ap (λ z. slice_index first z + f z) place)
           (cases_lt i n);
-      left = λ i l.
-          let k = i - n - (end - n) in
-          let place : n + (end - n + k) ≡ i = omega (arith, l, order) in
-          after i (omega (arith, l, order)) ∙ get_or-append_right new (drop (end - n) (drop n old)) (end - n) (i - n) 0 new_long (omega (arith, l, order)) ∙ get_or-drop (end - n) (drop n old) k 0 ∙ get_or-drop n old (end - n + k) 0 ∙ ap (slice_index old) place ∙ h.left i (omega (arith, l, order));
+      left = λ i l. s.after i l ∙ h.left i (omega (arith, l, order));
     }
 
 pub halves_at : (a : Halves) (first done head tail i : ℕ) → head * a.tails + tail ≡ first + done → tail + i < a.tails → count_ones (bits_apart a.planes (slice_index_or a.heads.now head []) a.bits.now a.words (a.start + tail + i)) ≡ symbols_apart a (first + (done + i))

@@ -35,6 +35,7 @@ pub(crate) fn pack(word: &[u8], columns: &[usize], planes: usize) -> [u64; 4]
 }
 
 // Adds to each count the number of symbols at which a word, whose planes are p and r, differs from another.
+#[inline]
 fn add_two(ones: &[u64], twos: &[u64], p: u64, r: u64, counts: &mut [u32])
     requires ones { length ones.now ≡ length counts.old }
     requires twos { length twos.now ≡ length counts.old }
@@ -51,6 +52,7 @@ fn add_two(ones: &[u64], twos: &[u64], p: u64, r: u64, counts: &mut [u32])
 }
 
 // The same by three planes.
+#[inline]
 fn add_three(ones: &[u64], twos: &[u64], fours: &[u64], p: u64, r: u64, s: u64, counts: &mut [u32])
     requires ones { length ones.now ≡ length counts.old }
     requires twos { length twos.now ≡ length counts.old }
@@ -69,6 +71,7 @@ fn add_three(ones: &[u64], twos: &[u64], fours: &[u64], p: u64, r: u64, s: u64, 
 }
 
 // The same by four planes.
+#[inline]
 fn add_four(
     ones: &[u64],
     twos: &[u64],
@@ -101,6 +104,7 @@ fn add_four(
 
 /// Adds to each count the number of symbols at which a word, given by its planes, differs from one of some words. The
 /// bits are the planes of these words, plane by plane, and count i is for word `start` + i.
+#[inline]
 pub(crate) fn add_apart(
     planes: usize,
     bits: &[u64],

@@ -2,7 +2,7 @@
 //! with all lists of coefficients, at a part of the columns outside the basis, are its heads; they are kept from support
 //! to support. If that part has all these columns, no word is counted unless it may be lighter than all before.
 
-ghost use Rattle.std.specs.Prelude.{◌≡◌, ℕ, ◌+◌, ◌-◌, ◌*◌, ◌^◌, ◌<◌, ◌≤◌, ◌∷◌, [], Some, None, length, take, slice_get, slice_index, slice_index_or, IfSome, IfNone};
+ghost use Rattle.std.specs.Prelude.{◌≡◌, ℕ, ◌+◌, ◌-◌, ◌*◌, ◌^◌, ◌<◌, ◌≤◌, [], Some, None, length, take, slice_get, slice_index, slice_index_or, IfSome, IfNone};
 ghost use Rattle.std.specs.List.{Contains};
 ghost use Rattle.lc_algebra.specs.Field.{size};
 ghost use Rattle.lc_algebra.specs.Word.{weight};
@@ -13,7 +13,6 @@ ghost use Rattle.lc_enumeration.specs.Search.{set_count, block_words};
 ghost use Rattle.lc_place.specs.Place.{spot_message};
 ghost use Rattle.lc_kernel.specs.Values.{IsSpotAt};
 ghost use Rattle.lc_kernel.specs.Packed.{others};
-ghost use Rattle.lc_kernel.specs.Grid.{tail_count};
 ghost use Rattle.lc_kernel.specs.Grids.{IsGrid};
 ghost use Rattle.lc_kernel.specs.Least.{IsFirstBelow};
 ghost use Rattle.lc_kernel.specs.Sweeps.{list_count, IsListedAt, AreHeads, AreHalvesOf, TooManyHeads};

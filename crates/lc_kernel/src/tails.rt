@@ -1,22 +1,17 @@
 //! The least value of a block of words over more than 2 elements, and its runs: the messages that share all but their
 //! last two coefficients.
 
-ghost use Rattle.std.specs.Prelude.{◌≡◌, ℕ, ◌+◌, ◌-◌, ◌*◌, ◌^◌, ◌<◌, ◌≤◌, ◌/◌, ◌%◌, ◌∷◌, [], Some, length, take, slice_get, slice_index, option_map};
+ghost use Rattle.std.specs.Prelude.{◌≡◌, ℕ, ◌+◌, ◌-◌, ◌*◌, ◌<◌, ◌≤◌, Some, length, option_map};
 ghost use Rattle.std.specs.List.{Contains};
 ghost use Rattle.lc_algebra.specs.Field.{size};
-ghost use Rattle.lc_enumeration.specs.Message.{messages, supports_from};
-ghost use Rattle.lc_enumeration.specs.Plan.{total, IsInPhase};
+ghost use Rattle.lc_enumeration.specs.Message.{messages};
+ghost use Rattle.lc_enumeration.specs.Plan.{total};
 ghost use Rattle.lc_enumeration.specs.Search.{set_count, block_words, block_least, board_value};
 ghost use Rattle.lc_place.specs.Place.{spot_message};
 ghost use Rattle.lc_kernel.specs.Kernel.{IsPlanOf};
 ghost use Rattle.lc_kernel.specs.Values.{IsSpotAt};
-ghost use Rattle.lc_kernel.specs.Packed.{others};
-ghost use Rattle.lc_planes.specs.Planes.{part_at, apart, negative};
-ghost use Rattle.lc_algebra.specs.SpanLaws.{restrict};
-ghost use Rattle.lc_algebra.specs.Word.{IsWord};
-ghost use Rattle.lc_kernel.specs.Grid.{tail_count, tail_index, tail_word, tails_in, IsTailRun};
+ghost use Rattle.lc_kernel.specs.Grid.{tail_count, tail_index};
 ghost use Rattle.lc_kernel.specs.Grids.{IsGrid};
-ghost use Rattle.lc_kernel.specs.Least.{AreCounted};
 ghost use Rattle.lc_kernel.specs.Sums.{front_word};
 
 use crate::fronts::least_words;
