@@ -13,9 +13,7 @@ ghost use Rattle.lc_eval.specs.Applied.{Answers};
 ghost use Rattle.lc_eval.specs.Value.{value_of, values_of, rows_of};
 
 use crate::code_value::CodeValue;
-use crate::construction::{
-    circulant_code, construction_x_code, quasi_cyclic_code, residue_code,
-};
+use crate::construction::{circulant_code, construction_x_code, quasi_cyclic_code, residue_code};
 use crate::cyclic::{
     check_pol_code, extended_binary_golay_code, extended_ternary_golay_code, generator_pol_code,
     qr_code,
