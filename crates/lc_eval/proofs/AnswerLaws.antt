@@ -7,7 +7,7 @@
 --   applied_as, applied           what was made, or its refusal
 --   made_applies                  a code of the words that meet P
 --   never_refused                 a call without refusals
-use Rattle.std.proofs.Common.{◌≡◌, ℕ, ◌⊎◌, List, [], ◌∷◌, Option, Some, None, option_map, MatchOption, Result, Ok, Err, IfOk, refl, sym, ap, subst, ◌∙◌, inr}
+use Rattle.std.proofs.Common.{◌≡◌, ℕ, ◌⊎◌, List, [], Option, Some, None, option_map, MatchOption, Result, Ok, Err, IfOk, refl, sym, ap, subst, ◌∙◌, inr}
 use Rattle.lc_algebra.specs.Matrix.{Matrix}
 use Rattle.lc_algebra.specs.declared.FieldName.{FieldName}
 use Rattle.lc_constructions.specs.Code.{IsCode}

@@ -3,7 +3,7 @@
 --   residue_behind         without one, the first refusal is whether it is in the code, and then whether a coordinate is left
 --   residue_outside        it isn't in the code
 --   residue_applies        the code, or the refusal that no coordinate is left
-use Rattle.std.proofs.Common.{◌≡◌, ℕ, ◌-◌, ◌↔◌, not, true, false, List, [], ◌∷◌, Option, Some, None, option_map, Result, Err, IfOk, Bool, refl, sym, ap, subst, ◌∙◌, IsTrue, true≢false}
+use Rattle.std.proofs.Common.{◌≡◌, ℕ, ◌-◌, ◌↔◌, not, true, false, List, [], ◌∷◌, Some, None, option_map, Result, Err, IfOk, Bool, refl, sym, ap, subst, ◌∙◌, IsTrue, true≢false}
 use Rattle.lc_algebra.specs.Word.{weight}
 use Rattle.lc_algebra.specs.Matrix.{Matrix}
 use Rattle.lc_constructions.specs.Code.{InCode, IsCode}

@@ -7,8 +7,7 @@
 --   is_quadratic_residue   the code of the least period is a quadratic residue code
 --   common_constant        the words that both codes have are the words of equal symbols
 use Rattle.std.proofs.Common.{◌≡◌, ◌≢◌, ℕ, zero, suc, ◌+◌, ◌-◌, ◌*◌, ◌/◌, ◌%◌, ◌<◌, ◌≤◌, ◌==◌, ◌&&◌, ◌||◌, not, Bool, true, false, if◌then◌else◌, List, [], ◌∷◌, ◌++◌, length, map, replicate, slice_index, slice_index_or, All, IsTrue, refl, sym, ap, ap₂, subst, ◌∙◌, ⊎_elim, arith, true≢false}
-use Rattle.std.proofs.Math.Nat.{mod-lt, mod-eq_of_lt, mul_comm, mul-zero, zero-mod, add-mod_right, mod_self, mul-div_cancel}
-use Rattle.std.proofs.lemmas.Nat.{mul-mod_second}
+use Rattle.std.proofs.Math.Nat.{mod-lt, mod-eq_of_lt, mul_comm, add-mod_right, mod_self, mul-div_cancel}
 use Rattle.std.proofs.lemmas.Bool.{cases_lt, cases_eq, and_parts, ne_eqb, eq-eqb, not-true, or_cases}
 use Rattle.std.proofs.lemmas.List.{length-map, length-append, get_or-map}
 use Rattle.std.proofs.lemmas.List.Elements.{All-cons}
@@ -36,13 +35,13 @@ use Rattle.lc_infoset.proofs.GreedyLaws.{independent_cons}
 use Rattle.lc_relations.proofs.UnionLaws.{extended, behind, second_of}
 use Rattle.lc_language.specs.QuadraticResidues.{is_odd_prime, is_residue, is_residue_length, is_period, residue_word, cyclic_shift, residue_rows, InResidueCode, multiplied, period, IsQuadraticResidueCode}
 use Rattle.lc_residues.specs.Periods.{other_period}
-use Rattle.lc_residues.proofs.ResidueTests.{prime_parts, residue_from}
+use Rattle.lc_residues.proofs.ResidueTests.{prime_parts}
 use Rattle.lc_residues.proofs.CodeLaws.{residue_word_is, residue_words}
 use Rattle.lc_residues.proofs.PeriodLaws.{least_period}
 use Rattle.lc_residues.proofs.KeptLaws.{words_of, residue_cyclic, residue_kept, residue_ones}
-use Rattle.lc_residues.proofs.PickLaws.{same_picks, index_shift, length_shift, index_multiplied, length_multiplied, multiplied_linear, span_kept, shifts_linear}
+use Rattle.lc_residues.proofs.PickLaws.{same_picks, index_shift, length_shift, multiplied_linear, span_kept, shifts_linear}
 use Rattle.lc_residues.proofs.ShiftLaws.{ones_in, shift_in}
-use Rattle.lc_residues.proofs.CharacterLaws.{square_below, residue_by_squares, inverse_there, inverse_times, other_times}
+use Rattle.lc_residues.proofs.CharacterLaws.{square_below, residue_by_squares}
 use Rattle.lc_residues.proofs.MultiplierLaws.{rows_exchanged}
 use Rattle.lc_residues.proofs.ExchangeLaws.{other_inverse, multiplied_back}
 use Rattle.lc_residues.proofs.PrimeFieldLaws.{periods_apart}
