@@ -1,0 +1,4 @@
+mod DisagreeLaws
+mod JoinLaws
+mod LineLaws
+mod WalkLaws
