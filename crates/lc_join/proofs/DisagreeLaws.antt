@@ -1,15 +1,14 @@
 -- The first line that disagrees with an earlier one.
 --   Agreed, agreed_first, agreed_more, agreed_end      the lines so far are of the search, and agree
 --   other_search, other_word     the first line that is of another search, or has another word
-use Rattle.std.proofs.Common.{◌≡◌, ◌≢◌, ℕ, zero, suc, ◌+◌, ◌<◌, ◌≤◌, Bool, true, false, cond, nat_lt, List, [], ◌∷◌, length, map, take, get_or, All, Option, Some, None, refl, sym, ap, ap₂, subst, ◌∙◌, ⊎_elim, arith}
+use Rattle.std.proofs.Common.{◌≡◌, ◌≢◌, ℕ, ◌+◌, ◌<◌, ◌≤◌, Bool, true, false, cond, nat_lt, List, [], ◌∷◌, length, map, take, get_or, All, Some, None, refl, sym, ap, ap₂, subst, ◌∙◌, ⊎_elim, arith}
 use Rattle.std.specs.List.{position, position_or_len, AllPairs}
 use Rattle.std.proofs.lemmas.Bool.{cases_eq, ltb-true, ltb-false, false≢true}
 use Rattle.std.proofs.lemmas.List.{get_or-map, get_or-take, get_or_default, length-map, length-take-le}
 use Rattle.std.proofs.lemmas.List.Sums.{fails_before_first, passes_at_first}
 use Rattle.lc_parts.specs.Joined.{JoinState, differs_from}
-use Rattle.lc_parts.specs.Seen.{part_of, facts_seen}
+use Rattle.lc_parts.specs.Seen.{part_of}
 use Rattle.lc_part_lines.specs.Seen.{line_of}
-use Rattle.lc_join.specs.Lines as meant
 use Rattle.lc_join.specs.Lines.{Agree, Disagree}
 use Rattle.lc_join.specs.Seen.{numbered_of, IsOf}
 use Rattle.lc_join.specs.declared.lines.Numbered.{Numbered}

@@ -7,16 +7,15 @@
 --   first_is_of, first_begun     the search that it begins
 --   few_now                      no more blocks than the budget
 --   lacks, has_text, ranged_now  what agreeing lines make
-use Rattle.std.proofs.Common.{◌≡◌, ℕ, zero, suc, ◌+◌, ◌^◌, ◌<◌, ◌≤◌, ◌==◌, ◌&&◌, Bool, true, false, cond, nat_le, if◌then◌else◌, find, List, [], ◌∷◌, length, map, drop, get_or, slice_index, All, Contains, Option, Some, None, is_some, refl, sym, ap, ap₂, subst, ◌∙◌, ⊎_elim, inr, arith}
+use Rattle.std.proofs.Common.{◌≡◌, ℕ, zero, suc, ◌+◌, ◌^◌, ◌<◌, ◌≤◌, ◌==◌, ◌&&◌, Bool, true, false, cond, nat_le, if◌then◌else◌, find, List, [], ◌∷◌, length, map, drop, get_or, All, Contains, Option, Some, None, is_some, refl, sym, ap, ap₂, subst, ◌∙◌, inr, arith}
 use Rattle.std.specs.List.{cons_option, slice_split, AllPairs}
-use Rattle.std.proofs.lemmas.Bool.{cases_Bool, and_parts, leb-true, eqb-true, false≢true}
+use Rattle.std.proofs.lemmas.Bool.{and_parts, leb-true, eqb-true, false≢true}
 use Rattle.std.proofs.lemmas.List.{get_or-map, get_or_default, length-map}
 use Rattle.hex.specs.Hex.{IsBytes}
-use Rattle.lc_algebra.specs.declared.FieldName.{FieldName}
 use Rattle.lc_algebra.specs.Field.{size, is_symbol}
 use Rattle.lc_algebra.proofs.FieldTests.{above_one}
 use Rattle.lc_constructions.specs.Cyclic.{all_fields}
-use Rattle.lc_enumeration.specs.Search.{Found, beats, least_of}
+use Rattle.lc_enumeration.specs.Search.{beats, least_of}
 use Rattle.lc_enumeration.specs.Records.{Progress, found_of, progress_of}
 use Rattle.lc_formats.specs.Document.{symbol_field}
 use Rattle.lc_formats.specs.Checkpoint as formats
@@ -77,9 +76,6 @@ usable f h = record {
 }
 
 -- ---- lines
-
-InRange : Numbered → Type 0
-InRange l = IsInRange l.line
 
 onto_ranged : (o : Option Numbered) (xs : List Numbered) → ((x : Numbered) → o ≡ Some x → IsInRange x.line) → All (λ l. IsInRange l.line) xs → All (λ l. IsInRange l.line) (cons_option o xs)
 onto_ranged None xs h all = all

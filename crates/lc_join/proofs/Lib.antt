@@ -1,4 +1,5 @@
 mod DisagreeLaws
 mod JoinLaws
 mod LineLaws
+mod TruthLaws
 mod WalkLaws

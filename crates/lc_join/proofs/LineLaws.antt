@@ -1,16 +1,15 @@
 -- The lines of parts in some bytes.
 --   numbered_read, numbered_none     a line that is read as that of a part, or isn't
 --   newline_split, newline_none      the lines before and after the first newline; bytes without a newline
---   kept_line, passed_line           the lines after one more, which is kept or passed over
 --   lines_first, lines_more, lines_end       before the first line, after one more, and after the last one
-use Rattle.std.proofs.Common.{◌≡◌, ℕ, ◌+◌, ◌<◌, ◌≤◌, ◌==◌, Bool, true, false, List, [], ◌∷◌, ◌++◌, length, map, take, drop, Option, Some, None, option_map, refl, sym, ap, ap₂, subst, ◌∙◌, arith}
+use Rattle.std.proofs.Common.{◌≡◌, ℕ, ◌+◌, ◌<◌, ◌==◌, Bool, true, false, List, [], ◌∷◌, ◌++◌, length, map, take, drop, Option, Some, None, refl, sym, ap, ap₂, subst, ◌∙◌, arith}
 use Rattle.std.specs.Prelude.{Result, Ok, Err, cond, nat_lt}
-use Rattle.std.specs.List.{cons_option, slice_split, position, position_or_len, AllPairs}
+use Rattle.std.specs.List.{cons_option, slice_split, position, position_or_len}
 use Rattle.std.proofs.lemmas.Bool.{ltb-true, ltb-false}
-use Rattle.std.proofs.lemmas.List.{append_assoc, append-nil, map-append}
+use Rattle.std.proofs.lemmas.List.{append_assoc}
 use Rattle.std.proofs.lemmas.List.Sums.{fails_before_first}
 use Rattle.std.proofs.lemmas.List.Splits.{slice_split_first, slice_split_none}
-use Rattle.lc_part_lines.specs.Line.{ReadLine, line_is, refused, part_in}
+use Rattle.lc_part_lines.specs.Line.{ReadLine, part_in}
 use Rattle.lc_part_lines.specs.Seen.{line_of, read_of}
 use Rattle.lc_part_lines.specs.declared.line.PartLine.{PartLine}
 use Rattle.lc_part_lines.specs.declared.refusal.LineRefusal.{LineRefusal}
@@ -69,12 +68,6 @@ lines_nil n = refl
 
 pub lines_first : (bytes : List ℕ) (xs : List Numbered) → xs ≡ [] → map numbered_of xs ++ lines_after 0 (slice_split ends_line bytes) ≡ lines_in bytes
 lines_first bytes xs e = ap (λ ys. map numbered_of ys ++ lines_after 0 (slice_split ends_line bytes)) e ∙ sym (lines_are bytes)
-
-pub kept_line : (old new : List Numbered) (o : Option Numbered) (x : Numbered) (e : Option meant.Numbered) → o ≡ Some x → option_map numbered_of o ≡ e → new ≡ old ++ x ∷ [] → map numbered_of new ≡ map numbered_of old ++ cons_option e []
-kept_line old new o x e is h made = ap (map numbered_of) made ∙ map-append numbered_of old (x ∷ []) ∙ ap (λ z. map numbered_of old ++ cons_option z []) (sym (ap (option_map numbered_of) is) ∙ h)
-
-pub passed_line : (old new : List Numbered) (o : Option Numbered) (e : Option meant.Numbered) → o ≡ None → option_map numbered_of o ≡ e → new ≡ old → map numbered_of new ≡ map numbered_of old ++ cons_option e []
-passed_line old new o e is h made = ap (map numbered_of) made ∙ sym (append-nil (map numbered_of old)) ∙ ap (λ z. map numbered_of old ++ cons_option z []) (sym (ap (option_map numbered_of) is) ∙ h)
 
 pub lines_more : (bytes rest line after : List ℕ) (old new : List meant.Numbered) (done i : ℕ) → Some i ≡ position ends_line rest → line ≡ take i rest → after ≡ drop (i + 1) rest → new ≡ old ++ cons_option (numbered (done + 1) (part_in line)) []
     → old ++ lines_after done (slice_split ends_line rest) ≡ lines_in bytes → new ++ lines_after (done + 1) (slice_split ends_line after) ≡ lines_in bytes

@@ -1,3 +1,4 @@
 pub mod Lines
 pub mod Joining
 pub mod Seen
+pub mod Truth

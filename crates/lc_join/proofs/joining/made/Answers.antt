@@ -1,5 +1,4 @@
-use Rattle.std.proofs.Common.{◌∙◌, sym, ap, arith}
-use Rattle.lc_parts.specs.Joined.{JoinState}
+use Rattle.std.proofs.Common.{◌∙◌, sym}
 use Rattle.lc_join.proofs.JoinLaws.{first_ranged, first_is_of, first_begun, few_now, lacks, has_text, ranged_now}
 use Rattle.lc_join.proofs.joining.made.Goals as goal
 

@@ -1,4 +1,4 @@
-use Rattle.std.proofs.Common.{◌≡◌, ◌∙◌, refl, sym, ap, length, subst}
+use Rattle.std.proofs.Common.{◌∙◌, refl, sym, ap, length, subst}
 use Rattle.hex.specs.Hex.{IsBytes}
 use Rattle.lc_formats.specs.Checkpoint.{checkpoint_text, IsWritable}
 use Rattle.lc_join.proofs.JoinLaws.{point_is, point_writable}
