@@ -1,0 +1,6 @@
+pub mod Asked
+pub mod Lines
+pub mod Joining
+pub mod JoinSession
+pub mod Seen
+pub mod Truth
