@@ -249,9 +249,12 @@ module _ (budget : ℕ) (xs : List Seen) (x : Seen) (first : JoinState) (some : 
     answered_now b e = ap₂ (λ f n. is_answered f n s.progress) (sym facts_now) (sym budget_now) ∙ e
 
     pub lacks : (a b : ℕ) → is_answered s.facts s.budget s.progress ≡ false → a ≡ s.progress.blocks → IsMissing s.facts s.budget (parts_in (map numbered_of xs)) s.progress b → Lacks budget (map numbered_of xs) a b
-    lacks a b open_still at missing =
-        (joins, answered_now false open_still, sym at,
-        subst (λ f. IsMissing f budget (parts_in (map numbered_of xs)) s.progress b) facts_now (subst (λ n. IsMissing s.facts n (parts_in (map numbered_of xs)) s.progress b) budget_now missing))
+    lacks a b open_still at missing = (
+      joins,
+      answered_now false open_still,
+      sym at,
+      subst (λ f. IsMissing f budget (parts_in (map numbered_of xs)) s.progress b) facts_now (subst (λ n. IsMissing s.facts n (parts_in (map numbered_of xs)) s.progress b) budget_now missing),
+    )
 
     pub has_text : (text : List ℕ) → is_answered s.facts s.budget s.progress ≡ true → text ≡ checkpoint_text (joined_point s.script budget s.progress) → HasText budget (map numbered_of xs) text
     has_text text done e = (joins, answered_now true done, e ∙ ap (λ z. checkpoint_text (joined_point z budget s.progress)) (script ∙ begins.script_is ∙ sym (seen_script head)))

@@ -87,4 +87,3 @@ lines_end bytes rest old new done e made so_far =
     ∙ ap (λ z. old ++ z) (sym (lines_cons done rest []))
     ∙ ap (λ z. old ++ lines_after done z) (sym (newline_none rest e))
     ∙ so_far
-
