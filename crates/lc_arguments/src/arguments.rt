@@ -9,9 +9,9 @@ use crate::numbers::{number_within, yes_or_no};
 use crate::request::{Command, OptionRefusal, Settings};
 use std::alloc::Global;
 
-// The name and the value of an argument: what comes before its first `=`, and what comes after it. None if it has none.
+/// The name and the value of an argument: what comes before its first `=`, and what comes after it. None if it has none.
 #[tactic(auto, using(crate::proofs::TextLaws::split_told))]
-fn parts_of(argument: &str) -> Option<(&str, &str)>
+pub fn parts_of(argument: &str) -> Option<(&str, &str)>
     ensures { MatchOption result ((list_any is_equals argument.now ≡ false) × (name_of argument.now ≡ argument.now))
         (λ x. (list_any is_equals argument.now ≡ true) × (x.0.now ≡ name_of argument.now)
         × (x.1.now ≡ after_first is_equals argument.now)) }

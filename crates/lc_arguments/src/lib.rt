@@ -6,5 +6,6 @@ mod keys;
 mod numbers;
 mod request;
 
-pub use arguments::options;
+pub use arguments::{options, parts_of};
+pub use numbers::number_within;
 pub use request::{Command, OptionRefusal, Settings};

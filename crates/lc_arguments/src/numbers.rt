@@ -49,9 +49,9 @@ fn number_in(text: &[u8]) -> Option<u64>
     Some(n)
 }
 
-// The number that the text writes, if it is in this range.
+/// The number that the text writes in one to twenty digits with no leading zero, save 0 itself, if it is from `low` to `high`.
 #[tactic(auto, using(crate::proofs::NumberLaws::number_within_laws))]
-pub(crate) fn number_within(text: &str, low: u64, high: u64) -> Option<u64>
+pub fn number_within(text: &str, low: u64, high: u64) -> Option<u64>
     ensures is { result ≡ number_within low high text.now }
     ensures range { IfSome result (λ n. (low ≤ n) × (n ≤ high)) }
 {

@@ -1,0 +1,3 @@
+pub mod NeedLaws
+pub mod SessionLaws
+pub mod WordLaws

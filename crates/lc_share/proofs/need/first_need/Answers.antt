@@ -1,0 +1,1 @@
+use Rattle.lc_share.proofs.need.first_need.Goals as goal

@@ -1,0 +1,1 @@
+use Rattle.lc_share.proofs.session.part_text.Goals as goal

@@ -1,0 +1,1 @@
+use Rattle.lc_share.proofs.session.run_part.Goals as goal

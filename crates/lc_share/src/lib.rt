@@ -1,0 +1,12 @@
+//! One search done on many machines: the session that does a part of it and writes its line.
+#![tactic(auto)]
+
+mod arguments;
+mod need;
+mod reading;
+mod session;
+mod status;
+
+pub use reading::{InputRefusal, input};
+pub use session::run_part;
+pub use status::PartStatus;
