@@ -19,9 +19,9 @@ pub(crate) struct PartAsked {
     pub(crate) workers: u32,
 }
 
-// The argument of an index; the empty one if there is none.
+/// The argument of an index, from 0; the empty one if there is none.
 #[tactic(auto, using(crate::proofs::WordLaws::word_laws))]
-fn word(words: &[String], i: usize) -> &str
+pub fn word(words: &[String], i: usize) -> &str
     ensures { result.now ≡ word_at (words_of words.now) i }
 {
     if i < words.len() {
@@ -30,9 +30,9 @@ fn word(words: &[String], i: usize) -> &str
     ""
 }
 
-// The number of key=number, if the argument is that and the number is in this range.
+/// The number of key=number, if the argument is that with this key and the number is in the range from `low` to `high`.
 #[tactic(auto, using(crate::proofs::WordLaws::value_laws))]
-fn value_in(argument: &str, key: &str, low: u64, high: u64) -> Option<u64>
+pub fn value_in(argument: &str, key: &str, low: u64, high: u64) -> Option<u64>
     ensures is { result ≡ value_in key.now low high argument.now }
     ensures range { IfSome result (λ n. (low ≤ n) × (n ≤ high)) }
 {

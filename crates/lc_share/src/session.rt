@@ -11,8 +11,8 @@ ghost use Rattle.lc_share.specs.Found.{IsPartDone};
 ghost use Rattle.lc_share.specs.Seen.{asked_of, ends_of, ending_of};
 
 use crate::arguments::{PartAsked, part_options};
-use crate::reading::{InputRefusal, input};
 use crate::need::first_need;
+use crate::reading::{InputRefusal, input};
 use crate::status::PartStatus;
 use lc_field::NoMemory;
 use lc_io::{Gate, Sink, Source, write_whole};
@@ -56,7 +56,15 @@ fn part_of<R: Threads + Sync, G: Gate + Sync>(
     let Some(code) = first_need(alloc, bytes)? else {
         return Ok(None);
     };
-    find_part(rt, alloc, &code, asked.start, asked.count, asked.workers, gate)
+    find_part(
+        rt,
+        alloc,
+        &code,
+        asked.start,
+        asked.count,
+        asked.workers,
+        gate,
+    )
 }
 
 // The line of the part that is asked for; None if the script has no such part.
