@@ -5,20 +5,18 @@
 --   need_here, need_rows     a statement asks the first need, and its code has rows
 --   none_at_end, none_at_fault      there is none
 --   first_met, none_met, none_read      the same, of the bytes of a script
-use Rattle.std.proofs.Common.{◌≡◌, ℕ, ◌<◌, List, [], ◌∷◌, ◌++◌, length, map, take, inl, inr, refl, sym, subst}
+use Rattle.std.proofs.Common.{◌≡◌, ℕ, ◌<◌, List, [], ◌∷◌, ◌++◌, length, map, take, sym, subst}
 use Rattle.lc_algebra.specs.Matrix.{Matrix}
 use Rattle.lc_enumeration.specs.Search.{Answer}
 use Rattle.lc_grammar.specs.Tree as tree
-use Rattle.lc_grammar.specs.Grammar.{Reads, Fault, IsFault}
-use Rattle.lc_parse.specs.Views.{statement_of, script_of}
-use Rattle.lc_parse.specs.declared.tree.Script.{Script}
+use Rattle.lc_parse.specs.Views.{statement_of}
 use Rattle.lc_eval.specs.Built.{built_calls}
 use Rattle.lc_eval.specs.Machine.{State, Does}
 use Rattle.lc_eval.specs.Evaluated.{kind_of}
 use Rattle.lc_eval.specs.declared.machine.Query.{Query}
 use Rattle.lc_eval.specs.declared.machine.Step.TheVariants as step
 use Rattle.lc_language.specs.Query.{distribution_line, near_line}
-use Rattle.lc_session_rules.specs.Needs.{Needs, IsNeeds, MeetsFirst}
+use Rattle.lc_session_rules.specs.Needs.{Needs}
 use Rattle.lc_session_rules.specs.Statements.{HaveDone}
 use Rattle.lc_session_rules.proofs.AskLaws.{asked_rows}
 use Rattle.lc_session_rules.proofs.StatementLaws.{begun, by_line, by_binding, by_count, by_near, at_fault_asks, at_end_asks, met_with_next}

@@ -3,7 +3,7 @@
 --   printed_so               its text
 --   usage_so, does_so        what a session does, by what its words ask for
 --   unread                   a source that was read gave no more than a script may have and a byte
-use Rattle.std.proofs.Common.{◌≡◌, ℕ, ◌+◌, ◌<◌, ◌≤◌, List, [], ◌∷◌, length, Option, Some, None, Result, Ok, Err, inl, inr, refl, sym, ap, subst, ◌∙◌, arith}
+use Rattle.std.proofs.Common.{◌≡◌, ℕ, ◌+◌, ◌<◌, ◌≤◌, List, [], ◌∷◌, length, Option, Some, None, Result, Ok, Err, inr, ap, subst, ◌∙◌, arith}
 use Rattle.std.specs.Prelude.{IfOk, MatchOption}
 use Rattle.sha2.specs.Sha256.{sha256}
 use Rattle.lc_algebra.specs.Field.{size}
@@ -16,7 +16,7 @@ use Rattle.lc_language.specs.declared.Call.{Call}
 use Rattle.lc_io.specs.Outside.{GaveFront}
 use Rattle.lc_session_rules.specs.Needs.{MeetsFirst}
 use Rattle.lc_session_rules.specs.Session.{most_bytes, WasRead}
-use Rattle.lc_parts.specs.Part.{Facts, part_end, facts_of}
+use Rattle.lc_parts.specs.Part.{Facts, part_end}
 use Rattle.lc_parts.specs.Seen.{part_of, facts_seen}
 use Rattle.lc_part_lines.specs.Line.{part_line}
 use Rattle.lc_part_search.specs.Done.{IsInside, IsDoneFor}

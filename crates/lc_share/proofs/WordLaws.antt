@@ -3,15 +3,15 @@
 --   value_other, value_key, value_is      the number of key=number
 --   one_worker, more_workers     the number of workers
 --   not_part, no_start, no_count, no_workers, too_many, all_there      what the words ask for
-use Rattle.std.proofs.Common.{◌≡◌, ℕ, zero, suc, ◌<◌, ◌≤◌, ◌^◌, ◌&&◌, true, false, not, nat_le, List, [], ◌∷◌, length, map, get_or, codes, Option, Some, None, refl, sym, ap, ◌∙◌, arith}
+use Rattle.std.proofs.Common.{◌≡◌, ℕ, zero, suc, ◌<◌, ◌≤◌, ◌^◌, true, false, nat_le, List, [], ◌∷◌, length, get_or, codes, Some, None, refl, sym, ap, ◌∙◌, arith}
 use Rattle.std.specs.Prelude.{if◌then◌else◌, slice_index_or, String, string_bytes}
-use Rattle.std.specs.List.{list_any, before_first, after_first}
+use Rattle.std.specs.List.{list_any, after_first}
 use Rattle.std.proofs.lemmas.Bool.{le-leb, lt-leb}
 use Rattle.std.proofs.lemmas.List.{get_or-map, length-map}
 use Rattle.lc_formats.specs.Text.{same_bytes}
 use Rattle.lc_session_rules.specs.Options.{number_within}
 use Rattle.lc_arguments.specs.Asked.{words_of, is_equals, name_of}
-use Rattle.lc_share.specs.Asked.{PartOptions, asked, usage, word_at, value_in, workers_in, asked_by, part_options}
+use Rattle.lc_share.specs.Asked.{asked, usage, word_at, value_in, workers_in, asked_by, part_options}
 
 pub word_there : {A : Type 0} (words : List (String A)) (i : ℕ) (d : String A) (text : List ℕ) → i < length words → text ≡ string_bytes (get_or words i d) → text ≡ word_at (words_of words) i
 unfolding word_at

@@ -19,7 +19,7 @@ pub enum InputRefusal {
     NoMemory,
 }
 
-/// The most bytes that are read.
+// The most bytes that are read.
 const MOST_BYTES: usize = 1_048_576;
 
 /// All that the source gives, unless that is more than 1,048,576 bytes, which is as much as a script may have. Fails if a read

@@ -87,13 +87,14 @@ fn part_text<R: Threads + Sync, G: Gate + Sync>(
 }
 
 /// Does a part of the first search of a script, and writes its line: `words` are the arguments of the command line after the
-/// program's name. They are `part`, `from=A`, `count=N`, and then there may be `workers=W`: A at most 2^40, N from 1 to 2^40, W
-/// from 1 to 256, and 1 without it.
+/// program's name. They are `part`, `from=A`, `count=N`, and then there may be `workers=W`: A is at most 2^40, N 1 to 2^40,
+/// and W 1 to 256, and 1 without it.
 ///
-/// It reads a script of at most 1,048,576 bytes from the source, does its statements up to the first that searches, and does the
-/// blocks A to A + N - 1 of the plan of that search. The line tells the least of their words and the word at place 0, and
-/// what joins it to the lines of other parts: the format is that of `lc_part_lines`. Nothing is written unless the whole line is
-/// ready. The contract is `IsPartSession`: what is read and written under each status, and when each of them comes.
+/// It reads a script of at most 1,048,576 bytes from the source, does its statements up to the first that searches, and does
+/// the blocks A to A + N - 1 of the plan of that search. The line tells the least of their words and the word at place 0, and
+/// what joins it to the lines of other parts; `lc_part_lines` reads it. Nothing is written unless the whole line is ready.
+///
+/// The contract is `IsPartSession`: what is read and written under each status, and when each of them comes.
 pub fn run_part<R: Threads + Sync, S: Source, K: Sink, G: Gate + Sync>(
     rt: &R,
     alloc: Global,
@@ -104,7 +105,8 @@ pub fn run_part<R: Threads + Sync, S: Source, K: Sink, G: Gate + Sync>(
 ) -> PartStatus
     ensures session { IsPartSession built_calls (words_of words.now)
         (ends_of (S.rest source.old) (S.faults source.old) (K.written sink.old) (K.faults sink.old))
-        (ends_of (S.rest source.new) (S.faults source.new) (K.written sink.new) (K.faults sink.new)) (ending_of result) }
+        (ends_of (S.rest source.new) (S.faults source.new) (K.written sink.new) (K.faults sink.new))
+        (ending_of result) }
 {
     let asked = match part_options(words) {
         Ok(asked) => asked,

@@ -1,4 +1,4 @@
-use Rattle.std.proofs.Common.{◌≡◌, ◌^◌, true, length, Some, sym, ap, ◌∙◌, arith, rules, codes, string_bytes}
+use Rattle.std.proofs.Common.{◌≡◌, ◌^◌, true, sym, ap, ◌∙◌, arith, rules, codes, string_bytes}
 use Rattle.std.proofs.lemmas.List.{length-map}
 use Rattle.lc_formats.specs.Text.{same_bytes}
 use Rattle.lc_arguments.specs.Asked.{words_of}

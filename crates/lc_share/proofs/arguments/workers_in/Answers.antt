@@ -1,4 +1,4 @@
-use Rattle.std.proofs.Common.{◌≡◌, ◌<◌, ◌≤◌, length, ap, ◌∙◌, arith, codes, string_bytes}
+use Rattle.std.proofs.Common.{ap, ◌∙◌, arith, codes, string_bytes}
 use Rattle.std.proofs.lemmas.List.{length-map}
 use Rattle.lc_arguments.specs.Asked.{words_of}
 use Rattle.lc_share.specs.Asked.{value_in}

@@ -1,4 +1,3 @@
-use Rattle.std.proofs.Common.{inl, sym, ap, ◌∙◌}
 use Rattle.lc_eval.specs.Built.{built_calls}
 use Rattle.lc_share.specs.Seen.{asked_of}
 use Rattle.lc_share.proofs.SessionLaws.{found_so}
