@@ -2,8 +2,7 @@
 --   facts                    what the plan and the bound of a search are made of
 use Rattle.std.specs.Prelude.{⊤}
 use Rattle.lc_parts.specs.Part.{facts_of}
-use Rattle.lc_parts.specs.Seen.{facts_seen}
 
 unfoldable pub facts : ⊤
-unfolding facts_of facts_seen
+unfolding facts_of
 facts = tt

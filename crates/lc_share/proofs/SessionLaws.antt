@@ -37,7 +37,7 @@ end_at : (start count all a b : ℕ) → a ≡ start → b ≡ count → start +
 end_at start count all a b e f l = omega (arith, e, f, l)
 
 pub printed_so : (table : List Call) (bytes : List ℕ) (a : PartAsked) (d : Done) (text : List ℕ) → IsPartDone table bytes a d → text ≡ line (part_line (record { script = sha256 bytes; facts = facts_seen d.facts; part = part_of d.part })) → IsPartText table bytes a text
-unfolding part_of part_end
+unfolding part_end
 printed_so table bytes a d text h e = record {
   code = h.code;
   met = h.met;
