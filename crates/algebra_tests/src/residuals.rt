@@ -9,7 +9,9 @@ use test_rows::{Rows, has_rows};
 
 // The residual code at a word. Refused as `residual`, and with LengthsDiffer too if the word is not in the code.
 fn residual_at(alloc: Global, code: &Code, word: &[u8]) -> Result<Code, CodeRefusal> {
-    let mut rest = vec![in alloc; 0u8; code.length()]?;
+    let Ok(mut rest) = vec![in alloc; 0u8; code.length()] else {
+        return Err(CodeRefusal::NoMemory);
+    };
     if word.len() != code.length() || !fits(code.field(), word) || !code.contains(word, &mut rest) {
         return Err(CodeRefusal::LengthsDiffer);
     }
