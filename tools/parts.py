@@ -19,7 +19,7 @@ import filters
 import plan
 import reference
 import search
-from checkpoints import is_digest, once, sealed, whole
+from checkpoints import Doubtful, is_digest, once, sealed, whole
 from linear_algebra import Field
 
 DONE, USAGE, MISSING, NO_RANGE, DISAGREE = 0, 2, 14, 15, 16
@@ -83,7 +83,7 @@ def line_of(script, start, count):
 
 
 def read(line):
-    """What a line says, or None."""
+    """What a line says, or None. Readers of JSON differ on a key that comes twice: that is Doubtful."""
     if line[64:65] != " " or hashlib.sha256(line[65:].encode()).hexdigest() != line[:64]:
         return None
     try:
@@ -143,7 +143,10 @@ def main():
         print(line) if line else print("codes: no such part", file=sys.stderr)
         return DONE if line else NO_RANGE
     if command == ["join"] and (asked := settings_of(words, {"budget"})) is not None:
-        status, text, error = joined(filters.read_input().decode().splitlines(), asked.get("budget", reference.BUDGET))
+        try:
+            status, text, error = joined(filters.read_input().decode().splitlines(), asked.get("budget", reference.BUDGET))
+        except Doubtful:
+            status, text, error = NO_RANGE, "", "codes: a line has a key twice"
         sys.stdout.write(text)
         print(error, file=sys.stderr, end="\n" if error else "")
         return status
