@@ -365,13 +365,13 @@ parts_say_why() {
         tools/cluster/part "$folder" "$(cat "$folder/missing.txt")" && tools/cluster/join "$folder" && "$program" run <"$folder/script.codes" 2>/dev/null | cmp - "$folder/text"
 }
 
-in_parts() { CODES=$program examples/in_parts.sh | cmp - examples/in_parts.out; }
+in_parts() { CODES=$program tools/cluster/example | cmp - examples/in_parts.out; }
 
 check_sessions() {
     check 'two jobs of tools/cluster/job beside each other' jobs_give_texts
     check 'tools/cluster/job says why it ends' jobs_say_why
     check 'tools/cluster/part and join say why they end, and which ranges are missing' parts_say_why
-    check 'examples/in_parts.sh' in_parts
+    check 'tools/cluster/example' in_parts
     check 'a search in 200 random ranges, by jobs that are killed, and joined' python3 -B tests/parts.py "$program"
     check 'sessions that are killed, stopped, cut in slices and resumed' python3 -B tests/sessions.py "$program"
     check 'streams and folders that fail, and scripts at the limits of the language' python3 -B tests/hostile.py "$program"

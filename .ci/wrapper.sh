@@ -218,9 +218,9 @@ mistakes() {
 # what is written below the line of the rules
 reasons() {
     local follow='after run come workers=N, round=N, budget=N, keep=yes and slice=N, or none of them' blocks='budget is a number from 0 to 1099511627776'
-    refused 0 'a command is missing: run, resume, check or summary; see ./codes --help' &&
-        refused 0 'a command is run, resume, check or summary; see ./codes --help' nonsense &&
-        refused 0 'a command is run, resume, check or summary; see ./codes --help' --unproved nonsense &&
+    refused 0 'a command is missing: run, resume, check, summary, part or join; see ./codes --help' &&
+        refused 0 'a command is run, resume, check, summary, part or join; see ./codes --help' nonsense &&
+        refused 0 'a command is run, resume, check, summary, part or join; see ./codes --help' --unproved nonsense &&
         refused 0 'the command is written run' Run &&
         refused 0 'a command comes first: ./codes run workers=2 < FILE' workers=2 &&
         refused 0 'run reads a script from standard input: ./codes run < my.codes' my.codes &&
