@@ -296,6 +296,24 @@ check budget=1
 check round=1
 summary
 summary seed=1 keep=yes
+part
+part from=0
+part from=0 count=1
+part from=0 count=0
+part count=1 from=0
+part from=0 from=0
+part from=0 count=1 workers=256
+part from=0 count=1 workers=257
+part from=0 count=1 workers=1 workers=1
+part from=00 count=1
+part from=1099511627777 count=1
+part from=1099511627776 count=1099511627776
+part from=0 count=1 budget=1
+join
+join budget=0
+join budget=1 budget=1
+join budget=x
+join workers=1
 summary seed=18446744073709551616
 summary seed=18446744073709551615 seed=1
 summary budget=1 workers=2
