@@ -64,6 +64,7 @@ def failures(program):
         if why := differs(code, done):
             yield f"{code}: {why}"
     yield from on_records(program)
+    yield from on_ranges()
     golay = planned("C := BinaryGolayCode();\nDimension(C); Certificate(C); WeightDistribution(C); MinimumDistance( C );")
     titles = [line for line in golay.stdout.splitlines() if line.startswith("query")]
     if titles != ["query 0: Certificate(C)", "query 1: MinimumDistance( C )"]:
@@ -72,11 +73,26 @@ def failures(program):
         yield "a budget that may be too small isn't told"
     for script, words, error, status in [
         ("MinimumDistance(Nothing());", [], "fault 44 at 16\n", 1), ("Weight([1]);", [], "plan.py: no statement of the script searches\n", 0),
-        ("", ["rate=0"], "usage: tools/plan.py [budget=N] [weight=W] [rate=N] [records=FILE] < SCRIPT\n", 2),
+        ("", ["rate=0"], "usage: tools/plan.py [budget=N] [weight=W] [rate=N] [records=FILE] [ranges=SECONDS] < SCRIPT\n", 2),
     ]:
         done = planned(script, *words)
         if (done.stdout, done.stderr, done.returncode) != ("", error, status):
             yield f"{script} {words}: {done}"
+
+
+def on_ranges():
+    """The ranges of a search are its blocks, one after the other, within its phases; of a script without a search there is none."""
+    script = "Dimension(HammingCode(3,GF(2)));MinimumDistance(BCHCode(63,7,GF(2)));"
+    ends = sorted(phases(planned(script).stdout)[0])
+    for words, most, longest in (([], ends[-1], 100), (["budget=700"], 700, 100)):
+        lines = planned(script, "ranges=2", "rate=204800", *words).stdout.splitlines()
+        ranges = [tuple(map(int, re.fullmatch(r"from=(\d+) count=(\d+)", line).groups())) for line in lines]
+        starts, stops = [start for start, _ in ranges], [start + count for start, count in ranges]
+        crossed = [end for end in ends for start, count in ranges if start < end < start + count]
+        if starts != [0] + stops[:-1] or stops[-1] != most or crossed or max(count for _, count in ranges) > longest:
+            yield f"ranges {words}: {lines}"
+    if (found := planned("Weight([1]);", "ranges=1")).stdout:
+        yield f"ranges of no search: {found}"
 
 
 def on_records(program):
