@@ -374,8 +374,8 @@ cluster_recipes() {
     (cd "$copy" && PATH=$room/cluster:$PATH && { block 1 && block 2; } | sh -e >"$room/texts" && [ "$(wc -l <folders.txt)" -eq 4 ] &&
         [ "$(cut -d ' ' -f 1,2 "$room/texts" | sort | tr '\n' ' ')" = 'distance 21 distance 27 distance 31 distance 7 ' ] &&
         cat jobs/*/text | cmp - "$room/texts" && rm jobs/*/text && block 3 | sh -e && cat jobs/*/text | cmp - "$room/texts" &&
-        block 4 | sh -e >"$room/text" && "$program" run <shared/script.codes 2>/dev/null | cmp - "$room/text" &&
-        rm -r shared/parts shared/text && block 5 | sh -e && CODES=$PWD/codes tools/cluster/join shared && cmp shared/text "$room/text")
+        block 4 | sh -e >"$room/joined" && "$program" run <shared/script.codes 2>/dev/null | cmp - "$room/joined" &&
+        rm -r shared/parts shared/text && block 5 | sh -e && CODES=$PWD/codes tools/cluster/join shared && cmp shared/text "$room/joined")
 }
 
 # what goes before the command: no record lines, all of them, and a word that is refused
