@@ -1,14 +1,14 @@
 #!/usr/bin/env python3
 """One search done in parts by many jobs, and joined.
 
-    tests/parts.py PROGRAM
+    tests/parts.py PROGRAM [JOINS]
 
 The search of a script is cut into 200 random ranges within its phases, and some more that overlap them, begin at a place that no range
 ends at, or lie after the answer. Jobs do them in random order, with 1 to 4 workers; a third of the jobs is killed at a random moment
 and started again. Their lines, mixed up, some twice, some torn, are joined, and what goes on from there must print the text of one
 session, for every field and under budgets that end in a bracket. Of a list from which lines are taken away the first blocks that are
-missing are named. Lines and joins are compared with those of tools/parts.py, for altered lines too. Prints what fails, and ends with 1
-if something does.
+missing are named. Lines and joins are compared with those of tools/parts.py, JOINS (300) of altered lines too. Prints what fails, and ends with 1 if
+something does.
 """
 import hashlib
 import random
@@ -126,12 +126,12 @@ def as_written(program):
                 yield f"{script} from={start} count={count}: {got}, not {wanted}"
 
 
-def altered(program):
-    """Joins of altered lines beside those of tools/parts.py."""
+def altered(program, joins):
+    """So many joins of altered lines beside those of tools/parts.py."""
     chance = random.Random(20261130)
     script = SMALL[0]
     tiles = [parts.line_of(script, start, count) for start, count in ((0, 1), (1, 1), (2, 1), (3, 2), (3, 1), (4, 1))]
-    for _ in range(300):
+    for _ in range(joins):
         lines = chance.choices(tiles, k=chance.randint(1, 8))
         for _ in range(chance.randint(0, 2)):
             at = chance.randrange(len(lines))
@@ -175,10 +175,10 @@ def refusals(program):
 
 
 def main():
-    program = str(Path(sys.argv[1]).resolve())
+    program, joins = str(Path(sys.argv[1]).resolve()), int(sys.argv[2]) if len(sys.argv) > 2 else 300
     began, found = time.monotonic(), []
     found += as_written(program)
-    found += altered(program)
+    found += altered(program, joins)
     found += refusals(program)
     found += shared(program, LONG, None, 200, 1)
     for seed, script in enumerate(SMALL, 2):
@@ -186,7 +186,7 @@ def main():
     for budget in (1, 2, 4, 1500):
         found += shared(program, LONG, budget, 30, 100000 * budget)
     print("\n".join(found))
-    print(f"{len(found)} failures, {time.monotonic() - began:.0f} s", file=sys.stderr)
+    print(f"{joins} altered joins, {len(found)} failures, {time.monotonic() - began:.0f} s", file=sys.stderr)
     sys.exit(1 if found else 0)
 
 

@@ -1,17 +1,19 @@
 #!/usr/bin/env python3
 """Searches of codes over each field at lengths around the borders of the kernel's words of 64 columns.
 
-    tools/kernel_codes.py PROGRAM
+    tools/kernel_codes.py PROGRAM [MORE]
 
 Pseudo-random codes over each of the ten fields, of lengths 1 to 255 around 64, 128 and 192, with budgets that end inside a
-phase, and codes with many words of least weight. The distance, the word, which is the first of least weight, and the blocks
+phase, and codes with many words of least weight; and MORE codes, none without the word, of random fields, lengths and dimensions,
+most of them of such lengths. The distance, the word, which is the first of least weight, and the blocks
 must be those of the reference program, which lists the messages one after another. Prints each code on which they differ,
 and ends with 1 if there is one.
 """
 import random
 import subprocess
 import sys
-from concurrent.futures import ThreadPoolExecutor
+from concurrent.futures import ProcessPoolExecutor
+from functools import partial
 
 from reference import Session, text_and_status
 
@@ -49,6 +51,17 @@ def searches():
                 yield f"MinimumDistance(GeneratorMatCode({matrix(rng, q, n, k, weight)},GF({q})));", budget
 
 
+def more(count):
+    """So many scripts of random fields, lengths and dimensions, with budgets."""
+    rng = random.Random(3)
+    for _ in range(count):
+        q = rng.choice(list(DIMENSIONS))
+        n = min(255, max(1, rng.choice((64, 128, 192, 255)) + rng.randint(-3, 12))) if rng.randrange(4) else rng.randint(1, 255)
+        k = rng.randint(1, min(n, DIMENSIONS[q]))
+        weight = rng.choice((None, None, 3, n // 4 + 1, n // 2 + 1))
+        yield f"MinimumDistance(GeneratorMatCode({matrix(rng, q, n, k, weight)},GF({q})));", rng.choice((1, 2, 3, 5, 1 << 20, 1 << 20))
+
+
 def compared(program, script, budget):
     """What differs, if anything."""
     done = subprocess.run([program, "run", f"budget={budget}", "workers=2"], input=script.encode(), capture_output=True, timeout=300)
@@ -59,9 +72,9 @@ def compared(program, script, budget):
 
 
 def main():
-    program, made = sys.argv[1], list(searches())
-    with ThreadPoolExecutor(LANES) as lanes:
-        differ = [said for said in lanes.map(lambda row: compared(program, *row), made) if said]
+    program, made = sys.argv[1], list(searches()) + list(more(int(sys.argv[2]) if len(sys.argv) > 2 else 0))
+    with ProcessPoolExecutor(LANES) as lanes:
+        differ = [said for said in lanes.map(partial(compared, program), *zip(*made), chunksize=8) if said]
     print("\n".join(differ[:20] + [f"{len(made)} searches, {len(differ)} differ"]))
     sys.exit(1 if differ else 0)
 
