@@ -23,8 +23,8 @@ fn changed(alloc: Global, code: &Code, change: Change) -> Result<Code, CodeRefus
     match change {
         Change::Extended => extended(alloc, code),
         Change::Even => even_weight(alloc, code),
-        Change::Punctured(places) => punctured(alloc, code, places),
-        Change::Shortened(places) => shortened(alloc, code, places),
+        Change::Punctured(coordinates) => punctured(alloc, code, coordinates),
+        Change::Shortened(coordinates) => shortened(alloc, code, coordinates),
     }
 }
 

@@ -15,7 +15,7 @@ static WORDS: [Row; 4] = [
     (16, 15, [15, 12, 8, 5], 5),
 ];
 
-// Whether weights and first nonzero places of such words are so.
+// Whether weights and first nonzero coordinates of such words are so.
 fn has_weights(top: u8) -> bool {
     weight(&[1, 2, top, top]) == 4
         && weight(&[0, 1, 2, top]) == 3

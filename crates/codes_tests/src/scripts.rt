@@ -3,16 +3,16 @@ use lc_parse::{ParseRefusal, Script, Token, TokenKind, parse, tokens};
 use std::alloc::Global;
 use std::test::Fail;
 
-// The number and the place of the fault of a script, or 0 and 0 if it has none. None if memory runs out.
+// The number and the offset of the fault of a script, or 0 and 0 if it has none. None if memory runs out.
 fn fault_of(alloc: Global, bytes: &[u8]) -> Option<(u8, usize)> {
     match parse(alloc, bytes) {
         Ok(_) => Some((0, 0)),
-        Err(ParseRefusal::Fault { number, place }) => Some((number, place)),
+        Err(ParseRefusal::Fault { number, offset }) => Some((number, offset)),
         Err(ParseRefusal::NoMemory) => None,
     }
 }
 
-// Texts, and the numbers and places of their faults.
+// Texts, and the numbers and offsets of their faults.
 static FAULTS: [(&str, u8, usize); 27] = [
     ("", 0, 0),
     ("MinimumDistance(HammingCode(3,GF(2))", 41, 36),
@@ -48,7 +48,7 @@ static FAULTS: [(&str, u8, usize); 27] = [
 ];
 
 #[test]
-fn faults_stand_at_the_first_place(rt: HostRuntime) {
+fn faults_stand_at_the_first_offset(rt: HostRuntime) {
     for row in &FAULTS {
         let fault = fault_of(rt.alloc(), row.0.as_bytes());
         assert!(rt; fault == Some((row.1, row.2)), "{}", row.0);
@@ -58,7 +58,7 @@ fn faults_stand_at_the_first_place(rt: HostRuntime) {
     assert!(rt; lone == Some((40, 0)) && commented == Some((0, 0)));
 }
 
-// A token's kind, the place of its first byte, and the place after its last.
+// A token's kind, the offset of its first byte, and the offset after its last.
 type Row = (TokenKind, usize, usize);
 
 // The tokens of `C := f(3,[x_1]); # end`.
@@ -124,12 +124,12 @@ const SPANS: &str = "\
     82-83 83-84 85-95 95-96 96-97 97-98 98-99 99-100 100-101 ";
 
 const TREE: &str = "\
-    Script { statements: [Statement { target: Some(\"C\"), expr: Expr { place: 5, node: Call(\"HammingCode\", [Expr { place: 17, node: Number(3) }, Expr { place: 19, node: Call(\"GF\", [Expr { place: 22, node: Number(2) }]) }]) } }, \
-    Statement { target: None, expr: Expr { place: 27, node: Name(\"C\") } }, \
-    Statement { target: None, expr: Expr { place: 30, node: Call(\"MinimumDistance\", [Expr { place: 46, node: Name(\"C\") }]) } }, \
-    Statement { target: Some(\"y\"), expr: Expr { place: 55, node: List([Expr { place: 56, node: Number(1) }, Expr { place: 58, node: Number(1) }, Expr { place: 60, node: Number(0) }, Expr { place: 62, node: Number(0) }, Expr { place: 64, node: Number(0) }, Expr { place: 66, node: Number(1) }, Expr { place: 68, node: Number(1) }]) } }, \
-    Statement { target: None, expr: Expr { place: 72, node: Call(\"Decode\", [Expr { place: 79, node: Name(\"C\") }, Expr { place: 81, node: Name(\"y\") }]) } }, \
-    Statement { target: None, expr: Expr { place: 85, node: Call(\"IsCodeword\", [Expr { place: 96, node: Name(\"C\") }, Expr { place: 98, node: Name(\"y\") }]) } }] }";
+    Script { statements: [Statement { target: Some(\"C\"), expr: Expr { offset: 5, node: Call(\"HammingCode\", [Expr { offset: 17, node: Number(3) }, Expr { offset: 19, node: Call(\"GF\", [Expr { offset: 22, node: Number(2) }]) }]) } }, \
+    Statement { target: None, expr: Expr { offset: 27, node: Name(\"C\") } }, \
+    Statement { target: None, expr: Expr { offset: 30, node: Call(\"MinimumDistance\", [Expr { offset: 46, node: Name(\"C\") }]) } }, \
+    Statement { target: Some(\"y\"), expr: Expr { offset: 55, node: List([Expr { offset: 56, node: Number(1) }, Expr { offset: 58, node: Number(1) }, Expr { offset: 60, node: Number(0) }, Expr { offset: 62, node: Number(0) }, Expr { offset: 64, node: Number(0) }, Expr { offset: 66, node: Number(1) }, Expr { offset: 68, node: Number(1) }]) } }, \
+    Statement { target: None, expr: Expr { offset: 72, node: Call(\"Decode\", [Expr { offset: 79, node: Name(\"C\") }, Expr { offset: 81, node: Name(\"y\") }]) } }, \
+    Statement { target: None, expr: Expr { offset: 85, node: Call(\"IsCodeword\", [Expr { offset: 96, node: Name(\"C\") }, Expr { offset: 98, node: Name(\"y\") }]) } }] }";
 
 // The spans of the tokens, a space after each.
 fn spans_of(alloc: Global, found: &[Token]) -> Result<String, Fail> {
@@ -193,12 +193,12 @@ fn next(seed: u64) -> u64 {
 }
 
 // Whether the bytes are a script. None if memory runs out, or if they are refused with another number than those of parsing, or at
-// no place of theirs.
+// no offset of theirs.
 fn is_script(alloc: Global, bytes: &[u8]) -> Option<bool> {
     match parse(alloc, bytes) {
         Ok(_) => Some(true),
-        Err(ParseRefusal::Fault { number, place }) => {
-            if number < 40 || 43 < number || bytes.len() < place {
+        Err(ParseRefusal::Fault { number, offset }) => {
+            if number < 40 || 43 < number || bytes.len() < offset {
                 return None;
             }
             Some(false)

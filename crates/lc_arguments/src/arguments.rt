@@ -148,11 +148,11 @@ fn settings_in(command: Command, arguments: &[String]) -> Result<Settings, usize
 }
 
 // What the arguments of the command line ask for, or the index of the one that is refused.
-fn settings_by(words: &[String]) -> Result<Settings, usize>
-    ensures { MatchResult result (λ a. (options all_options (words_of words.now) ≡ settings (settings_for a))
-        × IsWithin a) (λ i. options all_options (words_of words.now) ≡ usage i) }
+fn settings_by(arguments: &[String]) -> Result<Settings, usize>
+    ensures { MatchResult result (λ a. (options all_options (words_of arguments.now) ≡ settings (settings_for a))
+        × IsWithin a) (λ i. options all_options (words_of arguments.now) ≡ usage i) }
 {
-    let Some((first, others)) = words.split_first() else {
+    let Some((first, others)) = arguments.split_first() else {
         return Err(0);
     };
     match command_in(first.as_str()) {
@@ -168,11 +168,11 @@ fn settings_by(words: &[String]) -> Result<Settings, usize>
 ///
 /// Refused with the index of the first argument that is wrong, or that would have to be there. It takes no memory, so it is
 /// never refused for want of it.
-pub fn options(_alloc: Global, words: &[String]) -> Result<Settings, OptionRefusal>
-    ensures { MatchResult result (λ a. (options all_options (words_of words.now) ≡ settings (settings_for a))
-        × IsWithin a) (λ r. Refuses r (options all_options (words_of words.now))) }
+pub fn options(_alloc: Global, arguments: &[String]) -> Result<Settings, OptionRefusal>
+    ensures { MatchResult result (λ a. (options all_options (words_of arguments.now) ≡ settings (settings_for a))
+        × IsWithin a) (λ r. Refuses r (options all_options (words_of arguments.now))) }
 {
-    match settings_by(words) {
+    match settings_by(arguments) {
         Ok(settings) => Ok(settings),
         Err(index) => Err(OptionRefusal::Usage(index)),
     }

@@ -6,7 +6,7 @@
 --   product_parts          each word of a direct product is such a sum, with words of the second code
 --   block m p w            part p of w, in parts of m symbols
 --   weight_blocks          the weight of a word by its parts
---   nonzero_place          a nonzero symbol
+--   nonzero_coordinate     a nonzero symbol
 --   product_bound          the product of the bounds of the two codes
 --   product_independent, product_dimension      the products of independent rows are independent
 use Rattle.std.proofs.Common.{◌≡◌, ℕ, zero, suc, ◌+◌, ◌*◌, ◌/◌, ◌%◌, ◌<◌, ◌≤◌, List, [], ◌∷◌, ◌++◌, map, flat_map, length, take, drop, slice_index, All, refl, sym, ap, ap₂, subst, ◌∙◌, ⊎_elim, arith, mod-lt, mul-le-mul_right, suc-mul}
@@ -161,12 +161,12 @@ weight_blocks m e (a ∷ x) w l h =
     (λ z. omega (arith, t, s, h 0 (omega arith) (omega (arith, z)), ap (λ c. c * e) (weight_other_head a x (omega (arith, z))), suc-mul (weight x) e))
     (cases_eq a 0)
 
-nonzero_place : (w : List ℕ) → 0 < weight w → (i : ℕ) × (i < length w) × (0 < slice_index w i)
-nonzero_place [] l = let z : weight [] ≡ 0 = refl in absurd (omega (arith, l, z))
-nonzero_place (a ∷ w) l =
+nonzero_coordinate : (w : List ℕ) → 0 < weight w → (i : ℕ) × (i < length w) × (0 < slice_index w i)
+nonzero_coordinate [] l = let z : weight [] ≡ 0 = refl in absurd (omega (arith, l, z))
+nonzero_coordinate (a ∷ w) l =
     ⊎_elim
     (λ z.
-    let t = nonzero_place w (omega (arith, l, ap (λ c. weight (c ∷ w)) z, weight_zero_head w)) in
+    let t = nonzero_coordinate w (omega (arith, l, ap (λ c. weight (c ∷ w)) z, weight_zero_head w)) in
     (suc t.0, omega (arith, t.1), t.2))
     (λ z. (0, omega arith, omega (arith, z)))
     (cases_eq a 0)
@@ -190,7 +190,7 @@ product_bound C D E k d e x r s c y z =
     let (vs, long, words, each, same) = product_parts f n m gs D.rows w r t ((product_members C D w x r s).1 inside) in
     let whole : length w ≡ n * m = ap (λ u. length u) same ∙ (tensors_word f n m gs vs r words).long in
     let symbol : (p q : ℕ) → q < m → slice_index w (p * m + q) ≡ word_dot f (column gs p) (column vs q) = λ p q b. ap (λ u. slice_index u (p * m + q)) same ∙ index_tensors f n m gs vs p q r words b in
-    let (i, inner, nonzero) = nonzero_place w l in
+    let (i, inner, nonzero) = nonzero_coordinate w l in
     let q = i % m in
     let below : q < m = mod-lt i (positive n m i (omega (arith, inner, whole))) in
     let at : i ≡ i / m * m + q = omega (arith, mod-add-div i m, mul_comm m (i / m)) in

@@ -17,26 +17,33 @@ use std::alloc::Global;
 ///
 /// Refused: the coordinates aren't strictly rising, one of them is the length or more, or they are all coordinates, BadPositions.
 #[tactic(auto, using(lc_constructions::proofs::RefusalLaws::refused_or_not))]
-pub fn punctured(alloc: Global, code: &Code, places: &[u64]) -> Result<Code, CodeRefusal>
+pub fn punctured(alloc: Global, code: &Code, coordinates: &[u64]) -> Result<Code, CodeRefusal>
     ensures code { IfOk result
-        (λ c. IsCode code.now.field (code.now.columns - length places.now) (InPunctured code.now places.now) c) }
-    ensures refused { IsRefusedAs result (first_refusal (deleted_refusals code.now places.now)) }
-    ensures first { RefusesFirst result (first_refusal (deleted_refusals code.now places.now)) }
+        (λ c. IsCode code.now.field (code.now.columns - length coordinates.now)
+        (InPunctured code.now coordinates.now) c) }
+    ensures refused { IsRefusedAs result (first_refusal (deleted_refusals code.now coordinates.now)) }
+    ensures first { RefusesFirst result (first_refusal (deleted_refusals code.now coordinates.now)) }
 {
-    check_deleted(code, places)?;
-    Ok(punctured_words(alloc, code, places)?)
+    check_deleted(code, coordinates)?;
+    Ok(punctured_words(alloc, code, coordinates)?)
 }
 
 #[tactic(auto, using(crate::proofs::DeletedLaws::punctured_words))]
-fn punctured_words(alloc: Global, code: &Code, places: &[u64]) -> Result<Code, NoMemory>
-    requires fine { first_refusal (deleted_refusals code.now places.now) ≡ None }
-    requires count { length places.now < code.now.columns }
+fn punctured_words(alloc: Global, code: &Code, coordinates: &[u64]) -> Result<Code, NoMemory>
+    requires fine { first_refusal (deleted_refusals code.now coordinates.now) ≡ None }
+    requires count { length coordinates.now < code.now.columns }
     ensures code { IfOk result
-        (λ c. IsCode code.now.field (code.now.columns - length places.now) (InPunctured code.now places.now) c) }
+        (λ c. IsCode code.now.field (code.now.columns - length coordinates.now)
+        (InPunctured code.now coordinates.now) c) }
 {
     let _matrix = code.matrix();
-    let rows = punctured_rows(alloc, code, places)?;
-    Ok(Code::from_rows(alloc, code.field(), code.length() - places.len(), &rows)?)
+    let rows = punctured_rows(alloc, code, coordinates)?;
+    Ok(Code::from_rows(
+        alloc,
+        code.field(),
+        code.length() - coordinates.len(),
+        &rows,
+    )?)
 }
 
 /// The shortened code: the words of the code that are 0 at the coordinates in the list, without these coordinates
@@ -44,61 +51,68 @@ fn punctured_words(alloc: Global, code: &Code, places: &[u64]) -> Result<Code, N
 ///
 /// Refused: the coordinates aren't strictly rising, one of them is the length or more, or they are all coordinates, BadPositions.
 #[tactic(auto, using(lc_constructions::proofs::RefusalLaws::refused_or_not))]
-pub fn shortened(alloc: Global, code: &Code, places: &[u64]) -> Result<Code, CodeRefusal>
+pub fn shortened(alloc: Global, code: &Code, coordinates: &[u64]) -> Result<Code, CodeRefusal>
     ensures code { IfOk result
-        (λ c. IsCode code.now.field (code.now.columns - length places.now) (InShortened code.now places.now) c) }
-    ensures refused { IsRefusedAs result (first_refusal (deleted_refusals code.now places.now)) }
-    ensures first { RefusesFirst result (first_refusal (deleted_refusals code.now places.now)) }
+        (λ c. IsCode code.now.field (code.now.columns - length coordinates.now)
+        (InShortened code.now coordinates.now) c) }
+    ensures refused { IsRefusedAs result (first_refusal (deleted_refusals code.now coordinates.now)) }
+    ensures first { RefusesFirst result (first_refusal (deleted_refusals code.now coordinates.now)) }
 {
-    check_deleted(code, places)?;
-    Ok(shortened_words(alloc, code, places)?)
+    check_deleted(code, coordinates)?;
+    Ok(shortened_words(alloc, code, coordinates)?)
 }
 
 // The dual of the punctured dual.
 #[tactic(auto, using(crate::proofs::DeletedLaws::shortened_words))]
-fn shortened_words(alloc: Global, code: &Code, places: &[u64]) -> Result<Code, NoMemory>
-    requires fine { first_refusal (deleted_refusals code.now places.now) ≡ None }
-    requires count { length places.now < code.now.columns }
+fn shortened_words(alloc: Global, code: &Code, coordinates: &[u64]) -> Result<Code, NoMemory>
+    requires fine { first_refusal (deleted_refusals code.now coordinates.now) ≡ None }
+    requires count { length coordinates.now < code.now.columns }
     ensures code { IfOk result
-        (λ c. IsCode code.now.field (code.now.columns - length places.now) (InShortened code.now places.now) c) }
+        (λ c. IsCode code.now.field (code.now.columns - length coordinates.now)
+        (InShortened code.now coordinates.now) c) }
 {
     let _matrix = code.matrix();
     let dual = code.dual(alloc)?;
-    let checks = punctured_rows(alloc, &dual, places)?;
-    Ok(Code::from_checks(alloc, code.field(), code.length() - places.len(), &checks)?)
+    let checks = punctured_rows(alloc, &dual, coordinates)?;
+    Ok(Code::from_checks(
+        alloc,
+        code.field(),
+        code.length() - coordinates.len(),
+        &checks,
+    )?)
 }
 
 // Each row, without these coordinates.
-fn punctured_rows(alloc: Global, code: &Code, places: &[u64]) -> Result<Vec<Word>, NoMemory>
-    ensures are { IfOk result (λ rows. rows.items ≡ punctured_rows places.now code.now.rows) }
+fn punctured_rows(alloc: Global, code: &Code, coordinates: &[u64]) -> Result<Vec<Word>, NoMemory>
+    ensures are { IfOk result (λ rows. rows.items ≡ punctured_rows coordinates.now code.now.rows) }
 {
     let mut rows = Vec::with_capacity(alloc, code.dimension())?;
     for i in 0..code.dimension() {
-        rows.push(without(alloc, code.row(i), places)?)?;
+        rows.push(without(alloc, code.row(i), coordinates)?)?;
     }
     Ok(rows)
 }
 
 // The word without these coordinates.
 #[tactic(auto, using(crate::proofs::DeletedLaws::nothing_kept))]
-fn without(alloc: Global, word: &[u8], places: &[u64]) -> Result<Word, NoMemory>
-    ensures is { IfOk result (λ w. w ≡ without places.now word.now) }
+fn without(alloc: Global, word: &[u8], coordinates: &[u64]) -> Result<Word, NoMemory>
+    ensures is { IfOk result (λ w. w ≡ without coordinates.now word.now) }
 {
     let mut symbols = Vec::with_capacity(alloc, word.len())?;
     for i in 0..word.len() {
-        keep(word, places, i, &mut symbols)?;
+        keep(word, coordinates, i, &mut symbols)?;
     }
     Ok(Word::from_vec(symbols))
 }
 
 // Takes symbol i, if it isn't at one of these coordinates.
 #[tactic(auto, using(crate::proofs::DeletedLaws::keep_laws))]
-fn keep(word: &[u8], places: &[u64], i: usize, symbols: &mut Vec<u8>) -> Result<(), NoMemory>
+fn keep(word: &[u8], coordinates: &[u64], i: usize, symbols: &mut Vec<u8>) -> Result<(), NoMemory>
     requires inside { i < length word.now }
-    requires state { symbols.old.items ≡ without places.now (take i word.now) }
-    ensures state { IfOk result (λ _. symbols.new.items ≡ without places.now (take (i + 1) word.now)) }
+    requires state { symbols.old.items ≡ without coordinates.now (take i word.now) }
+    ensures state { IfOk result (λ _. symbols.new.items ≡ without coordinates.now (take (i + 1) word.now)) }
 {
-    if places.contains(&(i as u64)) {
+    if coordinates.contains(&(i as u64)) {
         return Ok(());
     }
     symbols.push(word[i])?;

@@ -81,39 +81,40 @@ pub(crate) fn check_intersection(a: &Code, b: &Code) -> Result<(), CodeRefusal>
 
 // Checks the coordinates to be deleted from the words of a code.
 #[tactic(auto, using(crate::proofs::RefusalLaws::check_deleted_laws))]
-pub(crate) fn check_deleted(code: &Code, places: &[u64]) -> Result<(), CodeRefusal>
-    ensures is { IsChecked result (first_refusal (deleted_refusals code.now places.now)) }
-    ensures count { IfOk result (λ _. length places.now < code.now.columns) }
+pub(crate) fn check_deleted(code: &Code, coordinates: &[u64]) -> Result<(), CodeRefusal>
+    ensures is { IsChecked result (first_refusal (deleted_refusals code.now coordinates.now)) }
+    ensures count { IfOk result (λ _. length coordinates.now < code.now.columns) }
 {
-    if are_bad(places, code.length()) {
+    if are_bad(coordinates, code.length()) {
         return Err(CodeRefusal::BadPositions);
     }
     Ok(())
 }
 
 // Whether the coordinates don't rise, one is n or more, or there are n of them.
-fn are_bad(places: &[u64], n: usize) -> bool
-    ensures is { result ≡ (not (is_rising places.now) || (list_any (nat_le n) places.now || (length places.now == n))) }
+fn are_bad(coordinates: &[u64], n: usize) -> bool
+    ensures is { result
+        ≡ (not (is_rising coordinates.now) || (list_any (nat_le n) coordinates.now || (length coordinates.now == n))) }
 {
-    let rising = is_rising(places);
-    let outside = leave(places, n);
-    !rising || (outside || places.len() == n)
+    let rising = is_rising(coordinates);
+    let outside = leave(coordinates, n);
+    !rising || (outside || coordinates.len() == n)
 }
 
 // Whether a coordinate is n or more.
-fn leave(places: &[u64], n: usize) -> bool
-    ensures is { result ≡ list_any (nat_le n) places.now }
+fn leave(coordinates: &[u64], n: usize) -> bool
+    ensures is { result ≡ list_any (nat_le n) coordinates.now }
 {
-    places.iter().any(|p| n as u64 <= *p)
+    coordinates.iter().any(|p| n as u64 <= *p)
 }
 
 /// Whether each number is below the next one.
 #[tactic(auto, using(lc_constructions::proofs::RisingLaws::is_rising_laws))]
-pub fn is_rising(places: &[u64]) -> bool
-    ensures is { result ≡ is_rising places.now }
+pub fn is_rising(coordinates: &[u64]) -> bool
+    ensures is { result ≡ is_rising coordinates.now }
 {
-    for i in 1..places.len() {
-        if places[i] <= places[i - 1] {
+    for i in 1..coordinates.len() {
+        if coordinates[i] <= coordinates[i - 1] {
             return false;
         }
     }

@@ -22,8 +22,8 @@ pub(crate) fn check_erased(code: &Code, erased: &[u64]) -> Result<(), CodeRefusa
 }
 
 // Whether a coordinate is n or more.
-fn leave(places: &[u64], n: usize) -> bool
-    ensures is { result ≡ list_any (nat_le n) places.now }
+fn leave(coordinates: &[u64], n: usize) -> bool
+    ensures is { result ≡ list_any (nat_le n) coordinates.now }
 {
-    places.iter().any(|p| n as u64 <= *p)
+    coordinates.iter().any(|p| n as u64 <= *p)
 }

@@ -28,58 +28,58 @@ use Rattle.lc_eval.specs.Applied.{Answers}
 use Rattle.lc_eval.specs.Made.{IsMade, IsMadeAs, plain_value}
 
 abbrev pub Applying : ℕ → BoundCall → Option Refusal → Outcome → Type 0
-Applying place b r o =
+Applying offset b r o =
     MatchOption r
-    ((IsNotDivisor b × (o ≡ refuse_at 4 place)) ⊎ (¬ IsNotDivisor b × ((v : language.Value) × Gives b v × (o ≡ gives v))))
-    (λ r. o ≡ refuse_call place r)
+    ((IsNotDivisor b × (o ≡ refuse_at 4 offset)) ⊎ (¬ IsNotDivisor b × ((v : language.Value) × Gives b v × (o ≡ gives v))))
+    (λ r. o ≡ refuse_call offset r)
 
-pub applying : (place : ℕ) (b : BoundCall) (r : Option Refusal) (result : Result Value Stop) → refusal_of b ≡ r → Answers result (Applying place b r) → Answers result (AppliesTo place b)
-applying place b r result e h = subst (λ t. Answers result (Applying place b t)) (sym e) h
+pub applying : (offset : ℕ) (b : BoundCall) (r : Option Refusal) (result : Result Value Stop) → refusal_of b ≡ r → Answers result (Applying offset b r) → Answers result (AppliesTo offset b)
+applying offset b r result e h = subst (λ t. Answers result (Applying offset b t)) (sym e) h
 
-pub given : (v : language.Value) (place : ℕ) (r : Refusal) → gives v ≡ refuse_call place r → ⊥
+pub given : (v : language.Value) (offset : ℕ) (r : Refusal) → gives v ≡ refuse_call offset r → ⊥
 unfolding refuse_call
-given v place r e = cc
+given v offset r e = cc
 
 -- a call that is never refused
-pub always : (place : ℕ) (b : BoundCall) (result : Result Value Stop) (v : language.Value) → refusal_of b ≡ None → ¬ IsNotDivisor b → Gives b v → Answers result (λ o. o ≡ gives v) → Answers result (AppliesTo place b)
-always place b (Ok x) v e n g h = applying place b None (Ok x) e (inr (n, (v, g, h)))
-always place b (Err (stop.Refused r)) v e n g h = absurd (let t : refused (refused_of r) ≡ gives v = h in cc)
-always place b (Err stop.NoMemory) v e n g h = tt
+pub always : (offset : ℕ) (b : BoundCall) (result : Result Value Stop) (v : language.Value) → refusal_of b ≡ None → ¬ IsNotDivisor b → Gives b v → Answers result (λ o. o ≡ gives v) → Answers result (AppliesTo offset b)
+always offset b (Ok x) v e n g h = applying offset b None (Ok x) e (inr (n, (v, g, h)))
+always offset b (Err (stop.Refused r)) v e n g h = absurd (let t : refused (refused_of r) ≡ gives v = h in cc)
+always offset b (Err stop.NoMemory) v e n g h = tt
 
-pub given_by : (place : ℕ) (b : BoundCall) (v : language.Value) → refusal_of b ≡ None → ¬ IsNotDivisor b → Gives b v → AppliesTo place b (gives v)
-given_by place b v e n g = let h : Applying place b None (gives v) = inr (n, (v, g, refl)) in subst (λ t. Applying place b t (gives v)) (sym e) h
+pub given_by : (offset : ℕ) (b : BoundCall) (v : language.Value) → refusal_of b ≡ None → ¬ IsNotDivisor b → Gives b v → AppliesTo offset b (gives v)
+given_by offset b v e n g = let h : Applying offset b None (gives v) = inr (n, (v, g, refl)) in subst (λ t. Applying offset b t (gives v)) (sym e) h
 
-pub refused_by : (place : ℕ) (b : BoundCall) (e : CodeRefusal) (s : Stop) → refusal_of b ≡ Some (refusal_from e) → IsMade (Err e) place (Err s) → Answers (Err s) (AppliesTo place b)
-refused_by place b e (stop.Refused r) h m = applying place b (Some (refusal_from e)) (Err (stop.Refused r)) h m.1
-refused_by place b e stop.NoMemory h m = tt
+pub refused_by : (offset : ℕ) (b : BoundCall) (e : CodeRefusal) (s : Stop) → refusal_of b ≡ Some (refusal_from e) → IsMade (Err e) offset (Err s) → Answers (Err s) (AppliesTo offset b)
+refused_by offset b e (stop.Refused r) h m = applying offset b (Some (refusal_from e)) (Err (stop.Refused r)) h m.1
+refused_by offset b e stop.NoMemory h m = tt
 
 pub first_as : (b : BoundCall) (rs : List (Option CodeRefusal)) (r : Option CodeRefusal) → refusals_of b ≡ from_codes rs → first_refusal rs ≡ r → refusal_of b ≡ option_map refusal_from r
 unfolding refusal_of
 first_as b rs r e h = ap first_of e ∙ first_from_codes rs ∙ ap (option_map refusal_from) h
 
-pub applied_as : {T : Type 0} (place : ℕ) (b : BoundCall) (first : Option CodeRefusal) (value : T → language.Value) (made : Result T CodeRefusal) (result : Result Value Stop)
+pub applied_as : {T : Type 0} (offset : ℕ) (b : BoundCall) (first : Option CodeRefusal) (value : T → language.Value) (made : Result T CodeRefusal) (result : Result Value Stop)
     → refusal_of b ≡ option_map refusal_from first → ¬ IsNotDivisor b
     → ((x : T) → made ≡ Ok x → first ≡ None → Gives b (value x))
-    → IsRefusedAs made first → IsMadeAs value made place result → Answers result (AppliesTo place b)
-applied_as place b first value (Ok x) result e n g h s = always place b result (value x) (e ∙ ap (option_map refusal_from) h) n (g x refl h) s
-applied_as place b first value (Err x) (Ok v) e n g h s = absurd (given (value_of v) place (refusal_from x) s.1)
-applied_as place b first value (Err x) (Err (stop.Refused r)) e n g h s = applying place b (Some (refusal_from x)) (Err (stop.Refused r)) (e ∙ ap (option_map refusal_from) (h s.0)) s.1
-applied_as place b first value (Err x) (Err stop.NoMemory) e n g h s = tt
+    → IsRefusedAs made first → IsMadeAs value made offset result → Answers result (AppliesTo offset b)
+applied_as offset b first value (Ok x) result e n g h s = always offset b result (value x) (e ∙ ap (option_map refusal_from) h) n (g x refl h) s
+applied_as offset b first value (Err x) (Ok v) e n g h s = absurd (given (value_of v) offset (refusal_from x) s.1)
+applied_as offset b first value (Err x) (Err (stop.Refused r)) e n g h s = applying offset b (Some (refusal_from x)) (Err (stop.Refused r)) (e ∙ ap (option_map refusal_from) (h s.0)) s.1
+applied_as offset b first value (Err x) (Err stop.NoMemory) e n g h s = tt
 
-pub applied : {T : Type 0} (place : ℕ) (b : BoundCall) (rs : List (Option CodeRefusal)) (value : T → language.Value) (made : Result T CodeRefusal) (result : Result Value Stop)
+pub applied : {T : Type 0} (offset : ℕ) (b : BoundCall) (rs : List (Option CodeRefusal)) (value : T → language.Value) (made : Result T CodeRefusal) (result : Result Value Stop)
     → refusals_of b ≡ from_codes rs → ¬ IsNotDivisor b
     → ((x : T) → made ≡ Ok x → first_refusal rs ≡ None → Gives b (value x))
-    → IsRefusedAs made (first_refusal rs) → IsMadeAs value made place result → Answers result (AppliesTo place b)
-applied place b rs value made result e n g h s = applied_as place b (first_refusal rs) value made result (first_as b rs (first_refusal rs) e refl) n g h s
+    → IsRefusedAs made (first_refusal rs) → IsMadeAs value made offset result → Answers result (AppliesTo offset b)
+applied offset b rs value made result e n g h s = applied_as offset b (first_refusal rs) value made result (first_as b rs (first_refusal rs) e refl) n g h s
 
-pub made_applies : (place : ℕ) (b : BoundCall) (rs : List (Option CodeRefusal)) (f : FieldName) (n : ℕ) (P : List ℕ → Type 0) (made : Result Matrix CodeRefusal) (result : Result Value Stop)
+pub made_applies : (offset : ℕ) (b : BoundCall) (rs : List (Option CodeRefusal)) (f : FieldName) (n : ℕ) (P : List ℕ → Type 0) (made : Result Matrix CodeRefusal) (result : Result Value Stop)
     → refusals_of b ≡ from_codes rs → ¬ IsNotDivisor b → ((v : language.Value) → Made f n P v → Gives b v)
-    → IfOk made (λ C. IsCode f n P C) → IsRefusedAs made (first_refusal rs) → IsMade made place result → Answers result (AppliesTo place b)
-made_applies place b rs f n P made result e fine g c h s =
-    applied place b rs plain_value made result e fine
+    → IfOk made (λ C. IsCode f n P C) → IsRefusedAs made (first_refusal rs) → IsMade made offset result → Answers result (AppliesTo offset b)
+made_applies offset b rs f n P made result e fine g c h s =
+    applied offset b rs plain_value made result e fine
     (λ C m o. let is : IsCode f n P C = rw m at c in g (code C None) (record { code_is = (C, is, refl) }))
     h s
 
-pub never_refused : (place : ℕ) (b : BoundCall) (v : language.Value) → refusals_of b ≡ [] → ¬ IsNotDivisor b → Gives b v → AppliesTo place b (gives v)
+pub never_refused : (offset : ℕ) (b : BoundCall) (v : language.Value) → refusals_of b ≡ [] → ¬ IsNotDivisor b → Gives b v → AppliesTo offset b (gives v)
 unfolding refusal_of first_of
-never_refused place b v e n g = given_by place b v (ap first_of e) n g
+never_refused offset b v e n g = given_by offset b v (ap first_of e) n g

@@ -64,16 +64,16 @@ gf_fine : (q : ℕ) (f : FieldName) → size f ≡ q → refusal_of (gf q) ≡ N
 unfolding refusal_of refusals_of first_of when
 gf_fine q f e = rw (← e) (rw (listed f) refl)
 
-pub gf_field : (place q : ℕ) (f : FieldName) → size f ≡ q → AppliesTo place (gf q) (gives (field f))
-gf_field place q f s = given_by place (gf q) (field f) (gf_fine q f s) (λ n. n) (f, s, refl)
+pub gf_field : (offset q : ℕ) (f : FieldName) → size f ≡ q → AppliesTo offset (gf q) (gives (field f))
+gf_field offset q f s = given_by offset (gf q) (field f) (gf_fine q f s) (λ n. n) (f, s, refl)
 
 gf_none : (q : ℕ) → ((f : FieldName) → size f ≢ q) → refusal_of (gf q) ≡ Some (refuse 1 [])
 unfolding refusal_of refusals_of first_of when
 gf_none q h = rw (unlisted q all_fields h) refl
 
-pub gf_refused : (place q : ℕ) (r : Refused) → ((f : FieldName) → size f ≢ q) → refused (refused_of r) ≡ refuse_at 1 place → AppliesTo place (gf q) (refused (refused_of r))
+pub gf_refused : (offset q : ℕ) (r : Refused) → ((f : FieldName) → size f ≢ q) → refused (refused_of r) ≡ refuse_at 1 offset → AppliesTo offset (gf q) (refused (refused_of r))
 unfolding refuse_call refuse refuse_at
-gf_refused place q r h e = rw (gf_none q h) e
+gf_refused offset q r h e = rw (gf_none q h) e
 
 -- ---- codes by a matrix
 
@@ -92,29 +92,29 @@ same_rows f rows words made w h =
       same = λ o. c ∙ fine_same f given (clamped_refusals f given ∙ o);
     }
 
-matrix_applies : (place : ℕ) (b : BoundCall) (f : FieldName) (P : List (List ℕ) → ℕ → List ℕ → Type 0) (rows : List (Vec ℕ Global)) (words : List (List ℕ)) (made : Result Matrix CodeRefusal) (result : Result Value Stop)
+matrix_applies : (offset : ℕ) (b : BoundCall) (f : FieldName) (P : List (List ℕ) → ℕ → List ℕ → Type 0) (rows : List (Vec ℕ Global)) (words : List (List ℕ)) (made : Result Matrix CodeRefusal) (result : Result Value Stop)
     → refusals_of b ≡ from_codes (matrix_refusals f (rows_of rows)) → ¬ IsNotDivisor b
     → ((C : Matrix) → IsCode f (columns_of (rows_of rows)) (P (rows_of rows) (columns_of (rows_of rows))) C → Gives b (code C None))
     → words ≡ map (λ row. clamped row.items) rows
     → IfOk made (λ C. IsCode f (columns_of words) (P words (columns_of words)) C)
-    → IsRefusedAs made (first_refusal (matrix_refusals f words)) → IsMade made place result → Answers result (AppliesTo place b)
-matrix_applies place b f P rows words made result e fine g w c h s =
+    → IsRefusedAs made (first_refusal (matrix_refusals f words)) → IsMade made offset result → Answers result (AppliesTo offset b)
+matrix_applies offset b f P rows words made result e fine g w c h s =
     let t = same_rows f rows words made w h in
-    applied place b (matrix_refusals f (rows_of rows)) plain_value made result e fine
+    applied offset b (matrix_refusals f (rows_of rows)) plain_value made result e fine
     (λ C m o.
     let x : IsCode f (columns_of words) (P words (columns_of words)) C = rw m at c in
     let y : IsCode f (columns_of (rows_of rows)) (P words (columns_of (rows_of rows))) C = subst (λ n. IsCode f n (P words n) C) t.long x in
     g C (subst (λ u. IsCode f (columns_of (rows_of rows)) (P u (columns_of (rows_of rows))) C) (t.same o) y))
     t.refused s
 
-pub generator_applies : (place : ℕ) (rows : List (Vec ℕ Global)) (f : FieldName) (words : List (List ℕ)) (made : Result Matrix CodeRefusal) (result : Result Value Stop)
+pub generator_applies : (offset : ℕ) (rows : List (Vec ℕ Global)) (f : FieldName) (words : List (List ℕ)) (made : Result Matrix CodeRefusal) (result : Result Value Stop)
     → words ≡ map (λ row. clamped row.items) rows → IfOk made (λ C. IsCode f (columns_of words) (GeneratedBy f (columns_of words) words) C)
-    → IsRefusedAs made (first_refusal (matrix_refusals f words)) → IsMade made place result → Answers result (AppliesTo place (generator_mat_code (rows_of rows) f))
+    → IsRefusedAs made (first_refusal (matrix_refusals f words)) → IsMade made offset result → Answers result (AppliesTo offset (generator_mat_code (rows_of rows) f))
 unfolding refusals_of
-generator_applies place rows f words made result w c h s = matrix_applies place (generator_mat_code (rows_of rows) f) f (λ u n. GeneratedBy f n u) rows words made result refl (λ n. n) (λ C is. record { code_is = (C, is, refl) }) w c h s
+generator_applies offset rows f words made result w c h s = matrix_applies offset (generator_mat_code (rows_of rows) f) f (λ u n. GeneratedBy f n u) rows words made result refl (λ n. n) (λ C is. record { code_is = (C, is, refl) }) w c h s
 
-pub check_applies : (place : ℕ) (rows : List (Vec ℕ Global)) (f : FieldName) (words : List (List ℕ)) (made : Result Matrix CodeRefusal) (result : Result Value Stop)
+pub check_applies : (offset : ℕ) (rows : List (Vec ℕ Global)) (f : FieldName) (words : List (List ℕ)) (made : Result Matrix CodeRefusal) (result : Result Value Stop)
     → words ≡ map (λ row. clamped row.items) rows → IfOk made (λ C. IsCode f (columns_of words) (CheckedBy f words) C)
-    → IsRefusedAs made (first_refusal (matrix_refusals f words)) → IsMade made place result → Answers result (AppliesTo place (check_mat_code (rows_of rows) f))
+    → IsRefusedAs made (first_refusal (matrix_refusals f words)) → IsMade made offset result → Answers result (AppliesTo offset (check_mat_code (rows_of rows) f))
 unfolding refusals_of
-check_applies place rows f words made result w c h s = matrix_applies place (check_mat_code (rows_of rows) f) f (λ u n. CheckedBy f u) rows words made result refl (λ n. n) (λ C is. record { code_is = (C, is, refl) }) w c h s
+check_applies offset rows f words made result w c h s = matrix_applies offset (check_mat_code (rows_of rows) f) f (λ u n. CheckedBy f u) rows words made result refl (λ n. n) (λ C is. record { code_is = (C, is, refl) }) w c h s

@@ -58,13 +58,13 @@ circulant_kept f x n h =
     let d = none_here (are_elements f x) (BadArgument 1) _ c.1 in
     elements_kept f x (symbol_size f a.0) d.0
 
-pub circulant_applies : (place : ℕ) (x : List ℕ) (n : ℕ) (f : FieldName) (u : List ℕ) (made : Result Matrix CodeRefusal) (result : Result Value Stop)
+pub circulant_applies : (offset : ℕ) (x : List ℕ) (n : ℕ) (f : FieldName) (u : List ℕ) (made : Result Matrix CodeRefusal) (result : Result Value Stop)
     → u ≡ clamped x → IfOk made (λ C. IsCode f n (GeneratedBy f n (circulant n u)) C)
-    → IsRefusedAs made (first_refusal (circulant_refusals f u n)) → IsMade made place result → Answers result (AppliesTo place (circulant_code x n f))
+    → IsRefusedAs made (first_refusal (circulant_refusals f u n)) → IsMade made offset result → Answers result (AppliesTo offset (circulant_code x n f))
 unfolding refusals_of
-circulant_applies place x n f u made result a c h s =
+circulant_applies offset x n f u made result a c h s =
     let refused : IsRefusedAs made (first_refusal (circulant_refusals f x n)) = subst (IsRefusedAs made) (ap (λ (p : List ℕ). first_refusal (circulant_refusals f p n)) a ∙ circulant_same f x n) h in
-    applied place (circulant_code x n f) (circulant_refusals f x n) plain_value made result refl (λ n. n)
+    applied offset (circulant_code x n f) (circulant_refusals f x n) plain_value made result refl (λ n. n)
     (λ C m o.
     let is : IsCode f n (GeneratedBy f n (circulant n u)) C = rw m at c in
     record { code_is = (C, subst (λ (p : List ℕ). IsCode f n (GeneratedBy f n (circulant n p)) C) (a ∙ circulant_kept f x n o) is, refl) })
@@ -96,15 +96,15 @@ quasi_kept f xs n h =
     let l = symbol_size f a.0 in
     rows_kept f xs l (entries_same f xs l ∙ d.0)
 
-pub quasi_applies : (place : ℕ) (xs : List (Vec ℕ Global)) (n : ℕ) (f : FieldName) (words : List (List ℕ)) (made : Result Matrix CodeRefusal) (result : Result Value Stop)
+pub quasi_applies : (offset : ℕ) (xs : List (Vec ℕ Global)) (n : ℕ) (f : FieldName) (words : List (List ℕ)) (made : Result Matrix CodeRefusal) (result : Result Value Stop)
     → words ≡ map (λ row. clamped row.items) xs → IfOk made (λ C. IsCode f (length words * n) (GeneratedBy f (length words * n) (circulants n words)) C)
-    → IsRefusedAs made (first_refusal (quasi_cyclic_refusals f words n)) → IsMade made place result → Answers result (AppliesTo place (quasi_cyclic_code (rows_of xs) n f))
+    → IsRefusedAs made (first_refusal (quasi_cyclic_refusals f words n)) → IsMade made offset result → Answers result (AppliesTo offset (quasi_cyclic_code (rows_of xs) n f))
 unfolding refusals_of
-quasi_applies place xs n f words made result w c h s =
+quasi_applies offset xs n f words made result w c h s =
     let given : List (List ℕ) = rows_of xs in
     let a : words ≡ clamped_rows given = w ∙ clamped_each xs in
     let refused : IsRefusedAs made (first_refusal (quasi_cyclic_refusals f given n)) = subst (IsRefusedAs made) (ap (λ (p : List (List ℕ)). first_refusal (quasi_cyclic_refusals f p n)) a ∙ quasi_same f given n) h in
-    applied place (quasi_cyclic_code given n f) (quasi_cyclic_refusals f given n) plain_value made result refl (λ n. n)
+    applied offset (quasi_cyclic_code given n f) (quasi_cyclic_refusals f given n) plain_value made result refl (λ n. n)
     (λ C m o.
     let is : IsCode f (length words * n) (GeneratedBy f (length words * n) (circulants n words)) C = rw m at c in
     record { code_is = (C, subst (λ (p : List (List ℕ)). IsCode f (length p * n) (GeneratedBy f (length p * n) (circulants n p)) C) (a ∙ quasi_kept f given n o) is, refl) })
@@ -112,25 +112,25 @@ quasi_applies place xs n f words made result w c h s =
 
 -- ---- construction X
 
-pub x_made : (place : ℕ) (C D E X : Matrix) (v : Value_) → IsCode C.field (C.columns + E.columns) (InConstructionX C D E) X → first_of (construction_x_refusals C D E) ≡ None → v ≡ code X None → AppliesTo place (construction_x_code C D E) (gives v)
+pub x_made : (offset : ℕ) (C D E X : Matrix) (v : Value_) → IsCode C.field (C.columns + E.columns) (InConstructionX C D E) X → first_of (construction_x_refusals C D E) ≡ None → v ≡ code X None → AppliesTo offset (construction_x_code C D E) (gives v)
 unfolding refusal_of refusals_of
-x_made place C D E X v is fine e = given_by place (construction_x_code C D E) v fine (λ n. n) (record { code_is = (X, is, e) })
+x_made offset C D E X v is fine e = given_by offset (construction_x_code C D E) v fine (λ n. n) (record { code_is = (X, is, e) })
 
-pub x_outside : (place : ℕ) (C D E : Matrix) (r : Refused) (made : Result Matrix ExtensionRefusal) → made ≡ Err NotASubcode
-    → IsRefusedWith made (first_of (construction_x_refusals C D E)) → refused (refused_of r) ≡ refuse_at 51 place → AppliesTo place (construction_x_code C D E) (refused (refused_of r))
+pub x_outside : (offset : ℕ) (C D E : Matrix) (r : Refused) (made : Result Matrix ExtensionRefusal) → made ≡ Err NotASubcode
+    → IsRefusedWith made (first_of (construction_x_refusals C D E)) → refused (refused_of r) ≡ refuse_at 51 offset → AppliesTo offset (construction_x_code C D E) (refused (refused_of r))
 unfolding refusal_of refusals_of told refuse refuse_at refuse_call
-x_outside place C D E r made m h e =
+x_outside offset C D E r made m h e =
     let answer : Result Matrix ExtensionRefusal = Err NotASubcode in
     let outside : IsRefusedWith answer (first_of (construction_x_refusals C D E)) = rw m at h in
-    applying place (construction_x_code C D E) (Some (refuse 51 [])) (Err (stop.Refused r)) (outside (λ t. cc t)) e
+    applying offset (construction_x_code C D E) (Some (refuse 51 [])) (Err (stop.Refused r)) (outside (λ t. cc t)) e
 
-pub x_refused : (place : ℕ) (C D E : Matrix) (e : CodeRefusal) (s : Stop) (made : Result Matrix ExtensionRefusal) → made ≡ Err (Codes e)
-    → IsRefusedWith made (first_of (construction_x_refusals C D E)) → IsMade (Err e) place (Err s) → Answers (Err s) (AppliesTo place (construction_x_code C D E))
+pub x_refused : (offset : ℕ) (C D E : Matrix) (e : CodeRefusal) (s : Stop) (made : Result Matrix ExtensionRefusal) → made ≡ Err (Codes e)
+    → IsRefusedWith made (first_of (construction_x_refusals C D E)) → IsMade (Err e) offset (Err s) → Answers (Err s) (AppliesTo offset (construction_x_code C D E))
 unfolding refusal_of refusals_of told
-x_refused place C D E e (stop.Refused r) made m h k =
+x_refused offset C D E e (stop.Refused r) made m h k =
     let answer : Result Matrix ExtensionRefusal = Err (Codes e) in
     let failed : IsRefusedWith answer (first_of (construction_x_refusals C D E)) = rw m at h in
-    refused_by place (construction_x_code C D E) e (stop.Refused r) (failed (λ t. k.0 (cc t))) k
-x_refused place C D E e stop.NoMemory made m h k = tt
+    refused_by offset (construction_x_code C D E) e (stop.Refused r) (failed (λ t. k.0 (cc t))) k
+x_refused offset C D E e stop.NoMemory made m h k = tt
 
 pub ruleset construction_x_laws = (x_outside, x_refused)

@@ -135,47 +135,47 @@ record IsCyclicCall (b : BoundCall) (F : Bool → Option CodeRefusal) (D : Type 
   split : Before F ⊎ Last F
   divides : F true ≡ None → IsNotDivisor b ↔ ¬ D
 
-cyclic_given : (place : ℕ) (b : BoundCall) (F : Bool → Option CodeRefusal) (D : Type 0) (C : Matrix) (result : Result Value Stop) → IsCyclicCall b F D → Refused {T = Matrix} (Ok C) F D → (F true ≡ None → Gives b (code C None)) → Answers result (λ o. o ≡ gives (code C None)) → Answers result (AppliesTo place b)
+cyclic_given : (offset : ℕ) (b : BoundCall) (F : Bool → Option CodeRefusal) (D : Type 0) (C : Matrix) (result : Result Value Stop) → IsCyclicCall b F D → Refused {T = Matrix} (Ok C) F D → (F true ≡ None → Gives b (code C None)) → Answers result (λ o. o ≡ gives (code C None)) → Answers result (AppliesTo offset b)
 unfolding first_refusal refuse_if
-cyclic_given place b F D C result s h g k =
+cyclic_given offset b F D C result s h g k =
     let last : Last F = ⊎_elim (λ (x : Before F). absurd (either_way {T = Matrix} (Ok C) F D h (λ d y. none-some x.0 (sym y ∙ x.1 d)))) (λ (l : Last F). l) s.split in
     let fine : F true ≡ None = last true in
     let divides : IsNotDivisor b → ⊥ = λ m. let no = (s.divides fine).0 m in none-some NotADivisor (sym (h false ((λ t. absurd (true≢false (sym t))), (λ y. absurd (no y)))) ∙ last false) in
-    always place b result (code C None) (s.first ∙ ap (option_map refusal_from) fine) divides (g fine) k
+    always offset b result (code C None) (s.first ∙ ap (option_map refusal_from) fine) divides (g fine) k
 
-applies_as : (place : ℕ) (b : BoundCall) (r : Option Refusal) (o : Outcome) → refusal_of b ≡ r → Applying place b r o → AppliesTo place b o
-applies_as place b r o e h = subst (λ t. Applying place b t o) (sym e) h
+applies_as : (offset : ℕ) (b : BoundCall) (r : Option Refusal) (o : Outcome) → refusal_of b ≡ r → Applying offset b r o → AppliesTo offset b o
+applies_as offset b r o e h = subst (λ t. Applying offset b t o) (sym e) h
 
 some_same : (x y : CodeRefusal) → Some x ≡ Some y → x ≡ y
 some_same x y e = cc e
 
-refused_before : (place : ℕ) (b : BoundCall) (F : Bool → Option CodeRefusal) (D : Type 0) (x e : CodeRefusal) (o : Outcome) → IsCyclicCall b F D → ((d : Bool) → F d ≡ Some e) → Refused {T = Matrix} (Err x) F D → x ≢ NoMemory → o ≡ refuse_call place (refusal_from x) → AppliesTo place b o
-refused_before place b F D x e o s t h m k =
+refused_before : (offset : ℕ) (b : BoundCall) (F : Bool → Option CodeRefusal) (D : Type 0) (x e : CodeRefusal) (o : Outcome) → IsCyclicCall b F D → ((d : Bool) → F d ≡ Some e) → Refused {T = Matrix} (Err x) F D → x ≢ NoMemory → o ≡ refuse_call offset (refusal_from x) → AppliesTo offset b o
+refused_before offset b F D x e o s t h m k =
     let same : refusal_from x ≡ refusal_from e = same_refusal (refusal_from x) (refusal_from e) (λ q. either_way {T = Matrix} (Err x) F D h (λ d y. q (ap refusal_from (some_same x e (sym (y m) ∙ t d))))) in
-    applies_as place b (Some (refusal_from e)) o (s.first ∙ ap (option_map refusal_from) (t true)) (k ∙ ap (refuse_call place) same)
+    applies_as offset b (Some (refusal_from e)) o (s.first ∙ ap (option_map refusal_from) (t true)) (k ∙ ap (refuse_call offset) same)
 
-last_number : (place : ℕ) → refuse_call place (refusal_from NotADivisor) ≡ refuse_at 4 place
+last_number : (offset : ℕ) → refuse_call offset (refusal_from NotADivisor) ≡ refuse_at 4 offset
 unfolding refuse_call refusal_from refuse refusal_number refusal_values refuse_at
-last_number place = refl
+last_number offset = refl
 
-refused_last : (place : ℕ) (b : BoundCall) (F : Bool → Option CodeRefusal) (D : Type 0) (x : CodeRefusal) (o : Outcome) → IsCyclicCall b F D → Last F → Refused {T = Matrix} (Err x) F D → x ≢ NoMemory → o ≡ refuse_call place (refusal_from x) → AppliesTo place b o
+refused_last : (offset : ℕ) (b : BoundCall) (F : Bool → Option CodeRefusal) (D : Type 0) (x : CodeRefusal) (o : Outcome) → IsCyclicCall b F D → Last F → Refused {T = Matrix} (Err x) F D → x ≢ NoMemory → o ≡ refuse_call offset (refusal_from x) → AppliesTo offset b o
 unfolding first_refusal refuse_if
-refused_last place b F D x o s last h m k =
+refused_last offset b F D x o s last h m k =
     let fine : F true ≡ None = last true in
     let no : D → ⊥ = λ y. none-some x (sym fine ∙ h true ((λ t. y), (λ z. refl)) m) in
     let refused : F false ≡ Some x = h false ((λ t. absurd (true≢false (sym t))), (λ y. absurd (no y))) m in
     let same : x ≡ NotADivisor = some_same x NotADivisor (sym refused ∙ last false) in
-    let told : o ≡ refuse_at 4 place = k ∙ ap (λ y. refuse_call place (refusal_from y)) same ∙ last_number place in
-    applies_as place b None o (s.first ∙ ap (option_map refusal_from) fine) (inl ((s.divides fine).1 no, told))
+    let told : o ≡ refuse_at 4 offset = k ∙ ap (λ y. refuse_call offset (refusal_from y)) same ∙ last_number offset in
+    applies_as offset b None o (s.first ∙ ap (option_map refusal_from) fine) (inl ((s.divides fine).1 no, told))
 
-cyclic_answers : (place : ℕ) (b : BoundCall) (F : Bool → Option CodeRefusal) (D : Type 0) (made : Result Matrix CodeRefusal) (result : Result Value Stop) → IsCyclicCall b F D → Refused made F D → ((C : Matrix) → made ≡ Ok C → F true ≡ None → Gives b (code C None)) → IsMade made place result → Answers result (AppliesTo place b)
-cyclic_answers place b F D (Ok C) result s h g k = cyclic_given place b F D C result s h (g C refl) k
-cyclic_answers place b F D (Err x) (Ok v) s h g k = absurd (given (value_of v) place (refusal_from x) k.1)
-cyclic_answers place b F D (Err x) (Err stop.NoMemory) s h g k = tt
-cyclic_answers place b F D (Err x) (Err (stop.Refused r)) s h g k =
+cyclic_answers : (offset : ℕ) (b : BoundCall) (F : Bool → Option CodeRefusal) (D : Type 0) (made : Result Matrix CodeRefusal) (result : Result Value Stop) → IsCyclicCall b F D → Refused made F D → ((C : Matrix) → made ≡ Ok C → F true ≡ None → Gives b (code C None)) → IsMade made offset result → Answers result (AppliesTo offset b)
+cyclic_answers offset b F D (Ok C) result s h g k = cyclic_given offset b F D C result s h (g C refl) k
+cyclic_answers offset b F D (Err x) (Ok v) s h g k = absurd (given (value_of v) offset (refusal_from x) k.1)
+cyclic_answers offset b F D (Err x) (Err stop.NoMemory) s h g k = tt
+cyclic_answers offset b F D (Err x) (Err (stop.Refused r)) s h g k =
     ⊎_elim
-    (λ (e : Before F). refused_before place b F D x e.0 (refused (refused_of r)) s e.1 h k.0 k.1)
-    (λ (l : Last F). refused_last place b F D x (refused (refused_of r)) s l h k.0 k.1)
+    (λ (e : Before F). refused_before offset b F D x e.0 (refused (refused_of r)) s e.1 h k.0 k.1)
+    (λ (l : Last F). refused_last offset b F D x (refused (refused_of r)) s l h k.0 k.1)
     s.split
 
 divides_same : (f : FieldName) (x : List ℕ) (n : ℕ) → clamped x ≡ x → (¬ Divides f (trimmed x) (x_power_minus_one f n)) ↔ (¬ Divides f (trimmed (clamped x)) (x_power_minus_one f n))
@@ -188,13 +188,13 @@ is_cyclic_call b x n f e d = record {
   divides = λ h. let same = divides_same f x n (cyclic_fine_same f x n true h) in ((λ y. same.0 (d.0 y)), (λ y. d.1 (same.1 y)));
 }
 
-cyclic_applies : (place : ℕ) (b : BoundCall) (x w : List ℕ) (n : ℕ) (f : FieldName) (P : List ℕ → List ℕ → Type 0) (made : Result Matrix CodeRefusal) (result : Result Value Stop)
+cyclic_applies : (offset : ℕ) (b : BoundCall) (x w : List ℕ) (n : ℕ) (f : FieldName) (P : List ℕ → List ℕ → Type 0) (made : Result Matrix CodeRefusal) (result : Result Value Stop)
     → refusals_of b ≡ from_codes (cyclic_refusals f x n true) → (IsNotDivisor b ↔ ¬ Divides f (trimmed x) (x_power_minus_one f n))
     → ((C : Matrix) → IsCode f n (P x) C → Gives b (code C None))
     → w ≡ clamped x → IfOk made (λ C. IsCode f n (P w) C) → ((d : Bool) → DividesPowerLess f w n d → IsRefusedAs made (first_refusal (cyclic_refusals f w n d)))
-    → IsMade made place result → Answers result (AppliesTo place b)
-cyclic_applies place b x w n f P made result e d g c h r k =
-    cyclic_answers place b (λ d. first_refusal (cyclic_refusals f x n d)) (Divides f (trimmed (clamped x)) (x_power_minus_one f n)) made result
+    → IsMade made offset result → Answers result (AppliesTo offset b)
+cyclic_applies offset b x w n f P made result e d g c h r k =
+    cyclic_answers offset b (λ d. first_refusal (cyclic_refusals f x n d)) (Divides f (trimmed (clamped x)) (x_power_minus_one f n)) made result
     (is_cyclic_call b x n f e d)
     (λ t says. subst (λ o. IsRefusedAs made o) (ap (λ (u : List ℕ). first_refusal (cyclic_refusals f u n t)) c ∙ cyclic_same f x n t) (r t (subst (λ (u : List ℕ). DividesPowerLess f u n t) (sym c) says)))
     (λ C m o.
@@ -202,19 +202,19 @@ cyclic_applies place b x w n f P made result e d g c h r k =
     g C (subst (λ (u : List ℕ). IsCode f n (P u) C) (c ∙ cyclic_fine_same f x n true o) is))
     k
 
-pub generator_pol_applies : (place : ℕ) (x w : List ℕ) (n : ℕ) (f : FieldName) (made : Result Matrix CodeRefusal) (result : Result Value Stop)
+pub generator_pol_applies : (offset : ℕ) (x w : List ℕ) (n : ℕ) (f : FieldName) (made : Result Matrix CodeRefusal) (result : Result Value Stop)
     → w ≡ clamped x → IfOk made (λ C. IsCode f n (IsMultipleOf f n (trimmed w)) C) → ((d : Bool) → DividesPowerLess f w n d → IsRefusedAs made (first_refusal (cyclic_refusals f w n d)))
-    → IsMade made place result → Answers result (AppliesTo place (generator_pol_code x n f))
+    → IsMade made offset result → Answers result (AppliesTo offset (generator_pol_code x n f))
 unfolding refusals_of
-generator_pol_applies place x w n f made result c h r k =
-    cyclic_applies place (generator_pol_code x n f) x w n f (λ u. IsMultipleOf f n (trimmed u)) made result refl ((λ y. y), (λ y. y)) (λ C is. record { code_is = (C, is, refl) }) c h r k
+generator_pol_applies offset x w n f made result c h r k =
+    cyclic_applies offset (generator_pol_code x n f) x w n f (λ u. IsMultipleOf f n (trimmed u)) made result refl ((λ y. y), (λ y. y)) (λ C is. record { code_is = (C, is, refl) }) c h r k
 
-pub check_pol_applies : (place : ℕ) (x w : List ℕ) (n : ℕ) (f : FieldName) (made : Result Matrix CodeRefusal) (result : Result Value Stop)
+pub check_pol_applies : (offset : ℕ) (x w : List ℕ) (n : ℕ) (f : FieldName) (made : Result Matrix CodeRefusal) (result : Result Value Stop)
     → w ≡ clamped x → IfOk made (λ C. IsCode f n (IsCheckedBy f n (trimmed w)) C) → ((d : Bool) → DividesPowerLess f w n d → IsRefusedAs made (first_refusal (cyclic_refusals f w n d)))
-    → IsMade made place result → Answers result (AppliesTo place (check_pol_code x n f))
+    → IsMade made offset result → Answers result (AppliesTo offset (check_pol_code x n f))
 unfolding refusals_of
-check_pol_applies place x w n f made result c h r k =
-    cyclic_applies place (check_pol_code x n f) x w n f (λ u. IsCheckedBy f n (trimmed u)) made result refl ((λ y. y), (λ y. y)) (λ C is. record { code_is = (C, is, refl) }) c h r k
+check_pol_applies offset x w n f made result c h r k =
+    cyclic_applies offset (check_pol_code x n f) x w n f (λ u. IsCheckedBy f n (trimmed u)) made result refl ((λ y. y), (λ y. y)) (λ C is. record { code_is = (C, is, refl) }) c h r k
 
 -- ---- extended Golay codes
 
@@ -222,28 +222,28 @@ extended_fine : (C : Matrix) → is_length (C.columns + 1) ≡ true → first_re
 unfolding extended_refusals bad_length refuse_if first_refusal
 extended_fine C h = rw h refl
 
-extended_golay_applies : (place : ℕ) (b : BoundCall) (f : FieldName) (n : ℕ) (g : List ℕ) (C : Matrix) (made : Result Matrix CodeRefusal) (result : Result Value Stop)
+extended_golay_applies : (offset : ℕ) (b : BoundCall) (f : FieldName) (n : ℕ) (g : List ℕ) (C : Matrix) (made : Result Matrix CodeRefusal) (result : Result Value Stop)
     → refusals_of b ≡ [] → ¬ IsNotDivisor b → ((v : language.Value) → IsExtendedGolay f n g v → Gives b v) → is_length (n + 1) ≡ true
     → IsCode f n (IsMultipleOf f n g) C → IfOk made (λ D. IsCode C.field (C.columns + 1) (InExtended C) D) → IsRefusedAs made (first_refusal (extended_refusals C))
-    → IsMade made place result → Answers result (AppliesTo place b)
+    → IsMade made offset result → Answers result (AppliesTo offset b)
 unfolding from_codes first_refusal
-extended_golay_applies place b f n g C (Ok D) result e d give l c x r k =
+extended_golay_applies offset b f n g C (Ok D) result e d give l c x r k =
     let is : IsCode f (n + 1) (InExtended C) D = subst (λ (m : ℕ). IsCode f (m + 1) (InExtended C) D) c.length_is (subst (λ (h : FieldName). IsCode h (C.columns + 1) (InExtended C) D) c.over x) in
-    always place b result (code D None) (first_as b [] None e refl) d (give (code D None) (C, c, record { code_is = (D, is, refl) })) k
-extended_golay_applies place b f n g C (Err x) (Ok v) e d give l c y r k = absurd (given (value_of v) place (refusal_from x) k.1)
-extended_golay_applies place b f n g C (Err x) (Err stop.NoMemory) e d give l c y r k = tt
-extended_golay_applies place b f n g C (Err x) (Err (stop.Refused w)) e d give l c y r k =
+    always offset b result (code D None) (first_as b [] None e refl) d (give (code D None) (C, c, record { code_is = (D, is, refl) })) k
+extended_golay_applies offset b f n g C (Err x) (Ok v) e d give l c y r k = absurd (given (value_of v) offset (refusal_from x) k.1)
+extended_golay_applies offset b f n g C (Err x) (Err stop.NoMemory) e d give l c y r k = tt
+extended_golay_applies offset b f n g C (Err x) (Err (stop.Refused w)) e d give l c y r k =
     let long : is_length (C.columns + 1) ≡ true = rw c.length_is l in
     absurd (none-some x (sym (extended_fine C long) ∙ r k.0))
 
-pub extended_binary_applies : (place : ℕ) (C : Matrix) (made : Result Matrix CodeRefusal) (result : Result Value Stop)
+pub extended_binary_applies : (offset : ℕ) (C : Matrix) (made : Result Matrix CodeRefusal) (result : Result Value Stop)
     → IsCode Gf2 23 (IsMultipleOf Gf2 23 binary_golay_generator) C → IfOk made (λ D. IsCode C.field (C.columns + 1) (InExtended C) D) → IsRefusedAs made (first_refusal (extended_refusals C))
-    → IsMade made place result → Answers result (AppliesTo place extended_binary_golay_code)
+    → IsMade made offset result → Answers result (AppliesTo offset extended_binary_golay_code)
 unfolding refusals_of is_length
-extended_binary_applies place C made result c x r k = extended_golay_applies place extended_binary_golay_code Gf2 23 binary_golay_generator C made result refl (λ n. n) (λ v h. h) refl c x r k
+extended_binary_applies offset C made result c x r k = extended_golay_applies offset extended_binary_golay_code Gf2 23 binary_golay_generator C made result refl (λ n. n) (λ v h. h) refl c x r k
 
-pub extended_ternary_applies : (place : ℕ) (C : Matrix) (made : Result Matrix CodeRefusal) (result : Result Value Stop)
+pub extended_ternary_applies : (offset : ℕ) (C : Matrix) (made : Result Matrix CodeRefusal) (result : Result Value Stop)
     → IsCode Gf3 11 (IsMultipleOf Gf3 11 ternary_golay_generator) C → IfOk made (λ D. IsCode C.field (C.columns + 1) (InExtended C) D) → IsRefusedAs made (first_refusal (extended_refusals C))
-    → IsMade made place result → Answers result (AppliesTo place extended_ternary_golay_code)
+    → IsMade made offset result → Answers result (AppliesTo offset extended_ternary_golay_code)
 unfolding refusals_of is_length
-extended_ternary_applies place C made result c x r k = extended_golay_applies place extended_ternary_golay_code Gf3 11 ternary_golay_generator C made result refl (λ n. n) (λ v h. h) refl c x r k
+extended_ternary_applies offset C made result c x r k = extended_golay_applies offset extended_ternary_golay_code Gf3 11 ternary_golay_generator C made result refl (λ n. n) (λ v h. h) refl c x r k

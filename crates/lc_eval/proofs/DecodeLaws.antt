@@ -70,15 +70,15 @@ kept_told : (f : FieldName) (x : List ℕ) → IsTrue (is_symbol f) → are_elem
 unfolding are_elements
 kept_told f x s h = row_kept (size f) x (small_size f s) h
 
-pub list_long : (place : ℕ) (C : Matrix) (x : List ℕ) (s : Stop) → length x ≢ C.columns → IsMade (Err LengthsDiffer) place (Err s) → IsChecked C x place (Err s)
-list_long place C x (stop.Refused r) h m = (refusal_from LengthsDiffer, uneven C x h, m.1)
-list_long place C x stop.NoMemory h m = tt
+pub list_long : (offset : ℕ) (C : Matrix) (x : List ℕ) (s : Stop) → length x ≢ C.columns → IsMade (Err LengthsDiffer) offset (Err s) → IsChecked C x offset (Err s)
+list_long offset C x (stop.Refused r) h m = (refusal_from LengthsDiffer, uneven C x h, m.1)
+list_long offset C x stop.NoMemory h m = tt
 
-pub list_high : (place : ℕ) (C : Matrix) (f : FieldName) (x w : List ℕ) (b : Bool) (s : Stop) → length x ≡ C.columns → IsTrue (is_symbol C.field) → f ≡ C.field → w ≡ clamped x → IsTrue b ↔ Fits f w → b ≡ false → IsMade (Err (BadArgument 2)) place (Err s) → IsChecked C x place (Err s)
-list_high place C f x w b (stop.Refused r) l y o c h k m =
+pub list_high : (offset : ℕ) (C : Matrix) (f : FieldName) (x w : List ℕ) (b : Bool) (s : Stop) → length x ≡ C.columns → IsTrue (is_symbol C.field) → f ≡ C.field → w ≡ clamped x → IsTrue b ↔ Fits f w → b ≡ false → IsMade (Err (BadArgument 2)) offset (Err s) → IsChecked C x offset (Err s)
+list_high offset C f x w b (stop.Refused r) l y o c h k m =
     let above : are_elements C.field x ≡ false = entries_told C.field x w b y c (subst (λ g. IsTrue b ↔ Fits g w) o h) ∙ k in
     (refusal_from (BadArgument 2), high C x l above, m.1)
-list_high place C f x w b stop.NoMemory l y o c h k m = tt
+list_high offset C f x w b stop.NoMemory l y o c h k m = tt
 
 pub list_right : (C : Matrix) (f : FieldName) (x w : List ℕ) (b : Bool) → length x ≡ C.columns → IsTrue (is_symbol C.field) → f ≡ C.field → w ≡ clamped x → IsTrue b ↔ Fits f w → b ≡ true → IsRight C x w
 list_right C f x w b l y o c h k =
@@ -92,55 +92,55 @@ list_right C f x w b l y o c h k =
 
 -- ---- whether it is in the code
 
-pub codeword_fault : (place : ℕ) (C : Matrix) (x : List ℕ) (s : Stop) → IsChecked C x place (Err s) → Answers (Err s) (AppliesTo place (is_codeword C x))
+pub codeword_fault : (offset : ℕ) (C : Matrix) (x : List ℕ) (s : Stop) → IsChecked C x offset (Err s) → Answers (Err s) (AppliesTo offset (is_codeword C x))
 unfolding refusal_of refusals_of
-codeword_fault place C x (stop.Refused r) (e, h, m) = applying place (is_codeword C x) (Some e) (Err (stop.Refused r)) h m
-codeword_fault place C x stop.NoMemory h = tt
+codeword_fault offset C x (stop.Refused r) (e, h, m) = applying offset (is_codeword C x) (Some e) (Err (stop.Refused r)) h m
+codeword_fault offset C x stop.NoMemory h = tt
 
-pub codeword_told : (place : ℕ) (C : Matrix) (x w : List ℕ) (r : Bool) → IsRight C x w → IsTrue r ↔ InCode C w → AppliesTo place (is_codeword C x) (gives (truth r))
+pub codeword_told : (offset : ℕ) (C : Matrix) (x w : List ℕ) (r : Bool) → IsRight C x w → IsTrue r ↔ InCode C w → AppliesTo offset (is_codeword C x) (gives (truth r))
 unfolding refusal_of refusals_of
-codeword_told place C x w r h t =
+codeword_told offset C x w r h t =
     let told : IsTrue r ↔ InCode C x = subst (λ v. IsTrue r ↔ InCode C v) h.same t in
-    let holds : Applying place (is_codeword C x) None (gives (truth r)) = inr ((λ n. n), (truth r, (r, refl, told), refl)) in
-    (subst (λ o. Applying place (is_codeword C x) o (gives (truth r))) (sym h.unrefused) holds)
+    let holds : Applying offset (is_codeword C x) None (gives (truth r)) = inr ((λ n. n), (truth r, (r, refl, told), refl)) in
+    (subst (λ o. Applying offset (is_codeword C x) o (gives (truth r))) (sym h.unrefused) holds)
 
 -- ---- the nearest word
 
-pub decode_fault : (place : ℕ) (C : Matrix) (x : List ℕ) (s : Stop) → IsChecked C x place (Err s) → Answers (Err s) (AppliesTo place (decode C x))
+pub decode_fault : (offset : ℕ) (C : Matrix) (x : List ℕ) (s : Stop) → IsChecked C x offset (Err s) → Answers (Err s) (AppliesTo offset (decode C x))
 unfolding refusal_of refusals_of
-decode_fault place C x (stop.Refused r) (e, h, m) = applying place (decode C x) (Some e) (Err (stop.Refused r)) (first_stays (from_codes (word_refusals C x)) _ e h) m
-decode_fault place C x stop.NoMemory h = tt
+decode_fault offset C x (stop.Refused r) (e, h, m) = applying offset (decode C x) (Some e) (Err (stop.Refused r)) (first_stays (from_codes (word_refusals C x)) _ e h) m
+decode_fault offset C x stop.NoMemory h = tt
 
 cosets_first : (C : Matrix) (x : List ℕ) (r : Option ℕ) → first_of (from_codes (word_refusals C x)) ≡ None → too_many_cosets C ≡ r → refusal_of (decode C x) ≡ option_map (λ n. refuse 15 (n ∷ [])) r
 unfolding refusal_of refusals_of coset_refusal first_of
 cosets_first C x None h e = first_behind (from_codes (word_refusals C x)) _ h ∙ ap (λ o. first_of (option_map (λ n. refuse 15 (n ∷ [])) o ∷ [])) e
 cosets_first C x (Some n) h e = first_behind (from_codes (word_refusals C x)) _ h ∙ ap (λ o. first_of (option_map (λ n. refuse 15 (n ∷ [])) o ∷ [])) e
 
-pub decode_many : (place : ℕ) (C : Matrix) (x w : List ℕ) (n : ℕ) (r : Refused) → IsRight C x w → too_many_cosets C ≡ Some n → refused (refused_of r) ≡ refuse_call place (refuse 15 (n ∷ [])) → AppliesTo place (decode C x) (refused (refused_of r))
-decode_many place C x w n r h e m = applying place (decode C x) (Some (refuse 15 (n ∷ []))) (Err (stop.Refused r)) (cosets_first C x (Some n) h.unrefused e) m
+pub decode_many : (offset : ℕ) (C : Matrix) (x w : List ℕ) (n : ℕ) (r : Refused) → IsRight C x w → too_many_cosets C ≡ Some n → refused (refused_of r) ≡ refuse_call offset (refuse 15 (n ∷ [])) → AppliesTo offset (decode C x) (refused (refused_of r))
+decode_many offset C x w n r h e m = applying offset (decode C x) (Some (refuse 15 (n ∷ []))) (Err (stop.Refused r)) (cosets_first C x (Some n) h.unrefused e) m
 
-pub decode_told : (place : ℕ) (C : Matrix) (x w u t : List ℕ) (v : Value) → IsRight C x w → too_many_cosets C ≡ None → IsNearest C w u → t ≡ u → v ≡ numbers t → AppliesTo place (decode C x) (gives v)
-decode_told place C x w u t v h e d same told =
+pub decode_told : (offset : ℕ) (C : Matrix) (x w u t : List ℕ) (v : Value) → IsRight C x w → too_many_cosets C ≡ None → IsNearest C w u → t ≡ u → v ≡ numbers t → AppliesTo offset (decode C x) (gives v)
+decode_told offset C x w u t v h e d same told =
     let near : IsNearest C x t = rw same (subst (λ y. IsNearest C y u) h.same d) in
-    let holds : Applying place (decode C x) None (gives v) = inr ((λ n. n), (v, (t, near, told), refl)) in
-    (subst (λ o. Applying place (decode C x) o (gives v)) (sym (cosets_first C x None h.unrefused e)) holds)
+    let holds : Applying offset (decode C x) None (gives v) = inr ((λ n. n), (v, (t, near, told), refl)) in
+    (subst (λ o. Applying offset (decode C x) o (gives v)) (sym (cosets_first C x None h.unrefused e)) holds)
 
 -- ---- the word that the form determines
 
-pub form_none : (place : ℕ) (C : Matrix) (x : List ℕ) (r : Refused) → refused (refused_of r) ≡ refuse_at 18 place → QueriesTo place (algebraic_decode C None x) (fails (refused_of r))
+pub form_none : (offset : ℕ) (C : Matrix) (x : List ℕ) (r : Refused) → refused (refused_of r) ≡ refuse_at 18 offset → QueriesTo offset (algebraic_decode C None x) (fails (refused_of r))
 unfolding query_refusal_of query_refusals_of first_of no_form when fail_with refuse_call refuse refuse_at
-form_none place C x r m = ap fail_with m
+form_none offset C x r m = ap fail_with m
 
-pub form_fault : (place : ℕ) (C : Matrix) (form : AlternantForm) (x : List ℕ) (s : Stop) → IsChecked C x place (Err s) → AffectsOrFails (Err s) (QueriesTo place (algebraic_decode C (Some form) x))
+pub form_fault : (offset : ℕ) (C : Matrix) (form : AlternantForm) (x : List ℕ) (s : Stop) → IsChecked C x offset (Err s) → AffectsOrFails (Err s) (QueriesTo offset (algebraic_decode C (Some form) x))
 unfolding query_refusal_of query_refusals_of first_of no_form when
-form_fault place C form x (stop.Refused r) (e, h, m) = rw h (fails_so place r e m)
-form_fault place C form x stop.NoMemory h = tt
+form_fault offset C form x (stop.Refused r) (e, h, m) = rw h (fails_so offset r e m)
+form_fault offset C form x stop.NoMemory h = tt
 
-form_read : (place : ℕ) (C : Matrix) (form : AlternantForm) (x w text : List ℕ) (o : Option (List ℕ)) → IsRight C x w → IsDecoded C form w o → text ≡ value_line (decoded o) → QueriesTo place (algebraic_decode C (Some form) x) (prints text)
+form_read : (offset : ℕ) (C : Matrix) (form : AlternantForm) (x w text : List ℕ) (o : Option (List ℕ)) → IsRight C x w → IsDecoded C form w o → text ≡ value_line (decoded o) → QueriesTo offset (algebraic_decode C (Some form) x) (prints text)
 unfolding query_refusal_of query_refusals_of first_of no_form when
-form_read place C form x w text o h d t = rw h.unrefused (o, subst (λ v. IsDecoded C form v o) h.same d, ap (λ (l : List ℕ). prints l) t)
+form_read offset C form x w text o h d t = rw h.unrefused (o, subst (λ v. IsDecoded C form v o) h.same d, ap (λ (l : List ℕ). prints l) t)
 
-pub form_told : (place : ℕ) (C : Matrix) (form : AlternantForm) (V : CodeValue) (p : Option AlternantForm) (x w text : List ℕ) (o : Option (List ℕ)) → record { code = C; form = p } ≡ V → p ≡ Some form → IsRight C x w → IsDecoded C form w o → text ≡ value_line (decoded o) → QueriesTo place (algebraic_decode V.code V.form x) (prints text)
-form_told place C form V p x w text o v e h d t =
-    let read : QueriesTo place (algebraic_decode C p x) (prints text) = rw e (form_read place C form x w text o h d t) in
-    (subst (λ (U : CodeValue). QueriesTo place (algebraic_decode U.code U.form x) (prints text)) v read)
+pub form_told : (offset : ℕ) (C : Matrix) (form : AlternantForm) (V : CodeValue) (p : Option AlternantForm) (x w text : List ℕ) (o : Option (List ℕ)) → record { code = C; form = p } ≡ V → p ≡ Some form → IsRight C x w → IsDecoded C form w o → text ≡ value_line (decoded o) → QueriesTo offset (algebraic_decode V.code V.form x) (prints text)
+form_told offset C form V p x w text o v e h d t =
+    let read : QueriesTo offset (algebraic_decode C p x) (prints text) = rw e (form_read offset C form x w text o h d t) in
+    (subst (λ (U : CodeValue). QueriesTo offset (algebraic_decode U.code U.form x) (prints text)) v read)

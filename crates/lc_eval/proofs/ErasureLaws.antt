@@ -21,22 +21,22 @@ use Rattle.lc_eval.specs.Made.{IsMade}
 use Rattle.lc_language.proofs.RefusalLaws.{first_from_codes}
 use Rattle.lc_eval.proofs.QueryLaws.{first_stays, first_behind, fails_so}
 
-pub erasures_fault : (place : ℕ) (C : Matrix) (x erased : List ℕ) (s : Stop) → IsChecked C x place (Err s) → AffectsOrFails (Err s) (QueriesTo place (fill_erasures C x erased))
+pub erasures_fault : (offset : ℕ) (C : Matrix) (x erased : List ℕ) (s : Stop) → IsChecked C x offset (Err s) → AffectsOrFails (Err s) (QueriesTo offset (fill_erasures C x erased))
 unfolding query_refusal_of query_refusals_of
-erasures_fault place C x erased (stop.Refused r) (e, h, m) = rw (first_stays (from_codes (word_refusals C x)) (from_codes (erased_refusals C erased)) e h) (fails_so place r e m)
-erasures_fault place C x erased stop.NoMemory h = tt
+erasures_fault offset C x erased (stop.Refused r) (e, h, m) = rw (first_stays (from_codes (word_refusals C x)) (from_codes (erased_refusals C erased)) e h) (fails_so offset r e m)
+erasures_fault offset C x erased stop.NoMemory h = tt
 
 -- the refusals of a list that is a word are those of the coordinates
 then : (C : Matrix) (x erased : List ℕ) (r : Option CodeRefusal) → first_of (from_codes (word_refusals C x)) ≡ None → first_refusal (erased_refusals C erased) ≡ r → query_refusal_of (fill_erasures C x erased) ≡ option_map refusal_from r
 unfolding query_refusal_of query_refusals_of
 then C x erased r h e = first_behind (from_codes (word_refusals C x)) (from_codes (erased_refusals C erased)) h ∙ first_from_codes (erased_refusals C erased) ∙ ap (option_map refusal_from) e
 
-pub erasures_refused : (place : ℕ) (C : Matrix) (x w erased : List ℕ) (e : CodeRefusal) (s : Stop) → IsRight C x w → IsRefusedAs {T = Filling} (Err e) (first_refusal (erased_refusals C erased)) → IsMade (Err e) place (Err s)
-    → AffectsOrFails (Err s) (QueriesTo place (fill_erasures C x erased))
-erasures_refused place C x w erased e (stop.Refused r) right h m = rw (then C x erased (Some e) right.unrefused (h m.0)) (fails_so place r (refusal_from e) m.1)
-erasures_refused place C x w erased e stop.NoMemory right h m = tt
+pub erasures_refused : (offset : ℕ) (C : Matrix) (x w erased : List ℕ) (e : CodeRefusal) (s : Stop) → IsRight C x w → IsRefusedAs {T = Filling} (Err e) (first_refusal (erased_refusals C erased)) → IsMade (Err e) offset (Err s)
+    → AffectsOrFails (Err s) (QueriesTo offset (fill_erasures C x erased))
+erasures_refused offset C x w erased e (stop.Refused r) right h m = rw (then C x erased (Some e) right.unrefused (h m.0)) (fails_so offset r (refusal_from e) m.1)
+erasures_refused offset C x w erased e stop.NoMemory right h m = tt
 
-pub erasures_told : (place : ℕ) (C : Matrix) (x w erased text : List ℕ) (a : Filling) → IsRight C x w → IsRefusedAs (Ok a) (first_refusal (erased_refusals C erased)) → IsFilling C w erased (filling_of a) → text ≡ filling_line (filling_of a)
-    → QueriesTo place (fill_erasures C x erased) (prints text)
-erasures_told place C x w erased text a right h is t =
+pub erasures_told : (offset : ℕ) (C : Matrix) (x w erased text : List ℕ) (a : Filling) → IsRight C x w → IsRefusedAs (Ok a) (first_refusal (erased_refusals C erased)) → IsFilling C w erased (filling_of a) → text ≡ filling_line (filling_of a)
+    → QueriesTo offset (fill_erasures C x erased) (prints text)
+erasures_told offset C x w erased text a right h is t =
     rw (then C x erased None right.unrefused h) (filling_of a, subst (λ v. IsFilling C v erased (filling_of a)) right.same is, ap (λ (l : List ℕ). prints l) t)

@@ -14,7 +14,7 @@ use Rattle.lc_language.specs.Value as language
 use Rattle.lc_language.specs.Calls as bound
 use Rattle.lc_language.specs.Calls.{bind, bind_query, signatures, signature_for}
 use Rattle.lc_language.specs.Evaluation as evaluation
-use Rattle.lc_language.specs.Evaluation.{Outcome, Outcomes, gives, refused, all_give, one_refused, refuse_at, misfit_place, Evaluates, EvaluatesAll, GoesOn, Joins, Applies, AppliesTo, CallGives, Step, fails, fail_with, QueriesAll, QueriesTo, StepsAsQuery}
+use Rattle.lc_language.specs.Evaluation.{Outcome, Outcomes, gives, refused, all_give, one_refused, refuse_at, misfit_offset, Evaluates, EvaluatesAll, GoesOn, Joins, Applies, AppliesTo, CallGives, Step, fails, fail_with, QueriesAll, QueriesTo, StepsAsQuery}
 use Rattle.lc_parse.specs.declared.tree.Expr.{Expr}
 use Rattle.lc_parse.specs.Views.{all_of, tree_of, trees_of}
 use Rattle.lc_eval.specs.Built.{built_calls, query_call_of, call_of, forms_of, IsRowOf, IsAsked}
@@ -91,14 +91,14 @@ signature_is : (row : Row) (c : declared.Call) (es : List Expr) (o : Option (Lis
 unfolding signature_for
 signature_is row c es o f t = ap (λ n. find (λ kinds. length kinds == n) (signatures c)) (count_is es) ∙ ap (λ forms. find (λ kinds. length kinds == length es) forms) f ∙ t
 
-module _ (env : List language.Binding) (place : ℕ) (x : List ℕ) (es : List Expr) (row : Row) where
-  call_is : (c : Call) (o : Outcome) → IsRowOf x row → row.call ≡ c → CallGives (call_of c) place (trees_of es) (λ os. EvaluatesAll built_calls env (trees_of es) os) o → Evaluates built_calls env (tree.call place x (trees_of es)) o
+module _ (env : List language.Binding) (offset : ℕ) (x : List ℕ) (es : List Expr) (row : Row) where
+  call_is : (c : Call) (o : Outcome) → IsRowOf x row → row.call ≡ c → CallGives (call_of c) offset (trees_of es) (λ os. EvaluatesAll built_calls env (trees_of es) os) o → Evaluates built_calls env (tree.call offset x (trees_of es)) o
   call_is c o r is h = let found = r.found ∙ ap (λ k. Some (call_of k)) is in rw found h
 
-  pub no_value_call : (r : evaluation.Refused) → IsRowOf x row → ((c : ValueCall) → row.call ≡ call.Value c → ⊥) → refused r ≡ refuse_at 45 place → Evaluates built_calls env (tree.call place x (trees_of es)) (refused r)
+  pub no_value_call : (r : evaluation.Refused) → IsRowOf x row → ((c : ValueCall) → row.call ≡ call.Value c → ⊥) → refused r ≡ refuse_at 45 offset → Evaluates built_calls env (tree.call offset x (trees_of es)) (refused r)
   no_value_call r f other h = by_call row.call refl
     where
-      by_call : (c : Call) → row.call ≡ c → Evaluates built_calls env (tree.call place x (trees_of es)) (refused r)
+      by_call : (c : Call) → row.call ≡ c → Evaluates built_calls env (tree.call offset x (trees_of es)) (refused r)
       by_call (call.Value c) is = absurd (other c is)
       by_call (call.Query c) is = call_is (call.Query c) (refused r) f is h
 
@@ -106,49 +106,49 @@ module _ (env : List language.Binding) (place : ℕ) (x : List ℕ) (es : List E
     signature_at : (o : Option (List Kind)) → Takes row es o → signature_for (language_call.Value c) (count_of (trees_of es)) ≡ o
     signature_at o t = signature_is row (call_of (call.Value c)) es o (ap (λ k. signatures (call_of k)) (sym is) ∙ f.forms) t
 
-    pub wrong_count : (r : evaluation.Refused) → Takes row es None → refused r ≡ refuse_at 46 place → Evaluates built_calls env (tree.call place x (trees_of es)) (refused r)
+    pub wrong_count : (r : evaluation.Refused) → Takes row es None → refused r ≡ refuse_at 46 offset → Evaluates built_calls env (tree.call offset x (trees_of es)) (refused r)
     wrong_count r t h = call_is (call.Value c) (refused r) f is (let s = signature_at None t in rw s h)
 
-    counted : (kinds : List Kind) (os : Outcomes) (o : Outcome) → Takes row es (Some kinds) → EvaluatesAll built_calls env (trees_of es) os → Applies c place kinds (trees_of es) os o → Evaluates built_calls env (tree.call place x (trees_of es)) o
+    counted : (kinds : List Kind) (os : Outcomes) (o : Outcome) → Takes row es (Some kinds) → EvaluatesAll built_calls env (trees_of es) os → Applies c offset kinds (trees_of es) os o → Evaluates built_calls env (tree.call offset x (trees_of es)) o
     counted kinds os o t e h = call_is (call.Value c) o f is (let s = signature_at (Some kinds) t in rw s (os, e, h))
 
-    pub arguments_fault : (kinds : List Kind) (s : Stop) → Takes row es (Some kinds) → AnswersAll (Err s) (EvaluatesAll built_calls env (trees_of es)) → Answers (Err s) (Evaluates built_calls env (tree.call place x (trees_of es)))
+    pub arguments_fault : (kinds : List Kind) (s : Stop) → Takes row es (Some kinds) → AnswersAll (Err s) (EvaluatesAll built_calls env (trees_of es)) → Answers (Err s) (Evaluates built_calls env (tree.call offset x (trees_of es)))
     arguments_fault kinds (stop.Refused r) t e = counted kinds (one_refused (refused_of r)) (refused (refused_of r)) t e refl
     arguments_fault kinds stop.NoMemory t e = tt
 
-    applies_bound : (kinds : List Kind) (vs : List language.Value) (b : bound.BoundCall) (o : Outcome) → Takes row es (Some kinds) → EvaluatesAll built_calls env (trees_of es) (all_give vs) → bind c vs ≡ Some b → AppliesTo place b o → Evaluates built_calls env (tree.call place x (trees_of es)) o
+    applies_bound : (kinds : List Kind) (vs : List language.Value) (b : bound.BoundCall) (o : Outcome) → Takes row es (Some kinds) → EvaluatesAll built_calls env (trees_of es) (all_give vs) → bind c vs ≡ Some b → AppliesTo offset b o → Evaluates built_calls env (tree.call offset x (trees_of es)) o
     applies_bound kinds vs b o t e h a = counted kinds (all_give vs) o t e (rw h a)
 
-    pub call_bound : (kinds : List Kind) (vs : List language.Value) (b : bound.BoundCall) (r : Result Value Stop) → Takes row es (Some kinds) → EvaluatesAll built_calls env (trees_of es) (all_give vs) → bind c vs ≡ Some b → Answers r (AppliesTo place b) → Answers r (Evaluates built_calls env (tree.call place x (trees_of es)))
+    pub call_bound : (kinds : List Kind) (vs : List language.Value) (b : bound.BoundCall) (r : Result Value Stop) → Takes row es (Some kinds) → EvaluatesAll built_calls env (trees_of es) (all_give vs) → bind c vs ≡ Some b → Answers r (AppliesTo offset b) → Answers r (Evaluates built_calls env (tree.call offset x (trees_of es)))
     call_bound kinds vs b (Ok v) t e h a = applies_bound kinds vs b (gives (value_of v)) t e h a
     call_bound kinds vs b (Err (stop.Refused r)) t e h a = applies_bound kinds vs b (refused (refused_of r)) t e h a
     call_bound kinds vs b (Err stop.NoMemory) t e h a = tt
 
-    pub call_misfit : (kinds : List Kind) (vs : List language.Value) (s : Stop) → Takes row es (Some kinds) → EvaluatesAll built_calls env (trees_of es) (all_give vs) → bind c vs ≡ None → IsStop s (refuse_at 45 (misfit_place place kinds (trees_of es) vs)) → Answers (Err s) (Evaluates built_calls env (tree.call place x (trees_of es)))
+    pub call_misfit : (kinds : List Kind) (vs : List language.Value) (s : Stop) → Takes row es (Some kinds) → EvaluatesAll built_calls env (trees_of es) (all_give vs) → bind c vs ≡ None → IsStop s (refuse_at 45 (misfit_offset offset kinds (trees_of es) vs)) → Answers (Err s) (Evaluates built_calls env (tree.call offset x (trees_of es)))
     call_misfit kinds vs (stop.Refused r) t e h a = counted kinds (all_give vs) (refused (refused_of r)) t e (rw h a)
     call_misfit kinds vs stop.NoMemory t e h a = tt
 
 -- ---- queries
 
-module _ (env : List language.Binding) (place : ℕ) (es : List Expr) (row : Row) (c : QueryCall) (a : IsAsked row c) where
+module _ (env : List language.Binding) (offset : ℕ) (es : List Expr) (row : Row) (c : QueryCall) (a : IsAsked row c) where
   asked_at : (o : Option (List Kind)) → Takes row es o → signature_for (language_call.Query (query_call_of c)) (count_of (trees_of es)) ≡ o
   asked_at o t = signature_is row (language_call.Query (query_call_of c)) es o a.forms t
 
-  asked : (kinds : List Kind) (os : Outcomes) (step : Step) → Takes row es (Some kinds) → EvaluatesAll built_calls env (trees_of es) os → QueriesAll (query_call_of c) place kinds (trees_of es) os step → (x : List ℕ) → StepsAsQuery built_calls env (query_call_of c) (tree.call place x (trees_of es)) step
+  asked : (kinds : List Kind) (os : Outcomes) (step : Step) → Takes row es (Some kinds) → EvaluatesAll built_calls env (trees_of es) os → QueriesAll (query_call_of c) offset kinds (trees_of es) os step → (x : List ℕ) → StepsAsQuery built_calls env (query_call_of c) (tree.call offset x (trees_of es)) step
   asked kinds os step t e h = λ x. let s = asked_at (Some kinds) t in rw s (os, e, h)
 
-  pub query_count : (r : evaluation.Refused) → Takes row es None → refused r ≡ refuse_at 46 place → (x : List ℕ) → StepsAsQuery built_calls env (query_call_of c) (tree.call place x (trees_of es)) (fails r)
+  pub query_count : (r : evaluation.Refused) → Takes row es None → refused r ≡ refuse_at 46 offset → (x : List ℕ) → StepsAsQuery built_calls env (query_call_of c) (tree.call offset x (trees_of es)) (fails r)
   unfolding fail_with
   query_count r t h = λ x. let s = asked_at None t in rw s (ap fail_with h)
 
-  pub query_fault : (kinds : List Kind) (s : Stop) → Takes row es (Some kinds) → AnswersAll (Err s) (EvaluatesAll built_calls env (trees_of es)) → (x : List ℕ) → AffectsOrFails (Err s) (StepsAsQuery built_calls env (query_call_of c) (tree.call place x (trees_of es)))
+  pub query_fault : (kinds : List Kind) (s : Stop) → Takes row es (Some kinds) → AnswersAll (Err s) (EvaluatesAll built_calls env (trees_of es)) → (x : List ℕ) → AffectsOrFails (Err s) (StepsAsQuery built_calls env (query_call_of c) (tree.call offset x (trees_of es)))
   query_fault kinds (stop.Refused r) t e = asked kinds (one_refused (refused_of r)) (fails (refused_of r)) t e refl
   query_fault kinds stop.NoMemory t e = λ x. tt
 
-  pub query_bound : (kinds : List Kind) (vs : List language.Value) (b : bound.BoundQuery) (step : Step) → Takes row es (Some kinds) → EvaluatesAll built_calls env (trees_of es) (all_give vs) → bind_query (query_call_of c) vs ≡ Some b → QueriesTo place b step → (x : List ℕ) → StepsAsQuery built_calls env (query_call_of c) (tree.call place x (trees_of es)) step
+  pub query_bound : (kinds : List Kind) (vs : List language.Value) (b : bound.BoundQuery) (step : Step) → Takes row es (Some kinds) → EvaluatesAll built_calls env (trees_of es) (all_give vs) → bind_query (query_call_of c) vs ≡ Some b → QueriesTo offset b step → (x : List ℕ) → StepsAsQuery built_calls env (query_call_of c) (tree.call offset x (trees_of es)) step
   query_bound kinds vs b step t e h q = asked kinds (all_give vs) step t e (rw h q)
 
-  pub query_misfit : (kinds : List Kind) (vs : List language.Value) (s : Stop) → Takes row es (Some kinds) → EvaluatesAll built_calls env (trees_of es) (all_give vs) → bind_query (query_call_of c) vs ≡ None → IsStop s (refuse_at 45 (misfit_place place kinds (trees_of es) vs)) → (x : List ℕ) → AffectsOrFails (Err s) (StepsAsQuery built_calls env (query_call_of c) (tree.call place x (trees_of es)))
+  pub query_misfit : (kinds : List Kind) (vs : List language.Value) (s : Stop) → Takes row es (Some kinds) → EvaluatesAll built_calls env (trees_of es) (all_give vs) → bind_query (query_call_of c) vs ≡ None → IsStop s (refuse_at 45 (misfit_offset offset kinds (trees_of es) vs)) → (x : List ℕ) → AffectsOrFails (Err s) (StepsAsQuery built_calls env (query_call_of c) (tree.call offset x (trees_of es)))
   unfolding fail_with
   query_misfit kinds vs (stop.Refused r) t e h a = asked kinds (all_give vs) (fails (refused_of r)) t e (rw h (ap fail_with a))
   query_misfit kinds vs stop.NoMemory t e h a = λ x. tt

@@ -151,20 +151,20 @@ form_line_told C f form w text b e is t = ap (λ u. u ++ 10 ∷ []) (t ∙ ap bu
 
 -- ---- the query
 
-pub certificate_none : (place : ℕ) (C : Matrix) (x : List ℕ) (r : Refused) → refused (refused_of r) ≡ refuse_at 18 place → QueriesTo place (alternant_certificate C None x) (fails (refused_of r))
+pub certificate_none : (offset : ℕ) (C : Matrix) (x : List ℕ) (r : Refused) → refused (refused_of r) ≡ refuse_at 18 offset → QueriesTo offset (alternant_certificate C None x) (fails (refused_of r))
 unfolding query_refusal_of query_refusals_of first_of no_form when fail_with refuse_call refuse refuse_at
-certificate_none place C x r m = ap fail_with m
+certificate_none offset C x r m = ap fail_with m
 
 abbrev Certifying : ℕ → Matrix → AlternantForm → List ℕ → Option Refusal → Step → Type 0
-Certifying place C form x r step = MatchOption r (step ≡ prints (form_line C form x)) (λ r. step ≡ fail_with (refuse_call place r))
+Certifying offset C form x r step = MatchOption r (step ≡ prints (form_line C form x)) (λ r. step ≡ fail_with (refuse_call offset r))
 
-certifying : (place : ℕ) (C : Matrix) (form : AlternantForm) (x : List ℕ) (r : Option Refusal) (step : Step) → first_of (from_codes (word_refusals C x) ++ not_attained C (Some form) x ∷ []) ≡ r → Certifying place C form x r step → QueriesTo place (alternant_certificate C (Some form) x) step
+certifying : (offset : ℕ) (C : Matrix) (form : AlternantForm) (x : List ℕ) (r : Option Refusal) (step : Step) → first_of (from_codes (word_refusals C x) ++ not_attained C (Some form) x ∷ []) ≡ r → Certifying offset C form x r step → QueriesTo offset (alternant_certificate C (Some form) x) step
 unfolding query_refusal_of query_refusals_of first_of no_form when
-certifying place C form x r step e h = subst (λ t. Certifying place C form x t step) (sym e) h
+certifying offset C form x r step e h = subst (λ t. Certifying offset C form x t step) (sym e) h
 
-pub certificate_fault : (place : ℕ) (C : Matrix) (form : AlternantForm) (x : List ℕ) (s : Stop) → IsChecked C x place (Err s) → AffectsOrFails (Err s) (QueriesTo place (alternant_certificate C (Some form) x))
-certificate_fault place C form x (stop.Refused r) (e, h, m) = certifying place C form x (Some e) (fails (refused_of r)) (first_stays (from_codes (word_refusals C x)) _ e h) (fails_so place r e m)
-certificate_fault place C form x stop.NoMemory h = tt
+pub certificate_fault : (offset : ℕ) (C : Matrix) (form : AlternantForm) (x : List ℕ) (s : Stop) → IsChecked C x offset (Err s) → AffectsOrFails (Err s) (QueriesTo offset (alternant_certificate C (Some form) x))
+certificate_fault offset C form x (stop.Refused r) (e, h, m) = certifying offset C form x (Some e) (fails (refused_of r)) (first_stays (from_codes (word_refusals C x)) _ e h) (fails_so offset r e m)
+certificate_fault offset C form x stop.NoMemory h = tt
 
 abbrev is_attained : Matrix → AlternantForm → List ℕ → Bool
 is_attained C form x = in_span C.field C.columns C.rows x && (weight x == form.r + 1)
@@ -177,19 +177,19 @@ attained_last : (C : Matrix) (form : AlternantForm) (x : List ℕ) → is_attain
 unfolding not_attained when first_of
 attained_last C form x e = rw e refl
 
-pub certificate_missed : (place : ℕ) (C : Matrix) (form : AlternantForm) (x w : List ℕ) (d : ℕ) (b : Bool) (r : Refused) → IsRight C x w → d ≡ form.r + 1 → b ≡ (in_span C.field C.columns C.rows w && (weight w == d)) → b ≡ false → refused (refused_of r) ≡ refuse_call place (refuse 19 (weight w ∷ d ∷ [])) → QueriesTo place (alternant_certificate C (Some form) x) (fails (refused_of r))
-certificate_missed place C form x w d b r h k is e m =
+pub certificate_missed : (offset : ℕ) (C : Matrix) (form : AlternantForm) (x w : List ℕ) (d : ℕ) (b : Bool) (r : Refused) → IsRight C x w → d ≡ form.r + 1 → b ≡ (in_span C.field C.columns C.rows w && (weight w == d)) → b ≡ false → refused (refused_of r) ≡ refuse_call offset (refuse 19 (weight w ∷ d ∷ [])) → QueriesTo offset (alternant_certificate C (Some form) x) (fails (refused_of r))
+certificate_missed offset C form x w d b r h k is e m =
     let missed : is_attained C form x ≡ false = subst (λ u. is_attained C form u ≡ false) h.same (ap (λ n. in_span C.field C.columns C.rows w && (weight w == n)) (sym k) ∙ sym is ∙ e) in
-    let told : refused (refused_of r) ≡ refuse_call place (refuse 19 (weight x ∷ (form.r + 1) ∷ [])) = subst (λ u. refused (refused_of r) ≡ refuse_call place (refuse 19 (weight u ∷ (form.r + 1) ∷ []))) h.same (subst (λ n. refused (refused_of r) ≡ refuse_call place (refuse 19 (weight w ∷ n ∷ []))) k m) in
-    certifying place C form x (Some (refuse 19 (weight x ∷ (form.r + 1) ∷ []))) (fails (refused_of r)) (first_behind (from_codes (word_refusals C x)) _ h.unrefused ∙ missed_last C form x missed) (fails_so place r _ told)
+    let told : refused (refused_of r) ≡ refuse_call offset (refuse 19 (weight x ∷ (form.r + 1) ∷ [])) = subst (λ u. refused (refused_of r) ≡ refuse_call offset (refuse 19 (weight u ∷ (form.r + 1) ∷ []))) h.same (subst (λ n. refused (refused_of r) ≡ refuse_call offset (refuse 19 (weight w ∷ n ∷ []))) k m) in
+    certifying offset C form x (Some (refuse 19 (weight x ∷ (form.r + 1) ∷ []))) (fails (refused_of r)) (first_behind (from_codes (word_refusals C x)) _ h.unrefused ∙ missed_last C form x missed) (fails_so offset r _ told)
 
-pub certificate_told : (place : ℕ) (C : Matrix) (form : AlternantForm) (x w text : List ℕ) (d : ℕ) (b : Bool) → IsRight C x w → d ≡ form.r + 1 → b ≡ (in_span C.field C.columns C.rows w && (weight w == d)) → b ≡ true → text ≡ form_line C form w → QueriesTo place (alternant_certificate C (Some form) x) (prints text)
-certificate_told place C form x w text d b h k is e t =
+pub certificate_told : (offset : ℕ) (C : Matrix) (form : AlternantForm) (x w text : List ℕ) (d : ℕ) (b : Bool) → IsRight C x w → d ≡ form.r + 1 → b ≡ (in_span C.field C.columns C.rows w && (weight w == d)) → b ≡ true → text ≡ form_line C form w → QueriesTo offset (alternant_certificate C (Some form) x) (prints text)
+certificate_told offset C form x w text d b h k is e t =
     let attained : is_attained C form x ≡ true = subst (λ u. is_attained C form u ≡ true) h.same (ap (λ n. in_span C.field C.columns C.rows w && (weight w == n)) (sym k) ∙ sym is ∙ e) in
-    certifying place C form x None (prints text) (first_behind (from_codes (word_refusals C x)) _ h.unrefused ∙ attained_last C form x attained) (ap (λ (l : List ℕ). prints l) (t ∙ ap (form_line C form) h.same))
+    certifying offset C form x None (prints text) (first_behind (from_codes (word_refusals C x)) _ h.unrefused ∙ attained_last C form x attained) (ap (λ (l : List ℕ). prints l) (t ∙ ap (form_line C form) h.same))
 
 -- of a code's value, which is seen as a record
-pub of_value : (place : ℕ) (C : Matrix) (form : AlternantForm) (V : CodeValue) (p : Option AlternantForm) (x : List ℕ) (step : Step) → record { code = C; form = p } ≡ V → p ≡ Some form → QueriesTo place (alternant_certificate C (Some form) x) step → QueriesTo place (alternant_certificate V.code V.form x) step
-of_value place C form V p x step v e h =
-    let told : QueriesTo place (alternant_certificate C p x) step = subst (λ q. QueriesTo place (alternant_certificate C q x) step) (sym e) h in
-    subst (λ (U : CodeValue). QueriesTo place (alternant_certificate U.code U.form x) step) v told
+pub of_value : (offset : ℕ) (C : Matrix) (form : AlternantForm) (V : CodeValue) (p : Option AlternantForm) (x : List ℕ) (step : Step) → record { code = C; form = p } ≡ V → p ≡ Some form → QueriesTo offset (alternant_certificate C (Some form) x) step → QueriesTo offset (alternant_certificate V.code V.form x) step
+of_value offset C form V p x step v e h =
+    let told : QueriesTo offset (alternant_certificate C p x) step = subst (λ q. QueriesTo offset (alternant_certificate C q x) step) (sym e) h in
+    subst (λ (U : CodeValue). QueriesTo offset (alternant_certificate U.code U.form x) step) v told

@@ -7,7 +7,7 @@
 use Rattle.std.proofs.Common.{◌≡◌, ◌<◌, ◌≤◌, ℕ, Bool, true, false, List, slice_index_or, [], ◌∷◌, length, Option, Some, None, is_some, option_map, refl, sym, ap, subst, ◌∙◌, arith}
 use Rattle.lc_language.specs.declared.Kind.{Kind}
 use Rattle.lc_grammar.specs.Tree as tree
-use Rattle.lc_grammar.specs.Tree.{place_of, count_of}
+use Rattle.lc_grammar.specs.Tree.{offset_of, count_of}
 use Rattle.lc_language.specs.Value as language
 use Rattle.lc_language.specs.Value.{Meant, read, is_kind}
 use Rattle.lc_language.specs.Evaluation.{first_misfit}
@@ -15,19 +15,19 @@ use Rattle.lc_parse.specs.declared.tree.Expr.{Expr}
 use Rattle.lc_parse.specs.Views.{tree_of, trees_of}
 use Rattle.lc_eval.specs.declared.values.Value.{Value}
 use Rattle.lc_eval.specs.Value.{value_of, values_of}
-use Rattle.lc_eval.proofs.ListLaws.{place_is}
+use Rattle.lc_eval.proofs.ListLaws.{offset_is}
 
-one_misfit : (kind : Kind) (kinds : List Kind) (e : tree.Expr) (es : tree.Exprs) (v : language.Value) (vs : List language.Value) → is_kind kind v ≡ false → first_misfit (kind ∷ kinds) (tree.more e es) (v ∷ vs) ≡ Some (place_of e)
+one_misfit : (kind : Kind) (kinds : List Kind) (e : tree.Expr) (es : tree.Exprs) (v : language.Value) (vs : List language.Value) → is_kind kind v ≡ false → first_misfit (kind ∷ kinds) (tree.more e es) (v ∷ vs) ≡ Some (offset_of e)
 unfolding first_misfit
-one_misfit kind kinds e es v vs h = ap (λ (x : Bool). elim x as (λ _. Option ℕ) [ true ↦ first_misfit kinds es vs | false ↦ Some (place_of e) ]) h
+one_misfit kind kinds e es v vs h = ap (λ (x : Bool). elim x as (λ _. Option ℕ) [ true ↦ first_misfit kinds es vs | false ↦ Some (offset_of e) ]) h
 
 one_fit : (kind : Kind) (kinds : List Kind) (e : tree.Expr) (es : tree.Exprs) (v : language.Value) (vs : List language.Value) → is_kind kind v ≡ true → first_misfit (kind ∷ kinds) (tree.more e es) (v ∷ vs) ≡ first_misfit kinds es vs
 unfolding first_misfit
-one_fit kind kinds e es v vs h = ap (λ (x : Bool). elim x as (λ _. Option ℕ) [ true ↦ first_misfit kinds es vs | false ↦ Some (place_of e) ]) h
+one_fit kind kinds e es v vs h = ap (λ (x : Bool). elim x as (λ _. Option ℕ) [ true ↦ first_misfit kinds es vs | false ↦ Some (offset_of e) ]) h
 
-pub misfit_first : (kinds later : List Kind) (kind : Kind) (es behind : List Expr) (e : Expr) (vs others : List Value) (v : Value) (r : Bool) → kinds ≡ kind ∷ later → es ≡ e ∷ behind → vs ≡ v ∷ others → r ≡ is_kind kind (value_of v) → r ≡ false → Some e.place ≡ first_misfit kinds (trees_of es) (values_of vs)
+pub misfit_first : (kinds later : List Kind) (kind : Kind) (es behind : List Expr) (e : Expr) (vs others : List Value) (v : Value) (r : Bool) → kinds ≡ kind ∷ later → es ≡ e ∷ behind → vs ≡ v ∷ others → r ≡ is_kind kind (value_of v) → r ≡ false → Some e.offset ≡ first_misfit kinds (trees_of es) (values_of vs)
 misfit_first kinds later kind es behind e vs others v r p q s is f =
-    rw (p, q, s) (ap Some (sym (place_is e)) ∙ sym (one_misfit kind later (tree_of e) (trees_of behind) (value_of v) (values_of others) (sym is ∙ f)))
+    rw (p, q, s) (ap Some (sym (offset_is e)) ∙ sym (one_misfit kind later (tree_of e) (trees_of behind) (value_of v) (values_of others) (sym is ∙ f)))
 
 pub misfit_later : (kinds later : List Kind) (kind : Kind) (es behind : List Expr) (e : Expr) (vs others : List Value) (v : Value) (r : Bool) → kinds ≡ kind ∷ later → es ≡ e ∷ behind → vs ≡ v ∷ others → r ≡ is_kind kind (value_of v) → r ≡ true → first_misfit later (trees_of behind) (values_of others) ≡ first_misfit kinds (trees_of es) (values_of vs)
 misfit_later kinds later kind es behind e vs others v r p q s is t =

@@ -1,11 +1,11 @@
 -- The rows of lists, and the elements of a list.
---   place_is                 the offset of a tree is that of its expression
+--   offset_is                the offset of a tree is that of its expression
 --   number_fits, list_fits   a number, and a list of numbers, fit as their values do
 --   misfit_refused           another value is refused
 --   misfit_element           the fault of a list whose elements fit up to one, and that one doesn't
 use Rattle.std.proofs.Common.{◌≡◌, ℕ, zero, suc, ◌<◌, List, [], ◌∷◌, length, drop, get_or, Result, Ok, Err, Some, None, refl, sym, subst, ap, ◌∙◌, arith}
 use Rattle.lc_grammar.specs.Tree as tree
-use Rattle.lc_grammar.specs.Tree.{place_of}
+use Rattle.lc_grammar.specs.Tree.{offset_of}
 use Rattle.lc_language.specs.Evaluation as evaluation
 use Rattle.lc_language.specs.Evaluation.{Outcome, gives, refused, refuse_at, nothing_yet, all_numbers, all_lists, listed_with, Evaluates, ListGoesOn, EvaluatesList}
 use Rattle.lc_language.specs.Value as language
@@ -23,25 +23,25 @@ use Rattle.lc_eval.specs.Listed.{listed_of, ListsOn}
 use Rattle.lc_eval.specs.declared.refusals.Stop.{Stop}
 use Rattle.lc_eval.specs.declared.refusals.Stop.TheVariants as stop
 
-place_step : (node : Node-F (ℕ → tree.Expr) tree.Expr) (place : ℕ) → place_of (node_step node place) ≡ place
-unfolding place_of
-place_step (Node-F.Number n) place = refl
-place_step (Node-F.Name x) place = refl
-place_step (Node-F.Call x es) place = refl
-place_step (Node-F.List es) place = refl
+offset_step : (node : Node-F (ℕ → tree.Expr) tree.Expr) (offset : ℕ) → offset_of (node_step node offset) ≡ offset
+unfolding offset_of
+offset_step (Node-F.Number n) offset = refl
+offset_step (Node-F.Name x) offset = refl
+offset_step (Node-F.Call x es) offset = refl
+offset_step (Node-F.List es) offset = refl
 
-pub place_is : (e : Expr) → place_of (tree_of e) ≡ e.place
-place_is e =
-    ap place_of (fold_out-Expr (ℕ → tree.Expr) tree.Expr node_step expr_step e)
-    ∙ ap (λ (f : ℕ → tree.Expr). place_of (f e.place)) (fold_out-Node (ℕ → tree.Expr) tree.Expr node_step expr_step e.node)
-    ∙ place_step _ e.place
+pub offset_is : (e : Expr) → offset_of (tree_of e) ≡ e.offset
+offset_is e =
+    ap offset_of (fold_out-Expr (ℕ → tree.Expr) tree.Expr node_step expr_step e)
+    ∙ ap (λ (f : ℕ → tree.Expr). offset_of (f e.offset)) (fold_out-Node (ℕ → tree.Expr) tree.Expr node_step expr_step e.node)
+    ∙ offset_step _ e.offset
 
 -- ---- one element
 
-lists_on_as : (r : Result Listed Stop) (found : evaluation.Listed) (v w : language.Value) (place : ℕ) → listed_with found v ≡ listed_with found w → ListsOn r found v place → ListsOn r found w place
-lists_on_as (Ok next) found v w place e h = sym e ∙ h
-lists_on_as (Err (stop.Refused r)) found v w place e h = (sym e ∙ h.0, h.1)
-lists_on_as (Err stop.NoMemory) found v w place e h = tt
+lists_on_as : (r : Result Listed Stop) (found : evaluation.Listed) (v w : language.Value) (offset : ℕ) → listed_with found v ≡ listed_with found w → ListsOn r found v offset → ListsOn r found w offset
+lists_on_as (Ok next) found v w offset e h = sym e ∙ h
+lists_on_as (Err (stop.Refused r)) found v w offset e h = (sym e ∙ h.0, h.1)
+lists_on_as (Err stop.NoMemory) found v w offset e h = tt
 
 as_number : (v : language.Value) (n : ℕ) → Some n ≡ number_in v → v ≡ language.number n
 unfolding number_in
@@ -53,8 +53,8 @@ as_number (language.code C form) n e = absurd (cc)
 as_number (language.truth b) n e = absurd (cc)
 as_number language.nothing n e = absurd (cc)
 
-pub number_fits : (found : evaluation.Listed) (v : language.Value) (n : ℕ) (r : Result Listed Stop) (place : ℕ) → Some n ≡ number_in v → ListsOn r found (language.number n) place → ListsOn r found v place
-number_fits found v n r place e h = subst (λ w. ListsOn r found w place) (sym (as_number v n e)) h
+pub number_fits : (found : evaluation.Listed) (v : language.Value) (n : ℕ) (r : Result Listed Stop) (offset : ℕ) → Some n ≡ number_in v → ListsOn r found (language.number n) offset → ListsOn r found v offset
+number_fits found v n r offset e h = subst (λ w. ListsOn r found w offset) (sym (as_number v n e)) h
 
 as_numbers : (found : evaluation.Listed) (v : language.Value) (u : List ℕ) → Some u ≡ numbers_in v → listed_with found (language.numbers u) ≡ listed_with found v
 unfolding numbers_in listed_with
@@ -69,8 +69,8 @@ as_numbers found (language.code C form) u e = absurd (cc)
 as_numbers found (language.truth b) u e = absurd (cc)
 as_numbers found language.nothing u e = absurd (cc)
 
-pub list_fits : (found : evaluation.Listed) (v : language.Value) (u w : List ℕ) (r : Result Listed Stop) (place : ℕ) → Some u ≡ numbers_in v → w ≡ u → ListsOn r found (language.numbers w) place → ListsOn r found v place
-list_fits found v u w r place e s h = lists_on_as r found (language.numbers u) v place (as_numbers found v u e) (subst (λ x. ListsOn r found (language.numbers x) place) s h)
+pub list_fits : (found : evaluation.Listed) (v : language.Value) (u w : List ℕ) (r : Result Listed Stop) (offset : ℕ) → Some u ≡ numbers_in v → w ≡ u → ListsOn r found (language.numbers w) offset → ListsOn r found v offset
+list_fits found v u w r offset e s h = lists_on_as r found (language.numbers u) v offset (as_numbers found v u e) (subst (λ x. ListsOn r found (language.numbers x) offset) s h)
 
 no_element : (found : evaluation.Listed) (v : language.Value) → None ≡ number_in v → None ≡ numbers_in v → listed_with found v ≡ None
 unfolding number_in numbers_in listed_with
@@ -84,8 +84,8 @@ no_element nothing_yet _ n e = refl
 no_element (all_numbers u) _ n e = refl
 no_element (all_lists us) _ n e = refl
 
-pub misfit_refused : (found : evaluation.Listed) (v : language.Value) (o : Outcome) (place : ℕ) → None ≡ number_in v → None ≡ numbers_in v → o ≡ refuse_at 45 place → (listed_with found v ≡ None) × (o ≡ refuse_at 45 place)
-misfit_refused found v o place n e is = (no_element found v n e, is)
+pub misfit_refused : (found : evaluation.Listed) (v : language.Value) (o : Outcome) (offset : ℕ) → None ≡ number_in v → None ≡ numbers_in v → o ≡ refuse_at 45 offset → (listed_with found v ≡ None) × (o ≡ refuse_at 45 offset)
+misfit_refused found v o offset n e is = (no_element found v n e, is)
 
 -- ---- the elements from one on
 
@@ -100,8 +100,8 @@ module _ (env : List language.Binding) (es : List Expr) (i : ℕ) (e : Expr) (fo
       let trees : tree.more (tree_of e) (trees_of (drop (suc i) es)) ≡ trees_of (drop i es) = ap (λ (x : Expr). tree.more (tree_of x) (trees_of (drop (suc i) es))) is ∙ sym (trees_from es i e l) in
       subst (λ (ts : tree.Exprs). EvaluatesList built_calls env ts (listed_of found) o) trees (p, h, k)
 
-  pub misfit_element : (s : Stop) (v : Value) (P : Outcome → Type 0) → i < length es → e ≡ get_or es i e → ((o : Outcome) → EvaluatesList built_calls env (trees_of (drop i es)) (listed_of found) o → P o) → Evaluates built_calls env (tree_of e) (gives (value_of v)) → ListsOn (Err s) (listed_of found) (value_of v) e.place → Answers (Err s) P
+  pub misfit_element : (s : Stop) (v : Value) (P : Outcome → Type 0) → i < length es → e ≡ get_or es i e → ((o : Outcome) → EvaluatesList built_calls env (trees_of (drop i es)) (listed_of found) o → P o) → Evaluates built_calls env (tree_of e) (gives (value_of v)) → ListsOn (Err s) (listed_of found) (value_of v) e.offset → Answers (Err s) P
   misfit_element (stop.Refused r) v P l is so_far h misfit =
-      let at : refused (refused_of r) ≡ refuse_at 45 (place_of (tree_of e)) = misfit.1 ∙ ap (refuse_at 45) (sym (place_is e)) in
+      let at : refused (refused_of r) ≡ refuse_at 45 (offset_of (tree_of e)) = misfit.1 ∙ ap (refuse_at 45) (sym (offset_is e)) in
       so_far (refused (refused_of r)) (from_element l is (refused (refused_of r)) (gives (value_of v)) h (rw misfit.0 at))
   misfit_element stop.NoMemory v P l is so_far h misfit = tt

@@ -6,7 +6,7 @@
 use Rattle.std.proofs.Common.{◌≡◌, ◌↔◌, ℕ, Bool, true, false, not, cond, ◌&&◌, ◌==◌, List, [], ◌∷◌, length, find, Option, Some, None, is_some, refl, sym, ap, subst, ◌∙◌, true≢false, arith}
 use Rattle.std.proofs.lemmas.Bool.Decides.{nat_tests}
 use Rattle.lc_constructions.proofs.ExpansionLaws.{not_true}
-use Rattle.lc_grammar.specs.Tree.{Exprs, none, more, count_of, place_of}
+use Rattle.lc_grammar.specs.Tree.{Exprs, none, more, count_of, offset_of}
 use Rattle.lc_language.specs.declared.Call.TheVariants.{Value as Value_, Query}
 use Rattle.lc_language.specs.declared.ValueCall.{ValueCall}
 use Rattle.lc_language.specs.declared.QueryCall.{QueryCall}
@@ -32,7 +32,7 @@ misfit_found [] es vs n = refl
 misfit_found (k ∷ kinds) none [] n = refl
 misfit_found (k ∷ kinds) none (v ∷ vs) n = absurd (omega (arith, n))
 misfit_found (k ∷ kinds) (more e es) [] n = absurd (omega (arith, n))
-misfit_found (k ∷ kinds) (more e es) (v ∷ vs) n = picked (is_kind k v) (first_misfit kinds es vs) (place_of e) (fits kinds vs) (misfit_found kinds es vs (omega (arith, n)))
+misfit_found (k ∷ kinds) (more e es) (v ∷ vs) n = picked (is_kind k v) (first_misfit kinds es vs) (offset_of e) (fits kinds vs) (misfit_found kinds es vs (omega (arith, n)))
 
 -- ---- what a form makes of values
 
@@ -74,17 +74,17 @@ some_there : (o : Option ℕ) → is_some o ≡ true → (p : ℕ) × (o ≡ Som
 some_there None h = absurd (true≢false (sym h))
 some_there (Some p) h = (p, refl)
 
-misfit_iff : {R : Type 0} (made : Option R) (o : Option ℕ) (b : Bool) → is_some made ≡ b → is_some o ≡ not b → (made ≡ None) ↔ ((place : ℕ) × (o ≡ Some place))
+misfit_iff : {R : Type 0} (made : Option R) (o : Option ℕ) (b : Bool) → is_some made ≡ b → is_some o ≡ not b → (made ≡ None) ↔ ((offset : ℕ) × (o ≡ Some offset))
 misfit_iff made o b h k = (
   (λ e. let f : b ≡ false = sym h ∙ ap is_some e in some_there o (k ∙ ap not f)),
   (λ p. none_there made (h ∙ not_true b (sym k ∙ ap is_some p.1))),
 )
 
-pub misfits_told : (c : ValueCall) (es : Exprs) (vs : List Value) (kinds : List Kind) → signature_for (Value_ c) (count_of es) ≡ Some kinds → count_of es ≡ length vs → (bind c vs ≡ None) ↔ ((place : ℕ) × (first_misfit kinds es vs ≡ Some place))
+pub misfits_told : (c : ValueCall) (es : Exprs) (vs : List Value) (kinds : List Kind) → signature_for (Value_ c) (count_of es) ≡ Some kinds → count_of es ≡ length vs → (bind c vs ≡ None) ↔ ((offset : ℕ) × (first_misfit kinds es vs ≡ Some offset))
 unfolding signature_for signatures bind
 misfits_told c es vs kinds s n = misfit_iff (bind c vs) (first_misfit kinds es vs) (fits kinds vs) (bound_fits (value_forms c) vs kinds (ap (λ (m : ℕ). find (λ ks. length ks == m) (kinds_of (value_forms c))) (sym n) ∙ s)) (misfit_found kinds es vs n)
 
-pub query_misfits_told : (c : QueryCall) (es : Exprs) (vs : List Value) (kinds : List Kind) → signature_for (Query c) (count_of es) ≡ Some kinds → count_of es ≡ length vs → (bind_query c vs ≡ None) ↔ ((place : ℕ) × (first_misfit kinds es vs ≡ Some place))
+pub query_misfits_told : (c : QueryCall) (es : Exprs) (vs : List Value) (kinds : List Kind) → signature_for (Query c) (count_of es) ≡ Some kinds → count_of es ≡ length vs → (bind_query c vs ≡ None) ↔ ((offset : ℕ) × (first_misfit kinds es vs ≡ Some offset))
 unfolding signature_for signatures bind_query
 query_misfits_told c es vs kinds s n = misfit_iff (bind_query c vs) (first_misfit kinds es vs) (fits kinds vs) (bound_fits (query_forms c) vs kinds (ap (λ (m : ℕ). find (λ ks. length ks == m) (kinds_of (query_forms c))) (sym n) ∙ s)) (misfit_found kinds es vs n)
 

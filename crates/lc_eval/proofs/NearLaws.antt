@@ -19,17 +19,17 @@ pub zero_told : (C : Matrix) (x w text : List ℕ) (d : ℕ) → length C.rows �
 unfolding near_line near_answer
 zero_told C x w text d e z f t = t ∙ rw (z, f, e) refl
 
-pub near_fault : (place : ℕ) (C : Matrix) (x : List ℕ) (s : Stop) → IsChecked C x place (Err s) → AffectsOrFails (Err s) (QueriesTo place (nearest_word C x))
+pub near_fault : (offset : ℕ) (C : Matrix) (x : List ℕ) (s : Stop) → IsChecked C x offset (Err s) → AffectsOrFails (Err s) (QueriesTo offset (nearest_word C x))
 unfolding query_refusal_of query_refusals_of
-near_fault place C x (stop.Refused r) (e, h, m) = rw h (fails_so place r e m)
-near_fault place C x stop.NoMemory h = tt
+near_fault offset C x (stop.Refused r) (e, h, m) = rw h (fails_so offset r e m)
+near_fault offset C x stop.NoMemory h = tt
 
-pub near_zero : (place : ℕ) (C : Matrix) (x w text : List ℕ) → IsRight C x w → length C.rows ≡ 0 → text ≡ near_line C w 0 → QueriesTo place (nearest_word C x) (prints text)
+pub near_zero : (offset : ℕ) (C : Matrix) (x w text : List ℕ) → IsRight C x w → length C.rows ≡ 0 → text ≡ near_line C w 0 → QueriesTo offset (nearest_word C x) (prints text)
 unfolding query_refusal_of query_refusals_of
-near_zero place C x w text h e t =
+near_zero offset C x w text h e t =
     let same : text ≡ near_line C x 0 = t ∙ ap (λ (u : List ℕ). near_line C u 0) h.same in
     rw h.unrefused (inl (e, ap (λ (l : List ℕ). prints l) same))
 
-pub near_asked : (place : ℕ) (C D : Matrix) (x w : List ℕ) → IsRight C x w → length C.rows ≢ 0 → D ≡ C → QueriesTo place (nearest_word C x) (nears D w)
+pub near_asked : (offset : ℕ) (C D : Matrix) (x w : List ℕ) → IsRight C x w → length C.rows ≢ 0 → D ≡ C → QueriesTo offset (nearest_word C x) (nears D w)
 unfolding query_refusal_of query_refusals_of
-near_asked place C D x w h e same = rw h.unrefused (inr (omega (arith, e), rw (same, h.same) refl))
+near_asked offset C D x w h e same = rw h.unrefused (inr (omega (arith, e), rw (same, h.same) refl))

@@ -89,42 +89,42 @@ matrix_few rows f h t = first_behind (from_codes (matrix_refusals f rows)) _ h �
 -- ---- the statement
 
 abbrev Querying : ℕ → List (List ℕ) → FieldName → Option Refusal → Step → Type 0
-Querying place rows f r step = MatchOption r (PrintsLeast rows f step) (λ r. step ≡ fail_with (refuse_call place r))
+Querying offset rows f r step = MatchOption r (PrintsLeast rows f step) (λ r. step ≡ fail_with (refuse_call offset r))
 
-querying : (place : ℕ) (rows : List (List ℕ)) (f : FieldName) (r : Option Refusal) (step : Step) → query_refusal_of (least_word rows f) ≡ r → Querying place rows f r step → QueriesTo place (least_word rows f) step
-querying place rows f r step e h = subst (λ t. Querying place rows f t step) (sym e) h
+querying : (offset : ℕ) (rows : List (List ℕ)) (f : FieldName) (r : Option Refusal) (step : Step) → query_refusal_of (least_word rows f) ≡ r → Querying offset rows f r step → QueriesTo offset (least_word rows f) step
+querying offset rows f r step e h = subst (λ t. Querying offset rows f t step) (sym e) h
 
-pub fails_so : (place : ℕ) (r : Refused) (refusal : Refusal) → refused (refused_of r) ≡ refuse_call place refusal → fails (refused_of r) ≡ fail_with (refuse_call place refusal)
+pub fails_so : (offset : ℕ) (r : Refused) (refusal : Refusal) → refused (refused_of r) ≡ refuse_call offset refusal → fails (refused_of r) ≡ fail_with (refuse_call offset refusal)
 unfolding fail_with
-fails_so place r refusal h = ap fail_with h
+fails_so offset r refusal h = ap fail_with h
 
-pub least_refused : (place : ℕ) (rows : List (Vec ℕ Global)) (f : FieldName) (words : List (List ℕ)) (e : CodeRefusal) (s : Stop)
+pub least_refused : (offset : ℕ) (rows : List (Vec ℕ Global)) (f : FieldName) (words : List (List ℕ)) (e : CodeRefusal) (s : Stop)
     → words ≡ map (λ row. clamped row.items) rows
-    → IsRefusedAs {T = Matrix} (Err e) (first_refusal (matrix_refusals f words)) → IsMade (Err e) place (Err s) → AffectsOrFails (Err s) (QueriesTo place (least_word (rows_of rows) f))
-least_refused place rows f words e (stop.Refused r) w h m =
+    → IsRefusedAs {T = Matrix} (Err e) (first_refusal (matrix_refusals f words)) → IsMade (Err e) offset (Err s) → AffectsOrFails (Err s) (QueriesTo offset (least_word (rows_of rows) f))
+least_refused offset rows f words e (stop.Refused r) w h m =
     let given : List (List ℕ) = rows_of rows in
     let c : words ≡ clamped_rows given = w ∙ clamped_each rows in
     let o : first_refusal (matrix_refusals f (clamped_rows given)) ≡ Some e = subst (λ u. first_refusal (matrix_refusals f u) ≡ Some e) c (h m.0) in
     let first : query_refusal_of (least_word given f) ≡ Some (refusal_from e) = matrix_first given f (refusal_from e) (first_from_codes (matrix_refusals f given) ∙ ap (option_map refusal_from) (sym (clamped_refusals f given) ∙ o)) in
-    (querying place given f (Some (refusal_from e)) (fails (refused_of r)) first (fails_so place r (refusal_from e) m.1))
-least_refused place rows f words e stop.NoMemory w h m = tt
+    (querying offset given f (Some (refusal_from e)) (fails (refused_of r)) first (fails_so offset r (refusal_from e) m.1))
+least_refused offset rows f words e stop.NoMemory w h m = tt
 
 unrefused : (f : FieldName) (given words : List (List ℕ)) → words ≡ clamped_rows given → first_refusal (matrix_refusals f words) ≡ None → (first_refusal (matrix_refusals f (clamped_rows given)) ≡ None) × (first_of (from_codes (matrix_refusals f given)) ≡ None)
 unrefused f given words c h =
     let k : first_refusal (matrix_refusals f (clamped_rows given)) ≡ None = subst (λ u. first_refusal (matrix_refusals f u) ≡ None) c h in
     (k, first_from_codes (matrix_refusals f given) ∙ ap (option_map refusal_from) (sym (clamped_refusals f given) ∙ k))
 
-pub least_many : (place : ℕ) (rows : List (Vec ℕ Global)) (f : FieldName) (words : List (List ℕ)) (C : Matrix) (b : Bool) (r : Refused)
+pub least_many : (offset : ℕ) (rows : List (Vec ℕ Global)) (f : FieldName) (words : List (List ℕ)) (C : Matrix) (b : Bool) (r : Refused)
     → words ≡ map (λ row. clamped row.items) rows
-    → IsRefusedAs (Ok C) (first_refusal (matrix_refusals f words)) → b ≡ nat_lt (2 ^ 16) (size f ^ length rows) → b ≡ true → refused (refused_of r) ≡ refuse_at 16 place
-    → QueriesTo place (least_word (rows_of rows) f) (fails (refused_of r))
+    → IsRefusedAs (Ok C) (first_refusal (matrix_refusals f words)) → b ≡ nat_lt (2 ^ 16) (size f ^ length rows) → b ≡ true → refused (refused_of r) ≡ refuse_at 16 offset
+    → QueriesTo offset (least_word (rows_of rows) f) (fails (refused_of r))
 unfolding fail_with refuse_call refuse refuse_at
-least_many place rows f words C b r w h t e z =
+least_many offset rows f words C b r w h t e z =
     let given : List (List ℕ) = rows_of rows in
     let c : words ≡ clamped_rows given = w ∙ clamped_each rows in
     let n = unrefused f given words c h in
     let many : nat_lt (2 ^ 16) (size f ^ length given) ≡ true = ap (λ m. nat_lt (2 ^ 16) (size f ^ m)) (length-map rows (λ row. row.items)) ∙ sym t ∙ e in
-    querying place given f (Some (refuse 16 [])) (fails (refused_of r)) (matrix_many given f n.1 many) (ap fail_with z)
+    querying offset given f (Some (refuse 16 [])) (fails (refused_of r)) (matrix_many given f n.1 many) (ap fail_with z)
 
 -- ---- the line
 
@@ -141,12 +141,12 @@ printed : (rows : List (List ℕ)) (f : FieldName) (text : List ℕ) → IsLeast
 printed rows f text (inl t) = inl (t.0, t.1, ap (λ (x : List ℕ). prints x) t.2)
 printed rows f text (inr t) = inr (t.0, ap (λ (x : List ℕ). prints x) t.1)
 
-pub least_told : (place : ℕ) (rows : List (Vec ℕ Global)) (f : FieldName) (words : List (List ℕ)) (C : Matrix) (b : Bool) (text : List ℕ)
+pub least_told : (offset : ℕ) (rows : List (Vec ℕ Global)) (f : FieldName) (words : List (List ℕ)) (C : Matrix) (b : Bool) (text : List ℕ)
     → words ≡ map (λ row. clamped row.items) rows
     → IsRefusedAs (Ok C) (first_refusal (matrix_refusals f words)) → IsCode f (columns_of words) (GeneratedBy f (columns_of words) words) C
     → b ≡ nat_lt (2 ^ 16) (size f ^ length rows) → b ≡ false
-    → IsLeastLine C.field C.columns C.rows text → QueriesTo place (least_word (rows_of rows) f) (prints text)
-least_told place rows f words C b text w h i t e l =
+    → IsLeastLine C.field C.columns C.rows text → QueriesTo offset (least_word (rows_of rows) f) (prints text)
+least_told offset rows f words C b text w h i t e l =
     let given : List (List ℕ) = rows_of rows in
     let c : words ≡ clamped_rows given = w ∙ clamped_each rows in
     let n = unrefused f given words c h in
@@ -159,7 +159,7 @@ least_told place rows f words C b text w h i t e l =
     let moved : IsLeastLine f (columns_of words) words text = line_moved f (columns_of words) C.rows words text (span_moved f (columns_of words) words C fit i) at in
     let here : IsLeastLine f (columns_of given) words text = subst (λ m. IsLeastLine f m words text) long moved in
     let line : IsLeastLine f (columns_of given) given text = subst (λ u. IsLeastLine f (columns_of given) u text) same here in
-    (querying place given f None (prints text) (matrix_few given f n.1 few) (printed given f text line))
+    (querying offset given f None (prints text) (matrix_few given f n.1 few) (printed given f text line))
 
 -- ---- queries that a search answers
 
@@ -182,17 +182,17 @@ pub scan_none : (C : Matrix) (text : List ℕ) → length C.rows ≡ 0 → text 
 unfolding query_line
 scan_none C text e t = t ∙ sym (certificate_of_none by_scan C e)
 
-pub asks_distance : (place : ℕ) (C : Matrix) (r : Result Effect Stop) → AffectsOrFails r (AsksOf distance C) → AffectsOrFails r (QueriesTo place (minimum_distance C))
+pub asks_distance : (offset : ℕ) (C : Matrix) (r : Result Effect Stop) → AffectsOrFails r (AsksOf distance C) → AffectsOrFails r (QueriesTo offset (minimum_distance C))
 unfolding query_refusal_of query_refusals_of first_of
-asks_distance place C r h = h
+asks_distance offset C r h = h
 
-pub asks_levels : (place : ℕ) (C : Matrix) (r : Result Effect Stop) → AffectsOrFails r (AsksOf by_levels C) → AffectsOrFails r (QueriesTo place (certificate C))
+pub asks_levels : (offset : ℕ) (C : Matrix) (r : Result Effect Stop) → AffectsOrFails r (AsksOf by_levels C) → AffectsOrFails r (QueriesTo offset (certificate C))
 unfolding query_refusal_of query_refusals_of first_of
-asks_levels place C r h = h
+asks_levels offset C r h = h
 
-pub asks_scan : (place : ℕ) (C : Matrix) (r : Result Effect Stop) → AffectsOrFails r (AsksOf by_scan C) → AffectsOrFails r (QueriesTo place (scan_certificate C))
+pub asks_scan : (offset : ℕ) (C : Matrix) (r : Result Effect Stop) → AffectsOrFails r (AsksOf by_scan C) → AffectsOrFails r (QueriesTo offset (scan_certificate C))
 unfolding query_refusal_of query_refusals_of first_of
-asks_scan place C r h = h
+asks_scan offset C r h = h
 
 pub ruleset answer_laws = (asks_distance, asks_levels, asks_scan)
 
@@ -206,15 +206,15 @@ distribution_first C None e = ap (λ (o : Option NoDistribution). first_of (opti
 distribution_first C (Some r) e = ap (λ (o : Option NoDistribution). first_of (option_map (λ (r : NoDistribution). refuse 47 (r.dimension ∷ r.codimension ∷ [])) o ∷ [])) e
 
 abbrev Counting : ℕ → Matrix → Option Refusal → Step → Type 0
-Counting place C r step = MatchOption r (step ≡ counts C) (λ r. step ≡ fail_with (refuse_call place r))
+Counting offset C r step = MatchOption r (step ≡ counts C) (λ r. step ≡ fail_with (refuse_call offset r))
 
-pub distribution_refused : (place : ℕ) (C : Matrix) (r : Refused) (sizes : DistributionRefusal) (o : Option DistributionRefusal) → o ≡ Some sizes → option_map refused_sizes o ≡ distribution_refusal (size C.field) C.columns (length C.rows)
-    → refused (refused_of r) ≡ refuse_call place (refuse 47 (sizes.dimension ∷ sizes.codimension ∷ [])) → QueriesTo place (weight_distribution C) (fails (refused_of r))
-distribution_refused place C r sizes o is told m =
+pub distribution_refused : (offset : ℕ) (C : Matrix) (r : Refused) (sizes : DistributionRefusal) (o : Option DistributionRefusal) → o ≡ Some sizes → option_map refused_sizes o ≡ distribution_refusal (size C.field) C.columns (length C.rows)
+    → refused (refused_of r) ≡ refuse_call offset (refuse 47 (sizes.dimension ∷ sizes.codimension ∷ [])) → QueriesTo offset (weight_distribution C) (fails (refused_of r))
+distribution_refused offset C r sizes o is told m =
     let first = distribution_first C (Some (refused_sizes sizes)) (sym told ∙ ap (option_map refused_sizes) is) in
-    subst (λ t. Counting place C t (fails (refused_of r))) (sym first) (fails_so place r (refuse 47 (sizes.dimension ∷ sizes.codimension ∷ [])) m)
+    subst (λ t. Counting offset C t (fails (refused_of r))) (sym first) (fails_so offset r (refuse 47 (sizes.dimension ∷ sizes.codimension ∷ [])) m)
 
-pub distribution_asked : (place : ℕ) (C D : Matrix) (o : Option DistributionRefusal) → o ≡ None → option_map refused_sizes o ≡ distribution_refusal (size C.field) C.columns (length C.rows) → D ≡ C → QueriesTo place (weight_distribution C) (counts D)
-distribution_asked place C D o is told same =
+pub distribution_asked : (offset : ℕ) (C D : Matrix) (o : Option DistributionRefusal) → o ≡ None → option_map refused_sizes o ≡ distribution_refusal (size C.field) C.columns (length C.rows) → D ≡ C → QueriesTo offset (weight_distribution C) (counts D)
+distribution_asked offset C D o is told same =
     let first = distribution_first C None (sym told ∙ ap (option_map refused_sizes) is) in
-    subst (λ t. Counting place C t (counts D)) (sym first) (ap counts same)
+    subst (λ t. Counting offset C t (counts D)) (sym first) (ap counts same)

@@ -48,35 +48,35 @@ use Rattle.lc_eval.proofs.QueryLaws.{first_stays, first_behind}
 
 -- ---- a code and a word
 
-pub word_fault : (place : ℕ) (b : BoundCall) (C : Matrix) (x : List ℕ) (s : Stop) → refusals_of b ≡ from_codes (word_refusals C x) → IsChecked C x place (Err s) → Answers (Err s) (AppliesTo place b)
+pub word_fault : (offset : ℕ) (b : BoundCall) (C : Matrix) (x : List ℕ) (s : Stop) → refusals_of b ≡ from_codes (word_refusals C x) → IsChecked C x offset (Err s) → Answers (Err s) (AppliesTo offset b)
 unfolding refusal_of
-word_fault place b C x (stop.Refused r) q (e, h, m) = applying place b (Some e) (Err (stop.Refused r)) (ap first_of q ∙ h) m
-word_fault place b C x stop.NoMemory q h = tt
+word_fault offset b C x (stop.Refused r) q (e, h, m) = applying offset b (Some e) (Err (stop.Refused r)) (ap first_of q ∙ h) m
+word_fault offset b C x stop.NoMemory q h = tt
 
-pub syndrome_fault : (place : ℕ) (C : Matrix) (x : List ℕ) (s : Stop) → IsChecked C x place (Err s) → Answers (Err s) (AppliesTo place (syndrome_of C x))
+pub syndrome_fault : (offset : ℕ) (C : Matrix) (x : List ℕ) (s : Stop) → IsChecked C x offset (Err s) → Answers (Err s) (AppliesTo offset (syndrome_of C x))
 unfolding refusals_of
-syndrome_fault place C x s h = word_fault place (syndrome_of C x) C x s refl h
+syndrome_fault offset C x s h = word_fault offset (syndrome_of C x) C x s refl h
 
-pub syndrome_told : (place : ℕ) (C : Matrix) (x w u : List ℕ) (v : Value_) → IsRight C x w → (H : Matrix) × IsCode C.field C.columns (InDual C) H × (u ≡ syndrome C.field H.rows w) → v ≡ numbers u → AppliesTo place (syndrome_of C x) (gives v)
+pub syndrome_told : (offset : ℕ) (C : Matrix) (x w u : List ℕ) (v : Value_) → IsRight C x w → (H : Matrix) × IsCode C.field C.columns (InDual C) H × (u ≡ syndrome C.field H.rows w) → v ≡ numbers u → AppliesTo offset (syndrome_of C x) (gives v)
 unfolding refusal_of refusals_of
-syndrome_told place C x w u v h (H, d, e) t =
-    given_by place (syndrome_of C x) v h.unrefused (λ n. n) (H, d, t ∙ ap (λ (y : List ℕ). numbers y) (e ∙ ap (syndrome C.field H.rows) h.same))
+syndrome_told offset C x w u v h (H, d, e) t =
+    given_by offset (syndrome_of C x) v h.unrefused (λ n. n) (H, d, t ∙ ap (λ (y : List ℕ). numbers y) (e ∙ ap (syndrome C.field H.rows) h.same))
 
 -- ---- two codes
 
-pub truth_applies : (place : ℕ) (b : BoundCall) (rs : List (Option CodeRefusal)) (P : Type 0) (made : Result Bool CodeRefusal) (result : Result Value Stop)
+pub truth_applies : (offset : ℕ) (b : BoundCall) (rs : List (Option CodeRefusal)) (P : Type 0) (made : Result Bool CodeRefusal) (result : Result Value Stop)
     → refusals_of b ≡ from_codes rs → ¬ IsNotDivisor b → ((t : Bool) → IsTrue t ↔ P → Gives b (truth t))
-    → IfOk made (λ t. IsTrue t ↔ P) → IsRefusedAs made (first_refusal rs) → IsMadeAs truth made place result → Answers result (AppliesTo place b)
-truth_applies place b rs P made result e fine g c h s =
-    applied place b rs truth made result e fine (λ t m o. let is : IsTrue t ↔ P = rw m at c in g t is) h s
+    → IfOk made (λ t. IsTrue t ↔ P) → IsRefusedAs made (first_refusal rs) → IsMadeAs truth made offset result → Answers result (AppliesTo offset b)
+truth_applies offset b rs P made result e fine g c h s =
+    applied offset b rs truth made result e fine (λ t m o. let is : IsTrue t ↔ P = rw m at c in g t is) h s
 
-pub subcode_applies : (place : ℕ) (C D : Matrix) (made : Result Bool CodeRefusal) (result : Result Value Stop) → IfOk made (λ t. IsTrue t ↔ IsSubcode C D) → IsRefusedAs made (first_refusal (intersection_refusals C D)) → IsMadeAs truth made place result → Answers result (AppliesTo place (is_subcode C D))
+pub subcode_applies : (offset : ℕ) (C D : Matrix) (made : Result Bool CodeRefusal) (result : Result Value Stop) → IfOk made (λ t. IsTrue t ↔ IsSubcode C D) → IsRefusedAs made (first_refusal (intersection_refusals C D)) → IsMadeAs truth made offset result → Answers result (AppliesTo offset (is_subcode C D))
 unfolding refusals_of
-subcode_applies place C D made result c h s = truth_applies place (is_subcode C D) (intersection_refusals C D) (IsSubcode C D) made result refl (λ n. n) (λ t is. (t, refl, is)) c h s
+subcode_applies offset C D made result c h s = truth_applies offset (is_subcode C D) (intersection_refusals C D) (IsSubcode C D) made result refl (λ n. n) (λ t is. (t, refl, is)) c h s
 
-pub same_applies : (place : ℕ) (C D : Matrix) (made : Result Bool CodeRefusal) (result : Result Value Stop) → IfOk made (λ t. IsTrue t ↔ IsSameCode C D) → IsRefusedAs made (first_refusal (intersection_refusals C D)) → IsMadeAs truth made place result → Answers result (AppliesTo place (is_same_code C D))
+pub same_applies : (offset : ℕ) (C D : Matrix) (made : Result Bool CodeRefusal) (result : Result Value Stop) → IfOk made (λ t. IsTrue t ↔ IsSameCode C D) → IsRefusedAs made (first_refusal (intersection_refusals C D)) → IsMadeAs truth made offset result → Answers result (AppliesTo offset (is_same_code C D))
 unfolding refusals_of
-same_applies place C D made result c h s = truth_applies place (is_same_code C D) (intersection_refusals C D) (IsSameCode C D) made result refl (λ n. n) (λ t is. (t, refl, is)) c h s
+same_applies offset C D made result c h s = truth_applies offset (is_same_code C D) (intersection_refusals C D) (IsSameCode C D) made result refl (λ n. n) (λ t is. (t, refl, is)) c h s
 
 -- ---- words
 
@@ -108,11 +108,11 @@ add_kept f x y h =
     let l = symbol_size f a.0 in
     (elements_kept f x l c.0, elements_kept f y l d.0)
 
-pub add_applies : (place : ℕ) (x y : List ℕ) (f : FieldName) (u v : List ℕ) (made : Result (List ℕ) CodeRefusal) (result : Result Value Stop) → u ≡ clamped x → v ≡ clamped y → IfOk made (λ w. w ≡ word_sum f u v) → IsRefusedAs made (first_refusal (add_refusals f u v)) → IsMadeAs numbers made place result → Answers result (AppliesTo place (add_words x y f))
+pub add_applies : (offset : ℕ) (x y : List ℕ) (f : FieldName) (u v : List ℕ) (made : Result (List ℕ) CodeRefusal) (result : Result Value Stop) → u ≡ clamped x → v ≡ clamped y → IfOk made (λ w. w ≡ word_sum f u v) → IsRefusedAs made (first_refusal (add_refusals f u v)) → IsMadeAs numbers made offset result → Answers result (AppliesTo offset (add_words x y f))
 unfolding refusals_of
-add_applies place x y f u v made result a b c h s =
+add_applies offset x y f u v made result a b c h s =
     let refused : IsRefusedAs made (first_refusal (add_refusals f x y)) = subst (IsRefusedAs made) (ap₂ (λ (p q : List ℕ). first_refusal (add_refusals f p q)) a b ∙ add_same f x y) h in
-    applied place (add_words x y f) (add_refusals f x y) numbers made result refl (λ n. n)
+    applied offset (add_words x y f) (add_refusals f x y) numbers made result refl (λ n. n)
     (λ w m o.
     let kept = add_kept f x y o in
     let is : w ≡ word_sum f u v = rw m at c in
@@ -143,21 +143,21 @@ scale_kept f c x h =
     let less : c < size f = (Decides-ltb c (size f)).0 b.0 in
     (omega (arith, l, less), elements_kept f x l d.0)
 
-pub scale_applies : (place c : ℕ) (x : List ℕ) (f : FieldName) (e : ℕ) (u : List ℕ) (made : Result (List ℕ) CodeRefusal) (result : Result Value Stop) → e ≡ min c 255 → u ≡ clamped x → IfOk made (λ w. w ≡ scale f e u) → IsRefusedAs made (first_refusal (scale_refusals f e u)) → IsMadeAs numbers made place result → Answers result (AppliesTo place (scale_word c x f))
+pub scale_applies : (offset c : ℕ) (x : List ℕ) (f : FieldName) (e : ℕ) (u : List ℕ) (made : Result (List ℕ) CodeRefusal) (result : Result Value Stop) → e ≡ min c 255 → u ≡ clamped x → IfOk made (λ w. w ≡ scale f e u) → IsRefusedAs made (first_refusal (scale_refusals f e u)) → IsMadeAs numbers made offset result → Answers result (AppliesTo offset (scale_word c x f))
 unfolding refusals_of
-scale_applies place c x f e u made result a b t h s =
+scale_applies offset c x f e u made result a b t h s =
     let refused : IsRefusedAs made (first_refusal (scale_refusals f c x)) = subst (IsRefusedAs made) (ap₂ (λ (p : ℕ) (q : List ℕ). first_refusal (scale_refusals f p q)) a b ∙ scale_same f c x) h in
-    applied place (scale_word c x f) (scale_refusals f c x) numbers made result refl (λ n. n)
+    applied offset (scale_word c x f) (scale_refusals f c x) numbers made result refl (λ n. n)
     (λ w m o.
     let kept = scale_kept f c x o in
     let is : w ≡ scale f e u = rw m at t in
     ap (λ (z : List ℕ). numbers z) (is ∙ ap₂ (scale f) (a ∙ kept.0) (b ∙ kept.1)))
     refused s
 
-pub distance_applies : (place : ℕ) (x y : List ℕ) (made : Result ℕ CodeRefusal) (result : Result Value Stop) → IfOk made (λ d. d ≡ hamming_distance x y) → IsRefusedAs made (first_refusal (distance_refusals x y)) → IsMadeAs number made place result → Answers result (AppliesTo place (distance_codeword x y))
+pub distance_applies : (offset : ℕ) (x y : List ℕ) (made : Result ℕ CodeRefusal) (result : Result Value Stop) → IfOk made (λ d. d ≡ hamming_distance x y) → IsRefusedAs made (first_refusal (distance_refusals x y)) → IsMadeAs number made offset result → Answers result (AppliesTo offset (distance_codeword x y))
 unfolding refusals_of
-distance_applies place x y made result c h s =
-    applied place (distance_codeword x y) (distance_refusals x y) number made result refl (λ n. n)
+distance_applies offset x y made result c h s =
+    applied offset (distance_codeword x y) (distance_refusals x y) number made result refl (λ n. n)
     (λ d m o. let is : d ≡ hamming_distance x y = rw m at c in ap (λ (n : ℕ). number n) is)
     h s
 
@@ -174,20 +174,20 @@ message_kept C x s h =
     let b = none_here (are_elements C.field x) (BadArgument 2) [] a.1 in
     elements_kept C.field x (symbol_size C.field s) b.0
 
-pub encode_applies : (place : ℕ) (C : Matrix) (x u : List ℕ) (made : Result (List ℕ) CodeRefusal) (result : Result Value Stop) → IsTrue (is_symbol C.field) → u ≡ clamped x → IfOk made (λ w. w ≡ combine C.field C.columns u C.rows) → IsRefusedAs made (first_refusal (message_refusals C u)) → IsMadeAs numbers made place result → Answers result (AppliesTo place (encode C x))
+pub encode_applies : (offset : ℕ) (C : Matrix) (x u : List ℕ) (made : Result (List ℕ) CodeRefusal) (result : Result Value Stop) → IsTrue (is_symbol C.field) → u ≡ clamped x → IfOk made (λ w. w ≡ combine C.field C.columns u C.rows) → IsRefusedAs made (first_refusal (message_refusals C u)) → IsMadeAs numbers made offset result → Answers result (AppliesTo offset (encode C x))
 unfolding refusals_of
-encode_applies place C x u made result y a c h s =
+encode_applies offset C x u made result y a c h s =
     let refused : IsRefusedAs made (first_refusal (message_refusals C x)) = subst (IsRefusedAs made) (ap (λ (p : List ℕ). first_refusal (message_refusals C p)) a ∙ message_same C x y) h in
-    applied place (encode C x) (message_refusals C x) numbers made result refl (λ n. n)
+    applied offset (encode C x) (message_refusals C x) numbers made result refl (λ n. n)
     (λ w m o.
     let is : w ≡ combine C.field C.columns u C.rows = rw m at c in
     ap (λ (z : List ℕ). numbers z) (is ∙ ap (λ (p : List ℕ). combine C.field C.columns p C.rows) (a ∙ message_kept C x y o)))
     refused s
 
-pub information_fault : (place : ℕ) (C : Matrix) (x : List ℕ) (s : Stop) → IsChecked C x place (Err s) → Answers (Err s) (AppliesTo place (information_word C x))
+pub information_fault : (offset : ℕ) (C : Matrix) (x : List ℕ) (s : Stop) → IsChecked C x offset (Err s) → Answers (Err s) (AppliesTo offset (information_word C x))
 unfolding refusal_of refusals_of
-information_fault place C x (stop.Refused r) (e, h, m) = applying place (information_word C x) (Some e) (Err (stop.Refused r)) (first_stays (from_codes (word_refusals C x)) _ e h) m
-information_fault place C x stop.NoMemory h = tt
+information_fault offset C x (stop.Refused r) (e, h, m) = applying offset (information_word C x) (Some e) (Err (stop.Refused r)) (first_stays (from_codes (word_refusals C x)) _ e h) m
+information_fault offset C x stop.NoMemory h = tt
 
 inside_first : (C : Matrix) (x : List ℕ) → first_of (from_codes (word_refusals C x)) ≡ None → in_span C.field C.columns C.rows x ≡ true → refusal_of (information_word C x) ≡ None
 unfolding refusal_of refusals_of not_codeword when first_of
@@ -204,19 +204,19 @@ left_out C x w h out =
     (λ (t : in_span C.field C.columns C.rows x ≡ false). t)
     (cases_Bool (in_span C.field C.columns C.rows x))
 
-pub information_none : (place : ℕ) (C : Matrix) (x w : List ℕ) (r : Refused) (o : Option (List ℕ)) → IsRight C x w → IsSome o ↔ InCode C w → o ≡ None → refused (refused_of r) ≡ refuse_at 50 place → AppliesTo place (information_word C x) (refused (refused_of r))
+pub information_none : (offset : ℕ) (C : Matrix) (x w : List ℕ) (r : Refused) (o : Option (List ℕ)) → IsRight C x w → IsSome o ↔ InCode C w → o ≡ None → refused (refused_of r) ≡ refuse_at 50 offset → AppliesTo offset (information_word C x) (refused (refused_of r))
 unfolding refuse_call refuse refuse_at
-information_none place C x w r (Some u) h t e m = absurd (true≢false (ap is_some e))
-information_none place C x w r None h t e m =
-    applying place (information_word C x) (Some (refuse 50 [])) (Err (stop.Refused r)) (outside_first C x h.unrefused (left_out C x w h (λ i. true≢false (sym (t.1 i))))) m
+information_none offset C x w r (Some u) h t e m = absurd (true≢false (ap is_some e))
+information_none offset C x w r None h t e m =
+    applying offset (information_word C x) (Some (refuse 50 [])) (Err (stop.Refused r)) (outside_first C x h.unrefused (left_out C x w h (λ i. true≢false (sym (t.1 i))))) m
 
-pub information_told : (place : ℕ) (C : Matrix) (x w u t : List ℕ) (v : Value_) (o : Option (List ℕ)) → IsRight C x w → IfSome o (λ a. IsMessageOf C w a) → IsSome o ↔ InCode C w → o ≡ Some u → t ≡ u → v ≡ numbers t → AppliesTo place (information_word C x) (gives v)
-information_told place C x w u t v None h is exact e same told = absurd (true≢false (sym (ap is_some e)))
-information_told place C x w u t v (Some a) h is exact e same told =
+pub information_told : (offset : ℕ) (C : Matrix) (x w u t : List ℕ) (v : Value_) (o : Option (List ℕ)) → IsRight C x w → IfSome o (λ a. IsMessageOf C w a) → IsSome o ↔ InCode C w → o ≡ Some u → t ≡ u → v ≡ numbers t → AppliesTo offset (information_word C x) (gives v)
+information_told offset C x w u t v None h is exact e same told = absurd (true≢false (sym (ap is_some e)))
+information_told offset C x w u t v (Some a) h is exact e same told =
     let inside : in_span C.field C.columns C.rows x ≡ true = true_in_span C.field C.columns C.rows x (subst (InCode C) h.same (exact.0 refl)) in
     let message : IsMessageOf C x a = subst (λ (y : List ℕ). IsMessageOf C y a) h.same is in
     let one : a ≡ u = cc e in
-    given_by place (information_word C x) v (inside_first C x h.unrefused inside) (λ n. n) (a, message, told ∙ ap (λ (z : List ℕ). numbers z) (same ∙ sym one))
+    given_by offset (information_word C x) v (inside_first C x h.unrefused inside) (λ n. n) (a, message, told ∙ ap (λ (z : List ℕ). numbers z) (same ∙ sym one))
 
 -- ---- codes with further rows
 
@@ -232,15 +232,15 @@ augmented_kept C rows s h =
     let l = symbol_size C.field s in
     rows_kept C.field rows l (entries_same C.field rows l ∙ b.0)
 
-pub augmented_applies : (place : ℕ) (C : Matrix) (rows : List (Vec ℕ Global)) (words : List (List ℕ)) (made : Result Matrix CodeRefusal) (result : Result Value Stop)
+pub augmented_applies : (offset : ℕ) (C : Matrix) (rows : List (Vec ℕ Global)) (words : List (List ℕ)) (made : Result Matrix CodeRefusal) (result : Result Value Stop)
     → IsTrue (is_symbol C.field) → words ≡ map (λ row. clamped row.items) rows → IfOk made (λ E. IsCode C.field C.columns (InAugmented C words) E)
-    → IsRefusedAs made (first_refusal (augmented_refusals C words)) → IsMade made place result → Answers result (AppliesTo place (augmented_code C (rows_of rows)))
+    → IsRefusedAs made (first_refusal (augmented_refusals C words)) → IsMade made offset result → Answers result (AppliesTo offset (augmented_code C (rows_of rows)))
 unfolding refusals_of
-augmented_applies place C rows words made result y w c h s =
+augmented_applies offset C rows words made result y w c h s =
     let given : List (List ℕ) = rows_of rows in
     let a : words ≡ clamped_rows given = w ∙ clamped_each rows in
     let refused : IsRefusedAs made (first_refusal (augmented_refusals C given)) = subst (IsRefusedAs made) (ap (λ (p : List (List ℕ)). first_refusal (augmented_refusals C p)) a ∙ augmented_same C given y) h in
-    applied place (augmented_code C given) (augmented_refusals C given) plain_value made result refl (λ n. n)
+    applied offset (augmented_code C given) (augmented_refusals C given) plain_value made result refl (λ n. n)
     (λ E m o.
     let is : IsCode C.field C.columns (InAugmented C words) E = rw m at c in
     record { code_is = (E, subst (λ (p : List (List ℕ)). IsCode C.field C.columns (InAugmented C p) E) (a ∙ augmented_kept C given y o) is, refl) })

@@ -29,28 +29,28 @@ use Rattle.lc_language.proofs.RefusalLaws.{first_from_codes}
 use Rattle.lc_eval.proofs.AnswerLaws.{applying, given_by}
 use Rattle.lc_eval.proofs.QueryLaws.{first_stays, first_behind}
 
-pub residue_fault : (place n : ℕ) (f : FieldName) (e : CodeRefusal) (s : Stop) → (e ≢ NoMemory → first_refusal (length_refusals f n) ≡ Some e) → IsMade (Err e) place (Err s) → Answers (Err s) (AppliesTo place (qr_code n f))
+pub residue_fault : (offset n : ℕ) (f : FieldName) (e : CodeRefusal) (s : Stop) → (e ≢ NoMemory → first_refusal (length_refusals f n) ≡ Some e) → IsMade (Err e) offset (Err s) → Answers (Err s) (AppliesTo offset (qr_code n f))
 unfolding refusal_of refusals_of
-residue_fault place n f e (stop.Refused r) h m =
+residue_fault offset n f e (stop.Refused r) h m =
     let first : first_of (from_codes (length_refusals f n)) ≡ Some (refusal_from e) = first_from_codes (length_refusals f n) ∙ ap (option_map refusal_from) (h m.0) in
-    applying place (qr_code n f) (Some (refusal_from e)) (Err (stop.Refused r)) (first_stays (from_codes (length_refusals f n)) _ (refusal_from e) first) m.1
-residue_fault place n f e stop.NoMemory h m = tt
+    applying offset (qr_code n f) (Some (refusal_from e)) (Err (stop.Refused r)) (first_stays (from_codes (length_refusals f n)) _ (refusal_from e) first) m.1
+residue_fault offset n f e stop.NoMemory h m = tt
 
 residue_behind : (n : ℕ) (f : FieldName) → first_refusal (length_refusals f n) ≡ None → refusal_of (qr_code n f) ≡ first_of (not_residue_length f n ∷ [])
 unfolding refusal_of refusals_of
 residue_behind n f h = first_behind (from_codes (length_refusals f n)) _ (first_from_codes (length_refusals f n) ∙ ap (option_map refusal_from) h)
 
-pub residue_none : (place n : ℕ) (f : FieldName) (o : Option Matrix) (r : Refused) → first_refusal (length_refusals f n) ≡ None → IsSome o ↔ IsTrue (is_residue_length (size f) n) → o ≡ None → refused (refused_of r) ≡ refuse_at 53 place → AppliesTo place (qr_code n f) (refused (refused_of r))
+pub residue_none : (offset n : ℕ) (f : FieldName) (o : Option Matrix) (r : Refused) → first_refusal (length_refusals f n) ≡ None → IsSome o ↔ IsTrue (is_residue_length (size f) n) → o ≡ None → refused (refused_of r) ≡ refuse_at 53 offset → AppliesTo offset (qr_code n f) (refused (refused_of r))
 unfolding refuse_call refuse refuse_at not_residue_length when first_of
-residue_none place n f (Some C) r h t e m = absurd (true≢false (ap is_some e))
-residue_none place n f None r h t e m =
+residue_none offset n f (Some C) r h t e m = absurd (true≢false (ap is_some e))
+residue_none offset n f None r h t e m =
     let no : is_residue_length (size f) n ≡ false = false_from_ne_true (is_residue_length (size f) n) (λ i. true≢false (sym (t.1 i))) in
-    applying place (qr_code n f) (Some (refuse 53 [])) (Err (stop.Refused r)) (residue_behind n f h ∙ rw no refl) m
+    applying offset (qr_code n f) (Some (refuse 53 [])) (Err (stop.Refused r)) (residue_behind n f h ∙ rw no refl) m
 
-pub residue_made : (place n : ℕ) (f : FieldName) (o : Option Matrix) (C : Matrix) (v : language.Value) → first_refusal (length_refusals f n) ≡ None → IfSome o (λ c. IsCode f n (InResidueCode f n (period f n)) c) → IsSome o ↔ IsTrue (is_residue_length (size f) n) → o ≡ Some C → v ≡ code C None → AppliesTo place (qr_code n f) (gives v)
+pub residue_made : (offset n : ℕ) (f : FieldName) (o : Option Matrix) (C : Matrix) (v : language.Value) → first_refusal (length_refusals f n) ≡ None → IfSome o (λ c. IsCode f n (InResidueCode f n (period f n)) c) → IsSome o ↔ IsTrue (is_residue_length (size f) n) → o ≡ Some C → v ≡ code C None → AppliesTo offset (qr_code n f) (gives v)
 unfolding not_residue_length when first_of
-residue_made place n f None C v h is t e m = absurd (true≢false (sym (ap is_some e)))
-residue_made place n f (Some D) C v h is t e m =
+residue_made offset n f None C v h is t e m = absurd (true≢false (sym (ap is_some e)))
+residue_made offset n f (Some D) C v h is t e m =
     let yes : is_residue_length (size f) n ≡ true = t.0 refl in
     let same : D ≡ C = cc e in
-    given_by place (qr_code n f) v (residue_behind n f h ∙ rw yes refl) (λ n. n) (record { code_is = (D, is, m ∙ ap (λ c. code c None) (sym same)) })
+    given_by offset (qr_code n f) v (residue_behind n f h ∙ rw yes refl) (λ n. n) (record { code_is = (D, is, m ∙ ap (λ c. code c None) (sym same)) })

@@ -50,13 +50,13 @@ module _ (env : List language.Binding) (e : tree.Expr) where
   unfolding fail_with
   alone_given v l n h is = rw n (gives (value_of v), h, ap prints is)
 
-  query_steps : (c : QueryCall) (place : ℕ) (x : List ℕ) (es : tree.Exprs) (step : Step) → query_of built_calls e ≡ Some c → e ≡ tree.call place x es → StepsAsQuery built_calls env c (tree.call place x es) step → StepsOf built_calls env None e step
-  query_steps c place x es step q is h =
+  query_steps : (c : QueryCall) (offset : ℕ) (x : List ℕ) (es : tree.Exprs) (step : Step) → query_of built_calls e ≡ Some c → e ≡ tree.call offset x es → StepsAsQuery built_calls env c (tree.call offset x es) step → StepsOf built_calls env None e step
+  query_steps c offset x es step q is h =
       let at : StepsAsQuery built_calls env c e step = subst (λ y. StepsAsQuery built_calls env c y step) (sym is) h in
       rw q at
 
-  pub query_alone : (c : QueryCall) (place : ℕ) (x : List ℕ) (es : tree.Exprs) (r : Result Effect Stop) → query_of built_calls e ≡ Some c → e ≡ tree.call place x es → AffectsOrFails r (StepsAsQuery built_calls env c (tree.call place x es)) → AffectsOrFails r (StepsOf built_calls env None e)
-  query_alone c place x es r q is h = affects_map r (StepsAsQuery built_calls env c (tree.call place x es)) (StepsOf built_calls env None e) (λ step. query_steps c place x es step q is) h
+  pub query_alone : (c : QueryCall) (offset : ℕ) (x : List ℕ) (es : tree.Exprs) (r : Result Effect Stop) → query_of built_calls e ≡ Some c → e ≡ tree.call offset x es → AffectsOrFails r (StepsAsQuery built_calls env c (tree.call offset x es)) → AffectsOrFails r (StepsOf built_calls env None e)
+  query_alone c offset x es r q is h = affects_map r (StepsAsQuery built_calls env c (tree.call offset x es)) (StepsOf built_calls env None e) (λ step. query_steps c offset x es step q is) h
 
 -- ---- a step of the machine
 
@@ -87,7 +87,7 @@ module _ (old : State) (env : List language.Binding) (ss : List Statement) (next
   pub near_step : (C : Matrix) (x : List ℕ) → state_at env ss next ≡ old → next < length ss → s ≡ get_or ss next s → Steps built_calls env (statement_of s) (nears C x) → Does old (Near C x) (state_at env ss (next + 1))
   near_step C x view l is h = subst (λ o. Does o (Near C x) (state_at env ss (next + 1))) view (s, (drop (next + 1) ss, first_left ss next s l is, (h, refl)))
 
-  pub fault_step : (text : Vec ℕ) (r : Refused) (n : ℕ) → state_at env ss next ≡ old → next < length ss → s ≡ get_or ss next s → Steps built_calls env (statement_of s) (fails r) → text.items ≡ fault_line r.number r.place r.values → n ≡ length ss → Does old (Fault text) (state_at env ss n)
+  pub fault_step : (text : Vec ℕ) (r : Refused) (n : ℕ) → state_at env ss next ≡ old → next < length ss → s ≡ get_or ss next s → Steps built_calls env (statement_of s) (fails r) → text.items ≡ fault_line r.number r.offset r.values → n ≡ length ss → Does old (Fault text) (state_at env ss n)
   fault_step text r n view l is h line ends =
       let none : state_at env ss n ≡ record { bindings = env; left = [] } = ap (λ (left : List Statement). record { bindings = env; left = left }) (drop_all n ss (omega arith)) in
       subst (λ o. Does o (Fault text) (state_at env ss n)) view (s, (drop (next + 1) ss, first_left ss next s l is, (r, h, line, none)))

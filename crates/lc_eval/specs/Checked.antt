@@ -1,5 +1,5 @@
 -- The second argument of a call on a code, a list of numbers, as a word.
---   IsChecked C x place r        r is the list x as a word of the code's length over its field, or the refusal of x at this offset,
+--   IsChecked C x offset r       r is the list x as a word of the code's length over its field, or the refusal of x at this offset,
 --                                unless memory ran out
 use Rattle.std.specs.Prelude.{◌≡◌, ℕ, List, Some, None, Result, Ok, Err}
 use Rattle.lc_algebra.specs.Word.{IsWord}
@@ -16,6 +16,6 @@ pub record IsRight (C : Matrix) (x w : List ℕ) : Type 0 where
   pub unrefused : first_of (from_codes (word_refusals C x)) ≡ None
 
 abbrev pub IsChecked : Matrix → List ℕ → ℕ → Result (List ℕ) Stop → Type 0
-IsChecked C x place (Ok w) = IsRight C x w
-IsChecked C x place (Err (stop.Refused r)) = (e : Refusal) × (first_of (from_codes (word_refusals C x)) ≡ Some e) × (refused (refused_of r) ≡ refuse_call place e)
-IsChecked C x place (Err stop.NoMemory) = Unit {0}
+IsChecked C x offset (Ok w) = IsRight C x w
+IsChecked C x offset (Err (stop.Refused r)) = (e : Refusal) × (first_of (from_codes (word_refusals C x)) ≡ Some e) × (refused (refused_of r) ≡ refuse_call offset e)
+IsChecked C x offset (Err stop.NoMemory) = Unit {0}

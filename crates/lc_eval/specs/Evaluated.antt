@@ -49,7 +49,7 @@ Affects (effect.Prints l) P = P (prints l.items)
 Affects (effect.Needs q) P = P (need_of q)
 Affects (effect.Counts C) P = P (counts C)
 Affects (effect.Nears C x) P = P (nears C x)
-Affects (effect.Fails l) P = (r : evaluation.Refused) × P (fails r) × (l.items ≡ fault_line r.number r.place r.values)
+Affects (effect.Fails l) P = (r : evaluation.Refused) × P (fails r) × (l.items ≡ fault_line r.number r.offset r.values)
 
 abbrev pub AffectsOrFails : Result Effect Stop → (Step → Type 0) → Type 0
 AffectsOrFails (Ok e) P = Affects e P
@@ -60,7 +60,7 @@ pub record IsQueryAt (e : Expr) (row : Row) (c : QueryCall) (es : List Expr) : T
   pub asked : IsAsked row c
   pub found : query_of built_calls (tree_of e) ≡ Some (query_call_of c)
   pub name : List ℕ
-  pub seen : tree_of e ≡ tree.call e.place name (trees_of es)
+  pub seen : tree_of e ≡ tree.call e.offset name (trees_of es)
 
 abbrev pub IsQueryOf : Expr → Option (Bor Row × QueryCall × Bor (List Expr)) → Type 0
 IsQueryOf e None = query_of built_calls (tree_of e) ≡ None

@@ -1,6 +1,6 @@
 -- What the elements of a list so far make; the clauses of private functions alone speak of these.
 --   listed_of found              the numbers or the lists
---   ListsOn r found v place      r is these elements with the value v, or the fault 45 at this offset if v doesn't fit, unless memory
+--   ListsOn r found v offset     r is these elements with the value v, or the fault 45 at this offset if v doesn't fit, unless memory
 --                                ran out
 use Rattle.std.specs.Prelude.{◌≡◌, ℕ, Some, None, Result, Ok, Err}
 use Rattle.lc_language.specs.Value as language
@@ -18,6 +18,6 @@ listed_of (Numbers u) = all_numbers u.items
 listed_of (Lists rows) = all_lists (rows_of rows.items)
 
 abbrev pub ListsOn : Result Listed Stop → evaluation.Listed → language.Value → ℕ → Type 0
-ListsOn (Ok next) found v place = listed_with found v ≡ Some (listed_of next)
-ListsOn (Err (stop.Refused r)) found v place = (listed_with found v ≡ None) × (refused (refused_of r) ≡ refuse_at 45 place)
-ListsOn (Err stop.NoMemory) found v place = Unit {0}
+ListsOn (Ok next) found v offset = listed_with found v ≡ Some (listed_of next)
+ListsOn (Err (stop.Refused r)) found v offset = (listed_with found v ≡ None) × (refused (refused_of r) ≡ refuse_at 45 offset)
+ListsOn (Err stop.NoMemory) found v offset = Unit {0}

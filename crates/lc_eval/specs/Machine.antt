@@ -29,5 +29,5 @@ Does old Silent new = AtFirst (λ s rest. (b : Binding) × Steps built_calls old
 Does old (Need q) new = AtFirst (λ s rest. Steps built_calls old.bindings (statement_of s) (need_of q) × (new ≡ record { bindings = old.bindings; left = rest })) old
 Does old (Weights C) new = AtFirst (λ s rest. Steps built_calls old.bindings (statement_of s) (evaluation.counts C) × (new ≡ record { bindings = old.bindings; left = rest })) old
 Does old (Near C x) new = AtFirst (λ s rest. Steps built_calls old.bindings (statement_of s) (evaluation.nears C x) × (new ≡ record { bindings = old.bindings; left = rest })) old
-Does old (Fault text) new = AtFirst (λ s rest. (r : Refused) × Steps built_calls old.bindings (statement_of s) (evaluation.fails r) × (text.items ≡ fault_line r.number r.place r.values) × (new ≡ record { bindings = old.bindings; left = [] })) old
+Does old (Fault text) new = AtFirst (λ s rest. (r : Refused) × Steps built_calls old.bindings (statement_of s) (evaluation.fails r) × (text.items ≡ fault_line r.number r.offset r.values) × (new ≡ record { bindings = old.bindings; left = [] })) old
 Does old End new = (old.left ≡ []) × (new ≡ old)

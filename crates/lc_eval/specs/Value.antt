@@ -30,4 +30,4 @@ abbrev pub binding_of : Binding → language.Binding
 binding_of b = record { name = string_bytes b.name; value = value_of b.value }
 
 abbrev pub refused_of : Refused → evaluation.Refused
-refused_of r = record { number = r.number; place = r.place; values = r.values.items }
+refused_of r = record { number = r.number; offset = r.offset; values = r.values.items }

@@ -18,17 +18,17 @@ use std::alloc::Global;
 #[tactic(auto, using(crate::proofs::ConstructionCalls::circulant_applies))]
 pub(crate) fn circulant_code(
     alloc: Global,
-    place: usize,
+    offset: usize,
     x: &[u64],
     n: u64,
     field: &Field,
 ) -> Result<Value, Stop>
-    ensures { Answers result (AppliesTo place (bound.circulant_code x.now n field.now)) }
+    ensures { Answers result (AppliesTo offset (bound.circulant_code x.now n field.now)) }
 {
     let word = word_of(alloc, x)?;
     made(
         alloc,
-        place,
+        offset,
         lc_circulant::circulant(alloc, word.symbols(), n, field),
     )
 }
@@ -37,17 +37,17 @@ pub(crate) fn circulant_code(
 #[tactic(auto, using(crate::proofs::ConstructionCalls::quasi_applies))]
 pub(crate) fn quasi_cyclic_code(
     alloc: Global,
-    place: usize,
+    offset: usize,
     lists: &[Vec<u64>],
     n: u64,
     field: &Field,
 ) -> Result<Value, Stop>
-    ensures { Answers result (AppliesTo place (bound.quasi_cyclic_code (rows_of lists.now) n field.now)) }
+    ensures { Answers result (AppliesTo offset (bound.quasi_cyclic_code (rows_of lists.now) n field.now)) }
 {
     let words = words_of(alloc, lists)?;
     made(
         alloc,
-        place,
+        offset,
         lc_circulant::quasi_cyclic(alloc, &words, n, field),
     )
 }
@@ -56,39 +56,39 @@ pub(crate) fn quasi_cyclic_code(
 #[tactic(auto, using(crate::proofs::ConstructionCalls::construction_x_laws))]
 pub(crate) fn construction_x_code(
     alloc: Global,
-    place: usize,
+    offset: usize,
     c: &Code,
     d: &Code,
     e: &Code,
 ) -> Result<Value, Stop>
-    ensures { Answers result (AppliesTo place (bound.construction_x_code c.now d.now e.now)) }
+    ensures { Answers result (AppliesTo offset (bound.construction_x_code c.now d.now e.now)) }
 {
     match lc_extend::construction_x(alloc, c, d, e) {
         Ok(code) => Ok(code_value(alloc, code)?),
         Err(ExtensionRefusal::NotASubcode) => {
-            Err(Stop::Refused(fault(alloc, NOT_A_SUBCODE, place)))
+            Err(Stop::Refused(fault(alloc, NOT_A_SUBCODE, offset)))
         }
-        Err(ExtensionRefusal::Codes(refusal)) => Err(refused_as(alloc, place, refusal)),
+        Err(ExtensionRefusal::Codes(refusal)) => Err(refused_as(alloc, offset, refusal)),
     }
 }
 
 /// The residual code at a list of symbols, which should be a word of the code.
 pub(crate) fn residue_code(
     alloc: Global,
-    place: usize,
+    offset: usize,
     code: &Code,
     list: &[u64],
 ) -> Result<Value, Stop>
-    ensures { Answers result (AppliesTo place (bound.residue_code code.now list.now)) }
+    ensures { Answers result (AppliesTo offset (bound.residue_code code.now list.now)) }
 {
-    let word = checked(alloc, place, code, list)?;
+    let word = checked(alloc, offset, code, list)?;
     let mut rest = word.symbols().to_vec(alloc)?;
     if !code.contains(word.symbols(), &mut rest) {
-        return Err(Stop::Refused(fault(alloc, NOT_A_CODEWORD, place)));
+        return Err(Stop::Refused(fault(alloc, NOT_A_CODEWORD, offset)));
     }
     made(
         alloc,
-        place,
+        offset,
         lc_residual::residual(alloc, code, word.symbols()),
     )
 }

@@ -14,17 +14,17 @@ use std::alloc::Global;
 #[tactic(auto, using(crate::proofs::CyclicCalls::generator_pol_applies))]
 pub(crate) fn generator_pol_code(
     alloc: Global,
-    place: usize,
+    offset: usize,
     list: &[u64],
     n: u64,
     field: &Field,
 ) -> Result<Value, Stop>
-    ensures { Answers result (AppliesTo place (bound.generator_pol_code list.now n field.now)) }
+    ensures { Answers result (AppliesTo offset (bound.generator_pol_code list.now n field.now)) }
 {
     let x = word_of(alloc, list)?;
     made(
         alloc,
-        place,
+        offset,
         lc_cyclic::generator_pol(alloc, x.symbols(), n, field),
     )
 }
@@ -33,46 +33,46 @@ pub(crate) fn generator_pol_code(
 #[tactic(auto, using(crate::proofs::CyclicCalls::check_pol_applies))]
 pub(crate) fn check_pol_code(
     alloc: Global,
-    place: usize,
+    offset: usize,
     list: &[u64],
     n: u64,
     field: &Field,
 ) -> Result<Value, Stop>
-    ensures { Answers result (AppliesTo place (bound.check_pol_code list.now n field.now)) }
+    ensures { Answers result (AppliesTo offset (bound.check_pol_code list.now n field.now)) }
 {
     let x = word_of(alloc, list)?;
     made(
         alloc,
-        place,
+        offset,
         lc_cyclic::check_pol(alloc, x.symbols(), n, field),
     )
 }
 
 /// A quadratic residue code.
-pub(crate) fn qr_code(alloc: Global, place: usize, n: u64, field: &Field) -> Result<Value, Stop>
-    ensures { Answers result (AppliesTo place (bound.qr_code n field.now)) }
+pub(crate) fn qr_code(alloc: Global, offset: usize, n: u64, field: &Field) -> Result<Value, Stop>
+    ensures { Answers result (AppliesTo offset (bound.qr_code n field.now)) }
 {
     match lc_residues::quadratic_residue(alloc, n, field) {
         Ok(Some(code)) => Ok(code_value(alloc, code)?),
-        Ok(None) => Err(Stop::Refused(fault(alloc, NO_RESIDUE_LENGTH, place))),
-        Err(refusal) => Err(refused_as(alloc, place, refusal)),
+        Ok(None) => Err(Stop::Refused(fault(alloc, NO_RESIDUE_LENGTH, offset))),
+        Err(refusal) => Err(refused_as(alloc, offset, refusal)),
     }
 }
 
 /// The extended binary Golay code.
 #[tactic(auto, using(crate::proofs::CyclicCalls::extended_binary_applies))]
-pub(crate) fn extended_binary_golay_code(alloc: Global, place: usize) -> Result<Value, Stop>
-    ensures { Answers result (AppliesTo place bound.extended_binary_golay_code) }
+pub(crate) fn extended_binary_golay_code(alloc: Global, offset: usize) -> Result<Value, Stop>
+    ensures { Answers result (AppliesTo offset bound.extended_binary_golay_code) }
 {
     let code = lc_cyclic::binary_golay(alloc)?;
-    made(alloc, place, lc_combine::extended(alloc, &code))
+    made(alloc, offset, lc_combine::extended(alloc, &code))
 }
 
 /// The extended ternary Golay code.
 #[tactic(auto, using(crate::proofs::CyclicCalls::extended_ternary_applies))]
-pub(crate) fn extended_ternary_golay_code(alloc: Global, place: usize) -> Result<Value, Stop>
-    ensures { Answers result (AppliesTo place bound.extended_ternary_golay_code) }
+pub(crate) fn extended_ternary_golay_code(alloc: Global, offset: usize) -> Result<Value, Stop>
+    ensures { Answers result (AppliesTo offset bound.extended_ternary_golay_code) }
 {
     let code = lc_cyclic::ternary_golay(alloc)?;
-    made(alloc, place, lc_combine::extended(alloc, &code))
+    made(alloc, offset, lc_combine::extended(alloc, &code))
 }

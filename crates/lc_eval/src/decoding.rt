@@ -28,15 +28,15 @@ use std::rc::Rc;
 
 /// The list, the second argument of a call on a code, as a word of the code's length with symbols of its field; or its refusal
 /// at this offset.
-pub(crate) fn checked(alloc: Global, place: usize, code: &Code, list: &[u64]) -> Result<Word, Stop>
-    ensures { IsChecked code.now list.now place result }
+pub(crate) fn checked(alloc: Global, offset: usize, code: &Code, list: &[u64]) -> Result<Word, Stop>
+    ensures { IsChecked code.now list.now offset result }
 {
     if list.len() != code.length() {
-        return Err(refused_as(alloc, place, CodeRefusal::LengthsDiffer));
+        return Err(refused_as(alloc, offset, CodeRefusal::LengthsDiffer));
     }
     let word = word_of(alloc, list)?;
     if !fits(code.field(), word.symbols()) {
-        return Err(refused_as(alloc, place, CodeRefusal::BadArgument(2)));
+        return Err(refused_as(alloc, offset, CodeRefusal::BadArgument(2)));
     }
     Ok(word)
 }
@@ -44,26 +44,26 @@ pub(crate) fn checked(alloc: Global, place: usize, code: &Code, list: &[u64]) ->
 /// Whether a list of numbers is a word of a code.
 pub(crate) fn is_codeword(
     alloc: Global,
-    place: usize,
+    offset: usize,
     code: &Code,
     list: &[u64],
 ) -> Result<Value, Stop>
-    ensures { Answers result (AppliesTo place (bound.is_codeword code.now list.now)) }
+    ensures { Answers result (AppliesTo offset (bound.is_codeword code.now list.now)) }
 {
-    let word = checked(alloc, place, code, list)?;
+    let word = checked(alloc, offset, code, list)?;
     let mut rest = word.symbols().to_vec(alloc)?;
     Ok(Value::Truth(code.contains(word.symbols(), &mut rest)))
 }
 
 // More cosets than a decoder keeps, n - k being this number.
 #[tactic(auto, unfolding(crate::proofs::Opened::refusals_of_calls))]
-fn too_many_cosets(alloc: Global, place: usize, n: usize) -> Result<Refused, NoMemory>
-    ensures { IfOk result (λ r. refused (refused_of r) ≡ refuse_call place (refuse 15 (n ∷ []))) }
+fn too_many_cosets(alloc: Global, offset: usize, n: usize) -> Result<Refused, NoMemory>
+    ensures { IfOk result (λ r. refused (refused_of r) ≡ refuse_call offset (refuse 15 (n ∷ []))) }
 {
     let values = vec![in alloc; n as u64; 1]?;
     Ok(Refused {
         number: TOO_MANY_COSETS,
-        place,
+        offset,
         values,
     })
 }
@@ -79,17 +79,17 @@ pub(crate) fn word_value(alloc: Global, symbols: &[u8]) -> Result<Value, NoMemor
 pub(crate) fn decode(
     alloc: Global,
     stock: &mut Stock,
-    place: usize,
+    offset: usize,
     code: &Code,
     list: &[u64],
 ) -> Result<Value, Stop>
-    ensures { Answers result (AppliesTo place (bound.decode code.now list.now)) }
+    ensures { Answers result (AppliesTo offset (bound.decode code.now list.now)) }
 {
-    let word = checked(alloc, place, code, list)?;
+    let word = checked(alloc, offset, code, list)?;
     match stock.nearest(alloc, code, word.symbols()) {
         Ok(near) => Ok(word_value(alloc, &near)?),
         Err(SyndromeRefusal::TooManyCosets(n)) => {
-            Err(Stop::Refused(too_many_cosets(alloc, place, n)?))
+            Err(Stop::Refused(too_many_cosets(alloc, offset, n)?))
         }
         Err(SyndromeRefusal::NoMemory) => Err(Stop::NoMemory),
     }
@@ -112,16 +112,16 @@ fn decoded_line(alloc: Global, decoded: Option<Word>) -> Result<Vec<u8>, NoMemor
 /// The word of a code within half of the checks of its alternant form, or that there is none.
 pub(crate) fn algebraic_decode(
     alloc: Global,
-    place: usize,
+    offset: usize,
     code: &CodeValue,
     list: &[u64],
 ) -> Result<Effect, Stop>
-    ensures { AffectsOrFails result (QueriesTo place (bound.algebraic_decode code.now.code code.now.form list.now)) }
+    ensures { AffectsOrFails result (QueriesTo offset (bound.algebraic_decode code.now.code code.now.form list.now)) }
 {
     let Some(form) = &code.form else {
-        return Err(Stop::Refused(fault(alloc, NO_FORM, place)));
+        return Err(Stop::Refused(fault(alloc, NO_FORM, offset)));
     };
-    let word = checked(alloc, place, &code.code, list)?;
+    let word = checked(alloc, offset, &code.code, list)?;
     let decoded = decode_by_form(alloc, &code.code, form, word.symbols())?;
     Ok(Effect::Prints(decoded_line(alloc, decoded)?))
 }

@@ -39,16 +39,16 @@ fn line_of(alloc: Global, filling: Filling) -> Result<Vec<u8>, NoMemory>
 #[tactic(auto, using(crate::proofs::ErasureLaws::erasures_told))]
 pub(crate) fn fill_erasures(
     alloc: Global,
-    place: usize,
+    offset: usize,
     code: &Code,
     list: &[u64],
     erased: &[u64],
 ) -> Result<Effect, Stop>
-    ensures { AffectsOrFails result (QueriesTo place (bound.fill_erasures code.now list.now erased.now)) }
+    ensures { AffectsOrFails result (QueriesTo offset (bound.fill_erasures code.now list.now erased.now)) }
 {
-    let word = checked(alloc, place, code, list)?;
+    let word = checked(alloc, offset, code, list)?;
     match lc_erasures::fill_erasures(alloc, code, word.symbols(), erased) {
         Ok(filling) => Ok(Effect::Prints(line_of(alloc, filling)?)),
-        Err(refusal) => Err(refused_as(alloc, place, refusal)),
+        Err(refusal) => Err(refused_as(alloc, offset, refusal)),
     }
 }

@@ -18,12 +18,12 @@ use lc_parse::{Expr, Node};
 use std::alloc::Global;
 
 // The value of a name that stands alone.
-fn named(alloc: Global, names: &Names, place: usize, name: &str) -> Result<Value, Stop>
-    ensures { Answers result (Evaluates built_calls names.now (tree.name place name.now)) }
+fn named(alloc: Global, names: &Names, offset: usize, name: &str) -> Result<Value, Stop>
+    ensures { Answers result (Evaluates built_calls names.now (tree.name offset name.now)) }
 {
     match names.value_of(name) {
         Some(value) => Ok(value.share()?),
-        None => Err(Stop::Refused(fault(alloc, UNKNOWN_NAME, place))),
+        None => Err(Stop::Refused(fault(alloc, UNKNOWN_NAME, offset))),
     }
 }
 
@@ -39,10 +39,10 @@ pub(crate) fn evaluate(
 {
     match &expr.node {
         Node::Number(n) => Ok(Value::Number(*n)),
-        Node::Name(name) => named(alloc, names, expr.place, name.as_str()),
+        Node::Name(name) => named(alloc, names, expr.offset, name.as_str()),
         Node::List(elements) => list(alloc, names, stock, elements),
         Node::Call(name, arguments) => {
-            call(alloc, names, stock, expr.place, name.as_str(), arguments)
+            call(alloc, names, stock, expr.offset, name.as_str(), arguments)
         }
     }
 }
@@ -55,7 +55,7 @@ fn list(alloc: Global, names: &Names, stock: &mut Stock, elements: &[Expr]) -> R
     let mut found = Listed::Nothing;
     for element in elements {
         let value = evaluate(alloc, names, stock, element)?;
-        found = found.with(alloc, element.place, &value)?;
+        found = found.with(alloc, element.offset, &value)?;
     }
     Ok(found.value(alloc)?)
 }
@@ -66,25 +66,25 @@ fn call(
     alloc: Global,
     names: &Names,
     stock: &mut Stock,
-    place: usize,
+    offset: usize,
     name: &str,
     arguments: &[Expr],
 ) -> Result<Value, Stop>
-    ensures { Answers result (Evaluates built_calls names.now (tree.call place name.now (trees_of arguments.now))) }
+    ensures { Answers result (Evaluates built_calls names.now (tree.call offset name.now (trees_of arguments.now))) }
 {
     let Some(row) = row_named(name) else {
-        return Err(Stop::Refused(fault(alloc, UNKNOWN_NAME, place)));
+        return Err(Stop::Refused(fault(alloc, UNKNOWN_NAME, offset)));
     };
     let Call::Value(call) = row.call else {
-        return Err(Stop::Refused(fault(alloc, MISFIT, place)));
+        return Err(Stop::Refused(fault(alloc, MISFIT, offset)));
     };
     let Some(kinds) = row.kinds(arguments.len()) else {
-        return Err(Stop::Refused(fault(alloc, WRONG_COUNT, place)));
+        return Err(Stop::Refused(fault(alloc, WRONG_COUNT, offset)));
     };
     let values = evaluate_all(alloc, names, stock, arguments)?;
     match bind(call, &values) {
-        Some(bound) => apply(alloc, stock, place, bound),
-        None => Err(misfit(alloc, place, kinds, arguments, &values)),
+        Some(bound) => apply(alloc, stock, offset, bound),
+        None => Err(misfit(alloc, offset, kinds, arguments, &values)),
     }
 }
 

@@ -41,17 +41,17 @@ fn is_attained(alloc: Global, code: &Code, word: &[u8], distance: u64) -> Result
 #[tactic(auto, unfolding(crate::proofs::Opened::refusals_of_calls))]
 fn not_attained(
     alloc: Global,
-    place: usize,
+    offset: usize,
     word: &[u8],
     distance: u64,
 ) -> Result<Refused, NoMemory>
     ensures { IfOk result (λ r. refused (refused_of r)
-        ≡ refuse_call place (refuse 19 (weight_of word.now ∷ distance ∷ []))) }
+        ≡ refuse_call offset (refuse 19 (weight_of word.now ∷ distance ∷ []))) }
 {
     let values = vec![in alloc; weight(word) as u64, distance]?;
     Ok(Refused {
         number: NOT_ATTAINED,
-        place,
+        offset,
         values,
     })
 }
@@ -105,20 +105,20 @@ fn form_line(alloc: Global, code: &Code, form: &Alternant, word: Word) -> Result
 /// r + 1, if it isn't in the code or has another weight.
 pub(crate) fn alternant_certificate(
     alloc: Global,
-    place: usize,
+    offset: usize,
     code: &CodeValue,
     list: &[u64],
 ) -> Result<Effect, Stop>
     ensures { AffectsOrFails result
-        (QueriesTo place (bound.alternant_certificate code.now.code code.now.form list.now)) }
+        (QueriesTo offset (bound.alternant_certificate code.now.code code.now.form list.now)) }
 {
     let Some(form) = &code.form else {
-        return Err(Stop::Refused(fault(alloc, NO_FORM, place)));
+        return Err(Stop::Refused(fault(alloc, NO_FORM, offset)));
     };
-    let word = checked(alloc, place, &code.code, list)?;
+    let word = checked(alloc, offset, &code.code, list)?;
     let distance = form.r as u64 + 1;
     if !is_attained(alloc, &code.code, word.symbols(), distance)? {
-        let refused = not_attained(alloc, place, word.symbols(), distance)?;
+        let refused = not_attained(alloc, offset, word.symbols(), distance)?;
         return Err(Stop::Refused(refused));
     }
     Ok(Effect::Prints(form_line(alloc, &code.code, form, word)?))

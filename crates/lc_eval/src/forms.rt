@@ -19,19 +19,19 @@ use std::rc::Rc;
 /// A code with its alternant form, or its refusal at this offset.
 pub(crate) fn formed(
     alloc: Global,
-    place: usize,
+    offset: usize,
     code: Result<FormedCode, CodeRefusal>,
 ) -> Result<Value, Stop>
     requires formed { IfOk code (λ c. IsFormOf c.code c.form) }
     requires few { IfOk code (λ c. c.form.r ≤ 255) }
-    ensures { IsFormed code place result }
+    ensures { IsFormed code offset result }
 {
     match code {
         Ok(FormedCode { code, form }) => {
             let form = Some(form);
             Ok(Value::Code(Rc::new(alloc, CodeValue { code, form })?))
         }
-        Err(refusal) => Err(refused_as(alloc, place, refusal)),
+        Err(refusal) => Err(refused_as(alloc, offset, refusal)),
     }
 }
 
@@ -39,29 +39,29 @@ pub(crate) fn formed(
 #[tactic(auto, using(crate::proofs::FormLaws::goppa_wide))]
 pub(crate) fn goppa_code(
     alloc: Global,
-    place: usize,
+    offset: usize,
     list: &[u64],
     points: &[u64],
     locator: &Field,
     field: &Field,
 ) -> Result<Value, Stop>
-    ensures { Answers result (AppliesTo place (bound.goppa_code list.now points.now locator.now field.now)) }
+    ensures { Answers result (AppliesTo offset (bound.goppa_code list.now points.now locator.now field.now)) }
 {
     if is_wide(list) || is_wide(points) {
         let refusal = refuse_goppa(field, locator, list, points);
-        return Err(refused_as(alloc, place, refusal));
+        return Err(refused_as(alloc, offset, refusal));
     }
     let g = word_of(alloc, list)?;
     let points = word_of(alloc, points)?;
     let code = lc_goppa::goppa(alloc, g.symbols(), points.symbols(), locator, field);
-    formed(alloc, place, code)
+    formed(alloc, offset, code)
 }
 
 /// The alternant code of points and multipliers of a locator field, with its form.
 #[tactic(auto, using(crate::proofs::FormLaws::alternant_wide))]
 pub(crate) fn alternant_code(
     alloc: Global,
-    place: usize,
+    offset: usize,
     r: u64,
     points: &[u64],
     multipliers: &[u64],
@@ -69,14 +69,14 @@ pub(crate) fn alternant_code(
     field: &Field,
 ) -> Result<Value, Stop>
     ensures { Answers result
-        (AppliesTo place (bound.alternant_code r points.now multipliers.now locator.now field.now)) }
+        (AppliesTo offset (bound.alternant_code r points.now multipliers.now locator.now field.now)) }
 {
     if is_wide(points) || is_wide(multipliers) {
         let refusal = refuse_alternant(field, locator, r, points, multipliers);
-        return Err(refused_as(alloc, place, refusal));
+        return Err(refused_as(alloc, offset, refusal));
     }
     let x = word_of(alloc, points)?;
     let y = word_of(alloc, multipliers)?;
     let code = lc_goppa::alternant(alloc, r, x.symbols(), y.symbols(), locator, field);
-    formed(alloc, place, code)
+    formed(alloc, offset, code)
 }

@@ -36,22 +36,22 @@ fn first_misfit(kinds: &[Kind], arguments: &[Expr], values: &[Value]) -> Option<
     if is_kind(*kind, value) {
         first_misfit(kinds, arguments, values)
     } else {
-        Some(argument.place)
+        Some(argument.offset)
     }
 }
 
 /// The fault of arguments that are not of their kinds: it is at the first that isn't.
-#[tactic(auto, unfolding(lc_language::specs::Evaluation::misfit_place))]
+#[tactic(auto, unfolding(lc_language::specs::Evaluation::misfit_offset))]
 pub(crate) fn misfit(
     alloc: Global,
-    place: usize,
+    offset: usize,
     kinds: &[Kind],
     arguments: &[Expr],
     values: &[Value],
 ) -> Stop
-    ensures { IsStop result (refuse_at 45 (evaluation.misfit_place place kinds.now (trees_of arguments.now)
+    ensures { IsStop result (refuse_at 45 (evaluation.misfit_offset offset kinds.now (trees_of arguments.now)
         (values_of values.now))) }
 {
-    let first = first_misfit(kinds, arguments, values).unwrap_or(place);
+    let first = first_misfit(kinds, arguments, values).unwrap_or(offset);
     Stop::Refused(fault(alloc, MISFIT, first))
 }

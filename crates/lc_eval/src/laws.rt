@@ -16,10 +16,10 @@ ghost use Rattle.lc_eval.specs.Names.{IsBound};
 pub fn misfits_are_arguments()
     ensures calls { (c : ValueCall) (es : Exprs) (vs : List Value) (kinds : List Kind) →
         signature_for (call.Value c) (count_of es) ≡ Some kinds → count_of es ≡ length vs →
-        (bind c vs ≡ None) ↔ ((place : ℕ) × (first_misfit kinds es vs ≡ Some place)) }
+        (bind c vs ≡ None) ↔ ((offset : ℕ) × (first_misfit kinds es vs ≡ Some offset)) }
     ensures queries { (c : QueryCall) (es : Exprs) (vs : List Value) (kinds : List Kind) →
         signature_for (call.Query c) (count_of es) ≡ Some kinds → count_of es ≡ length vs →
-        (bind_query c vs ≡ None) ↔ ((place : ℕ) × (first_misfit kinds es vs ≡ Some place)) }
+        (bind_query c vs ≡ None) ↔ ((offset : ℕ) × (first_misfit kinds es vs ≡ Some offset)) }
 {}
 
 /// After an assignment its name has the new value, every other name has the value that it had, and a name that had none has none.

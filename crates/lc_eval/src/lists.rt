@@ -24,27 +24,27 @@ pub(crate) enum Listed {
 
 impl Listed {
     // The same with one value more, which is that of the element at the offset; a value that doesn't fit is refused there.
-    pub(crate) fn with(self, alloc: Global, place: usize, value: &Value) -> Result<Listed, Stop>
-        ensures { ListsOn result (listed_of self) (value_of value.now) place }
+    pub(crate) fn with(self, alloc: Global, offset: usize, value: &Value) -> Result<Listed, Stop>
+        ensures { ListsOn result (listed_of self) (value_of value.now) offset }
     {
         if let Some(number) = value.number() {
-            return self.with_number(alloc, place, number);
+            return self.with_number(alloc, offset, number);
         }
         if let Some(list) = value.numbers() {
-            return self.with_list(alloc, place, list.to_vec(alloc)?);
+            return self.with_list(alloc, offset, list.to_vec(alloc)?);
         }
-        Err(Stop::Refused(fault(alloc, MISFIT, place)))
+        Err(Stop::Refused(fault(alloc, MISFIT, offset)))
     }
 
     // The same with one number more.
     #[tactic(auto, unfolding(lc_language::specs::Evaluation::listed_with))]
-    fn with_number(self, alloc: Global, place: usize, number: u64) -> Result<Listed, Stop>
-        ensures { ListsOn result (listed_of self) (language.number number) place }
+    fn with_number(self, alloc: Global, offset: usize, number: u64) -> Result<Listed, Stop>
+        ensures { ListsOn result (listed_of self) (language.number number) offset }
     {
         let mut found = match self {
             Listed::Nothing => Vec::new(alloc),
             Listed::Numbers(numbers) => numbers,
-            Listed::Lists(_) => return Err(Stop::Refused(fault(alloc, MISFIT, place))),
+            Listed::Lists(_) => return Err(Stop::Refused(fault(alloc, MISFIT, offset))),
         };
         found.push(number)?;
         Ok(Listed::Numbers(found))
@@ -52,13 +52,13 @@ impl Listed {
 
     // The same with one list of numbers more.
     #[tactic(auto, unfolding(lc_language::specs::Evaluation::listed_with))]
-    fn with_list(self, alloc: Global, place: usize, list: Vec<u64>) -> Result<Listed, Stop>
-        ensures { ListsOn result (listed_of self) (language.numbers list.items) place }
+    fn with_list(self, alloc: Global, offset: usize, list: Vec<u64>) -> Result<Listed, Stop>
+        ensures { ListsOn result (listed_of self) (language.numbers list.items) offset }
     {
         let mut found = match self {
             Listed::Nothing => Vec::new(alloc),
             Listed::Lists(lists) => lists,
-            Listed::Numbers(_) => return Err(Stop::Refused(fault(alloc, MISFIT, place))),
+            Listed::Numbers(_) => return Err(Stop::Refused(fault(alloc, MISFIT, offset))),
         };
         found.push(list)?;
         Ok(Listed::Lists(found))

@@ -39,27 +39,27 @@ pub(crate) fn rows_value(alloc: Global, code: &Code) -> Result<Value, NoMemory>
 /// A code, or its refusal at this offset. A refusal that carries no numbers takes no memory.
 pub(crate) fn made(
     alloc: Global,
-    place: usize,
+    offset: usize,
     code: Result<Code, CodeRefusal>,
 ) -> Result<Value, Stop>
-    ensures is { IsMade code place result }
+    ensures is { IsMade code offset result }
     ensures told { IfErr code (λ e. e ≢ CodeRefusal.NoMemory → refusal_values e ≡ [] → result ≢ Err Stop.NoMemory) }
 {
     match code {
         Ok(code) => Ok(code_value(alloc, code)?),
-        Err(refusal) => Err(refused_as(alloc, place, refusal)),
+        Err(refusal) => Err(refused_as(alloc, offset, refusal)),
     }
 }
 
 /// The field with a number of elements. That there is none is answered whether or not there is memory.
 #[tactic(auto, using(crate::proofs::CallLaws::gf_field, crate::proofs::CallLaws::gf_refused))]
-pub(crate) fn gf(alloc: Global, stock: &mut Stock, place: usize, q: u64) -> Result<Value, Stop>
-    ensures is { Answers result (AppliesTo place (bound.gf q)) }
+pub(crate) fn gf(alloc: Global, stock: &mut Stock, offset: usize, q: u64) -> Result<Value, Stop>
+    ensures is { Answers result (AppliesTo offset (bound.gf q)) }
     ensures told { ((f : FieldName) → size f ≢ q) → result ≢ Err Stop.NoMemory }
 {
     match stock.field(alloc, q) {
         Ok(field) => Ok(Value::Field(field)),
-        Err(FieldRefusal::NotAField) => Err(Stop::Refused(fault(alloc, NOT_A_FIELD, place))),
+        Err(FieldRefusal::NotAField) => Err(Stop::Refused(fault(alloc, NOT_A_FIELD, offset))),
         Err(FieldRefusal::NoMemory) => Err(Stop::NoMemory),
     }
 }
@@ -68,28 +68,28 @@ pub(crate) fn gf(alloc: Global, stock: &mut Stock, place: usize, q: u64) -> Resu
 #[tactic(auto, using(crate::proofs::CallLaws::generator_applies))]
 pub(crate) fn generator_mat_code(
     alloc: Global,
-    place: usize,
+    offset: usize,
     rows: &[Vec<u64>],
     field: &Field,
 ) -> Result<Value, Stop>
-    ensures { Answers result (AppliesTo place (bound.generator_mat_code (rows_of rows.now) field.now)) }
+    ensures { Answers result (AppliesTo offset (bound.generator_mat_code (rows_of rows.now) field.now)) }
 {
     let words = words_of(alloc, rows)?;
-    made(alloc, place, lc_basic::generator_mat(alloc, &words, field))
+    made(alloc, offset, lc_basic::generator_mat(alloc, &words, field))
 }
 
 /// The code with a check matrix over a field.
 #[tactic(auto, using(crate::proofs::CallLaws::check_applies))]
 pub(crate) fn check_mat_code(
     alloc: Global,
-    place: usize,
+    offset: usize,
     rows: &[Vec<u64>],
     field: &Field,
 ) -> Result<Value, Stop>
-    ensures { Answers result (AppliesTo place (bound.check_mat_code (rows_of rows.now) field.now)) }
+    ensures { Answers result (AppliesTo offset (bound.check_mat_code (rows_of rows.now) field.now)) }
 {
     let words = words_of(alloc, rows)?;
-    made(alloc, place, lc_basic::check_mat(alloc, &words, field))
+    made(alloc, offset, lc_basic::check_mat(alloc, &words, field))
 }
 
 /// The number of nonzero numbers.

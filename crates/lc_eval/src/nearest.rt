@@ -32,13 +32,13 @@ fn zero_line(alloc: Global, code: &Code, word: &Word) -> Result<Vec<u8>, NoMemor
 #[tactic(auto, using(crate::proofs::NearLaws::near_zero, crate::proofs::NearLaws::near_asked))]
 pub(crate) fn nearest_word(
     alloc: Global,
-    place: usize,
+    offset: usize,
     code: &Code,
     list: &[u64],
 ) -> Result<Effect, Stop>
-    ensures { AffectsOrFails result (QueriesTo place (bound.nearest_word code.now list.now)) }
+    ensures { AffectsOrFails result (QueriesTo offset (bound.nearest_word code.now list.now)) }
 {
-    let word = checked(alloc, place, code, list)?;
+    let word = checked(alloc, offset, code, list)?;
     if code.dimension() == 0 {
         return Ok(Effect::Prints(zero_line(alloc, code, &word)?));
     }

@@ -59,22 +59,22 @@ fn line_of(alloc: Global, code: &Code) -> Result<Vec<u8>, NoMemory>
 
 /// What a query does of its arguments, or its refusal, at this offset.
 #[tactic(auto, using(crate::proofs::QueryLaws::answer_laws))]
-pub(crate) fn answer(alloc: Global, place: usize, query: BoundQuery<'_>) -> Result<Effect, Stop>
-    ensures { AffectsOrFails result (QueriesTo place (⟦<BoundQuery<'static> as Asks>⟧.asked query.entry)) }
+pub(crate) fn answer(alloc: Global, offset: usize, query: BoundQuery<'_>) -> Result<Effect, Stop>
+    ensures { AffectsOrFails result (QueriesTo offset (⟦<BoundQuery<'static> as Asks>⟧.asked query.entry)) }
 {
     match query {
-        BoundQuery::LeastWord(rows, field) => least_word(alloc, place, rows, field),
+        BoundQuery::LeastWord(rows, field) => least_word(alloc, offset, rows, field),
         BoundQuery::MinimumDistance(code) => asked(alloc, QueryKind::Distance, code),
         BoundQuery::Certificate(code) => asked(alloc, QueryKind::Levels, code),
         BoundQuery::ScanCertificate(code) => asked(alloc, QueryKind::Scan, code),
-        BoundQuery::WeightDistribution(code) => weight_distribution(alloc, place, code),
-        BoundQuery::NearestWord(code, list) => nearest_word(alloc, place, code, list),
+        BoundQuery::WeightDistribution(code) => weight_distribution(alloc, offset, code),
+        BoundQuery::NearestWord(code, list) => nearest_word(alloc, offset, code, list),
         BoundQuery::FillErasures(code, list, erased) => {
-            fill_erasures(alloc, place, code, list, erased)
+            fill_erasures(alloc, offset, code, list, erased)
         }
-        BoundQuery::AlgebraicDecode(code, list) => algebraic_decode(alloc, place, code, list),
+        BoundQuery::AlgebraicDecode(code, list) => algebraic_decode(alloc, offset, code, list),
         BoundQuery::AlternantCertificate(code, list) => {
-            alternant_certificate(alloc, place, code, list)
+            alternant_certificate(alloc, offset, code, list)
         }
     }
 }
@@ -107,16 +107,21 @@ fn asked(alloc: Global, kind: QueryKind, code: &Code) -> Result<Effect, Stop>
 //
 // Refused as a generator matrix is; then if the rows have more than 2^16 words. The words are those of the code of the rows,
 // whose own rows are at most as many, so these are scanned.
-fn least_word(alloc: Global, place: usize, rows: &[Vec<u64>], field: &Field) -> Result<Effect, Stop>
-    ensures { AffectsOrFails result (QueriesTo place (bound.least_word (rows_of rows.now) field.now)) }
+fn least_word(
+    alloc: Global,
+    offset: usize,
+    rows: &[Vec<u64>],
+    field: &Field,
+) -> Result<Effect, Stop>
+    ensures { AffectsOrFails result (QueriesTo offset (bound.least_word (rows_of rows.now) field.now)) }
 {
     let words = words_of(alloc, rows)?;
     let code = match generator_mat(alloc, &words, field) {
         Ok(code) => code,
-        Err(refusal) => return Err(refused_as(alloc, place, refusal)),
+        Err(refusal) => return Err(refused_as(alloc, offset, refusal)),
     };
     if has_too_many_words(field, rows.len()) {
-        return Err(Stop::Refused(fault(alloc, TOO_MANY_WORDS, place)));
+        return Err(Stop::Refused(fault(alloc, TOO_MANY_WORDS, offset)));
     }
     Ok(Effect::Prints(line_of(alloc, &code)?))
 }
@@ -125,16 +130,16 @@ fn least_word(alloc: Global, place: usize, rows: &[Vec<u64>], field: &Field) -> 
 #[tactic(auto, unfolding(crate::proofs::Opened::refusals_of_calls))]
 fn no_distribution(
     alloc: Global,
-    place: usize,
+    offset: usize,
     sizes: DistributionRefusal,
 ) -> Result<Refused, NoMemory>
     ensures { IfOk result (λ r. refused (refused_of r)
-        ≡ refuse_call place (refuse 47 (sizes.dimension ∷ sizes.codimension ∷ []))) }
+        ≡ refuse_call offset (refuse 47 (sizes.dimension ∷ sizes.codimension ∷ []))) }
 {
     let values = vec![in alloc; sizes.dimension as u64, sizes.codimension as u64]?;
     Ok(Refused {
         number: NO_DISTRIBUTION,
-        place,
+        offset,
         values,
     })
 }
@@ -143,11 +148,11 @@ fn no_distribution(
 //
 // Refused if the code has too many words, and besides its dual has too many, or its space.
 #[tactic(auto, using(crate::proofs::QueryLaws::distribution_refused, crate::proofs::QueryLaws::distribution_asked))]
-fn weight_distribution(alloc: Global, place: usize, code: &Code) -> Result<Effect, Stop>
-    ensures { AffectsOrFails result (QueriesTo place (bound.weight_distribution code.now)) }
+fn weight_distribution(alloc: Global, offset: usize, code: &Code) -> Result<Effect, Stop>
+    ensures { AffectsOrFails result (QueriesTo offset (bound.weight_distribution code.now)) }
 {
     if let Some(sizes) = refusal(code) {
-        return Err(Stop::Refused(no_distribution(alloc, place, sizes)?));
+        return Err(Stop::Refused(no_distribution(alloc, offset, sizes)?));
     }
     Ok(Effect::Counts(code.copy(alloc)?))
 }

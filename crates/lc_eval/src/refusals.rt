@@ -39,7 +39,7 @@ pub(crate) const NOT_A_SUBCODE: u8 = 51;
 #[derive(Drop)]
 pub(crate) struct Refused {
     pub(crate) number: u8,
-    pub(crate) place: usize,
+    pub(crate) offset: usize,
     pub(crate) values: Vec<u64>,
 }
 
@@ -54,20 +54,20 @@ pub(crate) enum Stop {
 
 /// The fault with this number at this offset, with no numbers after it.
 #[tactic(auto, unfolding(lc_language::specs::Evaluation::refuse_at))]
-pub(crate) fn fault(alloc: Global, number: u8, place: usize) -> Refused
-    ensures { refused (refused_of result) ≡ refuse_at number place }
+pub(crate) fn fault(alloc: Global, number: u8, offset: usize) -> Refused
+    ensures { refused (refused_of result) ≡ refuse_at number offset }
 {
     Refused {
         number,
-        place,
+        offset,
         values: Vec::new(alloc),
     }
 }
 
 /// The refusal of a constructor of codes, at this offset. If it carries no numbers it takes no memory.
 #[tactic(auto, unfolding(crate::proofs::Opened::refusals_of_calls))]
-pub(crate) fn refused_as(alloc: Global, place: usize, refusal: CodeRefusal) -> Stop
-    ensures is { IsMade (Err refusal) place (Err result) }
+pub(crate) fn refused_as(alloc: Global, offset: usize, refusal: CodeRefusal) -> Stop
+    ensures is { IsMade (Err refusal) offset (Err result) }
     ensures told { refusal ≢ CodeRefusal.NoMemory → refusal_values refusal ≡ [] → result ≢ Stop.NoMemory }
 {
     if refusal == CodeRefusal::NoMemory {
@@ -76,7 +76,7 @@ pub(crate) fn refused_as(alloc: Global, place: usize, refusal: CodeRefusal) -> S
     match refusal.values(alloc) {
         Ok(values) => Stop::Refused(Refused {
             number: refusal.number(),
-            place,
+            offset,
             values,
         }),
         Err(_) => Stop::NoMemory,

@@ -52,7 +52,7 @@ pub(crate) fn effect_of(
     match done(alloc, names, stock, statement) {
         Ok(effect) => Ok(effect),
         Err(Stop::Refused(refused)) => {
-            let line = fault_line(alloc, refused.number, refused.place, &refused.values)?;
+            let line = fault_line(alloc, refused.number, refused.offset, &refused.values)?;
             Ok(Effect::Fails(line))
         }
         Err(Stop::NoMemory) => Err(NoMemory),
@@ -84,7 +84,7 @@ fn alone(alloc: Global, names: &Names, stock: &mut Stock, expr: &Expr) -> Result
 {
     match query_of(expr) {
         Some((row, call, arguments)) => {
-            ask(alloc, names, stock, row, call, expr.place, arguments)
+            ask(alloc, names, stock, row, call, expr.offset, arguments)
         }
         None => {
             let value = evaluate(alloc, names, stock, expr)?;
@@ -114,19 +114,19 @@ fn ask(
     stock: &mut Stock,
     row: &'static Row,
     call: QueryCall,
-    place: usize,
+    offset: usize,
     arguments: &[Expr],
 ) -> Result<Effect, Stop>
     requires row { IsAsked row.now call }
     ensures { (x : List ℕ) → AffectsOrFails result
-        (StepsAsQuery built_calls names.now (query_call_of call) (tree.call place x (trees_of arguments.now))) }
+        (StepsAsQuery built_calls names.now (query_call_of call) (tree.call offset x (trees_of arguments.now))) }
 {
     let Some(kinds) = row.kinds(arguments.len()) else {
-        return Err(Stop::Refused(fault(alloc, WRONG_COUNT, place)));
+        return Err(Stop::Refused(fault(alloc, WRONG_COUNT, offset)));
     };
     let values = evaluate_all(alloc, names, stock, arguments)?;
     match bind_query(call, &values) {
-        Some(query) => answer(alloc, place, query),
-        None => Err(misfit(alloc, place, kinds, arguments, &values)),
+        Some(query) => answer(alloc, offset, query),
+        None => Err(misfit(alloc, offset, kinds, arguments, &values)),
     }
 }

@@ -1,5 +1,5 @@
 -- What may come next in a script, token by token: a way of deciding the grammar that the laws of `GrammarLaws` prove right.
---   Bracket              an opening sign with what stands before it: a call with its place and name, or a list with its place
+--   Bracket              an opening sign with what stands before it: a call with its offset and name, or a list with its offset
 --   filled b es          the expression that the bracket closes to
 --   after_all es e       the expressions with one more at the end
 --   Around               what an expression stands in: a statement behind others, or a bracket with what it holds so far
@@ -25,12 +25,12 @@ pub data Bracket : Type 0 where
   of_list : ℕ → Bracket
 
 abbrev pub closing : Bracket → TokenKind
-closing (of_call place x) = Close
-closing (of_list place) = CloseList
+closing (of_call offset x) = Close
+closing (of_list offset) = CloseList
 
 abbrev pub filled : Bracket → Exprs → Expr
-filled (of_call place x) es = call place x es
-filled (of_list place) es = list place es
+filled (of_call offset x) es = call offset x es
+filled (of_list offset) es = list offset es
 
 abbrev pub after_all : Exprs → Expr → Exprs
 after_all none e = more e none
@@ -57,10 +57,10 @@ pub data State : Type 0 where
 
 abbrev pub level_of : State → ℕ
 level_of (start ss) = 0
-level_of (begun ss place x) = 0
+level_of (begun ss offset x) = 0
 level_of (want a) = depth_of a
 level_of (opened b a) = suc (depth_of a)
-level_of (named a place x) = depth_of a
+level_of (named a offset x) = depth_of a
 level_of (done a e) = depth_of a
 
 -- a token after a whole expression
@@ -68,19 +68,19 @@ abbrev pub after_expr : Around → Expr → TokenKind → Option State
 after_expr (statement ss target) e End = Some (start (ss ++ with_target target e ∷ []))
 after_expr (statement ss target) e _ = None
 after_expr (inside b es a) e Comma = Some (want (inside b (after_all es e) a))
-after_expr (inside (of_call place x) es a) e Close = Some (done a (call place x (after_all es e)))
-after_expr (inside (of_list place) es a) e CloseList = Some (done a (list place (after_all es e)))
+after_expr (inside (of_call offset x) es a) e Close = Some (done a (call offset x (after_all es e)))
+after_expr (inside (of_list offset) es a) e CloseList = Some (done a (list offset (after_all es e)))
 after_expr (inside b es a) e _ = None
 
 -- after a name
 abbrev pub after_name : Around → ℕ → List ℕ → TokenKind → Option State
-after_name a place x Open = Some (opened (of_call place x) a)
-after_name a place x kind = after_expr a (name place x) kind
+after_name a offset x Open = Some (opened (of_call offset x) a)
+after_name a offset x kind = after_expr a (name offset x) kind
 
 -- after a name that begins a statement
 abbrev pub after_first : List Statement → ℕ → List ℕ → TokenKind → Option State
-after_first ss place x Assign = Some (want (statement ss (Some x)))
-after_first ss place x kind = after_name (statement ss None) place x kind
+after_first ss offset x Assign = Some (want (statement ss (Some x)))
+after_first ss offset x kind = after_name (statement ss None) offset x kind
 
 module _ (bytes : List ℕ) where
   -- if an expression must come
@@ -97,16 +97,16 @@ module _ (bytes : List ℕ) where
 
   -- after an opening sign
   abbrev pub at_opened : Bracket → Around → Token → TokenKind → Option State
-  at_opened (of_call place x) a t Close = Some (done a (call place x none))
-  at_opened (of_list place) a t CloseList = Some (done a (list place none))
+  at_opened (of_call offset x) a t Close = Some (done a (call offset x none))
+  at_opened (of_list offset) a t CloseList = Some (done a (list offset none))
   at_opened b a t kind = at_expr (inside b none a) t kind
 
   abbrev pub next_by : State → Token → TokenKind → Option State
   next_by (start ss) t kind = at_start ss t kind
-  next_by (begun ss place x) t kind = after_first ss place x kind
+  next_by (begun ss offset x) t kind = after_first ss offset x kind
   next_by (want a) t kind = at_expr a t kind
   next_by (opened b a) t kind = at_opened b a t kind
-  next_by (named a place x) t kind = after_name a place x kind
+  next_by (named a offset x) t kind = after_name a offset x kind
   next_by (done a e) t kind = after_expr a e kind
 
   abbrev pub next : State → Token → Option State
@@ -135,13 +135,13 @@ pub data Outcome : Type 0 where
   fault : ℕ → ℕ → Outcome
 
 abbrev pub at_end : State → ℕ → Outcome
-at_end (start ss) place = read ss
-at_end s place = fault 41 place
+at_end (start ss) offset = read ss
+at_end s offset = fault 41 offset
 
 abbrev pub ended_at : State → Ending → Outcome
-ended_at s (script_end place) = at_end s place
-ended_at s (bad_token place) = fault 40 place
-ended_at s (too_wide place) = fault 43 place
+ended_at s (script_end offset) = at_end s offset
+ended_at s (bad_token offset) = fault 40 offset
+ended_at s (too_wide offset) = fault 43 offset
 
 abbrev pub outcome_by : Token → Move → (State → Outcome) → Outcome
 outcome_by t (goes s) more_of = more_of s

@@ -34,11 +34,11 @@ module _ (bytes : List ℕ) (limit : ℕ) where
       let rest = closes_all a (filled b (after_all es e)) in
       record { out = rest.out; goes_on = closes_done bytes limit b es a e (token_of (closing b)) (closers a) (script_end 0) refl ∙ rest.goes_on }
 
-  named_closes : (a : Around) (place : ℕ) (x : List ℕ) → course bytes limit (named a place x) (closers a) (script_end 0) ≡ course bytes limit (done a (name place x)) (closers a) (script_end 0)
+  named_closes : (a : Around) (offset : ℕ) (x : List ℕ) → course bytes limit (named a offset x) (closers a) (script_end 0) ≡ course bytes limit (done a (name offset x)) (closers a) (script_end 0)
   unfolding closers token_of
-  named_closes (statement ss target) place x = name_read bytes limit (statement ss target) place x (token_of End) [] (script_end 0) (λ k. cc)
-  named_closes (inside (of_call p y) es a) place x = name_read bytes limit (inside (of_call p y) es a) place x (token_of Close) (closers a) (script_end 0) (λ k. cc)
-  named_closes (inside (of_list p) es a) place x = name_read bytes limit (inside (of_list p) es a) place x (token_of CloseList) (closers a) (script_end 0) (λ k. cc)
+  named_closes (statement ss target) offset x = name_read bytes limit (statement ss target) offset x (token_of End) [] (script_end 0) (λ k. cc)
+  named_closes (inside (of_call p y) es a) offset x = name_read bytes limit (inside (of_call p y) es a) offset x (token_of Close) (closers a) (script_end 0) (λ k. cc)
+  named_closes (inside (of_list p) es a) offset x = name_read bytes limit (inside (of_list p) es a) offset x (token_of CloseList) (closers a) (script_end 0) (λ k. cc)
 
   pub record Completion (s : State) : Type 0 where
     pub us : List Token
@@ -48,16 +48,16 @@ module _ (bytes : List ℕ) (limit : ℕ) where
   pub completes : (s : State) → Completion s
   unfolding token_of course
   completes (start ss) = record { us = []; out = ss; goes_on = refl }
-  completes (begun ss place x) = record { us = token_of End ∷ []; out = ss ++ with_target None (name place x) ∷ []; goes_on = course_at bytes limit (begun ss place x) (token_of End) [] (script_end 0) End refl }
+  completes (begun ss offset x) = record { us = token_of End ∷ []; out = ss ++ with_target None (name offset x) ∷ []; goes_on = course_at bytes limit (begun ss offset x) (token_of End) [] (script_end 0) End refl }
   completes (want a) =
       let rest = closes_all a (number 0 (number_of (text_of bytes (token_of Number)))) in
       record { us = token_of Number ∷ closers a; out = rest.out; goes_on = course_at bytes limit (want a) (token_of Number) (closers a) (script_end 0) Number refl ∙ rest.goes_on }
   completes (opened b a) =
       let rest = closes_all a (filled b none) in
       record { us = token_of (closing b) ∷ closers a; out = rest.out; goes_on = closes_opened bytes limit b a (token_of (closing b)) (closers a) (script_end 0) refl ∙ rest.goes_on }
-  completes (named a place x) =
-      let rest = closes_all a (name place x) in
-      record { us = closers a; out = rest.out; goes_on = named_closes a place x ∙ rest.goes_on }
+  completes (named a offset x) =
+      let rest = closes_all a (name offset x) in
+      record { us = closers a; out = rest.out; goes_on = named_closes a offset x ∙ rest.goes_on }
   completes (done a e) =
       let rest = closes_all a e in
       record { us = closers a; out = rest.out; goes_on = rest.goes_on }
@@ -152,27 +152,27 @@ module _ (bytes : List ℕ) (limit : ℕ) where
   after_level (inside (of_list p) es a) e Close = tt
   after_level (inside (of_list p) es a) e End = tt
 
-  name_level : (a : Around) (place : ℕ) (x : List ℕ) (kind : TokenKind) → LevelIs (depth_of a) kind (after_name a place x kind)
-  name_level a place x Open = omega arith
-  name_level a place x Name = after_level a (name place x) Name
-  name_level a place x Number = after_level a (name place x) Number
-  name_level a place x Assign = after_level a (name place x) Assign
-  name_level a place x Close = after_level a (name place x) Close
-  name_level a place x OpenList = after_level a (name place x) OpenList
-  name_level a place x CloseList = after_level a (name place x) CloseList
-  name_level a place x Comma = after_level a (name place x) Comma
-  name_level a place x End = after_level a (name place x) End
+  name_level : (a : Around) (offset : ℕ) (x : List ℕ) (kind : TokenKind) → LevelIs (depth_of a) kind (after_name a offset x kind)
+  name_level a offset x Open = omega arith
+  name_level a offset x Name = after_level a (name offset x) Name
+  name_level a offset x Number = after_level a (name offset x) Number
+  name_level a offset x Assign = after_level a (name offset x) Assign
+  name_level a offset x Close = after_level a (name offset x) Close
+  name_level a offset x OpenList = after_level a (name offset x) OpenList
+  name_level a offset x CloseList = after_level a (name offset x) CloseList
+  name_level a offset x Comma = after_level a (name offset x) Comma
+  name_level a offset x End = after_level a (name offset x) End
 
-  first_level : (ss : List Statement) (place : ℕ) (x : List ℕ) (kind : TokenKind) → LevelIs 0 kind (after_first ss place x kind)
-  first_level ss place x Assign = refl
-  first_level ss place x Name = tt
-  first_level ss place x Number = tt
-  first_level ss place x Open = name_level (statement ss None) place x Open
-  first_level ss place x Close = tt
-  first_level ss place x OpenList = tt
-  first_level ss place x CloseList = tt
-  first_level ss place x Comma = tt
-  first_level ss place x End = refl
+  first_level : (ss : List Statement) (offset : ℕ) (x : List ℕ) (kind : TokenKind) → LevelIs 0 kind (after_first ss offset x kind)
+  first_level ss offset x Assign = refl
+  first_level ss offset x Name = tt
+  first_level ss offset x Number = tt
+  first_level ss offset x Open = name_level (statement ss None) offset x Open
+  first_level ss offset x Close = tt
+  first_level ss offset x OpenList = tt
+  first_level ss offset x CloseList = tt
+  first_level ss offset x Comma = tt
+  first_level ss offset x End = refl
 
   start_level : (ss : List Statement) (t : Token) (kind : TokenKind) → LevelIs 0 kind (at_start bytes ss t kind)
   start_level ss t Name = refl
@@ -207,10 +207,10 @@ module _ (bytes : List ℕ) (limit : ℕ) where
 
   next_level : (s : State) (t : Token) (kind : TokenKind) → LevelIs (level_of s) kind (next_by bytes s t kind)
   next_level (start ss) t kind = start_level ss t kind
-  next_level (begun ss place x) t kind = first_level ss place x kind
+  next_level (begun ss offset x) t kind = first_level ss offset x kind
   next_level (want a) t kind = expr_level a t kind
   next_level (opened b a) t kind = opened_level b a t kind
-  next_level (named a place x) t kind = name_level a place x kind
+  next_level (named a offset x) t kind = name_level a offset x kind
   next_level (done a e) t kind = after_level a e kind
 
   count_first : (p : Token → Bool) (t : Token) (us : List Token) → count_by p (t ∷ us) ≡ bit (p t) + count_by p us

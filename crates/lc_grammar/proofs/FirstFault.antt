@@ -165,36 +165,36 @@ module _ (bytes : List ℕ) where
       by_test lim false (Some after) e s' h = cc
 
   -- a whole script goes through
-  script_goes : (all : List Token) (ss : List Statement) (place : ℕ) → IsScript bytes all ss → (s : State) → reach bytes deepest (start []) all ≡ Some s → at_end s place ≡ read ss
+  script_goes : (all : List Token) (ss : List Statement) (offset : ℕ) → IsScript bytes all ss → (s : State) → reach bytes deepest (start []) all ≡ Some s → at_end s offset ≡ read ss
   unfolding course
-  script_goes all ss place is s reached =
+  script_goes all ss offset is s reached =
       let lim = deepest + greatest ss in
-      sym (course_reach bytes lim all (start []) s [] (script_end place) (raise deepest lim (omega arith) all (start []) s reached))
-      ∙ ap (λ l. course bytes lim (start []) l (script_end place)) (append-nil all)
-      ∙ script_course bytes lim ss all is (within_greatest lim ss (omega arith)) [] place
+      sym (course_reach bytes lim all (start []) s [] (script_end offset) (raise deepest lim (omega arith) all (start []) s reached))
+      ∙ ap (λ l. course bytes lim (start []) l (script_end offset)) (append-nil all)
+      ∙ script_course bytes lim ss all is (within_greatest lim ss (omega arith)) [] offset
 
   -- tokens that lead to the start of a statement are a script
-  ends_script : (all : List Token) (ss : List Statement) (place : ℕ) → reach bytes deepest (start []) all ≡ Some (start ss) → ((ss : List Statement) → IsScript bytes all ss → ⊥) → ⊥
+  ends_script : (all : List Token) (ss : List Statement) (offset : ℕ) → reach bytes deepest (start []) all ≡ Some (start ss) → ((ss : List Statement) → IsScript bytes all ss → ⊥) → ⊥
   unfolding course
-  ends_script all ss place reached no_script =
-      let whole = sym (ap (λ l. course bytes deepest (start []) l (script_end place)) (append-nil all)) ∙ course_reach bytes deepest all (start []) (start ss) [] (script_end place) reached in
-      let found = script_read bytes deepest (length all) all [] place ss (omega arith) whole in
+  ends_script all ss offset reached no_script =
+      let whole = sym (ap (λ l. course bytes deepest (start []) l (script_end offset)) (append-nil all)) ∙ course_reach bytes deepest all (start []) (start ss) [] (script_end offset) reached in
+      let found = script_read bytes deepest (length all) all [] offset ss (omega arith) whole in
       no_script found.ss' found.is
 
   abbrev pub IsFaultOf : List Token → Ending → Fault → Type 0
   IsFaultOf all ending f = ((i : ℕ) × ((t : Token) × IsFaultAtToken bytes all f i t)) ⊎ (GoesOn bytes all (length all) × EndsIn bytes all ending f)
 
   abbrev fault_by : ℕ → ℕ → Fault
-  fault_by n place = record { number = n; place = place }
+  fault_by n offset = record { number = n; offset = offset }
 
-  end_fault : (all : List Token) (ending : Ending) (s : State) (n place : ℕ) → reach bytes deepest (start []) all ≡ Some s → ended_at s ending ≡ fault n place → EndsIn bytes all ending (fault_by n place)
-  end_fault all (bad_token p) s n place reached h = let a : n ≡ 40 = cc in let b : place ≡ p = cc in (b, a)
-  end_fault all (too_wide p) s n place reached h = let a : n ≡ 43 = cc in let b : place ≡ p = cc in (b, a)
-  end_fault all (script_end p) s n place reached h =
+  end_fault : (all : List Token) (ending : Ending) (s : State) (n offset : ℕ) → reach bytes deepest (start []) all ≡ Some s → ended_at s ending ≡ fault n offset → EndsIn bytes all ending (fault_by n offset)
+  end_fault all (bad_token p) s n offset reached h = let a : n ≡ 40 = cc in let b : offset ≡ p = cc in (b, a)
+  end_fault all (too_wide p) s n offset reached h = let a : n ≡ 43 = cc in let b : offset ≡ p = cc in (b, a)
+  end_fault all (script_end p) s n offset reached h =
       let is = at_end_fault s h in
       (is.1, is.0, λ ss script. let e = sym (script_goes all ss p script s reached) ∙ h in cc)
     where
-      at_end_fault : (s : State) → at_end s p ≡ fault n place → (n ≡ 41) × (place ≡ p)
+      at_end_fault : (s : State) → at_end s p ≡ fault n offset → (n ≡ 41) × (offset ≡ p)
       at_end_fault (start ss) h = absurd (cc)
       at_end_fault (begun ss q x) h = (cc, cc)
       at_end_fault (want a) h = (cc, cc)
@@ -202,9 +202,9 @@ module _ (bytes : List ℕ) where
       at_end_fault (named a q x) h = (cc, cc)
       at_end_fault (done a e) h = (cc, cc)
 
-  course_is_fault : (all : List Token) (ending : Ending) (n place : ℕ) (ts front : List Token) (s : State) → all ≡ front ++ ts → reach bytes deepest (start []) front ≡ Some s → ((j : ℕ) → j < length front → IsTooDeep all j → ⊥) → course bytes deepest s ts ending ≡ fault n place → IsFaultOf all ending (fault_by n place)
+  course_is_fault : (all : List Token) (ending : Ending) (n offset : ℕ) (ts front : List Token) (s : State) → all ≡ front ++ ts → reach bytes deepest (start []) front ≡ Some s → ((j : ℕ) → j < length front → IsTooDeep all j → ⊥) → course bytes deepest s ts ending ≡ fault n offset → IsFaultOf all ending (fault_by n offset)
   unfolding course
-  course_is_fault all ending n place [] front s split reached shallow h =
+  course_is_fault all ending n offset [] front s split reached shallow h =
       let whole : all ≡ front = split ∙ append-nil front in
       let all_reached : reach bytes deepest (start []) all ≡ Some s = ap (reach bytes deepest (start [])) whole ∙ reached in
       inr (
@@ -212,10 +212,10 @@ module _ (bytes : List ℕ) where
           may = rw (take_all (length all) all (omega arith)) (may_go_on bytes deepest all s all_reached);
           shallow = λ j l. shallow j (omega (arith, ap length whole));
         },
-        end_fault all ending s n place all_reached h,
+        end_fault all ending s n offset all_reached h,
       )
-  course_is_fault all ending n place (t ∷ ts) front s split reached shallow h = by_test (opens t.kind && nat_le deepest (level_of s)) (next bytes s t) refl refl h
-      (λ after e more_of. course_is_fault all ending n place ts (front ++ t ∷ []) after (split ∙ sym (append_assoc front (t ∷ []) ts)) (reach_next front t s after reached e) more_of)
+  course_is_fault all ending n offset (t ∷ ts) front s split reached shallow h = by_test (opens t.kind && nat_le deepest (level_of s)) (next bytes s t) refl refl h
+      (λ after e more_of. course_is_fault all ending n offset ts (front ++ t ∷ []) after (split ∙ sym (append_assoc front (t ∷ []) ts)) (reach_next front t s after reached e) more_of)
     where
       goes_on : GoesOn bytes all (length front)
       goes_on = record { may = rw (front_is all front t ts split s reached) (may_go_on bytes deepest front s reached); shallow = shallow }
@@ -227,15 +227,15 @@ module _ (bytes : List ℕ) where
             | inr same ↦ let d = deep_test all front t ts split s reached (subst (IsTooDeep all) same deep) in cc
           ]
 
-      by_test : (b : Bool) (o : Option State) → (opens t.kind && nat_le deepest (level_of s)) ≡ b → next bytes s t ≡ o → outcome_by t (move_by b o) (λ after. course bytes deepest after ts ending) ≡ fault n place
-          → ((after : State) → move bytes deepest s t ≡ goes after → ((j : ℕ) → j < length (front ++ t ∷ []) → IsTooDeep all j → ⊥) → course bytes deepest after ts ending ≡ fault n place → IsFaultOf all ending (fault_by n place)) → IsFaultOf all ending (fault_by n place)
+      by_test : (b : Bool) (o : Option State) → (opens t.kind && nat_le deepest (level_of s)) ≡ b → next bytes s t ≡ o → outcome_by t (move_by b o) (λ after. course bytes deepest after ts ending) ≡ fault n offset
+          → ((after : State) → move bytes deepest s t ≡ goes after → ((j : ℕ) → j < length (front ++ t ∷ []) → IsTooDeep all j → ⊥) → course bytes deepest after ts ending ≡ fault n offset → IsFaultOf all ending (fault_by n offset)) → IsFaultOf all ending (fault_by n offset)
       by_test true o eb eo h again =
           let number : n ≡ 42 = cc in
-          let stands : place ≡ t.start = cc in
+          let stands : offset ≡ t.start = cc in
           inl (length front, (t, record { token = token_is all front t ts split s reached; stands = stands; before = goes_on; refused = inl (is_deep all front t ts split s reached eb, number) }))
       by_test false None eb eo h again =
           let number : n ≡ 41 = cc in
-          let stands : place ≡ t.start = cc in
+          let stands : offset ≡ t.start = cc in
           inl (
             length front,
             (
@@ -273,10 +273,10 @@ module _ (bytes : List ℕ) where
           absurd (no_way (subst (MayGoOn bytes) (sym front) (may_go_on bytes deepest (take i all ++ t ∷ []) after reached_next)))
 
   -- the end of the tokens, if the script can't end
-  stops_at_end : (all : List Token) (ending : Ending) (f : Fault) (s : State) → reach bytes deepest (start []) all ≡ Some s → EndsIn bytes all ending f → ended_at s ending ≡ fault f.number f.place
-  stops_at_end all (bad_token p) f s reached (place, number) = rw (place, number) refl
-  stops_at_end all (too_wide p) f s reached (place, number) = rw (place, number) refl
-  stops_at_end all (script_end p) f s reached (place, number, no_script) = rw (place, number) (by_state s reached)
+  stops_at_end : (all : List Token) (ending : Ending) (f : Fault) (s : State) → reach bytes deepest (start []) all ≡ Some s → EndsIn bytes all ending f → ended_at s ending ≡ fault f.number f.offset
+  stops_at_end all (bad_token p) f s reached (offset, number) = rw (offset, number) refl
+  stops_at_end all (too_wide p) f s reached (offset, number) = rw (offset, number) refl
+  stops_at_end all (script_end p) f s reached (offset, number, no_script) = rw (offset, number) (by_state s reached)
     where
       by_state : (s : State) → reach bytes deepest (start []) all ≡ Some s → at_end s p ≡ fault 41 p
       by_state (start ss) reached = absurd (ends_script all ss p reached no_script)
@@ -287,7 +287,7 @@ module _ (bytes : List ℕ) where
       by_state (done a e) reached = refl
 
   -- the first fault of tokens is the fault of their course
-  pub fault_is_course : (all : List Token) (ending : Ending) (f : Fault) → IsFaultOf all ending f → course bytes deepest (start []) all ending ≡ fault f.number f.place
+  pub fault_is_course : (all : List Token) (ending : Ending) (f : Fault) → IsFaultOf all ending f → course bytes deepest (start []) all ending ≡ fault f.number f.offset
   unfolding course
   fault_is_course all ending f (inl (i, (t, at))) =
       let parts = split_at all i t at.token in
@@ -303,9 +303,9 @@ module _ (bytes : List ℕ) where
       ∙ course_reach bytes deepest all (start []) r.state [] ending reached
       ∙ stops_at_end all ending f r.state reached ends
 
-  pub fault_of_course : (all : List Token) (ending : Ending) (f : Fault) → course bytes deepest (start []) all ending ≡ fault f.number f.place → IsFaultOf all ending f
+  pub fault_of_course : (all : List Token) (ending : Ending) (f : Fault) → course bytes deepest (start []) all ending ≡ fault f.number f.offset → IsFaultOf all ending f
   unfolding reach
-  fault_of_course all ending f h = course_is_fault all ending f.number f.place all [] (start []) refl refl (λ j l. absurd (omega arith)) h
+  fault_of_course all ending f h = course_is_fault all ending f.number f.offset all [] (start []) refl refl (λ j l. absurd (omega arith)) h
 
   -- only at the script's end does a course end in a script
   pub outcome_ending : (all : List Token) (ending : Ending) (out : List Statement) → course bytes deepest (start []) all ending ≡ read out → (p : ℕ) × (ending ≡ script_end p)
@@ -327,11 +327,11 @@ module _ (bytes : List ℕ) where
       ∙ script_course bytes deepest ss (scan bytes).tokens h.script (recursion_from_All (λ s. nesting s.expr ≤ deepest) ss h.shallow) [] (length bytes)
 
   pub outcome_script : (ss : List Statement) → ((p : ℕ) → (scan bytes).ending ≡ script_end p → p ≡ length bytes) → course bytes deepest (start []) (scan bytes).tokens (scan bytes).ending ≡ read ss → Reads bytes ss
-  outcome_script ss place h =
+  outcome_script ss offset h =
       let end = outcome_ending (scan bytes).tokens (scan bytes).ending ss h in
       let found = script_read bytes deepest (length (scan bytes).tokens) (scan bytes).tokens [] end.0 ss (omega arith) (ap (course bytes deepest (start []) (scan bytes).tokens) (sym end.1) ∙ h) in
       record {
-        whole = end.1 ∙ ap script_end (place end.0 end.1);
+        whole = end.1 ∙ ap script_end (offset end.0 end.1);
         script = subst (IsScript bytes (scan bytes).tokens) (sym found.all) found.is;
         shallow = subst (All (λ s. nesting s.expr ≤ deepest)) (sym found.all) (All-from_recursion (λ s. nesting s.expr ≤ deepest) found.ss' found.shallow);
       }

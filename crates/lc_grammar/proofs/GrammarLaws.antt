@@ -31,25 +31,25 @@ module _ (bytes : List ℕ) (limit : ℕ) where
 
   -- after an expression
   abbrev after_read : Around → Expr → State
-  after_read a (name place x) = named a place x
-  after_read a (number place n) = done a (number place n)
-  after_read a (call place x es) = done a (call place x es)
-  after_read a (list place es) = done a (list place es)
+  after_read a (name offset x) = named a offset x
+  after_read a (number offset n) = done a (number offset n)
+  after_read a (call offset x es) = done a (call offset x es)
+  after_read a (list offset es) = done a (list offset es)
 
   -- two states that one token moves alike
   pub same_course : (s s' : State) (t : Token) (ts : List Token) (ending : Ending) (kind : TokenKind) → t.kind ≡ kind → kind_move bytes limit s t kind ≡ kind_move bytes limit s' t kind → course bytes limit s (t ∷ ts) ending ≡ course bytes limit s' (t ∷ ts) ending
   same_course s s' t ts ending kind e same = course_at s t ts ending kind e ∙ ap (λ m. outcome_by t m (λ after. course bytes limit after ts ending)) same ∙ sym (course_at s' t ts ending kind e)
 
-  name_move : (a : Around) (place : ℕ) (x : List ℕ) (t : Token) (kind : TokenKind) → (kind ≡ Open → ⊥) → kind_move bytes limit (named a place x) t kind ≡ kind_move bytes limit (done a (name place x)) t kind
-  name_move a place x t Open no_call = absurd (no_call refl)
-  name_move a place x t Name no_call = refl
-  name_move a place x t Number no_call = refl
-  name_move a place x t Assign no_call = refl
-  name_move a place x t Close no_call = refl
-  name_move a place x t OpenList no_call = refl
-  name_move a place x t CloseList no_call = refl
-  name_move a place x t Comma no_call = refl
-  name_move a place x t End no_call = refl
+  name_move : (a : Around) (offset : ℕ) (x : List ℕ) (t : Token) (kind : TokenKind) → (kind ≡ Open → ⊥) → kind_move bytes limit (named a offset x) t kind ≡ kind_move bytes limit (done a (name offset x)) t kind
+  name_move a offset x t Open no_call = absurd (no_call refl)
+  name_move a offset x t Name no_call = refl
+  name_move a offset x t Number no_call = refl
+  name_move a offset x t Assign no_call = refl
+  name_move a offset x t Close no_call = refl
+  name_move a offset x t OpenList no_call = refl
+  name_move a offset x t CloseList no_call = refl
+  name_move a offset x t Comma no_call = refl
+  name_move a offset x t End no_call = refl
 
   -- the grammar lets no token stand first
   pub stuck_course : (s : State) (t : Token) (ts : List Token) (ending : Ending) (n : ℕ) → next bytes s t ≡ None → move_by (opens t.kind && nat_le limit (level_of s)) None ≡ stops n → course bytes limit s (t ∷ ts) ending ≡ fault n t.start
@@ -62,8 +62,8 @@ module _ (bytes : List ℕ) (limit : ℕ) where
   course_deep s t ts ending o l = rw (o, at_limit limit (level_of s) l) refl
 
   -- a name that no opening sign follows is a whole expression
-  pub name_read : (a : Around) (place : ℕ) (x : List ℕ) (t : Token) (ts : List Token) (ending : Ending) → (t.kind ≡ Open → ⊥) → course bytes limit (named a place x) (t ∷ ts) ending ≡ course bytes limit (done a (name place x)) (t ∷ ts) ending
-  name_read a place x t ts ending no_call = same_course (named a place x) (done a (name place x)) t ts ending t.kind refl (name_move a place x t t.kind no_call)
+  pub name_read : (a : Around) (offset : ℕ) (x : List ℕ) (t : Token) (ts : List Token) (ending : Ending) → (t.kind ≡ Open → ⊥) → course bytes limit (named a offset x) (t ∷ ts) ending ≡ course bytes limit (done a (name offset x)) (t ∷ ts) ending
+  name_read a offset x t ts ending no_call = same_course (named a offset x) (done a (name offset x)) t ts ending t.kind refl (name_move a offset x t t.kind no_call)
 
   -- the first token of an expression
   begins : TokenKind → Bool
@@ -80,19 +80,19 @@ module _ (bytes : List ℕ) (limit : ℕ) where
 
   begins_expr : (e : Expr) (us : List Token) → IsExpr bytes us e → Begins us
   unfolding begins
-  begins_expr (number place n) us (t, split, is) = record { first = t; rest = []; split = split; kind = rw is.kind refl }
-  begins_expr (name place x) us (t, split, is) = record { first = t; rest = []; split = split; kind = rw is.kind refl }
-  begins_expr (call place x es) us (t, (rest, split, is, more_of)) = record { first = t; rest = rest; split = split; kind = rw is.kind refl }
-  begins_expr (list place es) us (first, (inner, (last, between, stands, is))) = record { first = first; rest = inner ++ last ∷ []; split = between.all; kind = rw between.opens refl }
+  begins_expr (number offset n) us (t, split, is) = record { first = t; rest = []; split = split; kind = rw is.kind refl }
+  begins_expr (name offset x) us (t, split, is) = record { first = t; rest = []; split = split; kind = rw is.kind refl }
+  begins_expr (call offset x es) us (t, (rest, split, is, more_of)) = record { first = t; rest = rest; split = split; kind = rw is.kind refl }
+  begins_expr (list offset es) us (first, (inner, (last, between, stands, is))) = record { first = first; rest = inner ++ last ∷ []; split = between.all; kind = rw between.opens refl }
 
   opened_move : (b : Bracket) (a : Around) (t : Token) (kind : TokenKind) → begins kind ≡ true → kind_move bytes limit (opened b a) t kind ≡ kind_move bytes limit (want (inside b none a)) t kind
   unfolding begins
-  opened_move (of_call place x) a t Name h = refl
-  opened_move (of_list place) a t Name h = refl
-  opened_move (of_call place x) a t Number h = refl
-  opened_move (of_list place) a t Number h = refl
-  opened_move (of_call place x) a t OpenList h = refl
-  opened_move (of_list place) a t OpenList h = refl
+  opened_move (of_call offset x) a t Name h = refl
+  opened_move (of_list offset) a t Name h = refl
+  opened_move (of_call offset x) a t Number h = refl
+  opened_move (of_list offset) a t Number h = refl
+  opened_move (of_call offset x) a t OpenList h = refl
+  opened_move (of_list offset) a t OpenList h = refl
   opened_move b a t Assign h = absurd (cc)
   opened_move b a t Open h = absurd (cc)
   opened_move b a t Close h = absurd (cc)
@@ -102,24 +102,24 @@ module _ (bytes : List ℕ) (limit : ℕ) where
 
   -- after an opening sign, if no closing sign follows
   pub opened_wants : (b : Bracket) (a : Around) (t : Token) (kind : TokenKind) → (kind ≡ closing b → ⊥) → kind_move bytes limit (opened b a) t kind ≡ kind_move bytes limit (want (inside b none a)) t kind
-  opened_wants (of_call place x) a t Close h = absurd (h refl)
-  opened_wants (of_list place) a t CloseList h = absurd (h refl)
-  opened_wants (of_call place x) a t Name h = refl
-  opened_wants (of_call place x) a t Number h = refl
-  opened_wants (of_call place x) a t Assign h = refl
-  opened_wants (of_call place x) a t Open h = refl
-  opened_wants (of_call place x) a t OpenList h = refl
-  opened_wants (of_call place x) a t CloseList h = refl
-  opened_wants (of_call place x) a t Comma h = refl
-  opened_wants (of_call place x) a t End h = refl
-  opened_wants (of_list place) a t Name h = refl
-  opened_wants (of_list place) a t Number h = refl
-  opened_wants (of_list place) a t Assign h = refl
-  opened_wants (of_list place) a t Open h = refl
-  opened_wants (of_list place) a t Close h = refl
-  opened_wants (of_list place) a t OpenList h = refl
-  opened_wants (of_list place) a t Comma h = refl
-  opened_wants (of_list place) a t End h = refl
+  opened_wants (of_call offset x) a t Close h = absurd (h refl)
+  opened_wants (of_list offset) a t CloseList h = absurd (h refl)
+  opened_wants (of_call offset x) a t Name h = refl
+  opened_wants (of_call offset x) a t Number h = refl
+  opened_wants (of_call offset x) a t Assign h = refl
+  opened_wants (of_call offset x) a t Open h = refl
+  opened_wants (of_call offset x) a t OpenList h = refl
+  opened_wants (of_call offset x) a t CloseList h = refl
+  opened_wants (of_call offset x) a t Comma h = refl
+  opened_wants (of_call offset x) a t End h = refl
+  opened_wants (of_list offset) a t Name h = refl
+  opened_wants (of_list offset) a t Number h = refl
+  opened_wants (of_list offset) a t Assign h = refl
+  opened_wants (of_list offset) a t Open h = refl
+  opened_wants (of_list offset) a t Close h = refl
+  opened_wants (of_list offset) a t OpenList h = refl
+  opened_wants (of_list offset) a t Comma h = refl
+  opened_wants (of_list offset) a t End h = refl
 
   -- an element may come if one must come
   opened_begins : (b : Bracket) (a : Around) (us ts : List Token) (ending : Ending) → Begins us → course bytes limit (opened b a) (us ++ ts) ending ≡ course bytes limit (want (inside b none a)) (us ++ ts) ending
@@ -155,26 +155,26 @@ module _ (bytes : List ℕ) (limit : ℕ) where
 
   -- a token that may follow an expression in a list
   read_whole : (a : Around) (e : Expr) (t : Token) (ts : List Token) (ending : Ending) → (t.kind ≡ Open → ⊥) → course bytes limit (after_read a e) (t ∷ ts) ending ≡ course bytes limit (done a e) (t ∷ ts) ending
-  read_whole a (name place x) t ts ending h = name_read a place x t ts ending h
-  read_whole a (number place n) t ts ending h = refl
-  read_whole a (call place x es) t ts ending h = refl
-  read_whole a (list place es) t ts ending h = refl
+  read_whole a (name offset x) t ts ending h = name_read a offset x t ts ending h
+  read_whole a (number offset n) t ts ending h = refl
+  read_whole a (call offset x es) t ts ending h = refl
+  read_whole a (list offset es) t ts ending h = refl
 
   pub closes_opened : (b : Bracket) (a : Around) (t : Token) (ts : List Token) (ending : Ending) → t.kind ≡ closing b → course bytes limit (opened b a) (t ∷ ts) ending ≡ course bytes limit (done a (filled b none)) ts ending
-  closes_opened (of_call place x) a t ts ending e = course_at (opened (of_call place x) a) t ts ending Close e
-  closes_opened (of_list place) a t ts ending e = course_at (opened (of_list place) a) t ts ending CloseList e
+  closes_opened (of_call offset x) a t ts ending e = course_at (opened (of_call offset x) a) t ts ending Close e
+  closes_opened (of_list offset) a t ts ending e = course_at (opened (of_list offset) a) t ts ending CloseList e
 
   pub closes_done : (b : Bracket) (es : Exprs) (a : Around) (e : Expr) (t : Token) (ts : List Token) (ending : Ending) → t.kind ≡ closing b → course bytes limit (done (inside b es a) e) (t ∷ ts) ending ≡ course bytes limit (done a (filled b (after_all es e))) ts ending
-  closes_done (of_call place x) es a e t ts ending k = course_at (done (inside (of_call place x) es a) e) t ts ending Close k
-  closes_done (of_list place) es a e t ts ending k = course_at (done (inside (of_list place) es a) e) t ts ending CloseList k
+  closes_done (of_call offset x) es a e t ts ending k = course_at (done (inside (of_call offset x) es a) e) t ts ending Close k
+  closes_done (of_list offset) es a e t ts ending k = course_at (done (inside (of_list offset) es a) e) t ts ending CloseList k
 
   pub comma_done : (b : Bracket) (es : Exprs) (a : Around) (e : Expr) (t : Token) (ts : List Token) (ending : Ending) → t.kind ≡ Comma → course bytes limit (done (inside b es a) e) (t ∷ ts) ending ≡ course bytes limit (want (inside b (after_all es e) a)) ts ending
-  comma_done (of_call place x) es a e t ts ending k = course_at (done (inside (of_call place x) es a) e) t ts ending Comma k
-  comma_done (of_list place) es a e t ts ending k = course_at (done (inside (of_list place) es a) e) t ts ending Comma k
+  comma_done (of_call offset x) es a e t ts ending k = course_at (done (inside (of_call offset x) es a) e) t ts ending Comma k
+  comma_done (of_list offset) es a e t ts ending k = course_at (done (inside (of_list offset) es a) e) t ts ending Comma k
 
   not_open : (b : Bracket) (t : Token) → t.kind ≡ closing b → t.kind ≡ Open → ⊥
-  not_open (of_call place x) t e k = cc
-  not_open (of_list place) t e k = cc
+  not_open (of_call offset x) t e k = cc
+  not_open (of_list offset) t e k = cc
 
   -- the elements of a bracket begin as it is opened
   opened_elements : (es : Exprs) (b : Bracket) (a : Around) (us ts : List Token) (ending : Ending) → IsList bytes us es → course bytes limit (opened b a) (us ++ ts) ending ≡ course bytes limit (before_elements b none a es) (us ++ ts) ending
@@ -188,27 +188,27 @@ module _ (bytes : List ℕ) (limit : ℕ) where
     unfolding nesting nesting_all
 
     expr_course : (e : Expr) (us : List Token) → IsExpr bytes us e → (a : Around) → nesting e + depth_of a ≤ limit → (ts : List Token) (ending : Ending) → course bytes limit (want a) (us ++ ts) ending ≡ course bytes limit (after_read a e) ts ending
-    expr_course (number place n) us (t, split, is) a l ts ending =
+    expr_course (number offset n) us (t, split, is) a l ts ending =
         rw split (course_at (want a) t ts ending Number is.kind ∙ cc (is.stands, is.value))
-    expr_course (name place x) us (t, split, is) a l ts ending =
+    expr_course (name offset x) us (t, split, is) a l ts ending =
         rw split (course_at (want a) t ts ending Name is.kind ∙ cc (is.stands, is.text))
-    expr_course (call place x es) us (t, (rest, split, is, (first, (inner, (last, between, list_is))))) a l ts ending =
+    expr_course (call offset x es) us (t, (rest, split, is, (first, (inner, (last, between, list_is))))) a l ts ending =
         let all : us ++ ts ≡ t ∷ first ∷ (inner ++ (last ∷ ts)) = rw (split, between.all) (ap (λ l. t ∷ first ∷ l) (append_assoc inner (last ∷ []) ts)) in
         ap (λ l. course bytes limit (want a) l ending) all
         ∙ course_at (want a) t (first ∷ (inner ++ (last ∷ ts))) ending Name is.kind
         ∙ ap₂ (λ p y. course bytes limit (named a p y) (first ∷ (inner ++ (last ∷ ts))) ending) is.stands is.text
-        ∙ course_open (named a place x) first (inner ++ (last ∷ ts)) ending (opened (of_call place x) a) (ap opens between.opens) (omega arith) (ap (after_name a place x) between.opens)
-        ∙ opened_elements es (of_call place x) a inner (last ∷ ts) ending list_is
-        ∙ list_course es inner list_is (of_call place x) none a (omega arith) last between.closes ts ending
-        ∙ ap (λ l. course bytes limit (done a (call place x l)) ts ending) (elements_none es)
-    expr_course (list place es) us (first, (inner, (last, between, stands, list_is))) a l ts ending =
+        ∙ course_open (named a offset x) first (inner ++ (last ∷ ts)) ending (opened (of_call offset x) a) (ap opens between.opens) (omega arith) (ap (after_name a offset x) between.opens)
+        ∙ opened_elements es (of_call offset x) a inner (last ∷ ts) ending list_is
+        ∙ list_course es inner list_is (of_call offset x) none a (omega arith) last between.closes ts ending
+        ∙ ap (λ l. course bytes limit (done a (call offset x l)) ts ending) (elements_none es)
+    expr_course (list offset es) us (first, (inner, (last, between, stands, list_is))) a l ts ending =
         let all : us ++ ts ≡ first ∷ (inner ++ (last ∷ ts)) = rw between.all (ap (λ l. first ∷ l) (append_assoc inner (last ∷ []) ts)) in
         ap (λ l. course bytes limit (want a) l ending) all
         ∙ course_open (want a) first (inner ++ (last ∷ ts)) ending (opened (of_list first.start) a) (ap opens between.opens) (omega arith) (ap (at_expr bytes a first) between.opens)
         ∙ ap (λ p. course bytes limit (opened (of_list p) a) (inner ++ (last ∷ ts)) ending) stands
-        ∙ opened_elements es (of_list place) a inner (last ∷ ts) ending list_is
-        ∙ list_course es inner list_is (of_list place) none a (omega arith) last between.closes ts ending
-        ∙ ap (λ l. course bytes limit (done a (list place l)) ts ending) (elements_none es)
+        ∙ opened_elements es (of_list offset) a inner (last ∷ ts) ending list_is
+        ∙ list_course es inner list_is (of_list offset) none a (omega arith) last between.closes ts ending
+        ∙ ap (λ l. course bytes limit (done a (list offset l)) ts ending) (elements_none es)
 
     list_course : (es : Exprs) (us : List Token) → IsList bytes us es → (b : Bracket) (so_far : Exprs) (a : Around) → nesting_all es + suc (depth_of a) ≤ limit → (last : Token) → last.kind ≡ closing b → (ts : List Token) (ending : Ending)
         → course bytes limit (before_elements b so_far a es) (us ++ last ∷ ts) ending ≡ course bytes limit (done a (filled b (elements so_far es))) ts ending
@@ -237,27 +237,27 @@ module _ (bytes : List ℕ) (limit : ℕ) where
   start_move ss t Comma h = refl
   start_move ss t End h = refl
 
-  first_move : (ss : List Statement) (place : ℕ) (x : List ℕ) (t : Token) (kind : TokenKind) → (kind ≡ Assign → ⊥) → kind_move bytes limit (begun ss place x) t kind ≡ kind_move bytes limit (named (statement ss None) place x) t kind
-  first_move ss place x t Assign h = absurd (h refl)
-  first_move ss place x t Name h = refl
-  first_move ss place x t Number h = refl
-  first_move ss place x t Open h = refl
-  first_move ss place x t Close h = refl
-  first_move ss place x t OpenList h = refl
-  first_move ss place x t CloseList h = refl
-  first_move ss place x t Comma h = refl
-  first_move ss place x t End h = refl
+  first_move : (ss : List Statement) (offset : ℕ) (x : List ℕ) (t : Token) (kind : TokenKind) → (kind ≡ Assign → ⊥) → kind_move bytes limit (begun ss offset x) t kind ≡ kind_move bytes limit (named (statement ss None) offset x) t kind
+  first_move ss offset x t Assign h = absurd (h refl)
+  first_move ss offset x t Name h = refl
+  first_move ss offset x t Number h = refl
+  first_move ss offset x t Open h = refl
+  first_move ss offset x t Close h = refl
+  first_move ss offset x t OpenList h = refl
+  first_move ss offset x t CloseList h = refl
+  first_move ss offset x t Comma h = refl
+  first_move ss offset x t End h = refl
 
-  first_end : (ss : List Statement) (place : ℕ) (x : List ℕ) (ending : Ending) → ended_at (begun ss place x) ending ≡ ended_at (named (statement ss None) place x) ending
-  first_end ss place x (script_end p) = refl
-  first_end ss place x (bad_token p) = refl
-  first_end ss place x (too_wide p) = refl
+  first_end : (ss : List Statement) (offset : ℕ) (x : List ℕ) (ending : Ending) → ended_at (begun ss offset x) ending ≡ ended_at (named (statement ss None) offset x) ending
+  first_end ss offset x (script_end p) = refl
+  first_end ss offset x (bad_token p) = refl
+  first_end ss offset x (too_wide p) = refl
 
   -- after a name that no `:=` follows
-  first_read : (ss : List Statement) (place : ℕ) (x : List ℕ) (t : Token) (ts : List Token) (ending : Ending) → t.kind ≡ Name → IsNoTarget (t ∷ ts) → course bytes limit (begun ss place x) ts ending ≡ course bytes limit (named (statement ss None) place x) ts ending
+  first_read : (ss : List Statement) (offset : ℕ) (x : List ℕ) (t : Token) (ts : List Token) (ending : Ending) → t.kind ≡ Name → IsNoTarget (t ∷ ts) → course bytes limit (begun ss offset x) ts ending ≡ course bytes limit (named (statement ss None) offset x) ts ending
   unfolding course
-  first_read ss place x t [] ending k h = first_end ss place x ending
-  first_read ss place x t (u ∷ ts) ending k h = same_course (begun ss place x) (named (statement ss None) place x) u ts ending u.kind refl (first_move ss place x u u.kind (h k))
+  first_read ss offset x t [] ending k h = first_end ss offset x ending
+  first_read ss offset x t (u ∷ ts) ending k h = same_course (begun ss offset x) (named (statement ss None) offset x) u ts ending u.kind refl (first_move ss offset x u u.kind (h k))
 
   -- a statement with no target begins as an expression
   pub start_wants : (ss : List Statement) (t : Token) (ts : List Token) (ending : Ending) → IsNoTarget (t ∷ ts) → course bytes limit (start ss) (t ∷ ts) ending ≡ course bytes limit (want (statement ss None)) (t ∷ ts) ending
@@ -283,10 +283,10 @@ module _ (bytes : List ℕ) (limit : ℕ) where
 
   -- an expression of a statement begins with no target
   no_target : (e : Expr) (us : List Token) → IsExpr bytes us e → (last : Token) → last.kind ≡ End → (ts : List Token) → IsNoTarget (us ++ last ∷ ts)
-  no_target (number place n) us (t, split, is) last k ts = rw split (λ m a. let kind = is.kind in cc)
-  no_target (name place x) us (t, split, is) last k ts = rw split (λ m a. cc)
-  no_target (call place x es) us (t, (rest, split, is, (first, (inner, (last', between, list_is))))) last k ts = rw (split, between.all) (λ m a. let kind = between.opens in cc)
-  no_target (list place es) us (first, (inner, (last', between, stands, list_is))) last k ts = rw between.all (no_name first (inner ++ (last' ∷ []) ++ (last ∷ ts)) between.opens)
+  no_target (number offset n) us (t, split, is) last k ts = rw split (λ m a. let kind = is.kind in cc)
+  no_target (name offset x) us (t, split, is) last k ts = rw split (λ m a. cc)
+  no_target (call offset x es) us (t, (rest, split, is, (first, (inner, (last', between, list_is))))) last k ts = rw (split, between.all) (λ m a. let kind = between.opens in cc)
+  no_target (list offset es) us (first, (inner, (last', between, stands, list_is))) last k ts = rw between.all (no_name first (inner ++ (last' ∷ []) ++ (last ∷ ts)) between.opens)
     where
       no_name : (t : Token) (us : List Token) → t.kind ≡ OpenList → IsNoTarget (t ∷ us)
       no_name t [] e = tt
@@ -321,13 +321,13 @@ module _ (bytes : List ℕ) (limit : ℕ) where
   abbrev pub AreShallow : List Statement → Type 0
   AreShallow ss = AllByRecursion (λ s. nesting s.expr ≤ limit) ss
 
-  pub script_course : (ss' : List Statement) (ts : List Token) → IsScript bytes ts ss' → AreShallow ss' → (ss : List Statement) (place : ℕ) → course bytes limit (start ss) ts (script_end place) ≡ read (ss ++ ss')
+  pub script_course : (ss' : List Statement) (ts : List Token) → IsScript bytes ts ss' → AreShallow ss' → (ss : List Statement) (offset : ℕ) → course bytes limit (start ss) ts (script_end offset) ≡ read (ss ++ ss')
   unfolding course
-  script_course [] ts h all ss place = rw h (ap read (sym (append-nil ss)))
-  script_course (s ∷ ss') ts (us, (vs, split, is, rest)) all ss place =
-      ap (λ l. course bytes limit (start ss) l (script_end place)) split
-      ∙ statement_course ss s.target s.expr us is all.0 vs (script_end place)
-      ∙ script_course ss' vs rest all.1 (ss ++ s ∷ []) place
+  script_course [] ts h all ss offset = rw h (ap read (sym (append-nil ss)))
+  script_course (s ∷ ss') ts (us, (vs, split, is, rest)) all ss offset =
+      ap (λ l. course bytes limit (start ss) l (script_end offset)) split
+      ∙ statement_course ss s.target s.expr us is all.0 vs (script_end offset)
+      ∙ script_course ss' vs rest all.1 (ss ++ s ∷ []) offset
       ∙ ap read (append_assoc ss (s ∷ []) ss')
 
   -- what a token that doesn't end in a fault did
@@ -401,34 +401,34 @@ module _ (bytes : List ℕ) (limit : ℕ) where
   done_end a e (bad_token p) out h = cc
   done_end a e (too_wide p) out h = cc
 
-  pub named_end : (a : Around) (place : ℕ) (x : List ℕ) (ending : Ending) → ended_at (named a place x) ending ≡ ended_at (done a (name place x)) ending
-  named_end a place x (script_end p) = refl
-  named_end a place x (bad_token p) = refl
-  named_end a place x (too_wide p) = refl
+  pub named_end : (a : Around) (offset : ℕ) (x : List ℕ) (ending : Ending) → ended_at (named a offset x) ending ≡ ended_at (done a (name offset x)) ending
+  named_end a offset x (script_end p) = refl
+  named_end a offset x (bad_token p) = refl
+  named_end a offset x (too_wide p) = refl
 
   above : (depth : ℕ) → nat_le limit depth ≡ false → depth < limit
   above depth h = grind (arith, nat_tests)
 
   pub tail_kinds : (b : Bracket) (so_far : Exprs) (a : Around) (e : Expr) (t : Token) (kind : TokenKind) (after : State) → next_by bytes (done (inside b so_far a) e) t kind ≡ Some after
       → ((kind ≡ Comma) × (after ≡ want (inside b (after_all so_far e) a))) ⊎ ((kind ≡ closing b) × (after ≡ done a (filled b (after_all so_far e))))
-  tail_kinds (of_call place x) so_far a e t Name after h = absurd (cc)
-  tail_kinds (of_call place x) so_far a e t Number after h = absurd (cc)
-  tail_kinds (of_call place x) so_far a e t Assign after h = absurd (cc)
-  tail_kinds (of_call place x) so_far a e t Open after h = absurd (cc)
-  tail_kinds (of_call place x) so_far a e t Close after h = inr (refl, cc)
-  tail_kinds (of_call place x) so_far a e t OpenList after h = absurd (cc)
-  tail_kinds (of_call place x) so_far a e t CloseList after h = absurd (cc)
-  tail_kinds (of_call place x) so_far a e t Comma after h = inl (refl, cc)
-  tail_kinds (of_call place x) so_far a e t End after h = absurd (cc)
-  tail_kinds (of_list place) so_far a e t Name after h = absurd (cc)
-  tail_kinds (of_list place) so_far a e t Number after h = absurd (cc)
-  tail_kinds (of_list place) so_far a e t Assign after h = absurd (cc)
-  tail_kinds (of_list place) so_far a e t Open after h = absurd (cc)
-  tail_kinds (of_list place) so_far a e t Close after h = absurd (cc)
-  tail_kinds (of_list place) so_far a e t OpenList after h = absurd (cc)
-  tail_kinds (of_list place) so_far a e t CloseList after h = inr (refl, cc)
-  tail_kinds (of_list place) so_far a e t Comma after h = inl (refl, cc)
-  tail_kinds (of_list place) so_far a e t End after h = absurd (cc)
+  tail_kinds (of_call offset x) so_far a e t Name after h = absurd (cc)
+  tail_kinds (of_call offset x) so_far a e t Number after h = absurd (cc)
+  tail_kinds (of_call offset x) so_far a e t Assign after h = absurd (cc)
+  tail_kinds (of_call offset x) so_far a e t Open after h = absurd (cc)
+  tail_kinds (of_call offset x) so_far a e t Close after h = inr (refl, cc)
+  tail_kinds (of_call offset x) so_far a e t OpenList after h = absurd (cc)
+  tail_kinds (of_call offset x) so_far a e t CloseList after h = absurd (cc)
+  tail_kinds (of_call offset x) so_far a e t Comma after h = inl (refl, cc)
+  tail_kinds (of_call offset x) so_far a e t End after h = absurd (cc)
+  tail_kinds (of_list offset) so_far a e t Name after h = absurd (cc)
+  tail_kinds (of_list offset) so_far a e t Number after h = absurd (cc)
+  tail_kinds (of_list offset) so_far a e t Assign after h = absurd (cc)
+  tail_kinds (of_list offset) so_far a e t Open after h = absurd (cc)
+  tail_kinds (of_list offset) so_far a e t Close after h = absurd (cc)
+  tail_kinds (of_list offset) so_far a e t OpenList after h = absurd (cc)
+  tail_kinds (of_list offset) so_far a e t CloseList after h = inr (refl, cc)
+  tail_kinds (of_list offset) so_far a e t Comma after h = inl (refl, cc)
+  tail_kinds (of_list offset) so_far a e t End after h = absurd (cc)
 
   opened_kinds : (b : Bracket) (a : Around) (t : Token) (kind : TokenKind) (after : State) → next_by bytes (opened b a) t kind ≡ Some after
       → ((kind ≡ closing b) × (after ≡ done a (filled b none))) ⊎ (begins kind ≡ true)
@@ -436,18 +436,18 @@ module _ (bytes : List ℕ) (limit : ℕ) where
   opened_kinds b a t Name after h = inr refl
   opened_kinds b a t Number after h = inr refl
   opened_kinds b a t OpenList after h = inr refl
-  opened_kinds (of_call place x) a t Assign after h = absurd (cc)
-  opened_kinds (of_call place x) a t Open after h = absurd (cc)
-  opened_kinds (of_call place x) a t Close after h = inl (refl, cc)
-  opened_kinds (of_call place x) a t CloseList after h = absurd (cc)
-  opened_kinds (of_call place x) a t Comma after h = absurd (cc)
-  opened_kinds (of_call place x) a t End after h = absurd (cc)
-  opened_kinds (of_list place) a t Assign after h = absurd (cc)
-  opened_kinds (of_list place) a t Open after h = absurd (cc)
-  opened_kinds (of_list place) a t Close after h = absurd (cc)
-  opened_kinds (of_list place) a t CloseList after h = inl (refl, cc)
-  opened_kinds (of_list place) a t Comma after h = absurd (cc)
-  opened_kinds (of_list place) a t End after h = absurd (cc)
+  opened_kinds (of_call offset x) a t Assign after h = absurd (cc)
+  opened_kinds (of_call offset x) a t Open after h = absurd (cc)
+  opened_kinds (of_call offset x) a t Close after h = inl (refl, cc)
+  opened_kinds (of_call offset x) a t CloseList after h = absurd (cc)
+  opened_kinds (of_call offset x) a t Comma after h = absurd (cc)
+  opened_kinds (of_call offset x) a t End after h = absurd (cc)
+  opened_kinds (of_list offset) a t Assign after h = absurd (cc)
+  opened_kinds (of_list offset) a t Open after h = absurd (cc)
+  opened_kinds (of_list offset) a t Close after h = absurd (cc)
+  opened_kinds (of_list offset) a t CloseList after h = inl (refl, cc)
+  opened_kinds (of_list offset) a t Comma after h = absurd (cc)
+  opened_kinds (of_list offset) a t End after h = absurd (cc)
 
   pub end_kinds : (ss : List Statement) (target : Option (List ℕ)) (e : Expr) (t : Token) (kind : TokenKind) (after : State) → next_by bytes (done (statement ss target) e) t kind ≡ Some after
       → (kind ≡ End) × (after ≡ start (ss ++ with_target target e ∷ []))
@@ -538,27 +538,27 @@ module _ (bytes : List ℕ) (limit : ℕ) where
       ]
 
   -- a name is a whole expression, or an opening sign follows
-  record CallRead (ts : List Token) (a : Around) (place : ℕ) (x : List ℕ) (ending : Ending) (out : List Statement) : Type 0 where
+  record CallRead (ts : List Token) (a : Around) (offset : ℕ) (x : List ℕ) (ending : Ending) (out : List Statement) : Type 0 where
     first : Token
     rest : List Token
     split : ts ≡ first ∷ rest
     opens_it : first.kind ≡ Open
     room : depth_of a < limit
-    goes_on : course bytes limit (opened (of_call place x) a) rest ending ≡ read out
+    goes_on : course bytes limit (opened (of_call offset x) a) rest ending ≡ read out
 
-  name_cases : (ts : List Token) (a : Around) (place : ℕ) (x : List ℕ) (ending : Ending) (out : List Statement) → course bytes limit (named a place x) ts ending ≡ read out
-      → (course bytes limit (done a (name place x)) ts ending ≡ read out) ⊎ CallRead ts a place x ending out
+  name_cases : (ts : List Token) (a : Around) (offset : ℕ) (x : List ℕ) (ending : Ending) (out : List Statement) → course bytes limit (named a offset x) ts ending ≡ read out
+      → (course bytes limit (done a (name offset x)) ts ending ≡ read out) ⊎ CallRead ts a offset x ending out
   unfolding course
-  name_cases [] a place x ending out h = inl (sym (named_end a place x ending) ∙ h)
-  name_cases (t ∷ ts) a place x ending out h = by_kind t.kind refl
+  name_cases [] a offset x ending out h = inl (sym (named_end a offset x ending) ∙ h)
+  name_cases (t ∷ ts) a offset x ending out h = by_kind t.kind refl
     where
-      other : (t.kind ≡ Open → ⊥) → course bytes limit (done a (name place x)) (t ∷ ts) ending ≡ read out
-      other no_call = sym (name_read a place x t ts ending no_call) ∙ h
+      other : (t.kind ≡ Open → ⊥) → course bytes limit (done a (name offset x)) (t ∷ ts) ending ≡ read out
+      other no_call = sym (name_read a offset x t ts ending no_call) ∙ h
 
-      by_kind : (kind : TokenKind) → t.kind ≡ kind → (course bytes limit (done a (name place x)) (t ∷ ts) ending ≡ read out) ⊎ CallRead (t ∷ ts) a place x ending out
+      by_kind : (kind : TokenKind) → t.kind ≡ kind → (course bytes limit (done a (name offset x)) (t ∷ ts) ending ≡ read out) ⊎ CallRead (t ∷ ts) a offset x ending out
       by_kind Open e =
-          let step = went (named a place x) t ts ending out Open e h in
-          let is : step.after ≡ opened (of_call place x) a = let m = step.moves in cc in
+          let step = went (named a offset x) t ts ending out Open e h in
+          let is : step.after ≡ opened (of_call offset x) a = let m = step.moves in cc in
           inr (record { first = t; rest = ts; split = refl; opens_it = e; room = above (depth_of a) step.allowed; goes_on = ap (λ s. course bytes limit s ts ending) (sym is) ∙ step.goes_on })
       by_kind Name e = inl (other (λ k. cc))
       by_kind Number e = inl (other (λ k. cc))

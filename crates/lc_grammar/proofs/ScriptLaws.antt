@@ -62,20 +62,20 @@ module _ (bytes : List ℕ) (limit : ℕ) where
     pub all : out ≡ ss ++ ss'
 
   -- one statement, read up to its end
-  record StatementRead (ts : List Token) (ss : List Statement) (place : ℕ) (out : List Statement) : Type 0 where
+  record StatementRead (ts : List Token) (ss : List Statement) (offset : ℕ) (out : List Statement) : Type 0 where
     us : List Token
     s : Statement
     rest : List Token
     split : ts ≡ us ++ rest
     is : IsStatement bytes us s
     shallow : nesting s.expr ≤ limit
-    goes_on : course bytes limit (start (ss ++ s ∷ [])) rest (script_end place) ≡ read out
+    goes_on : course bytes limit (start (ss ++ s ∷ [])) rest (script_end offset) ≡ read out
     shorter : length rest < length ts
 
-  plain_read : (t : Token) (ts : List Token) (ss : List Statement) (place : ℕ) (out : List Statement) → IsNoTarget (t ∷ ts) → course bytes limit (start ss) (t ∷ ts) (script_end place) ≡ read out → StatementRead (t ∷ ts) ss place out
-  plain_read t ts ss place out no_target h =
-      let e = expr_read bytes limit (length (t ∷ ts)) (t ∷ ts) (statement ss None) (script_end place) out (omega arith) (omega arith) (sym (start_wants bytes limit ss t ts (script_end place) no_target) ∙ h) in
-      let ends = statement_ends bytes limit e.rest ss None e.e (script_end place) out e.goes_on in
+  plain_read : (t : Token) (ts : List Token) (ss : List Statement) (offset : ℕ) (out : List Statement) → IsNoTarget (t ∷ ts) → course bytes limit (start ss) (t ∷ ts) (script_end offset) ≡ read out → StatementRead (t ∷ ts) ss offset out
+  plain_read t ts ss offset out no_target h =
+      let e = expr_read bytes limit (length (t ∷ ts)) (t ∷ ts) (statement ss None) (script_end offset) out (omega arith) (omega arith) (sym (start_wants bytes limit ss t ts (script_end offset) no_target) ∙ h) in
+      let ends = statement_ends bytes limit e.rest ss None e.e (script_end offset) out e.goes_on in
       record {
         us = e.us ++ ends.last ∷ [];
         s = with_target None e.e;
@@ -87,12 +87,12 @@ module _ (bytes : List ℕ) (limit : ℕ) where
         shorter = omega (arith, e.shorter, ap length ends.split);
       }
 
-  target_read : (ts : List Token) (first : TargetFirst ts) (ss : List Statement) (place : ℕ) (out : List Statement) → course bytes limit (start ss) ts (script_end place) ≡ read out → StatementRead ts ss place out
-  target_read ts first ss place out h =
+  target_read : (ts : List Token) (first : TargetFirst ts) (ss : List Statement) (offset : ℕ) (out : List Statement) → course bytes limit (start ss) ts (script_end offset) ≡ read out → StatementRead ts ss offset out
+  target_read ts first ss offset out h =
       let x = text_of bytes first.first in
-      let wanted = sym (ap (λ l. course bytes limit (start ss) l (script_end place)) first.split ∙ start_target bytes limit ss first.first first.assign first.rest (script_end place) first.kind first.assigns) ∙ h in
-      let e = expr_read bytes limit (length first.rest) first.rest (statement ss (Some x)) (script_end place) out (omega arith) (omega arith) wanted in
-      let ends = statement_ends bytes limit e.rest ss (Some x) e.e (script_end place) out e.goes_on in
+      let wanted = sym (ap (λ l. course bytes limit (start ss) l (script_end offset)) first.split ∙ start_target bytes limit ss first.first first.assign first.rest (script_end offset) first.kind first.assigns) ∙ h in
+      let e = expr_read bytes limit (length first.rest) first.rest (statement ss (Some x)) (script_end offset) out (omega arith) (omega arith) wanted in
+      let ends = statement_ends bytes limit e.rest ss (Some x) e.e (script_end offset) out e.goes_on in
       record {
         us = first.first ∷ first.assign ∷ (e.us ++ ends.last ∷ []);
         s = with_target (Some x) e.e;
@@ -104,20 +104,20 @@ module _ (bytes : List ℕ) (limit : ℕ) where
         shorter = omega (arith, e.shorter, ap length ends.split, ap length first.split);
       }
 
-  statement_read : (t : Token) (ts : List Token) (ss : List Statement) (place : ℕ) (out : List Statement) → course bytes limit (start ss) (t ∷ ts) (script_end place) ≡ read out → StatementRead (t ∷ ts) ss place out
-  statement_read t ts ss place out h =
+  statement_read : (t : Token) (ts : List Token) (ss : List Statement) (offset : ℕ) (out : List Statement) → course bytes limit (start ss) (t ∷ ts) (script_end offset) ≡ read out → StatementRead (t ∷ ts) ss offset out
+  statement_read t ts ss offset out h =
       elim (target_first (t ∷ ts)) [
-        | inl first ↦ target_read (t ∷ ts) first ss place out h
-        | inr no_target ↦ plain_read t ts ss place out no_target h
+        | inl first ↦ target_read (t ∷ ts) first ss offset out h
+        | inr no_target ↦ plain_read t ts ss offset out no_target h
       ]
 
-  pub script_read : (n : ℕ) (ts : List Token) (ss : List Statement) (place : ℕ) (out : List Statement) → length ts ≤ n → course bytes limit (start ss) ts (script_end place) ≡ read out → ScriptRead ts ss out
+  pub script_read : (n : ℕ) (ts : List Token) (ss : List Statement) (offset : ℕ) (out : List Statement) → length ts ≤ n → course bytes limit (start ss) ts (script_end offset) ≡ read out → ScriptRead ts ss out
   unfolding course
-  script_read n [] ss place out l h = record { ss' = []; is = refl; shallow = tt; all = let e : ss ≡ out = cc in sym e ∙ sym (append-nil ss) }
-  script_read zero (t ∷ ts) ss place out l h = absurd (omega arith)
-  script_read (suc n) (t ∷ ts) ss place out l h =
-      let first = statement_read t ts ss place out h in
-      let rest = script_read n first.rest (ss ++ first.s ∷ []) place out (omega (arith, first.shorter)) first.goes_on in
+  script_read n [] ss offset out l h = record { ss' = []; is = refl; shallow = tt; all = let e : ss ≡ out = cc in sym e ∙ sym (append-nil ss) }
+  script_read zero (t ∷ ts) ss offset out l h = absurd (omega arith)
+  script_read (suc n) (t ∷ ts) ss offset out l h =
+      let first = statement_read t ts ss offset out h in
+      let rest = script_read n first.rest (ss ++ first.s ∷ []) offset out (omega (arith, first.shorter)) first.goes_on in
       record {
         ss' = first.s ∷ rest.ss';
         is = (first.us, (first.rest, first.split, first.is, rest.is));

@@ -16,11 +16,11 @@
 --   is_opening t, open_signs ts    whether a token opens; how many signs are open after the tokens
 --   IsTooDeep ts i                 token i opens where 32 signs are open
 --   GoesOn bytes ts i              the first i tokens may go on, and none of them opens too deep
---   Fault                          a fault's number and place
+--   Fault                          a fault's number and offset
 --   IsFaultAtToken                 the fault of a token: too deep (42), or with it nothing can make the tokens a script (41)
 --   EndsIn                         the fault of the ending: a byte that begins no token (40), a number too wide (43), or the
 --                                  script's end if it is none (41)
---   IsFault bytes fault            bytes that are no script, and the first place at which they can't go on
+--   IsFault bytes fault            bytes that are no script, and the first offset at which they can't go on
 --   TokenFault ending fault        the fault of the tokens alone: 40 or 43
 use Rattle.std.specs.Prelude.{◌≡◌, ℕ, suc, ◌-◌, ◌<◌, ◌≤◌, ◌⊎◌, Bool, true, false, IsTrue, List, [], ◌∷◌, ◌++◌, length, take, count_by, slice_get, Option, Some, None, All}
 use Rattle.lc_grammar.specs.declared.TokenKind.{TokenKind}
@@ -32,19 +32,19 @@ use Rattle.lc_grammar.specs.Tree.{Expr, Exprs, number, name, call, list, none, m
 abbrev pub IsToken : TokenKind → Token → Type 0
 IsToken kind t = t.kind ≡ kind
 
--- a name with its place and its text
-pub record IsNamed (bytes : List ℕ) (t : Token) (place : ℕ) (x : List ℕ) : Type 0 where
+-- a name with its offset and its text
+pub record IsNamed (bytes : List ℕ) (t : Token) (offset : ℕ) (x : List ℕ) : Type 0 where
   pub kind : IsToken Name t
-  pub stands : t.start ≡ place
+  pub stands : t.start ≡ offset
   pub text : text_of bytes t ≡ x
 
--- a number with its place and its value
-pub record IsNumbered (bytes : List ℕ) (t : Token) (place n : ℕ) : Type 0 where
+-- a number with its offset and its value
+pub record IsNumbered (bytes : List ℕ) (t : Token) (offset n : ℕ) : Type 0 where
   pub kind : IsToken Number t
-  pub stands : t.start ≡ place
+  pub stands : t.start ≡ offset
   pub value : number_of (text_of bytes t) ≡ n
 
--- an opening sign at this place, some tokens, and the closing sign
+-- an opening sign at this offset, some tokens, and the closing sign
 pub record IsBetween (opening closing : TokenKind) (ts : List Token) (first : Token) (inner : List Token) (last : Token) : Type 0 where
   pub all : ts ≡ first ∷ (inner ++ last ∷ [])
   pub opens : IsToken opening first
@@ -52,13 +52,13 @@ pub record IsBetween (opening closing : TokenKind) (ts : List Token) (first : To
 
 abbrev mutual
   pub IsExpr : List ℕ → List Token → Expr → Type 0
-  IsExpr bytes ts (number place n) = (t : Token) × (ts ≡ t ∷ []) × IsNumbered bytes t place n
-  IsExpr bytes ts (name place x) = (t : Token) × (ts ≡ t ∷ []) × IsNamed bytes t place x
-  IsExpr bytes ts (call place x es) =
-      (t : Token) × ((rest : List Token) × (ts ≡ t ∷ rest) × IsNamed bytes t place x
+  IsExpr bytes ts (number offset n) = (t : Token) × (ts ≡ t ∷ []) × IsNumbered bytes t offset n
+  IsExpr bytes ts (name offset x) = (t : Token) × (ts ≡ t ∷ []) × IsNamed bytes t offset x
+  IsExpr bytes ts (call offset x es) =
+      (t : Token) × ((rest : List Token) × (ts ≡ t ∷ rest) × IsNamed bytes t offset x
       × ((first : Token) × ((inner : List Token) × ((last : Token) × IsBetween Open Close rest first inner last × IsList bytes inner es))))
-  IsExpr bytes ts (list place es) =
-      (first : Token) × ((inner : List Token) × ((last : Token) × IsBetween OpenList CloseList ts first inner last × (first.start ≡ place) × IsList bytes inner es))
+  IsExpr bytes ts (list offset es) =
+      (first : Token) × ((inner : List Token) × ((last : Token) × IsBetween OpenList CloseList ts first inner last × (first.start ≡ offset) × IsList bytes inner es))
 
   pub IsList : List ℕ → List Token → Exprs → Type 0
   IsList bytes ts none = ts ≡ []
@@ -119,19 +119,19 @@ pub record GoesOn (bytes : List ℕ) (ts : List Token) (i : ℕ) : Type 0 where
 
 pub record Fault : Type 0 where
   pub number : ℕ
-  pub place : ℕ
+  pub offset : ℕ
 
--- if several faults stand at one place, 42 comes before 41
+-- if several faults stand at one offset, 42 comes before 41
 pub record IsFaultAtToken (bytes : List ℕ) (ts : List Token) (fault : Fault) (i : ℕ) (t : Token) : Type 0 where
   pub token : slice_get ts i ≡ Some t
-  pub stands : fault.place ≡ t.start
+  pub stands : fault.offset ≡ t.start
   pub before : GoesOn bytes ts i
   pub refused : (IsTooDeep ts i × (fault.number ≡ 42)) ⊎ (¬ IsTooDeep ts i × ¬ MayGoOn bytes (take (suc i) ts) × (fault.number ≡ 41))
 
 abbrev pub EndsIn : List ℕ → List Token → Ending → Fault → Type 0
-EndsIn bytes ts (bad_token place) fault = (fault.place ≡ place) × (fault.number ≡ 40)
-EndsIn bytes ts (too_wide place) fault = (fault.place ≡ place) × (fault.number ≡ 43)
-EndsIn bytes ts (script_end place) fault = (fault.place ≡ place) × (fault.number ≡ 41) × ((ss : List Statement) → ¬ IsScript bytes ts ss)
+EndsIn bytes ts (bad_token offset) fault = (fault.offset ≡ offset) × (fault.number ≡ 40)
+EndsIn bytes ts (too_wide offset) fault = (fault.offset ≡ offset) × (fault.number ≡ 43)
+EndsIn bytes ts (script_end offset) fault = (fault.offset ≡ offset) × (fault.number ≡ 41) × ((ss : List Statement) → ¬ IsScript bytes ts ss)
 
 abbrev pub IsFault : List ℕ → Fault → Type 0
 IsFault bytes fault =
@@ -139,6 +139,6 @@ IsFault bytes fault =
     ⊎ (GoesOn bytes (scan bytes).tokens (length (scan bytes).tokens) × EndsIn bytes (scan bytes).tokens (scan bytes).ending fault)
 
 abbrev pub TokenFault : Ending → Fault → Type 0
-TokenFault (bad_token place) fault = (fault.place ≡ place) × (fault.number ≡ 40)
-TokenFault (too_wide place) fault = (fault.place ≡ place) × (fault.number ≡ 43)
-TokenFault (script_end place) fault = ⊥
+TokenFault (bad_token offset) fault = (fault.offset ≡ offset) × (fault.number ≡ 40)
+TokenFault (too_wide offset) fault = (fault.offset ≡ offset) × (fault.number ≡ 43)
+TokenFault (script_end offset) fault = ⊥

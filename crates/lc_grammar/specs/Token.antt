@@ -88,20 +88,20 @@ is_number _ = false
 unfoldable pub comment_length : List ℕ → ℕ
 comment_length bytes = prefix_len (λ b. not (b == 10)) bytes
 
--- the tokens of the bytes, the first of which stands at this place; each step takes a byte at least, so that their number is enough
+-- the tokens of the bytes, the first of which stands at this offset; each step takes a byte at least, so that their number is enough
 unfoldable pub scan_within : ℕ → ℕ → List ℕ → Scanned
-scan_within zero place bytes = ended (script_end place)
-scan_within (suc most) place [] = ended (script_end place)
-scan_within (suc most) place (b ∷ bytes) =
+scan_within zero offset bytes = ended (script_end offset)
+scan_within (suc most) offset [] = ended (script_end offset)
+scan_within (suc most) offset (b ∷ bytes) =
     elim (is_blank b) as (λ _. Scanned) [
-      | true ↦ scan_within most (place + 1) bytes
+      | true ↦ scan_within most (offset + 1) bytes
       | false ↦ elim (b == 35) as (λ _. Scanned) [
-        | true ↦ scan_within most (place + comment_length (b ∷ bytes)) (drop (comment_length (b ∷ bytes)) (b ∷ bytes))
+        | true ↦ scan_within most (offset + comment_length (b ∷ bytes)) (drop (comment_length (b ∷ bytes)) (b ∷ bytes))
         | false ↦ elim (token_at b bytes) as (λ _. Scanned) [
-          | None ↦ ended (bad_token place)
+          | None ↦ ended (bad_token offset)
           | Some cut ↦ elim (is_number cut.kind && nat_lt widest (number_of (slice_range (b ∷ bytes) 0 cut.bytes))) as (λ _. Scanned) [
-            | true ↦ ended (too_wide place)
-            | false ↦ token_first (record { kind = cut.kind; start = place; end = place + cut.bytes }) (scan_within most (place + cut.bytes) (drop cut.bytes (b ∷ bytes)))
+            | true ↦ ended (too_wide offset)
+            | false ↦ token_first (record { kind = cut.kind; start = offset; end = offset + cut.bytes }) (scan_within most (offset + cut.bytes) (drop cut.bytes (b ∷ bytes)))
           ]
         ]
       ]

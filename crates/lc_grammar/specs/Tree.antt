@@ -1,8 +1,8 @@
--- The tree of a script, with the place of each expression in the bytes.
---   Expr           a number, a name, a call of a name with arguments, or a list; each with the place of its first byte
+-- The tree of a script, with the offset of each expression in the bytes.
+--   Expr           a number, a name, a call of a name with arguments, or a list; each with the offset of its first byte
 --   Exprs          the arguments of a call, or the elements of a list
 --   Statement      an expression, and the name that it is assigned to, if there is one
---   place_of e     the place of an expression
+--   offset_of e    the offset of an expression
 --   count_of es    how many expressions there are
 --   nesting e      how deep parentheses and brackets nest in an expression
 use Rattle.std.specs.Prelude.{ℕ, suc, max, List, Option}
@@ -22,11 +22,11 @@ pub record Statement : Type 0 where
   pub target : Option (List ℕ)
   pub expr : Expr
 
-unfoldable pub place_of : Expr → ℕ
-place_of (number place _) = place
-place_of (name place _) = place
-place_of (call place _ _) = place
-place_of (list place _) = place
+unfoldable pub offset_of : Expr → ℕ
+offset_of (number offset _) = offset
+offset_of (name offset _) = offset
+offset_of (call offset _ _) = offset
+offset_of (list offset _) = offset
 
 unfoldable pub count_of : Exprs → ℕ
 count_of none = 0

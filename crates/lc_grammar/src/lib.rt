@@ -25,7 +25,7 @@ pub enum TokenKind {
     End,
 }
 
-/// A token of a script: its kind, the place of its first byte, and the place after its last byte.
+/// A token of a script: its kind, the offset of its first byte, and the offset after its last byte.
 /// Its text is `bytes[start..end]`.
 #[derive(Clone, Copy, Debug, PartialEq, Eq)]
 pub struct Token {

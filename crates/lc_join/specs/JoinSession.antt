@@ -1,7 +1,7 @@
 -- What a session of `codes join` does, for every outside and every way in which it ends.
 --   JoinEnding                   how a session ends; ending_number e is the number with which the program ends
 --   ending_line e                the line of an ending, for standard error; nothing if the checkpoint was written
---   IsJoinSession words old new ending      the whole contract
+--   IsJoinSession arguments old new ending      the whole contract
 use Rattle.std.specs.Prelude.{◌≡◌, ℕ, ◌+◌, List, [], ◌++◌, codes, decimal}
 use Rattle.std.specs.Io.KnownBytes.{Appends}
 use Rattle.lc_session_rules.specs.Endings.{said}
@@ -15,7 +15,7 @@ use Rattle.lc_join.specs.Joining.{HasText, Lacks}
 
 pub data JoinEnding : Type 0 where
   printed : JoinEnding
-  refused : ℕ → JoinEnding  -- the index of the word that is refused
+  refused : ℕ → JoinEnding  -- the index of the argument that is refused
   source_fault : JoinEnding
   sink_fault : JoinEnding
   no_memory : JoinEnding
@@ -60,10 +60,10 @@ EndsSo budget old new (missing a b) = (bytes : List ℕ) × HasRead old new byte
 EndsSo budget old new no_part = (bytes : List ℕ) × HasRead old new bytes × IsSilent old new × (lines_in bytes ≡ [])
 EndsSo budget old new (disagree i j) = (bytes : List ℕ) × HasRead old new bytes × IsSilent old new × lines.Disagree (lines_in bytes) i j
 
--- refused words end the session with their index, and then all is as it was
+-- refused arguments end the session with their index, and then all is as it was
 abbrev pub Does : JoinOptions → Ends → Ends → JoinEnding → Type 0
 Does (usage i) old new ending = (new ≡ old) × (ending ≡ refused i)
 Does (asked budget) old new ending = EndsSo budget old new ending
 
 abbrev pub IsJoinSession : List (List ℕ) → Ends → Ends → JoinEnding → Type 0
-IsJoinSession words old new ending = Does (join_options words) old new ending
+IsJoinSession arguments old new ending = Does (join_options arguments) old new ending

@@ -2,7 +2,7 @@
 --   numbered_of x            a line of a part, with its number
 --   IsOf s x                 the line is one of this search
 --   IsOutcome budget lines o     o is what the lines make
---   options_of r             what the words ask for
+--   options_of r             what the arguments ask for
 --   ending_of s              how a session ends
 use Rattle.std.specs.Prelude.{◌≡◌, ℕ, List, [], Result, Ok, Err}
 use Rattle.lc_parts.specs.Joined.{JoinState}

@@ -10,14 +10,14 @@ use lc_share::{value_in, word};
 
 // The budget: 2^20 blocks if there is no argument for it.
 #[tactic(auto, using(crate::proofs::OptionLaws::budget_laws))]
-fn budget_in(words: &[String]) -> Option<u64>
-    ensures is { result ≡ budget_in (words_of words.now) }
+fn budget_in(arguments: &[String]) -> Option<u64>
+    ensures is { result ≡ budget_in (words_of arguments.now) }
     ensures range { IfSome result (λ n. n ≤ 2 ^ 40) }
 {
-    if words.len() <= 1 {
+    if arguments.len() <= 1 {
         return Some(1 << 20);
     }
-    value_in(word(words, 1), "budget", 0, 1 << 40)
+    value_in(word(arguments, 1), "budget", 0, 1 << 40)
 }
 
 // Whether the first argument names the command.
@@ -29,17 +29,17 @@ fn is_join(argument: &str) -> bool
 
 /// The budget that the arguments ask for, or the index of the first one that is refused.
 #[tactic(auto, using(crate::proofs::OptionLaws::options_laws))]
-pub(crate) fn join_options(words: &[String]) -> Result<u64, usize>
-    ensures is { options_of result ≡ join_options (words_of words.now) }
+pub(crate) fn join_options(arguments: &[String]) -> Result<u64, usize>
+    ensures is { options_of result ≡ join_options (words_of arguments.now) }
     ensures few { IfOk result (λ n. n ≤ 2 ^ 40) }
 {
-    if !is_join(word(words, 0)) {
+    if !is_join(word(arguments, 0)) {
         return Err(0);
     }
-    let Some(budget) = budget_in(words) else {
+    let Some(budget) = budget_in(arguments) else {
         return Err(1);
     };
-    if words.len() > 2 {
+    if arguments.len() > 2 {
         return Err(2);
     }
     Ok(budget)

@@ -11,7 +11,7 @@ use lc_io::{Sink, Source, write_whole};
 use lc_share::{InputRefusal, input};
 use std::alloc::Global;
 
-/// Makes a checkpoint of lines that sessions of `part` have printed, and writes it: `words` are the arguments of the command line
+/// Makes a checkpoint of lines that sessions of `part` have printed, and writes it: `arguments` are those of the command line
 /// after the program's name. They are `join`, and then there may be `budget=N`, N at most 2^40 and 2^20 without it.
 ///
 /// It reads at most 1,048,576 bytes from the source. A line that isn't that of a part is passed over. The others must be of one
@@ -21,16 +21,16 @@ use std::alloc::Global;
 /// when each of them comes.
 pub fn join_parts<S: Source, K: Sink>(
     alloc: Global,
-    words: &[String],
+    arguments: &[String],
     source: &mut S,
     sink: &mut K,
 ) -> JoinStatus
-    ensures session { IsJoinSession (words_of words.now)
+    ensures session { IsJoinSession (words_of arguments.now)
         (ends_of (S.rest source.old) (S.faults source.old) (K.written sink.old) (K.faults sink.old))
         (ends_of (S.rest source.new) (S.faults source.new) (K.written sink.new) (K.faults sink.new))
         (ending_of result) }
 {
-    let budget = match join_options(words) {
+    let budget = match join_options(arguments) {
         Ok(budget) => budget,
         Err(index) => return JoinStatus::Usage(index),
     };

@@ -27,7 +27,7 @@ use Rattle.lc_language.specs.declared.QueryCall.TheVariants.{AlgebraicDecode, Le
 use Rattle.lc_language.specs.Calls.{bind, value_forms, bind_query, query_forms, value_name, query_name, name_of, signatures, all_calls, value_calls, query_calls, call_named, signature_for, refusals_of, refusal_of, query_refusals_of, query_refusal_of}
 use Rattle.lc_language.specs.declared.Kind.TheVariants.{Number, Field, Numbers, Lists}
 use Rattle.lc_grammar.specs.Tree as tree
-use Rattle.lc_grammar.specs.Tree.{place_of}
+use Rattle.lc_grammar.specs.Tree.{offset_of}
 use Rattle.lc_language.specs.Value.{Value, number, field, numbers, lists, code, number_in, field_in, numbers_in, lists_in, code_in, is_kind, Binding, value_named}
 use Rattle.lc_formats.specs.Text.{same_bytes, bracketed, numbers_text, line}
 use Rattle.lc_constructions.specs.Code.{is_length}
@@ -126,10 +126,10 @@ pub uncounted : map (query_refusal WeightDistribution) ((code_of Gf2 50 (replica
 unfolding shape shape_of size is_symbol below refuse when first_of refusal_number refusal_values refuse_if refusal_from from_codes is_length too_large bad_length bad_argument are_elements have_elements are_equally_long columns_of lengths_differ matrix_refusals all_fields locator_field residues number_of_residues plus minus times top up times_x product coefficients add mul value_at put_on trimmed is_subfield first_from first_that first_index repeated_point root_at not_subfield fields_differ is_rising deleted_refusals uuv_refusals degree_over nested_refusals concatenated_refusals word_refusals too_many_cosets coset_refusal no_form bch_refusals is_size_of_symbol_field reed_solomon_refusals reed_muller_refusals is_goppa_polynomial goppa_refusals form_refusals alternant_refusals refusals_of refusal_of query_refusals_of query_refusal_of bind value_forms bind_query query_forms call_refusal query_refusal number_in field_in numbers_in lists_in code_in no_distribution distribution_refusal
 uncounted = refl
 
--- elements with their places
+-- elements with their offsets
 abbrev pub at : List ℕ → tree.Exprs
 at [] = tree.none
-at (place ∷ places) = tree.more (tree.number place 0) (at places)
+at (offset ∷ offsets) = tree.more (tree.number offset 0) (at offsets)
 
 pub listed_values : map (listed_with nothing_yet) (number 1 ∷ numbers (1 ∷ []) ∷ numbers [] ∷ lists [] ∷ []) ++ listed_with (all_numbers (1 ∷ [])) (number 2) ∷ map (listed_with (all_lists ((1 ∷ []) ∷ []))) (numbers (2 ∷ []) ∷ numbers [] ∷ lists [] ∷ []) ≡ Some (all_numbers (1 ∷ [])) ∷ Some (all_lists ((1 ∷ []) ∷ [])) ∷ Some (all_lists ([] ∷ [])) ∷ Some (all_lists ([] ∷ [])) ∷ Some (all_numbers (1 ∷ 2 ∷ [])) ∷ Some (all_lists ((1 ∷ []) ∷ (2 ∷ []) ∷ [])) ∷ Some (all_lists ((1 ∷ []) ∷ [] ∷ [])) ∷ Some (all_lists ((1 ∷ []) ∷ [] ∷ [])) ∷ []
 unfolding listed_with
@@ -144,7 +144,7 @@ unfolding list_value
 made_lists = refl
 
 pub misfits : map (first_misfit (Number ∷ Field ∷ []) (at (4 ∷ 6 ∷ []))) ((number 1 ∷ field Gf2 ∷ []) ∷ (field Gf2 ∷ number 1 ∷ []) ∷ (number 1 ∷ numbers [] ∷ []) ∷ []) ≡ None ∷ Some 4 ∷ Some 6 ∷ []
-unfolding place_of is_kind first_misfit number_in field_in numbers_in lists_in code_in
+unfolding offset_of is_kind first_misfit number_in field_in numbers_in lists_in code_in
 misfits = refl
 
 pub least : least_line 2 (0 ∷ 1 ∷ 1 ∷ []) ++ least_none_line ++ distance_none_line ≡ codes "least 2 word [0,1,1]" ++ 10 ∷ codes "least none" ++ 10 ∷ codes "distance none" ++ 10 ∷ []

@@ -1,15 +1,15 @@
 -- The text that a script prints. It is a function of the table of calls that exist: a call that the table lacks is an unknown
 -- name. A budget is the number of blocks that the search of one query may look at.
---   Refused                      a fault: its number, its place and the numbers after it
+--   Refused                      a fault: its number, its offset and the numbers after it
 --   Outcome, Outcomes            the value of an expression, or the fault; the values of several, or the first fault
---   first_misfit kinds es vs     the place of the first argument whose value is not of its kind
---   misfit_place place kinds es vs      that place, if there is one
+--   first_misfit kinds es vs     the offset of the first argument whose value is not of its kind
+--   misfit_offset offset kinds es vs    that offset, if there is one
 --   Listed                       what the elements of a list so far make
 --   listed_with found v          the same with one element more, if it fits; the first says whether they are numbers or lists
 --   list_value found             the list
---   AppliesTo place b o          what a bound call gives: its refusal, or its value
+--   AppliesTo offset b o         what a bound call gives: its refusal, or its value
 --   Applies c es os o            what a call gives of its arguments' values
---   QueriesTo place b step       what a bound query does as a statement: its refusal, or what it prints or asks
+--   QueriesTo offset b step      what a bound query does as a statement: its refusal, or what it prints or asks
 --   Evaluates table env e o      what an expression evaluates to
 --   EvaluatesAll table env es os several expressions, from the left
 --   ListGoesOn e p found Later o      an element with the outcome p, after those found so far: its fault, or 45, or what Later says
@@ -29,7 +29,7 @@ use Rattle.lc_language.specs.declared.Call.TheVariants.{Value as Value_, Query}
 use Rattle.lc_language.specs.declared.ValueCall.{ValueCall}
 use Rattle.lc_language.specs.declared.QueryCall.{QueryCall}
 use Rattle.lc_language.specs.declared.Kind.{Kind}
-use Rattle.lc_grammar.specs.Tree.{Expr, Exprs, number, name, call, list, none, more, Statement, place_of, count_of}
+use Rattle.lc_grammar.specs.Tree.{Expr, Exprs, number, name, call, list, none, more, Statement, offset_of, count_of}
 use Rattle.lc_grammar.specs.Grammar.{Reads, Fault, IsFault}
 use Rattle.lc_language.specs.Value as value
 use Rattle.lc_language.specs.Value.{Value, is_kind, Binding, value_named}
@@ -45,7 +45,7 @@ use Rattle.lc_language.specs.Query.{QueryKind, distance, by_levels, by_scan, que
 
 pub record Refused : Type 0 where
   pub number : ℕ
-  pub place : ℕ
+  pub offset : ℕ
   pub values : List ℕ
 
 pub data Outcome : Type 0 where
@@ -57,18 +57,18 @@ pub data Outcomes : Type 0 where
   one_refused : Refused → Outcomes
 
 unfoldable pub refuse_at : ℕ → ℕ → Outcome
-refuse_at n place = refused (record { number = n; place = place; values = [] })
+refuse_at n offset = refused (record { number = n; offset = offset; values = [] })
 
 unfoldable pub refuse_call : ℕ → Refusal → Outcome
-refuse_call place r = refused (record { number = r.number; place = place; values = r.values })
+refuse_call offset r = refused (record { number = r.number; offset = offset; values = r.values })
 
 unfoldable pub first_misfit : List Kind → Exprs → List Value → Option ℕ
-first_misfit (kind ∷ kinds) (more e es) (v ∷ vs) = elim (is_kind kind v) as (λ _. Option ℕ) [ true ↦ first_misfit kinds es vs | false ↦ Some (place_of e) ]
+first_misfit (kind ∷ kinds) (more e es) (v ∷ vs) = elim (is_kind kind v) as (λ _. Option ℕ) [ true ↦ first_misfit kinds es vs | false ↦ Some (offset_of e) ]
 first_misfit _ _ _ = None
 
--- the place of the first argument that is not of its kind; the place of the call if all are, which is never asked for
-unfoldable pub misfit_place : ℕ → List Kind → Exprs → List Value → ℕ
-misfit_place place kinds es vs = elim (first_misfit kinds es vs) as (λ _. ℕ) [ Some p ↦ p | None ↦ place ]
+-- the offset of the first argument that is not of its kind; the offset of the call if all are, which is never asked for
+unfoldable pub misfit_offset : ℕ → List Kind → Exprs → List Value → ℕ
+misfit_offset offset kinds es vs = elim (first_misfit kinds es vs) as (λ _. ℕ) [ Some p ↦ p | None ↦ offset ]
 
 -- what the elements so far make: nothing yet, numbers, or lists of numbers
 pub data Listed : Type 0 where
@@ -95,18 +95,18 @@ list_value (all_lists found) = value.lists found
 -- an element and then the rest: the element's own fault, or 45 at an element that doesn't fit, and after it nothing is evaluated
 abbrev pub ListGoesOn : Expr → Outcome → Listed → (Listed → Type 0) → Outcome → Type 0
 ListGoesOn e (refused r) found Later o = o ≡ refused r
-ListGoesOn e (gives v) found Later o = MatchOption (listed_with found v) (o ≡ refuse_at 45 (place_of e)) Later
+ListGoesOn e (gives v) found Later o = MatchOption (listed_with found v) (o ≡ refuse_at 45 (offset_of e)) Later
 
 abbrev pub AppliesTo : ℕ → BoundCall → Outcome → Type 0
-AppliesTo place b o =
+AppliesTo offset b o =
     MatchOption (refusal_of b)
-    ((IsNotDivisor b × (o ≡ refuse_at 4 place)) ⊎ (¬ IsNotDivisor b × ((v : Value) × Gives b v × (o ≡ gives v))))
-    (λ r. o ≡ refuse_call place r)
+    ((IsNotDivisor b × (o ≡ refuse_at 4 offset)) ⊎ (¬ IsNotDivisor b × ((v : Value) × Gives b v × (o ≡ gives v))))
+    (λ r. o ≡ refuse_call offset r)
 
 -- arguments of the call's kinds bind it; else the first that is not of its kind is the fault
 abbrev pub Applies : ValueCall → ℕ → List Kind → Exprs → Outcomes → Outcome → Type 0
-Applies c place kinds es (one_refused r) o = o ≡ refused r
-Applies c place kinds es (all_give vs) o = MatchOption (bind c vs) (o ≡ refuse_at 45 (misfit_place place kinds es vs)) (λ b. AppliesTo place b o)
+Applies c offset kinds es (one_refused r) o = o ≡ refused r
+Applies c offset kinds es (all_give vs) o = MatchOption (bind c vs) (o ≡ refuse_at 45 (misfit_offset offset kinds es vs)) (λ b. AppliesTo offset b o)
 
 -- a value, and then those of the rest or its first fault
 abbrev pub Joins : Value → Outcomes → Outcomes → Type 0
@@ -120,17 +120,17 @@ GoesOn (gives v) Later os = (rest : Outcomes) × Later rest × Joins v rest os
 
 -- what a call of the table gives; its arguments' values are some of which Arguments holds. A query has no value
 abbrev pub CallGives : Call → ℕ → Exprs → (Outcomes → Type 0) → Outcome → Type 0
-CallGives (Query c) place es Arguments o = o ≡ refuse_at 45 place
-CallGives (Value_ c) place es Arguments o = MatchOption (signature_for (Value_ c) (count_of es)) (o ≡ refuse_at 46 place) (λ kinds. (os : Outcomes) × Arguments os × Applies c place kinds es os o)
+CallGives (Query c) offset es Arguments o = o ≡ refuse_at 45 offset
+CallGives (Value_ c) offset es Arguments o = MatchOption (signature_for (Value_ c) (count_of es)) (o ≡ refuse_at 46 offset) (λ kinds. (os : Outcomes) × Arguments os × Applies c offset kinds es os o)
 
--- a call is looked at in this order: its name, its place (a query stands only as a whole statement), the count of its arguments,
+-- a call is looked at in this order: its name, where it stands (a query only as a whole statement), the count of its arguments,
 -- the arguments from the left, their kinds, and its own refusals
 abbrev mutual
   pub Evaluates : List Call → List Binding → Expr → Outcome → Type 0
-  Evaluates table env (number place n) o = o ≡ gives (value.number n)
-  Evaluates table env (name place x) o = MatchOption (value_named x env) (o ≡ refuse_at 44 place) (λ v. o ≡ gives v)
-  Evaluates table env (list place es) o = EvaluatesList table env es nothing_yet o
-  Evaluates table env (call place x es) o = MatchOption (call_named table x) (o ≡ refuse_at 44 place) (λ c. CallGives c place es (λ os. EvaluatesAll table env es os) o)
+  Evaluates table env (number offset n) o = o ≡ gives (value.number n)
+  Evaluates table env (name offset x) o = MatchOption (value_named x env) (o ≡ refuse_at 44 offset) (λ v. o ≡ gives v)
+  Evaluates table env (list offset es) o = EvaluatesList table env es nothing_yet o
+  Evaluates table env (call offset x es) o = MatchOption (call_named table x) (o ≡ refuse_at 44 offset) (λ c. CallGives c offset es (λ os. EvaluatesAll table env es os) o)
 
   pub EvaluatesAll : List Call → List Binding → Exprs → Outcomes → Type 0
   EvaluatesAll table env none os = os ≡ all_give []
@@ -181,12 +181,12 @@ fail_with (gives v) = prints (value_line v)
 fail_with (refused r) = fails r
 
 abbrev pub QueriesTo : ℕ → BoundQuery → Step → Type 0
-QueriesTo place b step = MatchOption (query_refusal_of b) (Queries b step) (λ r. step ≡ fail_with (refuse_call place r))
+QueriesTo offset b step = MatchOption (query_refusal_of b) (Queries b step) (λ r. step ≡ fail_with (refuse_call offset r))
 
 abbrev pub QueriesAll : QueryCall → ℕ → List Kind → Exprs → Outcomes → Step → Type 0
-QueriesAll c place kinds es (one_refused r) step = step ≡ fails r
-QueriesAll c place kinds es (all_give vs) step =
-    MatchOption (bind_query c vs) (step ≡ fail_with (refuse_at 45 (misfit_place place kinds es vs))) (λ b. QueriesTo place b step)
+QueriesAll c offset kinds es (one_refused r) step = step ≡ fails r
+QueriesAll c offset kinds es (all_give vs) step =
+    MatchOption (bind_query c vs) (step ≡ fail_with (refuse_at 45 (misfit_offset offset kinds es vs))) (λ b. QueriesTo offset b step)
 
 -- the query of a call, if it is one
 abbrev pub as_query : Option Call → Option QueryCall
@@ -196,7 +196,7 @@ as_query (Some (Query c)) = Some c
 
 -- whether a statement without a name is a query of the table
 abbrev pub query_of : List Call → Expr → Option QueryCall
-query_of table (call place x es) = as_query (call_named table x)
+query_of table (call offset x es) = as_query (call_named table x)
 query_of table _ = None
 
 abbrev pub Assigns : List ℕ → Outcome → Step → Type 0
@@ -204,9 +204,9 @@ Assigns x (gives v) step = step ≡ binds (record { name = x; value = v })
 Assigns x (refused r) step = step ≡ fails r
 
 abbrev pub StepsAsQuery : List Call → List Binding → QueryCall → Expr → Step → Type 0
-StepsAsQuery table env c (call place x es) step =
-    MatchOption (signature_for (Query c) (count_of es)) (step ≡ fail_with (refuse_at 46 place))
-    (λ kinds. (os : Outcomes) × EvaluatesAll table env es os × QueriesAll c place kinds es os step)
+StepsAsQuery table env c (call offset x es) step =
+    MatchOption (signature_for (Query c) (count_of es)) (step ≡ fail_with (refuse_at 46 offset))
+    (λ kinds. (os : Outcomes) × EvaluatesAll table env es os × QueriesAll c offset kinds es os step)
 StepsAsQuery table env c _ step = ⊥
 
 abbrev pub StepsOf : List Call → List Binding → Option (List ℕ) → Expr → Step → Type 0
@@ -223,7 +223,7 @@ Prints budget env (prints l) later text ends = (rest : List ℕ) × later env re
 Prints budget env (asks kind C) later text ends = (rest : List ℕ) × later env rest ends × (text ≡ query_line kind C budget ++ rest)
 Prints budget env (counts C) later text ends = (rest : List ℕ) × later env rest ends × (text ≡ distribution_line C ++ rest)
 Prints budget env (nears C x) later text ends = (rest : List ℕ) × later env rest ends × (text ≡ near_line C x budget ++ rest)
-Prints budget env (fails r) later text ends = (text ≡ fault_line r.number r.place r.values) × (ends ≡ true)
+Prints budget env (fails r) later text ends = (text ≡ fault_line r.number r.offset r.values) × (ends ≡ true)
 
 abbrev pub Runs : List Call → ℕ → List Binding → List Statement → List ℕ → Bool → Type 0
 Runs table budget env [] text ends = (text ≡ []) × (ends ≡ false)
@@ -232,4 +232,4 @@ Runs table budget env (s ∷ ss) text ends = (step : Step) × Steps table env s 
 abbrev pub IsText : List Call → ℕ → List ℕ → List ℕ → Bool → Type 0
 IsText table budget bytes text ends =
     ((ss : List Statement) × Reads bytes ss × Runs table budget [] ss text ends)
-    ⊎ ((fault : Fault) × IsFault bytes fault × (text ≡ fault_line fault.number fault.place []) × (ends ≡ true))
+    ⊎ ((fault : Fault) × IsFault bytes fault × (text ≡ fault_line fault.number fault.offset []) × (ends ≡ true))

@@ -1,6 +1,6 @@
 -- The lines that a session prints, each with its newline.
 --   value_line v                           a value's line
---   fault_line n place values              a fault's line
+--   fault_line n offset values             a fault's line
 --   least_line d w, least_none_line        what LeastWord prints
 --   filling_line a                         what FillErasures prints: the word, `none` or `many`
 --   distance_line, bracket_line, distance_none_line      what MinimumDistance prints
@@ -30,7 +30,7 @@ unfoldable pub value_line : Value → List ℕ
 value_line v = line (value_text v)
 
 unfoldable pub fault_line : ℕ → ℕ → List ℕ → List ℕ
-fault_line n place values = line (codes "fault " ++ decimal n ++ codes " at " ++ decimal place ++ with_values values)
+fault_line n offset values = line (codes "fault " ++ decimal n ++ codes " at " ++ decimal offset ++ with_values values)
 
 unfoldable pub least_line : ℕ → List ℕ → List ℕ
 least_line d w = line (codes "least " ++ decimal d ++ codes " word " ++ numbers_text w)

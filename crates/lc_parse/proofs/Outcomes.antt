@@ -17,7 +17,7 @@ use Rattle.lc_parse.specs.declared.scan.Ending.{Ending}
 use Rattle.lc_parse.specs.declared.scan.Ending.TheVariants.{ScriptEnd, BadToken, TooWide}
 use Rattle.lc_parse.specs.declared.refusal.ParseRefusal.{ParseRefusal}
 use Rattle.lc_parse.specs.declared.refusal.ParseRefusal.TheVariants as refusal
-use Rattle.lc_parse.proofs.ScanLaws.{tokens_within, end_place}
+use Rattle.lc_parse.proofs.ScanLaws.{tokens_within, end_offset}
 
 abbrev pub outcome : List ℕ → Outcome
 outcome bytes = course bytes deepest (start []) (scan bytes).tokens (scan bytes).ending
@@ -26,13 +26,13 @@ pub outcome_is : (bytes : List ℕ) (ts : List Token) (ending : Ending) → ts �
 outcome_is bytes ts ending e1 e2 = ap₂ (course bytes deepest (start [])) e1 e2
 
 pub reads_of : (bytes : List ℕ) (ss : List Statement) → outcome bytes ≡ read ss → Reads bytes ss
-reads_of bytes ss h = outcome_script bytes ss (end_place bytes) h
+reads_of bytes ss h = outcome_script bytes ss (end_offset bytes) h
 
-pub fault_of : (bytes : List ℕ) (n place : ℕ) → outcome bytes ≡ fault n place → IsFault bytes (record { number = n; place = place })
-fault_of bytes n place h = fault_of_course bytes (scan bytes).tokens (scan bytes).ending (record { number = n; place = place }) h
+pub fault_of : (bytes : List ℕ) (n offset : ℕ) → outcome bytes ≡ fault n offset → IsFault bytes (record { number = n; offset = offset })
+fault_of bytes n offset h = fault_of_course bytes (scan bytes).tokens (scan bytes).ending (record { number = n; offset = offset }) h
 
 pub refused_of : (bytes : List ℕ) (e : ParseRefusal) → IsOutcome e (outcome bytes) → IsRefusedAs e (IsFault bytes)
-refused_of bytes (refusal.Fault number place) h = fault_of bytes number place h
+refused_of bytes (refusal.Fault number offset) h = fault_of bytes number offset h
 refused_of bytes refusal.NoMemory h = tt
 
 -- what a result says of the outcome
@@ -42,12 +42,12 @@ IsAnswer view (Err e) o = IsOutcome e o
 
 pub answer_reads : {T : Type 0} (view : T → List Statement) (bytes : List ℕ) (r : Result T ParseRefusal) → IsAnswer view r (outcome bytes) → (ss : List Statement) → Reads bytes ss → IsReadAs r (λ s. view s ≡ ss)
 answer_reads view bytes (Ok s) h ss reads = let e = sym h ∙ script_outcome bytes ss reads in cc
-answer_reads view bytes (Err (refusal.Fault number place)) h ss reads = let e = sym h ∙ script_outcome bytes ss reads in cc
+answer_reads view bytes (Err (refusal.Fault number offset)) h ss reads = let e = sym h ∙ script_outcome bytes ss reads in cc
 answer_reads view bytes (Err refusal.NoMemory) h ss reads = tt
 
 pub answer_faults : {T : Type 0} (view : T → List Statement) (bytes : List ℕ) (r : Result T ParseRefusal) → IsAnswer view r (outcome bytes) → (f : Fault) → IsFault bytes f → IsFaultAs r f
 answer_faults view bytes (Ok s) h f is = let e = sym h ∙ fault_is_course bytes (scan bytes).tokens (scan bytes).ending f is in cc
-answer_faults view bytes (Err (refusal.Fault number place)) h f is = let e = sym (fault_is_course bytes (scan bytes).tokens (scan bytes).ending f is) ∙ h in (cc, cc)
+answer_faults view bytes (Err (refusal.Fault number offset)) h f is = let e = sym (fault_is_course bytes (scan bytes).tokens (scan bytes).ending f is) ∙ h in (cc, cc)
 answer_faults view bytes (Err refusal.NoMemory) h f is = tt
 
 pub one_script : (bytes : List ℕ) (ss other : List Statement) → Reads bytes ss → Reads bytes other → ss ≡ other
@@ -57,8 +57,8 @@ pub one_fault : (bytes : List ℕ) (f other : Fault) → IsFault bytes f → IsF
 one_fault bytes f other a b =
     let e = sym (fault_is_course bytes (scan bytes).tokens (scan bytes).ending f a) ∙ fault_is_course bytes (scan bytes).tokens (scan bytes).ending other b in
     let n : f.number ≡ other.number = cc in
-    let p : f.place ≡ other.place = cc in
-    ap₂ (λ n p. record { number = n; place = p }) n p
+    let p : f.offset ≡ other.offset = cc in
+    ap₂ (λ n p. record { number = n; offset = p }) n p
 
 pub no_both : (bytes : List ℕ) (ss : List Statement) (f : Fault) → Reads bytes ss → IsFault bytes f → ⊥
 no_both bytes ss f a b = let e = sym (script_outcome bytes ss a) ∙ fault_is_course bytes (scan bytes).tokens (scan bytes).ending f b in cc
@@ -68,7 +68,7 @@ either bytes = by_outcome (outcome bytes) refl
   where
     by_outcome : (o : Outcome) → outcome bytes ≡ o → ((ss : List Statement) × Reads bytes ss) ⊎ ((f : Fault) × IsFault bytes f)
     by_outcome (read ss) e = inl (ss, reads_of bytes ss e)
-    by_outcome (fault n place) e = inr (record { number = n; place = place }, fault_of bytes n place e)
+    by_outcome (fault n offset) e = inr (record { number = n; offset = offset }, fault_of bytes n offset e)
 
 ends_within : (bytes : List ℕ) (ts : List Token) → AreWithin bytes ts → AllByRecursion (λ t. t.end ≤ length bytes) ts
 ends_within bytes [] h = tt
@@ -94,7 +94,7 @@ refuse_token bytes ending (t ∷ ts) ss e l h = absurd (omega arith)
 
 -- the tokens alone
 pub whole_tokens : (bytes : List ℕ) (ending : Ending) → ending_of ending ≡ (scan bytes).ending → IsTokenRefusal ending None → (scan bytes).ending ≡ language.script_end (length bytes)
-whole_tokens bytes (ScriptEnd p) e h = sym e ∙ ap language.script_end (end_place bytes p (sym e))
+whole_tokens bytes (ScriptEnd p) e h = sym e ∙ ap language.script_end (end_offset bytes p (sym e))
 whole_tokens bytes (BadToken p) e h = absurd (cc)
 whole_tokens bytes (TooWide p) e h = absurd (cc)
 

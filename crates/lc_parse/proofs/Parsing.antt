@@ -63,15 +63,15 @@ module _ (bytes : List ℕ) (ending : Ending) where
       ap (λ ts. course bytes deepest (want a) ts (ending_of ending)) split
       ∙ course_open bytes deepest (want a) t rest (ending_of ending) (opened (of_list t.start) a) (ap opens k) l (ap (at_expr bytes a t) k)
 
-  pub step_call : (a : Around) (place : ℕ) (x : List ℕ) (ts : List Token) (rest : List Token) → IsBehind Open ts rest → depth_of a < deepest → Stays bytes ending (named a place x) ts (opened (of_call place x) a) rest
-  step_call a place x ts rest (t, k, split) l =
-      ap (λ ts. course bytes deepest (named a place x) ts (ending_of ending)) split
-      ∙ course_open bytes deepest (named a place x) t rest (ending_of ending) (opened (of_call place x) a) (ap opens k) l (ap (after_name a place x) k)
+  pub step_call : (a : Around) (offset : ℕ) (x : List ℕ) (ts : List Token) (rest : List Token) → IsBehind Open ts rest → depth_of a < deepest → Stays bytes ending (named a offset x) ts (opened (of_call offset x) a) rest
+  step_call a offset x ts rest (t, k, split) l =
+      ap (λ ts. course bytes deepest (named a offset x) ts (ending_of ending)) split
+      ∙ course_open bytes deepest (named a offset x) t rest (ending_of ending) (opened (of_call offset x) a) (ap opens k) l (ap (after_name a offset x) k)
 
-  pub step_alone : (a : Around) (place : ℕ) (x : List ℕ) (ts : List Token) → IsNotFirst Open ts → Stays bytes ending (named a place x) ts (done a (tree.name place x)) ts
+  pub step_alone : (a : Around) (offset : ℕ) (x : List ℕ) (ts : List Token) → IsNotFirst Open ts → Stays bytes ending (named a offset x) ts (done a (tree.name offset x)) ts
   unfolding course
-  step_alone a place x [] h = named_end bytes deepest a place x (ending_of ending)
-  step_alone a place x (t ∷ ts) h = name_read bytes deepest a place x t ts (ending_of ending) h
+  step_alone a offset x [] h = named_end bytes deepest a offset x (ending_of ending)
+  step_alone a offset x (t ∷ ts) h = name_read bytes deepest a offset x t ts (ending_of ending) h
 
   pub step_opened : (b : Bracket) (a : Around) (ts : List Token) → IsNotFirst (closing b) ts → Stays bytes ending (opened b a) ts (want (inside b tree.none a)) ts
   unfolding course
@@ -115,22 +115,22 @@ none_first ss target e bytes t Comma h = refl
 
 no_element : (bytes : List ℕ) (b : Bracket) (es : Exprs) (a : Around) (e : Expr) (t : Token) (kind : TokenKind) → (kind ≡ closing b → ⊥) → (kind ≡ Comma → ⊥) → next_by bytes (done (inside b es a) e) t kind ≡ None
 no_element bytes b es a e t Comma h k = absurd (k refl)
-no_element bytes (of_call place x) es a e t Close h k = absurd (h refl)
-no_element bytes (of_list place) es a e t CloseList h k = absurd (h refl)
-no_element bytes (of_call place x) es a e t Name h k = refl
-no_element bytes (of_call place x) es a e t Number h k = refl
-no_element bytes (of_call place x) es a e t Assign h k = refl
-no_element bytes (of_call place x) es a e t Open h k = refl
-no_element bytes (of_call place x) es a e t OpenList h k = refl
-no_element bytes (of_call place x) es a e t CloseList h k = refl
-no_element bytes (of_call place x) es a e t End h k = refl
-no_element bytes (of_list place) es a e t Name h k = refl
-no_element bytes (of_list place) es a e t Number h k = refl
-no_element bytes (of_list place) es a e t Assign h k = refl
-no_element bytes (of_list place) es a e t Open h k = refl
-no_element bytes (of_list place) es a e t Close h k = refl
-no_element bytes (of_list place) es a e t OpenList h k = refl
-no_element bytes (of_list place) es a e t End h k = refl
+no_element bytes (of_call offset x) es a e t Close h k = absurd (h refl)
+no_element bytes (of_list offset) es a e t CloseList h k = absurd (h refl)
+no_element bytes (of_call offset x) es a e t Name h k = refl
+no_element bytes (of_call offset x) es a e t Number h k = refl
+no_element bytes (of_call offset x) es a e t Assign h k = refl
+no_element bytes (of_call offset x) es a e t Open h k = refl
+no_element bytes (of_call offset x) es a e t OpenList h k = refl
+no_element bytes (of_call offset x) es a e t CloseList h k = refl
+no_element bytes (of_call offset x) es a e t End h k = refl
+no_element bytes (of_list offset) es a e t Name h k = refl
+no_element bytes (of_list offset) es a e t Number h k = refl
+no_element bytes (of_list offset) es a e t Assign h k = refl
+no_element bytes (of_list offset) es a e t Open h k = refl
+no_element bytes (of_list offset) es a e t Close h k = refl
+no_element bytes (of_list offset) es a e t OpenList h k = refl
+no_element bytes (of_list offset) es a e t End h k = refl
 
 -- if an expression must come
 abbrev pub IsNoExpr : TokenKind → Type 0

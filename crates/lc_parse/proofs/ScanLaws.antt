@@ -1,7 +1,7 @@
 -- What holds of the tokens of any bytes.
---   step_exists          what stands at each place, with a token that stands within the bytes
+--   step_exists          what stands at each offset, with a token that stands within the bytes
 --   tokens_within        each token stands within the bytes, names are ASCII, numbers have 64 bits
---   end_place            if the tokens end at the script's end, that is the bytes' length
+--   end_offset           if the tokens end at the script's end, that is the bytes' length
 --   tokens_apart         spans rise and don't overlap
 use Rattle.std.proofs.Common.{◌≡◌, ℕ, zero, suc, ◌+◌, ◌-◌, ◌<◌, ◌≤◌, Bool, true, false, cond, ◌⊎◌, inl, inr, ◌==◌, ◌&&◌, nat_lt, List, [], ◌∷◌, length, get_or, take, drop, Option, Some, None, refl, sym, ap, ◌∙◌, length-drop, arith}
 use Rattle.std.proofs.lemmas.Bool.Decides.{nat_tests}
@@ -30,17 +30,17 @@ ascii_prefix [] i = omega arith
 ascii_prefix (x ∷ xs) i = by_test (is_name_byte x) refl (ascii_prefix xs) i
   where
     by_test : (b : Bool) → is_name_byte x ≡ b → ((i : ℕ) → get_or (take (prefix_len is_name_byte xs) xs) i 0 < 128) → (i : ℕ) → get_or (take (cond b (1 + prefix_len is_name_byte xs) 0) (x ∷ xs)) i 0 < 128
-    by_test true e again i = rw (one-add (prefix_len is_name_byte xs)) (by_place i)
+    by_test true e again i = rw (one-add (prefix_len is_name_byte xs)) (by_offset i)
       where
-        by_place : (i : ℕ) → get_or (x ∷ take (prefix_len is_name_byte xs) xs) i 0 < 128
-        by_place zero = name_byte_ascii x e
-        by_place (suc i) = again i
+        by_offset : (i : ℕ) → get_or (x ∷ take (prefix_len is_name_byte xs) xs) i 0 < 128
+        by_offset zero = name_byte_ascii x e
+        by_offset (suc i) = again i
     by_test false e again i = omega arith
 
 below_widest : (kind_is x : ℕ) → (true && nat_lt widest x) ≡ false → x ≤ widest
 below_widest k x h = grind (arith, nat_tests)
 
--- what the step at a place says besides
+-- what the step at an offset says besides
 abbrev IsGood : List ℕ → ℕ → Lexeme → Type 0
 IsGood bytes at (step.Skip n) = Unit {0}
 IsGood bytes at (step.Token t) = IsWithin bytes t × (t.start ≡ at)
@@ -117,35 +117,35 @@ module _ (bytes : List ℕ) (at : ℕ) where
 step_exists : (bytes : List ℕ) (at : ℕ) → at ≤ length bytes → StepAt bytes at
 step_exists bytes at le = step_here bytes at le (drop at bytes) refl
 
--- the tokens from a place on
+-- the tokens from an offset on
 record Tokens (bytes : List ℕ) (at : ℕ) (s : Scanned) : Type 0 where
   within : AreWithin bytes s.tokens
-  place : (p : ℕ) → s.ending ≡ language.script_end p → p ≡ length bytes
+  offset : (p : ℕ) → s.ending ≡ language.script_end p → p ≡ length bytes
   apart : AreApart at s.tokens
 
-lower : (at place : ℕ) (ts : List Token) → at ≤ place → AreApart place ts → AreApart at ts
-lower at place [] le h = tt
-lower at place (t ∷ ts) le h = (omega (arith, h.0), h.1, h.2)
+lower : (at offset : ℕ) (ts : List Token) → at ≤ offset → AreApart offset ts → AreApart at ts
+lower at offset [] le h = tt
+lower at offset (t ∷ ts) le h = (omega (arith, h.0), h.1, h.2)
 
 tokens_from : (most : ℕ) (bytes : List ℕ) (at : ℕ) → at ≤ length bytes → length bytes - at < most → Tokens bytes at (scan_within most at (drop at bytes))
 unfolding ended token_first
 tokens_from zero bytes at le l = absurd (omega arith)
 tokens_from (suc most) bytes at le l =
     let st = step_exists bytes at le in
-    by_step st.step_is st.is st.good (λ place more_le less. tokens_from most bytes place more_le less)
+    by_step st.step_is st.is st.good (λ offset more_le less. tokens_from most bytes offset more_le less)
   where
     by_end : (ending : Ending) → IsGood bytes at (step.End ending) → Tokens bytes at (ended (ending_of ending))
-    by_end (ScriptEnd p) good = record { within = tt; place = λ q e. let same : p ≡ q = cc in sym same ∙ good; apart = tt }
-    by_end (BadToken p) good = record { within = tt; place = λ q e. absurd (cc); apart = tt }
-    by_end (TooWide p) good = record { within = tt; place = λ q e. absurd (cc); apart = tt }
+    by_end (ScriptEnd p) good = record { within = tt; offset = λ q e. let same : p ≡ q = cc in sym same ∙ good; apart = tt }
+    by_end (BadToken p) good = record { within = tt; offset = λ q e. absurd (cc); apart = tt }
+    by_end (TooWide p) good = record { within = tt; offset = λ q e. absurd (cc); apart = tt }
 
-    by_step : (st : Lexeme) → IsStep bytes at st → IsGood bytes at st → ((place : ℕ) → place ≤ length bytes → length bytes - place < most → Tokens bytes place (scan_within most place (drop place bytes))) → Tokens bytes at (scan_within (suc most) at (drop at bytes))
+    by_step : (st : Lexeme) → IsStep bytes at st → IsGood bytes at st → ((offset : ℕ) → offset ≤ length bytes → length bytes - offset < most → Tokens bytes offset (scan_within most offset (drop offset bytes))) → Tokens bytes at (scan_within (suc most) at (drop at bytes))
     by_step (step.Skip n) is good again =
         let rest = again (at + n) is.1 (omega (arith, is.0, is.1)) in
-        rw is.2 (record { within = rest.within; place = rest.place; apart = lower at (at + n) _ (omega arith) rest.apart })
+        rw is.2 (record { within = rest.within; offset = rest.offset; apart = lower at (at + n) _ (omega arith) rest.apart })
     by_step (step.Token t) is good again =
         let rest = again t.end is.1 (omega (arith, is.0, is.1)) in
-        rw is.2 (record { within = (good.0, rest.within); place = rest.place; apart = (omega (arith, good.1), good.0.ordered, rest.apart) })
+        rw is.2 (record { within = (good.0, rest.within); offset = rest.offset; apart = (omega (arith, good.1), good.0.ordered, rest.apart) })
     by_step (step.End ending) is good again = rw is (by_end ending good)
 
 tokens_of : (bytes : List ℕ) → Tokens bytes 0 (scan bytes)
@@ -155,8 +155,8 @@ tokens_of bytes = tokens_from (suc (length bytes)) bytes 0 (omega arith) (omega 
 pub tokens_within : (bytes : List ℕ) → AreWithin bytes (scan bytes).tokens
 tokens_within bytes = (tokens_of bytes).within
 
-pub end_place : (bytes : List ℕ) (p : ℕ) → (scan bytes).ending ≡ language.script_end p → p ≡ length bytes
-end_place bytes = (tokens_of bytes).place
+pub end_offset : (bytes : List ℕ) (p : ℕ) → (scan bytes).ending ≡ language.script_end p → p ≡ length bytes
+end_offset bytes = (tokens_of bytes).offset
 
 pub tokens_apart : (bytes : List ℕ) → AreApart 0 (scan bytes).tokens
 tokens_apart bytes = (tokens_of bytes).apart

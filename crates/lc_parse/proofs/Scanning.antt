@@ -2,7 +2,7 @@
 --   number_from-grows     the value of digits is at least that of the digits before
 --   value_none, value_more, value_all, value_grows      the loop over digits
 --   step_blank .. step_end    what `scan_within` does with what is at an offset
---   Scans bytes ts at     the tokens before the place are ts
+--   Scans bytes ts at     the tokens before the offset are ts
 --   Scans-none, -skip, -token, -end      the loop over the bytes
 use Rattle.std.proofs.Common.{◌≡◌, ℕ, zero, suc, ◌+◌, ◌-◌, ◌*◌, ◌^◌, ◌<◌, ◌≤◌, Bool, true, false, cond, ◌⊎◌, inl, inr, ◌==◌, ◌&&◌, not, nat_lt, List, [], ◌∷◌, ◌++◌, length, get_or, drop, Some, None, refl, sym, ap, ◌∙◌, append_assoc, length-drop, arith}
 use Rattle.std.proofs.lemmas.List.{at_drop_more, at_drop_all, drop-drop, append-nil}
@@ -208,7 +208,7 @@ cut_within b rest cut h =
       ]
     ]
 
--- what stands at a place with these bytes from there on
+-- what stands at an offset with these bytes from there on
 module _ (bytes : List ℕ) (at b : ℕ) (rest : List ℕ) (here : drop at bytes ≡ b ∷ rest) where
   room : at + suc (length rest) ≡ length bytes
   room = omega (arith, length-drop at bytes, ap length here)
@@ -249,7 +249,7 @@ pub step_end : (bytes : List ℕ) (at : ℕ) → drop at bytes ≡ [] → IsStep
 unfolding scan_within
 step_end bytes at e = λ most. ap (scan_within (suc most) at) e
 
--- the tokens before the place are ts
+-- the tokens before the offset are ts
 abbrev with_front : List Token → Scanned → Scanned
 with_front ts s = record { tokens = ts ++ s.tokens; ending = s.ending }
 

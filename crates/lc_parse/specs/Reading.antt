@@ -7,7 +7,7 @@
 --   IsBehind kind ts rest      a token of this kind stands first, the rest after it
 --   IsTooDeepFirst ts depth e  a parenthesis opens first and too deep, and e is its fault
 --   IsTargetFirst ts t rest    a name and `:=` stand first, the rest after them
---   IsStep bytes at step       what the tokens from this place on begin with
+--   IsStep bytes at step       what the tokens from this offset on begin with
 --   IsTokenRefusal ending o     the refusal of an ending at a bad token or at a number that is too wide
 --   Stays bytes ending ..      to read goes on with these tokens as from those
 --   IsStuck s ts               the grammar lets no token stand first, and the script can't end
@@ -37,9 +37,9 @@ cuts_of None = None
 cuts_of (Some c) = Some (cut_of c)
 
 abbrev pub ending_of : Ending → language.Ending
-ending_of (ScriptEnd place) = language.script_end place
-ending_of (BadToken place) = language.bad_token place
-ending_of (TooWide place) = language.too_wide place
+ending_of (ScriptEnd offset) = language.script_end offset
+ending_of (BadToken offset) = language.bad_token offset
+ending_of (TooWide offset) = language.too_wide offset
 
 pub record IsWithin (bytes : List ℕ) (t : Token) : Type 0 where
   pub ordered : t.start < t.end
@@ -76,9 +76,9 @@ IsStep bytes at (step.End ending) = (most : ℕ) → scan_within (suc most) at (
 
 -- the refusal of an ending at a token
 abbrev pub IsTokenRefusal : Ending → Option ParseRefusal → Type 0
-IsTokenRefusal (ScriptEnd place) o = o ≡ None
-IsTokenRefusal (BadToken place) o = o ≡ Some (refusal.Fault 40 place)
-IsTokenRefusal (TooWide place) o = o ≡ Some (refusal.Fault 43 place)
+IsTokenRefusal (ScriptEnd offset) o = o ≡ None
+IsTokenRefusal (BadToken offset) o = o ≡ Some (refusal.Fault 40 offset)
+IsTokenRefusal (TooWide offset) o = o ≡ Some (refusal.Fault 43 offset)
 
 abbrev pub Stays : List ℕ → Ending → State → List Token → State → List Token → Type 0
 Stays bytes ending s ts after rest = course bytes deepest s ts (ending_of ending) ≡ course bytes deepest after rest (ending_of ending)
@@ -92,7 +92,7 @@ IsStuck bytes s [] = IsNotStart s
 IsStuck bytes s (t ∷ ts) = next bytes s t ≡ None
 
 abbrev pub IsOutcome : ParseRefusal → Outcome → Type 0
-IsOutcome (refusal.Fault number place) o = o ≡ fault number place
+IsOutcome (refusal.Fault number offset) o = o ≡ fault number offset
 IsOutcome refusal.NoMemory o = Unit {0}
 
 -- a refusal is what comes of these tokens in this state

@@ -1,8 +1,8 @@
 -- The spans of tokens.
---   AreApart place ts      the tokens stand one behind another from this place on, none of them empty
+--   AreApart offset ts     the tokens stand one behind another from this offset on, none of them empty
 use Rattle.std.specs.Prelude.{ℕ, ◌<◌, ◌≤◌, List, [], ◌∷◌}
 use Rattle.lc_grammar.specs.declared.Token.{Token}
 
 abbrev pub AreApart : ℕ → List Token → Type 0
-AreApart place [] = Unit {0}
-AreApart place (t ∷ ts) = (place ≤ t.start) × (t.start < t.end) × AreApart t.end ts
+AreApart offset [] = Unit {0}
+AreApart offset (t ∷ ts) = (offset ≤ t.start) × (t.start < t.end) × AreApart t.end ts

@@ -14,15 +14,15 @@ abbrev pub all_of : List tree.Expr → tree.Exprs
 all_of [] = tree.none
 all_of (e ∷ es) = tree.more e (all_of es)
 
--- what stands at a place, with each expression inside already seen as its tree
+-- what stands at an offset, with each expression inside already seen as its tree
 abbrev pub node_step : Node-F (ℕ → tree.Expr) tree.Expr → ℕ → tree.Expr
-node_step (Node-F.Number n) place = tree.number place n
-node_step (Node-F.Name x) place = tree.name place (string_bytes x)
-node_step (Node-F.Call x es) place = tree.call place (string_bytes x) (all_of es.items)
-node_step (Node-F.List es) place = tree.list place (all_of es.items)
+node_step (Node-F.Number n) offset = tree.number offset n
+node_step (Node-F.Name x) offset = tree.name offset (string_bytes x)
+node_step (Node-F.Call x es) offset = tree.call offset (string_bytes x) (all_of es.items)
+node_step (Node-F.List es) offset = tree.list offset (all_of es.items)
 
 abbrev pub expr_step : Expr-F (ℕ → tree.Expr) tree.Expr → tree.Expr
-expr_step e = e.node e.place
+expr_step e = e.node e.offset
 
 abbrev pub tree_of : Expr → tree.Expr
 tree_of = fold-Expr (ℕ → tree.Expr) tree.Expr node_step expr_step

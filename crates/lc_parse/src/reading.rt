@@ -64,7 +64,7 @@ fn refusal(source: &Source<'_>, tokens: &[Token], depth: usize) -> ParseRefusal
             let number = refused_number(token.kind, depth);
             ParseRefusal::Fault {
                 number,
-                place: token.start,
+                offset: token.start,
             }
         }
     }
@@ -75,9 +75,9 @@ fn end_refusal(ending: Ending) -> ParseRefusal
     ensures { (s : State) → IsNotStart s → IsOutcome result (ended_at s (ending_of ending)) }
 {
     match ending {
-        Ending::ScriptEnd(place) => ParseRefusal::Fault { number: 41, place },
-        Ending::BadToken(place) => ParseRefusal::Fault { number: 40, place },
-        Ending::TooWide(place) => ParseRefusal::Fault { number: 43, place },
+        Ending::ScriptEnd(offset) => ParseRefusal::Fault { number: 41, offset },
+        Ending::BadToken(offset) => ParseRefusal::Fault { number: 40, offset },
+        Ending::TooWide(offset) => ParseRefusal::Fault { number: 43, offset },
     }
 }
 
@@ -124,7 +124,7 @@ fn expression<'a>(
             let n = number_of(source, first);
             Ok((
                 Expr {
-                    place: first.start,
+                    offset: first.start,
                     node: Node::Number(n),
                 },
                 rest,
@@ -134,13 +134,13 @@ fn expression<'a>(
             if depth >= DEEPEST {
                 return Err(ParseRefusal::Fault {
                     number: 42,
-                    place: first.start,
+                    offset: first.start,
                 });
             }
             let (elements, rest) = expressions(source, rest, TokenKind::CloseList, depth + 1)?;
             Ok((
                 Expr {
-                    place: first.start,
+                    offset: first.start,
                     node: Node::List(elements),
                 },
                 rest,
@@ -162,7 +162,7 @@ fn opening(tokens: &[Token], depth: usize) -> Result<Option<&[Token]>, ParseRefu
             if depth >= DEEPEST {
                 return Err(ParseRefusal::Fault {
                     number: 42,
-                    place: first.start,
+                    offset: first.start,
                 });
             }
             Ok(Some(rest))
@@ -191,12 +191,12 @@ fn named_expression<'a>(
     ensures rest { IfOk result (λ r. AreWithin source.now.bytes.now r.1.now) }
     ensures shorter { IfOk result (λ r. length r.1.now ≤ length tokens.now) }
 {
-    let place = first.start;
+    let offset = first.start;
     let name = name_of(source, first)?;
     match opening(tokens, depth)? {
         None => Ok((
             Expr {
-                place,
+                offset,
                 node: Node::Name(name),
             },
             tokens,
@@ -205,7 +205,7 @@ fn named_expression<'a>(
             let (arguments, rest) = expressions(source, rest, TokenKind::Close, depth + 1)?;
             Ok((
                 Expr {
-                    place,
+                    offset,
                     node: Node::Call(name, arguments),
                 },
                 rest,
@@ -311,8 +311,8 @@ fn token_refusal(ending: Ending) -> Option<ParseRefusal>
 {
     match ending {
         Ending::ScriptEnd(_) => None,
-        Ending::BadToken(place) => Some(ParseRefusal::Fault { number: 40, place }),
-        Ending::TooWide(place) => Some(ParseRefusal::Fault { number: 43, place }),
+        Ending::BadToken(offset) => Some(ParseRefusal::Fault { number: 40, offset }),
+        Ending::TooWide(offset) => Some(ParseRefusal::Fault { number: 43, offset }),
     }
 }
 
@@ -323,7 +323,7 @@ fn statements(source: &Source<'_>, tokens: &[Token]) -> Result<Vec<Statement>, P
         (λ v. course source.now.bytes.now deepest (start []) tokens.now (ending_of source.now.ending)
         ≡ read (map statement_of v.items)) }
     ensures refused { IfErr result (λ e. Refuses source.now.bytes.now source.now.ending (start []) tokens.now e) }
-    ensures nothing { (place : ℕ) → ending_of source.now.ending ≡ script_end place → tokens.now ≡ [] → IsOk result }
+    ensures nothing { (offset : ℕ) → ending_of source.now.ending ≡ script_end offset → tokens.now ≡ [] → IsOk result }
 {
     let mut found = Vec::new(source.alloc);
     let mut left = tokens;

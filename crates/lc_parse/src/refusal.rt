@@ -6,7 +6,7 @@ pub enum ParseRefusal {
     /// The bytes are no script: the number of the fault (40 a byte that begins no token, 41 a token or an end
     /// that the grammar doesn't allow there, 42 parentheses and brackets nest deeper than 32, 43 a number
     /// above 2^64 - 1), and the offset from which on they can't go on.
-    Fault { number: u8, place: usize },
+    Fault { number: u8, offset: usize },
     /// Memory ran out.
     NoMemory,
 }

@@ -2,7 +2,7 @@
 #[derive(Debug, Drop)]
 #[cycle(tree)]
 pub struct Expr {
-    pub place: usize,
+    pub offset: usize,
     pub node: Node,
 }
 

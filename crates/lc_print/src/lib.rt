@@ -264,22 +264,22 @@ pub fn rejected_line(alloc: Global, number: u8, values: &[u64]) -> Result<Vec<u8
     Ok(text)
 }
 
-/// The line of a fault: its number, its place in the script, and the numbers that it carries:
+/// The line of a fault: its number, its offset in the script, and the numbers that it carries:
 /// `fault 44 at 10`, `fault 8 at 0 with 1 2`.
 #[tactic(auto, unfolding(lc_language::specs::Print::fault_line))]
 pub fn fault_line(
     alloc: Global,
     number: u8,
-    place: usize,
+    offset: usize,
     values: &[u64],
 ) -> Result<Vec<u8>, NoMemory>
-    ensures { IfOk result (λ v. v.items ≡ fault_text number place values.now) }
+    ensures { IfOk result (λ v. v.items ≡ fault_text number offset values.now) }
 {
     let mut text = Vec::new(alloc);
     push_text(&mut text, b"fault ")?;
     push_number(&mut text, u64::from(number))?;
     push_text(&mut text, b" at ")?;
-    push_number(&mut text, place as u64)?;
+    push_number(&mut text, offset as u64)?;
     push_values(&mut text, values)?;
     push_newline(&mut text)?;
     Ok(text)

@@ -114,17 +114,17 @@ left_fine C w l m = rw (short_length (C.columns - weight w) (omega (arith, l)) (
 
 -- ---- the code
 
-pub residual_code : (C : Matrix) (w places : List ℕ) (result : Result Matrix CodeRefusal) → places ≡ support w → IfOk result (λ r. IsCode C.field (C.columns - length places) (InPunctured C places) r) → IfOk result (λ r. IsCode C.field (C.columns - weight w) (InResidual C w) r)
-residual_code C w places result e h =
+pub residual_code : (C : Matrix) (w coordinates : List ℕ) (result : Result Matrix CodeRefusal) → coordinates ≡ support w → IfOk result (λ r. IsCode C.field (C.columns - length coordinates) (InPunctured C coordinates) r) → IfOk result (λ r. IsCode C.field (C.columns - weight w) (InResidual C w) r)
+residual_code C w coordinates result e h =
     let at_support : IfOk result (λ r. IsCode C.field (C.columns - length (support w)) (InResidual C w) r) = subst (λ (ps : List ℕ). IfOk result (λ r. IsCode C.field (C.columns - length ps) (InPunctured C ps) r)) e h in
     subst (λ m. IfOk result (λ r. IsCode C.field (C.columns - m) (InResidual C w) r)) (length_support w) at_support
 
 word_long : (C : Matrix) (w : List ℕ) → AreRows C.field C.columns C.rows → InCode C w → length w ≡ C.columns
 word_long C w r i = (span_word C.field C.columns C.rows w r i).long
 
-pub residual_refused : (C : Matrix) (w places : List ℕ) (result : Result Matrix CodeRefusal) → AreRows C.field C.columns C.rows → InCode C w → weight w < C.columns → first_refusal (no_coordinate C w) ≡ None → places ≡ support w → IsRefusedAs result (first_refusal (deleted_refusals C places)) → IsRefusedAs result (first_refusal (no_coordinate C w))
-residual_refused C w places result r i some none e h =
-    let fine : first_refusal (deleted_refusals C places) ≡ None = ap (λ (ps : List ℕ). first_refusal (deleted_refusals C ps)) e ∙ support_fine C w (word_long C w r i) some in
+pub residual_refused : (C : Matrix) (w coordinates : List ℕ) (result : Result Matrix CodeRefusal) → AreRows C.field C.columns C.rows → InCode C w → weight w < C.columns → first_refusal (no_coordinate C w) ≡ None → coordinates ≡ support w → IsRefusedAs result (first_refusal (deleted_refusals C coordinates)) → IsRefusedAs result (first_refusal (no_coordinate C w))
+residual_refused C w coordinates result r i some none e h =
+    let fine : first_refusal (deleted_refusals C coordinates) ≡ None = ap (λ (ps : List ℕ). first_refusal (deleted_refusals C ps)) e ∙ support_fine C w (word_long C w r i) some in
     subst (IsRefusedAs result) (fine ∙ sym none) h
 
 pub residual_first : (C : Matrix) (w : List ℕ) (result : Result Matrix CodeRefusal) → first_refusal (no_coordinate C w) ≡ None → RefusesFirst result (first_refusal (no_coordinate C w))

@@ -64,8 +64,8 @@ changed f x y l m p =
 -- ---- all coordinates
 
 -- the first coordinate of a word that begins with another symbol than 0
-begins : (i a : ℕ) (places c : List ℕ) → ((j k : ℕ) → j ≡ i + k → list_any (λ p. j == p) places ≡ not (slice_index (suc a ∷ c) k == 0)) → list_any (λ p. i == p) places ≡ true
-begins i a places c h = h i 0 (omega arith) ∙ ap not (ne_eqb (suc a) 0 (λ e. omega (arith, e)))
+begins : (i a : ℕ) (coordinates c : List ℕ) → ((j k : ℕ) → j ≡ i + k → list_any (λ p. j == p) coordinates ≡ not (slice_index (suc a ∷ c) k == 0)) → list_any (λ p. i == p) coordinates ≡ true
+begins i a coordinates c h = h i 0 (omega arith) ∙ ap not (ne_eqb (suc a) 0 (λ e. omega (arith, e)))
 
 added : FieldName → List ℕ → List ℕ → ℕ
 added f u c = sum_by (λ a. weight (word_sum f u (scale f a c))) (below (size f))
@@ -80,18 +80,18 @@ added_more f x y u c =
     sum_same (λ a. weight (word_sum f (x ∷ u) (scale f a (y ∷ c)))) (λ a. nonzero (add f x (mul f a y)) + weight (word_sum f u (scale f a c))) (below (size f)) (λ a _. weight_cons (add f x (mul f a y)) (word_sum f u (scale f a c)))
     ∙ sum_plus (λ a. nonzero (add f x (mul f a y))) (λ a. weight (word_sum f u (scale f a c))) (below (size f))
 
-added_from : (f : FieldName) (i : ℕ) (places u c : List ℕ) → Fits f u → Fits f c → length u ≡ length c → ((j k : ℕ) → j ≡ i + k → list_any (λ p. j == p) places ≡ not (slice_index c k == 0)) → added f u c ≡ (size f - 1) * weight c + size f * weight (without_from i places u)
+added_from : (f : FieldName) (i : ℕ) (coordinates u c : List ℕ) → Fits f u → Fits f c → length u ≡ length c → ((j k : ℕ) → j ≡ i + k → list_any (λ p. j == p) coordinates ≡ not (slice_index c k == 0)) → added f u c ≡ (size f - 1) * weight c + size f * weight (without_from i coordinates u)
 unfolding without_from
-added_from f i places [] [] fu fc e h = added_none f ∙ omega arith
-added_from f i places [] (y ∷ c) fu fc e h = absurd (omega (arith, e))
-added_from f i places (x ∷ u) [] fu fc e h = absurd (omega (arith, e))
-added_from f i places (x ∷ u) (zero ∷ c) fu fc e h =
-    let rest = added_from f (suc i) places u c (fits_tail f x u fu) (fits_tail f 0 c fc) (omega (arith, e)) (λ j k t. h j (suc k) (omega (arith, t))) in
-    let here : without_from i places (x ∷ u) ≡ x ∷ without_from (suc i) places u = kept i places x u (h i 0 (omega arith)) in
-    omega (arith, added_more f x 0 u c, unchanged f x (fits_head f x u fu), rest, weight_zero_head c, ap (λ w. size f * weight w) here ∙ ap (λ m. size f * m) (weight_cons x (without_from (suc i) places u)))
-added_from f i places (x ∷ u) (suc y ∷ c) fu fc e h =
-    let rest = added_from f (suc i) places u c (fits_tail f x u fu) (fits_tail f (suc y) c fc) (omega (arith, e)) (λ j k t. h j (suc k) (omega (arith, t))) in
-    let here : without_from i places (x ∷ u) ≡ without_from (suc i) places u = taken i places x u (begins i y places c h) in
+added_from f i coordinates [] [] fu fc e h = added_none f ∙ omega arith
+added_from f i coordinates [] (y ∷ c) fu fc e h = absurd (omega (arith, e))
+added_from f i coordinates (x ∷ u) [] fu fc e h = absurd (omega (arith, e))
+added_from f i coordinates (x ∷ u) (zero ∷ c) fu fc e h =
+    let rest = added_from f (suc i) coordinates u c (fits_tail f x u fu) (fits_tail f 0 c fc) (omega (arith, e)) (λ j k t. h j (suc k) (omega (arith, t))) in
+    let here : without_from i coordinates (x ∷ u) ≡ x ∷ without_from (suc i) coordinates u = kept i coordinates x u (h i 0 (omega arith)) in
+    omega (arith, added_more f x 0 u c, unchanged f x (fits_head f x u fu), rest, weight_zero_head c, ap (λ w. size f * weight w) here ∙ ap (λ m. size f * m) (weight_cons x (without_from (suc i) coordinates u)))
+added_from f i coordinates (x ∷ u) (suc y ∷ c) fu fc e h =
+    let rest = added_from f (suc i) coordinates u c (fits_tail f x u fu) (fits_tail f (suc y) c fc) (omega (arith, e)) (λ j k t. h j (suc k) (omega (arith, t))) in
+    let here : without_from i coordinates (x ∷ u) ≡ without_from (suc i) coordinates u = taken i coordinates x u (begins i y coordinates c h) in
     let one = changed f x (suc y) (fits_head f x u fu) (fits_head f (suc y) c fc) (omega arith) in
     omega (arith, added_more f x (suc y) u c, one, rest, ap (λ m. (size f - 1) * m) (weight_other_head (suc y) c (omega arith)), ap (λ w. size f * weight w) here)
 
@@ -117,13 +117,13 @@ residual_linear C c r i some =
     subst (λ m. IsLinear C.field C.columns (C.columns - m) (removed c)) (length_support c) (deleted_linear C (support c) (support_fine C c (span_word C.field C.columns C.rows c r i).long some))
 
 -- nothing is left of the word itself
-none_from : (i : ℕ) (places c : List ℕ) → ((j k : ℕ) → j ≡ i + k → list_any (λ p. j == p) places ≡ not (slice_index c k == 0)) → weight (without_from i places c) ≡ 0
+none_from : (i : ℕ) (coordinates c : List ℕ) → ((j k : ℕ) → j ≡ i + k → list_any (λ p. j == p) coordinates ≡ not (slice_index c k == 0)) → weight (without_from i coordinates c) ≡ 0
 unfolding without_from
-none_from i places [] h = refl
-none_from i places (zero ∷ c) h =
-    ap (λ w. weight w) (kept i places 0 c (h i 0 (omega arith))) ∙ weight_zero_head (without_from (suc i) places c) ∙ none_from (suc i) places c (λ j k e. h j (suc k) (omega (arith, e)))
-none_from i places (suc a ∷ c) h =
-    ap (λ w. weight w) (taken i places (suc a) c (begins i a places c h)) ∙ none_from (suc i) places c (λ j k e. h j (suc k) (omega (arith, e)))
+none_from i coordinates [] h = refl
+none_from i coordinates (zero ∷ c) h =
+    ap (λ w. weight w) (kept i coordinates 0 c (h i 0 (omega arith))) ∙ weight_zero_head (without_from (suc i) coordinates c) ∙ none_from (suc i) coordinates c (λ j k e. h j (suc k) (omega (arith, e)))
+none_from i coordinates (suc a ∷ c) h =
+    ap (λ w. weight w) (taken i coordinates (suc a) c (begins i a coordinates c h)) ∙ none_from (suc i) coordinates c (λ j k e. h j (suc k) (omega (arith, e)))
 
 self_removed : (c : List ℕ) → weight (removed c c) ≡ 0
 unfolding without

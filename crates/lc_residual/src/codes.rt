@@ -26,8 +26,8 @@ pub fn residual(alloc: Global, code: &Code, word: &[u8]) -> Result<Code, CodeRef
 {
     check_left(code, word)?;
     let _matrix = code.matrix();
-    let places = support(alloc, word)?;
-    punctured(alloc, code, &places)
+    let coordinates = support(alloc, word)?;
+    punctured(alloc, code, &coordinates)
 }
 
 // Checks that a word of a code has a symbol 0.
@@ -45,13 +45,13 @@ fn check_left(code: &Code, word: &[u8]) -> Result<(), CodeRefusal>
 // The coordinates at which a word is not 0.
 #[tactic(auto, using(crate::proofs::SupportLaws::support_laws), unfolding(lc_language::specs::Residual::support))]
 fn support(alloc: Global, word: &[u8]) -> Result<Vec<u64>, NoMemory>
-    ensures are { IfOk result (λ places. places.items ≡ support_of word.now) }
+    ensures are { IfOk result (λ coordinates. coordinates.items ≡ support_of word.now) }
 {
-    let mut places = Vec::new(alloc);
+    let mut coordinates = Vec::new(alloc);
     for i in 0..word.len() {
         if word[i] != 0 {
-            places.push(i as u64)?;
+            coordinates.push(i as u64)?;
         }
     }
-    Ok(places)
+    Ok(coordinates)
 }

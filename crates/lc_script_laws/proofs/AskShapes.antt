@@ -7,7 +7,7 @@ use Rattle.std.proofs.Common.{◌≡◌, ◌⊎◌, ◌<◌, ℕ, Bool, true, fa
 use Rattle.std.specs.Prelude.{if◌then◌else◌}
 use Rattle.std.specs.List.{AllByRecursion}
 use Rattle.lc_algebra.specs.Matrix.{Matrix}
-use Rattle.lc_grammar.specs.Tree.{Expr, Exprs, number, name, call, list, none, more, Statement, place_of, count_of}
+use Rattle.lc_grammar.specs.Tree.{Expr, Exprs, number, name, call, list, none, more, Statement, offset_of, count_of}
 use Rattle.lc_grammar.specs.Grammar.{Reads}
 use Rattle.lc_formats.specs.Text.{same_bytes}
 use Rattle.lc_language.specs.declared.Call.{Call}
@@ -20,7 +20,7 @@ use Rattle.lc_language.specs.Value.{Value, Binding, value_named}
 use Rattle.lc_language.specs.Calls as bound
 use Rattle.lc_language.specs.Calls.{call_named, signature_for, BoundCall, bind, BoundQuery, bind_query, refusal_of, query_refusal_of, Gives, IsNotDivisor}
 use Rattle.lc_language.specs.Query.{QueryKind, query_line, near_line}
-use Rattle.lc_language.specs.Evaluation.{Outcome, gives, refused, Outcomes, all_give, one_refused, refuse_at, refuse_call, misfit_place, Listed, nothing_yet, all_numbers, all_lists, listed_with, list_value, ListGoesOn, AppliesTo, Applies, CallGives, Joins, GoesOn, Evaluates, EvaluatesAll, EvaluatesList, Step, binds, prints, asks, counts, nears, fails, AsksOf, Queries, QueriesTo, QueriesAll, query_of, fail_with, Assigns, StepsAsQuery, StepsOf, Steps}
+use Rattle.lc_language.specs.Evaluation.{Outcome, gives, refused, Outcomes, all_give, one_refused, refuse_at, refuse_call, misfit_offset, Listed, nothing_yet, all_numbers, all_lists, listed_with, list_value, ListGoesOn, AppliesTo, Applies, CallGives, Joins, GoesOn, Evaluates, EvaluatesAll, EvaluatesList, Step, binds, prints, asks, counts, nears, fails, AsksOf, Queries, QueriesTo, QueriesAll, query_of, fail_with, Assigns, StepsAsQuery, StepsOf, Steps}
 use Rattle.lc_session_rules.specs.Needs.{NeedsOn, Needs, MeetsFirst}
 use Rattle.lc_script_laws.specs.Shapes.{IsCodeOfRows}
 use Rattle.lc_script_laws.proofs.ShapeLaws.{IsShaped, AreShaped, from_option, from_known}
@@ -45,9 +45,9 @@ given_as o p e h = subst IsGiven (sym e) h
 all_as : (os ps : Outcomes) → os ≡ ps → AreGiven ps → AreGiven os
 all_as os ps e h = subst AreGiven (sym e) h
 
-refused_at : (n place : ℕ) (o : Outcome) → o ≡ refuse_at n place → IsGiven o
+refused_at : (n offset : ℕ) (o : Outcome) → o ≡ refuse_at n offset → IsGiven o
 unfolding refuse_at
-refused_at n place o e = given_as o _ e tt
+refused_at n offset o e = given_as o _ e tt
 
 picked : (b : Bool) (v w : Value) (r : Option Value) → IsShaped v → (r ≡ Some w → IsShaped w) → (if b then Some v else r) ≡ Some w → IsShaped w
 picked true v w r h f e = let same : v ≡ w = (let g = e in cc) in subst IsShaped same h
@@ -64,29 +64,29 @@ list_shaped nothing_yet = tt
 list_shaped (all_numbers found) = tt
 list_shaped (all_lists found) = tt
 
-call_given : (place : ℕ) (b : BoundCall) (o : Outcome) → GivesShaped b → AppliesTo place b o → IsGiven o
+call_given : (offset : ℕ) (b : BoundCall) (o : Outcome) → GivesShaped b → AppliesTo offset b o → IsGiven o
 unfolding refuse_call
-call_given place b o h k =
-    from_known (refusal_of b) ((IsNotDivisor b × (o ≡ refuse_at 4 place)) ⊎ (¬ IsNotDivisor b × ((v : Value) × Gives b v × (o ≡ gives v)))) (λ r. o ≡ refuse_call place r) (IsGiven o)
+call_given offset b o h k =
+    from_known (refusal_of b) ((IsNotDivisor b × (o ≡ refuse_at 4 offset)) ⊎ (¬ IsNotDivisor b × ((v : Value) × Gives b v × (o ≡ gives v)))) (λ r. o ≡ refuse_call offset r) (IsGiven o)
     (λ unrefused c. ⊎_elim
-    (λ (d : IsNotDivisor b × (o ≡ refuse_at 4 place)). refused_at 4 place o d.1)
+    (λ (d : IsNotDivisor b × (o ≡ refuse_at 4 offset)). refused_at 4 offset o d.1)
     (λ (d : ¬ IsNotDivisor b × ((v : Value) × Gives b v × (o ≡ gives v))). given_as o (gives d.1.0) d.1.2 (h d.1.0 unrefused d.1.1))
     c)
     (λ r e. given_as o _ e tt) k
 
-applied : (c : ValueCall) (place : ℕ) (kinds : List Kind) (es : Exprs) (os : Outcomes) (o : Outcome) → AreGiven os → Applies c place kinds es os o → IsGiven o
-applied c place kinds es (one_refused r) o h k = given_as o (refused r) k tt
-applied c place kinds es (all_give vs) o h k =
-    from_option (bind c vs) (o ≡ refuse_at 45 (misfit_place place kinds es vs)) (λ b. AppliesTo place b o) (IsGiven o)
-    (λ e. refused_at 45 (misfit_place place kinds es vs) o e)
-    (λ b e q. call_given place b o (bind_shaped c vs b h e) q) k
+applied : (c : ValueCall) (offset : ℕ) (kinds : List Kind) (es : Exprs) (os : Outcomes) (o : Outcome) → AreGiven os → Applies c offset kinds es os o → IsGiven o
+applied c offset kinds es (one_refused r) o h k = given_as o (refused r) k tt
+applied c offset kinds es (all_give vs) o h k =
+    from_option (bind c vs) (o ≡ refuse_at 45 (misfit_offset offset kinds es vs)) (λ b. AppliesTo offset b o) (IsGiven o)
+    (λ e. refused_at 45 (misfit_offset offset kinds es vs) o e)
+    (λ b e q. call_given offset b o (bind_shaped c vs b h e) q) k
 
-called : (place : ℕ) (es : Exprs) (Arguments : Outcomes → Type 0) (c : Call) (o : Outcome) → ((os : Outcomes) → Arguments os → AreGiven os) → CallGives c place es Arguments o → IsGiven o
-called place es Arguments (Query c) o f k = refused_at 45 place o k
-called place es Arguments (Value_ c) o f k =
-    from_option (signature_for (Value_ c) (count_of es)) (o ≡ refuse_at 46 place) (λ kinds. (os : Outcomes) × Arguments os × Applies c place kinds es os o) (IsGiven o)
-    (λ e. refused_at 46 place o e)
-    (λ kinds e q. applied c place kinds es q.0 o (f q.0 q.1) q.2) k
+called : (offset : ℕ) (es : Exprs) (Arguments : Outcomes → Type 0) (c : Call) (o : Outcome) → ((os : Outcomes) → Arguments os → AreGiven os) → CallGives c offset es Arguments o → IsGiven o
+called offset es Arguments (Query c) o f k = refused_at 45 offset o k
+called offset es Arguments (Value_ c) o f k =
+    from_option (signature_for (Value_ c) (count_of es)) (o ≡ refuse_at 46 offset) (λ kinds. (os : Outcomes) × Arguments os × Applies c offset kinds es os o) (IsGiven o)
+    (λ e. refused_at 46 offset o e)
+    (λ kinds e q. applied c offset kinds es q.0 o (f q.0 q.1) q.2) k
 
 joined : (v : Value) (rest os : Outcomes) → IsShaped v → AreGiven rest → Joins v rest os → AreGiven os
 joined v (one_refused r) os h k e = all_as os (one_refused r) e tt
@@ -99,18 +99,18 @@ went_on (gives v) Later os h f k = joined v k.0 os h (f k.0 k.1) k.2
 listed_on : (e : Expr) (p : Outcome) (found : Listed) (Later : Listed → Outcome → Type 0) (o : Outcome) → ((next : Listed) → Later next o → IsGiven o) → ListGoesOn e p found (λ next. Later next o) o → IsGiven o
 listed_on e (refused r) found Later o f k = given_as o (refused r) k tt
 listed_on e (gives v) found Later o f k =
-    from_option (listed_with found v) (o ≡ refuse_at 45 (place_of e)) (λ next. Later next o) (IsGiven o) (λ q. refused_at 45 (place_of e) o q) (λ next i q. f next q) k
+    from_option (listed_with found v) (o ≡ refuse_at 45 (offset_of e)) (λ next. Later next o) (IsGiven o) (λ q. refused_at 45 (offset_of e) o q) (λ next i q. f next q) k
 
 mutual
   pub evaluates_shaped : (table : List Call) (env : List Binding) → AreBound env → (e : Expr) (o : Outcome) → Evaluates table env e o → IsGiven o
-  evaluates_shaped table env h (number place n) o k = given_as o (gives (value.number n)) k tt
-  evaluates_shaped table env h (name place x) o k =
-      from_option (value_named x env) (o ≡ refuse_at 44 place) (λ v. o ≡ gives v) (IsGiven o) (λ e. refused_at 44 place o e) (λ v e q. given_as o (gives v) q (named_shaped x env v h e)) k
-  evaluates_shaped table env h (list place es) o k = evaluates_list_shaped table env h es nothing_yet o k
-  evaluates_shaped table env h (call place x es) o k =
-      from_option (call_named table x) (o ≡ refuse_at 44 place) (λ c. CallGives c place es (λ os. EvaluatesAll table env es os) o) (IsGiven o)
-      (λ e. refused_at 44 place o e)
-      (λ c e q. called place es (λ os. EvaluatesAll table env es os) c o (λ os m. evaluates_all_shaped table env h es os m) q) k
+  evaluates_shaped table env h (number offset n) o k = given_as o (gives (value.number n)) k tt
+  evaluates_shaped table env h (name offset x) o k =
+      from_option (value_named x env) (o ≡ refuse_at 44 offset) (λ v. o ≡ gives v) (IsGiven o) (λ e. refused_at 44 offset o e) (λ v e q. given_as o (gives v) q (named_shaped x env v h e)) k
+  evaluates_shaped table env h (list offset es) o k = evaluates_list_shaped table env h es nothing_yet o k
+  evaluates_shaped table env h (call offset x es) o k =
+      from_option (call_named table x) (o ≡ refuse_at 44 offset) (λ c. CallGives c offset es (λ os. EvaluatesAll table env es os) o) (IsGiven o)
+      (λ e. refused_at 44 offset o e)
+      (λ c e q. called offset es (λ os. EvaluatesAll table env es os) c o (λ os m. evaluates_all_shaped table env h es os m) q) k
 
   pub evaluates_all_shaped : (table : List Call) (env : List Binding) → AreBound env → (es : Exprs) (os : Outcomes) → EvaluatesAll table env es os → AreGiven os
   evaluates_all_shaped table env h none os k = all_as os (all_give []) k tt
@@ -157,18 +157,18 @@ by_query (bound.alternant_certificate C (Some form) x) step s h = told step _ h 
 by_query (bound.nearest_word C x) step s h = ⊎_elim (λ (a : (length C.rows ≡ 0) × (step ≡ prints (near_line C x 0))). told step _ a.1 tt) (λ (a : (0 < length C.rows) × (step ≡ nears C x)). told step (nears C x) a.1 s) h
 by_query (bound.fill_erasures C x erased) step s h = told step _ h.2 tt
 
-by_all : (c : QueryCall) (place : ℕ) (kinds : List Kind) (es : Exprs) (os : Outcomes) (step : Step) → AreGiven os → QueriesAll c place kinds es os step → HasShape step
-by_all c place kinds es (one_refused r) step s h = told step (fails r) h tt
-by_all c place kinds es (all_give vs) step s h =
-    from_option (bind_query c vs) (step ≡ fail_with (refuse_at 45 (misfit_place place kinds es vs))) (λ b. QueriesTo place b step) (HasShape step) (λ e. told step _ e (failed _))
-    (λ b i k. from_option (query_refusal_of b) (Queries b step) (λ r. step ≡ fail_with (refuse_call place r)) (HasShape step) (by_query b step (bind_query_shaped c vs b s i)) (λ r j e. told step _ e (failed (refuse_call place r))) k) h
+by_all : (c : QueryCall) (offset : ℕ) (kinds : List Kind) (es : Exprs) (os : Outcomes) (step : Step) → AreGiven os → QueriesAll c offset kinds es os step → HasShape step
+by_all c offset kinds es (one_refused r) step s h = told step (fails r) h tt
+by_all c offset kinds es (all_give vs) step s h =
+    from_option (bind_query c vs) (step ≡ fail_with (refuse_at 45 (misfit_offset offset kinds es vs))) (λ b. QueriesTo offset b step) (HasShape step) (λ e. told step _ e (failed _))
+    (λ b i k. from_option (query_refusal_of b) (Queries b step) (λ r. step ≡ fail_with (refuse_call offset r)) (HasShape step) (by_query b step (bind_query_shaped c vs b s i)) (λ r j e. told step _ e (failed (refuse_call offset r))) k) h
 
 as_query_shaped : (table : List Call) (env : List Binding) → AreBound env → (c : QueryCall) (e : Expr) (step : Step) → StepsAsQuery table env c e step → HasShape step
-as_query_shaped table env s c (call place x es) step h =
-    from_option (signature_for (Query c) (count_of es)) (step ≡ fail_with (refuse_at 46 place)) (λ kinds. (os : Outcomes) × EvaluatesAll table env es os × QueriesAll c place kinds es os step) (HasShape step) (λ e. told step (fail_with (refuse_at 46 place)) e (failed (refuse_at 46 place))) (λ kinds i k. by_all c place kinds es k.0 step (evaluates_all_shaped table env s es k.0 k.1) k.2) h
-as_query_shaped table env s c (number place n) step h = absurd h
-as_query_shaped table env s c (name place x) step h = absurd h
-as_query_shaped table env s c (list place es) step h = absurd h
+as_query_shaped table env s c (call offset x es) step h =
+    from_option (signature_for (Query c) (count_of es)) (step ≡ fail_with (refuse_at 46 offset)) (λ kinds. (os : Outcomes) × EvaluatesAll table env es os × QueriesAll c offset kinds es os step) (HasShape step) (λ e. told step (fail_with (refuse_at 46 offset)) e (failed (refuse_at 46 offset))) (λ kinds i k. by_all c offset kinds es k.0 step (evaluates_all_shaped table env s es k.0 k.1) k.2) h
+as_query_shaped table env s c (number offset n) step h = absurd h
+as_query_shaped table env s c (name offset x) step h = absurd h
+as_query_shaped table env s c (list offset es) step h = absurd h
 
 assigned : (x : List ℕ) (o : Outcome) (step : Step) → IsGiven o → Assigns x o step → HasShape step
 assigned x (gives v) step s h = told step _ h s

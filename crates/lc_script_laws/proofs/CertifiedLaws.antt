@@ -23,7 +23,7 @@ use Rattle.lc_language.specs.Calls as bound
 use Rattle.lc_language.specs.Calls.{call_named, signature_for, BoundQuery, query_forms, bind_query, query_refusals_of, query_refusal_of}
 use Rattle.lc_language.specs.Refusal.{Refusal, when, first_of, from_codes, word_refusals, no_form, not_attained}
 use Rattle.lc_language.specs.Query.{form_line}
-use Rattle.lc_language.specs.Evaluation.{Outcomes, all_give, one_refused, refuse_at, refuse_call, misfit_place, EvaluatesAll, Step, binds, prints, asks, counts, nears, fails, QueriesTo, QueriesAll, as_query, query_of, fail_with, StepsAsQuery, StepsOf, Steps}
+use Rattle.lc_language.specs.Evaluation.{Outcomes, all_give, one_refused, refuse_at, refuse_call, misfit_offset, EvaluatesAll, Step, binds, prints, asks, counts, nears, fails, QueriesTo, QueriesAll, as_query, query_of, fail_with, StepsAsQuery, StepsOf, Steps}
 use Rattle.lc_script_laws.specs.Certified.{GoesTo, ComesTo, IsReached, IsFormQuery, AsksForm, IsAcceptedForm, IsCertified}
 use Rattle.lc_script_laws.specs.Shapes.{IsCodeOfRows}
 use Rattle.lc_script_laws.proofs.ShapeLaws.{HasForm, AreShaped, InForms, bound_shaped, from_option, from_known}
@@ -72,13 +72,13 @@ attained C form x e =
 
 -- ---- the statement
 
-no_fault : (l : List ℕ) (n place : ℕ) → prints l ≡ fail_with (refuse_at n place) → ⊥
+no_fault : (l : List ℕ) (n offset : ℕ) → prints l ≡ fail_with (refuse_at n offset) → ⊥
 unfolding fail_with refuse_at
-no_fault l n place e = (let f = e in cc)
+no_fault l n offset e = (let f = e in cc)
 
-no_refusal : (l : List ℕ) (place : ℕ) (r : Refusal) → prints l ≡ fail_with (refuse_call place r) → ⊥
+no_refusal : (l : List ℕ) (offset : ℕ) (r : Refusal) → prints l ≡ fail_with (refuse_call offset r) → ⊥
 unfolding fail_with refuse_call
-no_refusal l place r e = (let f = e in cc)
+no_refusal l offset r e = (let f = e in cc)
 
 -- the query is on a code of rows, which has its form
 abbrev IsOnForm : BoundQuery → Type 0
@@ -94,38 +94,38 @@ unfolding bind_query
 bound_on_form vs b s e = bound_shaped IsOnForm (query_forms query.AlternantCertificate) vs b on_form s e
 
 module _ (table : List Call) (env : List Binding) (s : Statement) (l : List ℕ) where
-  by_form : (C : Matrix) (form : AlternantForm) (x : List ℕ) (place : ℕ) → IsCodeOfRows C → HasForm C (Some form) → AsksForm table env s C form x → QueriesTo place (bound.alternant_certificate C (Some form) x) (prints l) → IsCertified table env s l
-  by_form C form x place rows has asked h =
-      from_known (query_refusal_of (bound.alternant_certificate C (Some form) x)) (prints l ≡ prints (form_line C form x)) (λ r. prints l ≡ fail_with (refuse_call place r)) (IsCertified table env s l)
+  by_form : (C : Matrix) (form : AlternantForm) (x : List ℕ) (offset : ℕ) → IsCodeOfRows C → HasForm C (Some form) → AsksForm table env s C form x → QueriesTo offset (bound.alternant_certificate C (Some form) x) (prints l) → IsCertified table env s l
+  by_form C form x offset rows has asked h =
+      from_known (query_refusal_of (bound.alternant_certificate C (Some form) x)) (prints l ≡ prints (form_line C form x)) (λ r. prints l ≡ fail_with (refuse_call offset r)) (IsCertified table env s l)
       (λ unrefused e.
       let same : l ≡ form_line C form x = (let f = e in cc) in
       let (inside, weighs) = attained C form x unrefused in
       (C, (form, (x, asked, subst (IsAcceptedForm C form x) (sym same) (form_line_accepted C form x rows has inside weighs)))))
-      (λ r e. absurd (no_refusal l place r e)) h
+      (λ r e. absurd (no_refusal l offset r e)) h
 
-  by_bound : (b : BoundQuery) (place : ℕ) → IsOnForm b → ((C : Matrix) (form : AlternantForm) (x : List ℕ) → b ≡ bound.alternant_certificate C (Some form) x → AsksForm table env s C form x) → QueriesTo place b (prints l) → IsCertified table env s l
-  by_bound (bound.alternant_certificate C (Some form) x) place on asked h = by_form C form x place on.0 on.1 (asked C form x refl) h
-  by_bound (bound.alternant_certificate C None x) place on asked h =
-      from_known (query_refusal_of (bound.alternant_certificate C None x)) ⊥ (λ r. prints l ≡ fail_with (refuse_call place r)) (IsCertified table env s l) (λ unrefused e. absurd e) (λ r e. absurd (no_refusal l place r e)) h
-  by_bound (bound.algebraic_decode C form x) place on asked h = absurd on
-  by_bound (bound.least_word rows f) place on asked h = absurd on
-  by_bound (bound.minimum_distance C) place on asked h = absurd on
-  by_bound (bound.certificate C) place on asked h = absurd on
-  by_bound (bound.scan_certificate C) place on asked h = absurd on
-  by_bound (bound.weight_distribution C) place on asked h = absurd on
-  by_bound (bound.nearest_word C x) place on asked h = absurd on
-  by_bound (bound.fill_erasures C x erased) place on asked h = absurd on
+  by_bound : (b : BoundQuery) (offset : ℕ) → IsOnForm b → ((C : Matrix) (form : AlternantForm) (x : List ℕ) → b ≡ bound.alternant_certificate C (Some form) x → AsksForm table env s C form x) → QueriesTo offset b (prints l) → IsCertified table env s l
+  by_bound (bound.alternant_certificate C (Some form) x) offset on asked h = by_form C form x offset on.0 on.1 (asked C form x refl) h
+  by_bound (bound.alternant_certificate C None x) offset on asked h =
+      from_known (query_refusal_of (bound.alternant_certificate C None x)) ⊥ (λ r. prints l ≡ fail_with (refuse_call offset r)) (IsCertified table env s l) (λ unrefused e. absurd e) (λ r e. absurd (no_refusal l offset r e)) h
+  by_bound (bound.algebraic_decode C form x) offset on asked h = absurd on
+  by_bound (bound.least_word rows f) offset on asked h = absurd on
+  by_bound (bound.minimum_distance C) offset on asked h = absurd on
+  by_bound (bound.certificate C) offset on asked h = absurd on
+  by_bound (bound.scan_certificate C) offset on asked h = absurd on
+  by_bound (bound.weight_distribution C) offset on asked h = absurd on
+  by_bound (bound.nearest_word C x) offset on asked h = absurd on
+  by_bound (bound.fill_erasures C x erased) offset on asked h = absurd on
 
-  by_values : (place : ℕ) (x : List ℕ) (es : Exprs) (kinds : List Kind) (os : Outcomes) → AreBound env → s.target ≡ None → s.expr ≡ call place x es → call_named table x ≡ Some (Query query.AlternantCertificate)
-      → EvaluatesAll table env es os → QueriesAll query.AlternantCertificate place kinds es os (prints l) → IsCertified table env s l
-  by_values place x es kinds (one_refused r) b alone seen named values h = absurd (let f = h in cc)
-  by_values place x es kinds (all_give vs) b alone seen named values h =
-      from_option (bind_query query.AlternantCertificate vs) (prints l ≡ fail_with (refuse_at 45 (misfit_place place kinds es vs))) (λ q. QueriesTo place q (prints l)) (IsCertified table env s l)
-      (λ e. absurd (no_fault l 45 (misfit_place place kinds es vs) e))
+  by_values : (offset : ℕ) (x : List ℕ) (es : Exprs) (kinds : List Kind) (os : Outcomes) → AreBound env → s.target ≡ None → s.expr ≡ call offset x es → call_named table x ≡ Some (Query query.AlternantCertificate)
+      → EvaluatesAll table env es os → QueriesAll query.AlternantCertificate offset kinds es os (prints l) → IsCertified table env s l
+  by_values offset x es kinds (one_refused r) b alone seen named values h = absurd (let f = h in cc)
+  by_values offset x es kinds (all_give vs) b alone seen named values h =
+      from_option (bind_query query.AlternantCertificate vs) (prints l ≡ fail_with (refuse_at 45 (misfit_offset offset kinds es vs))) (λ q. QueriesTo offset q (prints l)) (IsCertified table env s l)
+      (λ e. absurd (no_fault l 45 (misfit_offset offset kinds es vs) e))
       (λ q i k.
       let shaped : AreShaped vs = evaluates_all_shaped table env b es (all_give vs) values in
-      by_bound q place (bound_on_form vs q shaped i)
-      (λ C form u e. record { place = place; name = x; arguments = es; values = vs; alone = alone; seen = seen; named = named; evaluated = values; bound = i ∙ ap Some e }) k) h
+      by_bound q offset (bound_on_form vs q shaped i)
+      (λ C form u e. record { offset = offset; name = x; arguments = es; values = vs; alone = alone; seen = seen; named = named; evaluated = values; bound = i ∙ ap Some e }) k) h
 
   query_named : (o : Option Call) (c : QueryCall) → as_query o ≡ Some c → o ≡ Some (Query c)
   query_named None c e = absurd (let f = e in cc)
@@ -133,13 +133,13 @@ module _ (table : List Call) (env : List Binding) (s : Statement) (l : List ℕ)
   query_named (Some (Query d)) c e = let same : d ≡ c = (let f = e in cc) in ap (λ q. Some (Query q)) same
 
   by_expr : (e : Expr) → AreBound env → s.target ≡ None → s.expr ≡ e → query_of table e ≡ Some query.AlternantCertificate → StepsAsQuery table env query.AlternantCertificate e (prints l) → IsCertified table env s l
-  by_expr (call place x es) b alone seen is h =
-      from_option (signature_for (Query query.AlternantCertificate) (count_of es)) (prints l ≡ fail_with (refuse_at 46 place)) (λ kinds. (os : Outcomes) × EvaluatesAll table env es os × QueriesAll query.AlternantCertificate place kinds es os (prints l)) (IsCertified table env s l)
-      (λ e. absurd (no_fault l 46 place e))
-      (λ kinds i k. by_values place x es kinds k.0 b alone seen (query_named (call_named table x) query.AlternantCertificate is) k.1 k.2) h
-  by_expr (number place n) b alone seen is h = absurd h
-  by_expr (name place x) b alone seen is h = absurd h
-  by_expr (list place es) b alone seen is h = absurd h
+  by_expr (call offset x es) b alone seen is h =
+      from_option (signature_for (Query query.AlternantCertificate) (count_of es)) (prints l ≡ fail_with (refuse_at 46 offset)) (λ kinds. (os : Outcomes) × EvaluatesAll table env es os × QueriesAll query.AlternantCertificate offset kinds es os (prints l)) (IsCertified table env s l)
+      (λ e. absurd (no_fault l 46 offset e))
+      (λ kinds i k. by_values offset x es kinds k.0 b alone seen (query_named (call_named table x) query.AlternantCertificate is) k.1 k.2) h
+  by_expr (number offset n) b alone seen is h = absurd h
+  by_expr (name offset x) b alone seen is h = absurd h
+  by_expr (list offset es) b alone seen is h = absurd h
 
   pub certified : AreBound env → IsFormQuery table s → Steps table env s (prints l) → IsCertified table env s l
   certified b (alone, is) h =

@@ -14,14 +14,14 @@ use Rattle.lc_language.specs.declared.Call.TheVariants.{Value as Value_, Query}
 use Rattle.lc_language.specs.declared.ValueCall.{ValueCall}
 use Rattle.lc_language.specs.declared.QueryCall.{QueryCall}
 use Rattle.lc_language.specs.declared.Kind.{Kind}
-use Rattle.lc_grammar.specs.Tree.{Expr, Exprs, number, name, call, list, none, more, Statement, place_of, count_of}
+use Rattle.lc_grammar.specs.Tree.{Expr, Exprs, number, name, call, list, none, more, Statement, offset_of, count_of}
 use Rattle.lc_grammar.specs.Grammar.{Reads, Fault, IsFault}
 use Rattle.lc_language.specs.Value as value
 use Rattle.lc_language.specs.Value.{Value, Binding, value_named}
 use Rattle.lc_language.specs.Calls.{call_named, signature_for, BoundCall, bind, bind_query, refusal_of, query_refusal_of, Gives, IsNotDivisor}
 use Rattle.lc_language.specs.Print.{fault_line}
 use Rattle.lc_language.specs.Query.{query_line, distribution_line, near_line}
-use Rattle.lc_language.specs.Evaluation.{Outcome, gives, refused, Outcomes, all_give, one_refused, refuse_at, refuse_call, misfit_place, Listed, nothing_yet, listed_with, list_value, ListGoesOn, AppliesTo, Applies, CallGives, Joins, GoesOn, Evaluates, EvaluatesAll, EvaluatesList, Step, binds, prints, asks, counts, nears, fails, Queries, fail_with, QueriesTo, QueriesAll, as_query, query_of, Assigns, StepsAsQuery, StepsOf, Steps, Prints, Runs, IsText}
+use Rattle.lc_language.specs.Evaluation.{Outcome, gives, refused, Outcomes, all_give, one_refused, refuse_at, refuse_call, misfit_offset, Listed, nothing_yet, listed_with, list_value, ListGoesOn, AppliesTo, Applies, CallGives, Joins, GoesOn, Evaluates, EvaluatesAll, EvaluatesList, Step, binds, prints, asks, counts, nears, fails, Queries, fail_with, QueriesTo, QueriesAll, as_query, query_of, Assigns, StepsAsQuery, StepsOf, Steps, Prints, Runs, IsText}
 use Rattle.lc_eval.specs.Built.{built_calls}
 use Rattle.lc_script_laws.proofs.AtMostOne.{One, Both, one_value, one_option, one_known, one_either, one_some}
 use Rattle.lc_script_laws.proofs.ShapeLaws.{found_in}
@@ -45,43 +45,43 @@ goes_on_one Later (gives v) h = one_some Later (Joins v) h (joins_one v)
 
 list_goes_on_one : (e : Expr) (found : Listed) (Later : Listed → Outcome → Type 0) → ((next : Listed) → One (Later next)) → (p : Outcome) → One (λ o. ListGoesOn e p found (λ next. Later next o) o)
 list_goes_on_one e found Later h (refused r) = one_value (refused r)
-list_goes_on_one e found Later h (gives v) = one_option (listed_with found v) (λ o. o ≡ refuse_at 45 (place_of e)) Later (one_value (refuse_at 45 (place_of e))) (λ next k. h next)
+list_goes_on_one e found Later h (gives v) = one_option (listed_with found v) (λ o. o ≡ refuse_at 45 (offset_of e)) Later (one_value (refuse_at 45 (offset_of e))) (λ next k. h next)
 
-applies_to_one : (place : ℕ) (b : BoundCall) → (refusal_of b ≡ None → One (Gives b)) → One (AppliesTo place b)
-applies_to_one place b d =
+applies_to_one : (offset : ℕ) (b : BoundCall) → (refusal_of b ≡ None → One (Gives b)) → One (AppliesTo offset b)
+applies_to_one offset b d =
     one_known (refusal_of b)
-    (λ o. (IsNotDivisor b × (o ≡ refuse_at 4 place)) ⊎ (¬ IsNotDivisor b × ((v : Value) × Gives b v × (o ≡ gives v))))
-    (λ r o. o ≡ refuse_call place r)
+    (λ o. (IsNotDivisor b × (o ≡ refuse_at 4 offset)) ⊎ (¬ IsNotDivisor b × ((v : Value) × Gives b v × (o ≡ gives v))))
+    (λ r o. o ≡ refuse_call offset r)
     (λ unrefused. one_either (IsNotDivisor b) (¬ IsNotDivisor b)
-    (λ o. o ≡ refuse_at 4 place) (λ o. (v : Value) × Gives b v × (o ≡ gives v))
+    (λ o. o ≡ refuse_at 4 offset) (λ o. (v : Value) × Gives b v × (o ≡ gives v))
     (λ a b. b a)
-    (one_value (refuse_at 4 place))
+    (one_value (refuse_at 4 offset))
     (one_some (Gives b) (λ v o. o ≡ gives v) (d unrefused) (λ v. one_value (gives v))))
-    (λ r. one_value (refuse_call place r))
+    (λ r. one_value (refuse_call offset r))
 
-applies_one : (c : ValueCall) (place : ℕ) (kinds : List Kind) (es : Exprs) → IsOneValued c → (os : Outcomes) → One (Applies c place kinds es os)
-applies_one c place kinds es d (one_refused r) = one_value (refused r)
-applies_one c place kinds es d (all_give vs) =
-    one_option (bind c vs) (λ o. o ≡ refuse_at 45 (misfit_place place kinds es vs)) (λ b o. AppliesTo place b o)
-    (one_value (refuse_at 45 (misfit_place place kinds es vs)))
-    (λ b e. applies_to_one place b (d vs b e))
+applies_one : (c : ValueCall) (offset : ℕ) (kinds : List Kind) (es : Exprs) → IsOneValued c → (os : Outcomes) → One (Applies c offset kinds es os)
+applies_one c offset kinds es d (one_refused r) = one_value (refused r)
+applies_one c offset kinds es d (all_give vs) =
+    one_option (bind c vs) (λ o. o ≡ refuse_at 45 (misfit_offset offset kinds es vs)) (λ b o. AppliesTo offset b o)
+    (one_value (refuse_at 45 (misfit_offset offset kinds es vs)))
+    (λ b e. applies_to_one offset b (d vs b e))
 
-called_one : (place : ℕ) (es : Exprs) (Arguments : Outcomes → Type 0) (c : Call) → IsDeterminate c → One Arguments → One (CallGives c place es Arguments)
-called_one place es Arguments (Query c) d h = one_value (refuse_at 45 place)
-called_one place es Arguments (Value_ c) d h =
-    one_option (signature_for (Value_ c) (count_of es)) (λ o. o ≡ refuse_at 46 place) (λ kinds o. (os : Outcomes) × Arguments os × Applies c place kinds es os o)
-    (one_value (refuse_at 46 place))
-    (λ kinds e. one_some Arguments (Applies c place kinds es) h (applies_one c place kinds es d))
+called_one : (offset : ℕ) (es : Exprs) (Arguments : Outcomes → Type 0) (c : Call) → IsDeterminate c → One Arguments → One (CallGives c offset es Arguments)
+called_one offset es Arguments (Query c) d h = one_value (refuse_at 45 offset)
+called_one offset es Arguments (Value_ c) d h =
+    one_option (signature_for (Value_ c) (count_of es)) (λ o. o ≡ refuse_at 46 offset) (λ kinds o. (os : Outcomes) × Arguments os × Applies c offset kinds es os o)
+    (one_value (refuse_at 46 offset))
+    (λ kinds e. one_some Arguments (Applies c offset kinds es) h (applies_one c offset kinds es d))
 
 mutual
   pub evaluates_one : (table : List Call) (env : List Binding) → AllByRecursion IsDeterminate table → (e : Expr) → One (Evaluates table env e)
-  evaluates_one table env h (number place n) = one_value (gives (value.number n))
-  evaluates_one table env h (name place x) = one_option (value_named x env) (λ o. o ≡ refuse_at 44 place) (λ v o. o ≡ gives v) (one_value (refuse_at 44 place)) (λ v e. one_value (gives v))
-  evaluates_one table env h (list place es) = evaluates_list_one table env h es nothing_yet
-  evaluates_one table env h (call place x es) =
-      one_option (call_named table x) (λ o. o ≡ refuse_at 44 place) (λ c. CallGives c place es (EvaluatesAll table env es))
-      (one_value (refuse_at 44 place))
-      (λ c e. called_one place es (EvaluatesAll table env es) c (named_one IsDeterminate table x c h e) (evaluates_all_one table env h es))
+  evaluates_one table env h (number offset n) = one_value (gives (value.number n))
+  evaluates_one table env h (name offset x) = one_option (value_named x env) (λ o. o ≡ refuse_at 44 offset) (λ v o. o ≡ gives v) (one_value (refuse_at 44 offset)) (λ v e. one_value (gives v))
+  evaluates_one table env h (list offset es) = evaluates_list_one table env h es nothing_yet
+  evaluates_one table env h (call offset x es) =
+      one_option (call_named table x) (λ o. o ≡ refuse_at 44 offset) (λ c. CallGives c offset es (EvaluatesAll table env es))
+      (one_value (refuse_at 44 offset))
+      (λ c e. called_one offset es (EvaluatesAll table env es) c (named_one IsDeterminate table x c h e) (evaluates_all_one table env h es))
 
   pub evaluates_all_one : (table : List Call) (env : List Binding) → AllByRecursion IsDeterminate table → (es : Exprs) → One (EvaluatesAll table env es)
   evaluates_all_one table env h none = one_value (all_give [])
@@ -99,18 +99,18 @@ mutual
 
 -- ---- statements
 
-queries_all_one : (c : QueryCall) (place : ℕ) (kinds : List Kind) (es : Exprs) → IsOneAnswered c → (os : Outcomes) → One (QueriesAll c place kinds es os)
-queries_all_one c place kinds es d (one_refused r) = one_value (fails r)
-queries_all_one c place kinds es d (all_give vs) =
-    one_option (bind_query c vs) (λ step. step ≡ fail_with (refuse_at 45 (misfit_place place kinds es vs))) (λ b step. QueriesTo place b step)
-    (one_value (fail_with (refuse_at 45 (misfit_place place kinds es vs))))
-    (λ b e. one_option (query_refusal_of b) (Queries b) (λ r step. step ≡ fail_with (refuse_call place r)) (d vs b e) (λ r e. one_value (fail_with (refuse_call place r))))
+queries_all_one : (c : QueryCall) (offset : ℕ) (kinds : List Kind) (es : Exprs) → IsOneAnswered c → (os : Outcomes) → One (QueriesAll c offset kinds es os)
+queries_all_one c offset kinds es d (one_refused r) = one_value (fails r)
+queries_all_one c offset kinds es d (all_give vs) =
+    one_option (bind_query c vs) (λ step. step ≡ fail_with (refuse_at 45 (misfit_offset offset kinds es vs))) (λ b step. QueriesTo offset b step)
+    (one_value (fail_with (refuse_at 45 (misfit_offset offset kinds es vs))))
+    (λ b e. one_option (query_refusal_of b) (Queries b) (λ r step. step ≡ fail_with (refuse_call offset r)) (d vs b e) (λ r e. one_value (fail_with (refuse_call offset r))))
 
 steps_as_query_one : (table : List Call) (env : List Binding) → AllByRecursion IsDeterminate table → (c : QueryCall) → IsOneAnswered c → (e : Expr) → One (StepsAsQuery table env c e)
-steps_as_query_one table env h c d (call place x es) =
-    one_option (signature_for (Query c) (count_of es)) (λ step. step ≡ fail_with (refuse_at 46 place)) (λ kinds step. (os : Outcomes) × EvaluatesAll table env es os × QueriesAll c place kinds es os step)
-    (one_value (fail_with (refuse_at 46 place)))
-    (λ kinds e. one_some (EvaluatesAll table env es) (QueriesAll c place kinds es) (evaluates_all_one table env h es) (queries_all_one c place kinds es d))
+steps_as_query_one table env h c d (call offset x es) =
+    one_option (signature_for (Query c) (count_of es)) (λ step. step ≡ fail_with (refuse_at 46 offset)) (λ kinds step. (os : Outcomes) × EvaluatesAll table env es os × QueriesAll c offset kinds es os step)
+    (one_value (fail_with (refuse_at 46 offset)))
+    (λ kinds e. one_some (EvaluatesAll table env es) (QueriesAll c offset kinds es) (evaluates_all_one table env h es) (queries_all_one c offset kinds es d))
 steps_as_query_one table env h c d _ = λ s t a b. absurd a
 
 assigns_one : (x : List ℕ) (o : Outcome) → One (Assigns x o)
@@ -123,10 +123,10 @@ asked_one (Some (Value_ d)) c h e = absurd (cc)
 asked_one (Some (Query d)) c h e = let same : d ≡ c = cc in subst IsOneAnswered same (h (Query d) refl)
 
 query_one : (table : List Call) → AllByRecursion IsDeterminate table → (e : Expr) (c : QueryCall) → query_of table e ≡ Some c → IsOneAnswered c
-query_one table h (call place x es) c e = asked_one (call_named table x) c (λ d k. named_one IsDeterminate table x d h k) e
-query_one table h (number place n) c e = absurd (cc)
-query_one table h (name place x) c e = absurd (cc)
-query_one table h (list place es) c e = absurd (cc)
+query_one table h (call offset x es) c e = asked_one (call_named table x) c (λ d k. named_one IsDeterminate table x d h k) e
+query_one table h (number offset n) c e = absurd (cc)
+query_one table h (name offset x) c e = absurd (cc)
+query_one table h (list offset es) c e = absurd (cc)
 
 steps_of_one : (table : List Call) (env : List Binding) → AllByRecursion IsDeterminate table → (target : Option (List ℕ)) (e : Expr) → One (StepsOf table env target e)
 steps_of_one table env h (Some x) e = one_some (Evaluates table env e) (Assigns x) (evaluates_one table env h e) (assigns_one x)
@@ -164,7 +164,7 @@ runs_one table budget h (s ∷ ss) env = λ text other ends end p q.
 pub text_one : (table : List Call) (budget : ℕ) → AllByRecursion IsDeterminate table → (bytes : List ℕ) → Both (IsText table budget bytes)
 text_one table budget h bytes = λ text other ends end p q.
     let Script : List ℕ → Bool → Type 0 = λ t e. (ss : List Statement) × Reads bytes ss × Runs table budget [] ss t e in
-    let Faulty : List ℕ → Bool → Type 0 = λ t e. (fault : Fault) × IsFault bytes fault × (t ≡ fault_line fault.number fault.place []) × (e ≡ true) in
+    let Faulty : List ℕ → Bool → Type 0 = λ t e. (fault : Fault) × IsFault bytes fault × (t ≡ fault_line fault.number fault.offset []) × (e ≡ true) in
     ⊎_elim
     (λ (a : Script text ends). ⊎_elim
     (λ (b : Script other end). runs_one table budget h b.0 [] text other ends end (subst (λ ss. Runs table budget [] ss text ends) (one_script bytes a.0 b.0 a.1 b.1) a.2) b.2)
@@ -172,7 +172,7 @@ text_one table budget h bytes = λ text other ends end p q.
     q)
     (λ (a : Faulty text ends). ⊎_elim
     (λ (b : Script other end). absurd (no_both bytes b.0 a.0 b.1 a.1))
-    (λ (b : Faulty other end). let same = one_fault bytes a.0 b.0 a.1 b.1 in (a.2 ∙ ap (λ (f : Fault). fault_line f.number f.place []) same ∙ sym b.2, a.3 ∙ sym b.3))
+    (λ (b : Faulty other end). let same = one_fault bytes a.0 b.0 a.1 b.1 in (a.2 ∙ ap (λ (f : Fault). fault_line f.number f.offset []) same ∙ sym b.2, a.3 ∙ sym b.3))
     q)
     p
 

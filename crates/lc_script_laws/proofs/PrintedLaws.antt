@@ -170,7 +170,7 @@ pub text_made : (table : List Call) (budget : ℕ) (bytes text : List ℕ) (ends
 text_made table budget bytes text ends is =
     ⊎_elim
     (λ (a : (ss : List Statement) × Reads bytes ss × Runs table budget [] ss text ends). (let m = made table budget [] a.0 text ends a.2 in (m.0, m.1, inl (a.0, a.1, m.2), inl (a.0, a.1, m.3), inl (a.0, a.1, m.4))))
-    (λ (a : (fault : Fault) × IsFault bytes fault × (text ≡ fault_line fault.number fault.place []) × (ends ≡ true)). (plain text ∷ [], sym (append-nil text), inr (a.0, a.1, refl), inr (a.0, a.1, refl), inr (a.0, a.1, refl))) is
+    (λ (a : (fault : Fault) × IsFault bytes fault × (text ≡ fault_line fault.number fault.offset []) × (ends ≡ true)). (plain text ∷ [], sym (append-nil text), inr (a.0, a.1, refl), inr (a.0, a.1, refl), inr (a.0, a.1, refl))) is
 
 each_true : (budget : ℕ) (pieces : List Piece) → ((i : ℕ) (C : Matrix) → slice_get (codes_in pieces) i ≡ Some C → (kind : QueryKind) → IsTrueLine kind C budget (query_line kind C budget)) → AreCodesOfRows (counted_in pieces) → AreNearQueries (nears_in pieces) → All (IsTruePiece budget) pieces
 each_true budget [] all rows words = All-nil (IsTruePiece budget)

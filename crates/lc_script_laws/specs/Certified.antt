@@ -41,12 +41,12 @@ abbrev pub IsFormQuery : List Call → Statement → Type 0
 IsFormQuery table s = (s.target ≡ None) × (query_of table s.expr ≡ Some query.AlternantCertificate)
 
 pub record AsksForm (table : List Call) (env : List Binding) (s : Statement) (C : Matrix) (form : AlternantForm) (x : List ℕ) : Type 0 where
-  pub place : ℕ
+  pub offset : ℕ
   pub name : List ℕ
   pub arguments : Exprs
   pub values : List Value
   pub alone : s.target ≡ None
-  pub seen : s.expr ≡ call place name arguments
+  pub seen : s.expr ≡ call offset name arguments
   pub named : call_named table name ≡ Some (Query query.AlternantCertificate)
   pub evaluated : EvaluatesAll table env arguments (all_give values)
   pub bound : bind_query query.AlternantCertificate values ≡ Some (alternant_certificate C (Some form) x)

@@ -1,6 +1,6 @@
 -- The texts that arguments ask for in place of a session.
---   named_text help version word      the text of `--help` or of `--version`, if the argument is one of them
---   text_asked help version words     the same, if it is the only argument
+--   named_text help version argument   the text of `--help` or of `--version`, if the argument is one of them
+--   text_asked help version arguments  the same, if it is the only argument
 --   IsTold text old new before now r      the text was written, or the sink failed; without a text nothing was done
 use Rattle.std.specs.Prelude.{◌≡◌, ℕ, if◌then◌else◌, List, [], ◌∷◌, codes, Option, Some, None}
 use Rattle.lc_formats.specs.Text.{same_bytes}
@@ -8,10 +8,10 @@ use Rattle.lc_session.specs.Closing.{IsClosed}
 use Rattle.lc_session.specs.declared.status.Status.{Status}
 
 unfoldable pub named_text : List ℕ → List ℕ → List ℕ → Option (List ℕ)
-named_text help version word = (if same_bytes (codes "--help") word then Some help else if same_bytes (codes "--version") word then Some version else None)
+named_text help version argument = (if same_bytes (codes "--help") argument then Some help else if same_bytes (codes "--version") argument then Some version else None)
 
 unfoldable pub text_asked : List ℕ → List ℕ → List (List ℕ) → Option (List ℕ)
-text_asked help version (word ∷ []) = named_text help version word
+text_asked help version (argument ∷ []) = named_text help version argument
 text_asked help version _ = None
 
 abbrev pub IsTold : Option (List ℕ) → Option (List ℕ) → Option (List ℕ) → ℕ → ℕ → Option Status → Type 0

@@ -24,24 +24,24 @@ use std::thread::Threads;
 fn session<R: Threads + Sync, S: Source, K: Sink, V: Vault, W: Watcher, G: Gate + Sync>(
     rt: &R,
     alloc: Global,
-    words: &[String],
+    arguments: &[String],
     source: &mut S,
     sink: &mut K,
     vault: &mut V,
     watchers: &mut Vec<W>,
     gate: &G,
 ) -> Status
-    ensures session { IsSession built_calls (words_of words.now)
+    ensures session { IsSession built_calls (words_of arguments.now)
         (outside_of (S.rest source.old) (S.faults source.old) (K.written sink.old) (K.faults sink.old)
         (around (V.contents vault.old) (V.faults vault.old)
         (map (hearing W.heard W.coming W.pauses) watchers.old.items)))
         (outside_of (S.rest source.new) (S.faults source.new) (K.written sink.new) (K.faults sink.new)
         (around (V.contents vault.new) (V.faults vault.new)
         (map (hearing W.heard W.coming W.pauses) watchers.new.items))) (ending_of result) }
-    ensures nothing { (asked : Settings) → options all_options (words_of words.now) ≡ settings asked →
+    ensures nothing { (asked : Settings) → options all_options (words_of arguments.now) ≡ settings asked →
         asked.command ≡ line.run → S.rest source.old ≡ Some [] → (told : ℕ) → result ≢ Status.NoMemory told }
 {
-    let asked = match options(alloc, words) {
+    let asked = match options(alloc, arguments) {
         Ok(asked) => asked,
         Err(OptionRefusal::Usage(index)) => return Status::Usage(index),
         Err(OptionRefusal::NoMemory) => return Status::NoMemory { told: 0 },
@@ -60,8 +60,8 @@ fn session<R: Threads + Sync, S: Source, K: Sink, V: Vault, W: Watcher, G: Gate 
     }
 }
 
-/// Runs a session: `words` are the arguments of the command line after the program's name. The first
-/// is the command.
+/// Runs a session: `arguments` are those of the command line after the program's name. The first is the
+/// command.
 ///
 /// `run` reads a script of at most 1,048,576 bytes from the source, and writes the text that it prints
 /// to the sink: a line for each value and each answer, and a fault line if the script or a statement
@@ -86,14 +86,14 @@ fn session<R: Threads + Sync, S: Source, K: Sink, V: Vault, W: Watcher, G: Gate 
 pub fn run_session<R: Threads + Sync, S: Source, K: Sink, V: Vault, G: Gate + Sync>(
     rt: &R,
     alloc: Global,
-    words: &[String],
+    arguments: &[String],
     source: &mut S,
     sink: &mut K,
     vault: &mut V,
     watchers: &mut Vec<Box<dyn Watcher>>,
     gate: &G,
 ) -> Status
-    ensures session { IsSession built_calls (words_of words.now)
+    ensures session { IsSession built_calls (words_of arguments.now)
         (outside_of (S.rest source.old) (S.faults source.old) (K.written sink.old) (K.faults sink.old)
         (around (V.contents vault.old) (V.faults vault.old)
         (map (hearing (λ w. heard w) (λ w. coming w) (λ w. pauses w)) watchers.old.items)))
@@ -101,8 +101,8 @@ pub fn run_session<R: Threads + Sync, S: Source, K: Sink, V: Vault, G: Gate + Sy
         (around (V.contents vault.new) (V.faults vault.new)
         (map (hearing (λ w. heard w) (λ w. coming w) (λ w. pauses w)) watchers.new.items))) (ending_of result) }
     // `run` does not end for want of memory if the source gives no byte.
-    ensures nothing { (asked : Settings) → options all_options (words_of words.now) ≡ settings asked →
+    ensures nothing { (asked : Settings) → options all_options (words_of arguments.now) ≡ settings asked →
         asked.command ≡ line.run → S.rest source.old ≡ Some [] → (told : ℕ) → result ≢ Status.NoMemory told }
 {
-    session(rt, alloc, words, source, sink, vault, watchers, gate)
+    session(rt, alloc, arguments, source, sink, vault, watchers, gate)
 }

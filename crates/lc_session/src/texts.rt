@@ -9,14 +9,14 @@ use lc_json::is_same;
 
 // The text that an argument names.
 #[tactic(auto, unfolding(crate::specs::Texts::named_text))]
-fn text_of<'a>(word: &str, help: &'a str, version: &'a str) -> Option<&'a str>
-    ensures { MatchOption result (named_text help.now version.now word.now ≡ None)
-        (λ text. named_text help.now version.now word.now ≡ Some text.now) }
+fn text_of<'a>(argument: &str, help: &'a str, version: &'a str) -> Option<&'a str>
+    ensures { MatchOption result (named_text help.now version.now argument.now ≡ None)
+        (λ text. named_text help.now version.now argument.now ≡ Some text.now) }
 {
-    if is_same(b"--help", word.as_bytes()) {
+    if is_same(b"--help", argument.as_bytes()) {
         return Some(help);
     }
-    if is_same(b"--version", word.as_bytes()) {
+    if is_same(b"--version", argument.as_bytes()) {
         return Some(version);
     }
     None
@@ -26,18 +26,18 @@ fn text_of<'a>(word: &str, help: &'a str, version: &'a str) -> Option<&'a str>
 /// `version` if it is `--version`. The status is then `Done`, or `SinkFault` if a write failed. For all other arguments, further
 /// ones after these among them, nothing is written and the answer is None. It takes no memory.
 pub fn told_text<K: Sink>(
-    words: &[String],
+    arguments: &[String],
     help: &str,
     version: &str,
     sink: &mut K,
 ) -> Option<Status>
-    ensures { IsTold (text_asked help.now version.now (words_of words.now)) (K.written sink.old) (K.written sink.new)
-        (K.faults sink.old) (K.faults sink.new) result }
+    ensures { IsTold (text_asked help.now version.now (words_of arguments.now))
+        (K.written sink.old) (K.written sink.new) (K.faults sink.old) (K.faults sink.new) result }
 {
-    if words.len() != 1 {
+    if arguments.len() != 1 {
         return None;
     }
-    let text = text_of(words[0].as_str(), help, version)?;
+    let text = text_of(arguments[0].as_str(), help, version)?;
     match write_whole(sink, text.as_bytes()) {
         Ok(()) => Some(Status::Done(0)),
         Err(_) => Some(Status::SinkFault),

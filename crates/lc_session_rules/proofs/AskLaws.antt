@@ -96,18 +96,18 @@ by_query (bound.alternant_certificate C (Some form) x) step n h = told step _ h 
 by_query (bound.nearest_word C x) step n h = ⊎_elim (λ (a : (length C.rows ≡ 0) × (step ≡ prints (near_line C x 0))). told step _ a.1 tt) (λ (a : (0 < length C.rows) × (step ≡ nears C x)). told step (nears C x) a.1 (a.0, near_word C x n)) h
 by_query (bound.fill_erasures C x erased) step n h = told step _ h.2 tt
 
-by_all : (c : QueryCall) (place : ℕ) (kinds : List Kind) (es : Exprs) (os : Outcomes) (step : Step) → QueriesAll c place kinds es os step → IsAllowed step
-by_all c place kinds es (one_refused r) step h = told step (fails r) h tt
-by_all c place kinds es (all_give vs) step h =
-    from_option (bind_query c vs) _ (λ b. QueriesTo place b step) (IsAllowed step) (λ _ e. told step _ e (failed _))
-    (λ b k. from_option (query_refusal_of b) (Queries b step) _ (IsAllowed step) (by_query b step) (λ r e. told step _ e (failed (refuse_call place r))) k) h
+by_all : (c : QueryCall) (offset : ℕ) (kinds : List Kind) (es : Exprs) (os : Outcomes) (step : Step) → QueriesAll c offset kinds es os step → IsAllowed step
+by_all c offset kinds es (one_refused r) step h = told step (fails r) h tt
+by_all c offset kinds es (all_give vs) step h =
+    from_option (bind_query c vs) _ (λ b. QueriesTo offset b step) (IsAllowed step) (λ _ e. told step _ e (failed _))
+    (λ b k. from_option (query_refusal_of b) (Queries b step) _ (IsAllowed step) (by_query b step) (λ r e. told step _ e (failed (refuse_call offset r))) k) h
 
 as_query_allowed : (table : List Call) (env : List Binding) (c : QueryCall) (e : Expr) (step : Step) → StepsAsQuery table env c e step → IsAllowed step
-as_query_allowed table env c (call place x es) step h =
-    from_option (signature_for (Query c) (count_of es)) (step ≡ fail_with (refuse_at 46 place)) (λ kinds. (os : Outcomes) × EvaluatesAll table env es os × QueriesAll c place kinds es os step) (IsAllowed step) (λ _ e. told step (fail_with (refuse_at 46 place)) e (failed (refuse_at 46 place))) (λ kinds k. by_all c place kinds es k.0 step k.2) h
-as_query_allowed table env c (number place n) step h = absurd h
-as_query_allowed table env c (name place x) step h = absurd h
-as_query_allowed table env c (list place es) step h = absurd h
+as_query_allowed table env c (call offset x es) step h =
+    from_option (signature_for (Query c) (count_of es)) (step ≡ fail_with (refuse_at 46 offset)) (λ kinds. (os : Outcomes) × EvaluatesAll table env es os × QueriesAll c offset kinds es os step) (IsAllowed step) (λ _ e. told step (fail_with (refuse_at 46 offset)) e (failed (refuse_at 46 offset))) (λ kinds k. by_all c offset kinds es k.0 step k.2) h
+as_query_allowed table env c (number offset n) step h = absurd h
+as_query_allowed table env c (name offset x) step h = absurd h
+as_query_allowed table env c (list offset es) step h = absurd h
 
 assigned : (x : List ℕ) (o : Outcome) (step : Step) → Assigns x o step → IsAllowed step
 assigned x (gives v) step h = told step _ h tt

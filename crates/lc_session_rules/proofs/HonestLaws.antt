@@ -61,7 +61,7 @@ text_by_search table budget bytes needs answers text ends script one sound all s
     let are : back.0 ≡ needs = same_needs table one a.0 [] back.0 needs back.1 mine in
     inl (a.0, a.1, back.2 (same ∙ ap (λ (l : List Matrix). answers_of l budget) (sym are))))
     (λ (b : (fault : Fault) × IsFault bytes fault × (needs ≡ [])). absurd (sound a.0 b.0 a.1 b.1)) all)
-    (λ (a : (fault : Fault) × IsFault bytes fault × (text ≡ fault_line fault.number fault.place []) × (ends ≡ true) × (answers ≡ [])). inr (a.0, a.1, a.2, a.3)) by
+    (λ (a : (fault : Fault) × IsFault bytes fault × (text ≡ fault_line fault.number fault.offset []) × (ends ≡ true) × (answers ≡ [])). inr (a.0, a.1, a.2, a.3)) by
 
 -- the needs of a script are met by its session
 whole_met : (table : List Call) (bytes : List ℕ) (needs : List Matrix) → IsNeeds table bytes needs → MeetsFirst table bytes needs

@@ -61,12 +61,12 @@ is_ask (nears C x) = false
 is_ask (fails r) = false
 
 pub record IsQuery (table : List Call) (e : Expr) : Type 0 where
-  pub place : ℕ
+  pub offset : ℕ
   pub x : List ℕ
   pub es : Exprs
   pub c : QueryCall
   pub kinds : List Kind
-  pub is : e ≡ call place x es
+  pub is : e ≡ call offset x es
   pub named : call_named table x ≡ Some (Query c)
   pub form : signature_for (Query c) (count_of es) ≡ Some kinds
 
@@ -80,25 +80,25 @@ module _ (table : List Call) (env : List Binding) (kind : QueryKind) (C : Matrix
   no_name x (gives v) e = false≢true (sym (ap is_ask e))
   no_name x (refused r) e = false≢true (sym (ap is_ask e))
 
-  asked_call : (place : ℕ) (x : List ℕ) (es : Exprs) → StepsOf table env None (call place x es) (asks kind C) → IsQuery table (call place x es)
-  asked_call place x es h = by (call_named table x) refl h
+  asked_call : (offset : ℕ) (x : List ℕ) (es : Exprs) → StepsOf table env None (call offset x es) (asks kind C) → IsQuery table (call offset x es)
+  asked_call offset x es h = by (call_named table x) refl h
     where
       form : (c : QueryCall) → call_named table x ≡ Some (Query c) → (k : Option (List Kind)) → signature_for (Query c) (count_of es) ≡ k
-          → MatchOption k (asks kind C ≡ fail_with (refuse_at 46 place)) (λ kinds. (os : Outcomes) × EvaluatesAll table env es os × QueriesAll c place kinds es os (asks kind C)) → IsQuery table (call place x es)
-      form c named None e f = absurd (no_value kind C (refuse_at 46 place) f)
-      form c named (Some kinds) e f = record { place = place; x = x; es = es; c = c; kinds = kinds; is = refl; named = named; form = e }
+          → MatchOption k (asks kind C ≡ fail_with (refuse_at 46 offset)) (λ kinds. (os : Outcomes) × EvaluatesAll table env es os × QueriesAll c offset kinds es os (asks kind C)) → IsQuery table (call offset x es)
+      form c named None e f = absurd (no_value kind C (refuse_at 46 offset) f)
+      form c named (Some kinds) e f = record { offset = offset; x = x; es = es; c = c; kinds = kinds; is = refl; named = named; form = e }
 
-      by : (o : Option Call) → call_named table x ≡ o → MatchOption (as_query o) ((v : Outcome) × Evaluates table env (call place x es) v × (asks kind C ≡ fail_with v)) (λ c. StepsAsQuery table env c (call place x es) (asks kind C)) → IsQuery table (call place x es)
+      by : (o : Option Call) → call_named table x ≡ o → MatchOption (as_query o) ((v : Outcome) × Evaluates table env (call offset x es) v × (asks kind C ≡ fail_with v)) (λ c. StepsAsQuery table env c (call offset x es) (asks kind C)) → IsQuery table (call offset x es)
       by None e (v, is, f) = absurd (no_value kind C v f)
       by (Some (Value_ c)) e (v, is, f) = absurd (no_value kind C v f)
       by (Some (Query c)) e f = form c e (signature_for (Query c) (count_of es)) refl f
 
   asked_of : (target : Option (List ℕ)) (e : Expr) → StepsOf table env target e (asks kind C) → IsQuery table e
   asked_of (Some x) e (o, is, gives_it) = absurd (no_name x o gives_it)
-  asked_of None (number place n) (o, is, fails_it) = absurd (no_value kind C o fails_it)
-  asked_of None (name place x) (o, is, fails_it) = absurd (no_value kind C o fails_it)
-  asked_of None (list place es) (o, is, fails_it) = absurd (no_value kind C o fails_it)
-  asked_of None (call place x es) h = asked_call place x es h
+  asked_of None (number offset n) (o, is, fails_it) = absurd (no_value kind C o fails_it)
+  asked_of None (name offset x) (o, is, fails_it) = absurd (no_value kind C o fails_it)
+  asked_of None (list offset es) (o, is, fails_it) = absurd (no_value kind C o fails_it)
+  asked_of None (call offset x es) h = asked_call offset x es h
 
 pub asked : (table : List Call) (env : List Binding) (s : Statement) (kind : QueryKind) (C : Matrix) → Steps table env s (asks kind C) → IsQuery table s.expr
 asked table env s kind C h = asked_of table env kind C s.target s.expr h
@@ -106,7 +106,7 @@ asked table env s kind C h = asked_of table env kind C s.target s.expr h
 statement_long : (table : List Call) (env : List Binding) (bytes : List ℕ) (ts : List Token) (s : Statement) (kind : QueryKind) (C : Matrix) → AreWide ts → IsStatement bytes ts s → Steps table env s (asks kind C) → 15 ≤ widths ts
 statement_long table env bytes ts s kind C w is h =
     let q = asked table env s kind C h in
-    let l = statement_wide bytes ts s q.place q.x q.es q.is w is in
+    let l = statement_wide bytes ts s q.offset q.x q.es q.is w is in
     let n = name_found table q.x q.c q.named in
     let m = query_long q.c (count_of q.es) q.kinds q.form in
     omega (arith, l, n, m)

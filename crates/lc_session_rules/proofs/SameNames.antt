@@ -8,7 +8,7 @@ use Rattle.lc_formats.specs.Text.{same_bytes}
 use Rattle.lc_language.specs.declared.Call.{Call}
 use Rattle.lc_language.specs.declared.Call.TheVariants.{Value as Value_, Query}
 use Rattle.lc_language.specs.declared.QueryCall.{QueryCall}
-use Rattle.lc_grammar.specs.Tree.{Expr, Exprs, number, name, call, list, none, more, Statement, place_of, count_of}
+use Rattle.lc_grammar.specs.Tree.{Expr, Exprs, number, name, call, list, none, more, Statement, offset_of, count_of}
 use Rattle.lc_language.specs.Value.{Value, Binding, value_named}
 use Rattle.lc_language.specs.Calls.{call_named, signature_for}
 use Rattle.lc_algebra.specs.Matrix.{Matrix}
@@ -30,25 +30,25 @@ goes_on_map (gives v) P Q f os h = (h.0, f h.0 h.1, h.2)
 
 list_goes_on_map : (e : Expr) (p : Outcome) (found : Listed) (P Q : Listed → Outcome → Type 0) → ((next : Listed) (o : Outcome) → P next o → Q next o) → (o : Outcome) → ListGoesOn e p found (λ next. P next o) o → ListGoesOn e p found (λ next. Q next o) o
 list_goes_on_map e (refused r) found P Q f o h = h
-list_goes_on_map e (gives v) found P Q f o h = match_map (listed_with found v) (o ≡ refuse_at 45 (place_of e)) (o ≡ refuse_at 45 (place_of e)) (λ next. P next o) (λ next. Q next o) (λ k. k) (λ next k. f next o k) h
+list_goes_on_map e (gives v) found P Q f o h = match_map (listed_with found v) (o ≡ refuse_at 45 (offset_of e)) (o ≡ refuse_at 45 (offset_of e)) (λ next. P next o) (λ next. Q next o) (λ k. k) (λ next k. f next o k) h
 
-call_map : (c : Call) (place : ℕ) (es : Exprs) (P Q : Outcomes → Type 0) → ((os : Outcomes) → P os → Q os) → (o : Outcome) → CallGives c place es P o → CallGives c place es Q o
-call_map (Query c) place es P Q f o h = h
-call_map (Value_ c) place es P Q f o h =
-    match_map (signature_for (Value_ c) (count_of es)) (o ≡ refuse_at 46 place) (o ≡ refuse_at 46 place)
-    (λ kinds. (os : Outcomes) × P os × Applies c place kinds es os o) (λ kinds. (os : Outcomes) × Q os × Applies c place kinds es os o)
+call_map : (c : Call) (offset : ℕ) (es : Exprs) (P Q : Outcomes → Type 0) → ((os : Outcomes) → P os → Q os) → (o : Outcome) → CallGives c offset es P o → CallGives c offset es Q o
+call_map (Query c) offset es P Q f o h = h
+call_map (Value_ c) offset es P Q f o h =
+    match_map (signature_for (Value_ c) (count_of es)) (o ≡ refuse_at 46 offset) (o ≡ refuse_at 46 offset)
+    (λ kinds. (os : Outcomes) × P os × Applies c offset kinds es os o) (λ kinds. (os : Outcomes) × Q os × Applies c offset kinds es os o)
     (λ k. k) (λ kinds k. (k.0, f k.0 k.1, k.2)) h
 
 module _ (table : List Call) (env other : List Binding) (same : AreSame env other) where
   mutual
     pub evaluates_same : (e : Expr) (o : Outcome) → Evaluates table env e o → Evaluates table other e o
-    evaluates_same (number place n) o h = h
-    evaluates_same (name place x) o h = subst (λ r. MatchOption r (o ≡ refuse_at 44 place) (λ v. o ≡ gives v)) (same x) h
-    evaluates_same (list place es) o h = evaluates_list_same es nothing_yet o h
-    evaluates_same (call place x es) o h =
-        match_map (call_named table x) (o ≡ refuse_at 44 place) (o ≡ refuse_at 44 place)
-        (λ c. CallGives c place es (λ os. EvaluatesAll table env es os) o) (λ c. CallGives c place es (λ os. EvaluatesAll table other es os) o)
-        (λ k. k) (λ c k. call_map c place es (λ os. EvaluatesAll table env es os) (λ os. EvaluatesAll table other es os) (evaluates_all_same es) o k) h
+    evaluates_same (number offset n) o h = h
+    evaluates_same (name offset x) o h = subst (λ r. MatchOption r (o ≡ refuse_at 44 offset) (λ v. o ≡ gives v)) (same x) h
+    evaluates_same (list offset es) o h = evaluates_list_same es nothing_yet o h
+    evaluates_same (call offset x es) o h =
+        match_map (call_named table x) (o ≡ refuse_at 44 offset) (o ≡ refuse_at 44 offset)
+        (λ c. CallGives c offset es (λ os. EvaluatesAll table env es os) o) (λ c. CallGives c offset es (λ os. EvaluatesAll table other es os) o)
+        (λ k. k) (λ c k. call_map c offset es (λ os. EvaluatesAll table env es os) (λ os. EvaluatesAll table other es os) (evaluates_all_same es) o k) h
 
     evaluates_all_same : (es : Exprs) (os : Outcomes) → EvaluatesAll table env es os → EvaluatesAll table other es os
     evaluates_all_same none os h = h
@@ -59,13 +59,13 @@ module _ (table : List Call) (env other : List Binding) (same : AreSame env othe
     evaluates_list_same (more e es) found o h = (h.0, evaluates_same e h.0 h.1, list_goes_on_map e h.0 found (λ next o. EvaluatesList table env es next o) (λ next o. EvaluatesList table other es next o) (λ next o k. evaluates_list_same es next o k) o h.2)
 
   query_same : (c : QueryCall) (e : Expr) (step : Step) → StepsAsQuery table env c e step → StepsAsQuery table other c e step
-  query_same c (call place x es) step h =
-      match_map (signature_for (Query c) (count_of es)) (step ≡ fail_with (refuse_at 46 place)) (step ≡ fail_with (refuse_at 46 place))
-      (λ kinds. (os : Outcomes) × EvaluatesAll table env es os × QueriesAll c place kinds es os step) (λ kinds. (os : Outcomes) × EvaluatesAll table other es os × QueriesAll c place kinds es os step)
+  query_same c (call offset x es) step h =
+      match_map (signature_for (Query c) (count_of es)) (step ≡ fail_with (refuse_at 46 offset)) (step ≡ fail_with (refuse_at 46 offset))
+      (λ kinds. (os : Outcomes) × EvaluatesAll table env es os × QueriesAll c offset kinds es os step) (λ kinds. (os : Outcomes) × EvaluatesAll table other es os × QueriesAll c offset kinds es os step)
       (λ k. k) (λ kinds k. (k.0, evaluates_all_same es k.0 k.1, k.2)) h
-  query_same c (number place n) step h = h
-  query_same c (name place x) step h = h
-  query_same c (list place es) step h = h
+  query_same c (number offset n) step h = h
+  query_same c (name offset x) step h = h
+  query_same c (list offset es) step h = h
 
   steps_of_same : (target : Option (List ℕ)) (e : Expr) (step : Step) → StepsOf table env target e step → StepsOf table other target e step
   steps_of_same (Some x) e step h = (h.0, evaluates_same e h.0 h.1, h.2)

@@ -96,11 +96,11 @@ module _ (table : List Call) (budget : ℕ) (start now : List Binding) (first : 
         (prints_after later [] [] (λ tail others rest ends k. (binds b, steps, runs_by_same table budget tail later (b ∷ now) same others rest ends k)) tail others rest ends k));
   }
 
-  pub at_fault : (r : Refused) → Steps table now s (fails r) → RunsBy table budget start first answers (text ++ fault_line r.number r.place r.values) true
+  pub at_fault : (r : Refused) → Steps table now s (fails r) → RunsBy table budget start first answers (text ++ fault_line r.number r.offset r.values) true
   at_fault r steps =
-      subst (λ (ss : List Statement). RunsBy table budget start ss answers (text ++ fault_line r.number r.place r.values) true) (sym h.split)
-      (subst (λ (l : List Answer). RunsBy table budget start (h.done ++ (s ∷ left)) l (text ++ fault_line r.number r.place r.values) true) (append-nil answers)
-      (h.prints_so (s ∷ left) [] (fault_line r.number r.place r.values) true (fails r, steps, (refl, refl, refl))))
+      subst (λ (ss : List Statement). RunsBy table budget start ss answers (text ++ fault_line r.number r.offset r.values) true) (sym h.split)
+      (subst (λ (l : List Answer). RunsBy table budget start (h.done ++ (s ∷ left)) l (text ++ fault_line r.number r.offset r.values) true) (append-nil answers)
+      (h.prints_so (s ∷ left) [] (fault_line r.number r.offset r.values) true (fails r, steps, (refl, refl, refl))))
 
   pub at_fault_asks : (r : Refused) → Steps table now s (fails r) → Needs table start first needs
   at_fault_asks r steps =

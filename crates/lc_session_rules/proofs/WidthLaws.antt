@@ -45,10 +45,10 @@ first_wide [] t us w e = absurd (let f = e in cc)
 first_wide (u ∷ ts) t us w e = (let l = w.0 in omega (arith, l))
 
 pub expr_wide : (bytes : List ℕ) (ts : List Token) (e : Expr) → AreWide ts → IsExpr bytes ts e → 1 ≤ widths ts
-expr_wide bytes ts (number place n) w (t, split, is) = first_wide ts t [] w split
-expr_wide bytes ts (name place x) w (t, split, is) = first_wide ts t [] w split
-expr_wide bytes ts (call place x es) w (t, (rest, split, is, more_of)) = first_wide ts t rest w split
-expr_wide bytes ts (list place es) w (first, (inner, (last, between, stands, is))) = first_wide ts first (inner ++ last ∷ []) w between.all
+expr_wide bytes ts (number offset n) w (t, split, is) = first_wide ts t [] w split
+expr_wide bytes ts (name offset x) w (t, split, is) = first_wide ts t [] w split
+expr_wide bytes ts (call offset x es) w (t, (rest, split, is, more_of)) = first_wide ts t rest w split
+expr_wide bytes ts (list offset es) w (first, (inner, (last, between, stands, is))) = first_wide ts first (inner ++ last ∷ []) w between.all
 
 pub list_wide : (bytes : List ℕ) (ts : List Token) (es : Exprs) → AreWide ts → IsList bytes ts es → 2 * count_of es ≤ widths ts + 1
 unfolding count_of
@@ -68,8 +68,8 @@ unfolding text_of
 name_width bytes t = (let l = length-take (t.end - t.start) (drop t.start bytes) in omega (arith, l))
 
 -- what a call takes
-call_wide : (bytes : List ℕ) (ts : List Token) (place : ℕ) (x : List ℕ) (es : Exprs) → AreWide ts → IsExpr bytes ts (call place x es) → length x + 2 * count_of es + 1 ≤ widths ts
-call_wide bytes ts place x es w (t, (rest, split, named, (first, (inner, (last, between, are))))) =
+call_wide : (bytes : List ℕ) (ts : List Token) (offset : ℕ) (x : List ℕ) (es : Exprs) → AreWide ts → IsExpr bytes ts (call offset x es) → length x + 2 * count_of es + 1 ≤ widths ts
+call_wide bytes ts offset x es w (t, (rest, split, named, (first, (inner, (last, between, are))))) =
     let all : AreWide (t ∷ rest) = subst AreWide split w in
     let outer : AreWide (first ∷ (inner ++ last ∷ [])) = subst AreWide between.all all.1 in
     let ends = wide_right inner (last ∷ []) outer.1 in
@@ -82,12 +82,12 @@ call_wide bytes ts place x es w (t, (rest, split, named, (first, (inner, (last, 
     let b = ends.0 in
     omega (arith, l, name_long, sum, within, end_sum, a, b)
 
-pub statement_wide : (bytes : List ℕ) (ts : List Token) (s : Statement) (place : ℕ) (x : List ℕ) (es : Exprs) → s.expr ≡ call place x es → AreWide ts → IsStatement bytes ts s → length x + 2 * count_of es + 2 ≤ widths ts
-statement_wide bytes ts s place x es e w (front, (middle, (last, split, target, is, end))) =
+pub statement_wide : (bytes : List ℕ) (ts : List Token) (s : Statement) (offset : ℕ) (x : List ℕ) (es : Exprs) → s.expr ≡ call offset x es → AreWide ts → IsStatement bytes ts s → length x + 2 * count_of es + 2 ≤ widths ts
+statement_wide bytes ts s offset x es e w (front, (middle, (last, split, target, is, end))) =
     let all : AreWide (front ++ (middle ++ last ∷ [])) = subst AreWide split w in
     let behind = wide_right front (middle ++ last ∷ []) all in
     let ends = wide_right middle (last ∷ []) behind in
-    let c = call_wide bytes middle place x es (wide_left middle (last ∷ []) behind) (subst (λ (f : Expr). IsExpr bytes middle f) e is) in
+    let c = call_wide bytes middle offset x es (wide_left middle (last ∷ []) behind) (subst (λ (f : Expr). IsExpr bytes middle f) e is) in
     let sum : widths ts ≡ widths front + widths (middle ++ last ∷ []) = ap widths split ∙ widths-append front (middle ++ last ∷ []) in
     let inside = widths-append middle (last ∷ []) in
     let b = ends.0 in
@@ -145,43 +145,43 @@ fit_none : (n : ℕ) (e : _) → FitIn n (ended e)
 unfolding ended
 fit_none n e = record { wide = tt; few = omega arith }
 
-fit_token : (m n bytes place : ℕ) (kind : TokenKind) (r : Scanned) → 1 ≤ bytes → bytes + m ≤ n → FitIn m r → FitIn n (token_first (record { kind = kind; start = place; end = place + bytes }) r)
+fit_token : (m n bytes offset : ℕ) (kind : TokenKind) (r : Scanned) → 1 ≤ bytes → bytes + m ≤ n → FitIn m r → FitIn n (token_first (record { kind = kind; start = offset; end = offset + bytes }) r)
 unfolding token_first
-fit_token m n bytes place kind r l most h = record { wide = (omega (arith, l), h.wide); few = (let f = h.few in omega (arith, f, most)) }
+fit_token m n bytes offset kind r l most h = record { wide = (omega (arith, l), h.wide); few = (let f = h.few in omega (arith, f, most)) }
 
 -- a token and what follows it
-after_cut : (place : ℕ) (b : ℕ) (bytes : List ℕ) (cut : Cut) (w : Bool) (rest : Scanned) → token_at b bytes ≡ Some cut → FitIn (length (drop cut.bytes (b ∷ bytes))) rest
-    → FitIn (suc (length bytes)) (elim w as (λ _. Scanned) [ true ↦ ended (too_wide place) | false ↦ token_first (record { kind = cut.kind; start = place; end = place + cut.bytes }) rest ])
-after_cut place b bytes cut true rest e h = fit_none (suc (length bytes)) (too_wide place)
-after_cut place b bytes cut false rest e h =
+after_cut : (offset : ℕ) (b : ℕ) (bytes : List ℕ) (cut : Cut) (w : Bool) (rest : Scanned) → token_at b bytes ≡ Some cut → FitIn (length (drop cut.bytes (b ∷ bytes))) rest
+    → FitIn (suc (length bytes)) (elim w as (λ _. Scanned) [ true ↦ ended (too_wide offset) | false ↦ token_first (record { kind = cut.kind; start = offset; end = offset + cut.bytes }) rest ])
+after_cut offset b bytes cut true rest e h = fit_none (suc (length bytes)) (too_wide offset)
+after_cut offset b bytes cut false rest e h =
     let c = (token_wide b bytes).some cut e in
     let d = length-drop cut.bytes (b ∷ bytes) in
-    fit_token (length (drop cut.bytes (b ∷ bytes))) (suc (length bytes)) cut.bytes place cut.kind rest c.0 (omega (arith, c.1, d)) h
+    fit_token (length (drop cut.bytes (b ∷ bytes))) (suc (length bytes)) cut.bytes offset cut.kind rest c.0 (omega (arith, c.1, d)) h
 
-after_token : (place : ℕ) (b : ℕ) (bytes : List ℕ) (o : Option Cut) (wide : Cut → Bool) (rest : Cut → Scanned) → token_at b bytes ≡ o → ((cut : Cut) → FitIn (length (drop cut.bytes (b ∷ bytes))) (rest cut))
+after_token : (offset : ℕ) (b : ℕ) (bytes : List ℕ) (o : Option Cut) (wide : Cut → Bool) (rest : Cut → Scanned) → token_at b bytes ≡ o → ((cut : Cut) → FitIn (length (drop cut.bytes (b ∷ bytes))) (rest cut))
     → FitIn (suc (length bytes)) (elim o as (λ _. Scanned) [
-      | None ↦ ended (bad_token place)
-      | Some cut ↦ elim (wide cut) as (λ _. Scanned) [ true ↦ ended (too_wide place) | false ↦ token_first (record { kind = cut.kind; start = place; end = place + cut.bytes }) (rest cut) ]
+      | None ↦ ended (bad_token offset)
+      | Some cut ↦ elim (wide cut) as (λ _. Scanned) [ true ↦ ended (too_wide offset) | false ↦ token_first (record { kind = cut.kind; start = offset; end = offset + cut.bytes }) (rest cut) ]
     ])
-after_token place b bytes None wide rest e h = fit_none (suc (length bytes)) (bad_token place)
-after_token place b bytes (Some cut) wide rest e h = after_cut place b bytes cut (wide cut) (rest cut) e (h cut)
+after_token offset b bytes None wide rest e h = fit_none (suc (length bytes)) (bad_token offset)
+after_token offset b bytes (Some cut) wide rest e h = after_cut offset b bytes cut (wide cut) (rest cut) e (h cut)
 
 either_scan : (n : ℕ) (w : Bool) (x y : Scanned) → FitIn n x → FitIn n y → FitIn n (elim w as (λ _. Scanned) [ true ↦ x | false ↦ y ])
 either_scan n true x y h k = h
 either_scan n false x y h k = k
 
-scan_wide : (most place : ℕ) (bytes : List ℕ) → FitIn (length bytes) (scan_within most place bytes)
+scan_wide : (most offset : ℕ) (bytes : List ℕ) → FitIn (length bytes) (scan_within most offset bytes)
 unfolding scan_within
-scan_wide zero place bytes = fit_none (length bytes) (script_end place)
-scan_wide (suc most) place [] = fit_none 0 (script_end place)
-scan_wide (suc most) place (b ∷ bytes) =
+scan_wide zero offset bytes = fit_none (length bytes) (script_end offset)
+scan_wide (suc most) offset [] = fit_none 0 (script_end offset)
+scan_wide (suc most) offset (b ∷ bytes) =
     let n = suc (length bytes) in
     let skipped = drop (comment_length (b ∷ bytes)) (b ∷ bytes) in
     let d = length-drop (comment_length (b ∷ bytes)) (b ∷ bytes) in
-    either_scan n (is_blank b) _ _ (fit_more (length bytes) n (scan_within most (place + 1) bytes) (omega arith) (scan_wide most (place + 1) bytes))
-    (either_scan n (b == 35) _ _ (fit_more (length skipped) n (scan_within most (place + comment_length (b ∷ bytes)) skipped) (omega (arith, d)) (scan_wide most (place + comment_length (b ∷ bytes)) skipped))
-    (after_token place b bytes (token_at b bytes) (λ cut. is_number cut.kind && nat_lt widest (number_of (slice_range (b ∷ bytes) 0 cut.bytes))) (λ cut. scan_within most (place + cut.bytes) (drop cut.bytes (b ∷ bytes))) refl
-    (λ cut. scan_wide most (place + cut.bytes) (drop cut.bytes (b ∷ bytes)))))
+    either_scan n (is_blank b) _ _ (fit_more (length bytes) n (scan_within most (offset + 1) bytes) (omega arith) (scan_wide most (offset + 1) bytes))
+    (either_scan n (b == 35) _ _ (fit_more (length skipped) n (scan_within most (offset + comment_length (b ∷ bytes)) skipped) (omega (arith, d)) (scan_wide most (offset + comment_length (b ∷ bytes)) skipped))
+    (after_token offset b bytes (token_at b bytes) (λ cut. is_number cut.kind && nat_lt widest (number_of (slice_range (b ∷ bytes) 0 cut.bytes))) (λ cut. scan_within most (offset + cut.bytes) (drop cut.bytes (b ∷ bytes))) refl
+    (λ cut. scan_wide most (offset + cut.bytes) (drop cut.bytes (b ∷ bytes)))))
 
 pub tokens_wide : (bytes : List ℕ) → AreWide (scan bytes).tokens × (widths (scan bytes).tokens ≤ length bytes)
 unfolding scan

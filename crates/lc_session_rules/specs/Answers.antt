@@ -33,7 +33,7 @@ PrintsBy budget env (prints l) later answers text ends = (rest : List ℕ) × la
 PrintsBy budget env (asks kind C) later answers text ends = (a : Answer) × ((left : List Answer) × (answers ≡ a ∷ left) × ((rest : List ℕ) × later env left rest ends × (text ≡ answer_line kind C a ++ rest)))
 PrintsBy budget env (counts C) later answers text ends = (rest : List ℕ) × later env answers rest ends × (text ≡ distribution_line C ++ rest)
 PrintsBy budget env (nears C x) later answers text ends = (rest : List ℕ) × later env answers rest ends × (text ≡ near_line C x budget ++ rest)
-PrintsBy budget env (fails r) later answers text ends = (text ≡ fault_line r.number r.place r.values) × (ends ≡ true) × (answers ≡ [])
+PrintsBy budget env (fails r) later answers text ends = (text ≡ fault_line r.number r.offset r.values) × (ends ≡ true) × (answers ≡ [])
 
 abbrev pub RunsBy : List Call → ℕ → List Binding → List Statement → List Answer → List ℕ → Bool → Type 0
 RunsBy table budget env [] answers text ends = (text ≡ []) × (ends ≡ false) × (answers ≡ [])
@@ -42,7 +42,7 @@ RunsBy table budget env (s ∷ ss) answers text ends = (step : Step) × Steps ta
 abbrev pub IsTextBy : List Call → ℕ → List ℕ → List Answer → List ℕ → Bool → Type 0
 IsTextBy table budget bytes answers text ends =
     ((ss : List Statement) × Reads bytes ss × RunsBy table budget [] ss answers text ends)
-    ⊎ ((fault : Fault) × IsFault bytes fault × (text ≡ fault_line fault.number fault.place []) × (ends ≡ true) × (answers ≡ []))
+    ⊎ ((fault : Fault) × IsFault bytes fault × (text ≡ fault_line fault.number fault.offset []) × (ends ≡ true) × (answers ≡ []))
 
 -- a search that ended in a state is answered by it
 abbrev pub Settle : ℕ → List Matrix → List Progress → List Answer → Type 0

@@ -1,14 +1,14 @@
--- The words of the command line, read from the left. The first word is the command, and every further word is key=value.
+-- The arguments of the command line, read from the left. The first argument is the command, and every further argument is key=value.
 --   Command                   run, resume, check or summary
 --   Key                       workers, round, budget, slice, keep, seed
---   Settings                  what the words ask for: `round` is the longest round, in blocks; a number is the value of seed, 0
+--   Settings                  what the arguments ask for: `round` is the longest round, in blocks; a number is the value of seed, 0
 --                             where there is none
 --   CommandRow                a command with its keys; of a table of such rows, a command or key that it lacks is an unknown one
 --   all_options               the table with all of them
 --   run_and_check             the table of a program that knows `run` with the keys workers and budget, and `check`
 --   number_in text            the number that the text writes: one to twenty digits with no leading zero, save 0 itself
---   put_key key text s        the settings after a word; None where the value is bad
---   options table words       the settings, or the index of the word that is refused
+--   put_key key text s        the settings after an argument; None where the value is bad
+--   options table arguments   the settings, or the index of the argument that is refused
 use Rattle.std.specs.Prelude.{ℕ, suc, ◌^◌, Bool, true, false, not, nat_le, ◌==◌, ◌&&◌, ◌||◌, if◌then◌else◌, List, [], ◌∷◌, ◌++◌, length, codes, Option, Some, None, is_some, option_map, option_and_then, slice_index}
 use Rattle.std.specs.List.{list_all, list_any, before_first, after_first}
 use Rattle.lc_enumeration.specs.Records.{default_round}
@@ -113,18 +113,18 @@ checked keys s =
       | None ↦ elim s.command as (λ _. Options) [ summary ↦ if is_some (place_of_key seed keys 1) then settings s else usage (suc (length keys)) | _ ↦ settings s ]
     ]
 
--- the words after the command; the keys of the words so far stand in their order
+-- the arguments after the command; the keys of the arguments so far stand in their order
 unfoldable pub options_from : List Key → List (List ℕ) → List Key → Settings → Options
 options_from keys [] found s = checked found s
-options_from keys (word ∷ words) found s =
-    elim (key_named keys (before_first (λ b. b == 61) word)) as (λ _. Options) [
+options_from keys (argument ∷ arguments) found s =
+    elim (key_named keys (before_first (λ b. b == 61) argument)) as (λ _. Options) [
       | None ↦ usage (suc (length found))
-      | Some key ↦ elim ((list_any (λ b. b == 61) word) && not (list_any (same_key key) found)) as (λ _. Options) [
+      | Some key ↦ elim ((list_any (λ b. b == 61) argument) && not (list_any (same_key key) found)) as (λ _. Options) [
         | false ↦ usage (suc (length found))
-        | true ↦ elim (put_key key (after_first (λ b. b == 61) word) s) as (λ _. Options) [ None ↦ usage (suc (length found)) | Some next ↦ options_from keys words (found ++ key ∷ []) next ]
+        | true ↦ elim (put_key key (after_first (λ b. b == 61) argument) s) as (λ _. Options) [ None ↦ usage (suc (length found)) | Some next ↦ options_from keys arguments (found ++ key ∷ []) next ]
       ]
     ]
 
 unfoldable pub options : List CommandRow → List (List ℕ) → Options
 options table [] = usage 0
-options table (word ∷ words) = elim (row_named table word) as (λ _. Options) [ None ↦ usage 0 | Some r ↦ options_from r.keys words [] (settings_of r.command) ]
+options table (argument ∷ arguments) = elim (row_named table argument) as (λ _. Options) [ None ↦ usage 0 | Some r ↦ options_from r.keys arguments [] (settings_of r.command) ]

@@ -5,7 +5,7 @@
 --   IsPartText table bytes asked text      the line of a true part of the first need of a script
 --   HasNoPart table bytes asked      the script has no need before its first fault, or the plan of its first need doesn't have
 --                            all of these blocks
---   IsPartSession table words old new ending      the whole contract
+--   IsPartSession table arguments old new ending      the whole contract
 use Rattle.std.specs.Prelude.{◌≡◌, ℕ, ◌⊎◌, ◌+◌, ◌<◌, ◌≤◌, List, [], ◌∷◌, length, Option}
 use Rattle.std.specs.Io.KnownBytes.{Appends}
 use Rattle.sha2.specs.Sha256.{sha256}
@@ -31,7 +31,7 @@ pub record Ends : Type 0 where
 
 pub data PartEnding : Type 0 where
   printed : PartEnding
-  refused : ℕ → PartEnding  -- the index of the word that is refused
+  refused : ℕ → PartEnding  -- the index of the argument that is refused
   source_fault : PartEnding
   sink_fault : PartEnding
   no_memory : PartEnding
@@ -82,10 +82,10 @@ EndsSo table a old new no_memory = IsSilent old new × GaveFront old.source new.
 EndsSo table a old new too_long = IsSilent old new × GaveTooMuch old.source new.source × (new.source_faults ≡ old.source_faults)
 EndsSo table a old new no_part = (bytes : List ℕ) × HasRead old new bytes × IsSilent old new × HasNoPart table bytes a
 
--- refused words end the session with their index, and then all is as it was
+-- refused arguments end the session with their index, and then all is as it was
 abbrev pub Does : PartOptions → List Call → Ends → Ends → PartEnding → Type 0
 Does (usage i) table old new ending = (new ≡ old) × (ending ≡ refused i)
 Does (asked a) table old new ending = EndsSo table a old new ending
 
 abbrev pub IsPartSession : List Call → List (List ℕ) → Ends → Ends → PartEnding → Type 0
-IsPartSession table words old new ending = Does (part_options words) table old new ending
+IsPartSession table arguments old new ending = Does (part_options arguments) table old new ending

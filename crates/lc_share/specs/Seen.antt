@@ -1,6 +1,6 @@
 -- What the values of the program stand for.
---   asked_of a               what the words ask for
---   options_of r             that, or the index of the word that is refused
+--   asked_of a               what the arguments ask for
+--   options_of r             that, or the index of the argument that is refused
 --   ends_of rest faults written sink_faults      the source and the sink
 --   ending_of s              how a session ends
 use Rattle.std.specs.Prelude.{ℕ, List, Option, Result, Ok, Err}

@@ -21,11 +21,11 @@ pub(crate) struct PartAsked {
 
 /// The argument of an index, from 0; the empty one if there is none.
 #[tactic(auto, using(crate::proofs::WordLaws::word_laws))]
-pub fn word(words: &[String], i: usize) -> &str
-    ensures { result.now ≡ word_at (words_of words.now) i }
+pub fn word(arguments: &[String], i: usize) -> &str
+    ensures { result.now ≡ word_at (words_of arguments.now) i }
 {
-    if i < words.len() {
-        return words[i].as_str();
+    if i < arguments.len() {
+        return arguments[i].as_str();
     }
     ""
 }
@@ -49,14 +49,14 @@ pub fn value_in(argument: &str, key: &str, low: u64, high: u64) -> Option<u64>
 
 // The number of workers.
 #[tactic(auto, using(crate::proofs::WordLaws::workers_laws))]
-fn workers_in(words: &[String]) -> Option<u64>
-    ensures is { result ≡ workers_in (words_of words.now) }
+fn workers_in(arguments: &[String]) -> Option<u64>
+    ensures is { result ≡ workers_in (words_of arguments.now) }
     ensures range { IfSome result (λ n. (1 ≤ n) × (n ≤ 256)) }
 {
-    if words.len() <= 3 {
+    if arguments.len() <= 3 {
         return Some(1);
     }
-    value_in(word(words, 3), "workers", 1, 256)
+    value_in(word(arguments, 3), "workers", 1, 256)
 }
 
 // Whether the first argument names the command.
@@ -68,23 +68,23 @@ fn is_part(argument: &str) -> bool
 
 /// What the arguments ask for, or the index of the first one that is refused.
 #[tactic(auto, using(crate::proofs::WordLaws::options_laws))]
-pub(crate) fn part_options(words: &[String]) -> Result<PartAsked, usize>
-    ensures is { options_of result ≡ part_options (words_of words.now) }
+pub(crate) fn part_options(arguments: &[String]) -> Result<PartAsked, usize>
+    ensures is { options_of result ≡ part_options (words_of arguments.now) }
     ensures workers { IfOk result (λ a. (1 ≤ a.workers) × (a.workers ≤ 256)) }
 {
-    if !is_part(word(words, 0)) {
+    if !is_part(word(arguments, 0)) {
         return Err(0);
     }
-    let Some(start) = value_in(word(words, 1), "from", 0, 1 << 40) else {
+    let Some(start) = value_in(word(arguments, 1), "from", 0, 1 << 40) else {
         return Err(1);
     };
-    let Some(count) = value_in(word(words, 2), "count", 1, 1 << 40) else {
+    let Some(count) = value_in(word(arguments, 2), "count", 1, 1 << 40) else {
         return Err(2);
     };
-    let Some(workers) = workers_in(words) else {
+    let Some(workers) = workers_in(arguments) else {
         return Err(3);
     };
-    if words.len() > 4 {
+    if arguments.len() > 4 {
         return Err(4);
     }
     Ok(PartAsked {

@@ -86,7 +86,7 @@ fn part_text<R: Threads + Sync, G: Gate + Sync>(
     Ok(Some(line))
 }
 
-/// Does a part of the first search of a script, and writes its line: `words` are the arguments of the command line after the
+/// Does a part of the first search of a script, and writes its line: `arguments` are those of the command line after the
 /// program's name. They are `part`, `from=A`, `count=N`, and then there may be `workers=W`: A is at most 2^40, N 1 to 2^40,
 /// and W 1 to 256, and 1 without it.
 ///
@@ -98,17 +98,17 @@ fn part_text<R: Threads + Sync, G: Gate + Sync>(
 pub fn run_part<R: Threads + Sync, S: Source, K: Sink, G: Gate + Sync>(
     rt: &R,
     alloc: Global,
-    words: &[String],
+    arguments: &[String],
     source: &mut S,
     sink: &mut K,
     gate: &G,
 ) -> PartStatus
-    ensures session { IsPartSession built_calls (words_of words.now)
+    ensures session { IsPartSession built_calls (words_of arguments.now)
         (ends_of (S.rest source.old) (S.faults source.old) (K.written sink.old) (K.faults sink.old))
         (ends_of (S.rest source.new) (S.faults source.new) (K.written sink.new) (K.faults sink.new))
         (ending_of result) }
 {
-    let asked = match part_options(words) {
+    let asked = match part_options(arguments) {
         Ok(asked) => asked,
         Err(index) => return PartStatus::Usage(index),
     };

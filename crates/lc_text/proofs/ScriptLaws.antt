@@ -58,7 +58,7 @@ by_script_end w bytes ss c now (halt.Unfit told found) reads h = (
 pub starved_first : (w : World) (bytes : List ℕ) (c : Course) (now : Around) → Goes w [] [] c now → EndsBefore w bytes c now (halt.Stop NoMemory)
 starved_first w bytes c now h = ([], inl refl, starving w [] [] c now h)
 
-pub no_script : (w : World) (bytes : List ℕ) (f : Fault) (t : Text) (c : Course) (now : Around) → IsFault bytes f → is_some c.current ≡ false → Goes w [] [] c now → t.bytes.items ≡ fault_line f.number f.place [] → t.ends ≡ true → Prints w bytes t c now
+pub no_script : (w : World) (bytes : List ℕ) (f : Fault) (t : Text) (c : Course) (now : Around) → IsFault bytes f → is_some c.current ≡ false → Goes w [] [] c now → t.bytes.items ≡ fault_line f.number f.offset [] → t.ends ≡ true → Prints w bytes t c now
 no_script w bytes f t c now fault none h text ends =
     let e = even w [] [] c now none h in
     record {
@@ -83,7 +83,7 @@ by_script_result w bytes s m r c now reads e h =
     ended_as r (λ t. Finishes w (map statement_of m.left) t c now) (λ t. Prints w bytes t c now) (λ x. Ends w (map statement_of m.left) c now x) (λ x. EndsBefore w bytes c now x)
     (λ t f. by_script w bytes (map statement_of m.left) t c now at f) (λ x f. by_script_end w bytes (map statement_of m.left) c now x at f) h
 
-pub no_script_result : (w : World) (bytes : List ℕ) (f : Fault) (line : List ℕ) (r : Result Text Halt) (c : Course) (now : Around) → IsFault bytes f → line ≡ fault_line f.number f.place [] → Goes w [] [] c now → IsEnded c line true r → MatchResult r (λ t. Prints w bytes t c now) (λ x. EndsBefore w bytes c now x)
+pub no_script_result : (w : World) (bytes : List ℕ) (f : Fault) (line : List ℕ) (r : Result Text Halt) (c : Course) (now : Around) → IsFault bytes f → line ≡ fault_line f.number f.offset [] → Goes w [] [] c now → IsEnded c line true r → MatchResult r (λ t. Prints w bytes t c now) (λ x. EndsBefore w bytes c now x)
 no_script_result w bytes f line r c now fault is g h =
     ended_as r (λ t. (is_some c.current ≡ false) × (t.bytes.items ≡ line) × (t.ends ≡ true)) (λ t. Prints w bytes t c now) (λ x. (is_some c.current ≡ true) × (x ≡ halt.Unfit (length c.pace.point.settled.items + 1) 0)) (λ x. EndsBefore w bytes c now x)
     (λ t e. no_script w bytes f t c now fault e.0 g (e.1 ∙ is) e.2) (λ x e. subst (λ (y : Halt). EndsBefore w bytes c now y) (sym e.1) (no_script_left w bytes f c now fault e.0 g)) h

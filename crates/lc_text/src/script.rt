@@ -45,8 +45,8 @@ pub fn script_text<R: Threads + Sync, V: Vault, W: Watcher, G: Gate + Sync>(
 {
     let script = match parse(crew.alloc, bytes) {
         Ok(script) => script,
-        Err(ParseRefusal::Fault { number, place }) => {
-            return match fault_line(crew.alloc, number, place, &[]) {
+        Err(ParseRefusal::Fault { number, offset }) => {
+            return match fault_line(crew.alloc, number, offset, &[]) {
                 Ok(line) => ended(course, line, true),
                 Err(_) => Err(Halt::Stop(Stop::NoMemory)),
             };

@@ -4,12 +4,12 @@ use Rattle.lc_eval.proofs.cyclic.qr_code.Goals as goal
 
 pub returns-in_ok-code_value-in-Ok-Some : goal.returns-in_ok-code_value-in-Ok-Some
 returns-in_ok-code_value-in-Ok-Some c =
-    residue_made c.args.place c.args.n c.args.field.now c.in-Ok-Some.field-0 c.in-Ok-Some.code (value_of c.in_ok-code_value-in-Ok-Some.field-0) c.in-Ok-Some.ensures.refused c.in-Ok-Some.ensures.code c.in-Ok-Some.ensures.exact c.in-Ok-Some.field-0-is c.in_ok-code_value-in-Ok-Some.ensures
+    residue_made c.args.offset c.args.n c.args.field.now c.in-Ok-Some.field-0 c.in-Ok-Some.code (value_of c.in_ok-code_value-in-Ok-Some.field-0) c.in-Ok-Some.ensures.refused c.in-Ok-Some.ensures.code c.in-Ok-Some.ensures.exact c.in-Ok-Some.field-0-is c.in_ok-code_value-in-Ok-Some.ensures
 
 pub returns-in-Ok-None : goal.returns-in-Ok-None
 returns-in-Ok-None c =
-    residue_none c.args.place c.args.n c.args.field.now c.in-Ok-None.field-0 c.fault.result c.in-Ok-None.ensures.refused c.in-Ok-None.ensures.exact c.in-Ok-None.field-0-is c.fault.ensures
+    residue_none c.args.offset c.args.n c.args.field.now c.in-Ok-None.field-0 c.fault.result c.in-Ok-None.ensures.refused c.in-Ok-None.ensures.exact c.in-Ok-None.field-0-is c.fault.ensures
 
 pub returns-in-Err : goal.returns-in-Err
 returns-in-Err c =
-    residue_fault c.args.place c.args.n c.args.field.now c.in-Err.refusal c.refused_as.result c.in-Err.ensures.refused c.refused_as.ensures.is
+    residue_fault c.args.offset c.args.n c.args.field.now c.in-Err.refusal c.refused_as.result c.in-Err.ensures.refused c.refused_as.ensures.is

@@ -5,12 +5,12 @@ use Rattle.lc_eval.proofs.decoding.checked.Goals as goal
 pub returns-then-list-length : goal.returns-then-list-length
 returns-then-list-length c =
     let long : length c.args.list.now ≢ c.args.code.now.columns = λ e. c.if-list-length.true (cc) in
-    list_long c.args.place c.args.code.now c.args.list.now c.refused_as.result long c.refused_as.ensures.is
+    list_long c.args.offset c.args.code.now c.args.list.now c.refused_as.result long c.refused_as.ensures.is
 
 pub returns-then-not-fits : goal.returns-then-not-fits
 returns-then-not-fits c =
     let long : length c.args.list.now ≡ c.args.code.now.columns = c.if-list-length.false ∙ c.length.ensures.is in
-    list_high c.args.place c.args.code.now c.field.result.now c.args.list.now c.symbols.result.now c.fits.result c.refused_as-then-not-fits.result long c.field.ensures.symbol c.field.ensures.is (c.symbols.ensures.are ∙ c.in_ok-word.ensures) c.fits.ensures.is c.if-not-fits.true c.refused_as-then-not-fits.ensures.is
+    list_high c.args.offset c.args.code.now c.field.result.now c.args.list.now c.symbols.result.now c.fits.result c.refused_as-then-not-fits.result long c.field.ensures.symbol c.field.ensures.is (c.symbols.ensures.are ∙ c.in_ok-word.ensures) c.fits.ensures.is c.if-not-fits.true c.refused_as-then-not-fits.ensures.is
 
 pub returns : goal.returns
 returns c =

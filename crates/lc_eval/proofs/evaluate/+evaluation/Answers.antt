@@ -22,20 +22,20 @@ list-returns-in_err-found t c =
     rw (p.1, p.2) (misfit_element c.args.names.now c.args.elements.now c.loop-element.element-index c.element-item.result c.loop-element.found c.in_err-found.field-0.0 c.in_ok-value.value (λ o. EvaluatesList built_calls c.args.names.now (trees_of c.args.elements.now) nothing_yet o) c.loop-element-test.true c.element-item.is c.loop-element.invariant c.in_ok-value.ensures c.in_err-found.ensures)
 
 pub call-returns-in_default-kinds : goal.call-returns-in_default-kinds
-call-returns-in_default-kinds t c = wrong_count c.args.names.now c.args.place c.args.name.now c.args.arguments.now c.in-Some.row.now c.in-Value.call c.in-Some.ensures c.in-Value.is _ (sym c.in_default-kinds.ensures) c.fault-in_default-kinds.ensures
+call-returns-in_default-kinds t c = wrong_count c.args.names.now c.args.offset c.args.name.now c.args.arguments.now c.in-Some.row.now c.in-Value.call c.in-Some.ensures c.in-Value.is _ (sym c.in_default-kinds.ensures) c.fault-in_default-kinds.ensures
 
 pub call-returns-in_err-values : goal.call-returns-in_err-values
 call-returns-in_err-values t c =
     let p = err_from_is_err_and c.from_residual.result c.from_residual.ensures.1 in
-    rw (p.1, p.2) (arguments_fault c.args.names.now c.args.place c.args.name.now c.args.arguments.now c.in-Some.row.now c.in-Value.call c.in-Some.ensures c.in-Value.is c.in-Some-kinds.kinds.now c.in_err-values.field-0.0 (sym c.in-Some-kinds.ensures) c.in_err-values.ensures)
+    rw (p.1, p.2) (arguments_fault c.args.names.now c.args.offset c.args.name.now c.args.arguments.now c.in-Some.row.now c.in-Value.call c.in-Some.ensures c.in-Value.is c.in-Some-kinds.kinds.now c.in_err-values.field-0.0 (sym c.in-Some-kinds.ensures) c.in_err-values.ensures)
 
 pub call-returns-in-Some-bind : goal.call-returns-in-Some-bind
 call-returns-in-Some-bind t c =
     let binds = rw c.deref.ensures.value at c.in-Some-bind.ensures in
-    call_bound c.args.names.now c.args.place c.args.name.now c.args.arguments.now c.in-Some.row.now c.in-Value.call c.in-Some.ensures c.in-Value.is c.in-Some-kinds.kinds.now (values_of c.in_ok-values.values.items) _ c.apply.result (sym c.in-Some-kinds.ensures) c.in_ok-values.ensures (sym binds) c.apply.ensures
+    call_bound c.args.names.now c.args.offset c.args.name.now c.args.arguments.now c.in-Some.row.now c.in-Value.call c.in-Some.ensures c.in-Value.is c.in-Some-kinds.kinds.now (values_of c.in_ok-values.values.items) _ c.apply.result (sym c.in-Some-kinds.ensures) c.in_ok-values.ensures (sym binds) c.apply.ensures
 
 pub call-returns : goal.call-returns
 call-returns t c =
     let binds = rw c.deref.ensures.value at c.in-None.ensures in
-    let place = rw c.deref-in-None.ensures.value at c.misfit.ensures in
-    call_misfit c.args.names.now c.args.place c.args.name.now c.args.arguments.now c.in-Some.row.now c.in-Value.call c.in-Some.ensures c.in-Value.is c.in-Some-kinds.kinds.now (values_of c.in_ok-values.values.items) c.misfit.result (sym c.in-Some-kinds.ensures) c.in_ok-values.ensures (sym binds) place
+    let offset = rw c.deref-in-None.ensures.value at c.misfit.ensures in
+    call_misfit c.args.names.now c.args.offset c.args.name.now c.args.arguments.now c.in-Some.row.now c.in-Value.call c.in-Some.ensures c.in-Value.is c.in-Some-kinds.kinds.now (values_of c.in_ok-values.values.items) c.misfit.result (sym c.in-Some-kinds.ensures) c.in_ok-values.ensures (sym binds) offset

@@ -5,4 +5,4 @@ use Rattle.lc_eval.proofs.nearest.nearest_word.Goals as goal
 pub returns-in_err-word : goal.returns-in_err-word
 returns-in_err-word c =
     let p = err_from_is_err_and c.from_residual.result c.from_residual.ensures.1 in
-    rw (p.1, p.2) (near_fault c.args.place c.args.code.now c.args.list.now c.in_err-word.field-0.0 c.in_err-word.ensures)
+    rw (p.1, p.2) (near_fault c.args.offset c.args.code.now c.args.list.now c.in_err-word.field-0.0 c.in_err-word.ensures)

@@ -7,7 +7,7 @@ pub returns-in-Ok-write_whole : goal.returns-in-Ok-write_whole
 returns-in-Ok-write_whole g c =
     let made = rw c.deref.ensures.value at rw c.in-Ok-Text.field-0-is at c.in-Ok-Text.ensures.is in
     record {
-      session = ends_so (words_of c.args.words.now) c.in-Ok.budget _ _ printed c.in-Ok.ensures.is (
+      session = ends_so (words_of c.args.arguments.now) c.in-Ok.budget _ _ printed c.in-Ok.ensures.is (
         c.in-Ok-input.bytes.items,
         record { read = record { gave = c.in-Ok-input.ensures.given; ended = c.in-Ok-input.ensures.ended; within = c.in-Ok-input.ensures.within }; faults = c.in-Ok-input.ensures.count (λ f. cc) },
         (c.in-Ok-Text.text.items, made, (rw c.deref-2.ensures.value at c.in-Ok-write_whole.ensures.whole), c.in-Ok-write_whole.ensures.count),
@@ -18,7 +18,7 @@ pub returns : goal.returns
 returns g c =
     let made = rw c.deref.ensures.value at rw c.in-Ok-Text.field-0-is at c.in-Ok-Text.ensures.is in
     record {
-      session = ends_so (words_of c.args.words.now) c.in-Ok.budget _ _ sink_fault c.in-Ok.ensures.is (
+      session = ends_so (words_of c.args.arguments.now) c.in-Ok.budget _ _ sink_fault c.in-Ok.ensures.is (
         c.in-Ok-input.bytes.items,
         record { read = record { gave = c.in-Ok-input.ensures.given; ended = c.in-Ok-input.ensures.ended; within = c.in-Ok-input.ensures.within }; faults = c.in-Ok-input.ensures.count (λ f. cc) },
         (c.in-Ok-Text.text.items, made, (rw c.deref-2.ensures.value at c.in-Err-write_whole.ensures.front), c.in-Err-write_whole.ensures.count),

@@ -37,11 +37,11 @@ expression-returns-in-Number-clause-read t c = λ a d.
 pub expression-returns-in_ok-elements-in-OpenList-clause-read : goal.expression-returns-in_ok-elements-in-OpenList-clause-read
 expression-returns-in_ok-elements-in-OpenList-clause-read t c = λ a d.
     let bytes = c.args.source.now.bytes.now in
-    let place = c.in-Some.first.now.start in
+    let offset = c.in-Some.first.now.start in
     let found = c.in_ok-elements-in-OpenList in
     step_list bytes c.args.source.now.ending a c.args.tokens.now c.in-Some.first.now c.in-Some.rest.now c.in-Some.ensures.cases.0 c.in-OpenList.is (omega arith)
-    ∙ found.ensures.read (of_list place) a refl (omega arith)
-    ∙ ap (λ e. course bytes deepest (done a e) found.rest.now (ending_of c.args.source.now.ending)) (sym (tree_of-List place found.elements))
+    ∙ found.ensures.read (of_list offset) a refl (omega arith)
+    ∙ ap (λ e. course bytes deepest (done a e) found.rest.now (ending_of c.args.source.now.ending)) (sym (tree_of-List offset found.elements))
 
 pub expressions-returns-in-Some-clause-read : goal.expressions-returns-in-Some-clause-read
 expressions-returns-in-Some-clause-read t c = λ b a k d.
@@ -99,31 +99,31 @@ named_expression-returns-in_err-opening-clause-refused t c =
 pub named_expression-returns-in_err-arguments-in-Some-clause-refused : goal.named_expression-returns-in_err-arguments-in-Some-clause-refused
 named_expression-returns-in_err-arguments-in-Some-clause-refused t c =
     let bytes = c.args.source.now.bytes.now in
-    let place = c.args.first.now.start in
+    let offset = c.args.first.now.start in
     let x = text_of bytes c.args.first.now in
     let open_first = rw c.in-Some.is at c.in_ok-opening.ensures.read in
     let p = err_from_is_err_and c.from_residual-in_err-arguments-in-Some.result c.from_residual-in_err-arguments-in-Some.ensures.1 in
     rw (p.1, p.2) (λ a d.
-    refuses_from bytes c.args.source.now.ending (named a place x) c.args.tokens.now (opened (of_call place x) a) c.in-Some.rest.now _
-    (step_call bytes c.args.source.now.ending a place x c.args.tokens.now c.in-Some.rest.now open_first.0 (omega (arith, open_first.1)))
-    (c.in_err-arguments-in-Some.ensures.refused (of_call place x) a refl (omega arith)))
+    refuses_from bytes c.args.source.now.ending (named a offset x) c.args.tokens.now (opened (of_call offset x) a) c.in-Some.rest.now _
+    (step_call bytes c.args.source.now.ending a offset x c.args.tokens.now c.in-Some.rest.now open_first.0 (omega (arith, open_first.1)))
+    (c.in_err-arguments-in-Some.ensures.refused (of_call offset x) a refl (omega arith)))
 
 pub named_expression-returns-in-None-clause-read : goal.named_expression-returns-in-None-clause-read
 named_expression-returns-in-None-clause-read t c = λ a d.
     let bytes = c.args.source.now.bytes.now in
-    let place = c.args.first.now.start in
+    let offset = c.args.first.now.start in
     let x = text_of bytes c.args.first.now in
     let alone = rw c.in-None.is at c.in_ok-opening.ensures.read in
-    step_alone bytes c.args.source.now.ending a place x c.args.tokens.now alone
-    ∙ ap (λ e. course bytes deepest (done a e) c.args.tokens.now (ending_of c.args.source.now.ending)) (sym (tree_of-Name place c.in_ok-name.name ∙ ap (tree.name place) c.in_ok-name.ensures.text))
+    step_alone bytes c.args.source.now.ending a offset x c.args.tokens.now alone
+    ∙ ap (λ e. course bytes deepest (done a e) c.args.tokens.now (ending_of c.args.source.now.ending)) (sym (tree_of-Name offset c.in_ok-name.name ∙ ap (tree.name offset) c.in_ok-name.ensures.text))
 
 pub named_expression-returns-in_ok-arguments-in-Some-clause-read : goal.named_expression-returns-in_ok-arguments-in-Some-clause-read
 named_expression-returns-in_ok-arguments-in-Some-clause-read t c = λ a d.
     let bytes = c.args.source.now.bytes.now in
-    let place = c.args.first.now.start in
+    let offset = c.args.first.now.start in
     let x = text_of bytes c.args.first.now in
     let open_first = rw c.in-Some.is at c.in_ok-opening.ensures.read in
     let found = c.in_ok-arguments-in-Some in
-    step_call bytes c.args.source.now.ending a place x c.args.tokens.now c.in-Some.rest.now open_first.0 (omega (arith, open_first.1))
-    ∙ found.ensures.read (of_call place x) a refl (omega arith)
-    ∙ ap (λ e. course bytes deepest (done a e) found.rest.now (ending_of c.args.source.now.ending)) (sym (tree_of-Call place c.in_ok-name.name found.arguments ∙ ap (λ y. tree.call place y (trees_of found.arguments.items)) c.in_ok-name.ensures.text))
+    step_call bytes c.args.source.now.ending a offset x c.args.tokens.now c.in-Some.rest.now open_first.0 (omega (arith, open_first.1))
+    ∙ found.ensures.read (of_call offset x) a refl (omega arith)
+    ∙ ap (λ e. course bytes deepest (done a e) found.rest.now (ending_of c.args.source.now.ending)) (sym (tree_of-Call offset c.in_ok-name.name found.arguments ∙ ap (λ y. tree.call offset y (trees_of found.arguments.items)) c.in_ok-name.ensures.text))

@@ -9,7 +9,7 @@ use Rattle.lc_session.proofs.session.session.Goals as goal
 pub returns-in-Err-Usage-clause-session : goal.returns-in-Err-Usage-clause-session
 returns-in-Err-Usage-clause-session g c =
     let a = c.in-Err-Usage in
-    rw a.index-is (refused_words (words_of c.args.words.now) _ a.index (rw a.field-0-is at a.ensures))
+    rw a.index-is (refused_words (words_of c.args.arguments.now) _ a.index (rw a.field-0-is at a.ensures))
 
 pub returns-in-Err-NoMemory-clause-session : goal.returns-in-Err-NoMemory-clause-session
 returns-in-Err-NoMemory-clause-session g c = absurd (rw c.in-Err-NoMemory.field-0-is at c.in-Err-NoMemory.ensures)
@@ -20,7 +20,7 @@ returns-in-Err-NoMemory-clause-nothing g c asked given is none told = absurd (rw
 pub returns-in-Check-clause-session : goal.returns-in-Check-clause-session
 returns-in-Check-clause-session g c =
     let now : Around = around (g.V.Vault.contents c.args.vault.now) (g.V.Vault.faults c.args.vault.now) (map (hearing g.W.Watcher.heard g.W.Watcher.coming g.W.Watcher.pauses) c.args.watchers.now.items) in
-    c.check.ensures (words_of c.args.words.now) now c.in-Ok.ensures.0
+    c.check.ensures (words_of c.args.arguments.now) now c.in-Ok.ensures.0
 
 pub returns-in-Resume-clause-nothing : goal.returns-in-Resume-clause-nothing
 returns-in-Resume-clause-nothing g c asked given is none told = absurd (let e = sym (ap command_for c.in-Resume.is) ∙ runs c.in-Ok.asked asked _ c.in-Ok.ensures.0 given is in cc)

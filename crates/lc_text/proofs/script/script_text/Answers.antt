@@ -4,7 +4,7 @@ use Rattle.lc_text.proofs.script.script_text.Goals as goal
 pub returns-in-Ok-fault_line-clause-ends : goal.returns-in-Ok-fault_line-clause-ends
 returns-in-Ok-fault_line-clause-ends g c w h =
     let a = c.in-Err-Fault in
-    no_script_result w c.args.bytes.now (record { number = a.number; place = a.place }) c.in-Ok-fault_line.line.items c.ended.result c.args.course.now _ (rw a.field-0-is at a.ensures.fault) c.in-Ok-fault_line.ensures h c.ended.ensures
+    no_script_result w c.args.bytes.now (record { number = a.number; offset = a.offset }) c.in-Ok-fault_line.line.items c.ended.result c.args.course.now _ (rw a.field-0-is at a.ensures.fault) c.in-Ok-fault_line.ensures h c.ended.ensures
 
 pub returns-in-Err-clause-ends : goal.returns-in-Err-clause-ends
 returns-in-Err-clause-ends g c w h = starved_first w c.args.bytes.now c.args.course.now _ h
