@@ -10,7 +10,7 @@
 --   goppa_points, checks, inverses         the alternant form of a Goppa code; a check row; inverses
 --   goppa_code_word                        a word of a Goppa code
 --   extended_word, punctured_word, shortened_word, even_word, sum_word, uuv_word, product_word      a word of each combined code
---   coordinates_left_out, tensors          words without some coordinates; a word u_i v_j
+--   places_left_out, tensors               words without some places; a word u_i v_j
 --   expansions, replaced                   the elements of 16 by two of 4; a word of a concatenated code
 --   within_one, nearest_from_words, tie    words within a radius; the nearest word, and of two the first
 use Rattle.std.proofs.Common.{◌≡◌, ℕ, zero, suc, true, slice_index, refl, arith}
@@ -113,9 +113,9 @@ pub inverses : map (inverse Gf9) (1 ∷ 2 ∷ 3 ∷ 4 ∷ 5 ∷ 6 ∷ 7 ∷ 8 �
 unfolding digits number plus minus times top up times_x product shape shape_of size coefficients mul first_from first_that inverse
 inverses = refl
 
-pub coordinates_left_out : without (0 ∷ 2 ∷ []) (5 ∷ 6 ∷ 7 ∷ 8 ∷ []) ∷ without [] (5 ∷ 6 ∷ []) ∷ without (3 ∷ []) (5 ∷ 6 ∷ 7 ∷ 8 ∷ []) ∷ [] ≡ (6 ∷ 8 ∷ []) ∷ (5 ∷ 6 ∷ []) ∷ (5 ∷ 6 ∷ 7 ∷ []) ∷ []
+pub places_left_out : without (0 ∷ 2 ∷ []) (5 ∷ 6 ∷ 7 ∷ 8 ∷ []) ∷ without [] (5 ∷ 6 ∷ []) ∷ without (3 ∷ []) (5 ∷ 6 ∷ 7 ∷ 8 ∷ []) ∷ [] ≡ (6 ∷ 8 ∷ []) ∷ (5 ∷ 6 ∷ []) ∷ (5 ∷ 6 ∷ 7 ∷ []) ∷ []
 unfolding without_from without
-coordinates_left_out = refl
+places_left_out = refl
 
 pub tensors : tensor Gf5 (2 ∷ 0 ∷ 3 ∷ []) (1 ∷ 4 ∷ []) ≡ 2 ∷ 3 ∷ 0 ∷ 0 ∷ 3 ∷ 2 ∷ []
 unfolding digits number plus minus times top up times_x product shape shape_of coefficients mul scale tensor

@@ -47,7 +47,7 @@ unfoldable pub hamming_length : ℕ → ℕ → ℕ
 hamming_length q r = (q ^ r - 1) / (q - 1)
 
 unfoldable pub monomial : ℕ → List ℕ → List ℕ
-monomial m vs = map (λ coordinate. if list_all (λ v. coordinate / 2 ^ v % 2 == 1) vs then 1 else 0) (below (2 ^ m))
+monomial m vs = map (λ place. if list_all (λ v. place / 2 ^ v % 2 == 1) vs then 1 else 0) (below (2 ^ m))
 
 unfoldable pub subsets : List ℕ → ℕ → List (List ℕ)
 subsets [] r = [] ∷ []
