@@ -28,7 +28,7 @@ use Rattle.lc_constructions.specs.Refusal.{first_refusal}
 use Rattle.lc_constructions.specs.Refusals.{deleted_refusals}
 use Rattle.lc_constructions.proofs.ClosedLaws.{without_sum, without_scale, without_zero}
 use Rattle.lc_constructions.proofs.WithoutLaws.{length_without, deleted_fine, deleted_length, kept, taken}
-use Rattle.lc_matrix.proofs.PlaceLaws.{at_coordinate}
+use Rattle.lc_matrix.proofs.PlaceLaws.{at_place}
 use Rattle.lc_combine.specs.Rows.{punctured_rows}
 use Rattle.lc_combine.proofs.GeneratedLaws.{IsLinear, image_rows, image_span, span_image, generated_by, checked_by}
 use Rattle.lc_combine.proofs.SumLaws.{shaped}
