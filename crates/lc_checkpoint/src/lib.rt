@@ -8,6 +8,7 @@ mod seal;
 mod writing;
 
 pub use checkpoint::{Checkpoint, Settled};
-pub use reading::decode;
+pub use reading::{decode, ranged_at, script_at};
 pub use refusal::CheckpointRefusal;
+pub use seal::{digest_of, digits_of, seal_of};
 pub use writing::encode;

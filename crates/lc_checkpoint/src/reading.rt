@@ -1,5 +1,5 @@
 //! How bytes are read as a checkpoint.
-ghost use Rattle.std.specs.Prelude.{◌≡◌, ◌≤◌, ◌==◌, ◌||◌, map, length, codes, Option, option_map, option_and_then, IfOk, IfErr, IsErrOf, IsTrue};
+ghost use Rattle.std.specs.Prelude.{◌≡◌, ◌≤◌, ◌==◌, ◌||◌, map, length, codes, Option, option_map, option_and_then, IfOk, IfErr, IfSome, IsErrOf, IsTrue};
 ghost use Rattle.serde_json.specs.View.{view};
 ghost use Rattle.lc_formats.specs.Json.{number_at, numbers_of, plain_number, each};
 ghost use Rattle.lc_formats.specs.Checkpoint.{checkpoint_in, point, refused, damaged, is_whole, number_up_to, triple_of, is_in_range, settled_in, script_in, done_in, state_in, versioned, IsInRange};
@@ -32,10 +32,11 @@ fn is_whole(bytes: &[u8]) -> bool
     bytes[64] == b'\n'
 }
 
-// The number at a key, if it is within a range.
+/// Returns the number at a key of an object, if it is within a range, both ends included.
 #[tactic(auto, using(crate::proofs::PointLaws::ranged_at_laws))]
-fn ranged_at(object: &Value, key: &str, low: u64, high: u64) -> Option<u64>
+pub fn ranged_at(object: &Value, key: &str, low: u64, high: u64) -> Option<u64>
     ensures is { result ≡ number_up_to low high (number_at key.now (members_in (view object.now))) }
+    ensures range { IfSome result (λ n. (low ≤ n) × (n ≤ high)) }
 {
     match number_at(object, key) {
         Some(n) => {
@@ -51,9 +52,9 @@ fn ranged_at(object: &Value, key: &str, low: u64, high: u64) -> Option<u64>
     }
 }
 
-// The digest of the script.
+/// Returns the digest that an object has at the key `script`, as 64 lower-case hexadecimal digits.
 #[tactic(auto, using(crate::proofs::PointLaws::script_at_laws))]
-fn script_at(object: &Value) -> Option<[u8; 32]>
+pub fn script_at(object: &Value) -> Option<[u8; 32]>
     ensures is { result ≡ script_in (members_in (view object.now)) }
 {
     match text_at(object, "script") {

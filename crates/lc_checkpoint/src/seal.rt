@@ -1,4 +1,4 @@
-//! Hexadecimal digits, and the seal of a body: the digits of its SHA-256.
+//! Hexadecimal digits, and the seal of a body: the digits of its SHA-256. Checkpoints and the lines of parts have it.
 ghost use Rattle.std.specs.Prelude.{◌≡◌, Option};
 ghost use Rattle.sha2.specs.Sha256.{sha256};
 ghost use Rattle.hex.specs.Hex.{encode_lower};
@@ -8,8 +8,8 @@ use hex::{decode_to_slice, encode_to_slice};
 use lc_json::is_same;
 use sha2::{Digest, Sha256};
 
-// The 64 hexadecimal digits of 32 bytes, with lower-case letters.
-pub(crate) fn digits_of(bytes: &[u8; 32]) -> [u8; 64]
+/// Returns the 64 hexadecimal digits of 32 bytes, with lower-case letters.
+pub fn digits_of(bytes: &[u8; 32]) -> [u8; 64]
     ensures is { result ≡ encode_lower bytes.now }
 {
     let mut digits = [0u8; 64];
@@ -17,8 +17,8 @@ pub(crate) fn digits_of(bytes: &[u8; 32]) -> [u8; 64]
     digits
 }
 
-// The digits of the SHA-256 of a body.
-pub(crate) fn seal_of(body: &[u8]) -> [u8; 64]
+/// Returns the digits of the SHA-256 of a body, its seal.
+pub fn seal_of(body: &[u8]) -> [u8; 64]
     ensures is { result ≡ encode_lower (sha256 body.now) }
 {
     let mut hasher = Sha256::new();
@@ -26,8 +26,8 @@ pub(crate) fn seal_of(body: &[u8]) -> [u8; 64]
     digits_of(&hasher.finalize())
 }
 
-// The 32 bytes that 64 hexadecimal digits with lower-case letters write.
-pub(crate) fn digest_of(digits: &[u8]) -> Option<[u8; 32]>
+/// Returns the 32 bytes that 64 hexadecimal digits with lower-case letters write; nothing for other bytes.
+pub fn digest_of(digits: &[u8]) -> Option<[u8; 32]>
     ensures is { result ≡ digest_in digits.now }
 {
     let mut bytes = [0u8; 32];

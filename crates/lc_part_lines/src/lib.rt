@@ -5,7 +5,6 @@ pub mod laws;
 mod line;
 mod reading;
 mod refusal;
-mod seal;
 mod writing;
 
 pub use line::PartLine;

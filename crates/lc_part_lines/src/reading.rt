@@ -3,7 +3,6 @@ ghost use Rattle.std.specs.Prelude.{◌≡◌, ◌≤◌, nat_le, length, false,
 ghost use Rattle.std.specs.List.{list_all};
 ghost use Rattle.serde_json.specs.View.{view};
 ghost use Rattle.lc_formats.specs.Json.{number_at};
-ghost use Rattle.lc_formats.specs.Checkpoint.{number_up_to, script_in};
 ghost use Rattle.lc_json.specs.Inside.{members_in};
 ghost use Rattle.lc_parts.specs.Seen.{part_of, facts_seen};
 ghost use Rattle.lc_part_lines.specs.Line.{are_ranks, is_headed, size_in, facts_at, part_at, line_in, versioned, part_in, IsInRange};
@@ -11,10 +10,10 @@ ghost use Rattle.lc_part_lines.specs.Seen.{line_of, read_of};
 
 use crate::line::PartLine;
 use crate::refusal::LineRefusal;
-use crate::seal::{digest_of, seal_of};
 use lc_certificate::symbol_field;
+use lc_checkpoint::{ranged_at, script_at, seal_of};
 use lc_field::NoMemory;
-use lc_json::{has_keys, is_same, list_at, number_at, read as read_json, text_at};
+use lc_json::{has_keys, is_same, list_at, number_at, read as read_json};
 use lc_parts::{Facts, Part};
 use serde_json::Value;
 use std::alloc::Global;
@@ -37,37 +36,6 @@ fn is_headed(bytes: &[u8]) -> bool
         return false;
     }
     bytes[64] == b' '
-}
-
-// The number at a key, if it is within a range.
-#[tactic(auto, using(lc_checkpoint::proofs::PointLaws::ranged_at_laws))]
-fn ranged_at(object: &Value, key: &str, low: u64, high: u64) -> Option<u64>
-    ensures is { result ≡ number_up_to low high (number_at key.now (members_in (view object.now))) }
-    ensures range { IfSome result (λ n. (low ≤ n) × (n ≤ high)) }
-{
-    match number_at(object, key) {
-        Some(n) => {
-            if n < low {
-                return None;
-            }
-            if high < n {
-                return None;
-            }
-            Some(n)
-        }
-        None => None,
-    }
-}
-
-// The digest of the script.
-#[tactic(auto, using(lc_checkpoint::proofs::PointLaws::script_at_laws))]
-fn script_at(object: &Value) -> Option<[u8; 32]>
-    ensures is { result ≡ script_in (members_in (view object.now)) }
-{
-    match text_at(object, "script") {
-        Some(text) => digest_of(text.as_bytes()),
-        None => None,
-    }
 }
 
 // The size of the field, if it is that of a symbol field.

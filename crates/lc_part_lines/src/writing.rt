@@ -6,7 +6,7 @@ ghost use Rattle.lc_part_lines.specs.Pieces.{front_text, middle_text, back_text}
 ghost use Rattle.lc_part_lines.specs.Seen.{line_of};
 
 use crate::line::PartLine;
-use crate::seal::{digits_of, seal_of};
+use lc_checkpoint::{digits_of, seal_of};
 use lc_field::NoMemory;
 use lc_json::{push_list, push_number, push_text};
 use std::alloc::Global;
