@@ -64,9 +64,9 @@ fn least_in(
     requires tables { AreTables sets.now tables.now }
     requires grids { AreGrids sets.now grids.now }
     requires room { spot.old.room ≡ length sets.now.rows }
-    requires fronts { length fronts.old ≡ length sets.now.rows + 1 }
-    requires places { length places.old ≡ length sets.now.rows }
-    requires tops { length tops.old ≡ 1024 }
+    requires fronts { 0 < length grids.now → length fronts.old ≡ length sets.now.rows + 1 }
+    requires places { 0 < length grids.now → length places.old ≡ length sets.now.rows }
+    requires tops { 0 < length grids.now → length tops.old ≡ 1024 }
     requires counts { length counts.old ≡ 4096 }
     requires stack { stack.old.code ≡ sets.now }
     ensures room { spot.new.room ≡ spot.old.room }

@@ -1,6 +1,6 @@
 //! The memory that the kernel works in.
 
-ghost use Rattle.std.specs.Prelude.{◌≡◌, ℕ, [], length, IfOk};
+ghost use Rattle.std.specs.Prelude.{◌≡◌, ℕ, ◌<◌, [], true, length, IfOk};
 ghost use Rattle.std.specs.Arc.{arc_value};
 ghost use Rattle.lc_algebra.specs.declared.FieldName.TheVariants.{Gf2};
 ghost use Rattle.lc_kernel.specs.Tables.{AreTables, AreAllTables};
@@ -32,17 +32,17 @@ pub struct Scratch {
     // over more than 2 elements the tables of the sets, if there is room for them; none over 2 elements
     pub(crate) grids: Arc<Vec<Grid>>,
     pub(crate) spot: Spot,
-    // the planes, at a part of the columns, of the zero word, and then of the sums of the entries of a message but the
-    // last two
+    // only if there are grids: the planes, at a part of the columns, of the zero word, and then of the sums of the entries
+    // of a message but the last two
     pub(crate) fronts: Vec<[u64; 4]>,
-    // a support, and the planes of the words of its first places
+    // likewise: a support, and the planes of the words of its first places
     pub(crate) places: Vec<usize>,
     pub(crate) tops: Vec<[u64; 4]>,
     pub(crate) counts: Vec<u32>,
 }
 
 impl Model for Scratch {
-    ghost use Rattle.std.specs.Prelude.{◌≡◌, ◌+◌, length};
+    ghost use Rattle.std.specs.Prelude.{◌≡◌, ◌+◌, ◌<◌, length};
     ghost use Rattle.std.specs.Arc.{arc_value};
     ghost use Rattle.lc_algebra.specs.Matrix.{Matrix};
     ghost use Rattle.lc_kernel.specs.Tables.{AreTables, AreAllTables};
@@ -52,7 +52,7 @@ impl Model for Scratch {
 
     ghost view = { λ s. s.stack.code };
 
-    ghost invariant = { λ s. AreTables s.stack.code (arc_value s.tables).items × AreGrids s.stack.code (arc_value s.grids).items × (s.spot.room ≡ length s.stack.code.rows) × (length s.fronts.items ≡ length s.stack.code.rows + 1) × (length s.places.items ≡ length s.stack.code.rows) × (length s.tops.items ≡ 1024) × (length s.counts.items ≡ 4096) × AreAllTables s.stack.code (arc_value s.tables).items × AreAllGrids s.stack.code (arc_value s.grids).items };
+    ghost invariant = { λ s. AreTables s.stack.code (arc_value s.tables).items × AreGrids s.stack.code (arc_value s.grids).items × (s.spot.room ≡ length s.stack.code.rows) × (0 < length (arc_value s.grids).items → (length s.fronts.items ≡ length s.stack.code.rows + 1) × (length s.places.items ≡ length s.stack.code.rows) × (length s.tops.items ≡ 1024)) × (length s.counts.items ≡ 4096) × AreAllTables s.stack.code (arc_value s.tables).items × AreAllGrids s.stack.code (arc_value s.grids).items };
 }
 
 impl Scratch {
@@ -64,10 +64,12 @@ impl Scratch {
         let Ok(tables) = Arc::new(alloc, tables_of(alloc, sets)?) else {
             return Err(NoMemory);
         };
-        let Ok(grids) = Arc::new(alloc, grids_of(alloc, sets, stack.multiples())?) else {
+        let made = grids_of(alloc, sets, stack.multiples())?;
+        let has_grids = !made.is_empty();
+        let Ok(grids) = Arc::new(alloc, made) else {
             return Err(NoMemory);
         };
-        Scratch::of(alloc, stack, tables, grids)
+        Scratch::of(alloc, stack, tables, grids, has_grids)
     }
 
     /// Memory for blocks of the same sets, for another worker. It shares the tables.
@@ -80,29 +82,32 @@ impl Scratch {
         let Ok(grids) = Arc::try_clone(&self.grids) else {
             return Err(NoMemory);
         };
-        Scratch::of(alloc, self.stack.another(alloc)?, tables, grids)
+        let has_grids = !self.tops.is_empty();
+        Scratch::of(alloc, self.stack.another(alloc)?, tables, grids, has_grids)
     }
 
-    // The memory with a stack and tables for its sets.
+    // The memory with a stack and tables for its sets. What only grids need is left out if there are none.
     fn of(
         alloc: Global,
         stack: Stack,
         tables: Arc<Vec<Table>>,
         grids: Arc<Vec<Grid>>,
+        has_grids: bool,
     ) -> Result<Scratch, NoMemory>
         requires tables { AreTables stack.code (arc_value tables).items }
         requires grids { AreGrids stack.code (arc_value grids).items }
         requires all_tables { AreAllTables stack.code (arc_value tables).items }
         requires all_grids { AreAllGrids stack.code (arc_value grids).items }
+        requires has_grids { 0 < length (arc_value grids).items → has_grids ≡ true }
         ensures code { IfOk result (λ s. s ≡ stack.code) }
     {
         let k = stack.dimension();
         let Ok(spot) = Spot::new(alloc, k) else {
             return Err(NoMemory);
         };
-        let fronts = vec![in alloc; [0u64; 4]; k + 1]?;
-        let places = vec![in alloc; 0usize; k]?;
-        let tops = vec![in alloc; [0u64; 4]; MOST_HEADS]?;
+        let fronts = vec![in alloc; [0u64; 4]; if_wanted(has_grids, k + 1)]?;
+        let places = vec![in alloc; 0usize; if_wanted(has_grids, k)]?;
+        let tops = vec![in alloc; [0u64; 4]; if_wanted(has_grids, MOST_HEADS)]?;
         let counts = vec![in alloc; 0u32; 4096]?;
         Ok(Scratch {
             stack,
@@ -115,6 +120,16 @@ impl Scratch {
             counts,
         })
     }
+}
+
+// How many elements a list has that is `size` long if it is wanted, and else empty.
+fn if_wanted(wanted: bool, size: usize) -> usize
+    ensures is { wanted ≡ true → result ≡ size }
+{
+    if wanted {
+        return size;
+    }
+    0
 }
 
 // The tables of the sets, over 2 elements.

@@ -30,7 +30,8 @@ use std::sync::Arc;
 /// its sums.
 #[derive(Drop)]
 pub struct Stack {
-    code: Matrix,
+    // the code, shared by the stacks for it
+    code: Arc<Matrix>,
     spot: Spot,
     sums: Sums,
     // the multiples of the rows of all sets, shared by the stacks for them
@@ -46,9 +47,9 @@ impl Model for Stack {
 
     ghost Value = { StackState };
 
-    ghost view = { λ s. record { code = s.code; spot = s.spot; sums = sums_of (length s.spot.support) (words_of s.sums) } };
+    ghost view = { λ s. record { code = arc_value s.code; spot = s.spot; sums = sums_of (length s.spot.support) (words_of s.sums) } };
 
-    ghost invariant = { λ s. IsRoom s.code s.spot (words_of s.sums) × AreMultiples s.code (arc_value s.multiples).items × AreKept s.code s.sums };
+    ghost invariant = { λ s. IsRoom (arc_value s.code) s.spot (words_of s.sums) × AreMultiples (arc_value s.code) (arc_value s.multiples).items × AreKept (arc_value s.code) s.sums };
 }
 
 impl Stack {
@@ -62,10 +63,14 @@ impl Stack {
         let Ok(shared) = Arc::new(alloc, multiples) else {
             return Err(NoMemory);
         };
-        Stack::of(alloc, sets.code(), shared, sums)
+        let Ok(code) = Arc::new(alloc, sets.code().copy(alloc)?) else {
+            return Err(NoMemory);
+        };
+        Stack::of(alloc, code, shared, sums)
     }
 
-    /// A stack for messages of the same sets, which is at no message yet. It shares the multiples of their rows.
+    /// A stack for messages of the same sets, which is at no message yet. It shares the code and the multiples of its
+    /// rows.
     pub fn another(&self, alloc: Global) -> Result<Stack, NoMemory>
         ensures code { IfOk result (λ s. s.code ≡ self.now.code) }
         ensures none { IfOk result (λ s. s.sums ≡ []) }
@@ -73,28 +78,31 @@ impl Stack {
         let Ok(multiples) = Arc::try_clone(&self.multiples) else {
             return Err(NoMemory);
         };
+        let Ok(code) = Arc::try_clone(&self.code) else {
+            return Err(NoMemory);
+        };
         let sums = self.sums.another(alloc, &self.code)?;
-        Stack::of(alloc, &self.code, multiples, sums)
+        Stack::of(alloc, code, multiples, sums)
     }
 
     // A stack for messages of the sets of a code, which is at no message yet.
     fn of(
         alloc: Global,
-        code: &Matrix,
+        code: Arc<Matrix>,
         multiples: Arc<Vec<Word>>,
         sums: Sums,
     ) -> Result<Stack, NoMemory>
-        requires multiples { AreMultiples code.now (arc_value multiples).items }
-        requires kept { AreKept code.now sums }
-        requires zero { AreZeros code.now (words_of sums) }
-        ensures code { IfOk result (λ s. s.code ≡ code.now) }
+        requires multiples { AreMultiples (arc_value code) (arc_value multiples).items }
+        requires kept { AreKept (arc_value code) sums }
+        requires zero { AreZeros (arc_value code) (words_of sums) }
+        ensures code { IfOk result (λ s. s.code ≡ arc_value code) }
         ensures none { IfOk result (λ s. s.sums ≡ []) }
     {
         let Ok(spot) = Spot::new(alloc, code.rows()) else {
             return Err(NoMemory);
         };
         Ok(Stack {
-            code: code.copy(alloc)?,
+            code,
             spot,
             sums,
             multiples,

@@ -1,4 +1,5 @@
 use Rattle.std.proofs.Common.{◌≡◌, ◌<◌, ap, ◌∙◌, [], length, refl, subst, slice_index_or, arith}
+use Rattle.std.specs.Arc.{arc_value}
 use Rattle.lc_algebra.specs.Matrix.{Matrix}
 use Rattle.lc_algebra.specs.Word.{zero_word}
 use Rattle.lc_enumeration.specs.Search.{set_count}
@@ -27,7 +28,7 @@ pub returns-clause-at : goal.returns-clause-at
 returns-clause-at c =
     let at = rw (← c.self.view_is) at c.requires.at in
     let spot = c.step.new.spot in
-    stack_at c.args.sets.now c.self.inside.code c.args.plan.now.m spot (words_of c.refresh.new.self) _ at.code
+    stack_at c.args.sets.now (arc_value c.self.inside.code) c.args.plan.now.m spot (words_of c.refresh.new.self) _ at.code
     (omega (arith, at.set, c.step.ensures.set))
     (code_message c.args.sets.now c.args.plan.now spot c.requires.plan c.step.ensures.message)
     (omega (arith, at.level, c.step.ensures.level))

@@ -1,4 +1,6 @@
-use Rattle.std.proofs.Common.{◌≡◌, length, ap, ◌∙◌}
+use Rattle.std.proofs.Common.{length, ap, ◌∙◌}
+use Rattle.std.specs.Arc.{arc_value}
+use Rattle.lc_algebra.specs.Matrix.{Matrix}
 use Rattle.lc_place.specs.Place.{SpotState}
 use Rattle.lc_kernel.specs.PlaneSums.{words_of}
 use Rattle.lc_kernel.proofs.SumLaws.{front_room, no_sums}
@@ -6,10 +8,9 @@ use Rattle.lc_kernel.proofs.stack.Stack.of.Goals as goal
 
 pub invariant_of-result : goal.invariant_of-result
 invariant_of-result c =
-    let code = c.args.code.now in
-    let copy : c.in_ok-copy.field-0 ≡ code = c.in_ok-copy.ensures.same in
-    let spot = ap (λ (s : SpotState). s.room) c.in-Ok.ensures ∙ c.rows.ensures.is in
-    rw copy (front_room code c.in-Ok.spot (words_of c.args.sums) c.requires.zero.many c.requires.zero.zero spot, c.requires.multiples, c.requires.kept)
+    let code = arc_value c.args.code in
+    let spot = ap (λ (s : SpotState). s.room) c.in-Ok.ensures ∙ c.rows.ensures.is ∙ ap (λ (C : Matrix). length C.rows) c.deref.ensures in
+    (front_room code c.in-Ok.spot (words_of c.args.sums) c.requires.zero.many c.requires.zero.zero spot, c.requires.multiples, c.requires.kept)
 
 pub returns-clause-none : goal.returns-clause-none
 returns-clause-none c =
