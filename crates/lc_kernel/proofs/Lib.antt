@@ -20,3 +20,4 @@ pub mod TailCounts
 pub mod GroupLaws
 pub mod PlaneSumLaws
 pub mod PartLaws
+pub mod RoomLaws

@@ -6,13 +6,14 @@
 --   same_phase, phase_same, length_of_code      a phase and a length of a plan are those of its code
 --   block_value                  the least value of all words is that of the block
 --   words_of_block, block_value_of_words      the same by the words of the block
+--   counts_cut                   so many of 4,096 counts as a block has words
 --   first_of_block, spot_at      a spot at the first message of a block
 --   past_plan, past_block, at_word, word_there      the word at a place
 use Rattle.std.proofs.Common.{◌≡◌, ℕ, suc, ◌+◌, ◌-◌, ◌*◌, ◌/◌, ◌%◌, ◌^◌, ◌<◌, ◌≤◌, min, Bool, true, false, nat_lt, nat_le, ◌&&◌, if◌then◌else◌, List, [], ◌∷◌, length, take, drop, find, slice_get, slice_index_or, Some, None, option_map, Contains, refl, sym, ap, ◌∙◌, ⊎_elim, arith}
 use Rattle.std.proofs.Math.Nat.{mod-lt}
 use Rattle.std.proofs.lemmas.Bool.{cases_lt}
 use Rattle.std.proofs.lemmas.Bool.Decides.{nat_tests}
-use Rattle.std.proofs.lemmas.List.{length-map, length-take, length-drop}
+use Rattle.std.proofs.lemmas.List.{length-map, length-take, length-take-le, length-drop}
 use Rattle.std.proofs.lemmas.Option.{slice_get_past, slice_get-get_or, slice_get-map, get_or_from_slice_get, none-some}
 use Rattle.lc_algebra.specs.Field.{size}
 use Rattle.lc_algebra.specs.Word.{weight}
@@ -220,6 +221,11 @@ length_of_code C plan p b h = rw (h.dimension, h.field) refl
 
 pub words_of_block : (C : Matrix) (plan : PlanSize) (p b len : ℕ) → IsPlanOf plan C → IsInPhase plan.k plan.q plan.m p b → len ≡ block_length plan.k plan.q plan.m p b → length (block_words C plan.m b) ≡ len
 words_of_block C plan p b len h i e = block_long C plan.m p b (phase_same C plan p b h i) ∙ sym (e ∙ length_of_code C plan p b h)
+
+pub counts_cut : (C : Matrix) (plan : PlanSize) (b len : ℕ) (counts : List ℕ) → IsPlanOf plan C → ((p : ℕ) × IsInPhase (length C.rows) (size C.field) plan.m p b) → ((p : ℕ) → IsInPhase plan.k plan.q plan.m p b → len ≡ block_length plan.k plan.q plan.m p b) → len ≤ 4096 → length counts ≡ 4096 → length (take len counts) ≡ length (block_words C plan.m b)
+counts_cut C plan b len counts h phase exact few long =
+    let i : IsInPhase plan.k plan.q plan.m phase.0 b = rw (h.dimension, h.field) phase.1 in
+    length-take-le len counts (omega (arith, few, long)) ∙ sym (words_of_block C plan phase.0 b len h i (exact phase.0 i))
 
 pub block_value_of_words : (C : Matrix) (m p b v : ℕ) → IsInPhase (length C.rows) (size C.field) m p b → b < 2 ^ 40 → IsLeastValue (place_of b 0) (block_words C m b) (length (block_words C m b)) v → option_map board_value (block_least C m b) ≡ Some v
 block_value_of_words C m p b v h small l = block_value C m p b v h small (rw (← block_long C m p b h) l)

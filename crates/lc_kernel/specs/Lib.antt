@@ -11,3 +11,4 @@ pub mod Sweeps
 pub mod Grids
 pub mod Halves
 pub mod PlaneSums
+pub mod Room

@@ -7,15 +7,17 @@ ghost use Rattle.lc_enumeration.specs.Search.{block_least, board_value};
 ghost use Rattle.lc_kernel.specs.Kernel.{IsPlanOf, top_sum};
 ghost use Rattle.lc_kernel.specs.Tables.{AreTables};
 ghost use Rattle.lc_kernel.specs.Grids.{AreGrids};
+ghost use Rattle.lc_kernel.specs.Room.{IsWorkRoom, IsGridRoom, HasSizesOf};
 
 use crate::grid::Grid;
+use crate::room::Room;
 use crate::runs::by_runs;
 use crate::scratch::Scratch;
 use crate::stack::Stack;
 use crate::table::Table;
 use crate::tails::by_tails;
 use lc_infoset::Sets;
-use lc_place::{Plan, Spot};
+use lc_place::Plan;
 
 /// The least value of a block on the board: the weight times 2^52 plus the place of the lightest word of the
 /// block, the first of these.
@@ -35,11 +37,7 @@ pub fn least(sets: &Sets, plan: &Plan, block: u64, scratch: &mut Scratch) -> u64
         block,
         &scratch.tables,
         &scratch.grids,
-        &mut scratch.spot,
-        &mut scratch.fronts,
-        &mut scratch.places,
-        &mut scratch.tops,
-        &mut scratch.counts,
+        &mut scratch.room,
         &mut scratch.stack,
     )
 }
@@ -52,43 +50,31 @@ fn least_in(
     block: u64,
     tables: &[Table],
     grids: &[Grid],
-    spot: &mut Spot,
-    fronts: &mut [[u64; 4]],
-    places: &mut [usize],
-    tops: &mut [[u64; 4]],
-    counts: &mut [u32],
+    room: &mut Room,
     stack: &mut Stack,
 ) -> u64
     requires plan { IsPlanOf plan.now sets.now }
     requires block { block < total plan.now.k plan.now.q plan.now.m }
     requires tables { AreTables sets.now tables.now }
     requires grids { AreGrids sets.now grids.now }
-    requires room { spot.old.room ≡ length sets.now.rows }
-    requires fronts { 0 < length grids.now → length fronts.old ≡ length sets.now.rows + 1 }
-    requires places { 0 < length grids.now → length places.old ≡ length sets.now.rows }
-    requires tops { 0 < length grids.now → length tops.old ≡ 1024 }
-    requires counts { length counts.old ≡ 4096 }
+    requires room { IsWorkRoom (length sets.now.rows) room.old }
+    requires grid_room { 0 < length grids.now → IsGridRoom (length sets.now.rows) room.old }
     requires stack { stack.old.code ≡ sets.now }
-    ensures room { spot.new.room ≡ spot.old.room }
-    ensures fronts { length fronts.new ≡ length fronts.old }
-    ensures places { length places.new ≡ length places.old }
-    ensures tops { length tops.new ≡ length tops.old }
-    ensures counts { length counts.new ≡ length counts.old }
+    ensures room { HasSizesOf room.old room.new }
     ensures stack { stack.new.code ≡ stack.old.code }
     ensures is { option_map board_value (block_least sets.now plan.now.m block) ≡ Some result }
 {
     let _phase = plan.phase_of(block);
-    plan.start_of(block, spot);
-    let set = spot.set();
-    let level = spot.support().len();
+    plan.start_of(block, &mut room.spot);
+    let set = room.spot.set();
+    let level = room.spot.support().len();
     if level >= 3 && set < grids.len() {
-        let grid = &grids[set];
-        return by_tails(sets, plan, block, grid, spot, fronts, places, tops, counts);
+        return by_tails(sets, plan, block, &grids[set], room);
     }
     if set < tables.len() {
         let table = &tables[set];
         if level >= table.tail {
-            return by_runs(sets, plan, block, table, spot, counts);
+            return by_runs(sets, plan, block, table, &mut room.spot, &mut room.counts);
         }
     }
     scan(sets, plan, block, stack)

@@ -316,7 +316,7 @@ fn first_counted(sets: &Sets, plan: &Plan, block: u64, set: usize, counts: &[u32
 
 /// The least number of nonzero symbols, outside the basis, of the words of a block of a level of at least 3, from its
 /// first message on, and the first word that has it: support by support if a support hasn't too many heads, and else run
-/// by run. There is a count for each word.
+/// by run. There are at least as many counts as a block has words.
 pub(crate) fn least_words(
     sets: &Sets,
     plan: &Plan,
@@ -340,10 +340,8 @@ pub(crate) fn least_words(
     requires many { length fronts.old ≡ length sets.now.rows + 1 }
     requires places { length places.old ≡ length sets.now.rows }
     requires tops { length tops.old ≡ 1024 }
-    requires some { 0 < length counts.old }
-    requires counts { length counts.old ≤ 4096 }
-    requires words { length counts.old ≡ length (block_words sets.now plan.now.m block) }
-    ensures is { IsFirstLeast (length counts.old)
+    requires counts { length counts.old ≡ 4096 }
+    ensures is { IsFirstLeast (length (block_words sets.now plan.now.m block))
         (λ i. weight (restrict (others sets.now spot.old.set)
         (slice_index_or (block_words sets.now plan.now.m block) i []))) result.0 result.1 }
     ensures few { result.0 ≤ 255 }
@@ -352,6 +350,8 @@ pub(crate) fn least_words(
     let _n = sets.length();
     let set = spot.set();
     let level = spot.support().len();
+    let len = plan.block_len(block) as usize;
+    let counts = &mut counts[..len];
     let Some(many) = head_count(sets, level) else {
         count_fronts(sets, plan, block, grid, spot, fronts, counts);
         return first_counted(sets, plan, block, set, counts);

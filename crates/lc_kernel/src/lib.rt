@@ -13,6 +13,7 @@ mod part_counts;
 mod parts;
 mod place;
 mod planes;
+mod room;
 mod runs;
 mod scratch;
 mod stack;

@@ -9,12 +9,11 @@ ghost use Rattle.lc_kernel.specs.Sums.{AreMultiples};
 ghost use Rattle.lc_enumeration.specs.Search.{set_count};
 
 use crate::grid::{Grid, grid_of};
+use crate::room::Room;
 use crate::stack::Stack;
-use crate::sweeps::MOST_HEADS;
 use crate::table::{Table, table_of};
 use lc_field::NoMemory;
 use lc_infoset::Sets;
-use lc_place::Spot;
 use lc_vec::Word;
 use std::alloc::Global;
 use std::marker::Model;
@@ -31,28 +30,22 @@ pub struct Scratch {
     pub(crate) tables: Arc<Vec<Table>>,
     // over more than 2 elements the tables of the sets, if there is room for them; none over 2 elements
     pub(crate) grids: Arc<Vec<Grid>>,
-    pub(crate) spot: Spot,
-    // only if there are grids: the planes, at a part of the columns, of the zero word, and then of the sums of the entries
-    // of a message but the last two
-    pub(crate) fronts: Vec<[u64; 4]>,
-    // likewise: a support, and the planes of the words of its first places
-    pub(crate) places: Vec<usize>,
-    pub(crate) tops: Vec<[u64; 4]>,
-    pub(crate) counts: Vec<u32>,
+    pub(crate) room: Room,
 }
 
 impl Model for Scratch {
-    ghost use Rattle.std.specs.Prelude.{◌≡◌, ◌+◌, ◌<◌, length};
+    ghost use Rattle.std.specs.Prelude.{◌<◌, length};
     ghost use Rattle.std.specs.Arc.{arc_value};
     ghost use Rattle.lc_algebra.specs.Matrix.{Matrix};
     ghost use Rattle.lc_kernel.specs.Tables.{AreTables, AreAllTables};
     ghost use Rattle.lc_kernel.specs.Grids.{AreGrids, AreAllGrids};
+    ghost use Rattle.lc_kernel.specs.Room.{IsWorkRoom, IsGridRoom};
 
     ghost Value = { Matrix };
 
     ghost view = { λ s. s.stack.code };
 
-    ghost invariant = { λ s. AreTables s.stack.code (arc_value s.tables).items × AreGrids s.stack.code (arc_value s.grids).items × (s.spot.room ≡ length s.stack.code.rows) × (0 < length (arc_value s.grids).items → (length s.fronts.items ≡ length s.stack.code.rows + 1) × (length s.places.items ≡ length s.stack.code.rows) × (length s.tops.items ≡ 1024)) × (length s.counts.items ≡ 4096) × AreAllTables s.stack.code (arc_value s.tables).items × AreAllGrids s.stack.code (arc_value s.grids).items };
+    ghost invariant = { λ s. AreTables s.stack.code (arc_value s.tables).items × AreGrids s.stack.code (arc_value s.grids).items × IsWorkRoom (length s.stack.code.rows) s.room × (0 < length (arc_value s.grids).items → IsGridRoom (length s.stack.code.rows) s.room) × AreAllTables s.stack.code (arc_value s.tables).items × AreAllGrids s.stack.code (arc_value s.grids).items };
 }
 
 impl Scratch {
@@ -82,7 +75,7 @@ impl Scratch {
         let Ok(grids) = Arc::try_clone(&self.grids) else {
             return Err(NoMemory);
         };
-        let has_grids = !self.tops.is_empty();
+        let has_grids = !self.room.tops.is_empty();
         Scratch::of(alloc, self.stack.another(alloc)?, tables, grids, has_grids)
     }
 
@@ -101,35 +94,14 @@ impl Scratch {
         requires has_grids { 0 < length (arc_value grids).items → has_grids ≡ true }
         ensures code { IfOk result (λ s. s ≡ stack.code) }
     {
-        let k = stack.dimension();
-        let Ok(spot) = Spot::new(alloc, k) else {
-            return Err(NoMemory);
-        };
-        let fronts = vec![in alloc; [0u64; 4]; if_wanted(has_grids, k + 1)]?;
-        let places = vec![in alloc; 0usize; if_wanted(has_grids, k)]?;
-        let tops = vec![in alloc; [0u64; 4]; if_wanted(has_grids, MOST_HEADS)]?;
-        let counts = vec![in alloc; 0u32; 4096]?;
+        let room = Room::new(alloc, stack.dimension(), has_grids)?;
         Ok(Scratch {
             stack,
             tables,
             grids,
-            spot,
-            fronts,
-            places,
-            tops,
-            counts,
+            room,
         })
     }
-}
-
-// How many elements a list has that is `size` long if it is wanted, and else empty.
-fn if_wanted(wanted: bool, size: usize) -> usize
-    ensures is { wanted ≡ true → result ≡ size }
-{
-    if wanted {
-        return size;
-    }
-    0
 }
 
 // The tables of the sets, over 2 elements.

@@ -12,11 +12,13 @@ ghost use Rattle.lc_kernel.specs.Kernel.{IsPlanOf};
 ghost use Rattle.lc_kernel.specs.Values.{IsSpotAt};
 ghost use Rattle.lc_kernel.specs.Grid.{tail_count, tail_index};
 ghost use Rattle.lc_kernel.specs.Grids.{IsGrid};
+ghost use Rattle.lc_kernel.specs.Room.{IsWorkRoom, IsGridRoom, HasSizesOf};
 ghost use Rattle.lc_kernel.specs.Sums.{front_word};
 
 use crate::fronts::least_words;
 use crate::grid::Grid;
 use crate::multiples::nonzero;
+use crate::room::Room;
 use lc_infoset::Sets;
 use lc_place::{Plan, Spot};
 
@@ -68,52 +70,34 @@ pub(crate) fn pass(
 }
 
 /// The least value of a block of a level of at least 3, over more than 2 elements, from its first message on.
-pub(crate) fn by_tails(
-    sets: &Sets,
-    plan: &Plan,
-    block: u64,
-    grid: &Grid,
-    spot: &mut Spot,
-    fronts: &mut [[u64; 4]],
-    places: &mut [usize],
-    tops: &mut [[u64; 4]],
-    counts: &mut [u32],
-) -> u64
+pub(crate) fn by_tails(sets: &Sets, plan: &Plan, block: u64, grid: &Grid, room: &mut Room) -> u64
     requires plan { IsPlanOf plan.now sets.now }
     requires block { block < total plan.now.k plan.now.q plan.now.m }
-    requires set { spot.old.set < set_count sets.now }
-    requires at { IsSpotAt sets.now plan.now.m block 0 spot.old }
-    requires level { 3 ≤ length spot.old.support }
-    requires grid { IsGrid sets.now spot.old.set grid.now.planes grid.now.tails grid.now.parts.items
+    requires set { room.old.spot.set < set_count sets.now }
+    requires at { IsSpotAt sets.now plan.now.m block 0 room.old.spot }
+    requires level { 3 ≤ length room.old.spot.support }
+    requires grid { IsGrid sets.now room.old.spot.set grid.now.planes grid.now.tails grid.now.parts.items
         grid.now.starts.items }
-    requires room { spot.old.room ≡ length sets.now.rows }
-    requires many { length fronts.old ≡ length sets.now.rows + 1 }
-    requires places { length places.old ≡ length sets.now.rows }
-    requires tops { length tops.old ≡ 1024 }
-    requires counts { length counts.old ≡ 4096 }
+    requires room { IsWorkRoom (length sets.now.rows) room.old }
+    requires grid_room { IsGridRoom (length sets.now.rows) room.old }
     ensures is { option_map board_value (block_least sets.now plan.now.m block) ≡ Some result }
-    ensures room { spot.new.room ≡ spot.old.room }
-    ensures many { length fronts.new ≡ length fronts.old }
-    ensures places { length places.new ≡ length places.old }
-    ensures tops { length tops.new ≡ length tops.old }
-    ensures counts { length counts.new ≡ length counts.old }
+    ensures room { HasSizesOf room.old room.new }
 {
     let _few = plan.total();
     let _phase = plan.phase_of(block);
     let _k = sets.dimension();
     let _n = sets.length();
-    let level = spot.support().len() as u64;
-    let len = plan.block_len(block) as usize;
+    let level = room.spot.support().len() as u64;
     let (least, at) = least_words(
         sets,
         plan,
         block,
         grid,
-        spot,
-        fronts,
-        places,
-        tops,
-        &mut counts[..len],
+        &mut room.spot,
+        &mut room.fronts,
+        &mut room.places,
+        &mut room.tops,
+        &mut room.counts,
     );
     (level + least as u64) * 4_503_599_627_370_496 + (block * 4096 + at as u64)
 }

@@ -1,27 +1,27 @@
-use Rattle.std.proofs.Common.{◌≡◌, ◌<◌, ◌^◌, length, take, sym, ap, ◌∙◌, arith}
-use Rattle.std.proofs.lemmas.List.{length-take-le}
+use Rattle.std.proofs.Common.{◌<◌, ◌^◌, length, refl, ap, ◌∙◌, arith, rules}
 use Rattle.lc_enumeration.specs.Search.{block_words}
 use Rattle.lc_kernel.proofs.FrontLaws.{entries_are}
-use Rattle.lc_kernel.proofs.ScanLaws.{phase_same, words_of_block}
+use Rattle.lc_enumeration.proofs.SearchLaws.{few_in_block}
+use Rattle.lc_kernel.proofs.ScanLaws.{phase_same}
+use Rattle.lc_kernel.proofs.RoomLaws.{written_length}
 use Rattle.lc_kernel.proofs.TailLaws.{least_of_block}
 use Rattle.lc_kernel.proofs.tails.by_tails.Goals as goal
 
-pub least_words-least-requires-clause-words : goal.least_words-least-requires-clause-words
-least_words-least-requires-clause-words c =
-    let found = c.phase_of-phase.ensures.found in
-    let long = words_of_block c.args.sets.now c.args.plan.now found.0 c.args.block c.block_len-len.result c.requires.plan found.1 (c.block_len-len.ensures.exact found.0 found.1) in
-    length-take-le c.block_len-len.result c.args.counts.now (omega (arith, c.block_len-len.ensures.few, c.requires.counts)) ∙ sym long
-
 pub overflow_mul-result : goal.overflow_mul-result
 overflow_mul-result c =
-    let few = (entries_are c.args.sets.now c.args.spot.now c.requires.at.message).few in
+    let few = (entries_are c.args.sets.now c.args.room.now.spot c.requires.at.message).few in
     omega (arith, c.least_words-least.ensures.few, few, ap length c.support.ensures.places, c.dimension-k.ensures.is, c.dimension-k.ensures.most, c.length-n.ensures.is, c.length-n.ensures.most)
+
+pub overflow_add-result-2 : goal.overflow_add-result-2
+overflow_add-result-2 c =
+    let at : c.least_words-least.result.1 < 4096 = omega (arith, c.least_words-least.ensures.is.inside, few_in_block c.args.sets.now c.args.plan.now.m c.args.block) in
+    omega (arith, at, c.requires.block, c.total-few.ensures.exact, c.total-few.ensures.few)
 
 pub overflow_add-result-3 : goal.overflow_add-result-3
 overflow_add-result-3 c =
-    let few = (entries_are c.args.sets.now c.args.spot.now c.requires.at.message).few in
-    let long : length (take c.block_len-len.result c.args.counts.now) ≡ c.block_len-len.result = length-take-le c.block_len-len.result c.args.counts.now (omega (arith, c.block_len-len.ensures.few, c.requires.counts)) in
-    let at : c.least_words-least.result.1 < 4096 = omega (arith, c.least_words-least.ensures.is.inside, long, c.block_len-len.ensures.few) in
+    let C = c.args.sets.now in
+    let few = (entries_are C c.args.room.now.spot c.requires.at.message).few in
+    let at : c.least_words-least.result.1 < 4096 = omega (arith, c.least_words-least.ensures.is.inside, few_in_block C c.args.plan.now.m c.args.block) in
     omega (arith, c.least_words-least.ensures.few, at, few, ap length c.support.ensures.places, c.dimension-k.ensures.is, c.dimension-k.ensures.most, c.length-n.ensures.is, c.length-n.ensures.most, c.requires.block, c.total-few.ensures.exact, c.total-few.ensures.few)
 
 pub returns-clause-is : goal.returns-clause-is
@@ -29,11 +29,16 @@ returns-clause-is c =
     let C = c.args.sets.now in
     let plan = c.args.plan.now in
     let b = c.args.block in
-    let n = c.block_len-len.result in
-    let old = c.args.counts.now in
     let found = c.phase_of-phase.ensures.found in
     let phase = phase_same C plan found.0 b c.requires.plan found.1 in
     let small : b < 2 ^ 40 = omega (arith, c.requires.block, c.total-few.ensures.exact, c.total-few.ensures.few) in
-    let words : length (block_words C plan.m b) ≡ n = words_of_block C plan found.0 b n c.requires.plan found.1 (c.block_len-len.ensures.exact found.0 found.1) in
-    let long : length (take n old) ≡ n = length-take-le n old (omega (arith, c.block_len-len.ensures.few, c.requires.counts)) in
-    least_of_block C plan found.0 b (length c.support.result.now) (length (take n old)) c.least_words-least.result.0 c.least_words-least.result.1 c.args.spot.now c.requires.plan c.dimension-k.ensures.rows c.dimension-k.ensures.independent c.requires.set phase small c.requires.at (ap length c.support.ensures.places) (long ∙ sym words) c.least_words-least.ensures.is
+    least_of_block C plan found.0 b (length c.support.result.now) (length (block_words C plan.m b)) c.least_words-least.result.0 c.least_words-least.result.1 c.args.room.now.spot c.requires.plan c.dimension-k.ensures.rows c.dimension-k.ensures.independent c.requires.set phase small c.requires.at (ap length c.support.ensures.places) refl c.least_words-least.ensures.is
+
+pub returns-clause-room : goal.returns-clause-room
+returns-clause-room c = record {
+  spot = search rules;
+  fronts = written_length c.args.room.now.fronts.len c.least_words-least.new.fronts c.args.room.now.fronts.items (c.least_words-least.auto.fronts ∙ ap length c.deref_mut.ensures.value) (omega (arith, c.args.room.now.fronts.ok.0));
+  places = written_length c.args.room.now.places.len c.least_words-least.new.places c.args.room.now.places.items (c.least_words-least.auto.places ∙ ap length c.deref_mut-2.ensures.value) (omega (arith, c.args.room.now.places.ok.0));
+  tops = written_length c.args.room.now.tops.len c.least_words-least.new.tops c.args.room.now.tops.items (c.least_words-least.auto.tops ∙ ap length c.deref_mut-3.ensures.value) (omega (arith, c.args.room.now.tops.ok.0));
+  counts = written_length c.args.room.now.counts.len c.least_words-least.new.counts c.args.room.now.counts.items (c.least_words-least.auto.counts ∙ ap length c.deref_mut-4.ensures.value) (omega (arith, c.args.room.now.counts.ok.0));
+}
