@@ -1,8 +1,12 @@
+mod AgreeLaws
 mod DisagreeLaws
 mod JoinLaws
 mod LineLaws
+mod MembersLaws
+mod NewlineLaws
 pub mod Opened
 mod OptionLaws
+mod PrintedLaws
 mod SessionLaws
 mod StatusLaws
 mod TruthLaws

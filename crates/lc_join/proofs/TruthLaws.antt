@@ -1,4 +1,5 @@
 -- True lines make true checkpoints.
+--   true_parts, underway         the parts of true lines, and a state to which they bring the search
 --   true_text                    the text of true lines
 use Rattle.std.proofs.Common.{◌≡◌, ℕ, ◌^◌, ◌<◌, ◌≤◌, List, [], ◌∷◌, length, get_or, All, Contains, Some, refl, sym, ap, subst, ◌∙◌, inr, arith}
 use Rattle.std.proofs.lemmas.List.{get_or-map, length-map}
@@ -18,7 +19,7 @@ use Rattle.lc_join.specs.Lines.{Numbered, parts_in}
 use Rattle.lc_join.specs.Joining.{IsJoined, joined_point, HasText}
 use Rattle.lc_join.specs.Truth.{IsTrueLine, IsTrueText}
 
-true_parts : (digest : List ℕ) (C : Matrix) (lines : List Numbered) → All (IsTrueLine digest C) lines → All (IsTruePart C) (parts_in lines)
+pub true_parts : (digest : List ℕ) (C : Matrix) (lines : List Numbered) → All (IsTrueLine digest C) lines → All (IsTruePart C) (parts_in lines)
 true_parts digest C [] all = λ k d l. absurd (omega (arith, l))
 true_parts digest C (x ∷ xs) all = λ k d l.
     let inside : k < length (x ∷ xs) = omega (arith, l, length-map (x ∷ xs) (λ y. y.line.part)) in
@@ -27,7 +28,7 @@ true_parts digest C (x ∷ xs) all = λ k d l.
 drawn_true : (C : Matrix) (ps taken : List Part) → All (IsTruePart C) ps → All (Contains ps) taken → All (IsTruePart C) taken
 drawn_true C ps taken all drawn = λ k d l. let c = drawn k d l in subst (IsTruePart C) c.2 (all c.0 (get_or taken k d) c.1)
 
-underway : (C : Matrix) (budget : ℕ) (ps : List Part) (s : Progress) → 0 < length C.rows → budget ≤ 2 ^ 40 → All (IsTruePart C) ps → IsJoined (facts_of C) budget ps s → IsUnderway (divisor_of C) C budget s
+pub underway : (C : Matrix) (budget : ℕ) (ps : List Part) (s : Progress) → 0 < length C.rows → budget ≤ 2 ^ 40 → All (IsTruePart C) ps → IsJoined (facts_of C) budget ps s → IsUnderway (divisor_of C) C budget s
 underway C budget ps s rows small all j = subst (IsUnderway (divisor_of C) C budget) j.reached (from_first C budget j.taken rows small (drawn_true C ps j.taken all j.drawn))
 
 whole_of : (script : List ℕ) (budget : ℕ) (s : Progress) → whole_start (joined_point script budget s) ≡ record { settled = []; current = Some s }

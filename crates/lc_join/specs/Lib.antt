@@ -2,5 +2,6 @@ pub mod Asked
 pub mod Lines
 pub mod Joining
 pub mod JoinSession
+pub mod Meant
 pub mod Seen
 pub mod Truth

@@ -4,11 +4,12 @@
 --   lines_after n lines          those of some lines that are lines of parts; there are n lines before them
 --   lines_in bytes               the lines of parts in the bytes: a line is what comes before a newline, or after the last one
 --   parts_in lines               their parts
+--   HaveSameParts lines others   a part is one of some lines exactly if it is one of the others
 --   AreOfOne a b                 two lines are of one search: they name one script and the same facts
 --   Agree a b                    they are of one search, and if they have one range they have one word
 --   Disagree lines i j           the line of number j is the first that disagrees with an earlier one, and of these the line of
 --                                number i is the first
-use Rattle.std.specs.Prelude.{◌≡◌, ℕ, ◌+◌, ◌<◌, false, ◌==◌, List, [], ◌∷◌, length, map, take, slice_index_or, All, Option, Some, None}
+use Rattle.std.specs.Prelude.{◌≡◌, ℕ, ◌+◌, ◌<◌, ◌↔◌, false, ◌==◌, List, [], ◌∷◌, length, map, take, slice_index_or, All, Contains, Option, Some, None}
 use Rattle.std.specs.List.{cons_option, slice_split, AllPairs}
 use Rattle.lc_parts.specs.Part.{Part}
 use Rattle.lc_parts.specs.Joined.{differs_from}
@@ -31,6 +32,9 @@ lines_in bytes = lines_after 0 (slice_split (λ b. b == 10) bytes)
 
 abbrev pub parts_in : List Numbered → List Part
 parts_in lines = map (λ l. l.line.part) lines
+
+abbrev pub HaveSameParts : List Numbered → List Numbered → Type 0
+HaveSameParts lines others = (p : Part) → Contains (parts_in lines) p ↔ Contains (parts_in others) p
 
 abbrev pub AreOfOne : PartLine → PartLine → Type 0
 AreOfOne a b = (b.script ≡ a.script) × (b.facts ≡ a.facts)

@@ -1,3 +1,5 @@
 pub mod NeedLaws
+pub mod PrintedLaws
+pub mod RangeLaws
 pub mod SessionLaws
 pub mod WordLaws
