@@ -1,5 +1,5 @@
 //! Whether one code lies in another, or is the same.
-ghost use Rattle.std.specs.Prelude.{◌≡◌, ◌↔◌, All, length, IsTrue, IfOk};
+ghost use Rattle.std.specs.Prelude.{◌≡◌, ◌↔◌, None, All, length, IsTrue, IfOk, IsOk};
 ghost use Rattle.lc_constructions.specs.Code.{InCode};
 ghost use Rattle.lc_constructions.specs.Refusal.{first_refusal, IsRefusedAs, RefusesFirst};
 ghost use Rattle.lc_constructions.specs.Refusals.{intersection_refusals};
@@ -50,7 +50,7 @@ fn rows_lie_in(a: &Code, b: &Code, rest: &mut [u8]) -> bool
     true
 }
 
-/// Whether two codes have the same words.
+/// Whether two codes have the same words. No memory is taken, so there is always an answer or a refusal.
 ///
 /// Refused in this order: the fields differ, FieldsDiffer; the lengths differ, LengthsDiffer.
 #[tactic(auto, using(lc_constructions::proofs::RefusalLaws::refused_or_not))]
@@ -58,6 +58,7 @@ pub fn is_same_code(a: &Code, b: &Code) -> Result<bool, CodeRefusal>
     ensures is { IfOk result (λ t. IsTrue t ↔ IsSameCode a.now b.now) }
     ensures refused { IsRefusedAs result (first_refusal (intersection_refusals a.now b.now)) }
     ensures first { RefusesFirst result (first_refusal (intersection_refusals a.now b.now)) }
+    ensures answered { first_refusal (intersection_refusals a.now b.now) ≡ None → IsOk result }
 {
     check_pair(a, b)?;
     Ok(have_same_words(a, b))

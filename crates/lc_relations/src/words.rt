@@ -1,5 +1,5 @@
 //! Sums and multiples of words, and the distance of two.
-ghost use Rattle.std.specs.Prelude.{◌≡◌, ◌<◌, IfOk};
+ghost use Rattle.std.specs.Prelude.{◌≡◌, ◌<◌, None, IfOk, IsOk};
 ghost use Rattle.lc_algebra.specs.Field.{size};
 ghost use Rattle.lc_algebra.specs.Word.{Fits, word_sum, scale as multiple_of};
 ghost use Rattle.lc_constructions.specs.Refusal.{first_refusal, IsRefusedAs, RefusesFirst};
@@ -53,7 +53,7 @@ fn multiple(alloc: Global, field: &Field, c: u8, x: &[u8]) -> Result<Word, NoMem
 }
 
 /// The Hamming distance of two lists of numbers: the number of coordinates in which they differ (MacWilliams and Sloane, chapter 1;
-/// GUAVA manual, `DistanceCodeword`). No memory is taken.
+/// GUAVA manual, `DistanceCodeword`). No memory is taken, so there is always an answer or a refusal.
 ///
 /// Refused: the lengths differ, LengthsDiffer.
 #[tactic(auto, using(crate::proofs::RefusalLaws::distance_laws))]
@@ -61,6 +61,7 @@ pub fn hamming_distance(x: &[u64], y: &[u64]) -> Result<usize, CodeRefusal>
     ensures is { IfOk result (λ d. d ≡ hamming_distance x.now y.now) }
     ensures refused { IsRefusedAs result (first_refusal (distance_refusals x.now y.now)) }
     ensures first { RefusesFirst result (first_refusal (distance_refusals x.now y.now)) }
+    ensures answered { first_refusal (distance_refusals x.now y.now) ≡ None → IsOk result }
 {
     if x.len() != y.len() {
         return Err(CodeRefusal::LengthsDiffer);
