@@ -1,14 +1,16 @@
 #!/usr/bin/env python3
 """Runs scripts that are made at random through the program and through the reference program, and compares.
 
-    tools/compare.py PROGRAM KIND COUNT
+    tools/compare.py PROGRAM KIND COUNT [PASSED]
 
-PROGRAM is the path of `codes`; KIND is one of those of tools/random_scripts.py. The texts, the statuses and the records on
-standard error must be the same. Prints each script on which they differ, and ends with 1 where there is one.
+PROGRAM is the path of `codes`; KIND is one of those of tools/random_scripts.py. The first PASSED scripts are made and passed over,
+so that several of these programs can share a long list. The texts, the statuses and the records on standard error must be the
+same. Prints each script on which they differ, and ends with 1 where there is one.
 """
 import subprocess
 import sys
 from concurrent.futures import ThreadPoolExecutor
+from itertools import islice
 
 from random_scripts import scripts
 from reference import ended
@@ -23,7 +25,8 @@ def run(program, script):
 
 def main():
     program, kind, count = sys.argv[1], sys.argv[2], int(sys.argv[3])
-    made = list(scripts(kind, count))
+    passed = int(sys.argv[4]) if len(sys.argv) > 4 else 0
+    made = list(islice(scripts(kind, passed + count), passed, None))
     differ = 0
     with ThreadPoolExecutor(LANES) as lanes:
         for script, (text, status, error) in zip(made, lanes.map(lambda script: run(program, script), made)):
