@@ -22,7 +22,7 @@ pub fn fits(field: &Field, symbols: &[u8]) -> bool
 ///
 /// Both words have the same length, and their symbols and `c` are elements of the field.
 #[inline]
-#[tactic(auto, using(crate::proofs::SymbolLaws::word_sum_made))]
+#[tactic(auto, using(crate::proofs::SymbolLaws::word_sum_made, lc_algebra::proofs::WordLaws::one_scale))]
 pub fn add_scaled(field: &Field, to: &mut [u8], from: &[u8], c: u8)
     requires lengths { length to.old ≡ length from.now }
     requires to { Fits field.now to.old }
@@ -31,8 +31,28 @@ pub fn add_scaled(field: &Field, to: &mut [u8], from: &[u8], c: u8)
     ensures is { to.new ≡ word_sum field.now to.old (scale_of field.now c from.now) }
     ensures fits { Fits field.now to.new }
 {
+    if c == 1 && field.characteristic() == 2 {
+        add_exclusive(field, to, from);
+        return;
+    }
     for i in 0..to.len() {
         to[i] = field.add(to[i], field.mul(c, from[i]));
+    }
+}
+
+// Adds the word `from` to the word `to` in characteristic 2, by exclusive or: a loop that the compiler does on many symbols at
+// once.
+#[tactic(auto, using(crate::proofs::SymbolLaws::sum_made))]
+fn add_exclusive(field: &Field, to: &mut [u8], from: &[u8])
+    requires even { (shape_of field.now).characteristic ≡ 2 }
+    requires lengths { length to.old ≡ length from.now }
+    requires to { Fits field.now to.old }
+    requires from { Fits field.now from.now }
+    ensures is { to.new ≡ word_sum field.now to.old from.now }
+    ensures fits { Fits field.now to.new }
+{
+    for i in 0..to.len() {
+        to[i] = exclusive(field, to[i], from[i]);
     }
 }
 
