@@ -7,6 +7,7 @@ ghost use Rattle.lc_arguments.specs.Asked.{words_of, command_for, key_for, keys_
 use crate::keys::{Key, command_in, is_text, key_in};
 use crate::numbers::{number_within, yes_or_no};
 use crate::request::{Command, OptionRefusal, Settings};
+use lc_enumeration::{CUT, DEFAULT_BUDGET};
 use std::alloc::Global;
 
 /// The name and the value of an argument: what comes before its first `=`, and what comes after it. None if it has none.
@@ -57,11 +58,11 @@ fn with_value(asked: Settings, key: Key, value: &str) -> Option<Settings>
             Some(Settings { round, ..asked })
         }
         Key::Budget => {
-            let budget = number_within(value, 0, 1 << 40)?;
+            let budget = number_within(value, 0, CUT)?;
             Some(Settings { budget, ..asked })
         }
         Key::Slice => {
-            let slice = number_within(value, 1, 1 << 40)?;
+            let slice = number_within(value, 1, CUT)?;
             Some(Settings {
                 slice: Some(slice),
                 ..asked
@@ -132,7 +133,7 @@ fn settings_in(command: Command, arguments: &[String]) -> Result<Settings, usize
         command,
         workers: 1,
         round: 256,
-        budget: 1 << 20,
+        budget: DEFAULT_BUDGET,
         slice: None,
         keep: false,
         number: 0,

@@ -1,15 +1,15 @@
 //! Hamming codes.
 ghost use Rattle.std.specs.Prelude.{◌≡◌, ℕ, ◌+◌, ◌-◌, ◌^◌, ◌<◌, ◌≤◌, ◌++◌, map, IfOk, IsTrue};
 ghost use Rattle.lc_algebra.specs.Field.{size, is_symbol};
-ghost use Rattle.lc_constructions.specs.Code.{longest, is_length, IsCode, CheckedBy};
+ghost use Rattle.lc_constructions.specs.Code.{longest, IsCode, CheckedBy};
 ghost use Rattle.lc_constructions.specs.Basic.{hamming_checks, hamming_length};
 ghost use Rattle.lc_constructions.specs.Refusal.{first_refusal, IsRefusedAs, RefusesFirst};
 ghost use Rattle.lc_constructions.specs.Refusals.{hamming_refusals};
 ghost use Rattle.lc_basic.specs.Checked.{IsChecked};
 ghost use Rattle.lc_basic.specs.Column.{points, digits_from, digits_of};
 
-use crate::refusal::is_length;
 use lc_code::{Code, CodeRefusal};
+use lc_constructions::is_length;
 use lc_field::{Field, NoMemory};
 use lc_vec::Word;
 use std::alloc::Global;

@@ -4,24 +4,15 @@ ghost use Rattle.std.specs.List.{list_all};
 ghost use Rattle.lc_algebra.specs.Field.{is_symbol};
 ghost use Rattle.lc_algebra.specs.Word.{Fits};
 ghost use Rattle.lc_algebra.specs.Matrix.{AreRows};
-ghost use Rattle.lc_constructions.specs.Code.{longest, is_length};
+ghost use Rattle.lc_constructions.specs.Code.{longest};
 ghost use Rattle.lc_constructions.specs.Refusal.{first_refusal};
 ghost use Rattle.lc_constructions.specs.Refusals.{columns_of, are_equally_long, length_refusals, matrix_refusals};
 ghost use Rattle.lc_basic.specs.Checked.{IsChecked};
 
 use lc_code::CodeRefusal;
+use lc_constructions::is_length;
 use lc_field::Field;
 use lc_vec::{Word, fits};
-
-// Whether n is the length of a code.
-#[tactic(auto, unfolding(lc_constructions::specs::Code::is_length))]
-pub(crate) fn is_length(n: u64) -> bool
-    ensures is { result ≡ is_length n }
-    ensures least { IsTrue result → 1 ≤ n }
-    ensures most { IsTrue result → n ≤ longest }
-{
-    1 <= n && n <= 255
-}
 
 /// Checks the field and the length of a code. Refused in this order: the field has more than 16 elements, FieldTooLarge; `n` is 0 or
 /// above 255, BadLength. No memory is taken.

@@ -5,13 +5,10 @@ ghost use Rattle.lc_certificate.specs.Seen.{certificate_of};
 ghost use Rattle.lc_language.specs.Query.{certificate_line};
 
 use lc_certificate::{Certificate, write};
-use lc_checker::checking_cost;
+use lc_checker::{MOST_WORDS, checking_cost};
 use lc_field::NoMemory;
 use lc_print::{certificate_cost_line, certificate_length_line};
 use std::alloc::Global;
-
-// A checker looks at no more words than these.
-const MOST_WORDS: u64 = 4_294_967_296;
 
 // No line has more bytes than these, its newline counted.
 const LONGEST: usize = 1_048_576;

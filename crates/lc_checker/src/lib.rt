@@ -17,4 +17,5 @@ mod verdict;
 mod walk;
 
 pub use checking::{check, checking_cost};
+pub use reasons::MOST_WORDS;
 pub use verdict::{Reason, Verdict};

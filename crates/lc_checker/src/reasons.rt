@@ -19,7 +19,7 @@ use lc_vec::weight;
 use std::alloc::Global;
 
 /// The most words that the checker looks at.
-const MOST_WORDS: u64 = 4_294_967_296;
+pub const MOST_WORDS: u64 = 4_294_967_296;
 
 // The first reason that has to do with the cost and the word.
 pub(crate) fn word_reason(

@@ -1,5 +1,8 @@
 //! What a checkpoint holds.
 
+/// The greatest number of a checkpoint.
+pub const LAST_TURN: u64 = 1 << 60;
+
 /// How far the search of a settled need went.
 ///
 /// Contracts see it as `settled_of` it, a `Progress` of `lc_enumeration`.

@@ -7,7 +7,7 @@ mod refusal;
 mod seal;
 mod writing;
 
-pub use checkpoint::{Checkpoint, Settled};
+pub use checkpoint::{Checkpoint, LAST_TURN, Settled};
 pub use reading::{decode, ranged_at, script_at};
 pub use refusal::CheckpointRefusal;
 pub use seal::{digest_of, digits_of, seal_of};

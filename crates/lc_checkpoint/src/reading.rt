@@ -7,9 +7,10 @@ ghost use Rattle.lc_json.specs.Inside.{members_in};
 ghost use Rattle.lc_checkpoint.specs.Seen.{settled_of, point_of};
 ghost use Rattle.lc_checkpoint.specs.Reading.{IsRefusedAs, current_in};
 
-use crate::checkpoint::{Checkpoint, Settled};
+use crate::checkpoint::{Checkpoint, LAST_TURN, Settled};
 use crate::refusal::CheckpointRefusal;
 use crate::seal::{digest_of, seal_of};
+use lc_enumeration::{CUT, PLACES};
 use lc_field::NoMemory;
 use lc_json::{array_at, has_keys, is_same, number_at, read, text_at};
 use serde_json::Value;
@@ -105,7 +106,7 @@ fn is_in_range(budget: u64, settled: &Settled) -> bool
     ensures is { result ≡ is_in_range budget (settled_of settled.now) }
 {
     settled.blocks <= budget
-        && (1 <= settled.weight && (settled.weight <= 255 && settled.place < 1 << 52))
+        && (1 <= settled.weight && (settled.weight <= 255 && settled.place < PLACES))
 }
 
 // The settled need that an array states, if its numbers are in range.
@@ -172,7 +173,7 @@ fn current_at(object: &Value, budget: u64) -> Option<Settled>
     let Some(weight) = ranged_at(object, "weight", 1, 255) else {
         return None;
     };
-    let Some(place) = ranged_at(object, "place", 0, (1 << 52) - 1) else {
+    let Some(place) = ranged_at(object, "place", 0, PLACES - 1) else {
         return None;
     };
     Some(Settled {
@@ -198,7 +199,7 @@ fn state_of(
     let Some(script) = script_at(object) else {
         return Ok(None);
     };
-    let Some(turn) = ranged_at(object, "turn", 0, 1 << 60) else {
+    let Some(turn) = ranged_at(object, "turn", 0, LAST_TURN) else {
         return Ok(None);
     };
     let Some(current) = current_at(object, budget) else {
@@ -242,7 +243,7 @@ fn point_from(alloc: Global, body: &Value) -> Result<Checkpoint, CheckpointRefus
     if !is_known(version) {
         return Err(CheckpointRefusal::Version(version));
     }
-    let Some(budget) = ranged_at(body, "budget", 0, 1 << 40) else {
+    let Some(budget) = ranged_at(body, "budget", 0, CUT) else {
         return Err(CheckpointRefusal::Shape);
     };
     match state_of(alloc, body, version, budget)? {

@@ -16,15 +16,13 @@ use crate::frame::{Frame, Given, lefts_of};
 use crate::round::{State, search_phase};
 use crate::walk::Room;
 use lc_code::Code;
+use lc_enumeration::CUT;
 use lc_field::NoMemory;
 use lc_infoset::Sets;
 use lc_place::Plan;
 use lc_vec::Word;
 use std::alloc::Global;
 use std::thread::Threads;
-
-// No block has this number or a greater one.
-const CUT: u64 = 1 << 40;
 
 /// What a search for a nearest word answers.
 #[derive(Drop)]

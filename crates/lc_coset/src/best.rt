@@ -9,7 +9,8 @@ ghost use Rattle.lc_coset.specs.Phase.{IsFrame, IsPhaseOf, IsPlaceOf, IsBestAt};
 
 use crate::blocks::CosetPhase;
 use crate::frame::Frame;
-use crate::walk::{PLACES, Room, go_to, top};
+use crate::walk::{Room, go_to, top};
+use lc_enumeration::PLACES;
 use lc_field::NoMemory;
 use lc_infoset::Sets;
 use lc_vec::{Word, weight};

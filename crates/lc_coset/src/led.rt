@@ -12,7 +12,7 @@ ghost use Rattle.lc_coset.specs.Led.{led_rows, led_code, led_plan, AreLedSets, A
 
 use crate::blocks::CosetPhase;
 use crate::frame::Frame;
-use crate::walk::PLACES;
+use lc_enumeration::PLACES;
 use lc_field::NoMemory;
 use lc_infoset::Sets;
 use lc_kernel::{Scratch, least};

@@ -10,6 +10,7 @@ ghost use Rattle.lc_enumeration.specs.NearWord.{pattern_count};
 ghost use Rattle.lc_place.specs.Place.{spot_message};
 ghost use Rattle.lc_coset.specs.Near.{walk_plan, walk_matrix, IsWalk, IsRoomOf, IsAtRank, AreLong};
 
+use lc_enumeration::PLACES;
 use lc_field::{Field, NoMemory};
 use lc_infoset::Sets;
 use lc_place::{Plan, Spot};
@@ -195,6 +196,3 @@ pub(crate) fn value_here(room: &Room, level: usize, place: u64) -> u64
 {
     weight(top(room, level).symbols()) as u64 * PLACES + place
 }
-
-/// The value of a word on a board is its distance times this, plus its place.
-pub(crate) const PLACES: u64 = 1 << 52;

@@ -11,6 +11,7 @@ use crate::fields::locator_size;
 use crate::forms::form_of;
 use crate::generators::bch_code;
 use lc_code::{CodeRefusal, FormedCode};
+use lc_constructions::is_length;
 use lc_field::{Field, FieldRefusal, NoMemory};
 use std::alloc::Global;
 
@@ -89,16 +90,6 @@ fn check_bch(field: &Field, n: u64, d: u64) -> Result<u64, CodeRefusal>
             Ok(size)
         }
     }
-}
-
-// Whether n is the length of a code.
-#[tactic(auto, unfolding(lc_constructions::specs::Code::is_length))]
-pub(crate) fn is_length(n: u64) -> bool
-    ensures is { result ≡ is_length n }
-    ensures least { IsTrue result → 1 ≤ n }
-    ensures most { IsTrue result → n ≤ longest }
-{
-    1 <= n && n <= 255
 }
 
 // The locator field, whose size is known.

@@ -9,8 +9,8 @@ ghost use Rattle.lc_constructions.specs.Refusal.{first_refusal, IsChecked, IsRef
 ghost use Rattle.lc_constructions.specs.Refusals.{are_elements, DividesPowerLess, cyclic_refusals};
 ghost use Rattle.lc_cyclic.specs.Shifts.{shifted, shifts, shift_count};
 
-use crate::bch_codes::is_length;
 use lc_code::{Code, CodeRefusal};
+use lc_constructions::is_length;
 use lc_field::{Field, NoMemory};
 use lc_poly::{Poly, coefficient_count, divides_x_power_minus_one, trimmed, x_power_minus_one};
 use lc_vec::{Word, fits};

@@ -2,12 +2,12 @@
 ghost use Rattle.std.specs.Prelude.{◌≡◌, ℕ, ◌-◌, ◌<◌, ◌≤◌, ◌==◌, ◌||◌, nat_lt, true, length, slice_index, Some};
 ghost use Rattle.lc_algebra.specs.Embedding.{is_subfield};
 ghost use Rattle.lc_algebra.specs.Polynomial.{trimmed};
-ghost use Rattle.lc_constructions.specs.Code.{is_length};
 ghost use Rattle.lc_constructions.specs.Refusal.{first_refusal};
 ghost use Rattle.lc_constructions.specs.Refusals.{are_elements, is_goppa_polynomial, goppa_refusals, alternant_refusals};
 ghost use Rattle.lc_eval.specs.Rows.{has_wide};
 
 use lc_code::CodeRefusal;
+use lc_constructions::is_length;
 use lc_field::Field;
 
 /// Whether a number is above 255.
@@ -31,14 +31,6 @@ fn is_subfield(field: &Field, locator: &Field) -> bool
     ensures { result ≡ is_subfield field.now locator.now }
 {
     locator.holds(field)
-}
-
-// Whether n is the length of a code.
-#[tactic(auto, unfolding(lc_constructions::specs::Code::is_length))]
-fn is_length(n: usize) -> bool
-    ensures { result ≡ is_length n }
-{
-    1 <= n && n <= 255
 }
 
 // The number of coefficients without the last zeros.
@@ -87,7 +79,7 @@ pub(crate) fn refuse_goppa(
     if !is_subfield(field, locator) {
         return CodeRefusal::NotASubfield;
     }
-    if !is_length(points.len()) {
+    if !is_length(points.len() as u64) {
         return CodeRefusal::BadLength;
     }
     if !is_goppa_polynomial(locator, list) {
@@ -120,7 +112,7 @@ pub(crate) fn refuse_alternant(
     if !is_subfield(field, locator) {
         return CodeRefusal::NotASubfield;
     }
-    if !is_length(points.len()) {
+    if !is_length(points.len() as u64) {
         return CodeRefusal::BadLength;
     }
     if points.len() != multipliers.len() {

@@ -11,8 +11,9 @@ ghost use Rattle.lc_goppa.specs.Checked.{IsGoppaInput};
 use crate::alternant_codes::form_of;
 use crate::points::repeated_point;
 use crate::polynomials::{is_goppa_polynomial, root_at};
-use crate::refusal::{are_elements, is_length, is_subfield};
+use crate::refusal::{are_elements, is_subfield};
 use lc_code::{Alternant, CodeRefusal, FormedCode, formed};
+use lc_constructions::is_length;
 use lc_field::{Field, NoMemory};
 use lc_poly::{coefficient_count, value};
 use std::alloc::Global;
@@ -63,7 +64,7 @@ fn check_goppa(
     if !is_subfield(field, locator) {
         return Err(CodeRefusal::NotASubfield);
     }
-    if !is_length(points.len()) {
+    if !is_length(points.len() as u64) {
         return Err(CodeRefusal::BadLength);
     }
     if !is_goppa_polynomial(locator, list) {

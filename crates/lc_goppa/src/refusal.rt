@@ -1,10 +1,9 @@
 //! When alternant codes are refused.
-ghost use Rattle.std.specs.Prelude.{◌≡◌, ℕ, ◌≤◌, ◌==◌, length, IsTrue, IfOk};
+ghost use Rattle.std.specs.Prelude.{◌≡◌, ℕ, ◌==◌, length, IsTrue, IfOk};
 ghost use Rattle.std.specs.List.{list_any};
 ghost use Rattle.lc_algebra.specs.Field.{is_symbol};
 ghost use Rattle.lc_algebra.specs.Embedding.{IsSubfield, is_subfield};
 ghost use Rattle.lc_algebra.specs.Word.{Fits};
-ghost use Rattle.lc_constructions.specs.Code.{longest, is_length};
 ghost use Rattle.lc_constructions.specs.Alternant.{IsForm};
 ghost use Rattle.lc_constructions.specs.Refusal.{first_refusal, IsChecked};
 ghost use Rattle.lc_constructions.specs.Refusals.{are_elements, form_refusals};
@@ -12,16 +11,9 @@ ghost use Rattle.lc_goppa.specs.Form.{alternant_form};
 
 use crate::points::repeated_point;
 use lc_code::CodeRefusal;
+use lc_constructions::is_length;
 use lc_field::Field;
 use lc_vec::fits;
-
-// Whether n is the length of a code.
-#[tactic(auto, unfolding(lc_constructions::specs::Code::is_length))]
-pub(crate) fn is_length(n: usize) -> bool
-    ensures is { result ≡ is_length n }
-{
-    1 <= n && n <= 255
-}
 
 // Whether the field lies in the locator field.
 pub(crate) fn is_subfield(field: &Field, locator: &Field) -> bool
@@ -66,7 +58,7 @@ pub(crate) fn check_form(
     if !is_subfield(field, locator) {
         return Err(CodeRefusal::NotASubfield);
     }
-    if !is_length(points.len()) {
+    if !is_length(points.len() as u64) {
         return Err(CodeRefusal::BadLength);
     }
     if points.len() != multipliers.len() {

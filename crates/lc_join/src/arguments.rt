@@ -5,6 +5,7 @@ ghost use Rattle.lc_arguments.specs.Asked.{words_of};
 ghost use Rattle.lc_join.specs.Asked.{budget_in, join_options};
 ghost use Rattle.lc_join.specs.Seen.{options_of};
 
+use lc_enumeration::{CUT, DEFAULT_BUDGET};
 use lc_json::is_same;
 use lc_share::{value_in, word};
 
@@ -15,9 +16,9 @@ fn budget_in(arguments: &[String]) -> Option<u64>
     ensures range { IfSome result (λ n. n ≤ 2 ^ 40) }
 {
     if arguments.len() <= 1 {
-        return Some(1 << 20);
+        return Some(DEFAULT_BUDGET);
     }
-    value_in(word(arguments, 1), "budget", 0, 1 << 40)
+    value_in(word(arguments, 1), "budget", 0, CUT)
 }
 
 // Whether the first argument names the command.

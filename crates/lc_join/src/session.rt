@@ -8,7 +8,7 @@ use crate::arguments::join_options;
 use crate::joining::{Outcome, joined};
 use crate::status::JoinStatus;
 use lc_io::{Sink, Source, write_whole};
-use lc_share::{InputRefusal, input};
+use lc_session_rules::{InputRefusal, input};
 use std::alloc::Global;
 
 /// Makes a checkpoint of lines that sessions of `part` have printed, and writes it: `arguments` are those of the command line

@@ -16,6 +16,7 @@ use crate::scratch::Scratch;
 use crate::stack::Stack;
 use crate::table::Table;
 use crate::tails::by_tails;
+use lc_enumeration::PLACES;
 use lc_infoset::Sets;
 use lc_place::Plan;
 
@@ -108,5 +109,5 @@ fn value_of(stack: &Stack, place: u64) -> u64
     requires place { place < 2 ^ 52 }
     ensures is { result ≡ weight (top_sum stack.now) * 2 ^ 52 + place }
 {
-    stack.weight() as u64 * 4_503_599_627_370_496 + place
+    stack.weight() as u64 * PLACES + place
 }

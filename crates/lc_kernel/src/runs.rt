@@ -18,6 +18,7 @@ ghost use Rattle.lc_kernel.specs.Sums.{front_word};
 
 use crate::counts::{add_ones, first_least, put_ones};
 use crate::table::Table;
+use lc_enumeration::PLACES;
 use lc_infoset::Sets;
 use lc_place::{Plan, Spot};
 
@@ -294,5 +295,5 @@ pub(crate) fn by_runs(
     let len = plan.block_len(block) as usize;
     count_block(sets, plan, block, table, spot, &mut counts[..len]);
     let (least, at) = first_least(&counts[..len]);
-    (level + least as u64) * 4_503_599_627_370_496 + (block * 4096 + at as u64)
+    (level + least as u64) * PLACES + (block * 4096 + at as u64)
 }

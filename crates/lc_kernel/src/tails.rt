@@ -19,6 +19,7 @@ use crate::fronts::least_words;
 use crate::grid::Grid;
 use crate::multiples::nonzero;
 use crate::room::Room;
+use lc_enumeration::PLACES;
 use lc_infoset::Sets;
 use lc_place::{Plan, Spot};
 
@@ -99,5 +100,5 @@ pub(crate) fn by_tails(sets: &Sets, plan: &Plan, block: u64, grid: &Grid, room: 
         &mut room.tops,
         &mut room.counts,
     );
-    (level + least as u64) * 4_503_599_627_370_496 + (block * 4096 + at as u64)
+    (level + least as u64) * PLACES + (block * 4096 + at as u64)
 }

@@ -12,14 +12,12 @@ use crate::line::PartLine;
 use crate::refusal::LineRefusal;
 use lc_certificate::symbol_field;
 use lc_checkpoint::{ranged_at, script_at, seal_of};
+use lc_enumeration::{CUT, PLACES};
 use lc_field::NoMemory;
 use lc_json::{has_keys, is_same, list_at, number_at, read as read_json};
 use lc_parts::{Facts, Part};
 use serde_json::Value;
 use std::alloc::Global;
-
-// No block's number reaches this.
-const CUT: u64 = 1 << 40;
 
 // Whether the bytes are the seal of the rest, a blank and the rest.
 #[tactic(auto, using(crate::proofs::LineLaws::is_headed_laws))]
@@ -118,7 +116,7 @@ fn part_at(object: &Value) -> Option<Part>
     let Some(weight) = ranged_at(object, "weight", 1, 255) else {
         return None;
     };
-    let Some(place) = ranged_at(object, "place", 0, (1 << 52) - 1) else {
+    let Some(place) = ranged_at(object, "place", 0, PLACES - 1) else {
         return None;
     };
     if CUT < start + count {

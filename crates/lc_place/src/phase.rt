@@ -5,7 +5,8 @@ ghost use Rattle.lc_enumeration.specs.Plan.{phase_at, IsInPhase};
 ghost use Rattle.lc_place.specs.Place.{plan_phase};
 ghost use Rattle.lc_place.specs.Tables.{IsTable, count_entry, start_entry};
 
-use crate::table::{CUT, Size};
+use crate::table::Size;
+use lc_enumeration::CUT;
 
 /// The messages of one level with one information set: the level, from 1, the index of the set, from 0,
 /// the first block and the block after the last one.

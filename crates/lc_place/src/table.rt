@@ -4,14 +4,12 @@ ghost use Rattle.std.specs.Prelude.{◌≡◌, ◌+◌, ◌-◌, ◌*◌, ◌^�
 ghost use Rattle.lc_place.specs.Tables.{IsTable, choose_entry, power_entry, count_entry, start_entry};
 
 use crate::NoMemory;
+use lc_enumeration::CUT;
 use std::alloc::Global;
 
 /// The bound to which numbers are counted: 2^53. A block's number is below 2^40 and a block has 4,096
 /// messages, so a message's number in its level is below 2^52.
 pub(crate) const MOST: u64 = 9_007_199_254_740_992;
-
-/// The bound that no block's number reaches: 2^40.
-pub(crate) const CUT: u64 = 1_099_511_627_776;
 
 /// The dimension, the size of the field and the number of information sets.
 #[derive(Clone, Copy)]

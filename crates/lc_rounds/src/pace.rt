@@ -4,11 +4,8 @@ ghost use Rattle.std.specs.Prelude.{◌≡◌, ◌+◌, ◌^◌, ◌<◌, ◌≤
 ghost use Rattle.lc_session_rules.specs.Slots.{next_turn};
 ghost use Rattle.lc_rounds.specs.Step.{once_told};
 
-use lc_checkpoint::Checkpoint;
+use lc_checkpoint::{Checkpoint, LAST_TURN};
 use lc_io::Record;
-
-// The greatest turn of a checkpoint.
-const LAST_TURN: u64 = 1 << 60;
 
 /// How far a session is between two rounds: what its next checkpoint says, and what it counts.
 #[derive(Drop)]

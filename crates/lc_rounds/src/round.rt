@@ -10,13 +10,11 @@ ghost use Rattle.lc_rounds.specs.Step.{next_state, after_next, next_step, IsDone
 
 use crate::crew::Crew;
 use crate::pace::Pace;
+use lc_enumeration::PLACES;
 use lc_field::NoMemory;
 use lc_io::{Gate, Record};
 use lc_search::{RoundRecord, Search};
 use std::thread::Threads;
-
-// What a board shows is the weight of the best word times this, plus its place.
-const PLACES: u64 = 1 << 52;
 
 // How many blocks the next round may do at most.
 #[tactic(auto, using(crate::proofs::SliceLaws::limit_of_laws))]

@@ -4,11 +4,9 @@ ghost use Rattle.lc_enumeration.specs.Search.{set_count, level_below, levels_bel
 ghost use Rattle.lc_search.specs.State.{whole_plan};
 ghost use Rattle.lc_search.specs.Levels.{IsOpenAt};
 
+use lc_enumeration::CUT;
 use lc_infoset::Sets;
 use lc_place::Plan;
-
-// No block has this number or a greater one.
-const CUT: u64 = 1 << 40;
 
 // The first phase that isn't done wholly after so many blocks: its level and its set. The level after the last one if all are.
 fn open_phase(plan: &Plan, dimension: usize, blocks: u64) -> (usize, usize)

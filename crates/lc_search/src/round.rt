@@ -10,6 +10,7 @@ ghost use Rattle.lc_crew.specs.Crew.{least_over};
 use crate::blocks::SearchBlocks;
 use lc_board::RoundResult;
 use lc_crew::run_round as run_blocks;
+use lc_enumeration::PLACES;
 use lc_field::NoMemory;
 use lc_infoset::Sets;
 use lc_io::Gate;
@@ -77,9 +78,6 @@ pub struct RoundFound {
     /// What the board of the round showed when it was closed.
     pub closed: RoundResult,
 }
-
-// The value of a word on a board is its weight times this, plus its place.
-const PLACES: u64 = 1 << 52;
 
 /// Does the `count` blocks from `start` on, after which the best word is the least of them and of the one before, whose weight
 /// is at most 255 and whose place is below 2^52. Fails if memory runs out.

@@ -8,11 +8,11 @@ ghost use Rattle.lc_rounds.specs.Way.{Around};
 ghost use Rattle.lc_text.specs.Worlds.{outside_of};
 ghost use Rattle.lc_session.specs.Ending.{ending_of};
 
-use crate::input::{InputRefusal, input};
 use crate::status::Status;
 use lc_arguments::{Command, Settings};
 use lc_io::{Sink, Source, write_whole};
 use lc_judge::{Judged, judge};
+use lc_session_rules::{InputRefusal, input};
 use std::alloc::Global;
 
 /// The session of `check`: reads a certificate of either version, and writes the line that says whether it is accepted.

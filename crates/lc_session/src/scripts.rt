@@ -12,12 +12,12 @@ ghost use Rattle.lc_text.specs.Worlds.{outside_of};
 ghost use Rattle.lc_session.specs.Ending.{ending_of};
 ghost use Rattle.lc_session.specs.Closing.{Closes, status_of};
 
-use crate::input::{InputRefusal, input};
 use crate::status::Status;
 use lc_arguments::{Command, Settings};
 use lc_io::{Failed, Gate, Sink, Source, Vault, Watcher, write_whole};
 use lc_rounds::{Course, Crew, Halt, Stop, afresh, resumed};
 use lc_session_rules::needs::needs_take_bytes;
+use lc_session_rules::{InputRefusal, input};
 use lc_slots::{Found, LoadRefusal, chosen, digest, emptied, is_for};
 use lc_text::{Text, script_text};
 use std::thread::Threads;

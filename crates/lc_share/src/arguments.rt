@@ -6,6 +6,7 @@ ghost use Rattle.lc_share.specs.Asked.{word_at, value_in, workers_in, part_optio
 ghost use Rattle.lc_share.specs.Seen.{options_of};
 
 use lc_arguments::{number_within, parts_of};
+use lc_enumeration::CUT;
 use lc_json::is_same;
 
 /// What the arguments of `part` ask for.
@@ -75,10 +76,10 @@ pub(crate) fn part_options(arguments: &[String]) -> Result<PartAsked, usize>
     if !is_part(word(arguments, 0)) {
         return Err(0);
     }
-    let Some(start) = value_in(word(arguments, 1), "from", 0, 1 << 40) else {
+    let Some(start) = value_in(word(arguments, 1), "from", 0, CUT) else {
         return Err(1);
     };
-    let Some(count) = value_in(word(arguments, 2), "count", 1, 1 << 40) else {
+    let Some(count) = value_in(word(arguments, 2), "count", 1, CUT) else {
         return Err(2);
     };
     let Some(workers) = workers_in(arguments) else {

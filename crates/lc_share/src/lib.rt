@@ -4,11 +4,9 @@
 mod arguments;
 pub mod laws;
 mod need;
-mod reading;
 mod session;
 mod status;
 
 pub use arguments::{value_in, word};
-pub use reading::{InputRefusal, input};
 pub use session::run_part;
 pub use status::PartStatus;

@@ -12,12 +12,12 @@ ghost use Rattle.lc_share.specs.Seen.{asked_of, ends_of, ending_of};
 
 use crate::arguments::{PartAsked, part_options};
 use crate::need::first_need;
-use crate::reading::{InputRefusal, input};
 use crate::status::PartStatus;
 use lc_field::NoMemory;
 use lc_io::{Gate, Sink, Source, write_whole};
 use lc_part_lines::{PartLine, write};
 use lc_part_search::{Done, find_part};
+use lc_session_rules::{InputRefusal, input};
 use lc_slots::digest;
 use std::alloc::Global;
 use std::thread::Threads;

@@ -1,4 +1,4 @@
-//! What a session reads: a script or a certificate.
+//! What a session reads: a script, a certificate, or the lines of parts.
 ghost use Rattle.std.specs.Prelude.{◌≡◌, ◌+◌, ◌≤◌, length, IfOk, OnOk};
 ghost use Rattle.std.specs.Result.{IsErrOf};
 ghost use Rattle.std.specs.Io.KnownBytes.{Consumes, IsAtEnd};
@@ -10,20 +10,21 @@ use std::alloc::Global;
 
 /// Why nothing was read.
 #[derive(Drop)]
-pub(crate) enum InputRefusal {
+pub enum InputRefusal {
     /// A read failed.
     Failed,
-    /// The source gave more than that.
+    /// The source gave more than 1,048,576 bytes.
     TooLong,
     /// Memory was refused.
     NoMemory,
 }
 
-/// The most bytes of a script or a certificate.
+// The most bytes that are read.
 const MOST_BYTES: usize = 1_048_576;
 
-/// All that the source gives, unless that is more than a script or a certificate may have.
-pub(crate) fn input<S: Source>(alloc: Global, source: &mut S) -> Result<Vec<u8>, InputRefusal>
+/// All that the source gives, unless that is more than 1,048,576 bytes, which is as much as a script may have. Fails if a read
+/// fails or memory runs out.
+pub fn input<S: Source>(alloc: Global, source: &mut S) -> Result<Vec<u8>, InputRefusal>
     ensures given { IfOk result (λ bytes. Consumes (S.rest source.old) (S.rest source.new) bytes.items) }
     ensures within { IfOk result (λ bytes. length bytes.items ≤ most_bytes) }
     ensures ended { OnOk result (IsAtEnd (S.rest source.new)) }
