@@ -24,7 +24,7 @@ use Rattle.lc_enumeration.specs.Search.{set_count, generator_at}
 use Rattle.lc_place.specs.Place.{SpotState, spot_message}
 use Rattle.lc_kernel.specs.Packed.{others}
 use Rattle.lc_planes.specs.Planes.{part_at, plane_at}
-use Rattle.lc_kernel.specs.Planes.{IsPlaneSum}
+use Rattle.lc_distances.specs.Planes.{IsPlaneSum}
 use Rattle.lc_planes.specs.Planes.{plane}
 use Rattle.lc_kernel.specs.Sums.{front_word}
 use Rattle.lc_kernel.specs.Fronts.{ArePlanes, AreFrontPlanes, IsKept}

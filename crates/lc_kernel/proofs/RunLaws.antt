@@ -38,7 +38,7 @@ use Rattle.lc_kernel.specs.Sums.{front_word}
 use Rattle.lc_kernel.specs.Values.{IsMessageOf, IsSpotAt}
 use Rattle.lc_kernel.specs.Packed.{others, bits_at, row_sum, head_of, tail_of, pair_of, AreStarts, AreRowBits, IsPart}
 use Rattle.lc_planes.specs.Planes.{part_at}
-use Rattle.lc_kernel.specs.Least.{AreCounted}
+use Rattle.lc_distances.specs.Least.{AreCounted}
 use Rattle.lc_kernel.proofs.FrontLaws.{entries_are, generates, front_word_is, front_word_fits, front_whole, front_same}
 use Rattle.lc_kernel.proofs.PackLaws.{weight_of_word, tail_ones, bits_more}
 use Rattle.lc_planes.proofs.ApartLaws.{part_more}

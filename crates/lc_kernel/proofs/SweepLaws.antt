@@ -5,7 +5,6 @@
 --   sweep_ones                the nonzero symbols of a word with one support, at a part of the columns
 --   sweep_below               the first least word with one support
 --   sweep_counted             the counts of the words with one support after one more part
---   head_of_word              the head and the tail of a word
 --   list_first, list_more, list_small, lists_few      the index of a list of coefficients
 --   take_same, support_is     supports
 --   listed_last               no message comes after the last one
@@ -40,10 +39,10 @@ use Rattle.lc_place.proofs.Messages.{message_of, message_part, message_next, nex
 use Rattle.lc_kernel.specs.Values.{IsSpotAt}
 use Rattle.lc_kernel.specs.Packed.{others, pair_of, AreStarts}
 use Rattle.lc_planes.specs.Planes.{part_at, plane_at}
-use Rattle.lc_kernel.specs.Planes.{bits_apart, IsPlaneSum}
-use Rattle.lc_kernel.specs.Least.{IsFirstBelow, AreCounted}
-use Rattle.lc_kernel.specs.declared.nearest.Halves.{Halves}
-use Rattle.lc_kernel.specs.Halves.{tail_apart, symbols_apart}
+use Rattle.lc_distances.specs.Planes.{bits_apart, IsPlaneSum}
+use Rattle.lc_distances.specs.Least.{IsFirstBelow, AreCounted}
+use Rattle.lc_distances.specs.declared.nearest.Halves.{Halves}
+use Rattle.lc_distances.specs.Halves.{tail_apart, symbols_apart}
 use Rattle.lc_kernel.specs.Sums.{front_word}
 use Rattle.lc_kernel.specs.Grid.{tail_pair, tail_count, tail_index, tails_in, IsTailRun}
 use Rattle.lc_kernel.specs.Fronts.{ArePlanes, IsKept}
@@ -52,7 +51,7 @@ use Rattle.lc_kernel.proofs.FrontLaws.{entries_are, generates, front_same, front
 use Rattle.lc_kernel.proofs.FrontPlanes.{front_planes_next}
 use Rattle.lc_kernel.proofs.GridLaws.{tail_run_ones, tail_run_room}
 use Rattle.lc_kernel.proofs.TailLaws.{bits_of_run}
-use Rattle.lc_kernel.proofs.LeastLaws.{below_same}
+use Rattle.lc_distances.proofs.LeastLaws.{below_same}
 use Rattle.lc_planes.proofs.ApartLaws.{part_more, part_none, part_all}
 use Rattle.lc_kernel.proofs.RunLaws.{first_of_pair, second_of_pair, inside_level, pair_read, index_of_pair}
 use Rattle.lc_kernel.proofs.ListLaws.{one_list, leading_split, leading_pair, leading_there, listed_message, listed_along, listed_turn}
@@ -396,12 +395,6 @@ pub sweep_counted : (C : Matrix) (m b n j y part count : ℕ) (u old new : List 
     → AreCounted (take (64 * (part + 1)) (others C j)) (block_words C m b) n count new
 sweep_counted C m b n j y part count u old new a h counted added i l =
     omega (arith, added i l, counted i l, sweep_ones C m b n j y part count i u a h l, part_more (others C j) (slice_index_or (block_words C m b) (n + i) []) part)
-
--- the head and the tail of a word of a run
-pub head_of_word : (n T j : ℕ) → n % T + j < T → ((n + j) / T ≡ n / T) × ((n + j) % T ≡ n % T + j)
-head_of_word n T j l =
-    let place : n / T * T + (n % T + j) ≡ n + j = omega (arith, div-add-mod' n T) in
-    (ap (λ z. z / T) (sym place) ∙ div-mul-add (n / T) T (n % T + j) l, ap (λ z. z % T) (sym place) ∙ mod-mul-add (n / T) T (n % T + j) l)
 
 -- lists of coefficients, entry by entry
 

@@ -8,8 +8,9 @@
 --   last_fronts     its fronts are those of the run
 --   outside_few     a word has at most 255 nonzero symbols outside a basis
 --   least_of_block  the least value of a block, from the first of its words that is least outside the basis
-use Rattle.std.proofs.Common.{◌≡◌, ℕ, suc, ◌+◌, ◌-◌, ◌*◌, ◌/◌, ◌%◌, ◌^◌, ◌<◌, ◌≤◌, zero, Bool, if◌then◌else◌, List, [], ◌∷◌, ◌++◌, length, take, Some, None, option_map, Contains, slice_get, slice_index, slice_index_or, bit_or, bit_xor, count_ones, refl, sym, ap, subst, ◌∙◌, arith}
+use Rattle.std.proofs.Common.{◌≡◌, ℕ, suc, ◌+◌, ◌-◌, ◌*◌, ◌/◌, ◌%◌, ◌^◌, ◌<◌, ◌≤◌, zero, Bool, if◌then◌else◌, List, [], ◌∷◌, ◌++◌, length, take, Some, None, option_map, Contains, slice_get, slice_index, slice_index_or, bit_or, bit_xor, count_ones, refl, sym, ap, subst, ◌∙◌, ⊎_elim, arith}
 use Rattle.std.proofs.Math.Seq.{take-append_seam}
+use Rattle.std.proofs.lemmas.Bool.{cases_lt}
 use Rattle.std.proofs.lemmas.List.{length-take-le}
 use Rattle.std.proofs.lemmas.Nat.{div-mul-add, mod-mul-add}
 use Rattle.lc_algebra.specs.Field.{size}
@@ -30,8 +31,8 @@ use Rattle.lc_kernel.specs.Kernel.{IsPlanOf}
 use Rattle.lc_kernel.specs.Values.{IsSpotAt, IsLeastValue}
 use Rattle.lc_kernel.specs.Packed.{others}
 use Rattle.lc_planes.specs.Planes.{part_at, plane_at, apart, negative}
-use Rattle.lc_kernel.specs.Planes.{bits_apart}
-use Rattle.lc_kernel.specs.Least.{IsFirstLeast, AreCounted}
+use Rattle.lc_distances.specs.Planes.{bits_apart}
+use Rattle.lc_distances.specs.Least.{IsFirstLeast, AreCounted}
 use Rattle.lc_kernel.specs.Sums.{front_word}
 use Rattle.lc_kernel.specs.Grid.{tail_pair, tail_count, tail_index, tail_word, tails_in, AreTailPlanes, IsTailRun}
 use Rattle.lc_kernel.proofs.FrontLaws.{entries_are, front_same}
@@ -40,7 +41,6 @@ use Rattle.lc_kernel.proofs.PackLaws.{others_few}
 use Rattle.lc_planes.proofs.ApartLaws.{part_more}
 use Rattle.lc_kernel.proofs.RunLaws.{support_parts, block_weight, spot_next}
 use Rattle.lc_kernel.proofs.ScanLaws.{block_value_of_words}
-use Rattle.lc_kernel.proofs.LeastLaws.{least_value}
 
 square : (e : ℕ) → e * suc e + e ≡ suc e * suc e - 1
 square e = omega arith
@@ -153,6 +153,16 @@ tails_counted C m b n start count planes part tails s head cols old new u bits h
 
 pub outside_few : (C : Matrix) (j : ℕ) (w : List ℕ) → C.columns ≤ 255 → weight (restrict (others C j) w) ≤ 255
 outside_few C j w l = omega (arith, weight_at_most_length (restrict (others C j) w), length_restrict (others C j) w, others_few C j, l)
+
+-- the least value of words, from the first of them that is least
+least_value : (first : ℕ) (ws : List (List ℕ)) (g : ℕ → ℕ) (level n least at : ℕ) → n ≤ 2 ^ 52 → ((i : ℕ) → i < n → weight (slice_index_or ws i []) ≡ level + g i) → IsFirstLeast n g least at → IsLeastValue first ws n ((level + least) * 2 ^ 52 + (first + at))
+least_value first ws g level n least at few h l = record {
+  low = λ i m. ⊎_elim
+      (λ a. omega (arith, l.first i a, h i m, l.inside, few))
+      (λ a. omega (arith, l.low i m, h i m, a))
+      (cases_lt i at);
+  attained = (at, l.inside, ap (λ x. (level + x) * 2 ^ 52 + (first + at)) (sym l.is) ∙ ap (λ x. x * 2 ^ 52 + (first + at)) (sym (h at l.inside)));
+}
 
 -- the least value of a block, from the first of its words that is least outside the basis
 pub least_of_block : (C : Matrix) (plan : PlanSize) (p b level n least at : ℕ) (s : SpotState) → IsPlanOf plan C → AreRows C.field C.columns C.rows → AreIndependent C.field C.columns C.rows → s.set < set_count C → IsInPhase (length C.rows) (size C.field) plan.m p b → b < 2 ^ 40 → IsSpotAt C plan.m b 0 s → level ≡ length s.support → n ≡ length (block_words C plan.m b) → IsFirstLeast n (λ i. weight (restrict (others C s.set) (slice_index_or (block_words C plan.m b) i []))) least at → option_map board_value (block_least C plan.m b) ≡ Some ((level + least) * 2 ^ 52 + (b * 4096 + at))

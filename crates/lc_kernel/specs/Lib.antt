@@ -2,13 +2,10 @@ pub mod Kernel
 pub mod Sums
 pub mod Values
 pub mod Packed
-pub mod Least
 pub mod Tables
-pub mod Planes
 pub mod Grid
 pub mod Fronts
 pub mod Sweeps
 pub mod Grids
-pub mod Halves
 pub mod PlaneSums
 pub mod Room

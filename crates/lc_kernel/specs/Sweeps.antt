@@ -16,10 +16,10 @@ use Rattle.lc_place.specs.Place.{SpotState}
 use Rattle.lc_kernel.specs.Values.{IsSpotAt}
 use Rattle.lc_kernel.specs.Packed.{others}
 use Rattle.lc_planes.specs.Planes.{part_at, plane_at}
-use Rattle.lc_kernel.specs.Planes.{IsPlaneSum}
+use Rattle.lc_distances.specs.Planes.{IsPlaneSum}
 use Rattle.lc_kernel.specs.Sums.{front_word}
-use Rattle.lc_kernel.specs.declared.nearest.Halves.{Halves}
-use Rattle.lc_kernel.specs.Halves.{AreHalves}
+use Rattle.lc_distances.specs.declared.nearest.Halves.{Halves}
+use Rattle.lc_distances.specs.Halves.{AreHalves}
 use Rattle.lc_kernel.specs.Grid.{tail_count, tails_in, AreTailPlanes}
 
 abbrev pub list_count : Matrix → ℕ → ℕ

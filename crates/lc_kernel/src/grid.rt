@@ -14,8 +14,8 @@ ghost use Rattle.lc_kernel.specs.Grids.{HasRoom, LacksRoom, IsGridPart, AreGridP
 use crate::fronts::row_planes;
 use crate::multiples::{multiple_of, nonzero};
 use crate::parts::pair_starts;
-use crate::planes::gather;
 use crate::table::columns_outside;
+use lc_distances::gather;
 use lc_field::NoMemory;
 use lc_infoset::Sets;
 use lc_planes::plane_of;

@@ -2,17 +2,13 @@
 //! as Grassl describes it.)
 #![tactic(auto)]
 
-mod adders;
 mod block;
-mod counts;
 mod fronts;
 mod grid;
 mod multiples;
-mod nearest;
 mod part_counts;
 mod parts;
 mod place;
-mod planes;
 mod room;
 mod runs;
 mod scratch;

@@ -7,13 +7,13 @@ ghost use Rattle.lc_enumeration.specs.Search.{set_count, block_words};
 ghost use Rattle.lc_kernel.specs.Values.{IsSpotAt};
 ghost use Rattle.lc_kernel.specs.Packed.{others};
 ghost use Rattle.lc_kernel.specs.Grids.{IsGrid};
-ghost use Rattle.lc_kernel.specs.Least.{AreCounted};
+ghost use Rattle.lc_distances.specs.Least.{AreCounted};
 ghost use Rattle.lc_kernel.specs.Sweeps.{list_count, IsListedAt, AreHeads};
 
 use crate::grid::Grid;
 use crate::multiples::nonzero;
-use crate::nearest::add_halves;
 use crate::sweeps::{halves_of, list_of, make_heads, turn, words_left};
+use lc_distances::add_halves;
 use lc_infoset::Sets;
 use lc_place::{Plan, Spot};
 

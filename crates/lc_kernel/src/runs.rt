@@ -13,11 +13,11 @@ ghost use Rattle.lc_kernel.specs.Values.{IsSpotAt};
 ghost use Rattle.lc_kernel.specs.Packed.{others, bits_at, tail_of, pair_of, AreStarts};
 ghost use Rattle.lc_planes.specs.Planes.{part_at};
 ghost use Rattle.lc_kernel.specs.Tables.{IsTable};
-ghost use Rattle.lc_kernel.specs.Least.{AreCounted};
+ghost use Rattle.lc_distances.specs.Least.{AreCounted};
 ghost use Rattle.lc_kernel.specs.Sums.{front_word};
 
-use crate::counts::{add_ones, first_least, put_ones};
 use crate::table::Table;
+use lc_distances::{add_ones, first_least, put_ones};
 use lc_enumeration::PLACES;
 use lc_infoset::Sets;
 use lc_place::{Plan, Spot};

@@ -105,7 +105,7 @@ impl Scratch {
 }
 
 // The tables of the sets, over 2 elements.
-#[tactic(auto, using(crate::proofs::GroupLaws::all_tables_laws))]
+#[tactic(auto, using(crate::proofs::TableCounts::all_tables_laws))]
 fn tables_of(alloc: Global, sets: &Sets) -> Result<Vec<Table>, NoMemory>
     ensures are { IfOk result (λ ts. AreTables sets.now ts.items) }
     ensures all { IfOk result (λ ts. AreAllTables sets.now ts.items) }
@@ -132,7 +132,7 @@ fn push_tables(alloc: Global, sets: &Sets, tables: &mut Vec<Table>) -> Result<()
 }
 
 // The tables of the sets, over more than 2 elements.
-#[tactic(auto, using(crate::proofs::GroupLaws::grids_of_laws))]
+#[tactic(auto, using(crate::proofs::TableCounts::grids_of_laws))]
 fn grids_of(alloc: Global, sets: &Sets, multiples: &[Word]) -> Result<Vec<Grid>, NoMemory>
     requires multiples { AreMultiples sets.now multiples.now }
     ensures are { IfOk result (λ gs. AreGrids sets.now gs.items) }
@@ -146,7 +146,7 @@ fn grids_of(alloc: Global, sets: &Sets, multiples: &[Word]) -> Result<Vec<Grid>,
 }
 
 // Pushes the tables of the sets, if there is room for them.
-#[tactic(auto, using(crate::proofs::GroupLaws::push_grids_laws))]
+#[tactic(auto, using(crate::proofs::TableCounts::push_grids_laws))]
 fn push_grids(
     alloc: Global,
     sets: &Sets,

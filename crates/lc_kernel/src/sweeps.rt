@@ -14,13 +14,12 @@ ghost use Rattle.lc_place.specs.Place.{spot_message};
 ghost use Rattle.lc_kernel.specs.Values.{IsSpotAt};
 ghost use Rattle.lc_kernel.specs.Packed.{others};
 ghost use Rattle.lc_kernel.specs.Grids.{IsGrid};
-ghost use Rattle.lc_kernel.specs.Least.{IsFirstBelow};
+ghost use Rattle.lc_distances.specs.Least.{IsFirstBelow};
 ghost use Rattle.lc_kernel.specs.Sweeps.{list_count, IsListedAt, AreHeads, AreHalvesOf, TooManyHeads};
 
-use crate::adders::sum_planes;
 use crate::grid::Grid;
 use crate::multiples::nonzero;
-use crate::nearest::{Halves, joined, nearest};
+use lc_distances::{Halves, joined, nearest, sum_planes};
 use lc_infoset::Sets;
 use lc_place::{Plan, Spot};
 
@@ -32,7 +31,7 @@ const TOO_MANY: usize = 4096;
 
 /// How many heads a support of a level of at least 3 has. None exactly if there are too many: more than 1,024, or 4,096
 /// or more with one coefficient more.
-#[tactic(auto, using(crate::proofs::GroupLaws::heads_below))]
+#[tactic(auto, using(crate::proofs::TableCounts::heads_below))]
 pub(crate) fn head_count(sets: &Sets, level: usize) -> Option<usize>
     requires level { 3 ≤ level }
     ensures is { IfSome result (λ many. many ≡ list_count sets.now (level - 2)) }

@@ -3,7 +3,7 @@ use Rattle.std.proofs.lemmas.List.{length-set}
 use Rattle.lc_kernel.proofs.FrontLaws.{entries_are}
 use Rattle.lc_enumeration.specs.Search.{block_words}
 use Rattle.lc_kernel.specs.Packed.{others}
-use Rattle.lc_kernel.proofs.PartLaws.{part_start, part_end}
+use Rattle.lc_distances.proofs.PartLaws.{part_start, part_end}
 use Rattle.lc_kernel.proofs.FrontPlanes.{front_planes_first, front_planes_same}
 use Rattle.lc_kernel.proofs.fronts.add_fronts.Goals as goal
 

@@ -3,7 +3,7 @@ use Rattle.lc_enumeration.specs.Search.{block_words}
 use Rattle.lc_kernel.specs.Values.{IsSpotAt}
 use Rattle.lc_kernel.specs.Packed.{others}
 use Rattle.lc_kernel.specs.Fronts.{AreFrontPlanes}
-use Rattle.lc_kernel.specs.Least.{ArePartCounted}
+use Rattle.lc_distances.specs.Least.{ArePartCounted}
 use Rattle.lc_kernel.proofs.fronts.add_fronts.Given as goal
 
 abbrev pub decreases-loop-counts : goal.decreases-loop-counts

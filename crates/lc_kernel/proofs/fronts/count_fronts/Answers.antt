@@ -3,9 +3,9 @@ use Rattle.lc_enumeration.specs.Search.{set_count, block_words}
 use Rattle.lc_kernel.specs.Values.{IsSpotAt}
 use Rattle.lc_kernel.specs.Packed.{others}
 use Rattle.lc_kernel.specs.Grids.{IsGrid}
-use Rattle.lc_kernel.specs.Least.{AreCounted}
+use Rattle.lc_distances.specs.Least.{AreCounted}
 use Rattle.lc_kernel.proofs.ScanLaws.{spot_at}
-use Rattle.lc_kernel.proofs.PartLaws.{parts_none, parts_all}
+use Rattle.lc_distances.proofs.PartLaws.{parts_none, parts_all}
 use Rattle.lc_kernel.proofs.fronts.count_fronts.Goals.{After-start_of}
 use Rattle.lc_kernel.proofs.fronts.count_fronts.Goals as goal
 

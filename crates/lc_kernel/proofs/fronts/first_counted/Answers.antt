@@ -1,7 +1,7 @@
 use Rattle.std.proofs.Common.{◌≤◌, length, arith}
 use Rattle.lc_enumeration.specs.Search.{block_words}
 use Rattle.lc_kernel.specs.Packed.{others}
-use Rattle.lc_kernel.proofs.LeastLaws.{counted_first}
+use Rattle.lc_distances.proofs.LeastLaws.{counted_first}
 use Rattle.lc_kernel.proofs.PackLaws.{others_few}
 use Rattle.lc_kernel.proofs.RunLaws.{counted_few}
 use Rattle.lc_kernel.proofs.fronts.first_counted.Goals as goal

@@ -3,9 +3,9 @@ use Rattle.std.proofs.lemmas.List.{length-take-le}
 use Rattle.lc_algebra.specs.Word.{weight}
 use Rattle.lc_algebra.specs.SpanLaws.{restrict}
 use Rattle.lc_enumeration.specs.Search.{block_words}
-use Rattle.lc_kernel.specs.Least.{IsFirstLeast}
+use Rattle.lc_distances.specs.Least.{IsFirstLeast}
 use Rattle.lc_kernel.specs.Packed.{others}
-use Rattle.lc_kernel.proofs.LeastLaws.{below_whole}
+use Rattle.lc_distances.proofs.LeastLaws.{below_whole}
 use Rattle.lc_kernel.proofs.ScanLaws.{counts_cut}
 use Rattle.lc_kernel.proofs.TailLaws.{outside_few}
 use Rattle.lc_kernel.proofs.fronts.least_words.Goals.{After-block_len-len}

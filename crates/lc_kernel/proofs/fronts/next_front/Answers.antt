@@ -3,7 +3,7 @@ use Rattle.std.proofs.Math.Nat.{mul-le-mul_right}
 use Rattle.std.proofs.lemmas.List.{get_or_default}
 use Rattle.lc_algebra.specs.Field.{size}
 use Rattle.lc_algebra.proofs.CommonLaws.{below_product}
-use Rattle.lc_kernel.specs.Planes.{IsPlaneSum}
+use Rattle.lc_distances.specs.Planes.{IsPlaneSum}
 use Rattle.lc_kernel.proofs.FrontLaws.{entries_are}
 use Rattle.lc_kernel.proofs.MultipleLaws.{symbol_size}
 use Rattle.lc_kernel.proofs.TableLaws.{kept_part}

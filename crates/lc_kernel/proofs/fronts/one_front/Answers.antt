@@ -1,7 +1,7 @@
 use Rattle.std.proofs.Common.{◌+◌, length, refl, arith}
 use Rattle.lc_enumeration.specs.Search.{block_words}
 use Rattle.lc_kernel.specs.Packed.{others}
-use Rattle.lc_kernel.proofs.PartLaws.{part_piece, part_joined}
+use Rattle.lc_distances.proofs.PartLaws.{part_piece, part_joined}
 use Rattle.lc_kernel.proofs.fronts.one_front.Goals as goal
 
 pub add_front-requires-clause-counted : goal.add_front-requires-clause-counted

@@ -4,8 +4,8 @@ use Rattle.lc_algebra.proofs.FieldLaws.{one_inside}
 use Rattle.lc_enumeration.specs.Search.{block_words}
 use Rattle.lc_kernel.specs.Packed.{others}
 use Rattle.lc_kernel.specs.Sweeps.{list_count}
-use Rattle.lc_kernel.proofs.LeastLaws.{piece_long}
-use Rattle.lc_kernel.proofs.PartLaws.{part_start, part_end, part_piece, part_joined}
+use Rattle.lc_distances.proofs.LeastLaws.{piece_long}
+use Rattle.lc_distances.proofs.PartLaws.{part_start, part_end, part_piece, part_joined}
 use Rattle.lc_kernel.proofs.SweepLaws.{listed_start, lists_few, lists_there}
 use Rattle.lc_kernel.proofs.part_counts.add_sweep.Goals as goal
 

@@ -1,7 +1,7 @@
 use Rattle.std.proofs.Common.{◌≡◌, ◌-◌, ◌<◌, length}
 use Rattle.lc_enumeration.specs.Search.{block_words}
 use Rattle.lc_kernel.specs.Packed.{others}
-use Rattle.lc_kernel.specs.Least.{ArePartCounted}
+use Rattle.lc_distances.specs.Least.{ArePartCounted}
 use Rattle.lc_kernel.specs.Sweeps.{list_count, IsListedAt, AreHeads}
 use Rattle.lc_kernel.proofs.part_counts.add_sweep.Given as goal
 

@@ -1,7 +1,7 @@
 use Rattle.std.proofs.Common.{length, arith}
 use Rattle.lc_enumeration.specs.Search.{block_words}
 use Rattle.lc_kernel.specs.Packed.{others}
-use Rattle.lc_kernel.proofs.PartLaws.{parts_none, parts_all}
+use Rattle.lc_distances.proofs.PartLaws.{parts_none, parts_all}
 use Rattle.lc_kernel.proofs.part_counts.count_sweeps.Goals as goal
 
 pub loop-part-init : goal.loop-part-init

@@ -1,7 +1,7 @@
 use Rattle.std.proofs.Common.{◌*◌, length, take}
 use Rattle.lc_enumeration.specs.Search.{block_words}
 use Rattle.lc_kernel.specs.Packed.{others}
-use Rattle.lc_kernel.specs.Least.{AreCounted}
+use Rattle.lc_distances.specs.Least.{AreCounted}
 use Rattle.lc_kernel.proofs.part_counts.count_sweeps.Given as goal
 
 abbrev pub invariant-loop-part : goal.invariant-loop-part

@@ -3,11 +3,11 @@ use Rattle.std.proofs.Math.Seq.{take-append_seam}
 use Rattle.std.proofs.lemmas.List.{length-take, length-take-le}
 use Rattle.lc_enumeration.specs.Search.{block_words}
 use Rattle.lc_kernel.specs.Packed.{others}
-use Rattle.lc_kernel.specs.Least.{IsFirstLeast, AreCounted}
+use Rattle.lc_distances.specs.Least.{IsFirstLeast, AreCounted}
 use Rattle.lc_kernel.proofs.FrontLaws.{entries_are}
 use Rattle.lc_kernel.proofs.PackLaws.{others_few}
 use Rattle.lc_kernel.proofs.ScanLaws.{phase_same, words_of_block}
-use Rattle.lc_kernel.proofs.LeastLaws.{counted_first}
+use Rattle.lc_distances.proofs.LeastLaws.{counted_first}
 use Rattle.lc_kernel.proofs.RunLaws.{counted_few}
 use Rattle.lc_kernel.proofs.TailLaws.{least_of_block}
 use Rattle.lc_kernel.proofs.runs.by_runs.Goals.{After-count_block}

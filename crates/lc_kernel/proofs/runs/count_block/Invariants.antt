@@ -2,7 +2,7 @@ use Rattle.std.proofs.Common.{◌≡◌, ◌-◌, ◌<◌, length}
 use Rattle.lc_enumeration.specs.Search.{block_words}
 use Rattle.lc_kernel.specs.Values.{IsSpotAt}
 use Rattle.lc_kernel.specs.Packed.{others}
-use Rattle.lc_kernel.specs.Least.{AreCounted}
+use Rattle.lc_distances.specs.Least.{AreCounted}
 use Rattle.lc_kernel.proofs.runs.count_block.Given as goal
 
 abbrev pub decreases-loop-counts : goal.decreases-loop-counts

@@ -3,7 +3,7 @@ use Rattle.std.proofs.lemmas.List.{length-take}
 use Rattle.lc_algebra.specs.Word.{weight}
 use Rattle.lc_algebra.specs.SpanLaws.{restrict}
 use Rattle.lc_enumeration.specs.Search.{block_words}
-use Rattle.lc_kernel.specs.Least.{AreCounted}
+use Rattle.lc_distances.specs.Least.{AreCounted}
 use Rattle.lc_kernel.specs.Packed.{others, IsPart}
 use Rattle.lc_planes.specs.Planes.{part_at}
 use Rattle.lc_kernel.proofs.PackLaws.{others_few}

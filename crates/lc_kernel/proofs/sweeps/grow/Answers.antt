@@ -4,10 +4,10 @@ use Rattle.std.proofs.lemmas.Nat.{div-add-mod'}
 use Rattle.std.proofs.lemmas.List.{get_or_default}
 use Rattle.lc_algebra.specs.Field.{size}
 use Rattle.lc_algebra.proofs.CommonLaws.{below_product}
-use Rattle.lc_kernel.specs.Planes.{IsPlaneSum}
+use Rattle.lc_distances.specs.Planes.{IsPlaneSum}
 use Rattle.lc_kernel.specs.Sweeps.{IsGrown}
 use Rattle.lc_kernel.proofs.MultipleLaws.{symbol_size}
-use Rattle.lc_kernel.proofs.RowLaws.{row_of_place, row_some}
+use Rattle.lc_distances.proofs.RowLaws.{row_of_place, row_some}
 use Rattle.lc_kernel.proofs.TableLaws.{kept_part}
 use Rattle.lc_kernel.proofs.SweepLaws.{support_is, AreGrown, grown_here, grown_next, heads_grown}
 use Rattle.lc_kernel.proofs.sweeps.grow.Goals as goal

@@ -1,7 +1,7 @@
 use Rattle.std.proofs.Common.{◌≡◌, suc, ◌+◌, ◌-◌, ◌*◌, ◌^◌, sym, ap, ◌∙◌, arith}
 use Rattle.std.proofs.Math.Nat.{pow-suc}
 use Rattle.lc_algebra.specs.Field.{size}
-use Rattle.lc_kernel.proofs.GroupLaws.{heads_above}
+use Rattle.lc_kernel.proofs.TableCounts.{heads_above}
 use Rattle.lc_kernel.proofs.sweeps.head_count.Goals as goal
 
 pub loop-place-preserved : goal.loop-place-preserved

@@ -7,7 +7,7 @@ use Rattle.lc_algebra.proofs.FieldLaws.{one_inside}
 use Rattle.lc_enumeration.specs.Search.{block_words}
 use Rattle.lc_kernel.specs.Packed.{others}
 use Rattle.lc_kernel.specs.Sweeps.{list_count}
-use Rattle.lc_kernel.proofs.LeastLaws.{below_none, below_joined}
+use Rattle.lc_distances.proofs.LeastLaws.{below_none, below_joined}
 use Rattle.lc_kernel.proofs.SweepLaws.{listed_start, lists_few, lists_there}
 use Rattle.lc_kernel.proofs.sweeps.least_sweeps.Goals as goal
 

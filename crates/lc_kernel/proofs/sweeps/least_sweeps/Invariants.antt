@@ -3,7 +3,7 @@ use Rattle.lc_algebra.specs.Word.{weight}
 use Rattle.lc_algebra.specs.SpanLaws.{restrict}
 use Rattle.lc_enumeration.specs.Search.{block_words}
 use Rattle.lc_kernel.specs.Packed.{others}
-use Rattle.lc_kernel.specs.Least.{IsFirstBelow}
+use Rattle.lc_distances.specs.Least.{IsFirstBelow}
 use Rattle.lc_kernel.specs.Sweeps.{list_count, IsListedAt, AreHeads}
 use Rattle.lc_kernel.proofs.sweeps.least_sweeps.Given as goal
 

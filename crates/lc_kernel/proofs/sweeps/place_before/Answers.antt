@@ -1,5 +1,5 @@
 use Rattle.std.proofs.Common.{arith}
-use Rattle.lc_kernel.proofs.RowLaws.{row_before}
+use Rattle.lc_distances.proofs.RowLaws.{row_before}
 use Rattle.lc_kernel.proofs.sweeps.place_before.Goals as goal
 
 pub returns-then-column-eq0-clause-place : goal.returns-then-column-eq0-clause-place

@@ -1,0 +1,433 @@
+//! Which of some words differs from another at the fewest symbols.
+
+ghost use Rattle.std.specs.Prelude.{◌≡◌, ◌≢◌, ℕ, ◌+◌, ◌-◌, ◌*◌, ◌/◌, ◌%◌, ◌^◌, ◌<◌, ◌≤◌, min, [], true, length, slice_index, slice_index_or, bit_or, bit_xor, count_ones};
+ghost use Rattle.lc_distances.specs.Halves.{AreHalves, AreWholeHeads, group_size, tail_apart, symbols_apart};
+ghost use Rattle.lc_distances.specs.Least.{IsLeastOr, IsLeastPairOr, IsFirstBelow};
+
+use crate::counts::least_count;
+use crate::planes::add_apart;
+
+/// Words as pairs of a head and a tail: word n has head n / `tails` and tail n % `tails`. The tails are some of the words that
+/// the bits hold, as those of `add_apart`: the ones from word `start` on.
+#[derive(Clone, Copy)]
+pub struct Halves<'a> {
+    /// How many planes the words have: 2 to 4.
+    pub planes: usize,
+    /// The planes of the words that the tails are among, plane by plane, a number for each word.
+    pub bits: &'a [u64],
+    /// How many words these are: at most 2^18.
+    pub words: usize,
+    /// The first of them that is a tail.
+    pub start: usize,
+    /// How many tails there are: at least one, and all of them among the words.
+    pub tails: usize,
+    /// The planes of each head: at most 1,024 heads.
+    pub heads: &'a [[u64; 4]],
+}
+
+// The least of a bound and of the numbers of symbols at which a word, whose planes are p and r, differs from others.
+#[inline]
+fn row_two(ones: &[u64], twos: &[u64], p: u64, r: u64, bound: u32) -> u32
+    requires twos { length twos.now ≡ length ones.now }
+    ensures is { IsLeastOr (length ones.now) (λ i. count_ones
+        (bit_or (bit_xor r (slice_index twos.now i)) (bit_xor p (slice_index ones.now i)))) bound result }
+{
+    let mut least = bound;
+    for i in 0..ones.len() {
+        let apart = (r ^ twos[i]) | (p ^ ones[i]);
+        let many = apart.count_ones();
+        if many < least {
+            least = many;
+        }
+    }
+    least
+}
+
+// The same by three planes.
+#[inline]
+fn row_three(ones: &[u64], twos: &[u64], fours: &[u64], p: u64, r: u64, s: u64, bound: u32) -> u32
+    requires twos { length twos.now ≡ length ones.now }
+    requires fours { length fours.now ≡ length ones.now }
+    ensures is { IsLeastOr (length ones.now) (λ i. count_ones
+        (bit_or (bit_xor s (slice_index fours.now i))
+        (bit_or (bit_xor r (slice_index twos.now i)) (bit_xor p (slice_index ones.now i))))) bound result }
+{
+    let mut least = bound;
+    for i in 0..ones.len() {
+        let apart = (s ^ fours[i]) | ((r ^ twos[i]) | (p ^ ones[i]));
+        let many = apart.count_ones();
+        if many < least {
+            least = many;
+        }
+    }
+    least
+}
+
+// The same by four planes.
+#[inline]
+fn row_four(
+    ones: &[u64],
+    twos: &[u64],
+    fours: &[u64],
+    eights: &[u64],
+    head: &[u64; 4],
+    bound: u32,
+) -> u32
+    requires twos { length twos.now ≡ length ones.now }
+    requires fours { length fours.now ≡ length ones.now }
+    requires eights { length eights.now ≡ length ones.now }
+    ensures is { IsLeastOr (length ones.now) (λ i. count_ones
+        (bit_or (bit_xor (slice_index head.now 3) (slice_index eights.now i))
+        (bit_or (bit_xor (slice_index head.now 2) (slice_index fours.now i))
+        (bit_or (bit_xor (slice_index head.now 1) (slice_index twos.now i))
+        (bit_xor (slice_index head.now 0) (slice_index ones.now i)))))) bound result }
+{
+    let mut least = bound;
+    for i in 0..ones.len() {
+        let low = (head[1] ^ twos[i]) | (head[0] ^ ones[i]);
+        let apart = (head[3] ^ eights[i]) | ((head[2] ^ fours[i]) | low);
+        let many = apart.count_ones();
+        if many < least {
+            least = many;
+        }
+    }
+    least
+}
+
+// The least of a bound and of the numbers of symbols at which some heads differ from some words, their tails, by two
+// planes.
+fn rows_two(ones: &[u64], twos: &[u64], heads: &[[u64; 4]], bound: u32) -> u32
+    requires twos { length twos.now ≡ length ones.now }
+    ensures is { IsLeastPairOr (length heads.now) (length ones.now)
+        (λ h t. count_ones (bit_or (bit_xor (slice_index (slice_index_or heads.now h []) 1) (slice_index twos.now t))
+        (bit_xor (slice_index (slice_index_or heads.now h []) 0) (slice_index ones.now t)))) bound result }
+{
+    let mut least = bound;
+    for row in 0..heads.len() {
+        let head = &heads[row];
+        least = row_two(ones, twos, head[0], head[1], least);
+    }
+    least
+}
+
+// The same by three planes.
+fn rows_three(ones: &[u64], twos: &[u64], fours: &[u64], heads: &[[u64; 4]], bound: u32) -> u32
+    requires twos { length twos.now ≡ length ones.now }
+    requires fours { length fours.now ≡ length ones.now }
+    ensures is { IsLeastPairOr (length heads.now) (length ones.now)
+        (λ h t. count_ones (bit_or (bit_xor (slice_index (slice_index_or heads.now h []) 2) (slice_index fours.now t))
+        (bit_or (bit_xor (slice_index (slice_index_or heads.now h []) 1) (slice_index twos.now t))
+        (bit_xor (slice_index (slice_index_or heads.now h []) 0) (slice_index ones.now t))))) bound result }
+{
+    let mut least = bound;
+    for row in 0..heads.len() {
+        let head = &heads[row];
+        least = row_three(ones, twos, fours, head[0], head[1], head[2], least);
+    }
+    least
+}
+
+// The same by four planes.
+fn rows_four(
+    ones: &[u64],
+    twos: &[u64],
+    fours: &[u64],
+    eights: &[u64],
+    heads: &[[u64; 4]],
+    bound: u32,
+) -> u32
+    requires twos { length twos.now ≡ length ones.now }
+    requires fours { length fours.now ≡ length ones.now }
+    requires eights { length eights.now ≡ length ones.now }
+    ensures is { IsLeastPairOr (length heads.now) (length ones.now)
+        (λ h t. count_ones (bit_or (bit_xor (slice_index (slice_index_or heads.now h []) 3)
+        (slice_index eights.now t)) (bit_or
+        (bit_xor (slice_index (slice_index_or heads.now h []) 2) (slice_index fours.now t))
+        (bit_or (bit_xor (slice_index (slice_index_or heads.now h []) 1) (slice_index twos.now t))
+        (bit_xor (slice_index (slice_index_or heads.now h []) 0) (slice_index ones.now t)))))) bound result }
+{
+    let mut least = bound;
+    for row in 0..heads.len() {
+        least = row_four(ones, twos, fours, eights, &heads[row], least);
+    }
+    least
+}
+
+// The same for the tails of some words, by all planes.
+fn rows_apart(halves: &Halves<'_>, heads: &[[u64; 4]], bound: u32) -> u32
+    requires halves { AreHalves halves.now }
+    ensures is { IsLeastPairOr (length heads.now) halves.now.tails
+        (λ h t. tail_apart halves.now (slice_index_or heads.now h []) t) bound result }
+{
+    let Halves {
+        planes,
+        bits,
+        words,
+        start,
+        tails,
+        ..
+    } = *halves;
+    let second = words + start;
+    let ones = &bits[start..start + tails];
+    let twos = &bits[second..second + tails];
+    if planes == 2 {
+        return rows_two(ones, twos, heads, bound);
+    }
+    let third = words + second;
+    let fours = &bits[third..third + tails];
+    if planes == 3 {
+        return rows_three(ones, twos, fours, heads, bound);
+    }
+    let fourth = words + third;
+    let eights = &bits[fourth..fourth + tails];
+    rows_four(ones, twos, fours, eights, heads, bound)
+}
+
+// The head of the first of some words, and that of the first word after them: if they are all words of some of the
+// heads.
+fn heads_of(first: usize, many: usize, tails: usize, heads: usize) -> (usize, usize)
+    requires some { 0 < tails }
+    requires few { heads ≤ 1024 }
+    requires inside { first + many ≤ heads * tails }
+    requires start { first % tails ≡ 0 }
+    requires whole { many % tails ≡ 0 }
+    ensures start { result.0 ≡ first / tails }
+    ensures end { result.1 ≡ first / tails + many / tails }
+    ensures order { result.0 ≤ result.1 }
+    ensures within { result.1 ≤ heads }
+{
+    let from = first / tails;
+    let to = from + many / tails;
+    (from, to)
+}
+
+// Whether some words are all words of some heads, and the head of none of them differs from its tail at fewer symbols
+// than a bound.
+fn are_beyond(halves: &Halves<'_>, first: usize, many: usize, bound: u32) -> bool
+    requires halves { AreHalves halves.now }
+    requires inside { first + many ≤ length halves.now.heads.now * halves.now.tails }
+    ensures low { result ≡ true → (i : ℕ) → i < many → bound ≤ symbols_apart halves.now (first + i) }
+    ensures all { AreWholeHeads halves.now first many →
+        ((i : ℕ) → i < many → bound ≤ symbols_apart halves.now (first + i)) → result ≡ true }
+    ensures whole { result ≡ true → AreWholeHeads halves.now first many }
+{
+    let tails = halves.tails;
+    let heads = halves.heads;
+    if first % tails != 0 {
+        return false;
+    }
+    if many % tails != 0 {
+        return false;
+    }
+    let (from, to) = heads_of(first, many, tails, heads.len());
+    let least = rows_apart(halves, &heads[from..to], bound);
+    if least >= bound {
+        return true;
+    }
+    false
+}
+
+// The first index of a count, or how many counts there are.
+fn place_of(counts: &[u32], count: u32) -> usize
+    ensures inside { result ≤ length counts.now }
+    ensures is { result < length counts.now → slice_index counts.now result ≡ count }
+    ensures before { (i : ℕ) → i < result → slice_index counts.now i ≢ count }
+{
+    match counts.iter().position(|other| *other == count) {
+        Some(at) => at,
+        None => counts.len(),
+    }
+}
+
+// The least number of symbols at which a head differs from tails from one on, one for each count, and the first of
+// them for which it is so: if it is below the bound.
+fn first_below(
+    halves: &Halves<'_>,
+    tail: usize,
+    head: &[u64; 4],
+    bound: u32,
+    counts: &mut [u32],
+) -> (u32, usize)
+    requires halves { AreHalves halves.now }
+    requires room { tail + length counts.old ≤ halves.now.tails }
+    ensures is { IsFirstBelow (length counts.old)
+        (λ i. tail_apart halves.now head.now (tail + i)) bound result.0 result.1 }
+{
+    counts.fill(0);
+    let start = halves.start + tail;
+    add_apart(
+        halves.planes,
+        halves.bits,
+        halves.words,
+        start,
+        head,
+        counts,
+    );
+    let least = least_count(counts, bound);
+    if least >= bound {
+        return (bound, 0);
+    }
+    (least, place_of(counts, least))
+}
+
+/// Adds to each count, at most 255, the number of symbols at which the head of a word differs from its tail. There are at most
+/// 4,096 counts, and count i is for word `first` + i.
+pub fn add_halves(halves: &Halves<'_>, first: usize, counts: &mut [u32])
+    requires halves { AreHalves halves.now }
+    requires inside { first + length counts.old ≤ length halves.now.heads.now * halves.now.tails }
+    requires counts { length counts.old ≤ 4096 }
+    requires few { (i : ℕ) → i < length counts.old → slice_index counts.old i ≤ 255 }
+    ensures is { (i : ℕ) → i < length counts.old →
+        slice_index counts.new i ≡ slice_index counts.old i + symbols_apart halves.now (first + i) }
+{
+    let Halves {
+        planes,
+        bits,
+        words,
+        start,
+        tails,
+        heads,
+    } = *halves;
+    let mut head = first / tails;
+    let mut tail = first % tails;
+    let mut done = 0;
+    while done < counts.len() {
+        let end = (done + (tails - tail)).min(counts.len());
+        let part = &mut counts[done..end];
+        add_apart(planes, bits, words, start + tail, &heads[head], part);
+        head += 1;
+        tail = 0;
+        done = end;
+    }
+}
+
+/// The better of two: the least of the first `done` words with its index `at`, and the least of the words after them with its
+/// index `place` among these. If they are equal, the first.
+#[inline]
+pub fn joined(least: u32, at: usize, other: u32, place: usize, done: usize) -> (u32, usize)
+    requires room { done + place ≤ 2 ^ 20 }
+    ensures taken { other < least → (result.0 ≡ other) × (result.1 ≡ done + place) }
+    ensures kept { least ≤ other → (result.0 ≡ least) × (result.1 ≡ at) }
+{
+    if other < least {
+        return (other, done + place);
+    }
+    (least, at)
+}
+
+// The same as `nearest`, head by head.
+fn nearest_by_heads(
+    halves: &Halves<'_>,
+    first: usize,
+    bound: u32,
+    counts: &mut [u32],
+) -> (u32, usize)
+    requires halves { AreHalves halves.now }
+    requires inside { first + length counts.old ≤ length halves.now.heads.now * halves.now.tails }
+    requires counts { length counts.old ≤ 4096 }
+    ensures is { IsFirstBelow (length counts.old) (λ i. symbols_apart halves.now (first + i)) bound result.0 result.1 }
+{
+    let tails = halves.tails;
+    let mut least = bound;
+    let mut at = 0;
+    let mut done = 0;
+    while done < counts.len() {
+        let tail = (first + done) % tails;
+        let end = (done + (tails - tail)).min(counts.len());
+        let head = &halves.heads[(first + done) / tails];
+        let part = &mut counts[done..end];
+        let (other, place) = first_below(halves, tail, head, least, part);
+        let (best, index) = joined(least, at, other, place, done);
+        least = best;
+        at = index;
+        done = end;
+    }
+    (least, at)
+}
+
+// The same for a part of the words.
+fn nearest_in(halves: &Halves<'_>, first: usize, bound: u32, counts: &mut [u32]) -> (u32, usize)
+    requires halves { AreHalves halves.now }
+    requires inside { first + length counts.old ≤ length halves.now.heads.now * halves.now.tails }
+    requires counts { length counts.old ≤ 4096 }
+    ensures is { IsFirstBelow (length counts.old) (λ i. symbols_apart halves.now (first + i)) bound result.0 result.1 }
+{
+    let many = counts.len();
+    if are_beyond(halves, first, many, bound) {
+        return (bound, 0);
+    }
+    nearest_by_heads(halves, first, bound, counts)
+}
+
+// How many words are looked at together, of heads with so many tails each: some 100 to 200, of 8 heads at most.
+#[inline]
+#[tactic(auto, using(crate::proofs::GroupLaws::group_laws))]
+fn together(tails: usize) -> usize
+    requires few { tails ≤ 2 ^ 18 }
+    ensures is { result ≡ group_size tails }
+    ensures least { tails ≤ result }
+{
+    let two = tails + tails;
+    if tails <= 16 {
+        let four = two + two;
+        return four + four;
+    }
+    if tails < 100 {
+        return two;
+    }
+    tails
+}
+
+// How many of the words that are left are looked at together, from a tail of a head on: the rest of the head, or some
+// whole heads, or all words if these are less than a head's.
+#[tactic(auto, using(crate::proofs::GroupLaws::part_laws))]
+fn part_len(tail: usize, tails: usize, left: usize) -> usize
+    requires tail { tail < tails }
+    requires few { tails ≤ 2 ^ 18 }
+    requires some { 0 < left }
+    ensures some { 0 < result }
+    ensures within { result ≤ left }
+    ensures rest { 0 < tail → result ≡ min (tails - tail) left }
+    ensures group { tail ≡ 0 → group_size tails ≤ left → result ≡ group_size tails }
+    ensures whole { tail ≡ 0 → left < group_size tails → tails ≤ left → result ≡ left - left % tails }
+    ensures short { tail ≡ 0 → left < tails → result ≡ left }
+{
+    if tail > 0 {
+        return (tails - tail).min(left);
+    }
+    let many = together(tails);
+    if many <= left {
+        return many;
+    }
+    let whole = left - left % tails;
+    if whole > 0 {
+        return whole;
+    }
+    left
+}
+
+/// The least number of symbols at which the head of a word differs from its tail, among some words, and the first index for
+/// which it is so, if it is below the bound; else the bound. There is an index for each of the counts, at most 4,096, which
+/// are only room to work in; index i is for word `first` + i.
+pub fn nearest(halves: &Halves<'_>, first: usize, bound: u32, counts: &mut [u32]) -> (u32, usize)
+    requires halves { AreHalves halves.now }
+    requires inside { first + length counts.old ≤ length halves.now.heads.now * halves.now.tails }
+    requires counts { length counts.old ≤ 4096 }
+    ensures is { IsFirstBelow (length counts.old) (λ i. symbols_apart halves.now (first + i)) bound result.0 result.1 }
+{
+    let tails = halves.tails;
+    let mut least = bound;
+    let mut at = 0;
+    let mut done = 0;
+    while done < counts.len() {
+        let place = first + done;
+        let many = part_len(place % tails, tails, counts.len() - done);
+        let end = done + many;
+        let (other, index) = nearest_in(halves, place, least, &mut counts[done..end]);
+        let (best, next) = joined(least, at, other, index, done);
+        least = best;
+        at = next;
+        done = end;
+    }
+    (least, at)
+}
