@@ -19,7 +19,8 @@ use Rattle.lc_parts.specs.Part.{Part, Facts, part_end, IsTruePart, facts_of}
 use Rattle.lc_parts.specs.Along.{set_number, first_by, end_by, is_answered, end_wanted, continues, after_part, with_part, along}
 use Rattle.lc_parts.proofs.AlongLaws.{answered_settled}
 use Rattle.lc_join.specs.Lines.{Numbered, parts_in, HaveSameParts}
-use Rattle.lc_join.specs.Joining.{IsJoined, IsMissing, joined_point, Joins, HasText, Lacks}
+use Rattle.lc_part_laws.specs.Point.{joined_point}
+use Rattle.lc_join.specs.Joining.{IsJoined, IsMissing, Joins, HasText, Lacks}
 use Rattle.lc_join.specs.Truth.{IsTrueLine}
 use Rattle.lc_join.proofs.TruthLaws.{true_parts, underway}
 

@@ -34,7 +34,8 @@ use Rattle.lc_checkpoint.specs.declared.checkpoint.Checkpoint.{Checkpoint as Kep
 use Rattle.lc_join.specs.Seen.{numbered_of, IsOf}
 use Rattle.lc_join.specs.declared.lines.Numbered.{Numbered as Seen}
 use Rattle.lc_join.specs.Lines.{Numbered, Agree, numbered, lines_after, lines_in, parts_in}
-use Rattle.lc_join.specs.Joining.{IsJoined, IsMissing, joined_point, Joins, HasText, Lacks}
+use Rattle.lc_part_laws.specs.Point.{joined_point}
+use Rattle.lc_join.specs.Joining.{IsJoined, IsMissing, Joins, HasText, Lacks}
 
 -- ---- facts
 

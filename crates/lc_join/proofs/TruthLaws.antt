@@ -1,22 +1,23 @@
 -- True lines make true checkpoints.
 --   true_parts, underway         the parts of true lines, and a state to which they bring the search
 --   true_text                    the text of true lines
-use Rattle.std.proofs.Common.{◌≡◌, ℕ, ◌^◌, ◌<◌, ◌≤◌, List, [], ◌∷◌, length, get_or, All, Contains, Some, refl, sym, ap, subst, ◌∙◌, inr, arith}
+use Rattle.std.proofs.Common.{ℕ, ◌^◌, ◌<◌, ◌≤◌, List, [], ◌∷◌, length, get_or, All, Contains, sym, ap, subst, ◌∙◌, arith}
 use Rattle.std.proofs.lemmas.List.{get_or-map, length-map}
 use Rattle.sha2.specs.Sha256.{sha256}
 use Rattle.lc_algebra.specs.Matrix.{Matrix}
 use Rattle.lc_algebra.specs.Divisor.{divisor_of}
 use Rattle.lc_enumeration.specs.Records.{Progress}
-use Rattle.lc_enumeration.specs.Truth.{IsUnderway, IsTrueStart}
-use Rattle.lc_formats.specs.Checkpoint.{checkpoint_text, current_of}
-use Rattle.lc_formats.specs.Truth.{divisor_in, whole_start, turn_allowance, IsTrueFor}
+use Rattle.lc_enumeration.specs.Truth.{IsUnderway}
+use Rattle.lc_formats.specs.Checkpoint.{checkpoint_text}
 use Rattle.lc_language.specs.declared.Call.{Call}
 use Rattle.lc_session_rules.specs.Needs.{MeetsFirst}
 use Rattle.lc_parts.specs.Part.{Part, Facts, IsTruePart, facts_of}
 use Rattle.lc_parts.specs.Along.{is_answered}
 use Rattle.lc_parts.proofs.AlongLaws.{from_first, answered_settled}
+use Rattle.lc_part_laws.specs.Point.{joined_point}
+use Rattle.lc_part_laws.proofs.PointLaws.{state_true}
 use Rattle.lc_join.specs.Lines.{Numbered, parts_in}
-use Rattle.lc_join.specs.Joining.{IsJoined, joined_point, HasText}
+use Rattle.lc_join.specs.Joining.{IsJoined, HasText}
 use Rattle.lc_join.specs.Truth.{IsTrueLine, IsTrueText}
 
 pub true_parts : (digest : List ℕ) (C : Matrix) (lines : List Numbered) → All (IsTrueLine digest C) lines → All (IsTruePart C) (parts_in lines)
@@ -31,30 +32,6 @@ drawn_true C ps taken all drawn = λ k d l. let c = drawn k d l in subst (IsTrue
 pub underway : (C : Matrix) (budget : ℕ) (ps : List Part) (s : Progress) → 0 < length C.rows → budget ≤ 2 ^ 40 → All (IsTruePart C) ps → IsJoined (facts_of C) budget ps s → IsUnderway (divisor_of C) C budget s
 underway C budget ps s rows small all j = subst (IsUnderway (divisor_of C) C budget) j.reached (from_first C budget j.taken rows small (drawn_true C ps j.taken all j.drawn))
 
-whole_of : (script : List ℕ) (budget : ℕ) (s : Progress) → whole_start (joined_point script budget s) ≡ record { settled = []; current = Some s }
-unfolding whole_start joined_point current_of
-whole_of script budget s = refl
-
-divisor_two : (C : Matrix) → divisor_in 2 C ≡ divisor_of C
-unfolding divisor_in
-divisor_two C = refl
-
-true_start : (C : Matrix) (needs : List Matrix) (script : List ℕ) (budget : ℕ) (s : Progress) → IsUnderway (divisor_of C) C budget s → IsTrueStart (divisor_in 2) (C ∷ needs) budget (whole_start (joined_point script budget s))
-true_start C needs script budget s h =
-    subst (IsTrueStart (divisor_in 2) (C ∷ needs) budget) (sym (whole_of script budget s))
-    (record { before = []; after = C ∷ needs; split = refl; settled = tt; current = subst (λ d. IsUnderway d C budget s) (sym (divisor_two C)) h })
-
-true_point : (C : Matrix) (needs : List Matrix) (script : List ℕ) (budget : ℕ) (s : Progress) → IsUnderway (divisor_of C) C budget s → 1 ≤ s.blocks → IsTrueFor (C ∷ needs) script budget (joined_point script budget s)
-unfolding joined_point turn_allowance
-true_point C needs script budget s h some = record {
-  known = inr refl;
-  script = refl;
-  budget_is = refl;
-  start = true_start C needs script budget s h;
-  begun = some;
-  turn = omega (arith, some);
-}
-
 pub true_text : (table : List Call) (bytes : List ℕ) (C : Matrix) (needs : List Matrix) (budget : ℕ) (lines : List Numbered) (text : List ℕ) → MeetsFirst table bytes (C ∷ needs) → 0 < length C.rows → budget ≤ 2 ^ 40
     → All (IsTrueLine (sha256 bytes) C) lines → HasText budget lines text → IsTrueText table bytes C budget text
 true_text table bytes C needs budget lines text met rows small all h =
@@ -67,5 +44,5 @@ true_text table bytes C needs budget lines text met rows small all h =
       state = s;
       text_is = h.2 ∙ ap (λ z. checkpoint_text (joined_point z budget s)) first.script;
       answered = answered_settled C budget s rows going (sym (ap (λ (f : Facts). is_answered f budget s) first.facts) ∙ h.1);
-      checkpoint = λ some. (C ∷ needs, met, true_point C needs (sha256 bytes) budget s going some);
+      checkpoint = λ some. state_true table bytes budget C needs s met going some;
     }

@@ -3,16 +3,16 @@
 --                                and there the search is answered, or none of the parts goes on
 --   IsMissing f budget parts s b     b is the last block that is missing from a state on: the one before the next part begins, the phase
 --                                ends or the budget is reached, whatever comes first
---   joined_point script budget s     the checkpoint of a state: of version 2, of turn 0, without a settled need
 --   Joins budget lines           lines that agree, and what they bring the search of the first one to
 --   HasText budget lines text    there it is answered, and this is the text of its checkpoint
 --   Lacks budget lines a b       there it isn't answered, and the blocks a to b are missing
 use Rattle.std.specs.Prelude.{◌≡◌, ℕ, ◌+◌, ◌<◌, ◌⊎◌, true, false, List, [], ◌∷◌, All, Contains}
 use Rattle.std.specs.List.{AllPairs}
 use Rattle.lc_enumeration.specs.Records.{Progress}
-use Rattle.lc_formats.specs.Checkpoint.{Checkpoint, checkpoint_text}
+use Rattle.lc_formats.specs.Checkpoint.{checkpoint_text}
 use Rattle.lc_parts.specs.Part.{Part, Facts}
 use Rattle.lc_parts.specs.Along.{first_by, is_answered, end_wanted, continues, along}
+use Rattle.lc_part_laws.specs.Point.{joined_point}
 use Rattle.lc_join.specs.Lines.{Numbered, Agree, parts_in}
 
 pub record IsJoined (f : Facts) (budget : ℕ) (parts : List Part) (s : Progress) : Type 0 where
@@ -25,18 +25,6 @@ pub record IsMissing (f : Facts) (budget : ℕ) (parts : List Part) (s : Progres
   pub inside : b < end_wanted f budget s
   pub before : All (λ p. s.blocks < p.start → b < p.start) parts
   pub last : (b + 1 ≡ end_wanted f budget s) ⊎ ((p : Part) × Contains parts p × (s.blocks < p.start) × (p.start ≡ b + 1))
-
-unfoldable pub joined_point : List ℕ → ℕ → Progress → Checkpoint
-joined_point script budget s = record {
-  version = 2;
-  script = script;
-  budget = budget;
-  turn = 0;
-  settled = [];
-  blocks = s.blocks;
-  weight = s.weight;
-  place = s.place;
-}
 
 pub record Joins (budget : ℕ) (lines : List Numbered) : Type 0 where
   pub first : Numbered

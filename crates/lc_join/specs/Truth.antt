@@ -13,7 +13,7 @@ use Rattle.lc_language.specs.declared.Call.{Call}
 use Rattle.lc_session_rules.specs.Slots.{IsTrueCheckpoint}
 use Rattle.lc_parts.specs.Part.{IsTruePart, facts_of}
 use Rattle.lc_join.specs.Lines.{Numbered}
-use Rattle.lc_join.specs.Joining.{joined_point}
+use Rattle.lc_part_laws.specs.Point.{joined_point}
 
 pub record IsTrueLine (digest : List ℕ) (C : Matrix) (l : Numbered) : Type 0 where
   pub script : l.line.script ≡ digest

@@ -7,7 +7,7 @@ ghost use Rattle.lc_parts.specs.Seen.{facts_seen};
 ghost use Rattle.lc_part_lines.specs.Line.{IsInRange};
 ghost use Rattle.lc_part_lines.specs.Seen.{line_of};
 ghost use Rattle.lc_join.specs.Lines.{lines_in};
-ghost use Rattle.lc_join.specs.Joining.{joined_point};
+ghost use Rattle.lc_part_laws.specs.Point.{joined_point};
 ghost use Rattle.lc_join.specs.Seen.{numbered_of, IsOutcome};
 
 use crate::disagreement::disagreement;
