@@ -7,7 +7,7 @@ use Rattle.std.proofs.Math.Nat.{mod-lt, mul-le-mul_right}
 use Rattle.std.proofs.lemmas.Bool.{cases_lt}
 use Rattle.std.proofs.lemmas.List.{get_or-take, get_or-drop}
 use Rattle.std.proofs.lemmas.Nat.{div-add-mod', div_below}
-use Rattle.lc_distances.specs.declared.nearest.Halves.{Halves}
+use Rattle.lc_distances.specs.declared.halves.Halves.{Halves}
 use Rattle.lc_distances.specs.Halves.{AreWholeHeads, tail_apart, symbols_apart}
 use Rattle.lc_distances.specs.Least.{IsLeastPairOr}
 use Rattle.lc_distances.proofs.RowLaws.{row_of_place, place_after_rows}

@@ -14,7 +14,7 @@ use Rattle.lc_algebra.specs.Word.{weight}
 use Rattle.lc_algebra.specs.SpanLaws.{restrict}
 use Rattle.lc_algebra.proofs.RemainderLaws.{index-zeros}
 use Rattle.lc_distances.specs.Least.{AreCounted, ArePartCounted}
-use Rattle.lc_distances.specs.declared.nearest.Halves.{Halves}
+use Rattle.lc_distances.specs.declared.halves.Halves.{Halves}
 use Rattle.lc_distances.specs.Planes.{bits_apart}
 use Rattle.lc_distances.specs.Halves.{tail_apart, symbols_apart}
 use Rattle.lc_distances.proofs.LeastLaws.{piece_long}

@@ -6,7 +6,7 @@
 --                           below 100, else of one
 --   AreWholeHeads a n m     m words from word n on are all words of some heads
 use Rattle.std.specs.Prelude.{◌≡◌, ℕ, ◌+◌, ◌*◌, ◌/◌, ◌%◌, ◌^◌, ◌<◌, ◌≤◌, nat_le, nat_lt, if◌then◌else◌, List, [], length, slice_index_or, count_ones}
-use Rattle.lc_distances.specs.declared.nearest.Halves.{Halves}
+use Rattle.lc_distances.specs.declared.halves.Halves.{Halves}
 use Rattle.lc_distances.specs.Planes.{bits_apart}
 
 pub record AreHalves (a : Halves) : Type 0 where

@@ -4,10 +4,10 @@
 
 mod adders;
 mod counts;
-mod nearest;
+mod halves;
 mod planes;
 
 pub use adders::sum_planes;
 pub use counts::{add_ones, first_least, put_ones};
-pub use nearest::{Halves, add_halves, joined, nearest};
+pub use halves::{Halves, add_halves, joined, nearest};
 pub use planes::{add_apart, gather, pack};

@@ -41,7 +41,7 @@ use Rattle.lc_kernel.specs.Packed.{others, pair_of, AreStarts}
 use Rattle.lc_planes.specs.Planes.{part_at, plane_at}
 use Rattle.lc_distances.specs.Planes.{bits_apart, IsPlaneSum}
 use Rattle.lc_distances.specs.Least.{IsFirstBelow, AreCounted}
-use Rattle.lc_distances.specs.declared.nearest.Halves.{Halves}
+use Rattle.lc_distances.specs.declared.halves.Halves.{Halves}
 use Rattle.lc_distances.specs.Halves.{tail_apart, symbols_apart}
 use Rattle.lc_kernel.specs.Sums.{front_word}
 use Rattle.lc_kernel.specs.Grid.{tail_pair, tail_count, tail_index, tails_in, IsTailRun}

@@ -18,7 +18,7 @@ use Rattle.lc_kernel.specs.Packed.{others}
 use Rattle.lc_planes.specs.Planes.{part_at, plane_at}
 use Rattle.lc_distances.specs.Planes.{IsPlaneSum}
 use Rattle.lc_kernel.specs.Sums.{front_word}
-use Rattle.lc_distances.specs.declared.nearest.Halves.{Halves}
+use Rattle.lc_distances.specs.declared.halves.Halves.{Halves}
 use Rattle.lc_distances.specs.Halves.{AreHalves}
 use Rattle.lc_kernel.specs.Grid.{tail_count, tails_in, AreTailPlanes}
 
