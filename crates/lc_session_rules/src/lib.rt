@@ -3,8 +3,8 @@
 //! The definitions are in `specs/`, and their laws are the contracts of the functions of `laws` and `needs`.
 #![tactic(auto)]
 
-mod input;
 pub mod laws;
 pub mod needs;
+mod reading;
 
-pub use input::{InputRefusal, input};
+pub use reading::{InputRefusal, input};
