@@ -38,6 +38,7 @@ CASES = [
     ("[7, 4, 3] Linear Code over GF(2)\nGenerator matrix:\n[1 0 0 0 0 1 1]\n[0 1 0 0 1 0 1]\n", None, (2, [[1, 0, 0, 0, 0, 1, 1], [0, 1, 0, 0, 1, 0, 1]])),
     ("[3, 2] Linear Code over GF(2^2)\nGenerator matrix:\n[  1   0 w^2]\n[  0   1   w]\n", None, (4, [[1, 0, 3], [0, 1, 2]])),
     ("[1 $.1^3]\n", 8, (8, [[1, 3]])),
+    ("% a comment of TeX\n// one of Magma\n101\n011\n", None, (2, [[1, 0, 1], [0, 1, 1]])),
 ]
 REFUSALS = [
     ("101\n01\n", None, (2, 2), "2 entries, the first row has 3"), ("1 0\n0 x\n", None, (2, 3), "over which field"), ("1 2\n", None, (1, 3), "--field"),
@@ -103,7 +104,7 @@ def commands(program):
     tool = [sys.executable, "-B", str(TOP / "tools" / "from_matrix.py")]
     made = subprocess.run([*tool, "--checks", "--ask", "Certificate", "-"], input=b"1010101\n0110011\n0001111\n", capture_output=True)
     text = subprocess.run([program, "run"], input=made.stdout, capture_output=True).stdout
-    if made.stderr or not text.startswith(b'code [7,4] GF(2)\n{"by":"levels","distance":3,'):
+    if made.stderr or not text.startswith(b'{"by":"levels","distance":3,') or text.count(b"\n") != 1:
         failed.append(f"{made} {text}")
     for words, given, status, said in ((["--field", "4", "-"], b"[1 a]\n", 0, b"Conway polynomial of GF(4)"), (["-"], b"1 0\n1\n", 1, b"-:2:1: "), (["no.such"], b"", 4, b"no.such: No such"), ([], b"", 2, b"usage")):
         done = subprocess.run([*tool, *words], input=given, capture_output=True)

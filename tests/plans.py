@@ -91,6 +91,8 @@ def on_ranges():
         crossed = [end for end in ends for start, count in ranges if start < end < start + count]
         if starts != [0] + stops[:-1] or stops[-1] != most or crossed or max(count for _, count in ranges) > longest:
             yield f"ranges {words}: {lines}"
+        if bool(planned(script, "ranges=2", *words).stderr) != (most < ends[-1]):
+            yield f"whether the budget may be too small is not said: {words}"
     if (found := planned("Weight([1]);", "ranges=1")).stdout:
         yield f"ranges of no search: {found}"
 

@@ -3,8 +3,11 @@
 
     tools/from_matrix.py [--field Q] [--checks] [--ask QUERY] FILE      FILE may be - for standard input
     tools/from_matrix.py hamming.txt | ./codes run
+    tools/from_matrix.py --ask Certificate hamming.txt | ./codes run > hamming.json
 
-The rows generate the code, or with --checks they are its parity checks; QUERY is MinimumDistance unless another one is named. FILE is one of these:
+The rows generate the code, or with --checks they are its parity checks; QUERY is MinimumDistance unless another one is named. The script
+prints the parameters of the code, and then the answer; if it asks for a certificate it prints nothing else, since a file holds one
+certificate alone. Lines that begin with #, % or // are comments. FILE is one of these:
 
   rows of digits                1000011, or with blanks or commas 1 0 0 0 0 1 1; a dot is 0
   such rows after `q k n`       a line with the size of the field, the number of rows and their length
@@ -26,6 +29,7 @@ import linear_algebra
 
 SIZES = (2, 3, 4, 5, 7, 8, 9, 11, 13, 16)
 LONGEST = 255
+CERTIFICATES = ("Certificate", "ScanCertificate")
 GENERATORS = {2: 1, 3: 2, 5: 2, 7: 3, 11: 2, 13: 2, 4: 2, 8: 2, 9: 3, 16: 2}  # Z(q) of GAP
 ELEMENT_OF_GAP = re.compile(r"(0\*)?Z\(([0-9]{1,3})(?:\^([0-9]))?\)(?:\^(-?[0-9]{1,9}))?$")
 TERM = re.compile(r"(?:([0-9]{1,9})\*?)?([A-Za-z$][\w.]*)?(?:\^([0-9]{1,9}))?$")
@@ -76,7 +80,7 @@ def entries_of_line(text, number):
 def is_heading(text):
     """A line that is no row: blank, a heading, or one that names the field."""
     bare = text.strip()
-    return not bare or bare.startswith("#") or bare.endswith(":") or bool(FIELD.search(bare)) or set(bare) <= set("[]();,")
+    return not bare or bare.startswith(("#", "%", "//")) or bare.endswith(":") or bool(FIELD.search(bare)) or set(bare) <= set("[]();,")
 
 
 def rows_of_lines(text):
@@ -227,15 +231,16 @@ def matrix(text, q=None):
 def script(q, rows, checks, query):
     call = "CheckMatCode" if checks else "GeneratorMatCode"
     lines = ",\n  ".join("[" + ",".join(map(str, row)) + "]" for row in rows)
-    return f"# {len(rows)} rows of {len(rows[0])} symbols over GF({q})\nC := {call}([\n  {lines}], GF({q}));\nC;\n{query}(C);\n"
+    shown = "" if query in CERTIFICATES else "C;\n"
+    return f"# {len(rows)} rows of {len(rows[0])} symbols over GF({q})\nC := {call}([\n  {lines}], GF({q}));\n{shown}{query}(C);\n"
 
 
 def main():
     parser = argparse.ArgumentParser(description=__doc__.split("\n")[0], epilog="See the head of this file for what FILE may be.")
-    parser.add_argument("--field", type=int, metavar="Q")
-    parser.add_argument("--checks", action="store_true")
-    parser.add_argument("--ask", default="MinimumDistance", metavar="QUERY")
-    parser.add_argument("file", metavar="FILE")
+    parser.add_argument("--field", type=int, metavar="Q", help="the size of the field, if the file doesn't say it")
+    parser.add_argument("--checks", action="store_true", help="the rows are parity checks")
+    parser.add_argument("--ask", default="MinimumDistance", metavar="QUERY", help="a query with the code as its only argument (MinimumDistance)")
+    parser.add_argument("file", metavar="FILE", help="the matrix; - is standard input")
     given = parser.parse_args()
     try:
         with open(0 if given.file == "-" else given.file, encoding="utf-8-sig") as opened:

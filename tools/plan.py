@@ -14,7 +14,8 @@ weight=W     each code has a word of weight W, so a search ends where the bound 
 rate=N       words a second, of all workers together; without it, what one worker did on the machine of bench/README.md
 records=FILE the record lines of a session, its standard error: how far it is
 ranges=SECONDS   prints no tables, but the blocks of the script's first search cut into ranges of about so long, within its phases, in
-             their order: a line `from=A count=N` each, the words after `codes part`
+             their order: a line `from=A count=N` each, the words after `codes part`. If the budget may be too small, a line on standard
+             error says so
 
 The script is read by tools/reference.py; weight distributions are not counted. The status is 0, or 1 if the script has a fault, whose
 line goes to standard error after the plans of the searches before it. No proof rests on this program.
@@ -202,6 +203,9 @@ def range_lines(code, settings):
     plan = Plan(code, settings.get("weight"))
     longest = max(1, int(settings["ranges"] * rate_of(code, settings.get("rate"))) // search.BLOCK)
     most = min(settings.get("budget", reference.BUDGET), search.CUT)
+    if plan.phases and plan.phases[-1].until > most:
+        advice = "" if most == search.CUT else " Give this program, join and resume a larger budget."
+        print(f"plan.py: {ending(plan, most)}{advice}", file=sys.stderr)
     return [f"from={start} count={count}" for start, count in ranges_of(plan.phases, most, longest)]
 
 
