@@ -401,7 +401,7 @@ def refusal(expr, fault, names):
     if number == 3:
         return too_large(values[0], values[1].size)
     if number == 15:
-        return f"{values[0].size}^{fault.values[0]} is above 2^20"
+        return f"{values[0].size}^{fault.values[0]} is above 2^20; for codes with more cosets there are NearestWord and, if they have an alternant form, AlgebraicDecode"
     if number == 18:
         return "only BCHCode, ReedSolomonCode, GoppaCode and AlternantCode make codes that have one"
     if number == 19:

@@ -11,9 +11,9 @@ from reference import CALLS, QUERIES
 MARKS = {b"\xef\xbb\xbf": "the file begins with a byte order mark: save it as UTF-8 without one",
          b"\xff\xfe": "the file is UTF-16: save it as UTF-8", b"\xfe\xff": "the file is UTF-16: save it as UTF-8"}
 SIGNS = {
-    "=": "a name is given a value with `:=`; whether two codes are equal is seen by their `GeneratorMat`",
+    "=": "a name is given a value with `:=`; whether two codes are equal is said by `IsSameCode(C, D)`",
     ":": "`:` stands only in `:=`, without a blank",
-    "+": "there are no sums here: write the number or the word that it gives; for the sum of two codes see docs/FROM_GUAVA.md",
+    "+": "there are no sums here: write the number that it gives; `AddWords` adds two words, and for the sum of two codes see docs/FROM_GUAVA.md",
     "*": "there are no products here: write the number or the word that it gives",
     "'": "there are no characters here: a word is a list of numbers, as [1,0,1]",
     "{": "a list is in brackets `[` and `]`",

@@ -245,7 +245,7 @@ function refusal(name, values, fault) {
   if (number === 13) return coordinatesRefusal(values[0], values[2]);
   if (number === 12) return lengthsRefusal(name, values);
   if (number === 3) return argumentRefusal(name, values);
-  if (number === 15) return `${values[0].size}^${fault.values[0]} is above 2^20`;
+  if (number === 15) return `${values[0].size}^${fault.values[0]} is above 2^20; for codes with more cosets there are NearestWord and, if they have an alternant form, AlgebraicDecode`;
   if (number === 18) return 'only BCHCode, ReedSolomonCode, GoppaCode and AlternantCode make codes that have one';
   if (number === 19) return attainedRefusal(...fault.values);
   if (number === 53) return noResidueLength(values[0], values[1].size);
