@@ -1,4 +1,5 @@
 mod AgreeLaws
+mod CoverLaws
 mod DisagreeLaws
 mod JoinLaws
 mod LineLaws
