@@ -1,4 +1,5 @@
 mod AgreeLaws
+mod CoverExamples
 mod CoverLaws
 mod DisagreeLaws
 mod JoinLaws
