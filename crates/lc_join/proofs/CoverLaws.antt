@@ -6,27 +6,33 @@
 --   none_missing             lines that are enough lack no block
 --   same_word                true parts of one range have one word
 --   none_disagree            true lines don't disagree
+--   along_more, with_blocks, on_within, some_on      one more part, and whether one goes on
+--   ends_or_on, joined_from  parts are taken from the beginning, as long as one goes on
+--   some_text                lines that are enough make a text
 --   session_ends             how a session over lines that are enough may end
-use Rattle.std.proofs.Common.{◌≡◌, ℕ, ◌^◌, ◌<◌, ◌≤◌, ◌==◌, ◌&&◌, not, Bool, true, false, find, List, length, All, Option, is_some, refl, sym, ap, ap₂, subst, ◌∙◌, ⊎_elim, arith}
-use Rattle.std.proofs.lemmas.Bool.{cases_Bool, cases_lt, and_from, le-leb, lt-ltb, eq-eqb, eqb-true, false≢true}
-use Rattle.std.proofs.lemmas.List.Elements.{All-contains}
+use Rattle.std.proofs.Common.{◌≡◌, ℕ, zero, suc, ◌+◌, ◌^◌, ◌<◌, ◌≤◌, ◌==◌, ◌&&◌, ◌⊎◌, inl, inr, nat_le, nat_lt, not, Bool, true, false, find, List, [], ◌∷◌, ◌++◌, length, All, Contains, Option, is_some, refl, sym, ap, ap₂, subst, ◌∙◌, ⊎_elim, arith}
+use Rattle.std.proofs.lemmas.Bool.{cases_Bool, cases_lt, and_parts, and_from, leb-true, ltb-true, le-leb, lt-ltb, eq-eqb, eqb-true, false≢true}
+use Rattle.std.proofs.lemmas.List.Elements.{All-contains, All-nil, All-cons, All-append}
 use Rattle.lc_algebra.specs.Matrix.{Matrix}
 use Rattle.lc_algebra.specs.Divisor.{divisor_of}
+use Rattle.lc_algebra.proofs.SpanLaws.{contains_head, contains_tail}
 use Rattle.lc_enumeration.specs.Search.{Found, Answer, set_count, is_done, found_first, found_from, least_of, answer, finished}
-use Rattle.lc_enumeration.specs.Records.{Progress, found_of}
+use Rattle.lc_enumeration.specs.Records.{Progress, found_of, progress_of}
 use Rattle.lc_enumeration.specs.Truth.{IsUnderway, answer_blocks}
 use Rattle.lc_enumeration.proofs.PlanLaws.{cut_is}
 use Rattle.lc_infoset.proofs.AnswerLaws.{some_set}
 use Rattle.lc_infoset.proofs.RoundLaws.{done_list, target, target_within, reached, some_end, end_between}
 use Rattle.lc_infoset.proofs.SessionLaws.{target_is}
+use Rattle.lc_formats.specs.Checkpoint.{checkpoint_text}
+use Rattle.lc_part_laws.specs.Point.{joined_point}
 use Rattle.lc_parts.specs.Part.{Part, Facts, part_end, found_in, IsTruePart, facts_of}
-use Rattle.lc_parts.specs.Along.{end_by, is_answered, end_wanted, continues}
+use Rattle.lc_parts.specs.Along.{first_by, end_by, is_answered, end_wanted, continues, after_part, with_part, along}
 use Rattle.lc_parts.specs.Joined.{differs_from}
 use Rattle.lc_parts.proofs.FactsLaws.{end_is, finished_is}
 use Rattle.lc_share.specs.PartSession.{Ends, HasRead}
 use Rattle.lc_join.specs.Asked.{JoinOptions, asked, join_options}
 use Rattle.lc_join.specs.Lines.{Numbered, Agree, Disagree, lines_in, parts_in}
-use Rattle.lc_join.specs.Joining.{IsJoined, Lacks}
+use Rattle.lc_join.specs.Joining.{IsJoined, Joins, HasText, Lacks}
 use Rattle.lc_join.specs.JoinSession.{JoinEnding, printed, refused, source_fault, sink_fault, no_memory, too_long, missing, no_part, disagree, EndsSo, Does, IsJoinSession}
 use Rattle.lc_join.specs.Cover.{CoverBelow, AreEnough, WroteOrFailed}
 use Rattle.lc_join.specs.Truth.{IsTrueLine}
@@ -42,7 +48,7 @@ needed C budget = answer_blocks (answer (divisor_of C) C budget)
 abbrev done_at : Matrix → ℕ → Option ℕ
 done_at C budget = find (is_done (divisor_of C) C) (done_list C budget)
 
-pub record HasNext (C : Matrix) (budget l : ℕ) : Type 0 where
+record HasNext (C : Matrix) (budget l : ℕ) : Type 0 where
   pub few : l < needed C budget
   pub inside : l < end_by (facts_of C) l
 
@@ -117,6 +123,79 @@ pub none_disagree : (digest : List ℕ) (C : Matrix) (lines : List Numbered) →
 none_disagree digest C lines all i j h =
     h.disagree
     (true_agree digest C h.one h.other (subst (IsTrueLine digest C) h.one_is (all h.first h.one (omega (arith, h.earlier, h.inside)))) (subst (IsTrueLine digest C) h.other_is (all h.second h.other h.inside)))
+
+-- ---- the text
+
+along_more : (f : Facts) (budget : ℕ) (s : Progress) (taken : List Part) (p : Part) → along f budget s (taken ++ p ∷ []) ≡ with_part f budget (along f budget s taken) p
+unfolding along
+along_more f budget s [] p = refl
+along_more f budget s (q ∷ taken) p = along_more f budget (with_part f budget s q) taken p
+
+with_blocks : (f : Facts) (budget : ℕ) (s : Progress) (p : Part) → is_answered f budget s ≡ false → continues f budget s p ≡ true → (with_part f budget s p).blocks ≡ part_end p
+unfolding with_part after_part progress_of
+with_blocks f budget s p a c = rw (a, c) refl
+
+-- a part that goes on ends after the state, within the budget
+on_within : (f : Facts) (budget : ℕ) (s : Progress) (p : Part) → continues f budget s p ≡ true → (s.blocks < part_end p) × (part_end p ≤ budget)
+unfolding continues end_wanted
+on_within f budget s p h =
+    let a = and_parts (nat_le p.start s.blocks) (nat_lt s.blocks (part_end p) && nat_le (part_end p) (end_wanted f budget s)) h in
+    let b = and_parts (nat_lt s.blocks (part_end p)) (nat_le (part_end p) (end_wanted f budget s)) a.1 in
+    (ltb-true s.blocks (part_end p) b.0, omega (arith, leb-true (part_end p) (end_wanted f budget s) b.1))
+
+some_on : (f : Facts) (budget : ℕ) (s : Progress) (parts : List Part) → All (λ p. continues f budget s p ≡ false) parts ⊎ ((p : Part) × Contains parts p × (continues f budget s p ≡ true))
+some_on f budget s [] = inl (λ k d l. absurd (omega (arith, l)))
+some_on f budget s (p ∷ parts) =
+    ⊎_elim
+    (λ (t : continues f budget s p ≡ true). inr (p, contains_head p parts, t))
+    (λ (u : continues f budget s p ≡ false). ⊎_elim
+    (λ none. inl (All-cons (λ q. continues f budget s q ≡ false) p parts u none))
+    (λ (x : (q : Part) × Contains parts q × (continues f budget s q ≡ true)). inr (x.0, contains_tail p x.0 parts x.1, x.2))
+    (some_on f budget s parts))
+    (cases_Bool (continues f budget s p))
+
+module _ (f : Facts) (budget : ℕ) (parts : List Part) where
+  -- what some parts bring the search to
+  abbrev reached_by : List Part → Progress
+  reached_by taken = along f budget (first_by f) taken
+
+  ends_or_on : (taken : List Part) → All (Contains parts) taken
+      → ((p : Part) → Contains parts p → is_answered f budget (reached_by taken) ≡ false → continues f budget (reached_by taken) p ≡ true → (s : Progress) × IsJoined f budget parts s) → (s : Progress) × IsJoined f budget parts s
+  ends_or_on taken drawn next =
+      ⊎_elim
+      (λ a. ended_here (inl a))
+      (λ a. ⊎_elim
+      (λ none. ended_here (inr none))
+      (λ (x : (p : Part) × Contains parts p × (continues f budget (reached_by taken) p ≡ true)). next x.0 x.1 a x.2)
+      (some_on f budget (reached_by taken) parts))
+      (cases_Bool (is_answered f budget (reached_by taken)))
+    where
+      ended_here : (is_answered f budget (reached_by taken) ≡ true) ⊎ All (λ p. continues f budget (reached_by taken) p ≡ false) parts → (s : Progress) × IsJoined f budget parts s
+      ended_here e = (reached_by taken, record { taken = taken; drawn = drawn; reached = refl; ended = e })
+
+  joined_from : (n : ℕ) (taken : List Part) → All (Contains parts) taken → budget ≤ (reached_by taken).blocks + n → (s : Progress) × IsJoined f budget parts s
+  joined_from zero taken drawn few = ends_or_on taken drawn (λ p c a on. let w = on_within f budget (reached_by taken) p on in absurd (omega (arith, few, w.0, w.1)))
+  joined_from (suc n) taken drawn few = ends_or_on taken drawn (λ p c a on.
+      let w = on_within f budget (reached_by taken) p on in
+      joined_from n (taken ++ p ∷ []) (All-append (Contains parts) taken (p ∷ []) drawn (All-cons (Contains parts) p [] c (All-nil (Contains parts))))
+      (omega (arith, few, w.0, ap (λ (s : Progress). s.blocks) (along_more f budget (first_by f) taken p), with_blocks f budget (reached_by taken) p a on)))
+
+pub some_text : (digest : List ℕ) (C : Matrix) (budget : ℕ) (lines : List Numbered) → 0 < length C.rows → budget ≤ 2 ^ 40 → AreEnough digest C budget lines → (text : List ℕ) × HasText budget lines text
+some_text digest C budget [] rows small enough = absurd (omega (arith, enough.some))
+some_text digest C budget (x ∷ xs) rows small enough =
+    let lines = x ∷ xs in
+    let first : IsTrueLine digest C x = enough.holds 0 x (omega arith) in
+    let r = joined_from (facts_of C) budget (parts_in lines) budget [] (λ k d l. absurd (omega (arith, l))) (omega arith) in
+    let j : Joins budget lines = record {
+      first = x;
+      others = xs;
+      lines_are = refl;
+      agreed = λ i k d less inside. true_agree digest C _ _ (enough.holds i d (omega (arith, less, inside))) (enough.holds k d inside);
+      state = r.0;
+      joined = subst (λ (f : Facts). IsJoined f budget (parts_in lines) r.0) (sym first.facts) r.1;
+    } in
+    let answered = covered_answered C budget (parts_in lines) r.0 rows small (true_parts digest C lines enough.holds) enough.cover r.1 in
+    (checkpoint_text (joined_point x.line.script budget r.0), (j, ap (λ (f : Facts). is_answered f budget r.0) first.facts ∙ answered, refl))
 
 -- ---- sessions
 

@@ -78,11 +78,14 @@ pub fn joins_agree()
 
 /// True lines that have all blocks that a search needs are joined. The lines are true ones of the search of C, at least one, and each
 /// block that the search needs for its answer is in a part that ends no later than the block's phase and the budget; other parts do
-/// no harm, nor does any order or repetition. The budget is at most 2^40 blocks. Then `join` lacks no block and no two lines disagree,
-/// so a session over such lines writes the checkpoint, unless the source, the sink or the memory fails or too many bytes come. No
-/// search needs a block beyond the budget, so parts that have all blocks of the plan below the budget are always enough. Whoever
-/// shares out a search in ranges that lie within its phases can rely on this: once each range is done, `join` finds nothing missing.
+/// no harm, nor does any order or repetition. The budget is at most 2^40 blocks. Then the lines make the text of a checkpoint, they
+/// lack no block, and no two of them disagree; so a session of `join` over them writes a checkpoint, unless the source, the sink or
+/// the memory fails or too many bytes come. No search needs a block beyond the budget, so parts that have all blocks of the plan
+/// below the budget are always enough. Whoever shares out a search in ranges that lie within its phases can rely on this: once each
+/// range is done, `join` finds nothing missing. The lines that `part` prints are true (`printed_lines_are_read`).
 pub fn parts_of_all_blocks_are_joined()
+    ensures text { (digest : List ℕ) (C : Matrix) (budget : ℕ) (lines : List Numbered) → 0 < length C.rows →
+        budget ≤ 2 ^ 40 → AreEnough digest C budget lines → (text : List ℕ) × HasText budget lines text }
     ensures none_missing { (digest : List ℕ) (C : Matrix) (budget : ℕ) (lines : List Numbered) → 0 < length C.rows →
         budget ≤ 2 ^ 40 → AreEnough digest C budget lines → (a b : ℕ) → Lacks budget lines a b → ⊥ }
     ensures none_disagree { (digest : List ℕ) (C : Matrix) (lines : List Numbered) → All (IsTrueLine digest C) lines →
