@@ -1,4 +1,6 @@
 mod AgreeLaws
+mod CoverExamples
+mod CoverLaws
 mod DisagreeLaws
 mod JoinLaws
 mod LineLaws

@@ -6,7 +6,7 @@
 --   Joins budget lines           lines that agree, and what they bring the search of the first one to
 --   HasText budget lines text    there it is answered, and this is the text of its checkpoint
 --   Lacks budget lines a b       there it isn't answered, and the blocks a to b are missing
-use Rattle.std.specs.Prelude.{◌≡◌, ℕ, ◌+◌, ◌<◌, ◌⊎◌, true, false, List, [], ◌∷◌, All, Contains}
+use Rattle.std.specs.Prelude.{◌≡◌, ℕ, ◌+◌, ◌<◌, ◌⊎◌, true, false, List, ◌∷◌, All, Contains}
 use Rattle.std.specs.List.{AllPairs}
 use Rattle.lc_enumeration.specs.Records.{Progress}
 use Rattle.lc_formats.specs.Checkpoint.{checkpoint_text}

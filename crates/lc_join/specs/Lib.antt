@@ -1,4 +1,5 @@
 pub mod Asked
+pub mod Cover
 pub mod Lines
 pub mod Joining
 pub mod JoinSession

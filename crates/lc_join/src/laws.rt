@@ -6,13 +6,21 @@ ghost use Rattle.std.specs.Prelude.{◌≡◌, ℕ, ◌<◌, ◌≤◌, ◌^◌,
 ghost use Rattle.std.specs.List.{concat};
 ghost use Rattle.sha2.specs.Sha256.{sha256};
 ghost use Rattle.lc_algebra.specs.Matrix.{Matrix};
+ghost use Rattle.lc_algebra.specs.Divisor.{divisor_of};
+ghost use Rattle.lc_enumeration.specs.Search.{answer};
+ghost use Rattle.lc_enumeration.specs.Truth.{answer_blocks};
 ghost use Rattle.lc_language.specs.declared.Call.{Call};
 ghost use Rattle.lc_eval.specs.Built.{built_calls};
 ghost use Rattle.lc_session_rules.specs.Needs.{MeetsFirst};
+ghost use Rattle.lc_parts.specs.Part.{Part, facts_of};
 ghost use Rattle.lc_part_lines.specs.Line.{PartLine};
+ghost use Rattle.lc_share.specs.PartSession.{Ends, HasRead};
 ghost use Rattle.lc_share.specs.Printed.{IsPrinted};
-ghost use Rattle.lc_join.specs.Lines.{Numbered, lines_in, HaveSameParts};
+ghost use Rattle.lc_join.specs.Asked.{asked, join_options};
+ghost use Rattle.lc_join.specs.Cover.{CoverBelow, AreEnough, WroteOrFailed};
+ghost use Rattle.lc_join.specs.Lines.{Numbered, lines_in, Disagree, HaveSameParts};
 ghost use Rattle.lc_join.specs.Joining.{HasText, Lacks};
+ghost use Rattle.lc_join.specs.JoinSession.{JoinEnding, IsJoinSession};
 ghost use Rattle.lc_join.specs.Meant.{numbered_from, AreMeant, HaveSameTexts};
 ghost use Rattle.lc_join.specs.Truth.{IsTrueLine, IsTrueText};
 
@@ -66,4 +74,27 @@ pub fn joins_agree()
         MeetsFirst built_calls bytes (C ∷ needs) → All (IsPrinted built_calls bytes) texts →
         All (IsPrinted built_calls bytes) others → HaveSameTexts texts others →
         HaveSameParts (lines_in (concat texts)) (lines_in (concat others)) }
+{}
+
+/// True lines that have all blocks that a search needs are joined. The lines are true ones of the search of C, at least one, and each
+/// block that the search needs for its answer is in a part that ends no later than the block's phase and the budget; other parts do
+/// no harm, nor does any order or repetition. The budget is at most 2^40 blocks. Then the lines make the text of a checkpoint, they
+/// lack no block, and no two of them disagree; so a session of `join` over them writes a checkpoint, unless the source, the sink or
+/// the memory fails or too many bytes come. No search needs a block beyond the budget, so parts that have all blocks of the plan
+/// below the budget are always enough. Whoever shares out a search in ranges that lie within its phases can rely on this: once each
+/// range is done, `join` finds nothing missing. The lines that `part` prints are true (`printed_lines_are_read`).
+pub fn parts_of_all_blocks_are_joined()
+    ensures text { (digest : List ℕ) (C : Matrix) (budget : ℕ) (lines : List Numbered) → 0 < length C.rows →
+        budget ≤ 2 ^ 40 → AreEnough digest C budget lines → (text : List ℕ) × HasText budget lines text }
+    ensures none_missing { (digest : List ℕ) (C : Matrix) (budget : ℕ) (lines : List Numbered) → 0 < length C.rows →
+        budget ≤ 2 ^ 40 → AreEnough digest C budget lines → (a b : ℕ) → Lacks budget lines a b → ⊥ }
+    ensures none_disagree { (digest : List ℕ) (C : Matrix) (lines : List Numbered) → All (IsTrueLine digest C) lines →
+        (i j : ℕ) → Disagree lines i j → ⊥ }
+    ensures session { (arguments : List (List ℕ)) (old new : Ends) (ending : JoinEnding) (digest : List ℕ)
+        (C : Matrix) (budget : ℕ) → 0 < length C.rows → budget ≤ 2 ^ 40 → join_options arguments ≡ asked budget →
+        ((bytes : List ℕ) → HasRead old new bytes → AreEnough digest C budget (lines_in bytes)) →
+        IsJoinSession arguments old new ending → WroteOrFailed ending }
+    ensures all { (C : Matrix) (budget : ℕ) (parts : List Part) → 0 < length C.rows →
+        CoverBelow (facts_of C) budget budget parts →
+        CoverBelow (facts_of C) budget (answer_blocks (answer (divisor_of C) C budget)) parts }
 {}
