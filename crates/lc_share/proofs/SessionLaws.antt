@@ -63,8 +63,8 @@ unfolding scan scan_within ended
 nothing_asked table = inl ([], record { whole = refl; script = refl; shallow = λ k d h. absurd (omega (arith, h)) }, refl)
 
 pub no_part_in : (table : List Call) (bytes : List ℕ) (a : PartAsked) → length bytes ≡ 0 → HasNoPart table bytes a
-no_part_in table [] a e = inl (nothing_asked table)
-no_part_in table (b ∷ bytes) a e = absurd (omega (arith, e))
+no_part_in table [] a none = inl (nothing_asked table)
+no_part_in table (b ∷ bytes) a none = absurd (omega (arith, none))
 
 pub gave_some : (old new : Option (List ℕ)) (bytes : List ℕ) → WasRead old new bytes → 0 < length bytes → GaveSome old new (most_bytes + 1)
 gave_some old new bytes h some = (bytes, some, omega (arith, h.within), h.gave)
