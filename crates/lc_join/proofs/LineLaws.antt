@@ -2,6 +2,7 @@
 --   numbered_read, numbered_none     a line that is read as that of a part, or isn't
 --   newline_split, newline_none      the lines before and after the first newline; bytes without a newline
 --   lines_first, lines_more, lines_end       before the first line, after one more, and after the last one
+--   no_lines                     no bytes have no line of a part
 use Rattle.std.proofs.Common.{◌≡◌, ℕ, ◌+◌, ◌<◌, ◌==◌, Bool, true, false, List, [], ◌∷◌, ◌++◌, length, map, take, drop, Option, Some, None, refl, sym, ap, ap₂, subst, ◌∙◌, arith}
 use Rattle.std.specs.Prelude.{Result, Ok, Err, cond, nat_lt}
 use Rattle.std.specs.List.{cons_option, slice_split, position, position_or_len}
@@ -9,7 +10,7 @@ use Rattle.std.proofs.lemmas.Bool.{ltb-true, ltb-false}
 use Rattle.std.proofs.lemmas.List.{append_assoc}
 use Rattle.std.proofs.lemmas.List.Sums.{fails_before_first}
 use Rattle.std.proofs.lemmas.List.Splits.{slice_split_first, slice_split_none}
-use Rattle.lc_part_lines.specs.Line.{ReadLine, part_in}
+use Rattle.lc_part_lines.specs.Line.{ReadLine, is_headed, part_in}
 use Rattle.lc_part_lines.specs.Seen.{line_of, read_of}
 use Rattle.lc_part_lines.specs.declared.line.PartLine.{PartLine}
 use Rattle.lc_part_lines.specs.declared.refusal.LineRefusal.{LineRefusal}
@@ -87,3 +88,8 @@ lines_end bytes rest old new done e made so_far =
     ∙ ap (λ z. old ++ z) (sym (lines_cons done rest []))
     ∙ ap (λ z. old ++ lines_after done z) (sym (newline_none rest e))
     ∙ so_far
+
+pub no_lines : (bytes : List ℕ) → length bytes ≡ 0 → lines_in bytes ≡ []
+unfolding lines_in lines_after numbered part_in is_headed
+no_lines [] e = refl
+no_lines (b ∷ bytes) e = absurd (omega (arith, e))

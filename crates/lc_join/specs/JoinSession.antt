@@ -5,7 +5,7 @@
 use Rattle.std.specs.Prelude.{◌≡◌, ℕ, ◌+◌, List, [], ◌++◌, codes, decimal}
 use Rattle.std.specs.Io.KnownBytes.{Appends}
 use Rattle.lc_session_rules.specs.Endings.{said}
-use Rattle.lc_io.specs.Outside.{HasRisen, GaveFront, GaveLess, AppendsPart}
+use Rattle.lc_io.specs.Outside.{HasRisen, GaveLess, GaveSome, AppendsPart}
 use Rattle.lc_session_rules.specs.Session.{most_bytes, GaveTooMuch}
 use Rattle.lc_share.specs.PartSession.{Ends, HasRead, IsSilent}
 use Rattle.lc_join.specs.Asked.{JoinOptions, asked, usage, join_options}
@@ -54,7 +54,7 @@ EndsSo budget old new (refused i) = ⊥
 EndsSo budget old new source_fault = IsSilent old new × GaveLess old.source new.source (most_bytes + 1) × HasRisen old.source_faults new.source_faults
 EndsSo budget old new sink_fault =
     (bytes : List ℕ) × HasRead old new bytes × ((text : List ℕ) × HasText budget (lines_in bytes) text × AppendsPart old.sink new.sink text × HasRisen old.sink_faults new.sink_faults)
-EndsSo budget old new no_memory = IsSilent old new × GaveFront old.source new.source (most_bytes + 1) × (new.source_faults ≡ old.source_faults)
+EndsSo budget old new no_memory = IsSilent old new × GaveSome old.source new.source (most_bytes + 1) × (new.source_faults ≡ old.source_faults)
 EndsSo budget old new too_long = IsSilent old new × GaveTooMuch old.source new.source × (new.source_faults ≡ old.source_faults)
 EndsSo budget old new (missing a b) = (bytes : List ℕ) × HasRead old new bytes × IsSilent old new × Lacks budget (lines_in bytes) a b
 EndsSo budget old new no_part = (bytes : List ℕ) × HasRead old new bytes × IsSilent old new × (lines_in bytes ≡ [])

@@ -40,6 +40,9 @@ pub fn join_parts<S: Source, K: Sink>(
         Err(InputRefusal::TooLong) => return JoinStatus::TooLong,
         Err(InputRefusal::NoMemory) => return JoinStatus::NoMemory,
     };
+    if bytes.is_empty() {
+        return JoinStatus::NoPart;
+    }
     let text = match joined(alloc, budget, &bytes) {
         Ok(Outcome::Text(text)) => text,
         Ok(Outcome::Missing(first, last)) => return JoinStatus::Missing(first, last),

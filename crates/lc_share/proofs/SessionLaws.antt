@@ -2,8 +2,9 @@
 --   found_so                 the part of the first need, or none
 --   printed_so               its text
 --   usage_so, does_so        what a session does, by what its words ask for
---   unread                   a source that was read gave no more than a script may have and a byte
-use Rattle.std.proofs.Common.{◌≡◌, ℕ, ◌+◌, ◌<◌, ◌≤◌, List, [], ◌∷◌, length, Option, Some, None, Result, Ok, Err, inr, ap, subst, ◌∙◌, arith}
+--   nothing_asked, no_part_in      no bytes are the script without statements, which has no need; so they have no part
+--   gave_some                a source that was read and gave bytes gave at least one, and no more than a script may have and a byte
+use Rattle.std.proofs.Common.{◌≡◌, ℕ, ◌+◌, ◌<◌, ◌≤◌, List, [], ◌∷◌, length, Option, Some, None, Result, Ok, Err, refl, inl, inr, ap, subst, ◌∙◌, arith}
 use Rattle.std.specs.Prelude.{IfOk, MatchOption}
 use Rattle.sha2.specs.Sha256.{sha256}
 use Rattle.lc_algebra.specs.Field.{size}
@@ -13,8 +14,9 @@ use Rattle.lc_enumeration.specs.Search.{set_count}
 use Rattle.lc_field.specs.declared.NoMemory.{NoMemory}
 use Rattle.lc_formats.specs.Text.{line}
 use Rattle.lc_language.specs.declared.Call.{Call}
-use Rattle.lc_io.specs.Outside.{GaveFront}
-use Rattle.lc_session_rules.specs.Needs.{MeetsFirst}
+use Rattle.lc_grammar.specs.Token.{scan, scan_within, ended}
+use Rattle.lc_io.specs.Outside.{GaveSome}
+use Rattle.lc_session_rules.specs.Needs.{IsNeeds, MeetsFirst}
 use Rattle.lc_session_rules.specs.Session.{most_bytes, WasRead}
 use Rattle.lc_parts.specs.Part.{Facts, part_end}
 use Rattle.lc_parts.specs.Seen.{part_of, facts_seen}
@@ -56,5 +58,13 @@ usage_so o i table old new ending e same is = subst (λ (o : PartOptions). Does 
 pub does_so : (o : PartOptions) (a : PartAsked) (table : List Call) (old new : Ends) (ending : PartEnding) → asked a ≡ o → EndsSo table a old new ending → Does o table old new ending
 does_so o a table old new ending e h = subst (λ (o : PartOptions). Does o table old new ending) e h
 
-pub unread : (old new : Option (List ℕ)) (bytes : List ℕ) → WasRead old new bytes → GaveFront old new (most_bytes + 1)
-unread old new bytes h = (bytes, omega (arith, h.within), h.gave)
+nothing_asked : (table : List Call) → IsNeeds table [] []
+unfolding scan scan_within ended
+nothing_asked table = inl ([], record { whole = refl; script = refl; shallow = λ k d h. absurd (omega (arith, h)) }, refl)
+
+pub no_part_in : (table : List Call) (bytes : List ℕ) (a : PartAsked) → length bytes ≡ 0 → HasNoPart table bytes a
+no_part_in table [] a none = inl (nothing_asked table)
+no_part_in table (b ∷ bytes) a none = absurd (omega (arith, none))
+
+pub gave_some : (old new : Option (List ℕ)) (bytes : List ℕ) → WasRead old new bytes → 0 < length bytes → GaveSome old new (most_bytes + 1)
+gave_some old new bytes h some = (bytes, some, omega (arith, h.within), h.gave)

@@ -15,7 +15,7 @@ use Rattle.lc_enumeration.specs.Plan.{total}
 use Rattle.lc_enumeration.specs.Search.{set_count}
 use Rattle.lc_formats.specs.Text.{line}
 use Rattle.lc_language.specs.declared.Call.{Call}
-use Rattle.lc_io.specs.Outside.{HasRisen, GaveFront, GaveLess, AppendsPart}
+use Rattle.lc_io.specs.Outside.{HasRisen, GaveLess, GaveSome, AppendsPart}
 use Rattle.lc_session_rules.specs.Needs.{IsNeeds, MeetsFirst}
 use Rattle.lc_session_rules.specs.Session.{most_bytes, WasRead, GaveTooMuch}
 use Rattle.lc_parts.specs.Part.{Part, part_end, IsTruePart, facts_of}
@@ -78,7 +78,7 @@ EndsSo table a old new (refused i) = ⊥
 EndsSo table a old new source_fault = IsSilent old new × GaveLess old.source new.source (most_bytes + 1) × HasRisen old.source_faults new.source_faults
 EndsSo table a old new sink_fault =
     (bytes : List ℕ) × HasRead old new bytes × ((text : List ℕ) × IsPartText table bytes a text × AppendsPart old.sink new.sink text × HasRisen old.sink_faults new.sink_faults)
-EndsSo table a old new no_memory = IsSilent old new × GaveFront old.source new.source (most_bytes + 1) × (new.source_faults ≡ old.source_faults)
+EndsSo table a old new no_memory = IsSilent old new × GaveSome old.source new.source (most_bytes + 1) × (new.source_faults ≡ old.source_faults)
 EndsSo table a old new too_long = IsSilent old new × GaveTooMuch old.source new.source × (new.source_faults ≡ old.source_faults)
 EndsSo table a old new no_part = (bytes : List ℕ) × HasRead old new bytes × IsSilent old new × HasNoPart table bytes a
 

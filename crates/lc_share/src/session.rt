@@ -118,6 +118,9 @@ pub fn run_part<R: Threads + Sync, S: Source, K: Sink, G: Gate + Sync>(
         Err(InputRefusal::TooLong) => return PartStatus::TooLong,
         Err(InputRefusal::NoMemory) => return PartStatus::NoMemory,
     };
+    if bytes.is_empty() {
+        return PartStatus::NoPart;
+    }
     let line = match part_text(rt, alloc, &asked, &bytes, gate) {
         Ok(Some(line)) => line,
         Ok(None) => return PartStatus::NoPart,
