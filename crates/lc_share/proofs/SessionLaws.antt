@@ -1,9 +1,8 @@
 -- A session of `part`.
 --   found_so                 the part of the first need, or none
 --   printed_so               its text
---   usage_so, does_so        what a session does, by what its words ask for
+--   does_so                  what a session does, by what its words ask for
 --   nothing_asked, no_part_in      no bytes are the script without statements, which has no need; so they have no part
---   gave_some                a source that was read and gave bytes gave at least one, and no more than a script may have and a byte
 use Rattle.std.proofs.Common.{◌≡◌, ℕ, ◌+◌, ◌<◌, ◌≤◌, List, [], ◌∷◌, length, Option, Some, None, Result, Ok, Err, refl, inl, inr, ap, subst, ◌∙◌, arith}
 use Rattle.std.specs.Prelude.{IfOk, MatchOption}
 use Rattle.sha2.specs.Sha256.{sha256}
@@ -15,16 +14,14 @@ use Rattle.lc_field.specs.declared.NoMemory.{NoMemory}
 use Rattle.lc_formats.specs.Text.{line}
 use Rattle.lc_language.specs.declared.Call.{Call}
 use Rattle.lc_grammar.specs.Token.{scan, scan_within, ended}
-use Rattle.lc_io.specs.Outside.{GaveSome}
 use Rattle.lc_session_rules.specs.Needs.{IsNeeds, MeetsFirst}
-use Rattle.lc_session_rules.specs.Session.{most_bytes, WasRead}
 use Rattle.lc_parts.specs.Part.{Facts, part_end}
 use Rattle.lc_parts.specs.Seen.{part_of, facts_seen}
 use Rattle.lc_part_lines.specs.Line.{part_line}
 use Rattle.lc_part_search.specs.Done.{IsInside, IsDoneFor}
 use Rattle.lc_part_search.specs.declared.done.Done.{Done}
-use Rattle.lc_share.specs.Asked.{PartAsked, PartOptions, asked, usage}
-use Rattle.lc_share.specs.PartSession.{Ends, PartEnding, refused, IsPartText, HasNoPart, EndsSo, Does}
+use Rattle.lc_share.specs.Asked.{PartAsked, PartOptions, asked}
+use Rattle.lc_share.specs.PartSession.{Ends, PartEnding, IsPartText, HasNoPart, EndsSo, Does}
 use Rattle.lc_share.specs.Found.{IsPartDone}
 
 one_found : (table : List Call) (bytes : List ℕ) (a : PartAsked) (C : Matrix) (o : Option Done) → (0 < length C.rows) × MeetsFirst table bytes (C ∷ []) → MatchOption o (¬ IsInside C a.start a.count) (λ d. IsInside C a.start a.count × IsDoneFor C a.start a.count d) → MatchOption o (HasNoPart table bytes a) (IsPartDone table bytes a)
@@ -52,9 +49,6 @@ printed_so table bytes a d text h e = record {
   printed = e ∙ ap (λ (f : Facts). line (part_line (record { script = sha256 bytes; facts = f; part = part_of d.part }))) h.done.facts;
 }
 
-pub usage_so : (o : PartOptions) (i : ℕ) (table : List Call) (old new : Ends) (ending : PartEnding) → usage i ≡ o → new ≡ old → ending ≡ refused i → Does o table old new ending
-usage_so o i table old new ending e same is = subst (λ (o : PartOptions). Does o table old new ending) e (same, is)
-
 pub does_so : (o : PartOptions) (a : PartAsked) (table : List Call) (old new : Ends) (ending : PartEnding) → asked a ≡ o → EndsSo table a old new ending → Does o table old new ending
 does_so o a table old new ending e h = subst (λ (o : PartOptions). Does o table old new ending) e h
 
@@ -65,6 +59,3 @@ nothing_asked table = inl ([], record { whole = refl; script = refl; shallow = �
 pub no_part_in : (table : List Call) (bytes : List ℕ) (a : PartAsked) → length bytes ≡ 0 → HasNoPart table bytes a
 no_part_in table [] a none = inl (nothing_asked table)
 no_part_in table (b ∷ bytes) a none = absurd (omega (arith, none))
-
-pub gave_some : (old new : Option (List ℕ)) (bytes : List ℕ) → WasRead old new bytes → 0 < length bytes → GaveSome old new (most_bytes + 1)
-gave_some old new bytes h some = (bytes, some, omega (arith, h.within), h.gave)
