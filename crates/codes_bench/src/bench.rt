@@ -62,7 +62,7 @@ pub enum Searches {
 }
 
 /// The benches with their names.
-pub static BENCHES: [(&str, Bench); 71] = [
+pub static BENCHES: [(&str, Bench); 73] = [
     ("add_scaled_2", Bench::AddScaled(2)),
     ("add_scaled_3", Bench::AddScaled(3)),
     ("add_scaled_4", Bench::AddScaled(4)),
@@ -84,6 +84,8 @@ pub static BENCHES: [(&str, Bench); 71] = [
     ("kernel_2_63", Bench::Least(2, 63, 45, 6)),
     ("kernel_2_79", Bench::Least(2, 79, 40, 6)),
     ("kernel_2_127", Bench::Least(2, 127, 36, 7)),
+    ("kernel_2_192", Bench::Least(2, 192, 36, 6)),
+    ("kernel_2_255", Bench::Least(2, 255, 36, 6)),
     ("kernel_3", Bench::Least(3, 40, 20, 6)),
     ("kernel_4", Bench::Least(4, 30, 15, 5)),
     ("kernel_5", Bench::Least(5, 24, 8, 5)),

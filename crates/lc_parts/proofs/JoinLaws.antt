@@ -7,7 +7,6 @@
 --   continues_is                 whether a part goes on from a state
 --   with_answered, with_passed, with_lesser, with_greater      the state after a part: of an answered search; if the part doesn't go
 --                                on from it; if its word is the lesser; if it isn't
---   contradicts_is               whether a part contradicts the one taken last
 --   lines_along, lines_keep      the state after some parts
 use Rattle.std.proofs.Common.{◌≡◌, ℕ, zero, suc, max, ◌++◌, ap₂, Contains, [], ◌∷◌, ◌+◌, ◌^◌, ◌<◌, ◌≤◌, min, Bool, true, false, ◌&&◌, ◌||◌, ◌==◌, nat_le, nat_lt, if◌then◌else◌, List, map, is_some, Option, Some, None, refl, sym, ap, subst, ◌∙◌, ⊎_elim, arith}
 use Rattle.std.proofs.lemmas.Bool.{cases_lt, and_from, le-leb, eq-eqb, eqb-true, false_from_ne_true, false≢true}
@@ -25,7 +24,7 @@ use Rattle.lc_place.specs.declared.phase.Phase.{Phase}
 use Rattle.lc_place.specs.Place.{PlanSize, plan_phase}
 use Rattle.lc_parts.specs.Part.{Part, part_end, found_in, Facts}
 use Rattle.lc_parts.specs.Along.{set_number, end_by, level_by, levels_by, bound_by, may_end_by, finished_at, finished_by, is_answered, end_wanted, continues, after_part, with_part, along}
-use Rattle.lc_parts.specs.Joined.{AreUsable, JoinState, with_line, with_lines, differs_from, contradicts_last, contradicts}
+use Rattle.lc_parts.specs.Joined.{AreUsable, JoinState, with_line, with_lines}
 use Rattle.lc_parts.specs.Levels.{level_in, levels_in, bound_in, plan_by}
 use Rattle.lc_parts.proofs.PhaseLaws.{level_here, level_past, ends_here, ends_past, end_here, may_end_at, found_end}
 
@@ -187,19 +186,19 @@ wanted_end f budget s = refl
 
 -- ---- one more part
 
--- a state with the part that was taken last
-abbrev state_of : List ℕ → Facts → ℕ → Progress → Option Part → JoinState
-state_of script f budget s last = record { script = script; facts = f; budget = budget; progress = s; last = last }
+-- a state
+abbrev state_of : List ℕ → Facts → ℕ → Progress → JoinState
+state_of script f budget s = record { script = script; facts = f; budget = budget; progress = s }
 
-with_is : (script : List ℕ) (f : Facts) (budget : ℕ) (s t : Progress) (last : Option Part) (p : Part) → t ≡ (if is_answered f budget s then s else (if continues f budget s p then after_part s p else s)) → state_of script f budget t (Some p) ≡ with_line (state_of script f budget s last) p
+with_is : (script : List ℕ) (f : Facts) (budget : ℕ) (s t : Progress) (p : Part) → t ≡ (if is_answered f budget s then s else (if continues f budget s p then after_part s p else s)) → state_of script f budget t ≡ with_line (state_of script f budget s) p
 unfolding with_line with_part
-with_is script f budget s t last p e = ap (λ (x : Progress). state_of script f budget x (Some p)) e
+with_is script f budget s t p e = ap (λ (x : Progress). state_of script f budget x) e
 
-pub with_answered : (script : List ℕ) (f : Facts) (budget : ℕ) (s : Progress) (last : Option Part) (p : Part) → true ≡ is_answered f budget s → state_of script f budget s (Some p) ≡ with_line (state_of script f budget s last) p
-with_answered script f budget s last p a = with_is script f budget s s last p (rw (sym a) refl)
+pub with_answered : (script : List ℕ) (f : Facts) (budget : ℕ) (s : Progress) (p : Part) → true ≡ is_answered f budget s → state_of script f budget s ≡ with_line (state_of script f budget s) p
+with_answered script f budget s p a = with_is script f budget s s p (rw (sym a) refl)
 
-pub with_passed : (script : List ℕ) (f : Facts) (budget : ℕ) (s : Progress) (last : Option Part) (p : Part) → false ≡ is_answered f budget s → false ≡ continues f budget s p → state_of script f budget s (Some p) ≡ with_line (state_of script f budget s last) p
-with_passed script f budget s last p a b = with_is script f budget s s last p (rw (sym a, sym b) refl)
+pub with_passed : (script : List ℕ) (f : Facts) (budget : ℕ) (s : Progress) (p : Part) → false ≡ is_answered f budget s → false ≡ continues f budget s p → state_of script f budget s ≡ with_line (state_of script f budget s) p
+with_passed script f budget s p a b = with_is script f budget s s p (rw (sym a, sym b) refl)
 
 found_is : (p : Part) → Path Found (found_in p) (record { weight = p.weight; place = p.place })
 unfolding found_in
@@ -213,38 +212,27 @@ after_is : (s : Progress) (p : Part) (x : Found) → (if beats (found_in p) (fou
 unfolding after_part progress_of least_of part_end
 after_is s p x e = ap (λ (y : Found). record { blocks = p.start + p.count; weight = y.weight; place = y.place }) e
 
-moved : (script : List ℕ) (f : Facts) (budget : ℕ) (s : Progress) (last : Option Part) (p : Part) (x : Found) → false ≡ is_answered f budget s → true ≡ continues f budget s p → (if beats (found_in p) (found_of s) then found_in p else found_of s) ≡ x
-    → state_of script f budget (record { blocks = p.start + p.count; weight = x.weight; place = x.place }) (Some p) ≡ with_line (state_of script f budget s last) p
-moved script f budget s last p x a b e = with_is script f budget s (record { blocks = p.start + p.count; weight = x.weight; place = x.place }) last p (rw (sym a, sym b) (sym (after_is s p x e)))
+moved : (script : List ℕ) (f : Facts) (budget : ℕ) (s : Progress) (p : Part) (x : Found) → false ≡ is_answered f budget s → true ≡ continues f budget s p → (if beats (found_in p) (found_of s) then found_in p else found_of s) ≡ x
+    → state_of script f budget (record { blocks = p.start + p.count; weight = x.weight; place = x.place }) ≡ with_line (state_of script f budget s) p
+moved script f budget s p x a b e = with_is script f budget s (record { blocks = p.start + p.count; weight = x.weight; place = x.place }) p (rw (sym a, sym b) (sym (after_is s p x e)))
 
-pub with_lesser : (script : List ℕ) (f : Facts) (budget : ℕ) (s : Progress) (last : Option Part) (p : Part) → false ≡ is_answered f budget s → true ≡ continues f budget s p → true ≡ beats (found_in p) (record { weight = s.weight; place = s.place })
-    → state_of script f budget (record { blocks = p.start + p.count; weight = p.weight; place = p.place }) (Some p) ≡ with_line (state_of script f budget s last) p
-with_lesser script f budget s last p a b l =
+pub with_lesser : (script : List ℕ) (f : Facts) (budget : ℕ) (s : Progress) (p : Part) → false ≡ is_answered f budget s → true ≡ continues f budget s p → true ≡ beats (found_in p) (record { weight = s.weight; place = s.place })
+    → state_of script f budget (record { blocks = p.start + p.count; weight = p.weight; place = p.place }) ≡ with_line (state_of script f budget s) p
+with_lesser script f budget s p a b l =
     let x : Found = record { weight = p.weight; place = p.place } in
     let t = l ∙ ap (λ (y : Found). beats (found_in p) y) (sym (state_found s)) in
-    moved script f budget s last p x a b (ap (λ c. if c then found_in p else found_of s) (sym t) ∙ found_is p)
+    moved script f budget s p x a b (ap (λ c. if c then found_in p else found_of s) (sym t) ∙ found_is p)
 
-pub with_greater : (script : List ℕ) (f : Facts) (budget : ℕ) (s : Progress) (last : Option Part) (p : Part) → false ≡ is_answered f budget s → true ≡ continues f budget s p → false ≡ beats (found_in p) (record { weight = s.weight; place = s.place })
-    → state_of script f budget (record { blocks = p.start + p.count; weight = s.weight; place = s.place }) (Some p) ≡ with_line (state_of script f budget s last) p
-with_greater script f budget s last p a b l =
+pub with_greater : (script : List ℕ) (f : Facts) (budget : ℕ) (s : Progress) (p : Part) → false ≡ is_answered f budget s → true ≡ continues f budget s p → false ≡ beats (found_in p) (record { weight = s.weight; place = s.place })
+    → state_of script f budget (record { blocks = p.start + p.count; weight = s.weight; place = s.place }) ≡ with_line (state_of script f budget s) p
+with_greater script f budget s p a b l =
     let x : Found = record { weight = s.weight; place = s.place } in
     let t = l ∙ ap (λ (y : Found). beats (found_in p) y) (sym (state_found s)) in
-    moved script f budget s last p x a b (ap (λ c. if c then found_in p else found_of s) (sym t) ∙ state_found s)
+    moved script f budget s p x a b (ap (λ c. if c then found_in p else found_of s) (sym t) ∙ state_found s)
 
 pub continues_is : (f : Facts) (budget most : ℕ) (s : Progress) (p : Part) → most ≡ end_wanted f budget s → (nat_le p.start s.blocks && (nat_lt s.blocks (part_end p) && nat_le (part_end p) most)) ≡ continues f budget s p
 unfolding continues
 continues_is f budget most s p e = ap (λ n. nat_le p.start s.blocks && (nat_lt s.blocks (part_end p) && nat_le (part_end p) n)) e
-
-last_some : (q p : Part) → contradicts_last (Some q) p ≡ differs_from q p
-unfolding contradicts_last
-last_some q p = refl
-
-last_of : (v : JoinState) (p : Part) → contradicts v p ≡ contradicts_last v.last p
-unfolding contradicts
-last_of v p = refl
-
-pub contradicts_is : (v : JoinState) (q p : Part) (b : Bool) → v.last ≡ Some q → b ≡ differs_from q p → b ≡ contradicts v p
-contradicts_is v q p b last is = is ∙ sym (last_of v p ∙ ap (λ (o : Option Part). contradicts_last o p) last ∙ last_some q p)
 
 line_is : (s : JoinState) (p : Part) → ((with_line s p).progress ≡ with_part s.facts s.budget s.progress p) × ((with_line s p).facts ≡ s.facts) × ((with_line s p).budget ≡ s.budget) × ((with_line s p).script ≡ s.script)
 unfolding with_line

@@ -3,13 +3,12 @@
 --                            information sets, and a divisor of 1 to 255
 --   IsKept f plan budget blocks      what is kept with these facts: their plan, and a budget of at most 2^40 blocks, of which so many
 --                            are done
---   JoinState                the digest of the script, the facts of its first search, the budget, how far the search is, and the part
---                            that was taken last, if there is one
+--   JoinState                the digest of the script, the facts of its first search, the budget, and how far the search is
 --   first_state script f budget      before the first part
 --   with_line s p            after one more part
 --   with_lines s parts       after some parts more
---   contradicts s p          the part has the range of the one that was taken last, and another word: one of them is false
-use Rattle.std.specs.Prelude.{◌≡◌, ℕ, ◌^◌, ◌≤◌, Bool, false, not, ◌==◌, ◌&&◌, List, [], ◌∷◌, length, Option, Some, None}
+--   differs_from p q         the parts have one range, and two words: one of them is false
+use Rattle.std.specs.Prelude.{◌≡◌, ℕ, ◌^◌, ◌≤◌, Bool, not, ◌==◌, ◌&&◌, List, [], ◌∷◌, length}
 use Rattle.lc_enumeration.specs.Records.{Progress}
 use Rattle.lc_place.specs.Place.{PlanSize}
 use Rattle.lc_parts.specs.Part.{Part, Facts}
@@ -33,10 +32,9 @@ pub record JoinState : Type 0 where
   pub facts : Facts
   pub budget : ℕ
   pub progress : Progress
-  pub last : Option Part
 
 unfoldable pub first_state : List ℕ → Facts → ℕ → JoinState
-first_state script f budget = record { script = script; facts = f; budget = budget; progress = first_by f; last = None }
+first_state script f budget = record { script = script; facts = f; budget = budget; progress = first_by f }
 
 unfoldable pub with_line : JoinState → Part → JoinState
 with_line s p = record {
@@ -44,7 +42,6 @@ with_line s p = record {
   facts = s.facts;
   budget = s.budget;
   progress = with_part s.facts s.budget s.progress p;
-  last = Some p;
 }
 
 unfoldable pub with_lines : JoinState → List Part → JoinState
@@ -53,10 +50,3 @@ with_lines s (p ∷ parts) = with_lines (with_line s p) parts
 
 unfoldable pub differs_from : Part → Part → Bool
 differs_from p q = (p.start == q.start) && ((p.count == q.count) && not ((p.weight == q.weight) && (p.place == q.place)))
-
-unfoldable pub contradicts_last : Option Part → Part → Bool
-contradicts_last None p = false
-contradicts_last (Some q) p = differs_from q p
-
-unfoldable pub contradicts : JoinState → Part → Bool
-contradicts s p = contradicts_last s.last p

@@ -5,7 +5,7 @@ ghost use Rattle.std.specs.Bool.{OnTrue};
 ghost use Rattle.lc_enumeration.specs.Search.{beats};
 ghost use Rattle.lc_parts.specs.Part.{part_end, found_in};
 ghost use Rattle.lc_parts.specs.Along.{is_answered, end_wanted, continues};
-ghost use Rattle.lc_parts.specs.Joined.{AreUsable, first_state, with_line, differs_from, contradicts};
+ghost use Rattle.lc_parts.specs.Joined.{AreUsable, first_state, with_line};
 ghost use Rattle.lc_parts.specs.Seen.{part_of, facts_seen};
 
 use crate::part::{Facts, Part};
@@ -16,8 +16,8 @@ use std::marker::Model;
 
 /// The first search of a script, as far as the parts that were taken bring it.
 ///
-/// Contracts see it as a `JoinState`: the digest of the script, the facts of the search, the budget, how far the search is, and the
-/// part that was taken last. It keeps one part and one state, however many parts it takes.
+/// Contracts see it as a `JoinState`: the digest of the script, the facts of the search, the budget, and how far the search is. It
+/// keeps this one state, however many parts it takes.
 #[derive(Drop)]
 pub struct Joined {
     script: [u8; 32],
@@ -27,17 +27,15 @@ pub struct Joined {
     blocks: u64,
     weight: u64,
     place: u64,
-    last: Option<Part>,
 }
 
 impl Model for Joined {
-    ghost use Rattle.std.specs.Prelude.{option_map};
     ghost use Rattle.lc_parts.specs.Joined.{JoinState, IsKept};
     ghost use Rattle.lc_parts.specs.Seen.{part_of, facts_seen};
 
     ghost Value = { JoinState };
 
-    ghost view = { λ s. record { script = s.script; facts = facts_seen s.facts; budget = s.budget; progress = record { blocks = s.blocks; weight = s.weight; place = s.place }; last = option_map part_of s.last } };
+    ghost view = { λ s. record { script = s.script; facts = facts_seen s.facts; budget = s.budget; progress = record { blocks = s.blocks; weight = s.weight; place = s.place } } };
 
     ghost invariant = { λ s. IsKept (facts_seen s.facts) s.plan s.budget s.blocks };
 }
@@ -67,7 +65,6 @@ impl Joined {
             blocks: 0,
             weight,
             place: 0,
-            last: None,
         })
     }
 
@@ -154,7 +151,6 @@ impl Joined {
     pub fn take(&mut self, part: Part)
         ensures is { self.new ≡ with_line self.old (part_of part) }
     {
-        self.last = Some(part);
         if self.is_answered() {
             return;
         }
@@ -165,17 +161,6 @@ impl Joined {
         if is_lesser(&part, self.weight, self.place) {
             self.weight = part.weight;
             self.place = part.place;
-        }
-    }
-
-    /// Whether a part contradicts the one that was taken last: it has the same range, and another word. Then one of both is false.
-    #[tactic(auto, unfolding(crate::specs::Joined::contradicts, crate::specs::Joined::contradicts_last))]
-    pub fn contradicts(&self, part: &Part) -> bool
-        ensures is { result ≡ contradicts self.now (part_of part.now) }
-    {
-        match self.last {
-            None => false,
-            Some(last) => differs(&last, part),
         }
     }
 }
@@ -212,14 +197,4 @@ fn is_lesser(part: &Part, weight: u64, place: u64) -> bool
     ensures is { result ≡ beats (found_in (part_of part.now)) (record { weight = weight; place = place }) }
 {
     part.weight < weight || part.weight == weight && part.place < place
-}
-
-// Whether two parts have one range, and two words.
-#[tactic(auto, unfolding(crate::specs::Joined::differs_from))]
-fn differs(last: &Part, part: &Part) -> bool
-    ensures is { result ≡ differs_from (part_of last.now) (part_of part.now) }
-{
-    last.start == part.start
-        && last.count == part.count
-        && !(last.weight == part.weight && last.place == part.place)
 }
