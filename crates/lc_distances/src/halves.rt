@@ -94,14 +94,50 @@ fn row_four(
     least
 }
 
-// The least of a bound and of the numbers of symbols at which some heads differ from some words, their tails, by two
-// planes.
+// The lesser of a number and of the number of symbols at which a head differs from a tail, by two planes.
+#[inline]
+fn nearer(head: &[u64; 4], one: u64, two: u64, least: u32) -> u32
+    ensures is { result ≡ min least (count_ones
+        (bit_or (bit_xor (slice_index head.now 1) two) (bit_xor (slice_index head.now 0) one))) }
+{
+    let apart = (head[1] ^ two) | (head[0] ^ one);
+    let many = apart.count_ones();
+    if many < least { many } else { least }
+}
+
+// The least of a bound and of the numbers of symbols at which some heads differ from four words, their tails, by two
+// planes. (Each tail has a least of its own, so that no head waits for the one before it.)
+fn rows_by_four(ones: &[u64], twos: &[u64], heads: &[[u64; 4]], bound: u32) -> u32
+    requires ones { length ones.now ≡ 4 }
+    requires twos { length twos.now ≡ 4 }
+    ensures is { IsLeastPairOr (length heads.now) 4
+        (λ h t. count_ones (bit_or (bit_xor (slice_index (slice_index_or heads.now h []) 1) (slice_index twos.now t))
+        (bit_xor (slice_index (slice_index_or heads.now h []) 0) (slice_index ones.now t)))) bound result }
+{
+    let mut first = bound;
+    let mut second = bound;
+    let mut third = bound;
+    let mut fourth = bound;
+    for row in 0..heads.len() {
+        let head = &heads[row];
+        first = nearer(head, ones[0], twos[0], first);
+        second = nearer(head, ones[1], twos[1], second);
+        third = nearer(head, ones[2], twos[2], third);
+        fourth = nearer(head, ones[3], twos[3], fourth);
+    }
+    first.min(second).min(third.min(fourth))
+}
+
+// The same for any number of tails.
 fn rows_two(ones: &[u64], twos: &[u64], heads: &[[u64; 4]], bound: u32) -> u32
     requires twos { length twos.now ≡ length ones.now }
     ensures is { IsLeastPairOr (length heads.now) (length ones.now)
         (λ h t. count_ones (bit_or (bit_xor (slice_index (slice_index_or heads.now h []) 1) (slice_index twos.now t))
         (bit_xor (slice_index (slice_index_or heads.now h []) 0) (slice_index ones.now t)))) bound result }
 {
+    if ones.len() == 4 {
+        return rows_by_four(ones, twos, heads, bound);
+    }
     let mut least = bound;
     for row in 0..heads.len() {
         let head = &heads[row];
