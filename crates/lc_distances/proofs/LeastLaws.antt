@@ -1,5 +1,7 @@
 -- The least number of a list, one number more at a time.
 --   least_none, least_taken, least_kept      no number, and one number more, which is less or isn't
+--   least_lesser                 one number more, by the lesser of the two
+--   columns_four                 numbers by rows of four, from the least of each column
 --   pairs_none, pairs_more, pairs_same                    numbers that are no less than another, by rows
 --   piece_long                   how long a piece of a list is
 --   piece_taken, piece_kept      the least of the counts up to the end of a piece, which has a lesser one or hasn't
@@ -37,6 +39,12 @@ least_kept n f bound v h l = record {
   attained = λ a. let t = h.attained a in (t.0, omega (arith, t.1), t.2);
 }
 
+pub least_lesser : (n : ℕ) (f : ℕ → ℕ) (bound v w : ℕ) → IsLeastOr n f bound v → w ≡ min v (f n) → IsLeastOr (n + 1) f bound w
+least_lesser n f bound v w h e = ⊎_elim
+    (λ (a : f n < v). let same : f n ≡ w = omega (arith, e, a) in subst (λ z. IsLeastOr (n + 1) f bound z) same (least_taken n f bound v h a))
+    (λ (a : v ≤ f n). let same : v ≡ w = omega (arith, e, a) in subst (λ z. IsLeastOr (n + 1) f bound z) same (least_kept n f bound v h a))
+    (cases_lt (f n) v)
+
 pub least_none : (f : ℕ → ℕ) (bound : ℕ) → IsLeastOr 0 f bound bound
 least_none f bound = record { most = omega arith; low = λ i l. absurd (omega (arith, l)); attained = λ l. absurd (omega (arith, l)) }
 
@@ -55,6 +63,28 @@ pairs_more n m f bound v w h here = record {
       (t.0, t.1, omega (arith, t.2), t.3, t.4 ∙ same))
       (cases_lt w v);
 }
+
+column_none : (n : ℕ) (f : ℕ → ℕ → ℕ) (bound : ℕ) → IsLeastPairOr n 0 f bound bound
+column_none n f bound = record { most = omega arith; low = λ i j l k. absurd (omega (arith, k)); attained = λ l. absurd (omega (arith, l)) }
+
+column_more : (n m : ℕ) (f : ℕ → ℕ → ℕ) (bound v w : ℕ) → IsLeastPairOr n m f bound v → IsLeastOr n (λ i. f i m) bound w → IsLeastPairOr n (m + 1) f bound (min v w)
+column_more n m f bound v w h here = record {
+  most = omega (arith, h.most);
+  low = λ i j l k. ⊎_elim (λ a. omega (arith, h.low i j l a)) (λ a. rw a (omega (arith, here.low i l))) (one_more j m k);
+  attained = λ l. ⊎_elim
+      (λ (a : w < v). let t = here.attained (omega (arith, l, a)) in (t.0, m, t.1, omega arith, omega (arith, t.2, a)))
+      (λ (a : v ≤ w). let t = h.attained (omega (arith, l, a)) in (t.0, t.1, t.2, omega (arith, t.3), omega (arith, t.4, a)))
+      (cases_lt w v);
+}
+
+pub columns_four : (n : ℕ) (f : ℕ → ℕ → ℕ) (bound a b c d v : ℕ) → IsLeastOr n (λ i. f i 0) bound a → IsLeastOr n (λ i. f i 1) bound b → IsLeastOr n (λ i. f i 2) bound c → IsLeastOr n (λ i. f i 3) bound d → v ≡ min (min a b) (min c d) → IsLeastPairOr n 4 f bound v
+columns_four n f bound a b c d v first second third fourth e =
+    let one = column_more n 0 f bound bound a (column_none n f bound) first in
+    let two = column_more n 1 f bound (min bound a) b one second in
+    let three = column_more n 2 f bound (min (min bound a) b) c two third in
+    let four = column_more n 3 f bound (min (min (min bound a) b) c) d three fourth in
+    let same : min (min (min (min bound a) b) c) d ≡ v = omega (arith, e, first.most, second.most, third.most, fourth.most) in
+    subst (λ z. IsLeastPairOr n 4 f bound z) same four
 
 pub pairs_same : (n m k : ℕ) (f g : ℕ → ℕ → ℕ) (bound v : ℕ) → m ≡ k → ((i j : ℕ) → j < k → f i j ≡ g i j) → IsLeastPairOr n m f bound v → IsLeastPairOr n k g bound v
 pairs_same n m k f g bound v e same h = record {

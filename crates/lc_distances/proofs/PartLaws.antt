@@ -4,9 +4,9 @@
 --   part_joined               the counts after the part is added to a piece
 --   parts_none, parts_all     no part, and all parts
 --   added_piece               counts to which a piece more is added
---   halves_at                 the head and the tail of a word of a run
---   next_row                  one row more
-use Rattle.std.proofs.Common.{◌≡◌, ℕ, ◌+◌, ◌-◌, ◌*◌, ◌%◌, ◌<◌, ◌≤◌, List, [], ◌++◌, length, replicate, take, drop, slice_index, slice_index_or, count_ones, sym, ap, ◌∙◌, ⊎_elim, arith}
+--   word_at, halves_at        the head and the tail of a word of a run
+--   next_row, next_heads      one row more, or so many that the words that are looked at end with a row
+use Rattle.std.proofs.Common.{◌≡◌, ℕ, ◌+◌, ◌-◌, ◌*◌, ◌%◌, ◌<◌, ◌≤◌, List, min, max, [], ◌++◌, length, replicate, take, drop, slice_index, slice_index_or, count_ones, sym, ap, ◌∙◌, ⊎_elim, arith}
 use Rattle.std.proofs.lemmas.Bool.{cases_lt}
 use Rattle.std.proofs.lemmas.List.{length-take-le, get_or-take, get_or-drop, get_or-append_right}
 use Rattle.std.proofs.Math.ListN.{get_or-append}
@@ -100,14 +100,29 @@ added_piece f first old new n end h order within g e =
       left = λ i l. s.after i l ∙ h.left i (omega (arith, l, order));
     }
 
-pub halves_at : (a : Halves) (first done head tail i : ℕ) → head * a.tails + tail ≡ first + done → tail + i < a.tails → count_ones (bits_apart a.planes (slice_index_or a.heads.now head []) a.bits.now a.words (a.start + tail + i)) ≡ symbols_apart a (first + (done + i))
-halves_at a first done head tail i e l =
+pub word_at : (a : Halves) (first done head tail i : ℕ) → head * a.tails + tail ≡ first + done → tail + i < a.tails → tail_apart a (slice_index_or a.heads.now head []) (tail + i) ≡ symbols_apart a (first + (done + i))
+word_at a first done head tail i e l =
     let n = first + (done + i) in
     let place : head * a.tails + (tail + i) ≡ n = omega (arith, e) in
     let parts = row_of_place head (tail + i) n a.tails l place in
+    ap (tail_apart a (slice_index_or a.heads.now head [])) (sym parts.1) ∙ ap (λ z. tail_apart a (slice_index_or a.heads.now z []) (n % a.tails)) (sym parts.0)
+
+pub halves_at : (a : Halves) (first done head tail i : ℕ) → head * a.tails + tail ≡ first + done → tail + i < a.tails → count_ones (bits_apart a.planes (slice_index_or a.heads.now head []) a.bits.now a.words (a.start + tail + i)) ≡ symbols_apart a (first + (done + i))
+halves_at a first done head tail i e l =
     let here : a.start + tail + i ≡ a.start + (tail + i) = omega arith in
-    ap (λ z. count_ones (bits_apart a.planes (slice_index_or a.heads.now head []) a.bits.now a.words z)) here
-    ∙ ap (tail_apart a (slice_index_or a.heads.now head [])) (sym parts.1) ∙ ap (λ z. tail_apart a (slice_index_or a.heads.now z []) (n % a.tails)) (sym parts.0)
+    ap (λ z. count_ones (bits_apart a.planes (slice_index_or a.heads.now head []) a.bits.now a.words z)) here ∙ word_at a first done head tail i e l
 
 pub next_row : (a T : ℕ) → (a + 1) * T ≡ a * T + T
 next_row a T = omega arith
+
+pub next_heads : (head tail heads many left next T : ℕ) → (0 < heads → (tail ≡ 0) × (many ≡ heads * T)) → (heads ≡ 0 → many ≡ min (T - tail) left) → next ≡ max heads 1 → tail < T → many < left → (head + next) * T ≡ head * T + tail + many
+next_heads head tail heads many left next T whole part e low short = ⊎_elim
+    (λ (some : 0 < heads).
+    let is = whole some in
+    let same : next ≡ heads = omega (arith, e, some) in
+    rw same (omega (arith, is.0, is.1)))
+    (λ (none : heads ≤ 0).
+    let is = part (omega (arith, none)) in
+    let same : next ≡ 1 = omega (arith, e, none) in
+    rw same (omega (arith, is, low, short, next_row head T)))
+    (cases_lt 0 heads)

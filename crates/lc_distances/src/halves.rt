@@ -1,7 +1,7 @@
 //! Which of some words differs from another at the fewest symbols.
 
-ghost use Rattle.std.specs.Prelude.{◌≡◌, ◌≢◌, ℕ, ◌+◌, ◌-◌, ◌*◌, ◌/◌, ◌%◌, ◌^◌, ◌<◌, ◌≤◌, min, [], true, length, slice_index, slice_index_or, bit_or, bit_xor, count_ones};
-ghost use Rattle.lc_distances.specs.Halves.{AreHalves, AreWholeHeads, group_size, tail_apart, symbols_apart};
+ghost use Rattle.std.specs.Prelude.{◌≡◌, ◌≢◌, ℕ, ◌+◌, ◌-◌, ◌*◌, ◌/◌, ◌%◌, ◌^◌, ◌<◌, ◌≤◌, min, max, [], true, length, slice_index, slice_index_or, bit_or, bit_xor, count_ones};
+ghost use Rattle.lc_distances.specs.Halves.{AreHalves, group_heads, tail_apart, symbols_apart};
 ghost use Rattle.lc_distances.specs.Least.{IsLeastOr, IsLeastPairOr, IsFirstBelow};
 
 use crate::counts::least_count;
@@ -94,14 +94,50 @@ fn row_four(
     least
 }
 
-// The least of a bound and of the numbers of symbols at which some heads differ from some words, their tails, by two
-// planes.
+// The lesser of a number and of the number of symbols at which a head differs from a tail, by two planes.
+#[inline]
+fn nearer(head: &[u64; 4], one: u64, two: u64, least: u32) -> u32
+    ensures is { result ≡ min least (count_ones
+        (bit_or (bit_xor (slice_index head.now 1) two) (bit_xor (slice_index head.now 0) one))) }
+{
+    let apart = (head[1] ^ two) | (head[0] ^ one);
+    let many = apart.count_ones();
+    if many < least { many } else { least }
+}
+
+// The least of a bound and of the numbers of symbols at which some heads differ from four words, their tails, by two
+// planes. (Each tail has a least of its own, so that no head waits for the one before it.)
+fn rows_by_four(ones: &[u64], twos: &[u64], heads: &[[u64; 4]], bound: u32) -> u32
+    requires ones { length ones.now ≡ 4 }
+    requires twos { length twos.now ≡ 4 }
+    ensures is { IsLeastPairOr (length heads.now) 4
+        (λ h t. count_ones (bit_or (bit_xor (slice_index (slice_index_or heads.now h []) 1) (slice_index twos.now t))
+        (bit_xor (slice_index (slice_index_or heads.now h []) 0) (slice_index ones.now t)))) bound result }
+{
+    let mut first = bound;
+    let mut second = bound;
+    let mut third = bound;
+    let mut fourth = bound;
+    for row in 0..heads.len() {
+        let head = &heads[row];
+        first = nearer(head, ones[0], twos[0], first);
+        second = nearer(head, ones[1], twos[1], second);
+        third = nearer(head, ones[2], twos[2], third);
+        fourth = nearer(head, ones[3], twos[3], fourth);
+    }
+    first.min(second).min(third.min(fourth))
+}
+
+// The same for any number of tails.
 fn rows_two(ones: &[u64], twos: &[u64], heads: &[[u64; 4]], bound: u32) -> u32
     requires twos { length twos.now ≡ length ones.now }
     ensures is { IsLeastPairOr (length heads.now) (length ones.now)
         (λ h t. count_ones (bit_or (bit_xor (slice_index (slice_index_or heads.now h []) 1) (slice_index twos.now t))
         (bit_xor (slice_index (slice_index_or heads.now h []) 0) (slice_index ones.now t)))) bound result }
 {
+    if ones.len() == 4 {
+        return rows_by_four(ones, twos, heads, bound);
+    }
     let mut least = bound;
     for row in 0..heads.len() {
         let head = &heads[row];
@@ -183,44 +219,20 @@ fn rows_apart(halves: &Halves<'_>, heads: &[[u64; 4]], bound: u32) -> u32
     rows_four(ones, twos, fours, eights, heads, bound)
 }
 
-// The head of the first of some words, and that of the first word after them: if they are all words of some of the
-// heads.
-fn heads_of(first: usize, many: usize, tails: usize, heads: usize) -> (usize, usize)
-    requires some { 0 < tails }
-    requires few { heads ≤ 1024 }
-    requires inside { first + many ≤ heads * tails }
-    requires start { first % tails ≡ 0 }
-    requires whole { many % tails ≡ 0 }
-    ensures start { result.0 ≡ first / tails }
-    ensures end { result.1 ≡ first / tails + many / tails }
-    ensures order { result.0 ≤ result.1 }
-    ensures within { result.1 ≤ heads }
-{
-    let from = first / tails;
-    let to = from + many / tails;
-    (from, to)
-}
-
-// Whether some words are all words of some heads, and the head of none of them differs from its tail at fewer symbols
-// than a bound.
-fn are_beyond(halves: &Halves<'_>, first: usize, many: usize, bound: u32) -> bool
+// Whether there are some heads, and none of them differs from its tails at fewer symbols than a bound.
+fn are_beyond(halves: &Halves<'_>, head: usize, heads: usize, bound: u32) -> bool
     requires halves { AreHalves halves.now }
-    requires inside { first + many ≤ length halves.now.heads.now * halves.now.tails }
-    ensures low { result ≡ true → (i : ℕ) → i < many → bound ≤ symbols_apart halves.now (first + i) }
-    ensures all { AreWholeHeads halves.now first many →
-        ((i : ℕ) → i < many → bound ≤ symbols_apart halves.now (first + i)) → result ≡ true }
-    ensures whole { result ≡ true → AreWholeHeads halves.now first many }
+    requires inside { head + heads ≤ length halves.now.heads.now }
+    ensures low { result ≡ true → (i : ℕ) → i < heads * halves.now.tails →
+        bound ≤ symbols_apart halves.now (head * halves.now.tails + i) }
+    ensures all { 0 < heads → ((i : ℕ) → i < heads * halves.now.tails →
+        bound ≤ symbols_apart halves.now (head * halves.now.tails + i)) → result ≡ true }
+    ensures some { result ≡ true → 0 < heads }
 {
-    let tails = halves.tails;
-    let heads = halves.heads;
-    if first % tails != 0 {
+    if heads == 0 {
         return false;
     }
-    if many % tails != 0 {
-        return false;
-    }
-    let (from, to) = heads_of(first, many, tails, heads.len());
-    let least = rows_apart(halves, &heads[from..to], bound);
+    let least = rows_apart(halves, &halves.heads[head..head + heads], bound);
     if least >= bound {
         return true;
     }
@@ -315,95 +327,123 @@ pub fn joined(least: u32, at: usize, other: u32, place: usize, done: usize) -> (
     (least, at)
 }
 
-// The same as `nearest`, head by head.
+// The same as `nearest`, head by head, from a tail of a head on.
 fn nearest_by_heads(
     halves: &Halves<'_>,
-    first: usize,
+    head: usize,
+    tail: usize,
     bound: u32,
     counts: &mut [u32],
 ) -> (u32, usize)
     requires halves { AreHalves halves.now }
-    requires inside { first + length counts.old ≤ length halves.now.heads.now * halves.now.tails }
+    requires tail { tail < halves.now.tails }
+    requires inside { head * halves.now.tails + tail + length counts.old
+        ≤ length halves.now.heads.now * halves.now.tails }
     requires counts { length counts.old ≤ 4096 }
-    ensures is { IsFirstBelow (length counts.old) (λ i. symbols_apart halves.now (first + i)) bound result.0 result.1 }
+    ensures is { IsFirstBelow (length counts.old)
+        (λ i. symbols_apart halves.now (head * halves.now.tails + tail + i)) bound result.0 result.1 }
 {
     let tails = halves.tails;
+    let mut row = head;
+    let mut from = tail;
     let mut least = bound;
     let mut at = 0;
     let mut done = 0;
     while done < counts.len() {
-        let tail = (first + done) % tails;
-        let end = (done + (tails - tail)).min(counts.len());
-        let head = &halves.heads[(first + done) / tails];
+        let end = (done + (tails - from)).min(counts.len());
         let part = &mut counts[done..end];
-        let (other, place) = first_below(halves, tail, head, least, part);
+        let (other, place) = first_below(halves, from, &halves.heads[row], least, part);
         let (best, index) = joined(least, at, other, place, done);
         least = best;
         at = index;
+        row += 1;
+        from = 0;
         done = end;
     }
     (least, at)
 }
 
-// The same for a part of the words.
-fn nearest_in(halves: &Halves<'_>, first: usize, bound: u32, counts: &mut [u32]) -> (u32, usize)
+// The same, of a part of the words: if `heads` isn't 0, these are all words of so many heads.
+fn nearest_in(
+    halves: &Halves<'_>,
+    head: usize,
+    tail: usize,
+    heads: usize,
+    bound: u32,
+    counts: &mut [u32],
+) -> (u32, usize)
     requires halves { AreHalves halves.now }
-    requires inside { first + length counts.old ≤ length halves.now.heads.now * halves.now.tails }
+    requires tail { tail < halves.now.tails }
+    requires inside { head * halves.now.tails + tail + length counts.old
+        ≤ length halves.now.heads.now * halves.now.tails }
     requires counts { length counts.old ≤ 4096 }
-    ensures is { IsFirstBelow (length counts.old) (λ i. symbols_apart halves.now (first + i)) bound result.0 result.1 }
+    requires whole { 0 < heads → (tail ≡ 0) × (length counts.old ≡ heads * halves.now.tails) }
+    ensures is { IsFirstBelow (length counts.old)
+        (λ i. symbols_apart halves.now (head * halves.now.tails + tail + i)) bound result.0 result.1 }
 {
-    let many = counts.len();
-    if are_beyond(halves, first, many, bound) {
+    if are_beyond(halves, head, heads, bound) {
         return (bound, 0);
     }
-    nearest_by_heads(halves, first, bound, counts)
+    nearest_by_heads(halves, head, tail, bound, counts)
 }
 
-// How many words are looked at together, of heads with so many tails each: some 100 to 200, of 8 heads at most.
+// The head and the tail of a word; without a division for the first word.
+#[inline]
+fn head_and_tail(word: usize, tails: usize) -> (usize, usize)
+    requires some { 0 < tails }
+    ensures low { result.1 < tails }
+    ensures is { result.0 * tails + result.1 ≡ word }
+{
+    if word == 0 {
+        return (0, 0);
+    }
+    (word / tails, word % tails)
+}
+
+// How many heads are looked at together, of so many tails each: 8 or 2 with some 100 to 200 words, or one.
 #[inline]
 #[tactic(auto, using(crate::proofs::GroupLaws::group_laws))]
 fn together(tails: usize) -> usize
-    requires few { tails ≤ 2 ^ 18 }
-    ensures is { result ≡ group_size tails }
-    ensures least { tails ≤ result }
+    ensures is { result ≡ group_heads tails }
+    ensures some { 0 < result }
+    ensures few { result ≤ 8 }
 {
-    let two = tails + tails;
     if tails <= 16 {
-        let four = two + two;
-        return four + four;
+        return 8;
     }
     if tails < 100 {
-        return two;
+        return 2;
     }
-    tails
+    1
 }
 
 // How many of the words that are left are looked at together, from a tail of a head on: the rest of the head, or some
-// whole heads, or all words if these are less than a head's.
-#[tactic(auto, using(crate::proofs::GroupLaws::part_laws))]
-fn part_len(tail: usize, tails: usize, left: usize) -> usize
+// whole heads, or all words if these are less than a head's. Before it stands how many whole heads these are, 0 for a
+// part of one head.
+fn part_of(tail: usize, tails: usize, left: usize) -> (usize, usize)
     requires tail { tail < tails }
     requires few { tails ≤ 2 ^ 18 }
     requires some { 0 < left }
-    ensures some { 0 < result }
-    ensures within { result ≤ left }
-    ensures rest { 0 < tail → result ≡ min (tails - tail) left }
-    ensures group { tail ≡ 0 → group_size tails ≤ left → result ≡ group_size tails }
-    ensures whole { tail ≡ 0 → left < group_size tails → tails ≤ left → result ≡ left - left % tails }
-    ensures short { tail ≡ 0 → left < tails → result ≡ left }
+    ensures some { 0 < result.1 }
+    ensures within { result.1 ≤ left }
+    ensures whole { 0 < result.0 → (tail ≡ 0) × (result.1 ≡ result.0 * tails) }
+    ensures part { result.0 ≡ 0 → result.1 ≡ min (tails - tail) left }
+    ensures group { tail ≡ 0 → group_heads tails * tails ≤ left → result.0 ≡ group_heads tails }
+    ensures rest { tail ≡ 0 → left < group_heads tails * tails → result.0 ≡ left / tails }
 {
     if tail > 0 {
-        return (tails - tail).min(left);
+        return (0, (tails - tail).min(left));
     }
-    let many = together(tails);
+    if left < tails {
+        return (0, left);
+    }
+    let group = together(tails);
+    let many = group * tails;
     if many <= left {
-        return many;
+        return (group, many);
     }
-    let whole = left - left % tails;
-    if whole > 0 {
-        return whole;
-    }
-    left
+    let heads = left / tails;
+    (heads, heads * tails)
 }
 
 /// The least number of symbols at which the head of a word differs from its tail, among some words, and the first index for
@@ -416,17 +456,20 @@ pub fn nearest(halves: &Halves<'_>, first: usize, bound: u32, counts: &mut [u32]
     ensures is { IsFirstBelow (length counts.old) (λ i. symbols_apart halves.now (first + i)) bound result.0 result.1 }
 {
     let tails = halves.tails;
+    let (mut head, mut tail) = head_and_tail(first, tails);
     let mut least = bound;
     let mut at = 0;
     let mut done = 0;
     while done < counts.len() {
-        let place = first + done;
-        let many = part_len(place % tails, tails, counts.len() - done);
+        let (heads, many) = part_of(tail, tails, counts.len() - done);
         let end = done + many;
-        let (other, index) = nearest_in(halves, place, least, &mut counts[done..end]);
+        let part = &mut counts[done..end];
+        let (other, index) = nearest_in(halves, head, tail, heads, least, part);
         let (best, next) = joined(least, at, other, index, done);
         least = best;
         at = next;
+        head += heads.max(1);
+        tail = 0;
         done = end;
     }
     (least, at)

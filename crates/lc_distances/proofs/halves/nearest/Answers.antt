@@ -1,30 +1,26 @@
-use Rattle.std.proofs.Common.{◌≡◌, ◌+◌, ℕ, ap, arith}
-use Rattle.lc_distances.specs.Least.{IsFirstBelow}
+use Rattle.std.proofs.Common.{◌≡◌, ℕ, ◌+◌, ◌*◌, ◌<◌, length, ap, arith}
 use Rattle.lc_distances.specs.Halves.{symbols_apart}
-use Rattle.lc_distances.proofs.LeastLaws.{below_same, searched_none, searched_more, searched_all, searched_room}
+use Rattle.lc_distances.proofs.LeastLaws.{below_same, searched_more}
+use Rattle.lc_distances.proofs.PartLaws.{next_heads}
 use Rattle.lc_distances.proofs.halves.nearest.Goals as goal
-
--- the numbers after some, counted on
-below_on : (n first done : ℕ) (g : ℕ → ℕ) (bound v i : ℕ) → IsFirstBelow n (λ j. g (first + done + j)) bound v i → IsFirstBelow n (λ j. g (first + (done + j))) bound v i
-below_on n first done g bound v i h = below_same n _ _ bound v i (λ j l. ap g (place j)) h
-  where
-    place : (j : ℕ) → first + done + j ≡ first + (done + j)
-    place j = omega arith
-
-pub loop-done-init : goal.loop-done-init
-loop-done-init c = searched_none _ _ c.args.bound
-
-pub joined-best-requires : goal.joined-best-requires
-joined-best-requires c =
-    let done = c.loop-done.done in
-    let end = done + c.part_len-many.result in
-    record { room = omega (arith, searched_room _ done end _ _ c.loop-done.auto.counts (omega arith) (omega (arith, c.part_len-many.ensures.within, c.loop-done.auto.counts, c.loop-done-test.true)) c.nearest_in-other.ensures.is.inside, c.requires.counts) }
 
 pub loop-done-preserved : goal.loop-done-preserved
 loop-done-preserved c =
+    let a = c.args.halves.now in
+    let T = a.tails in
+    let first = c.args.first in
     let done = c.loop-done.done in
-    let g : ℕ → ℕ = symbols_apart c.args.halves.now in
-    searched_more _ done (done + c.part_len-many.result) _ _ _ _ _ _ _ _ _ c.loop-done.auto.counts (omega arith) (omega (arith, c.part_len-many.ensures.within, c.loop-done.auto.counts, c.loop-done-test.true)) c.loop-done.invariant (below_on _ c.args.first done g _ _ _ c.nearest_in-other.ensures.is) c.joined-best.ensures.taken c.joined-best.ensures.kept
-
-pub returns : goal.returns
-returns c = record { is = searched_all _ _ _ _ _ _ c.loop-done.invariant (omega (arith, c.loop-done-test.false, c.loop-done.auto.counts)) }
+    let many = c.part_of-heads.result.1 in
+    let old = c.loop-done.counts in
+    let head = c.loop-done.head in
+    let tail = c.loop-done.tail in
+    let f : ℕ → ℕ = λ i. symbols_apart a (first + i) in
+    let of_part = c.part_of-heads.ensures in
+    let more : done < length c.args.counts.now = omega (arith, c.loop-done-test.true, c.loop-done.auto.counts) in
+    let place : head * T + tail ≡ first + done = c.loop-done.invariant.place more in
+    let on : (j : ℕ) → head * T + tail + j ≡ first + (done + j) = λ j. omega (arith, place) in
+    record {
+      low = c.requires.halves.some;
+      place = λ l. omega (arith, place, next_heads head tail c.part_of-heads.result.0 many _ c.max-head.result T of_part.whole of_part.part c.max-head.ensures c.loop-done.invariant.low (omega (arith, l, c.loop-done.auto.counts)));
+      searched = searched_more _ done (done + many) f _ _ _ _ _ _ _ old c.loop-done.auto.counts (omega arith) (omega (arith, of_part.within, c.loop-done.auto.counts, c.loop-done-test.true)) c.loop-done.invariant.searched (below_same _ _ (λ j. f (done + j)) _ _ _ (λ j _. ap (symbols_apart a) (on j)) c.nearest_in-other.ensures.is) c.joined-best.ensures.taken c.joined-best.ensures.kept;
+    }
