@@ -75,8 +75,7 @@ fn next_front(
     requires set { spot.now.set < set_count sets.now }
     requires message { Contains (messages (length sets.now.rows) (size sets.now.field) (length spot.now.support))
         (spot_message spot.now) }
-    requires grid { IsGrid sets.now spot.now.set grid.now.planes grid.now.tails grid.now.parts.items
-        grid.now.starts.items }
+    requires grid { IsGrid sets.now spot.now.set grid.now }
     requires part { part < length grid.now.parts.items }
     requires entry { i < length spot.now.support }
     requires front { ArePlanes (part_at (others sets.now spot.now.set) part) grid.now.planes
@@ -107,8 +106,7 @@ fn refresh_planes(
     requires set { spot.now.set < set_count sets.now }
     requires message { Contains (messages (length sets.now.rows) (size sets.now.field) (length spot.now.support))
         (spot_message spot.now) }
-    requires grid { IsGrid sets.now spot.now.set grid.now.planes grid.now.tails grid.now.parts.items
-        grid.now.starts.items }
+    requires grid { IsGrid sets.now spot.now.set grid.now }
     requires part { part < length grid.now.parts.items }
     requires many { length fronts.old ≡ length sets.now.rows + 1 }
     requires fronts { AreFrontPlanes sets.now spot.now part grid.now.planes from fronts.old }
@@ -139,8 +137,7 @@ fn add_front(
 )
     requires run { IsTailRun sets.now plan.now.m block spot.now
         (front_word sets.now spot.now (length spot.now.support - 2)) done start (length counts.old) }
-    requires grid { IsGrid sets.now spot.now.set grid.now.planes grid.now.tails grid.now.parts.items
-        grid.now.starts.items }
+    requires grid { IsGrid sets.now spot.now.set grid.now }
     requires part { part < length grid.now.parts.items }
     requires head { ArePlanes (part_at (others sets.now spot.now.set) part) grid.now.planes
         (front_word sets.now spot.now (length spot.now.support - 2)) head.now }
@@ -172,8 +169,7 @@ fn one_front(
     requires set { spot.now.set < set_count sets.now }
     requires at { IsSpotAt sets.now plan.now.m block done spot.now }
     requires level { 3 ≤ length spot.now.support }
-    requires grid { IsGrid sets.now spot.now.set grid.now.planes grid.now.tails grid.now.parts.items
-        grid.now.starts.items }
+    requires grid { IsGrid sets.now spot.now.set grid.now }
     requires part { part < length grid.now.parts.items }
     requires head { ArePlanes (part_at (others sets.now spot.now.set) part) grid.now.planes
         (front_word sets.now spot.now (length spot.now.support - 2)) head.now }
@@ -225,8 +221,7 @@ fn add_fronts(
     requires set { spot.old.set < set_count sets.now }
     requires at { IsSpotAt sets.now plan.now.m block 0 spot.old }
     requires level { 3 ≤ length spot.old.support }
-    requires grid { IsGrid sets.now spot.old.set grid.now.planes grid.now.tails grid.now.parts.items
-        grid.now.starts.items }
+    requires grid { IsGrid sets.now spot.old.set grid.now }
     requires part { part < length grid.now.parts.items }
     requires many { length fronts.old ≡ length sets.now.rows + 1 }
     requires some { 0 < length counts.old }
@@ -281,8 +276,7 @@ fn count_fronts(
     requires set { spot.old.set < set_count sets.now }
     requires at { IsSpotAt sets.now plan.now.m block 0 spot.old }
     requires level { 3 ≤ length spot.old.support }
-    requires grid { IsGrid sets.now spot.old.set grid.now.planes grid.now.tails grid.now.parts.items
-        grid.now.starts.items }
+    requires grid { IsGrid sets.now spot.old.set grid.now }
     requires room { spot.old.room ≡ length sets.now.rows }
     requires many { length fronts.old ≡ length sets.now.rows + 1 }
     requires some { 0 < length counts.old }
@@ -332,8 +326,7 @@ pub(crate) fn least_words(
     requires set { spot.old.set < set_count sets.now }
     requires at { IsSpotAt sets.now plan.now.m block 0 spot.old }
     requires level { 3 ≤ length spot.old.support }
-    requires grid { IsGrid sets.now spot.old.set grid.now.planes grid.now.tails grid.now.parts.items
-        grid.now.starts.items }
+    requires grid { IsGrid sets.now spot.old.set grid.now }
     requires room { spot.old.room ≡ length sets.now.rows }
     requires many { length fronts.old ≡ length sets.now.rows + 1 }
     requires places { length places.old ≡ length sets.now.rows }

@@ -290,8 +290,7 @@ pub(crate) fn grid_of(
 ) -> Result<Option<Grid>, NoMemory>
     requires multiples { AreMultiples sets.now multiples.now }
     requires set { j < set_count sets.now }
-    ensures is { IfOk result (λ o. (g : _) → o ≡ Some g →
-        IsGrid sets.now j g.planes g.tails g.parts.items g.starts.items) }
+    ensures is { IfOk result (λ o. (g : _) → o ≡ Some g → IsGrid sets.now j g) }
     ensures some { IfOk result (λ o. (g : _) → o ≡ Some g → HasRoom sets.now) }
     ensures none { IfOk result (λ o. o ≡ None → LacksRoom sets.now) }
 {

@@ -34,7 +34,7 @@ fn add_support(
     requires phase { (p : ℕ) × IsInPhase (length sets.now.rows) (size sets.now.field) plan.now.m p block }
     requires set { set < set_count sets.now }
     requires at { IsListedAt sets.now plan.now.m block done set support.now list }
-    requires grid { IsGrid sets.now set grid.now.planes grid.now.tails grid.now.parts.items grid.now.starts.items }
+    requires grid { IsGrid sets.now set grid.now }
     requires part { part < length grid.now.parts.items }
     requires many { length heads.now ≡ list_count sets.now (length support.now - 2) }
     requires few { length heads.now ≤ 1024 }
@@ -69,8 +69,7 @@ fn add_sweep(
     requires set { spot.now.set < set_count sets.now }
     requires at { IsSpotAt sets.now plan.now.m block 0 spot.now }
     requires level { 3 ≤ length spot.now.support }
-    requires grid { IsGrid sets.now spot.now.set grid.now.planes grid.now.tails grid.now.parts.items
-        grid.now.starts.items }
+    requires grid { IsGrid sets.now spot.now.set grid.now }
     requires part { part < length grid.now.parts.items }
     requires places { length support.old ≡ length spot.now.support }
     requires many { length heads.old ≡ list_count sets.now (length spot.now.support - 2) }
@@ -123,8 +122,7 @@ pub(crate) fn count_sweeps(
     requires set { spot.now.set < set_count sets.now }
     requires at { IsSpotAt sets.now plan.now.m block 0 spot.now }
     requires level { 3 ≤ length spot.now.support }
-    requires grid { IsGrid sets.now spot.now.set grid.now.planes grid.now.tails grid.now.parts.items
-        grid.now.starts.items }
+    requires grid { IsGrid sets.now spot.now.set grid.now }
     requires places { length support.old ≡ length spot.now.support }
     requires many { length heads.old ≡ list_count sets.now (length spot.now.support - 2) }
     requires few { length heads.old ≤ 1024 }

@@ -99,7 +99,7 @@ fn grow(
 )
     requires set { set < set_count sets.now }
     requires rises { Contains (supports_from 0 (length sets.now.rows) (length support.now)) support.now }
-    requires grid { IsGrid sets.now set grid.now.planes grid.now.tails grid.now.parts.items grid.now.starts.items }
+    requires grid { IsGrid sets.now set grid.now }
     requires part { part < length grid.now.parts.items }
     requires some { 1 ≤ i }
     requires entry { i < length support.now }
@@ -137,7 +137,7 @@ pub(crate) fn make_heads(
 )
     requires set { set < set_count sets.now }
     requires rises { Contains (supports_from 0 (length sets.now.rows) (length support.now)) support.now }
-    requires grid { IsGrid sets.now set grid.now.planes grid.now.tails grid.now.parts.items grid.now.starts.items }
+    requires grid { IsGrid sets.now set grid.now }
     requires part { part < length grid.now.parts.items }
     requires level { 3 ≤ length support.now }
     requires room { list_count sets.now (length support.now - 2) ≤ length heads.old }
@@ -168,7 +168,7 @@ pub(crate) fn halves_of<'a>(
     requires set { set < set_count sets.now }
     requires rises { Contains (supports_from 0 (length sets.now.rows) (length support.now)) support.now }
     requires level { 3 ≤ length support.now }
-    requires grid { IsGrid sets.now set grid.now.planes grid.now.tails grid.now.parts.items grid.now.starts.items }
+    requires grid { IsGrid sets.now set grid.now }
     requires part { part < length grid.now.parts.items }
     requires many { length heads.now ≡ list_count sets.now (length support.now - 2) }
     requires few { length heads.now ≤ 1024 }
@@ -211,7 +211,7 @@ fn least_support(
     requires phase { (p : ℕ) × IsInPhase (length sets.now.rows) (size sets.now.field) plan.now.m p block }
     requires set { set < set_count sets.now }
     requires at { IsListedAt sets.now plan.now.m block done set support.now list }
-    requires grid { IsGrid sets.now set grid.now.planes grid.now.tails grid.now.parts.items grid.now.starts.items }
+    requires grid { IsGrid sets.now set grid.now }
     requires alone { length grid.now.parts.items ≡ 1 }
     requires many { length heads.now ≡ list_count sets.now (length support.now - 2) }
     requires few { length heads.now ≤ 1024 }
@@ -285,7 +285,7 @@ pub(crate) fn turn(
     requires phase { (p : ℕ) × IsInPhase (length sets.now.rows) (size sets.now.field) plan.now.m p block }
     requires set { set < set_count sets.now }
     requires at { IsListedAt sets.now plan.now.m block done set support.old list }
-    requires grid { IsGrid sets.now set grid.now.planes grid.now.tails grid.now.parts.items grid.now.starts.items }
+    requires grid { IsGrid sets.now set grid.now }
     requires part { part < length grid.now.parts.items }
     requires some { 0 < count }
     requires end { list + count ≡ list_count sets.now (length support.old) }
@@ -334,8 +334,7 @@ pub(crate) fn least_sweeps(
     requires set { spot.now.set < set_count sets.now }
     requires at { IsSpotAt sets.now plan.now.m block 0 spot.now }
     requires level { 3 ≤ length spot.now.support }
-    requires grid { IsGrid sets.now spot.now.set grid.now.planes grid.now.tails grid.now.parts.items
-        grid.now.starts.items }
+    requires grid { IsGrid sets.now spot.now.set grid.now }
     requires alone { length grid.now.parts.items ≡ 1 }
     requires places { length support.old ≡ length spot.now.support }
     requires many { length heads.old ≡ list_count sets.now (length spot.now.support - 2) }

@@ -77,8 +77,7 @@ pub(crate) fn by_tails(sets: &Sets, plan: &Plan, block: u64, grid: &Grid, room: 
     requires set { room.old.spot.set < set_count sets.now }
     requires at { IsSpotAt sets.now plan.now.m block 0 room.old.spot }
     requires level { 3 ≤ length room.old.spot.support }
-    requires grid { IsGrid sets.now room.old.spot.set grid.now.planes grid.now.tails grid.now.parts.items
-        grid.now.starts.items }
+    requires grid { IsGrid sets.now room.old.spot.set grid.now }
     requires room { IsWorkRoom (length sets.now.rows) room.old }
     requires grid_room { IsGridRoom (length sets.now.rows) room.old }
     ensures is { option_map board_value (block_least sets.now plan.now.m block) ≡ Some result }

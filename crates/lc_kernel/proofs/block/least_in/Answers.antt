@@ -25,8 +25,8 @@ by_tails-requires-clause-at c = (started (goal.at.by_tails-requires-clause-at c)
 pub by_tails-requires-clause-grid : goal.by_tails-requires-clause-grid
 by_tails-requires-clause-grid c =
     let g = c.index-grids-set.result in
-    let grid = one_of_all (λ j (x : Grid). IsGrid c.args.sets.now j x.planes x.tails x.parts.items x.starts.items) c.args.grids.now c.set-set.result g c.requires.grids.each (omega (arith, c.if-level-ge3.true)) c.index-grids-set.is in
-    subst (λ j. IsGrid c.args.sets.now j g.planes g.tails g.parts.items g.starts.items) c.set-set.ensures grid
+    let grid = one_of_all (λ j (x : Grid). IsGrid c.args.sets.now j x) c.args.grids.now c.set-set.result g c.requires.grids.each (omega (arith, c.if-level-ge3.true)) c.index-grids-set.is in
+    subst (λ j. IsGrid c.args.sets.now j g) c.set-set.ensures grid
 
 pub by_runs-requires-clause-set : goal.by_runs-requires-clause-set
 by_runs-requires-clause-set c = (started (goal.at.by_runs-requires-clause-set c).After-start_of).1

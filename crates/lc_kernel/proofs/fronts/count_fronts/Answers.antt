@@ -47,7 +47,7 @@ add_fronts-requires-clause-level c = omega (arith, same_level (goal.at.add_front
 pub add_fronts-requires-clause-grid : goal.add_fronts-requires-clause-grid
 add_fronts-requires-clause-grid c =
     let g = c.args.grid.now in
-    subst (λ j. IsGrid c.args.sets.now j g.planes g.tails g.parts.items g.starts.items) (sym (same_set (goal.at.add_fronts-requires-clause-grid c).After-start_of)) c.requires.grid
+    subst (λ j. IsGrid c.args.sets.now j g) (sym (same_set (goal.at.add_fronts-requires-clause-grid c).After-start_of)) c.requires.grid
 
 pub add_fronts-requires-clause-counted : goal.add_fronts-requires-clause-counted
 add_fronts-requires-clause-counted c =

@@ -27,7 +27,7 @@ overflow_add-row c =
 pub index-requires : goal.index-requires
 index-requires c =
     let C = c.args.sets.now in
-    let kept = kept_part C c.args.set c.args.grid.now.planes c.args.grid.now.tails c.args.part c.args.grid.now.parts.items c.args.grid.now.starts.items c.index-table.result.now c.index-table.result.now.rows.items c.requires.grid c.requires.part c.index-table.ensures refl in
+    let kept = kept_part C c.args.set c.args.part c.args.grid.now c.index-table.result.now c.index-table.result.now.rows.items c.requires.grid c.requires.part c.index-table.ensures refl in
     let u = c.args.support.now in
     let d = size C.field - 1 in
     let s = support_is (length C.rows) u c.requires.rises in
@@ -59,7 +59,7 @@ sum_planes-sum-requires c = record { symbol = subst (λ g. size g ≤ 16) (sym c
 pub loop-e-preserved : goal.loop-e-preserved
 loop-e-preserved c =
     let C = c.args.sets.now in
-    let kept = kept_part C c.args.set c.args.grid.now.planes c.args.grid.now.tails c.args.part c.args.grid.now.parts.items c.args.grid.now.starts.items c.index-table.result.now c.index-table.result.now.rows.items c.requires.grid c.requires.part c.index-table.ensures refl in
+    let kept = kept_part C c.args.set c.args.part c.args.grid.now c.index-table.result.now c.index-table.result.now.rows.items c.requires.grid c.requires.part c.index-table.ensures refl in
     let u = c.args.support.now in
     let d = size C.field - 1 in
     let a = slice_index u c.args.i in
@@ -92,7 +92,7 @@ loop-e-preserved c =
 pub returns : goal.returns
 returns c =
     let C = c.args.sets.now in
-    let kept = kept_part C c.args.set c.args.grid.now.planes c.args.grid.now.tails c.args.part c.args.grid.now.parts.items c.args.grid.now.starts.items c.index-table.result.now c.index-table.result.now.rows.items c.requires.grid c.requires.part c.index-table.ensures refl in
+    let kept = kept_part C c.args.set c.args.part c.args.grid.now c.index-table.result.now c.index-table.result.now.rows.items c.requires.grid c.requires.part c.index-table.ensures refl in
     record {
       heads = heads_grown C c.args.set c.args.part c.args.grid.now.planes c.args.i c.args.support.now c.index-table.result.now.rows.items c.args.heads.now c.loop-e.heads c.dimension-k.ensures.rows c.dimension-k.ensures.independent c.requires.set c.requires.rises kept c.requires.some c.requires.entry c.requires.heads
           (λ e l. c.loop-e.invariant.done e (omega (arith, c.loop-e-test.false)) (omega (arith, l, c.requires.many)));

@@ -17,7 +17,7 @@ overflow_mul-support c =
 pub index-requires : goal.index-requires
 index-requires c =
     let C = c.args.sets.now in
-    let kept = kept_part C c.args.set c.args.grid.now.planes c.args.grid.now.tails c.args.part c.args.grid.now.parts.items c.args.grid.now.starts.items c.index-table.result.now c.index-table.result.now.rows.items c.requires.grid c.requires.part c.index-table.ensures refl in
+    let kept = kept_part C c.args.set c.args.part c.args.grid.now c.index-table.result.now c.index-table.result.now.rows.items c.requires.grid c.requires.part c.index-table.ensures refl in
     let u = c.args.support.now in
     let d = size C.field - 1 in
     let s = support_is (length C.rows) u c.requires.rises in
@@ -34,7 +34,7 @@ bounds-heads-0 c =
 pub loop-i-init : goal.loop-i-init
 loop-i-init c =
     let C = c.args.sets.now in
-    let kept = kept_part C c.args.set c.args.grid.now.planes c.args.grid.now.tails c.args.part c.args.grid.now.parts.items c.args.grid.now.starts.items c.index-table.result.now c.index-table.result.now.rows.items c.requires.grid c.requires.part c.index-table.ensures refl in
+    let kept = kept_part C c.args.set c.args.part c.args.grid.now c.index-table.result.now c.index-table.result.now.rows.items c.requires.grid c.requires.part c.index-table.ensures refl in
     let u = c.args.support.now in
     let d = size C.field - 1 in
     let rows = c.index-table.result.now.rows.items in
