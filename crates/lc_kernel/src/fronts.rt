@@ -12,7 +12,7 @@ ghost use Rattle.lc_place.specs.Place.{spot_message};
 ghost use Rattle.lc_kernel.specs.Block.{HasPlan, IsInPlan, IsInSomePhase, words_in, IsSpotIn};
 ghost use Rattle.lc_kernel.specs.Packed.{others};
 ghost use Rattle.lc_planes.specs.Planes.{part_at};
-ghost use Rattle.lc_kernel.specs.Grid.{tail_count, tail_index, IsTailRun};
+ghost use Rattle.lc_kernel.specs.Grid.{tail_count, tail_index};
 ghost use Rattle.lc_kernel.specs.Grids.{IsGrid};
 ghost use Rattle.lc_kernel.specs.Fronts.{AreRowPlanes, AreFrontPlanes, ArePlanes};
 ghost use Rattle.lc_distances.specs.Least.{IsFirstLeast, AreCounted, ArePartCounted};
@@ -121,34 +121,6 @@ fn refresh_planes(
     }
 }
 
-// Adds to the counts of a run what a part of the columns has, from the planes of its head.
-fn add_front(
-    block: &Block<'_>,
-    grid: &Grid,
-    part: usize,
-    spot: &Spot,
-    head: &[u64; 4],
-    start: usize,
-    done: u64,
-    counts: &mut [u32],
-)
-    requires run { IsTailRun block.now.sets.now block.now.plan.now.m block.now.number spot.now
-        (front_word block.now.sets.now spot.now (length spot.now.support - 2)) done start (length counts.old) }
-    requires grid { IsGrid block.now.sets.now spot.now.set grid.now }
-    requires part { part < length grid.now.parts.items }
-    requires head { ArePlanes (part_at (others block.now.sets.now spot.now.set) part) grid.now.planes
-        (front_word block.now.sets.now spot.now (length spot.now.support - 2)) head.now }
-    requires counted { AreCounted (take (64 * part) (others block.now.sets.now spot.now.set))
-        (words_in block.now) done (length counts.old) counts.old }
-    ensures counted { AreCounted (take (64 * (part + 1)) (others block.now.sets.now spot.now.set))
-        (words_in block.now) done (length counts.old) counts.new }
-{
-    let _n = block.sets.length();
-    let table = &grid.parts[part];
-    let tails = table.bits.as_slice();
-    add_apart(grid.planes, tails, grid.tails, start, head, counts);
-}
-
 // Adds what a part of the columns has to the counts of a run that begins at an offset of a block, up to the block's end.
 // Returns how many words the run has.
 fn one_front(
@@ -180,21 +152,16 @@ fn one_front(
         tail_index block.now.sets.now spot.now + result ≡ tail_count block.now.sets.now }
 {
     let _k = block.sets.dimension();
+    let _n = block.sets.length();
     let elements = nonzero(block.sets);
     let tail = tail_of(block.sets, spot);
     let start = pair_index(block.sets, &grid.starts, spot) * elements * elements + tail;
     let count = (elements * elements - tail).min(counts.len() - done);
     let end = done + count;
-    add_front(
-        block,
-        grid,
-        part,
-        spot,
-        head,
-        start,
-        done as u64,
-        &mut counts[done..end],
-    );
+    let table = &grid.parts[part];
+    let tails = table.bits.as_slice();
+    let run = &mut counts[done..end];
+    add_apart(grid.planes, tails, grid.tails, start, head, run);
     count
 }
 
