@@ -1,12 +1,11 @@
 //! A block of a search, and how it is gone through.
 //!
-//! The words of a block are those of up to 4,096 messages one after the other, all of one level and one information
-//! set. A word's symbols at the basis of the set are those of its message, so only the columns outside it are counted,
-//! at most 64 at a time: a part of the columns. Over 2 elements the messages are taken by runs, which share all but
-//! their last two or three places (`runs.rt`). Over more elements a message is a support with a list of coefficients, and
-//! the words with one support are all sums of a head and a tail: the heads are the words of all but its last two places,
-//! and the tails the words of these two. They are taken support by support, and the heads are made once for each
-//! (`sweeps.rt`, `part_counts.rt`). If a support has too many heads, its words are taken by runs, which share their head
+//! The words of a block are those of up to 4,096 messages one after another, all of one level and one information set.
+//! A word's symbols at the basis of the set are those of its message, so only the columns outside it are counted, in
+//! parts of at most 64. A word is the sum of a head, which is the word of all but the last two or three places of its
+//! support, and of a tail, which is that of these places. Over 2 elements the messages are taken by runs, which share
+//! their head (`runs.rt`). Over more elements they are taken support by support, all heads of it times all tails, and
+//! the heads are made once for each support (`sweeps.rt`, `part_counts.rt`), or by runs if a support has too many heads
 //! (`fronts.rt`, `tails.rt`). A level without tails, or a set without a table, is gone through message by message
 //! (`least_word.rt`).
 

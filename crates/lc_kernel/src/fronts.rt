@@ -20,7 +20,7 @@ ghost use Rattle.lc_kernel.specs.Sums.{front_word, AreMultiples};
 
 use crate::block::Block;
 use crate::grid::Grid;
-use crate::multiples::{multiple_of, nonzero};
+use crate::multiples::{RowMultiples, multiple_of, nonzero};
 use crate::part_counts::count_sweeps;
 use crate::runs::pair_index;
 use crate::sweeps::{head_count, least_sweeps};
@@ -29,37 +29,34 @@ use lc_distances::{add_apart, first_least, pack, sum_planes};
 use lc_field::NoMemory;
 use lc_infoset::Sets;
 use lc_place::Spot;
-use lc_vec::Word;
 use std::alloc::Global;
 
-/// The planes at some columns of the nonzero multiples of the rows of set `j`, row by row, in the order of the
-/// elements.
+/// The planes at some columns of the nonzero multiples of the rows of a set, row by row, in the order of the elements.
 pub(crate) fn row_planes(
     alloc: Global,
-    sets: &Sets,
-    multiples: &[Word],
-    j: usize,
+    rows: &RowMultiples<'_>,
     columns: &[usize],
     planes: usize,
 ) -> Result<Vec<[u64; 4]>, NoMemory>
-    requires multiples { AreMultiples sets.now multiples.now }
-    requires set { j < set_count sets.now }
+    requires multiples { AreMultiples rows.now.sets.now rows.now.words.now }
+    requires set { rows.now.set < set_count rows.now.sets.now }
     requires few { length columns.now ≤ 64 }
-    requires inside { (t : ℕ) → t < length columns.now → slice_index columns.now t < sets.now.columns }
+    requires inside { (t : ℕ) → t < length columns.now → slice_index columns.now t < rows.now.sets.now.columns }
     requires planes { planes ≤ 4 }
-    ensures are { IfOk result (λ rows. AreRowPlanes sets.now j columns.now planes
-        (length sets.now.rows * (size sets.now.field - 1)) rows.items) }
+    ensures are { IfOk result (λ all. AreRowPlanes rows.now.sets.now rows.now.set columns.now planes
+        (length rows.now.sets.now.rows * (size rows.now.sets.now.field - 1)) all.items) }
 {
+    let sets = rows.sets;
     let elements = nonzero(sets);
     let k = sets.dimension();
     let _n = sets.length();
-    let mut rows = Vec::new(alloc);
+    let mut all = Vec::new(alloc);
     for index in 0..k * elements {
         let c = (index % elements) as u8 + 1;
-        let word = multiple_of(sets, multiples, j, index / elements, c);
-        rows.push(pack(word.symbols(), columns, planes))?;
+        let word = multiple_of(sets, rows.words, rows.set, index / elements, c);
+        all.push(pack(word.symbols(), columns, planes))?;
     }
-    Ok(rows)
+    Ok(all)
 }
 
 // The planes of the sum of the first i + 1 entries, from those of the first i.

@@ -23,8 +23,8 @@ use lc_distances::{Halves, joined, nearest, sum_planes};
 use lc_infoset::Sets;
 use lc_place::Spot;
 
-/// The words of a block at a part of the columns outside the basis of its set, to be gone through support by support: with
-/// the table of that set.
+/// A way through the words of a block, support by support, at one part of the columns outside the basis: the block, the
+/// table of its set, the index of the part, and that of the set.
 #[derive(Clone, Copy)]
 pub(crate) struct Sweep<'a> {
     pub(crate) block: Block<'a>,

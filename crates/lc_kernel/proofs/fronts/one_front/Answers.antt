@@ -7,7 +7,7 @@ use Rattle.lc_distances.proofs.LeastLaws.{piece_long}
 use Rattle.lc_distances.proofs.PartLaws.{part_piece, part_joined}
 use Rattle.lc_kernel.specs.Packed.{others}
 use Rattle.lc_kernel.specs.Sums.{front_word}
-use Rattle.lc_kernel.specs.Grid.{tail_count, tail_index, AreTailPlanes, IsTailRun}
+use Rattle.lc_kernel.specs.Grid.{tail_count, AreTailPlanes, IsTailRun}
 use Rattle.lc_kernel.specs.Grids.{IsGridPart}
 use Rattle.lc_kernel.proofs.GridLaws.{tail_run_room}
 use Rattle.lc_kernel.proofs.PackLaws.{others_few}
