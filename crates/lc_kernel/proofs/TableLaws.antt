@@ -53,8 +53,8 @@ one_part C j t b ps p h l e = one_of_all (λ i (x : Part). IsPart C j t (part_at
 pub one_grid_part : (C : Matrix) (j n b : ℕ) (ps : List GridPart) (p : GridPart) → AreGridParts C j n ps → b < length ps → p ≡ slice_index_or ps b p → IsGridPart C j (part_at (others C j) b) n p.rows.items p.bits.items
 one_grid_part C j n b ps p h l e = one_of_all (λ i (x : GridPart). IsGridPart C j (part_at (others C j) i) n x.rows.items x.bits.items) ps b p h l e
 
-pub kept_part : (C : Matrix) (j n tails b : ℕ) (ps : List GridPart) (starts : List ℕ) (p : GridPart) (rows : List (List ℕ)) → IsGrid C j n tails ps starts → b < length ps → p ≡ slice_index_or ps b p → rows ≡ p.rows.items → IsKept C j b n rows
-kept_part C j n tails b ps starts p rows h l e is = record { fits = h.planes; few = h.few; multiples = rw is (one_grid_part C j n b ps p h.parts l e).multiples }
+pub kept_part : (C : Matrix) (j b : ℕ) (g : Grid) (p : GridPart) (rows : List (List ℕ)) → IsGrid C j g → b < length g.parts.items → p ≡ slice_index_or g.parts.items b p → rows ≡ p.rows.items → IsKept C j b g.planes rows
+kept_part C j b g p rows h l e is = record { fits = h.planes; few = h.few; multiples = rw is (one_grid_part C j g.planes b g.parts.items p h.parts l e).multiples }
 
 pub part_cut : (cols : List ℕ) (b start end : ℕ) → start ≡ 64 * b → start ≤ length cols → end ≡ min (length cols) (start + 64) → take (end - start) (drop start cols) ≡ part_at cols b
 part_cut cols b start end e l which =

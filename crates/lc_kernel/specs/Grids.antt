@@ -1,7 +1,7 @@
 -- The tables of the sets of a code over more than 2 elements.
 --   IsGridPart C j cols n rows bits      the first n planes, at some columns, of the nonzero multiples of the rows and of the negatives of all tails
 --   AreGridParts C j n ps      part b of the list is that for part b of the columns outside the basis of set j
---   IsGrid C j n tails ps starts      these parts for all such columns, how many tails there are, and the first pair of each row
+--   IsGrid C j g               the table has these parts for all such columns, how many tails there are, and the first pair of each row
 --   HasRoom C, LacksRoom C     the squares of the dimension and of the number of nonzero elements have a product of at most 2^18, or a greater one
 --   AreGrids C gs              table j is that of set j
 --   AreAllGrids C gs           there is a table for each set if there is room, and else none
@@ -23,15 +23,15 @@ pub record IsGridPart (C : Matrix) (j : ℕ) (cols : List ℕ) (n : ℕ) (rows :
 abbrev pub AreGridParts : Matrix → ℕ → ℕ → List GridPart → Type 0
 AreGridParts C j n ps = (b : ℕ) (p : GridPart) → slice_get ps b ≡ Some p → IsGridPart C j (part_at (others C j) b) n p.rows.items p.bits.items
 
-pub record IsGrid (C : Matrix) (j n tails : ℕ) (ps : List GridPart) (starts : List ℕ) : Type 0 where
-  pub planes : size C.field ≤ 2 ^ n
-  pub least : 2 ≤ n
-  pub few : n ≤ 4
-  pub count : tails ≡ tails_in C
-  pub small : tails ≤ 2 ^ 18
-  pub wide : length (others C j) ≤ 64 * length ps
-  pub parts : AreGridParts C j n ps
-  pub first : AreStarts (length C.rows) 2 starts
+pub record IsGrid (C : Matrix) (j : ℕ) (g : Grid) : Type 0 where
+  pub planes : size C.field ≤ 2 ^ g.planes
+  pub least : 2 ≤ g.planes
+  pub few : g.planes ≤ 4
+  pub count : g.tails ≡ tails_in C
+  pub small : g.tails ≤ 2 ^ 18
+  pub wide : length (others C j) ≤ 64 * length g.parts.items
+  pub parts : AreGridParts C j g.planes g.parts.items
+  pub first : AreStarts (length C.rows) 2 g.starts.items
 
 abbrev pub HasRoom : Matrix → Type 0
 HasRoom C = length C.rows * length C.rows * tail_count C ≤ 2 ^ 18
@@ -44,4 +44,4 @@ pub record AreAllGrids (C : Matrix) (gs : List Grid) : Type 0 where
   pub none : LacksRoom C → length gs ≡ 0
 
 pub record AreGrids (C : Matrix) (gs : List Grid) : Type 0 where
-  pub each : (j : ℕ) (g : Grid) → slice_get gs j ≡ Some g → IsGrid C j g.planes g.tails g.parts.items g.starts.items
+  pub each : (j : ℕ) (g : Grid) → slice_get gs j ≡ Some g → IsGrid C j g

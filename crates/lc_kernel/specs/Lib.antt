@@ -9,3 +9,4 @@ pub mod Sweeps
 pub mod Grids
 pub mod PlaneSums
 pub mod Room
+pub mod Block

@@ -3,9 +3,11 @@
 --   TooManyHeads C w            a support of level w has more than 1,024 heads, or at least 4,096 with one coefficient more
 --   listed_spot C j u y         a spot of set j at support u, with list y of coefficients
 --   IsListedAt C m b n j u y    that spot is at message n of block b, in one of the first m sets
+--   IsListed w n u y            the spot of the sweep's set at support u, with list y, is at message n of its block
 --   head_word C j u i x         the word of the first i places of a support, with list x of i coefficients
 --   IsGrown f d a rows heads new e      head e of one place more: the sum of a head and a multiple of row a
 --   AreHeads C j u b n i heads      the n planes of these words, list by list, at part b of the columns outside the basis
+--   AreHeadsOf w u i heads      they are that for the set of a sweep and its part of the columns
 --   AreHalvesOf C j u b a       the words of set j with support u as heads and tails, at that part of the columns
 use Rattle.std.specs.Prelude.{◌≡◌, ◌⊎◌, ℕ, ◌+◌, ◌-◌, ◌*◌, ◌/◌, ◌%◌, ◌^◌, ◌<◌, ◌≤◌, List, [], ◌∷◌, length, Some, slice_get, slice_index, slice_index_or, Contains}
 use Rattle.lc_algebra.specs.declared.FieldName.{FieldName}
@@ -20,6 +22,7 @@ use Rattle.lc_distances.specs.Planes.{IsPlaneSum}
 use Rattle.lc_kernel.specs.Sums.{front_word}
 use Rattle.lc_distances.specs.declared.halves.Halves.{Halves}
 use Rattle.lc_distances.specs.Halves.{AreHalves}
+use Rattle.lc_kernel.specs.declared.sweeps.Sweep.{Sweep}
 use Rattle.lc_kernel.specs.Grid.{tail_count, tails_in, AreTailPlanes}
 
 abbrev pub list_count : Matrix → ℕ → ℕ
@@ -37,11 +40,17 @@ pub record IsListedAt (C : Matrix) (m b n j : ℕ) (u : List ℕ) (y : ℕ) : Ty
   pub inside : y < list_count C (length u)
   pub level : 3 ≤ length u
 
+abbrev pub IsListed : Sweep → ℕ → List ℕ → ℕ → Type 0
+IsListed w n u y = IsListedAt w.block.sets.now w.block.plan.now.m w.block.number n w.set u y
+
 abbrev pub head_word : Matrix → ℕ → List ℕ → ℕ → ℕ → List ℕ
 head_word C j u i x = front_word C (record { set = j; support = u; coefficients = slice_index_or (leading_lists (size C.field) i) x []; room = 0 }) i
 
 abbrev pub AreHeads : Matrix → ℕ → List ℕ → ℕ → ℕ → ℕ → List (List ℕ) → Type 0
 AreHeads C j u b n i heads = (x p : ℕ) → x < list_count C i → p < n → slice_index (slice_index_or heads x []) p ≡ plane_at p (part_at (others C j) b) (head_word C j u i x)
+
+abbrev pub AreHeadsOf : Sweep → List ℕ → ℕ → List (List ℕ) → Type 0
+AreHeadsOf w u i heads = AreHeads w.block.sets.now w.set u w.part w.grid.now.planes i heads
 
 abbrev pub IsGrown : FieldName → ℕ → ℕ → List (List ℕ) → List (List ℕ) → List (List ℕ) → ℕ → Type 0
 IsGrown f d a rows heads new e = IsPlaneSum f (slice_index_or heads (e / d) []) (slice_index_or rows (a * d + e % d) []) (slice_index_or new e [])

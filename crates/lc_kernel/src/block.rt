@@ -1,113 +1,21 @@
-//! The least word of a block.
+//! A block of a search, and how it is gone through.
+//!
+//! The words of a block are those of up to 4,096 messages one after another, all of one level and one information set.
+//! A word's symbols at the basis of the set are those of its message, so only the columns outside it are counted, in
+//! parts of at most 64. A word is the sum of a head, which is the word of all but the last two or three places of its
+//! support, and of a tail, which is that of these places. Over 2 elements the messages are taken by runs, which share
+//! their head (`runs.rt`). Over more elements they are taken support by support, all heads of it times all tails, and
+//! the heads are made once for each support (`sweeps.rt`, `part_counts.rt`), or by runs if a support has too many heads
+//! (`fronts.rt`, `tails.rt`). A level without tails, or a set without a table, is gone through message by message
+//! (`least_word.rt`).
 
-ghost use Rattle.std.specs.Prelude.{◌≡◌, ◌+◌, ◌*◌, ◌^◌, ◌<◌, ◌≤◌, Some, length, option_map};
-ghost use Rattle.lc_algebra.specs.Word.{weight};
-ghost use Rattle.lc_enumeration.specs.Plan.{total};
-ghost use Rattle.lc_enumeration.specs.Search.{block_least, board_value};
-ghost use Rattle.lc_kernel.specs.Kernel.{IsPlanOf, top_sum};
-ghost use Rattle.lc_kernel.specs.Tables.{AreTables};
-ghost use Rattle.lc_kernel.specs.Grids.{AreGrids};
-ghost use Rattle.lc_kernel.specs.Room.{IsWorkRoom, IsGridRoom, HasSizesOf};
-
-use crate::grid::Grid;
-use crate::room::Room;
-use crate::runs::by_runs;
-use crate::scratch::Scratch;
-use crate::stack::Stack;
-use crate::table::Table;
-use crate::tails::by_tails;
-use lc_enumeration::PLACES;
 use lc_infoset::Sets;
 use lc_place::Plan;
 
-/// The least value of a block on the board: the weight times 2^52 plus the place of the lightest word of the
-/// block, the first of these.
-///
-/// The plan is one of these sets, the block is below its total, and the scratch was made for these sets.
-/// It takes no memory.
-pub fn least(sets: &Sets, plan: &Plan, block: u64, scratch: &mut Scratch) -> u64
-    requires plan { IsPlanOf plan.now sets.now }
-    requires block { block < total plan.now.k plan.now.q plan.now.m }
-    requires scratch { scratch.old ≡ sets.now }
-    ensures scratch { scratch.new ≡ scratch.old }
-    ensures is { option_map board_value (block_least sets.now plan.now.m block) ≡ Some result }
-{
-    least_in(
-        sets,
-        plan,
-        block,
-        &scratch.tables,
-        &scratch.grids,
-        &mut scratch.room,
-        &mut scratch.stack,
-    )
-}
-
-// The same in parts: by runs if its set has a table with tails that its level can have, and else message by
-// message.
-fn least_in(
-    sets: &Sets,
-    plan: &Plan,
-    block: u64,
-    tables: &[Table],
-    grids: &[Grid],
-    room: &mut Room,
-    stack: &mut Stack,
-) -> u64
-    requires plan { IsPlanOf plan.now sets.now }
-    requires block { block < total plan.now.k plan.now.q plan.now.m }
-    requires tables { AreTables sets.now tables.now }
-    requires grids { AreGrids sets.now grids.now }
-    requires room { IsWorkRoom (length sets.now.rows) room.old }
-    requires grid_room { 0 < length grids.now → IsGridRoom (length sets.now.rows) room.old }
-    requires stack { stack.old.code ≡ sets.now }
-    ensures room { HasSizesOf room.old room.new }
-    ensures stack { stack.new.code ≡ stack.old.code }
-    ensures is { option_map board_value (block_least sets.now plan.now.m block) ≡ Some result }
-{
-    let _phase = plan.phase_of(block);
-    plan.start_of(block, &mut room.spot);
-    let set = room.spot.set();
-    let level = room.spot.support().len();
-    if level >= 3 && set < grids.len() {
-        return by_tails(sets, plan, block, &grids[set], room);
-    }
-    if set < tables.len() {
-        let table = &tables[set];
-        if level >= table.tail {
-            return by_runs(sets, plan, block, table, &mut room.spot, &mut room.counts);
-        }
-    }
-    scan(sets, plan, block, stack)
-}
-
-// The same by a step for each message.
-fn scan(sets: &Sets, plan: &Plan, block: u64, stack: &mut Stack) -> u64
-    requires plan { IsPlanOf plan.now sets.now }
-    requires block { block < total plan.now.k plan.now.q plan.now.m }
-    requires stack { stack.old.code ≡ sets.now }
-    ensures code { stack.new.code ≡ stack.old.code }
-    ensures is { option_map board_value (block_least sets.now plan.now.m block) ≡ Some result }
-{
-    let _few = plan.total();
-    let _phase = plan.phase_of(block);
-    let _long = sets.length();
-    stack.start_block(sets, plan, block);
-    let first = block * 4096;
-    let mut best = value_of(stack, first);
-    for offset in 1..plan.block_len(block) {
-        stack.step_in_block(sets, plan, block, offset);
-        best = best.min(value_of(stack, first + offset));
-    }
-    best
-}
-
-// The value of the word of a stack at a place.
-fn value_of(stack: &Stack, place: u64) -> u64
-    requires at { 0 < length stack.now.spot.support }
-    requires few { stack.now.code.columns ≤ 255 }
-    requires place { place < 2 ^ 52 }
-    ensures is { result ≡ weight (top_sum stack.now) * 2 ^ 52 + place }
-{
-    stack.weight() as u64 * PLACES + place
+/// A block of a plan: its number, the plan, and the sets that the plan is for.
+#[derive(Clone, Copy)]
+pub(crate) struct Block<'a> {
+    pub(crate) sets: &'a Sets,
+    pub(crate) plan: &'a Plan,
+    pub(crate) number: u64,
 }

@@ -7,21 +7,20 @@ ghost use Rattle.lc_algebra.specs.Field.{size};
 ghost use Rattle.lc_algebra.specs.Word.{weight};
 ghost use Rattle.lc_algebra.specs.SpanLaws.{restrict};
 ghost use Rattle.lc_enumeration.specs.Message.{messages};
-ghost use Rattle.lc_enumeration.specs.Plan.{total, IsInPhase};
-ghost use Rattle.lc_enumeration.specs.Search.{set_count, block_words};
+ghost use Rattle.lc_enumeration.specs.Search.{set_count};
 ghost use Rattle.lc_place.specs.Place.{spot_message};
-ghost use Rattle.lc_kernel.specs.Kernel.{IsPlanOf};
-ghost use Rattle.lc_kernel.specs.Values.{IsSpotAt};
+ghost use Rattle.lc_kernel.specs.Block.{HasPlan, IsInPlan, IsInSomePhase, words_in, IsSpotIn};
 ghost use Rattle.lc_kernel.specs.Packed.{others};
 ghost use Rattle.lc_planes.specs.Planes.{part_at};
-ghost use Rattle.lc_kernel.specs.Grid.{tail_count, tail_index, IsTailRun};
+ghost use Rattle.lc_kernel.specs.Grid.{tail_count, tail_index};
 ghost use Rattle.lc_kernel.specs.Grids.{IsGrid};
 ghost use Rattle.lc_kernel.specs.Fronts.{AreRowPlanes, AreFrontPlanes, ArePlanes};
 ghost use Rattle.lc_distances.specs.Least.{IsFirstLeast, AreCounted, ArePartCounted};
 ghost use Rattle.lc_kernel.specs.Sums.{front_word, AreMultiples};
 
+use crate::block::Block;
 use crate::grid::Grid;
-use crate::multiples::{multiple_of, nonzero};
+use crate::multiples::{RowMultiples, multiple_of, nonzero};
 use crate::part_counts::count_sweeps;
 use crate::runs::pair_index;
 use crate::sweeps::{head_count, least_sweeps};
@@ -29,38 +28,35 @@ use crate::tails::{pass, tail_of};
 use lc_distances::{add_apart, first_least, pack, sum_planes};
 use lc_field::NoMemory;
 use lc_infoset::Sets;
-use lc_place::{Plan, Spot};
-use lc_vec::Word;
+use lc_place::Spot;
 use std::alloc::Global;
 
-/// The planes at some columns of the nonzero multiples of the rows of set `j`, row by row, in the order of the
-/// elements.
+/// The planes at some columns of the nonzero multiples of the rows of a set, row by row, in the order of the elements.
 pub(crate) fn row_planes(
     alloc: Global,
-    sets: &Sets,
-    multiples: &[Word],
-    j: usize,
+    rows: &RowMultiples<'_>,
     columns: &[usize],
     planes: usize,
 ) -> Result<Vec<[u64; 4]>, NoMemory>
-    requires multiples { AreMultiples sets.now multiples.now }
-    requires set { j < set_count sets.now }
+    requires multiples { AreMultiples rows.now.sets.now rows.now.words.now }
+    requires set { rows.now.set < set_count rows.now.sets.now }
     requires few { length columns.now ≤ 64 }
-    requires inside { (t : ℕ) → t < length columns.now → slice_index columns.now t < sets.now.columns }
+    requires inside { (t : ℕ) → t < length columns.now → slice_index columns.now t < rows.now.sets.now.columns }
     requires planes { planes ≤ 4 }
-    ensures are { IfOk result (λ rows. AreRowPlanes sets.now j columns.now planes
-        (length sets.now.rows * (size sets.now.field - 1)) rows.items) }
+    ensures are { IfOk result (λ all. AreRowPlanes rows.now.sets.now rows.now.set columns.now planes
+        (length rows.now.sets.now.rows * (size rows.now.sets.now.field - 1)) all.items) }
 {
+    let sets = rows.sets;
     let elements = nonzero(sets);
     let k = sets.dimension();
     let _n = sets.length();
-    let mut rows = Vec::new(alloc);
+    let mut all = Vec::new(alloc);
     for index in 0..k * elements {
         let c = (index % elements) as u8 + 1;
-        let word = multiple_of(sets, multiples, j, index / elements, c);
-        rows.push(pack(word.symbols(), columns, planes))?;
+        let word = multiple_of(sets, rows.words, rows.set, index / elements, c);
+        all.push(pack(word.symbols(), columns, planes))?;
     }
-    Ok(rows)
+    Ok(all)
 }
 
 // The planes of the sum of the first i + 1 entries, from those of the first i.
@@ -75,8 +71,7 @@ fn next_front(
     requires set { spot.now.set < set_count sets.now }
     requires message { Contains (messages (length sets.now.rows) (size sets.now.field) (length spot.now.support))
         (spot_message spot.now) }
-    requires grid { IsGrid sets.now spot.now.set grid.now.planes grid.now.tails grid.now.parts.items
-        grid.now.starts.items }
+    requires grid { IsGrid sets.now spot.now.set grid.now }
     requires part { part < length grid.now.parts.items }
     requires entry { i < length spot.now.support }
     requires front { ArePlanes (part_at (others sets.now spot.now.set) part) grid.now.planes
@@ -107,8 +102,7 @@ fn refresh_planes(
     requires set { spot.now.set < set_count sets.now }
     requires message { Contains (messages (length sets.now.rows) (size sets.now.field) (length spot.now.support))
         (spot_message spot.now) }
-    requires grid { IsGrid sets.now spot.now.set grid.now.planes grid.now.tails grid.now.parts.items
-        grid.now.starts.items }
+    requires grid { IsGrid sets.now spot.now.set grid.now }
     requires part { part < length grid.now.parts.items }
     requires many { length fronts.old ≡ length sets.now.rows + 1 }
     requires fronts { AreFrontPlanes sets.now spot.now part grid.now.planes from fronts.old }
@@ -124,43 +118,10 @@ fn refresh_planes(
     }
 }
 
-// Adds to the counts of a run what a part of the columns has, from the planes of its head.
-fn add_front(
-    sets: &Sets,
-    plan: &Plan,
-    block: u64,
-    grid: &Grid,
-    part: usize,
-    spot: &Spot,
-    head: &[u64; 4],
-    start: usize,
-    done: u64,
-    counts: &mut [u32],
-)
-    requires run { IsTailRun sets.now plan.now.m block spot.now
-        (front_word sets.now spot.now (length spot.now.support - 2)) done start (length counts.old) }
-    requires grid { IsGrid sets.now spot.now.set grid.now.planes grid.now.tails grid.now.parts.items
-        grid.now.starts.items }
-    requires part { part < length grid.now.parts.items }
-    requires head { ArePlanes (part_at (others sets.now spot.now.set) part) grid.now.planes
-        (front_word sets.now spot.now (length spot.now.support - 2)) head.now }
-    requires counted { AreCounted (take (64 * part) (others sets.now spot.now.set))
-        (block_words sets.now plan.now.m block) done (length counts.old) counts.old }
-    ensures counted { AreCounted (take (64 * (part + 1)) (others sets.now spot.now.set))
-        (block_words sets.now plan.now.m block) done (length counts.old) counts.new }
-{
-    let _n = sets.length();
-    let table = &grid.parts[part];
-    let tails = table.bits.as_slice();
-    add_apart(grid.planes, tails, grid.tails, start, head, counts);
-}
-
 // Adds what a part of the columns has to the counts of a run that begins at an offset of a block, up to the block's end.
 // Returns how many words the run has.
 fn one_front(
-    sets: &Sets,
-    plan: &Plan,
-    block: u64,
+    block: &Block<'_>,
     grid: &Grid,
     part: usize,
     spot: &Spot,
@@ -168,147 +129,124 @@ fn one_front(
     done: usize,
     counts: &mut [u32],
 ) -> usize
-    requires phase { (p : ℕ) × IsInPhase (length sets.now.rows) (size sets.now.field) plan.now.m p block }
-    requires set { spot.now.set < set_count sets.now }
-    requires at { IsSpotAt sets.now plan.now.m block done spot.now }
+    requires phase { IsInSomePhase block.now }
+    requires set { spot.now.set < set_count block.now.sets.now }
+    requires at { IsSpotIn block.now done spot.now }
     requires level { 3 ≤ length spot.now.support }
-    requires grid { IsGrid sets.now spot.now.set grid.now.planes grid.now.tails grid.now.parts.items
-        grid.now.starts.items }
+    requires grid { IsGrid block.now.sets.now spot.now.set grid.now }
     requires part { part < length grid.now.parts.items }
-    requires head { ArePlanes (part_at (others sets.now spot.now.set) part) grid.now.planes
-        (front_word sets.now spot.now (length spot.now.support - 2)) head.now }
+    requires head { ArePlanes (part_at (others block.now.sets.now spot.now.set) part) grid.now.planes
+        (front_word block.now.sets.now spot.now (length spot.now.support - 2)) head.now }
     requires some { done < length counts.old }
-    requires words { length counts.old ≡ length (block_words sets.now plan.now.m block) }
-    requires counted { ArePartCounted (others sets.now spot.now.set) part (block_words sets.now plan.now.m block) done
+    requires words { length counts.old ≡ length (words_in block.now) }
+    requires counted { ArePartCounted (others block.now.sets.now spot.now.set) part (words_in block.now) done
         (length counts.old) counts.old }
-    ensures counted { ArePartCounted (others sets.now spot.now.set) part (block_words sets.now plan.now.m block)
+    ensures counted { ArePartCounted (others block.now.sets.now spot.now.set) part (words_in block.now)
         (done + result) (length counts.old) counts.new }
     ensures some { 0 < result }
     ensures within { done + result ≤ length counts.old }
-    ensures end { done + result < length counts.old → tail_index sets.now spot.now + result ≡ tail_count sets.now }
+    ensures end { done + result < length counts.old →
+        tail_index block.now.sets.now spot.now + result ≡ tail_count block.now.sets.now }
 {
-    let _k = sets.dimension();
-    let elements = nonzero(sets);
-    let tail = tail_of(sets, spot);
-    let start = pair_index(sets, &grid.starts, spot) * elements * elements + tail;
+    let _k = block.sets.dimension();
+    let _n = block.sets.length();
+    let elements = nonzero(block.sets);
+    let tail = tail_of(block.sets, spot);
+    let start = pair_index(block.sets, &grid.starts, spot) * elements * elements + tail;
     let count = (elements * elements - tail).min(counts.len() - done);
     let end = done + count;
-    add_front(
-        sets,
-        plan,
-        block,
-        grid,
-        part,
-        spot,
-        head,
-        start,
-        done as u64,
-        &mut counts[done..end],
-    );
+    let table = &grid.parts[part];
+    let tails = table.bits.as_slice();
+    let run = &mut counts[done..end];
+    add_apart(grid.planes, tails, grid.tails, start, head, run);
     count
 }
 
 // Adds what a part of the columns has to the counts of the words of a block of a level of at least 3, from its first
 // message on.
 fn add_fronts(
-    sets: &Sets,
-    plan: &Plan,
-    block: u64,
+    block: &Block<'_>,
     grid: &Grid,
     part: usize,
     spot: &mut Spot,
     fronts: &mut [[u64; 4]],
     counts: &mut [u32],
 )
-    requires plan { IsPlanOf plan.now sets.now }
-    requires phase { (p : ℕ) × IsInPhase (length sets.now.rows) (size sets.now.field) plan.now.m p block }
-    requires set { spot.old.set < set_count sets.now }
-    requires at { IsSpotAt sets.now plan.now.m block 0 spot.old }
+    requires plan { HasPlan block.now }
+    requires phase { IsInSomePhase block.now }
+    requires set { spot.old.set < set_count block.now.sets.now }
+    requires at { IsSpotIn block.now 0 spot.old }
     requires level { 3 ≤ length spot.old.support }
-    requires grid { IsGrid sets.now spot.old.set grid.now.planes grid.now.tails grid.now.parts.items
-        grid.now.starts.items }
+    requires grid { IsGrid block.now.sets.now spot.old.set grid.now }
     requires part { part < length grid.now.parts.items }
-    requires many { length fronts.old ≡ length sets.now.rows + 1 }
+    requires many { length fronts.old ≡ length block.now.sets.now.rows + 1 }
     requires some { 0 < length counts.old }
-    requires words { length counts.old ≡ length (block_words sets.now plan.now.m block) }
-    requires counted { AreCounted (take (64 * part) (others sets.now spot.old.set))
-        (block_words sets.now plan.now.m block) 0 (length counts.old) counts.old }
-    ensures counted { AreCounted (take (64 * (part + 1)) (others sets.now spot.old.set))
-        (block_words sets.now plan.now.m block) 0 (length counts.old) counts.new }
+    requires words { length counts.old ≡ length (words_in block.now) }
+    requires counted { AreCounted (take (64 * part) (others block.now.sets.now spot.old.set))
+        (words_in block.now) 0 (length counts.old) counts.old }
+    ensures counted { AreCounted (take (64 * (part + 1)) (others block.now.sets.now spot.old.set))
+        (words_in block.now) 0 (length counts.old) counts.new }
     ensures set { spot.new.set ≡ spot.old.set }
     ensures room { spot.new.room ≡ spot.old.room }
 {
-    let _k = sets.dimension();
-    let _n = sets.length();
+    let _k = block.sets.dimension();
+    let _n = block.sets.length();
     let level = spot.support().len();
     fronts[0] = [0; 4];
     let mut done = 0;
     let mut stayed = 0;
     loop {
-        refresh_planes(sets, grid, part, spot, fronts, stayed, level - 2);
-        let count = one_front(
-            sets,
-            plan,
-            block,
-            grid,
-            part,
-            spot,
-            &fronts[level - 2],
-            done,
-            counts,
-        );
+        refresh_planes(block.sets, grid, part, spot, fronts, stayed, level - 2);
+        let count = one_front(block, grid, part, spot, &fronts[level - 2], done, counts);
         if done + count >= counts.len() {
             return;
         }
-        stayed = pass(sets, plan, block, spot, done as u64, count as u64);
+        stayed = pass(block, spot, done as u64, count as u64);
         done += count;
     }
 }
 
 // Counts the nonzero symbols, outside the basis, of the words of a block of a level of at least 3, part by part.
 fn count_fronts(
-    sets: &Sets,
-    plan: &Plan,
-    block: u64,
+    block: &Block<'_>,
     grid: &Grid,
     spot: &mut Spot,
     fronts: &mut [[u64; 4]],
     counts: &mut [u32],
 )
-    requires plan { IsPlanOf plan.now sets.now }
-    requires block { block < total plan.now.k plan.now.q plan.now.m }
-    requires phase { (p : ℕ) × IsInPhase (length sets.now.rows) (size sets.now.field) plan.now.m p block }
-    requires set { spot.old.set < set_count sets.now }
-    requires at { IsSpotAt sets.now plan.now.m block 0 spot.old }
+    requires plan { HasPlan block.now }
+    requires block { IsInPlan block.now }
+    requires phase { IsInSomePhase block.now }
+    requires set { spot.old.set < set_count block.now.sets.now }
+    requires at { IsSpotIn block.now 0 spot.old }
     requires level { 3 ≤ length spot.old.support }
-    requires grid { IsGrid sets.now spot.old.set grid.now.planes grid.now.tails grid.now.parts.items
-        grid.now.starts.items }
-    requires room { spot.old.room ≡ length sets.now.rows }
-    requires many { length fronts.old ≡ length sets.now.rows + 1 }
+    requires grid { IsGrid block.now.sets.now spot.old.set grid.now }
+    requires room { spot.old.room ≡ length block.now.sets.now.rows }
+    requires many { length fronts.old ≡ length block.now.sets.now.rows + 1 }
     requires some { 0 < length counts.old }
-    requires words { length counts.old ≡ length (block_words sets.now plan.now.m block) }
-    ensures counted { AreCounted (others sets.now spot.old.set) (block_words sets.now plan.now.m block) 0
+    requires words { length counts.old ≡ length (words_in block.now) }
+    ensures counted { AreCounted (others block.now.sets.now spot.old.set) (words_in block.now) 0
         (length counts.old) counts.new }
     ensures room { spot.new.room ≡ spot.old.room }
 {
     counts.fill(0);
     for part in 0..grid.parts.len() {
-        plan.start_of(block, spot);
-        add_fronts(sets, plan, block, grid, part, spot, fronts, counts);
+        block.plan.start_of(block.number, spot);
+        add_fronts(block, grid, part, spot, fronts, counts);
     }
 }
 
 // The least of the counts of a block, and the first word that has it.
-fn first_counted(sets: &Sets, plan: &Plan, block: u64, set: usize, counts: &[u32]) -> (u32, usize)
+fn first_counted(block: &Block<'_>, set: usize, counts: &[u32]) -> (u32, usize)
     requires some { 0 < length counts.now }
-    requires counted { AreCounted (others sets.now set) (block_words sets.now plan.now.m block) 0
+    requires counted { AreCounted (others block.now.sets.now set) (words_in block.now) 0
         (length counts.now) counts.now }
     ensures is { IsFirstLeast (length counts.now)
-        (λ i. weight (restrict (others sets.now set)
-        (slice_index_or (block_words sets.now plan.now.m block) i []))) result.0 result.1 }
+        (λ i. weight (restrict (others block.now.sets.now set)
+        (slice_index_or (words_in block.now) i []))) result.0 result.1 }
     ensures few { result.0 ≤ 255 }
 {
-    let _n = sets.length();
+    let _n = block.sets.length();
     first_least(counts)
 }
 
@@ -316,9 +254,7 @@ fn first_counted(sets: &Sets, plan: &Plan, block: u64, set: usize, counts: &[u32
 /// first message on, and the first word that has it: support by support if a support hasn't too many heads, and else run
 /// by run. There are at least as many counts as a block has words.
 pub(crate) fn least_words(
-    sets: &Sets,
-    plan: &Plan,
-    block: u64,
+    block: &Block<'_>,
     grid: &Grid,
     spot: &mut Spot,
     fronts: &mut [[u64; 4]],
@@ -326,39 +262,38 @@ pub(crate) fn least_words(
     tops: &mut [[u64; 4]],
     counts: &mut [u32],
 ) -> (u32, usize)
-    requires plan { IsPlanOf plan.now sets.now }
-    requires block { block < total plan.now.k plan.now.q plan.now.m }
-    requires phase { (p : ℕ) × IsInPhase (length sets.now.rows) (size sets.now.field) plan.now.m p block }
-    requires set { spot.old.set < set_count sets.now }
-    requires at { IsSpotAt sets.now plan.now.m block 0 spot.old }
+    requires plan { HasPlan block.now }
+    requires block { IsInPlan block.now }
+    requires phase { IsInSomePhase block.now }
+    requires set { spot.old.set < set_count block.now.sets.now }
+    requires at { IsSpotIn block.now 0 spot.old }
     requires level { 3 ≤ length spot.old.support }
-    requires grid { IsGrid sets.now spot.old.set grid.now.planes grid.now.tails grid.now.parts.items
-        grid.now.starts.items }
-    requires room { spot.old.room ≡ length sets.now.rows }
-    requires many { length fronts.old ≡ length sets.now.rows + 1 }
-    requires places { length places.old ≡ length sets.now.rows }
+    requires grid { IsGrid block.now.sets.now spot.old.set grid.now }
+    requires room { spot.old.room ≡ length block.now.sets.now.rows }
+    requires many { length fronts.old ≡ length block.now.sets.now.rows + 1 }
+    requires places { length places.old ≡ length block.now.sets.now.rows }
     requires tops { length tops.old ≡ 1024 }
     requires counts { length counts.old ≡ 4096 }
-    ensures is { IsFirstLeast (length (block_words sets.now plan.now.m block))
-        (λ i. weight (restrict (others sets.now spot.old.set)
-        (slice_index_or (block_words sets.now plan.now.m block) i []))) result.0 result.1 }
+    ensures is { IsFirstLeast (length (words_in block.now))
+        (λ i. weight (restrict (others block.now.sets.now spot.old.set)
+        (slice_index_or (words_in block.now) i []))) result.0 result.1 }
     ensures few { result.0 ≤ 255 }
     ensures room { spot.new.room ≡ spot.old.room }
 {
-    let _n = sets.length();
+    let _n = block.sets.length();
     let set = spot.set();
     let level = spot.support().len();
-    let len = plan.block_len(block) as usize;
+    let len = block.plan.block_len(block.number) as usize;
     let counts = &mut counts[..len];
-    let Some(many) = head_count(sets, level) else {
-        count_fronts(sets, plan, block, grid, spot, fronts, counts);
-        return first_counted(sets, plan, block, set, counts);
+    let Some(many) = head_count(block.sets, level) else {
+        count_fronts(block, grid, spot, fronts, counts);
+        return first_counted(block, set, counts);
     };
     let support = &mut places[..level];
     let heads = &mut tops[..many];
     if grid.parts.len() == 1 {
-        return least_sweeps(sets, plan, block, grid, spot, support, heads, counts);
+        return least_sweeps(block, grid, spot, support, heads, counts);
     }
-    count_sweeps(sets, plan, block, grid, spot, support, heads, counts);
-    first_counted(sets, plan, block, set, counts)
+    count_sweeps(block, grid, spot, support, heads, counts);
+    first_counted(block, set, counts)
 }

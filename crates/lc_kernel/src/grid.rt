@@ -12,7 +12,7 @@ ghost use Rattle.lc_kernel.specs.Grid.{tail_count, tail_word, tails_in, AreTails
 ghost use Rattle.lc_kernel.specs.Grids.{HasRoom, LacksRoom, IsGridPart, AreGridParts, IsGrid};
 
 use crate::fronts::row_planes;
-use crate::multiples::{multiple_of, nonzero};
+use crate::multiples::{RowMultiples, multiple_of, nonzero};
 use crate::parts::pair_starts;
 use crate::table::columns_outside;
 use lc_distances::gather;
@@ -43,28 +43,28 @@ pub(crate) struct Grid {
     pub(crate) starts: Vec<usize>,
 }
 
-// The negative of the sum of multiples of rows a and b of set j: tail t.
+// The negative of the sum of multiples of rows a and b: tail t.
 fn tail(
     alloc: Global,
-    sets: &Sets,
-    multiples: &[Word],
-    j: usize,
+    rows: &RowMultiples<'_>,
     a: usize,
     b: usize,
     t: usize,
 ) -> Result<Word, NoMemory>
-    requires multiples { AreMultiples sets.now multiples.now }
-    requires set { j < set_count sets.now }
-    requires first { a < length sets.now.rows }
-    requires second { b < length sets.now.rows }
-    requires tail { t < tail_count sets.now }
-    ensures is { IfOk result (λ w. w ≡ negative sets.now.field (tail_word sets.now j a b t)) }
-    ensures word { IfOk result (λ w. IsWord sets.now.field sets.now.columns w) }
+    requires multiples { AreMultiples rows.now.sets.now rows.now.words.now }
+    requires set { rows.now.set < set_count rows.now.sets.now }
+    requires first { a < length rows.now.sets.now.rows }
+    requires second { b < length rows.now.sets.now.rows }
+    requires tail { t < tail_count rows.now.sets.now }
+    ensures is { IfOk result (λ w. w ≡ negative rows.now.sets.now.field
+        (tail_word rows.now.sets.now rows.now.set a b t)) }
+    ensures word { IfOk result (λ w. IsWord rows.now.sets.now.field rows.now.sets.now.columns w) }
 {
+    let sets = rows.sets;
     let elements = nonzero(sets);
     let n = sets.length();
-    let first = multiple_of(sets, multiples, j, a, (t / elements) as u8 + 1);
-    let second = multiple_of(sets, multiples, j, b, (t % elements) as u8 + 1);
+    let first = multiple_of(sets, rows.words, rows.set, a, (t / elements) as u8 + 1);
+    let second = multiple_of(sets, rows.words, rows.set, b, (t % elements) as u8 + 1);
     let mut symbols = vec![in alloc; 0u8; n]?;
     put_added(
         sets.field(),
@@ -79,25 +79,25 @@ fn tail(
 // Pushes the tails of rows a and b, whose pair has this index.
 fn push_tails(
     alloc: Global,
-    sets: &Sets,
-    multiples: &[Word],
-    j: usize,
+    rows: &RowMultiples<'_>,
     a: usize,
     b: usize,
     pair: usize,
     words: &mut Vec<Word>,
 ) -> Result<(), NoMemory>
-    requires multiples { AreMultiples sets.now multiples.now }
-    requires set { j < set_count sets.now }
-    requires first { a < length sets.now.rows }
-    requires second { b < length sets.now.rows }
-    requires pair { slice_get (supports_from 0 (length sets.now.rows) 2) pair ≡ Some (a ∷ b ∷ []) }
-    requires tails { AreTails sets.now j (pair * tail_count sets.now) words.old.items }
-    ensures tails { IfOk result (λ _. AreTails sets.now j ((pair + 1) * tail_count sets.now) words.new.items) }
+    requires multiples { AreMultiples rows.now.sets.now rows.now.words.now }
+    requires set { rows.now.set < set_count rows.now.sets.now }
+    requires first { a < length rows.now.sets.now.rows }
+    requires second { b < length rows.now.sets.now.rows }
+    requires pair { slice_get (supports_from 0 (length rows.now.sets.now.rows) 2) pair ≡ Some (a ∷ b ∷ []) }
+    requires tails { AreTails rows.now.sets.now rows.now.set (pair * tail_count rows.now.sets.now) words.old.items }
+    ensures tails { IfOk result (λ _. AreTails rows.now.sets.now rows.now.set
+        ((pair + 1) * tail_count rows.now.sets.now) words.new.items) }
 {
+    let sets = rows.sets;
     let elements = nonzero(sets);
     for t in 0..elements * elements {
-        words.push(tail(alloc, sets, multiples, j, a, b, t)?)?;
+        words.push(tail(alloc, rows, a, b, t)?)?;
     }
     Ok(())
 }
@@ -105,48 +105,43 @@ fn push_tails(
 // Pushes the tails of row a and each later row, the first of whose pairs has this index.
 fn push_row(
     alloc: Global,
-    sets: &Sets,
-    multiples: &[Word],
-    j: usize,
+    rows: &RowMultiples<'_>,
     a: usize,
     first: usize,
     words: &mut Vec<Word>,
 ) -> Result<(), NoMemory>
-    requires multiples { AreMultiples sets.now multiples.now }
-    requires set { j < set_count sets.now }
-    requires row { a < length sets.now.rows }
-    requires first { EndsAt (length sets.now.rows) 2 a first }
-    requires tails { AreTails sets.now j (first * tail_count sets.now) words.old.items }
-    ensures tails { IfOk result (λ _. AreTails sets.now j
-        ((first + (length sets.now.rows - a - 1)) * tail_count sets.now) words.new.items) }
+    requires multiples { AreMultiples rows.now.sets.now rows.now.words.now }
+    requires set { rows.now.set < set_count rows.now.sets.now }
+    requires row { a < length rows.now.sets.now.rows }
+    requires first { EndsAt (length rows.now.sets.now.rows) 2 a first }
+    requires tails { AreTails rows.now.sets.now rows.now.set (first * tail_count rows.now.sets.now) words.old.items }
+    ensures tails { IfOk result (λ _. AreTails rows.now.sets.now rows.now.set
+        ((first + (length rows.now.sets.now.rows - a - 1)) * tail_count rows.now.sets.now) words.new.items) }
 {
+    let sets = rows.sets;
     let _n = sets.length();
     let k = sets.dimension();
     for b in a + 1..k {
-        push_tails(alloc, sets, multiples, j, a, b, first + (b - a - 1), words)?;
+        push_tails(alloc, rows, a, b, first + (b - a - 1), words)?;
     }
     Ok(())
 }
 
-// The negatives of all tails of set j.
-fn all_tails(
-    alloc: Global,
-    sets: &Sets,
-    multiples: &[Word],
-    j: usize,
-) -> Result<Vec<Word>, NoMemory>
-    requires multiples { AreMultiples sets.now multiples.now }
-    requires set { j < set_count sets.now }
-    ensures are { IfOk result (λ ws. AreTails sets.now j (tails_in sets.now) ws.items) }
-    ensures few { IfOk result (λ ws. length ws.items ≤ length sets.now.rows * length sets.now.rows * tail_count
-        sets.now) }
+// The negatives of all tails of a set.
+fn all_tails(alloc: Global, rows: &RowMultiples<'_>) -> Result<Vec<Word>, NoMemory>
+    requires multiples { AreMultiples rows.now.sets.now rows.now.words.now }
+    requires set { rows.now.set < set_count rows.now.sets.now }
+    ensures are { IfOk result (λ ws. AreTails rows.now.sets.now rows.now.set (tails_in rows.now.sets.now) ws.items) }
+    ensures few { IfOk result (λ ws. length ws.items
+        ≤ length rows.now.sets.now.rows * length rows.now.sets.now.rows * tail_count rows.now.sets.now) }
 {
+    let sets = rows.sets;
     let _n = sets.length();
     let k = sets.dimension();
     let mut words = Vec::new(alloc);
     let mut pair = 0;
     for a in 0..k {
-        push_row(alloc, sets, multiples, j, a, pair, &mut words)?;
+        push_row(alloc, rows, a, pair, &mut words)?;
         pair += k - a - 1;
     }
     Ok(words)
@@ -200,28 +195,26 @@ fn planes_of(
 // Pushes the parts for these columns.
 fn push_parts(
     alloc: Global,
-    sets: &Sets,
-    multiples: &[Word],
-    j: usize,
+    rows: &RowMultiples<'_>,
     columns: &[usize],
     words: &[Word],
     planes: usize,
     parts: &mut Vec<GridPart>,
 ) -> Result<(), NoMemory>
-    requires multiples { AreMultiples sets.now multiples.now }
-    requires set { j < set_count sets.now }
-    requires columns { columns.now ≡ others sets.now j }
-    requires words { AreTails sets.now j (tails_in sets.now) words.now }
+    requires multiples { AreMultiples rows.now.sets.now rows.now.words.now }
+    requires set { rows.now.set < set_count rows.now.sets.now }
+    requires columns { columns.now ≡ others rows.now.sets.now rows.now.set }
+    requires words { AreTails rows.now.sets.now rows.now.set (tails_in rows.now.sets.now) words.now }
     requires planes { planes ≤ 4 }
     requires none { parts.old.items ≡ [] }
     ensures wide { IfOk result (λ _. length columns.now ≤ 64 * length parts.new.items) }
-    ensures are { IfOk result (λ _. AreGridParts sets.now j planes parts.new.items) }
+    ensures are { IfOk result (λ _. AreGridParts rows.now.sets.now rows.now.set planes parts.new.items) }
 {
     let mut start = 0;
     while start < columns.len() {
         let end = columns.len().min(start + 64);
         let cut = &columns[start..end];
-        parts.push(grid_part(alloc, sets, multiples, j, cut, words, planes)?)?;
+        parts.push(grid_part(alloc, rows, cut, words, planes)?)?;
         start = end;
     }
     Ok(())
@@ -230,22 +223,21 @@ fn push_parts(
 // The part for these columns.
 fn grid_part(
     alloc: Global,
-    sets: &Sets,
-    multiples: &[Word],
-    j: usize,
+    rows: &RowMultiples<'_>,
     columns: &[usize],
     words: &[Word],
     planes: usize,
 ) -> Result<GridPart, NoMemory>
-    requires multiples { AreMultiples sets.now multiples.now }
-    requires set { j < set_count sets.now }
+    requires multiples { AreMultiples rows.now.sets.now rows.now.words.now }
+    requires set { rows.now.set < set_count rows.now.sets.now }
     requires few { length columns.now ≤ 64 }
-    requires inside { (t : ℕ) → t < length columns.now → slice_index columns.now t < sets.now.columns }
-    requires words { AreTails sets.now j (tails_in sets.now) words.now }
+    requires inside { (t : ℕ) → t < length columns.now → slice_index columns.now t < rows.now.sets.now.columns }
+    requires words { AreTails rows.now.sets.now rows.now.set (tails_in rows.now.sets.now) words.now }
     requires planes { planes ≤ 4 }
-    ensures is { IfOk result (λ p. IsGridPart sets.now j columns.now planes p.rows.items p.bits.items) }
+    ensures is { IfOk result (λ p. IsGridPart rows.now.sets.now rows.now.set columns.now planes
+        p.rows.items p.bits.items) }
 {
-    let rows = row_planes(alloc, sets, multiples, j, columns, planes)?;
+    let rows = row_planes(alloc, rows, columns, planes)?;
     let bits = planes_of(alloc, words, columns, planes)?;
     Ok(GridPart { rows, bits })
 }
@@ -290,8 +282,7 @@ pub(crate) fn grid_of(
 ) -> Result<Option<Grid>, NoMemory>
     requires multiples { AreMultiples sets.now multiples.now }
     requires set { j < set_count sets.now }
-    ensures is { IfOk result (λ o. (g : _) → o ≡ Some g →
-        IsGrid sets.now j g.planes g.tails g.parts.items g.starts.items) }
+    ensures is { IfOk result (λ o. (g : _) → o ≡ Some g → IsGrid sets.now j g) }
     ensures some { IfOk result (λ o. (g : _) → o ≡ Some g → HasRoom sets.now) }
     ensures none { IfOk result (λ o. o ≡ None → LacksRoom sets.now) }
 {
@@ -300,10 +291,15 @@ pub(crate) fn grid_of(
         return Ok(None);
     }
     let starts = pair_starts(alloc, sets.dimension())?;
-    let words = all_tails(alloc, sets, multiples, j)?;
+    let rows = RowMultiples {
+        sets,
+        words: multiples,
+        set: j,
+    };
+    let words = all_tails(alloc, &rows)?;
     let tails = words.len();
     let planes = plane_count(sets);
-    let parts = parts_of(alloc, sets, multiples, j, &words, planes)?;
+    let parts = parts_of(alloc, &rows, &words, planes)?;
     Ok(Some(Grid {
         planes,
         tails,
@@ -312,26 +308,23 @@ pub(crate) fn grid_of(
     }))
 }
 
-// The parts of set j.
+// The parts of a set.
 fn parts_of(
     alloc: Global,
-    sets: &Sets,
-    multiples: &[Word],
-    j: usize,
+    rows: &RowMultiples<'_>,
     words: &[Word],
     planes: usize,
 ) -> Result<Vec<GridPart>, NoMemory>
-    requires multiples { AreMultiples sets.now multiples.now }
-    requires set { j < set_count sets.now }
-    requires words { AreTails sets.now j (tails_in sets.now) words.now }
+    requires multiples { AreMultiples rows.now.sets.now rows.now.words.now }
+    requires set { rows.now.set < set_count rows.now.sets.now }
+    requires words { AreTails rows.now.sets.now rows.now.set (tails_in rows.now.sets.now) words.now }
     requires planes { planes ≤ 4 }
-    ensures wide { IfOk result (λ ps. length (others sets.now j) ≤ 64 * length ps.items) }
-    ensures are { IfOk result (λ ps. AreGridParts sets.now j planes ps.items) }
+    ensures wide { IfOk result (λ ps. length (others rows.now.sets.now rows.now.set) ≤ 64 * length ps.items) }
+    ensures are { IfOk result (λ ps. AreGridParts rows.now.sets.now rows.now.set planes ps.items) }
 {
-    let columns = columns_outside(alloc, sets.length(), sets.basis(j))?;
+    let sets = rows.sets;
+    let columns = columns_outside(alloc, sets.length(), sets.basis(rows.set))?;
     let mut parts = Vec::new(alloc);
-    push_parts(
-        alloc, sets, multiples, j, &columns, words, planes, &mut parts,
-    )?;
+    push_parts(alloc, rows, &columns, words, planes, &mut parts)?;
     Ok(parts)
 }

@@ -5,6 +5,7 @@
 mod block;
 mod fronts;
 mod grid;
+mod least_word;
 mod multiples;
 mod part_counts;
 mod parts;
@@ -18,7 +19,7 @@ mod sweeps;
 mod table;
 mod tails;
 
-pub use block::least;
+pub use least_word::least;
 pub use place::word_at;
 pub use scratch::Scratch;
 pub use stack::Stack;

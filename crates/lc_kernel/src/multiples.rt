@@ -11,6 +11,14 @@ use lc_infoset::Sets;
 use lc_vec::Word;
 use std::alloc::Global;
 
+/// The nonzero multiples of the rows of one set, among those of all sets.
+#[derive(Clone, Copy)]
+pub(crate) struct RowMultiples<'a> {
+    pub(crate) sets: &'a Sets,
+    pub(crate) words: &'a [Word],
+    pub(crate) set: usize,
+}
+
 /// The multiples, set by set, row by row, by the nonzero elements in their order.
 #[tactic(auto, using(crate::proofs::MultipleLaws::multiples_made))]
 pub(crate) fn multiples_of(alloc: Global, sets: &Sets) -> Result<Vec<Word>, NoMemory>

@@ -1,26 +1,25 @@
 //! The least value of a block of words over 2 elements, by runs of messages that share all but their last
 //! entries: as many as the tails of the set's table have places, two or three.
 
-ghost use Rattle.std.specs.Prelude.{◌≡◌, ℕ, ◌+◌, ◌-◌, ◌*◌, ◌^◌, ◌<◌, ◌≤◌, Some, length, take, slice_get, slice_index, option_map};
+ghost use Rattle.std.specs.Prelude.{◌≡◌, ℕ, ◌+◌, ◌-◌, ◌*◌, ◌^◌, ◌<◌, ◌≤◌, Some, length, take, slice_get, slice_index};
 ghost use Rattle.std.specs.List.{Contains};
 ghost use Rattle.lc_algebra.specs.Field.{size};
 ghost use Rattle.lc_enumeration.specs.Message.{messages, supports_from};
-ghost use Rattle.lc_enumeration.specs.Plan.{total, IsInPhase};
-ghost use Rattle.lc_enumeration.specs.Search.{set_count, block_words, block_least, board_value};
+ghost use Rattle.lc_enumeration.specs.Search.{set_count};
 ghost use Rattle.lc_place.specs.Place.{spot_message};
-ghost use Rattle.lc_kernel.specs.Kernel.{IsPlanOf};
-ghost use Rattle.lc_kernel.specs.Values.{IsSpotAt};
+ghost use Rattle.lc_kernel.specs.Block.{HasPlan, IsInPlan, IsInSomePhase, words_in, IsSpotIn, IsLeastIn};
 ghost use Rattle.lc_kernel.specs.Packed.{others, bits_at, tail_of, pair_of, AreStarts};
 ghost use Rattle.lc_planes.specs.Planes.{part_at};
 ghost use Rattle.lc_kernel.specs.Tables.{IsTable};
 ghost use Rattle.lc_distances.specs.Least.{AreCounted};
 ghost use Rattle.lc_kernel.specs.Sums.{front_word};
 
+use crate::block::Block;
 use crate::table::Table;
 use lc_distances::{add_ones, first_least, put_ones};
 use lc_enumeration::PLACES;
 use lc_infoset::Sets;
-use lc_place::{Plan, Spot};
+use lc_place::Spot;
 
 /// The index of the pair of the last two places of a spot.
 pub(crate) fn pair_index(sets: &Sets, starts: &[usize], spot: &Spot) -> usize
@@ -85,9 +84,7 @@ fn head_bits(sets: &Sets, table: &Table, part: usize, spot: &Spot) -> u64
 // Counts for a run what a part of the columns has: puts what the first part has in place of the old counts,
 // and adds what another has. The run's words begin at an offset of a block and their tails at an index.
 fn count_part(
-    sets: &Sets,
-    plan: &Plan,
-    block: u64,
+    block: &Block<'_>,
     table: &Table,
     part: usize,
     spot: &Spot,
@@ -95,24 +92,25 @@ fn count_part(
     done: u64,
     counts: &mut [u32],
 )
-    requires phase { (p : ℕ) × IsInPhase (length sets.now.rows) (size sets.now.field) plan.now.m p block }
-    requires set { spot.now.set < set_count sets.now }
-    requires at { IsSpotAt sets.now plan.now.m block done spot.now }
+    requires phase { IsInSomePhase block.now }
+    requires set { spot.now.set < set_count block.now.sets.now }
+    requires at { IsSpotIn block.now done spot.now }
     requires level { table.now.tail ≤ length spot.now.support }
-    requires table { IsTable sets.now spot.now.set table.now }
+    requires table { IsTable block.now.sets.now spot.now.set table.now }
     requires part { part < length table.now.parts.items }
-    requires start { slice_get (supports_from 0 (length sets.now.rows) table.now.tail) start
+    requires start { slice_get (supports_from 0 (length block.now.sets.now.rows) table.now.tail) start
         ≡ Some (tail_of table.now.tail spot.now) }
-    requires tails { start + length counts.old ≤ length (supports_from 0 (length sets.now.rows) table.now.tail) }
-    requires words { done + length counts.old ≤ length (block_words sets.now plan.now.m block) }
-    requires counted { 0 < part → AreCounted (take (64 * part) (others sets.now spot.now.set))
-        (block_words sets.now plan.now.m block) done (length counts.old) counts.old }
-    ensures counted { AreCounted (take (64 * (part + 1)) (others sets.now spot.now.set))
-        (block_words sets.now plan.now.m block) done (length counts.old) counts.new }
+    requires tails { start + length counts.old
+        ≤ length (supports_from 0 (length block.now.sets.now.rows) table.now.tail) }
+    requires words { done + length counts.old ≤ length (words_in block.now) }
+    requires counted { 0 < part → AreCounted (take (64 * part) (others block.now.sets.now spot.now.set))
+        (words_in block.now) done (length counts.old) counts.old }
+    ensures counted { AreCounted (take (64 * (part + 1)) (others block.now.sets.now spot.now.set))
+        (words_in block.now) done (length counts.old) counts.new }
 {
-    let _n = sets.length();
-    let _k = sets.dimension();
-    let prefix = head_bits(sets, table, part, spot);
+    let _n = block.sets.length();
+    let _k = block.sets.dimension();
+    let prefix = head_bits(block.sets, table, part, spot);
     let sums = table.parts[part].sums.as_slice();
     let end = start + counts.len();
     if part == 0 {
@@ -124,97 +122,78 @@ fn count_part(
 
 // Counts the nonzero symbols, outside the basis, of the words of a run.
 fn count_run(
-    sets: &Sets,
-    plan: &Plan,
-    block: u64,
+    block: &Block<'_>,
     table: &Table,
     spot: &Spot,
     start: usize,
     done: u64,
     counts: &mut [u32],
 )
-    requires phase { (p : ℕ) × IsInPhase (length sets.now.rows) (size sets.now.field) plan.now.m p block }
-    requires set { spot.now.set < set_count sets.now }
-    requires at { IsSpotAt sets.now plan.now.m block done spot.now }
+    requires phase { IsInSomePhase block.now }
+    requires set { spot.now.set < set_count block.now.sets.now }
+    requires at { IsSpotIn block.now done spot.now }
     requires level { table.now.tail ≤ length spot.now.support }
-    requires table { IsTable sets.now spot.now.set table.now }
-    requires start { slice_get (supports_from 0 (length sets.now.rows) table.now.tail) start
+    requires table { IsTable block.now.sets.now spot.now.set table.now }
+    requires start { slice_get (supports_from 0 (length block.now.sets.now.rows) table.now.tail) start
         ≡ Some (tail_of table.now.tail spot.now) }
-    requires tails { start + length counts.old ≤ length (supports_from 0 (length sets.now.rows) table.now.tail) }
-    requires words { done + length counts.old ≤ length (block_words sets.now plan.now.m block) }
-    ensures counted { AreCounted (others sets.now spot.now.set) (block_words sets.now plan.now.m block) done
+    requires tails { start + length counts.old
+        ≤ length (supports_from 0 (length block.now.sets.now.rows) table.now.tail) }
+    requires words { done + length counts.old ≤ length (words_in block.now) }
+    ensures counted { AreCounted (others block.now.sets.now spot.now.set) (words_in block.now) done
         (length counts.old) counts.new }
 {
     for part in 0..table.parts.len() {
-        count_part(sets, plan, block, table, part, spot, start, done, counts);
+        count_part(block, table, part, spot, start, done, counts);
     }
 }
 
 // Goes from a message at an offset of a block, whose run ends before another offset, to that offset.
-fn next_head(
-    sets: &Sets,
-    plan: &Plan,
-    block: u64,
-    table: &Table,
-    spot: &mut Spot,
-    from: u64,
-    done: u64,
-)
-    requires plan { IsPlanOf plan.now sets.now }
-    requires at { IsSpotAt sets.now plan.now.m block from spot.old }
+fn next_head(block: &Block<'_>, table: &Table, spot: &mut Spot, from: u64, done: u64)
+    requires plan { HasPlan block.now }
+    requires at { IsSpotIn block.now from spot.old }
     requires level { table.now.tail ≤ length spot.old.support }
-    requires table { IsTable sets.now spot.old.set table.now }
+    requires table { IsTable block.now.sets.now spot.old.set table.now }
     requires later { from < done }
-    requires end { (r : ℕ) × (slice_get (supports_from 0 (length sets.now.rows) table.now.tail) r
+    requires end { (r : ℕ) × (slice_get (supports_from 0 (length block.now.sets.now.rows) table.now.tail) r
         ≡ Some (tail_of table.now.tail spot.old))
-        × (r + (done - from) ≡ length (supports_from 0 (length sets.now.rows) table.now.tail)) }
-    requires inside { done < length (block_words sets.now plan.now.m block) }
-    ensures at { IsSpotAt sets.now plan.now.m block done spot.new }
+        × (r + (done - from) ≡ length (supports_from 0 (length block.now.sets.now.rows) table.now.tail)) }
+    requires inside { done < length (words_in block.now) }
+    ensures at { IsSpotIn block.now done spot.new }
     ensures level { length spot.new.support ≡ length spot.old.support }
     ensures set { spot.new.set ≡ spot.old.set }
     ensures room { spot.new.room ≡ spot.old.room }
 {
-    let k = sets.dimension();
+    let k = block.sets.dimension();
     spot.to_last_places(table.tail, k);
-    let _first = plan.step(spot);
+    let _first = block.plan.step(spot);
 }
 
 // Counts the words of a block up to the end of a run that begins at an offset. Returns how many words the
 // run has.
-fn one_run(
-    sets: &Sets,
-    plan: &Plan,
-    block: u64,
-    table: &Table,
-    spot: &Spot,
-    done: usize,
-    counts: &mut [u32],
-) -> usize
-    requires phase { (p : ℕ) × IsInPhase (length sets.now.rows) (size sets.now.field) plan.now.m p block }
-    requires set { spot.now.set < set_count sets.now }
-    requires at { IsSpotAt sets.now plan.now.m block done spot.now }
+fn one_run(block: &Block<'_>, table: &Table, spot: &Spot, done: usize, counts: &mut [u32]) -> usize
+    requires phase { IsInSomePhase block.now }
+    requires set { spot.now.set < set_count block.now.sets.now }
+    requires at { IsSpotIn block.now done spot.now }
     requires level { table.now.tail ≤ length spot.now.support }
-    requires table { IsTable sets.now spot.now.set table.now }
+    requires table { IsTable block.now.sets.now spot.now.set table.now }
     requires some { done < length counts.old }
-    requires words { length counts.old ≡ length (block_words sets.now plan.now.m block) }
-    requires counted { AreCounted (others sets.now spot.now.set)
-        (block_words sets.now plan.now.m block) 0 done counts.old }
-    ensures counted { AreCounted (others sets.now spot.now.set) (block_words sets.now plan.now.m block) 0
+    requires words { length counts.old ≡ length (words_in block.now) }
+    requires counted { AreCounted (others block.now.sets.now spot.now.set)
+        (words_in block.now) 0 done counts.old }
+    ensures counted { AreCounted (others block.now.sets.now spot.now.set) (words_in block.now) 0
         (done + result) counts.new }
     ensures some { 0 < result }
     ensures within { done + result ≤ length counts.old }
     ensures end { done + result < length counts.old →
-        (r : ℕ) × (slice_get (supports_from 0 (length sets.now.rows) table.now.tail) r
+        (r : ℕ) × (slice_get (supports_from 0 (length block.now.sets.now.rows) table.now.tail) r
         ≡ Some (tail_of table.now.tail spot.now))
-        × (r + result ≡ length (supports_from 0 (length sets.now.rows) table.now.tail)) }
+        × (r + result ≡ length (supports_from 0 (length block.now.sets.now.rows) table.now.tail)) }
 {
-    let start = tail_index(sets, table, spot);
+    let start = tail_index(block.sets, table, spot);
     let tails = table.parts[0].sums.len();
     let count = (tails - start).min(counts.len() - done);
     let end = done + count;
     count_run(
-        sets,
-        plan,
         block,
         table,
         spot,
@@ -227,73 +206,51 @@ fn one_run(
 
 // Counts the nonzero symbols, outside the basis, of the words of a block of a level that has tails, from its first
 // message on.
-fn count_block(
-    sets: &Sets,
-    plan: &Plan,
-    block: u64,
-    table: &Table,
-    spot: &mut Spot,
-    counts: &mut [u32],
-)
-    requires plan { IsPlanOf plan.now sets.now }
-    requires phase { (p : ℕ) × IsInPhase (length sets.now.rows) (size sets.now.field) plan.now.m p block }
-    requires set { spot.old.set < set_count sets.now }
-    requires at { IsSpotAt sets.now plan.now.m block 0 spot.old }
+fn count_block(block: &Block<'_>, table: &Table, spot: &mut Spot, counts: &mut [u32])
+    requires plan { HasPlan block.now }
+    requires phase { IsInSomePhase block.now }
+    requires set { spot.old.set < set_count block.now.sets.now }
+    requires at { IsSpotIn block.now 0 spot.old }
     requires level { table.now.tail ≤ length spot.old.support }
-    requires table { IsTable sets.now spot.old.set table.now }
+    requires table { IsTable block.now.sets.now spot.old.set table.now }
     requires some { 0 < length counts.old }
-    requires words { length counts.old ≡ length (block_words sets.now plan.now.m block) }
-    ensures counted { AreCounted (others sets.now spot.old.set) (block_words sets.now plan.now.m block) 0
+    requires words { length counts.old ≡ length (words_in block.now) }
+    ensures counted { AreCounted (others block.now.sets.now spot.old.set) (words_in block.now) 0
         (length counts.old) counts.new }
     ensures room { spot.new.room ≡ spot.old.room }
 {
     let mut done = 0;
     loop {
-        let count = one_run(sets, plan, block, table, spot, done, counts);
+        let count = one_run(block, table, spot, done, counts);
         if done + count >= counts.len() {
             return;
         }
-        next_head(
-            sets,
-            plan,
-            block,
-            table,
-            spot,
-            done as u64,
-            (done + count) as u64,
-        );
+        next_head(block, table, spot, done as u64, (done + count) as u64);
         done += count;
     }
 }
 
 /// The least value of a block over 2 elements, from its first message on. Its messages have at least as many
 /// entries as the tails of the table have places.
-pub(crate) fn by_runs(
-    sets: &Sets,
-    plan: &Plan,
-    block: u64,
-    table: &Table,
-    spot: &mut Spot,
-    counts: &mut [u32],
-) -> u64
-    requires plan { IsPlanOf plan.now sets.now }
-    requires block { block < total plan.now.k plan.now.q plan.now.m }
-    requires set { spot.old.set < set_count sets.now }
-    requires at { IsSpotAt sets.now plan.now.m block 0 spot.old }
+pub(crate) fn by_runs(block: &Block<'_>, table: &Table, spot: &mut Spot, counts: &mut [u32]) -> u64
+    requires plan { HasPlan block.now }
+    requires block { IsInPlan block.now }
+    requires set { spot.old.set < set_count block.now.sets.now }
+    requires at { IsSpotIn block.now 0 spot.old }
     requires level { table.now.tail ≤ length spot.old.support }
-    requires table { IsTable sets.now spot.old.set table.now }
+    requires table { IsTable block.now.sets.now spot.old.set table.now }
     requires room { length counts.old ≡ 4096 }
-    ensures is { option_map board_value (block_least sets.now plan.now.m block) ≡ Some result }
+    ensures is { IsLeastIn block.now result }
     ensures room { spot.new.room ≡ spot.old.room }
     ensures long { length counts.new ≡ length counts.old }
 {
-    let _few = plan.total();
-    let _phase = plan.phase_of(block);
-    let _k = sets.dimension();
-    let _n = sets.length();
+    let _few = block.plan.total();
+    let _phase = block.plan.phase_of(block.number);
+    let _k = block.sets.dimension();
+    let _n = block.sets.length();
     let level = spot.support().len() as u64;
-    let len = plan.block_len(block) as usize;
-    count_block(sets, plan, block, table, spot, &mut counts[..len]);
+    let len = block.plan.block_len(block.number) as usize;
+    count_block(block, table, spot, &mut counts[..len]);
     let (least, at) = first_least(&counts[..len]);
-    (level + least as u64) * PLACES + (block * 4096 + at as u64)
+    (level + least as u64) * PLACES + (block.number * 4096 + at as u64)
 }

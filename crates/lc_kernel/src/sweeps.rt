@@ -8,20 +8,30 @@ ghost use Rattle.lc_algebra.specs.Field.{size};
 ghost use Rattle.lc_algebra.specs.Word.{weight};
 ghost use Rattle.lc_algebra.specs.SpanLaws.{restrict};
 ghost use Rattle.lc_enumeration.specs.Message.{messages, supports_from, leading_lists};
-ghost use Rattle.lc_enumeration.specs.Plan.{IsInPhase};
-ghost use Rattle.lc_enumeration.specs.Search.{set_count, block_words};
+ghost use Rattle.lc_enumeration.specs.Search.{set_count};
 ghost use Rattle.lc_place.specs.Place.{spot_message};
-ghost use Rattle.lc_kernel.specs.Values.{IsSpotAt};
+ghost use Rattle.lc_kernel.specs.Block.{IsInSomePhase, IsSpotIn, words_in};
 ghost use Rattle.lc_kernel.specs.Packed.{others};
 ghost use Rattle.lc_kernel.specs.Grids.{IsGrid};
 ghost use Rattle.lc_distances.specs.Least.{IsFirstBelow};
-ghost use Rattle.lc_kernel.specs.Sweeps.{list_count, IsListedAt, AreHeads, AreHalvesOf, TooManyHeads};
+ghost use Rattle.lc_kernel.specs.Sweeps.{list_count, IsListed, AreHeadsOf, AreHalvesOf, TooManyHeads};
 
+use crate::block::Block;
 use crate::grid::Grid;
 use crate::multiples::nonzero;
 use lc_distances::{Halves, joined, nearest, sum_planes};
 use lc_infoset::Sets;
-use lc_place::{Plan, Spot};
+use lc_place::Spot;
+
+/// A way through the words of a block, support by support, at one part of the columns outside the basis: the block, the
+/// table of its set, the index of the part, and that of the set.
+#[derive(Clone, Copy)]
+pub(crate) struct Sweep<'a> {
+    pub(crate) block: Block<'a>,
+    pub(crate) grid: &'a Grid,
+    pub(crate) part: usize,
+    pub(crate) set: usize,
+}
 
 /// The most heads that a support has.
 pub(crate) const MOST_HEADS: usize = 1024;
@@ -87,31 +97,24 @@ fn place_before(row: usize, column: usize, columns: usize) -> (usize, usize)
 }
 
 // Makes the heads of one place more, from those of the first i.
-fn grow(
-    sets: &Sets,
-    grid: &Grid,
-    part: usize,
-    set: usize,
-    support: &[usize],
-    i: usize,
-    many: usize,
-    heads: &mut [[u64; 4]],
-)
-    requires set { set < set_count sets.now }
-    requires rises { Contains (supports_from 0 (length sets.now.rows) (length support.now)) support.now }
-    requires grid { IsGrid sets.now set grid.now.planes grid.now.tails grid.now.parts.items grid.now.starts.items }
-    requires part { part < length grid.now.parts.items }
+fn grow(sweep: &Sweep<'_>, support: &[usize], i: usize, many: usize, heads: &mut [[u64; 4]])
+    requires set { sweep.now.set < set_count sweep.now.block.sets.now }
+    requires rises { Contains (supports_from 0 (length sweep.now.block.sets.now.rows) (length support.now))
+        support.now }
+    requires grid { IsGrid sweep.now.block.sets.now sweep.now.set sweep.now.grid.now }
+    requires part { sweep.now.part < length sweep.now.grid.now.parts.items }
     requires some { 1 ≤ i }
     requires entry { i < length support.now }
-    requires many { many ≡ list_count sets.now (i + 1) }
+    requires many { many ≡ list_count sweep.now.block.sets.now (i + 1) }
     requires room { many ≤ length heads.old }
-    requires heads { AreHeads sets.now set support.now part grid.now.planes i heads.old }
-    ensures heads { AreHeads sets.now set support.now part grid.now.planes (i + 1) heads.new }
+    requires heads { AreHeadsOf sweep.now support.now i heads.old }
+    ensures heads { AreHeadsOf sweep.now support.now (i + 1) heads.new }
 {
+    let sets = sweep.block.sets;
     let _k = sets.dimension();
     let _n = sets.length();
     let elements = nonzero(sets);
-    let table = &grid.parts[part];
+    let table = &sweep.grid.parts[sweep.part];
     let row = support[i] * elements;
     let mut e = many;
     let mut head = many / elements;
@@ -127,66 +130,58 @@ fn grow(
 }
 
 /// Makes the heads of a support at a part of the columns.
-pub(crate) fn make_heads(
-    sets: &Sets,
-    grid: &Grid,
-    part: usize,
-    set: usize,
-    support: &[usize],
-    heads: &mut [[u64; 4]],
-)
-    requires set { set < set_count sets.now }
-    requires rises { Contains (supports_from 0 (length sets.now.rows) (length support.now)) support.now }
-    requires grid { IsGrid sets.now set grid.now.planes grid.now.tails grid.now.parts.items grid.now.starts.items }
-    requires part { part < length grid.now.parts.items }
+pub(crate) fn make_heads(sweep: &Sweep<'_>, support: &[usize], heads: &mut [[u64; 4]])
+    requires set { sweep.now.set < set_count sweep.now.block.sets.now }
+    requires rises { Contains (supports_from 0 (length sweep.now.block.sets.now.rows) (length support.now))
+        support.now }
+    requires grid { IsGrid sweep.now.block.sets.now sweep.now.set sweep.now.grid.now }
+    requires part { sweep.now.part < length sweep.now.grid.now.parts.items }
     requires level { 3 ≤ length support.now }
-    requires room { list_count sets.now (length support.now - 2) ≤ length heads.old }
-    requires few { list_count sets.now (length support.now - 2) ≤ 1024 }
-    ensures heads { AreHeads sets.now set support.now part grid.now.planes (length support.now - 2) heads.new }
+    requires room { list_count sweep.now.block.sets.now (length support.now - 2) ≤ length heads.old }
+    requires few { list_count sweep.now.block.sets.now (length support.now - 2) ≤ 1024 }
+    ensures heads { AreHeadsOf sweep.now support.now (length support.now - 2) heads.new }
 {
-    let _k = sets.dimension();
-    let _n = sets.length();
-    let elements = nonzero(sets);
-    let table = &grid.parts[part];
+    let _k = sweep.block.sets.dimension();
+    let _n = sweep.block.sets.length();
+    let elements = nonzero(sweep.block.sets);
+    let table = &sweep.grid.parts[sweep.part];
     heads[0] = table.rows[support[0] * elements];
     let mut many = 1;
     for i in 1..support.len() - 2 {
         many *= elements;
-        grow(sets, grid, part, set, support, i, many, heads);
+        grow(sweep, support, i, many, heads);
     }
 }
 
 /// The words with a support, as its heads and the tails of its last two places, at a part of the columns.
 pub(crate) fn halves_of<'a>(
-    sets: &Sets,
-    grid: &'a Grid,
-    part: usize,
-    set: usize,
+    sweep: &Sweep<'a>,
     support: &[usize],
     heads: &'a [[u64; 4]],
 ) -> Halves<'a>
-    requires set { set < set_count sets.now }
-    requires rises { Contains (supports_from 0 (length sets.now.rows) (length support.now)) support.now }
+    requires set { sweep.now.set < set_count sweep.now.block.sets.now }
+    requires rises { Contains (supports_from 0 (length sweep.now.block.sets.now.rows) (length support.now))
+        support.now }
     requires level { 3 ≤ length support.now }
-    requires grid { IsGrid sets.now set grid.now.planes grid.now.tails grid.now.parts.items grid.now.starts.items }
-    requires part { part < length grid.now.parts.items }
-    requires many { length heads.now ≡ list_count sets.now (length support.now - 2) }
+    requires grid { IsGrid sweep.now.block.sets.now sweep.now.set sweep.now.grid.now }
+    requires part { sweep.now.part < length sweep.now.grid.now.parts.items }
+    requires many { length heads.now ≡ list_count sweep.now.block.sets.now (length support.now - 2) }
     requires few { length heads.now ≤ 1024 }
-    requires heads { AreHeads sets.now set support.now part grid.now.planes (length support.now - 2) heads.now }
-    ensures are { AreHalvesOf sets.now set support.now part result }
+    requires heads { AreHeadsOf sweep.now support.now (length support.now - 2) heads.now }
+    ensures are { AreHalvesOf sweep.now.block.sets.now sweep.now.set support.now sweep.now.part result }
 {
-    let _k = sets.dimension();
-    let _n = sets.length();
-    let elements = nonzero(sets);
+    let _k = sweep.block.sets.dimension();
+    let _n = sweep.block.sets.length();
+    let elements = nonzero(sweep.block.sets);
     let tails = elements * elements;
     let first = support[support.len() - 2];
     let last = support[support.len() - 1];
-    let pair = grid.starts[first] + (last - first - 1);
-    let table = &grid.parts[part];
+    let pair = sweep.grid.starts[first] + (last - first - 1);
+    let table = &sweep.grid.parts[sweep.part];
     Halves {
-        planes: grid.planes,
+        planes: sweep.grid.planes,
         bits: table.bits.as_slice(),
-        words: grid.tails,
+        words: sweep.grid.tails,
         start: pair * tails,
         tails,
         heads,
@@ -196,11 +191,7 @@ pub(crate) fn halves_of<'a>(
 // The least number of nonzero symbols, outside the basis, of words of a block with one support, one for each count,
 // from one of its lists on, and the first of them that has it: if it is below the bound.
 fn least_support(
-    sets: &Sets,
-    plan: &Plan,
-    block: u64,
-    grid: &Grid,
-    set: usize,
+    sweep: &Sweep<'_>,
     support: &[usize],
     heads: &[[u64; 4]],
     list: usize,
@@ -208,23 +199,24 @@ fn least_support(
     bound: u32,
     counts: &mut [u32],
 ) -> (u32, usize)
-    requires phase { (p : ℕ) × IsInPhase (length sets.now.rows) (size sets.now.field) plan.now.m p block }
-    requires set { set < set_count sets.now }
-    requires at { IsListedAt sets.now plan.now.m block done set support.now list }
-    requires grid { IsGrid sets.now set grid.now.planes grid.now.tails grid.now.parts.items grid.now.starts.items }
-    requires alone { length grid.now.parts.items ≡ 1 }
-    requires many { length heads.now ≡ list_count sets.now (length support.now - 2) }
+    requires phase { IsInSomePhase sweep.now.block }
+    requires set { sweep.now.set < set_count sweep.now.block.sets.now }
+    requires at { IsListed sweep.now done support.now list }
+    requires grid { IsGrid sweep.now.block.sets.now sweep.now.set sweep.now.grid.now }
+    requires alone { length sweep.now.grid.now.parts.items ≡ 1 }
+    requires part { sweep.now.part < length sweep.now.grid.now.parts.items }
+    requires many { length heads.now ≡ list_count sweep.now.block.sets.now (length support.now - 2) }
     requires few { length heads.now ≤ 1024 }
-    requires heads { AreHeads sets.now set support.now 0 grid.now.planes (length support.now - 2) heads.now }
-    requires lists { list + length counts.old ≤ list_count sets.now (length support.now) }
-    requires words { done + length counts.old ≤ length (block_words sets.now plan.now.m block) }
+    requires heads { AreHeadsOf sweep.now support.now (length support.now - 2) heads.now }
+    requires lists { list + length counts.old ≤ list_count sweep.now.block.sets.now (length support.now) }
+    requires words { done + length counts.old ≤ length (words_in sweep.now.block) }
     ensures is { IsFirstBelow (length counts.old)
-        (λ i. weight (restrict (others sets.now set)
-        (slice_index_or (block_words sets.now plan.now.m block) (done + i) []))) bound result.0 result.1 }
+        (λ i. weight (restrict (others sweep.now.block.sets.now sweep.now.set)
+        (slice_index_or (words_in sweep.now.block) (done + i) []))) bound result.0 result.1 }
 {
-    let _k = sets.dimension();
-    let _n = sets.length();
-    let halves = halves_of(sets, grid, 0, set, support, heads);
+    let _k = sweep.block.sets.dimension();
+    let _n = sweep.block.sets.length();
+    let halves = halves_of(sweep, support, heads);
     nearest(&halves, list, bound, counts)
 }
 
@@ -270,39 +262,34 @@ fn move_on(support: &mut [usize], place: usize)
 /// Goes from a list of a support, with so many lists left, to the first one of the next support, and makes its
 /// heads.
 pub(crate) fn turn(
-    sets: &Sets,
-    plan: &Plan,
-    block: u64,
-    grid: &Grid,
-    part: usize,
-    set: usize,
+    sweep: &Sweep<'_>,
     support: &mut [usize],
     heads: &mut [[u64; 4]],
     list: usize,
     done: usize,
     count: usize,
 )
-    requires phase { (p : ℕ) × IsInPhase (length sets.now.rows) (size sets.now.field) plan.now.m p block }
-    requires set { set < set_count sets.now }
-    requires at { IsListedAt sets.now plan.now.m block done set support.old list }
-    requires grid { IsGrid sets.now set grid.now.planes grid.now.tails grid.now.parts.items grid.now.starts.items }
-    requires part { part < length grid.now.parts.items }
+    requires phase { IsInSomePhase sweep.now.block }
+    requires set { sweep.now.set < set_count sweep.now.block.sets.now }
+    requires at { IsListed sweep.now done support.old list }
+    requires grid { IsGrid sweep.now.block.sets.now sweep.now.set sweep.now.grid.now }
+    requires part { sweep.now.part < length sweep.now.grid.now.parts.items }
     requires some { 0 < count }
-    requires end { list + count ≡ list_count sets.now (length support.old) }
-    requires inside { done + count < length (block_words sets.now plan.now.m block) }
-    requires few { list_count sets.now (length support.old - 2) ≤ 1024 }
-    requires room { list_count sets.now (length support.old - 2) ≤ length heads.old }
-    requires heads { AreHeads sets.now set support.old part grid.now.planes (length support.old - 2) heads.old }
-    ensures at { IsListedAt sets.now plan.now.m block (done + count) set support.new 0 }
-    ensures heads { AreHeads sets.now set support.new part grid.now.planes (length support.old - 2) heads.new }
+    requires end { list + count ≡ list_count sweep.now.block.sets.now (length support.old) }
+    requires inside { done + count < length (words_in sweep.now.block) }
+    requires few { list_count sweep.now.block.sets.now (length support.old - 2) ≤ 1024 }
+    requires room { list_count sweep.now.block.sets.now (length support.old - 2) ≤ length heads.old }
+    requires heads { AreHeadsOf sweep.now support.old (length support.old - 2) heads.old }
+    ensures at { IsListed sweep.now (done + count) support.new 0 }
+    ensures heads { AreHeadsOf sweep.now support.new (length support.old - 2) heads.new }
 {
-    let k = sets.dimension();
-    let _n = sets.length();
+    let k = sweep.block.sets.dimension();
+    let _n = sweep.block.sets.length();
     let Some(place) = next_support(support, k) else {
         return;
     };
     if place + 2 < support.len() {
-        make_heads(sets, grid, part, set, support, heads);
+        make_heads(sweep, support, heads);
     }
 }
 
@@ -321,37 +308,40 @@ pub(crate) fn words_left(lists: usize, list: usize, left: usize) -> usize
 /// The least number of nonzero symbols, outside the basis, of the words of a block of a level of at least 3, from its
 /// first message on, and the first word that has it, by the heads of its supports. There is a count for each word.
 pub(crate) fn least_sweeps(
-    sets: &Sets,
-    plan: &Plan,
-    block: u64,
+    block: &Block<'_>,
     grid: &Grid,
     spot: &Spot,
     support: &mut [usize],
     heads: &mut [[u64; 4]],
     counts: &mut [u32],
 ) -> (u32, usize)
-    requires phase { (p : ℕ) × IsInPhase (length sets.now.rows) (size sets.now.field) plan.now.m p block }
-    requires set { spot.now.set < set_count sets.now }
-    requires at { IsSpotAt sets.now plan.now.m block 0 spot.now }
+    requires phase { IsInSomePhase block.now }
+    requires set { spot.now.set < set_count block.now.sets.now }
+    requires at { IsSpotIn block.now 0 spot.now }
     requires level { 3 ≤ length spot.now.support }
-    requires grid { IsGrid sets.now spot.now.set grid.now.planes grid.now.tails grid.now.parts.items
-        grid.now.starts.items }
+    requires grid { IsGrid block.now.sets.now spot.now.set grid.now }
     requires alone { length grid.now.parts.items ≡ 1 }
     requires places { length support.old ≡ length spot.now.support }
-    requires many { length heads.old ≡ list_count sets.now (length spot.now.support - 2) }
+    requires many { length heads.old ≡ list_count block.now.sets.now (length spot.now.support - 2) }
     requires few { length heads.old ≤ 1024 }
     requires some { 0 < length counts.old }
     requires counts { length counts.old ≤ 4096 }
-    requires words { length counts.old ≡ length (block_words sets.now plan.now.m block) }
+    requires words { length counts.old ≡ length (words_in block.now) }
     ensures is { IsFirstBelow (length counts.old)
-        (λ i. weight (restrict (others sets.now spot.now.set)
-        (slice_index_or (block_words sets.now plan.now.m block) i []))) 256 result.0 result.1 }
+        (λ i. weight (restrict (others block.now.sets.now spot.now.set)
+        (slice_index_or (words_in block.now) i []))) 256 result.0 result.1 }
 {
-    let elements = nonzero(sets);
+    let elements = nonzero(block.sets);
     let set = spot.set();
-    let mut list = list_of(sets, spot);
+    let sweep = Sweep {
+        block: *block,
+        grid,
+        part: 0,
+        set,
+    };
+    let mut list = list_of(block.sets, spot);
     support.copy_from_slice(spot.support());
-    make_heads(sets, grid, 0, set, support, heads);
+    make_heads(&sweep, support, heads);
     let lists = heads.len() * (elements * elements);
     let mut least = 256;
     let mut at = 0;
@@ -359,16 +349,12 @@ pub(crate) fn least_sweeps(
     loop {
         let count = words_left(lists, list, counts.len() - done);
         let part = &mut counts[..count];
-        let (other, place) = least_support(
-            sets, plan, block, grid, set, support, heads, list, done, least, part,
-        );
+        let (other, place) = least_support(&sweep, support, heads, list, done, least, part);
         let (best, index) = joined(least, at, other, place, done);
         if done + count >= counts.len() {
             return (best, index);
         }
-        turn(
-            sets, plan, block, grid, 0, set, support, heads, list, done, count,
-        );
+        turn(&sweep, support, heads, list, done, count);
         least = best;
         at = index;
         done += count;

@@ -1,27 +1,26 @@
 //! The least value of a block of words over more than 2 elements, and its runs: the messages that share all but their
 //! last two coefficients.
 
-ghost use Rattle.std.specs.Prelude.{◌≡◌, ℕ, ◌+◌, ◌-◌, ◌*◌, ◌<◌, ◌≤◌, Some, length, option_map};
+ghost use Rattle.std.specs.Prelude.{◌≡◌, ℕ, ◌+◌, ◌-◌, ◌*◌, ◌<◌, ◌≤◌, length};
 ghost use Rattle.std.specs.List.{Contains};
 ghost use Rattle.lc_algebra.specs.Field.{size};
 ghost use Rattle.lc_enumeration.specs.Message.{messages};
-ghost use Rattle.lc_enumeration.specs.Plan.{total};
-ghost use Rattle.lc_enumeration.specs.Search.{set_count, block_words, block_least, board_value};
+ghost use Rattle.lc_enumeration.specs.Search.{set_count};
 ghost use Rattle.lc_place.specs.Place.{spot_message};
-ghost use Rattle.lc_kernel.specs.Kernel.{IsPlanOf};
-ghost use Rattle.lc_kernel.specs.Values.{IsSpotAt};
+ghost use Rattle.lc_kernel.specs.Block.{HasPlan, IsInPlan, words_in, IsSpotIn, IsLeastIn};
 ghost use Rattle.lc_kernel.specs.Grid.{tail_count, tail_index};
 ghost use Rattle.lc_kernel.specs.Grids.{IsGrid};
 ghost use Rattle.lc_kernel.specs.Room.{IsWorkRoom, IsGridRoom, HasSizesOf};
 ghost use Rattle.lc_kernel.specs.Sums.{front_word};
 
+use crate::block::Block;
 use crate::fronts::least_words;
 use crate::grid::Grid;
 use crate::multiples::nonzero;
 use crate::room::Room;
 use lc_enumeration::PLACES;
 use lc_infoset::Sets;
-use lc_place::{Plan, Spot};
+use lc_place::Spot;
 
 /// The index of the pair of the last two coefficients of a spot.
 pub(crate) fn tail_of(sets: &Sets, spot: &Spot) -> usize
@@ -41,57 +40,48 @@ pub(crate) fn tail_of(sets: &Sets, spot: &Spot) -> usize
 
 /// Goes from a message at an offset of a block, with so many left in its run, to the first one after the run.
 /// Returns how many of the first entries stayed.
-pub(crate) fn pass(
-    sets: &Sets,
-    plan: &Plan,
-    block: u64,
-    spot: &mut Spot,
-    done: u64,
-    count: u64,
-) -> usize
-    requires plan { IsPlanOf plan.now sets.now }
-    requires at { IsSpotAt sets.now plan.now.m block done spot.old }
+pub(crate) fn pass(block: &Block<'_>, spot: &mut Spot, done: u64, count: u64) -> usize
+    requires plan { HasPlan block.now }
+    requires at { IsSpotIn block.now done spot.old }
     requires level { 3 ≤ length spot.old.support }
     requires some { 0 < count }
-    requires end { tail_index sets.now spot.old + count ≡ tail_count sets.now }
-    requires inside { done + count < length (block_words sets.now plan.now.m block) }
-    ensures at { IsSpotAt sets.now plan.now.m block (done + count) spot.new }
+    requires end { tail_index block.now.sets.now spot.old + count ≡ tail_count block.now.sets.now }
+    requires inside { done + count < length (words_in block.now) }
+    ensures at { IsSpotIn block.now (done + count) spot.new }
     ensures level { length spot.new.support ≡ length spot.old.support }
     ensures set { spot.new.set ≡ spot.old.set }
     ensures room { spot.new.room ≡ spot.old.room }
     ensures few { result ≤ length spot.old.support - 2 }
-    ensures same { (i : ℕ) → i ≤ result → front_word sets.now spot.new i ≡ front_word sets.now spot.old i }
+    ensures same { (i : ℕ) → i ≤ result →
+        front_word block.now.sets.now spot.new i ≡ front_word block.now.sets.now spot.old i }
 {
     let most = spot.support().len() - 2;
-    spot.to_last_tail(nonzero(sets) as u8);
-    match plan.step(spot) {
+    spot.to_last_tail(nonzero(block.sets) as u8);
+    match block.plan.step(spot) {
         Some(first) => most.min(first),
         None => most,
     }
 }
 
 /// The least value of a block of a level of at least 3, over more than 2 elements, from its first message on.
-pub(crate) fn by_tails(sets: &Sets, plan: &Plan, block: u64, grid: &Grid, room: &mut Room) -> u64
-    requires plan { IsPlanOf plan.now sets.now }
-    requires block { block < total plan.now.k plan.now.q plan.now.m }
-    requires set { room.old.spot.set < set_count sets.now }
-    requires at { IsSpotAt sets.now plan.now.m block 0 room.old.spot }
+pub(crate) fn by_tails(block: &Block<'_>, grid: &Grid, room: &mut Room) -> u64
+    requires plan { HasPlan block.now }
+    requires block { IsInPlan block.now }
+    requires set { room.old.spot.set < set_count block.now.sets.now }
+    requires at { IsSpotIn block.now 0 room.old.spot }
     requires level { 3 ≤ length room.old.spot.support }
-    requires grid { IsGrid sets.now room.old.spot.set grid.now.planes grid.now.tails grid.now.parts.items
-        grid.now.starts.items }
-    requires room { IsWorkRoom (length sets.now.rows) room.old }
-    requires grid_room { IsGridRoom (length sets.now.rows) room.old }
-    ensures is { option_map board_value (block_least sets.now plan.now.m block) ≡ Some result }
+    requires grid { IsGrid block.now.sets.now room.old.spot.set grid.now }
+    requires room { IsWorkRoom (length block.now.sets.now.rows) room.old }
+    requires grid_room { IsGridRoom (length block.now.sets.now.rows) room.old }
+    ensures is { IsLeastIn block.now result }
     ensures room { HasSizesOf room.old room.new }
 {
-    let _few = plan.total();
-    let _phase = plan.phase_of(block);
-    let _k = sets.dimension();
-    let _n = sets.length();
+    let _few = block.plan.total();
+    let _phase = block.plan.phase_of(block.number);
+    let _k = block.sets.dimension();
+    let _n = block.sets.length();
     let level = room.spot.support().len() as u64;
     let (least, at) = least_words(
-        sets,
-        plan,
         block,
         grid,
         &mut room.spot,
@@ -100,5 +90,5 @@ pub(crate) fn by_tails(sets: &Sets, plan: &Plan, block: u64, grid: &Grid, room: 
         &mut room.tops,
         &mut room.counts,
     );
-    (level + least as u64) * PLACES + (block * 4096 + at as u64)
+    (level + least as u64) * PLACES + (block.number * 4096 + at as u64)
 }

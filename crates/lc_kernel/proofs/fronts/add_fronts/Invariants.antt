@@ -16,7 +16,7 @@ invariant-loop-counts l = record {
   level : length l.spot.support ≡ l.level;
   room : l.spot.room ≡ l.initial.spot.room;
   stayed : l.stayed ≤ l.level - 2;
-  at : IsSpotAt l.sets l.plan.m l.block l.done l.spot;
-  fronts : AreFrontPlanes l.sets l.spot l.part l.grid.planes l.stayed l.fronts;
-  counted : ArePartCounted (others l.sets l.spot.set) l.part (block_words l.sets l.plan.m l.block) l.done (length l.initial.counts) l.counts;
+  at : IsSpotAt l.block.sets.now l.block.plan.now.m l.block.number l.done l.spot;
+  fronts : AreFrontPlanes l.block.sets.now l.spot l.part l.grid.planes l.stayed l.fronts;
+  counted : ArePartCounted (others l.block.sets.now l.spot.set) l.part (block_words l.block.sets.now l.block.plan.now.m l.block.number) l.done (length l.initial.counts) l.counts;
 }

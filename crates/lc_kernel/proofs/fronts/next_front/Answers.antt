@@ -33,7 +33,7 @@ overflow_add-row c =
 pub index-requires : goal.index-requires
 index-requires c =
     let C = c.args.sets.now in
-    let kept = kept_part C c.args.spot.now.set c.args.grid.now.planes c.args.grid.now.tails c.args.part c.args.grid.now.parts.items c.args.grid.now.starts.items c.index-table.result.now c.index-table.result.now.rows.items c.requires.grid c.requires.part c.index-table.ensures refl in
+    let kept = kept_part C c.args.spot.now.set c.args.part c.args.grid.now c.index-table.result.now c.index-table.result.now.rows.items c.requires.grid c.requires.part c.index-table.ensures refl in
     let s = c.args.spot.now in
     let i = c.args.i in
     let d = size C.field - 1 in
@@ -49,7 +49,7 @@ sum_planes-requires c = record { symbol = subst (λ g. size g ≤ 16) (sym c.fie
 pub returns : goal.returns
 returns c =
     let C = c.args.sets.now in
-    let kept = kept_part C c.args.spot.now.set c.args.grid.now.planes c.args.grid.now.tails c.args.part c.args.grid.now.parts.items c.args.grid.now.starts.items c.index-table.result.now c.index-table.result.now.rows.items c.requires.grid c.requires.part c.index-table.ensures refl in
+    let kept = kept_part C c.args.spot.now.set c.args.part c.args.grid.now c.index-table.result.now c.index-table.result.now.rows.items c.requires.grid c.requires.part c.index-table.ensures refl in
     let s = c.args.spot.now in
     let i = c.args.i in
     let d = size C.field - 1 in

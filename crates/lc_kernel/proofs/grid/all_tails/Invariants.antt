@@ -5,7 +5,7 @@ use Rattle.lc_kernel.proofs.grid.all_tails.Given as goal
 
 abbrev pub invariant-loop-a : goal.invariant-loop-a
 invariant-loop-a l = record {
-  ends : EndsAt (length l.sets.rows) 2 l.a l.pair;
-  tails : AreTails l.sets l.j (l.pair * tail_count l.sets) l.words.items;
+  ends : EndsAt (length l.rows.sets.now.rows) 2 l.a l.pair;
+  tails : AreTails l.rows.sets.now l.rows.set (l.pair * tail_count l.rows.sets.now) l.words.items;
   small : l.pair ≤ 255 * l.a;
 }

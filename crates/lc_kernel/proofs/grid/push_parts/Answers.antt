@@ -4,7 +4,7 @@ use Rattle.lc_kernel.proofs.TableLaws.{cut_inside}
 use Rattle.lc_kernel.proofs.grid.push_parts.Goals as goal
 
 pub grid_part-requires-clause-inside : goal.grid_part-requires-clause-inside
-grid_part-requires-clause-inside c = cut_inside c.args.sets.now c.args.j c.loop-start.start (c.min-end.result - c.loop-start.start) c.args.columns.now c.requires.columns
+grid_part-requires-clause-inside c = cut_inside c.args.rows.now.sets.now c.args.rows.now.set c.loop-start.start (c.min-end.result - c.loop-start.start) c.args.columns.now c.requires.columns
 
 pub loop-start-preserved : goal.loop-start-preserved
 loop-start-preserved c =
@@ -17,5 +17,5 @@ loop-start-preserved c =
       inside = omega (arith, c.min-end.ensures);
       start = omega (arith, more, start, c.min-end.ensures);
       even = λ l. omega (arith, more, start, c.min-end.ensures, l);
-      are = grid_parts_pushed c.args.sets.now c.args.j c.args.planes c.loop-start.start c.min-end.result c.args.columns.now ps c.push.new.self.items p c.requires.columns start i.inside c.min-end.ensures i.are c.in_ok-grid_part.ensures.is c.in_ok-push.ensures.items;
+      are = grid_parts_pushed c.args.rows.now.sets.now c.args.rows.now.set c.args.planes c.loop-start.start c.min-end.result c.args.columns.now ps c.push.new.self.items p c.requires.columns start i.inside c.min-end.ensures i.are c.in_ok-grid_part.ensures.is c.in_ok-push.ensures.items;
     }

@@ -10,5 +10,5 @@ invariant-loop-start l = record {
   inside : l.start ≤ length l.columns;
   start : l.start ≤ 64 * length l.parts.items;
   even : l.start < length l.columns → l.start ≡ 64 * length l.parts.items;
-  are : AreGridParts l.sets l.j l.planes l.parts.items;
+  are : AreGridParts l.rows.sets.now l.rows.set l.planes l.parts.items;
 }

@@ -3,4 +3,4 @@ use Rattle.lc_kernel.specs.Grid.{tail_count, AreTails}
 use Rattle.lc_kernel.proofs.grid.push_tails.Given as goal
 
 abbrev pub invariant-loop-t : goal.invariant-loop-t
-invariant-loop-t l = AreTails l.sets l.j (l.pair * tail_count l.sets + l.t) l.words.items
+invariant-loop-t l = AreTails l.rows.sets.now l.rows.set (l.pair * tail_count l.rows.sets.now + l.t) l.words.items

@@ -8,24 +8,24 @@ use Rattle.lc_kernel.proofs.SweepLaws.{IsSweep, sweep_counted, listed_inside}
 use Rattle.lc_kernel.proofs.part_counts.add_support.Goals as goal
 
 pub add_halves-requires-clause-inside : goal.add_halves-requires-clause-inside
-add_halves-requires-clause-inside c = listed_inside c.args.sets.now c.args.set c.args.part c.args.list (length c.args.counts.now) c.args.support.now c.halves_of-halves.result c.requires.at.level c.halves_of-halves.ensures.are c.requires.lists
+add_halves-requires-clause-inside c = listed_inside c.args.sweep.now.block.sets.now c.args.sweep.now.set c.args.sweep.now.part c.args.list (length c.args.counts.now) c.args.support.now c.halves_of-halves.result c.requires.at.level c.halves_of-halves.ensures.are c.requires.lists
 
 pub add_halves-requires-clause-counts : goal.add_halves-requires-clause-counts
-add_halves-requires-clause-counts c = omega (arith, few_in_block c.args.sets.now c.args.plan.now.m c.args.block, c.requires.words)
+add_halves-requires-clause-counts c = omega (arith, few_in_block c.args.sweep.now.block.sets.now c.args.sweep.now.block.plan.now.m c.args.sweep.now.block.number, c.requires.words)
 
 pub add_halves-requires-clause-few : goal.add_halves-requires-clause-few
 add_halves-requires-clause-few c =
-    let all = others c.args.sets.now c.args.set in
-    let few : length (take (64 * c.args.part) all) ≤ 255 = omega (arith, length-take (64 * c.args.part) all, others_few c.args.sets.now c.args.set, c.length-n.ensures.is, c.length-n.ensures.most) in
-    counted_few c.args.sets.now c.args.plan.now.m c.args.block c.args.done (length c.args.counts.now) (take (64 * c.args.part) all) c.args.counts.now few c.requires.counted
+    let all = others c.args.sweep.now.block.sets.now c.args.sweep.now.set in
+    let few : length (take (64 * c.args.sweep.now.part) all) ≤ 255 = omega (arith, length-take (64 * c.args.sweep.now.part) all, others_few c.args.sweep.now.block.sets.now c.args.sweep.now.set, c.length-n.ensures.is, c.length-n.ensures.most) in
+    counted_few c.args.sweep.now.block.sets.now c.args.sweep.now.block.plan.now.m c.args.sweep.now.block.number c.args.done (length c.args.counts.now) (take (64 * c.args.sweep.now.part) all) c.args.counts.now few c.requires.counted
 
 pub returns : goal.returns
 returns c =
-    let C = c.args.sets.now in
-    let j = c.args.set in
+    let C = c.args.sweep.now.block.sets.now in
+    let j = c.args.sweep.now.set in
     let u = c.args.support.now in
     let count = length c.args.counts.now in
-    let sweep : IsSweep C c.args.plan.now.m c.args.block c.args.done j c.args.list c.args.part count u c.halves_of-halves.result = record {
+    let sweep : IsSweep C c.args.sweep.now.block.plan.now.m c.args.sweep.now.block.number c.args.done j c.args.list c.args.sweep.now.part count u c.halves_of-halves.result = record {
       rows_are = c.dimension-k.ensures.rows;
       free = c.dimension-k.ensures.independent;
       set = c.requires.set;
@@ -35,4 +35,4 @@ returns c =
       words = c.requires.words;
       halves = c.halves_of-halves.ensures.are;
     } in
-    record { counted = sweep_counted C c.args.plan.now.m c.args.block c.args.done j c.args.list c.args.part count u c.args.counts.now c.add_halves.new.counts c.halves_of-halves.result sweep c.requires.counted c.add_halves.ensures.is }
+    record { counted = sweep_counted C c.args.sweep.now.block.plan.now.m c.args.sweep.now.block.number c.args.done j c.args.list c.args.sweep.now.part count u c.args.counts.now c.add_halves.new.counts c.halves_of-halves.result sweep c.requires.counted c.add_halves.ensures.is }

@@ -11,8 +11,8 @@ decreases-loop-counts l = length l.initial.counts - l.done
 abbrev pub invariant-loop-counts : goal.invariant-loop-counts
 invariant-loop-counts l = record {
   inside : l.done < length l.initial.counts;
-  at : IsListedAt l.sets l.plan.m l.block l.done l.set l.support l.list;
-  lists : list_count l.sets (length l.support) ≡ l.lists;
-  heads : AreHeads l.sets l.set l.support l.part l.grid.planes (length l.support - 2) l.heads;
-  counted : ArePartCounted (others l.sets l.set) l.part (block_words l.sets l.plan.m l.block) l.done (length l.initial.counts) l.counts;
+  at : IsListedAt l.block.sets.now l.block.plan.now.m l.block.number l.done l.set l.support l.list;
+  lists : list_count l.block.sets.now (length l.support) ≡ l.lists;
+  heads : AreHeads l.block.sets.now l.set l.support l.part l.grid.planes (length l.support - 2) l.heads;
+  counted : ArePartCounted (others l.block.sets.now l.set) l.part (block_words l.block.sets.now l.block.plan.now.m l.block.number) l.done (length l.initial.counts) l.counts;
 }

@@ -5,4 +5,4 @@ use Rattle.lc_distances.specs.Least.{AreCounted}
 use Rattle.lc_kernel.proofs.part_counts.count_sweeps.Given as goal
 
 abbrev pub invariant-loop-part : goal.invariant-loop-part
-invariant-loop-part l = AreCounted (take (64 * l.part) (others l.sets l.spot.set)) (block_words l.sets l.plan.m l.block) 0 (length l.fn.counts) l.counts
+invariant-loop-part l = AreCounted (take (64 * l.part) (others l.block.sets.now l.spot.set)) (block_words l.block.sets.now l.block.plan.now.m l.block.number) 0 (length l.fn.counts) l.counts

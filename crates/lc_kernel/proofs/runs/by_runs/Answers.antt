@@ -16,7 +16,7 @@ use Rattle.lc_kernel.proofs.runs.by_runs.Goals as goal
 pub count_block-requires-clause-words : goal.count_block-requires-clause-words
 count_block-requires-clause-words c =
     let found = c.phase_of-phase.ensures.found in
-    let long = words_of_block c.args.sets.now c.args.plan.now found.0 c.args.block c.block_len-len.result c.requires.plan found.1 (c.block_len-len.ensures.exact found.0 found.1) in
+    let long = words_of_block c.args.block.now.sets.now c.args.block.now.plan.now found.0 c.args.block.now.number c.block_len-len.result c.requires.plan found.1 (c.block_len-len.ensures.exact found.0 found.1) in
     length-take-le c.block_len-len.result c.args.counts.now (omega (arith, c.block_len-len.ensures.few, c.requires.room)) ∙ sym long
 
 -- the counts that the code searches are those that it made
@@ -30,20 +30,20 @@ same_counts c =
 
 pub first_least-least-requires-clause-few : goal.first_least-least-requires-clause-few
 first_least-least-requires-clause-few c i l =
-    let C = c.args.sets.now in
+    let C = c.args.block.now.sets.now in
     let cols = others C c.args.spot.now.set in
     let same = same_counts (goal.at.first_least-least-requires-clause-few c).After-count_block in
     let few : length cols ≤ 255 = omega (arith, others_few C c.args.spot.now.set, c.length-n.ensures.is, c.length-n.ensures.most) in
-    rw same (counted_few C c.args.plan.now.m c.args.block 0 (length (take c.block_len-len.result c.args.counts.now)) cols c.count_block.new.counts few c.count_block.ensures.counted i (omega (arith, l, ap length same, c.count_block.auto.counts)))
+    rw same (counted_few C c.args.block.now.plan.now.m c.args.block.now.number 0 (length (take c.block_len-len.result c.args.counts.now)) cols c.count_block.new.counts few c.count_block.ensures.counted i (omega (arith, l, ap length same, c.count_block.auto.counts)))
 
 pub overflow_mul-result : goal.overflow_mul-result
 overflow_mul-result c =
-    let few = (entries_are c.args.sets.now c.args.spot.now c.requires.at.message).few in
+    let few = (entries_are c.args.block.now.sets.now c.args.spot.now c.requires.at.message).few in
     omega (arith, c.first_least-least.ensures.few, few, ap length c.support.ensures.places, c.dimension-k.ensures.is, c.dimension-k.ensures.most, c.length-n.ensures.is, c.length-n.ensures.most)
 
 pub overflow_add-result-3 : goal.overflow_add-result-3
 overflow_add-result-3 c =
-    let few = (entries_are c.args.sets.now c.args.spot.now c.requires.at.message).few in
+    let few = (entries_are c.args.block.now.sets.now c.args.spot.now c.requires.at.message).few in
     let L = take c.block_len-len.result (c.count_block.new.counts ++ drop c.block_len-len.result c.args.counts.now) in
     let inside : c.first_least-least.result.1 < length L = c.first_least-least.ensures.inside in
     let short = length-take c.block_len-len.result (c.count_block.new.counts ++ drop c.block_len-len.result c.args.counts.now) in
@@ -52,9 +52,9 @@ overflow_add-result-3 c =
 
 pub returns-clause-is : goal.returns-clause-is
 returns-clause-is c =
-    let C = c.args.sets.now in
-    let plan = c.args.plan.now in
-    let b = c.args.block in
+    let C = c.args.block.now.sets.now in
+    let plan = c.args.block.now.plan.now in
+    let b = c.args.block.now.number in
     let n = c.block_len-len.result in
     let old = c.args.counts.now in
     let new = c.count_block.new.counts in

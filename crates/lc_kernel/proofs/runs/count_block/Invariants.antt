@@ -14,6 +14,6 @@ invariant-loop-counts l = record {
   set : l.spot.set ≡ l.initial.spot.set;
   level : length l.spot.support ≡ length l.initial.spot.support;
   room : l.spot.room ≡ l.initial.spot.room;
-  at : IsSpotAt l.sets l.plan.m l.block l.done l.spot;
-  counted : AreCounted (others l.sets l.spot.set) (block_words l.sets l.plan.m l.block) 0 l.done l.counts;
+  at : IsSpotAt l.block.sets.now l.block.plan.now.m l.block.number l.done l.spot;
+  counted : AreCounted (others l.block.sets.now l.spot.set) (block_words l.block.sets.now l.block.plan.now.m l.block.number) 0 l.done l.counts;
 }

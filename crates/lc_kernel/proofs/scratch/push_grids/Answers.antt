@@ -12,7 +12,7 @@ loop-j-preserved c =
     record {
       many = omega (arith, ap length c.in_ok-push.ensures.items, length-append gs (g ∷ []), c.loop-j.invariant.many);
       are = record {
-        each = all_pushed (λ j (x : Grid). IsGrid C j x.planes x.tails x.parts.items x.starts.items) gs c.push.new.self.items g c.loop-j.invariant.are.each (rw c.loop-j.invariant.many (c.in_ok-grid.ensures.is g c.in-Some.is)) c.in_ok-push.ensures.items;
+        each = all_pushed (λ j (x : Grid). IsGrid C j x) gs c.push.new.self.items g c.loop-j.invariant.are.each (rw c.loop-j.invariant.many (c.in_ok-grid.ensures.is g c.in-Some.is)) c.in_ok-push.ensures.items;
       };
       room = λ _. c.in_ok-grid.ensures.some g c.in-Some.is;
     }

@@ -14,20 +14,20 @@ use Rattle.lc_kernel.proofs.sweeps.grow.Goals as goal
 
 pub overflow_mul-row : goal.overflow_mul-row
 overflow_mul-row c =
-    let s = support_is (length c.args.sets.now.rows) c.args.support.now c.requires.rises in
+    let s = support_is (length c.args.sweep.now.block.sets.now.rows) c.args.support.now c.requires.rises in
     let row : slice_index c.args.support.now c.args.i ≤ 255 = omega (arith, s.high c.args.i c.requires.entry, c.dimension-k.ensures.is, c.dimension-k.ensures.most, c.length-n.ensures.is, c.length-n.ensures.most) in
     omega (arith, mul-le-mul_right c.nonzero-elements.result row, c.nonzero-elements.ensures.most)
 
 pub overflow_add-row : goal.overflow_add-row
 overflow_add-row c =
-    let s = support_is (length c.args.sets.now.rows) c.args.support.now c.requires.rises in
+    let s = support_is (length c.args.sweep.now.block.sets.now.rows) c.args.support.now c.requires.rises in
     let row : slice_index c.args.support.now c.args.i ≤ 255 = omega (arith, s.high c.args.i c.requires.entry, c.dimension-k.ensures.is, c.dimension-k.ensures.most, c.length-n.ensures.is, c.length-n.ensures.most) in
     omega (arith, mul-le-mul_right c.nonzero-elements.result row, c.nonzero-elements.ensures.most, c.place_before-above.ensures.inside)
 
 pub index-requires : goal.index-requires
 index-requires c =
-    let C = c.args.sets.now in
-    let kept = kept_part C c.args.set c.args.grid.now.planes c.args.grid.now.tails c.args.part c.args.grid.now.parts.items c.args.grid.now.starts.items c.index-table.result.now c.index-table.result.now.rows.items c.requires.grid c.requires.part c.index-table.ensures refl in
+    let C = c.args.sweep.now.block.sets.now in
+    let kept = kept_part C c.args.sweep.now.set c.args.sweep.now.part c.args.sweep.now.grid.now c.index-table.result.now c.index-table.result.now.rows.items c.requires.grid c.requires.part c.index-table.ensures refl in
     let u = c.args.support.now in
     let d = size C.field - 1 in
     let s = support_is (length C.rows) u c.requires.rises in
@@ -54,12 +54,12 @@ bounds-heads-above c =
     omega (arith, rows, c.place_before-above.ensures.place, c.loop-e.invariant.place, c.loop-e.invariant.inside, c.loop-e.auto.heads, c.requires.room)
 
 pub sum_planes-sum-requires : goal.sum_planes-sum-requires
-sum_planes-sum-requires c = record { symbol = subst (λ g. size g ≤ 16) (sym c.field.ensures.is) (symbol_size c.args.sets.now c.field.ensures.symbol) }
+sum_planes-sum-requires c = record { symbol = subst (λ g. size g ≤ 16) (sym c.field.ensures.is) (symbol_size c.args.sweep.now.block.sets.now c.field.ensures.symbol) }
 
 pub loop-e-preserved : goal.loop-e-preserved
 loop-e-preserved c =
-    let C = c.args.sets.now in
-    let kept = kept_part C c.args.set c.args.grid.now.planes c.args.grid.now.tails c.args.part c.args.grid.now.parts.items c.args.grid.now.starts.items c.index-table.result.now c.index-table.result.now.rows.items c.requires.grid c.requires.part c.index-table.ensures refl in
+    let C = c.args.sweep.now.block.sets.now in
+    let kept = kept_part C c.args.sweep.now.set c.args.sweep.now.part c.args.sweep.now.grid.now c.index-table.result.now c.index-table.result.now.rows.items c.requires.grid c.requires.part c.index-table.ensures refl in
     let u = c.args.support.now in
     let d = size C.field - 1 in
     let a = slice_index u c.args.i in
@@ -91,9 +91,9 @@ loop-e-preserved c =
 
 pub returns : goal.returns
 returns c =
-    let C = c.args.sets.now in
-    let kept = kept_part C c.args.set c.args.grid.now.planes c.args.grid.now.tails c.args.part c.args.grid.now.parts.items c.args.grid.now.starts.items c.index-table.result.now c.index-table.result.now.rows.items c.requires.grid c.requires.part c.index-table.ensures refl in
+    let C = c.args.sweep.now.block.sets.now in
+    let kept = kept_part C c.args.sweep.now.set c.args.sweep.now.part c.args.sweep.now.grid.now c.index-table.result.now c.index-table.result.now.rows.items c.requires.grid c.requires.part c.index-table.ensures refl in
     record {
-      heads = heads_grown C c.args.set c.args.part c.args.grid.now.planes c.args.i c.args.support.now c.index-table.result.now.rows.items c.args.heads.now c.loop-e.heads c.dimension-k.ensures.rows c.dimension-k.ensures.independent c.requires.set c.requires.rises kept c.requires.some c.requires.entry c.requires.heads
+      heads = heads_grown C c.args.sweep.now.set c.args.sweep.now.part c.args.sweep.now.grid.now.planes c.args.i c.args.support.now c.index-table.result.now.rows.items c.args.heads.now c.loop-e.heads c.dimension-k.ensures.rows c.dimension-k.ensures.independent c.requires.set c.requires.rises kept c.requires.some c.requires.entry c.requires.heads
           (λ e l. c.loop-e.invariant.done e (omega (arith, c.loop-e-test.false)) (omega (arith, l, c.requires.many)));
     }

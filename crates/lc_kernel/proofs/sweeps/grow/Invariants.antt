@@ -11,6 +11,6 @@ invariant-loop-e l = record {
   inside : l.e ≤ l.many;
   place : l.head * l.elements + l.element ≡ l.e;
   low : l.element < l.elements;
-  done : (x : ℕ) → l.e ≤ x → x < l.many → IsGrown l.sets.field (size l.sets.field - 1) (slice_index l.support l.fn.i) l.table.rows.items l.initial.heads l.heads x;
+  done : (x : ℕ) → l.e ≤ x → x < l.many → IsGrown l.sweep.block.sets.now.field (size l.sweep.block.sets.now.field - 1) (slice_index l.support l.fn.i) l.table.rows.items l.initial.heads l.heads x;
   left : (x : ℕ) → x < l.e → slice_index_or l.heads x [] ≡ slice_index_or l.initial.heads x [];
 }

@@ -14,32 +14,32 @@ use Rattle.lc_kernel.proofs.sweeps.halves_of.Goals as goal
 
 pub index-requires : goal.index-requires
 index-requires c =
-    let p = pair_read c.args.sets.now (listed_spot c.args.sets.now c.args.set c.args.support.now 0) c.args.grid.now.starts.items c.requires.grid.first (first_listed c.args.sets.now c.args.set c.args.support.now c.requires.rises) (omega (arith, c.requires.level)) in
-    omega (arith, p.started, c.args.grid.now.starts.ok.0)
+    let p = pair_read c.args.sweep.now.block.sets.now (listed_spot c.args.sweep.now.block.sets.now c.args.sweep.now.set c.args.support.now 0) c.args.sweep.now.grid.now.starts.items c.requires.grid.first (first_listed c.args.sweep.now.block.sets.now c.args.sweep.now.set c.args.support.now c.requires.rises) (omega (arith, c.requires.level)) in
+    omega (arith, p.started, c.args.sweep.now.grid.now.starts.ok.0)
 
 pub overflow_sub-pair : goal.overflow_sub-pair
 overflow_sub-pair c =
-    let p = pair_read c.args.sets.now (listed_spot c.args.sets.now c.args.set c.args.support.now 0) c.args.grid.now.starts.items c.requires.grid.first (first_listed c.args.sets.now c.args.set c.args.support.now c.requires.rises) (omega (arith, c.requires.level)) in
+    let p = pair_read c.args.sweep.now.block.sets.now (listed_spot c.args.sweep.now.block.sets.now c.args.sweep.now.set c.args.support.now 0) c.args.sweep.now.grid.now.starts.items c.requires.grid.first (first_listed c.args.sweep.now.block.sets.now c.args.sweep.now.set c.args.support.now c.requires.rises) (omega (arith, c.requires.level)) in
     omega (arith, p.rises)
 
 pub overflow_sub-pair-2 : goal.overflow_sub-pair-2
 overflow_sub-pair-2 c =
-    let p = pair_read c.args.sets.now (listed_spot c.args.sets.now c.args.set c.args.support.now 0) c.args.grid.now.starts.items c.requires.grid.first (first_listed c.args.sets.now c.args.set c.args.support.now c.requires.rises) (omega (arith, c.requires.level)) in
+    let p = pair_read c.args.sweep.now.block.sets.now (listed_spot c.args.sweep.now.block.sets.now c.args.sweep.now.set c.args.support.now 0) c.args.sweep.now.grid.now.starts.items c.requires.grid.first (first_listed c.args.sweep.now.block.sets.now c.args.sweep.now.set c.args.support.now c.requires.rises) (omega (arith, c.requires.level)) in
     omega (arith, p.rises)
 
 pub overflow_add-pair : goal.overflow_add-pair
 overflow_add-pair c =
-    let C = c.args.sets.now in
-    let r = pair_there C c.args.set 0 c.args.support.now c.args.grid.now.starts.items c.index.result.now c.requires.grid.first (first_listed C c.args.set c.args.support.now c.requires.rises) c.requires.level c.index.ensures in
+    let C = c.args.sweep.now.block.sets.now in
+    let r = pair_there C c.args.sweep.now.set 0 c.args.support.now c.args.sweep.now.grid.now.starts.items c.index.result.now c.requires.grid.first (first_listed C c.args.sweep.now.set c.args.support.now c.requires.rises) c.requires.level c.index.ensures in
     let few = pairs_few (length C.rows) (omega (arith, c.dimension-k.ensures.is, c.dimension-k.ensures.most, c.length-n.ensures.is, c.length-n.ensures.most)) in
-    omega (arith, few, slice_get_within (supports_from 0 (length C.rows) 2) _ (pair_of (listed_spot C c.args.set c.args.support.now 0)) r)
+    omega (arith, few, slice_get_within (supports_from 0 (length C.rows) 2) _ (pair_of (listed_spot C c.args.sweep.now.set c.args.support.now 0)) r)
 
 pub overflow_mul-result : goal.overflow_mul-result
 overflow_mul-result c =
-    let C = c.args.sets.now in
-    let r = pair_there C c.args.set 0 c.args.support.now c.args.grid.now.starts.items c.index.result.now c.requires.grid.first (first_listed C c.args.set c.args.support.now c.requires.rises) c.requires.level c.index.ensures in
+    let C = c.args.sweep.now.block.sets.now in
+    let r = pair_there C c.args.sweep.now.set 0 c.args.support.now c.args.sweep.now.grid.now.starts.items c.index.result.now c.requires.grid.first (first_listed C c.args.sweep.now.set c.args.support.now c.requires.rises) c.requires.level c.index.ensures in
     let few = pairs_few (length C.rows) (omega (arith, c.dimension-k.ensures.is, c.dimension-k.ensures.most, c.length-n.ensures.is, c.length-n.ensures.most)) in
-    let below = slice_get_within (supports_from 0 (length C.rows) 2) _ (pair_of (listed_spot C c.args.set c.args.support.now 0)) r in
+    let below = slice_get_within (supports_from 0 (length C.rows) 2) _ (pair_of (listed_spot C c.args.sweep.now.set c.args.support.now 0)) r in
     let e = c.nonzero-elements.result in
     let square_few : e * e ≤ 15 * 15 = omega (arith, mul-le-mul_right e c.nonzero-elements.ensures.most, c.nonzero-elements.ensures.most) in
     let pair_few : c.index.result.now + (slice_index c.args.support.now (length c.args.support.now - 1) - slice_index c.args.support.now (length c.args.support.now - 2) - 1) ≤ 65025 = omega (arith, few, below) in
@@ -47,14 +47,14 @@ overflow_mul-result c =
 
 pub returns : goal.returns
 returns c =
-    let C = c.args.sets.now in
-    let j = c.args.set in
+    let C = c.args.sweep.now.block.sets.now in
+    let j = c.args.sweep.now.set in
     let u = c.args.support.now in
-    let n = c.args.grid.now.planes in
+    let n = c.args.sweep.now.grid.now.planes in
     let T = tail_count C in
-    let part = one_grid_part C j n c.args.part c.args.grid.now.parts.items c.index-table.result.now c.requires.grid.parts c.requires.part c.index-table.ensures in
-    let packed : AreTailPlanes C j (part_at (others C j) c.args.part) n c.as_slice.result.now = subst (AreTailPlanes C j (part_at (others C j) c.args.part) n) (sym c.as_slice.ensures.value) part.planes in
-    let r = pair_there C j 0 u c.args.grid.now.starts.items c.index.result.now c.requires.grid.first (first_listed C j u c.requires.rises) c.requires.level c.index.ensures in
+    let part = one_grid_part C j n c.args.sweep.now.part c.args.sweep.now.grid.now.parts.items c.index-table.result.now c.requires.grid.parts c.requires.part c.index-table.ensures in
+    let packed : AreTailPlanes C j (part_at (others C j) c.args.sweep.now.part) n c.as_slice.result.now = subst (AreTailPlanes C j (part_at (others C j) c.args.sweep.now.part) n) (sym c.as_slice.ensures.value) part.planes in
+    let r = pair_there C j 0 u c.args.sweep.now.grid.now.starts.items c.index.result.now c.requires.grid.first (first_listed C j u c.requires.rises) c.requires.level c.index.ensures in
     let below = slice_get_within (supports_from 0 (length C.rows) 2) _ (pair_of (listed_spot C j u 0)) r in
     let rows : _ ≤ tails_in C = mul-le-mul_right T below in
     let square : c.nonzero-elements.result * c.nonzero-elements.result ≡ T = ap (λ z. z * z) c.nonzero-elements.ensures.is in

@@ -4,6 +4,6 @@ use Rattle.lc_kernel.proofs.sweeps.make_heads.Given as goal
 
 abbrev pub invariant-loop-i : goal.invariant-loop-i
 invariant-loop-i l = record {
-  many : l.many ≡ list_count l.sets l.i;
-  heads : AreHeads l.sets l.set l.support l.part l.grid.planes l.i l.heads;
+  many : l.many ≡ list_count l.sweep.block.sets.now l.i;
+  heads : AreHeads l.sweep.block.sets.now l.sweep.set l.support l.sweep.part l.sweep.grid.now.planes l.i l.heads;
 }

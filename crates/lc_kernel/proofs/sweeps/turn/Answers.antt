@@ -3,24 +3,24 @@ use Rattle.lc_kernel.proofs.SweepLaws.{support_is, turned_at, turned_none, heads
 use Rattle.lc_kernel.proofs.sweeps.turn.Goals as goal
 
 pub returns-in_default-clause-at : goal.returns-in_default-clause-at
-returns-in_default-clause-at c = absurd (turned_none c.args.sets.now c.args.plan.now.m c.requires.phase.0 c.args.block c.args.done c.args.count c.args.set c.args.list c.args.support.now c.requires.phase.1 c.requires.at c.requires.some c.requires.end (rw (← c.dimension-k.ensures.is) c.in_default.ensures.last) c.requires.inside)
+returns-in_default-clause-at c = absurd (turned_none c.args.sweep.now.block.sets.now c.args.sweep.now.block.plan.now.m c.requires.phase.0 c.args.sweep.now.block.number c.args.done c.args.count c.args.sweep.now.set c.args.list c.args.support.now c.requires.phase.1 c.requires.at c.requires.some c.requires.end (rw (← c.dimension-k.ensures.is) c.in_default.ensures.last) c.requires.inside)
 
 pub returns-in_default-clause-heads : goal.returns-in_default-clause-heads
-returns-in_default-clause-heads c = absurd (turned_none c.args.sets.now c.args.plan.now.m c.requires.phase.0 c.args.block c.args.done c.args.count c.args.set c.args.list c.args.support.now c.requires.phase.1 c.requires.at c.requires.some c.requires.end (rw (← c.dimension-k.ensures.is) c.in_default.ensures.last) c.requires.inside)
+returns-in_default-clause-heads c = absurd (turned_none c.args.sweep.now.block.sets.now c.args.sweep.now.block.plan.now.m c.requires.phase.0 c.args.sweep.now.block.number c.args.done c.args.count c.args.sweep.now.set c.args.list c.args.support.now c.requires.phase.1 c.requires.at c.requires.some c.requires.end (rw (← c.dimension-k.ensures.is) c.in_default.ensures.last) c.requires.inside)
 
 pub overflow_add-place : goal.overflow_add-place
 overflow_add-place c =
-    let s = support_is (length c.args.sets.now.rows) c.args.support.now c.requires.at.rises in
+    let s = support_is (length c.args.sweep.now.block.sets.now.rows) c.args.support.now c.requires.at.rises in
     omega (arith, c.in-Some.ensures.inside, s.high 0 (omega (arith, c.requires.at.level)), c.dimension-k.ensures.is, c.dimension-k.ensures.most, c.length-n.ensures.is, c.length-n.ensures.most)
 
 pub make_heads-requires-clause-rises : goal.make_heads-requires-clause-rises
-make_heads-requires-clause-rises c = (turned_at c.args.sets.now c.args.plan.now.m c.args.block c.args.done c.args.count c.args.set c.args.list c.args.support.now c.next_support.new.support c.requires.at c.requires.some c.requires.end (rw (← c.dimension-k.ensures.is) c.in-Some.ensures.next) c.next_support.auto.support).rises
+make_heads-requires-clause-rises c = (turned_at c.args.sweep.now.block.sets.now c.args.sweep.now.block.plan.now.m c.args.sweep.now.block.number c.args.done c.args.count c.args.sweep.now.set c.args.list c.args.support.now c.next_support.new.support c.requires.at c.requires.some c.requires.end (rw (← c.dimension-k.ensures.is) c.in-Some.ensures.next) c.next_support.auto.support).rises
 
 pub returns-then-place-support-clause-at : goal.returns-then-place-support-clause-at
-returns-then-place-support-clause-at c = turned_at c.args.sets.now c.args.plan.now.m c.args.block c.args.done c.args.count c.args.set c.args.list c.args.support.now c.next_support.new.support c.requires.at c.requires.some c.requires.end (rw (← c.dimension-k.ensures.is) c.in-Some.ensures.next) c.next_support.auto.support
+returns-then-place-support-clause-at c = turned_at c.args.sweep.now.block.sets.now c.args.sweep.now.block.plan.now.m c.args.sweep.now.block.number c.args.done c.args.count c.args.sweep.now.set c.args.list c.args.support.now c.next_support.new.support c.requires.at c.requires.some c.requires.end (rw (← c.dimension-k.ensures.is) c.in-Some.ensures.next) c.next_support.auto.support
 
 pub returns-else-place-support-clause-at : goal.returns-else-place-support-clause-at
-returns-else-place-support-clause-at c = turned_at c.args.sets.now c.args.plan.now.m c.args.block c.args.done c.args.count c.args.set c.args.list c.args.support.now c.next_support.new.support c.requires.at c.requires.some c.requires.end (rw (← c.dimension-k.ensures.is) c.in-Some.ensures.next) c.next_support.auto.support
+returns-else-place-support-clause-at c = turned_at c.args.sweep.now.block.sets.now c.args.sweep.now.block.plan.now.m c.args.sweep.now.block.number c.args.done c.args.count c.args.sweep.now.set c.args.list c.args.support.now c.next_support.new.support c.requires.at c.requires.some c.requires.end (rw (← c.dimension-k.ensures.is) c.in-Some.ensures.next) c.next_support.auto.support
 
 pub returns-else-place-support-clause-heads : goal.returns-else-place-support-clause-heads
-returns-else-place-support-clause-heads c = heads_kept c.args.sets.now c.args.set c.args.part c.args.grid.now.planes (length c.args.support.now - 2) c.in-Some.place c.args.support.now c.next_support.new.support c.args.heads.now (omega (arith, c.if-place-support.false, c.next_support.auto.support)) c.in-Some.ensures.same c.requires.heads
+returns-else-place-support-clause-heads c = heads_kept c.args.sweep.now.block.sets.now c.args.sweep.now.set c.args.sweep.now.part c.args.sweep.now.grid.now.planes (length c.args.support.now - 2) c.in-Some.place c.args.support.now c.next_support.new.support c.args.heads.now (omega (arith, c.if-place-support.false, c.next_support.auto.support)) c.in-Some.ensures.same c.requires.heads

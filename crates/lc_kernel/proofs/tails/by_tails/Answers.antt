@@ -9,26 +9,26 @@ use Rattle.lc_kernel.proofs.tails.by_tails.Goals as goal
 
 pub overflow_mul-result : goal.overflow_mul-result
 overflow_mul-result c =
-    let few = (entries_are c.args.sets.now c.args.room.now.spot c.requires.at.message).few in
+    let few = (entries_are c.args.block.now.sets.now c.args.room.now.spot c.requires.at.message).few in
     omega (arith, c.least_words-least.ensures.few, few, ap length c.support.ensures.places, c.dimension-k.ensures.is, c.dimension-k.ensures.most, c.length-n.ensures.is, c.length-n.ensures.most)
 
 pub overflow_add-result-2 : goal.overflow_add-result-2
 overflow_add-result-2 c =
-    let at : c.least_words-least.result.1 < 4096 = omega (arith, c.least_words-least.ensures.is.inside, few_in_block c.args.sets.now c.args.plan.now.m c.args.block) in
+    let at : c.least_words-least.result.1 < 4096 = omega (arith, c.least_words-least.ensures.is.inside, few_in_block c.args.block.now.sets.now c.args.block.now.plan.now.m c.args.block.now.number) in
     omega (arith, at, c.requires.block, c.total-few.ensures.exact, c.total-few.ensures.few)
 
 pub overflow_add-result-3 : goal.overflow_add-result-3
 overflow_add-result-3 c =
-    let C = c.args.sets.now in
+    let C = c.args.block.now.sets.now in
     let few = (entries_are C c.args.room.now.spot c.requires.at.message).few in
-    let at : c.least_words-least.result.1 < 4096 = omega (arith, c.least_words-least.ensures.is.inside, few_in_block C c.args.plan.now.m c.args.block) in
+    let at : c.least_words-least.result.1 < 4096 = omega (arith, c.least_words-least.ensures.is.inside, few_in_block C c.args.block.now.plan.now.m c.args.block.now.number) in
     omega (arith, c.least_words-least.ensures.few, at, few, ap length c.support.ensures.places, c.dimension-k.ensures.is, c.dimension-k.ensures.most, c.length-n.ensures.is, c.length-n.ensures.most, c.requires.block, c.total-few.ensures.exact, c.total-few.ensures.few)
 
 pub returns-clause-is : goal.returns-clause-is
 returns-clause-is c =
-    let C = c.args.sets.now in
-    let plan = c.args.plan.now in
-    let b = c.args.block in
+    let C = c.args.block.now.sets.now in
+    let plan = c.args.block.now.plan.now in
+    let b = c.args.block.now.number in
     let found = c.phase_of-phase.ensures.found in
     let phase = phase_same C plan found.0 b c.requires.plan found.1 in
     let small : b < 2 ^ 40 = omega (arith, c.requires.block, c.total-few.ensures.exact, c.total-few.ensures.few) in

@@ -7,14 +7,14 @@ use Rattle.lc_kernel.specs.Grids.{IsGrid}
 use Rattle.lc_kernel.specs.Tables.{IsTable}
 use Rattle.lc_kernel.proofs.ScanLaws.{spot_at}
 use Rattle.lc_kernel.proofs.TableLaws.{one_of_all}
-use Rattle.lc_kernel.proofs.block.least_in.Goals.{After-start_of}
-use Rattle.lc_kernel.proofs.block.least_in.Goals as goal
+use Rattle.lc_kernel.proofs.least_word.least_in.Goals.{After-start_of}
+use Rattle.lc_kernel.proofs.least_word.least_in.Goals as goal
 
 -- the spot is at the first message of the block
-started : (c : After-start_of) → IsSpotAt c.args.sets.now c.args.plan.now.m c.args.block 0 c.start_of.new.spot × (c.start_of.new.spot.set < set_count c.args.sets.now)
+started : (c : After-start_of) → IsSpotAt c.args.block.now.sets.now c.args.block.now.plan.now.m c.args.block.now.number 0 c.start_of.new.spot × (c.start_of.new.spot.set < set_count c.args.block.now.sets.now)
 started c =
     let e = c.start_of.ensures in
-    spot_at c.args.sets.now c.args.plan.now c.args.block c.start_of.new.spot c.requires.plan e.first e.level e.set e.message (c.phase_of-phase.ensures.found.0, c.phase_of-phase.ensures.found.1)
+    spot_at c.args.block.now.sets.now c.args.block.now.plan.now c.args.block.now.number c.start_of.new.spot c.requires.plan e.first e.level e.set e.message (c.phase_of-phase.ensures.found.0, c.phase_of-phase.ensures.found.1)
 
 pub by_tails-requires-clause-set : goal.by_tails-requires-clause-set
 by_tails-requires-clause-set c = (started (goal.at.by_tails-requires-clause-set c).After-start_of).1
@@ -25,8 +25,8 @@ by_tails-requires-clause-at c = (started (goal.at.by_tails-requires-clause-at c)
 pub by_tails-requires-clause-grid : goal.by_tails-requires-clause-grid
 by_tails-requires-clause-grid c =
     let g = c.index-grids-set.result in
-    let grid = one_of_all (λ j (x : Grid). IsGrid c.args.sets.now j x.planes x.tails x.parts.items x.starts.items) c.args.grids.now c.set-set.result g c.requires.grids.each (omega (arith, c.if-level-ge3.true)) c.index-grids-set.is in
-    subst (λ j. IsGrid c.args.sets.now j g.planes g.tails g.parts.items g.starts.items) c.set-set.ensures grid
+    let grid = one_of_all (λ j (x : Grid). IsGrid c.args.block.now.sets.now j x) c.args.grids.now c.set-set.result g c.requires.grids.each (omega (arith, c.if-level-ge3.true)) c.index-grids-set.is in
+    subst (λ j. IsGrid c.args.block.now.sets.now j g) c.set-set.ensures grid
 
 pub by_runs-requires-clause-set : goal.by_runs-requires-clause-set
 by_runs-requires-clause-set c = (started (goal.at.by_runs-requires-clause-set c).After-start_of).1
@@ -37,5 +37,5 @@ by_runs-requires-clause-at c = (started (goal.at.by_runs-requires-clause-at c).A
 pub by_runs-requires-clause-table : goal.by_runs-requires-clause-table
 by_runs-requires-clause-table c =
     let t = c.index-tables-set.result in
-    let table = one_of_all (λ j (x : Table). IsTable c.args.sets.now j x) c.args.tables.now c.set-set.result t c.requires.tables.each (omega (arith, c.if-set-tables.true)) c.index-tables-set.is in
-    subst (λ j. IsTable c.args.sets.now j t) c.set-set.ensures table
+    let table = one_of_all (λ j (x : Table). IsTable c.args.block.now.sets.now j x) c.args.tables.now c.set-set.result t c.requires.tables.each (omega (arith, c.if-set-tables.true)) c.index-tables-set.is in
+    subst (λ j. IsTable c.args.block.now.sets.now j t) c.set-set.ensures table

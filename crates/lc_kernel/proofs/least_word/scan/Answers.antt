@@ -2,13 +2,13 @@ use Rattle.std.proofs.Common.{◌≡◌, ◌+◌, ◌-◌, ◌*◌, ◌<◌, ◌
 use Rattle.lc_enumeration.specs.Plan.{place_of, block_length}
 use Rattle.lc_enumeration.specs.Search.{block_words}
 use Rattle.lc_kernel.proofs.ScanLaws.{one_value, more_values, value_here, phase_same, block_value, length_of_code}
-use Rattle.lc_kernel.proofs.block.scan.Goals as goal
+use Rattle.lc_kernel.proofs.least_word.scan.Goals as goal
 
 pub loop-offset-init : goal.loop-offset-init
 loop-offset-init c =
-    let C = c.args.sets.now in
-    let plan = c.args.plan.now in
-    let b = c.args.block in
+    let C = c.args.block.now.sets.now in
+    let plan = c.args.block.now.plan.now in
+    let b = c.args.block.now.number in
     let found = c.phase_of-phase.ensures.found in
     let phase = phase_same C plan found.0 b c.requires.plan found.1 in
     record {
@@ -18,9 +18,9 @@ loop-offset-init c =
 
 pub loop-offset-preserved : goal.loop-offset-preserved
 loop-offset-preserved c =
-    let C = c.args.sets.now in
-    let plan = c.args.plan.now in
-    let b = c.args.block in
+    let C = c.args.block.now.sets.now in
+    let plan = c.args.block.now.plan.now in
+    let b = c.args.block.now.number in
     let n = c.loop-offset.offset in
     let found = c.phase_of-phase.ensures.found in
     let phase = phase_same C plan found.0 b c.requires.plan found.1 in
@@ -34,9 +34,9 @@ loop-offset-preserved c =
 
 pub returns-clause-is : goal.returns-clause-is
 returns-clause-is c =
-    let C = c.args.sets.now in
-    let plan = c.args.plan.now in
-    let b = c.args.block in
+    let C = c.args.block.now.sets.now in
+    let plan = c.args.block.now.plan.now in
+    let b = c.args.block.now.number in
     let found = c.phase_of-phase.ensures.found in
     let phase = phase_same C plan found.0 b c.requires.plan found.1 in
     let all : c.loop-offset.offset ≡ block_length plan.k plan.q plan.m found.0 b = omega (arith, c.loop-offset-test.false, c.loop-offset.auto.offset-end, c.block_len-offset-end.ensures.some, c.block_len-offset-end.ensures.exact found.0 found.1) in
