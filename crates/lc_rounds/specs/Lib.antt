@@ -3,3 +3,4 @@ pub mod Step
 pub mod Records
 pub mod Paces
 pub mod Going
+pub mod Surroundings

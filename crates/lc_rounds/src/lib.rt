@@ -12,6 +12,7 @@ mod records;
 mod round;
 mod rounds;
 mod starting;
+mod surroundings;
 
 pub use course::Course;
 pub use crew::Crew;
@@ -21,3 +22,4 @@ pub use pace::Pace;
 pub use records::Answered;
 pub use rounds::{Stop, search_need};
 pub use starting::{afresh, resumed};
+pub use surroundings::Surroundings;

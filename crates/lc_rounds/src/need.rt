@@ -1,14 +1,14 @@
 //! The answer of one need of a session.
-ghost use Rattle.std.specs.Prelude.{◌≡◌, ◌+◌, ◌^◌, ◌<◌, ◌≤◌, List, [], ◌∷◌, ◌++◌, length, map, take, None, true, false, is_some, nat_lt, ◌==◌, ◌&&◌, Some, IfOk, MatchResult};
+ghost use Rattle.std.specs.Prelude.{◌≡◌, ◌+◌, ◌^◌, ◌<◌, ◌≤◌, List, [], ◌∷◌, ◌++◌, length, take, None, true, false, is_some, nat_lt, ◌==◌, ◌&&◌, Some, IfOk, MatchResult};
 ghost use Rattle.lc_algebra.specs.Matrix.{Matrix};
 ghost use Rattle.lc_algebra.specs.Divisor.{divisor_of};
 ghost use Rattle.lc_enumeration.specs.Search as enumeration;
 ghost use Rattle.lc_enumeration.specs.Search.{fits};
 ghost use Rattle.lc_enumeration.specs.Records.{found_of};
-ghost use Rattle.lc_io.specs.Watchers.{hearing};
 ghost use Rattle.lc_checkpoint.specs.Seen.{settled_of};
 ghost use Rattle.lc_search.specs.State.{SearchState, answer_in, answer_of};
-ghost use Rattle.lc_rounds.specs.Way.{Around, around};
+ghost use Rattle.lc_rounds.specs.Way.{Around};
+ghost use Rattle.lc_rounds.specs.Surroundings.{seen, seen_after};
 ghost use Rattle.lc_rounds.specs.Paces.{IsSame};
 ghost use Rattle.lc_rounds.specs.Going.{World, IsRanged, Goes, IsNext, Halts};
 
@@ -16,6 +16,7 @@ use crate::course::Course;
 use crate::crew::Crew;
 use crate::records::{Answered, begun, passed};
 use crate::rounds::{Stop, search_need};
+use crate::surroundings::Surroundings;
 use lc_checkpoint::Settled;
 use lc_code::Code;
 use lc_io::{Gate, Vault, Watcher};
@@ -115,8 +116,7 @@ fn pass_over(alloc: Global, course: &mut Course, code: &Code) -> Result<Answered
 #[tactic(auto, using(crate::proofs::RecordLaws::current_within))]
 fn search_on<R: Threads + Sync, V: Vault, W: Watcher, G: Gate + Sync>(
     crew: &Crew<'_, R, G>,
-    vault: &mut V,
-    watchers: &mut Vec<W>,
+    surroundings: Surroundings<'_, V, W>,
     course: &mut Course,
     code: &Code,
 ) -> Result<Answered, Halt>
@@ -125,15 +125,10 @@ fn search_on<R: Threads + Sync, V: Vault, W: Watcher, G: Gate + Sync>(
     requires few { course.old.met < 70000 }
     requires settled { length course.old.pace.point.settled.items ≡ course.old.met }
     ensures goes { (w : World) (needs : List Matrix) (answers : List enumeration.Answer) →
-        IsNext w needs code.now answers course.old
-        (around (V.contents vault.old) (V.faults vault.old)
-        (map (hearing W.heard W.coming W.pauses) watchers.old.items)) →
+        IsNext w needs code.now answers course.old (seen V.Vault W.Watcher surroundings.entry) →
         MatchResult result (λ x. Goes w (needs ++ code.now ∷ []) (answers ++ answer_of x.answer ∷ []) course.new
-        (around (V.contents vault.new) (V.faults vault.new)
-        (map (hearing W.heard W.coming W.pauses) watchers.new.items)))
-        (λ halt. Halts w needs code.now course.new
-        (around (V.contents vault.new) (V.faults vault.new)
-        (map (hearing W.heard W.coming W.pauses) watchers.new.items)) halt) }
+        (seen_after V.Vault W.Watcher surroundings.exit))
+        (λ halt. Halts w needs code.now course.new (seen_after V.Vault W.Watcher surroundings.exit) halt) }
     ensures answered { IfOk result (λ x. (x.search.code ≡ code.now) × (answer_in x.search ≡ Some (answer_of x.answer))
         × (fits x.search.code x.search.progress.blocks (found_of x.search.progress) ≡ true)) }
     ensures ranged { IfOk result (λ _. IsRanged course.new) }
@@ -143,7 +138,7 @@ fn search_on<R: Threads + Sync, V: Vault, W: Watcher, G: Gate + Sync>(
         Ok(search) => search,
         Err(halt) => return Err(halt),
     };
-    let answer = match search_need(crew, vault, watchers, &mut course.pace, &mut search) {
+    let answer = match search_need(crew, surroundings, &mut course.pace, &mut search) {
         Ok(answer) => answer,
         Err(stop) => return Err(Halt::Stop(stop)),
     };
@@ -163,8 +158,7 @@ fn search_on<R: Threads + Sync, V: Vault, W: Watcher, G: Gate + Sync>(
 /// The code has dimension at least 1, and fewer than 70,000 needs were met.
 pub fn answer_need<R: Threads + Sync, V: Vault, W: Watcher, G: Gate + Sync>(
     crew: &Crew<'_, R, G>,
-    vault: &mut V,
-    watchers: &mut Vec<W>,
+    surroundings: Surroundings<'_, V, W>,
     course: &mut Course,
     code: &Code,
 ) -> Result<Answered, Halt>
@@ -172,15 +166,10 @@ pub fn answer_need<R: Threads + Sync, V: Vault, W: Watcher, G: Gate + Sync>(
     requires ranged { IsRanged course.old }
     requires few { course.old.met < 70000 }
     ensures goes { (w : World) (needs : List Matrix) (answers : List enumeration.Answer) →
-        Goes w needs answers course.old
-        (around (V.contents vault.old) (V.faults vault.old)
-        (map (hearing W.heard W.coming W.pauses) watchers.old.items)) →
+        Goes w needs answers course.old (seen V.Vault W.Watcher surroundings.entry) →
         MatchResult result (λ x. Goes w (needs ++ code.now ∷ []) (answers ++ answer_of x.answer ∷ []) course.new
-        (around (V.contents vault.new) (V.faults vault.new)
-        (map (hearing W.heard W.coming W.pauses) watchers.new.items)))
-        (λ halt. Halts w needs code.now course.new
-        (around (V.contents vault.new) (V.faults vault.new)
-        (map (hearing W.heard W.coming W.pauses) watchers.new.items)) halt) }
+        (seen_after V.Vault W.Watcher surroundings.exit))
+        (λ halt. Halts w needs code.now course.new (seen_after V.Vault W.Watcher surroundings.exit) halt) }
     ensures answered { IfOk result (λ x. (x.search.code ≡ code.now) × (answer_in x.search ≡ Some (answer_of x.answer))
         × (fits x.search.code x.search.progress.blocks (found_of x.search.progress) ≡ true)) }
     ensures ranged { IfOk result (λ _. IsRanged course.new) }
@@ -188,10 +177,10 @@ pub fn answer_need<R: Threads + Sync, V: Vault, W: Watcher, G: Gate + Sync>(
 {
     if begins_anew(course, code) {
         cut(course);
-        return search_on(crew, vault, watchers, course, code);
+        return search_on(crew, surroundings, course, code);
     }
     if (course.met as usize) < course.pace.point.settled.len() {
         return pass_over(crew.alloc, course, code);
     }
-    search_on(crew, vault, watchers, course, code)
+    search_on(crew, surroundings, course, code)
 }

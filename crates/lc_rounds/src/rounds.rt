@@ -3,16 +3,17 @@ ghost use Rattle.std.specs.Prelude.{◌≡◌, ◌+◌, ◌-◌, ◌^◌, ◌<�
 ghost use Rattle.lc_enumeration.specs.Records.{SessionStep, found_of, is_used_up, last_state};
 ghost use Rattle.lc_enumeration.specs.Search.{fits};
 ghost use Rattle.lc_formats.specs.Checkpoint.{IsProgress};
-ghost use Rattle.lc_io.specs.Watchers.{hearing};
 ghost use Rattle.lc_checkpoint.specs.Seen.{settled_of};
 ghost use Rattle.lc_search.specs.State.{answer_in, answer_of};
 ghost use Rattle.lc_rounds.specs.Step.{next_step, after_step, after_next, IsSameSession, StopsAt};
-ghost use Rattle.lc_rounds.specs.Way.{rounds_left, steps_left, around, Origin, IsOnItsWay, HasStopped, Went};
+ghost use Rattle.lc_rounds.specs.Way.{rounds_left, steps_left, Origin, IsOnItsWay, HasStopped, Went};
+ghost use Rattle.lc_rounds.specs.Surroundings.{seen, seen_after};
 
 use crate::crew::Crew;
 use crate::keeping::{Unkept, has_bytes, keep_point};
 use crate::pace::Pace;
 use crate::round::do_round;
+use crate::surroundings::Surroundings;
 use lc_field::NoMemory;
 use lc_io::{Gate, Vault, Watcher};
 use lc_search::{Answer, Search, tell};
@@ -43,8 +44,7 @@ fn is_used_up(slice: Option<u64>) -> bool
 // Does a round of the search, stores its checkpoint, if the session keeps its checkpoints, and tells its record.
 fn pass_round<R: Threads + Sync, V: Vault, W: Watcher, G: Gate + Sync>(
     crew: &Crew<'_, R, G>,
-    vault: &mut V,
-    watchers: &mut Vec<W>,
+    surroundings: Surroundings<'_, V, W>,
     pace: &mut Pace,
     search: &mut Search,
 ) -> Result<(), Stop>
@@ -59,14 +59,11 @@ fn pass_round<R: Threads + Sync, V: Vault, W: Watcher, G: Gate + Sync>(
     requires settled { All (IsProgress search.old.budget) (map settled_of pace.old.point.settled.items) }
     requires room { pace.old.told + (search.old.budget - search.old.progress.blocks) < 2 ^ 64 }
     ensures goes { (o : Origin) (told : List SessionStep) →
-        IsOnItsWay o told pace.old (around (V.contents vault.old) (V.faults vault.old)
-        (map (hearing W.heard W.coming W.pauses) watchers.old.items)) →
+        IsOnItsWay o told pace.old (seen V.Vault W.Watcher surroundings.entry) →
         MatchResult result (λ _. IsOnItsWay o (told ++ next_step pace.old search.old ∷ []) pace.new
-        (around (V.contents vault.new) (V.faults vault.new)
-        (map (hearing W.heard W.coming W.pauses) watchers.new.items)))
+        (seen_after V.Vault W.Watcher surroundings.exit))
         (λ stop. StopsAt o told (next_step pace.old search.old) pace.new
-        (around (V.contents vault.new) (V.faults vault.new)
-        (map (hearing W.heard W.coming W.pauses) watchers.new.items)) stop) }
+        (seen_after V.Vault W.Watcher surroundings.exit) stop) }
     ensures pace { OnOk result (pace.new ≡ after_step pace.old search.old) }
     ensures search { OnOk result (search.new ≡ after_next pace.old search.old) }
     ensures further { OnOk result ((search.old.progress.blocks < search.new.progress.blocks)
@@ -83,13 +80,13 @@ fn pass_round<R: Threads + Sync, V: Vault, W: Watcher, G: Gate + Sync>(
         Err(NoMemory) => return Err(Stop::NoMemory),
     };
     has_bytes(&pace.point.script);
-    match keep_point(crew.alloc, vault, pace.keep, &pace.point) {
+    match keep_point(crew.alloc, surroundings.vault, pace.keep, &pace.point) {
         Ok(()) => {}
         Err(Unkept::VaultFault) => return Err(Stop::VaultFault),
         Err(Unkept::NoMemory) => return Err(Stop::NoMemory),
     }
     pace.count(record);
-    let paused = tell(watchers, &record);
+    let paused = tell(surroundings.watchers, &record);
     if pace.keep && paused {
         return Err(Stop::Paused);
     }
@@ -103,8 +100,7 @@ fn pass_round<R: Threads + Sync, V: Vault, W: Watcher, G: Gate + Sync>(
 /// Fewer than 70,000 needs are settled. The turn is at most 2^60.
 pub fn search_need<R: Threads + Sync, V: Vault, W: Watcher, G: Gate + Sync>(
     crew: &Crew<'_, R, G>,
-    vault: &mut V,
-    watchers: &mut Vec<W>,
+    surroundings: Surroundings<'_, V, W>,
     pace: &mut Pace,
     search: &mut Search,
 ) -> Result<Answer, Stop>
@@ -118,16 +114,13 @@ pub fn search_need<R: Threads + Sync, V: Vault, W: Watcher, G: Gate + Sync>(
     requires longest { (1 ≤ pace.old.longest) × (pace.old.longest ≤ 2 ^ 20) }
     requires slice { pace.old.keep ≡ false → pace.old.slice ≡ None }
     ensures goes { (o : Origin) (before : List SessionStep) →
-        IsOnItsWay o before pace.old (around (V.contents vault.old) (V.faults vault.old)
-        (map (hearing W.heard W.coming W.pauses) watchers.old.items)) →
+        IsOnItsWay o before pace.old (seen V.Vault W.Watcher surroundings.entry) →
         Went before (steps_left pace.old search.old)
         (λ told left. MatchResult result
         (λ _. (left ≡ []) × ((rounds_left pace.old search.old).is_stopped ≡ false)
-        × IsOnItsWay o told pace.new (around (V.contents vault.new) (V.faults vault.new)
-        (map (hearing W.heard W.coming W.pauses) watchers.new.items)))
+        × IsOnItsWay o told pace.new (seen_after V.Vault W.Watcher surroundings.exit))
         (λ stop. HasStopped o told left (rounds_left pace.old search.old).is_stopped pace.new
-        (around (V.contents vault.new) (V.faults vault.new)
-        (map (hearing W.heard W.coming W.pauses) watchers.new.items)) stop)) }
+        (seen_after V.Vault W.Watcher surroundings.exit) stop)) }
     ensures answer { IfOk result (λ a. answer_in search.new ≡ Some (answer_of a)) }
     ensures state { IfOk result (λ _. search.new.progress
         ≡ last_state search.old.progress (rounds_left pace.old search.old).states) }
@@ -141,6 +134,7 @@ pub fn search_need<R: Threads + Sync, V: Vault, W: Watcher, G: Gate + Sync>(
         × (pace.new.point.budget ≡ pace.old.point.budget) × (pace.new.point.settled ≡ pace.old.point.settled)
         × (pace.new.point.turn ≤ 2 ^ 60) }
 {
+    let Surroundings { vault, watchers } = surroundings;
     loop {
         if let Some(answer) = search.finished() {
             return Ok(answer);
@@ -148,7 +142,7 @@ pub fn search_need<R: Threads + Sync, V: Vault, W: Watcher, G: Gate + Sync>(
         if is_used_up(pace.slice) {
             return Err(Stop::Paused);
         }
-        match pass_round(crew, vault, watchers, pace, search) {
+        match pass_round(crew, Surroundings { vault, watchers }, pace, search) {
             Ok(()) => {}
             Err(stop) => return Err(stop),
         }

@@ -1,18 +1,17 @@
 //! The line of a query, with the rounds of its search.
-ghost use Rattle.std.specs.Prelude.{◌≡◌, ◌+◌, ◌<◌, ◌≤◌, List, [], ◌∷◌, ◌++◌, length, map, IfOk, MatchResult};
+ghost use Rattle.std.specs.Prelude.{◌≡◌, ◌+◌, ◌<◌, ◌≤◌, List, [], ◌∷◌, ◌++◌, length, IfOk, MatchResult};
 ghost use Rattle.lc_algebra.specs.Matrix.{Matrix};
 ghost use Rattle.lc_enumeration.specs.Search.{Answer};
-ghost use Rattle.lc_io.specs.Watchers.{hearing};
 ghost use Rattle.lc_eval.specs.Evaluated.{kind_of};
 ghost use Rattle.lc_session_rules.specs.Answers.{answer_line};
-ghost use Rattle.lc_rounds.specs.Way.{around};
+ghost use Rattle.lc_rounds.specs.Surroundings.{seen, seen_after};
 ghost use Rattle.lc_rounds.specs.Going.{World, IsRanged, Goes, Halts};
 
 use crate::lines::line_of;
 use lc_code::Code;
 use lc_eval::QueryKind;
 use lc_io::{Gate, Vault, Watcher};
-use lc_rounds::{Course, Crew, Halt, Stop, answer_need};
+use lc_rounds::{Course, Crew, Halt, Stop, Surroundings, answer_need};
 use std::thread::Threads;
 
 /// The line that a query prints of a code, the next need of a session: by the record of a checkpoint, if it has one there, else
@@ -21,8 +20,7 @@ use std::thread::Threads;
 /// The code has dimension at least 1, and fewer than 70,000 needs were met.
 pub fn need_line<R: Threads + Sync, V: Vault, W: Watcher, G: Gate + Sync>(
     crew: &Crew<'_, R, G>,
-    vault: &mut V,
-    watchers: &mut Vec<W>,
+    surroundings: Surroundings<'_, V, W>,
     course: &mut Course,
     kind: QueryKind,
     code: &Code,
@@ -32,23 +30,16 @@ pub fn need_line<R: Threads + Sync, V: Vault, W: Watcher, G: Gate + Sync>(
     requires few { course.old.met < 70000 }
     ensures goes { MatchResult result (λ line. (a : Answer) × (line.items ≡ answer_line (kind_of kind) code.now a)
         × ((w : World) (needs : List Matrix) (answers : List Answer) →
-        Goes w needs answers course.old
-        (around (V.contents vault.old) (V.faults vault.old)
-        (map (hearing W.heard W.coming W.pauses) watchers.old.items)) →
+        Goes w needs answers course.old (seen V.Vault W.Watcher surroundings.entry) →
         Goes w (needs ++ code.now ∷ []) (answers ++ a ∷ []) course.new
-        (around (V.contents vault.new) (V.faults vault.new)
-        (map (hearing W.heard W.coming W.pauses) watchers.new.items))))
+        (seen_after V.Vault W.Watcher surroundings.exit)))
         (λ halt. (w : World) (needs : List Matrix) (answers : List Answer) →
-        Goes w needs answers course.old
-        (around (V.contents vault.old) (V.faults vault.old)
-        (map (hearing W.heard W.coming W.pauses) watchers.old.items)) →
-        Halts w needs code.now course.new
-        (around (V.contents vault.new) (V.faults vault.new)
-        (map (hearing W.heard W.coming W.pauses) watchers.new.items)) halt) }
+        Goes w needs answers course.old (seen V.Vault W.Watcher surroundings.entry) →
+        Halts w needs code.now course.new (seen_after V.Vault W.Watcher surroundings.exit) halt) }
     ensures ranged { IfOk result (λ _. IsRanged course.new) }
     ensures same { IfOk result (λ _. course.new.met ≡ course.old.met + 1) }
 {
-    let found = match answer_need(crew, vault, watchers, course, code) {
+    let found = match answer_need(crew, surroundings, course, code) {
         Ok(found) => found,
         Err(halt) => return Err(halt),
     };

@@ -1,12 +1,11 @@
 //! The statements of a script, one after another.
 ghost use Rattle.std.specs.Prelude.{◌≡◌, ◌+◌, ◌^◌, ◌<◌, ◌≤◌, ℕ, List, [], length, map, take, true, false, is_some, IsOk, MatchResult};
 ghost use Rattle.lc_algebra.specs.Matrix.{Matrix};
-ghost use Rattle.lc_io.specs.Watchers.{hearing};
 ghost use Rattle.lc_parse.specs.Views.{statement_of};
 ghost use Rattle.lc_eval.specs.Built.{built_calls};
 ghost use Rattle.lc_session_rules.specs.Needs.{Needs};
 ghost use Rattle.lc_session_rules.specs.Session.{end_number};
-ghost use Rattle.lc_rounds.specs.Way.{around};
+ghost use Rattle.lc_rounds.specs.Surroundings.{seen, seen_after};
 ghost use Rattle.lc_rounds.specs.Going.{World, IsRanged, Goes};
 ghost use Rattle.lc_text.specs.Text.{Finishes, Ends};
 
@@ -14,7 +13,7 @@ use crate::lines::{distribution_line, near_line};
 use crate::queries::need_line;
 use lc_eval::{Machine, Step};
 use lc_io::{Gate, Vault, Watcher};
-use lc_rounds::{Course, Crew, Halt, Stop};
+use lc_rounds::{Course, Crew, Halt, Stop, Surroundings};
 use std::thread::Threads;
 
 /// The text that a script prints.
@@ -56,8 +55,7 @@ pub(crate) fn ended(course: &Course, bytes: Vec<u8>, ends: bool) -> Result<Text,
 /// The session has met no need, and the statements ask for fewer than 70,000.
 pub(crate) fn text_of<R: Threads + Sync, V: Vault, W: Watcher, G: Gate + Sync>(
     crew: &Crew<'_, R, G>,
-    vault: &mut V,
-    watchers: &mut Vec<W>,
+    surroundings: Surroundings<'_, V, W>,
     course: &mut Course,
     machine: &mut Machine,
 ) -> Result<Text, Halt>
@@ -66,17 +64,14 @@ pub(crate) fn text_of<R: Threads + Sync, V: Vault, W: Watcher, G: Gate + Sync>(
     requires unbound { machine.old.bindings ≡ [] }
     requires few { (n : ℕ) (needs : List Matrix) →
         Needs built_calls [] (take n (map statement_of machine.old.left)) needs → length needs < 70000 }
-    ensures ends { (w : World) → Goes w [] [] course.old
-        (around (V.contents vault.old) (V.faults vault.old)
-        (map (hearing W.heard W.coming W.pauses) watchers.old.items)) →
+    ensures ends { (w : World) → Goes w [] [] course.old (seen V.Vault W.Watcher surroundings.entry) →
         MatchResult result (λ t. Finishes w (map statement_of machine.old.left) t course.new
-        (around (V.contents vault.new) (V.faults vault.new)
-        (map (hearing W.heard W.coming W.pauses) watchers.new.items)))
+        (seen_after V.Vault W.Watcher surroundings.exit))
         (λ halt. Ends w (map statement_of machine.old.left) course.new
-        (around (V.contents vault.new) (V.faults vault.new)
-        (map (hearing W.heard W.coming W.pauses) watchers.new.items)) halt) }
+        (seen_after V.Vault W.Watcher surroundings.exit) halt) }
     ensures nothing { machine.old.left ≡ [] → is_some course.old.current ≡ false → IsOk result }
 {
+    let Surroundings { vault, watchers } = surroundings;
     let budget = course.pace.point.budget;
     let mut bytes = Vec::new(crew.alloc);
     'statements: loop {
@@ -91,7 +86,8 @@ pub(crate) fn text_of<R: Threads + Sync, V: Vault, W: Watcher, G: Gate + Sync>(
             }
             Step::Silent => {}
             Step::Need(query) => {
-                let line = match need_line(crew, vault, watchers, course, query.kind, &query.code) {
+                let lent = Surroundings { vault, watchers };
+                let line = match need_line(crew, lent, course, query.kind, &query.code) {
                     Ok(line) => line,
                     Err(halt) => return Err(halt),
                 };

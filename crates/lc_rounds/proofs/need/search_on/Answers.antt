@@ -1,6 +1,6 @@
-use Rattle.std.proofs.Common.{refl, sym, ap, arith, ◌∙◌, ◌++◌, ◌∷◌, [], map, ◌+◌, None}
-use Rattle.lc_io.specs.Watchers.{hearing}
-use Rattle.lc_rounds.specs.Way.{Around, around}
+use Rattle.std.proofs.Common.{refl, sym, ap, arith, ◌∙◌, ◌++◌, ◌∷◌, [], ◌+◌, None}
+use Rattle.lc_rounds.specs.Way.{Around}
+use Rattle.lc_rounds.specs.Surroundings.{seen_of}
 use Rattle.lc_rounds.specs.declared.pace.Pace.{Pace}
 use Rattle.lc_rounds.specs.declared.course.Course.{Course}
 use Rattle.lc_rounds.proofs.NeedLaws.{begins_not, stops_so, starves_so, goes_so, settled_long, on_ok, pushed, few_blocks, one_ranged, told_more, slice_kept, searched_ranged}
@@ -11,14 +11,14 @@ returns-in-Err-clause-goes g c w needs answers h = begins_not w needs c.args.cod
 
 pub returns-in-Err-search_need-clause-goes : goal.returns-in-Err-search_need-clause-goes
 returns-in-Err-search_need-clause-goes g c w needs answers h =
-    let later : Around = around (g.V.Vault.contents c.search_need.new.vault) (g.V.Vault.faults c.search_need.new.vault) (map (hearing g.W.Watcher.heard g.W.Watcher.coming g.W.Watcher.pauses) c.search_need.new.watchers.items) in
+    let later : Around = seen_of g.V.Vault g.W.Watcher c.search_need.new.surroundings.0 c.search_need.new.surroundings.1.0.items in
     let d : Course = record { pace = c.search_need.new.pace; met = c.args.course.now.met; version = c.args.course.now.version; current = c.args.course.now.current } in
     stops_so w needs c.args.code.now answers c.args.course.now d _ later c.in-Ok.search c.in-Err-search_need.stop c.in-Ok.ensures (settled_long c.args.course.now c.requires.settled)
     (record { keep = c.search_need.ensures.pace.0; script = c.search_need.ensures.point.1; budget = c.search_need.ensures.point.2; longest = c.search_need.ensures.longest }) h (c.in-Err-search_need.ensures.goes w.origin h.told h.way)
 
 pub returns-then-is_err-clause-goes : goal.returns-then-is_err-clause-goes
 returns-then-is_err-clause-goes g c w needs answers h =
-    let later : Around = around (g.V.Vault.contents c.search_need.new.vault) (g.V.Vault.faults c.search_need.new.vault) (map (hearing g.W.Watcher.heard g.W.Watcher.coming g.W.Watcher.pauses) c.search_need.new.watchers.items) in
+    let later : Around = seen_of g.V.Vault g.W.Watcher c.search_need.new.surroundings.0 c.search_need.new.surroundings.1.0.items in
     let p : Pace = c.search_need.new.pace in
     let d : Course = record {
       pace = record p { point = record (p.point) { settled = c.push.new.self } };
@@ -32,7 +32,7 @@ returns-then-is_err-clause-goes g c w needs answers h =
 
 pub returns-clause-goes : goal.returns-clause-goes
 returns-clause-goes g c w needs answers h =
-    let later : Around = around (g.V.Vault.contents c.search_need.new.vault) (g.V.Vault.faults c.search_need.new.vault) (map (hearing g.W.Watcher.heard g.W.Watcher.coming g.W.Watcher.pauses) c.search_need.new.watchers.items) in
+    let later : Around = seen_of g.V.Vault g.W.Watcher c.search_need.new.surroundings.0 c.search_need.new.surroundings.1.0.items in
     let p : Pace = c.search_need.new.pace in
     let d : Course = record {
       pace = record p { point = record (p.point) { settled = c.push.new.self } };

@@ -18,7 +18,7 @@ returns-in-Err-VaultFault-clause-goes g c o told h =
 pub returns-in-Err-NoMemory-clause-goes : goal.returns-in-Err-NoMemory-clause-goes
 returns-in-Err-NoMemory-clause-goes g c o told h =
     stops_starved o told c.args.pace.now c.args.search.now _ _ c.do_round.new.pace (inr c.in-Ok.ensures.pace) h
-    (let f = rw c.in-Err-NoMemory.field-0-is at c.in-Err-NoMemory.ensures.unkept in λ i. around (f.0 i) (f.1 i) (map (hearing g.W.Watcher.heard g.W.Watcher.coming g.W.Watcher.pauses) c.args.watchers.now.items))
+    (let f = rw c.in-Err-NoMemory.field-0-is at c.in-Err-NoMemory.ensures.unkept in λ i. around (f.0 i) (f.1 i) (map (hearing g.W.Watcher.heard g.W.Watcher.coming g.W.Watcher.pauses) c.args.surroundings.watchers.now.items))
 
 pub returns-then-paused-clause-goes : goal.returns-then-paused-clause-goes
 returns-then-paused-clause-goes g c o told h =
