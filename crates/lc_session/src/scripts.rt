@@ -1,13 +1,12 @@
 //! The sessions of `run` and `resume`.
-ghost use Rattle.std.specs.Prelude.{◌≡◌, ◌≢◌, ℕ, List, [], map, true, false, Some, OnOk, OnErr, MatchResult};
+ghost use Rattle.std.specs.Prelude.{◌≡◌, ◌≢◌, ℕ, List, [], true, false, Some, OnOk, OnErr, MatchResult};
 ghost use Rattle.lc_io.specs.Vaults.{WhereTold, empty_slots};
 ghost use Rattle.lc_io.specs.Outside.{HasRisen};
-ghost use Rattle.lc_io.specs.Watchers.{hearing};
 ghost use Rattle.lc_eval.specs.Built.{built_calls};
 ghost use Rattle.lc_session_rules.specs.Options.{settings, options, all_options};
 ghost use Rattle.lc_session_rules.specs.Session.{AreHalfEmptied, IsSession};
 ghost use Rattle.lc_arguments.specs.Asked.{settings_for, IsWithin};
-ghost use Rattle.lc_rounds.specs.Way.{around};
+ghost use Rattle.lc_rounds.specs.Surroundings.{seen, seen_after};
 ghost use Rattle.lc_text.specs.Worlds.{outside_of};
 ghost use Rattle.lc_session.specs.Ending.{ending_of};
 ghost use Rattle.lc_session.specs.Closing.{Closes, status_of};
@@ -15,7 +14,7 @@ ghost use Rattle.lc_session.specs.Closing.{Closes, status_of};
 use crate::status::Status;
 use lc_arguments::{Command, Settings};
 use lc_io::{Failed, Gate, Sink, Source, Vault, Watcher, write_whole};
-use lc_rounds::{Course, Crew, Halt, Stop, afresh, resumed};
+use lc_rounds::{Course, Crew, Halt, Stop, Surroundings, afresh, resumed};
 use lc_session_rules::needs::needs_take_bytes;
 use lc_session_rules::{InputRefusal, input};
 use lc_slots::{Found, LoadRefusal, chosen, digest, emptied, is_for};
@@ -82,18 +81,15 @@ pub(crate) fn run<R: Threads + Sync, S: Source, K: Sink, V: Vault, W: Watcher, G
     asked: Settings,
     source: &mut S,
     sink: &mut K,
-    vault: &mut V,
-    watchers: &mut Vec<W>,
+    surroundings: Surroundings<'_, V, W>,
 ) -> Status
     requires within { IsWithin asked }
     requires runs { asked.command ≡ Command.Run }
     ensures session { (args : List (List ℕ)) → options all_options args ≡ settings (settings_for asked) →
         IsSession built_calls args (outside_of (S.rest source.old) (S.faults source.old) (K.written sink.old)
-        (K.faults sink.old) (around (V.contents vault.old) (V.faults vault.old)
-        (map (hearing W.heard W.coming W.pauses) watchers.old.items)))
+        (K.faults sink.old) (seen V.Vault W.Watcher surroundings.entry))
         (outside_of (S.rest source.new) (S.faults source.new) (K.written sink.new) (K.faults sink.new)
-        (around (V.contents vault.new) (V.faults vault.new)
-        (map (hearing W.heard W.coming W.pauses) watchers.new.items))) (ending_of result) }
+        (seen_after V.Vault W.Watcher surroundings.exit)) (ending_of result) }
     ensures nothing { S.rest source.old ≡ Some [] → (told : ℕ) → result ≢ Status.NoMemory told }
 {
     let bytes = match input(crew.alloc, source) {
@@ -102,7 +98,7 @@ pub(crate) fn run<R: Threads + Sync, S: Source, K: Sink, V: Vault, W: Watcher, G
         Err(InputRefusal::TooLong) => return Status::TooLong,
         Err(InputRefusal::NoMemory) => return Status::NoMemory { told: 0 },
     };
-    match cleared(vault, asked.keep) {
+    match cleared(surroundings.vault, asked.keep) {
         Ok(()) => {}
         Err(_) => return Status::VaultFault { told: 0 },
     }
@@ -116,7 +112,7 @@ pub(crate) fn run<R: Threads + Sync, S: Source, K: Sink, V: Vault, W: Watcher, G
         asked.budget,
         digest(&bytes),
     );
-    let found = script_text(crew, vault, watchers, &mut course, &bytes);
+    let found = script_text(crew, surroundings, &mut course, &bytes);
     closed(sink, &course, found)
 }
 
@@ -126,18 +122,15 @@ pub(crate) fn resume<R: Threads + Sync, S: Source, K: Sink, V: Vault, W: Watcher
     asked: Settings,
     source: &mut S,
     sink: &mut K,
-    vault: &mut V,
-    watchers: &mut Vec<W>,
+    surroundings: Surroundings<'_, V, W>,
 ) -> Status
     requires within { IsWithin asked }
     requires resumes { asked.command ≡ Command.Resume }
     ensures { (args : List (List ℕ)) → options all_options args ≡ settings (settings_for asked) →
         IsSession built_calls args (outside_of (S.rest source.old) (S.faults source.old) (K.written sink.old)
-        (K.faults sink.old) (around (V.contents vault.old) (V.faults vault.old)
-        (map (hearing W.heard W.coming W.pauses) watchers.old.items)))
+        (K.faults sink.old) (seen V.Vault W.Watcher surroundings.entry))
         (outside_of (S.rest source.new) (S.faults source.new) (K.written sink.new) (K.faults sink.new)
-        (around (V.contents vault.new) (V.faults vault.new)
-        (map (hearing W.heard W.coming W.pauses) watchers.new.items))) (ending_of result) }
+        (seen_after V.Vault W.Watcher surroundings.exit)) (ending_of result) }
 {
     let bytes = match input(crew.alloc, source) {
         Ok(bytes) => bytes,
@@ -145,7 +138,7 @@ pub(crate) fn resume<R: Threads + Sync, S: Source, K: Sink, V: Vault, W: Watcher
         Err(InputRefusal::TooLong) => return Status::TooLong,
         Err(InputRefusal::NoMemory) => return Status::NoMemory { told: 0 },
     };
-    let point = match chosen(crew.alloc, vault) {
+    let point = match chosen(crew.alloc, surroundings.vault) {
         Ok(Found::Taken(point)) => point,
         Ok(Found::Nothing) => return Status::NoCheckpoint,
         Ok(Found::Damaged) => return Status::DamagedCheckpoint,
@@ -161,6 +154,6 @@ pub(crate) fn resume<R: Threads + Sync, S: Source, K: Sink, V: Vault, W: Watcher
     // A script of so many bytes asks for fewer than 70,000 searches.
     needs_take_bytes();
     let mut course = resumed(asked.keep, asked.round, asked.slice, point);
-    let found = script_text(crew, vault, watchers, &mut course, &bytes);
+    let found = script_text(crew, surroundings, &mut course, &bytes);
     closed(sink, &course, found)
 }

@@ -7,6 +7,7 @@ ghost use Rattle.lc_session_rules.specs.Options.{Settings, all_options, options,
 ghost use Rattle.lc_session_rules.specs.Session.{IsSession};
 ghost use Rattle.lc_arguments.specs.Asked.{words_of};
 ghost use Rattle.lc_rounds.specs.Way.{around};
+ghost use Rattle.lc_rounds.specs.Surroundings.{seen, seen_after};
 ghost use Rattle.lc_text.specs.Worlds.{outside_of};
 ghost use Rattle.lc_session.specs.Ending.{ending_of};
 
@@ -16,7 +17,7 @@ use crate::status::Status;
 use crate::summary::summary;
 use lc_arguments::{Command, OptionRefusal, options};
 use lc_io::{Gate, Sink, Source, Vault, Watcher};
-use lc_rounds::Crew;
+use lc_rounds::{Crew, Surroundings};
 use std::alloc::Global;
 use std::thread::Threads;
 
@@ -27,17 +28,14 @@ fn session<R: Threads + Sync, S: Source, K: Sink, V: Vault, W: Watcher, G: Gate 
     arguments: &[String],
     source: &mut S,
     sink: &mut K,
-    vault: &mut V,
-    watchers: &mut Vec<W>,
+    surroundings: Surroundings<'_, V, W>,
     gate: &G,
 ) -> Status
     ensures session { IsSession built_calls (words_of arguments.now)
         (outside_of (S.rest source.old) (S.faults source.old) (K.written sink.old) (K.faults sink.old)
-        (around (V.contents vault.old) (V.faults vault.old)
-        (map (hearing W.heard W.coming W.pauses) watchers.old.items)))
+        (seen V.Vault W.Watcher surroundings.entry))
         (outside_of (S.rest source.new) (S.faults source.new) (K.written sink.new) (K.faults sink.new)
-        (around (V.contents vault.new) (V.faults vault.new)
-        (map (hearing W.heard W.coming W.pauses) watchers.new.items))) (ending_of result) }
+        (seen_after V.Vault W.Watcher surroundings.exit)) (ending_of result) }
     ensures nothing { (asked : Settings) → options all_options (words_of arguments.now) ≡ settings asked →
         asked.command ≡ line.run → S.rest source.old ≡ Some [] → (told : ℕ) → result ≢ Status.NoMemory told }
 {
@@ -53,10 +51,10 @@ fn session<R: Threads + Sync, S: Source, K: Sink, V: Vault, W: Watcher, G: Gate 
         gate,
     };
     match asked.command {
-        Command::Run => run(&crew, asked, source, sink, vault, watchers),
-        Command::Resume => resume(&crew, asked, source, sink, vault, watchers),
+        Command::Run => run(&crew, asked, source, sink, surroundings),
+        Command::Resume => resume(&crew, asked, source, sink, surroundings),
         Command::Check => check(alloc, asked, source, sink),
-        Command::Summary => summary(&crew, asked, sink, vault, watchers),
+        Command::Summary => summary(&crew, asked, sink, surroundings),
     }
 }
 
@@ -104,5 +102,6 @@ pub fn run_session<R: Threads + Sync, S: Source, K: Sink, V: Vault, G: Gate + Sy
     ensures nothing { (asked : Settings) → options all_options (words_of arguments.now) ≡ settings asked →
         asked.command ≡ line.run → S.rest source.old ≡ Some [] → (told : ℕ) → result ≢ Status.NoMemory told }
 {
-    session(rt, alloc, arguments, source, sink, vault, watchers, gate)
+    let surroundings = Surroundings { vault, watchers };
+    session(rt, alloc, arguments, source, sink, surroundings, gate)
 }

@@ -1,11 +1,10 @@
 //! The session of `summary`.
-ghost use Rattle.std.specs.Prelude.{◌≡◌, ℕ, List, map, Option};
-ghost use Rattle.lc_io.specs.Watchers.{hearing};
+ghost use Rattle.std.specs.Prelude.{◌≡◌, ℕ, List, Option};
 ghost use Rattle.lc_eval.specs.Built.{built_calls};
 ghost use Rattle.lc_session_rules.specs.Options.{settings, options, all_options};
 ghost use Rattle.lc_session_rules.specs.Session.{IsSession};
 ghost use Rattle.lc_arguments.specs.Asked.{settings_for, IsWithin};
-ghost use Rattle.lc_rounds.specs.Way.{around};
+ghost use Rattle.lc_rounds.specs.Surroundings.{seen, seen_after};
 ghost use Rattle.lc_text.specs.Worlds.{outside_of};
 ghost use Rattle.lc_session.specs.Ending.{ending_of};
 
@@ -13,7 +12,7 @@ use crate::status::Status;
 use lc_arguments::{Command, Settings};
 use lc_eval::QueryKind;
 use lc_io::{Gate, Sink, Vault, Watcher, write_whole};
-use lc_rounds::{Crew, afresh};
+use lc_rounds::{Crew, Surroundings, afresh};
 use lc_summary::{summary_code, summary_line};
 use lc_text::need_line;
 use std::thread::Threads;
@@ -23,32 +22,22 @@ pub(crate) fn summary<R: Threads + Sync, K: Sink, V: Vault, W: Watcher, G: Gate 
     crew: &Crew<'_, R, G>,
     asked: Settings,
     sink: &mut K,
-    vault: &mut V,
-    watchers: &mut Vec<W>,
+    surroundings: Surroundings<'_, V, W>,
 ) -> Status
     requires within { IsWithin asked }
     requires sums { asked.command ≡ Command.Summary }
     ensures { (args : List (List ℕ)) (source : Option (List ℕ)) (source_faults : ℕ) →
         options all_options args ≡ settings (settings_for asked) →
         IsSession built_calls args (outside_of source source_faults (K.written sink.old) (K.faults sink.old)
-        (around (V.contents vault.old) (V.faults vault.old)
-        (map (hearing W.heard W.coming W.pauses) watchers.old.items)))
+        (seen V.Vault W.Watcher surroundings.entry))
         (outside_of source source_faults (K.written sink.new) (K.faults sink.new)
-        (around (V.contents vault.new) (V.faults vault.new)
-        (map (hearing W.heard W.coming W.pauses) watchers.new.items))) (ending_of result) }
+        (seen_after V.Vault W.Watcher surroundings.exit)) (ending_of result) }
 {
     let Ok(code) = summary_code(crew.alloc, asked.number) else {
         return Status::NoMemory { told: 0 };
     };
     let mut course = afresh(crew.alloc, false, asked.round, None, asked.budget, [0; 32]);
-    let line = match need_line(
-        crew,
-        vault,
-        watchers,
-        &mut course,
-        QueryKind::Distance,
-        &code,
-    ) {
+    let line = match need_line(crew, surroundings, &mut course, QueryKind::Distance, &code) {
         Ok(line) => line,
         Err(_) => {
             return Status::NoMemory {

@@ -1,7 +1,7 @@
-use Rattle.std.proofs.Common.{map, sym, ap, ◌∙◌}
-use Rattle.lc_io.specs.Watchers.{hearing}
+use Rattle.std.proofs.Common.{sym, ap, ◌∙◌}
 use Rattle.lc_arguments.specs.Asked.{words_of, command_for}
-use Rattle.lc_rounds.specs.Way.{Around, around}
+use Rattle.lc_rounds.specs.Way.{Around}
+use Rattle.lc_rounds.specs.Surroundings.{seen}
 use Rattle.lc_session.proofs.EarlyEnds.{refused_words}
 use Rattle.lc_session.proofs.NoBytes.{runs}
 use Rattle.lc_session.proofs.session.session.Goals as goal
@@ -19,7 +19,7 @@ returns-in-Err-NoMemory-clause-nothing g c asked given is none told = absurd (rw
 
 pub returns-in-Check-clause-session : goal.returns-in-Check-clause-session
 returns-in-Check-clause-session g c =
-    let now : Around = around (g.V.Vault.contents c.args.vault.now) (g.V.Vault.faults c.args.vault.now) (map (hearing g.W.Watcher.heard g.W.Watcher.coming g.W.Watcher.pauses) c.args.watchers.now.items) in
+    let now : Around = seen g.V.Vault g.W.Watcher c.args.surroundings in
     c.check.ensures (words_of c.args.arguments.now) now c.in-Ok.ensures.0
 
 pub returns-in-Resume-clause-nothing : goal.returns-in-Resume-clause-nothing

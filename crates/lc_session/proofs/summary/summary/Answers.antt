@@ -1,8 +1,8 @@
-use Rattle.std.proofs.Common.{◌<◌, length, map, [], refl, sym, ap, subst, ◌∙◌}
+use Rattle.std.proofs.Common.{◌<◌, length, [], refl, sym, ap, subst, ◌∙◌}
 use Rattle.lc_algebra.specs.Matrix.{Matrix}
-use Rattle.lc_io.specs.Watchers.{hearing}
 use Rattle.lc_session_rules.specs.Options.{settings}
-use Rattle.lc_rounds.specs.Way.{Around, around}
+use Rattle.lc_rounds.specs.Way.{Around}
+use Rattle.lc_rounds.specs.Surroundings.{seen_of, seen}
 use Rattle.lc_session.proofs.AskedLaws.{summary_asked}
 use Rattle.lc_session.proofs.SummarySessions.{code_rows, summary_unstarted, written_so, unwritten_so, starved_so, halted_so}
 use Rattle.lc_session.proofs.summary.summary.Goals as goal
@@ -18,16 +18,16 @@ need_line-requires-clause-rows g c _ _ = subst (λ (C : Matrix). 0 < length C.ro
 pub returns-in-Err : goal.returns-in-Err
 returns-in-Err g c args source source_faults accepted =
     let a = c.args.asked in
-    let first : Around = around (g.V.Vault.contents c.args.vault.now) (g.V.Vault.faults c.args.vault.now) (map (hearing g.W.Watcher.heard g.W.Watcher.coming g.W.Watcher.pauses) c.args.watchers.now.items) in
-    let last : Around = around (g.V.Vault.contents c.need_line.new.vault) (g.V.Vault.faults c.need_line.new.vault) (map (hearing g.W.Watcher.heard g.W.Watcher.coming g.W.Watcher.pauses) c.need_line.new.watchers.items) in
+    let first : Around = seen g.V.Vault g.W.Watcher c.args.surroundings in
+    let last : Around = seen_of g.V.Vault g.W.Watcher c.need_line.new.surroundings.0 c.need_line.new.surroundings.1.0.items in
     halted_so a.number a.budget a.round c.requires.within.limits.few_blocks c.requires.within.limits.some_blocks.0 _ first args a.workers source source_faults _ _ (accepted ∙ ap settings (summary_asked a c.requires.within c.requires.sums)) c.need_line.new.course last _ _
     c.in-Ok.code c.in-Err.field-0 c.in-Ok.ensures.code (c.in-Err.ensures.goes _ [] [] (c.afresh-course.ensures.starts first)) refl refl
 
 pub returns-in_default-summary_line : goal.returns-in_default-summary_line
 returns-in_default-summary_line g c args source source_faults accepted =
     let a = c.args.asked in
-    let first : Around = around (g.V.Vault.contents c.args.vault.now) (g.V.Vault.faults c.args.vault.now) (map (hearing g.W.Watcher.heard g.W.Watcher.coming g.W.Watcher.pauses) c.args.watchers.now.items) in
-    let last : Around = around (g.V.Vault.contents c.need_line.new.vault) (g.V.Vault.faults c.need_line.new.vault) (map (hearing g.W.Watcher.heard g.W.Watcher.coming g.W.Watcher.pauses) c.need_line.new.watchers.items) in
+    let first : Around = seen g.V.Vault g.W.Watcher c.args.surroundings in
+    let last : Around = seen_of g.V.Vault g.W.Watcher c.need_line.new.surroundings.0 c.need_line.new.surroundings.1.0.items in
     let went = c.in-Ok-need_line.ensures.goes in
     starved_so a.number a.budget a.round c.requires.within.limits.few_blocks c.requires.within.limits.some_blocks.0 _ first args a.workers source source_faults _ _ (accepted ∙ ap settings (summary_asked a c.requires.within c.requires.sums)) c.need_line.new.course last _ _
     c.in-Ok.code went.0 c.in-Ok.ensures.code (went.2 _ [] [] (c.afresh-course.ensures.starts first)) refl refl
@@ -35,8 +35,8 @@ returns-in_default-summary_line g c args source source_faults accepted =
 pub returns-in-Ok-write_whole : goal.returns-in-Ok-write_whole
 returns-in-Ok-write_whole g c args source source_faults accepted =
     let a = c.args.asked in
-    let first : Around = around (g.V.Vault.contents c.args.vault.now) (g.V.Vault.faults c.args.vault.now) (map (hearing g.W.Watcher.heard g.W.Watcher.coming g.W.Watcher.pauses) c.args.watchers.now.items) in
-    let last : Around = around (g.V.Vault.contents c.need_line.new.vault) (g.V.Vault.faults c.need_line.new.vault) (map (hearing g.W.Watcher.heard g.W.Watcher.coming g.W.Watcher.pauses) c.need_line.new.watchers.items) in
+    let first : Around = seen g.V.Vault g.W.Watcher c.args.surroundings in
+    let last : Around = seen_of g.V.Vault g.W.Watcher c.need_line.new.surroundings.0 c.need_line.new.surroundings.1.0.items in
     let went = c.in-Ok-need_line.ensures.goes in
     written_so a.number a.budget a.round c.requires.within.limits.few_blocks c.requires.within.limits.some_blocks.0 _ first args a.workers source source_faults _ _ (accepted ∙ ap settings (summary_asked a c.requires.within c.requires.sums)) c.need_line.new.course last _ _
     c.in-Ok.code went.0 c.deref.result.now c.in-Ok-summary_line.text.items c.in-Ok.ensures.code (went.2 _ [] [] (c.afresh-course.ensures.starts first)) (c.deref.ensures.value ∙ went.1) c.in-Ok-summary_line.ensures.summary
@@ -45,8 +45,8 @@ returns-in-Ok-write_whole g c args source source_faults accepted =
 pub returns : goal.returns
 returns g c args source source_faults accepted =
     let a = c.args.asked in
-    let first : Around = around (g.V.Vault.contents c.args.vault.now) (g.V.Vault.faults c.args.vault.now) (map (hearing g.W.Watcher.heard g.W.Watcher.coming g.W.Watcher.pauses) c.args.watchers.now.items) in
-    let last : Around = around (g.V.Vault.contents c.need_line.new.vault) (g.V.Vault.faults c.need_line.new.vault) (map (hearing g.W.Watcher.heard g.W.Watcher.coming g.W.Watcher.pauses) c.need_line.new.watchers.items) in
+    let first : Around = seen g.V.Vault g.W.Watcher c.args.surroundings in
+    let last : Around = seen_of g.V.Vault g.W.Watcher c.need_line.new.surroundings.0 c.need_line.new.surroundings.1.0.items in
     let went = c.in-Ok-need_line.ensures.goes in
     unwritten_so a.number a.budget a.round c.requires.within.limits.few_blocks c.requires.within.limits.some_blocks.0 _ first args a.workers source source_faults _ _ (accepted ∙ ap settings (summary_asked a c.requires.within c.requires.sums)) c.need_line.new.course last _ _
     c.in-Ok.code went.0 c.deref.result.now c.in-Ok-summary_line.text.items c.in-Ok.ensures.code (went.2 _ [] [] (c.afresh-course.ensures.starts first)) (c.deref.ensures.value ∙ went.1) c.in-Ok-summary_line.ensures.summary
