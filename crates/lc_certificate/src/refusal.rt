@@ -11,7 +11,7 @@ use std::alloc::{AllocError, AllocFailed};
 pub enum CertRefusal {
     /// They are no JSON value.
     NotJson,
-    /// The number of the first rule of shape that is broken, 1 to 11.
+    /// The number of the first rule of shape that is broken, 1 to 12.
     Shape(u32),
     /// The length, the number of rows or the number of sets is above 255.
     Limit,

@@ -23,7 +23,7 @@ pub enum Verdict {
 pub enum Reason {
     /// The bytes are no JSON value.
     NotJson,
-    /// The number of the first rule of shape that is broken, 1 to 11.
+    /// The number of the first rule of shape that is broken, 1 to 12.
     Shape(u32),
     /// The length, the number of rows or the number of sets is above 255.
     Limit,

@@ -16,7 +16,7 @@ use crate::frame::{Frame, Given, lefts_of};
 use crate::round::{State, search_phase};
 use crate::walk::Room;
 use lc_code::Code;
-use lc_enumeration::CUT;
+use lc_enumeration::{BLOCK, CUT};
 use lc_field::NoMemory;
 use lc_infoset::Sets;
 use lc_place::Plan;
@@ -178,10 +178,7 @@ fn plan_of(alloc: Global, sets: &Sets) -> Result<Plan, NoMemory>
 {
     let _long = sets.length();
     let places = sets.dimension() + 1;
-    let Ok(plan) = Plan::build(alloc, places, sets.field().size() as u64, 1) else {
-        return Err(NoMemory);
-    };
-    Ok(plan)
+    Plan::build(alloc, places, sets.field().size() as u64, 1)
 }
 
 // How a search ends: whether it is exact, the lower end, and the blocks.
@@ -225,7 +222,7 @@ fn ends_by(_frame: &Frame, phase: CosetPhase, last: u64) -> bool
     ensures is { result ≡ nat_le (coset_blocks_before (length _frame.now.sets.rows) (size _frame.now.sets.field)
         (set_count _frame.now.sets) (suc phase.number)) last }
 {
-    (phase.patterns + 4095) / 4096 <= last - phase.first
+    (phase.patterns + (BLOCK - 1)) / BLOCK <= last - phase.first
 }
 
 // The phase of a number that begins at block `first`, of which no blocks from the budget on are to be done.
@@ -251,7 +248,7 @@ fn phase_of(frame: &Frame, number: usize, first: u64, budget: u64) -> CosetPhase
         level,
         first,
         patterns,
-        blocks: ((patterns + 4095) / 4096).min(budget - first),
+        blocks: ((patterns + (BLOCK - 1)) / BLOCK).min(budget - first),
     }
 }
 

@@ -168,10 +168,7 @@ fn plan_of(alloc: Global, sets: &Sets) -> Result<Plan, NoMemory>
 {
     let _long = sets.length();
     let size = sets.field().size() as u64;
-    let Ok(plan) = Plan::build(alloc, sets.dimension() + 1, size, sets.count()) else {
-        return Err(NoMemory);
-    };
-    Ok(plan)
+    Plan::build(alloc, sets.dimension() + 1, size, sets.count())
 }
 
 /// The larger code of a code and a word, of which the first word of each set leaves `lefts`. None if it is longer than 255 or

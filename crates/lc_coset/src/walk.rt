@@ -32,9 +32,7 @@ impl Room {
         let _long = sets.length();
         let many = sets.dimension() + 2;
         let n = sets.length();
-        let Ok(spot) = Spot::new(alloc, sets.dimension() + 1) else {
-            return Err(NoMemory);
-        };
+        let spot = Spot::new(alloc, sets.dimension() + 1)?;
         let mut sums = Vec::with_capacity(alloc, many)?;
         for _i in 0..many {
             sums.push(Word::zero(alloc, n)?)?;

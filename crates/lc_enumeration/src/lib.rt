@@ -7,4 +7,4 @@
 pub mod laws;
 mod numbers;
 
-pub use numbers::{CUT, DEFAULT_BUDGET, PLACES};
+pub use numbers::{BLOCK, CUT, DEFAULT_BUDGET, PLACES};

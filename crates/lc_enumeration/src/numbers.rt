@@ -4,6 +4,9 @@
 /// times this, plus its place.
 pub const PLACES: u64 = 1 << 52;
 
+/// How many messages a block has, but the last one of a phase, which has what is left of the level.
+pub const BLOCK: u64 = 4096;
+
 /// The bound that no block's number reaches: a budget and a slice have at most this many blocks.
 pub const CUT: u64 = 1 << 40;
 

@@ -1,5 +1,4 @@
--- What an accepted document of either version proves. `lc_trees` proves the laws. The contract of a session speaks of certificates
--- alone so far: its `IsAccepted` says of one what `Proves` says of either version.
+-- What an accepted document of either version proves, as the contract of a session says it too. `lc_trees` proves the laws.
 --   IsVerdict read v         what a checker says of what was read: the reason for which it is no document; the verdict on a certificate;
 --                            that on a certificate by construction
 --   IsProvenTree b           the claim of a certificate by construction defines a code, and its distance is that code's

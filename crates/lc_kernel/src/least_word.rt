@@ -18,7 +18,7 @@ use crate::scratch::Scratch;
 use crate::stack::Stack;
 use crate::table::Table;
 use crate::tails::by_tails;
-use lc_enumeration::PLACES;
+use lc_enumeration::{BLOCK, PLACES};
 use lc_infoset::Sets;
 use lc_place::Plan;
 
@@ -96,7 +96,7 @@ fn scan(block: &Block<'_>, stack: &mut Stack) -> u64
     let _phase = block.plan.phase_of(block.number);
     let _long = block.sets.length();
     stack.start_block(block.sets, block.plan, block.number);
-    let first = block.number * 4096;
+    let first = block.number * BLOCK;
     let mut best = value_of(stack, first);
     for offset in 1..block.plan.block_len(block.number) {
         stack.step_in_block(block.sets, block.plan, block.number, offset);

@@ -5,6 +5,7 @@ ghost use Rattle.lc_enumeration.specs.Search.{word_at as word_at_place};
 ghost use Rattle.lc_kernel.specs.Kernel.{IsPlanOf, top_sum};
 
 use crate::stack::Stack;
+use lc_enumeration::BLOCK;
 use lc_field::NoMemory;
 use lc_infoset::Sets;
 use lc_place::Plan;
@@ -25,8 +26,8 @@ pub fn word_at(
     ensures at { IfOk result (λ w. w ≡ word_at_place sets.now plan.now.m place) }
     ensures none { word_at_place sets.now plan.now.m place ≡ None → IsOk result }
 {
-    let block = place / 4096;
-    let offset = place % 4096;
+    let block = place / BLOCK;
+    let offset = place % BLOCK;
     if block >= plan.total() {
         return Ok(None);
     }

@@ -4,6 +4,7 @@ ghost use Rattle.std.specs.Prelude.{◌≡◌, true, IfOk};
 ghost use Rattle.lc_kernel.specs.Room.{IsWorkRoom, IsGridRoom};
 
 use crate::sweeps::MOST_HEADS;
+use lc_enumeration::BLOCK;
 use lc_field::NoMemory;
 use lc_place::Spot;
 use std::alloc::Global;
@@ -28,13 +29,11 @@ impl Room {
         ensures work { IfOk result (λ room. IsWorkRoom k room) }
         ensures grids { IfOk result (λ room. has_grids ≡ true → IsGridRoom k room) }
     {
-        let Ok(spot) = Spot::new(alloc, k) else {
-            return Err(NoMemory);
-        };
+        let spot = Spot::new(alloc, k)?;
         let fronts = vec![in alloc; [0u64; 4]; if_wanted(has_grids, k + 1)]?;
         let places = vec![in alloc; 0usize; if_wanted(has_grids, k)]?;
         let tops = vec![in alloc; [0u64; 4]; if_wanted(has_grids, MOST_HEADS)]?;
-        let counts = vec![in alloc; 0u32; 4096]?;
+        let counts = vec![in alloc; 0u32; BLOCK as usize]?;
         Ok(Room {
             spot,
             fronts,

@@ -17,7 +17,7 @@ ghost use Rattle.lc_kernel.specs.Sums.{front_word};
 use crate::block::Block;
 use crate::table::Table;
 use lc_distances::{add_ones, first_least, put_ones};
-use lc_enumeration::PLACES;
+use lc_enumeration::{BLOCK, PLACES};
 use lc_infoset::Sets;
 use lc_place::Spot;
 
@@ -252,5 +252,5 @@ pub(crate) fn by_runs(block: &Block<'_>, table: &Table, spot: &mut Spot, counts:
     let len = block.plan.block_len(block.number) as usize;
     count_block(block, table, spot, &mut counts[..len]);
     let (least, at) = first_least(&counts[..len]);
-    (level + least as u64) * PLACES + (block.number * 4096 + at as u64)
+    (level + least as u64) * PLACES + (block.number * BLOCK + at as u64)
 }

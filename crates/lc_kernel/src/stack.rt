@@ -99,9 +99,7 @@ impl Stack {
         ensures code { IfOk result (λ s. s.code ≡ arc_value code) }
         ensures none { IfOk result (λ s. s.sums ≡ []) }
     {
-        let Ok(spot) = Spot::new(alloc, code.rows()) else {
-            return Err(NoMemory);
-        };
+        let spot = Spot::new(alloc, code.rows())?;
         Ok(Stack {
             code,
             spot,

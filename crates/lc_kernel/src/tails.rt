@@ -18,7 +18,7 @@ use crate::fronts::least_words;
 use crate::grid::Grid;
 use crate::multiples::nonzero;
 use crate::room::Room;
-use lc_enumeration::PLACES;
+use lc_enumeration::{BLOCK, PLACES};
 use lc_infoset::Sets;
 use lc_place::Spot;
 
@@ -90,5 +90,5 @@ pub(crate) fn by_tails(block: &Block<'_>, grid: &Grid, room: &mut Room) -> u64
         &mut room.tops,
         &mut room.counts,
     );
-    (level + least as u64) * PLACES + (block.number * 4096 + at as u64)
+    (level + least as u64) * PLACES + (block.number * BLOCK + at as u64)
 }

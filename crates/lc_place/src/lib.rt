@@ -10,10 +10,8 @@ mod plan;
 mod spot;
 mod table;
 
+pub use lc_field::NoMemory;
 pub use phase::Phase;
 pub use plan::Plan;
 pub use spot::Spot;
 
-/// Memory ran out.
-#[derive(Clone, Copy, Debug, PartialEq, Eq, Drop)]
-pub struct NoMemory;

@@ -6,7 +6,7 @@ ghost use Rattle.lc_place.specs.Place.{plan_phase};
 ghost use Rattle.lc_place.specs.Tables.{IsTable, count_entry, start_entry};
 
 use crate::table::Size;
-use lc_enumeration::CUT;
+use lc_enumeration::{BLOCK, CUT};
 
 /// The messages of one level with one information set: the level, from 1, the index of the set, from 0,
 /// the first block and the block after the last one.
@@ -51,7 +51,7 @@ impl Size {
     {
         let level = level_of(starts, block);
         let left = block - starts[level];
-        let blocks = (counts[level] + 4095) / 4096;
+        let blocks = (counts[level] + (BLOCK - 1)) / BLOCK;
         let start = block - left % blocks;
         Phase {
             level: level + 1,

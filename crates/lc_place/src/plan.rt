@@ -14,6 +14,7 @@ use crate::order::{last_below, last_movable, move_on, raise, reset};
 use crate::phase::Phase;
 use crate::spot::Spot;
 use crate::table::{MOST, Size};
+use lc_enumeration::BLOCK;
 use std::alloc::Global;
 use std::marker::Model;
 
@@ -111,7 +112,7 @@ impl Plan {
     {
         let phase = self.phase_of(block);
         let counts = self.counts.as_slice();
-        (counts[phase.level - 1] - 4096 * (block - phase.start)).min(4096)
+        (counts[phase.level - 1] - BLOCK * (block - phase.start)).min(BLOCK)
     }
 
     /// Puts a spot at the first message of a block below the total, and at its set. The spot's room is at
@@ -130,7 +131,7 @@ impl Plan {
         ensures room { spot.new.room ≡ spot.old.room }
     {
         let phase = self.phase_of(block);
-        let rank = (block - phase.start) * 4096;
+        let rank = (block - phase.start) * BLOCK;
         self.go_to(phase.set, phase.level, rank, spot);
     }
 

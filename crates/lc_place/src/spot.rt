@@ -34,12 +34,8 @@ impl Spot {
     pub fn new(alloc: Global, k: usize) -> Result<Spot, NoMemory>
         ensures { IfOk result (λ s. s ≡ record { set = 0; support = []; coefficients = []; room = k }) }
     {
-        let Ok(support) = Vec::with_capacity(alloc, k) else {
-            return Err(NoMemory);
-        };
-        let Ok(coefficients) = Vec::with_capacity(alloc, k) else {
-            return Err(NoMemory);
-        };
+        let support = Vec::with_capacity(alloc, k)?;
+        let coefficients = Vec::with_capacity(alloc, k)?;
         Ok(Spot {
             set: 0,
             support,

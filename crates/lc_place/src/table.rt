@@ -4,7 +4,7 @@ ghost use Rattle.std.specs.Prelude.{◌≡◌, ◌+◌, ◌-◌, ◌*◌, ◌^�
 ghost use Rattle.lc_place.specs.Tables.{IsTable, choose_entry, power_entry, count_entry, start_entry};
 
 use crate::NoMemory;
-use lc_enumeration::CUT;
+use lc_enumeration::{BLOCK, CUT};
 use std::alloc::Global;
 
 /// The bound to which numbers are counted: 2^53. A block's number is below 2^40 and a block has 4,096
@@ -48,9 +48,7 @@ impl Size {
         let mut table: Vec<u64> = Vec::new(alloc);
         for index in 0..many {
             let entry = next_choose(table.as_slice(), index);
-            let Ok(()) = table.push(entry) else {
-                return Err(NoMemory);
-            };
+            table.push(entry)?;
         }
         Ok(table)
     }
@@ -64,9 +62,7 @@ impl Size {
         let mut table = Vec::new(alloc);
         let mut power: u64 = 1;
         for _exponent in 0..self.k {
-            let Ok(()) = table.push(power) else {
-                return Err(NoMemory);
-            };
+            table.push(power)?;
             power = power.saturating_mul(base).min(MOST);
         }
         Ok(table)
@@ -90,9 +86,7 @@ impl Size {
             let count = chooses[row + (level + 1)]
                 .saturating_mul(powers[level])
                 .min(MOST);
-            let Ok(()) = table.push(count) else {
-                return Err(NoMemory);
-            };
+            table.push(count)?;
         }
         Ok(table)
     }
@@ -106,18 +100,14 @@ impl Size {
         let mut table = Vec::new(alloc);
         let mut start: u64 = 0;
         for level in 0..self.k {
-            let Ok(()) = table.push(start) else {
-                return Err(NoMemory);
-            };
-            let blocks = (counts[level] + 4095) / 4096;
+            table.push(start)?;
+            let blocks = (counts[level] + (BLOCK - 1)) / BLOCK;
             start = blocks
                 .saturating_mul(self.m as u64)
                 .saturating_add(start)
                 .min(CUT);
         }
-        let Ok(()) = table.push(start) else {
-            return Err(NoMemory);
-        };
+        table.push(start)?;
         Ok(table)
     }
 }

@@ -30,15 +30,12 @@ pub fn plan_of(alloc: Global, sets: &Sets) -> Result<Plan, NoMemory>
     ensures whole { IfOk result (λ p. p ≡ whole_plan sets.now) }
 {
     let _long = sets.length();
-    let Ok(plan) = Plan::build(
+    Plan::build(
         alloc,
         sets.dimension(),
         sets.field().size() as u64,
         sets.count(),
-    ) else {
-        return Err(NoMemory);
-    };
-    Ok(plan)
+    )
 }
 
 /// The weight of the word at a place; None if there is none. The plan goes through all sets. Fails if memory runs out.

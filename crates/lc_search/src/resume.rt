@@ -7,6 +7,7 @@ ghost use Rattle.lc_search.specs.declared.resume.ResumeRefusal.TheVariants as re
 use crate::parts::{plan_of, sets_of, weight_at};
 use crate::search::{Search, search_at};
 use lc_code::Code;
+use lc_enumeration::BLOCK;
 use lc_field::NoMemory;
 use std::alloc::Global;
 
@@ -42,7 +43,7 @@ fn is_fit(blocks: u64, weight: u64, place: u64, found: u64) -> bool
     if place == 0 {
         return true;
     }
-    place < blocks * 4096
+    place < blocks * BLOCK
 }
 
 impl Search {
