@@ -96,8 +96,7 @@ fn candidate(
     ensures one { IfOk result (λ o. (u : List ℕ) → IsWithin code.now word.now t u → o ≡ Some u) }
 {
     let syndromes = syndromes(alloc, code.field(), form, word, 2 * t)?;
-    let near = corrected(alloc, code, form, word, &syndromes, t)?;
-    Ok(near)
+    corrected(alloc, code, form, word, &syndromes, t)
 }
 
 // The same, from the first 2 t syndromes.

@@ -25,8 +25,7 @@ pub(crate) fn key_values(
     ensures are { IfOk result (λ vs. AreKeyValues locator.now t syndromes.now points.now vs.items) }
 {
     let key = key_polynomial(alloc, locator, syndromes, t)?;
-    let values = values_at(alloc, &key, points)?;
-    Ok(values)
+    values_at(alloc, &key, points)
 }
 
 // A polynomial of degree at most t, not 0, whose recurrence on the syndromes gives 0 in t places.

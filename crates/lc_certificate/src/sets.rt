@@ -120,9 +120,7 @@ fn sets_at(object: &Value) -> Option<&Vec<Value>>
     ensures is { option_map (λ v. map (λ x. members_in (view x)) v.now.items) result
         ≡ sets_at (members_in (view object.now)) }
 {
-    let Some(items) = array_at(object, "sets") else {
-        return None;
-    };
+    let items = array_at(object, "sets")?;
     if items.is_empty() || !are_objects(items) {
         return None;
     }

@@ -22,8 +22,7 @@ pub(crate) fn packed_rows(alloc: Global, rows: &Matrix) -> Result<Vec<u64>, NoMe
     if rows.field().size() != 2 || rows.cols() > 64 {
         return Ok(Vec::new(alloc));
     }
-    let bits = bits_of_rows(alloc, rows)?;
-    Ok(bits)
+    bits_of_rows(alloc, rows)
 }
 
 // The rows as numbers of bits.

@@ -42,8 +42,7 @@ pub fn checking_cost(alloc: Global, cert: &Certificate) -> Result<u64, NoMemory>
 {
     let rows = matrix_of(alloc, cert)?;
     let code = rows.echelon(alloc)?;
-    let words = cost(alloc, cert, &code)?;
-    Ok(words)
+    cost(alloc, cert, &code)
 }
 
 // The matrix of the certificate's rows.

@@ -32,8 +32,7 @@ pub(crate) fn first_lighter(
     if !has_lighter(alloc, rows, distance, level)? {
         return Ok(None);
     }
-    let word = first_in_order(alloc, rows, distance, level)?;
-    Ok(word)
+    first_in_order(alloc, rows, distance, level)
 }
 
 // Whether there is such a word, or, for all levels at once, a lighter word at all.

@@ -167,15 +167,9 @@ fn done_at(alloc: Global, object: &Value, budget: u64) -> Result<Option<Vec<Sett
 fn current_at(object: &Value, budget: u64) -> Option<Settled>
     ensures is { option_map settled_of result ≡ current_in budget (members_in (view object.now)) }
 {
-    let Some(blocks) = ranged_at(object, "blocks", 0, budget) else {
-        return None;
-    };
-    let Some(weight) = ranged_at(object, "weight", 1, 255) else {
-        return None;
-    };
-    let Some(place) = ranged_at(object, "place", 0, PLACES - 1) else {
-        return None;
-    };
+    let blocks = ranged_at(object, "blocks", 0, budget)?;
+    let weight = ranged_at(object, "weight", 1, 255)?;
+    let place = ranged_at(object, "place", 0, PLACES - 1)?;
     Some(Settled {
         blocks,
         weight,

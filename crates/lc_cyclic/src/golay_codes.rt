@@ -36,8 +36,7 @@ pub fn ternary_golay(alloc: Global) -> Result<Code, NoMemory>
 fn binary_field(alloc: Global) -> Result<Field, NoMemory>
     ensures is { IfOk result (λ f. f ≡ Gf2) }
 {
-    let field = field_of(alloc, 2)?;
-    Ok(field)
+    field_of(alloc, 2)
 }
 
 // The field of three elements.
@@ -45,6 +44,5 @@ fn binary_field(alloc: Global) -> Result<Field, NoMemory>
 fn ternary_field(alloc: Global) -> Result<Field, NoMemory>
     ensures is { IfOk result (λ f. f ≡ Gf3) }
 {
-    let field = field_of(alloc, 3)?;
-    Ok(field)
+    field_of(alloc, 3)
 }

@@ -82,8 +82,7 @@ pub(crate) fn pair_starts(alloc: Global, k: usize) -> Result<Vec<usize>, NoMemor
     ensures are { IfOk result (λ starts. AreStarts k 2 starts.items) }
 {
     let rows = row_starts(alloc, k)?;
-    let starts = longer_starts(alloc, k, 1, &rows, k)?;
-    Ok(starts)
+    longer_starts(alloc, k, 1, &rows, k)
 }
 
 /// For each of k rows, k at most 255, the index of its first tail of two or three places, and how many tails
@@ -104,8 +103,7 @@ pub(crate) fn tail_starts(
         let starts = pair_starts(alloc, k)?;
         return Ok(starts);
     }
-    let starts = longer_starts(alloc, k, 2, pairs, pairs[k])?;
-    Ok(starts)
+    longer_starts(alloc, k, 2, pairs, pairs[k])
 }
 
 // For each of k rows its own index, and k.
@@ -163,8 +161,7 @@ fn tail_sums(
     if tail == 2 {
         return Ok(sums);
     }
-    let longer = longer_sums(alloc, 2, pairs, rows, &sums, k * k * k / 6)?;
-    Ok(longer)
+    longer_sums(alloc, 2, pairs, rows, &sums, k * k * k / 6)
 }
 
 // The sums of the rows at each tail of one place more than those with these starts and sums. It asks for room

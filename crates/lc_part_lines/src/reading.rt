@@ -43,9 +43,7 @@ fn size_at(object: &Value) -> Option<u64>
 {
     match number_at(object, "q") {
         Some(q) => {
-            let Some(_) = symbol_field(q) else {
-                return None;
-            };
+            let _ = symbol_field(q)?;
             Some(q)
         }
         None => None,

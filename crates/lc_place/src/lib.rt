@@ -14,4 +14,3 @@ pub use lc_field::NoMemory;
 pub use phase::Phase;
 pub use plan::Plan;
 pub use spot::Spot;
-

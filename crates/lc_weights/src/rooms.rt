@@ -76,8 +76,7 @@ fn heads_of<const P: usize, const N: usize>(
         (λ hs. ArePacked P N (leads code.now.field code.now.columns (take split code.now.rows)) hs.items) }
 {
     let list = leads_of(alloc, code, split)?;
-    let heads = pack_words(alloc, list.as_slice())?;
-    Ok(heads)
+    pack_words(alloc, list.as_slice())
 }
 
 // The tails as bits: the words of the rows from `split` on.
@@ -93,8 +92,7 @@ fn tails_of<const P: usize, const N: usize>(
         (λ ts. ArePacked P N (words code.now.field code.now.columns (drop split code.now.rows)) ts.items) }
 {
     let list = words_of(alloc, code.matrix(), split, code.dimension())?;
-    let tails = pack_words(alloc, list.as_slice())?;
-    Ok(tails)
+    pack_words(alloc, list.as_slice())
 }
 
 // How many tails differ from the zero word at so many places as the count's index.
