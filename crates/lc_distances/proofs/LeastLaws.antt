@@ -2,6 +2,7 @@
 --   least_none, least_taken, least_kept      no number, and one number more, which is less or isn't
 --   least_lesser                 one number more, by the lesser of the two
 --   columns_four                 numbers by rows of four, from the least of each column
+--   pair_none, pair_more, rows_by_two      numbers by columns of two, one column more, and by two rows at a time
 --   pairs_none, pairs_more, pairs_same                    numbers that are no less than another, by rows
 --   piece_long                   how long a piece of a list is
 --   piece_taken, piece_kept      the least of the counts up to the end of a piece, which has a lesser one or hasn't
@@ -85,6 +86,45 @@ columns_four n f bound a b c d v first second third fourth e =
     let four = column_more n 3 f bound (min (min (min bound a) b) c) d three fourth in
     let same : min (min (min (min bound a) b) c) d ≡ v = omega (arith, e, first.most, second.most, third.most, fourth.most) in
     subst (λ z. IsLeastPairOr n 4 f bound z) same four
+
+pub pair_none : (n : ℕ) (f : ℕ → ℕ → ℕ) (bound : ℕ) → IsLeastPairOr n 0 f bound bound
+pair_none = column_none
+
+pub pair_more : (m : ℕ) (f : ℕ → ℕ → ℕ) (bound v w : ℕ) → IsLeastPairOr 2 m f bound v → w ≡ min v (min (f 0 m) (f 1 m)) → IsLeastPairOr 2 (m + 1) f bound w
+pair_more m f bound v w h e =
+    let none = least_none (λ i. f i m) bound in
+    let one = least_lesser 0 (λ i. f i m) bound bound (min bound (f 0 m)) none refl in
+    let two = least_lesser 1 (λ i. f i m) bound (min bound (f 0 m)) (min (min bound (f 0 m)) (f 1 m)) one refl in
+    let same : min v (min (min bound (f 0 m)) (f 1 m)) ≡ w = omega (arith, e, h.most) in
+    subst (λ z. IsLeastPairOr 2 (m + 1) f bound z) same (column_more 2 m f bound v (min (min bound (f 0 m)) (f 1 m)) h two)
+
+pub rows_by_two : (n k m : ℕ) (f g : ℕ → ℕ → ℕ) (bound v w : ℕ) → n ≤ k → k ≤ n + 1 → ((j : ℕ) → g 0 j ≡ f n j) → ((j : ℕ) → g 1 j ≡ f k j) → IsLeastPairOr n m f bound v → IsLeastPairOr 2 m g v w → IsLeastPairOr (k + 1) m f bound w
+rows_by_two n k m f g bound v w l few first second h here = record {
+  most = omega (arith, h.most, here.most);
+  low = λ i j a b. ⊎_elim
+      (λ (c : i < n). omega (arith, h.low i j c b, here.most))
+      (λ (c : n ≤ i). ⊎_elim
+      (λ (d : i < k). let e : i ≡ n = omega (arith, c, d, few) in rw e (omega (arith, here.low 0 j (omega arith) b, first j)))
+      (λ (d : k ≤ i). let e : i ≡ k = omega (arith, a, d) in rw e (omega (arith, here.low 1 j (omega arith) b, second j)))
+      (cases_lt i k))
+      (cases_lt i n);
+  attained = λ a. ⊎_elim
+      (λ (b : w < v).
+      let t = here.attained b in
+      ⊎_elim
+      (λ (c : t.0 < 1).
+      let e : t.0 ≡ 0 = omega (arith, c) in
+      (n, t.1, omega (arith, l), t.3, sym (first t.1) ∙ ap (λ z. g z t.1) (sym e) ∙ t.4))
+      (λ (c : 1 ≤ t.0).
+      let e : t.0 ≡ 1 = omega (arith, c, t.2) in
+      (k, t.1, omega arith, t.3, sym (second t.1) ∙ ap (λ z. g z t.1) (sym e) ∙ t.4))
+      (cases_lt t.0 1))
+      (λ (b : v ≤ w).
+      let same : v ≡ w = omega (arith, b, here.most) in
+      let t = h.attained (omega (arith, same, a)) in
+      (t.0, t.1, omega (arith, t.2, l), t.3, t.4 ∙ same))
+      (cases_lt w v);
+}
 
 pub pairs_same : (n m k : ℕ) (f g : ℕ → ℕ → ℕ) (bound v : ℕ) → m ≡ k → ((i j : ℕ) → j < k → f i j ≡ g i j) → IsLeastPairOr n m f bound v → IsLeastPairOr n k g bound v
 pairs_same n m k f g bound v e same h = record {

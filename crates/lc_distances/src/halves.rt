@@ -25,71 +25,97 @@ pub struct Halves<'a> {
     pub heads: &'a [[u64; 4]],
 }
 
-// The least of a bound and of the numbers of symbols at which a word, whose planes are p and r, differs from others.
+// The number of symbols at which a head differs from a tail, by two planes.
 #[inline]
-fn row_two(ones: &[u64], twos: &[u64], p: u64, r: u64, bound: u32) -> u32
+fn apart_two(head: &[u64; 4], one: u64, two: u64) -> u32
+    ensures is { result ≡ count_ones
+        (bit_or (bit_xor (slice_index head.now 1) two) (bit_xor (slice_index head.now 0) one)) }
+{
+    ((head[1] ^ two) | (head[0] ^ one)).count_ones()
+}
+
+// The same by three planes.
+#[inline]
+fn apart_three(head: &[u64; 4], one: u64, two: u64, four: u64) -> u32
+    ensures is { result ≡ count_ones (bit_or (bit_xor (slice_index head.now 2) four)
+        (bit_or (bit_xor (slice_index head.now 1) two) (bit_xor (slice_index head.now 0) one))) }
+{
+    ((head[2] ^ four) | ((head[1] ^ two) | (head[0] ^ one))).count_ones()
+}
+
+// The same by four planes.
+#[inline]
+fn apart_four(head: &[u64; 4], one: u64, two: u64, four: u64, eight: u64) -> u32
+    ensures is { result ≡ count_ones (bit_or (bit_xor (slice_index head.now 3) eight)
+        (bit_or (bit_xor (slice_index head.now 2) four)
+        (bit_or (bit_xor (slice_index head.now 1) two) (bit_xor (slice_index head.now 0) one)))) }
+{
+    let low = (head[1] ^ two) | (head[0] ^ one);
+    ((head[3] ^ eight) | ((head[2] ^ four) | low)).count_ones()
+}
+
+// The least of a bound and of the numbers of symbols at which two heads differ from some tails, by two planes. (A tail is
+// read once for both heads, and a loop has half as many jumps.)
+#[inline]
+fn pair_two(ones: &[u64], twos: &[u64], pair: &[[u64; 4]; 2], bound: u32) -> u32
     requires twos { length twos.now ≡ length ones.now }
-    ensures is { IsLeastOr (length ones.now) (λ i. count_ones
-        (bit_or (bit_xor r (slice_index twos.now i)) (bit_xor p (slice_index ones.now i)))) bound result }
+    ensures is { IsLeastPairOr 2 (length ones.now)
+        (λ h t. count_ones (bit_or (bit_xor (slice_index (slice_index_or pair.now h []) 1) (slice_index twos.now t))
+        (bit_xor (slice_index (slice_index_or pair.now h []) 0) (slice_index ones.now t)))) bound result }
 {
     let mut least = bound;
     for i in 0..ones.len() {
-        let apart = (r ^ twos[i]) | (p ^ ones[i]);
-        let many = apart.count_ones();
-        if many < least {
-            least = many;
-        }
+        let first = apart_two(&pair[0], ones[i], twos[i]);
+        let second = apart_two(&pair[1], ones[i], twos[i]);
+        least = least.min(first.min(second));
     }
     least
 }
 
 // The same by three planes.
 #[inline]
-fn row_three(ones: &[u64], twos: &[u64], fours: &[u64], p: u64, r: u64, s: u64, bound: u32) -> u32
+fn pair_three(ones: &[u64], twos: &[u64], fours: &[u64], pair: &[[u64; 4]; 2], bound: u32) -> u32
     requires twos { length twos.now ≡ length ones.now }
     requires fours { length fours.now ≡ length ones.now }
-    ensures is { IsLeastOr (length ones.now) (λ i. count_ones
-        (bit_or (bit_xor s (slice_index fours.now i))
-        (bit_or (bit_xor r (slice_index twos.now i)) (bit_xor p (slice_index ones.now i))))) bound result }
+    ensures is { IsLeastPairOr 2 (length ones.now)
+        (λ h t. count_ones (bit_or (bit_xor (slice_index (slice_index_or pair.now h []) 2) (slice_index fours.now t))
+        (bit_or (bit_xor (slice_index (slice_index_or pair.now h []) 1) (slice_index twos.now t))
+        (bit_xor (slice_index (slice_index_or pair.now h []) 0) (slice_index ones.now t))))) bound result }
 {
     let mut least = bound;
     for i in 0..ones.len() {
-        let apart = (s ^ fours[i]) | ((r ^ twos[i]) | (p ^ ones[i]));
-        let many = apart.count_ones();
-        if many < least {
-            least = many;
-        }
+        let first = apart_three(&pair[0], ones[i], twos[i], fours[i]);
+        let second = apart_three(&pair[1], ones[i], twos[i], fours[i]);
+        least = least.min(first.min(second));
     }
     least
 }
 
 // The same by four planes.
 #[inline]
-fn row_four(
+fn pair_four(
     ones: &[u64],
     twos: &[u64],
     fours: &[u64],
     eights: &[u64],
-    head: &[u64; 4],
+    pair: &[[u64; 4]; 2],
     bound: u32,
 ) -> u32
     requires twos { length twos.now ≡ length ones.now }
     requires fours { length fours.now ≡ length ones.now }
     requires eights { length eights.now ≡ length ones.now }
-    ensures is { IsLeastOr (length ones.now) (λ i. count_ones
-        (bit_or (bit_xor (slice_index head.now 3) (slice_index eights.now i))
-        (bit_or (bit_xor (slice_index head.now 2) (slice_index fours.now i))
-        (bit_or (bit_xor (slice_index head.now 1) (slice_index twos.now i))
-        (bit_xor (slice_index head.now 0) (slice_index ones.now i)))))) bound result }
+    ensures is { IsLeastPairOr 2 (length ones.now)
+        (λ h t. count_ones (bit_or (bit_xor (slice_index (slice_index_or pair.now h []) 3)
+        (slice_index eights.now t)) (bit_or
+        (bit_xor (slice_index (slice_index_or pair.now h []) 2) (slice_index fours.now t))
+        (bit_or (bit_xor (slice_index (slice_index_or pair.now h []) 1) (slice_index twos.now t))
+        (bit_xor (slice_index (slice_index_or pair.now h []) 0) (slice_index ones.now t)))))) bound result }
 {
     let mut least = bound;
     for i in 0..ones.len() {
-        let low = (head[1] ^ twos[i]) | (head[0] ^ ones[i]);
-        let apart = (head[3] ^ eights[i]) | ((head[2] ^ fours[i]) | low);
-        let many = apart.count_ones();
-        if many < least {
-            least = many;
-        }
+        let first = apart_four(&pair[0], ones[i], twos[i], fours[i], eights[i]);
+        let second = apart_four(&pair[1], ones[i], twos[i], fours[i], eights[i]);
+        least = least.min(first.min(second));
     }
     least
 }
@@ -100,9 +126,7 @@ fn nearer(head: &[u64; 4], one: u64, two: u64, least: u32) -> u32
     ensures is { result ≡ min least (count_ones
         (bit_or (bit_xor (slice_index head.now 1) two) (bit_xor (slice_index head.now 0) one))) }
 {
-    let apart = (head[1] ^ two) | (head[0] ^ one);
-    let many = apart.count_ones();
-    if many < least { many } else { least }
+    least.min(apart_two(head, one, two))
 }
 
 // The least of a bound and of the numbers of symbols at which some heads differ from four words, their tails, by two
@@ -128,7 +152,7 @@ fn rows_by_four(ones: &[u64], twos: &[u64], heads: &[[u64; 4]], bound: u32) -> u
     first.min(second).min(third.min(fourth))
 }
 
-// The same for any number of tails.
+// The same for any number of tails, with two heads at a time. (If the number of heads is odd, the last one is looked at twice.)
 fn rows_two(ones: &[u64], twos: &[u64], heads: &[[u64; 4]], bound: u32) -> u32
     requires twos { length twos.now ≡ length ones.now }
     ensures is { IsLeastPairOr (length heads.now) (length ones.now)
@@ -139,9 +163,11 @@ fn rows_two(ones: &[u64], twos: &[u64], heads: &[[u64; 4]], bound: u32) -> u32
         return rows_by_four(ones, twos, heads, bound);
     }
     let mut least = bound;
-    for row in 0..heads.len() {
-        let head = &heads[row];
-        least = row_two(ones, twos, head[0], head[1], least);
+    let mut row = 0;
+    while row < heads.len() {
+        let next = (row + 1).min(heads.len() - 1);
+        least = pair_two(ones, twos, &[heads[row], heads[next]], least);
+        row = next + 1;
     }
     least
 }
@@ -156,9 +182,11 @@ fn rows_three(ones: &[u64], twos: &[u64], fours: &[u64], heads: &[[u64; 4]], bou
         (bit_xor (slice_index (slice_index_or heads.now h []) 0) (slice_index ones.now t))))) bound result }
 {
     let mut least = bound;
-    for row in 0..heads.len() {
-        let head = &heads[row];
-        least = row_three(ones, twos, fours, head[0], head[1], head[2], least);
+    let mut row = 0;
+    while row < heads.len() {
+        let next = (row + 1).min(heads.len() - 1);
+        least = pair_three(ones, twos, fours, &[heads[row], heads[next]], least);
+        row = next + 1;
     }
     least
 }
@@ -183,8 +211,11 @@ fn rows_four(
         (bit_xor (slice_index (slice_index_or heads.now h []) 0) (slice_index ones.now t)))))) bound result }
 {
     let mut least = bound;
-    for row in 0..heads.len() {
-        least = row_four(ones, twos, fours, eights, &heads[row], least);
+    let mut row = 0;
+    while row < heads.len() {
+        let next = (row + 1).min(heads.len() - 1);
+        least = pair_four(ones, twos, fours, eights, &[heads[row], heads[next]], least);
+        row = next + 1;
     }
     least
 }
