@@ -50,12 +50,6 @@ impl From<NoMemory> for Failure {
     }
 }
 
-impl From<lc_place::NoMemory> for Failure {
-    fn from(_error: lc_place::NoMemory) -> Failure {
-        Failure::NoMemory
-    }
-}
-
 impl From<FieldRefusal> for Failure {
     fn from(_error: FieldRefusal) -> Failure {
         Failure::Refused
