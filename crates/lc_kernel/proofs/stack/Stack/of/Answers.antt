@@ -9,10 +9,10 @@ use Rattle.lc_kernel.proofs.stack.Stack.of.Goals as goal
 pub invariant_of-result : goal.invariant_of-result
 invariant_of-result c =
     let code = arc_value c.args.code in
-    let spot = ap (λ (s : SpotState). s.room) c.in-Ok.ensures ∙ c.rows.ensures.is ∙ ap (λ (C : Matrix). length C.rows) c.deref.ensures in
-    (front_room code c.in-Ok.spot (words_of c.args.sums) c.requires.zero.many c.requires.zero.zero spot, c.requires.multiples, c.requires.kept)
+    let spot = ap (λ (s : SpotState). s.room) c.in_ok-spot.ensures ∙ c.rows.ensures.is ∙ ap (λ (C : Matrix). length C.rows) c.deref.ensures in
+    (front_room code c.in_ok-spot.spot (words_of c.args.sums) c.requires.zero.many c.requires.zero.zero spot, c.requires.multiples, c.requires.kept)
 
 pub returns-clause-none : goal.returns-clause-none
 returns-clause-none c =
-    let none = ap (λ (s : SpotState). length s.support) c.in-Ok.ensures in
+    let none = ap (λ (s : SpotState). length s.support) c.in_ok-spot.ensures in
     rw none (no_sums (words_of c.args.sums))
