@@ -2,6 +2,7 @@
 --   next_tail                    the pair of elements after a pair
 --   tails_along                  the messages after a message, from pair to pair
 --   last_two                     the last two of a list by their index
+--   IsTailRun C m b s head n start count      a run of words from a spot at offset n of a block, whose tails begin at an index
 --   tail_run_word, tail_run_pair, tail_run_ones      a word of a run, its tail, and its nonzero symbols
 --   tails_more, grid_parts_pushed      tails and parts with one more
 --   tail_planes                  the planes of all tails
@@ -20,23 +21,25 @@ use Rattle.std.proofs.Math.ListN.{get_or-append}
 use Rattle.std.proofs.Math.Seq.{take-append_seam, get_or-append_seam}
 use Rattle.lc_algebra.specs.Field.{size}
 use Rattle.lc_algebra.specs.Word.{IsWord, word_sum, scale, weight}
-use Rattle.lc_algebra.specs.Matrix.{Matrix}
+use Rattle.lc_algebra.specs.Span.{AreIndependent}
+use Rattle.lc_algebra.specs.Matrix.{Matrix, AreRows}
 use Rattle.lc_algebra.specs.SpanLaws.{restrict}
 use Rattle.lc_algebra.proofs.WordLaws.{sum_assoc, IsWord_sum, IsWord_scale}
 use Rattle.lc_algebra.proofs.FieldLaws.{one_inside}
 use Rattle.lc_enumeration.specs.Message.{messages, supports_from}
 use Rattle.lc_enumeration.specs.Plan.{phase_level, blocks_before, IsInPhase}
-use Rattle.lc_enumeration.specs.Search.{word_of, generator_at, block_words}
+use Rattle.lc_enumeration.specs.Search.{set_count, word_of, generator_at, block_words}
 use Rattle.lc_enumeration.proofs.SearchLaws.{few_in_block}
 use Rattle.lc_place.specs.Place.{SpotState, spot_message}
 use Rattle.lc_place.proofs.Coefficients.{next_numbers, carried}
 use Rattle.lc_place.proofs.Supports.{next_support}
 use Rattle.lc_place.proofs.Messages.{message_of, next_leading, turned, message_next, to_contains}
+use Rattle.lc_kernel.specs.Values.{IsSpotAt}
 use Rattle.lc_kernel.specs.Packed.{others, pair_of}
 use Rattle.lc_planes.specs.Planes.{part_at, apart, plane_at, negative}
 use Rattle.lc_kernel.specs.Sums.{front_word}
 use Rattle.lc_kernel.specs.declared.grid.GridPart.{GridPart}
-use Rattle.lc_kernel.specs.Grid.{tail_pair, tail_count, tail_index, tail_word, tails_in, AreTails, ArePlanesOf, AreTailPlanes, IsTailRun}
+use Rattle.lc_kernel.specs.Grid.{tail_pair, tail_count, tail_index, tail_word, tails_in, AreTails, ArePlanesOf, AreTailPlanes}
 use Rattle.lc_kernel.specs.Grids.{AreGridParts, IsGridPart}
 use Rattle.lc_kernel.proofs.SupportLaws.{same_pair}
 use Rattle.lc_kernel.proofs.TableLaws.{all_pushed, part_cut}
@@ -129,6 +132,19 @@ last_two q u i j a b l =
 
 abbrev with_tail : Matrix → SpotState → ℕ → SpotState
 with_tail C s t = record { set = s.set; support = s.support; coefficients = take (length s.support - 2) s.coefficients ++ tail_pair (size C.field) t; room = 0 }
+
+-- what a run needs: a spot at an offset of a block, the word of all its entries but the last two, and tails of its pair of rows
+pub record IsTailRun (C : Matrix) (m b : ℕ) (s : SpotState) (head : List ℕ) (n start count : ℕ) : Type 0 where
+  pub phase : (p : ℕ) × IsInPhase (length C.rows) (size C.field) m p b
+  pub rows_are : AreRows C.field C.columns C.rows
+  pub free : AreIndependent C.field C.columns C.rows
+  pub set : s.set < set_count C
+  pub at : IsSpotAt C m b n s
+  pub level : 3 ≤ length s.support
+  pub head_is : head ≡ front_word C s (length s.support - 2)
+  pub pair : (r : ℕ) × (slice_get (supports_from 0 (length C.rows) 2) r ≡ Some (pair_of s)) × (start ≡ r * tail_count C + tail_index C s)
+  pub inside : tail_index C s + count ≤ tail_count C
+  pub words : n + count ≤ length (block_words C m b)
 
 -- a word of a run: its head and its tail
 pub tail_run_word : (C : Matrix) (m p b n start count i : ℕ) (s : SpotState) (head : List ℕ) → IsTailRun C m b s head n start count → IsInPhase (length C.rows) (size C.field) m p b → i < count → slice_index_or (block_words C m b) (n + i) [] ≡ word_sum C.field head (tail_word C s.set (slice_index s.support (length s.support - 2)) (slice_index s.support (length s.support - 1)) (tail_index C s + i))

@@ -15,3 +15,4 @@ pub mod TailCounts
 pub mod TableCounts
 pub mod PlaneSumLaws
 pub mod RoomLaws
+pub mod BlockLaws

@@ -44,12 +44,12 @@ use Rattle.lc_distances.specs.Least.{IsFirstBelow, AreCounted}
 use Rattle.lc_distances.specs.declared.halves.Halves.{Halves}
 use Rattle.lc_distances.specs.Halves.{tail_apart, symbols_apart}
 use Rattle.lc_kernel.specs.Sums.{front_word}
-use Rattle.lc_kernel.specs.Grid.{tail_pair, tail_count, tail_index, tails_in, IsTailRun}
+use Rattle.lc_kernel.specs.Grid.{tail_pair, tail_count, tail_index, tails_in}
 use Rattle.lc_kernel.specs.Fronts.{ArePlanes, IsKept}
 use Rattle.lc_kernel.specs.Sweeps.{list_count, listed_spot, IsListedAt, head_word, AreHeads, AreHalvesOf, IsGrown}
 use Rattle.lc_kernel.proofs.FrontLaws.{entries_are, generates, front_same, front_next, front_first}
 use Rattle.lc_kernel.proofs.FrontPlanes.{front_planes_next}
-use Rattle.lc_kernel.proofs.GridLaws.{tail_run_ones, tail_run_room}
+use Rattle.lc_kernel.proofs.GridLaws.{IsTailRun, tail_run_ones, tail_run_room}
 use Rattle.lc_kernel.proofs.TailLaws.{bits_of_run}
 use Rattle.lc_distances.proofs.LeastLaws.{below_same}
 use Rattle.lc_planes.proofs.ApartLaws.{part_more, part_none, part_all}

@@ -34,9 +34,9 @@ use Rattle.lc_planes.specs.Planes.{part_at, plane_at, apart, negative}
 use Rattle.lc_distances.specs.Planes.{bits_apart}
 use Rattle.lc_distances.specs.Least.{IsFirstLeast, AreCounted}
 use Rattle.lc_kernel.specs.Sums.{front_word}
-use Rattle.lc_kernel.specs.Grid.{tail_pair, tail_count, tail_index, tail_word, tails_in, AreTailPlanes, IsTailRun}
+use Rattle.lc_kernel.specs.Grid.{tail_pair, tail_count, tail_index, tail_word, tails_in, AreTailPlanes}
 use Rattle.lc_kernel.proofs.FrontLaws.{entries_are, front_same}
-use Rattle.lc_kernel.proofs.GridLaws.{tails_along, last_two, tail_run_ones, tail_run_room}
+use Rattle.lc_kernel.proofs.GridLaws.{IsTailRun, tails_along, last_two, tail_run_ones, tail_run_room}
 use Rattle.lc_kernel.proofs.PackLaws.{others_few}
 use Rattle.lc_planes.proofs.ApartLaws.{part_more}
 use Rattle.lc_kernel.proofs.RunLaws.{support_parts, block_weight, spot_next}

@@ -7,19 +7,13 @@
 --   ArePlanesOf cols n ws bits      the first n planes of some words at some columns, plane by plane
 --   AreTailPlanes C j cols n bits      those of the negatives of all tails
 --   tail_index C s          the index of the last two coefficients of a spot
---   IsTailRun C m b s head n start count      a run of words from a spot at offset n of a block, whose tails begin at an index
-use Rattle.std.specs.Prelude.{◌≡◌, ℕ, ◌+◌, ◌-◌, ◌*◌, ◌/◌, ◌%◌, ◌<◌, ◌≤◌, List, [], ◌∷◌, length, Some, slice_get, slice_index, slice_index_or}
+use Rattle.std.specs.Prelude.{◌≡◌, ℕ, ◌+◌, ◌-◌, ◌*◌, ◌/◌, ◌%◌, ◌<◌, List, [], ◌∷◌, length, Some, slice_get, slice_index, slice_index_or}
 use Rattle.lc_algebra.specs.Field.{size}
 use Rattle.lc_algebra.specs.Word.{IsWord, word_sum, scale}
-use Rattle.lc_algebra.specs.Span.{AreIndependent}
-use Rattle.lc_algebra.specs.Matrix.{Matrix, AreRows}
+use Rattle.lc_algebra.specs.Matrix.{Matrix}
 use Rattle.lc_enumeration.specs.Message.{supports_from}
-use Rattle.lc_enumeration.specs.Plan.{IsInPhase}
-use Rattle.lc_enumeration.specs.Search.{set_count, generator_at, block_words}
+use Rattle.lc_enumeration.specs.Search.{generator_at}
 use Rattle.lc_place.specs.Place.{SpotState}
-use Rattle.lc_kernel.specs.Values.{IsSpotAt}
-use Rattle.lc_kernel.specs.Packed.{pair_of}
-use Rattle.lc_kernel.specs.Sums.{front_word}
 use Rattle.lc_planes.specs.Planes.{plane_at, negative}
 
 abbrev pub tail_count : Matrix → ℕ
@@ -50,16 +44,3 @@ pub record AreTailPlanes (C : Matrix) (j : ℕ) (cols : List ℕ) (n : ℕ) (bit
 
 abbrev pub tail_index : Matrix → SpotState → ℕ
 tail_index C s = (slice_index s.coefficients (length s.support - 2) - 1) * (size C.field - 1) + (slice_index s.coefficients (length s.support - 1) - 1)
-
--- what a run needs: a spot at an offset of a block, the word of all its entries but the last two, and tails of its pair of rows
-pub record IsTailRun (C : Matrix) (m b : ℕ) (s : SpotState) (head : List ℕ) (n start count : ℕ) : Type 0 where
-  pub phase : (p : ℕ) × IsInPhase (length C.rows) (size C.field) m p b
-  pub rows_are : AreRows C.field C.columns C.rows
-  pub free : AreIndependent C.field C.columns C.rows
-  pub set : s.set < set_count C
-  pub at : IsSpotAt C m b n s
-  pub level : 3 ≤ length s.support
-  pub head_is : head ≡ front_word C s (length s.support - 2)
-  pub pair : (r : ℕ) × (slice_get (supports_from 0 (length C.rows) 2) r ≡ Some (pair_of s)) × (start ≡ r * tail_count C + tail_index C s)
-  pub inside : tail_index C s + count ≤ tail_count C
-  pub words : n + count ≤ length (block_words C m b)

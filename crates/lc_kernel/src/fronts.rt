@@ -9,7 +9,7 @@ ghost use Rattle.lc_algebra.specs.SpanLaws.{restrict};
 ghost use Rattle.lc_enumeration.specs.Message.{messages};
 ghost use Rattle.lc_enumeration.specs.Search.{set_count};
 ghost use Rattle.lc_place.specs.Place.{spot_message};
-ghost use Rattle.lc_kernel.specs.Block.{HasPlan, IsInPlan, IsInSomePhase, words_in, IsSpotIn};
+ghost use Rattle.lc_kernel.specs.Block.{words_in, IsSpotIn};
 ghost use Rattle.lc_kernel.specs.Packed.{others};
 ghost use Rattle.lc_planes.specs.Planes.{part_at};
 ghost use Rattle.lc_kernel.specs.Grid.{tail_count, tail_index};
@@ -129,7 +129,6 @@ fn one_front(
     done: usize,
     counts: &mut [u32],
 ) -> usize
-    requires phase { IsInSomePhase block.now }
     requires set { spot.now.set < set_count block.now.sets.now }
     requires at { IsSpotIn block.now done spot.now }
     requires level { 3 ≤ length spot.now.support }
@@ -148,8 +147,6 @@ fn one_front(
     ensures end { done + result < length counts.old →
         tail_index block.now.sets.now spot.now + result ≡ tail_count block.now.sets.now }
 {
-    let _k = block.sets.dimension();
-    let _n = block.sets.length();
     let elements = nonzero(block.sets);
     let tail = tail_of(block.sets, spot);
     let start = pair_index(block.sets, &grid.starts, spot) * elements * elements + tail;
@@ -172,8 +169,6 @@ fn add_fronts(
     fronts: &mut [[u64; 4]],
     counts: &mut [u32],
 )
-    requires plan { HasPlan block.now }
-    requires phase { IsInSomePhase block.now }
     requires set { spot.old.set < set_count block.now.sets.now }
     requires at { IsSpotIn block.now 0 spot.old }
     requires level { 3 ≤ length spot.old.support }
@@ -189,8 +184,6 @@ fn add_fronts(
     ensures set { spot.new.set ≡ spot.old.set }
     ensures room { spot.new.room ≡ spot.old.room }
 {
-    let _k = block.sets.dimension();
-    let _n = block.sets.length();
     let level = spot.support().len();
     fronts[0] = [0; 4];
     let mut done = 0;
@@ -214,9 +207,6 @@ fn count_fronts(
     fronts: &mut [[u64; 4]],
     counts: &mut [u32],
 )
-    requires plan { HasPlan block.now }
-    requires block { IsInPlan block.now }
-    requires phase { IsInSomePhase block.now }
     requires set { spot.old.set < set_count block.now.sets.now }
     requires at { IsSpotIn block.now 0 spot.old }
     requires level { 3 ≤ length spot.old.support }
@@ -246,7 +236,6 @@ fn first_counted(block: &Block<'_>, set: usize, counts: &[u32]) -> (u32, usize)
         (slice_index_or (words_in block.now) i []))) result.0 result.1 }
     ensures few { result.0 ≤ 255 }
 {
-    let _n = block.sets.length();
     first_least(counts)
 }
 
@@ -262,9 +251,6 @@ pub(crate) fn least_words(
     tops: &mut [[u64; 4]],
     counts: &mut [u32],
 ) -> (u32, usize)
-    requires plan { HasPlan block.now }
-    requires block { IsInPlan block.now }
-    requires phase { IsInSomePhase block.now }
     requires set { spot.old.set < set_count block.now.sets.now }
     requires at { IsSpotIn block.now 0 spot.old }
     requires level { 3 ≤ length spot.old.support }
@@ -280,7 +266,6 @@ pub(crate) fn least_words(
     ensures few { result.0 ≤ 255 }
     ensures room { spot.new.room ≡ spot.old.room }
 {
-    let _n = block.sets.length();
     let set = spot.set();
     let level = spot.support().len();
     let len = block.plan.block_len(block.number) as usize;

@@ -5,7 +5,7 @@ ghost use Rattle.lc_algebra.specs.Word.{weight};
 ghost use Rattle.lc_enumeration.specs.Plan.{total};
 ghost use Rattle.lc_enumeration.specs.Search.{block_least, board_value};
 ghost use Rattle.lc_kernel.specs.Kernel.{IsPlanOf, top_sum};
-ghost use Rattle.lc_kernel.specs.Block.{HasPlan, IsInPlan, IsLeastIn};
+ghost use Rattle.lc_kernel.specs.Block.{IsLeastIn};
 ghost use Rattle.lc_kernel.specs.Tables.{AreTables};
 ghost use Rattle.lc_kernel.specs.Grids.{AreGrids};
 ghost use Rattle.lc_kernel.specs.Room.{IsWorkRoom, IsGridRoom, HasSizesOf};
@@ -34,13 +34,8 @@ pub fn least(sets: &Sets, plan: &Plan, block: u64, scratch: &mut Scratch) -> u64
     ensures scratch { scratch.new ≡ scratch.old }
     ensures is { option_map board_value (block_least sets.now plan.now.m block) ≡ Some result }
 {
-    let block = Block {
-        sets,
-        plan,
-        number: block,
-    };
     least_in(
-        &block,
+        &Block::of(sets, plan, block),
         &scratch.tables,
         &scratch.grids,
         &mut scratch.room,
@@ -57,8 +52,6 @@ fn least_in(
     room: &mut Room,
     stack: &mut Stack,
 ) -> u64
-    requires plan { HasPlan block.now }
-    requires block { IsInPlan block.now }
     requires tables { AreTables block.now.sets.now tables.now }
     requires grids { AreGrids block.now.sets.now grids.now }
     requires room { IsWorkRoom (length block.now.sets.now.rows) room.old }
@@ -68,7 +61,6 @@ fn least_in(
     ensures stack { stack.new.code ≡ stack.old.code }
     ensures is { IsLeastIn block.now result }
 {
-    let _phase = block.plan.phase_of(block.number);
     block.plan.start_of(block.number, &mut room.spot);
     let set = room.spot.set();
     let level = room.spot.support().len();
@@ -86,15 +78,10 @@ fn least_in(
 
 // The same by a step for each message.
 fn scan(block: &Block<'_>, stack: &mut Stack) -> u64
-    requires plan { HasPlan block.now }
-    requires block { IsInPlan block.now }
     requires stack { stack.old.code ≡ block.now.sets.now }
     ensures code { stack.new.code ≡ stack.old.code }
     ensures is { IsLeastIn block.now result }
 {
-    let _few = block.plan.total();
-    let _phase = block.plan.phase_of(block.number);
-    let _long = block.sets.length();
     stack.start_block(block.sets, block.plan, block.number);
     let first = block.number * BLOCK;
     let mut best = value_of(stack, first);

@@ -2,7 +2,7 @@
 
 ghost use Rattle.std.specs.Prelude.{◌≡◌, ◌+◌, ◌-◌, ◌*◌, ◌<◌, ◌≤◌, length, take};
 ghost use Rattle.lc_enumeration.specs.Search.{set_count};
-ghost use Rattle.lc_kernel.specs.Block.{IsInSomePhase, IsSpotIn, words_in};
+ghost use Rattle.lc_kernel.specs.Block.{IsSpotIn, words_in};
 ghost use Rattle.lc_kernel.specs.Packed.{others};
 ghost use Rattle.lc_kernel.specs.Grids.{IsGrid};
 ghost use Rattle.lc_distances.specs.Least.{AreCounted};
@@ -24,7 +24,6 @@ fn add_support(
     done: usize,
     counts: &mut [u32],
 )
-    requires phase { IsInSomePhase sweep.now.block }
     requires set { sweep.now.set < set_count sweep.now.block.sets.now }
     requires at { IsListed sweep.now done support.now list }
     requires grid { IsGrid sweep.now.block.sets.now sweep.now.set sweep.now.grid.now }
@@ -39,8 +38,6 @@ fn add_support(
     ensures counted { AreCounted (take (64 * (sweep.now.part + 1)) (others sweep.now.block.sets.now sweep.now.set))
         (words_in sweep.now.block) done (length counts.old) counts.new }
 {
-    let _k = sweep.block.sets.dimension();
-    let _n = sweep.block.sets.length();
     let halves = halves_of(sweep, support, heads);
     add_halves(&halves, list, counts);
 }
@@ -56,7 +53,6 @@ fn add_sweep(
     heads: &mut [[u64; 4]],
     counts: &mut [u32],
 )
-    requires phase { IsInSomePhase block.now }
     requires set { spot.now.set < set_count block.now.sets.now }
     requires at { IsSpotIn block.now 0 spot.now }
     requires level { 3 ≤ length spot.now.support }
@@ -109,7 +105,6 @@ pub(crate) fn count_sweeps(
     heads: &mut [[u64; 4]],
     counts: &mut [u32],
 )
-    requires phase { IsInSomePhase block.now }
     requires set { spot.now.set < set_count block.now.sets.now }
     requires at { IsSpotIn block.now 0 spot.now }
     requires level { 3 ≤ length spot.now.support }

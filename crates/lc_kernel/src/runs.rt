@@ -1,13 +1,13 @@
 //! The least value of a block of words over 2 elements, by runs of messages that share all but their last
 //! entries: as many as the tails of the set's table have places, two or three.
 
-ghost use Rattle.std.specs.Prelude.{◌≡◌, ℕ, ◌+◌, ◌-◌, ◌*◌, ◌^◌, ◌<◌, ◌≤◌, Some, length, take, slice_get, slice_index};
+ghost use Rattle.std.specs.Prelude.{◌≡◌, ℕ, ◌+◌, ◌-◌, ◌*◌, ◌<◌, ◌≤◌, Some, length, take, slice_get, slice_index};
 ghost use Rattle.std.specs.List.{Contains};
 ghost use Rattle.lc_algebra.specs.Field.{size};
 ghost use Rattle.lc_enumeration.specs.Message.{messages, supports_from};
 ghost use Rattle.lc_enumeration.specs.Search.{set_count};
 ghost use Rattle.lc_place.specs.Place.{spot_message};
-ghost use Rattle.lc_kernel.specs.Block.{HasPlan, IsInPlan, IsInSomePhase, words_in, IsSpotIn, IsLeastIn};
+ghost use Rattle.lc_kernel.specs.Block.{words_in, IsSpotIn, IsLeastIn};
 ghost use Rattle.lc_kernel.specs.Packed.{others, bits_at, tail_of, pair_of, AreStarts};
 ghost use Rattle.lc_planes.specs.Planes.{part_at};
 ghost use Rattle.lc_kernel.specs.Tables.{IsTable};
@@ -92,7 +92,6 @@ fn count_part(
     done: u64,
     counts: &mut [u32],
 )
-    requires phase { IsInSomePhase block.now }
     requires set { spot.now.set < set_count block.now.sets.now }
     requires at { IsSpotIn block.now done spot.now }
     requires level { table.now.tail ≤ length spot.now.support }
@@ -108,8 +107,6 @@ fn count_part(
     ensures counted { AreCounted (take (64 * (part + 1)) (others block.now.sets.now spot.now.set))
         (words_in block.now) done (length counts.old) counts.new }
 {
-    let _n = block.sets.length();
-    let _k = block.sets.dimension();
     let prefix = head_bits(block.sets, table, part, spot);
     let sums = table.parts[part].sums.as_slice();
     let end = start + counts.len();
@@ -129,7 +126,6 @@ fn count_run(
     done: u64,
     counts: &mut [u32],
 )
-    requires phase { IsInSomePhase block.now }
     requires set { spot.now.set < set_count block.now.sets.now }
     requires at { IsSpotIn block.now done spot.now }
     requires level { table.now.tail ≤ length spot.now.support }
@@ -149,7 +145,6 @@ fn count_run(
 
 // Goes from a message at an offset of a block, whose run ends before another offset, to that offset.
 fn next_head(block: &Block<'_>, table: &Table, spot: &mut Spot, from: u64, done: u64)
-    requires plan { HasPlan block.now }
     requires at { IsSpotIn block.now from spot.old }
     requires level { table.now.tail ≤ length spot.old.support }
     requires table { IsTable block.now.sets.now spot.old.set table.now }
@@ -171,7 +166,6 @@ fn next_head(block: &Block<'_>, table: &Table, spot: &mut Spot, from: u64, done:
 // Counts the words of a block up to the end of a run that begins at an offset. Returns how many words the
 // run has.
 fn one_run(block: &Block<'_>, table: &Table, spot: &Spot, done: usize, counts: &mut [u32]) -> usize
-    requires phase { IsInSomePhase block.now }
     requires set { spot.now.set < set_count block.now.sets.now }
     requires at { IsSpotIn block.now done spot.now }
     requires level { table.now.tail ≤ length spot.now.support }
@@ -207,8 +201,6 @@ fn one_run(block: &Block<'_>, table: &Table, spot: &Spot, done: usize, counts: &
 // Counts the nonzero symbols, outside the basis, of the words of a block of a level that has tails, from its first
 // message on.
 fn count_block(block: &Block<'_>, table: &Table, spot: &mut Spot, counts: &mut [u32])
-    requires plan { HasPlan block.now }
-    requires phase { IsInSomePhase block.now }
     requires set { spot.old.set < set_count block.now.sets.now }
     requires at { IsSpotIn block.now 0 spot.old }
     requires level { table.now.tail ≤ length spot.old.support }
@@ -233,8 +225,6 @@ fn count_block(block: &Block<'_>, table: &Table, spot: &mut Spot, counts: &mut [
 /// The least value of a block over 2 elements, from its first message on. Its messages have at least as many
 /// entries as the tails of the table have places.
 pub(crate) fn by_runs(block: &Block<'_>, table: &Table, spot: &mut Spot, counts: &mut [u32]) -> u64
-    requires plan { HasPlan block.now }
-    requires block { IsInPlan block.now }
     requires set { spot.old.set < set_count block.now.sets.now }
     requires at { IsSpotIn block.now 0 spot.old }
     requires level { table.now.tail ≤ length spot.old.support }
@@ -244,10 +234,6 @@ pub(crate) fn by_runs(block: &Block<'_>, table: &Table, spot: &mut Spot, counts:
     ensures room { spot.new.room ≡ spot.old.room }
     ensures long { length counts.new ≡ length counts.old }
 {
-    let _few = block.plan.total();
-    let _phase = block.plan.phase_of(block.number);
-    let _k = block.sets.dimension();
-    let _n = block.sets.length();
     let level = spot.support().len() as u64;
     let len = block.plan.block_len(block.number) as usize;
     count_block(block, table, spot, &mut counts[..len]);

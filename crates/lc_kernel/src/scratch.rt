@@ -1,10 +1,10 @@
 //! The memory that the kernel works in.
 
-ghost use Rattle.std.specs.Prelude.{◌≡◌, ℕ, ◌<◌, [], true, length, IfOk};
+ghost use Rattle.std.specs.Prelude.{◌≡◌, ◌<◌, [], true, length, IfOk};
 ghost use Rattle.std.specs.Arc.{arc_value};
 ghost use Rattle.lc_algebra.specs.declared.FieldName.TheVariants.{Gf2};
 ghost use Rattle.lc_kernel.specs.Tables.{AreTables, AreAllTables};
-ghost use Rattle.lc_kernel.specs.Grids.{HasRoom, AreGrids, AreAllGrids};
+ghost use Rattle.lc_kernel.specs.Grids.{AreGrids, AreAllGrids};
 ghost use Rattle.lc_kernel.specs.Sums.{AreMultiples};
 ghost use Rattle.lc_enumeration.specs.Search.{set_count};
 

@@ -10,7 +10,7 @@ ghost use Rattle.lc_algebra.specs.SpanLaws.{restrict};
 ghost use Rattle.lc_enumeration.specs.Message.{messages, supports_from, leading_lists};
 ghost use Rattle.lc_enumeration.specs.Search.{set_count};
 ghost use Rattle.lc_place.specs.Place.{spot_message};
-ghost use Rattle.lc_kernel.specs.Block.{IsInSomePhase, IsSpotIn, words_in};
+ghost use Rattle.lc_kernel.specs.Block.{IsSpotIn, words_in};
 ghost use Rattle.lc_kernel.specs.Packed.{others};
 ghost use Rattle.lc_kernel.specs.Grids.{IsGrid};
 ghost use Rattle.lc_distances.specs.Least.{IsFirstBelow};
@@ -111,8 +111,6 @@ fn grow(sweep: &Sweep<'_>, support: &[usize], i: usize, many: usize, heads: &mut
     ensures heads { AreHeadsOf sweep.now support.now (i + 1) heads.new }
 {
     let sets = sweep.block.sets;
-    let _k = sets.dimension();
-    let _n = sets.length();
     let elements = nonzero(sets);
     let table = &sweep.grid.parts[sweep.part];
     let row = support[i] * elements;
@@ -141,8 +139,6 @@ pub(crate) fn make_heads(sweep: &Sweep<'_>, support: &[usize], heads: &mut [[u64
     requires few { list_count sweep.now.block.sets.now (length support.now - 2) ≤ 1024 }
     ensures heads { AreHeadsOf sweep.now support.now (length support.now - 2) heads.new }
 {
-    let _k = sweep.block.sets.dimension();
-    let _n = sweep.block.sets.length();
     let elements = nonzero(sweep.block.sets);
     let table = &sweep.grid.parts[sweep.part];
     heads[0] = table.rows[support[0] * elements];
@@ -170,8 +166,6 @@ pub(crate) fn halves_of<'a>(
     requires heads { AreHeadsOf sweep.now support.now (length support.now - 2) heads.now }
     ensures are { AreHalvesOf sweep.now.block.sets.now sweep.now.set support.now sweep.now.part result }
 {
-    let _k = sweep.block.sets.dimension();
-    let _n = sweep.block.sets.length();
     let elements = nonzero(sweep.block.sets);
     let tails = elements * elements;
     let first = support[support.len() - 2];
@@ -199,7 +193,6 @@ fn least_support(
     bound: u32,
     counts: &mut [u32],
 ) -> (u32, usize)
-    requires phase { IsInSomePhase sweep.now.block }
     requires set { sweep.now.set < set_count sweep.now.block.sets.now }
     requires at { IsListed sweep.now done support.now list }
     requires grid { IsGrid sweep.now.block.sets.now sweep.now.set sweep.now.grid.now }
@@ -214,8 +207,6 @@ fn least_support(
         (λ i. weight (restrict (others sweep.now.block.sets.now sweep.now.set)
         (slice_index_or (words_in sweep.now.block) (done + i) []))) bound result.0 result.1 }
 {
-    let _k = sweep.block.sets.dimension();
-    let _n = sweep.block.sets.length();
     let halves = halves_of(sweep, support, heads);
     nearest(&halves, list, bound, counts)
 }
@@ -269,7 +260,6 @@ pub(crate) fn turn(
     done: usize,
     count: usize,
 )
-    requires phase { IsInSomePhase sweep.now.block }
     requires set { sweep.now.set < set_count sweep.now.block.sets.now }
     requires at { IsListed sweep.now done support.old list }
     requires grid { IsGrid sweep.now.block.sets.now sweep.now.set sweep.now.grid.now }
@@ -284,7 +274,6 @@ pub(crate) fn turn(
     ensures heads { AreHeadsOf sweep.now support.new (length support.old - 2) heads.new }
 {
     let k = sweep.block.sets.dimension();
-    let _n = sweep.block.sets.length();
     let Some(place) = next_support(support, k) else {
         return;
     };
@@ -315,7 +304,6 @@ pub(crate) fn least_sweeps(
     heads: &mut [[u64; 4]],
     counts: &mut [u32],
 ) -> (u32, usize)
-    requires phase { IsInSomePhase block.now }
     requires set { spot.now.set < set_count block.now.sets.now }
     requires at { IsSpotIn block.now 0 spot.now }
     requires level { 3 ≤ length spot.now.support }

@@ -7,7 +7,7 @@ ghost use Rattle.lc_algebra.specs.Field.{size};
 ghost use Rattle.lc_enumeration.specs.Message.{messages};
 ghost use Rattle.lc_enumeration.specs.Search.{set_count};
 ghost use Rattle.lc_place.specs.Place.{spot_message};
-ghost use Rattle.lc_kernel.specs.Block.{HasPlan, IsInPlan, words_in, IsSpotIn, IsLeastIn};
+ghost use Rattle.lc_kernel.specs.Block.{words_in, IsSpotIn, IsLeastIn};
 ghost use Rattle.lc_kernel.specs.Grid.{tail_count, tail_index};
 ghost use Rattle.lc_kernel.specs.Grids.{IsGrid};
 ghost use Rattle.lc_kernel.specs.Room.{IsWorkRoom, IsGridRoom, HasSizesOf};
@@ -41,7 +41,6 @@ pub(crate) fn tail_of(sets: &Sets, spot: &Spot) -> usize
 /// Goes from a message at an offset of a block, with so many left in its run, to the first one after the run.
 /// Returns how many of the first entries stayed.
 pub(crate) fn pass(block: &Block<'_>, spot: &mut Spot, done: u64, count: u64) -> usize
-    requires plan { HasPlan block.now }
     requires at { IsSpotIn block.now done spot.old }
     requires level { 3 ≤ length spot.old.support }
     requires some { 0 < count }
@@ -65,8 +64,6 @@ pub(crate) fn pass(block: &Block<'_>, spot: &mut Spot, done: u64, count: u64) ->
 
 /// The least value of a block of a level of at least 3, over more than 2 elements, from its first message on.
 pub(crate) fn by_tails(block: &Block<'_>, grid: &Grid, room: &mut Room) -> u64
-    requires plan { HasPlan block.now }
-    requires block { IsInPlan block.now }
     requires set { room.old.spot.set < set_count block.now.sets.now }
     requires at { IsSpotIn block.now 0 room.old.spot }
     requires level { 3 ≤ length room.old.spot.support }
@@ -76,10 +73,6 @@ pub(crate) fn by_tails(block: &Block<'_>, grid: &Grid, room: &mut Room) -> u64
     ensures is { IsLeastIn block.now result }
     ensures room { HasSizesOf room.old room.new }
 {
-    let _few = block.plan.total();
-    let _phase = block.plan.phase_of(block.number);
-    let _k = block.sets.dimension();
-    let _n = block.sets.length();
     let level = room.spot.support().len() as u64;
     let (least, at) = least_words(
         block,

@@ -15,14 +15,14 @@ loop-counts-init c = record {
   room = refl;
   stayed = omega arith;
   at = c.requires.at;
-  fronts = front_planes_first c.args.block.now.sets.now c.args.spot.now c.args.part c.args.grid.now.planes c.args.fronts.now _ c.dimension-k.ensures.rows c.dimension-k.ensures.independent c.requires.set (omega (arith, c.requires.many)) refl;
+  fronts = front_planes_first c.args.block.now.sets.now c.args.spot.now c.args.part c.args.grid.now.planes c.args.fronts.now _ c.args.block.now.rows c.args.block.now.independent c.requires.set (omega (arith, c.requires.many)) refl;
   counted = part_start (others c.args.block.now.sets.now c.args.spot.now.set) c.args.part (length c.args.counts.now) (block_words c.args.block.now.sets.now c.args.block.now.plan.now.m c.args.block.now.number) c.args.counts.now c.requires.counted;
 }
 
 pub offset_bounds-fronts-level : goal.offset_bounds-fronts-level
 offset_bounds-fronts-level c =
     let few = (entries_are c.args.block.now.sets.now c.loop-counts.spot c.loop-counts.invariant.at.message).few in
-    omega (arith, few, c.loop-counts.invariant.level, c.dimension-k.ensures.is, c.dimension-k.ensures.most, c.length-n.ensures.is, c.length-n.ensures.most)
+    omega (arith, few, c.loop-counts.invariant.level, c.args.block.now.few)
 
 pub bounds-fronts-level : goal.bounds-fronts-level
 bounds-fronts-level c =

@@ -4,6 +4,7 @@ use Rattle.lc_kernel.specs.Values.{IsSpotAt}
 use Rattle.lc_kernel.specs.Packed.{others}
 use Rattle.lc_kernel.specs.Grids.{IsGrid}
 use Rattle.lc_distances.specs.Least.{AreCounted}
+use Rattle.lc_kernel.proofs.BlockLaws.{phase_in_plan, phase_of_block}
 use Rattle.lc_kernel.proofs.ScanLaws.{spot_at}
 use Rattle.lc_distances.proofs.PartLaws.{parts_none, parts_all}
 use Rattle.lc_kernel.proofs.fronts.count_fronts.Goals.{After-start_of}
@@ -13,17 +14,17 @@ use Rattle.lc_kernel.proofs.fronts.count_fronts.Goals as goal
 started : (c : After-start_of) → IsSpotAt c.args.block.now.sets.now c.args.block.now.plan.now.m c.args.block.now.number 0 c.start_of.new.spot × (c.start_of.new.spot.set < set_count c.args.block.now.sets.now)
 started c =
     let e = c.start_of.ensures in
-    spot_at c.args.block.now.sets.now c.args.block.now.plan.now c.args.block.now.number c.start_of.new.spot c.requires.plan e.first e.level e.set e.message (c.requires.phase.0, rw (c.requires.plan.dimension, c.requires.plan.field) c.requires.phase.1)
+    spot_at c.args.block.now.sets.now c.args.block.now.plan.now c.args.block.now.number c.start_of.new.spot c.args.block.now.planned e.first e.level e.set e.message (phase_in_plan c.args.block.now)
 
 -- it has the set and the level of the one that the block began with
 same_set : (c : After-start_of) → c.start_of.new.spot.set ≡ c.args.spot.now.set
 same_set c =
-    let p = c.requires.phase in
+    let p = phase_of_block c.args.block.now in
     ((started c).0.of_block p.0 p.1).set ∙ sym (c.requires.at.of_block p.0 p.1).set
 
 same_level : (c : After-start_of) → length c.start_of.new.spot.support ≡ length c.args.spot.now.support
 same_level c =
-    let p = c.requires.phase in
+    let p = phase_of_block c.args.block.now in
     ((started c).0.of_block p.0 p.1).level ∙ sym (c.requires.at.of_block p.0 p.1).level
 
 pub loop-part-init : goal.loop-part-init
@@ -33,7 +34,7 @@ loop-part-init c = record {
 }
 
 pub start_of-requires-clause-room : goal.start_of-requires-clause-room
-start_of-requires-clause-room c = omega (arith, c.loop-part.invariant.room, c.requires.room, c.requires.plan.dimension)
+start_of-requires-clause-room c = omega (arith, c.loop-part.invariant.room, c.requires.room, c.args.block.now.planned.dimension)
 
 pub add_fronts-requires-clause-set : goal.add_fronts-requires-clause-set
 add_fronts-requires-clause-set c = (started (goal.at.add_fronts-requires-clause-set c).After-start_of).1

@@ -10,7 +10,7 @@ pub first_least-requires-clause-few : goal.first_least-requires-clause-few
 first_least-requires-clause-few c =
     let C = c.args.block.now.sets.now in
     let cols = others C c.args.set in
-    let few : length cols ≤ 255 = omega (arith, others_few C c.args.set, c.length-n.ensures.is, c.length-n.ensures.most) in
+    let few : length cols ≤ 255 = omega (arith, others_few C c.args.set, c.args.block.now.short) in
     counted_few C c.args.block.now.plan.now.m c.args.block.now.number 0 (length c.args.counts.now) cols c.args.counts.now few c.requires.counted
 
 pub returns-clause-is : goal.returns-clause-is

@@ -6,6 +6,7 @@ use Rattle.lc_enumeration.specs.Search.{block_words}
 use Rattle.lc_distances.specs.Least.{IsFirstLeast}
 use Rattle.lc_kernel.specs.Packed.{others}
 use Rattle.lc_distances.proofs.LeastLaws.{below_whole}
+use Rattle.lc_kernel.proofs.BlockLaws.{phase_of_block}
 use Rattle.lc_kernel.proofs.ScanLaws.{counts_cut}
 use Rattle.lc_kernel.proofs.TailLaws.{outside_few}
 use Rattle.lc_kernel.proofs.fronts.least_words.Goals.{After-block_len-len}
@@ -13,7 +14,7 @@ use Rattle.lc_kernel.proofs.fronts.least_words.Goals as goal
 
 -- there is a count for each word of the block
 cut : (c : After-block_len-len) → length (take c.block_len-len.result c.args.counts.now) ≡ length (block_words c.args.block.now.sets.now c.args.block.now.plan.now.m c.args.block.now.number)
-cut c = counts_cut c.args.block.now.sets.now c.args.block.now.plan.now c.args.block.now.number c.block_len-len.result c.args.counts.now c.requires.plan c.requires.phase c.block_len-len.ensures.exact c.block_len-len.ensures.few c.requires.counts
+cut c = counts_cut c.args.block.now.sets.now c.args.block.now.plan.now c.args.block.now.number c.block_len-len.result c.args.counts.now c.args.block.now.planned (phase_of_block c.args.block.now) c.block_len-len.ensures.exact c.block_len-len.ensures.few c.requires.counts
 
 -- there is one
 some : (c : After-block_len-len) → 0 < length (take c.block_len-len.result c.args.counts.now)
@@ -43,7 +44,7 @@ returns-then-len-eq1-clause-is c =
     let j = c.args.spot.now.set in
     let n = length (take c.block_len-len.result c.args.counts.now) in
     let r = c.least_sweeps.result in
-    let few : (i : ℕ) → outside a j i ≤ 255 = λ i. outside_few C j (slice_index_or (block_words C c.args.block.now.plan.now.m c.args.block.now.number) i []) (omega (arith, c.length-n.ensures.is, c.length-n.ensures.most)) in
+    let few : (i : ℕ) → outside a j i ≤ 255 = λ i. outside_few C j (slice_index_or (block_words C c.args.block.now.plan.now.m c.args.block.now.number) i []) (omega (arith, c.args.block.now.short)) in
     let first : IsFirstLeast n (outside a j) r.0 r.1 = below_whole n (outside a j) 256 r.0 r.1 (some a) (λ i l. omega (arith, few i)) c.least_sweeps.ensures.is in
     subst (λ n. IsFirstLeast n (outside a j) r.0 r.1) (cut a) first
 
@@ -53,7 +54,7 @@ returns-then-len-eq1-clause-few c =
     let C = c.args.block.now.sets.now in
     let j = c.args.spot.now.set in
     let w = slice_index_or (block_words C c.args.block.now.plan.now.m c.args.block.now.number) 0 [] in
-    omega (arith, c.least_sweeps.ensures.is.low 0 (some a), outside_few C j w (omega (arith, c.length-n.ensures.is, c.length-n.ensures.most)))
+    omega (arith, c.least_sweeps.ensures.is.low 0 (some a), outside_few C j w (omega (arith, c.args.block.now.short)))
 
 pub count_sweeps-requires-clause-words : goal.count_sweeps-requires-clause-words
 count_sweeps-requires-clause-words c = cut (goal.at.count_sweeps-requires-clause-words c).After-block_len-len

@@ -7,9 +7,10 @@ use Rattle.lc_distances.proofs.LeastLaws.{piece_long}
 use Rattle.lc_distances.proofs.PartLaws.{part_piece, part_joined}
 use Rattle.lc_kernel.specs.Packed.{others}
 use Rattle.lc_kernel.specs.Sums.{front_word}
-use Rattle.lc_kernel.specs.Grid.{tail_count, AreTailPlanes, IsTailRun}
+use Rattle.lc_kernel.specs.Grid.{tail_count, AreTailPlanes}
 use Rattle.lc_kernel.specs.Grids.{IsGridPart}
-use Rattle.lc_kernel.proofs.GridLaws.{tail_run_room}
+use Rattle.lc_kernel.proofs.BlockLaws.{phase_of_block}
+use Rattle.lc_kernel.proofs.GridLaws.{IsTailRun, tail_run_room}
 use Rattle.lc_kernel.proofs.PackLaws.{others_few}
 use Rattle.lc_kernel.proofs.RunLaws.{counted_few}
 use Rattle.lc_kernel.proofs.TailLaws.{tails_counted}
@@ -38,9 +39,9 @@ run c =
     let square : e * e ≡ tail_count C = ap (λ z. z * z) c.nonzero-elements.ensures.is in
     let long : length (piece c) ≡ c.min-count.result = piece_long c.args.done (c.args.done + c.min-count.result) c.args.counts.now (within c) ∙ omega arith in
     record {
-      phase = c.requires.phase;
-      rows_are = c.dimension-k.ensures.rows;
-      free = c.dimension-k.ensures.independent;
+      phase = phase_of_block c.args.block.now;
+      rows_are = c.args.block.now.rows;
+      free = c.args.block.now.independent;
       set = c.requires.set;
       at = c.requires.at;
       level = c.requires.level;
@@ -72,7 +73,7 @@ pub add_apart-requires-clause-few : goal.add_apart-requires-clause-few
 add_apart-requires-clause-few c =
     let a = (goal.at.add_apart-requires-clause-few c).After-as_slice-tails in
     let all = others c.args.block.now.sets.now c.args.spot.now.set in
-    let few : length (take (64 * c.args.part) all) ≤ 255 = omega (arith, length-take (64 * c.args.part) all, others_few c.args.block.now.sets.now c.args.spot.now.set, c.length-n.ensures.is, c.length-n.ensures.most) in
+    let few : length (take (64 * c.args.part) all) ≤ 255 = omega (arith, length-take (64 * c.args.part) all, others_few c.args.block.now.sets.now c.args.spot.now.set, c.args.block.now.short) in
     counted_few c.args.block.now.sets.now c.args.block.now.plan.now.m c.args.block.now.number c.args.done (length (piece a)) (take (64 * c.args.part) all) (piece a) few (counted a)
 
 pub returns-clause-counted : goal.returns-clause-counted

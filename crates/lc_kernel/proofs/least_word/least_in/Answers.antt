@@ -5,6 +5,7 @@ use Rattle.lc_kernel.specs.declared.table.Table.{Table}
 use Rattle.lc_kernel.specs.Values.{IsSpotAt}
 use Rattle.lc_kernel.specs.Grids.{IsGrid}
 use Rattle.lc_kernel.specs.Tables.{IsTable}
+use Rattle.lc_kernel.proofs.BlockLaws.{phase_in_plan}
 use Rattle.lc_kernel.proofs.ScanLaws.{spot_at}
 use Rattle.lc_kernel.proofs.TableLaws.{one_of_all}
 use Rattle.lc_kernel.proofs.least_word.least_in.Goals.{After-start_of}
@@ -14,7 +15,7 @@ use Rattle.lc_kernel.proofs.least_word.least_in.Goals as goal
 started : (c : After-start_of) → IsSpotAt c.args.block.now.sets.now c.args.block.now.plan.now.m c.args.block.now.number 0 c.start_of.new.spot × (c.start_of.new.spot.set < set_count c.args.block.now.sets.now)
 started c =
     let e = c.start_of.ensures in
-    spot_at c.args.block.now.sets.now c.args.block.now.plan.now c.args.block.now.number c.start_of.new.spot c.requires.plan e.first e.level e.set e.message (c.phase_of-phase.ensures.found.0, c.phase_of-phase.ensures.found.1)
+    spot_at c.args.block.now.sets.now c.args.block.now.plan.now c.args.block.now.number c.start_of.new.spot c.args.block.now.planned e.first e.level e.set e.message (phase_in_plan c.args.block.now)
 
 pub by_tails-requires-clause-set : goal.by_tails-requires-clause-set
 by_tails-requires-clause-set c = (started (goal.at.by_tails-requires-clause-set c).After-start_of).1

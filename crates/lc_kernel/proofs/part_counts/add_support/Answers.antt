@@ -2,6 +2,7 @@ use Rattle.std.proofs.Common.{◌*◌, ◌≤◌, length, take, arith}
 use Rattle.std.proofs.lemmas.List.{length-take}
 use Rattle.lc_enumeration.proofs.SearchLaws.{few_in_block}
 use Rattle.lc_kernel.specs.Packed.{others}
+use Rattle.lc_kernel.proofs.BlockLaws.{phase_of_block}
 use Rattle.lc_kernel.proofs.PackLaws.{others_few}
 use Rattle.lc_kernel.proofs.RunLaws.{counted_few}
 use Rattle.lc_kernel.proofs.SweepLaws.{IsSweep, sweep_counted, listed_inside}
@@ -16,7 +17,7 @@ add_halves-requires-clause-counts c = omega (arith, few_in_block c.args.sweep.no
 pub add_halves-requires-clause-few : goal.add_halves-requires-clause-few
 add_halves-requires-clause-few c =
     let all = others c.args.sweep.now.block.sets.now c.args.sweep.now.set in
-    let few : length (take (64 * c.args.sweep.now.part) all) ≤ 255 = omega (arith, length-take (64 * c.args.sweep.now.part) all, others_few c.args.sweep.now.block.sets.now c.args.sweep.now.set, c.length-n.ensures.is, c.length-n.ensures.most) in
+    let few : length (take (64 * c.args.sweep.now.part) all) ≤ 255 = omega (arith, length-take (64 * c.args.sweep.now.part) all, others_few c.args.sweep.now.block.sets.now c.args.sweep.now.set, c.args.sweep.now.block.short) in
     counted_few c.args.sweep.now.block.sets.now c.args.sweep.now.block.plan.now.m c.args.sweep.now.block.number c.args.done (length c.args.counts.now) (take (64 * c.args.sweep.now.part) all) c.args.counts.now few c.requires.counted
 
 pub returns : goal.returns
@@ -26,10 +27,10 @@ returns c =
     let u = c.args.support.now in
     let count = length c.args.counts.now in
     let sweep : IsSweep C c.args.sweep.now.block.plan.now.m c.args.sweep.now.block.number c.args.done j c.args.list c.args.sweep.now.part count u c.halves_of-halves.result = record {
-      rows_are = c.dimension-k.ensures.rows;
-      free = c.dimension-k.ensures.independent;
+      rows_are = c.args.sweep.now.block.rows;
+      free = c.args.sweep.now.block.independent;
       set = c.requires.set;
-      phase = c.requires.phase;
+      phase = phase_of_block c.args.sweep.now.block;
       at = c.requires.at;
       inside = c.requires.lists;
       words = c.requires.words;

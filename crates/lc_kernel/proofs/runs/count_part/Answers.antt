@@ -6,6 +6,7 @@ use Rattle.lc_enumeration.specs.Search.{block_words}
 use Rattle.lc_distances.specs.Least.{AreCounted}
 use Rattle.lc_kernel.specs.Packed.{others, IsPart}
 use Rattle.lc_planes.specs.Planes.{part_at}
+use Rattle.lc_kernel.proofs.BlockLaws.{phase_of_block}
 use Rattle.lc_kernel.proofs.PackLaws.{others_few}
 use Rattle.lc_kernel.proofs.SupportLaws.{tails_few}
 use Rattle.lc_kernel.proofs.RunLaws.{run_at, part_counted, counted_few}
@@ -31,20 +32,20 @@ with_part c old new is counted =
     let start = c.args.start in
     let many = length c.args.counts.now in
     let table = c.index.result.now in
-    let run = run_at C (part_at cols c.args.part) t m c.args.block.now.number c.args.done s table.rows.items table.sums.items c.head_bits-prefix.result start c.dimension-k.ensures.rows c.dimension-k.ensures.independent c.requires.set c.requires.at (omega (arith, c.requires.table.least)) c.requires.level (part_read c) c.head_bits-prefix.ensures.is c.requires.start in
+    let run = run_at C (part_at cols c.args.part) t m c.args.block.now.number c.args.done s table.rows.items table.sums.items c.head_bits-prefix.result start c.args.block.now.rows c.args.block.now.independent c.requires.set c.requires.at (omega (arith, c.requires.table.least)) c.requires.level (part_read c) c.head_bits-prefix.ensures.is c.requires.start in
     let n : start + many - start ≡ many = omega arith in
     let piece : take (start + many - start) (drop start c.as_slice-sums.result.now) ≡ take many (drop start table.sums.items) = ap (λ z. take z (drop start c.as_slice-sums.result.now)) n ∙ ap (λ z. take many (drop start z)) c.as_slice-sums.ensures.value in
-    part_counted C cols t m c.requires.phase.0 c.args.block.now.number c.args.done start c.args.part many s table.rows.items table.sums.items old new (take (start + many - start) (drop start c.as_slice-sums.result.now)) c.head_bits-prefix.result c.requires.phase.1 c.requires.at run c.requires.tails c.requires.words piece is counted
+    part_counted C cols t m (phase_of_block c.args.block.now).0 c.args.block.now.number c.args.done start c.args.part many s table.rows.items table.sums.items old new (take (start + many - start) (drop start c.as_slice-sums.result.now)) c.head_bits-prefix.result (phase_of_block c.args.block.now).1 c.requires.at run c.requires.tails c.requires.words piece is counted
 
 pub add_ones-requires-clause-few : goal.add_ones-requires-clause-few
 add_ones-requires-clause-few c =
     let cols = take (64 * c.args.part) (others c.args.block.now.sets.now c.args.spot.now.set) in
-    let few : length cols ≤ 255 = omega (arith, length-take (64 * c.args.part) (others c.args.block.now.sets.now c.args.spot.now.set), others_few c.args.block.now.sets.now c.args.spot.now.set, c.length-n.ensures.is, c.length-n.ensures.most) in
+    let few : length cols ≤ 255 = omega (arith, length-take (64 * c.args.part) (others c.args.block.now.sets.now c.args.spot.now.set), others_few c.args.block.now.sets.now c.args.spot.now.set, c.args.block.now.short) in
     counted_few c.args.block.now.sets.now c.args.block.now.plan.now.m c.args.block.now.number c.args.done (length c.args.counts.now) cols c.args.counts.now few (c.requires.counted (omega (arith, c.if-part-eq0.false)))
 
 pub offset_bounds-sums-start-2 : goal.offset_bounds-sums-start-2
 offset_bounds-sums-start-2 c =
-    let few = tails_few (length c.args.block.now.sets.now.rows) c.args.table.now.tail c.requires.table.least c.requires.table.most (omega (arith, c.dimension-k.ensures.is, c.dimension-k.ensures.most, c.length-n.ensures.is, c.length-n.ensures.most)) in
+    let few = tails_few (length c.args.block.now.sets.now.rows) c.args.table.now.tail c.requires.table.least c.requires.table.most (omega (arith, c.args.block.now.few)) in
     omega (arith, c.requires.tails, few)
 
 pub slice_bounds-add_ones-end : goal.slice_bounds-add_ones-end

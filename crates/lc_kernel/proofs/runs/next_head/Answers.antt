@@ -22,7 +22,7 @@ step-first-requires c =
     let table = c.args.table.now in
     let t = table.tail in
     let support = last_places (goal.at.step-first-requires c).After-to_last_places in
-    last_is_message C c.args.block.now.plan.now t s c.to_last_places.new.self table.starts.items c.requires.end.0 c.requires.plan c.requires.table.field (omega (arith, c.requires.table.least)) c.requires.level c.requires.table.starts c.requires.at.message c.requires.end.1 support c.to_last_places.ensures.coefficients
+    last_is_message C c.args.block.now.plan.now t s c.to_last_places.new.self table.starts.items c.requires.end.0 c.args.block.now.planned c.requires.table.field (omega (arith, c.requires.table.least)) c.requires.level c.requires.table.starts c.requires.at.message c.requires.end.1 support c.to_last_places.ensures.coefficients
 
 pub returns-clause-at : goal.returns-clause-at
 returns-clause-at c =
@@ -33,7 +33,7 @@ returns-clause-at c =
     let last = c.to_last_places.new.self in
     let e = c.step-first.ensures in
     let support = last_places (goal.at.returns-clause-at c).After-to_last_places in
-    next_offset C c.args.block.now.plan.now t c.args.block.now.number c.args.from c.args.done s last c.step-first.new.spot table.starts.items (is_some c.step-first.result) c.requires.plan c.requires.table.field (omega (arith, c.requires.table.least)) c.requires.level c.requires.table.starts c.requires.at c.requires.end c.requires.later c.requires.inside support c.to_last_places.ensures.coefficients c.to_last_places.ensures.set e.next e.message e.level e.set
+    next_offset C c.args.block.now.plan.now t c.args.block.now.number c.args.from c.args.done s last c.step-first.new.spot table.starts.items (is_some c.step-first.result) c.args.block.now.planned c.requires.table.field (omega (arith, c.requires.table.least)) c.requires.level c.requires.table.starts c.requires.at c.requires.end c.requires.later c.requires.inside support c.to_last_places.ensures.coefficients c.to_last_places.ensures.set e.next e.message e.level e.set
 
 pub returns-clause-level : goal.returns-clause-level
 returns-clause-level c =

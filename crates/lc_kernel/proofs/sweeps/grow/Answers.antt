@@ -15,13 +15,13 @@ use Rattle.lc_kernel.proofs.sweeps.grow.Goals as goal
 pub overflow_mul-row : goal.overflow_mul-row
 overflow_mul-row c =
     let s = support_is (length c.args.sweep.now.block.sets.now.rows) c.args.support.now c.requires.rises in
-    let row : slice_index c.args.support.now c.args.i ≤ 255 = omega (arith, s.high c.args.i c.requires.entry, c.dimension-k.ensures.is, c.dimension-k.ensures.most, c.length-n.ensures.is, c.length-n.ensures.most) in
+    let row : slice_index c.args.support.now c.args.i ≤ 255 = omega (arith, s.high c.args.i c.requires.entry, c.args.sweep.now.block.few) in
     omega (arith, mul-le-mul_right c.nonzero-elements.result row, c.nonzero-elements.ensures.most)
 
 pub overflow_add-row : goal.overflow_add-row
 overflow_add-row c =
     let s = support_is (length c.args.sweep.now.block.sets.now.rows) c.args.support.now c.requires.rises in
-    let row : slice_index c.args.support.now c.args.i ≤ 255 = omega (arith, s.high c.args.i c.requires.entry, c.dimension-k.ensures.is, c.dimension-k.ensures.most, c.length-n.ensures.is, c.length-n.ensures.most) in
+    let row : slice_index c.args.support.now c.args.i ≤ 255 = omega (arith, s.high c.args.i c.requires.entry, c.args.sweep.now.block.few) in
     omega (arith, mul-le-mul_right c.nonzero-elements.result row, c.nonzero-elements.ensures.most, c.place_before-above.ensures.inside)
 
 pub index-requires : goal.index-requires
@@ -94,6 +94,6 @@ returns c =
     let C = c.args.sweep.now.block.sets.now in
     let kept = kept_part C c.args.sweep.now.set c.args.sweep.now.part c.args.sweep.now.grid.now c.index-table.result.now c.index-table.result.now.rows.items c.requires.grid c.requires.part c.index-table.ensures refl in
     record {
-      heads = heads_grown C c.args.sweep.now.set c.args.sweep.now.part c.args.sweep.now.grid.now.planes c.args.i c.args.support.now c.index-table.result.now.rows.items c.args.heads.now c.loop-e.heads c.dimension-k.ensures.rows c.dimension-k.ensures.independent c.requires.set c.requires.rises kept c.requires.some c.requires.entry c.requires.heads
+      heads = heads_grown C c.args.sweep.now.set c.args.sweep.now.part c.args.sweep.now.grid.now.planes c.args.i c.args.support.now c.index-table.result.now.rows.items c.args.heads.now c.loop-e.heads c.args.sweep.now.block.rows c.args.sweep.now.block.independent c.requires.set c.requires.rises kept c.requires.some c.requires.entry c.requires.heads
           (λ e l. c.loop-e.invariant.done e (omega (arith, c.loop-e-test.false)) (omega (arith, l, c.requires.many)));
     }

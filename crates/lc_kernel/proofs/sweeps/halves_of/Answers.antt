@@ -31,14 +31,14 @@ pub overflow_add-pair : goal.overflow_add-pair
 overflow_add-pair c =
     let C = c.args.sweep.now.block.sets.now in
     let r = pair_there C c.args.sweep.now.set 0 c.args.support.now c.args.sweep.now.grid.now.starts.items c.index.result.now c.requires.grid.first (first_listed C c.args.sweep.now.set c.args.support.now c.requires.rises) c.requires.level c.index.ensures in
-    let few = pairs_few (length C.rows) (omega (arith, c.dimension-k.ensures.is, c.dimension-k.ensures.most, c.length-n.ensures.is, c.length-n.ensures.most)) in
+    let few = pairs_few (length C.rows) (omega (arith, c.args.sweep.now.block.few)) in
     omega (arith, few, slice_get_within (supports_from 0 (length C.rows) 2) _ (pair_of (listed_spot C c.args.sweep.now.set c.args.support.now 0)) r)
 
 pub overflow_mul-result : goal.overflow_mul-result
 overflow_mul-result c =
     let C = c.args.sweep.now.block.sets.now in
     let r = pair_there C c.args.sweep.now.set 0 c.args.support.now c.args.sweep.now.grid.now.starts.items c.index.result.now c.requires.grid.first (first_listed C c.args.sweep.now.set c.args.support.now c.requires.rises) c.requires.level c.index.ensures in
-    let few = pairs_few (length C.rows) (omega (arith, c.dimension-k.ensures.is, c.dimension-k.ensures.most, c.length-n.ensures.is, c.length-n.ensures.most)) in
+    let few = pairs_few (length C.rows) (omega (arith, c.args.sweep.now.block.few)) in
     let below = slice_get_within (supports_from 0 (length C.rows) 2) _ (pair_of (listed_spot C c.args.sweep.now.set c.args.support.now 0)) r in
     let e = c.nonzero-elements.result in
     let square_few : e * e ≤ 15 * 15 = omega (arith, mul-le-mul_right e c.nonzero-elements.ensures.most, c.nonzero-elements.ensures.most) in

@@ -2,6 +2,7 @@ use Rattle.std.proofs.Common.{◌≡◌, ◌≤◌, length, subst, arith}
 use Rattle.lc_enumeration.proofs.SearchLaws.{few_in_block}
 use Rattle.lc_kernel.specs.Packed.{others}
 use Rattle.lc_kernel.specs.Sweeps.{AreHalvesOf}
+use Rattle.lc_kernel.proofs.BlockLaws.{phase_of_block}
 use Rattle.lc_kernel.proofs.SweepLaws.{IsSweep, sweep_below, listed_inside}
 use Rattle.lc_kernel.proofs.sweeps.least_support.Goals as goal
 
@@ -20,10 +21,10 @@ returns c =
     let first : c.args.sweep.now.part ≡ 0 = omega (arith, c.requires.part, c.requires.alone) in
     let wide : length (others C j) ≤ 64 = omega (arith, c.requires.grid.wide, c.requires.alone) in
     let sweep : IsSweep C c.args.sweep.now.block.plan.now.m c.args.sweep.now.block.number c.args.done j c.args.list 0 count u c.halves_of-halves.result = record {
-      rows_are = c.dimension-k.ensures.rows;
-      free = c.dimension-k.ensures.independent;
+      rows_are = c.args.sweep.now.block.rows;
+      free = c.args.sweep.now.block.independent;
       set = c.requires.set;
-      phase = c.requires.phase;
+      phase = phase_of_block c.args.sweep.now.block;
       at = c.requires.at;
       inside = c.requires.lists;
       words = c.requires.words;

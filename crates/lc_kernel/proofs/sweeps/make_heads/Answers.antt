@@ -11,7 +11,7 @@ use Rattle.lc_kernel.proofs.sweeps.make_heads.Goals as goal
 pub overflow_mul-support : goal.overflow_mul-support
 overflow_mul-support c =
     let s = support_is (length c.args.sweep.now.block.sets.now.rows) c.args.support.now c.requires.rises in
-    let row : slice_index c.args.support.now 0 ≤ 255 = omega (arith, s.high 0 (omega (arith, c.requires.level)), c.dimension-k.ensures.is, c.dimension-k.ensures.most, c.length-n.ensures.is, c.length-n.ensures.most) in
+    let row : slice_index c.args.support.now 0 ≤ 255 = omega (arith, s.high 0 (omega (arith, c.requires.level)), c.args.sweep.now.block.few) in
     omega (arith, mul-le-mul_right c.nonzero-elements.result row, c.nonzero-elements.ensures.most)
 
 pub index-requires : goal.index-requires
@@ -46,7 +46,7 @@ loop-i-init c =
     let row_is : c.index.result.now ≡ slice_index_or rows (slice_index u 0 * d) [] = c.index.ensures ∙ ap (λ t. slice_index_or rows t c.index.result.now) at ∙ get_or_default rows (slice_index u 0 * d) c.index.result.now [] (omega (arith, inside, kept.multiples.count)) in
     record {
       many = sym (pow-zero d);
-      heads = heads_first C c.args.sweep.now.set c.args.sweep.now.part c.args.sweep.now.grid.now.planes u rows (set c.args.heads.now 0 c.index.result.now) c.dimension-k.ensures.rows c.dimension-k.ensures.independent c.requires.set c.requires.rises kept (omega (arith, c.requires.level)) (get_or-set_same c.args.heads.now 0 c.index.result.now [] (omega (arith, some, c.requires.room)) ∙ row_is);
+      heads = heads_first C c.args.sweep.now.set c.args.sweep.now.part c.args.sweep.now.grid.now.planes u rows (set c.args.heads.now 0 c.index.result.now) c.args.sweep.now.block.rows c.args.sweep.now.block.independent c.requires.set c.requires.rises kept (omega (arith, c.requires.level)) (get_or-set_same c.args.heads.now 0 c.index.result.now [] (omega (arith, some, c.requires.room)) ∙ row_is);
     }
 
 pub overflow_mul-many : goal.overflow_mul-many

@@ -26,17 +26,17 @@ to_last_tail-requires c = record { two = omega (arith, c.requires.level, (entrie
 pub step-requires : goal.step-requires
 step-requires c =
     let at = last_of_run c.args.block.now.sets.now c.args.block.now.plan.now.m c.args.block.now.number c.args.done c.args.count c.args.spot.now c.to_last_tail.new.self c.requires.at (ends (goal.at.step-requires c).After-to_last_tail) in
-    rw (c.requires.plan.dimension, c.requires.plan.field) at.message
+    rw (c.args.block.now.planned.dimension, c.args.block.now.planned.field) at.message
 
 pub returns-in-None-clause-at : goal.returns-in-None-clause-at
 returns-in-None-clause-at c =
     let e = c.step.ensures in
-    run_passed c.args.block.now.sets.now c.args.block.now.plan.now c.args.block.now.number c.args.done c.args.count c.args.spot.now c.to_last_tail.new.self c.step.new.spot (is_some c.step.result) c.requires.plan c.requires.at (ends (goal.at.returns-in-None-clause-at c).After-to_last_tail) c.requires.inside e.next e.message e.level e.set
+    run_passed c.args.block.now.sets.now c.args.block.now.plan.now c.args.block.now.number c.args.done c.args.count c.args.spot.now c.to_last_tail.new.self c.step.new.spot (is_some c.step.result) c.args.block.now.planned c.requires.at (ends (goal.at.returns-in-None-clause-at c).After-to_last_tail) c.requires.inside e.next e.message e.level e.set
 
 pub returns-in-Some-clause-at : goal.returns-in-Some-clause-at
 returns-in-Some-clause-at c =
     let e = c.step.ensures in
-    run_passed c.args.block.now.sets.now c.args.block.now.plan.now c.args.block.now.number c.args.done c.args.count c.args.spot.now c.to_last_tail.new.self c.step.new.spot (is_some c.step.result) c.requires.plan c.requires.at (ends (goal.at.returns-in-Some-clause-at c).After-to_last_tail) c.requires.inside e.next e.message e.level e.set
+    run_passed c.args.block.now.sets.now c.args.block.now.plan.now c.args.block.now.number c.args.done c.args.count c.args.spot.now c.to_last_tail.new.self c.step.new.spot (is_some c.step.result) c.args.block.now.planned c.requires.at (ends (goal.at.returns-in-Some-clause-at c).After-to_last_tail) c.requires.inside e.next e.message e.level e.set
 
 pub returns-in-None-clause-same : goal.returns-in-None-clause-same
 returns-in-None-clause-same c i l =
