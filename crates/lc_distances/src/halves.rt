@@ -34,15 +34,6 @@ fn apart_two(head: &[u64; 4], one: u64, two: u64) -> u32
     ((head[1] ^ two) | (head[0] ^ one)).count_ones()
 }
 
-// The same by three planes.
-#[inline]
-fn apart_three(head: &[u64; 4], one: u64, two: u64, four: u64) -> u32
-    ensures is { result ≡ count_ones (bit_or (bit_xor (slice_index head.now 2) four)
-        (bit_or (bit_xor (slice_index head.now 1) two) (bit_xor (slice_index head.now 0) one))) }
-{
-    ((head[2] ^ four) | ((head[1] ^ two) | (head[0] ^ one))).count_ones()
-}
-
 // The least of a bound and of the numbers of symbols at which two heads differ from some tails, by two planes. (A tail is
 // read once for both heads, and a loop has half as many jumps.)
 #[inline]
@@ -61,27 +52,29 @@ fn pair_two(ones: &[u64], twos: &[u64], pair: &[[u64; 4]; 2], bound: u32) -> u32
     least
 }
 
-// The same by three planes.
+// The least of a bound and of the numbers of symbols at which a head differs from some tails, by three planes. (The planes
+// of two heads and of what is done with them would be more than a processor has registers.)
 #[inline]
-fn pair_three(ones: &[u64], twos: &[u64], fours: &[u64], pair: &[[u64; 4]; 2], bound: u32) -> u32
+fn row_three(ones: &[u64], twos: &[u64], fours: &[u64], head: &[u64; 4], bound: u32) -> u32
     requires twos { length twos.now ≡ length ones.now }
     requires fours { length fours.now ≡ length ones.now }
-    ensures is { IsLeastPairOr 2 (length ones.now)
-        (λ h t. count_ones (bit_or (bit_xor (slice_index (slice_index_or pair.now h []) 2) (slice_index fours.now t))
-        (bit_or (bit_xor (slice_index (slice_index_or pair.now h []) 1) (slice_index twos.now t))
-        (bit_xor (slice_index (slice_index_or pair.now h []) 0) (slice_index ones.now t))))) bound result }
+    ensures is { IsLeastOr (length ones.now) (λ i. count_ones
+        (bit_or (bit_xor (slice_index head.now 2) (slice_index fours.now i))
+        (bit_or (bit_xor (slice_index head.now 1) (slice_index twos.now i))
+        (bit_xor (slice_index head.now 0) (slice_index ones.now i))))) bound result }
 {
     let mut least = bound;
     for i in 0..ones.len() {
-        let first = apart_three(&pair[0], ones[i], twos[i], fours[i]);
-        let second = apart_three(&pair[1], ones[i], twos[i], fours[i]);
-        least = least.min(first.min(second));
+        let apart = (head[2] ^ fours[i]) | ((head[1] ^ twos[i]) | (head[0] ^ ones[i]));
+        let many = apart.count_ones();
+        if many < least {
+            least = many;
+        }
     }
     least
 }
 
-// The least of a bound and of the numbers of symbols at which a head differs from some tails, by four planes. (The planes of
-// two heads and of what is done with them would be more than a processor has registers.)
+// The same by four planes.
 #[inline]
 fn row_four(
     ones: &[u64],
@@ -164,7 +157,8 @@ fn rows_two(ones: &[u64], twos: &[u64], heads: &[[u64; 4]], bound: u32) -> u32
     least
 }
 
-// The same by three planes.
+// The same by three planes, head by head. (Not inlined, its loop has all registers for itself.)
+#[inline(never)]
 fn rows_three(ones: &[u64], twos: &[u64], fours: &[u64], heads: &[[u64; 4]], bound: u32) -> u32
     requires twos { length twos.now ≡ length ones.now }
     requires fours { length fours.now ≡ length ones.now }
@@ -174,16 +168,13 @@ fn rows_three(ones: &[u64], twos: &[u64], fours: &[u64], heads: &[[u64; 4]], bou
         (bit_xor (slice_index (slice_index_or heads.now h []) 0) (slice_index ones.now t))))) bound result }
 {
     let mut least = bound;
-    let mut row = 0;
-    while row < heads.len() {
-        let next = (row + 1).min(heads.len() - 1);
-        least = pair_three(ones, twos, fours, &[heads[row], heads[next]], least);
-        row = next + 1;
+    for row in 0..heads.len() {
+        least = row_three(ones, twos, fours, &heads[row], least);
     }
     least
 }
 
-// The same by four planes, head by head.
+// The same by four planes.
 fn rows_four(
     ones: &[u64],
     twos: &[u64],
