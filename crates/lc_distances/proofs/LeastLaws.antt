@@ -65,8 +65,8 @@ pairs_more n m f bound v w h here = record {
       (cases_lt w v);
 }
 
-column_none : (n : ℕ) (f : ℕ → ℕ → ℕ) (bound : ℕ) → IsLeastPairOr n 0 f bound bound
-column_none n f bound = record { most = omega arith; low = λ i j l k. absurd (omega (arith, k)); attained = λ l. absurd (omega (arith, l)) }
+pub pair_none : (n : ℕ) (f : ℕ → ℕ → ℕ) (bound : ℕ) → IsLeastPairOr n 0 f bound bound
+pair_none n f bound = record { most = omega arith; low = λ i j l k. absurd (omega (arith, k)); attained = λ l. absurd (omega (arith, l)) }
 
 column_more : (n m : ℕ) (f : ℕ → ℕ → ℕ) (bound v w : ℕ) → IsLeastPairOr n m f bound v → IsLeastOr n (λ i. f i m) bound w → IsLeastPairOr n (m + 1) f bound (min v w)
 column_more n m f bound v w h here = record {
@@ -80,15 +80,12 @@ column_more n m f bound v w h here = record {
 
 pub columns_four : (n : ℕ) (f : ℕ → ℕ → ℕ) (bound a b c d v : ℕ) → IsLeastOr n (λ i. f i 0) bound a → IsLeastOr n (λ i. f i 1) bound b → IsLeastOr n (λ i. f i 2) bound c → IsLeastOr n (λ i. f i 3) bound d → v ≡ min (min a b) (min c d) → IsLeastPairOr n 4 f bound v
 columns_four n f bound a b c d v first second third fourth e =
-    let one = column_more n 0 f bound bound a (column_none n f bound) first in
+    let one = column_more n 0 f bound bound a (pair_none n f bound) first in
     let two = column_more n 1 f bound (min bound a) b one second in
     let three = column_more n 2 f bound (min (min bound a) b) c two third in
     let four = column_more n 3 f bound (min (min (min bound a) b) c) d three fourth in
     let same : min (min (min (min bound a) b) c) d ≡ v = omega (arith, e, first.most, second.most, third.most, fourth.most) in
     subst (λ z. IsLeastPairOr n 4 f bound z) same four
-
-pub pair_none : (n : ℕ) (f : ℕ → ℕ → ℕ) (bound : ℕ) → IsLeastPairOr n 0 f bound bound
-pair_none = column_none
 
 pub pair_more : (m : ℕ) (f : ℕ → ℕ → ℕ) (bound v w : ℕ) → IsLeastPairOr 2 m f bound v → w ≡ min v (min (f 0 m) (f 1 m)) → IsLeastPairOr 2 (m + 1) f bound w
 pair_more m f bound v w h e =

@@ -52,8 +52,8 @@ fn pair_two(ones: &[u64], twos: &[u64], pair: &[[u64; 4]; 2], bound: u32) -> u32
     least
 }
 
-// The least of a bound and of the numbers of symbols at which a head differs from some tails, by three planes. (The planes
-// of two heads and of what is done with them would be more than a processor has registers.)
+// The least of a bound and of the numbers of symbols at which a head differs from some tails, by three planes. (For x86-64-v2
+// the planes of two heads, and of what is done with them, would be more than there are registers.)
 #[inline]
 fn row_three(ones: &[u64], twos: &[u64], fours: &[u64], head: &[u64; 4], bound: u32) -> u32
     requires twos { length twos.now ≡ length ones.now }
