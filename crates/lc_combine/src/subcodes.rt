@@ -1,5 +1,5 @@
 //! Words of even weight, and words of two codes.
-ghost use Rattle.std.specs.Prelude.{◌≡◌, [], ◌∷◌, ◌++◌, replicate, IfOk};
+ghost use Rattle.std.specs.Prelude.{◌≡◌, [], ◌∷◌, ◌++◌, length, take, replicate, IfOk, OnErr};
 ghost use Rattle.lc_algebra.specs.declared.FieldName.TheVariants.{Gf2};
 ghost use Rattle.lc_constructions.specs.Code.{IsCode};
 ghost use Rattle.lc_constructions.specs.Combined.{InEvenWeight, InIntersection};
@@ -83,9 +83,23 @@ fn common_checks(alloc: Global, a: &Code, b: &Code) -> Result<Vec<Word>, NoMemor
     Ok(checks)
 }
 
-/// Pushes each row of the code.
+/// Pushes each row of the code. If memory runs out, the list is as before.
 pub fn push_rows(alloc: Global, code: &Code, rows: &mut Vec<Word>) -> Result<(), NoMemory>
     ensures pushed { IfOk result (λ _. rows.new.items ≡ rows.old.items ++ code.now.rows) }
+    ensures kept { OnErr result (rows.new.items ≡ rows.old.items) }
+{
+    let start = rows.len();
+    let pushed = push_each(alloc, code, rows);
+    if pushed.is_err() {
+        rows.truncate(start);
+    }
+    pushed
+}
+
+// The same. If memory runs out, some of the rows may be in the list.
+fn push_each(alloc: Global, code: &Code, rows: &mut Vec<Word>) -> Result<(), NoMemory>
+    ensures pushed { IfOk result (λ _. rows.new.items ≡ rows.old.items ++ code.now.rows) }
+    ensures front { take (length rows.old.items) rows.new.items ≡ rows.old.items }
 {
     for i in 0..code.dimension() {
         rows.push(Word::from_slice(alloc, code.row(i))?)?;

@@ -1,5 +1,5 @@
 //! Direct sums and the words u followed by u + v.
-ghost use Rattle.std.specs.Prelude.{◌≡◌, ◌+◌, ◌≤◌, ◌++◌, IfOk};
+ghost use Rattle.std.specs.Prelude.{◌≡◌, ◌+◌, ◌≤◌, ◌++◌, length, take, IfOk, OnErr};
 ghost use Rattle.lc_constructions.specs.Code.{longest, IsCode};
 ghost use Rattle.lc_constructions.specs.Combined.{InDirectSum, InUuv};
 ghost use Rattle.lc_constructions.specs.Refusal.{first_refusal, IsRefusedAs, RefusesFirst};
@@ -88,10 +88,26 @@ fn uuv_rows(alloc: Global, a: &Code, b: &Code) -> Result<Vec<Word>, NoMemory>
     Ok(rows)
 }
 
-/// Pushes each row of the code, followed by `n` zeros. The length of the code and n add up to at most 255.
+/// Pushes each row of the code, followed by `n` zeros. The length of the code and n add up to at most 255. If memory runs out, the
+/// list is as before.
 pub fn push_left(alloc: Global, a: &Code, n: usize, rows: &mut Vec<Word>) -> Result<(), NoMemory>
     requires most { a.now.columns + n ≤ longest }
     ensures pushed { IfOk result (λ _. rows.new.items ≡ rows.old.items ++ left_rows n a.now.rows) }
+    ensures kept { OnErr result (rows.new.items ≡ rows.old.items) }
+{
+    let start = rows.len();
+    let pushed = push_each_left(alloc, a, n, rows);
+    if pushed.is_err() {
+        rows.truncate(start);
+    }
+    pushed
+}
+
+// The same. If memory runs out, some of the rows may be in the list.
+fn push_each_left(alloc: Global, a: &Code, n: usize, rows: &mut Vec<Word>) -> Result<(), NoMemory>
+    requires most { a.now.columns + n ≤ longest }
+    ensures pushed { IfOk result (λ _. rows.new.items ≡ rows.old.items ++ left_rows n a.now.rows) }
+    ensures front { take (length rows.old.items) rows.new.items ≡ rows.old.items }
 {
     for i in 0..a.dimension() {
         let mut symbols = Vec::with_capacity(alloc, a.length() + n)?;

@@ -1,5 +1,5 @@
 //! The words that some rows span, one after another.
-ghost use Rattle.std.specs.Prelude.{◌≡◌, suc, ◌-◌, ◌^◌, ◌<◌, ◌≤◌, ◌++◌, length, take, drop, map, flat_map, IfOk};
+ghost use Rattle.std.specs.Prelude.{◌≡◌, suc, ◌-◌, ◌^◌, ◌<◌, ◌≤◌, ◌++◌, length, take, drop, map, flat_map, IfOk, OnErr};
 ghost use Rattle.lc_algebra.specs.Field.{size};
 ghost use Rattle.lc_algebra.specs.Word.{Fits, word_sum, scale as scale_of};
 ghost use Rattle.lc_algebra.specs.Matrix.{AreRows};
@@ -64,7 +64,7 @@ fn multiple_of(alloc: Global, field: &Field, row: &[u8], c: u8) -> Result<Word, 
     Ok(Word::from_vec(symbols))
 }
 
-/// Pushes the sums of a word and each of some words, which have its length. Fails if memory runs out.
+/// Pushes the sums of a word and each of some words, which have its length. If memory runs out, the list is as before.
 pub fn push_sums(
     alloc: Global,
     field: &Field,
@@ -75,6 +75,28 @@ pub fn push_sums(
     requires word { Fits field.now word.now }
     requires words { AreRows field.now (length word.now) list.now }
     ensures are { IfOk result (λ _. sums.new.items ≡ sums.old.items ++ map (word_sum field.now word.now) list.now) }
+    ensures kept { OnErr result (sums.new.items ≡ sums.old.items) }
+{
+    let start = sums.len();
+    let pushed = push_each(alloc, field, word, list, sums);
+    if pushed.is_err() {
+        sums.truncate(start);
+    }
+    pushed
+}
+
+// The same. If memory runs out, some of the sums may be in the list.
+fn push_each(
+    alloc: Global,
+    field: &Field,
+    word: &[u8],
+    list: &[Word],
+    sums: &mut Vec<Word>,
+) -> Result<(), NoMemory>
+    requires word { Fits field.now word.now }
+    requires words { AreRows field.now (length word.now) list.now }
+    ensures are { IfOk result (λ _. sums.new.items ≡ sums.old.items ++ map (word_sum field.now word.now) list.now) }
+    ensures front { take (length sums.old.items) sums.new.items ≡ sums.old.items }
 {
     for i in 0..list.len() {
         let mut sum = Word::zero(alloc, word.len())?;
