@@ -5,10 +5,12 @@
 --   lines_of_nearest_words      the line of a nearest word
 --   lines_of_fillings           the line of a word with erasures
 --   bound_calls, bound_queries      the forms of calls, and what they make of values
+--   bound_values                    the same, and what a value stands for
 use Rattle.std.specs.Prelude.{⊤}
 use Rattle.lc_formats.specs.Claim.{form_certificate}
 use Rattle.lc_certificate.specs.Trees.{claim_of, built_of}
 use Rattle.lc_language.specs.Calls.{value_forms, query_forms, bind, bind_query}
+use Rattle.lc_language.specs.Value.{number_in, field_in, numbers_in, lists_in, code_in}
 use Rattle.lc_language.specs.Refusal.{refusal_from, refuse}
 use Rattle.lc_language.specs.Evaluation.{refuse_call}
 use Rattle.lc_language.specs.Meaning.{decoded}
@@ -43,3 +45,7 @@ bound_calls = tt
 unfoldable pub bound_queries : ⊤
 unfolding query_forms bind_query
 bound_queries = tt
+
+unfoldable pub bound_values : ⊤
+unfolding value_forms bind number_in field_in numbers_in lists_in code_in
+bound_values = tt

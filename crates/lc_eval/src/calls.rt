@@ -2,11 +2,12 @@
 //! stands for in the definitions of the language, and what it gives.
 //!
 //! A call that gives a value is added by its row in the table, its variant of `BoundCall` with what it stands for, its arm in the
-//! function for the number of its arguments, as `with_two`, and its arm in `apply`.
+//! function for its arguments, as `with_three` or `with_two_codes`, and its arm in `apply`.
 ghost use Rattle.std.specs.Prelude.{◌≡◌, ◌==◌, map, find, nat_eq, [], ◌∷◌, option_map, length, None, Some, MatchOption};
 ghost use Rattle.std.specs.Cmp.Lexicographic.{pointwise};
 ghost use Rattle.lc_language.specs.Calls.{name_of, signatures, call_named};
 ghost use Rattle.lc_language.specs.Calls as language;
+ghost use Rattle.lc_language.specs.Value.{code as language_code, field as language_field, code_in, field_in};
 ghost use Rattle.lc_eval.specs.Built.{query_call_of, call_of, built_calls, forms_of, IsRowOf};
 ghost use Rattle.lc_language.specs.Evaluation.{AppliesTo};
 ghost use Rattle.lc_eval.specs.Applied.{Answers};
@@ -396,8 +397,89 @@ fn with_one<'a>(call: ValueCall, a: &'a Value) -> Option<BoundCall<'a>>
 }
 
 // The call with two arguments.
-#[tactic(auto, unfolding(crate::proofs::Opened::bound_calls))]
+#[tactic(auto, unfolding(crate::proofs::Opened::bound_values))]
 fn with_two<'a>(call: ValueCall, a: &'a Value, b: &'a Value) -> Option<BoundCall<'a>>
+    ensures { option_map ⟦<BoundCall<'static> as Means>⟧.meaning result
+        ≡ language.bind call (value_of a.now ∷ value_of b.now ∷ []) }
+{
+    match a {
+        Value::Code(code) => with_code(call, code, b),
+        _ => without_code(call, a, b),
+    }
+}
+
+// The call with a code and another argument.
+#[tactic(auto, unfolding(crate::proofs::Opened::bound_values))]
+fn with_code<'a>(call: ValueCall, a: &'a CodeValue, b: &'a Value) -> Option<BoundCall<'a>>
+    ensures { option_map ⟦<BoundCall<'static> as Means>⟧.meaning result
+        ≡ language.bind call (language_code a.now.code a.now.form ∷ value_of b.now ∷ []) }
+{
+    match b {
+        Value::Code(other) => with_two_codes(call, a, other),
+        Value::Field(field) => with_code_and_field(call, a, field),
+        _ => with_code_and_list(call, a, b),
+    }
+}
+
+// The call with two codes.
+#[tactic(auto, unfolding(crate::proofs::Opened::bound_values))]
+fn with_two_codes<'a>(call: ValueCall, a: &'a CodeValue, b: &'a CodeValue) -> Option<BoundCall<'a>>
+    ensures { option_map ⟦<BoundCall<'static> as Means>⟧.meaning result
+        ≡ language.bind call (language_code a.now.code a.now.form ∷ language_code b.now.code b.now.form ∷ []) }
+{
+    match call {
+        ValueCall::DirectSumCode => Some(BoundCall::DirectSumCode(&a.code, &b.code)),
+        ValueCall::UuvCode => Some(BoundCall::UuvCode(&a.code, &b.code)),
+        ValueCall::DirectProductCode => Some(BoundCall::DirectProductCode(&a.code, &b.code)),
+        ValueCall::IntersectionCode => Some(BoundCall::IntersectionCode(&a.code, &b.code)),
+        ValueCall::ConcatenatedCode => Some(BoundCall::ConcatenatedCode(&a.code, &b.code)),
+        ValueCall::IsSubcode => Some(BoundCall::IsSubcode(&a.code, &b.code)),
+        ValueCall::IsSameCode => Some(BoundCall::IsSameCode(&a.code, &b.code)),
+        ValueCall::UnionCode => Some(BoundCall::UnionCode(&a.code, &b.code)),
+        _ => None,
+    }
+}
+
+// The call with a code and a field.
+#[tactic(auto, unfolding(crate::proofs::Opened::bound_values))]
+fn with_code_and_field<'a>(call: ValueCall, a: &'a CodeValue, b: &'a Field) -> Option<BoundCall<'a>>
+    ensures { option_map ⟦<BoundCall<'static> as Means>⟧.meaning result
+        ≡ language.bind call (language_code a.now.code a.now.form ∷ language_field b.now ∷ []) }
+{
+    match call {
+        ValueCall::TraceCode => Some(BoundCall::TraceCode(&a.code, b)),
+        ValueCall::SubfieldSubcode => Some(BoundCall::SubfieldSubcode(&a.code, b)),
+        _ => None,
+    }
+}
+
+// The call with a code and an argument that is neither a code nor a field.
+#[tactic(auto, unfolding(crate::proofs::Opened::bound_values))]
+fn with_code_and_list<'a>(call: ValueCall, a: &'a CodeValue, b: &'a Value) -> Option<BoundCall<'a>>
+    requires no_code { code_in (value_of b.now) ≡ None }
+    requires no_field { field_in (value_of b.now) ≡ None }
+    ensures { option_map ⟦<BoundCall<'static> as Means>⟧.meaning result
+        ≡ language.bind call (language_code a.now.code a.now.form ∷ value_of b.now ∷ []) }
+{
+    let code = &a.code;
+    match call {
+        ValueCall::PuncturedCode => Some(BoundCall::PuncturedCode(code, b.numbers()?)),
+        ValueCall::ShortenedCode => Some(BoundCall::ShortenedCode(code, b.numbers()?)),
+        ValueCall::IsCodeword => Some(BoundCall::IsCodeword(code, b.numbers()?)),
+        ValueCall::Decode => Some(BoundCall::Decode(code, b.numbers()?)),
+        ValueCall::Syndrome => Some(BoundCall::Syndrome(code, b.numbers()?)),
+        ValueCall::Encode => Some(BoundCall::Encode(code, b.numbers()?)),
+        ValueCall::InformationWord => Some(BoundCall::InformationWord(code, b.numbers()?)),
+        ValueCall::ResidueCode => Some(BoundCall::ResidueCode(code, b.numbers()?)),
+        ValueCall::AugmentedCode => Some(BoundCall::AugmentedCode(code, b.lists()?)),
+        _ => None,
+    }
+}
+
+// The call with two arguments of which the first is no code.
+#[tactic(auto, unfolding(crate::proofs::Opened::bound_values))]
+fn without_code<'a>(call: ValueCall, a: &'a Value, b: &'a Value) -> Option<BoundCall<'a>>
+    requires { code_in (value_of a.now) ≡ None }
     ensures { option_map ⟦<BoundCall<'static> as Means>⟧.meaning result
         ≡ language.bind call (value_of a.now ∷ value_of b.now ∷ []) }
 {
@@ -411,44 +493,9 @@ fn with_two<'a>(call: ValueCall, a: &'a Value, b: &'a Value) -> Option<BoundCall
         ValueCall::ReedMullerCode => Some(BoundCall::ReedMullerCode(a.number()?, b.number()?)),
         ValueCall::QrCode => Some(BoundCall::QrCode(a.number()?, b.field()?)),
         ValueCall::ReedSolomonCode => Some(BoundCall::ReedSolomonCode(a.number()?, b.number()?)),
-        ValueCall::PuncturedCode => Some(BoundCall::PuncturedCode(&a.code()?.code, b.numbers()?)),
-        ValueCall::ShortenedCode => Some(BoundCall::ShortenedCode(&a.code()?.code, b.numbers()?)),
-        ValueCall::DirectSumCode => Some(BoundCall::DirectSumCode(
-            &a.code()?.code,
-            &b.code()?.code,
-        )),
-        ValueCall::UuvCode => Some(BoundCall::UuvCode(&a.code()?.code, &b.code()?.code)),
-        ValueCall::DirectProductCode => Some(BoundCall::DirectProductCode(
-            &a.code()?.code,
-            &b.code()?.code,
-        )),
-        ValueCall::IntersectionCode => Some(BoundCall::IntersectionCode(
-            &a.code()?.code,
-            &b.code()?.code,
-        )),
-        ValueCall::ConcatenatedCode => Some(BoundCall::ConcatenatedCode(
-            &a.code()?.code,
-            &b.code()?.code,
-        )),
-        ValueCall::IsCodeword => Some(BoundCall::IsCodeword(&a.code()?.code, b.numbers()?)),
-        ValueCall::Decode => Some(BoundCall::Decode(&a.code()?.code, b.numbers()?)),
-        ValueCall::Syndrome => Some(BoundCall::Syndrome(&a.code()?.code, b.numbers()?)),
-        ValueCall::IsSubcode => Some(BoundCall::IsSubcode(&a.code()?.code, &b.code()?.code)),
-        ValueCall::IsSameCode => Some(BoundCall::IsSameCode(&a.code()?.code, &b.code()?.code)),
         ValueCall::DistanceCodeword => {
             Some(BoundCall::DistanceCodeword(a.numbers()?, b.numbers()?))
         }
-        ValueCall::Encode => Some(BoundCall::Encode(&a.code()?.code, b.numbers()?)),
-        ValueCall::InformationWord => {
-            Some(BoundCall::InformationWord(&a.code()?.code, b.numbers()?))
-        }
-        ValueCall::UnionCode => Some(BoundCall::UnionCode(&a.code()?.code, &b.code()?.code)),
-        ValueCall::AugmentedCode => Some(BoundCall::AugmentedCode(&a.code()?.code, b.lists()?)),
-        ValueCall::TraceCode => Some(BoundCall::TraceCode(&a.code()?.code, b.field()?)),
-        ValueCall::SubfieldSubcode => {
-            Some(BoundCall::SubfieldSubcode(&a.code()?.code, b.field()?))
-        }
-        ValueCall::ResidueCode => Some(BoundCall::ResidueCode(&a.code()?.code, b.numbers()?)),
         _ => None,
     }
 }
