@@ -21,13 +21,17 @@ has_the_bytes() {
 }
 
 lists_the_sums() { [ "$(cd release && sha256sum codes-*)" = "$(cat release/SHA256SUMS)" ]; }
-names_the_levels() { [ "$(made_of release levels)" = "$levels" ] && [ "$(made_of release kit)" = "$("$rt" version)" ]; }
+
+# whether MADE names the processor levels, and a kit with the logic of this one. Kits of one logic differ in a letter, by what their `rt`
+# can do; that both build the same is seen from the bytes.
+names_the_levels() { [ "$(made_of release levels)" = "$levels" ] && [ "$(logic_of "$(made_of release kit)")" = "$(logic_of "$("$rt" version)")" ]; }
+logic_of() { echo "${1#* logic }"; }
 
 check_released() {
     check 'release/ was made of these sources' names_the_sources
     names_the_sources >/dev/null || return
     check 'release/SHA256SUMS has the checksums of its programs' lists_the_sums
-    check 'release/MADE names the kit and the processor levels' names_the_levels
+    check 'release/MADE names a kit of this logic and the processor levels' names_the_levels
     mkdir -p "$room/made"
     for level in $levels; do
         # here, and not below `check`, so that a signal ends what it starts
