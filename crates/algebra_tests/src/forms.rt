@@ -1,9 +1,12 @@
 //! Tests of cyclic, BCH, Reed-Solomon, Goppa and alternant codes, by dimensions from the literature; each refusal is seen.
-use lc_code::{Code, CodeRefusal, FormedCode};
+ghost use Rattle.lc_constructions.specs.Alternant.{IsFormOf};
+
+use lc_code::{Code, CodeRefusal, FormedCode, alternant_code};
 use lc_cyclic::{bch, binary_golay, check_pol, generator_pol, reed_solomon, ternary_golay};
 use lc_field::{Field, NoMemory};
 use lc_goppa::{alternant, goppa};
 use std::alloc::Global;
+use test_rows::{Rows, has_rows};
 
 // The dimension of the code, or why there is none.
 fn dimension(code: Result<Code, CodeRefusal>) -> Result<usize, CodeRefusal> {
@@ -237,4 +240,35 @@ fn alternant_dimension(alloc: Global, r: u64, points: &[u8]) -> Result<usize, Co
 fn the_dimension_of_an_alternant_code(rt: HostRuntime) {
     let k = alternant_dimension(rt.alloc(), 2, &[0, 1, 2, 3, 4]);
     assert!(rt; k == Ok(3));
+}
+
+// Whether the code of the form has these rows.
+fn has_form(alloc: Global, formed: &FormedCode, rows: Rows) -> Result<bool, NoMemory>
+    requires formed { IsFormOf formed.now.code formed.now.form }
+{
+    let code = alternant_code(alloc, formed.code.field(), &formed.form)?;
+    Ok(has_rows(&code, rows))
+}
+
+// The same for the form of the Reed-Solomon code of length n and design distance d.
+fn reed_solomon_form(alloc: Global, n: u64, d: u64, rows: Rows) -> Result<bool, CodeRefusal> {
+    let formed = reed_solomon(alloc, n, d)?;
+    Ok(has_form(alloc, &formed, rows)?)
+}
+
+// The length, the design distance, and the rows of Reed-Solomon codes. The generator polynomial of the first is
+// (x - 2)(x - 4) over 5 elements. With a zero at each element but 0 and 1 the words are the multiples of that of ones.
+static FORMS: [(u64, u64, Rows); 4] = [
+    (4, 3, &[&[1, 0, 3, 4], &[0, 1, 3, 2]]),
+    (4, 4, &[&[1, 1, 1, 1]]),
+    (2, 2, &[&[1, 1]]),
+    (2, 1, &[&[1, 0], &[0, 1]]),
+];
+
+#[test]
+fn codes_of_alternant_forms(rt: HostRuntime) {
+    for row in &FORMS {
+        let right = reed_solomon_form(rt.alloc(), row.0, row.1, row.2);
+        assert!(rt; right == Ok(true), "{} {}", row.0, row.1);
+    }
 }

@@ -1,5 +1,12 @@
-//! Certificates that are read and written back, and texts that are none.
-use lc_certificate::{CertRefusal, parse, write};
+//! Certificates that are read and written back, texts that are none, and the verdicts on certificates of both versions.
+ghost use Rattle.lc_certificate.specs.Trees.{document_of};
+ghost use Rattle.lc_documents.specs.Reading.{IsShapedDocument};
+
+use lc_certificate::{CertRefusal, Document, parse, write};
+use lc_checker::{Verdict, check};
+use lc_documents::parse_document;
+use lc_field::NoMemory;
+use lc_trees::check_built;
 use std::alloc::{AllocError, Global};
 use std::test::Fail;
 
@@ -92,5 +99,91 @@ fn certificates_of_broken_proofs(rt: HostRuntime) {
     ];
     for (text, number, rule) in &cases {
         assert!(rt; refusal_of(rt.alloc(), *text) == (*number, *rule));
+    }
+}
+
+// The number of the reason for which a certificate is rejected, 0 if it is accepted.
+fn number_of(verdict: Result<Verdict, NoMemory>) -> Option<u8> {
+    match verdict {
+        Ok(Verdict::Accepted) => Some(0),
+        Ok(Verdict::Rejected(reason)) => Some(reason.number()),
+        Err(NoMemory) => None,
+    }
+}
+
+// The same for the certificate that a text is.
+fn verdict_on(alloc: Global, text: &str) -> Option<u8> {
+    match parse(alloc, text.as_bytes()) {
+        Ok(cert) => number_of(check(alloc, &cert)),
+        Err(_) => None,
+    }
+}
+
+// Certificates, and the reason for which each is rejected.
+static VERDICTS: [(&str, u8); 4] = [
+    (HAMMING, 0),
+    (
+        "{\"version\":1,\"field\":2,\"rows\":[[1,1]],\"word\":[1,0],\"distance\":1,\"by\":\"scan\"}",
+        33,
+    ),
+    (
+        "{\"version\":1,\"field\":2,\"rows\":[[1,1]],\"word\":[1,1],\"distance\":1,\"by\":\"scan\"}",
+        34,
+    ),
+    (
+        "{\"version\":1,\"field\":2,\"rows\":[[1,0],[0,1]],\"word\":[1,1],\"distance\":2,\"by\":\"scan\"}",
+        37,
+    ),
+];
+
+#[test]
+fn certificates_are_checked(rt: HostRuntime) {
+    for row in &VERDICTS {
+        assert!(rt; verdict_on(rt.alloc(), row.0) == Some(row.1));
+    }
+}
+
+// The same for a certificate by construction.
+fn verdict_of_tree(alloc: Global, read: &Document) -> Option<u8>
+    requires shaped { IsShapedDocument (document_of read.now) }
+{
+    match read {
+        Document::Tree(built) => number_of(check_built(alloc, built)),
+        Document::Plain(_) => None,
+    }
+}
+
+// The same for the one that a text is.
+fn verdict_on_tree(alloc: Global, text: &str) -> Option<u8> {
+    match parse_document(alloc, text.as_bytes()) {
+        Ok(read) => verdict_of_tree(alloc, &read),
+        Err(_) => None,
+    }
+}
+
+// The certificate of the Reed-Solomon code of length 4 and distance 3, and what it is after one change.
+static TREES: [(&str, u8); 4] = [
+    (
+        "{\"claim\":{\"kind\":\"alternant\",\"locator\":5,\"multipliers\":[1,2,4,3],\"points\":[1,2,4,3],\"r\":2},\"distance\":3,\"field\":5,\"version\":2,\"word\":[1,0,3,4]}",
+        0,
+    ),
+    (
+        "{\"claim\":{\"kind\":\"alternant\",\"locator\":5,\"multipliers\":[1,1,1,1],\"points\":[1,2,4,3],\"r\":2},\"distance\":3,\"field\":5,\"version\":2,\"word\":[1,0,3,4]}",
+        33,
+    ),
+    (
+        "{\"claim\":{\"kind\":\"alternant\",\"locator\":5,\"multipliers\":[1,2,4,3],\"points\":[1,2,4,4],\"r\":2},\"distance\":3,\"field\":5,\"version\":2,\"word\":[1,0,3,4]}",
+        48,
+    ),
+    (
+        "{\"claim\":{\"kind\":\"alternant\",\"locator\":5,\"multipliers\":[1,2,4,3],\"points\":[1,2,4,3],\"r\":2},\"distance\":4,\"field\":5,\"version\":2,\"word\":[1,1,1,1]}",
+        49,
+    ),
+];
+
+#[test]
+fn certificates_by_construction_are_checked(rt: HostRuntime) {
+    for row in &TREES {
+        assert!(rt; verdict_on_tree(rt.alloc(), row.0) == Some(row.1));
     }
 }

@@ -1,9 +1,10 @@
 //! Each line once, as a session prints it.
 use lc_field::NoMemory;
 use lc_print::{
-    bracket_line, certificate_length_line, code_line, distance_line, distance_none_line,
-    fault_line, field_line, least_line, least_none_line, list_line, none_line, number_line,
-    rows_line, truth_line,
+    accepted_line, bracket_line, certificate_bracket_line, certificate_cost_line,
+    certificate_length_line, certificate_none_line, code_line, distance_line, distance_none_line,
+    fault_line, field_line, least_line, least_none_line, list_line, many_line, none_line,
+    number_line, rejected_line, rows_line, truth_line,
 };
 use lc_vec::Word;
 use std::alloc::{AllocError, Global};
@@ -48,6 +49,7 @@ fn lines_of_values(rt: HostRuntime) {
     assert!(rt; is_line(truth_line(alloc, true), b"true\n"));
     assert!(rt; is_line(truth_line(alloc, false), b"false\n"));
     assert!(rt; is_line(none_line(alloc), b"none\n"));
+    assert!(rt; is_line(many_line(alloc), b"many\n"));
 }
 
 // The line of a least word.
@@ -80,13 +82,39 @@ fn lines_of_answers_and_faults(rt: HostRuntime) -> Result<(), Fail> {
     assert!(rt; is_line(least_none_line(alloc), b"least none\n"));
     assert!(rt; are_distances(alloc)?);
     assert!(rt; is_line(distance_none_line(alloc), b"distance none\n"));
+    assert!(rt; is_line(fault_line(alloc, 8, 0, &[1, 2]), b"fault 8 at 0 with 1 2\n"));
+    assert!(rt; is_line(fault_line(alloc, 44, 10, &[]), b"fault 44 at 10\n"));
+    Ok(())
+}
+
+#[test]
+fn lines_of_certificates_that_are_none(rt: HostRuntime) {
+    let alloc = rt.alloc();
+    assert!(rt; is_line(certificate_none_line(alloc), b"certificate none\n"));
+    assert!(rt;
+        is_line(
+            certificate_bracket_line(alloc, 1, 3),
+            b"certificate none between 1 and 3\n"
+        )
+    );
+    assert!(rt;
+        is_line(
+            certificate_cost_line(alloc, 8_589_934_592),
+            b"certificate none cost 8589934592\n"
+        )
+    );
     assert!(rt;
         is_line(
             certificate_length_line(alloc, 1_048_577),
             b"certificate none length 1048577\n"
         )
     );
-    assert!(rt; is_line(fault_line(alloc, 8, 0, &[1, 2]), b"fault 8 at 0 with 1 2\n"));
-    assert!(rt; is_line(fault_line(alloc, 44, 10, &[]), b"fault 44 at 10\n"));
-    Ok(())
+}
+
+#[test]
+fn lines_of_checks(rt: HostRuntime) {
+    let alloc = rt.alloc();
+    assert!(rt; is_line(accepted_line(alloc, 3), b"accepted distance 3\n"));
+    assert!(rt; is_line(rejected_line(alloc, 33, &[]), b"rejected 33\n"));
+    assert!(rt; is_line(rejected_line(alloc, 48, &[0, 8]), b"rejected 48 with 0 8\n"));
 }

@@ -1,16 +1,22 @@
 //! Weight distributions of codes over each field, at lengths around the borders of parts of 64 columns and at dimensions around
-//! those at which heads begin, counted by one worker and by four, against a plain count.
+//! those at which heads begin, counted by one worker and by four, against a plain count; and those of codes of the literature,
+//! counted and found from those of their duals.
 ghost use Rattle.std.specs.Prelude.{◌<◌, ◌≤◌, length};
+ghost use Rattle.lc_constructions.specs.Code.{IsCode};
+ghost use Rattle.lc_constructions.specs.Combined.{InDual};
+ghost use Rattle.lc_macwilliams.specs.Solving.{IsDualDistribution};
 
 use crate::plain::{Sums, add_row, sums_over, weight_of};
 use crate::shapes::{Columns, Shape, shaped};
 use lc_code::Code;
-use lc_macwilliams::refusal;
-use lc_weights::distribution;
+use lc_field::NoMemory;
+use lc_macwilliams::{from_dual, has_many_words, refusal};
+use lc_weights::{count_words, distribution};
 use std::alloc::Global;
 use std::process::Abort;
 use std::test::Fail;
 use std::thread::Threads;
+use test_rows::generated_by;
 
 // The lengths that are looked at.
 static LENGTHS: [usize; 10] = [63, 64, 65, 127, 128, 129, 191, 192, 193, 255];
@@ -178,4 +184,82 @@ fn codes_with_heads_are_counted(rt: HostRuntime) -> Result<(), Fail> {
         assert!(rt; lengths_agree(&rt, rt.alloc(), *q, *dimension, &FEWEST_LENGTHS)?);
     }
     Ok(())
+}
+
+// The length and the rows of a binary code, its weight distribution, and that of its dual.
+type Known = (usize, &'static str, &'static [u64], &'static [u64]);
+
+// The Hamming code and the simplex code, the repetition code and the even words, and the extended Hamming code, which is its own dual
+// (MacWilliams and Sloane, chapters 1 and 5).
+static KNOWN: [Known; 3] = [
+    (
+        7,
+        "1000011 0100101 0010110 0001111",
+        &[1, 0, 0, 7, 7, 0, 0, 1],
+        &[1, 0, 0, 0, 7, 0, 0, 0],
+    ),
+    (5, "11111", &[1, 0, 0, 0, 0, 1], &[1, 0, 10, 0, 5, 0]),
+    (
+        8,
+        "10000111 01001011 00101101 00011110",
+        &[1, 0, 0, 0, 14, 0, 0, 0, 1],
+        &[1, 0, 0, 0, 14, 0, 0, 0, 1],
+    ),
+];
+
+// Whether these are the counts of the dual's words, and those of the words of the code are found from them. The code is a short
+// binary one.
+fn are_found(alloc: Global, code: &Code, counts: &[u64], row: &Known) -> Result<bool, NoMemory>
+    requires dual { IsDualDistribution code.now counts.now }
+{
+    if counts != row.3 || code.field().size() != 2 || code.length() > 63 {
+        return Ok(false);
+    }
+    let found = from_dual(alloc, code, counts)?;
+    Ok(found.as_slice() == row.2)
+}
+
+// The same, and the words of the dual are counted.
+#[tactic(auto, using(lc_macwilliams::proofs::DualCounts::dual_counts))]
+fn are_found_by_dual<R: Threads + Sync>(
+    rt: &R,
+    alloc: Global,
+    code: &Code,
+    dual: &Code,
+    row: &Known,
+) -> Result<bool, NoMemory>
+    requires dual { IsCode code.now.field code.now.columns (InDual code.now) dual.now }
+{
+    let _matrix = code.matrix();
+    if has_many_words(dual) {
+        return Ok(false);
+    }
+    let counts = count_words(rt, alloc, dual, 1)?;
+    are_found(alloc, code, counts.as_slice(), row)
+}
+
+// The same, and the dual is made.
+fn duals_agree<R: Threads + Sync>(
+    rt: &R,
+    alloc: Global,
+    code: &Code,
+    row: &Known,
+) -> Result<bool, NoMemory> {
+    let dual = code.dual(alloc)?;
+    are_found_by_dual(rt, alloc, code, &dual, row)
+}
+
+// Whether this is so of the code of the row.
+fn is_known<R: Threads + Sync>(rt: &R, alloc: Global, row: &Known) -> bool {
+    match generated_by(alloc, 2, row.0, row.1) {
+        Ok(code) => duals_agree(rt, alloc, &code, row) == Ok(true),
+        Err(_refusal) => false,
+    }
+}
+
+#[test]
+fn distributions_are_found_from_those_of_duals(rt: HostRuntime) {
+    for row in &KNOWN {
+        assert!(rt; is_known(&rt, rt.alloc(), row), "length {}", row.0);
+    }
 }
