@@ -7,7 +7,7 @@
 A bug is a paragraph of tests/bugs/CRATE.bugs: a line '@@ FILE FUNCTION', the lines that it takes away, each after a '-', and those
 that it puts there, each after a '+'. A function is proved against the contracts of those that it calls. So bugs in different functions
 don't hide each other, unless the prover says that it left a function out since one that it calls is wrong: that one is tried again
-without the others.
+without the others. A bug of a definition, in specs/, names a law: it is refused if that law is no longer proved when it stands alone.
 
 With names of crates it prints a line for each bug that is proved, and for each that could not be tried, and for each crate how many
 are refused. It ends with 1 if a bug is proved, can't be planted or can't be tried. A crate takes a minute to ten.
@@ -119,6 +119,9 @@ def tried(crate, top):
         left = []
         for bug in chosen:
             verdict = judged(bug, said)
+            if verdict == "left out" and alone and bug.file.startswith("specs/"):
+                # a lemma that the function rests on is refused, so that the function isn't tried
+                verdict = "refused"
             if verdict == "left out" and not alone:
                 left.append(bug)
             else:
