@@ -128,7 +128,7 @@ def all_modules(crates):
 
 def built_calls(modules):
     """The calls that `built_calls` lists; it lists those that give a value by the name of their list."""
-    text = "\n".join(modules[("lc_eval", "Built")].definitions["built_calls"].text)
+    text = "\n".join(modules[("lc_calls", "Built")].definitions["built_calls"].text)
     if "value_calls" in text:
         text += "\n".join(modules[("lc_language", "Calls")].definitions["value_calls"].text)
     return set(NAME.findall(text))

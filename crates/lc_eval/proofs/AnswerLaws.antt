@@ -20,12 +20,12 @@ use Rattle.lc_language.specs.Refusal.{Refusal, first_of, refusal_from, from_code
 use Rattle.lc_language.specs.Meaning.{Made}
 use Rattle.lc_language.proofs.RefusalLaws.{first_from_codes}
 use Rattle.lc_language.specs.Evaluation.{Outcome, gives, refused, refuse_at, refuse_call, AppliesTo}
-use Rattle.lc_eval.specs.declared.values.Value.{Value}
-use Rattle.lc_eval.specs.declared.refusals.Stop.{Stop}
-use Rattle.lc_eval.specs.declared.refusals.Stop.TheVariants as stop
-use Rattle.lc_eval.specs.Value.{value_of, refused_of}
-use Rattle.lc_eval.specs.Applied.{Answers}
-use Rattle.lc_eval.specs.Made.{IsMade, IsMadeAs, plain_value}
+use Rattle.lc_calls.specs.declared.values.Value.{Value}
+use Rattle.lc_calls.specs.declared.refusals.Stop.{Stop}
+use Rattle.lc_calls.specs.declared.refusals.Stop.TheVariants as stop
+use Rattle.lc_calls.specs.Value.{value_of, refused_of}
+use Rattle.lc_calls.specs.Applied.{Answers}
+use Rattle.lc_calls.specs.Made.{IsMade, IsMadeAs, plain_value}
 
 abbrev pub Applying : ℕ → BoundCall → Option Refusal → Outcome → Type 0
 Applying offset b r o =

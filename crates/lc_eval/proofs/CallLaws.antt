@@ -19,12 +19,12 @@ use Rattle.lc_language.specs.Calls.{BoundCall, gf, generator_mat_code, check_mat
 use Rattle.lc_language.specs.Value.{field, code}
 use Rattle.lc_language.specs.Refusal.{refuse, when, first_of, from_codes}
 use Rattle.lc_language.specs.Evaluation.{gives, refused, refuse_at, refuse_call, AppliesTo}
-use Rattle.lc_eval.specs.declared.values.Value.{Value}
-use Rattle.lc_eval.specs.declared.refusals.Refused.{Refused}
-use Rattle.lc_eval.specs.declared.refusals.Stop.{Stop}
-use Rattle.lc_eval.specs.Value.{rows_of, refused_of}
-use Rattle.lc_eval.specs.Applied.{Answers}
-use Rattle.lc_eval.specs.Made.{IsMade, plain_value}
+use Rattle.lc_calls.specs.declared.values.Value.{Value}
+use Rattle.lc_calls.specs.declared.refusals.Refused.{Refused}
+use Rattle.lc_calls.specs.declared.refusals.Stop.{Stop}
+use Rattle.lc_calls.specs.Value.{rows_of, refused_of}
+use Rattle.lc_calls.specs.Applied.{Answers}
+use Rattle.lc_calls.specs.Made.{IsMade, plain_value}
 use Rattle.lc_eval.specs.Rows.{clamped, clamped_rows}
 use Rattle.lc_eval.proofs.AnswerLaws.{applied, given_by}
 use Rattle.lc_eval.proofs.RowLaws.{clamped_each, columns_same, clamped_refusals, fine_same}

@@ -24,13 +24,13 @@ use Rattle.lc_formats.proofs.CertificateBack.{symbol_size}
 use Rattle.lc_extend.specs.Told.{told, IsRefusedWith}
 use Rattle.lc_extend.specs.declared.refusal.ExtensionRefusal.{ExtensionRefusal}
 use Rattle.lc_extend.specs.declared.refusal.ExtensionRefusal.TheVariants.{Codes, NotASubcode}
-use Rattle.lc_eval.specs.declared.values.Value.{Value}
-use Rattle.lc_eval.specs.declared.refusals.Refused.{Refused}
-use Rattle.lc_eval.specs.declared.refusals.Stop.{Stop}
-use Rattle.lc_eval.specs.declared.refusals.Stop.TheVariants as stop
-use Rattle.lc_eval.specs.Value.{rows_of, refused_of}
-use Rattle.lc_eval.specs.Applied.{Answers}
-use Rattle.lc_eval.specs.Made.{IsMade, plain_value}
+use Rattle.lc_calls.specs.declared.values.Value.{Value}
+use Rattle.lc_calls.specs.declared.refusals.Refused.{Refused}
+use Rattle.lc_calls.specs.declared.refusals.Stop.{Stop}
+use Rattle.lc_calls.specs.declared.refusals.Stop.TheVariants as stop
+use Rattle.lc_calls.specs.Value.{rows_of, refused_of}
+use Rattle.lc_calls.specs.Applied.{Answers}
+use Rattle.lc_calls.specs.Made.{IsMade, plain_value}
 use Rattle.lc_eval.specs.Rows.{clamped, clamped_rows}
 use Rattle.lc_eval.proofs.AnswerLaws.{applying, applied, given_by, refused_by}
 use Rattle.lc_eval.proofs.RowLaws.{clamped_each, elements_same, none_here, lengths_same, entries_same, rows_kept}

@@ -25,12 +25,12 @@ use Rattle.lc_language.specs.Refusal.{Refusal, refuse, refusal_from, from_codes}
 use Rattle.lc_language.specs.Meaning.{IsExtendedGolay}
 use Rattle.lc_language.specs.Evaluation.{Outcome, gives, refused, refuse_at, refuse_call, AppliesTo}
 use Rattle.lc_code.proofs.CoordinateSteps.{small_size}
-use Rattle.lc_eval.specs.declared.values.Value.{Value}
-use Rattle.lc_eval.specs.declared.refusals.Stop.{Stop}
-use Rattle.lc_eval.specs.declared.refusals.Stop.TheVariants as stop
-use Rattle.lc_eval.specs.Value.{value_of, refused_of}
-use Rattle.lc_eval.specs.Applied.{Answers}
-use Rattle.lc_eval.specs.Made.{IsMade}
+use Rattle.lc_calls.specs.declared.values.Value.{Value}
+use Rattle.lc_calls.specs.declared.refusals.Stop.{Stop}
+use Rattle.lc_calls.specs.declared.refusals.Stop.TheVariants as stop
+use Rattle.lc_calls.specs.Value.{value_of, refused_of}
+use Rattle.lc_calls.specs.Applied.{Answers}
+use Rattle.lc_calls.specs.Made.{IsMade}
 use Rattle.lc_eval.specs.Rows.{clamped}
 use Rattle.lc_eval.proofs.AnswerLaws.{Applying, first_as, given, always}
 use Rattle.lc_eval.proofs.RowLaws.{elements_same, row_kept, none_here}

@@ -13,11 +13,11 @@ use Rattle.lc_language.specs.Erasures.{IsFilling, erased_refusals}
 use Rattle.lc_language.specs.Evaluation.{prints, QueriesTo}
 use Rattle.lc_erasures.specs.declared.erasures.Filling.{Filling}
 use Rattle.lc_erasures.specs.Filling.{filling_of}
-use Rattle.lc_eval.specs.declared.refusals.Stop.{Stop}
-use Rattle.lc_eval.specs.declared.refusals.Stop.TheVariants as stop
+use Rattle.lc_calls.specs.declared.refusals.Stop.{Stop}
+use Rattle.lc_calls.specs.declared.refusals.Stop.TheVariants as stop
 use Rattle.lc_eval.specs.Checked.{IsRight, IsChecked}
 use Rattle.lc_eval.specs.Evaluated.{AffectsOrFails}
-use Rattle.lc_eval.specs.Made.{IsMade}
+use Rattle.lc_calls.specs.Made.{IsMade}
 use Rattle.lc_language.proofs.RefusalLaws.{first_from_codes}
 use Rattle.lc_eval.proofs.QueryLaws.{first_stays, first_behind, fails_so}
 

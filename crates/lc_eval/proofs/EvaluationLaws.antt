@@ -17,19 +17,19 @@ use Rattle.lc_language.specs.Evaluation as evaluation
 use Rattle.lc_language.specs.Evaluation.{Outcome, Outcomes, gives, refused, all_give, one_refused, refuse_at, misfit_offset, Evaluates, EvaluatesAll, GoesOn, Joins, Applies, AppliesTo, CallGives, Step, fails, fail_with, QueriesAll, QueriesTo, StepsAsQuery}
 use Rattle.lc_parse.specs.declared.tree.Expr.{Expr}
 use Rattle.lc_parse.specs.Views.{all_of, tree_of, trees_of}
-use Rattle.lc_eval.specs.Built.{built_calls, query_call_of, call_of, forms_of, IsRowOf, IsAsked}
-use Rattle.lc_eval.specs.declared.calls.Call.{Call}
-use Rattle.lc_eval.specs.declared.calls.Call.TheVariants as call
+use Rattle.lc_calls.specs.Built.{built_calls, query_call_of, call_of, forms_of, IsRowOf, IsAsked}
+use Rattle.lc_calls.specs.declared.table.Call.{Call}
+use Rattle.lc_calls.specs.declared.table.Call.TheVariants as call
 use Rattle.lc_language.specs.declared.ValueCall.{ValueCall}
-use Rattle.lc_eval.specs.declared.calls.QueryCall.{QueryCall}
-use Rattle.lc_eval.specs.declared.calls.Row.{Row}
-use Rattle.lc_eval.specs.declared.values.Value.{Value}
-use Rattle.lc_eval.specs.declared.refusals.Stop.{Stop}
-use Rattle.lc_eval.specs.declared.refusals.Stop.TheVariants as stop
-use Rattle.lc_eval.specs.Value.{value_of, values_of, refused_of}
-use Rattle.lc_eval.specs.Applied.{Answers, IsStop}
+use Rattle.lc_calls.specs.declared.table.QueryCall.{QueryCall}
+use Rattle.lc_calls.specs.declared.table.Row.{Row}
+use Rattle.lc_calls.specs.declared.values.Value.{Value}
+use Rattle.lc_calls.specs.declared.refusals.Stop.{Stop}
+use Rattle.lc_calls.specs.declared.refusals.Stop.TheVariants as stop
+use Rattle.lc_calls.specs.Value.{value_of, values_of, refused_of}
+use Rattle.lc_calls.specs.Applied.{Answers, IsStop}
 use Rattle.lc_eval.specs.Evaluated.{AnswersAll, AffectsOrFails}
-use Rattle.lc_eval.proofs.KindLaws.{count_is}
+use Rattle.lc_calls.proofs.KindLaws.{count_is}
 
 record GaveAll (Later : Outcomes → Type 0) (o : Outcome) (vs : List language.Value) : Type 0 where
   first : language.Value

@@ -34,10 +34,10 @@ use Rattle.lc_language.specs.Query.{form_line}
 use Rattle.lc_language.specs.Refusal.{Refusal, refuse, when, first_of, from_codes, word_refusals, no_form, not_attained}
 use Rattle.lc_language.specs.Value.{CodeValue}
 use Rattle.lc_language.specs.Evaluation.{refused, refuse_at, refuse_call, Step, prints, fails, fail_with, QueriesTo}
-use Rattle.lc_eval.specs.declared.refusals.Refused.{Refused}
-use Rattle.lc_eval.specs.declared.refusals.Stop.{Stop}
-use Rattle.lc_eval.specs.declared.refusals.Stop.TheVariants as stop
-use Rattle.lc_eval.specs.Value.{refused_of}
+use Rattle.lc_calls.specs.declared.refusals.Refused.{Refused}
+use Rattle.lc_calls.specs.declared.refusals.Stop.{Stop}
+use Rattle.lc_calls.specs.declared.refusals.Stop.TheVariants as stop
+use Rattle.lc_calls.specs.Value.{refused_of}
 use Rattle.lc_eval.specs.Checked.{IsRight, IsChecked}
 use Rattle.lc_eval.specs.Evaluated.{AffectsOrFails}
 use Rattle.lc_eval.proofs.QueryLaws.{first_stays, first_behind, fails_so}

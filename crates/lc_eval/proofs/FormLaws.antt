@@ -24,10 +24,10 @@ use Rattle.lc_language.specs.Calls.{BoundCall, bch_code, reed_solomon_code, gopp
 use Rattle.lc_language.specs.Value.{code}
 use Rattle.lc_language.specs.Refusal.{from_codes}
 use Rattle.lc_language.specs.Evaluation.{AppliesTo}
-use Rattle.lc_eval.specs.declared.values.Value.{Value}
-use Rattle.lc_eval.specs.declared.refusals.Stop.{Stop}
-use Rattle.lc_eval.specs.Applied.{Answers}
-use Rattle.lc_eval.specs.Made.{IsMade, IsFormed, formed_value}
+use Rattle.lc_calls.specs.declared.values.Value.{Value}
+use Rattle.lc_calls.specs.declared.refusals.Stop.{Stop}
+use Rattle.lc_calls.specs.Applied.{Answers}
+use Rattle.lc_calls.specs.Made.{IsMade, IsFormed, formed_value}
 use Rattle.lc_eval.specs.Rows.{clamped, has_wide}
 use Rattle.lc_eval.proofs.AnswerLaws.{applied, first_as, refused_by}
 use Rattle.lc_eval.proofs.RowLaws.{none_here}

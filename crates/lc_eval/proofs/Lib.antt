@@ -1,7 +1,4 @@
-pub mod NameLaws
 pub mod ListLaws
-pub mod KindLaws
-pub mod TableLaws
 pub mod EvaluationLaws
 pub mod StatementLaws
 pub mod AnswerLaws
@@ -15,7 +12,6 @@ pub mod ConstructionCalls
 pub mod CyclicCalls
 pub mod ResidualCalls
 pub mod ResidueCalls
-pub mod MisfitLaws
 pub mod StockLaws
 pub mod DecodeLaws
 pub mod NearLaws

@@ -9,8 +9,8 @@ use Rattle.lc_formats.specs.Text.{line}
 use Rattle.lc_language.specs.Calls.{nearest_word, query_refusals_of, query_refusal_of}
 use Rattle.lc_language.specs.Query.{near_text, near_line}
 use Rattle.lc_language.specs.Evaluation.{prints, nears, QueriesTo}
-use Rattle.lc_eval.specs.declared.refusals.Stop.{Stop}
-use Rattle.lc_eval.specs.declared.refusals.Stop.TheVariants as stop
+use Rattle.lc_calls.specs.declared.refusals.Stop.{Stop}
+use Rattle.lc_calls.specs.declared.refusals.Stop.TheVariants as stop
 use Rattle.lc_eval.specs.Checked.{IsRight, IsChecked}
 use Rattle.lc_eval.specs.Evaluated.{AffectsOrFails}
 use Rattle.lc_eval.proofs.QueryLaws.{fails_so}

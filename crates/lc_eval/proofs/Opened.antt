@@ -1,26 +1,15 @@
 -- Definitions that a proof opens together, under one name.
---   refusals_of_calls      a refusal as the outcome of a call
 --   lines_of_values        the line of a value, a decoder's answer among them
 --   certificates_of_forms  the certificate by construction of a form, and what the program's own stands for
 --   lines_of_nearest_words      the line of a nearest word
 --   lines_of_fillings           the line of a word with erasures
---   bound_calls, bound_queries      the forms of calls, and what they make of values
---   bound_values                    the same, and what a value stands for
 use Rattle.std.specs.Prelude.{⊤}
 use Rattle.lc_formats.specs.Claim.{form_certificate}
 use Rattle.lc_certificate.specs.Trees.{claim_of, built_of}
-use Rattle.lc_language.specs.Calls.{value_forms, query_forms, bind, bind_query}
-use Rattle.lc_language.specs.Value.{number_in, field_in, numbers_in, lists_in, code_in}
-use Rattle.lc_language.specs.Refusal.{refusal_from, refuse}
-use Rattle.lc_language.specs.Evaluation.{refuse_call}
 use Rattle.lc_language.specs.Meaning.{decoded}
 use Rattle.lc_language.specs.Print.{value_line, value_text, filling_line}
 use Rattle.lc_formats.specs.Text.{line}
 use Rattle.lc_language.specs.Query.{near_text}
-
-unfoldable pub refusals_of_calls : ⊤
-unfolding refusal_from refuse refuse_call
-refusals_of_calls = tt
 
 unfoldable pub lines_of_values : ⊤
 unfolding decoded value_line value_text
@@ -37,15 +26,3 @@ lines_of_nearest_words = tt
 unfoldable pub lines_of_fillings : ⊤
 unfolding value_line value_text filling_line
 lines_of_fillings = tt
-
-unfoldable pub bound_calls : ⊤
-unfolding value_forms bind
-bound_calls = tt
-
-unfoldable pub bound_queries : ⊤
-unfolding query_forms bind_query
-bound_queries = tt
-
-unfoldable pub bound_values : ⊤
-unfolding value_forms bind number_in field_in numbers_in lists_in code_in
-bound_values = tt

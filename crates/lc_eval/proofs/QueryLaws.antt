@@ -35,12 +35,12 @@ use Rattle.lc_language.specs.Evaluation.{refused, refuse_at, refuse_call, Step, 
 use Rattle.lc_macwilliams.specs.Refused.{refused_sizes}
 use Rattle.lc_macwilliams.specs.declared.refusals.DistributionRefusal.{DistributionRefusal}
 use Rattle.lc_eval.specs.declared.statement.Effect.{Effect}
-use Rattle.lc_eval.specs.declared.refusals.Refused.{Refused}
-use Rattle.lc_eval.specs.declared.refusals.Stop.{Stop}
-use Rattle.lc_eval.specs.declared.refusals.Stop.TheVariants as stop
-use Rattle.lc_eval.specs.Value.{rows_of, refused_of}
+use Rattle.lc_calls.specs.declared.refusals.Refused.{Refused}
+use Rattle.lc_calls.specs.declared.refusals.Stop.{Stop}
+use Rattle.lc_calls.specs.declared.refusals.Stop.TheVariants as stop
+use Rattle.lc_calls.specs.Value.{rows_of, refused_of}
 use Rattle.lc_eval.specs.Evaluated.{AffectsOrFails}
-use Rattle.lc_eval.specs.Made.{IsMade}
+use Rattle.lc_calls.specs.Made.{IsMade}
 use Rattle.lc_eval.specs.Rows.{clamped, clamped_rows}
 use Rattle.lc_eval.specs.Least.{IsLeastLine}
 pub use Rattle.lc_language.proofs.RefusalLaws.{first_stays, first_behind}

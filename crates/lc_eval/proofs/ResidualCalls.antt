@@ -17,13 +17,13 @@ use Rattle.lc_language.specs.Evaluation.{refused, refuse_at, refuse_call, Applie
 use Rattle.lc_language.specs.Relations.{not_codeword}
 use Rattle.lc_language.specs.Residual.{InResidual, no_coordinate, residual_refusals}
 use Rattle.lc_language.proofs.RefusalLaws.{first_from_codes, first_stays, first_behind}
-use Rattle.lc_eval.specs.declared.values.Value.{Value}
-use Rattle.lc_eval.specs.declared.refusals.Refused.{Refused}
-use Rattle.lc_eval.specs.declared.refusals.Stop.{Stop}
-use Rattle.lc_eval.specs.declared.refusals.Stop.TheVariants as stop
-use Rattle.lc_eval.specs.Value.{refused_of}
-use Rattle.lc_eval.specs.Applied.{Answers}
-use Rattle.lc_eval.specs.Made.{IsMade, plain_value}
+use Rattle.lc_calls.specs.declared.values.Value.{Value}
+use Rattle.lc_calls.specs.declared.refusals.Refused.{Refused}
+use Rattle.lc_calls.specs.declared.refusals.Stop.{Stop}
+use Rattle.lc_calls.specs.declared.refusals.Stop.TheVariants as stop
+use Rattle.lc_calls.specs.Value.{refused_of}
+use Rattle.lc_calls.specs.Applied.{Answers}
+use Rattle.lc_calls.specs.Made.{IsMade, plain_value}
 use Rattle.lc_eval.specs.Checked.{IsRight, IsChecked}
 use Rattle.lc_eval.proofs.AnswerLaws.{applying, applied_as}
 use Rattle.lc_eval.proofs.RelationLaws.{left_out}

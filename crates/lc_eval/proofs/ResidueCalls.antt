@@ -19,12 +19,12 @@ use Rattle.lc_language.specs.Value.{code}
 use Rattle.lc_language.specs.Refusal.{refuse, when, first_of, refusal_from, from_codes}
 use Rattle.lc_language.specs.QuadraticResidues.{is_residue_length, period, InResidueCode, not_residue_length}
 use Rattle.lc_language.specs.Evaluation.{gives, refused, refuse_at, refuse_call, AppliesTo}
-use Rattle.lc_eval.specs.declared.refusals.Refused.{Refused}
-use Rattle.lc_eval.specs.declared.refusals.Stop.{Stop}
-use Rattle.lc_eval.specs.declared.refusals.Stop.TheVariants as stop
-use Rattle.lc_eval.specs.Value.{refused_of}
-use Rattle.lc_eval.specs.Applied.{Answers}
-use Rattle.lc_eval.specs.Made.{IsMade}
+use Rattle.lc_calls.specs.declared.refusals.Refused.{Refused}
+use Rattle.lc_calls.specs.declared.refusals.Stop.{Stop}
+use Rattle.lc_calls.specs.declared.refusals.Stop.TheVariants as stop
+use Rattle.lc_calls.specs.Value.{refused_of}
+use Rattle.lc_calls.specs.Applied.{Answers}
+use Rattle.lc_calls.specs.Made.{IsMade}
 use Rattle.lc_language.proofs.RefusalLaws.{first_from_codes}
 use Rattle.lc_eval.proofs.AnswerLaws.{applying, given_by}
 use Rattle.lc_eval.proofs.QueryLaws.{first_stays, first_behind}

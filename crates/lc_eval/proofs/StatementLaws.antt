@@ -14,15 +14,15 @@ use Rattle.lc_grammar.specs.Tree as tree
 use Rattle.lc_language.specs.Value as language
 use Rattle.lc_language.specs.Print.{value_line, fault_line}
 use Rattle.lc_language.specs.Evaluation.{gives, refused, prints, counts, nears, fails, fail_with, Step, Evaluates, StepsOf, StepsAsQuery, query_of, Refused, Steps, binds}
-use Rattle.lc_eval.specs.Built.{built_calls}
-use Rattle.lc_eval.specs.Names.{IsBound}
-use Rattle.lc_eval.specs.declared.values.Value.{Value}
-use Rattle.lc_eval.specs.declared.refusals.Stop.{Stop}
-use Rattle.lc_eval.specs.declared.refusals.Stop.TheVariants as stop
+use Rattle.lc_calls.specs.Built.{built_calls}
+use Rattle.lc_calls.specs.Names.{IsBound}
+use Rattle.lc_calls.specs.declared.values.Value.{Value}
+use Rattle.lc_calls.specs.declared.refusals.Stop.{Stop}
+use Rattle.lc_calls.specs.declared.refusals.Stop.TheVariants as stop
 use Rattle.lc_eval.specs.declared.statement.Effect.{Effect}
 use Rattle.lc_eval.specs.declared.statement.Effect.TheVariants as effect
-use Rattle.lc_eval.specs.Value.{value_of, binding_of, refused_of}
-use Rattle.lc_eval.specs.Applied.{Answers}
+use Rattle.lc_calls.specs.Value.{value_of, binding_of, refused_of}
+use Rattle.lc_calls.specs.Applied.{Answers}
 use Rattle.lc_eval.specs.Evaluated.{AffectsOrFails, need_of}
 use Rattle.lc_parse.specs.declared.tree.Statement.{Statement}
 use Rattle.lc_parse.specs.Views.{statement_of}

@@ -6,9 +6,9 @@ use Rattle.lc_algebra.specs.Word.{IsWord}
 use Rattle.lc_algebra.specs.Matrix.{Matrix}
 use Rattle.lc_language.specs.Refusal.{Refusal, first_of, from_codes, word_refusals}
 use Rattle.lc_language.specs.Evaluation.{refused, refuse_call}
-use Rattle.lc_eval.specs.Value.{refused_of}
-use Rattle.lc_eval.specs.declared.refusals.Stop.{Stop}
-use Rattle.lc_eval.specs.declared.refusals.Stop.TheVariants as stop
+use Rattle.lc_calls.specs.Value.{refused_of}
+use Rattle.lc_calls.specs.declared.refusals.Stop.{Stop}
+use Rattle.lc_calls.specs.declared.refusals.Stop.TheVariants as stop
 
 pub record IsRight (C : Matrix) (x w : List ℕ) : Type 0 where
   pub same : w ≡ x

@@ -17,16 +17,16 @@ use Rattle.lc_language.specs.Query as language
 use Rattle.lc_language.specs.Query.{distance, by_levels, by_scan}
 use Rattle.lc_language.specs.Evaluation as evaluation
 use Rattle.lc_language.specs.Evaluation.{Outcomes, all_give, one_refused, Step, prints, binds, asks, counts, nears, fails, query_of}
-use Rattle.lc_eval.specs.Built.{built_calls, query_call_of, IsAsked}
-use Rattle.lc_eval.specs.Value.{values_of, binding_of, refused_of}
-use Rattle.lc_eval.specs.declared.calls.QueryCall.{QueryCall}
-use Rattle.lc_eval.specs.declared.calls.Row.{Row}
+use Rattle.lc_calls.specs.Built.{built_calls, query_call_of, IsAsked}
+use Rattle.lc_calls.specs.Value.{values_of, binding_of, refused_of}
+use Rattle.lc_calls.specs.declared.table.QueryCall.{QueryCall}
+use Rattle.lc_calls.specs.declared.table.Row.{Row}
 use Rattle.lc_eval.specs.declared.machine.Query.{Query}
 use Rattle.lc_eval.specs.declared.machine.QueryKind.{QueryKind}
 use Rattle.lc_eval.specs.declared.machine.QueryKind.TheVariants.{Distance, Levels, Scan}
-use Rattle.lc_eval.specs.declared.values.Value.{Value}
-use Rattle.lc_eval.specs.declared.refusals.Stop.{Stop}
-use Rattle.lc_eval.specs.declared.refusals.Stop.TheVariants as stop
+use Rattle.lc_calls.specs.declared.values.Value.{Value}
+use Rattle.lc_calls.specs.declared.refusals.Stop.{Stop}
+use Rattle.lc_calls.specs.declared.refusals.Stop.TheVariants as stop
 use Rattle.lc_eval.specs.declared.statement.Effect.{Effect}
 use Rattle.lc_eval.specs.declared.statement.Effect.TheVariants as effect
 

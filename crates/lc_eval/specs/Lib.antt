@@ -1,11 +1,5 @@
-pub mod Built
-pub mod Value
-pub mod Listed
-pub mod Names
 pub mod Machine
 pub mod Checked
-pub mod Applied
 pub mod Evaluated
-pub mod Made
 pub mod Rows
 pub mod Least

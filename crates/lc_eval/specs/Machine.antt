@@ -10,8 +10,8 @@ use Rattle.lc_language.specs.Value.{Binding}
 use Rattle.lc_language.specs.Print.{fault_line}
 use Rattle.lc_language.specs.Evaluation as evaluation
 use Rattle.lc_language.specs.Evaluation.{Steps, Refused}
-use Rattle.lc_eval.specs.Built.{built_calls}
-use Rattle.lc_eval.specs.Names.{IsBound}
+use Rattle.lc_calls.specs.Built.{built_calls}
+use Rattle.lc_calls.specs.Names.{IsBound}
 use Rattle.lc_eval.specs.Evaluated.{need_of}
 use Rattle.lc_eval.specs.declared.machine.Step.{Step}
 use Rattle.lc_eval.specs.declared.machine.Step.TheVariants.{Line, Silent, Need, Weights, Near, Fault, End}

@@ -1,14 +1,13 @@
 //! Codes by circulant matrices, construction X, and residual codes.
 ghost use Rattle.lc_language.specs.Calls as bound;
 ghost use Rattle.lc_language.specs.Evaluation.{AppliesTo};
-ghost use Rattle.lc_eval.specs.Applied.{Answers};
-ghost use Rattle.lc_eval.specs.Value.{rows_of};
+ghost use Rattle.lc_calls.specs.Applied.{Answers};
+ghost use Rattle.lc_calls.specs.Value.{rows_of};
 
 use crate::decoding::checked;
 use crate::made::{code_value, made};
-use crate::refusals::{NOT_A_CODEWORD, NOT_A_SUBCODE, Stop, fault, refused_as};
 use crate::rows::{word_of, words_of};
-use crate::values::Value;
+use lc_calls::{NOT_A_CODEWORD, NOT_A_SUBCODE, Stop, Value, fault, refused_as};
 use lc_code::Code;
 use lc_extend::ExtensionRefusal;
 use lc_field::Field;

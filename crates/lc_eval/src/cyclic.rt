@@ -1,12 +1,11 @@
 //! What the calls give that make a cyclic code by its polynomial, a quadratic residue code, or an extended Golay code.
 ghost use Rattle.lc_language.specs.Calls as bound;
 ghost use Rattle.lc_language.specs.Evaluation.{AppliesTo};
-ghost use Rattle.lc_eval.specs.Applied.{Answers};
+ghost use Rattle.lc_calls.specs.Applied.{Answers};
 
 use crate::made::{code_value, made};
-use crate::refusals::{NO_RESIDUE_LENGTH, Stop, fault, refused_as};
 use crate::rows::word_of;
-use crate::values::Value;
+use lc_calls::{NO_RESIDUE_LENGTH, Stop, Value, fault, refused_as};
 use lc_field::Field;
 use std::alloc::Global;
 

@@ -6,18 +6,16 @@ ghost use Rattle.lc_language.specs.Meaning.{decoded as decoded_value};
 ghost use Rattle.lc_language.specs.Print.{value_line};
 ghost use Rattle.lc_language.specs.Evaluation.{AppliesTo, QueriesTo, refused, refuse_call};
 ghost use Rattle.lc_language.specs.Refusal.{refuse};
-ghost use Rattle.lc_eval.specs.Applied.{Answers};
+ghost use Rattle.lc_calls.specs.Applied.{Answers};
 ghost use Rattle.lc_eval.specs.Checked.{IsChecked};
 ghost use Rattle.lc_eval.specs.Evaluated.{AffectsOrFails};
-ghost use Rattle.lc_eval.specs.Value.{refused_of, value_of};
+ghost use Rattle.lc_calls.specs.Value.{refused_of, value_of};
 
-use crate::code_value::CodeValue;
-use crate::refusals::{NO_FORM, Refused, Stop, TOO_MANY_COSETS, fault, refused_as};
 use crate::rows::{list_of, word_of};
 use crate::statement::Effect;
 use crate::stock::Stock;
-use crate::values::Value;
 use lc_alternant::decode as decode_by_form;
+use lc_calls::{CodeValue, NO_FORM, Refused, Stop, TOO_MANY_COSETS, Value, fault, refused_as};
 use lc_code::{Code, CodeRefusal};
 use lc_field::NoMemory;
 use lc_print::{list_line, none_line};
@@ -56,7 +54,7 @@ pub(crate) fn is_codeword(
 }
 
 // More cosets than a decoder keeps, n - k being this number.
-#[tactic(auto, unfolding(crate::proofs::Opened::refusals_of_calls))]
+#[tactic(auto, unfolding(lc_calls::proofs::Opened::refusals_of_calls))]
 fn too_many_cosets(alloc: Global, offset: usize, n: usize) -> Result<Refused, NoMemory>
     ensures { IfOk result (λ r. refused (refused_of r) ≡ refuse_call offset (refuse 15 (n ∷ []))) }
 {

@@ -7,9 +7,9 @@ ghost use Rattle.lc_erasures.specs.Filling.{filling_of};
 ghost use Rattle.lc_eval.specs.Evaluated.{AffectsOrFails};
 
 use crate::decoding::checked;
-use crate::refusals::{Stop, refused_as};
 use crate::rows::list_of;
 use crate::statement::Effect;
+use lc_calls::{Stop, refused_as};
 use lc_code::Code;
 use lc_erasures::Filling;
 use lc_field::NoMemory;

@@ -3,17 +3,16 @@ ghost use Rattle.std.specs.Prelude.{◌≡◌, length, IfOk};
 ghost use Rattle.lc_grammar.specs.Tree as tree;
 ghost use Rattle.lc_language.specs.Evaluation.{Evaluates, EvaluatesAll, EvaluatesList, nothing_yet};
 ghost use Rattle.lc_parse.specs.Views.{tree_of, trees_of};
-ghost use Rattle.lc_eval.specs.Built.{built_calls};
-ghost use Rattle.lc_eval.specs.Applied.{Answers};
+ghost use Rattle.lc_calls.specs.Built.{built_calls};
+ghost use Rattle.lc_calls.specs.Applied.{Answers};
 ghost use Rattle.lc_eval.specs.Evaluated.{AnswersAll};
 
-use crate::calls::{Call, apply, bind, row_named};
-use crate::kinds::misfit;
-use crate::lists::Listed;
-use crate::names::Names;
-use crate::refusals::{MISFIT, Stop, UNKNOWN_NAME, WRONG_COUNT, fault};
+use crate::apply::apply;
 use crate::stock::Stock;
-use crate::values::Value;
+use lc_calls::{
+    Call, Listed, MISFIT, Names, Stop, UNKNOWN_NAME, Value, WRONG_COUNT, bind, fault, misfit,
+    row_named,
+};
 use lc_parse::{Expr, Node};
 use std::alloc::Global;
 

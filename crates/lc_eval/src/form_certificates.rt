@@ -11,12 +11,11 @@ ghost use Rattle.lc_language.specs.Query.{form_line};
 ghost use Rattle.lc_language.specs.Evaluation.{QueriesTo, refused, refuse_call};
 ghost use Rattle.lc_language.specs.Refusal.{refuse};
 ghost use Rattle.lc_eval.specs.Evaluated.{AffectsOrFails};
-ghost use Rattle.lc_eval.specs.Value.{refused_of};
+ghost use Rattle.lc_calls.specs.Value.{refused_of};
 
-use crate::code_value::CodeValue;
 use crate::decoding::checked;
-use crate::refusals::{NO_FORM, NOT_ATTAINED, Refused, Stop, fault};
 use crate::statement::Effect;
+use lc_calls::{CodeValue, NO_FORM, NOT_ATTAINED, Refused, Stop, fault};
 use lc_certificate::{Built, Claim, name_of, write_built};
 use lc_code::{Alternant, Code};
 use lc_field::{Field, NoMemory};
@@ -38,7 +37,7 @@ fn is_attained(alloc: Global, code: &Code, word: &[u8], distance: u64) -> Result
 }
 
 // The refusal of a word that isn't one of the code of this weight, with its weight and this one.
-#[tactic(auto, unfolding(crate::proofs::Opened::refusals_of_calls))]
+#[tactic(auto, unfolding(lc_calls::proofs::Opened::refusals_of_calls))]
 fn not_attained(
     alloc: Global,
     offset: usize,

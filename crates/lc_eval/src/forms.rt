@@ -3,14 +3,12 @@ ghost use Rattle.std.specs.Prelude.{◌≡◌, ◌≤◌, IfOk};
 ghost use Rattle.lc_constructions.specs.Alternant.{IsFormOf};
 ghost use Rattle.lc_language.specs.Calls as bound;
 ghost use Rattle.lc_language.specs.Evaluation.{AppliesTo};
-ghost use Rattle.lc_eval.specs.Applied.{Answers};
-ghost use Rattle.lc_eval.specs.Made.{IsFormed};
+ghost use Rattle.lc_calls.specs.Applied.{Answers};
+ghost use Rattle.lc_calls.specs.Made.{IsFormed};
 
-use crate::code_value::CodeValue;
-use crate::refusals::{Stop, refused_as};
 use crate::rows::word_of;
-use crate::values::Value;
 use crate::wide::{is_wide, refuse_alternant, refuse_goppa};
+use lc_calls::{CodeValue, Stop, Value, refused_as};
 use lc_code::{CodeRefusal, FormedCode};
 use lc_field::Field;
 use std::alloc::Global;

@@ -3,9 +3,9 @@ ghost use Rattle.std.specs.Prelude.{◌≡◌, IfOk};
 ghost use Rattle.lc_formats.specs.Text.{line};
 ghost use Rattle.lc_language.specs.Print.{value_line};
 ghost use Rattle.lc_language.specs.Query.{near_text};
-ghost use Rattle.lc_eval.specs.Value.{value_of};
+ghost use Rattle.lc_calls.specs.Value.{value_of};
 
-use crate::values::Value;
+use lc_calls::Value;
 use lc_field::NoMemory;
 use lc_json::{push_number, push_symbols, push_text};
 use lc_print::{code_line, field_line, list_line, number_line, rows_line, truth_line};

@@ -3,10 +3,9 @@ ghost use Rattle.std.specs.Prelude.{◌≡◌, [], IfOk, IfErr, IsOk};
 ghost use Rattle.lc_parse.specs.Views.{script_of};
 ghost use Rattle.lc_eval.specs.Machine.{State, Does};
 
-use crate::names::Names;
 use crate::statement::{Effect, effect_of};
 use crate::stock::Stock;
-use crate::values::Binding;
+use lc_calls::{Binding, Names};
 use lc_code::Code;
 use lc_field::NoMemory;
 use lc_parse::Script;

@@ -7,8 +7,8 @@ ghost use Rattle.lc_eval.specs.Evaluated.{AffectsOrFails};
 
 use crate::decoding::checked;
 use crate::lines::nearest_line;
-use crate::refusals::Stop;
 use crate::statement::Effect;
+use lc_calls::Stop;
 use lc_code::Code;
 use lc_field::NoMemory;
 use lc_vec::{Word, weight};

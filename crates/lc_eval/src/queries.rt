@@ -5,20 +5,21 @@ ghost use Rattle.lc_language.specs.Calls as bound;
 ghost use Rattle.lc_language.specs.Query.{query_line};
 ghost use Rattle.lc_language.specs.Evaluation.{QueriesTo, AsksOf, refused, refuse_call};
 ghost use Rattle.lc_language.specs.Refusal.{refuse};
-ghost use Rattle.lc_eval.specs.Value.{rows_of, refused_of};
+ghost use Rattle.lc_calls.specs.Value.{rows_of, refused_of};
 ghost use Rattle.lc_eval.specs.Evaluated.{AffectsOrFails, kind_of};
 ghost use Rattle.lc_eval.specs.Least.{IsLeastLine};
 
-use crate::calls::{Asks, BoundQuery};
 use crate::decoding::algebraic_decode;
 use crate::erasures::fill_erasures;
 use crate::form_certificates::alternant_certificate;
 use crate::machine::{Query, QueryKind};
 use crate::nearest::nearest_word;
-use crate::refusals::{NO_DISTRIBUTION, Refused, Stop, TOO_MANY_WORDS, fault, refused_as};
 use crate::rows::{rows_of, words_of};
 use crate::statement::Effect;
 use lc_basic::generator_mat;
+use lc_calls::{
+    Asks, BoundQuery, NO_DISTRIBUTION, Refused, Stop, TOO_MANY_WORDS, fault, refused_as,
+};
 use lc_code::Code;
 use lc_field::{Field, NoMemory};
 use lc_macwilliams::{DistributionRefusal, refusal};
@@ -127,7 +128,7 @@ fn least_word(
 }
 
 // The refusal of a weight distribution, with the dimension of the code and that of its dual.
-#[tactic(auto, unfolding(crate::proofs::Opened::refusals_of_calls))]
+#[tactic(auto, unfolding(lc_calls::proofs::Opened::refusals_of_calls))]
 fn no_distribution(
     alloc: Global,
     offset: usize,

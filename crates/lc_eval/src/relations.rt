@@ -2,15 +2,14 @@
 ghost use Rattle.lc_language.specs.Calls as bound;
 ghost use Rattle.lc_language.specs.Value as language;
 ghost use Rattle.lc_language.specs.Evaluation.{AppliesTo};
-ghost use Rattle.lc_eval.specs.Applied.{Answers};
-ghost use Rattle.lc_eval.specs.Made.{IsMadeAs};
-ghost use Rattle.lc_eval.specs.Value.{rows_of};
+ghost use Rattle.lc_calls.specs.Applied.{Answers};
+ghost use Rattle.lc_calls.specs.Made.{IsMadeAs};
+ghost use Rattle.lc_calls.specs.Value.{rows_of};
 
 use crate::decoding::{checked, word_value};
 use crate::made::made;
-use crate::refusals::{NOT_A_CODEWORD, Stop, fault, refused_as};
 use crate::rows::{word_of, words_of};
-use crate::values::Value;
+use lc_calls::{NOT_A_CODEWORD, Stop, Value, fault, refused_as};
 use lc_code::{Code, CodeRefusal};
 use lc_field::Field;
 use lc_vec::Word;

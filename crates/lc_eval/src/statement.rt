@@ -3,19 +3,17 @@ ghost use Rattle.std.specs.Prelude.{◌≡◌, ℕ, List, Some, None, IfOk};
 ghost use Rattle.lc_grammar.specs.Tree as tree;
 ghost use Rattle.lc_language.specs.Evaluation.{Steps, StepsOf, StepsAsQuery};
 ghost use Rattle.lc_parse.specs.Views.{tree_of, trees_of, statement_of};
-ghost use Rattle.lc_eval.specs.Built.{built_calls, query_call_of, forms_of, IsAsked};
+ghost use Rattle.lc_calls.specs.Built.{built_calls, query_call_of, forms_of, IsAsked};
 ghost use Rattle.lc_eval.specs.Evaluated.{Affects, AffectsOrFails, IsQueryOf};
 
-use crate::calls::{Call, QueryCall, Row, bind_query, row_named};
 use crate::evaluate::{evaluate, evaluate_all};
-use crate::kinds::misfit;
 use crate::lines::value_line;
 use crate::machine::Query;
-use crate::names::Names;
 use crate::queries::answer;
-use crate::refusals::{Stop, WRONG_COUNT, fault};
 use crate::stock::Stock;
-use crate::values::Binding;
+use lc_calls::{
+    Binding, Call, Names, QueryCall, Row, Stop, WRONG_COUNT, bind_query, fault, misfit, row_named,
+};
 use lc_code::Code;
 use lc_field::NoMemory;
 use lc_parse::{Expr, Node, Statement};

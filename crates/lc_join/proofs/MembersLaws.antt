@@ -9,7 +9,7 @@ use Rattle.std.specs.List.{concat, slice_split}
 use Rattle.lc_algebra.specs.Matrix.{Matrix}
 use Rattle.lc_algebra.proofs.SpanLaws.{contains_head, contains_tail, contains_cases}
 use Rattle.lc_algebra.proofs.DivisorLaws.{no_member}
-use Rattle.lc_eval.specs.Built.{built_calls}
+use Rattle.lc_calls.specs.Built.{built_calls}
 use Rattle.lc_session_rules.specs.Needs.{MeetsFirst}
 use Rattle.lc_parts.specs.Part.{Part}
 use Rattle.lc_part_lines.specs.Line.{PartLine, line_is, part_line, part_in}

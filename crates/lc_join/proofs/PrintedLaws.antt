@@ -11,7 +11,7 @@ use Rattle.std.specs.List.{concat, cons_option, slice_split}
 use Rattle.std.proofs.lemmas.List.Elements.{All-nil, All-cons, All-tail}
 use Rattle.sha2.specs.Sha256.{sha256}
 use Rattle.lc_algebra.specs.Matrix.{Matrix}
-use Rattle.lc_eval.specs.Built.{built_calls}
+use Rattle.lc_calls.specs.Built.{built_calls}
 use Rattle.lc_session_rules.specs.Needs.{MeetsFirst}
 use Rattle.lc_session_rules.proofs.AskLaws.{met_rows}
 use Rattle.lc_script_laws.proofs.RangeLaws.{digest_is_bytes}

@@ -10,7 +10,7 @@ ghost use Rattle.lc_algebra.specs.Divisor.{divisor_of};
 ghost use Rattle.lc_enumeration.specs.Search.{answer};
 ghost use Rattle.lc_enumeration.specs.Truth.{answer_blocks};
 ghost use Rattle.lc_language.specs.declared.Call.{Call};
-ghost use Rattle.lc_eval.specs.Built.{built_calls};
+ghost use Rattle.lc_calls.specs.Built.{built_calls};
 ghost use Rattle.lc_session_rules.specs.Needs.{MeetsFirst};
 ghost use Rattle.lc_parts.specs.Part.{Part, facts_of};
 ghost use Rattle.lc_part_lines.specs.Line.{PartLine};

@@ -41,7 +41,7 @@ use Rattle.lc_language.specs.Calls.{BoundCall, BoundQuery, value_forms, query_fo
 use Rattle.lc_language.specs.Query.{distance, by_levels, by_scan, form_line}
 use Rattle.lc_language.specs.Evaluation.{prints, counts, Queries}
 use Rattle.lc_code.proofs.CoordinateSteps.{small_size}
-use Rattle.lc_eval.specs.Built.{built_calls}
+use Rattle.lc_calls.specs.Built.{built_calls}
 use Rattle.lc_script_laws.specs.Shapes.{IsCodeOfRows}
 use Rattle.lc_script_laws.proofs.AtMostOne.{One, one_value, one_some}
 use Rattle.lc_script_laws.proofs.OneNearest.{nearest_one}

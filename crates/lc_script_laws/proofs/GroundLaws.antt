@@ -7,7 +7,7 @@ use Rattle.std.proofs.Common.{◌≡◌, ◌≤◌, ◌<◌, ◌^◌, ℕ, List,
 use Rattle.lc_algebra.specs.Matrix.{Matrix}
 use Rattle.lc_parse.proofs.Outcomes.{one_script}
 use Rattle.lc_io.specs.Vaults.{Slots}
-use Rattle.lc_eval.specs.Built.{built_calls}
+use Rattle.lc_calls.specs.Built.{built_calls}
 use Rattle.lc_session_rules.specs.Options.{Command, resume, Settings, Options, settings, usage as refuses, options, all_options}
 use Rattle.lc_session_rules.specs.Needs.{MeetsFirst, OneStep}
 use Rattle.lc_session_rules.specs.Slots.{AreTrueSlots}

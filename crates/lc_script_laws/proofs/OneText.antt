@@ -22,7 +22,7 @@ use Rattle.lc_language.specs.Calls.{call_named, signature_for, BoundCall, bind, 
 use Rattle.lc_language.specs.Print.{fault_line}
 use Rattle.lc_language.specs.Query.{query_line, distribution_line, near_line}
 use Rattle.lc_language.specs.Evaluation.{Outcome, gives, refused, Outcomes, all_give, one_refused, refuse_at, refuse_call, misfit_offset, Listed, nothing_yet, listed_with, list_value, ListGoesOn, AppliesTo, Applies, CallGives, Joins, GoesOn, Evaluates, EvaluatesAll, EvaluatesList, Step, binds, prints, asks, counts, nears, fails, Queries, fail_with, QueriesTo, QueriesAll, as_query, query_of, Assigns, StepsAsQuery, StepsOf, Steps, Prints, Runs, IsText}
-use Rattle.lc_eval.specs.Built.{built_calls}
+use Rattle.lc_calls.specs.Built.{built_calls}
 use Rattle.lc_script_laws.proofs.AtMostOne.{One, Both, one_value, one_option, one_known, one_either, one_some}
 use Rattle.lc_script_laws.proofs.ShapeLaws.{found_in}
 use Rattle.lc_script_laws.proofs.CallLaws.{IsOneValued, IsOneAnswered, IsDeterminate, built_one}

@@ -11,7 +11,7 @@ use Rattle.std.specs.Prelude.{IsTrue}
 use Rattle.lc_enumeration.specs.Records.{SessionStep}
 use Rattle.lc_formats.specs.Checkpoint.{Checkpoint}
 use Rattle.lc_io.specs.Vaults.{Slots}
-use Rattle.lc_eval.specs.Built.{built_calls}
+use Rattle.lc_calls.specs.Built.{built_calls}
 use Rattle.lc_session_rules.specs.Options.{Command, run, resume, check, summary, Settings, Options, settings, usage as refuses, options, all_options}
 use Rattle.lc_session_rules.specs.Slots.{turn_after, IsTrueCheckpoint, AreTrueSlots}
 use Rattle.lc_session_rules.specs.Endings.{Ending, done, usage, paused, source_fault, sink_fault, vault_fault, no_memory, no_checkpoint, damaged_checkpoint, other_script, rejected, too_long, unfit}

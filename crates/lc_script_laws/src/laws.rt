@@ -12,7 +12,7 @@ ghost use Rattle.lc_language.specs.Query.{QueryKind, distance, by_levels, by_sca
 ghost use Rattle.lc_grammar.specs.Tree.{Statement};
 ghost use Rattle.lc_language.specs.Value.{Binding};
 ghost use Rattle.lc_language.specs.Evaluation.{Steps, prints, IsText};
-ghost use Rattle.lc_eval.specs.Built.{built_calls};
+ghost use Rattle.lc_calls.specs.Built.{built_calls};
 ghost use Rattle.lc_session_rules.specs.Options.{run, resume};
 ghost use Rattle.lc_session_rules.specs.Needs.{IsNeeds, MeetsFirst};
 ghost use Rattle.lc_session_rules.specs.Nears.{NearQuery, AreNears, NearsHold};

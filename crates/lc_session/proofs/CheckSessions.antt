@@ -10,7 +10,7 @@ use Rattle.lc_formats.specs.Document.{document_in, IsCheckText}
 use Rattle.lc_formats.specs.Proven.{IsVerdict}
 use Rattle.lc_io.specs.Outside.{HasRisen, AppendsPart}
 use Rattle.lc_io.proofs.SeveralRecords.{Kept-none}
-use Rattle.lc_eval.specs.Built.{built_calls}
+use Rattle.lc_calls.specs.Built.{built_calls}
 use Rattle.lc_session_rules.specs.Options.{check, Settings, Options, settings, options, all_options}
 use Rattle.lc_session_rules.specs.Endings.{Ending, usage, done, sink_fault, no_memory, rejected}
 use Rattle.lc_session_rules.specs.Session as session

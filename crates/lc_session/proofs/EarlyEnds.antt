@@ -14,7 +14,7 @@ use Rattle.lc_io.specs.Vaults.{Slots, WhereTold}
 use Rattle.lc_io.specs.Told.{Kept}
 use Rattle.lc_io.proofs.SeveralRecords.{Kept-none}
 use Rattle.lc_io.specs.Watchers.{Hearing}
-use Rattle.lc_eval.specs.Built.{built_calls}
+use Rattle.lc_calls.specs.Built.{built_calls}
 use Rattle.lc_session_rules.specs.Options.{Command, run, resume, check, summary, Settings, Options, settings, usage as refuses, options, all_options}
 use Rattle.lc_session_rules.specs.Slots.{takes, nothing_stored, none_decodes, is_for}
 use Rattle.lc_session_rules.specs.Endings.{Ending, usage, source_fault, vault_fault, no_memory, no_checkpoint, damaged_checkpoint, other_script, too_long}

@@ -10,7 +10,7 @@ use Rattle.lc_enumeration.specs.Records.{SessionStep, fresh_start}
 use Rattle.lc_enumeration.specs.Fitting.{misfit}
 use Rattle.lc_formats.specs.Checkpoint.{Checkpoint, current_of}
 use Rattle.lc_io.specs.Vaults.{Slots}
-use Rattle.lc_eval.specs.Built.{built_calls}
+use Rattle.lc_calls.specs.Built.{built_calls}
 use Rattle.lc_session_rules.specs.Options.{Command, run, resume, Settings}
 use Rattle.lc_session_rules.specs.Needs.{OneScript, OneStep, NoFault}
 use Rattle.lc_session_rules.specs.Nears.{NearsHold}

@@ -15,7 +15,7 @@ use Rattle.lc_formats.proofs.ByteLaws.{same_from_bytes}
 use Rattle.lc_io.specs.Vaults.{Slots, WhereTold, empty_slots}
 use Rattle.lc_io.proofs.SlotLaws.{WhereTold-refl}
 use Rattle.lc_parse.proofs.Outcomes.{one_script, no_both}
-use Rattle.lc_eval.specs.Built.{built_calls}
+use Rattle.lc_calls.specs.Built.{built_calls}
 use Rattle.lc_session_rules.specs.Options.{Command, run, resume, Settings, settings, options, all_options}
 use Rattle.lc_session_rules.specs.Needs.{MeetsFirst}
 use Rattle.lc_session_rules.specs.Slots.{next_turn, takes, is_for}

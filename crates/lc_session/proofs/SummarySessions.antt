@@ -19,7 +19,7 @@ use Rattle.lc_io.specs.Outside.{HasRisen, AppendsPart}
 use Rattle.lc_io.specs.Told.{Kept}
 use Rattle.lc_language.specs.Query.{distance, query_line}
 use Rattle.lc_checkpoint.specs.Seen.{settled_of}
-use Rattle.lc_eval.specs.Built.{built_calls}
+use Rattle.lc_calls.specs.Built.{built_calls}
 use Rattle.lc_session_rules.specs.Options.{summary, Settings, Options, settings, options, all_options}
 use Rattle.lc_session_rules.specs.Answers.{answer_line, answers_of}
 use Rattle.lc_session_rules.specs.Summary.{generator_words, seeded, summary_code, round_count, summary_text}

@@ -2,7 +2,7 @@
 ghost use Rattle.std.specs.Prelude.{◌≡◌, ◌≢◌, ℕ, List, [], true, false, Some, OnOk, OnErr, MatchResult};
 ghost use Rattle.lc_io.specs.Vaults.{WhereTold, empty_slots};
 ghost use Rattle.lc_io.specs.Outside.{HasRisen};
-ghost use Rattle.lc_eval.specs.Built.{built_calls};
+ghost use Rattle.lc_calls.specs.Built.{built_calls};
 ghost use Rattle.lc_session_rules.specs.Options.{settings, options, all_options};
 ghost use Rattle.lc_session_rules.specs.Session.{AreHalfEmptied, IsSession};
 ghost use Rattle.lc_arguments.specs.Asked.{settings_for, IsWithin};

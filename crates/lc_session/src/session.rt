@@ -1,7 +1,7 @@
 //! A session from the arguments and the bytes in to the bytes out.
 ghost use Rattle.std.specs.Prelude.{◌≡◌, ◌≢◌, ℕ, [], map, Some};
 ghost use Rattle.lc_io.specs.Watchers.{hearing};
-ghost use Rattle.lc_eval.specs.Built.{built_calls};
+ghost use Rattle.lc_calls.specs.Built.{built_calls};
 ghost use Rattle.lc_session_rules.specs.Options as line;
 ghost use Rattle.lc_session_rules.specs.Options.{Settings, all_options, options, settings};
 ghost use Rattle.lc_session_rules.specs.Session.{IsSession};

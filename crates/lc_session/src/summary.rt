@@ -1,6 +1,6 @@
 //! The session of `summary`.
 ghost use Rattle.std.specs.Prelude.{◌≡◌, ℕ, List, Option};
-ghost use Rattle.lc_eval.specs.Built.{built_calls};
+ghost use Rattle.lc_calls.specs.Built.{built_calls};
 ghost use Rattle.lc_session_rules.specs.Options.{settings, options, all_options};
 ghost use Rattle.lc_session_rules.specs.Session.{IsSession};
 ghost use Rattle.lc_arguments.specs.Asked.{settings_for, IsWithin};

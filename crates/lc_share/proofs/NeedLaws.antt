@@ -10,7 +10,7 @@ use Rattle.lc_algebra.specs.Matrix.{Matrix}
 use Rattle.lc_enumeration.specs.Search.{Answer}
 use Rattle.lc_grammar.specs.Tree as tree
 use Rattle.lc_parse.specs.Views.{statement_of}
-use Rattle.lc_eval.specs.Built.{built_calls}
+use Rattle.lc_calls.specs.Built.{built_calls}
 use Rattle.lc_eval.specs.Machine.{State, Does}
 use Rattle.lc_eval.specs.Evaluated.{kind_of}
 use Rattle.lc_eval.specs.declared.machine.Query.{Query}

@@ -13,7 +13,7 @@ use Rattle.lc_algebra.proofs.ReducedLaws.{reduced_independent, reduced_at_most}
 use Rattle.lc_formats.specs.Text.{same_bytes}
 use Rattle.lc_language.specs.declared.Call.{Call}
 use Rattle.lc_parse.proofs.Outcomes.{one_script}
-use Rattle.lc_eval.specs.Built.{built_calls}
+use Rattle.lc_calls.specs.Built.{built_calls}
 use Rattle.lc_session_rules.specs.Options.{number_in, number_within}
 use Rattle.lc_session_rules.specs.Needs.{MeetsFirst}
 use Rattle.lc_session_rules.proofs.NeedsLaws.{met_agree}

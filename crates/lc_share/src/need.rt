@@ -1,7 +1,7 @@
 //! The code of the first search of a script.
 ghost use Rattle.std.specs.Prelude.{◌≡◌, ◌<◌, ℕ, [], ◌∷◌, length, take, map, IfOk, MatchOption};
 ghost use Rattle.lc_parse.specs.Views.{statement_of};
-ghost use Rattle.lc_eval.specs.Built.{built_calls};
+ghost use Rattle.lc_calls.specs.Built.{built_calls};
 ghost use Rattle.lc_session_rules.specs.Needs.{Needs, IsNeeds, MeetsFirst};
 
 use lc_code::Code;

@@ -4,7 +4,7 @@ ghost use Rattle.sha2.specs.Sha256.{sha256};
 ghost use Rattle.lc_formats.specs.Text.{line};
 ghost use Rattle.lc_parts.specs.Seen.{part_of, facts_seen};
 ghost use Rattle.lc_part_lines.specs.Line.{part_line};
-ghost use Rattle.lc_eval.specs.Built.{built_calls};
+ghost use Rattle.lc_calls.specs.Built.{built_calls};
 ghost use Rattle.lc_arguments.specs.Asked.{words_of};
 ghost use Rattle.lc_share.specs.PartSession.{IsPartText, HasNoPart, IsPartSession};
 ghost use Rattle.lc_share.specs.Found.{IsPartDone};

@@ -20,7 +20,7 @@ use Rattle.lc_formats.specs.Truth.{start_of}
 use Rattle.lc_grammar.specs.Tree.{Statement}
 use Rattle.lc_grammar.specs.Grammar.{Reads, Fault, IsFault}
 use Rattle.lc_io.specs.Vaults.{Slots}
-use Rattle.lc_eval.specs.Built.{built_calls}
+use Rattle.lc_calls.specs.Built.{built_calls}
 use Rattle.lc_session_rules.specs.Options.{run, resume, Settings}
 use Rattle.lc_session_rules.specs.Needs.{Needs, IsNeeds, MeetsFirst, OneScript, OneStep, NoFault}
 use Rattle.lc_session_rules.specs.Nears.{NearsHold}

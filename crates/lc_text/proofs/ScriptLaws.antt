@@ -17,7 +17,7 @@ use Rattle.lc_parse.specs.Views.{statement_of, script_of}
 use Rattle.lc_parse.specs.declared.tree.Script.{Script}
 use Rattle.lc_parse.specs.declared.tree.Statement.{Statement}
 use Rattle.lc_parse.proofs.Outcomes.{nothing_scanned}
-use Rattle.lc_eval.specs.Built.{built_calls}
+use Rattle.lc_calls.specs.Built.{built_calls}
 use Rattle.lc_eval.specs.Machine.{State}
 use Rattle.lc_session_rules.specs.Needs.{Needs}
 use Rattle.lc_rounds.specs.Way.{Around}

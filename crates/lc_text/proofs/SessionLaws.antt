@@ -17,7 +17,7 @@ use Rattle.lc_io.specs.Told.{Kept}
 use Rattle.lc_io.proofs.SlotLaws.{WhereTold-then}
 use Rattle.lc_io.specs.declared.watcher.Record.{Record}
 use Rattle.lc_checkpoint.specs.Seen.{point_of}
-use Rattle.lc_eval.specs.Built.{built_calls}
+use Rattle.lc_calls.specs.Built.{built_calls}
 use Rattle.lc_session_rules.specs.Options.{Command, run, resume, Settings, Options, settings, options, all_options}
 use Rattle.lc_session_rules.specs.Needs.{MeetsFirst}
 use Rattle.lc_session_rules.specs.Slots.{slot_of, turn_after, slots_after}

@@ -12,7 +12,7 @@ use Rattle.lc_enumeration.specs.Records.{SessionStep}
 use Rattle.lc_enumeration.specs.Fitting.{misfit}
 use Rattle.lc_grammar.specs.Tree.{Statement}
 use Rattle.lc_parse.specs.Views.{statement_of}
-use Rattle.lc_eval.specs.Built.{built_calls}
+use Rattle.lc_calls.specs.Built.{built_calls}
 use Rattle.lc_eval.specs.Machine.{State}
 use Rattle.lc_session_rules.specs.Needs.{Needs, IsNeeds, MeetsFirst}
 use Rattle.lc_session_rules.specs.Answers.{RunsBy, IsTextBy}

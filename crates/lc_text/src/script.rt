@@ -1,7 +1,7 @@
 //! The text of a script, from its bytes.
 ghost use Rattle.std.specs.Prelude.{◌≡◌, ◌^◌, ◌<◌, ◌≤◌, ℕ, List, [], length, false, is_some, IsOk, MatchResult};
 ghost use Rattle.lc_algebra.specs.Matrix.{Matrix};
-ghost use Rattle.lc_eval.specs.Built.{built_calls};
+ghost use Rattle.lc_calls.specs.Built.{built_calls};
 ghost use Rattle.lc_session_rules.specs.Needs.{MeetsFirst};
 ghost use Rattle.lc_rounds.specs.Surroundings.{seen, seen_after};
 ghost use Rattle.lc_rounds.specs.Going.{World, IsRanged, Goes};

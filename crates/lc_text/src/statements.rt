@@ -2,7 +2,7 @@
 ghost use Rattle.std.specs.Prelude.{◌≡◌, ◌+◌, ◌^◌, ◌<◌, ◌≤◌, ℕ, List, [], length, map, take, true, false, is_some, IsOk, MatchResult};
 ghost use Rattle.lc_algebra.specs.Matrix.{Matrix};
 ghost use Rattle.lc_parse.specs.Views.{statement_of};
-ghost use Rattle.lc_eval.specs.Built.{built_calls};
+ghost use Rattle.lc_calls.specs.Built.{built_calls};
 ghost use Rattle.lc_session_rules.specs.Needs.{Needs};
 ghost use Rattle.lc_session_rules.specs.Session.{end_number};
 ghost use Rattle.lc_rounds.specs.Surroundings.{seen, seen_after};

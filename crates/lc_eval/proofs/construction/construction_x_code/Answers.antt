@@ -1,4 +1,4 @@
-use Rattle.lc_eval.specs.Value.{value_of}
+use Rattle.lc_calls.specs.Value.{value_of}
 use Rattle.lc_eval.proofs.ConstructionCalls.{x_made}
 use Rattle.lc_eval.proofs.construction.construction_x_code.Goals as goal
 

@@ -1,4 +1,4 @@
-use Rattle.lc_eval.specs.Value.{value_of}
+use Rattle.lc_calls.specs.Value.{value_of}
 use Rattle.lc_eval.proofs.ResidueCalls.{residue_fault, residue_none, residue_made}
 use Rattle.lc_eval.proofs.cyclic.qr_code.Goals as goal
 

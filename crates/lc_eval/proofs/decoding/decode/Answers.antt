@@ -1,6 +1,6 @@
 use Rattle.std.proofs.Common.{ap}
 use Rattle.std.proofs.Common.{Err}
-use Rattle.lc_eval.specs.Value.{value_of}
+use Rattle.lc_calls.specs.Value.{value_of}
 use Rattle.std.proofs.lemmas.Result.{err_from_is_err_and}
 use Rattle.lc_eval.proofs.DecodeLaws.{decode_fault, decode_many, decode_told}
 use Rattle.lc_eval.proofs.decoding.decode.Goals as goal

@@ -2,8 +2,8 @@ use Rattle.std.proofs.Common.{sym}
 use Rattle.std.proofs.lemmas.Result.{err_from_is_err_and}
 use Rattle.lc_language.specs.Evaluation.{EvaluatesList, nothing_yet}
 use Rattle.lc_parse.specs.Views.{trees_of}
-use Rattle.lc_eval.specs.Built.{built_calls}
-use Rattle.lc_eval.specs.Value.{values_of}
+use Rattle.lc_calls.specs.Built.{built_calls}
+use Rattle.lc_calls.specs.Value.{values_of}
 use Rattle.lc_eval.proofs.ListLaws.{misfit_element}
 use Rattle.lc_eval.proofs.EvaluationLaws.{evaluated_more, evaluated_fault, wrong_count, arguments_fault, call_bound, call_misfit}
 use Rattle.lc_eval.proofs.evaluate.+evaluation.Goals as goal

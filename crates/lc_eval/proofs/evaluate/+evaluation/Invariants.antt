@@ -1,9 +1,9 @@
 use Rattle.std.proofs.Common.{take, drop}
 use Rattle.lc_language.specs.Evaluation.{Outcome, all_give, EvaluatesAll, EvaluatesList, nothing_yet}
 use Rattle.lc_parse.specs.Views.{trees_of}
-use Rattle.lc_eval.specs.Built.{built_calls}
-use Rattle.lc_eval.specs.Value.{values_of}
-use Rattle.lc_eval.specs.Listed.{listed_of}
+use Rattle.lc_calls.specs.Built.{built_calls}
+use Rattle.lc_calls.specs.Value.{values_of}
+use Rattle.lc_calls.specs.Listed.{listed_of}
 use Rattle.lc_eval.proofs.evaluate.+evaluation.Given as goal
 
 abbrev pub invariant-evaluate_all-loop-expr : goal.invariant-evaluate_all-loop-expr

@@ -2,7 +2,7 @@ use Rattle.std.proofs.Common.{◌+◌, ap}
 use Rattle.std.proofs.lemmas.Result.{err_from_is_err_and}
 use Rattle.lc_constructions.specs.Alternant.{AlternantForm}
 use Rattle.lc_language.specs.Evaluation.{prints, fails}
-use Rattle.lc_eval.specs.Value.{refused_of}
+use Rattle.lc_calls.specs.Value.{refused_of}
 use Rattle.lc_eval.proofs.FormCertificateLaws.{certificate_none, certificate_fault, certificate_missed, certificate_told, of_value}
 use Rattle.lc_eval.proofs.form_certificates.alternant_certificate.Goals as goal
 

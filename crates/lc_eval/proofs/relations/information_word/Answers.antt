@@ -1,5 +1,5 @@
 use Rattle.std.proofs.lemmas.Result.{err_from_is_err_and}
-use Rattle.lc_eval.specs.Value.{value_of}
+use Rattle.lc_calls.specs.Value.{value_of}
 use Rattle.lc_eval.proofs.RelationLaws.{information_fault, information_none, information_told}
 use Rattle.lc_eval.proofs.relations.information_word.Goals as goal
 

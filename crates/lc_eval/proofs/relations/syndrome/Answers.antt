@@ -1,7 +1,7 @@
 use Rattle.std.proofs.Common.{ap, ◌∙◌}
 use Rattle.std.proofs.lemmas.Result.{err_from_is_err_and}
 use Rattle.lc_language.specs.Value.{numbers}
-use Rattle.lc_eval.specs.Value.{value_of}
+use Rattle.lc_calls.specs.Value.{value_of}
 use Rattle.lc_eval.proofs.RelationLaws.{syndrome_fault, syndrome_told}
 use Rattle.lc_eval.proofs.relations.syndrome.Goals as goal
 

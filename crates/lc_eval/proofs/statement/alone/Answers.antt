@@ -1,6 +1,6 @@
 use Rattle.std.proofs.lemmas.Result.{err_from_is_err_and}
 use Rattle.lc_parse.specs.Views.{tree_of, trees_of}
-use Rattle.lc_eval.specs.Built.{query_call_of}
+use Rattle.lc_calls.specs.Built.{query_call_of}
 use Rattle.lc_eval.proofs.StatementLaws.{alone_fault, alone_given, query_alone}
 use Rattle.lc_eval.proofs.statement.alone.Goals as goal
 

@@ -3,8 +3,8 @@ use Rattle.std.proofs.lemmas.Result.{err_from_is_err_and}
 use Rattle.lc_grammar.specs.Tree as tree
 use Rattle.lc_language.specs.Evaluation.{QueriesTo, StepsAsQuery}
 use Rattle.lc_parse.specs.Views.{trees_of}
-use Rattle.lc_eval.specs.Built.{built_calls, query_call_of}
-use Rattle.lc_eval.specs.Value.{values_of}
+use Rattle.lc_calls.specs.Built.{built_calls, query_call_of}
+use Rattle.lc_calls.specs.Value.{values_of}
 use Rattle.lc_eval.proofs.EvaluationLaws.{query_count, query_fault, query_bound, query_misfit}
 use Rattle.lc_eval.proofs.StatementLaws.{affects_map}
 use Rattle.lc_eval.proofs.statement.ask.Goals as goal

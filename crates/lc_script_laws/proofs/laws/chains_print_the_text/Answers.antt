@@ -1,4 +1,4 @@
-use Rattle.lc_eval.specs.Built.{built_calls}
+use Rattle.lc_calls.specs.Built.{built_calls}
 use Rattle.lc_session_rules.proofs.Headline.{run_prints, true_prints}
 use Rattle.lc_script_laws.proofs.GroundLaws.{chains_are_true, resumed_prints}
 use Rattle.lc_script_laws.proofs.StoredLaws.{slots_stay}

@@ -1,5 +1,5 @@
 use Rattle.std.proofs.Common.{Err, refl, ap}
-use Rattle.lc_eval.specs.Built.{built_calls}
+use Rattle.lc_calls.specs.Built.{built_calls}
 use Rattle.lc_checkpoint.specs.Seen.{point_of}
 use Rattle.lc_session_rules.specs.Session.{reads}
 use Rattle.lc_arguments.specs.Asked.{command_for, settings_for}

@@ -1,6 +1,6 @@
 use Rattle.std.proofs.Common.{Err, refl, ap, ◌∙◌}
 use Rattle.sha2.specs.Sha256.{sha256}
-use Rattle.lc_eval.specs.Built.{built_calls}
+use Rattle.lc_calls.specs.Built.{built_calls}
 use Rattle.lc_session_rules.specs.Session.{reads}
 use Rattle.lc_arguments.specs.Asked.{command_for, settings_for}
 use Rattle.lc_rounds.specs.Way.{around}

@@ -1,4 +1,4 @@
-use Rattle.lc_eval.specs.Built.{built_calls}
+use Rattle.lc_calls.specs.Built.{built_calls}
 use Rattle.lc_share.specs.Seen.{asked_of}
 use Rattle.lc_share.proofs.SessionLaws.{found_so}
 use Rattle.lc_share.proofs.session.part_of.Goals as goal

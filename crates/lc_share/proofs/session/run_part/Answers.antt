@@ -1,6 +1,6 @@
 use Rattle.std.proofs.Common.{◌≡◌, length, refl, sym, ◌∙◌, arith}
 use Rattle.std.proofs.lemmas.Bool.{eqb-true}
-use Rattle.lc_eval.specs.Built.{built_calls}
+use Rattle.lc_calls.specs.Built.{built_calls}
 use Rattle.lc_arguments.specs.Asked.{words_of}
 use Rattle.lc_share.specs.Asked.{part_options}
 use Rattle.lc_share.specs.PartSession.{no_part}

@@ -1,5 +1,5 @@
 use Rattle.std.proofs.Common.{arith}
-use Rattle.lc_eval.specs.Value.{binding_of}
+use Rattle.lc_calls.specs.Value.{binding_of}
 use Rattle.lc_eval.proofs.StatementLaws.{silent_step, line_step, need_step, count_step, near_step, fault_step}
 use Rattle.lc_eval.proofs.machine.Machine.step.Goals as goal
 

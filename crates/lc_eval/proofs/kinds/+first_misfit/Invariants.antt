@@ -1,5 +1,0 @@
-use Rattle.std.proofs.Common.{length}
-use Rattle.lc_eval.proofs.kinds.+first_misfit.Given as goal
-
-abbrev pub decreases-first_misfit : goal.decreases-first_misfit
-decreases-first_misfit l = length l.kinds.now

@@ -1,5 +1,0 @@
-use Rattle.lc_eval.proofs.NameLaws.{bound_anew}
-use Rattle.lc_eval.proofs.names.Names.bind.Goals as goal
-
-pub returns-clause-bound : goal.returns-clause-bound
-returns-clause-bound c = rw (← c.self.view_is) (bound_anew c.self.inside.values c.insert.new.self c.args.name c.args.value c.in_ok-insert.ensures.updates)

@@ -1,5 +1,0 @@
-use Rattle.lc_eval.proofs.NameLaws.{named_value}
-use Rattle.lc_eval.proofs.names.Names.value_of.Goals as goal
-
-pub returns : goal.returns
-returns c = rw (← c.self.view_is) (named_value c.args.name.now c.self.inside.values c.get.result c.get.ensures.value)
