@@ -1,9 +1,10 @@
 //! Calls that give a value, with the arguments that they are bound to.
 //!
-//! `bind` goes by the number of the arguments, and with two of them by their kinds.
+//! `bind` goes by the number of the arguments, and with two or three of them by the kind of the first one.
 ghost use Rattle.std.specs.Prelude.{◌≡◌, [], ◌∷◌, option_map, None};
 ghost use Rattle.lc_language.specs.Calls as language;
-ghost use Rattle.lc_language.specs.Value.{code as language_code, field as language_field, code_in, field_in};
+ghost use Rattle.lc_language.specs.Value.{code as language_code, field as language_field};
+ghost use Rattle.lc_language.specs.Value.{number as language_number, code_in, field_in, number_in};
 ghost use Rattle.lc_calls.specs.Value.{value_of, values_of};
 
 use crate::bound::{BoundCall, Means};
@@ -169,13 +170,72 @@ fn without_code<'a>(call: ValueCall, a: &'a Value, b: &'a Value) -> Option<Bound
 }
 
 // The call with three arguments.
-#[tactic(auto, unfolding(crate::proofs::Opened::bound_calls))]
+#[tactic(auto, unfolding(crate::proofs::Opened::bound_values))]
 fn with_three<'a>(
     call: ValueCall,
     a: &'a Value,
     b: &'a Value,
     c: &'a Value,
 ) -> Option<BoundCall<'a>>
+    ensures { option_map ⟦<BoundCall<'static> as Means>⟧.meaning result
+        ≡ language.bind call (value_of a.now ∷ value_of b.now ∷ value_of c.now ∷ []) }
+{
+    match a {
+        Value::Number(n) => with_number_and_two(call, *n, b, c),
+        Value::Code(code) => with_code_and_two(call, code, b, c),
+        _ => with_list_and_two(call, a, b, c),
+    }
+}
+
+// The call with a number and two more arguments.
+#[tactic(auto, unfolding(crate::proofs::Opened::bound_values))]
+fn with_number_and_two<'a>(
+    call: ValueCall,
+    a: u64,
+    b: &'a Value,
+    c: &'a Value,
+) -> Option<BoundCall<'a>>
+    ensures { option_map ⟦<BoundCall<'static> as Means>⟧.meaning result
+        ≡ language.bind call (language_number a ∷ value_of b.now ∷ value_of c.now ∷ []) }
+{
+    match call {
+        ValueCall::BchCode => Some(BoundCall::BchCode(a, 1, b.number()?, c.field()?)),
+        ValueCall::ScaleWord => Some(BoundCall::ScaleWord(a, b.numbers()?, c.field()?)),
+        _ => None,
+    }
+}
+
+// The call with a code and two more arguments.
+#[tactic(auto, unfolding(crate::proofs::Opened::bound_values))]
+fn with_code_and_two<'a>(
+    call: ValueCall,
+    a: &'a CodeValue,
+    b: &'a Value,
+    c: &'a Value,
+) -> Option<BoundCall<'a>>
+    ensures { option_map ⟦<BoundCall<'static> as Means>⟧.meaning result
+        ≡ language.bind call (language_code a.now.code a.now.form ∷ value_of b.now ∷ value_of c.now ∷ []) }
+{
+    match call {
+        ValueCall::ConstructionXCode => Some(BoundCall::ConstructionXCode(
+            &a.code,
+            &b.code()?.code,
+            &c.code()?.code,
+        )),
+        _ => None,
+    }
+}
+
+// The call with three arguments of which the first is neither a number nor a code.
+#[tactic(auto, unfolding(crate::proofs::Opened::bound_values))]
+fn with_list_and_two<'a>(
+    call: ValueCall,
+    a: &'a Value,
+    b: &'a Value,
+    c: &'a Value,
+) -> Option<BoundCall<'a>>
+    requires no_number { number_in (value_of a.now) ≡ None }
+    requires no_code { code_in (value_of a.now) ≡ None }
     ensures { option_map ⟦<BoundCall<'static> as Means>⟧.meaning result
         ≡ language.bind call (value_of a.now ∷ value_of b.now ∷ value_of c.now ∷ []) }
 {
@@ -190,9 +250,7 @@ fn with_three<'a>(
             b.number()?,
             c.field()?,
         )),
-        ValueCall::BchCode => Some(BoundCall::BchCode(a.number()?, 1, b.number()?, c.field()?)),
         ValueCall::AddWords => Some(BoundCall::AddWords(a.numbers()?, b.numbers()?, c.field()?)),
-        ValueCall::ScaleWord => Some(BoundCall::ScaleWord(a.number()?, b.numbers()?, c.field()?)),
         ValueCall::CirculantCode => Some(BoundCall::CirculantCode(
             a.numbers()?,
             b.number()?,
@@ -202,11 +260,6 @@ fn with_three<'a>(
             a.lists()?,
             b.number()?,
             c.field()?,
-        )),
-        ValueCall::ConstructionXCode => Some(BoundCall::ConstructionXCode(
-            &a.code()?.code,
-            &b.code()?.code,
-            &c.code()?.code,
         )),
         _ => None,
     }
