@@ -1,35 +1,19 @@
 -- The refusals of the plain constructors.
---   elements_told                  the test on the entries, by what it decides
 --   length_too_large, length_bad, length_fine      the first refusal of a length
 --   matrix_too_large, matrix_bad_length, matrix_uneven, matrix_no_elements, matrix_fine      the first refusal of a matrix
 --   matrix_rows                    a matrix that isn't refused has words as rows
-use Rattle.std.proofs.Common.{◌≡◌, ℕ, ◌<◌, ◌↔◌, true, false, Bool, ◌==◌, IsTrue, Some, None, nat_lt, List, length, slice_index, slice_index_or, All, refl, sym, ◌∙◌, ⊎_elim, true≢false}
-use Rattle.std.specs.List.{list_all}
+use Rattle.std.proofs.Common.{◌≡◌, ℕ, ◌↔◌, true, false, Bool, ◌==◌, IsTrue, Some, None, List, length, slice_index_or, All, refl, ◌∙◌}
 use Rattle.std.proofs.lemmas.List.Sums.{AllPass-from_list_all}
-use Rattle.std.proofs.lemmas.Bool.{cases_Bool}
-use Rattle.std.proofs.lemmas.Bool.Decides.{Decides-eqb, Decides-ltb}
+use Rattle.std.proofs.lemmas.Bool.Decides.{Decides-eqb}
 use Rattle.lc_algebra.specs.declared.FieldName.{FieldName}
-use Rattle.lc_algebra.specs.Field.{size, is_symbol}
+use Rattle.lc_algebra.specs.Field.{is_symbol}
 use Rattle.lc_algebra.specs.Word.{Fits}
 use Rattle.lc_algebra.specs.Matrix.{AreRows}
 use Rattle.lc_constructions.specs.declared.refusal.CodeRefusal.TheVariants.{BadLength, BadArgument, LengthsDiffer, FieldTooLarge}
 use Rattle.lc_constructions.specs.Code.{is_length}
 use Rattle.lc_constructions.specs.Refusal.{refuse_if, first_refusal}
-use Rattle.lc_constructions.specs.Refusals.{columns_of, are_elements, have_elements, are_equally_long, too_large, bad_length, bad_argument, length_refusals, matrix_refusals}
-use Rattle.lc_constructions.proofs.RefusalLaws.{rows_fit_elements}
-
-elements_fit : (f : FieldName) (rows : List (List ℕ)) → have_elements f rows ≡ true → All (Fits f) rows
-unfolding have_elements are_elements
-elements_fit f rows h k d l i m =
-    (Decides-ltb (slice_index (slice_index_or rows k d) i) (size f)).0
-    (AllPass-from_list_all (λ a. nat_lt a (size f)) (slice_index_or rows k d) (AllPass-from_list_all (list_all (λ a. nat_lt a (size f))) rows h k d l) i 0 m)
-
-pub elements_told : (f : FieldName) (rows : List (List ℕ)) (b : Bool) → IsTrue b ↔ All (Fits f) rows → have_elements f rows ≡ b
-elements_told f rows b h =
-    ⊎_elim
-    (λ t. rows_fit_elements f rows (h.0 t) ∙ sym t)
-    (λ t. ⊎_elim (λ s. absurd (true≢false (sym (h.1 (elements_fit f rows s)) ∙ t))) (λ s. s ∙ sym t) (cases_Bool (have_elements f rows)))
-    (cases_Bool b)
+use Rattle.lc_constructions.specs.Refusals.{columns_of, have_elements, are_equally_long, too_large, bad_length, bad_argument, length_refusals, matrix_refusals}
+use Rattle.lc_constructions.proofs.RefusalLaws.{rows_told}
 
 pub length_too_large : (f : FieldName) (n : ℕ) → is_symbol f ≡ false → first_refusal (length_refusals f n) ≡ Some FieldTooLarge
 unfolding first_refusal refuse_if too_large length_refusals
@@ -57,11 +41,11 @@ matrix_uneven f rows a b c = rw (a, b, c) refl
 
 pub matrix_no_elements : (f : FieldName) (rows : List (List ℕ)) (b : Bool) → is_symbol f ≡ true → is_length (columns_of rows) ≡ true → are_equally_long rows ≡ true → IsTrue b ↔ All (Fits f) rows → b ≡ false → first_refusal (matrix_refusals f rows) ≡ Some (BadArgument 1)
 unfolding first_refusal refuse_if too_large bad_length bad_argument matrix_refusals
-matrix_no_elements f rows b a l c h e = let t : have_elements f rows ≡ false = elements_told f rows b h ∙ e in rw (a, l, c, t) refl
+matrix_no_elements f rows b a l c h e = let t : have_elements f rows ≡ false = rows_told f rows b h ∙ e in rw (a, l, c, t) refl
 
 pub matrix_fine : (f : FieldName) (rows : List (List ℕ)) (b : Bool) → is_symbol f ≡ true → is_length (columns_of rows) ≡ true → are_equally_long rows ≡ true → IsTrue b ↔ All (Fits f) rows → b ≡ true → first_refusal (matrix_refusals f rows) ≡ None
 unfolding first_refusal refuse_if too_large bad_length bad_argument matrix_refusals
-matrix_fine f rows b a l c h e = let t : have_elements f rows ≡ true = elements_told f rows b h ∙ e in rw (a, l, c, t) refl
+matrix_fine f rows b a l c h e = let t : have_elements f rows ≡ true = rows_told f rows b h ∙ e in rw (a, l, c, t) refl
 
 pub matrix_rows : (f : FieldName) (rows : List (List ℕ)) (b : Bool) → are_equally_long rows ≡ true → IsTrue b ↔ All (Fits f) rows → b ≡ true → AreRows f (columns_of rows) rows
 unfolding are_equally_long

@@ -28,9 +28,8 @@ use Rattle.lc_constructions.specs.Basic.{GeneratedBy}
 use Rattle.lc_constructions.proofs.ClosedLaws.{sum_parts, scale_parts, zero_parts}
 use Rattle.lc_language.specs.Relations.{shifted, IsSubcode, IsCyclic}
 use Rattle.lc_language.specs.Circulant.{shifted_by, circulant, circulants, joined, IsQuasiCyclic}
-use Rattle.lc_combine.proofs.GeneratedLaws.{IsLinear, image_span}
-use Rattle.lc_combine.proofs.SumLaws.{word_append}
-use Rattle.lc_combine.proofs.DimensionLaws.{length_taken}
+use Rattle.lc_linear_laws.proofs.LinearLaws.{IsLinear, image_span}
+use Rattle.lc_linear_laws.proofs.PartLaws.{word_append, length_taken}
 use Rattle.lc_relations.proofs.StructureLaws.{shift_linear}
 use Rattle.lc_relations.proofs.UnionLaws.{told}
 use Rattle.lc_circulant.proofs.ShiftLaws.{shifted_round, shifted_by_word}

@@ -16,10 +16,8 @@ use Rattle.lc_constructions.specs.declared.refusal.CodeRefusal.TheVariants.{BadL
 use Rattle.lc_constructions.specs.Code.{is_length}
 use Rattle.lc_constructions.specs.Refusal.{refuse_if, first_refusal}
 use Rattle.lc_constructions.specs.Refusals.{are_elements, have_elements, too_large, bad_length, bad_argument}
-use Rattle.lc_constructions.proofs.RefusalLaws.{elements_told, long_length}
-use Rattle.lc_basic.proofs.RefusalLaws.{elements_told as rows_told}
+use Rattle.lc_constructions.proofs.RefusalLaws.{elements_told, long_length, product_least, product_most, rows_told}
 use Rattle.lc_language.specs.Circulant.{circulant_refusals, quasi_cyclic_refusals}
-use Rattle.lc_combine.proofs.RefusalLaws.{product_least, product_most}
 use Rattle.lc_relations.proofs.RefusalLaws.{augmented_rows}
 
 -- ---- lengths

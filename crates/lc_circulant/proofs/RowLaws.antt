@@ -20,7 +20,7 @@ use Rattle.lc_algebra.specs.Matrix.{Matrix, AreRows}
 use Rattle.lc_constructions.specs.Code.{IsCode}
 use Rattle.lc_constructions.specs.Basic.{GeneratedBy}
 use Rattle.lc_language.specs.Circulant.{shifted_by, circulant, circulants}
-use Rattle.lc_combine.proofs.SumLaws.{word_append}
+use Rattle.lc_linear_laws.proofs.PartLaws.{word_append}
 use Rattle.lc_circulant.proofs.ShiftLaws.{shifted_by_word}
 
 abbrev pub row : List (List ℕ) → ℕ → List ℕ

@@ -3,3 +3,4 @@ pub mod TriedLaws
 pub mod CoordinateTests
 pub mod CoordinateLaws
 pub mod CoordinateSteps
+pub mod GeneratedLaws

@@ -5,7 +5,9 @@
 mod alternant;
 mod code;
 mod expansion;
+mod rows;
 
 pub use alternant::{Alternant, FormedCode, alternant_code, formed};
 pub use code::Code;
 pub use lc_constructions::CodeRefusal;
+pub use rows::{push_left, push_rows};

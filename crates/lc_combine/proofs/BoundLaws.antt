@@ -1,9 +1,7 @@
 -- The weights of combined codes, and the dual of a shortened code.
---   weight_append          the weight of a word in two parts
---   bound_of_words         a bound for the words that meet P bounds the code
 --   sum_bound, uuv_bound, shortened_bound, extended_bound
 --   shortened_dual         a shortened code is the dual of the punctured dual
-use Rattle.std.proofs.Common.{◌≡◌, ℕ, suc, ◌+◌, ◌-◌, ◌*◌, ◌<◌, ◌≤◌, Bool, true, false, cond, ◌==◌, List, [], ◌∷◌, ◌++◌, length, slice_index, slice_index_or, None, All, refl, sym, ap, subst, ◌∙◌, ⊎_elim, arith}
+use Rattle.std.proofs.Common.{◌≡◌, ℕ, suc, ◌+◌, ◌-◌, ◌*◌, ◌≤◌, Bool, true, false, cond, ◌==◌, List, [], ◌∷◌, length, slice_index, slice_index_or, None, All, refl, sym, ap, subst, ◌∙◌, ⊎_elim, arith}
 use Rattle.std.specs.List.{list_any}
 use Rattle.std.proofs.lemmas.Bool.{cases_lt, eqb-true}
 use Rattle.std.proofs.lemmas.List.Elements.{All-contains}
@@ -21,19 +19,11 @@ use Rattle.lc_constructions.specs.Combined.{symbol_sum, without_from, without, I
 use Rattle.lc_constructions.specs.Refusal.{first_refusal}
 use Rattle.lc_constructions.specs.Refusals.{deleted_refusals}
 use Rattle.lc_constructions.proofs.ClosedLaws.{symbol_sum_of_zero}
+use Rattle.lc_linear_laws.proofs.LinearLaws.{image_span, span_image, image_rows}
 use Rattle.lc_code.proofs.CodeLaws.{same_code}
+use Rattle.lc_linear_laws.proofs.PartLaws.{weight_append, bound_of_words}
 use Rattle.lc_combine.specs.Rows.{punctured_rows}
-use Rattle.lc_combine.proofs.GeneratedLaws.{image_span, span_image, image_rows}
 use Rattle.lc_combine.proofs.DeletedLaws.{deleted_linear, shortened_members}
-
-pub weight_append : (u v : List ℕ) → weight (u ++ v) ≡ weight u + weight v
-weight_append [] v = let e : weight [] ≡ 0 = refl in omega (arith, e)
-weight_append (a ∷ u) v = omega (arith, weight_cons a (u ++ v), weight_cons a u, weight_append u v)
-
-pub bound_of_words : (E : Matrix) (f : FieldName) (n b : ℕ) (P : List ℕ → Type 0) → IsCode f n P E → ((w : List ℕ) → P w → 0 < weight w → b ≤ weight w) → IsWeightBound E.field E.columns E.rows b
-bound_of_words E f n b P c h w s l =
-    let t : InSpan f n E.rows w = subst (λ m. InSpan f m E.rows w) c.length_is (subst (λ g. InSpan g E.columns E.rows w) c.over s) in
-    h w ((c.generator.members w).0 t).1 l
 
 pub sum_bound : (C D E : Matrix) (n d e b : ℕ) → IsCode C.field n (InDirectSum C D) E → IsWeightBound C.field C.columns C.rows d → IsWeightBound D.field D.columns D.rows e → b ≤ d → b ≤ e → IsWeightBound E.field E.columns E.rows b
 sum_bound C D E n d e b c p q x y =

@@ -8,7 +8,7 @@ use Rattle.std.proofs.Common.{◌≡◌, ℕ, zero, suc, ◌+◌, ◌-◌, ◌/�
 use Rattle.std.specs.List.{list_any}
 use Rattle.lc_algebra.specs.declared.FieldName.{FieldName}
 use Rattle.lc_algebra.specs.declared.FieldName.TheVariants.{Gf2}
-use Rattle.lc_algebra.specs.Residue.{digits, number, plus, minus}
+use Rattle.lc_algebra.specs.Residue.{digits, number, minus}
 use Rattle.lc_algebra.specs.Field.{shape, shape_of, coefficients, add, neg}
 use Rattle.lc_algebra.specs.Word.{Fits, IsWord, weight}
 use Rattle.lc_algebra.specs.Span.{InSpan, IsWeightBound}
@@ -22,10 +22,9 @@ use Rattle.lc_constructions.specs.Code.{IsCode}
 use Rattle.lc_constructions.specs.Combined.{symbol_sum, without_from, without, InExtended, InPunctured}
 use Rattle.lc_constructions.specs.Refusal.{first_refusal}
 use Rattle.lc_constructions.specs.Refusals.{deleted_refusals}
-use Rattle.lc_constructions.proofs.WithoutLaws.{length_without, deleted_fine}
+use Rattle.lc_constructions.proofs.WithoutLaws.{length_without, deleted_fine, weight_removed}
 use Rattle.lc_constructions.proofs.ClosedLaws.{sum_of_bits}
-use Rattle.lc_combine.proofs.BoundLaws.{weight_append}
-use Rattle.lc_combine.proofs.ImageDimension.{weight_removed}
+use Rattle.lc_linear_laws.proofs.PartLaws.{weight_append}
 
 pub bound_of_word : (E : Matrix) (f : FieldName) (n b : ℕ) (P : List ℕ → Type 0) → IsCode f n P E → ((w : List ℕ) → IsWord f n w → P w → 0 < weight w → b ≤ weight w) → IsWeightBound E.field E.columns E.rows b
 bound_of_word E f n b P c h w s l =

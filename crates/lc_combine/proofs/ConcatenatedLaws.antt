@@ -5,31 +5,30 @@
 --   IsGood                 the replaced word of a word is generated
 --   good_zero, good_sum, good_multiple, good_closed, good_word      so it is of each word of the outer code
 --   concatenated_rows, concatenated_members, concatenated_code
-use Rattle.std.proofs.Common.{◌≡◌, ℕ, zero, suc, ◌+◌, ◌*◌, ◌<◌, ◌↔◌, List, [], ◌∷◌, ◌++◌, map, length, slice_index_or, Contains, Some, sym, ap, ap₂, subst, ◌∙◌, ⊎_elim, arith}
+use Rattle.std.proofs.Common.{◌≡◌, ℕ, zero, suc, ◌+◌, ◌*◌, ◌<◌, ◌↔◌, List, [], ◌∷◌, ◌++◌, length, slice_index_or, Contains, Some, sym, ap, ap₂, subst, ◌∙◌, ⊎_elim, arith}
 use Rattle.std.specs.Prelude.{IsTrue}
 use Rattle.std.proofs.Math.Nat.{zero-mul, suc-mul}
-use Rattle.std.proofs.lemmas.List.Elements.{Contains-get_or, All-contains, All-head, All-tail}
+use Rattle.std.proofs.lemmas.List.Elements.{Contains-get_or, All-contains}
 use Rattle.lc_algebra.specs.declared.FieldName.{FieldName}
-use Rattle.lc_algebra.specs.Field.{shape_of, size, is_symbol, add, mul, pow}
-use Rattle.lc_algebra.specs.Polynomial.{value_at}
+use Rattle.lc_algebra.specs.Field.{shape_of, size, is_symbol, pow}
 use Rattle.lc_algebra.specs.Embedding.{IsSubfield, embed}
-use Rattle.lc_algebra.specs.Word.{Fits, IsWord, zero_word, word_sum, scale}
+use Rattle.lc_algebra.specs.Word.{IsWord, zero_word, word_sum, scale}
 use Rattle.lc_algebra.specs.Span.{below, combine, InSpan}
 use Rattle.lc_algebra.specs.Matrix.{Matrix, AreRows}
-use Rattle.lc_algebra.proofs.FieldLaws.{pow_zero, pow_suc, one_mul, mul_comm, mul_assoc, mul_add, mul_zero}
-use Rattle.lc_algebra.proofs.WordLaws.{fits_head, fits_tail, IsWord_zero, IsWord_scale, length_scale, zero_scale, sum_scale, scale_scale}
+use Rattle.lc_algebra.proofs.WordLaws.{IsWord_zero}
 use Rattle.lc_algebra.proofs.SpanLaws.{span_word, span_zero, span_sum, span_scale, word_of_combination, contains_below, below_contains, contains_map, map_contains, contains_flat_map, flat_map_contains, contains_head, contains_tail, contains_cases, span_of_member}
-use Rattle.lc_constructions.specs.Code.{IsCode, IsClosed, InCode}
+use Rattle.lc_constructions.specs.Code.{IsCode, InCode}
 use Rattle.lc_constructions.specs.Basic.{GeneratedBy}
 use Rattle.lc_constructions.specs.Concatenated.{IsReplaced, IsReplacedWord, InConcatenated}
 use Rattle.lc_constructions.specs.Refusals.{degree_over}
 use Rattle.lc_constructions.proofs.ClosedLaws.{concatenated_closed, word_sum_replaced, word_multiple_replaced, word_zero_replaced}
 use Rattle.lc_constructions.proofs.ExpansionLaws.{expansion_once, expansion_exists}
-use Rattle.lc_combine.specs.Replaced.{power_multiples, outer_rows, AreReplaced}
-use Rattle.lc_combine.proofs.GeneratedLaws.{generated_by}
-use Rattle.lc_combine.proofs.SumLaws.{word_append, shaped}
+use Rattle.lc_code.proofs.GeneratedLaws.{generated_by, shaped}
+use Rattle.lc_linear_laws.specs.Powers.{power_multiples, outer_rows}
+use Rattle.lc_linear_laws.proofs.PartLaws.{word_append}
+use Rattle.lc_linear_laws.proofs.PowerSpan.{IsClosedOver, multiple_by_powers, closed_over_span, closed_span}
+use Rattle.lc_combine.specs.Replaced.{AreReplaced}
 use Rattle.lc_combine.proofs.ReplacedLaws.{subfield_of_degree}
-use Rattle.lc_combine.proofs.PowerSpan.{IsClosedOver, multiple_by_powers, closed_over_span, closed_span}
 
 -- ---- each symbol is replaced in one way
 

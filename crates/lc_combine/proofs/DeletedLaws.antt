@@ -29,10 +29,9 @@ use Rattle.lc_constructions.specs.Refusals.{deleted_refusals}
 use Rattle.lc_constructions.proofs.ClosedLaws.{without_sum, without_scale, without_zero}
 use Rattle.lc_constructions.proofs.WithoutLaws.{length_without, deleted_fine, deleted_length, kept, taken}
 use Rattle.lc_matrix.proofs.PlaceLaws.{at_place}
+use Rattle.lc_code.proofs.GeneratedLaws.{generated_by, checked_by, dual_orthogonal, shaped}
+use Rattle.lc_linear_laws.proofs.LinearLaws.{IsLinear, image_rows, image_span, span_image}
 use Rattle.lc_combine.specs.Rows.{punctured_rows}
-use Rattle.lc_combine.proofs.GeneratedLaws.{IsLinear, image_rows, image_span, span_image, generated_by, checked_by}
-use Rattle.lc_combine.proofs.SumLaws.{shaped}
-use Rattle.lc_combine.proofs.DualLaws.{dual_orthogonal}
 
 is_one : (i : ℕ) (coordinates : List ℕ) → Contains coordinates i → list_any (λ p. i == p) coordinates ≡ true
 is_one i coordinates c = contains_any (λ p. i == p) coordinates i c (eq-eqb i i refl)

@@ -1,66 +1,22 @@
 -- The dimensions of direct sums and of the words u followed by u + v.
---   combine_image      combinations of images
---   zero_parted            both parts of a zero word are zero
---   independent_parts      rows are independent if a zero combination of both lists has zero coefficients
 --   sum_dimension, uuv_dimension
-use Rattle.std.proofs.Common.{◌≡◌, ℕ, zero, suc, ◌+◌, ◌↔◌, List, [], ◌∷◌, ◌++◌, map, length, take, drop, refl, sym, ap, ap₂, subst, ◌∙◌, arith}
-use Rattle.std.proofs.lemmas.List.{length-append, length-map, take-append-drop}
-use Rattle.std.proofs.lemmas.List.Elements.{All-head, All-tail}
-use Rattle.lc_algebra.specs.declared.FieldName.{FieldName}
-use Rattle.lc_algebra.specs.Word.{IsWord, zero_word, word_sum, scale, weight}
-use Rattle.lc_algebra.specs.Span.{combine, InSpan, SameSpan, AreIndependent}
+use Rattle.std.proofs.Common.{◌≡◌, ℕ, ◌+◌, List, ◌++◌, length, refl, sym, ap, ap₂, subst, ◌∙◌}
+use Rattle.std.proofs.lemmas.List.{length-append, length-map}
+use Rattle.lc_algebra.specs.Word.{IsWord, zero_word, word_sum}
+use Rattle.lc_algebra.specs.Span.{combine, AreIndependent}
 use Rattle.lc_algebra.specs.Matrix.{Matrix, AreRows, IsReduced}
-use Rattle.lc_algebra.proofs.WordLaws.{IsWord_scale, IsWord_sum, zero_sum, weight_zero_word, zero_from_weight, fits_take, fits_drop}
-use Rattle.lc_algebra.proofs.SpanLaws.{span_word, combine_append, combine_is_word}
+use Rattle.lc_algebra.proofs.WordLaws.{IsWord_sum, zero_sum}
+use Rattle.lc_algebra.proofs.SpanLaws.{combine_is_word}
 use Rattle.lc_algebra.proofs.ReducedLaws.{reduced_independent}
 use Rattle.lc_algebra.proofs.DimensionLaws.{dimension_unique}
 use Rattle.lc_constructions.specs.Code.{IsCode}
 use Rattle.lc_constructions.specs.Combined.{InDirectSum, InUuv}
-use Rattle.lc_constructions.proofs.ClosedLaws.{zero_parts}
-use Rattle.lc_combine.specs.Rows.{left_rows, right_rows, twice_rows, direct_sum_rows, uuv_rows}
-use Rattle.lc_combine.proofs.GeneratedLaws.{IsLinear}
-use Rattle.lc_combine.proofs.SumLaws.{left_linear, right_linear, twice_linear, both, added, over, direct_sum_words, direct_sum_members, uuv_words, uuv_members}
-use Rattle.lc_combine.proofs.DualLaws.{all_right}
-use Rattle.lc_combine.proofs.BoundLaws.{weight_append}
-
-pub combine_image : (f : FieldName) (n m : ℕ) (h : List ℕ → List ℕ) (cs : List ℕ) (rows : List (List ℕ)) → IsLinear f n m h → AreRows f n rows → combine f m cs (map h rows) ≡ h (combine f n cs rows)
-unfolding combine
-combine_image f n m h [] [] s r = sym s.zero
-combine_image f n m h [] (g ∷ rows) s r = sym s.zero
-combine_image f n m h (a ∷ cs) [] s r = sym s.zero
-combine_image f n m h (a ∷ cs) (g ∷ rows) s r =
-    let w = All-head (IsWord f n) g rows r in
-    let t = All-tail (IsWord f n) g rows r in
-    ap₂ (word_sum f) (sym (s.multiples a g w)) (combine_image f n m h cs rows s t) ∙ sym (s.sums (scale f a g) (combine f n cs rows) (IsWord_scale f n a g w.long) (combine_is_word f n cs rows t))
-
-pub zero_parted : (n m : ℕ) (u v : List ℕ) → length u ≡ n → length v ≡ m → u ++ v ≡ zero_word (n + m) → (u ≡ zero_word n) × (v ≡ zero_word m)
-zero_parted n m u v a b e =
-    let w : weight u + weight v ≡ 0 = sym (weight_append u v) ∙ ap (λ x. weight x) e ∙ weight_zero_word (n + m) in
-    (zero_from_weight n u a (omega (arith, w)), zero_from_weight m v b (omega (arith, w)))
-
-pub length_taken : (k l : ℕ) (u : List ℕ) → length u ≡ k + l → (length (take k u) ≡ k) × (length (drop k u) ≡ l)
-length_taken zero l u e = (refl, omega (arith, e))
-length_taken (suc k) l [] e = absurd (omega (arith, e))
-length_taken (suc k) l (a ∷ u) e = let t = length_taken k l u (omega (arith, e)) in (omega (arith, t.0), t.1)
-
-pub independent_parts : (f : FieldName) (n : ℕ) (xs ys : List (List ℕ)) → AreRows f n ys → ((cs bs : List ℕ) → IsWord f (length xs) cs → IsWord f (length ys) bs → word_sum f (combine f n cs xs) (combine f n bs ys) ≡ zero_word n → (cs ≡ zero_word (length xs)) × (bs ≡ zero_word (length ys))) → AreIndependent f n (xs ++ ys)
-independent_parts f n xs ys r h es w z =
-    let k = length xs in
-    let l = length ys in
-    let e : length (xs ++ ys) ≡ k + l = length-append xs ys in
-    let t = length_taken k l es (w.long ∙ e) in
-    let cs = take k es in
-    let bs = drop k es in
-    let whole : cs ++ bs ≡ es = take-append-drop k es in
-    let sum : word_sum f (combine f n cs xs) (combine f n bs ys) ≡ zero_word n = sym (combine_append f n cs bs xs ys t.0 r) ∙ ap (λ c. combine f n c (xs ++ ys)) whole ∙ z in
-    let zeros = h cs bs (record { long = t.0; fits = fits_take f k es w.fits }) (record { long = t.1; fits = fits_drop f k es w.fits }) sum in
-    sym whole ∙ ap₂ (λ a b. a ++ b) zeros.0 zeros.1 ∙ zero_parts k l ∙ ap (λ m. zero_word m) (sym e)
-
-pub same_rows : (f : FieldName) (n : ℕ) (P : List ℕ → Type 0) (rows : List (List ℕ)) (E : Matrix) → IsCode f n P E → AreRows f n rows → ((w : List ℕ) → InSpan f n rows w ↔ P w) → SameSpan f n rows E.rows
-same_rows f n P rows E c r h w = (
-  (λ s. (c.generator.members w).1 (span_word f n rows w r s, (h w).0 s)),
-  (λ s. (h w).1 ((c.generator.members w).0 s).1),
-)
+use Rattle.lc_linear_laws.proofs.PartLaws.{left_linear, right_linear, twice_linear, all_right, zero_parted, independent_parts}
+use Rattle.lc_code.specs.Rows.{left_rows}
+use Rattle.lc_code.proofs.GeneratedLaws.{over}
+use Rattle.lc_linear_laws.proofs.LinearLaws.{combine_image, same_rows}
+use Rattle.lc_combine.specs.Rows.{right_rows, twice_rows, direct_sum_rows, uuv_rows}
+use Rattle.lc_combine.proofs.SumLaws.{both, added, direct_sum_words, direct_sum_members, uuv_words, uuv_members}
 
 pub sum_dimension : (C D E : Matrix) → C.field ≡ D.field → AreRows C.field C.columns C.rows → IsReduced C.columns C.rows → AreRows D.field D.columns D.rows → IsReduced D.columns D.rows → IsCode C.field (C.columns + D.columns) (InDirectSum C D) E → length E.rows ≡ length C.rows + length D.rows
 sum_dimension C D E k r p s q c =

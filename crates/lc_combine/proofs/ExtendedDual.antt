@@ -15,7 +15,7 @@ use Rattle.lc_algebra.proofs.SpanLaws.{span_word}
 use Rattle.lc_constructions.specs.Code.{InCode, IsCode}
 use Rattle.lc_constructions.specs.Combined.{InDual, symbol_sum, InExtended}
 use Rattle.lc_matrix.proofs.SolveLaws.{dot_behind}
-use Rattle.lc_combine.proofs.SumLaws.{word_append}
+use Rattle.lc_linear_laws.proofs.PartLaws.{word_append}
 use Rattle.lc_combine.proofs.ExtendedLaws.{one_symbol, extended_linear}
 
 pub ones_dot : (f : FieldName) (n : ℕ) (u : List ℕ) → length u ≡ n → Fits f u → word_dot f u (replicate n 1) ≡ symbol_sum f u

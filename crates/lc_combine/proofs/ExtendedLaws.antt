@@ -17,9 +17,10 @@ use Rattle.lc_constructions.specs.Code.{IsCode}
 use Rattle.lc_constructions.specs.Basic.{GeneratedBy}
 use Rattle.lc_constructions.specs.Combined.{symbol_sum, InExtended}
 use Rattle.lc_constructions.proofs.ClosedLaws.{sum_parts, scale_parts, zero_parts, last_sum, last_scale, symbol_sum_of_zero}
+use Rattle.lc_code.proofs.GeneratedLaws.{generated_by, shaped}
+use Rattle.lc_linear_laws.proofs.LinearLaws.{IsLinear, image_rows, image_span, span_image}
+use Rattle.lc_linear_laws.proofs.PartLaws.{word_append}
 use Rattle.lc_combine.specs.Rows.{extended_rows}
-use Rattle.lc_combine.proofs.GeneratedLaws.{IsLinear, image_rows, image_span, span_image, generated_by}
-use Rattle.lc_combine.proofs.SumLaws.{word_append, shaped}
 
 symbol_sum_inside : (f : FieldName) (u : List ℕ) → symbol_sum f u < size f
 unfolding symbol_sum

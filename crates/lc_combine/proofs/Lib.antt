@@ -1,7 +1,5 @@
-pub mod GeneratedLaws
 pub mod RefusalLaws
 pub mod SumLaws
-pub mod DualLaws
 pub mod ExtendedLaws
 pub mod ExtendedDual
 pub mod DeletedLaws
@@ -9,7 +7,6 @@ pub mod SubcodeLaws
 pub mod ProductLaws
 pub mod NestedLaws
 pub mod ReplacedLaws
-pub mod PowerSpan
 pub mod ConcatenatedLaws
 pub mod BoundLaws
 pub mod DimensionLaws

@@ -32,7 +32,7 @@ use Rattle.lc_constructions.proofs.ExpansionLaws.{expansion_exists}
 use Rattle.lc_combine.proofs.ReplacedLaws.{subfield_of_degree, power_of_degree}
 use Rattle.lc_combine.proofs.ConcatenatedLaws.{IsNested, replaced_word_once, replaced_is_word, row_word}
 use Rattle.lc_constructions.proofs.ClosedLaws.{replaced_zero, word_zero_replaced}
-use Rattle.lc_combine.proofs.BoundLaws.{weight_append, bound_of_words}
+use Rattle.lc_linear_laws.proofs.PartLaws.{weight_append, bound_of_words}
 
 parts_same : (u v x y : List ℕ) → length u ≡ length v → u ++ x ≡ v ++ y → (u ≡ v) × (x ≡ y)
 parts_same [] [] x y l e = (refl, e)

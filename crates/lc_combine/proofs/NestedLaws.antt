@@ -12,9 +12,8 @@ use Rattle.lc_algebra.proofs.CommonLaws.{find_here, find_later}
 use Rattle.lc_constructions.specs.declared.refusal.CodeRefusal.TheVariants.{BadLength, FieldsDiffer, InnerDimension}
 use Rattle.lc_constructions.specs.Refusal.{refuse_if, first_refusal}
 use Rattle.lc_constructions.specs.Refusals.{bad_length, degree_over, nested_refusals, concatenated_refusals}
-use Rattle.lc_constructions.proofs.RefusalLaws.{long_length}
+use Rattle.lc_constructions.proofs.RefusalLaws.{long_length, short_length}
 use Rattle.lc_code.proofs.CoordinateSteps.{small_size}
-use Rattle.lc_combine.proofs.RefusalLaws.{short_length}
 
 pub power_first : (q : ℕ) → 1 ≡ q ^ (1 - 1)
 power_first q = sym (pow-zero q)

@@ -28,10 +28,10 @@ use Rattle.lc_algebra.proofs.DimensionLaws.{dimension_unique}
 use Rattle.lc_constructions.specs.Code.{IsCode}
 use Rattle.lc_constructions.specs.Combined.{tensor, InDirectProduct}
 use Rattle.lc_constructions.proofs.ClosedLaws.{zero_parts}
+use Rattle.lc_linear_laws.proofs.PartLaws.{weight_append, bound_of_words, length_taken}
+use Rattle.lc_linear_laws.proofs.LinearLaws.{combine_image, same_rows}
+use Rattle.lc_code.proofs.GeneratedLaws.{over}
 use Rattle.lc_combine.proofs.ProductLaws.{sized, tensor_right, pairs_rows, product_members}
-use Rattle.lc_combine.proofs.BoundLaws.{weight_append, bound_of_words}
-use Rattle.lc_combine.proofs.DimensionLaws.{combine_image, length_taken, same_rows}
-use Rattle.lc_combine.proofs.SumLaws.{over}
 
 abbrev pairs : FieldName → List (List ℕ) → List (List ℕ) → List (List ℕ)
 pairs f gs hs = flat_map (λ u. map (tensor f u) hs) gs

@@ -22,9 +22,10 @@ use Rattle.lc_constructions.specs.Code.{IsCode}
 use Rattle.lc_constructions.specs.Basic.{GeneratedBy}
 use Rattle.lc_constructions.specs.Combined.{tensor, InDirectProduct}
 use Rattle.lc_constructions.proofs.ClosedLaws.{sum_parts, scale_parts, zero_parts, single_scale}
+use Rattle.lc_code.proofs.GeneratedLaws.{generated_by, shaped, over}
+use Rattle.lc_linear_laws.proofs.LinearLaws.{IsLinear, image_span}
+use Rattle.lc_linear_laws.proofs.PartLaws.{word_append}
 use Rattle.lc_combine.specs.Rows.{product_rows}
-use Rattle.lc_combine.proofs.GeneratedLaws.{IsLinear, image_span, generated_by}
-use Rattle.lc_combine.proofs.SumLaws.{word_append, shaped, over}
 use Rattle.lc_combine.proofs.ConcatenatedLaws.{one_more}
 
 -- ---- symbol by symbol

@@ -2,13 +2,11 @@
 --   extended_too_long, extended_fine                          extended codes
 --   deleted_bad, deleted_good, deleted_count      punctured and shortened codes
 --   even_not_binary, even_binary      words of even weight
---   common_of_fields, common_of_lengths, common_fine      words of both codes
---   product_least, product_most, product_of_fields, product_too_long, product_fine      direct products
+--   product_of_fields, product_too_long, product_fine      direct products
 --   sum_of_fields, sum_too_long, sum_fine                     direct sums
 --   uuv_of_fields, uuv_of_lengths, uuv_too_long, uuv_fine     the words u followed by u + v
-use Rattle.std.proofs.Common.{◌≡◌, ◌≢◌, ℕ, zero, suc, ◌+◌, ◌*◌, ◌-◌, ◌<◌, ◌≤◌, true, false, not, ◌==◌, nat_le, ◌||◌, List, [], ◌∷◌, length, Contains, Some, None, refl, sym, ◌∙◌, ⊎_elim, arith, true≢false}
+use Rattle.std.proofs.Common.{◌≡◌, ◌≢◌, ℕ, ◌+◌, ◌*◌, ◌-◌, ◌<◌, ◌≤◌, true, false, not, ◌==◌, nat_le, ◌||◌, List, length, Contains, Some, None, refl, sym, ◌∙◌, ⊎_elim, arith, true≢false}
 use Rattle.std.specs.List.{list_any}
-use Rattle.std.proofs.Math.Nat.{suc-mul, mul-le-mul}
 use Rattle.std.proofs.lemmas.Bool.{cases_eq, cases_lt, or_parts, eq-eqb, ne_eqb, le-leb}
 use Rattle.lc_algebra.specs.Field.{size}
 use Rattle.lc_algebra.specs.Matrix.{Matrix}
@@ -18,14 +16,9 @@ use Rattle.lc_algebra.proofs.SpanSearch.{contains_any}
 use Rattle.lc_constructions.proofs.WithoutLaws.{length_without_from, deleted_fine}
 use Rattle.lc_algebra.proofs.EmbeddingTests.{told_by_size, two_elements}
 use Rattle.lc_constructions.specs.declared.refusal.CodeRefusal.TheVariants.{BadLength, BadArgument, FieldsDiffer, LengthsDiffer, BadPositions}
-use Rattle.lc_constructions.specs.Code.{is_length}
 use Rattle.lc_constructions.specs.Refusal.{refuse_if, first_refusal}
-use Rattle.lc_constructions.specs.Refusals.{bad_length, bad_argument, fields_differ, lengths_differ, is_rising, extended_refusals, deleted_refusals, even_weight_refusals, direct_sum_refusals, uuv_refusals, direct_product_refusals, intersection_refusals}
-use Rattle.lc_constructions.proofs.RefusalLaws.{long_length}
-
-pub short_length : (n : ℕ) → 1 ≤ n → n ≤ 255 → is_length n ≡ true
-unfolding is_length
-short_length n a b = rw (le-leb 1 n a, le-leb n 255 b) refl
+use Rattle.lc_constructions.specs.Refusals.{bad_length, bad_argument, fields_differ, lengths_differ, is_rising, extended_refusals, deleted_refusals, even_weight_refusals, direct_sum_refusals, uuv_refusals, direct_product_refusals}
+use Rattle.lc_constructions.proofs.RefusalLaws.{long_length, short_length, product_least, product_most}
 
 pub extended_too_long : (C : Matrix) → C.columns ≡ 255 → first_refusal (extended_refusals C) ≡ Some BadLength
 unfolding first_refusal refuse_if bad_length extended_refusals
@@ -59,25 +52,6 @@ even_not_binary C e = rw (ne_eqb (size C.field) 2 e) refl
 pub even_binary : (C : Matrix) → size C.field ≡ 2 → first_refusal (even_weight_refusals C) ≡ None
 unfolding first_refusal refuse_if bad_argument even_weight_refusals
 even_binary C e = rw (eq-eqb (size C.field) 2 e) refl
-
-pub common_of_fields : (C D : Matrix) → size C.field ≢ size D.field → first_refusal (intersection_refusals C D) ≡ Some FieldsDiffer
-unfolding first_refusal refuse_if fields_differ lengths_differ intersection_refusals
-common_of_fields C D a = rw (ne_eqb (size C.field) (size D.field) a) refl
-
-pub common_of_lengths : (C D : Matrix) → size C.field ≡ size D.field → C.columns ≢ D.columns → first_refusal (intersection_refusals C D) ≡ Some LengthsDiffer
-unfolding first_refusal refuse_if fields_differ lengths_differ intersection_refusals
-common_of_lengths C D a e = rw (eq-eqb (size C.field) (size D.field) a, ne_eqb C.columns D.columns e) refl
-
-pub common_fine : (C D : Matrix) → size C.field ≡ size D.field → C.columns ≡ D.columns → first_refusal (intersection_refusals C D) ≡ None
-unfolding first_refusal refuse_if fields_differ lengths_differ intersection_refusals
-common_fine C D a e = rw (eq-eqb (size C.field) (size D.field) a, eq-eqb C.columns D.columns e) refl
-
-pub product_least : (n m : ℕ) → 1 ≤ n → 1 ≤ m → 1 ≤ n * m
-product_least (suc n) m a b = omega (arith, suc-mul n m, b)
-product_least zero m a b = absurd (omega (arith, a))
-
-pub product_most : (n m : ℕ) → n ≤ 255 → m ≤ 255 → n * m ≤ 65025
-product_most n m a b = mul-le-mul a b
 
 pub product_of_fields : (C D : Matrix) → size C.field ≢ size D.field → first_refusal (direct_product_refusals C D) ≡ Some FieldsDiffer
 unfolding first_refusal refuse_if bad_length fields_differ direct_product_refusals
@@ -126,8 +100,6 @@ pub ruleset check_even_weight_laws = (two_elements, even_not_binary, even_binary
 pub ruleset check_direct_product_laws = (told_by_size, product_of_fields, product_too_long, product_fine, product_least)
 
 pub ruleset product_laws = (product_least, product_most)
-
-pub ruleset check_intersection_laws = (told_by_size, common_of_fields, common_of_lengths, common_fine)
 
 pub ruleset check_deleted_laws = (deleted_bad, deleted_good, deleted_count)
 

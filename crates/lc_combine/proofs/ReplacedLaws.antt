@@ -5,14 +5,13 @@
 --   combine_none, combine_more, combine_all      the sum of the multiples of the rows, from the left
 --   replaced_by_digits     it replaces the symbol
 --   word_none, word_more, word_whole      a word with each symbol replaced, from the left
---   power_none, power_more      the multiples by the powers of the primitive element
 --   multiples_none, multiples_more, rows_none, rows_more, rows_whole      the words that are replaced, one by one
-use Rattle.std.proofs.Common.{◌≡◌, ◌≢◌, ℕ, suc, ◌+◌, ◌-◌, ◌/◌, ◌%◌, ◌^◌, ◌<◌, ◌≤◌, Bool, true, not, ◌==◌, ◌||◌, List, [], ◌∷◌, ◌++◌, map, length, take, drop, slice_index, slice_index_or, Option, Some, None, is_some, refl, sym, ap, subst, ◌∙◌, ⊎_elim, arith, add-one, true≢false}
+use Rattle.std.proofs.Common.{◌≡◌, ◌≢◌, ℕ, suc, ◌+◌, ◌-◌, ◌/◌, ◌%◌, ◌^◌, ◌<◌, Bool, true, not, ◌==◌, ◌||◌, List, [], ◌∷◌, ◌++◌, map, length, take, drop, slice_index, slice_index_or, Option, Some, None, is_some, refl, sym, ap, subst, ◌∙◌, ⊎_elim, arith, add-one, true≢false}
 use Rattle.std.specs.Prelude.{IsTrue, find}
 use Rattle.std.specs.List.{list_all}
 use Rattle.std.proofs.Math.Seq.{take-suc, drop-cons}
 use Rattle.std.proofs.lemmas.Bool.{cases_Bool, eqb-true}
-use Rattle.std.proofs.lemmas.List.{append-nil, append_assoc, map-append, take_all, drop_all}
+use Rattle.std.proofs.lemmas.List.{append-nil, append_assoc, map-append, take_all}
 use Rattle.std.proofs.lemmas.Grind.{flat_map-append}
 use Rattle.lc_algebra.specs.declared.FieldName.{FieldName}
 use Rattle.lc_algebra.specs.Residue.{digits, number}
@@ -22,8 +21,8 @@ use Rattle.lc_algebra.specs.Embedding.{IsSubfield, is_subfield, embed}
 use Rattle.lc_algebra.specs.Word.{Fits, IsWord, zero_word, word_sum, scale}
 use Rattle.lc_algebra.specs.Span.{below, combine}
 use Rattle.lc_algebra.specs.Matrix.{Matrix, AreRows}
-use Rattle.lc_algebra.proofs.FieldLaws.{zero_inside, pow_zero, pow_suc}
-use Rattle.lc_algebra.proofs.WordLaws.{fits_cons, IsWord_zero, IsWord_scale, IsWord_sum, one_scale, scale_scale, zero_sum, sum_zero, sum_assoc, residues_fit}
+use Rattle.lc_algebra.proofs.FieldLaws.{zero_inside}
+use Rattle.lc_algebra.proofs.WordLaws.{fits_cons, IsWord_zero, IsWord_scale, IsWord_sum, zero_sum, sum_zero, sum_assoc, residues_fit}
 use Rattle.lc_algebra.proofs.ResidueLaws.{Residues, length-digits, residues_digits, digits-number, number_below}
 use Rattle.lc_algebra.proofs.EmbeddingLaws.{decides_subfield}
 use Rattle.lc_algebra.proofs.CommonLaws.{find_here, find_later}
@@ -33,8 +32,10 @@ use Rattle.lc_constructions.specs.Refusals.{degree_over}
 use Rattle.lc_constructions.specs.Concatenated.{IsExpansion, IsReplaced, IsReplacedWord}
 use Rattle.lc_constructions.proofs.LocatorLaws.{each_field}
 use Rattle.lc_constructions.proofs.ExpansionLaws.{passes, expansion_exists}
+use Rattle.lc_linear_laws.specs.Powers.{power_multiples, outer_rows}
 use Rattle.lc_code.proofs.CoordinateSteps.{digit_inside, element_none, element_step}
-use Rattle.lc_combine.specs.Replaced.{power_multiples, outer_rows, AreReplaced}
+use Rattle.lc_linear_laws.proofs.PowerSpan.{power_none, power_more}
+use Rattle.lc_combine.specs.Replaced.{AreReplaced}
 
 fits_of : (f : FieldName) (u : List ℕ) → Residues (size f) u → Fits f u
 fits_of f [] h = λ i l. absurd (omega (arith, l))
@@ -128,13 +129,6 @@ pub replaced_made : (C D : Matrix) (K f : FieldName) (s a x : ℕ) (v : List ℕ
 replaced_made C D K f s a x v h k e p q =
     replaced_by_digits C D a x v (subst (λ m. IsExpansion D.field C.field a (digits (size D.field) m x)) e (subst (λ y. IsExpansion y C.field a (digits (size y) s x)) k (subst (λ y. IsExpansion f y a (digits (size f) s x)) h p))) q
 
--- what a call wrote into all of a vector
-pub written : (len : ℕ) (xs ys : List ℕ) → len ≡ length ys → length xs ≡ length ys → take len (xs ++ drop (length xs) ys) ≡ xs
-written len xs ys e h =
-    let d : drop (length xs) ys ≡ [] = drop_all (length xs) ys (omega (arith, h)) in
-    let l : length xs ≤ len = omega (arith, e, h) in
-    ap (λ t. take len (xs ++ t)) d ∙ ap (take len) (append-nil xs) ∙ take_all len xs l
-
 -- ---- words with each symbol replaced
 
 pub word_none : (C D : Matrix) (u w : List ℕ) → w ≡ [] → IsReplacedWord C D (take 0 u) w
@@ -153,20 +147,6 @@ pub word_whole : (C D : Matrix) (u w : List ℕ) (i : ℕ) → i ≡ length u �
 word_whole C D u w i e p = subst (λ x. IsReplacedWord C D x w) (take_all i u (omega (arith, e))) p
 
 -- ---- the outer rows
-
-pub power_none : (K : FieldName) (n : ℕ) (u : List ℕ) → IsWord K n u → u ≡ scale K (pow K (shape_of K).primitive 0) u
-power_none K n u w = sym (ap (λ c. scale K c u) (pow_zero K (shape_of K).primitive) ∙ one_scale K u w.fits)
-
-pub power_more : (K : FieldName) (t : ℕ) (u w new : List ℕ) → w ≡ scale K (pow K (shape_of K).primitive t) u → new ≡ scale K (shape_of K).primitive w → new ≡ scale K (pow K (shape_of K).primitive (t + 1)) u
-power_more K t u w new e h =
-    let γ = (shape_of K).primitive in
-    h ∙ ap (scale K γ) e ∙ scale_scale K γ (pow K γ t) u ∙ ap (λ c. scale K c u) (sym (ap (pow K γ) (add-one t) ∙ pow_suc K γ t))
-
-pub power_made : (K F : FieldName) (t γ : ℕ) (u w new : List ℕ) → F ≡ K → γ ≡ (shape_of F).primitive → w ≡ scale K (pow K (shape_of K).primitive t) u → new ≡ scale F γ w → new ≡ scale K (pow K (shape_of K).primitive (t + 1)) u
-power_made K F t γ u w new f g e h = power_more K t u w new e (h ∙ ap (λ c. scale F c w) g ∙ ap (λ y. scale y (shape_of y).primitive w) f)
-
-pub power_word : (K F : FieldName) (n γ : ℕ) (w new : List ℕ) → F ≡ K → IsWord K n w → new ≡ scale F γ w → IsWord K n new
-power_word K F n γ w new f a h = subst (IsWord K n) (sym (h ∙ ap (λ y. scale y γ w) f)) (IsWord_scale K n γ w a.long)
 
 last_row : (C D : Matrix) (us ws : List (List ℕ)) (u w : List ℕ) → AreReplaced C D us ws → IsReplacedWord C D u w → AreReplaced C D (us ++ u ∷ []) (ws ++ w ∷ [])
 last_row C D [] ws u w p q = (w, ([], q, refl, ap (λ t. t ++ w ∷ []) p))

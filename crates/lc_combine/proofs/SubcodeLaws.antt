@@ -15,9 +15,8 @@ use Rattle.lc_algebra.proofs.WordLaws.{fits_head, fits_tail, weight_zero_head, w
 use Rattle.lc_constructions.specs.Code.{IsCode, CheckedBy}
 use Rattle.lc_constructions.specs.Combined.{InDual, InEvenWeight, InIntersection}
 use Rattle.lc_constructions.proofs.ClosedLaws.{sum_of_bits}
-use Rattle.lc_combine.proofs.GeneratedLaws.{rows_append, checked_by}
-use Rattle.lc_combine.proofs.SumLaws.{shaped}
-use Rattle.lc_combine.proofs.DualLaws.{dual_orthogonal, all_left, all_right}
+use Rattle.lc_code.proofs.GeneratedLaws.{checked_by, dual_orthogonal, shaped}
+use Rattle.lc_linear_laws.proofs.PartLaws.{rows_append, all_left, all_right}
 
 -- ---- words of even weight
 

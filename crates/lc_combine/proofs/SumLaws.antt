@@ -1,61 +1,25 @@
 -- Direct sums and the words u followed by u + v.
---   left_linear, right_linear, twice_linear      a word followed by zeros, after zeros, and followed by itself
 --   direct_sum_words, uuv_words        the rows are words over the field
 --   direct_sum_members, uuv_members    the words of these rows are those of the direct sum, and those u followed by u + v
 --   direct_sum_code, uuv_code          so the code of the rows is the one that was asked for
-use Rattle.std.proofs.Common.{◌≡◌, ℕ, ◌+◌, ◌↔◌, List, [], ◌∷◌, ◌++◌, refl, sym, ap, ap₂, subst, ◌∙◌, arith}
-use Rattle.std.proofs.lemmas.List.{length-append}
+use Rattle.std.proofs.Common.{◌≡◌, ℕ, ◌+◌, ◌↔◌, List, ◌++◌, sym, ap, ap₂, subst, ◌∙◌, arith}
 use Rattle.lc_algebra.specs.declared.FieldName.{FieldName}
-use Rattle.lc_algebra.specs.Word.{Fits, IsWord, zero_word, word_sum, scale}
+use Rattle.lc_algebra.specs.Word.{IsWord, zero_word, word_sum}
 use Rattle.lc_algebra.specs.Span.{InSpan}
 use Rattle.lc_algebra.specs.Matrix.{Matrix, AreRows}
-use Rattle.lc_algebra.proofs.WordLaws.{fits_head, fits_tail, fits_cons, length_zero_word, IsWord_zero, scale_zero, zero_sum, sum_zero}
+use Rattle.lc_algebra.proofs.WordLaws.{length_zero_word, zero_sum, sum_zero}
 use Rattle.lc_algebra.proofs.SpanLaws.{span_word}
 use Rattle.lc_constructions.specs.Code.{IsCode, InCode}
 use Rattle.lc_constructions.specs.Basic.{GeneratedBy}
 use Rattle.lc_constructions.specs.Combined.{InDirectSum, InUuv}
-use Rattle.lc_constructions.proofs.ClosedLaws.{sum_parts, scale_parts, zero_parts, span_of_both}
-use Rattle.lc_combine.specs.Rows.{left_rows, right_rows, twice_rows, direct_sum_rows, uuv_rows}
-use Rattle.lc_combine.proofs.GeneratedLaws.{IsLinear, image_rows, image_span, span_image, span_parted, rows_append, generated_by}
+use Rattle.lc_constructions.proofs.ClosedLaws.{sum_parts, span_of_both}
+use Rattle.lc_linear_laws.proofs.LinearLaws.{image_rows, image_span, span_image}
+use Rattle.lc_linear_laws.proofs.PartLaws.{span_parted, rows_append, left_linear, right_linear, twice_linear}
+use Rattle.lc_code.specs.Rows.{left_rows}
+use Rattle.lc_code.proofs.GeneratedLaws.{generated_by, over, shaped}
+use Rattle.lc_combine.specs.Rows.{right_rows, twice_rows, direct_sum_rows, uuv_rows}
 
 -- ---- words in two parts
-
-fits_append : (f : FieldName) (u v : List ℕ) → Fits f u → Fits f v → Fits f (u ++ v)
-fits_append f [] v a b = b
-fits_append f (x ∷ u) v a b = fits_cons f x (u ++ v) (fits_head f x u a) (fits_append f u v (fits_tail f x u a) b)
-
-pub word_append : (f : FieldName) (n m : ℕ) (u v : List ℕ) → IsWord f n u → IsWord f m v → IsWord f (n + m) (u ++ v)
-word_append f n m u v a b = record { long = omega (arith, length-append u v, a.long, b.long); fits = fits_append f u v a.fits b.fits }
-
-pub left_linear : (f : FieldName) (n m : ℕ) → IsLinear f n (n + m) (λ u. u ++ zero_word m)
-left_linear f n m = record {
-  word = λ u a. word_append f n m u (zero_word m) a (IsWord_zero f m);
-  zero = zero_parts n m;
-  sums = λ u v a b. sym (sum_parts f u v (zero_word m) (zero_word m) (a.long ∙ sym b.long) ∙ ap (λ t. word_sum f u v ++ t) (zero_sum f m (zero_word m) (IsWord_zero f m)));
-  multiples = λ c u a. sym (scale_parts f c u (zero_word m) ∙ ap (λ t. scale f c u ++ t) (scale_zero f c m));
-}
-
-pub right_linear : (f : FieldName) (n m : ℕ) → IsLinear f m (n + m) (λ v. zero_word n ++ v)
-right_linear f n m = record {
-  word = λ v b. word_append f n m (zero_word n) v (IsWord_zero f n) b;
-  zero = zero_parts n m;
-  sums = λ u v a b. sym (sum_parts f (zero_word n) (zero_word n) u v refl ∙ ap (λ t. t ++ word_sum f u v) (zero_sum f n (zero_word n) (IsWord_zero f n)));
-  multiples = λ c u a. sym (scale_parts f c (zero_word n) u ∙ ap (λ t. t ++ scale f c u) (scale_zero f c n));
-}
-
-pub twice_linear : (f : FieldName) (n : ℕ) → IsLinear f n (n + n) (λ u. u ++ u)
-twice_linear f n = record {
-  word = λ u a. word_append f n n u u a a;
-  zero = zero_parts n n;
-  sums = λ u v a b. sym (sum_parts f u v u v (a.long ∙ sym b.long));
-  multiples = λ c u a. sym (scale_parts f c u u);
-}
-
-pub over : (f g : FieldName) (n : ℕ) (rows : List (List ℕ)) → f ≡ g → AreRows g n rows → AreRows f n rows
-over f g n rows k r = subst (λ x. AreRows x n rows) (sym k) r
-
-pub shaped : (f g : FieldName) (n m : ℕ) (rows made : List (List ℕ)) → g ≡ f → m ≡ n → made ≡ rows → AreRows f n rows → AreRows g m made
-shaped f g n m rows made a b e r = subst (λ x. AreRows x m made) (sym a) (subst (λ k. AreRows f k made) (sym b) (subst (AreRows f n) (sym e) r))
 
 -- ---- direct sums
 

@@ -1,6 +1,5 @@
 -- Rows that generate the combined codes, from the rows of the parts (MacWilliams and Sloane, chapters 1, 2 and 18). n and m are
 -- the lengths of the parts.
---   left_rows n us         each word, followed by n zeros
 --   right_rows m vs        each word, after m zeros
 --   twice_rows us          each word, followed by itself
 --   direct_sum_rows C D    rows of the direct sum
@@ -14,9 +13,7 @@ use Rattle.lc_algebra.specs.Field.{neg}
 use Rattle.lc_algebra.specs.Word.{zero_word}
 use Rattle.lc_algebra.specs.Matrix.{Matrix}
 use Rattle.lc_constructions.specs.Combined.{symbol_sum, without, tensor}
-
-abbrev pub left_rows : ℕ → List (List ℕ) → List (List ℕ)
-left_rows n us = map (λ u. u ++ zero_word n) us
+use Rattle.lc_code.specs.Rows.{left_rows}
 
 abbrev pub right_rows : ℕ → List (List ℕ) → List (List ℕ)
 right_rows m vs = map (λ v. zero_word m ++ v) vs

@@ -10,7 +10,8 @@ ghost use Rattle.lc_constructions.specs.Code.{longest, IsCode};
 ghost use Rattle.lc_constructions.specs.Concatenated.{IsExpansion, IsReplaced, IsReplacedWord, InConcatenated};
 ghost use Rattle.lc_constructions.specs.Refusal.{first_refusal, IsRefusedAs, RefusesFirst};
 ghost use Rattle.lc_constructions.specs.Refusals.{degree_over, concatenated_refusals};
-ghost use Rattle.lc_combine.specs.Replaced.{power_multiples, outer_rows, AreReplaced};
+ghost use Rattle.lc_linear_laws.specs.Powers.{power_multiples, outer_rows};
+ghost use Rattle.lc_combine.specs.Replaced.{AreReplaced};
 
 use crate::refusal::check_concatenated;
 use lc_code::{Code, CodeRefusal};

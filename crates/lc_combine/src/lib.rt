@@ -19,6 +19,5 @@ pub use laws::{
     dimensions_of_sums, dual_of_an_extended_code, shortening_is_dual_to_puncturing,
 };
 pub use products::direct_product;
-pub use refusal::is_rising;
-pub use subcodes::{even_weight, intersection, push_rows};
-pub use sums::{direct_sum, push_left, uuv};
+pub use subcodes::{even_weight, intersection};
+pub use sums::{direct_sum, uuv};

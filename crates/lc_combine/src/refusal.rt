@@ -8,6 +8,7 @@ ghost use Rattle.lc_constructions.specs.Refusal.{first_refusal, IsChecked};
 ghost use Rattle.lc_constructions.specs.Refusals.{is_rising, extended_refusals, deleted_refusals, even_weight_refusals, direct_sum_refusals, uuv_refusals, direct_product_refusals, intersection_refusals, degree_over, concatenated_refusals};
 
 use lc_code::{Code, CodeRefusal};
+use lc_constructions::is_rising;
 
 // Checks a code that gets a further symbol.
 #[tactic(auto, using(crate::proofs::RefusalLaws::check_extended_laws))]
@@ -64,7 +65,7 @@ fn product(n: usize, m: usize) -> usize
 }
 
 // Checks two codes for their common words.
-#[tactic(auto, using(crate::proofs::RefusalLaws::check_intersection_laws))]
+#[tactic(auto, using(lc_constructions::proofs::RefusalLaws::alike_or_refused))]
 pub(crate) fn check_intersection(a: &Code, b: &Code) -> Result<(), CodeRefusal>
     ensures is { IsChecked result (first_refusal (intersection_refusals a.now b.now)) }
     ensures field { IfOk result (λ _. a.now.field ≡ b.now.field) }
@@ -106,19 +107,6 @@ fn leave(coordinates: &[u64], n: usize) -> bool
     ensures is { result ≡ list_any (nat_le n) coordinates.now }
 {
     coordinates.iter().any(|p| n as u64 <= *p)
-}
-
-/// Whether each number is below the next one.
-#[tactic(auto, using(lc_constructions::proofs::RisingLaws::is_rising_laws))]
-pub fn is_rising(coordinates: &[u64]) -> bool
-    ensures is { result ≡ is_rising coordinates.now }
-{
-    for i in 1..coordinates.len() {
-        if coordinates[i] <= coordinates[i - 1] {
-            return false;
-        }
-    }
-    true
 }
 
 // Checks two codes that follow each other.

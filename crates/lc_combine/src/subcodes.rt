@@ -1,5 +1,5 @@
 //! Words of even weight, and words of two codes.
-ghost use Rattle.std.specs.Prelude.{◌≡◌, [], ◌∷◌, ◌++◌, length, take, replicate, IfOk, OnErr};
+ghost use Rattle.std.specs.Prelude.{◌≡◌, [], ◌∷◌, ◌++◌, replicate, IfOk};
 ghost use Rattle.lc_algebra.specs.declared.FieldName.TheVariants.{Gf2};
 ghost use Rattle.lc_constructions.specs.Code.{IsCode};
 ghost use Rattle.lc_constructions.specs.Combined.{InEvenWeight, InIntersection};
@@ -7,7 +7,7 @@ ghost use Rattle.lc_constructions.specs.Refusal.{first_refusal, IsRefusedAs, Ref
 ghost use Rattle.lc_constructions.specs.Refusals.{even_weight_refusals, intersection_refusals};
 
 use crate::refusal::{check_even_weight, check_intersection};
-use lc_code::{Code, CodeRefusal};
+use lc_code::{Code, CodeRefusal, push_rows};
 use lc_field::NoMemory;
 use lc_vec::Word;
 use std::alloc::Global;
@@ -81,28 +81,4 @@ fn common_checks(alloc: Global, a: &Code, b: &Code) -> Result<Vec<Word>, NoMemor
     push_rows(alloc, a, &mut checks)?;
     push_rows(alloc, b, &mut checks)?;
     Ok(checks)
-}
-
-/// Pushes each row of the code. If memory runs out, the list is as before.
-pub fn push_rows(alloc: Global, code: &Code, rows: &mut Vec<Word>) -> Result<(), NoMemory>
-    ensures pushed { IfOk result (λ _. rows.new.items ≡ rows.old.items ++ code.now.rows) }
-    ensures kept { OnErr result (rows.new.items ≡ rows.old.items) }
-{
-    let start = rows.len();
-    let pushed = push_each(alloc, code, rows);
-    if pushed.is_err() {
-        rows.truncate(start);
-    }
-    pushed
-}
-
-// The same. If memory runs out, some of the rows may be in the list.
-fn push_each(alloc: Global, code: &Code, rows: &mut Vec<Word>) -> Result<(), NoMemory>
-    ensures pushed { IfOk result (λ _. rows.new.items ≡ rows.old.items ++ code.now.rows) }
-    ensures front { take (length rows.old.items) rows.new.items ≡ rows.old.items }
-{
-    for i in 0..code.dimension() {
-        rows.push(Word::from_slice(alloc, code.row(i))?)?;
-    }
-    Ok(())
 }

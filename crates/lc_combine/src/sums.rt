@@ -1,13 +1,13 @@
 //! Direct sums and the words u followed by u + v.
-ghost use Rattle.std.specs.Prelude.{◌≡◌, ◌+◌, ◌≤◌, ◌++◌, length, take, IfOk, OnErr};
+ghost use Rattle.std.specs.Prelude.{◌≡◌, ◌+◌, ◌≤◌, ◌++◌, IfOk};
 ghost use Rattle.lc_constructions.specs.Code.{longest, IsCode};
 ghost use Rattle.lc_constructions.specs.Combined.{InDirectSum, InUuv};
 ghost use Rattle.lc_constructions.specs.Refusal.{first_refusal, IsRefusedAs, RefusesFirst};
 ghost use Rattle.lc_constructions.specs.Refusals.{direct_sum_refusals, uuv_refusals};
-ghost use Rattle.lc_combine.specs.Rows.{left_rows, right_rows, twice_rows, direct_sum_rows, uuv_rows};
+ghost use Rattle.lc_combine.specs.Rows.{right_rows, twice_rows, direct_sum_rows, uuv_rows};
 
 use crate::refusal::{check_direct_sum, check_uuv};
-use lc_code::{Code, CodeRefusal};
+use lc_code::{Code, CodeRefusal, push_left};
 use lc_field::NoMemory;
 use lc_vec::Word;
 use std::alloc::Global;
@@ -86,36 +86,6 @@ fn uuv_rows(alloc: Global, a: &Code, b: &Code) -> Result<Vec<Word>, NoMemory>
     push_twice(alloc, a, &mut rows)?;
     push_right(alloc, b, a.length(), &mut rows)?;
     Ok(rows)
-}
-
-/// Pushes each row of the code, followed by `n` zeros. The length of the code and n add up to at most 255. If memory runs out, the
-/// list is as before.
-pub fn push_left(alloc: Global, a: &Code, n: usize, rows: &mut Vec<Word>) -> Result<(), NoMemory>
-    requires most { a.now.columns + n ≤ longest }
-    ensures pushed { IfOk result (λ _. rows.new.items ≡ rows.old.items ++ left_rows n a.now.rows) }
-    ensures kept { OnErr result (rows.new.items ≡ rows.old.items) }
-{
-    let start = rows.len();
-    let pushed = push_each_left(alloc, a, n, rows);
-    if pushed.is_err() {
-        rows.truncate(start);
-    }
-    pushed
-}
-
-// The same. If memory runs out, some of the rows may be in the list.
-fn push_each_left(alloc: Global, a: &Code, n: usize, rows: &mut Vec<Word>) -> Result<(), NoMemory>
-    requires most { a.now.columns + n ≤ longest }
-    ensures pushed { IfOk result (λ _. rows.new.items ≡ rows.old.items ++ left_rows n a.now.rows) }
-    ensures front { take (length rows.old.items) rows.new.items ≡ rows.old.items }
-{
-    for i in 0..a.dimension() {
-        let mut symbols = Vec::with_capacity(alloc, a.length() + n)?;
-        symbols.extend_from_slice(a.row(i))?;
-        symbols.resize(a.length() + n, 0)?;
-        rows.push(Word::from_vec(symbols))?;
-    }
-    Ok(())
 }
 
 // Pushes each row of the code, after m zeros.

@@ -1,14 +1,15 @@
 -- How long a word is without some of its coordinates.
 --   without_skip           a coordinate before the first one of a word takes nothing away
 --   length_without_from, length_without      a word loses as many symbols as there are coordinates, if these rise and are its own
+--   weight_removed         each symbol that is left out takes at most 1 from the weight
 --   deleted_fine, deleted_length      coordinates that aren't refused are such
 --   punctured_linear, shortened_linear      so punctured and shortened codes are linear codes of that length
-use Rattle.std.proofs.Common.{◌≡◌, ℕ, suc, ◌+◌, ◌-◌, ◌<◌, ◌≤◌, Bool, true, false, not, nat_le, ◌==◌, ◌||◌, List, [], ◌∷◌, length, None, is_some, Contains, refl, sym, ap, ◌∙◌, ⊎_elim, arith, true≢false}
+use Rattle.std.proofs.Common.{◌≡◌, ℕ, suc, ◌+◌, ◌-◌, ◌<◌, ◌≤◌, Bool, true, false, cond, not, nat_le, ◌==◌, ◌||◌, List, [], ◌∷◌, length, None, is_some, Contains, refl, sym, ap, ◌∙◌, ⊎_elim, arith, true≢false}
 use Rattle.std.specs.List.{list_any}
 use Rattle.std.proofs.lemmas.Bool.{cases_Bool, cases_eq, cases_lt, or_parts, eqb-true, eq-eqb, le-leb}
-use Rattle.lc_algebra.specs.Word.{zero_word}
+use Rattle.lc_algebra.specs.Word.{zero_word, weight}
 use Rattle.lc_algebra.specs.Matrix.{Matrix, AreRows}
-use Rattle.lc_algebra.proofs.WordLaws.{length_zero_word}
+use Rattle.lc_algebra.proofs.WordLaws.{length_zero_word, weight_cons, weight_cons_at_most}
 use Rattle.lc_algebra.proofs.SpanLaws.{contains_head, contains_tail, contains_cases}
 use Rattle.lc_algebra.proofs.SpanSearch.{any_contains, contains_any}
 use Rattle.lc_constructions.specs.declared.refusal.CodeRefusal.TheVariants.{BadPositions}
@@ -101,3 +102,12 @@ punctured_linear C coordinates r h = punctured_closed C coordinates (C.columns -
 
 pub shortened_linear : (C : Matrix) (coordinates : List ℕ) → AreRows C.field C.columns C.rows → first_refusal (deleted_refusals C coordinates) ≡ None → IsClosed C.field (C.columns - length coordinates) (InShortened C coordinates)
 shortened_linear C coordinates r h = shortened_closed C coordinates (C.columns - length coordinates) r (deleted_length C coordinates h)
+
+cond_removed : (t : Bool) (a : ℕ) (u x : List ℕ) → weight u + length x ≤ weight x + length u → weight (a ∷ u) + length (cond t x (a ∷ x)) ≤ weight (cond t x (a ∷ x)) + length (a ∷ u)
+cond_removed true a u x l = omega (arith, l, weight_cons_at_most a u)
+cond_removed false a u x l = omega (arith, l, weight_cons a u, weight_cons a x)
+
+pub weight_removed : (i : ℕ) (coordinates u : List ℕ) → weight u + length (without_from i coordinates u) ≤ weight (without_from i coordinates u) + length u
+unfolding without_from
+weight_removed i coordinates [] = omega arith
+weight_removed i coordinates (a ∷ u) = cond_removed (list_any (λ p. i == p) coordinates) a u (without_from (suc i) coordinates u) (weight_removed (suc i) coordinates u)

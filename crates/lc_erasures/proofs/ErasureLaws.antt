@@ -19,8 +19,7 @@ use Rattle.lc_constructions.specs.Code.{InCode}
 use Rattle.lc_constructions.specs.Combined.{without_from, without}
 use Rattle.lc_constructions.specs.Refusal.{refuse_if, first_refusal}
 use Rattle.lc_constructions.specs.Refusals.{is_rising}
-use Rattle.lc_constructions.proofs.WithoutLaws.{length_without, not_not}
-use Rattle.lc_combine.proofs.ImageDimension.{weight_removed}
+use Rattle.lc_constructions.proofs.WithoutLaws.{length_without, not_not, weight_removed}
 use Rattle.lc_language.specs.Erasures.{AgreesOff, Fills, Filling, filled, unfilled, ambiguous, IsFilling, erased_refusals}
 use Rattle.lc_erasures.proofs.FillingLaws.{sum_differs}
 

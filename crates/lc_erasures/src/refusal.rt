@@ -5,7 +5,7 @@ ghost use Rattle.lc_constructions.specs.Refusal.{first_refusal, IsChecked};
 ghost use Rattle.lc_language.specs.Erasures.{erased_refusals};
 
 use lc_code::{Code, CodeRefusal};
-use lc_combine::is_rising;
+use lc_constructions::is_rising;
 
 // Checks the coordinates of erased symbols.
 #[tactic(auto, using(crate::proofs::RefusalLaws::check_erased_laws))]

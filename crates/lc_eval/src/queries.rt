@@ -47,7 +47,7 @@ fn has_too_many_words(field: &Field, k: usize) -> bool
 }
 
 // The line of the first nonzero word of a code.
-#[tactic(auto, using(lc_combine::proofs::SumLaws::shaped))]
+#[tactic(auto, using(lc_code::proofs::GeneratedLaws::shaped))]
 fn line_of(alloc: Global, code: &Code) -> Result<Vec<u8>, NoMemory>
     ensures { IfOk result (λ line. IsLeastLine code.now.field code.now.columns code.now.rows line.items) }
 {

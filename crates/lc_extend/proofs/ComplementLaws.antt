@@ -23,9 +23,8 @@ use Rattle.lc_constructions.specs.Code.{InCode, IsCode, CheckedBy}
 use Rattle.lc_constructions.specs.Combined.{InDual, InIntersection}
 use Rattle.lc_language.specs.Relations.{IsSubcode, InUnion}
 use Rattle.lc_language.specs.ConstructionX.{InComplement}
-use Rattle.lc_combine.proofs.DualLaws.{dual_orthogonal, all_left, all_right}
-use Rattle.lc_combine.proofs.GeneratedLaws.{checked_by, rows_append}
-use Rattle.lc_combine.proofs.SumLaws.{shaped}
+use Rattle.lc_linear_laws.proofs.PartLaws.{all_left, all_right, rows_append}
+use Rattle.lc_code.proofs.GeneratedLaws.{dual_orthogonal, checked_by, shaped}
 use Rattle.lc_relations.specs.Leads.{leading_symbols}
 use Rattle.lc_relations.proofs.EncodingLaws.{begins, leading_long, leading_at}
 use Rattle.lc_relations.proofs.UnionLaws.{shared, shared_rows, told, union_dimension}

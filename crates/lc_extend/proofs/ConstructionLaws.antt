@@ -16,9 +16,10 @@ use Rattle.lc_constructions.specs.Basic.{GeneratedBy}
 use Rattle.lc_constructions.proofs.ClosedLaws.{sum_parts, span_of_both}
 use Rattle.lc_language.specs.Relations.{IsSubcode}
 use Rattle.lc_language.specs.ConstructionX.{InComplement, InConstructionX}
-use Rattle.lc_combine.specs.Rows.{left_rows}
-use Rattle.lc_combine.proofs.GeneratedLaws.{image_rows, image_span, span_image, span_parted, rows_append, generated_by}
-use Rattle.lc_combine.proofs.SumLaws.{left_linear, shaped}
+use Rattle.lc_linear_laws.proofs.LinearLaws.{image_rows, image_span, span_image}
+use Rattle.lc_linear_laws.proofs.PartLaws.{span_parted, rows_append, left_linear}
+use Rattle.lc_code.specs.Rows.{left_rows}
+use Rattle.lc_code.proofs.GeneratedLaws.{generated_by, shaped}
 use Rattle.lc_relations.proofs.UnionLaws.{shared, shared_rows}
 use Rattle.lc_extend.specs.Rows.{side_rows}
 use Rattle.lc_extend.proofs.RowLaws.{side_words, length_side, combine_side}

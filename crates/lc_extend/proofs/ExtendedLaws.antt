@@ -19,10 +19,9 @@ use Rattle.lc_algebra.proofs.ReducedLaws.{reduced_independent}
 use Rattle.lc_algebra.proofs.DimensionLaws.{dimension_unique}
 use Rattle.lc_constructions.specs.Code.{InCode, IsCode}
 use Rattle.lc_language.specs.ConstructionX.{InComplement, InConstructionX}
-use Rattle.lc_combine.specs.Rows.{left_rows}
-use Rattle.lc_combine.proofs.BoundLaws.{weight_append, bound_of_words}
-use Rattle.lc_combine.proofs.SumLaws.{left_linear, word_append}
-use Rattle.lc_combine.proofs.DimensionLaws.{combine_image, zero_parted, independent_parts, same_rows}
+use Rattle.lc_linear_laws.proofs.PartLaws.{weight_append, bound_of_words, left_linear, word_append, zero_parted, independent_parts}
+use Rattle.lc_linear_laws.proofs.LinearLaws.{combine_image, same_rows}
+use Rattle.lc_code.specs.Rows.{left_rows}
 use Rattle.lc_relations.proofs.UnionLaws.{told, shared, shared_rows, second_of}
 use Rattle.lc_extend.specs.Told.{AreExtendable}
 use Rattle.lc_extend.specs.Rows.{side_rows}

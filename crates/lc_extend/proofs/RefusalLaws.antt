@@ -15,14 +15,13 @@ use Rattle.lc_constructions.specs.declared.refusal.CodeRefusal.{CodeRefusal}
 use Rattle.lc_constructions.specs.declared.refusal.CodeRefusal.TheVariants.{BadLength, FieldsDiffer, LengthsDiffer, InnerDimension}
 use Rattle.lc_constructions.specs.Refusal.{refuse_if, first_refusal}
 use Rattle.lc_constructions.specs.Refusals.{fields_differ, lengths_differ, bad_length}
-use Rattle.lc_constructions.proofs.RefusalLaws.{decided, long_length}
+use Rattle.lc_constructions.proofs.RefusalLaws.{decided, long_length, short_length}
 use Rattle.lc_enumeration.specs.InformationSet.{in_span}
 use Rattle.lc_enumeration.proofs.MemberLaws.{in_span_true, true_in_span}
 use Rattle.lc_language.specs.Refusal.{refuse, refusal_from, when, first_of, from_codes}
 use Rattle.lc_language.specs.Relations.{IsSubcode}
 use Rattle.lc_language.specs.ConstructionX.{has_subcode, not_subcode, unlike_codes, unfit_tail, construction_x_refusals}
 use Rattle.lc_language.proofs.RefusalLaws.{first_from_codes, first_stays, first_behind}
-use Rattle.lc_combine.proofs.RefusalLaws.{short_length}
 use Rattle.lc_relations.proofs.UnionLaws.{shared, shared_rows}
 use Rattle.lc_extend.specs.Told.{told, IsRefusedFirst}
 use Rattle.lc_extend.specs.declared.refusal.ExtensionRefusal.{ExtensionRefusal}

@@ -13,7 +13,7 @@ use Rattle.lc_algebra.specs.Matrix.{AreRows}
 use Rattle.lc_algebra.proofs.WordLaws.{length_scale}
 use Rattle.lc_algebra.proofs.SpanLaws.{combine_is_word}
 use Rattle.lc_constructions.proofs.ClosedLaws.{sum_parts, scale_parts, zero_parts}
-use Rattle.lc_combine.proofs.SumLaws.{word_append}
+use Rattle.lc_linear_laws.proofs.PartLaws.{word_append}
 use Rattle.lc_extend.specs.Rows.{side_rows}
 
 side_next : (us vs : List (List ℕ)) (i : ℕ) → i < length us → i < length vs → side_rows (take (suc i) us) (take (suc i) vs) ≡ side_rows (take i us) (take i vs) ++ (slice_index_or us i [] ++ slice_index_or vs i []) ∷ []

@@ -1,11 +1,10 @@
 //! Rows that generate or check the codes of construction X.
 ghost use Rattle.std.specs.Prelude.{◌≡◌, ◌+◌, ◌≤◌, ◌++◌, map, length, IfOk};
 ghost use Rattle.lc_constructions.specs.Code.{longest};
-ghost use Rattle.lc_combine.specs.Rows.{left_rows};
+ghost use Rattle.lc_code.specs.Rows.{left_rows};
 ghost use Rattle.lc_extend.specs.Rows.{lead_word, side_rows};
 
-use lc_code::Code;
-use lc_combine::{push_left, push_rows};
+use lc_code::{Code, push_left, push_rows};
 use lc_field::NoMemory;
 use lc_vec::{Word, first_nonzero};
 use std::alloc::Global;

@@ -14,7 +14,7 @@ use Rattle.lc_constructions.specs.Code.{InCode, IsCode}
 use Rattle.lc_constructions.specs.Combined.{InDual}
 use Rattle.lc_constructions.specs.Coset.{AreInOneCoset, syndrome, IsParityCheck}
 use Rattle.lc_constructions.proofs.CosetLaws.{syndrome_once}
-use Rattle.lc_combine.proofs.DualLaws.{dual_orthogonal}
+use Rattle.lc_code.proofs.GeneratedLaws.{dual_orthogonal}
 
 no_rows : (P : List ℕ → Type 0) → All P []
 no_rows P k d l = absurd (omega (arith, l))

@@ -17,8 +17,7 @@ use Rattle.lc_algebra.specs.Matrix.{Matrix, AreRows}
 use Rattle.lc_constructions.specs.declared.refusal.CodeRefusal.TheVariants.{BadArgument, LengthsDiffer, FieldTooLarge}
 use Rattle.lc_constructions.specs.Refusal.{refuse_if, first_refusal}
 use Rattle.lc_constructions.specs.Refusals.{are_elements, have_elements, too_large, bad_argument}
-use Rattle.lc_constructions.proofs.RefusalLaws.{elements_told}
-use Rattle.lc_basic.proofs.RefusalLaws.{elements_told as rows_told}
+use Rattle.lc_constructions.proofs.RefusalLaws.{elements_told, rows_told}
 use Rattle.lc_language.specs.Relations.{add_refusals, scale_refusals, distance_refusals, message_refusals, augmented_refusals}
 
 -- ---- sums of words

@@ -27,8 +27,8 @@ use Rattle.lc_algebra.proofs.ReducedLaws.{reduced_unique}
 use Rattle.lc_constructions.specs.Code.{InCode, IsCode}
 use Rattle.lc_constructions.specs.Combined.{InDual}
 use Rattle.lc_language.specs.Relations.{IsSelfOrthogonal, IsSelfDual, IsCyclic, shifted}
+use Rattle.lc_linear_laws.proofs.LinearLaws.{IsLinear, image_span}
 use Rattle.lc_code.proofs.CodeLaws.{orthogonal_dual}
-use Rattle.lc_combine.proofs.GeneratedLaws.{IsLinear, image_span}
 
 -- ---- codes in their dual
 

@@ -11,9 +11,9 @@ use Rattle.lc_constructions.specs.Code.{InCode, IsCode}
 use Rattle.lc_constructions.specs.Basic.{GeneratedBy}
 use Rattle.lc_constructions.proofs.ClosedLaws.{span_of_both}
 use Rattle.lc_language.specs.Relations.{InAugmented, InUnion}
+use Rattle.lc_linear_laws.proofs.PartLaws.{span_parted, rows_append}
 use Rattle.lc_code.proofs.CodeLaws.{same_code}
-use Rattle.lc_combine.proofs.GeneratedLaws.{span_parted, rows_append, generated_by}
-use Rattle.lc_combine.proofs.SumLaws.{shaped}
+use Rattle.lc_code.proofs.GeneratedLaws.{generated_by, shaped}
 
 pub augmented_members : (C : Matrix) (rows : List (List ℕ)) (w : List ℕ) → AreRows C.field C.columns rows → InSpan C.field C.columns (C.rows ++ rows) w ↔ InAugmented C rows w
 augmented_members C rows w r =

@@ -27,8 +27,8 @@ use Rattle.lc_constructions.specs.Combined.{InDual, InIntersection}
 use Rattle.lc_constructions.proofs.ClosedLaws.{span_of_both}
 use Rattle.lc_language.specs.Relations.{InAugmented, InUnion}
 use Rattle.lc_infoset.proofs.GreedyLaws.{independent_cons}
+use Rattle.lc_linear_laws.proofs.PartLaws.{span_parted, rows_append}
 use Rattle.lc_code.proofs.CodeLaws.{same_code}
-use Rattle.lc_combine.proofs.GeneratedLaws.{span_parted, rows_append}
 
 pub told : (f : FieldName) (n : ℕ) (P : List ℕ → Type 0) (C : Matrix) (w : List ℕ) → IsCode f n P C → InCode C w ↔ (IsWord f n w × P w)
 told f n P C w c = (

@@ -13,7 +13,7 @@ use lc_field::Field;
 use lc_vec::{Word, fits};
 
 // Checks two codes that are compared or added.
-#[tactic(auto, using(lc_combine::proofs::RefusalLaws::check_intersection_laws))]
+#[tactic(auto, using(lc_constructions::proofs::RefusalLaws::alike_or_refused))]
 pub(crate) fn check_pair(a: &Code, b: &Code) -> Result<(), CodeRefusal>
     ensures is { IsChecked result (first_refusal (intersection_refusals a.now b.now)) }
     ensures field { IfOk result (λ _. a.now.field ≡ b.now.field) }

@@ -7,7 +7,7 @@ ghost use Rattle.lc_constructions.specs.Refusals.{intersection_refusals};
 ghost use Rattle.lc_language.specs.Relations.{InAugmented, InUnion, augmented_refusals};
 
 use crate::refusal::{check_augmented, check_pair};
-use lc_code::{Code, CodeRefusal};
+use lc_code::{Code, CodeRefusal, push_rows};
 use lc_field::NoMemory;
 use lc_vec::Word;
 use std::alloc::Global;
@@ -63,16 +63,6 @@ fn code_with_rows(alloc: Global, code: &Code, more: &[Word]) -> Result<Code, NoM
     push_rows(alloc, code, &mut rows)?;
     push_words(alloc, more, &mut rows)?;
     Ok(Code::from_rows(alloc, code.field(), code.length(), &rows)?)
-}
-
-// Pushes each row of the code.
-fn push_rows(alloc: Global, code: &Code, rows: &mut Vec<Word>) -> Result<(), NoMemory>
-    ensures pushed { IfOk result (λ _. rows.new.items ≡ rows.old.items ++ code.now.rows) }
-{
-    for i in 0..code.dimension() {
-        rows.push(Word::from_slice(alloc, code.row(i))?)?;
-    }
-    Ok(())
 }
 
 // Pushes a copy of each word.

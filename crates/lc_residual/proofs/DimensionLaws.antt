@@ -22,9 +22,8 @@ use Rattle.lc_algebra.proofs.DimensionLaws.{dimension_unique}
 use Rattle.lc_constructions.specs.Code.{InCode, IsCode}
 use Rattle.lc_infoset.proofs.GreedyLaws.{independent_cons, other_in_span}
 use Rattle.lc_language.specs.Residual.{InResidual}
-use Rattle.lc_combine.proofs.GeneratedLaws.{IsLinear, image_rows, image_span, span_image, span_parted, rows_append}
-use Rattle.lc_combine.proofs.SumLaws.{word_append}
-use Rattle.lc_combine.proofs.DimensionLaws.{combine_image, zero_parted}
+use Rattle.lc_linear_laws.proofs.LinearLaws.{IsLinear, image_rows, image_span, span_image, combine_image}
+use Rattle.lc_linear_laws.proofs.PartLaws.{span_parted, rows_append, word_append, zero_parted}
 use Rattle.lc_relations.proofs.UnionLaws.{extended}
 use Rattle.lc_residual.proofs.WeightLaws.{weights_added, sum_at_least, removed, residual_linear, residual_kept, multiples_in}
 

@@ -24,11 +24,11 @@ use Rattle.lc_constructions.specs.Code.{is_length, InCode, IsCode}
 use Rattle.lc_constructions.specs.Combined.{InPunctured}
 use Rattle.lc_constructions.specs.Refusal.{refuse_if, first_refusal, IsRefusedAs, RefusesFirst}
 use Rattle.lc_constructions.specs.Refusals.{is_rising, bad_length, deleted_refusals}
+use Rattle.lc_constructions.proofs.RefusalLaws.{short_length}
 use Rattle.lc_infoset.proofs.SetLaws.{filter_passes}
 use Rattle.lc_infoset.proofs.AnswerLaws.{filter_keeps}
 use Rattle.lc_infoset.proofs.NextLaws.{filter_first, filter_more, filter_same}
 use Rattle.lc_language.specs.Residual.{support, InResidual, no_coordinate}
-use Rattle.lc_combine.proofs.RefusalLaws.{short_length}
 use Rattle.lc_macwilliams.proofs.CountLaws.{sum_first}
 
 -- ---- the coordinates of the support

@@ -28,7 +28,7 @@ use Rattle.lc_constructions.specs.Combined.{without_from, without}
 use Rattle.lc_constructions.proofs.WithoutLaws.{kept, taken}
 use Rattle.lc_language.specs.Relations.{IsSameCode}
 use Rattle.lc_language.specs.Residual.{support, InResidual}
-use Rattle.lc_combine.proofs.GeneratedLaws.{IsLinear}
+use Rattle.lc_linear_laws.proofs.LinearLaws.{IsLinear}
 use Rattle.lc_combine.proofs.DeletedLaws.{deleted_linear}
 use Rattle.lc_combine.proofs.ChangedBounds.{weight_left}
 use Rattle.lc_relations.proofs.UnionLaws.{told}

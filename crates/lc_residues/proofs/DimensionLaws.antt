@@ -24,7 +24,6 @@ use Rattle.lc_algebra.proofs.ReducedLaws.{reduced_independent, symbol_of_combina
 use Rattle.lc_algebra.proofs.DimensionLaws.{dimension_unique, independent_at_most}
 use Rattle.lc_basic.proofs.FamilyLaws.{one_row, no_rows, index_ones, ones_constant}
 use Rattle.lc_code.proofs.CoordinateLaws.{told_all}
-use Rattle.lc_combine.proofs.GeneratedLaws.{span_parted, rows_append, image_span, span_image}
 use Rattle.lc_constructions.specs.Code.{InCode, IsCode}
 use Rattle.lc_constructions.specs.Basic.{IsConstant}
 use Rattle.lc_constructions.proofs.ClosedLaws.{span_of_both}
@@ -34,6 +33,8 @@ use Rattle.lc_infoset.proofs.ExistLaws.{unit_is_word}
 use Rattle.lc_infoset.proofs.GreedyLaws.{independent_cons}
 use Rattle.lc_relations.proofs.UnionLaws.{extended, behind, second_of}
 use Rattle.lc_language.specs.QuadraticResidues.{is_odd_prime, is_residue, is_residue_length, is_period, residue_word, cyclic_shift, residue_rows, InResidueCode, multiplied, period, IsQuadraticResidueCode}
+use Rattle.lc_linear_laws.proofs.PartLaws.{span_parted, rows_append}
+use Rattle.lc_linear_laws.proofs.LinearLaws.{image_span, span_image}
 use Rattle.lc_residues.specs.Periods.{other_period}
 use Rattle.lc_residues.proofs.ResidueTests.{prime_parts}
 use Rattle.lc_residues.proofs.CodeLaws.{residue_word_is, residue_words}

@@ -8,11 +8,11 @@ use Rattle.lc_algebra.specs.declared.FieldName.{FieldName}
 use Rattle.lc_algebra.specs.Matrix.{Matrix}
 use Rattle.lc_algebra.specs.Span.{InSpan}
 use Rattle.lc_algebra.proofs.SpanLaws.{span_word}
-use Rattle.lc_combine.proofs.GeneratedLaws.{IsLinear}
 use Rattle.lc_constructions.specs.Code.{InCode, IsCode}
 use Rattle.lc_relations.proofs.StructureLaws.{shift_linear}
 use Rattle.lc_language.specs.Relations.{IsCyclic, shifted}
 use Rattle.lc_language.specs.QuadraticResidues.{is_odd_prime, is_residue, residue_word, residue_rows, InResidueCode, multiplied}
+use Rattle.lc_linear_laws.proofs.LinearLaws.{IsLinear}
 use Rattle.lc_residues.specs.Periods.{other_period}
 use Rattle.lc_residues.proofs.CodeLaws.{residue_words}
 use Rattle.lc_residues.proofs.PickLaws.{multiplied_linear, span_kept}

@@ -13,9 +13,9 @@ use Rattle.lc_algebra.specs.Span.{below, InSpan}
 use Rattle.lc_algebra.specs.Matrix.{AreRows}
 use Rattle.lc_algebra.proofs.WordLaws.{word_symbol, index_word_sum, index_scale, index_zero_word, length_word_sum, length_scale, length_zero_word}
 use Rattle.lc_algebra.proofs.SpanLaws.{length_below, index_below, span_within}
-use Rattle.lc_combine.proofs.GeneratedLaws.{IsLinear, image_span}
 use Rattle.lc_relations.proofs.StructureLaws.{mapped}
 use Rattle.lc_language.specs.QuadraticResidues.{cyclic_shift, multiplied}
+use Rattle.lc_linear_laws.proofs.LinearLaws.{IsLinear, image_span}
 use Rattle.lc_residues.proofs.CodeLaws.{mapped_word}
 
 unfoldable pub picked : ℕ → (ℕ → ℕ) → List ℕ → List ℕ

@@ -16,10 +16,10 @@ use Rattle.lc_algebra.specs.Field.{shape_of, size, add, pow}
 use Rattle.lc_algebra.specs.Word.{scale}
 use Rattle.lc_algebra.specs.Span.{below}
 use Rattle.lc_algebra.proofs.PowerLaws.{pow_one, pow_mul}
-use Rattle.lc_combine.specs.Replaced.{power_multiples, outer_rows}
-use Rattle.lc_combine.proofs.ReplacedLaws.{power_none}
 use Rattle.lc_code.specs.Coordinates.{relative_degree}
 use Rattle.lc_language.specs.Trace.{extension_degree, trace_sum, IsTrace}
+use Rattle.lc_linear_laws.specs.Powers.{power_multiples, outer_rows}
+use Rattle.lc_linear_laws.proofs.PowerSpan.{power_none}
 use Rattle.lc_trace.specs.Traces.{AreTracesBelow, AreTraces, traced, traced_multiples, traced_rows}
 
 pub rows_none : (K : FieldName) (s : ℕ) (ts : List ℕ) (us rows : List (List ℕ)) → rows ≡ [] → rows ≡ traced_rows K s ts (take 0 us)

@@ -28,12 +28,10 @@ use Rattle.lc_constructions.specs.Combined.{InDual}
 use Rattle.lc_code.specs.Coordinates.{relative_degree, element_of}
 use Rattle.lc_code.proofs.CoordinateTests.{element_covered, fits_digits}
 use Rattle.lc_code.proofs.CodeLaws.{same_code, orthogonal_dual}
-use Rattle.lc_combine.specs.Replaced.{power_multiples, outer_rows}
-use Rattle.lc_combine.proofs.GeneratedLaws.{generated_by}
-use Rattle.lc_combine.proofs.SumLaws.{shaped}
-use Rattle.lc_combine.proofs.DualLaws.{dual_orthogonal}
-use Rattle.lc_combine.proofs.PowerSpan.{IsClosedOver, multiple_by_powers, closed_over_span, closed_span}
+use Rattle.lc_code.proofs.GeneratedLaws.{generated_by, dual_orthogonal, shaped}
 use Rattle.lc_language.specs.Trace.{IsTrace, IsTraceWord, InTrace, InSubfieldSubcode}
+use Rattle.lc_linear_laws.specs.Powers.{power_multiples, outer_rows}
+use Rattle.lc_linear_laws.proofs.PowerSpan.{IsClosedOver, multiple_by_powers, closed_over_span, closed_span}
 use Rattle.lc_trace.specs.Traces.{AreTraces, traced, traced_rows}
 use Rattle.lc_trace.proofs.TraceLaws.{trace_once, trace_told, trace_zero, word_once, word_added, word_scaled, word_zero, word_inside, word_exists, dot_trace, traces_closed}
 

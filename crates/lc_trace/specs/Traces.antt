@@ -8,7 +8,7 @@ use Rattle.std.specs.Prelude.{◌≡◌, ℕ, ◌<◌, List, length, map, slice_
 use Rattle.lc_algebra.specs.declared.FieldName.{FieldName}
 use Rattle.lc_algebra.specs.Field.{size}
 use Rattle.lc_language.specs.Trace.{IsTrace}
-use Rattle.lc_combine.specs.Replaced.{power_multiples, outer_rows}
+use Rattle.lc_linear_laws.specs.Powers.{power_multiples, outer_rows}
 
 pub record AreTracesBelow (F K : FieldName) (n : ℕ) (ts : List ℕ) : Type 0 where
   pub long : length ts ≡ n

@@ -1,6 +1,7 @@
 use Rattle.std.proofs.Common.{ap, sym, subst, ◌∙◌, length, slice_index_or, [], arith}
 use Rattle.lc_algebra.specs.Word.{IsWord, scale}
-use Rattle.lc_combine.proofs.ReplacedLaws.{written, power_made, power_word, multiples_more}
+use Rattle.lc_linear_laws.proofs.PowerSpan.{written, power_made, power_word}
+use Rattle.lc_combine.proofs.ReplacedLaws.{multiples_more}
 use Rattle.lc_combine.proofs.concatenation.push_multiples.Goals as goal
 
 pub loop-t-preserved : goal.loop-t-preserved

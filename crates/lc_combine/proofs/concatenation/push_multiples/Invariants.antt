@@ -1,7 +1,8 @@
 use Rattle.std.proofs.Common.{◌≡◌, List, ℕ, ◌++◌, slice_index_or, []}
 use Rattle.lc_algebra.specs.Field.{shape_of, pow}
 use Rattle.lc_algebra.specs.Word.{IsWord, scale}
-use Rattle.lc_combine.specs.Replaced.{power_multiples, AreReplaced}
+use Rattle.lc_linear_laws.specs.Powers.{power_multiples}
+use Rattle.lc_combine.specs.Replaced.{AreReplaced}
 use Rattle.lc_combine.proofs.concatenation.push_multiples.Given as goal
 
 abbrev pub invariant-loop-t : goal.invariant-loop-t

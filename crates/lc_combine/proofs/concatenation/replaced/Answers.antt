@@ -1,5 +1,6 @@
 use Rattle.std.proofs.Common.{ap, ◌∙◌, length, arith}
-use Rattle.lc_combine.proofs.ReplacedLaws.{replaced_made, written}
+use Rattle.lc_linear_laws.proofs.PowerSpan.{written}
+use Rattle.lc_combine.proofs.ReplacedLaws.{replaced_made}
 use Rattle.lc_combine.proofs.concatenation.replaced.Goals as goal
 
 pub returns : goal.returns

@@ -1,5 +1,6 @@
 use Rattle.std.proofs.Common.{length, take}
-use Rattle.lc_combine.specs.Replaced.{outer_rows, AreReplaced}
+use Rattle.lc_linear_laws.specs.Powers.{outer_rows}
+use Rattle.lc_combine.specs.Replaced.{AreReplaced}
 use Rattle.lc_combine.proofs.concatenation.replaced_rows.Given as goal
 
 abbrev pub invariant-loop-i : goal.invariant-loop-i

@@ -1,6 +1,6 @@
 use Rattle.std.proofs.Common.{ap, sym, subst, ◌∙◌, length, slice_index_or, [], arith}
 use Rattle.lc_algebra.specs.Word.{IsWord, scale}
-use Rattle.lc_combine.proofs.ReplacedLaws.{written, power_made, power_word}
+use Rattle.lc_linear_laws.proofs.PowerSpan.{written, power_made, power_word}
 use Rattle.lc_trace.proofs.RowLaws.{multiples_more}
 use Rattle.lc_trace.proofs.trace.push_multiples.Goals as goal
 

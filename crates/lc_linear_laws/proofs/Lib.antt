@@ -1,0 +1,3 @@
+pub mod LinearLaws
+pub mod PartLaws
+pub mod PowerSpan
