@@ -15,7 +15,8 @@ use crate::sums::{multiples_of, put_multiple};
 use crate::walk::zeros;
 use lc_field::NoMemory;
 use lc_matrix::Matrix;
-use lc_planes::{pack, pack_words, places_apart, tail_rows, words_of};
+use lc_planes::{pack, pack_words, places_apart};
+use lc_span::{tail_rows, words_of};
 use lc_vec::Word;
 use std::alloc::Global;
 

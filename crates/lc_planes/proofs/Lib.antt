@@ -2,4 +2,3 @@ pub mod PlaneLaws
 pub mod BlockLaws
 pub mod ApartLaws
 pub mod PackingLaws
-pub mod WordLaws

@@ -31,7 +31,7 @@ use Rattle.lc_weights.specs.Counts.{apart_count, block_count, words_counted, IsR
 use Rattle.lc_weights.proofs.LeadLaws.{sum_scaled, sum_of_leads}
 use Rattle.lc_planes.proofs.PackingLaws.{places_are}
 use Rattle.lc_weights.proofs.WordLaws.{words_apart}
-use Rattle.lc_planes.proofs.WordLaws.{words_are_words}
+use Rattle.lc_span.proofs.WordLaws.{words_are_words}
 
 -- sums over two lists, entry by entry
 sum_matched : {X Y : Type 0} (g : X → ℕ) (h : Y → ℕ) (d : X) (e : Y) (xs : List X) (ys : List Y) → length xs ≡ length ys → ((i : ℕ) → i < length ys → g (slice_index_or xs i d) ≡ h (slice_index_or ys i e)) → sum_by g xs ≡ sum_by h ys

@@ -4,7 +4,7 @@ ghost use Rattle.lc_weights.specs.Leads.{leads};
 
 use lc_code::Code;
 use lc_field::NoMemory;
-use lc_planes::{push_sums, words_of};
+use lc_span::{push_sums, words_of};
 use lc_vec::Word;
 use std::alloc::Global;
 

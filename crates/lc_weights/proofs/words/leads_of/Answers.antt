@@ -1,6 +1,6 @@
 use Rattle.std.proofs.Common.{◌≡◌, ◌+◌, ℕ, List, subst, arith}
 use Rattle.lc_algebra.specs.Matrix.{Matrix}
-use Rattle.lc_planes.proofs.WordLaws.{words_between, between_are_rows}
+use Rattle.lc_span.proofs.WordLaws.{words_between, between_are_rows}
 use Rattle.lc_weights.proofs.LeadLaws.{leads_more, leads_all}
 use Rattle.lc_weights.proofs.words.leads_of.Goals as goal
 

@@ -1,6 +1,6 @@
 use Rattle.std.proofs.Common.{◌∙◌, arith}
-use Rattle.lc_planes.proofs.WordLaws.{multiples_none, multiples_more, sums_fit}
-use Rattle.lc_planes.proofs.words.with_row.Goals as goal
+use Rattle.lc_span.proofs.WordLaws.{multiples_none, multiples_more, sums_fit}
+use Rattle.lc_span.proofs.words.with_row.Goals as goal
 
 pub loop-c-init : goal.loop-c-init
 loop-c-init c = record {

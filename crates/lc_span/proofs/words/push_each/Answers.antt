@@ -1,8 +1,8 @@
 use Rattle.std.proofs.Common.{ap, ◌∙◌, []}
 use Rattle.std.proofs.lemmas.List.{get_or_default}
 use Rattle.lc_algebra.specs.Word.{word_sum}
-use Rattle.lc_planes.proofs.WordLaws.{sums_more}
-use Rattle.lc_planes.proofs.words.push_each.Goals as goal
+use Rattle.lc_span.proofs.WordLaws.{sums_more}
+use Rattle.lc_span.proofs.words.push_each.Goals as goal
 
 pub loop-i-preserved : goal.loop-i-preserved
 loop-i-preserved c =

@@ -1,6 +1,6 @@
 use Rattle.std.proofs.Common.{◌≡◌, ◌≤◌}
-use Rattle.lc_planes.proofs.WordLaws.{words_between}
-use Rattle.lc_planes.proofs.words.words_of.Given as goal
+use Rattle.lc_span.proofs.WordLaws.{words_between}
+use Rattle.lc_span.proofs.words.words_of.Given as goal
 
 abbrev pub invariant-loop-i : goal.invariant-loop-i
 invariant-loop-i l = record {

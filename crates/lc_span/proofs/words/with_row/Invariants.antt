@@ -1,7 +1,7 @@
 use Rattle.std.proofs.Common.{◌≡◌, ◌≤◌, ◌++◌, map, flat_map}
 use Rattle.lc_algebra.specs.Word.{word_sum, scale}
 use Rattle.lc_algebra.specs.Span.{below}
-use Rattle.lc_planes.proofs.words.with_row.Given as goal
+use Rattle.lc_span.proofs.words.with_row.Given as goal
 
 abbrev pub invariant-loop-c : goal.invariant-loop-c
 invariant-loop-c l = record {

@@ -1,7 +1,7 @@
 use Rattle.std.proofs.Common.{refl, ap, ◌∙◌, arith}
 use Rattle.lc_algebra.specs.Word.{zero_word}
-use Rattle.lc_planes.proofs.WordLaws.{rows_none, rows_more, between_are_rows}
-use Rattle.lc_planes.proofs.words.words_of.Goals as goal
+use Rattle.lc_span.proofs.WordLaws.{rows_none, rows_more, between_are_rows}
+use Rattle.lc_span.proofs.words.words_of.Goals as goal
 
 pub loop-i-init : goal.loop-i-init
 loop-i-init c = record {

@@ -1,5 +1,5 @@
 use Rattle.std.proofs.Common.{◌≡◌, ◌-◌, ◌^◌, ◌≤◌}
-use Rattle.lc_planes.proofs.words.tail_rows.Given as goal
+use Rattle.lc_span.proofs.words.tail_rows.Given as goal
 
 abbrev pub invariant-loop-rows : goal.invariant-loop-rows
 invariant-loop-rows l = record {
