@@ -1,5 +1,5 @@
 //! What a search is made of.
-ghost use Rattle.std.specs.Prelude.{◌≡◌, ℕ, ◌≤◌, ◌<◌, length, All, IfOk, IfSome, option_map};
+ghost use Rattle.std.specs.Prelude.{◌≡◌, ℕ, ◌≤◌, ◌<◌, None, length, All, IfOk, IsOk, IfSome, option_map};
 ghost use Rattle.lc_algebra.specs.Word.{weight as weight_of};
 ghost use Rattle.lc_algebra.specs.Divisor.{divisor_of};
 ghost use Rattle.lc_enumeration.specs.Search.{set_count, ranks_of, word_at as word_at_place, bound_of};
@@ -38,7 +38,8 @@ pub fn plan_of(alloc: Global, sets: &Sets) -> Result<Plan, NoMemory>
     )
 }
 
-/// The weight of the word at a place; None if there is none. The plan goes through all sets. Fails if memory runs out.
+/// The weight of the word at a place; None if there is none, and then no memory is taken. The plan goes through all sets. Fails if
+/// memory runs out.
 #[tactic(auto, using(crate::proofs::StateLaws::plan_for, crate::proofs::StateLaws::light_word))]
 pub fn weight_at(
     alloc: Global,
@@ -48,6 +49,7 @@ pub fn weight_at(
 ) -> Result<Option<u64>, NoMemory>
     requires plan { plan.now ≡ whole_plan sets.now }
     ensures is { IfOk result (λ w. w ≡ option_map weight_of (word_at_place sets.now (set_count sets.now) place)) }
+    ensures none { word_at_place sets.now (set_count sets.now) place ≡ None → IsOk result }
     ensures few { IfOk result (λ w. IfSome w (λ n. n ≤ 255)) }
 {
     let _rows = sets.dimension();
