@@ -4,7 +4,6 @@ ghost use Rattle.std.specs.List.{list_all};
 ghost use Rattle.std.specs.List.Sorted.{IsStrictlyIncreasing};
 ghost use Rattle.serde_json.specs.Find.{as_object};
 ghost use Rattle.serde_json.specs.View.{view};
-ghost use Rattle.lc_constructions.specs.Refusals.{is_rising};
 ghost use Rattle.lc_enumeration.specs.InformationSet.{is_member};
 ghost use Rattle.lc_formats.specs.Certificate as formats;
 ghost use Rattle.lc_formats.specs.Json.{list_at, each, provided, member_count};
@@ -15,23 +14,11 @@ ghost use Rattle.lc_certificate.specs.Reading.{IsRefusedAs, way_at};
 
 use crate::certificate::{Proof, SetClaim};
 use crate::refusal::CertRefusal;
+use lc_constructions::is_rising;
 use lc_field::NoMemory;
 use lc_json::{array_at, has_keys, is_same, list_at, number_at, text_at};
 use serde_json::Value;
 use std::alloc::Global;
-
-// Whether each coordinate is below the next one.
-#[tactic(auto, using(lc_constructions::proofs::RisingLaws::is_rising_laws))]
-fn is_rising(places: &[u64]) -> bool
-    ensures is { result ≡ is_rising places.now }
-{
-    for i in 1..places.len() {
-        if places[i] <= places[i - 1] {
-            return false;
-        }
-    }
-    true
-}
 
 // Whether all numbers are below n.
 fn are_below(n: u64, places: &[u64]) -> bool

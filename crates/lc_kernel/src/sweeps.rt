@@ -21,7 +21,7 @@ use crate::grid::Grid;
 use crate::multiples::nonzero;
 use lc_distances::{Halves, joined, nearest, sum_planes};
 use lc_infoset::Sets;
-use lc_place::Spot;
+use lc_place::{Spot, move_on};
 
 /// A way through the words of a block, support by support, at one part of the columns outside the basis: the block, the
 /// table of its set, the index of the part, and that of the set.
@@ -233,21 +233,6 @@ fn next_support(support: &mut [usize], k: usize) -> Option<usize>
         }
     }
     None
-}
-
-// Moves the place at an index on by 1, and those after it to follow it without a gap.
-fn move_on(support: &mut [usize], place: usize)
-    requires inside { place < length support.old }
-    requires room { slice_index support.old place + (length support.old - place) < 256 }
-    ensures before { (u : ℕ) → u < place → slice_index support.new u ≡ slice_index support.old u }
-    ensures later { (u : ℕ) → place ≤ u → u < length support.old →
-        slice_index support.new u ≡ slice_index support.old place + 1 + (u - place) }
-{
-    let mut column = support[place];
-    for later in place..support.len() {
-        column += 1;
-        support[later] = column;
-    }
 }
 
 /// Goes from a list of a support, with so many lists left, to the first one of the next support, and makes its

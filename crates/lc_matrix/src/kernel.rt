@@ -164,7 +164,7 @@ fn read_free(places: &[usize], j: usize, free: &mut Vec<usize>) -> Result<(), No
 }
 
 // Whether j is one of the places.
-fn holds(places: &[usize], j: usize) -> bool
+pub(crate) fn holds(places: &[usize], j: usize) -> bool
     ensures yes { OnTrue result ((k : ℕ) × (k < length places.now) × (slice_index places.now k ≡ j)) }
     ensures no { OnFalse result ((k : ℕ) → k < length places.now → slice_index places.now k ≢ j) }
 {

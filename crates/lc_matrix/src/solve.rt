@@ -1,10 +1,11 @@
 //! Linear systems.
-ghost use Rattle.std.specs.Prelude.{◌≡◌, ℕ, ◌+◌, ◌^◌, ◌<◌, ◌↔◌, List, [], ◌∷◌, ◌++◌, length, slice_index, slice_index_or, Contains, EachIndex, IfOk, IfSome, IsSome, IsTrue};
+ghost use Rattle.std.specs.Prelude.{◌≡◌, ℕ, ◌+◌, ◌^◌, ◌<◌, ◌↔◌, List, [], ◌∷◌, ◌++◌, length, slice_index, slice_index_or, EachIndex, IfOk, IfSome, IsSome};
 ghost use Rattle.lc_algebra.specs.Field.{size};
 ghost use Rattle.lc_algebra.specs.Word.{IsWord};
 ghost use Rattle.lc_algebra.specs.Matrix.{HasPivots};
 ghost use Rattle.lc_matrix.specs.Solve.{augmented, Solves, IsSolutionWord};
 
+use crate::kernel::holds;
 use crate::matrix::Matrix;
 use lc_field::NoMemory;
 use lc_vec::Word;
@@ -90,11 +91,4 @@ impl Matrix {
         }
         Ok(Word::from_vec(word))
     }
-}
-
-// Whether the column is one of the places.
-fn holds(places: &[usize], c: usize) -> bool
-    ensures is { IsTrue result ↔ Contains places.now c }
-{
-    places.contains(&c)
 }

@@ -11,6 +11,7 @@ mod spot;
 mod table;
 
 pub use lc_field::NoMemory;
+pub use order::move_on;
 pub use phase::Phase;
 pub use plan::Plan;
 pub use spot::Spot;

@@ -80,8 +80,9 @@ pub(crate) fn last_movable(support: &[usize], k: usize) -> Option<usize>
     None
 }
 
-/// Moves the place at `place` on by 1, and those after it to follow it without a gap.
-pub(crate) fn move_on(support: &mut [usize], place: usize)
+/// Moves the coordinate at index `place` of a support on by 1, and those after it to follow it without a gap. The last of them is below
+/// 256 then, which the caller sees to.
+pub fn move_on(support: &mut [usize], place: usize)
     requires inside { place < length support.old }
     requires room { slice_index support.old place + (length support.old - place) < 256 }
     ensures before { (u : ℕ) → u < place → slice_index support.new u ≡ slice_index support.old u }

@@ -1,5 +1,0 @@
-use Rattle.std.proofs.Common.{ℕ, ◌-◌, ◌<◌, slice_index}
-use Rattle.lc_certificate.proofs.sets.is_rising.Given as goal
-
-abbrev pub invariant-loop-i : goal.invariant-loop-i
-invariant-loop-i l = (j : ℕ) → 0 < j → j < l.i → slice_index l.places (j - 1) < slice_index l.places j
