@@ -101,28 +101,33 @@ pub fn matrix_of(alloc: Global, q: u64, n: usize, rows: Rows) -> Result<Matrix, 
     matrix_of_words(alloc, q, n, &words)
 }
 
-// The code over q elements of words of n symbols. Refuses with BadLength if they aren't, or if there is no such code.
-fn code_of_words(alloc: Global, q: u64, n: usize, words: &[Word]) -> Result<Code, CodeRefusal> {
-    let Ok(field) = Field::of(alloc, q) else {
-        return Err(CodeRefusal::BadLength);
-    };
-    if !field.is_symbol() || n < 1 || n > 255 || !are_words(&field, n, words) {
+// The code over a field of words of n symbols. Refuses with BadLength if they aren't, or if there is no such code.
+fn code_over(alloc: Global, field: &Field, n: usize, words: &[Word]) -> Result<Code, CodeRefusal> {
+    if !field.is_symbol() || n < 1 || n > 255 || !are_words(field, n, words) {
         return Err(CodeRefusal::BadLength);
     }
-    Ok(Code::from_rows(alloc, &field, n, words)?)
+    Ok(Code::from_rows(alloc, field, n, words)?)
+}
+
+/// The code over q elements of words of n symbols. Refuses with BadLength if they aren't, or if there is no such code.
+pub fn code_of(alloc: Global, q: u64, n: usize, words: &[Word]) -> Result<Code, CodeRefusal> {
+    match Field::of(alloc, q) {
+        Ok(field) => code_over(alloc, &field, n, words),
+        Err(_refusal) => Err(CodeRefusal::BadLength),
+    }
 }
 
 /// The code over q elements of rows that are words of n symbols. Refuses with BadLength if they aren't, or if there is no such
 /// code.
 pub fn generated(alloc: Global, q: u64, n: usize, rows: Rows) -> Result<Code, CodeRefusal> {
     let words = words_of(alloc, rows)?;
-    code_of_words(alloc, q, n, &words)
+    code_of(alloc, q, n, &words)
 }
 
 /// The same for the words of a text.
 pub fn generated_by(alloc: Global, q: u64, n: usize, text: &str) -> Result<Code, CodeRefusal> {
     let words = words_in(alloc, text)?;
-    code_of_words(alloc, q, n, &words)
+    code_of(alloc, q, n, &words)
 }
 
 /// Whether these are the rows of the code.
