@@ -1,53 +1,74 @@
 //! Tests of codes from codes, by their lengths and dimensions.
-use crate::shapes::{Shape, dual, hamming_over, repetition_over, shape};
-use lc_basic::reed_muller;
+use crate::shapes::{Made, Shape, made_over, shape};
 use lc_code::{Code, CodeRefusal};
 use lc_combine::{
     concatenated, direct_product, direct_sum, even_weight, extended, intersection, punctured,
     shortened, uuv,
 };
-use lc_cyclic::{binary_golay, reed_solomon, ternary_golay};
+use lc_cyclic::{binary_golay, ternary_golay};
 use lc_field::NoMemory;
+use lc_relations::{augmented, union_of};
 use std::alloc::Global;
+use test_rows::{Rows, words_of};
 
 // A code made from one code.
-#[derive(Clone, Copy)]
 enum Change {
     Extended,
     Even,
     Punctured(&'static [u64]),
     Shortened(&'static [u64]),
+    Augmented(Rows),
 }
 
-fn changed(alloc: Global, code: &Code, change: Change) -> Result<Code, CodeRefusal> {
+fn augmented_by(alloc: Global, code: &Code, rows: Rows) -> Result<Code, CodeRefusal> {
+    let words = words_of(alloc, rows)?;
+    augmented(alloc, code, &words)
+}
+
+fn changed(alloc: Global, code: &Code, change: &Change) -> Result<Code, CodeRefusal> {
     match change {
         Change::Extended => extended(alloc, code),
         Change::Even => even_weight(alloc, code),
         Change::Punctured(coordinates) => punctured(alloc, code, coordinates),
         Change::Shortened(coordinates) => shortened(alloc, code, coordinates),
+        Change::Augmented(rows) => augmented_by(alloc, code, rows),
     }
 }
 
 // What is made of the binary Hamming code of length 7.
-static CHANGES: [(Change, Shape); 5] = [
+static CHANGES: [(Change, Shape); 9] = [
     (Change::Extended, Ok((8, 4))),
     (Change::Even, Ok((7, 3))),
     (Change::Punctured(&[0]), Ok((6, 4))),
     (Change::Shortened(&[0]), Ok((6, 3))),
     (Change::Punctured(&[1, 1]), Err(CodeRefusal::BadPositions)),
+    // the word of ones is in the code, and no word of weight 1
+    (Change::Augmented(&[&[1, 1, 1, 1, 1, 1, 1]]), Ok((7, 4))),
+    (Change::Augmented(&[&[1, 0, 0, 0, 0, 0, 0]]), Ok((7, 5))),
+    (Change::Augmented(&[]), Ok((7, 4))),
+    (Change::Augmented(&[&[2]]), Err(CodeRefusal::LengthsDiffer)),
 ];
 
-fn changed_hamming(alloc: Global, change: Change) -> Shape {
-    let code = hamming_over(alloc, 2, 3)?;
-    shape(changed(alloc, &code, change))
+// Whether it is so of this code.
+fn are_changed(alloc: Global, code: &Code) -> bool {
+    for row in &CHANGES {
+        if shape(changed(alloc, code, &row.0)) != row.1 {
+            return false;
+        }
+    }
+    true
+}
+
+fn are_changes_of_hamming(alloc: Global) -> bool {
+    match made_over(alloc, 2, &Made::Hamming(3)) {
+        Ok(code) => are_changed(alloc, &code),
+        Err(_) => false,
+    }
 }
 
 #[test]
 fn codes_from_a_hamming_code(rt: HostRuntime) {
-    for row in &CHANGES {
-        let made = changed_hamming(rt.alloc(), row.0);
-        assert!(rt; made == row.1);
-    }
+    assert!(rt; are_changes_of_hamming(rt.alloc()));
 }
 
 // The length, the dimension and the divisor of the extended code.
@@ -67,114 +88,134 @@ fn extended_golay_codes(rt: HostRuntime) {
     assert!(rt; binary == Ok((24, 12, 4)) && ternary == Ok((12, 6, 3)));
 }
 
-// A code that others are made from.
-#[derive(Clone, Copy)]
-enum Part {
-    // The binary repetition code of this length.
-    Repetition(u64),
-    // The words of even weight of this length.
-    Even(u64),
-    // The binary Reed-Muller code of this order in two variables.
-    ReedMuller(u64),
-    // The Reed-Solomon code of length 3 and dimension 2 over 4 elements.
-    Quaternary,
-}
-
-fn quaternary(alloc: Global) -> Result<Code, CodeRefusal> {
-    let formed = reed_solomon(alloc, 3, 2)?;
-    Ok(formed.code)
-}
-
-fn code_of(alloc: Global, part: Part) -> Result<Code, CodeRefusal> {
-    match part {
-        Part::Repetition(n) => repetition_over(alloc, 2, n),
-        Part::Even(n) => dual(alloc, repetition_over(alloc, 2, n)),
-        Part::ReedMuller(r) => reed_muller(alloc, r, 2),
-        Part::Quaternary => quaternary(alloc),
-    }
-}
-
 // A way to make a code of two.
-#[derive(Clone, Copy)]
 enum Way {
     Sum,
     Product,
     Uuv,
     Intersection,
     Concatenated,
+    Union,
 }
 
-fn combined(alloc: Global, a: &Code, b: &Code, way: Way) -> Result<Code, CodeRefusal> {
+fn combined(alloc: Global, a: &Code, b: &Code, way: &Way) -> Result<Code, CodeRefusal> {
     match way {
         Way::Sum => direct_sum(alloc, a, b),
         Way::Product => direct_product(alloc, a, b),
         Way::Uuv => uuv(alloc, a, b),
         Way::Intersection => intersection(alloc, a, b),
         Way::Concatenated => concatenated(alloc, a, b),
+        Way::Union => union_of(alloc, a, b),
     }
 }
 
-// The length and the dimension of a code of two.
-fn with_second(alloc: Global, a: &Code, b: Part, way: Way) -> Shape {
-    let b = code_of(alloc, b)?;
-    shape(combined(alloc, a, &b, way))
-}
+// The simplex code of length 7, which the rows of the Hamming code check.
+const SIMPLEX: Made = Made::Checked(&[
+    &[1, 0, 0, 0, 0, 1, 1],
+    &[0, 1, 0, 0, 1, 0, 1],
+    &[0, 0, 1, 0, 1, 1, 0],
+    &[0, 0, 0, 1, 1, 1, 1],
+]);
 
-fn of_two(alloc: Global, a: Part, b: Part, way: Way) -> Shape {
-    let a = code_of(alloc, a)?;
-    with_second(alloc, &a, b, way)
-}
+// The size of a field and a code over it, such another code, and what is made of both.
+type Pair = (u64, Made, u64, Made, Way, Shape);
 
-// Two codes and what is made of them. The third is a Reed-Muller code made from two others (MacWilliams and Sloane, chapter 13).
-static PAIRS: [(Part, Part, Way, Shape); 7] = [
+// The third is a Reed-Muller code made from two others (MacWilliams and Sloane, chapter 13). The code that a row of ones checks is that
+// of the words of even weight. The Reed-Solomon code is over 4 elements.
+static PAIRS: [Pair; 9] = [
     (
-        Part::Repetition(2),
-        Part::Repetition(3),
+        2,
+        Made::Repetition(2),
+        2,
+        Made::Repetition(3),
         Way::Sum,
         Ok((5, 2)),
     ),
     (
-        Part::Repetition(2),
-        Part::Repetition(3),
+        2,
+        Made::Repetition(2),
+        2,
+        Made::Repetition(3),
         Way::Product,
         Ok((6, 1)),
     ),
     (
-        Part::ReedMuller(1),
-        Part::ReedMuller(0),
+        2,
+        Made::ReedMuller(1, 2),
+        2,
+        Made::ReedMuller(0, 2),
         Way::Uuv,
         Ok((8, 4)),
     ),
     (
-        Part::Even(4),
-        Part::Repetition(4),
+        2,
+        Made::Checked(&[&[1, 1, 1, 1]]),
+        2,
+        Made::Repetition(4),
         Way::Intersection,
         Ok((4, 1)),
     ),
     (
-        Part::Quaternary,
-        Part::Even(3),
+        4,
+        Made::ReedSolomon(3, 2),
+        2,
+        Made::Checked(&[&[1, 1, 1]]),
         Way::Concatenated,
         Ok((9, 4)),
     ),
     (
-        Part::Repetition(2),
-        Part::Repetition(3),
+        2,
+        Made::Repetition(2),
+        2,
+        Made::Repetition(3),
         Way::Uuv,
         Err(CodeRefusal::LengthsDiffer),
     ),
     (
-        Part::Quaternary,
-        Part::Repetition(3),
+        4,
+        Made::ReedSolomon(3, 2),
+        2,
+        Made::Repetition(3),
         Way::Concatenated,
         Err(CodeRefusal::InnerDimension(1, 2)),
     ),
+    (2, SIMPLEX, 2, Made::Repetition(7), Way::Union, Ok((7, 4))),
+    (
+        2,
+        SIMPLEX,
+        2,
+        Made::Repetition(6),
+        Way::Union,
+        Err(CodeRefusal::LengthsDiffer),
+    ),
 ];
+
+// What is made of the first code and a second.
+fn with_second(alloc: Global, a: &Code, row: &Pair) -> Shape {
+    match made_over(alloc, row.2, &row.3) {
+        Ok(b) => shape(combined(alloc, a, &b, &row.4)),
+        Err(refusal) => Err(refusal),
+    }
+}
+
+fn of_two(alloc: Global, row: &Pair) -> Shape {
+    match made_over(alloc, row.0, &row.1) {
+        Ok(a) => with_second(alloc, &a, row),
+        Err(refusal) => Err(refusal),
+    }
+}
+
+// Whether this is so of all rows.
+fn are_pairs(alloc: Global) -> bool {
+    for row in &PAIRS {
+        if of_two(alloc, row) != row.5 {
+            return false;
+        }
+    }
+    true
+}
 
 #[test]
 fn codes_from_two_codes(rt: HostRuntime) {
-    for row in &PAIRS {
-        let made = of_two(rt.alloc(), row.0, row.1, row.2);
-        assert!(rt; made == row.3);
-    }
+    assert!(rt; are_pairs(rt.alloc()));
 }

@@ -1,5 +1,6 @@
 //! Tests of the algebraic decoder. The errors in the received words are known; what is nearest to words with more errors was found by
 //! going through all words of the code.
+ghost use Rattle.std.specs.Prelude.{IfOk};
 ghost use Rattle.lc_constructions.specs.Alternant.{IsFormOf};
 
 use lc_alternant::decode;
@@ -10,68 +11,153 @@ use lc_goppa::{alternant, goppa};
 use std::alloc::Global;
 use test_rows::is_word;
 
-// A received word, and the word to which it is decoded: no symbols if there is none.
-type Row = (&'static [u8], &'static [u8]);
+// A code of an alternant form.
+enum Form {
+    // The Reed-Solomon code of a length and a design distance.
+    ReedSolomon(u64, u64),
+    // The binary BCH code of length 15 and a design distance.
+    Bch(u64),
+    // The binary Goppa code of 1 + x + x^2 whose points are all elements of the field of 8.
+    Goppa,
+    // The alternant code over 5 elements with multipliers 1, all points and so many checks.
+    Alternant(u64),
+}
+
+fn goppa_code(alloc: Global, field: &Field) -> Result<FormedCode, CodeRefusal>
+    ensures form { IfOk result (λ f. IsFormOf f.code f.form) }
+{
+    match Field::of(alloc, 8) {
+        Ok(locator) => goppa(
+            alloc,
+            &[1, 1, 1],
+            &[0, 1, 2, 3, 4, 5, 6, 7],
+            &locator,
+            field,
+        ),
+        Err(_) => Err(CodeRefusal::NoMemory),
+    }
+}
+
+// The code over a field.
+fn code_of(alloc: Global, field: &Field, code: &Form) -> Result<FormedCode, CodeRefusal>
+    ensures form { IfOk result (λ f. IsFormOf f.code f.form) }
+{
+    match code {
+        Form::ReedSolomon(n, d) => reed_solomon(alloc, *n, *d),
+        Form::Bch(d) => bch(alloc, 15, 1, *d, field),
+        Form::Goppa => goppa_code(alloc, field),
+        Form::Alternant(r) => alternant(alloc, *r, &[0, 1, 2, 3, 4], &[1; 5], field, field),
+    }
+}
+
+// The size of a field, a code over it, a received word, and the word to which it is decoded: no symbols if there is none.
+type Row = (u64, Form, (&'static [u8], &'static [u8]));
 
 // Whether the received word is decoded as the row says.
-fn is_decoded(alloc: Global, formed: &FormedCode, row: Row) -> Result<bool, CodeRefusal>
+fn is_decoded(alloc: Global, formed: &FormedCode, row: &Row) -> bool
     requires formed { IsFormOf formed.now.code formed.now.form }
 {
     let code = &formed.code;
-    if !is_word(code.field(), code.length(), row.0) {
-        return Ok(false);
+    if !is_word(code.field(), code.length(), row.2.0) {
+        return false;
     }
-    match decode(alloc, code, &formed.form, row.0)? {
-        Some(word) => Ok(word.symbols() == row.1),
-        None => Ok(row.1.is_empty()),
+    match decode(alloc, code, &formed.form, row.2.0) {
+        Ok(Some(word)) => word.symbols() == row.2.1,
+        Ok(None) => row.2.1.is_empty(),
+        Err(_) => false,
     }
 }
 
-// The same for the Reed-Solomon code of length n and design distance d.
-fn reed_solomon_row(alloc: Global, n: u64, d: u64, row: Row) -> Result<bool, CodeRefusal> {
-    let formed = reed_solomon(alloc, n, d)?;
-    is_decoded(alloc, &formed, row)
+// The same by the code over the field.
+fn is_decoded_over(alloc: Global, field: &Field, row: &Row) -> bool {
+    match code_of(alloc, field, &row.1) {
+        Ok(formed) => is_decoded(alloc, &formed, row),
+        Err(_) => false,
+    }
 }
 
-// Reed-Solomon codes by length and design distance: over 5 elements; over 8, where the word is the generator polynomial with 0, 1, 2
-// and 3 errors; and over 9, likewise.
-static REED_SOLOMON: [(u64, u64, Row); 17] = [
-    (4, 3, (&[1, 1, 3, 4], &[1, 0, 3, 4])),
-    (4, 3, (&[0, 0, 1, 1], &[])),
-    (4, 3, (&[1, 0, 3, 2], &[1, 0, 3, 4])),
-    (7, 5, (&[3, 2, 1, 3, 1, 0, 0], &[3, 2, 1, 3, 1, 0, 0])),
-    (7, 5, (&[3, 2, 1, 3, 1, 0, 5], &[3, 2, 1, 3, 1, 0, 0])),
-    (7, 5, (&[2, 2, 1, 3, 1, 7, 0], &[3, 2, 1, 3, 1, 0, 0])),
-    (7, 5, (&[3, 1, 7, 3, 1, 0, 0], &[3, 2, 1, 3, 1, 0, 0])),
-    (7, 5, (&[2, 2, 1, 1, 1, 0, 4], &[])),
-    (7, 5, (&[4, 5, 6, 3, 1, 0, 0], &[])),
-    (7, 5, (&[0, 2, 4, 3, 7, 0, 0], &[0, 4, 4, 3, 7, 0, 3])),
-    (8, 5, (&[4, 7, 1, 8, 1, 0, 0, 0], &[4, 7, 1, 8, 1, 0, 0, 0])),
-    (8, 5, (&[4, 7, 1, 8, 1, 0, 0, 8], &[4, 7, 1, 8, 1, 0, 0, 0])),
-    (8, 5, (&[8, 7, 1, 8, 1, 0, 2, 0], &[4, 7, 1, 8, 1, 0, 0, 0])),
-    (8, 5, (&[4, 7, 2, 1, 1, 0, 0, 0], &[4, 7, 1, 8, 1, 0, 0, 0])),
-    (8, 5, (&[5, 7, 1, 7, 1, 0, 4, 0], &[])),
-    (8, 5, (&[4, 8, 1, 2, 1, 4, 0, 0], &[4, 8, 8, 2, 1, 4, 1, 0])),
-    (7, 1, (&[1, 2, 3, 4, 5, 6, 7], &[1, 2, 3, 4, 5, 6, 7])),
+// The same of all rows.
+fn are_decoded(alloc: Global, rows: &[Row]) -> bool {
+    for row in rows {
+        let Ok(field) = Field::of(alloc, row.0) else {
+            return false;
+        };
+        if !is_decoded_over(alloc, &field, row) {
+            return false;
+        }
+    }
+    true
+}
+
+// Reed-Solomon codes: over 5 elements; over 8, where the word is the generator polynomial with 0, 1, 2 and 3 errors; and over 9,
+// likewise.
+static REED_SOLOMON: [Row; 17] = [
+    (2, Form::ReedSolomon(4, 3), (&[1, 1, 3, 4], &[1, 0, 3, 4])),
+    (2, Form::ReedSolomon(4, 3), (&[0, 0, 1, 1], &[])),
+    (2, Form::ReedSolomon(4, 3), (&[1, 0, 3, 2], &[1, 0, 3, 4])),
+    (
+        2,
+        Form::ReedSolomon(7, 5),
+        (&[3, 2, 1, 3, 1, 0, 0], &[3, 2, 1, 3, 1, 0, 0]),
+    ),
+    (
+        2,
+        Form::ReedSolomon(7, 5),
+        (&[3, 2, 1, 3, 1, 0, 5], &[3, 2, 1, 3, 1, 0, 0]),
+    ),
+    (
+        2,
+        Form::ReedSolomon(7, 5),
+        (&[2, 2, 1, 3, 1, 7, 0], &[3, 2, 1, 3, 1, 0, 0]),
+    ),
+    (
+        2,
+        Form::ReedSolomon(7, 5),
+        (&[3, 1, 7, 3, 1, 0, 0], &[3, 2, 1, 3, 1, 0, 0]),
+    ),
+    (2, Form::ReedSolomon(7, 5), (&[2, 2, 1, 1, 1, 0, 4], &[])),
+    (2, Form::ReedSolomon(7, 5), (&[4, 5, 6, 3, 1, 0, 0], &[])),
+    (
+        2,
+        Form::ReedSolomon(7, 5),
+        (&[0, 2, 4, 3, 7, 0, 0], &[0, 4, 4, 3, 7, 0, 3]),
+    ),
+    (
+        2,
+        Form::ReedSolomon(8, 5),
+        (&[4, 7, 1, 8, 1, 0, 0, 0], &[4, 7, 1, 8, 1, 0, 0, 0]),
+    ),
+    (
+        2,
+        Form::ReedSolomon(8, 5),
+        (&[4, 7, 1, 8, 1, 0, 0, 8], &[4, 7, 1, 8, 1, 0, 0, 0]),
+    ),
+    (
+        2,
+        Form::ReedSolomon(8, 5),
+        (&[8, 7, 1, 8, 1, 0, 2, 0], &[4, 7, 1, 8, 1, 0, 0, 0]),
+    ),
+    (
+        2,
+        Form::ReedSolomon(8, 5),
+        (&[4, 7, 2, 1, 1, 0, 0, 0], &[4, 7, 1, 8, 1, 0, 0, 0]),
+    ),
+    (2, Form::ReedSolomon(8, 5), (&[5, 7, 1, 7, 1, 0, 4, 0], &[])),
+    (
+        2,
+        Form::ReedSolomon(8, 5),
+        (&[4, 8, 1, 2, 1, 4, 0, 0], &[4, 8, 8, 2, 1, 4, 1, 0]),
+    ),
+    (
+        2,
+        Form::ReedSolomon(7, 1),
+        (&[1, 2, 3, 4, 5, 6, 7], &[1, 2, 3, 4, 5, 6, 7]),
+    ),
 ];
 
 #[test]
 fn words_of_reed_solomon_codes(rt: HostRuntime) {
-    for row in &REED_SOLOMON {
-        let right = reed_solomon_row(rt.alloc(), row.0, row.1, row.2);
-        assert!(rt; right == Ok(true), "{} and {}", row.0, row.1);
-    }
-}
-
-// The same for the binary BCH code of length 15 and design distance d.
-fn bch_row(alloc: Global, d: u64, row: Row) -> Result<bool, CodeRefusal> {
-    match Field::of(alloc, 2) {
-        Ok(field) => {
-            let formed = bch(alloc, 15, 1, d, &field)?;
-            is_decoded(alloc, &formed, row)
-        }
-        Err(_) => Err(CodeRefusal::NoMemory),
-    }
+    assert!(rt; are_decoded(rt.alloc(), &REED_SOLOMON));
 }
 
 // The generator polynomial of the BCH code of dimension 5 (Lin and Costello, Error Control Coding, chapter 6).
@@ -79,85 +165,73 @@ const GENERATOR: &[u8] = &[1, 1, 1, 0, 1, 1, 0, 0, 1, 0, 1, 0, 0, 0, 0];
 
 // Received words with 0 to 3 errors, and with 4.
 static BCH: [Row; 7] = [
-    (GENERATOR, GENERATOR),
-    (&[1, 1, 1, 0, 1, 1, 0, 0, 1, 0, 1, 0, 0, 0, 1], GENERATOR),
-    (&[0, 1, 1, 0, 1, 1, 0, 0, 1, 0, 1, 0, 0, 1, 0], GENERATOR),
-    (&[1, 1, 1, 1, 1, 1, 0, 1, 1, 0, 1, 1, 0, 0, 0], GENERATOR),
-    (&[1, 1, 1, 0, 1, 1, 0, 0, 1, 0, 1, 1, 1, 1, 1], &[]),
-    (&[0, 1, 1, 1, 1, 1, 0, 1, 1, 0, 1, 1, 0, 0, 0], &[]),
-    (&[1, 1, 1, 0, 1, 1, 0, 0, 1, 1, 1, 0, 1, 1, 1], &[]),
+    (2, Form::Bch(7), (GENERATOR, GENERATOR)),
+    (
+        2,
+        Form::Bch(7),
+        (&[1, 1, 1, 0, 1, 1, 0, 0, 1, 0, 1, 0, 0, 0, 1], GENERATOR),
+    ),
+    (
+        2,
+        Form::Bch(7),
+        (&[0, 1, 1, 0, 1, 1, 0, 0, 1, 0, 1, 0, 0, 1, 0], GENERATOR),
+    ),
+    (
+        2,
+        Form::Bch(7),
+        (&[1, 1, 1, 1, 1, 1, 0, 1, 1, 0, 1, 1, 0, 0, 0], GENERATOR),
+    ),
+    (
+        2,
+        Form::Bch(7),
+        (&[1, 1, 1, 0, 1, 1, 0, 0, 1, 0, 1, 1, 1, 1, 1], &[]),
+    ),
+    (
+        2,
+        Form::Bch(7),
+        (&[0, 1, 1, 1, 1, 1, 0, 1, 1, 0, 1, 1, 0, 0, 0], &[]),
+    ),
+    (
+        2,
+        Form::Bch(7),
+        (&[1, 1, 1, 0, 1, 1, 0, 0, 1, 1, 1, 0, 1, 1, 1], &[]),
+    ),
 ];
 
 #[test]
 fn words_of_a_bch_code(rt: HostRuntime) {
-    for row in &BCH {
-        let right = bch_row(rt.alloc(), 7, *row);
-        assert!(rt; right == Ok(true));
-    }
-}
-
-// The same for the binary Goppa code of 1 + x + x^2 whose points are all elements of the field of 8.
-fn goppa_row(alloc: Global, locator: &Field, row: Row) -> Result<bool, CodeRefusal> {
-    match Field::of(alloc, 2) {
-        Ok(field) => {
-            let formed = goppa(
-                alloc,
-                &[1, 1, 1],
-                &[0, 1, 2, 3, 4, 5, 6, 7],
-                locator,
-                &field,
-            )?;
-            is_decoded(alloc, &formed, row)
-        }
-        Err(_) => Err(CodeRefusal::NoMemory),
-    }
-}
-
-fn goppa_decodes(alloc: Global, row: Row) -> Result<bool, CodeRefusal> {
-    match Field::of(alloc, 8) {
-        Ok(locator) => goppa_row(alloc, &locator, row),
-        Err(_) => Err(CodeRefusal::NoMemory),
-    }
+    assert!(rt; are_decoded(rt.alloc(), &BCH));
 }
 
 // One error is corrected, and two aren't, although the code has distance 5.
 static GOPPA: [Row; 3] = [
-    (&[1, 1, 0, 1, 0, 1, 0, 1], &[1, 1, 0, 1, 0, 1, 0, 1]),
-    (&[1, 1, 1, 1, 0, 1, 0, 1], &[1, 1, 0, 1, 0, 1, 0, 1]),
-    (&[1, 1, 1, 1, 1, 1, 0, 1], &[]),
+    (
+        2,
+        Form::Goppa,
+        (&[1, 1, 0, 1, 0, 1, 0, 1], &[1, 1, 0, 1, 0, 1, 0, 1]),
+    ),
+    (
+        2,
+        Form::Goppa,
+        (&[1, 1, 1, 1, 0, 1, 0, 1], &[1, 1, 0, 1, 0, 1, 0, 1]),
+    ),
+    (2, Form::Goppa, (&[1, 1, 1, 1, 1, 1, 0, 1], &[])),
 ];
 
 #[test]
 fn words_of_a_goppa_code(rt: HostRuntime) {
-    for row in &GOPPA {
-        let right = goppa_decodes(rt.alloc(), *row);
-        assert!(rt; right == Ok(true));
-    }
-}
-
-// The same for the alternant code over 5 elements with multipliers 1, all points and r checks.
-fn alternant_row(alloc: Global, r: u64, row: Row) -> Result<bool, CodeRefusal> {
-    match Field::of(alloc, 5) {
-        Ok(field) => {
-            let formed = alternant(alloc, r, &[0, 1, 2, 3, 4], &[1; 5], &field, &field)?;
-            is_decoded(alloc, &formed, row)
-        }
-        Err(_) => Err(CodeRefusal::NoMemory),
-    }
+    assert!(rt; are_decoded(rt.alloc(), &GOPPA));
 }
 
 // One check: only words of the code, whose symbols have the sum 0. As many as points: only the zero word.
-static ALTERNANT: [(u64, Row); 4] = [
-    (1, (&[1, 2, 0, 0, 2], &[1, 2, 0, 0, 2])),
-    (1, (&[1, 2, 0, 0, 3], &[])),
-    (5, (&[0, 3, 0, 0, 4], &[0, 0, 0, 0, 0])),
-    (5, (&[1, 3, 0, 0, 4], &[])),
+static ALTERNANT: [Row; 4] = [
+    (5, Form::Alternant(1), (&[1, 2, 0, 0, 2], &[1, 2, 0, 0, 2])),
+    (5, Form::Alternant(1), (&[1, 2, 0, 0, 3], &[])),
+    (5, Form::Alternant(5), (&[0, 3, 0, 0, 4], &[0, 0, 0, 0, 0])),
+    (5, Form::Alternant(5), (&[1, 3, 0, 0, 4], &[])),
 ];
 
 #[test]
 fn words_of_alternant_codes(rt: HostRuntime) {
-    for row in &ALTERNANT {
-        let right = alternant_row(rt.alloc(), row.0, row.1);
-        assert!(rt; right == Ok(true), "{} checks", row.0);
-    }
+    assert!(rt; are_decoded(rt.alloc(), &ALTERNANT));
 }

@@ -1,4 +1,6 @@
 //! The eighteen fields: every entry of their tables, products by hand, and embeddings.
+ghost use Rattle.lc_algebra.specs.Embedding.{IsSubfield};
+
 use lc_field::{Field, FieldRefusal, NoMemory};
 use std::alloc::Global;
 
@@ -157,42 +159,61 @@ fn eighteen_sizes(rt: HostRuntime) {
 }
 
 // Whether a of the small field is b in the large one, and b comes from a.
-fn is_embedded(large: &Field, small: &Field, a: u8, b: u8) -> bool {
-    large.holds(small)
-        && (a as u16) < small.size()
-        && large.embed(small, a) == b
-        && large.unembed(small, b) == Some(a)
+fn is_embedded(large: &Field, small: &Field, a: u8, b: u8) -> bool
+    requires subfield { IsSubfield small.now large.now }
+{
+    if small.size() <= a as u16 || large.size() <= b as u16 {
+        return false;
+    }
+    large.embed(small, a) == b && large.unembed(small, b) == Some(a)
 }
 
 // Whether b of the large field comes from no element of the small one.
-fn is_outside(large: &Field, small: &Field, b: u8) -> bool {
-    large.holds(small) && (b as u16) < large.size() && large.unembed(small, b).is_none()
+fn is_outside(large: &Field, small: &Field, b: u8) -> bool
+    requires subfield { IsSubfield small.now large.now }
+{
+    (b as u16) < large.size() && large.unembed(small, b).is_none()
 }
 
-// Whether the field of 16 elements holds that of 4, with these elements.
-fn holds_the_field_of_4(alloc: Global) -> Result<bool, FieldRefusal> {
-    let large = Field::of(alloc, 16)?;
-    let small = Field::of(alloc, 4)?;
-    Ok(
-        is_embedded(&large, &small, 2, 6)
-            && is_embedded(&large, &small, 3, 7)
-            && is_outside(&large, &small, 2),
-    )
+// Whether the large field holds the small one, which has these elements in that of 16.
+fn holds_the_field_of_4(large: &Field, small: &Field) -> bool {
+    large.holds(small)
+        && is_embedded(large, small, 2, 6)
+        && is_embedded(large, small, 3, 7)
+        && is_outside(large, small, 2)
 }
 
-// Whether the field of q elements holds that of r.
-fn holds(alloc: Global, q: u64, r: u64) -> Result<bool, FieldRefusal> {
-    let large = Field::of(alloc, q)?;
-    let small = Field::of(alloc, r)?;
-    Ok(large.size() as u64 == q && small.size() as u64 == r && large.holds(&small))
+// Whether the field holds that of r elements, which is then that of 4, or doesn't hold it.
+fn holds_or_not(alloc: Global, large: &Field, r: u64) -> bool {
+    match Field::of(alloc, r) {
+        Ok(small) => {
+            if r == 4 {
+                return holds_the_field_of_4(large, &small);
+            }
+            !large.holds(&small)
+        }
+        Err(_refusal) => false,
+    }
+}
+
+// The same of the field of q elements.
+fn size_holds_or_not(alloc: Global, q: u64, r: u64) -> bool {
+    match Field::of(alloc, q) {
+        Ok(large) => holds_or_not(alloc, &large, r),
+        Err(_refusal) => false,
+    }
 }
 
 #[test]
 fn the_field_of_4_in_that_of_16(rt: HostRuntime) {
-    assert!(rt; holds(rt.alloc(), 16, 4) == Ok(true));
-    assert!(rt; holds_the_field_of_4(rt.alloc()) == Ok(true));
-    assert!(rt; holds(rt.alloc(), 16, 8) == Ok(false));
-    assert!(rt; holds(rt.alloc(), 4, 16) == Ok(false));
+    for row in [(16, 4), (16, 8), (4, 16)] {
+        assert!(rt;
+            size_holds_or_not(rt.alloc(), row.0, row.1),
+            "{} {}",
+            row.0,
+            row.1
+        );
+    }
 }
 
 // Whether the field has these numbers.

@@ -70,43 +70,26 @@ pub(crate) static FORMS: [(Given, Rows, Rows); 11] = [
     ((7, 1, &[&[3]]), &[&[1]], &[]),
 ];
 
-// Whether the reduced matrix has these rows.
-fn has_echelon(alloc: Global, matrix: &Matrix, rows: Rows) -> Result<bool, NoMemory> {
-    let reduced = matrix.echelon(alloc)?;
-    Ok(has_rows(&reduced, rows))
-}
-
-// Whether the rank is this number.
-fn has_rank(alloc: Global, matrix: &Matrix, rank: usize) -> Result<bool, NoMemory> {
-    let found = matrix.rank(alloc)?;
-    Ok(found == rank)
-}
-
-// Whether the kernel has these rows.
-fn has_kernel(alloc: Global, matrix: &Matrix, rows: Rows) -> Result<bool, NoMemory> {
-    rank_of_kernel(matrix);
-    let kernel = matrix.kernel(alloc)?;
-    Ok(has_rows(&kernel, rows))
+// Whether there is a matrix, and these are its rows.
+fn is_matrix(matrix: Result<Matrix, NoMemory>, rows: Rows) -> bool {
+    match matrix {
+        Ok(matrix) => has_rows(&matrix, rows),
+        Err(NoMemory) => false,
+    }
 }
 
 // Whether the matrix has this reduced form and rank, and this kernel.
-fn are_forms(
-    alloc: Global,
-    matrix: &Matrix,
-    reduced: Rows,
-    kernel: Rows,
-) -> Result<bool, NoMemory> {
-    Ok(
-        has_echelon(alloc, matrix, reduced)?
-            && has_rank(alloc, matrix, reduced.len())?
-            && has_kernel(alloc, matrix, kernel)?,
-    )
+fn are_forms(alloc: Global, matrix: &Matrix, reduced: Rows, kernel: Rows) -> bool {
+    rank_of_kernel(matrix);
+    is_matrix(matrix.echelon(alloc), reduced)
+        && matrix.rank(alloc) == Ok(reduced.len())
+        && is_matrix(matrix.kernel(alloc), kernel)
 }
 
 // The same for the matrix that is given.
 fn has_forms(alloc: Global, given: &Given, reduced: Rows, kernel: Rows) -> bool {
     match given_matrix(alloc, given) {
-        Ok(matrix) => are_forms(alloc, &matrix, reduced, kernel) == Ok(true),
+        Ok(matrix) => are_forms(alloc, &matrix, reduced, kernel),
         Err(_refusal) => false,
     }
 }
@@ -152,26 +135,22 @@ static SETS: [(Given, &[usize], Rows); 7] = [
 ];
 
 // Whether the matrix that is the identity on the set has these rows; none, if there is no such matrix.
-fn has_identity(
-    alloc: Global,
-    matrix: &Matrix,
-    set: &[usize],
-    rows: Rows,
-) -> Result<bool, NoMemory> {
+fn has_identity(alloc: Global, matrix: &Matrix, set: &[usize], rows: Rows) -> bool {
     let n = matrix.cols();
     if set.len() != matrix.rows() || !set.iter().all(|c| *c < n) {
-        return Ok(false);
+        return false;
     }
-    match matrix.systematic_on(alloc, set)? {
-        Some(systematic) => Ok(has_rows(&systematic, rows)),
-        None => Ok(rows.is_empty()),
+    match matrix.systematic_on(alloc, set) {
+        Ok(Some(systematic)) => has_rows(&systematic, rows),
+        Ok(None) => rows.is_empty(),
+        Err(NoMemory) => false,
     }
 }
 
 // The same for the matrix that is given.
 fn is_systematic(alloc: Global, given: &Given, set: &[usize], rows: Rows) -> bool {
     match given_matrix(alloc, given) {
-        Ok(matrix) => has_identity(alloc, &matrix, set, rows) == Ok(true),
+        Ok(matrix) => has_identity(alloc, &matrix, set, rows),
         Err(_refusal) => false,
     }
 }
@@ -216,14 +195,6 @@ static SYSTEMS: [(Given, &[u8], bool); 8] = [
     ((2, 2, &[]), &[], true),
 ];
 
-// A solution, if the right side has a symbol for each row.
-fn solution(alloc: Global, matrix: &Matrix, right: &[u8]) -> Result<Option<Word>, NoMemory> {
-    if right.len() != matrix.rows() || !fits(matrix.field(), right) {
-        return Ok(None);
-    }
-    Ok(matrix.solve(alloc, right)?)
-}
-
 // Whether the word has these dots with the rows.
 fn has_dots(matrix: &Matrix, word: &[u8], right: &[u8]) -> bool {
     let field = matrix.field();
@@ -238,18 +209,32 @@ fn has_dots(matrix: &Matrix, word: &[u8], right: &[u8]) -> bool {
     true
 }
 
-// Whether there is a solution, and the one that is given is one.
-fn has_solution(alloc: Global, matrix: &Matrix, right: &[u8]) -> Result<bool, NoMemory> {
-    match solution(alloc, matrix, right)? {
-        Some(word) => Ok(has_dots(matrix, word.symbols(), right)),
-        None => Ok(false),
+// Whether there is a solution exactly if there is to be one, and the one that is given is one.
+fn is_solution(
+    matrix: &Matrix,
+    found: Result<Option<Word>, NoMemory>,
+    right: &[u8],
+    expected: bool,
+) -> bool {
+    match found {
+        Ok(Some(word)) => expected && has_dots(matrix, word.symbols(), right),
+        Ok(None) => !expected,
+        Err(NoMemory) => false,
     }
 }
 
-// Whether the matrix that is given has a solution exactly if it is to have one.
+// Whether this is so of the right side, which has a symbol for each row.
+fn has_solution(alloc: Global, matrix: &Matrix, right: &[u8], expected: bool) -> bool {
+    if right.len() != matrix.rows() || !fits(matrix.field(), right) {
+        return false;
+    }
+    is_solution(matrix, matrix.solve(alloc, right), right, expected)
+}
+
+// Whether this is so of the matrix that is given.
 fn is_solved(alloc: Global, given: &Given, right: &[u8], expected: bool) -> bool {
     match given_matrix(alloc, given) {
-        Ok(matrix) => has_solution(alloc, &matrix, right) == Ok(expected),
+        Ok(matrix) => has_solution(alloc, &matrix, right, expected),
         Err(_refusal) => false,
     }
 }
@@ -261,18 +246,23 @@ fn linear_systems(rt: HostRuntime) {
     }
 }
 
-// Whether the solution is given, and has 2 at place 2.
-fn has_symbol(alloc: Global, matrix: &Matrix) -> Result<bool, NoMemory> {
-    match solution(alloc, matrix, &[1, 1])? {
-        Some(word) => Ok(word.symbols().get(2) == Some(&2)),
-        None => Ok(false),
+// Whether the solution for two ones has 2 at place 2.
+fn has_symbol(alloc: Global, matrix: &Matrix) -> bool {
+    let right = [1, 1];
+    if matrix.rows() != 2 || !fits(matrix.field(), &right) {
+        return false;
+    }
+    match matrix.solve(alloc, &right) {
+        Ok(Some(word)) => word.symbols().get(2) == Some(&2),
+        Ok(None) => false,
+        Err(NoMemory) => false,
     }
 }
 
 // The same for the matrix over 3 elements.
 fn is_fixed(alloc: Global) -> bool {
     match matrix_of(alloc, 3, 3, &[&[1, 2, 0], &[2, 1, 1]]) {
-        Ok(matrix) => has_symbol(alloc, &matrix) == Ok(true),
+        Ok(matrix) => has_symbol(alloc, &matrix),
         Err(_refusal) => false,
     }
 }
@@ -301,18 +291,17 @@ static SPANS: [(Given, &[u8], bool); 7] = [
     ((2, 2, &[]), &[0, 1], false),
 ];
 
-// Whether the word, if it is one, is a sum of multiples of the rows.
-fn has_word(alloc: Global, matrix: &Matrix, word: &[u8]) -> Result<bool, NoMemory> {
-    if word.len() != matrix.cols() || !fits(matrix.field(), word) {
-        return Ok(false);
-    }
-    Ok(matrix.in_span(alloc, word)?)
+// Whether the word, if it is one, is a sum of multiples of the rows exactly if it is to be one.
+fn has_word(alloc: Global, matrix: &Matrix, word: &[u8], expected: bool) -> bool {
+    word.len() == matrix.cols()
+        && fits(matrix.field(), word)
+        && matrix.in_span(alloc, word) == Ok(expected)
 }
 
-// Whether the word is a sum of multiples of the rows of the matrix that is given exactly if it is to be one.
+// Whether this is so of the rows of the matrix that is given.
 fn is_inside(alloc: Global, given: &Given, word: &[u8], expected: bool) -> bool {
     match given_matrix(alloc, given) {
-        Ok(matrix) => has_word(alloc, &matrix, word) == Ok(expected),
+        Ok(matrix) => has_word(alloc, &matrix, word, expected),
         Err(_refusal) => false,
     }
 }
@@ -336,16 +325,22 @@ fn ends_in_ones(matrix: &Matrix) -> bool {
 }
 
 // Whether the kernel of the row of 255 ones has 254 such rows, and its kernel is that row.
-fn has_kernels(alloc: Global, matrix: &Matrix) -> Result<bool, NoMemory> {
-    let kernel = matrix.kernel(alloc)?;
-    let is_right = kernel.rows() == 254 && kernel.cols() == 255 && ends_in_ones(&kernel);
-    Ok(is_right && has_kernel(alloc, &kernel, &[&[1; 255]])?)
+fn has_kernels(alloc: Global, matrix: &Matrix) -> bool {
+    match matrix.kernel(alloc) {
+        Ok(kernel) => {
+            kernel.rows() == 254
+                && kernel.cols() == 255
+                && ends_in_ones(&kernel)
+                && is_matrix(kernel.kernel(alloc), &[&[1; 255]])
+        }
+        Err(NoMemory) => false,
+    }
 }
 
 // The same for the matrix that has this row.
 fn are_kernels(alloc: Global) -> bool {
     match matrix_of(alloc, 2, 255, &[&[1; 255]]) {
-        Ok(matrix) => has_kernels(alloc, &matrix) == Ok(true),
+        Ok(matrix) => has_kernels(alloc, &matrix),
         Err(_refusal) => false,
     }
 }

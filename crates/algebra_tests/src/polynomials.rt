@@ -1,8 +1,8 @@
 //! Minimal polynomials, as `tools/minimal_polynomials.py` makes them, published generators, cyclotomic sets, products and
 //! quotients.
-ghost use Rattle.std.specs.Prelude.{◌≡◌, IfOk};
+ghost use Rattle.std.specs.Prelude.{◌≡◌};
 
-use lc_field::{Field, FieldRefusal, NoMemory};
+use lc_field::{Field, NoMemory};
 use lc_poly::{Poly, cyclotomic_set, minimal, x_power_minus_one};
 use lc_vec::fits;
 use std::alloc::Global;
@@ -82,39 +82,47 @@ static OVER_3: [Row; 27] = [
 ];
 
 // Whether the minimal polynomial of the element has these coefficients.
-fn is_minimal(alloc: Global, large: &Field, small: &Field, row: &Row) -> Result<bool, NoMemory> {
-    if !large.holds(small) || (row.0 as u16) >= large.size() {
-        return Ok(false);
+fn is_minimal(alloc: Global, large: &Field, small: &Field, row: &Row) -> bool {
+    if !large.holds(small) || large.size() <= u16::from(row.0) {
+        return false;
     }
-    let u = minimal(alloc, large, small, row.0)?;
-    Ok(u.coefficients() == row.1)
+    match minimal(alloc, large, small, row.0) {
+        Ok(u) => u.coefficients() == row.1,
+        Err(NoMemory) => false,
+    }
 }
 
-// Whether the minimal polynomials over the field of r elements, in that of q, are those of the rows.
-fn are_minimal(alloc: Global, q: u64, r: u64, rows: &[Row]) -> Result<bool, FieldRefusal> {
-    let large = Field::of(alloc, q)?;
-    let small = Field::of(alloc, r)?;
+// Whether this is so of all rows.
+fn all_minimal(alloc: Global, large: &Field, small: &Field, rows: &[Row]) -> bool {
     for row in rows {
-        if !is_minimal(alloc, &large, &small, row)? {
-            return Ok(false);
+        if !is_minimal(alloc, large, small, row) {
+            return false;
         }
     }
-    Ok(true)
+    true
+}
+
+// Whether the minimal polynomials over the field of r elements, in a field, are those of the rows.
+fn are_minimal_over(alloc: Global, large: &Field, r: u64, rows: &[Row]) -> bool {
+    match Field::of(alloc, r) {
+        Ok(small) => all_minimal(alloc, large, &small, rows),
+        Err(_refusal) => false,
+    }
+}
+
+// The same in the field of q elements.
+fn are_minimal(alloc: Global, q: u64, r: u64, rows: &[Row]) -> bool {
+    match Field::of(alloc, q) {
+        Ok(large) => are_minimal_over(alloc, &large, r, rows),
+        Err(_refusal) => false,
+    }
 }
 
 #[test]
-fn minimal_polynomials_over_2(rt: HostRuntime) {
-    assert!(rt; are_minimal(rt.alloc(), 16, 2, &OVER_2) == Ok(true));
-}
-
-#[test]
-fn minimal_polynomials_over_4(rt: HostRuntime) {
-    assert!(rt; are_minimal(rt.alloc(), 16, 4, &OVER_4) == Ok(true));
-}
-
-#[test]
-fn minimal_polynomials_over_3(rt: HostRuntime) {
-    assert!(rt; are_minimal(rt.alloc(), 27, 3, &OVER_3) == Ok(true));
+fn minimal_polynomials(rt: HostRuntime) {
+    assert!(rt; are_minimal(rt.alloc(), 16, 2, &OVER_2));
+    assert!(rt; are_minimal(rt.alloc(), 16, 4, &OVER_4));
+    assert!(rt; are_minimal(rt.alloc(), 27, 3, &OVER_3));
 }
 
 // n, q, i, and the cyclotomic set of i modulo n for q.
@@ -128,30 +136,22 @@ static SETS: [(u64, u64, u64, &[u64]); 6] = [
 ];
 
 // Whether this is the cyclotomic set.
-fn is_set(alloc: Global, n: u64, q: u64, i: u64, expected: &[u64]) -> Result<bool, NoMemory> {
+fn is_set(alloc: Global, n: u64, q: u64, i: u64, expected: &[u64]) -> bool {
     if n < 1 || n > 255 || q < 2 || q > 16 || i >= n {
-        return Ok(false);
+        return false;
     }
-    let set = cyclotomic_set(alloc, n, q, i)?;
-    Ok(set.as_slice() == expected)
+    match cyclotomic_set(alloc, n, q, i) {
+        Ok(set) => set.as_slice() == expected,
+        Err(NoMemory) => false,
+    }
 }
 
 #[test]
 fn cyclotomic_sets(rt: HostRuntime) {
     for row in &SETS {
-        let is_right = is_set(rt.alloc(), row.0, row.1, row.2, row.3) == Ok(true);
+        let is_right = is_set(rt.alloc(), row.0, row.1, row.2, row.3);
         assert!(rt; is_right, "{} modulo {}", row.2, row.0);
     }
-}
-
-// The polynomial of a list; the zero polynomial if an entry is no element.
-fn poly(alloc: Global, field: &Field, list: &[u8]) -> Result<Poly, NoMemory>
-    ensures { IfOk result (λ p. p.field ≡ field.now) }
-{
-    if fits(field, list) {
-        return Poly::from_list(alloc, field, list);
-    }
-    Poly::from_list(alloc, field, &[])
 }
 
 // The size of the field, n, a polynomial, and whether it divides x^n - 1.
@@ -162,20 +162,16 @@ static GENERATORS: [(u64, usize, &[u8], bool); 3] = [
 ];
 
 // Whether the polynomial isn't zero, and divides x^n - 1 as is said.
-fn divides_or_not(
-    alloc: Global,
-    g: &Poly,
-    field: &Field,
-    n: usize,
-    expected: bool,
-) -> Result<bool, NoMemory>
+fn divides_or_not(alloc: Global, g: &Poly, field: &Field, n: usize, expected: bool) -> bool
     requires { g.now.field ≡ field.now }
 {
     if n < 1 || n > 255 || g.is_zero() {
-        return Ok(false);
+        return false;
     }
-    let whole = x_power_minus_one(alloc, field, n)?;
-    Ok(g.divides(alloc, &whole)? == expected)
+    match x_power_minus_one(alloc, field, n) {
+        Ok(whole) => g.divides(alloc, &whole) == Ok(expected),
+        Err(NoMemory) => false,
+    }
 }
 
 // The same for the polynomial of a list.
@@ -185,15 +181,20 @@ fn list_divides_or_not(
     n: usize,
     list: &[u8],
     expected: bool,
-) -> Result<bool, NoMemory> {
-    let g = poly(alloc, field, list)?;
-    divides_or_not(alloc, &g, field, n, expected)
+) -> bool {
+    if !fits(field, list) {
+        return false;
+    }
+    match Poly::from_list(alloc, field, list) {
+        Ok(g) => divides_or_not(alloc, &g, field, n, expected),
+        Err(NoMemory) => false,
+    }
 }
 
 // The same over q elements.
 fn is_generator_or_not(alloc: Global, q: u64, n: usize, list: &[u8], expected: bool) -> bool {
     match Field::of(alloc, q) {
-        Ok(field) => list_divides_or_not(alloc, &field, n, list, expected) == Ok(true),
+        Ok(field) => list_divides_or_not(alloc, &field, n, list, expected),
         Err(_refusal) => false,
     }
 }
@@ -206,66 +207,68 @@ fn generators_divide(rt: HostRuntime) {
     }
 }
 
-// Whether the product of both has these coefficients.
-fn has_product(alloc: Global, a: &Poly, b: &Poly, product: &[u8]) -> Result<bool, NoMemory>
-    requires { a.now.field ≡ b.now.field }
-{
-    Ok(a.mul(alloc, b)?.coefficients() == product)
-}
-
-// Whether b isn't zero, and the quotient and the remainder of a have these coefficients.
-fn has_quotient(
-    alloc: Global,
-    a: &Poly,
-    b: &Poly,
-    quotient: &[u8],
-    remainder: &[u8],
-) -> Result<bool, NoMemory>
-    requires { a.now.field ≡ b.now.field }
-{
-    if b.is_zero() {
-        return Ok(false);
-    }
-    let (q, r) = a.divide(alloc, b)?;
-    Ok(q.coefficients() == quotient && r.coefficients() == remainder)
-}
-
-// Whether the polynomial over the field, of more than 1 elements, has the value 1 at 1.
+// Whether the polynomial over a field of more than one element has the coefficients 4, 0 and 2, and the value 1 at 1.
 fn is_one_at_one(a: &Poly, field: &Field) -> bool
     requires { a.now.field ≡ field.now }
 {
-    let _size = field.size();
-    a.eval(1) == 1
+    1 < field.size() && a.coefficients() == [4, 0, 2].as_slice() && a.eval(1) == 1
 }
 
-// Whether the product, the quotient and the remainder of the two polynomials have these coefficients.
-fn has_product_and_quotient(alloc: Global, a: &Poly, b: &Poly) -> Result<bool, NoMemory>
+// Whether the product of both has these coefficients.
+fn has_product(alloc: Global, a: &Poly, b: &Poly, product: &[u8]) -> bool
     requires { a.now.field ≡ b.now.field }
 {
-    Ok(has_product(alloc, a, b, &[4, 1, 2, 3])? && has_quotient(alloc, a, b, &[3, 3], &[1])?)
+    match a.mul(alloc, b) {
+        Ok(found) => found.coefficients() == product,
+        Err(NoMemory) => false,
+    }
 }
 
-// The same of the polynomial and 1 + 4 x.
-fn is_multiplied_and_divided(alloc: Global, field: &Field, a: &Poly) -> Result<bool, NoMemory>
+// Whether b isn't zero, and the quotient and the remainder of a have these coefficients.
+fn has_quotient(alloc: Global, a: &Poly, b: &Poly, quotient: &[u8], remainder: &[u8]) -> bool
+    requires { a.now.field ≡ b.now.field }
+{
+    if b.is_zero() {
+        return false;
+    }
+    match a.divide(alloc, b) {
+        Ok((q, r)) => q.coefficients() == quotient && r.coefficients() == remainder,
+        Err(NoMemory) => false,
+    }
+}
+
+// Whether the product, the quotient and the remainder of the polynomial and 1 + 4 x have these coefficients.
+fn is_multiplied_and_divided(alloc: Global, field: &Field, a: &Poly) -> bool
     requires { a.now.field ≡ field.now }
 {
-    let b = poly(alloc, field, &[1, 4])?;
-    has_product_and_quotient(alloc, a, &b)
+    let list = [1, 4];
+    if !fits(field, &list) {
+        return false;
+    }
+    match Poly::from_list(alloc, field, &list) {
+        Ok(b) => {
+            has_product(alloc, a, &b, &[4, 1, 2, 3]) && has_quotient(alloc, a, &b, &[3, 3], &[1])
+        }
+        Err(NoMemory) => false,
+    }
 }
 
 // Whether the polynomial of this list has these coefficients, the value 1 at 1, and is multiplied and divided so.
-fn is_computed_with(alloc: Global, field: &Field) -> Result<bool, NoMemory> {
-    let a = poly(alloc, field, &[4, 0, 2, 0, 0])?;
-    if a.coefficients() != [4, 0, 2].as_slice() || !is_one_at_one(&a, field) {
-        return Ok(false);
+fn is_computed_with(alloc: Global, field: &Field) -> bool {
+    let list = [4, 0, 2, 0, 0];
+    if !fits(field, &list) {
+        return false;
     }
-    is_multiplied_and_divided(alloc, field, &a)
+    match Poly::from_list(alloc, field, &list) {
+        Ok(a) => is_one_at_one(&a, field) && is_multiplied_and_divided(alloc, field, &a),
+        Err(NoMemory) => false,
+    }
 }
 
 // The same over 5 elements.
 fn is_computed(alloc: Global) -> bool {
     match Field::of(alloc, 5) {
-        Ok(field) => is_computed_with(alloc, &field) == Ok(true),
+        Ok(field) => is_computed_with(alloc, &field),
         Err(_refusal) => false,
     }
 }

@@ -1,15 +1,15 @@
 //! Tests of syndromes, messages, distances and comparisons on the Hamming code of length 7, whose matrices are in MacWilliams and
 //! Sloane, chapter 1, and on small codes that can be gone through by hand.
-use crate::shapes::{Shape, dual, hamming_over, repetition_over, shape};
+use crate::shapes::{Made, made_over};
 use lc_code::{Code, CodeRefusal};
-use lc_combine::extended;
-use lc_field::Field;
+use lc_field::{Field, NoMemory};
 use lc_relations::{
-    add_words, augmented, encode, hamming_distance, is_cyclic, is_same_code, is_self_dual,
-    is_self_orthogonal, is_subcode, message_of, scale_word, syndrome, union_of,
+    add_words, encode, hamming_distance, is_cyclic, is_same_code, is_self_dual, is_self_orthogonal,
+    is_subcode, message_of, scale_word, syndrome,
 };
+use lc_vec::Word;
 use std::alloc::Global;
-use test_rows::{Rows, is_word, words_of};
+use test_rows::is_word;
 
 // A received word, its syndrome, and its message: no symbols if it is no codeword.
 static WORDS: [(&[u8], &[u8], &[u8]); 3] = [
@@ -18,81 +18,162 @@ static WORDS: [(&[u8], &[u8], &[u8]); 3] = [
     (&[1, 0, 0, 0, 0, 0, 0], &[1, 0, 0], &[]),
 ];
 
-fn has_syndrome(alloc: Global, word: &[u8], wanted: &[u8]) -> Result<bool, CodeRefusal> {
-    let code = hamming_over(alloc, 2, 3)?;
-    if !is_word(code.field(), code.length(), word) {
-        return Ok(false);
-    }
-    let found = syndrome(alloc, &code, word)?;
-    Ok(found.symbols() == wanted)
-}
-
-fn has_message(alloc: Global, word: &[u8], wanted: &[u8]) -> Result<bool, CodeRefusal> {
-    let code = hamming_over(alloc, 2, 3)?;
-    if !is_word(code.field(), code.length(), word) {
-        return Ok(false);
-    }
-    match message_of(alloc, &code, word)? {
-        Some(message) => Ok(message.symbols() == wanted),
-        None => Ok(wanted.is_empty()),
+// Whether these are the symbols of the word that is found.
+fn is_found(found: Result<Word, NoMemory>, wanted: &[u8]) -> bool {
+    match found {
+        Ok(word) => word.symbols() == wanted,
+        Err(_) => false,
     }
 }
 
-#[test]
-fn words_have_their_syndromes_and_messages(rt: HostRuntime) {
+// The same, and none if no word is found.
+fn is_message(found: Result<Option<Word>, NoMemory>, wanted: &[u8]) -> bool {
+    match found {
+        Ok(Some(word)) => word.symbols() == wanted,
+        Ok(None) => wanted.is_empty(),
+        Err(_) => false,
+    }
+}
+
+// Whether this is so of the words of a code.
+fn are_received(alloc: Global, code: &Code) -> bool {
     for row in &WORDS {
-        assert!(rt; has_syndrome(rt.alloc(), row.0, row.1) == Ok(true));
-        assert!(rt; has_message(rt.alloc(), row.0, row.2) == Ok(true));
+        if !is_word(code.field(), code.length(), row.0)
+            || !is_found(syndrome(alloc, code, row.0), row.1)
+            || !is_message(message_of(alloc, code, row.0), row.2)
+        {
+            return false;
+        }
+    }
+    true
+}
+
+// The symbols of a word, or why there is none.
+type Answer = Result<&'static [u8], CodeRefusal>;
+
+// Whether a word is found that has these symbols, or it is refused so.
+fn is_answer(found: Result<Word, CodeRefusal>, wanted: &Answer) -> bool {
+    match found {
+        Ok(word) => match wanted {
+            Ok(symbols) => word.symbols() == *symbols,
+            Err(_) => false,
+        },
+        Err(refusal) => match wanted {
+            Ok(_) => false,
+            Err(other) => refusal == *other,
+        },
     }
 }
 
-fn encodes(alloc: Global, message: &[u8], wanted: &[u8]) -> Result<bool, CodeRefusal> {
-    let code = hamming_over(alloc, 2, 3)?;
-    let word = encode(alloc, &code, message)?;
-    Ok(word.symbols() == wanted)
+// Messages, and their codewords or why there are none.
+static MESSAGES: [(&[u8], Answer); 3] = [
+    (&[1, 0, 1, 1], Ok(&[1, 0, 1, 1, 0, 1, 0])),
+    (&[1, 0, 1], Err(CodeRefusal::LengthsDiffer)),
+    (&[1, 0, 1, 2], Err(CodeRefusal::BadArgument(2))),
+];
+
+// Whether this is so of the messages of a code.
+fn are_encoded(alloc: Global, code: &Code) -> bool {
+    for row in &MESSAGES {
+        if !is_answer(encode(alloc, code, row.0), &row.1) {
+            return false;
+        }
+    }
+    true
+}
+
+// Whether both are so of the Hamming code.
+fn is_hamming(alloc: Global) -> bool {
+    match made_over(alloc, 2, &Made::Hamming(3)) {
+        Ok(code) => are_received(alloc, &code) && are_encoded(alloc, &code),
+        Err(_) => false,
+    }
 }
 
 #[test]
-fn messages_have_their_codewords(rt: HostRuntime) {
-    assert!(rt; encodes(rt.alloc(), &[1, 0, 1, 1], &[1, 0, 1, 1, 0, 1, 0]) == Ok(true));
-    assert!(rt; encodes(rt.alloc(), &[1, 0, 1], &[]) == Err(CodeRefusal::LengthsDiffer));
-    assert!(rt; encodes(rt.alloc(), &[1, 0, 1, 2], &[]) == Err(CodeRefusal::BadArgument(2)));
+fn words_have_their_syndromes_and_messages_their_codewords(rt: HostRuntime) {
+    assert!(rt; is_hamming(rt.alloc()));
 }
 
-fn sum_over(alloc: Global, q: u64, x: &[u8], y: &[u8], sum: &[u8]) -> Result<bool, CodeRefusal> {
-    let Ok(field) = Field::of(alloc, q) else {
-        return Ok(false);
-    };
-    let word = add_words(alloc, &field, x, y)?;
-    Ok(word.symbols() == sum)
+// Whether this is the sum of two words over q elements.
+fn is_sum(alloc: Global, q: u64, x: &[u8], y: &[u8], sum: &Answer) -> bool {
+    match Field::of(alloc, q) {
+        Ok(field) => is_answer(add_words(alloc, &field, x, y), sum),
+        Err(_) => false,
+    }
 }
 
-fn multiple_over(
-    alloc: Global,
-    q: u64,
-    c: u8,
-    x: &[u8],
-    wanted: &[u8],
-) -> Result<bool, CodeRefusal> {
-    let Ok(field) = Field::of(alloc, q) else {
-        return Ok(false);
-    };
-    let word = scale_word(alloc, &field, c, x)?;
-    Ok(word.symbols() == wanted)
+// Whether this is c times a word over q elements.
+fn is_multiple(alloc: Global, q: u64, c: u8, x: &[u8], multiple: &Answer) -> bool {
+    match Field::of(alloc, q) {
+        Ok(field) => is_answer(scale_word(alloc, &field, c, x), multiple),
+        Err(_) => false,
+    }
 }
+
+// Sizes of fields, two words, and their sum.
+static SUMS: [(u64, &[u8], &[u8], Answer); 3] = [
+    (4, &[1, 2, 3], &[3, 3, 3], Ok(&[2, 1, 0])),
+    (25, &[1], &[], Err(CodeRefusal::FieldTooLarge)),
+    (3, &[3], &[3], Err(CodeRefusal::BadArgument(1))),
+];
+
+// Elements of the field of 4, words, and the multiples.
+static MULTIPLES: [(u8, &[u8], Answer); 2] = [
+    (2, &[1, 2, 3], Ok(&[2, 3, 1])),
+    (4, &[4], Err(CodeRefusal::BadArgument(1))),
+];
 
 #[test]
 fn words_are_added_and_multiplied(rt: HostRuntime) {
-    assert!(rt; sum_over(rt.alloc(), 4, &[1, 2, 3], &[3, 3, 3], &[2, 1, 0]) == Ok(true));
-    assert!(rt; sum_over(rt.alloc(), 25, &[1], &[], &[]) == Err(CodeRefusal::FieldTooLarge));
-    assert!(rt; sum_over(rt.alloc(), 3, &[3], &[3], &[]) == Err(CodeRefusal::BadArgument(1)));
-    assert!(rt; multiple_over(rt.alloc(), 4, 2, &[1, 2, 3], &[2, 3, 1]) == Ok(true));
-    assert!(rt; multiple_over(rt.alloc(), 4, 4, &[4], &[]) == Err(CodeRefusal::BadArgument(1)));
+    for row in &SUMS {
+        assert!(rt; is_sum(rt.alloc(), row.0, row.1, row.2, &row.3));
+    }
+    for row in &MULTIPLES {
+        assert!(rt; is_multiple(rt.alloc(), 4, row.0, row.1, &row.2));
+    }
     assert!(rt; hamming_distance(&[1, 0, 2, 1], &[1, 2, 2, 0]) == Ok(2));
     assert!(rt; hamming_distance(&[1], &[]) == Err(CodeRefusal::LengthsDiffer));
 }
 
-// Whether the code lies in its dual, is its dual, is cyclic, lies in the other code and is the same.
+// The size of a field, a code, another one, and whether the code lies in its dual, is its dual, is cyclic, lies in the other code and
+// is the same.
+type Facts = (u64, Made, Made, [bool; 5]);
+
+// The simplex code is checked by the rows of the Hamming code; the extended Hamming code is its own dual; the words of sum 0 over 3
+// elements are checked by a row of ones.
+static FACTS: [Facts; 3] = [
+    (
+        2,
+        Made::Checked(&[
+            &[1, 0, 0, 0, 0, 1, 1],
+            &[0, 1, 0, 0, 1, 0, 1],
+            &[0, 0, 1, 0, 1, 1, 0],
+            &[0, 0, 0, 1, 1, 1, 1],
+        ]),
+        Made::Hamming(3),
+        [true, false, false, true, false],
+    ),
+    (
+        2,
+        Made::ReedMuller(1, 3),
+        Made::Generated(&[
+            &[1, 0, 0, 1, 0, 1, 1, 0],
+            &[0, 1, 0, 1, 0, 1, 0, 1],
+            &[0, 0, 1, 1, 0, 0, 1, 1],
+            &[0, 0, 0, 0, 1, 1, 1, 1],
+        ]),
+        [true, true, false, true, true],
+    ),
+    (
+        3,
+        Made::Repetition(3),
+        Made::Checked(&[&[1, 1, 1]]),
+        [true, false, true, true, false],
+    ),
+];
+
+// What is so of a code and another one.
 fn facts(alloc: Global, code: &Code, other: &Code) -> Result<[bool; 5], CodeRefusal> {
     Ok([
         is_self_orthogonal(code),
@@ -103,48 +184,23 @@ fn facts(alloc: Global, code: &Code, other: &Code) -> Result<[bool; 5], CodeRefu
     ])
 }
 
-fn facts_of_simplex(alloc: Global) -> Result<[bool; 5], CodeRefusal> {
-    let hamming = hamming_over(alloc, 2, 3)?;
-    let simplex = hamming.dual(alloc)?;
-    facts(alloc, &simplex, &hamming)
+fn are_facts_of(alloc: Global, code: &Code, row: &Facts) -> bool {
+    match made_over(alloc, row.0, &row.2) {
+        Ok(other) => facts(alloc, code, &other) == Ok(row.3),
+        Err(_) => false,
+    }
 }
 
-fn facts_of_extended(alloc: Global) -> Result<[bool; 5], CodeRefusal> {
-    let hamming = hamming_over(alloc, 2, 3)?;
-    let code = extended(alloc, &hamming)?;
-    facts(alloc, &code, &code)
-}
-
-fn facts_of_repetition(alloc: Global) -> Result<[bool; 5], CodeRefusal> {
-    let code = repetition_over(alloc, 3, 3)?;
-    let sum_zero = dual(alloc, repetition_over(alloc, 3, 3))?;
-    facts(alloc, &code, &sum_zero)
+fn are_facts(alloc: Global, row: &Facts) -> bool {
+    match made_over(alloc, row.0, &row.1) {
+        Ok(code) => are_facts_of(alloc, &code, row),
+        Err(_) => false,
+    }
 }
 
 #[test]
 fn codes_are_told_apart(rt: HostRuntime) {
-    assert!(rt; facts_of_simplex(rt.alloc()) == Ok([true, false, false, true, false]));
-    assert!(rt; facts_of_extended(rt.alloc()) == Ok([true, true, false, true, true]));
-    assert!(rt; facts_of_repetition(rt.alloc()) == Ok([true, false, true, true, false]));
-}
-
-fn union_with_simplex(alloc: Global, n: u64) -> Shape {
-    let simplex = dual(alloc, hamming_over(alloc, 2, 3))?;
-    let other = repetition_over(alloc, 2, n)?;
-    shape(union_of(alloc, &simplex, &other))
-}
-
-fn simplex_with(alloc: Global, rows: Rows) -> Shape {
-    let simplex = dual(alloc, hamming_over(alloc, 2, 3))?;
-    let more = words_of(alloc, rows)?;
-    shape(augmented(alloc, &simplex, &more))
-}
-
-#[test]
-fn codes_are_added(rt: HostRuntime) {
-    assert!(rt; union_with_simplex(rt.alloc(), 7) == Ok((7, 4)));
-    assert!(rt; union_with_simplex(rt.alloc(), 6) == Err(CodeRefusal::LengthsDiffer));
-    assert!(rt; simplex_with(rt.alloc(), &[&[1, 1, 1, 1, 1, 1, 1]]) == Ok((7, 4)));
-    assert!(rt; simplex_with(rt.alloc(), &[]) == Ok((7, 3)));
-    assert!(rt; simplex_with(rt.alloc(), &[&[2]]) == Err(CodeRefusal::LengthsDiffer));
+    for row in &FACTS {
+        assert!(rt; are_facts(rt.alloc(), row));
+    }
 }

@@ -61,28 +61,25 @@ fn words_over_fields(rt: HostRuntime) {
     }
 }
 
-// Whether a copy of the word has these symbols.
-fn is_copied(alloc: Global, word: &Word, symbols: &[u8]) -> Result<bool, NoMemory> {
-    let copy = word.copy(alloc)?;
-    Ok(copy.symbols() == symbols)
-}
-
-// Whether the zero word of length 3 is so, and that of length 0.
-fn has_zeros(alloc: Global) -> Result<bool, NoMemory> {
-    let word = Word::zero(alloc, 3)?;
-    let empty = Word::zero(alloc, 0)?;
-    Ok(word.symbols() == [0, 0, 0].as_slice() && empty.len() == 0)
+// Whether there is a word, and it has these symbols.
+fn is_word(word: Result<Word, NoMemory>, symbols: &[u8]) -> bool {
+    match word {
+        Ok(word) => word.symbols() == symbols && word.len() == symbols.len(),
+        Err(NoMemory) => false,
+    }
 }
 
 // Whether a copy of the word of these symbols has them.
 fn is_kept(alloc: Global, symbols: &[u8]) -> bool {
     match Word::from_slice(alloc, symbols) {
-        Ok(word) => is_copied(alloc, &word, symbols) == Ok(true),
+        Ok(word) => is_word(word.copy(alloc), symbols),
         Err(NoMemory) => false,
     }
 }
 
 #[test]
 fn words_are_kept(rt: HostRuntime) {
-    assert!(rt; is_kept(rt.alloc(), &[2, 0, 1]) && has_zeros(rt.alloc()) == Ok(true));
+    assert!(rt; is_kept(rt.alloc(), &[2, 0, 1]));
+    assert!(rt; is_word(Word::zero(rt.alloc(), 3), &[0, 0, 0]));
+    assert!(rt; is_word(Word::zero(rt.alloc(), 0), &[]));
 }
